@@ -1,0 +1,10 @@
+pub mod Site
+pub mod Keys
+pub mod Maps
+pub mod State
+pub mod Table
+pub mod Sound
+pub mod Journal
+pub mod Run
+pub mod Choice
+pub mod Others

@@ -1,0 +1,7 @@
+//! The radio book: which channels are in use and by which call, which attempts at handover are open, and
+//! which handover references and timers they hold. Every change of it is one event, judged by a written table.
+#![tactic(auto)]
+
+pub mod channel;
+pub mod event;
+mod journal;
