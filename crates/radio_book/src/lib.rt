@@ -3,5 +3,8 @@
 #![tactic(auto)]
 
 pub mod channel;
+mod entry;
 pub mod event;
 mod journal;
+pub mod site;
+mod tables;
