@@ -1,2 +1,6 @@
 pub mod KeyFacts
 pub mod MapFacts
+pub mod TableFacts
+pub mod RecordFacts
+pub mod EmptyBook
+pub mod RunBack

@@ -114,14 +114,20 @@ impl<A: Allocator + Copy> Calls<A> {
     pub fn get(&self, call: u16) -> Option<CallRecord>
         ensures { result ≡ map.get self.now call }
     {
-        self.entries.get(&call).map(|entry| entry.record())
+        match self.entries.get(&call) {
+            Some(entry) => Some(entry.record()),
+            None => None,
+        }
     }
 
     /// A copy of what is kept.
     pub fn entry(&self, call: u16) -> Option<CallEntry>
         ensures { result ≡ map.get self.now call }
     {
-        self.entries.get(&call).map(|entry| entry.copy())
+        match self.entries.get(&call) {
+            Some(entry) => Some(entry.copy()),
+            None => None,
+        }
     }
 
     /// Memory is wanted for a new key alone.
