@@ -1,2 +1,3 @@
 pub mod KeyFacts
 pub mod MapFacts
+pub mod Frame
