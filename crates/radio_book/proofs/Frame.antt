@@ -75,7 +75,7 @@ call_of b sound c r e = record {
   reserved = λ a h. sound.reserved c r a e h;
 }
 
-is_owned : (c : ℕ) (s : Stage) → owner (target_state c s) ≡ Some c
+pub is_owned : (c : ℕ) (s : Stage) → owner (target_state c s) ≡ Some c
 is_owned c Taken = refl
 is_owned c Reserved = refl
 is_owned c Sent = refl

@@ -1,3 +1,4 @@
 pub mod KeyFacts
 pub mod MapFacts
 pub mod Frame
+pub mod SoundSteps
