@@ -1,6 +1,8 @@
 pub mod KeyFacts
 pub mod MapFacts
 pub mod TableFacts
+pub mod Frame
+pub mod SoundSteps
 pub mod RecordFacts
-pub mod EmptyBook
 pub mod RunBack
+pub mod Inverses
