@@ -1,5 +1,5 @@
 -- What a sound book says of the channels that an event reads.
-use Rattle.std.proofs.Common.{◌≡◌, ◌≢◌, ℕ, Bool, true, false, Option, Some, None, IsSome, is_some, refl, sym, ap, ◌∙◌, subst}
+use Rattle.std.proofs.Common.{◌≡◌, ◌≢◌, ℕ, Bool, true, false, Option, Some, None, IsSome, is_some, Result, Ok, Err, OnOk, OnErr, refl, sym, ap, ◌∙◌, subst}
 use Rattle.std.specs.FinMap as map
 use Rattle.radio_book.specs.declared.channel.ChanId.{ChanId}
 use Rattle.radio_book.specs.declared.channel.ChanState.{ChanState}
@@ -9,15 +9,17 @@ use Rattle.radio_book.specs.declared.event.Stage.TheVariants.{Taken, Reserved, S
 use Rattle.radio_book.specs.declared.event.Attempt.{Attempt}
 use Rattle.radio_book.specs.declared.event.CallRecord.{CallRecord}
 use Rattle.radio_book.specs.declared.event.Kind.TheVariants as kind
+use Rattle.radio_book.specs.declared.event.Event.{Event}
 use Rattle.radio_book.specs.declared.event.Event.TheVariants as event
 use Rattle.radio_book.specs.declared.event.Refusal.TheVariants.{ChannelBusy}
 use Rattle.radio_book.specs.declared.journal.Inverse.{Inverse}
 use Rattle.radio_book.specs.Site.{is_traffic}
 use Rattle.radio_book.specs.State.{State, or_free, state_of, record_of}
 use Rattle.radio_book.specs.Sound.{IsSound, owner, target_state}
-use Rattle.radio_book.specs.Table.{Outcome, Refuses, Accepts, row, open_row, take_incoming, take_from, take_internal}
+use Rattle.radio_book.specs.Table.{Outcome, Refuses, Accepts, row, step, open_row, take_incoming, take_from, take_internal}
 use Rattle.radio_book.specs.Journal.{journal_of, inverses_at, stage_inverses, opening_inverse, or_zero}
 use Rattle.radio_book.specs.Waiting.{MayMove}
+use Rattle.radio_book.proofs.SoundSteps.{sound_step}
 
 -- a state that names a call is an entry
 owned_there : (o : Option ChanState) (c : ℕ) → owner (or_free o) ≡ Some c → IsSome o
@@ -92,3 +94,8 @@ pending_moves b c x s sound pending same r a known opened target =
     ∙ same (opening_inverse a.kind) x (or_zero a.reference)
     ∙ ap (stage_inverses (opening_inverse a.kind) x (or_zero a.reference)) (sym sent)
     ∙ sym (ap (inverses_at a) target)
+
+-- a book is sound after a step, whether or not memory was refused
+pub stepped_sound : {T E : Type 0} (r : Result T E) (b n : State) (e : Event) → IsSound b → OnOk r (n ≡ step b e) → OnErr r (n ≡ b) → IsSound n
+stepped_sound (Ok x) b n e sound stepped same = subst IsSound (sym stepped) (sound_step b e sound)
+stepped_sound (Err f) b n e sound stepped same = subst IsSound (sym same) sound
