@@ -2,3 +2,4 @@ pub mod KeyFacts
 pub mod MapFacts
 pub mod Frame
 pub mod SoundSteps
+pub mod Inverses
