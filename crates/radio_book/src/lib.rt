@@ -7,6 +7,7 @@ pub mod channel;
 mod entry;
 pub mod event;
 mod journal;
+pub mod laws;
 mod records;
 pub mod site;
 mod tables;
