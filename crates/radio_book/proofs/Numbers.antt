@@ -55,7 +55,7 @@ used_by b sound site cell n c r user recorded reference =
       | Some a ↦ λ is h.
         let held = held_by a.target a.reference (numbered cell n) h in
         let t = held.0 in
-        let owned = ap owner (sound.target c r a t recorded is held.1.0) ∙ is_owned c a.stage in
+        let owned = ap owner (sound.target c r a t recorded is held.1) ∙ is_owned c a.stage in
         record {
           call = c;
           known = r;
@@ -63,8 +63,8 @@ used_by b sound site cell n c r user recorded reference =
           user = user;
           recorded = recorded;
           reference = reference;
-          target = ap (option_and_then (λ a. a.target)) is ∙ held.1.0;
-          in_cell = held.1.1;
+          target = ap (option_and_then (λ a. a.target)) is ∙ held.1;
+          in_cell = held.2;
           owned = owned;
           limits = traffic_limits b.site t site (owned_traffic b sound t c owned);
         }
@@ -76,7 +76,7 @@ used b sound site cell n there =
       | None ↦ λ is h. cc
       | Some c ↦ λ is h.
         let found = sound.in_use (numbered cell n) c is in
-        used_by b sound site cell n c found.0 is found.1.0 found.1.1
+        used_by b sound site cell n c found.0 is found.1 found.2
     ] refl there
 
 -- the place of the channel that a number is used for
@@ -121,10 +121,10 @@ not_all_used b sound site cell all =
       ap (λ x. x == get_or xs j d) (get_or-map-range_with_len f 0 33 i i d first (zero-add i))
       ∙ ap (λ x. f i == x) (get_or-map-range_with_len f 0 33 j j d below (zero-add j))
       ∙ ne_eqb (f i) (f j) (λ e. let same = same_number b cell i j (each i first) (each j below) e in absurd (omega (arith, same, less)))) in
-    let small = λ q h.
+    let small : (q : ℕ) → list_any (◌==◌ q) xs ≡ true → q < 32 = λ q h.
       let at = Contains-from_any eqb-true q xs h in
-      let below : at.0 < 33 = omega (arith, at.1.0, size) in
-      let is = sym (get_or-map-range_with_len f 0 33 at.0 at.0 q below (zero-add at.0)) ∙ at.1.1 in
+      let below : at.0 < 33 = omega (arith, at.1, size) in
+      let is = sym (get_or-map-range_with_len f 0 33 at.0 at.0 q below (zero-add at.0)) ∙ at.2 in
       omega (arith, is, place_small b cell at.0 (each at.0 below)) in
     let fits = length-le_from_distinct_below xs 32 distinct small in
     absurd (omega (arith, fits, size))
