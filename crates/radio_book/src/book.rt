@@ -13,6 +13,9 @@ use std::alloc::{AllocError, Allocator, Global};
 use std::marker::Model;
 use std::sync::Arc;
 
+#[cfg(test)]
+mod tests;
+
 /// How much a book holds.
 #[derive(Clone, Copy, Debug, PartialEq, Eq)]
 pub struct Usage {
@@ -50,9 +53,8 @@ impl<A: Allocator + Copy> Book<A> {
     pub fn new(alloc: A, site: Arc<Site<A>, A>) -> Result<Book<A>, AllocError>
         ensures { IsOkAnd result (λ book. book ≡ empty_book site.value) }
     {
-        Ok(Book {
-            records: Records::new(alloc, site),
-        })
+        let records = Records::new(alloc, site);
+        Ok(Book { records })
     }
 
     pub fn usage(&self) -> Usage
