@@ -3,3 +3,4 @@ pub mod MapFacts
 pub mod Frame
 pub mod SoundSteps
 pub mod Inverses
+pub mod Numbers

@@ -49,7 +49,7 @@ listed : (b : State) → IsSound b → (x : ChanId) (o : Option ChanState) → m
 listed b sound x None e used = absurd (used refl)
 listed b sound x (Some s) e used = sound.traffic x s e
 
-owned_traffic : (b : State) → IsSound b → (x : ChanId) (c : ℕ) → owner (state_of b x) ≡ Some c → is_traffic b.site x ≡ true
+pub owned_traffic : (b : State) → IsSound b → (x : ChanId) (c : ℕ) → owner (state_of b x) ≡ Some c → is_traffic b.site x ≡ true
 owned_traffic b sound x c h = listed b sound x (map.get b.channels x) refl (owned_not_free (state_of b x) c h)
 
 -- what a channel becomes, when that isn't free
