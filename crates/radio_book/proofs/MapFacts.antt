@@ -13,8 +13,8 @@ use Rattle.radio_book.specs.declared.channel.ChanState.{ChanState}
 use Rattle.radio_book.specs.declared.event.Reference.{Reference}
 use Rattle.radio_book.specs.declared.event.CallRecord.{CallRecord}
 use Rattle.radio_book.specs.Keys.{chan_cmp, reference_cmp}
-use Rattle.radio_book.specs.Maps.{Entry, put, changed}
-use Rattle.radio_book.specs.State.{State, or_free, state_of, record_of}
+use Rattle.radio_book.specs.Maps.{put}
+use Rattle.radio_book.specs.State.{or_free}
 use Rattle.radio_book.proofs.KeyFacts.{chan_total, chan_exact, reference_total, reference_exact}
 
 -- keys that tie are one

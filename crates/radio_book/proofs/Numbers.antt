@@ -1,5 +1,5 @@
 -- In a cell some handover reference below 33 is free: each in use is of an attempt, which has a channel of its own.
-use Rattle.std.proofs.Common.{◌≡◌, ◌≢◌, ◌⊎◌, inl, inr, ℕ, zero, suc, ◌+◌, ◌*◌, ◌<◌, ◌==◌, Bool, true, false, cond, Option, Some, None, refl, sym, ◌∙◌, ap, subst, arith}
+use Rattle.std.proofs.Common.{◌≡◌, ◌≢◌, ℕ, zero, suc, ◌+◌, ◌*◌, ◌<◌, ◌==◌, Bool, true, false, cond, Option, Some, None, refl, sym, ◌∙◌, ap, arith}
 use Rattle.std.specs.FinMap as map
 use Rattle.std.proofs.lemmas.Bool.{eqb-true, eqb-false}
 use Rattle.radio_book.specs.declared.channel.ChanId.{ChanId}
@@ -9,8 +9,7 @@ use Rattle.radio_book.specs.declared.event.Reference.{Reference}
 use Rattle.radio_book.specs.Site.{is_traffic}
 use Rattle.radio_book.specs.State.{State, state_of, record_of}
 use Rattle.radio_book.specs.Table.{reference_at, reference_held}
-use Rattle.radio_book.specs.Sound.{IsSound, owner, target_in, reference_of, target_state}
-use Rattle.radio_book.specs.Choice.{IsNumberFree}
+use Rattle.radio_book.specs.Sound.{IsSound, owner, target_in, reference_of}
 use Rattle.radio_book.proofs.Frame.{same_some, is_owned}
 use Rattle.radio_book.proofs.SoundSteps.{owned_traffic}
 
