@@ -1,6 +1,13 @@
+pub mod Told
+pub mod Judged
+pub mod SiteFacts
+pub mod Blank
 pub mod KeyFacts
 pub mod MapFacts
+pub mod TableFacts
 pub mod Frame
 pub mod SoundSteps
 pub mod Inverses
+pub mod RecordFacts
+pub mod RunBack
 pub mod Numbers

@@ -6,7 +6,7 @@ use Rattle.radio_book.specs.declared.channel.ChanId.{ChanId}
 use Rattle.radio_book.specs.declared.event.CallRecord.{CallRecord}
 use Rattle.radio_book.specs.declared.event.Attempt.{Attempt}
 use Rattle.radio_book.specs.declared.event.Reference.{Reference}
-use Rattle.radio_book.specs.Site.{is_traffic}
+use Rattle.radio_book.specs.Site.{IsWithinLimits, is_traffic}
 use Rattle.radio_book.specs.State.{State, state_of, record_of}
 use Rattle.radio_book.specs.Table.{reference_at, reference_held}
 use Rattle.radio_book.specs.Sound.{IsSound, owner, target_in, reference_of}
@@ -87,7 +87,7 @@ same_position x y p q cell e =
     let tn : x.tn ≡ y.tn = omega arith in
     λ i. record { cell = cell i; trx = trx i; tn = tn i }
 
-module _ (b : State) (sound : IsSound b) (limits : (x : ChanId) → is_traffic b.site x ≡ true → (x.trx < 4) × (x.tn < 8)) (cell : ℕ) where
+module _ (b : State) (sound : IsSound b) (limits : (x : ChanId) → is_traffic b.site x ≡ true → IsWithinLimits x) (cell : ℕ) where
   abbrev reference : ℕ → Reference
   reference n = record { cell = cell; number = n }
 
@@ -98,7 +98,7 @@ module _ (b : State) (sound : IsSound b) (limits : (x : ChanId) → is_traffic b
       is_used : (n : ℕ) → n < 33 → IsUsed b (reference n)
       is_used n h = in_use b sound (reference n) _ refl (used n h)
 
-      fits : (n : ℕ) (h : n < 33) → ((is_used n h).channel.trx < 4) × ((is_used n h).channel.tn < 8)
+      fits : (n : ℕ) (h : n < 33) → IsWithinLimits (is_used n h).channel
       fits n h = limits (is_used n h).channel (owned_traffic b sound (is_used n h).channel (is_used n h).call (is_used n h).owned)
 
       below : (n : ℕ) → n < 33 → position_of b (map.get b.references (reference n)) < 32
@@ -109,7 +109,7 @@ module _ (b : State) (sound : IsSound b) (limits : (x : ChanId) → is_traffic b
           let g : m < 33 = omega arith in
           let x = is_used m g in
           let y = is_used n h in
-          let same = same_position x.channel y.channel (fits m g).1 (fits n h).1 (x.in_cell ∙ sym y.in_cell) (sym x.placed ∙ e ∙ y.placed) in
+          let same = same_position x.channel y.channel (fits m g).timeslot (fits n h).timeslot (x.in_cell ∙ sym y.in_cell) (sym x.placed ∙ e ∙ y.placed) in
           let call : y.call ≡ x.call = same_some y.call x.call (sym y.owned ∙ ap (λ z. owner (state_of b z)) (sym same) ∙ x.owned) in
           let number : m ≡ n = ap (λ k. k.number) (one_reference b sound x.call (reference m) (reference n) x.used (y.used ∙ ap Some call)) in
           omega arith
