@@ -1,5 +1,5 @@
 -- The orders of the keys are total, and keys that tie are one.
-use Rattle.std.proofs.Common.{◌≡◌, ◌==◌, ℕ, true, refl, ap}
+use Rattle.std.proofs.Common.{◌≡◌, ℕ, true, refl, ap}
 use Rattle.std.proofs.lemmas.Bool.{eq-eqb, and_from}
 use Rattle.std.specs.Ordering.{nat_cmp}
 use Rattle.std.specs.Cmp.{IsTotalOrder, nat_cmp_total}

@@ -15,7 +15,7 @@ use Rattle.radio_book.specs.declared.event.CallRecord.{CallRecord}
 use Rattle.radio_book.specs.Keys.{chan_cmp, reference_cmp}
 use Rattle.radio_book.specs.Maps.{put}
 use Rattle.radio_book.specs.State.{or_free}
-use Rattle.radio_book.proofs.KeyFacts.{chan_total, chan_exact, reference_total, reference_exact}
+use Rattle.radio_book.proofs.KeyFacts.{chan_total, chan_exact, reference_total}
 
 -- keys that tie are one
 tied_keys : {K : Type 0} (R : K → K → Ordering) → IsAntisymmetric R → (q k : K) → eq_by_cmp R q k ≡ true → q ≡ k
