@@ -1,115 +1,123 @@
--- In a cell some handover reference below 33 is free: each in use is of an attempt, which has a channel of its own.
-use Rattle.std.proofs.Common.{◌≡◌, ◌≢◌, ℕ, zero, suc, ◌+◌, ◌*◌, ◌<◌, ◌==◌, Bool, true, false, cond, Option, Some, None, refl, sym, ◌∙◌, ap, arith}
+-- In a sound book one of the first 33 handover references of a cell is free.
+use Rattle.std.proofs.Common.{◌≡◌, ◌==◌, ℕ, ◌+◌, ◌*◌, ◌<◌, ◌≤◌, Bool, true, false, List, length, get_or, map as map_list, Option, Some, None, is_some, option_and_then, refl, sym, ap, ◌∙◌, zero-add, arith}
+use Rattle.std.specs.List.{list_any, range_with_len, IsDistinct, Contains}
+use Rattle.std.proofs.lemmas.Bool.{ne_eqb, eqb-true}
+use Rattle.std.proofs.lemmas.List.FromFn.{get_or-map-range_with_len, length-map-range_with_len}
+use Rattle.std.proofs.lemmas.Map.Keys.{IsDistinct-from_apart}
+use Rattle.std.proofs.lemmas.Map.Steps.{length-le_from_distinct_below}
+use Rattle.std.proofs.lemmas.Map.Views.{Contains-from_any}
 use Rattle.std.specs.FinMap as map
-use Rattle.std.proofs.lemmas.Bool.{eqb-true, eqb-false}
 use Rattle.radio_book.specs.declared.channel.ChanId.{ChanId}
-use Rattle.radio_book.specs.declared.event.CallRecord.{CallRecord}
 use Rattle.radio_book.specs.declared.event.Attempt.{Attempt}
+use Rattle.radio_book.specs.declared.event.CallRecord.{CallRecord}
 use Rattle.radio_book.specs.declared.event.Reference.{Reference}
-use Rattle.radio_book.specs.Site.{IsWithinLimits, is_traffic}
+use Rattle.radio_book.specs.Site.{IsSite, IsWithinLimits}
 use Rattle.radio_book.specs.State.{State, state_of, record_of}
-use Rattle.radio_book.specs.Table.{reference_at, reference_held}
+use Rattle.radio_book.specs.Table.{reference_held}
 use Rattle.radio_book.specs.Sound.{IsSound, owner, target_in, reference_of}
+use Rattle.radio_book.proofs.SiteFacts.{traffic_limits}
 use Rattle.radio_book.proofs.Frame.{same_some, is_owned}
 use Rattle.radio_book.proofs.SoundSteps.{owned_traffic}
 
--- more numbers than there are values: two have one value
+abbrev numbered : ℕ → ℕ → Reference
+numbered cell n = record { cell = cell; number = n }
 
-moved_below : (a v n : ℕ) (q : Bool) → a == n ≡ q → a < suc n → v < suc n → a ≢ v → cond q v a < n
-moved_below a v n true e below last apart = let same : a ≡ n = eqb-true a n e in omega arith
-moved_below a v n false e below last apart = let other : a ≢ n = eqb-false a n e in omega arith
-
-moved_apart : (a d v n : ℕ) (p q : Bool) → a == n ≡ p → d == n ≡ q → a ≢ d → a ≢ v → d ≢ v → cond p v a ≢ cond q v d
-moved_apart a d v n true true e f apart x y h = apart (eqb-true a n e ∙ sym (eqb-true d n f))
-moved_apart a d v n true false e f apart x y h = y (sym h)
-moved_apart a d v n false true e f apart x y h = x h
-moved_apart a d v n false false e f apart x y h = apart h
-
-pub too_many : (n : ℕ) (f : ℕ → ℕ) → ((k : ℕ) → k < suc n → f k < n) → ((j k : ℕ) → j < k → k < suc n → f j ≢ f k) → ⊥
-too_many zero f below apart = let none = below 0 (omega arith) in omega arith
-too_many (suc n) f below apart = too_many n (λ k. cond (f k == n) (f (suc n)) (f k))
-    (λ k h. moved_below (f k) (f (suc n)) n _ refl (below k (omega arith)) (below (suc n) (omega arith)) (apart k (suc n) h (omega arith)))
-    (λ j k h g. moved_apart (f j) (f k) (f (suc n)) n _ _ refl refl (apart j k h (omega arith)) (apart j (suc n) (omega arith) (omega arith)) (apart k (suc n) g (omega arith)))
-
--- where the target of a reference's call lies in its cell, counted by TRX, then timeslot
-
-abbrev position : Option ChanId → ℕ
-position None = 0
-position (Some x) = x.trx * 8 + x.tn
-
-abbrev position_in : Option CallRecord → ℕ
-position_in None = 0
-position_in (Some r) = position (target_in r)
-
-abbrev position_of : State → Option ℕ → ℕ
-position_of b None = 0
-position_of b (Some c) = position_in (record_of b c)
-
--- a reference in use, its call and the channel of its attempt
-record IsUsed (b : State) (k : Reference) : Type 0 where
+-- the call that uses a number, by its attempt's target
+record IsUsed (b : State) (cell n : ℕ) : Type 0 where
   call : ℕ
+  known : CallRecord
   channel : ChanId
-  used : map.get b.references k ≡ Some call
-  in_cell : channel.cell ≡ k.cell
+  user : map.get b.references (numbered cell n) ≡ Some call
+  recorded : record_of b call ≡ Some known
+  reference : reference_of known.attempt ≡ Some (numbered cell n)
+  target : target_in known ≡ Some channel
+  in_cell : channel.cell ≡ cell
   owned : owner (state_of b channel) ≡ Some call
-  placed : position_of b (map.get b.references k) ≡ position (Some channel)
+  limits : IsWithinLimits channel
 
-used_by : (b : State) → IsSound b → (k : Reference) (c : ℕ) → map.get b.references k ≡ Some c → (s : Option ChanId) (o : Option Attempt) → record_of b c ≡ Some (record { serving = s; attempt = o }) → reference_of o ≡ Some k → IsUsed b k
-used_by b sound k c e s None h has = cc
-used_by b sound k c e s (Some a) h has = by a.target a.reference refl has
-  where
-    by : (t : Option ChanId) (n : Option ℕ) → a.target ≡ t → reference_held t n ≡ Some k → IsUsed b k
-    by None n t is = cc
-    by (Some x) None t is = cc
-    by (Some x) (Some m) t is = record {
-      call = c;
-      channel = x;
-      used = e;
-      in_cell = ap (λ z. z.cell) (same_some (reference_at x m) k is);
-      owned = ap owner (sound.target c _ a x h refl t) ∙ is_owned c a.stage;
-      placed = ap (position_of b) e ∙ ap position_in h ∙ ap position t;
-    }
+-- a held reference lies in the cell of a target
+held_by : (o : Option ChanId) (m : Option ℕ) (k : Reference) → reference_held o m ≡ Some k → (t : ChanId) × (o ≡ Some t) × (t.cell ≡ k.cell)
+held_by None m k e = cc
+held_by (Some t) None k e = cc
+held_by (Some t) (Some m) k e = (t, refl, ap (λ r. r.cell) (same_some _ _ e))
 
-in_use : (b : State) → IsSound b → (k : Reference) (o : Option ℕ) → map.get b.references k ≡ o → map.get b.references k ≢ None → IsUsed b k
-in_use b sound k None e used = absurd (used e)
-in_use b sound k (Some c) e used = let n = sound.in_use k c e in used_by b sound k c e n.0.serving n.0.attempt n.1 n.2
+used_by : (b : State) → IsSound b → IsSite b.site → (cell n c : ℕ) (r : CallRecord) → map.get b.references (numbered cell n) ≡ Some c → record_of b c ≡ Some r → reference_of r.attempt ≡ Some (numbered cell n) → IsUsed b cell n
+used_by b sound site cell n c r user recorded reference =
+    elim r.attempt as (λ o. r.attempt ≡ o → reference_of o ≡ Some (numbered cell n) → IsUsed b cell n) [
+      | None ↦ λ is h. cc
+      | Some a ↦ λ is h.
+        let held = held_by a.target a.reference (numbered cell n) h in
+        let t = held.0 in
+        let owned = ap owner (sound.target c r a t recorded is held.1) ∙ is_owned c a.stage in
+        record {
+          call = c;
+          known = r;
+          channel = t;
+          user = user;
+          recorded = recorded;
+          reference = reference;
+          target = ap (option_and_then (λ a. a.target)) is ∙ held.1;
+          in_cell = held.2;
+          owned = owned;
+          limits = traffic_limits b.site t site (owned_traffic b sound t c owned);
+        }
+    ] refl reference
 
--- a call has one reference
-one_reference : (b : State) → IsSound b → (c : ℕ) (k j : Reference) → map.get b.references k ≡ Some c → map.get b.references j ≡ Some c → k ≡ j
-one_reference b sound c k j e f =
-    let m = sound.in_use k c e in
-    let n = sound.in_use j c f in
-    same_some k j (sym m.2 ∙ ap (λ (r : CallRecord). reference_of r.attempt) (same_some m.0 n.0 (sym m.1 ∙ n.1)) ∙ n.2)
+used : (b : State) → IsSound b → IsSite b.site → (cell n : ℕ) → is_some (map.get b.references (numbered cell n)) ≡ true → IsUsed b cell n
+used b sound site cell n there =
+    elim (map.get b.references (numbered cell n)) as (λ o. map.get b.references (numbered cell n) ≡ o → is_some o ≡ true → IsUsed b cell n) [
+      | None ↦ λ is h. cc
+      | Some c ↦ λ is h.
+        let found = sound.in_use (numbered cell n) c is in
+        used_by b sound site cell n c found.0 is found.1 found.2
+    ] refl there
 
-same_position : (x y : ChanId) → x.tn < 8 → y.tn < 8 → x.cell ≡ y.cell → position (Some x) ≡ position (Some y) → x ≡ y
-same_position x y p q cell e =
-    let trx : x.trx ≡ y.trx = omega arith in
-    let tn : x.tn ≡ y.tn = omega arith in
-    λ i. record { cell = cell i; trx = trx i; tn = tn i }
+-- the place of the channel that a number is used for
+place_or_zero : Option ChanId → ℕ
+place_or_zero None = 0
+place_or_zero (Some t) = 8 * t.trx + t.tn
 
-module _ (b : State) (sound : IsSound b) (limits : (x : ChanId) → is_traffic b.site x ≡ true → IsWithinLimits x) (cell : ℕ) where
-  abbrev reference : ℕ → Reference
-  reference n = record { cell = cell; number = n }
+place_of : State → ℕ → ℕ → ℕ
+place_of b cell n =
+    place_or_zero (option_and_then (λ c. option_and_then target_in (record_of b c)) (map.get b.references (numbered cell n)))
 
-  -- not all of the first 33 are in use
-  pub number_free : ((n : ℕ) → n < 33 → map.get b.references (reference n) ≢ None) → ⊥
-  number_free used = too_many 32 (λ n. position_of b (map.get b.references (reference n))) below apart
-    where
-      is_used : (n : ℕ) → n < 33 → IsUsed b (reference n)
-      is_used n h = in_use b sound (reference n) _ refl (used n h)
+place_is : (b : State) (cell n : ℕ) (u : IsUsed b cell n) → place_of b cell n ≡ 8 * u.channel.trx + u.channel.tn
+unfolding place_of place_or_zero
+place_is b cell n u =
+    ap place_or_zero (ap (option_and_then (λ c. option_and_then target_in (record_of b c))) u.user
+    ∙ ap (option_and_then target_in) u.recorded ∙ u.target)
 
-      fits : (n : ℕ) (h : n < 33) → IsWithinLimits (is_used n h).channel
-      fits n h = limits (is_used n h).channel (owned_traffic b sound (is_used n h).channel (is_used n h).call (is_used n h).owned)
+place_small : (b : State) (cell n : ℕ) → IsUsed b cell n → place_of b cell n < 32
+place_small b cell n u = omega (arith, place_is b cell n u, u.limits.trx, u.limits.timeslot)
 
-      below : (n : ℕ) → n < 33 → position_of b (map.get b.references (reference n)) < 32
-      below n h = let x = is_used n h in let f = fits n h in let p = x.placed in omega arith
+-- numbers at one place are one
+same_number : (b : State) (cell n m : ℕ) → IsUsed b cell n → IsUsed b cell m → place_of b cell n ≡ place_of b cell m → n ≡ m
+same_number b cell n m u v e =
+    let places : 8 * u.channel.trx + u.channel.tn ≡ 8 * v.channel.trx + v.channel.tn = sym (place_is b cell n u) ∙ e ∙ place_is b cell m v in
+    let trx : u.channel.trx ≡ v.channel.trx = omega (arith, places, u.limits.timeslot, v.limits.timeslot) in
+    let tn : u.channel.tn ≡ v.channel.tn = omega (arith, places, trx) in
+    let cells : u.channel.cell ≡ v.channel.cell = u.in_cell ∙ sym v.in_cell in
+    let channels : u.channel ≡ v.channel = λ i. record { cell = cells i; trx = trx i; tn = tn i } in
+    let calls : u.call ≡ v.call = same_some _ _ (sym u.owned ∙ ap (λ x. owner (state_of b x)) channels ∙ v.owned) in
+    let known : u.known ≡ v.known = same_some _ _ (sym u.recorded ∙ ap (record_of b) calls ∙ v.recorded) in
+    ap (λ k. k.number) (same_some _ _ (sym u.reference ∙ ap (λ r. reference_of r.attempt) known ∙ v.reference))
 
-      apart : (m n : ℕ) → m < n → n < 33 → position_of b (map.get b.references (reference m)) ≢ position_of b (map.get b.references (reference n))
-      apart m n less h e =
-          let g : m < 33 = omega arith in
-          let x = is_used m g in
-          let y = is_used n h in
-          let same = same_position x.channel y.channel (fits m g).timeslot (fits n h).timeslot (x.in_cell ∙ sym y.in_cell) (sym x.placed ∙ e ∙ y.placed) in
-          let call : y.call ≡ x.call = same_some y.call x.call (sym y.owned ∙ ap (λ z. owner (state_of b z)) (sym same) ∙ x.owned) in
-          let number : m ≡ n = ap (λ k. k.number) (one_reference b sound x.call (reference m) (reference n) x.used (y.used ∙ ap Some call)) in
-          omega arith
+pub not_all_used : (b : State) → IsSound b → IsSite b.site → (cell : ℕ) → ((n : ℕ) → n < 33 → is_some (map.get b.references (numbered cell n)) ≡ true) → ⊥
+not_all_used b sound site cell all =
+    let f : ℕ → ℕ = place_of b cell in
+    let xs = map_list f (range_with_len 0 33) in
+    let size = length-map-range_with_len f 0 33 in
+    let each : (n : ℕ) → n < 33 → IsUsed b cell n = λ n h. used b sound site cell n (all n h) in
+    let distinct = IsDistinct-from_apart ◌==◌ xs (λ i j d less inside.
+      let below : j < 33 = omega (arith, inside, size) in
+      let first : i < 33 = omega (arith, less, below) in
+      ap (λ x. x == get_or xs j d) (get_or-map-range_with_len f 0 33 i i d first (zero-add i))
+      ∙ ap (λ x. f i == x) (get_or-map-range_with_len f 0 33 j j d below (zero-add j))
+      ∙ ne_eqb (f i) (f j) (λ e. let same = same_number b cell i j (each i first) (each j below) e in absurd (omega (arith, same, less)))) in
+    let small : (q : ℕ) → list_any (◌==◌ q) xs ≡ true → q < 32 = λ q h.
+      let at = Contains-from_any eqb-true q xs h in
+      let below : at.0 < 33 = omega (arith, at.1, size) in
+      let is = sym (get_or-map-range_with_len f 0 33 at.0 at.0 q below (zero-add at.0)) ∙ at.2 in
+      omega (arith, is, place_small b cell at.0 (each at.0 below)) in
+    let fits = length-le_from_distinct_below xs 32 distinct small in
+    absurd (omega (arith, fits, size))
