@@ -8,16 +8,16 @@ use Rattle.std.proofs.lemmas.Map.Steps.{length-le_from_distinct_below}
 use Rattle.std.proofs.lemmas.Map.Views.{Contains-from_any}
 use Rattle.std.specs.FinMap as map
 use Rattle.radio_book.specs.declared.channel.ChanId.{ChanId}
-use Rattle.radio_book.specs.declared.channel.ChanState.{ChanState}
 use Rattle.radio_book.specs.declared.event.Attempt.{Attempt}
 use Rattle.radio_book.specs.declared.event.CallRecord.{CallRecord}
 use Rattle.radio_book.specs.declared.event.Reference.{Reference}
-use Rattle.radio_book.specs.Site.{IsSite, IsWithinLimits, is_traffic}
-use Rattle.radio_book.specs.State.{State, or_free, state_of, record_of}
+use Rattle.radio_book.specs.Site.{IsSite, IsWithinLimits}
+use Rattle.radio_book.specs.State.{State, state_of, record_of}
 use Rattle.radio_book.specs.Table.{reference_held}
 use Rattle.radio_book.specs.Sound.{IsSound, owner, target_in, reference_of}
 use Rattle.radio_book.proofs.SiteFacts.{traffic_limits}
 use Rattle.radio_book.proofs.Frame.{same_some, is_owned}
+use Rattle.radio_book.proofs.SoundSteps.{owned_traffic}
 
 abbrev numbered : ℕ → ℕ → Reference
 numbered cell n = record { cell = cell; number = n }
@@ -40,13 +40,6 @@ held_by : (o : Option ChanId) (m : Option ℕ) (k : Reference) → reference_hel
 held_by None m k e = cc
 held_by (Some t) None k e = cc
 held_by (Some t) (Some m) k e = (t, refl, ap (λ r. r.cell) (same_some _ _ e))
-
-owned_traffic : (b : State) → IsSound b → (x : ChanId) (c : ℕ) → owner (state_of b x) ≡ Some c → is_traffic b.site x ≡ true
-owned_traffic b sound x c e =
-    elim (map.get b.channels x) as (λ o. map.get b.channels x ≡ o → owner (or_free o) ≡ Some c → is_traffic b.site x ≡ true) [
-      | None ↦ λ is h. cc
-      | Some s ↦ λ is h. sound.traffic x s is
-    ] refl e
 
 used_by : (b : State) → IsSound b → IsSite b.site → (cell n c : ℕ) (r : CallRecord) → map.get b.references (numbered cell n) ≡ Some c → record_of b c ≡ Some r → reference_of r.attempt ≡ Some (numbered cell n) → IsUsed b cell n
 used_by b sound site cell n c r user recorded reference =
