@@ -57,6 +57,14 @@ impl<A: Allocator + Copy> Book<A> {
         Ok(Book { records })
     }
 
+    /// The site, which never changes.
+    pub fn site(&self) -> &Arc<Site<A>, A>
+        ensures { result.now.value ≡ self.now.site }
+    {
+        self.records.site()
+    }
+
+    /// How much the book holds.
     pub fn usage(&self) -> Usage
         ensures channels { result.channels ≡ map.len self.now.channels }
         ensures calls { result.calls ≡ map.len self.now.calls }
@@ -88,7 +96,12 @@ impl<A: Allocator + Copy> Book<A> {
     /// A `Take` of a free channel of the cell, judged as by [`Book::step`], with its answer; `None` where no
     /// channel of the cell is free, which takes no memory and changes nothing. A cell that isn't the site's
     /// has no channel. The channel is that of the lowest TRX, then timeslot.
-    pub fn take_any(&mut self, call: u16, kind: Kind, cell: u8) -> Result<Option<(Event, Reply)>, AllocError>
+    pub fn take_any(
+        &mut self,
+        call: u16,
+        kind: Kind,
+        cell: u8,
+    ) -> Result<Option<(Event, Reply)>, AllocError>
         ensures none { result ≡ Ok None → NoneFree self.old cell }
         ensures kept { result ≡ Ok None → self.new ≡ self.old }
         ensures event { IfOk result (λ chosen. IfSome chosen (λ taken. TakesFree self.old call kind cell taken.0)) }

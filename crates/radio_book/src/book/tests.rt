@@ -1,6 +1,8 @@
 use super::{Book, Usage};
 use crate::channel::{ChanId, ChanState};
-use crate::event::{Attempt, AttemptKind, CallRecord, Event, Kind, Refusal, Reply, Stage, Timer, Why};
+use crate::event::{
+    Attempt, AttemptKind, CallRecord, Event, Kind, Refusal, Reply, Stage, Timer, Why,
+};
 use crate::site::Site;
 use refusing_heap::RefusingHeap;
 use std::alloc::{AllocError, Allocator, Global};
@@ -22,10 +24,29 @@ trx = [{ tch = [1, 2, 3, 4, 5, 6, 7] }, { tch = [1, 2, 3, 4, 5, 6, 7] }, { tch =
 trx = [{ tch = [1, 2, 3, 4, 5, 6, 7] }, { tch = [1, 2, 3, 4, 5, 6, 7] }, { tch = [1, 2, 3, 4, 5, 6, 7] }, { tch = [1, 2, 3, 4, 5, 6, 7] }]
 ";
 
-const OTHER: ChanId = ChanId { cell: 0, trx: 0, tn: 2 };
-const HOME: ChanId = ChanId { cell: 0, trx: 0, tn: 3 };
-const TARGET: ChanId = ChanId { cell: 1, trx: 1, tn: 3 };
-const NO_TRAFFIC: ChanId = ChanId { cell: 1, trx: 0, tn: 3 };
+const OTHER: ChanId = ChanId {
+    cell: 0,
+    trx: 0,
+    tn: 2,
+};
+
+const HOME: ChanId = ChanId {
+    cell: 0,
+    trx: 0,
+    tn: 3,
+};
+
+const TARGET: ChanId = ChanId {
+    cell: 1,
+    trx: 1,
+    tn: 3,
+};
+
+const NO_TRAFFIC: ChanId = ChanId {
+    cell: 1,
+    trx: 0,
+    tn: 3,
+};
 
 // Call 1 is on its channel.
 const STEADY: [(Event, Reply); 2] = [
@@ -90,11 +111,17 @@ fn a_call_begins_and_ends(rt: HostRuntime) -> Result<(), Fail> {
         attempt: None,
     };
     play(&rt, &mut book, &STEADY)?;
-    assert_eq!(rt; book.step(Event::Look(1))?, Reply::Record(on, Some(ChanState::On(1))));
+    assert_eq!(rt;
+        book.step(Event::Look(1))?,
+        Reply::Record(on, Some(ChanState::On(1)))
+    );
     assert_eq!(rt; book.usage(), usage(1, 1, 0));
     let ends = [
         (Event::Clear(1), Reply::Done),
-        (Event::Open(2, HOME), Reply::Refused(Refusal::ChannelBusy(HOME))),
+        (
+            Event::Open(2, HOME),
+            Reply::Refused(Refusal::ChannelBusy(HOME)),
+        ),
         (Event::Released(HOME), Reply::Done),
         (Event::Look(1), Reply::Refused(Refusal::NoCall)),
     ];
@@ -113,10 +140,19 @@ fn a_refused_serving_channel_is_held_until_the_call_ends(rt: HostRuntime) -> Res
     let steps = [
         (Event::Open(2, OTHER), Reply::Done),
         (Event::Refuse(OTHER), Reply::Owned(2)),
-        (Event::Look(2), Reply::Record(held, Some(ChanState::Held(2)))),
-        (Event::Take(2, Kind::Internal, TARGET), Reply::Refused(Refusal::WrongPhase)),
+        (
+            Event::Look(2),
+            Reply::Record(held, Some(ChanState::Held(2))),
+        ),
+        (
+            Event::Take(2, Kind::Internal, TARGET),
+            Reply::Refused(Refusal::WrongPhase),
+        ),
         (Event::Clear(2), Reply::Done),
-        (Event::Released(OTHER), Reply::Refused(Refusal::Unexpected(OTHER))),
+        (
+            Event::Released(OTHER),
+            Reply::Refused(Refusal::Unexpected(OTHER)),
+        ),
     ];
     play(&rt, &mut book, &steps)?;
     assert_eq!(rt; book.usage(), usage(0, 0, 0));
@@ -134,12 +170,24 @@ fn the_first_refusal_is_answered(rt: HostRuntime) -> Result<(), Fail> {
         (Event::Clear(2), Refusal::NoCall),
         (Event::Look(2), Refusal::NoCall),
         (Event::Take(2, Kind::Internal, NO_TRAFFIC), Refusal::NoCall),
-        (Event::Take(1, Kind::Internal, NO_TRAFFIC), Refusal::NoChannel),
+        (
+            Event::Take(1, Kind::Internal, NO_TRAFFIC),
+            Refusal::NoChannel,
+        ),
         (Event::Take(1, Kind::Internal, HOME), Refusal::SameCell),
         (Event::Take(1, Kind::Internal, OTHER), Refusal::SameCell),
-        (Event::Take(1, Kind::Incoming, NO_TRAFFIC), Refusal::CallExists),
-        (Event::Take(2, Kind::Incoming, NO_TRAFFIC), Refusal::NoChannel),
-        (Event::Take(2, Kind::Incoming, HOME), Refusal::ChannelBusy(HOME)),
+        (
+            Event::Take(1, Kind::Incoming, NO_TRAFFIC),
+            Refusal::CallExists,
+        ),
+        (
+            Event::Take(2, Kind::Incoming, NO_TRAFFIC),
+            Refusal::NoChannel,
+        ),
+        (
+            Event::Take(2, Kind::Incoming, HOME),
+            Refusal::ChannelBusy(HOME),
+        ),
         (Event::Reserve(2, 0), Refusal::NoCall),
         (Event::Reserve(1, 0), Refusal::WrongPhase),
         (Event::Activate(2), Refusal::NoCall),
@@ -163,7 +211,10 @@ fn the_first_refusal_is_answered(rt: HostRuntime) -> Result<(), Fail> {
 fn an_open_attempt_refuses(rt: HostRuntime) -> Result<(), Fail> {
     let mut book = book_of(rt.alloc(), rt.alloc(), THREE_CHANNELS)?;
     play(&rt, &mut book, &STEADY)?;
-    assert_eq!(rt; book.step(Event::Take(1, Kind::Internal, TARGET))?, Reply::Done);
+    assert_eq!(rt;
+        book.step(Event::Take(1, Kind::Internal, TARGET))?,
+        Reply::Done
+    );
     let refusals = [
         (Event::Clear(1), Refusal::WrongPhase),
         (Event::Take(1, Kind::Internal, TARGET), Refusal::WrongPhase),
@@ -208,7 +259,10 @@ fn an_answer_after_the_undo_is_unexpected(rt: HostRuntime) -> Result<(), Fail> {
         (Event::Take(1, Kind::Internal, TARGET), Reply::Done),
         (Event::Reserve(1, 0), Reply::Done),
         (Event::Activate(1), Reply::Done),
-        (Event::Undo(1, Why::Asked), Reply::Record(moving(Stage::Sent, Some(0)), Some(ChanState::On(1)))),
+        (
+            Event::Undo(1, Why::Asked),
+            Reply::Record(moving(Stage::Sent, Some(0)), Some(ChanState::On(1))),
+        ),
         (Event::Confirm(TARGET), unexpected),
         (Event::Released(TARGET), Reply::Done),
     ];
@@ -250,7 +304,11 @@ fn undone_after(
     assert_eq!(rt; book.step(Event::Undo(1, Why::Asked))?, undone);
     let opened = book.step(Event::Open(7, TARGET))?;
     if awaited {
-        assert_eq!(rt; opened, Reply::Refused(Refusal::ChannelBusy(TARGET)), "{undone:?}");
+        assert_eq!(rt;
+            opened,
+            Reply::Refused(Refusal::ChannelBusy(TARGET)),
+            "{undone:?}"
+        );
     } else {
         assert_eq!(rt; opened, Reply::Done, "{undone:?}");
         assert_eq!(rt; book.step(Event::Confirm(TARGET))?, Reply::Owned(7));
@@ -262,8 +320,11 @@ fn undone_after(
 }
 
 const RESERVE: (Event, Reply) = (Event::Reserve(1, 7), Reply::Done);
+
 const ACTIVATE: (Event, Reply) = (Event::Activate(1), Reply::Done);
+
 const CONFIRM: (Event, Reply) = (Event::Confirm(TARGET), Reply::Owned(1));
+
 const REFUSE: (Event, Reply) = (Event::Refuse(TARGET), Reply::Owned(1));
 
 #[test]
@@ -274,7 +335,12 @@ fn each_stage_is_undone(rt: HostRuntime) -> Result<(), Fail> {
         (&[RESERVE], Stage::Reserved, Some(7), false),
         (&[RESERVE, ACTIVATE], Stage::Sent, Some(7), true),
         (&[RESERVE, ACTIVATE, REFUSE], Stage::Refused, Some(7), false),
-        (&[RESERVE, ACTIVATE, CONFIRM], Stage::Confirmed, Some(7), true),
+        (
+            &[RESERVE, ACTIVATE, CONFIRM],
+            Stage::Confirmed,
+            Some(7),
+            true,
+        ),
     ];
     for (steps, stage, reference, awaited) in rows {
         let mut book = book_of(rt.alloc(), rt.alloc(), THREE_CHANNELS)?;
@@ -301,16 +367,25 @@ fn any_free_channel_is_taken(rt: HostRuntime) -> Result<(), Fail> {
     for (cell, free) in [(0, 1), (1, 1), (2, 0), (255, 0)] {
         assert_eq!(rt; book.free_in(cell), free, "cell {cell}");
     }
-    let same = (Event::Take(1, Kind::Internal, OTHER), Reply::Refused(Refusal::SameCell));
+    let same = (
+        Event::Take(1, Kind::Internal, OTHER),
+        Reply::Refused(Refusal::SameCell),
+    );
     assert_eq!(rt; book.take_any(1, Kind::Internal, 0)?, Some(same));
     assert_eq!(rt; book.take_any(1, Kind::Internal, 2)?, None);
     let taken = (Event::Take(1, Kind::Internal, TARGET), Reply::Done);
     assert_eq!(rt; book.take_any(1, Kind::Internal, 1)?, Some(taken));
     assert_eq!(rt; book.free_in(1), 0);
     assert_eq!(rt; book.take_any(1, Kind::Internal, 1)?, None);
-    assert_eq!(rt; book.reserve_any(2)?, (Event::Reserve(2, 0), Reply::Refused(Refusal::NoCall)));
+    assert_eq!(rt;
+        book.reserve_any(2)?,
+        (Event::Reserve(2, 0), Reply::Refused(Refusal::NoCall))
+    );
     assert_eq!(rt; book.reserve_any(1)?, (Event::Reserve(1, 0), Reply::Done));
-    assert_eq!(rt; book.reserve_any(1)?, (Event::Reserve(1, 0), Reply::Refused(Refusal::WrongPhase)));
+    assert_eq!(rt;
+        book.reserve_any(1)?,
+        (Event::Reserve(1, 0), Reply::Refused(Refusal::WrongPhase))
+    );
     Ok(())
 }
 
@@ -378,7 +453,13 @@ fn asks_of(call: u16) -> [Ask; 5] {
 }
 
 // Asks, and where memory was refused, and only there, sees the book as it was and asks again.
-fn ask_twice(rt: &impl Abort, book: &mut Book<&RefusingHeap>, heap: &RefusingHeap, call: u16, what: Ask) -> Result<(), Fail> {
+fn ask_twice(
+    rt: &impl Abort,
+    book: &mut Book<&RefusingHeap>,
+    heap: &RefusingHeap,
+    call: u16,
+    what: Ask,
+) -> Result<(), Fail> {
     let (refused, used) = (heap.refused(), book.usage());
     let (here, there) = (book.free_in(0), book.free_in(1));
     let look = book.step(Event::Look(call))?;
@@ -387,7 +468,11 @@ fn ask_twice(rt: &impl Abort, book: &mut Book<&RefusingHeap>, heap: &RefusingHea
         Err(AllocError) => {
             assert!(rt; refused < heap.refused(), "{what:?}");
             assert_eq!(rt; book.usage(), used, "{what:?}");
-            assert_eq!(rt; (book.free_in(0), book.free_in(1)), (here, there), "{what:?}");
+            assert_eq!(rt;
+                (book.free_in(0), book.free_in(1)),
+                (here, there),
+                "{what:?}"
+            );
             assert_eq!(rt; book.step(Event::Look(call))?, look, "{what:?}");
             put(book, what)?;
         }
@@ -395,7 +480,11 @@ fn ask_twice(rt: &impl Abort, book: &mut Book<&RefusingHeap>, heap: &RefusingHea
     Ok(())
 }
 
-fn all_asked(rt: &impl Abort, book: &mut Book<&RefusingHeap>, heap: &RefusingHeap) -> Result<(), Fail> {
+fn all_asked(
+    rt: &impl Abort,
+    book: &mut Book<&RefusingHeap>,
+    heap: &RefusingHeap,
+) -> Result<(), Fail> {
     for call in 0..CALLS {
         for what in asks_of(call) {
             ask_twice(rt, book, heap, call, what)?;

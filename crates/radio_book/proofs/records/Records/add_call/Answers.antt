@@ -10,8 +10,8 @@ returns-then-is_err-clause-unchanged g c =
     let x = c.args.x in
     let absent = ap (λ b. map.get b.channels x) c.self.view_is ∙ c.requires.channel in
     let channels =
-        c.remove.ensures ∙ ap (λ m. map.remove m x) c.in_ok-insert.ensures.ok
-        ∙ remove_inserted chan_total chan_exact c.self.inside.channels x c.args.state absent in
+    c.remove.ensures ∙ ap (λ m. map.remove m x) c.in_ok-insert.ensures.ok
+    ∙ remove_inserted chan_total chan_exact c.self.inside.channels x c.args.state absent in
     let calls = on_err_at c.insert-2.result (sym c.is_err.ensures.value ∙ c.if-is_err.true) c.insert-2.ensures.err in
     (λ i. record {
       site = c.self.inside.site.value;

@@ -9,8 +9,8 @@ use Rattle.radio_book.proofs.tables.References.insert.Goals as goal
 pub returns-in_err-insert-clause-new_key : goal.returns-in_err-insert-clause-new_key
 returns-in_err-insert-clause-new_key g c =
     let absent =
-        sym (ap (λ m. map.get m c.args.reference) c.self.view_is) ∙ get_listed reference_total c.self.inside.users.entries c.args.reference
-        ∙ c.in_err-insert.ensures.absent in
+    sym (ap (λ m. map.get m c.args.reference) c.self.view_is) ∙ get_listed reference_total c.self.inside.users.entries c.args.reference
+    ∙ c.in_err-insert.ensures.absent in
     on_err_anyway c.from_residual.result absent
 
 pub returns-clause-ok : goal.returns-clause-ok
