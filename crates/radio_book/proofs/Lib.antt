@@ -1,2 +1,6 @@
 pub mod KeyFacts
 pub mod MapFacts
+pub mod Changes
+pub mod Agreement
+pub mod OthersCalls
+pub mod OthersAttempts
