@@ -4,3 +4,5 @@ pub mod Changes
 pub mod Agreement
 pub mod OthersCalls
 pub mod OthersAttempts
+pub mod OthersStations
+pub mod OthersPhases

@@ -1,5 +1,5 @@
 -- Take, Reserve, Activate and Undo by another call agree, whatever is gone.
-use Rattle.std.proofs.Common.{◌≡◌, ℕ, Bool, true, false, cond, Option, Some, None, refl, ap, ◌∙◌, ◌==◌}
+use Rattle.std.proofs.Common.{◌≡◌, ℕ, Bool, true, false, if◌then◌else◌, Option, Some, None, refl, ap, ◌∙◌, ◌==◌}
 use Rattle.std.specs.Option.{option_map}
 use Rattle.std.specs.FinMap as map
 use Rattle.radio_book.specs.declared.channel.ChanId.{ChanId}
@@ -21,9 +21,9 @@ use Rattle.radio_book.specs.declared.event.Refusal.TheVariants.{NoCall, CallExis
 use Rattle.radio_book.specs.declared.event.Reply.TheVariants.{Record, Refused}
 use Rattle.radio_book.specs.Site.{is_traffic}
 use Rattle.radio_book.specs.State.{State, Change, apply, state_of, record_of}
-use Rattle.radio_book.specs.Table.{Outcome, Accepts, reply_of, take_row, take_internal, take_from, take_incoming, reserve_row, reserve_by, reserve_at, reserve_number, reference_at, activate_row, activate_by, activate_at}
-use Rattle.radio_book.specs.Sound.{IsSound}
-use Rattle.radio_book.proofs.Changes.{Misses, option_apart, record_kept, state_kept, user_kept}
+use Rattle.radio_book.specs.Table.{Outcome, Accepts, Refuses, reply_of, undo_row, undo_attempt, is_armed, left_state, resting_record, reference_held, take_row, take_internal, take_from, take_incoming, reserve_row, reserve_by, reserve_at, reserve_number, reference_at, activate_row, activate_by, activate_at}
+use Rattle.radio_book.specs.Sound.{IsSound, reference_of}
+use Rattle.radio_book.proofs.Changes.{Misses, option_apart, record_kept, state_kept, user_kept, timer_kept}
 use Rattle.radio_book.proofs.Agreement.{Agrees, refused, as_read, Hides, IsNotHeld, AgreesWithOthers, wants_free, states_kept, serving_missed, target_missed}
 
 -- Take
@@ -132,3 +132,43 @@ activate_agrees d gone b sound hides other not_held = as_read (ap (activate_row 
     by : (o : Option CallRecord) → record_of b d ≡ o → Agrees gone (activate_row d o) (activate_row d o)
     by None is = refused gone NoCall
     by (Some r) is = of r is r.attempt refl
+
+-- Undo
+module _ (gone : Change) (b : State) (sound : IsSound b) (hides : Hides gone b) (d : ℕ) (other : Misses gone.call d) (r : CallRecord) (is : record_of b d ≡ Some r) where
+  undo_attempt_agrees : (refusal : Refusal) (armed : Option Timer) (o : Option Attempt) → r.attempt ≡ o →
+    Agrees gone (undo_attempt d refusal r o (state_of b) armed) (undo_attempt d refusal r o (state_of (apply gone b)) armed)
+  undo_attempt_agrees refusal armed None has = refused gone refusal
+  undo_attempt_agrees refusal armed (Some a) has =
+      let target = target_missed gone b sound hides d other r is a has in
+      record {
+        same = λ i. Accepts (record {
+          channel = states_kept gone b (λ x s. (x, left_state s)) a.target target i;
+          call = Some (d, resting_record a.kind r);
+          reference = option_map (λ k. (k, None)) (reference_held a.target a.reference);
+          timer = option_map (λ m. (d, None)) armed;
+        }) (Record r (states_kept gone b (λ x s. s) r.serving (serving_missed gone b sound hides d other r is) i));
+        away = record {
+          channel = option_apart (λ x. (x, left_state (state_of b x))) a.target gone.channel target;
+          call = other;
+          reference = option_apart (λ k. (k, None)) (reference_held a.target a.reference) gone.reference
+              (λ k held. hides.others_reference k d (sound.referred d r k is (ap reference_of has ∙ held)) other);
+          timer = option_apart (λ m. (d, None)) armed gone.timer (λ m e. hides.others_timer d other);
+        };
+      }
+
+  undo_expired_agrees : (armed : Option Timer) (expired : Bool) →
+    Agrees gone (if expired then undo_attempt d NotArmed r r.attempt (state_of b) armed else Refuses NotArmed)
+    (if expired then undo_attempt d NotArmed r r.attempt (state_of (apply gone b)) armed else Refuses NotArmed)
+  undo_expired_agrees armed true = undo_attempt_agrees NotArmed armed r.attempt refl
+  undo_expired_agrees armed false = refused gone NotArmed
+
+pub undo_agrees : (d : ℕ) (why : Why) → AgreesWithOthers (event.Undo d why)
+undo_agrees d why gone b sound hides other not_held =
+    as_read (λ i. undo_row d why (record_kept gone b d other i) (state_of (apply gone b)) (timer_kept gone b d (hides.others_timer d other) i))
+    (by why (record_of b d) refl (map.get b.timers d))
+  where
+    by : (why : Why) (o : Option CallRecord) → record_of b d ≡ o → (armed : Option Timer) →
+      Agrees gone (undo_row d why o (state_of b) armed) (undo_row d why o (state_of (apply gone b)) armed)
+    by why None is armed = refused gone NoCall
+    by Asked (Some r) is armed = undo_attempt_agrees gone b sound hides d other r is WrongPhase armed r.attempt refl
+    by (Expired m) (Some r) is armed = undo_expired_agrees gone b sound hides d other r is armed (is_armed m armed)

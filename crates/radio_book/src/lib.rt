@@ -5,3 +5,4 @@
 pub mod channel;
 pub mod event;
 mod journal;
+pub mod others;
