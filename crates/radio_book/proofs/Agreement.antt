@@ -1,5 +1,5 @@
 -- What a taking away hides of a book, and rows that read the same without it.
-use Rattle.std.proofs.Common.{◌≡◌, ◌≢◌, ℕ, Option, Some, None, refl, sym, ◌∙◌, ap, subst}
+use Rattle.std.proofs.Common.{◌≡◌, ℕ, Option, Some, None, refl, sym, ◌∙◌, ap, subst}
 use Rattle.std.specs.Option.{option_map}
 use Rattle.std.specs.FinMap as map
 use Rattle.radio_book.specs.declared.channel.ChanId.{ChanId}
@@ -17,10 +17,10 @@ use Rattle.radio_book.specs.declared.event.Refusal.TheVariants.{ChannelBusy, Ref
 use Rattle.radio_book.specs.declared.event.Reply.{Reply}
 use Rattle.radio_book.specs.declared.event.Reply.TheVariants.{Refused}
 use Rattle.radio_book.specs.State.{State, Change, apply, state_of, record_of}
-use Rattle.radio_book.specs.Table.{Outcome, Refuses, Accepts, row, after, reply_of, step, reply_to}
-use Rattle.radio_book.specs.Sound.{IsSound, owner, target_in, target_state}
+use Rattle.radio_book.specs.Table.{Outcome, Refuses, Accepts, row, after, reply_of, reply_to}
+use Rattle.radio_book.specs.Sound.{IsSound, owner, target_state}
 use Rattle.radio_book.specs.Others.{Commutes}
-use Rattle.radio_book.proofs.Changes.{Misses, AreApart, option_missed, option_apart, ChangesApart, apply_swap, state_kept}
+use Rattle.radio_book.proofs.Changes.{Misses, ChangesApart, apply_swap, state_kept}
 
 -- the change of an accepted event names other entries
 abbrev pub Avoids : Outcome → Change → Type 0
@@ -94,10 +94,10 @@ target_owned c stage.Confirmed = refl
 module _ (gone : Change) (b : State) (hides : Hides gone b) where
   -- a row that wants a channel free: the channel is none that is gone, or a refusal comes from it
   pub wants_free :
-    (y : ChanId) (f : ChanState → Outcome) → ((c : ℕ) → f (Held c) ≡ Refuses (ChannelBusy y)) → ((c : ℕ) → f (Pending c) ≡ Refuses (ChannelBusy y)) →
-    ((c : ℕ) → f (On c) ≡ Refuses (ChannelBusy y)) → f Off ≡ Refuses (ChannelBusy y) → (Misses gone.channel y → Avoids (f Free) gone) →
-    (reply_of (f (state_of b y)) ≡ Refused (ChannelBusy y) → Misses gone.channel y) →
-    Agrees gone (f (state_of b y)) (f (state_of (apply gone b) y))
+      (y : ChanId) (f : ChanState → Outcome) → ((c : ℕ) → f (Held c) ≡ Refuses (ChannelBusy y)) → ((c : ℕ) → f (Pending c) ≡ Refuses (ChannelBusy y)) →
+      ((c : ℕ) → f (On c) ≡ Refuses (ChannelBusy y)) → f Off ≡ Refuses (ChannelBusy y) → (Misses gone.channel y → Avoids (f Free) gone) →
+      (reply_of (f (state_of b y)) ≡ Refused (ChannelBusy y) → Misses gone.channel y) →
+      Agrees gone (f (state_of b y)) (f (state_of (apply gone b) y))
   wants_free y f held pending on off away not_held = by (state_of b y) refl not_held
     where
       busy : (s : ChanState) → state_of b y ≡ s → f s ≡ Refuses (ChannelBusy y) → (reply_of (f s) ≡ Refused (ChannelBusy y) → Misses gone.channel y) → Agrees gone (f s) (f (state_of (apply gone b) y))

@@ -21,16 +21,16 @@ use Rattle.radio_book.specs.declared.event.Refusal.TheVariants.{NoCall, CallExis
 use Rattle.radio_book.specs.declared.event.Reply.TheVariants.{Record, Refused}
 use Rattle.radio_book.specs.Site.{is_traffic}
 use Rattle.radio_book.specs.State.{State, Change, apply, state_of, record_of}
-use Rattle.radio_book.specs.Table.{Outcome, Accepts, Refuses, reply_of, undo_row, undo_attempt, is_armed, left_state, resting_record, reference_held, take_row, take_internal, take_from, take_incoming, reserve_row, reserve_by, reserve_at, reserve_number, reference_at, activate_row, activate_by, activate_at}
+use Rattle.radio_book.specs.Table.{Accepts, Refuses, reply_of, undo_row, undo_attempt, is_armed, left_state, resting_record, reference_held, take_row, take_internal, take_from, take_incoming, reserve_row, reserve_by, reserve_at, reserve_number, reference_at, activate_row, activate_by, activate_at}
 use Rattle.radio_book.specs.Sound.{IsSound, reference_of}
 use Rattle.radio_book.proofs.Changes.{Misses, option_apart, record_kept, state_kept, user_kept, timer_kept}
-use Rattle.radio_book.proofs.Agreement.{Agrees, refused, as_read, Hides, IsNotHeld, AgreesWithOthers, wants_free, states_kept, serving_missed, target_missed}
+use Rattle.radio_book.proofs.Agreement.{Agrees, refused, as_read, Hides, AgreesWithOthers, wants_free, states_kept, serving_missed, target_missed}
 
 -- Take
 module _ (gone : Change) (b : State) (hides : Hides gone b) (d : ℕ) (y : ChanId) (other : Misses gone.call d) where
   from_agrees : (r : CallRecord) (serving : ChanState) (traffic same : Bool) →
-    (reply_of (take_from d y r serving traffic same (state_of b y)) ≡ Refused (ChannelBusy y) → Misses gone.channel y) →
-    Agrees gone (take_from d y r serving traffic same (state_of b y)) (take_from d y r serving traffic same (state_of (apply gone b) y))
+      (reply_of (take_from d y r serving traffic same (state_of b y)) ≡ Refused (ChannelBusy y) → Misses gone.channel y) →
+      Agrees gone (take_from d y r serving traffic same (state_of b y)) (take_from d y r serving traffic same (state_of (apply gone b) y))
   from_agrees r Free traffic same h = refused gone WrongPhase
   from_agrees r (Held c) traffic same h = refused gone WrongPhase
   from_agrees r (Pending c) traffic same h = refused gone WrongPhase
@@ -42,15 +42,15 @@ module _ (gone : Change) (b : State) (hides : Hides gone b) (d : ℕ) (y : ChanI
       (λ missed. record { channel = missed; call = other; reference = tt; timer = tt }) h
 
   incoming_agrees : (traffic : Bool) → (reply_of (take_incoming d y traffic (state_of b y)) ≡ Refused (ChannelBusy y) → Misses gone.channel y) →
-    Agrees gone (take_incoming d y traffic (state_of b y)) (take_incoming d y traffic (state_of (apply gone b) y))
+      Agrees gone (take_incoming d y traffic (state_of b y)) (take_incoming d y traffic (state_of (apply gone b) y))
   incoming_agrees false h = refused gone NoChannel
   incoming_agrees true h =
       wants_free gone b hides y (take_incoming d y true) (λ c. refl) (λ c. refl) (λ c. refl) refl
       (λ missed. record { channel = missed; call = other; reference = tt; timer = tt }) h
 
   internal_agrees : (r : CallRecord) (o : Option Attempt) (serving : Option ChanId) (traffic : Bool) → ((s : ChanId) → serving ≡ Some s → Misses gone.channel s) →
-    (reply_of (take_internal d y r o serving (state_of b) traffic) ≡ Refused (ChannelBusy y) → Misses gone.channel y) →
-    Agrees gone (take_internal d y r o serving (state_of b) traffic) (take_internal d y r o serving (state_of (apply gone b)) traffic)
+      (reply_of (take_internal d y r o serving (state_of b) traffic) ≡ Refused (ChannelBusy y) → Misses gone.channel y) →
+      Agrees gone (take_internal d y r o serving (state_of b) traffic) (take_internal d y r o serving (state_of (apply gone b)) traffic)
   internal_agrees r (Some a) serving traffic missed h = refused gone WrongPhase
   internal_agrees r None None traffic missed h = refused gone WrongPhase
   internal_agrees r None (Some s) traffic missed h =
@@ -63,8 +63,8 @@ take_agrees d k y gone b sound hides other not_held =
     (by k (record_of b d) refl (not_held.channel y))
   where
     by : (k : Kind) (o : Option CallRecord) → record_of b d ≡ o →
-      (reply_of (take_row d k y o (state_of b) (is_traffic b.site y)) ≡ Refused (ChannelBusy y) → Misses gone.channel y) →
-      Agrees gone (take_row d k y o (state_of b) (is_traffic b.site y)) (take_row d k y o (state_of (apply gone b)) (is_traffic b.site y))
+        (reply_of (take_row d k y o (state_of b) (is_traffic b.site y)) ≡ Refused (ChannelBusy y) → Misses gone.channel y) →
+        Agrees gone (take_row d k y o (state_of b) (is_traffic b.site y)) (take_row d k y o (state_of (apply gone b)) (is_traffic b.site y))
     by kind.Internal None is h = refused gone NoCall
     by kind.Internal (Some r) is h = internal_agrees gone b hides d y other r r.attempt r.serving (is_traffic b.site y) (serving_missed gone b sound hides d other r is) h
     by kind.Incoming (Some r) is h = refused gone CallExists
@@ -74,8 +74,8 @@ take_agrees d k y gone b sound hides other not_held =
 module _ (gone : Change) (b : State) (hides : Hides gone b) (d n : ℕ) (other : Misses gone.call d) (r : CallRecord) where
   -- the reference is none that is gone, or the refusal comes from it
   number_agrees : (a : Attempt) (t : ChanId) (o : Option ℕ) → map.get b.references (reference_at t n) ≡ o →
-    (reply_of (reserve_number d n r a t o) ≡ Refused (RefBusy t.cell n) → Misses gone.reference (reference_at t n)) →
-    Agrees gone (reserve_number d n r a t o) (reserve_number d n r a t (map.get (apply gone b).references (reference_at t n)))
+      (reply_of (reserve_number d n r a t o) ≡ Refused (RefBusy t.cell n) → Misses gone.reference (reference_at t n)) →
+      Agrees gone (reserve_number d n r a t o) (reserve_number d n r a t (map.get (apply gone b).references (reference_at t n)))
   number_agrees a t None is h =
       let missed = hides.free_reference (reference_at t n) is in
       record {
@@ -88,8 +88,8 @@ module _ (gone : Change) (b : State) (hides : Hides gone b) (d n : ℕ) (other :
   }
 
   reserve_at_agrees : (a : Attempt) (s : Stage) (target : Option ChanId) →
-    ((k : Reference) → reply_of (reserve_at d n r a s target (map.get b.references)) ≡ Refused (RefBusy k.cell k.number) → Misses gone.reference k) →
-    Agrees gone (reserve_at d n r a s target (map.get b.references)) (reserve_at d n r a s target (map.get (apply gone b).references))
+      ((k : Reference) → reply_of (reserve_at d n r a s target (map.get b.references)) ≡ Refused (RefBusy k.cell k.number) → Misses gone.reference k) →
+      Agrees gone (reserve_at d n r a s target (map.get b.references)) (reserve_at d n r a s target (map.get (apply gone b).references))
   reserve_at_agrees a stage.Taken None h = refused gone WrongPhase
   reserve_at_agrees a stage.Taken (Some t) h = number_agrees a t (map.get b.references (reference_at t n)) refl (h (reference_at t n))
   reserve_at_agrees a stage.Reserved target h = refused gone WrongPhase
@@ -98,8 +98,8 @@ module _ (gone : Change) (b : State) (hides : Hides gone b) (d n : ℕ) (other :
   reserve_at_agrees a stage.Confirmed target h = refused gone WrongPhase
 
   reserve_by_agrees : (o : Option Attempt) →
-    ((k : Reference) → reply_of (reserve_by d n r o (map.get b.references)) ≡ Refused (RefBusy k.cell k.number) → Misses gone.reference k) →
-    Agrees gone (reserve_by d n r o (map.get b.references)) (reserve_by d n r o (map.get (apply gone b).references))
+      ((k : Reference) → reply_of (reserve_by d n r o (map.get b.references)) ≡ Refused (RefBusy k.cell k.number) → Misses gone.reference k) →
+      Agrees gone (reserve_by d n r o (map.get b.references)) (reserve_by d n r o (map.get (apply gone b).references))
   reserve_by_agrees None h = refused gone WrongPhase
   reserve_by_agrees (Some a) h = reserve_at_agrees a a.stage a.target h
 
@@ -108,7 +108,7 @@ reserve_agrees d n gone b sound hides other not_held =
     as_read (ap (λ o. reserve_row d n o (map.get (apply gone b).references)) (record_kept gone b d other)) (by (record_of b d) not_held.reference)
   where
     by : (o : Option CallRecord) → ((k : Reference) → reply_of (reserve_row d n o (map.get b.references)) ≡ Refused (RefBusy k.cell k.number) → Misses gone.reference k) →
-      Agrees gone (reserve_row d n o (map.get b.references)) (reserve_row d n o (map.get (apply gone b).references))
+        Agrees gone (reserve_row d n o (map.get b.references)) (reserve_row d n o (map.get (apply gone b).references))
     by None h = refused gone NoCall
     by (Some r) h = reserve_by_agrees gone b hides d n other r r.attempt h
 
@@ -117,7 +117,7 @@ pub activate_agrees : (d : ℕ) → AgreesWithOthers (event.Activate d)
 activate_agrees d gone b sound hides other not_held = as_read (ap (activate_row d) (record_kept gone b d other)) (by (record_of b d) refl)
   where
     at : (r : CallRecord) (a : Attempt) (s : Stage) (target : Option ChanId) → ((t : ChanId) → target ≡ Some t → Misses gone.channel t) →
-      Agrees gone (activate_at d r a s target) (activate_at d r a s target)
+        Agrees gone (activate_at d r a s target) (activate_at d r a s target)
     at r a stage.Reserved None missed = refused gone WrongPhase
     at r a stage.Reserved (Some t) missed = record { same = refl; away = record { channel = missed t refl; call = other; reference = tt; timer = tt } }
     at r a stage.Taken target missed = refused gone WrongPhase
@@ -136,7 +136,7 @@ activate_agrees d gone b sound hides other not_held = as_read (ap (activate_row 
 -- Undo
 module _ (gone : Change) (b : State) (sound : IsSound b) (hides : Hides gone b) (d : ℕ) (other : Misses gone.call d) (r : CallRecord) (is : record_of b d ≡ Some r) where
   undo_attempt_agrees : (refusal : Refusal) (armed : Option Timer) (o : Option Attempt) → r.attempt ≡ o →
-    Agrees gone (undo_attempt d refusal r o (state_of b) armed) (undo_attempt d refusal r o (state_of (apply gone b)) armed)
+      Agrees gone (undo_attempt d refusal r o (state_of b) armed) (undo_attempt d refusal r o (state_of (apply gone b)) armed)
   undo_attempt_agrees refusal armed None has = refused gone refusal
   undo_attempt_agrees refusal armed (Some a) has =
       let target = target_missed gone b sound hides d other r is a has in
@@ -157,8 +157,8 @@ module _ (gone : Change) (b : State) (sound : IsSound b) (hides : Hides gone b) 
       }
 
   undo_expired_agrees : (armed : Option Timer) (expired : Bool) →
-    Agrees gone (if expired then undo_attempt d NotArmed r r.attempt (state_of b) armed else Refuses NotArmed)
-    (if expired then undo_attempt d NotArmed r r.attempt (state_of (apply gone b)) armed else Refuses NotArmed)
+      Agrees gone (if expired then undo_attempt d NotArmed r r.attempt (state_of b) armed else Refuses NotArmed)
+      (if expired then undo_attempt d NotArmed r r.attempt (state_of (apply gone b)) armed else Refuses NotArmed)
   undo_expired_agrees armed true = undo_attempt_agrees NotArmed armed r.attempt refl
   undo_expired_agrees armed false = refused gone NotArmed
 
@@ -168,7 +168,7 @@ undo_agrees d why gone b sound hides other not_held =
     (by why (record_of b d) refl (map.get b.timers d))
   where
     by : (why : Why) (o : Option CallRecord) → record_of b d ≡ o → (armed : Option Timer) →
-      Agrees gone (undo_row d why o (state_of b) armed) (undo_row d why o (state_of (apply gone b)) armed)
+        Agrees gone (undo_row d why o (state_of b) armed) (undo_row d why o (state_of (apply gone b)) armed)
     by why None is armed = refused gone NoCall
     by Asked (Some r) is armed = undo_attempt_agrees gone b sound hides d other r is WrongPhase armed r.attempt refl
     by (Expired m) (Some r) is armed = undo_expired_agrees gone b sound hides d other r is armed (is_armed m armed)

@@ -1,20 +1,16 @@
 -- Open, Clear and Look by another call agree, whatever is gone.
 use Rattle.std.proofs.Common.{◌≡◌, ℕ, Bool, true, false, Option, Some, None, refl, ap}
-use Rattle.std.specs.Option.{option_map}
 use Rattle.radio_book.specs.declared.channel.ChanId.{ChanId}
-use Rattle.radio_book.specs.declared.channel.ChanState.{ChanState}
 use Rattle.radio_book.specs.declared.event.Attempt.{Attempt}
 use Rattle.radio_book.specs.declared.event.CallRecord.{CallRecord}
 use Rattle.radio_book.specs.declared.event.Event.TheVariants as event
 use Rattle.radio_book.specs.declared.event.Refusal.TheVariants.{NoCall, CallExists, WrongPhase, NoChannel, ChannelBusy}
 use Rattle.radio_book.specs.declared.event.Reply.TheVariants.{Done, Record, Refused}
-use Rattle.radio_book.specs.Maps.{Entry}
 use Rattle.radio_book.specs.Site.{is_traffic}
-use Rattle.radio_book.specs.State.{State, Change, apply, state_of, record_of}
-use Rattle.radio_book.specs.Table.{Outcome, Accepts, reply_of, no_change, open_row, clear_row, clear_at, cleared_state, look_row}
-use Rattle.radio_book.specs.Sound.{IsSound}
+use Rattle.radio_book.specs.State.{apply, state_of, record_of}
+use Rattle.radio_book.specs.Table.{Accepts, reply_of, no_change, open_row, clear_row, clear_at, cleared_state, look_row}
 use Rattle.radio_book.proofs.Changes.{Misses, option_apart, record_kept}
-use Rattle.radio_book.proofs.Agreement.{Agrees, refused, as_read, Hides, IsNotHeld, AgreesWithOthers, wants_free, states_kept, serving_missed}
+use Rattle.radio_book.proofs.Agreement.{Agrees, refused, as_read, AgreesWithOthers, wants_free, states_kept, serving_missed}
 
 pub open_agrees : (d : ℕ) (y : ChanId) → AgreesWithOthers (event.Open d y)
 open_agrees d y gone b sound hides other not_held =
@@ -22,7 +18,7 @@ open_agrees d y gone b sound hides other not_held =
     (by (record_of b d) (is_traffic b.site y) (not_held.channel y))
   where
     by : (o : Option CallRecord) (traffic : Bool) → (reply_of (open_row d y o traffic (state_of b y)) ≡ Refused (ChannelBusy y) → Misses gone.channel y) →
-      Agrees gone (open_row d y o traffic (state_of b y)) (open_row d y o traffic (state_of (apply gone b) y))
+        Agrees gone (open_row d y o traffic (state_of b y)) (open_row d y o traffic (state_of (apply gone b) y))
     by (Some r) traffic h = refused gone CallExists
     by None false h = refused gone NoChannel
     by None true h =

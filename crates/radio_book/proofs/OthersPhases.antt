@@ -1,5 +1,5 @@
 -- What an open attempt hides, and what its target hides once it is off: in both phases the rows of others agree.
-use Rattle.std.proofs.Common.{◌≡◌, ◌≢◌, ◌⊎◌, inl, inr, ℕ, Option, Some, None, refl, sym, ◌∙◌, ap, subst}
+use Rattle.std.proofs.Common.{◌≡◌, ◌≢◌, inl, inr, ℕ, Option, Some, None, refl, sym, ◌∙◌, ap, subst}
 use Rattle.std.specs.Option.{option_map, option_and_then}
 use Rattle.std.specs.FinMap as map
 use Rattle.radio_book.specs.declared.channel.ChanId.{ChanId}
@@ -15,9 +15,9 @@ use Rattle.radio_book.specs.declared.event.Event.TheVariants as event
 use Rattle.radio_book.specs.declared.event.Refusal.TheVariants.{ChannelBusy, RefBusy}
 use Rattle.radio_book.specs.declared.event.Reply.{Reply}
 use Rattle.radio_book.specs.declared.event.Reply.TheVariants.{Refused}
-use Rattle.radio_book.specs.State.{State, Change, apply, state_of, record_of}
+use Rattle.radio_book.specs.State.{State, state_of, record_of}
 use Rattle.radio_book.specs.Table.{reference_held, reply_to}
-use Rattle.radio_book.specs.Sound.{IsSound, owner, Uses, target_in, reference_of, HasServing}
+use Rattle.radio_book.specs.Sound.{IsSound, owner, target_in, reference_of, HasServing}
 use Rattle.radio_book.specs.Others.{IsOn, IsBy, IsHeldChannel, IsHeldReference, attempt_gone, channel_gone, CommutesWithUndone}
 use Rattle.radio_book.proofs.Changes.{Misses, option_missed}
 use Rattle.radio_book.proofs.Agreement.{Hides, IsOfOther, IsNotHeld, AgreesWithOthers, agrees_commute, target_owned}
@@ -81,7 +81,7 @@ module _ (c : ℕ) (r : CallRecord) (a : Attempt) (t : ChanId) (b : State) (aims
   open_others (event.Released y) by on = open_missed y on
 
   pub open_not_held : (reply : Reply) → (IsHeldChannel t reply → ⊥) → (IsHeldReference (reference_held a.target a.reference) reply → ⊥) →
-    IsNotHeld (attempt_gone c r a (map.get b.timers c)) reply
+      IsNotHeld (attempt_gone c r a (map.get b.timers c)) reply
   open_not_held reply channel reference = record {
     channel = λ x e. open_missed x (λ here. channel (e ∙ ap (λ z. Refused (ChannelBusy z)) here));
     reference = λ k e. option_missed (λ j. (j, None)) (reference_held a.target a.reference) k (λ j held here.

@@ -11,10 +11,9 @@ use Rattle.radio_book.specs.declared.event.Event.TheVariants as event
 use Rattle.radio_book.specs.declared.event.Refusal.TheVariants.{Unexpected}
 use Rattle.radio_book.specs.declared.event.Reply.TheVariants.{Owned}
 use Rattle.radio_book.specs.State.{State, Change, apply, state_of, record_of}
-use Rattle.radio_book.specs.Table.{Outcome, Accepts, becomes, is_recorded, at_stage, is_target, attempt_moved, moved, confirm_row, refuse_row, released_row}
-use Rattle.radio_book.specs.Sound.{IsSound}
+use Rattle.radio_book.specs.Table.{Accepts, becomes, is_recorded, at_stage, is_target, attempt_moved, moved, confirm_row, refuse_row, released_row}
 use Rattle.radio_book.proofs.Changes.{Misses, AreApart, state_kept, record_kept}
-use Rattle.radio_book.proofs.Agreement.{Agrees, refused, as_read, Hides, IsNotHeld, AgreesWithOthers}
+use Rattle.radio_book.proofs.Agreement.{Agrees, refused, as_read, AgreesWithOthers}
 
 module _ (gone : Change) (c : ℕ) (other : Misses gone.call c) (x : ChanId) (s : Stage) where
   recorded_apart : (aimed : Bool) (r : CallRecord) → AreApart (if aimed then is_recorded c r else None) gone.call
@@ -31,8 +30,8 @@ module _ (gone : Change) (c : ℕ) (other : Misses gone.call c) (x : ChanId) (s 
 
   -- the station's answer on a channel of another call
   answer_agrees : (b : State) (state : ChanState) → Misses gone.channel x →
-    Agrees gone (Accepts (record { channel = becomes x state; call = moved x s c (record_of b c); reference = None; timer = None }) (Owned c))
-    (Accepts (record { channel = becomes x state; call = moved x s c (record_of (apply gone b) c); reference = None; timer = None }) (Owned c))
+      Agrees gone (Accepts (record { channel = becomes x state; call = moved x s c (record_of b c); reference = None; timer = None }) (Owned c))
+      (Accepts (record { channel = becomes x state; call = moved x s c (record_of (apply gone b) c); reference = None; timer = None }) (Owned c))
   answer_agrees b state missed = record {
     same = ap (λ o. Accepts (record { channel = becomes x state; call = moved x s c o; reference = None; timer = None }) (Owned c)) (record_kept gone b c other);
     away = record { channel = missed; call = moved_apart (record_of b c); reference = tt; timer = tt };
