@@ -1,5 +1,7 @@
 pub mod KeyFacts
 pub mod MapFacts
+pub mod Frame
+pub mod SoundSteps
 pub mod Changes
 pub mod Agreement
 pub mod OthersCalls
