@@ -5,8 +5,6 @@ use Rattle.std.specs.FinMap as map
 use Rattle.radio_book.specs.declared.channel.ChanId.{ChanId}
 use Rattle.radio_book.specs.declared.channel.ChanState.{ChanState}
 use Rattle.radio_book.specs.declared.channel.ChanState.TheVariants.{Free, Held, Pending, On, Off}
-use Rattle.radio_book.specs.declared.event.Stage.{Stage}
-use Rattle.radio_book.specs.declared.event.Stage.TheVariants as stage
 use Rattle.radio_book.specs.declared.event.Attempt.{Attempt}
 use Rattle.radio_book.specs.declared.event.CallRecord.{CallRecord}
 use Rattle.radio_book.specs.declared.event.Reference.{Reference}
@@ -18,8 +16,9 @@ use Rattle.radio_book.specs.declared.event.Reply.{Reply}
 use Rattle.radio_book.specs.declared.event.Reply.TheVariants.{Refused}
 use Rattle.radio_book.specs.State.{State, Change, apply, state_of, record_of}
 use Rattle.radio_book.specs.Table.{Outcome, Refuses, Accepts, row, after, reply_of, reply_to}
-use Rattle.radio_book.specs.Sound.{IsSound, owner, target_state}
+use Rattle.radio_book.specs.Sound.{IsSound, owner}
 use Rattle.radio_book.specs.Others.{Commutes}
+use Rattle.radio_book.proofs.Frame.{is_owned}
 use Rattle.radio_book.proofs.Changes.{Misses, ChangesApart, apply_swap, state_kept}
 
 -- the change of an accepted event names other entries
@@ -84,13 +83,6 @@ pub record IsNotHeld (gone : Change) (reply : Reply) : Type 0 where
 abbrev pub AgreesWithOthers : Event → Type 0
 AgreesWithOthers e = (gone : Change) (b : State) → IsSound b → Hides gone b → IsOfOther gone e → IsNotHeld gone (reply_to b e) → AgreesAt gone b e
 
-pub target_owned : (c : ℕ) (s : Stage) → owner (target_state c s) ≡ Some c
-target_owned c stage.Taken = refl
-target_owned c stage.Reserved = refl
-target_owned c stage.Sent = refl
-target_owned c stage.Refused = refl
-target_owned c stage.Confirmed = refl
-
 module _ (gone : Change) (b : State) (hides : Hides gone b) where
   -- a row that wants a channel free: the channel is none that is gone, or a refusal comes from it
   pub wants_free :
@@ -125,4 +117,4 @@ module _ (gone : Change) (b : State) (sound : IsSound b) (hides : Hides gone b) 
   serving_missed x serves = hides.others_channel x d (sound.serving d r x is serves) other
 
   pub target_missed : (a : Attempt) → r.attempt ≡ Some a → (x : ChanId) → a.target ≡ Some x → Misses gone.channel x
-  target_missed a has x aims = hides.others_channel x d (ap owner (sound.target d r a x is has aims) ∙ target_owned d a.stage) other
+  target_missed a has x aims = hides.others_channel x d (ap owner (sound.target d r a x is has aims) ∙ is_owned d a.stage) other

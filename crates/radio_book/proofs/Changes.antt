@@ -9,13 +9,13 @@ use Rattle.radio_book.specs.declared.channel.ChanId.{ChanId}
 use Rattle.radio_book.specs.declared.event.Reference.{Reference}
 use Rattle.radio_book.specs.Maps.{Entry, put, changed}
 use Rattle.radio_book.specs.State.{State, Change, apply, or_free, state_of, record_of}
-use Rattle.radio_book.proofs.MapFacts.{get_put_other, put_put_other, put_put_same}
+use Rattle.radio_book.proofs.Frame.{Touches, get_untouched}
+use Rattle.radio_book.proofs.MapFacts.{put_put_other, put_put_same}
 use Rattle.radio_book.proofs.KeyFacts.{chan_total, chan_exact, reference_total, reference_exact}
 
 -- the change names another key, or none
 abbrev pub Misses : {K X : Type 0} → Option (Entry K X) → K → Type 0
-Misses None k = Unit {0}
-Misses (Some e) k = k ≢ e.0
+Misses p k = Touches p k → ⊥
 
 -- two changes of one map name different keys
 abbrev pub AreApart : {K X : Type 0} → Option (Entry K X) → Option (Entry K X) → Type 0
@@ -30,7 +30,7 @@ IsCovered (Some e) (Some f) = e.0 ≡ f.0
 
 -- a change that depends on what may not be there
 pub option_missed : {A K X : Type 0} (f : A → Entry K X) (o : Option A) (k : K) → ((v : A) → o ≡ Some v → k ≢ (f v).0) → Misses (option_map f o) k
-option_missed f None k differs = tt
+option_missed f None k differs = λ touched. touched
 option_missed f (Some v) k differs = differs v refl
 
 pub option_apart : {A K X : Type 0} (f : A → Entry K X) (o : Option A) (q : Option (Entry K X)) → ((v : A) → o ≡ Some v → Misses q (f v).0) → AreApart (option_map f o) q
@@ -38,10 +38,6 @@ option_apart f None q misses = tt
 option_apart f (Some v) q misses = misses v refl
 
 module _ {K X : Type 0} {R : K → K → Ordering} (o : IsTotalOrder R) (exact : IsAntisymmetric R) where
-  pub get_missed : (m : FinMap R X) (p : Option (Entry K X)) (k : K) → Misses p k → map.get (changed m p) k ≡ map.get m k
-  get_missed m None k missed = refl
-  get_missed m (Some e) k missed = get_put_other o exact m e.0 e.1 k missed
-
   changed_swap : (m : FinMap R X) (p q : Option (Entry K X)) → AreApart p q → changed (changed m p) q ≡ changed (changed m q) p
   changed_swap m None q apart = refl
   changed_swap m (Some e) None apart = refl
@@ -89,13 +85,13 @@ apply_cover p q b covered = λ i. record {
 -- what a change misses reads as before
 
 pub state_kept : (p : Change) (b : State) (x : ChanId) → Misses p.channel x → state_of (apply p b) x ≡ state_of b x
-state_kept p b x missed = ap or_free (get_missed chan_total chan_exact b.channels p.channel x missed)
+state_kept p b x missed = ap or_free (get_untouched chan_total chan_exact b.channels p.channel x missed)
 
 pub record_kept : (p : Change) (b : State) (c : ℕ) → Misses p.call c → record_of (apply p b) c ≡ record_of b c
-record_kept p b c missed = get_missed nat_cmp_total nat_cmp-IsAntisymmetric b.calls p.call c missed
+record_kept p b c missed = get_untouched nat_cmp_total nat_cmp-IsAntisymmetric b.calls p.call c missed
 
 pub user_kept : (p : Change) (b : State) (k : Reference) → Misses p.reference k → map.get (apply p b).references k ≡ map.get b.references k
-user_kept p b k missed = get_missed reference_total reference_exact b.references p.reference k missed
+user_kept p b k missed = get_untouched reference_total reference_exact b.references p.reference k missed
 
 pub timer_kept : (p : Change) (b : State) (c : ℕ) → Misses p.timer c → map.get (apply p b).timers c ≡ map.get b.timers c
-timer_kept p b c missed = get_missed nat_cmp_total nat_cmp-IsAntisymmetric b.timers p.timer c missed
+timer_kept p b c missed = get_untouched nat_cmp_total nat_cmp-IsAntisymmetric b.timers p.timer c missed
