@@ -3,6 +3,9 @@
 #![tactic(auto)]
 
 pub mod channel;
+mod entry;
 pub mod event;
 mod journal;
 pub mod others;
+pub mod site;
+mod tables;
