@@ -11,8 +11,10 @@ mod octets;
 mod reading;
 mod table;
 mod values;
+mod writing;
 
 pub use fault::RslFault;
 pub use message::{ChanBits, Rsl};
 pub use octets::Octets;
 pub use reading::decode;
+pub use writing::fits;
