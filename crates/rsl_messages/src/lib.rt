@@ -6,6 +6,7 @@
 
 mod fault;
 mod head;
+mod laws;
 mod message;
 mod octets;
 mod reading;
@@ -14,7 +15,8 @@ mod values;
 mod writing;
 
 pub use fault::RslFault;
+pub use laws::{canonical_is_text, reading_is_unique};
 pub use message::{ChanBits, Rsl};
 pub use octets::Octets;
 pub use reading::decode;
-pub use writing::fits;
+pub use writing::{encode, encode_into, fits};
