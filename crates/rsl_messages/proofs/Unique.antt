@@ -1,5 +1,5 @@
 -- A text has one value and no fault.
-use Rattle.std.proofs.Common.{◌≡◌, ℕ, ◌/◌, ◌<◌, ◌≤◌, List, [], ◌∷◌, Option, Some, None, Result, Ok, Err, refl, sym, ◌∙◌, ap, arith, subst, cond, eqb, inl, inr, length}
+use Rattle.std.proofs.Common.{IfOk, IfErr, ◌≢◌, ◌≡◌, ℕ, ◌/◌, ◌<◌, ◌≤◌, List, [], ◌∷◌, Option, Some, None, Result, Ok, Err, refl, sym, ◌∙◌, ap, arith, subst, cond, eqb, inl, inr, length}
 use Rattle.octet_elements.specs.Elements.{Element, AreElements, AreTorn, IsTornAt}
 use Rattle.octet_elements.proofs.Splits.{same_elements, whole_not_torn}
 use Rattle.rsl_messages.specs.declared.fault.ElementFault.{ElementFault}
@@ -86,3 +86,8 @@ no_fault v octets (fault.Missing i) h (within, inr g) = absurd (no_bad_element v
 no_fault v octets (fault.BadElement i) h (within, inl bad) = absurd bad
 no_fault v octets (fault.BadElement i) h (within, inr g) = absurd (no_bad_element v octets g.kind g.body (Rattle.rsl_messages.specs.declared.fault.ElementFault.TheVariants.Bad i) h g.head g.fault)
 no_fault v octets fault.NoMemory h g = refl
+
+-- what is read of a text is its value, unless memory ran out
+pub exact : {A : Type 0} (r : Result (Rsl A) RslFault) (octets : List ℕ) (v : Rsl A) → IfOk r (λ w. IsTextOf w octets) → IfErr r (HasFault A octets) → IsTextOf v octets → r ≢ Err fault.NoMemory → r ≡ Ok v
+exact (Ok w) octets v text fault h memory = ap Ok (one_value w v octets text h)
+exact (Err f) octets v text fault h memory = absurd (memory (ap Err (no_fault v octets f h fault)))
