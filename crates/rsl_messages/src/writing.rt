@@ -1,10 +1,11 @@
 //! Writing a message.
 ghost use Rattle.std.specs.Prelude.{◌≡◌, ◌≤◌, ◌<◌, ◌+◌, ◌++◌, ◌↔◌, [], IsTrue, IsNone, IfSome, length, IsOk, IfOk, OnOk, OnErr, vec_len, vec_capacity};
+ghost use Rattle.std.specs.Option.{option_map};
 ghost use Rattle.octet_elements.specs.Elements.{all_spelled};
 ghost use Rattle.rsl_messages.specs.Forms.{abis};
 ghost use Rattle.rsl_messages.specs.Messages.{elements_of, kind_of};
 ghost use Rattle.rsl_messages.specs.Heads.{head_of};
-ghost use Rattle.rsl_messages.specs.Values.{channel_octet, pair_octets};
+ghost use Rattle.rsl_messages.specs.Values.{channel_octet, pair_octets, where_value};
 ghost use Rattle.rsl_messages.specs.Texts.{limit, HasCanonical, IsWritable, canonical};
 
 use crate::head::{MessageKind, head_octets};
@@ -104,6 +105,17 @@ fn kind_of<A: Allocator>(message: &Rsl<A>) -> MessageKind
     }
 }
 
+/// How many octets the layer 3 element of a MEASUREMENT RESULT takes.
+fn reported_len<A: Allocator>(layer3: Option<&Octets<A>>) -> usize
+    requires { IfSome layer3 (λ l. length l.now ≤ limit) }
+    ensures { result ≡ length (all_spelled abis (where_value 11 (option_map (λ l. l.now) layer3.entry))) }
+{
+    match layer3 {
+        None => 0,
+        Some(layer3) => 3 + layer3.as_slice().len(),
+    }
+}
+
 /// How many octets the elements of a message take.
 fn elements_len<A: Allocator>(message: &Rsl<A>) -> usize
     requires { IsWritable message.now }
@@ -117,16 +129,9 @@ fn elements_len<A: Allocator>(message: &Rsl<A>) -> usize
             mode, reference, ..
         } => 6 + mode.as_slice().len() + if reference.is_some() { 2 } else { 0 },
         Rsl::HandoverDetection { delay, .. } => 2 + if delay.is_some() { 2 } else { 0 },
-        Rsl::MeasurementResult {
-            uplink,
-            layer3: None,
-            ..
-        } => 8 + uplink.as_slice().len(),
-        Rsl::MeasurementResult {
-            uplink,
-            layer3: Some(layer3),
-            ..
-        } => 11 + uplink.as_slice().len() + layer3.as_slice().len(),
+        Rsl::MeasurementResult { uplink, layer3, .. } => {
+            8 + uplink.as_slice().len() + reported_len(layer3.as_ref())
+        }
         Rsl::ChannelActivationAck { .. }
         | Rsl::ChannelActivationNack { .. }
         | Rsl::ConnectionFailureIndication { .. } => 5,
