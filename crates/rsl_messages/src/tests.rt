@@ -11,17 +11,26 @@ use std::test::Fail;
 const TN3: ChanBits = ChanBits { tn: 3 };
 
 const DATA_REQUEST: &[u8] = &[3, 1, 1, 0x0B, 2, 0, 0x0B, 0, 3, 6, 0x0D, 0];
+
 const DATA_INDICATION: &[u8] = &[3, 2, 1, 0x0B, 2, 0, 0x0B, 0, 3, 6, 0x2C, 0];
+
 const ACTIVATION: &[u8] = &[8, 0x21, 1, 0x0B, 3, 2, 6, 4, 0, 1, 8, 1, 9, 0x2A];
+
 const ACTIVATION_ACK: &[u8] = &[8, 0x22, 1, 0x0B, 8, 0x12, 0x34];
+
 const ACTIVATION_NACK: &[u8] = &[8, 0x23, 1, 0x0A, 0x1A, 1, 0x20];
+
 const CONNECTION_FAILURE: &[u8] = &[8, 0x24, 1, 0x0B, 0x1A, 1, 1];
+
 const DETECTION: &[u8] = &[8, 0x27, 1, 0x0B, 0x11, 2];
+
 const MEASUREMENT: &[u8] = &[
     8, 0x28, 1, 0x0B, 0x1B, 0, 0x19, 3, 0, 0x1E, 0, 4, 0, 0x0B, 0, 0x12, 6, 0x15, 0x1E, 0x1E, 0,
     0x68, 0x12, 0xA0, 0, 0, 0, 0, 0, 0, 0, 0, 0, 0,
 ];
+
 const RELEASE: &[u8] = &[8, 0x2E, 1, 0x0B];
+
 const RELEASE_ACK: &[u8] = &[8, 0x33, 1, 0x0B];
 
 /// A text of each message, as it is written.
@@ -48,7 +57,13 @@ const ELEMENTS: [&[(usize, u8, bool)]; 10] = [
     &[(2, 1, true), (4, 0x1A, true)],
     &[(2, 1, true), (4, 0x1A, true)],
     &[(2, 1, true), (4, 0x11, false)],
-    &[(2, 1, true), (4, 0x1B, true), (6, 0x19, true), (11, 4, true), (13, 0x0B, false)],
+    &[
+        (2, 1, true),
+        (4, 0x1B, true),
+        (6, 0x19, true),
+        (11, 4, true),
+        (13, 0x0B, false),
+    ],
     &[(2, 1, true)],
     &[(2, 1, true)],
 ];
@@ -68,12 +83,22 @@ fn reads_back_what_it_writes(rt: HostRuntime) -> Result<(), Fail> {
 
 #[test]
 fn reads_radio_link_layer(rt: HostRuntime) -> Result<(), Fail> {
-    let Rsl::DataRequest { channel, link, layer3 } = decode(rt.alloc(), DATA_REQUEST)? else {
+    let Rsl::DataRequest {
+        channel,
+        link,
+        layer3,
+    } = decode(rt.alloc(), DATA_REQUEST)?
+    else {
         return Err("no DATA REQUEST")?;
     };
     assert_eq!(rt; (channel, link), (TN3, 0));
     assert_eq!(rt; layer3.as_slice(), [6, 0x0D, 0].as_slice());
-    let Rsl::DataIndication { channel, link, layer3 } = decode(rt.alloc(), DATA_INDICATION)? else {
+    let Rsl::DataIndication {
+        channel,
+        link,
+        layer3,
+    } = decode(rt.alloc(), DATA_INDICATION)?
+    else {
         return Err("no DATA INDICATION")?;
     };
     assert_eq!(rt; (channel, link), (TN3, 0));
@@ -83,8 +108,12 @@ fn reads_radio_link_layer(rt: HostRuntime) -> Result<(), Fail> {
 
 #[test]
 fn reads_activations(rt: HostRuntime) -> Result<(), Fail> {
-    let Rsl::ChannelActivation { channel, activation, mode, reference } =
-        decode(rt.alloc(), ACTIVATION)?
+    let Rsl::ChannelActivation {
+        channel,
+        activation,
+        mode,
+        reference,
+    } = decode(rt.alloc(), ACTIVATION)?
     else {
         return Err("no CHANNEL ACTIVATION")?;
     };
@@ -103,8 +132,10 @@ fn reads_activations(rt: HostRuntime) -> Result<(), Fail> {
 
 #[test]
 fn reads_reports(rt: HostRuntime) -> Result<(), Fail> {
-    let Rsl::ConnectionFailureIndication { channel, cause } =
-        decode(rt.alloc(), CONNECTION_FAILURE)?
+    let Rsl::ConnectionFailureIndication { channel, cause } = decode(
+        rt.alloc(),
+        CONNECTION_FAILURE,
+    )?
     else {
         return Err("no CONNECTION FAILURE INDICATION")?;
     };
@@ -113,8 +144,13 @@ fn reads_reports(rt: HostRuntime) -> Result<(), Fail> {
         return Err("no HANDOVER DETECTION")?;
     };
     assert_eq!(rt; (channel, delay), (TN3, Some(2)));
-    let Rsl::MeasurementResult { channel, number, uplink, power, layer3 } =
-        decode(rt.alloc(), MEASUREMENT)?
+    let Rsl::MeasurementResult {
+        channel,
+        number,
+        uplink,
+        power,
+        layer3,
+    } = decode(rt.alloc(), MEASUREMENT)?
     else {
         return Err("no MEASUREMENT RESULT")?;
     };
@@ -150,7 +186,12 @@ fn reads_other_texts_of_a_message(rt: HostRuntime) -> Result<(), Fail> {
         (&[8, 0x2E, 1, 0x0B, 1, 0x0C], RELEASE),
         (&[8, 0x2E, 1, 0x0B, 1, 0x1B], RELEASE),
         // elements that the message doesn't use, one of each form
-        (&[8, 0x33, 0x18, 1, 0x0A, 1, 1, 0x0B, 0, 1, 1, 0x7F, 0, 1, 0x0B], RELEASE_ACK),
+        (
+            &[
+                8, 0x33, 0x18, 1, 0x0A, 1, 1, 0x0B, 0, 1, 1, 0x7F, 0, 1, 0x0B,
+            ],
+            RELEASE_ACK,
+        ),
         // of a cause the first octet counts
         (&[8, 0x24, 1, 0x0B, 0x1A, 3, 1, 7, 7], CONNECTION_FAILURE),
         // optional elements
@@ -162,7 +203,11 @@ fn reads_other_texts_of_a_message(rt: HostRuntime) -> Result<(), Fail> {
     ];
     for (text, written) in rows {
         let message = decode(rt.alloc(), text)?;
-        assert_eq!(rt; encode(rt.alloc(), &message)?.as_slice(), written, "{message:?}");
+        assert_eq!(rt;
+            encode(rt.alloc(), &message)?.as_slice(),
+            written,
+            "{message:?}"
+        );
     }
     Ok(())
 }
@@ -206,7 +251,10 @@ fn finds_the_first_fault(rt: HostRuntime) {
         (&[8, 0x21, 1, 0x0B, 3, 0, 6, 0], RslFault::BadElement(6)),
         (&[8, 0x23, 1, 0x0B, 0x1A, 0], RslFault::BadElement(0x1A)),
         (&[8, 0x24, 1, 0x0B, 0x1A, 0], RslFault::BadElement(0x1A)),
-        (&[3, 1, 1, 0x0B, 2, 0, 0x0B, 0, 0], RslFault::BadElement(0x0B)),
+        (
+            &[3, 1, 1, 0x0B, 2, 0, 0x0B, 0, 0],
+            RslFault::BadElement(0x0B),
+        ),
         (
             &[8, 0x28, 1, 0x0B, 0x1B, 0, 0x19, 0, 4, 0, 0x0B, 0, 0],
             RslFault::BadElement(0x0B),
@@ -219,8 +267,14 @@ fn finds_the_first_fault(rt: HostRuntime) {
 
 #[test]
 fn has_at_most_1024_octets(rt: HostRuntime) -> Result<(), Fail> {
-    assert_eq!(rt; decode(rt.alloc(), &[0; 1025]).err(), Some(RslFault::TooLong));
-    assert_eq!(rt; decode(rt.alloc(), &[0; 1024]).err(), Some(RslFault::NotRsl));
+    assert_eq!(rt;
+        decode(rt.alloc(), &[0; 1025]).err(),
+        Some(RslFault::TooLong)
+    );
+    assert_eq!(rt;
+        decode(rt.alloc(), &[0; 1024]).err(),
+        Some(RslFault::NotRsl)
+    );
     // each pair of zeros is an element that no message uses
     let mut octets = [0; 1024];
     octets[..4].copy_from_slice(RELEASE);
@@ -232,7 +286,11 @@ fn has_at_most_1024_octets(rt: HostRuntime) -> Result<(), Fail> {
 /// What is wrong with the first n octets of a text.
 fn fault_of_front(elements: &[(usize, u8, bool)], n: usize) -> Option<RslFault> {
     if n < 2 {
-        return Some(if n == 0 { RslFault::NotRsl } else { RslFault::Torn(1) });
+        return Some(if n == 0 {
+            RslFault::NotRsl
+        } else {
+            RslFault::Torn(1)
+        });
     }
     let whole = elements.iter().any(|element| element.0 == n);
     let mut torn = None;
@@ -260,7 +318,10 @@ fn finds_the_fault_of_each_front_of_a_text(rt: HostRuntime) {
 #[test]
 fn prints_faults(rt: HostRuntime) -> Result<(), Fail> {
     let rows = [
-        (RslFault::NotRsl, "not a message of radio link layer or dedicated channel management"),
+        (
+            RslFault::NotRsl,
+            "not a message of radio link layer or dedicated channel management",
+        ),
         (RslFault::UnknownType(0x0F), "unknown message type 0x0f"),
         (RslFault::Missing(1), "element 0x01 is missing"),
         (RslFault::BadElement(0x1A), "element 0x1a is bad"),
@@ -335,9 +396,25 @@ fn fits_what_has_a_canonical_text(rt: HostRuntime) -> Result<(), Fail> {
         (measurement(alloc, &[], &zeros[..1012])?, false),
         (measurement(alloc, &zeros[..255], &zeros[..756])?, true),
         (measurement(alloc, &zeros[..255], &zeros[..757])?, false),
-        (Rsl::HandoverDetection { channel: ChanBits { tn: 8 }, delay: None }, false),
-        (Rsl::RfChannelRelease { channel: ChanBits { tn: 8 } }, false),
-        (Rsl::RfChannelReleaseAck { channel: ChanBits { tn: 7 } }, true),
+        (
+            Rsl::HandoverDetection {
+                channel: ChanBits { tn: 8 },
+                delay: None,
+            },
+            false,
+        ),
+        (
+            Rsl::RfChannelRelease {
+                channel: ChanBits { tn: 8 },
+            },
+            false,
+        ),
+        (
+            Rsl::RfChannelReleaseAck {
+                channel: ChanBits { tn: 7 },
+            },
+            true,
+        ),
     ];
     for (message, fit) in &rows {
         assert_eq!(rt; fits(message), *fit);

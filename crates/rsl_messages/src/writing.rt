@@ -32,10 +32,14 @@ fn is_writable<A: Allocator>(message: &Rsl<A>) -> bool
 {
     match message {
         Rsl::DataRequest {
-            channel, layer3, ..
+            channel,
+            layer3,
+            ..
         }
         | Rsl::DataIndication {
-            channel, layer3, ..
+            channel,
+            layer3,
+            ..
         } => is_full_rate(*channel) && is_layer3(layer3.as_slice(), LIMIT - 9),
         Rsl::ChannelActivation { channel, mode, .. } => {
             is_full_rate(*channel) && matches!(mode.as_slice().len(), 1..=255)
@@ -126,7 +130,9 @@ fn elements_len<A: Allocator>(message: &Rsl<A>) -> usize
             7 + layer3.as_slice().len()
         }
         Rsl::ChannelActivation {
-            mode, reference, ..
+            mode,
+            reference,
+            ..
         } => 6 + mode.as_slice().len() + if reference.is_some() { 2 } else { 0 },
         Rsl::HandoverDetection { delay, .. } => 2 + if delay.is_some() { 2 } else { 0 },
         Rsl::MeasurementResult { uplink, layer3, .. } => {
@@ -187,7 +193,11 @@ fn append_ack<A: Allocator>(out: &mut Vec<u8, A>, channel: ChanBits, frame: u16)
     ensures items { out.new.items ≡ out.old.items ++ all_spelled abis (elements_of {A = A} (Rsl.ChannelActivationAck channel frame)) }
 {
     append_element::<Abis, A>(out, CHANNEL_NUMBER, &[channel_octet(channel)]);
-    append_element::<Abis, A>(out, FRAME_NUMBER, &[(frame / 256) as u8, (frame % 256) as u8]);
+    append_element::<Abis, A>(
+        out,
+        FRAME_NUMBER,
+        &[(frame / 256) as u8, (frame % 256) as u8],
+    );
 }
 
 /// Appends the elements of a message with a cause.
@@ -287,10 +297,7 @@ fn append_elements<A: Allocator>(message: &Rsl<A>, out: &mut Vec<u8, A>)
 
 /// Appends the canonical text of a message. It takes no memory where the list has room for it.
 #[tactic(auto, using(crate::proofs::Written::writable_of))]
-pub fn encode_into<A: Allocator>(
-    message: &Rsl<A>,
-    out: &mut Vec<u8, A>,
-) -> Result<(), AllocError>
+pub fn encode_into<A: Allocator>(message: &Rsl<A>, out: &mut Vec<u8, A>) -> Result<(), AllocError>
     requires { HasCanonical message.now }
     ensures ok { OnOk result (out.new.items ≡ out.old.items ++ canonical message.now) }
     ensures err { OnErr result (out.new.items ≡ out.old.items) }
