@@ -1,0 +1,4 @@
+//! Elements of radio resource messages.
+#![tactic(auto)]
+
+mod bits;
