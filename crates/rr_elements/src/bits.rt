@@ -79,7 +79,8 @@ impl BitReader {
     /// All bits of at most 16 octets.
     pub fn new(octets: &[u8]) -> Self
         requires { length octets.now ≤ 16 }
-        ensures { result ≡ bits_of octets.now }
+        ensures bits { result ≡ bits_of octets.now }
+        ensures len { length result ≡ 8 * length octets.now }
     {
         let mut bits = BitWriter::new();
         for octet in octets {

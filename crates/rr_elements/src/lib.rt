@@ -2,3 +2,8 @@
 #![tactic(auto)]
 
 mod bits;
+mod cell;
+mod fault;
+
+pub use cell::CellDescription;
+pub use fault::ElementFault;
