@@ -1,3 +1,6 @@
 pub mod Bits
 pub mod Fields
 pub mod CellDescription
+pub mod ChanDescription
+pub mod Power
+pub mod RrCause

@@ -50,6 +50,8 @@ impl BitWriter {
         ensures err { OnErr result (out.new.items ≡ out.old.items) }
         ensures room { vec_len out.old + length self / 8 ≤ vec_capacity out.old → IsOk result }
         ensures full { OnErr result (vec_capacity out.old < vec_len out.old + length self / 8) }
+        ensures len { OnOk result (vec_len out.new ≡ vec_len out.old + length self / 8) }
+        ensures capacity { vec_capacity out.old ≤ vec_capacity out.new }
     {
         let octets = self.number.to_be_bytes();
         let unused = 16 - (self.len / 8) as usize;

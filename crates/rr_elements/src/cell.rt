@@ -72,6 +72,8 @@ impl CellDescription {
         ensures err { OnErr result (out.new.items ≡ out.old.items) }
         ensures room { vec_len out.old + 2 ≤ vec_capacity out.old → IsOk result }
         ensures full { OnErr result (vec_capacity out.old < vec_len out.old + 2) }
+        ensures len { OnOk result (vec_len out.new ≡ vec_len out.old + 2) }
+        ensures capacity { vec_capacity out.old ≤ vec_capacity out.new }
     {
         let mut bits = BitWriter::new();
         bits.put(2, (self.arfcn / 256) as u8);

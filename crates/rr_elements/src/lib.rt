@@ -2,8 +2,14 @@
 #![tactic(auto)]
 
 mod bits;
+mod cause;
 mod cell;
+mod channel;
 mod fault;
+mod power;
 
+pub use cause::RrCause;
 pub use cell::CellDescription;
+pub use channel::ChanDescription;
 pub use fault::ElementFault;
+pub use power::Power;

@@ -25,3 +25,10 @@ returns-clause-full g c =
     let e = slice-octets_of c.args.self s.len s.number c.self.view_is c.self.invariant.0 c.requires.whole in
     let h = rw (c.to_be_bytes-octets.ensures, e, length-octets_of) at c.extend_from_slice.ensures.full in
     search rules
+
+pub returns-clause-len : goal.returns-clause-len
+returns-clause-len g c =
+    let s = c.self.inside in
+    let e = slice-octets_of c.args.self s.len s.number c.self.view_is c.self.invariant.0 c.requires.whole in
+    let h = rw (c.to_be_bytes-octets.ensures, e, length-octets_of) at c.extend_from_slice.ensures.len in
+    search rules
