@@ -1,1 +1,4 @@
 pub mod BitLemmas
+pub mod CutLemmas
+pub mod KeptLemmas
+pub mod ResultsLemmas

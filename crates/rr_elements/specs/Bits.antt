@@ -20,6 +20,16 @@ abbrev pub cut : List ℕ → List ℕ → List ℕ
 cut [] bs = []
 cut (width ∷ widths) bs = number_of (take width bs) ∷ cut widths (drop width bs)
 
+-- the bits that follow the pieces
+abbrev pub after : List ℕ → List ℕ → List ℕ
+after [] bs = bs
+after (width ∷ widths) bs = after widths (drop width bs)
+
+-- widths so many times over
+abbrev pub repeated : ℕ → List ℕ → List ℕ
+repeated zero widths = []
+repeated (suc k) widths = widths ++ repeated k widths
+
 -- numbers written with these widths, one after the other
 abbrev pub written : List ℕ → List ℕ → List ℕ
 written [] ns = []

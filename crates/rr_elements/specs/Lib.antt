@@ -4,3 +4,5 @@ pub mod CellDescription
 pub mod ChanDescription
 pub mod Power
 pub mod RrCause
+pub mod MeasResults
+pub mod ResultsKept

@@ -6,10 +6,14 @@ mod cause;
 mod cell;
 mod channel;
 mod fault;
+mod measurement;
 mod power;
+mod results;
 
 pub use cause::RrCause;
 pub use cell::CellDescription;
 pub use channel::ChanDescription;
 pub use fault::ElementFault;
+pub use measurement::{MeasHead, Ncell};
 pub use power::Power;
+pub use results::MeasResults;
