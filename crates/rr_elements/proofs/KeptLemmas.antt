@@ -11,10 +11,12 @@ use Rattle.rr_elements.specs.MeasResults.{HeadFits, NcellFits, ResultsFit, IsKep
 pub used_le : (count : ℕ) → count < 8 → used count ≤ 6
 used_le count h = grind (arith, nat_tests)
 
+pub no_ncell_fits : NcellFits no_ncell
+no_ncell_fits = record { level = omega arith; position = omega arith; bsic = omega arith }
+
 pub kept_fits : (head : MeasHead) (places : List Ncell) → IsKept head places → All NcellFits places
 kept_fits head places kept =
-    let none : NcellFits no_ncell = record { level = omega arith; position = omega arith; bsic = omega arith } in
-    All-same NcellFits _ _ (sym (kept_again head places kept)) (All-append NcellFits _ _ kept.fits.each (All-replicate NcellFits _ no_ncell none))
+    All-same NcellFits _ _ (sym (kept_again head places kept)) (All-append NcellFits _ _ kept.fits.each (All-replicate NcellFits _ no_ncell no_ncell_fits))
 
 -- neighbours that are put into empty places
 pub kept_new : (head : MeasHead) (cells : List Ncell) → HeadFits head → All NcellFits cells → length cells ≡ used head.count → IsKept head (cells ++ drop (length cells) (replicate 6 no_ncell))

@@ -10,10 +10,7 @@ use Rattle.rr_elements.specs.Fields.{AreFields, flag}
 use Rattle.rr_elements.specs.MeasResults.{Results, HeadFits, IsKept, IsResultsText, used, head_widths, head_numbers, ncell_widths, ncell_numbers, results_widths, results_numbers, ncells_of, results_of, results_said, no_ncell}
 use Rattle.rr_elements.proofs.CutLemmas.{cut-append, repeated-add, written-append}
 use Rattle.rr_elements.specs.ResultsKept.{kept_again}
-
-flag-one : (b : Bool) → (flag b == 1) ≡ b
-flag-one true = refl
-flag-one false = refl
+use Rattle.rr_elements.proofs.ElementLemmas.{flag-one}
 
 flag-none : (b : Bool) → (flag (not b) == 0) ≡ b
 flag-none true = refl

@@ -15,6 +15,11 @@ unfoldable pub number_of : List ℕ → ℕ
 number_of [] = 0
 number_of (b ∷ bs) = b * 2 ^ length bs + number_of bs
 
+-- how many bits the widths take
+abbrev pub total : List ℕ → ℕ
+total [] = 0
+total (width ∷ widths) = width + total widths
+
 -- a bit string cut by widths: the number that each piece stands for
 abbrev pub cut : List ℕ → List ℕ → List ℕ
 cut [] bs = []

@@ -1,5 +1,5 @@
 //! RR Cause.
-ghost use Rattle.std.specs.Prelude.{◌≡◌, ◌+◌, ◌<◌, ◌≤◌, ◌++◌, OnOk, OnErr, IsOk, Ok, vec_len, vec_capacity};
+ghost use Rattle.std.specs.Prelude.{◌≡◌, ◌+◌, ◌<◌, ◌≤◌, ◌++◌, OnOk, OnErr, IsOk, Ok, vec_len, vec_capacity, ◌↔◌, ◌≢◌, IfOk, length, Err};
 
 use crate::bits::{BitReader, BitWriter};
 use crate::fault::ElementFault;
@@ -10,7 +10,7 @@ use std::alloc::{AllocError, Allocator};
 pub struct RrCause(pub u8);
 
 impl RrCause {
-    ghost use Rattle.rr_elements.specs.RrCause.{cause_text, cause_said};
+    ghost use Rattle.rr_elements.specs.RrCause.{IsCauseText, cause_text, cause_said};
 
     /// The cause with this value; each octet is one, so no fault comes.
     pub fn new(value: u8) -> Result<Self, ElementFault>
@@ -34,6 +34,9 @@ impl RrCause {
         ensures full { OnErr result (vec_capacity out.old < vec_len out.old + 1) }
         ensures len { OnOk result (vec_len out.new ≡ vec_len out.old + 1) }
         ensures capacity { vec_capacity out.old ≤ vec_capacity out.new }
+
+        // What is written is read as the value.
+        ensures again { cause_said (cause_text self.now) ≡ Ok self.now }
     {
         let mut bits = BitWriter::new();
         bits.put(8, self.0);
@@ -42,6 +45,12 @@ impl RrCause {
 
     /// Reads the element's one octet; `Length` where it is not one.
     pub fn decode(octets: &[u8]) -> Result<Self, ElementFault>
+        // What is read has the octets as a text, and each text is read.
+        ensures text { IfOk result (λ v. IsCauseText v octets.now) }
+        ensures only { (v : RrCause) → IsCauseText v octets.now → result ≡ Ok v }
+
+        // The first fault.
+        ensures length { (result ≡ Err ElementFault.Length) ↔ (length octets.now ≢ 1) }
         ensures said { result ≡ cause_said octets.now }
     {
         if octets.len() != 1 {

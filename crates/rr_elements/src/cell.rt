@@ -1,5 +1,5 @@
 //! Cell Description.
-ghost use Rattle.std.specs.Prelude.{◌≡◌, ◌↔◌, ◌+◌, ◌<◌, ◌≤◌, ◌++◌, OnOk, OnErr, IsOk, Ok, Err, length, vec_len, vec_capacity};
+ghost use Rattle.std.specs.Prelude.{◌≡◌, ◌↔◌, ◌+◌, ◌<◌, ◌≤◌, ◌++◌, OnOk, OnErr, IsOk, Ok, Err, length, vec_len, vec_capacity, ◌≢◌, IfOk};
 
 use crate::bits::{BitReader, BitWriter};
 use crate::fault::ElementFault;
@@ -74,6 +74,9 @@ impl CellDescription {
         ensures full { OnErr result (vec_capacity out.old < vec_len out.old + 2) }
         ensures len { OnOk result (vec_len out.new ≡ vec_len out.old + 2) }
         ensures capacity { vec_capacity out.old ≤ vec_capacity out.new }
+
+        // What is written is read as the value.
+        ensures again { cell_said (cell_text self.now) ≡ Ok self.now }
     {
         let mut bits = BitWriter::new();
         bits.put(2, (self.arfcn / 256) as u8);
@@ -85,6 +88,12 @@ impl CellDescription {
 
     /// Reads the element's two octets; `Length` where they are not two.
     pub fn decode(octets: &[u8]) -> Result<Self, ElementFault>
+        // What is read has the octets as a text, and each text is read.
+        ensures text { IfOk result (λ v. IsCellText v octets.now) }
+        ensures only { (v : Cell) → IsCellText v octets.now → result ≡ Ok v }
+
+        // The first fault.
+        ensures length { (result ≡ Err ElementFault.Length) ↔ (length octets.now ≢ 2) }
         ensures said { result ≡ cell_said octets.now }
     {
         if octets.len() != 2 {

@@ -1,5 +1,5 @@
 //! Channel Description 2.
-ghost use Rattle.std.specs.Prelude.{◌≡◌, ◌+◌, ◌<◌, ◌≤◌, ◌++◌, OnOk, OnErr, IsOk, Ok, Err, vec_len, vec_capacity};
+ghost use Rattle.std.specs.Prelude.{◌≡◌, ◌+◌, ◌<◌, ◌≤◌, ◌++◌, OnOk, OnErr, IsOk, Ok, Err, vec_len, vec_capacity, ◌↔◌, ◌≢◌, IfOk, length};
 
 use crate::bits::{BitReader, BitWriter};
 use crate::fault::ElementFault;
@@ -77,6 +77,9 @@ impl ChanDescription {
         ensures full { OnErr result (vec_capacity out.old < vec_len out.old + 3) }
         ensures len { OnOk result (vec_len out.new ≡ vec_len out.old + 3) }
         ensures capacity { vec_capacity out.old ≤ vec_capacity out.new }
+
+        // What is written is read as the value.
+        ensures again { chan_said (chan_text self.now) ≡ Ok self.now }
     {
         let mut bits = BitWriter::new();
         bits.put(5, FULL_RATE);
@@ -92,6 +95,12 @@ impl ChanDescription {
     /// Reads the element's three octets. The first fault of `Length` (they are not three),
     /// `BadType` (another channel type) and `Hopping` (H is 1) that holds comes.
     pub fn decode(octets: &[u8]) -> Result<Self, ElementFault>
+        // What is read has the octets as a text, and each text is read.
+        ensures text { IfOk result (λ v. IsChanText v octets.now) }
+        ensures only { (v : Chan) → IsChanText v octets.now → result ≡ Ok v }
+
+        // The first fault.
+        ensures length { (result ≡ Err ElementFault.Length) ↔ (length octets.now ≢ 3) }
         ensures said { result ≡ chan_said octets.now }
     {
         if octets.len() != 3 {

@@ -1,5 +1,5 @@
 //! Power Command and access type.
-ghost use Rattle.std.specs.Prelude.{◌≡◌, ◌+◌, ◌<◌, ◌≤◌, ◌++◌, OnOk, OnErr, IsOk, Ok, Err, vec_len, vec_capacity};
+ghost use Rattle.std.specs.Prelude.{◌≡◌, ◌+◌, ◌<◌, ◌≤◌, ◌++◌, OnOk, OnErr, IsOk, Ok, Err, vec_len, vec_capacity, ◌↔◌, ◌≢◌, IfOk, length};
 
 use crate::bits::{BitReader, BitWriter};
 use crate::fault::ElementFault;
@@ -65,6 +65,9 @@ impl Power {
         ensures full { OnErr result (vec_capacity out.old < vec_len out.old + 1) }
         ensures len { OnOk result (vec_len out.new ≡ vec_len out.old + 1) }
         ensures capacity { vec_capacity out.old ≤ vec_capacity out.new }
+
+        // What is written is read as the value.
+        ensures again { power_said (power_text self.now) ≡ Ok self.now }
     {
         let mut bits = BitWriter::new();
         bits.put(1, u8::from(self.atc));
@@ -75,6 +78,12 @@ impl Power {
 
     /// Reads the element's one octet; `Length` where it is not one.
     pub fn decode(octets: &[u8]) -> Result<Self, ElementFault>
+        // What is read has the octets as a text, and each text is read.
+        ensures text { IfOk result (λ v. IsPowerText v octets.now) }
+        ensures only { (v : PowerCommand) → IsPowerText v octets.now → result ≡ Ok v }
+
+        // The first fault.
+        ensures length { (result ≡ Err ElementFault.Length) ↔ (length octets.now ≢ 1) }
         ensures said { result ≡ power_said octets.now }
     {
         if octets.len() != 1 {

@@ -76,6 +76,9 @@ impl MeasResults {
         ensures full { OnErr result (vec_capacity out.old < vec_len out.old + 16) }
         ensures len { OnOk result (vec_len out.new ≡ vec_len out.old + 16) }
         ensures capacity { vec_capacity out.old ≤ vec_capacity out.new }
+
+        // What is written is read as the value.
+        ensures again { results_said (results_text self.now) ≡ Ok self.now }
     {
         let mut bits = BitWriter::new();
         put_head(&mut bits, &self.head);
@@ -85,6 +88,12 @@ impl MeasResults {
 
     /// Reads the element's sixteen octets; `Length` where they are not sixteen.
     pub fn decode(octets: &[u8]) -> Result<Self, ElementFault>
+        // What is read has the octets as a text, and each text is read.
+        ensures text { IfOk result (λ v. IsResultsText v octets.now) }
+        ensures only { (v : Results) → IsResultsText v octets.now → result ≡ Ok v }
+
+        // The first fault.
+        ensures length { (result ≡ Err ElementFault.Length) ↔ (length octets.now ≢ 16) }
         ensures said { result ≡ results_said octets.now }
     {
         if octets.len() != 16 {
