@@ -6,6 +6,7 @@ mod cause;
 mod cell;
 mod channel;
 mod fault;
+pub mod laws;
 mod measurement;
 mod power;
 mod results;
