@@ -77,5 +77,5 @@ spelled-fields ws ns fit whole =
     let long : length (spelled ws ns) ≡ k = length-octets_of (written ws ns) ∙ count in
     record {
       len = omega arith;
-      pieces = ap (cut ws) again ∙ cut-written ws ns fit
+      pieces = ap (cut ws) again ∙ cut-written ws ns fit;
     }

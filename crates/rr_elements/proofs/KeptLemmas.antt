@@ -27,7 +27,7 @@ kept_new head cells fits each count =
     record {
       fits = rw front (record { head = fits; each = each; count = count });
       six = length-append cells _ ∙ ap (λ k. length cells + k) (ap length rest ∙ length-replicate (6 - length cells) no_ncell) ∙ omega arith;
-      others = drop_at cells _ (used head.count) count ∙ rest ∙ ap (λ k. replicate (6 - k) no_ncell) count
+      others = drop_at cells _ (used head.count) count ∙ rest ∙ ap (λ k. replicate (6 - k) no_ncell) count;
     }
 
 -- what was read is kept so
@@ -37,5 +37,5 @@ kept_read head places fits six each others =
     record {
       fits = record { head = fits; each = each; count = length-take-le (used head.count) places (omega arith) };
       six = six;
-      others = others
+      others = others;
     }

@@ -54,16 +54,16 @@ read-text octets h places sixteen six few head front =
     let count : length (take n places) ≡ n = length-take-le n places (omega arith) in
     let whole : 6 ≡ n + (6 - n) = omega arith in
     let split : cut (repeated 6 ncell_widths) rest ≡ cut (repeated n ncell_widths) rest ++ cut (repeated (6 - n) ncell_widths) bs =
-        ap (λ k. cut (repeated k ncell_widths) rest) whole ∙ ap (λ ws. cut ws rest) (repeated-add n (6 - n) ncell_widths) ∙ cut-append (repeated n ncell_widths) (repeated (6 - n) ncell_widths) rest in
+    ap (λ k. cut (repeated k ncell_widths) rest) whole ∙ ap (λ ws. cut ws rest) (repeated-add n (6 - n) ncell_widths) ∙ cut-append (repeated n ncell_widths) (repeated (6 - n) ncell_widths) rest in
     let cells : flat_map ncell_numbers (take n places ++ others) ≡ cut (repeated 6 ncell_widths) rest =
-        flat_map-append ncell_numbers (take n places) others ∙ ap (λ ns. ns ++ flat_map ncell_numbers others) front ∙ ap (λ ns. cut (repeated n ncell_widths) rest ++ ns) (cells_there (6 - n) bs) ∙ sym split in
+    flat_map-append ncell_numbers (take n places) others ∙ ap (λ ns. ns ++ flat_map ncell_numbers others) front ∙ ap (λ ns. cut (repeated n ncell_widths) rest ++ ns) (cells_there (6 - n) bs) ∙ sym split in
     let all : cut results_widths (bits_of octets) ≡ head_numbers h ++ flat_map ncell_numbers (take n places ++ others) =
-        cut-append head_widths (repeated 6 ncell_widths) (bits_of octets) ∙ ap (λ ns. ns ++ cut (repeated 6 ncell_widths) rest) (sym head) ∙ ap (λ ns. head_numbers h ++ ns) (sym cells) in
+    cut-append head_widths (repeated 6 ncell_widths) (bits_of octets) ∙ ap (λ ns. ns ++ cut (repeated 6 ncell_widths) rest) (sym head) ∙ ap (λ ns. head_numbers h ++ ns) (sym cells) in
     record {
       others = others;
       count = count;
       six = ap (λ k. k + length others) count ∙ ap (λ k. n + k) (length-cells (6 - n) bs) ∙ sym whole;
-      fields = record { len = ap (λ k. 8 * k) sixteen; pieces = all }
+      fields = record { len = ap (λ k. 8 * k) sixteen; pieces = all };
     }
 
 written-cells : (cells : List Ncell) → written (repeated (length cells) ncell_widths) (flat_map ncell_numbers cells) ≡ flat_map (λ n. written ncell_widths (ncell_numbers n)) cells
@@ -76,5 +76,5 @@ pub written-kept : (h : MeasHead) (places : List Ncell) → IsKept h places → 
 written-kept h places kept =
     let again : flat_map ncell_numbers (take (used h.count) places ++ replicate (6 - length (take (used h.count) places)) no_ncell) ≡ flat_map ncell_numbers places = ap (flat_map ncell_numbers) (kept_again h places kept) in
     let cells : flat_map (λ n. written ncell_widths (ncell_numbers n)) places ≡ written (repeated 6 ncell_widths) (flat_map ncell_numbers places) =
-        sym (written-cells places) ∙ ap (λ k. written (repeated k ncell_widths) (flat_map ncell_numbers places)) kept.six in
+    sym (written-cells places) ∙ ap (λ k. written (repeated k ncell_widths) (flat_map ncell_numbers places)) kept.six in
     rw (again, cells) (sym (written-append head_widths (repeated 6 ncell_widths) (head_numbers h) (flat_map ncell_numbers places) refl))

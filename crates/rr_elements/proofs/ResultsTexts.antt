@@ -31,7 +31,7 @@ results-text v fits =
       others = others;
       count = fits.count;
       six = six;
-      fields = spelled-fields results_widths (results_numbers v others) (fit-append head_widths (repeated 6 ncell_widths) (head_numbers h) (flat_map ncell_numbers cells) head places) refl
+      fields = spelled-fields results_widths (results_numbers v others) (fit-append head_widths (repeated 6 ncell_widths) (head_numbers h) (flat_map ncell_numbers cells) head places) refl;
     }
 
 pub results-again : (v : Results) → ResultsFit v → results_said (results_text v) ≡ Ok v

@@ -39,7 +39,7 @@ impl RrCause {
         ensures again { cause_said (cause_text self.now) ≡ Ok self.now }
     {
         let mut bits = BitWriter::new();
-        bits.put(8, self.0);
+        bits.put(8, self.value());
         bits.append_to(out)
     }
 

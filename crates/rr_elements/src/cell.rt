@@ -78,11 +78,12 @@ impl CellDescription {
         // What is written is read as the value.
         ensures again { cell_said (cell_text self.now) ≡ Ok self.now }
     {
+        let CellDescription { arfcn, ncc, bcc } = *self;
         let mut bits = BitWriter::new();
-        bits.put(2, (self.arfcn / 256) as u8);
-        bits.put(3, self.ncc);
-        bits.put(3, self.bcc);
-        bits.put(8, (self.arfcn % 256) as u8);
+        bits.put(2, (arfcn / 256) as u8);
+        bits.put(3, ncc);
+        bits.put(3, bcc);
+        bits.put(8, (arfcn % 256) as u8);
         bits.append_to(out)
     }
 
@@ -101,10 +102,13 @@ impl CellDescription {
         }
         let mut bits = BitReader::new(octets);
         let high = bits.take(2);
-        let ncc = bits.take(3);
-        let bcc = bits.take(3);
+        let network = bits.take(3);
+        let station = bits.take(3);
         let low = bits.take(8);
-        let arfcn = 256 * u16::from(high) + u16::from(low);
-        Ok(CellDescription { arfcn, ncc, bcc })
+        Ok(CellDescription {
+            arfcn: 256 * u16::from(high) + u16::from(low),
+            ncc: network,
+            bcc: station,
+        })
     }
 }

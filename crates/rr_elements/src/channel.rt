@@ -81,14 +81,15 @@ impl ChanDescription {
         // What is written is read as the value.
         ensures again { chan_said (chan_text self.now) ≡ Ok self.now }
     {
+        let ChanDescription { tn, tsc, carrier } = *self;
         let mut bits = BitWriter::new();
         bits.put(5, FULL_RATE);
-        bits.put(3, self.tn);
-        bits.put(3, self.tsc);
+        bits.put(3, tn);
+        bits.put(3, tsc);
         bits.put(1, 0);
         bits.put(2, 0);
-        bits.put(2, (self.carrier / 256) as u8);
-        bits.put(8, (self.carrier % 256) as u8);
+        bits.put(2, (carrier / 256) as u8);
+        bits.put(8, (carrier % 256) as u8);
         bits.append_to(out)
     }
 

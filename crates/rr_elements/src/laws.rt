@@ -14,8 +14,7 @@ pub fn has_text()
     ensures power { (v : PowerCommand) → PowerFits v → IsPowerText v (power_text v) }
     ensures cause { (v : RrCause) → v.0 < 2 ^ 8 → IsCauseText v (cause_text v) }
     ensures results { (v : Results) → ResultsFit v → IsResultsText v (results_text v) }
-{
-}
+{}
 
 /// No octets are a text of two values.
 pub fn one_value()
@@ -24,5 +23,4 @@ pub fn one_value()
     ensures power { (v w : PowerCommand) (octets : List ℕ) → IsPowerText v octets → IsPowerText w octets → v ≡ w }
     ensures cause { (v w : RrCause) (octets : List ℕ) → IsCauseText v octets → IsCauseText w octets → v ≡ w }
     ensures results { (v w : Results) (octets : List ℕ) → IsResultsText v octets → IsResultsText w octets → v ≡ w }
-{
-}
+{}

@@ -69,10 +69,9 @@ impl MeasHead {
     pub(crate) fn used(&self) -> usize
         ensures { result ≡ used self.now.count }
     {
-        if self.count == 7 {
-            0
-        } else {
-            usize::from(self.count)
+        match self.count {
+            7 => 0,
+            count => usize::from(count),
         }
     }
 }

@@ -69,10 +69,11 @@ impl Power {
         // What is written is read as the value.
         ensures again { power_said (power_text self.now) ≡ Ok self.now }
     {
+        let Power { atc, level } = *self;
         let mut bits = BitWriter::new();
-        bits.put(1, u8::from(self.atc));
+        bits.put(1, u8::from(atc));
         bits.put(2, 0);
-        bits.put(5, self.level);
+        bits.put(5, level);
         bits.append_to(out)
     }
 

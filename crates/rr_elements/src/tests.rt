@@ -26,7 +26,9 @@ const NEIGHBOUR: Ncell = Ncell {
 };
 
 /// Results of one neighbour: level 40, position 2, code 21.
-const ONE: [u8; 16] = [0x1E, 0x1E, 0x00, 0x68, 0x12, 0xA0, 0, 0, 0, 0, 0, 0, 0, 0, 0, 0];
+const ONE: [u8; 16] = [
+    0x1E, 0x1E, 0x00, 0x68, 0x12, 0xA0, 0, 0, 0, 0, 0, 0, 0, 0, 0, 0,
+];
 
 /// Six neighbours, and no two fields of one width alike.
 const SIX: [u8; 16] = [
@@ -70,13 +72,19 @@ fn reads_and_writes_a_channel(rt: HostRuntime) -> Result<(), Fail> {
     for (octets, tn, tsc, carrier) in table {
         let channel = ChanDescription::decode(&octets)?;
         assert_eq!(rt; channel, ChanDescription::new(tn, tsc, carrier)?);
-        assert_eq!(rt; (channel.tn(), channel.tsc(), channel.carrier()), (tn, tsc, carrier));
+        assert_eq!(rt;
+            (channel.tn(), channel.tsc(), channel.carrier()),
+            (tn, tsc, carrier)
+        );
         let mut out = Vec::new(rt.alloc());
         channel.encode_into(&mut out)?;
         assert_eq!(rt; out.as_slice(), octets.as_slice());
     }
     // Spare bits are ignored.
-    assert_eq!(rt; ChanDescription::decode(&[0x0B, 0xAF, 0x6B])?, ChanDescription::new(3, 5, 875)?);
+    assert_eq!(rt;
+        ChanDescription::decode(&[0x0B, 0xAF, 0x6B])?,
+        ChanDescription::new(3, 5, 875)?
+    );
     Ok(())
 }
 
@@ -132,13 +140,29 @@ fn reads_and_writes_results(rt: HostRuntime) -> Result<(), Fail> {
 #[test]
 fn reads_each_field_of_results(rt: HostRuntime) -> Result<(), Fail> {
     let results = MeasResults::decode(&SIX)?;
-    assert!(rt; results.ba() && !results.dtx() && results.ba3g() && results.valid() && results.si23());
+    assert!(rt;
+        results.ba() && !results.dtx() && results.ba3g() && results.valid() && results.si23()
+    );
     assert_eq!(rt; (results.full(), results.sub()), (23, 22));
-    assert_eq!(rt; (results.qfull(), results.qsub(), results.count()), (5, 3, 6));
-    let neighbours = [(1, 3, 8), (11, 2, 35), (36, 1, 5), (8, 20, 28), (49, 4, 25), (63, 31, 62)];
+    assert_eq!(rt;
+        (results.qfull(), results.qsub(), results.count()),
+        (5, 3, 6)
+    );
+    let neighbours = [
+        (1, 3, 8),
+        (11, 2, 35),
+        (36, 1, 5),
+        (8, 20, 28),
+        (49, 4, 25),
+        (63, 31, 62),
+    ];
     assert_eq!(rt; results.neighbours().len(), 6);
     for (found, (level, position, bsic)) in results.neighbours().iter().zip(neighbours) {
-        let want = Ncell { level, position, bsic };
+        let want = Ncell {
+            level,
+            position,
+            bsic,
+        };
         assert_eq!(rt; *found, want);
     }
     let mut out = Vec::new(rt.alloc());
@@ -158,15 +182,29 @@ fn reads_each_field_of_results(rt: HostRuntime) -> Result<(), Fail> {
 
 #[test]
 fn refuses_octets(rt: HostRuntime) {
-    let octets = [0x0B, 0xA3, 0x6B, 0, 0, 0, 0, 0, 0, 0, 0, 0, 0, 0, 0, 0, 0, 0];
+    let octets = [
+        0x0B, 0xA3, 0x6B, 0, 0, 0, 0, 0, 0, 0, 0, 0, 0, 0, 0, 0, 0, 0,
+    ];
     for len in 0..18 {
         let octets = &octets[..len];
         let short = Some(ElementFault::Length);
-        assert_eq!(rt; CellDescription::decode(octets).err() == short, len != 2, "{len}");
-        assert_eq!(rt; ChanDescription::decode(octets).err() == short, len != 3, "{len}");
+        assert_eq!(rt;
+            CellDescription::decode(octets).err() == short,
+            len != 2,
+            "{len}"
+        );
+        assert_eq!(rt;
+            ChanDescription::decode(octets).err() == short,
+            len != 3,
+            "{len}"
+        );
         assert_eq!(rt; Power::decode(octets).err() == short, len != 1, "{len}");
         assert_eq!(rt; RrCause::decode(octets).err() == short, len != 1, "{len}");
-        assert_eq!(rt; MeasResults::decode(octets).err() == short, len != 16, "{len}");
+        assert_eq!(rt;
+            MeasResults::decode(octets).err() == short,
+            len != 16,
+            "{len}"
+        );
     }
     // TCH/H, SDCCH/8, another type that hops too, and TCH/F that hops.
     let table = [
@@ -201,18 +239,35 @@ fn refuses_fields_that_do_not_fit(rt: HostRuntime) {
         MeasHead { count: 7, ..HEAD },
     ];
     for head in heads {
-        assert_eq!(rt; MeasResults::new(head, &[NEIGHBOUR]).err(), bad, "{}", head.count);
+        assert_eq!(rt;
+            MeasResults::new(head, &[NEIGHBOUR]).err(),
+            bad,
+            "{}",
+            head.count
+        );
     }
     let cells = [
-        Ncell { level: 64, ..NEIGHBOUR },
-        Ncell { position: 32, ..NEIGHBOUR },
-        Ncell { bsic: 64, ..NEIGHBOUR },
+        Ncell {
+            level: 64,
+            ..NEIGHBOUR
+        },
+        Ncell {
+            position: 32,
+            ..NEIGHBOUR
+        },
+        Ncell {
+            bsic: 64,
+            ..NEIGHBOUR
+        },
     ];
     for cell in cells {
         assert_eq!(rt; MeasResults::new(HEAD, &[cell]).err(), bad);
         assert!(rt; !cell.fits());
     }
-    assert_eq!(rt; MeasResults::new(MeasHead { count: 5, ..HEAD }, &[NEIGHBOUR; 6]).err(), bad);
+    assert_eq!(rt;
+        MeasResults::new(MeasHead { count: 5, ..HEAD }, &[NEIGHBOUR; 6]).err(),
+        bad
+    );
     assert!(rt; MeasResults::new(MeasHead { count: 6, ..HEAD }, &[NEIGHBOUR; 6]).is_ok());
     assert!(rt; MeasResults::new(MeasHead { count: 0, ..HEAD }, &[]).is_ok());
     assert!(rt; MeasResults::new(MeasHead { count: 7, ..HEAD }, &[]).is_ok());
@@ -235,7 +290,11 @@ fn write_all(rt: &impl Abort, heap: &RefusingHeap<Global>) -> Result<(), Fail> {
             3 => RrCause(8).encode_into(&mut out),
             _ => results.encode_into(&mut out),
         };
-        assert_eq!(rt; answer.is_err(), refused < heap.refused(), "element {element}");
+        assert_eq!(rt;
+            answer.is_err(),
+            refused < heap.refused(),
+            "element {element}"
+        );
         if answer.is_err() {
             assert_eq!(rt; out.len(), len, "element {element}");
         }

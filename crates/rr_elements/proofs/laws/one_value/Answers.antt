@@ -13,5 +13,5 @@ returns c = record {
   channel = λ v w octets p q. same v w _ (chan-said v octets p) (chan-said w octets q);
   power = λ v w octets p q. same v w _ (power-said v octets p) (power-said w octets q);
   cause = λ v w octets p q. same v w _ (cause-said v octets p) (cause-said w octets q);
-  results = λ v w octets p q. same v w _ (text-said v octets p) (text-said w octets q)
+  results = λ v w octets p q. same v w _ (text-said v octets p) (text-said w octets q);
 }

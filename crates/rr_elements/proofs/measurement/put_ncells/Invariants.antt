@@ -6,5 +6,5 @@ use Rattle.rr_elements.proofs.measurement.put_ncells.Given as goal
 abbrev pub invariant-loop-place : goal.invariant-loop-place
 invariant-loop-place l = record {
   bits : l.bits ≡ l.fn.bits ++ flat_map (λ n. written ncell_widths (ncell_numbers n)) (take l.place-index l.places);
-  len : length l.bits ≡ length l.fn.bits + 17 * l.place-index
+  len : length l.bits ≡ length l.fn.bits + 17 * l.place-index;
 }

@@ -23,5 +23,5 @@ loop-i-preserved c =
       others = drop-set-lt (i + 1) places i read (omega arith) ∙ next;
       rest = c.take_ncell.ensures.rest ∙ ap (after ncell_widths) known.rest ∙ sym (after-more i (i + 1) ncell_widths c.args.bits.now (omega arith));
       left = omega arith;
-      six = search rules
+      six = search rules;
     }

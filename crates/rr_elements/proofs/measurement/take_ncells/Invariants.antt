@@ -10,5 +10,5 @@ invariant-loop-i l = record {
   others : drop l.i l.places ≡ replicate (6 - l.i) no_ncell;
   rest : l.bits ≡ after (repeated l.i ncell_widths) l.fn.bits;
   left : length l.bits + 17 * l.i ≡ length l.fn.bits;
-  six : length l.places ≡ 6
+  six : length l.places ≡ 6;
 }

@@ -14,7 +14,7 @@ returns-then-octets-ne16 c = record {
   text = search rules;
   only = λ v text. absurd (omega (arith, sixteen v c.args.octets.now text));
   length = search rules;
-  said = search rules
+  said = search rules;
 }
 
 pub returns : goal.returns
@@ -32,5 +32,5 @@ returns c =
       text = text;
       only = λ v other. sym said ∙ text-said v octets other;
       length = search rules;
-      said = sym said
+      said = sym said;
     }
