@@ -1,13 +1,13 @@
-// A library with one function.
+//! Radio resource messages.
 #![tactic(auto)]
 
-ghost use Rattle.std.specs.Prelude.{◌≡◌};
-ghost use Rattle.rr_messages.specs.Echo.{echo_of};
+mod fault;
+mod kind;
+mod message;
+mod reading;
+mod writing;
 
-// The `ensures` clause is the contract: what `echo` returns is `echo_of` of its argument, a definition
-// in `specs/Echo.antt`, which a caller's clause can cite too.
-pub fn echo(x: usize) -> usize
-    ensures { result ≡ echo_of x }
-{
-    x
-}
+pub use fault::RrFault;
+pub use message::Rr;
+pub use reading::decode;
+pub use writing::{encode, encode_into};
