@@ -35,7 +35,8 @@ impl RrCause {
         ensures len { OnOk result (vec_len out.new ≡ vec_len out.old + 1) }
         ensures capacity { vec_capacity out.old ≤ vec_capacity out.new }
 
-        // What is written is read as the value.
+        // What is written is a text of the value, and is read as it.
+        ensures text { IsCauseText self.now (cause_text self.now) }
         ensures again { cause_said (cause_text self.now) ≡ Ok self.now }
     {
         let mut bits = BitWriter::new();

@@ -75,7 +75,8 @@ impl CellDescription {
         ensures len { OnOk result (vec_len out.new ≡ vec_len out.old + 2) }
         ensures capacity { vec_capacity out.old ≤ vec_capacity out.new }
 
-        // What is written is read as the value.
+        // What is written is a text of the value, and is read as it.
+        ensures text { IsCellText self.now (cell_text self.now) }
         ensures again { cell_said (cell_text self.now) ≡ Ok self.now }
     {
         let CellDescription { arfcn, ncc, bcc } = *self;

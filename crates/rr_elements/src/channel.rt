@@ -78,7 +78,8 @@ impl ChanDescription {
         ensures len { OnOk result (vec_len out.new ≡ vec_len out.old + 3) }
         ensures capacity { vec_capacity out.old ≤ vec_capacity out.new }
 
-        // What is written is read as the value.
+        // What is written is a text of the value, and is read as it.
+        ensures text { IsChanText self.now (chan_text self.now) }
         ensures again { chan_said (chan_text self.now) ≡ Ok self.now }
     {
         let ChanDescription { tn, tsc, carrier } = *self;

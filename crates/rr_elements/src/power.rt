@@ -66,7 +66,8 @@ impl Power {
         ensures len { OnOk result (vec_len out.new ≡ vec_len out.old + 1) }
         ensures capacity { vec_capacity out.old ≤ vec_capacity out.new }
 
-        // What is written is read as the value.
+        // What is written is a text of the value, and is read as it.
+        ensures text { IsPowerText self.now (power_text self.now) }
         ensures again { power_said (power_text self.now) ≡ Ok self.now }
     {
         let Power { atc, level } = *self;

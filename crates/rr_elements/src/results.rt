@@ -58,14 +58,15 @@ impl MeasResults {
         ensures value { result ≡ self.now.head }
         ensures fits { HeadFits result }
     {
-        self.head
+        let MeasResults { head, .. } = *self;
+        head
     }
 
     /// BA-USED: which neighbour list was used.
     pub fn ba(&self) -> bool
         ensures { result ≡ self.now.head.ba }
     {
-        self.head.ba
+        self.head().ba
     }
 
     /// DTX-USED: whether discontinuous transmission was used.
@@ -154,7 +155,8 @@ impl MeasResults {
         ensures len { OnOk result (vec_len out.new ≡ vec_len out.old + 16) }
         ensures capacity { vec_capacity out.old ≤ vec_capacity out.new }
 
-        // What is written is read as the value.
+        // What is written is a text of the value, and is read as it.
+        ensures text { IsResultsText self.now (results_text self.now) }
         ensures again { results_said (results_text self.now) ≡ Ok self.now }
     {
         let mut bits = BitWriter::new();

@@ -2,7 +2,7 @@ use Rattle.std.proofs.Common.{◌≡◌, ◌∙◌, sym, ap, arith, rules, lengt
 use Rattle.rr_elements.specs.MeasResults.{IsKept, used, no_ncell}
 use Rattle.rr_elements.proofs.KeptLemmas.{kept_fits}
 use Rattle.rr_elements.proofs.ResultsLemmas.{written-kept}
-use Rattle.rr_elements.proofs.ResultsTexts.{results-again}
+use Rattle.rr_elements.proofs.ResultsTexts.{results-again, results-text}
 use Rattle.rr_elements.proofs.results.MeasResults.encode_into.Goals as goal
 
 pub put_ncells-requires-clause-fits : goal.put_ncells-requires-clause-fits
@@ -16,3 +16,6 @@ returns-clause-ok g c =
 
 pub returns-clause-again : goal.returns-clause-again
 returns-clause-again g c = rw (← c.self.view_is) (results-again _ c.self.invariant.fits)
+
+pub returns-clause-text : goal.returns-clause-text
+returns-clause-text g c = rw (← c.self.view_is) (results-text _ c.self.invariant.fits)
