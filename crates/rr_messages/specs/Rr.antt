@@ -34,6 +34,12 @@ IsPart (ChannelRelease cause) octets = IsCauseText cause octets
 IsPart (PhysicalInformation advance) octets = octets ≡ advance ∷ []
 IsPart (MeasurementReport results) octets = IsResultsText results octets
 
+-- the octets are discriminator 6, a type, a mandatory part of its length, and any rest
+pub record IsFramed (k : Kind) (part octets : List ℕ) : Type 0 where
+  pub rest : List ℕ
+  pub len : length part ≡ part_len k
+  pub octets_are : octets ≡ 6 ∷ type_of k ∷ part ++ rest
+
 -- the octets are a text of the value: discriminator 6, the type, a mandatory part, and any rest
 abbrev pub IsText : Rr → List ℕ → Type 0
 IsText v octets = (part rest : List ℕ) × IsPart v part × (octets ≡ 6 ∷ type_of (kind_of v) ∷ part ++ rest)
@@ -71,8 +77,8 @@ abbrev pub ◌>>=◌ : {A B F : Type 0} → Result A F → (A → Result B F) �
 
 -- what the octets of a handover command's part say, cut into its elements
 abbrev pub command_said : List ℕ → Result Rr ElementFault
-command_said (a ∷ b ∷ c ∷ d ∷ e ∷ reference ∷ last) =
-    cell_said (a ∷ b ∷ []) >>= λ cell. chan_said (c ∷ d ∷ e ∷ []) >>= λ channel. power_said last >>= λ power. Ok (HandoverCommand cell channel reference power)
+command_said (a ∷ b ∷ c ∷ d ∷ e ∷ reference ∷ f ∷ []) =
+    cell_said (a ∷ b ∷ []) >>= λ cell. chan_said (c ∷ d ∷ e ∷ []) >>= λ channel. power_said (f ∷ []) >>= λ power. Ok (HandoverCommand cell channel reference power)
 command_said _ = Err Length
 
 -- any octet

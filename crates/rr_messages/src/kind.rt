@@ -1,5 +1,5 @@
 //! Message types.
-ghost use Rattle.std.specs.Prelude.{◌≡◌};
+ghost use Rattle.std.specs.Prelude.{◌≡◌, IfSome};
 ghost use Rattle.rr_messages.specs.Kind.{type_of, kind_at, part_len};
 
 /// The type of a message.
@@ -16,7 +16,8 @@ pub(crate) enum Kind {
 impl Kind {
     /// The type with this octet, if there is one.
     pub(crate) fn at(octet: u8) -> Option<Kind>
-        ensures { result ≡ kind_at octet }
+        ensures kind { result ≡ kind_at octet }
+        ensures octet { IfSome result (λ kind. type_of kind ≡ octet) }
     {
         match octet {
             0x0D => Some(Kind::ChannelRelease),

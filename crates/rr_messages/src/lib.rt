@@ -3,6 +3,7 @@
 
 mod fault;
 mod kind;
+pub mod laws;
 mod message;
 mod reading;
 mod writing;

@@ -1,7 +1,7 @@
 //! Octets as messages.
-ghost use Rattle.std.specs.Prelude.{◌≡◌, ◌≢◌, ◌↔◌, IfOk, Ok, Err, length};
-ghost use Rattle.rr_messages.specs.Kind.{part_len};
-ghost use Rattle.rr_messages.specs.Rr.{IsPart, IsText, part_said, command_said, said};
+ghost use Rattle.std.specs.Prelude.{◌≡◌, ◌≢◌, IfOk, Ok, Err};
+ghost use Rattle.rr_messages.specs.Rr.{kind_of, IsFramed, IsPart, IsText, part_said, command_said, said};
+ghost use Rattle.rr_messages.specs.declared.kind.Kind.TheVariants.{HandoverCommand as CommandKind};
 
 use crate::fault::RrFault;
 use crate::kind::Kind;
@@ -13,13 +13,15 @@ pub(crate) const RADIO_RESOURCES: u8 = 6;
 
 fn command(part: &[u8]) -> Result<Rr, ElementFault>
     ensures said { result ≡ command_said part.now }
+    ensures part { IfOk result (λ v. IsPart v part.now) }
+    ensures kind { IfOk result (λ v. kind_of v ≡ CommandKind) }
 {
-    let [cell1, cell2, chan1, chan2, chan3, reference, power @ ..] = part else {
+    let [cell1, cell2, chan1, chan2, chan3, reference, power] = part else {
         return Err(ElementFault::Length);
     };
     let cell = CellDescription::decode(&[*cell1, *cell2])?;
     let channel = ChanDescription::decode(&[*chan1, *chan2, *chan3])?;
-    let power = Power::decode(power)?;
+    let power = Power::decode(&[*power])?;
     Ok(Rr::HandoverCommand {
         cell,
         channel,
@@ -30,6 +32,8 @@ fn command(part: &[u8]) -> Result<Rr, ElementFault>
 
 fn message(kind: Kind, part: &[u8]) -> Result<Rr, ElementFault>
     ensures said { result ≡ part_said kind part.now }
+    ensures part { IfOk result (λ v. IsPart v part.now) }
+    ensures kind { IfOk result (λ v. kind_of v ≡ kind) }
 {
     match kind {
         Kind::ChannelRelease => Ok(Rr::ChannelRelease(RrCause::decode(part)?)),
@@ -46,16 +50,19 @@ fn message(kind: Kind, part: &[u8]) -> Result<Rr, ElementFault>
     }
 }
 
-/// Reads a message. The faults are tried in this order: `NotRr`, `Short` (no type), `UnknownType`,
-/// `Short` (the mandatory part is cut), `Element`. Octets after the mandatory part are ignored.
-pub fn decode(octets: &[u8]) -> Result<Rr, RrFault>
-    ensures said { result ≡ said octets.now }
+// The type of a message and its mandatory part.
+fn frame(octets: &[u8]) -> Result<(Kind, &[u8]), RrFault>
+    ensures ok { IfOk result (λ x. IsFramed x.0 x.1.now octets.now) }
+    ensures err { (fault : RrFault) → result ≡ Err fault → said octets.now ≡ Err fault }
     ensures no_memory { result ≢ Err RrFault.NoMemory }
 {
-    let [RADIO_RESOURCES, octets @ ..] = octets else {
+    let Some((discriminator, octets)) = octets.split_first() else {
         return Err(RrFault::NotRr);
     };
-    let [octet, body @ ..] = octets else {
+    if *discriminator != RADIO_RESOURCES {
+        return Err(RrFault::NotRr);
+    }
+    let Some((octet, body)) = octets.split_first() else {
         return Err(RrFault::Short);
     };
     let Some(kind) = Kind::at(*octet) else {
@@ -65,5 +72,21 @@ pub fn decode(octets: &[u8]) -> Result<Rr, RrFault>
     if body.len() < len {
         return Err(RrFault::Short);
     }
-    Ok(message(kind, &body[..len])?)
+    let (part, _rest) = body.split_at(len);
+    Ok((kind, part))
+}
+
+/// Reads a message. The faults are tried in this order: `NotRr`, `Short` (no type), `UnknownType`,
+/// `Short` (the mandatory part is cut), `Element`. Octets after the mandatory part are ignored.
+pub fn decode(octets: &[u8]) -> Result<Rr, RrFault>
+    // What is read has the octets as a text, and each text is read.
+    ensures text { IfOk result (λ v. IsText v octets.now) }
+    ensures only { (v : Rr) → IsText v octets.now → result ≡ Ok v }
+
+    // The first fault; want of memory is none of them.
+    ensures said { result ≡ said octets.now }
+    ensures no_memory { result ≢ Err RrFault.NoMemory }
+{
+    let (kind, part) = frame(octets)?;
+    Ok(message(kind, part)?)
 }

@@ -1,7 +1,7 @@
 //! Messages as octets.
 ghost use Rattle.std.specs.Prelude.{◌≡◌, ◌+◌, ◌≤◌, ◌<◌, ◌++◌, OnOk, OnErr, IsOk, IfOk, Ok, Err, length, vec_len, vec_capacity};
 ghost use Rattle.rr_messages.specs.Kind.{part_len};
-ghost use Rattle.rr_messages.specs.Rr.{kind_of, part_text, part_said, text, text_len, said};
+ghost use Rattle.rr_messages.specs.Rr.{kind_of, IsPart, IsText, part_text, text, text_len, said};
 
 use crate::message::Rr;
 use crate::reading::RADIO_RESOURCES;
@@ -14,6 +14,7 @@ fn append_part<A: Allocator + Copy>(message: &Rr, out: &mut Vec<u8, A>) -> Resul
     ensures items { out.new.items ≡ out.old.items ++ part_text message.now }
     ensures len { vec_len out.new ≡ vec_len out.old + part_len (kind_of message.now) }
     ensures capacity { vec_capacity out.old ≤ vec_capacity out.new }
+    ensures part { IsPart message.now (part_text message.now) }
 {
     match message {
         Rr::HandoverCommand {
@@ -44,6 +45,10 @@ pub fn encode_into<A: Allocator + Copy>(message: &Rr, out: &mut Vec<u8, A>) -> R
     ensures full { OnErr result (vec_capacity out.old < vec_len out.old + text_len message.now) }
     ensures len { OnOk result (vec_len out.new ≡ vec_len out.old + text_len message.now) }
     ensures capacity { vec_capacity out.old ≤ vec_capacity out.new }
+
+    // What is written is a text of the message, and is read as it.
+    ensures text { OnOk result (IsText message.now (text message.now)) }
+    ensures again { OnOk result (said (text message.now) ≡ Ok message.now) }
 {
     let kind = message.kind();
     out.reserve(2 + kind.part_len())?;
@@ -55,6 +60,10 @@ pub fn encode_into<A: Allocator + Copy>(message: &Rr, out: &mut Vec<u8, A>) -> R
 /// A message as octets: its canonical text.
 pub fn encode<A: Allocator + Copy>(alloc: A, message: &Rr) -> Result<Vec<u8, A>, AllocError>
     ensures ok { IfOk result (λ octets. octets.items ≡ text message.now) }
+
+    // The octets are a text of the message, and are read as it.
+    ensures text { IfOk result (λ octets. IsText message.now octets.items) }
+    ensures again { IfOk result (λ octets. said octets.items ≡ Ok message.now) }
 {
     let mut out = Vec::new(alloc);
     encode_into(message, &mut out)?;
