@@ -13,7 +13,7 @@ use Rattle.rr_messages.specs.declared.kind.Kind.TheVariants as kind
 use Rattle.rr_messages.specs.declared.message.Rr.{Rr}
 use Rattle.rr_messages.specs.declared.message.Rr.TheVariants.{HandoverCommand, HandoverComplete, HandoverFailure, ChannelRelease, PhysicalInformation, MeasurementReport}
 use Rattle.rr_messages.specs.Kind.{type_of, kind_at, part_len}
-use Rattle.rr_messages.specs.Rr.{kind_of, Fits, IsFramed, IsPart, IsText, part_text, text, ◌>>=◌, command_said, advance_said, part_said, body_said, in_message, said}
+use Rattle.rr_messages.specs.Rr.{kind_of, Fits, IsFramed, IsPart, IsRrText, part_text, rr_text, ◌>>=◌, command_said, advance_said, part_said, body_said, in_message, rr_said}
 
 -- a handover command's part is cut into its elements
 command-cut : (first second last : List ℕ) (reference : ℕ) → length first ≡ 2 → length second ≡ 3 → length last ≡ 1 → command_said (first ++ second ++ reference ∷ last) ≡ cell_said first >>= λ cell. chan_said second >>= λ channel. power_said last >>= λ power. Ok (HandoverCommand cell channel reference power)
@@ -75,23 +75,23 @@ body-said t k part rest long =
     rw (cut, front) refl
 
 -- what framed octets say is what the part says
-pub framed-said : (k : Kind) (part octets : List ℕ) → IsFramed k part octets → said octets ≡ in_message (part_said k part)
+pub framed-said : (k : Kind) (part octets : List ℕ) → IsFramed k part octets → rr_said octets ≡ in_message (part_said k part)
 framed-said k part octets framed =
     let body = part ++ framed.rest in
-    ap said framed.octets_are ∙ ap (λ found. body_said (type_of k) found body) (kind_at-type_of k) ∙ body-said (type_of k) k part framed.rest framed.len
+    ap rr_said framed.octets_are ∙ ap (λ found. body_said (type_of k) found body) (kind_at-type_of k) ∙ body-said (type_of k) k part framed.rest framed.len
 
 -- a text is read as its value
-pub text-said : (v : Rr) (octets : List ℕ) → IsText v octets → said octets ≡ Ok v
+pub text-said : (v : Rr) (octets : List ℕ) → IsRrText v octets → rr_said octets ≡ Ok v
 text-said v octets text =
     let framed : IsFramed (kind_of v) text.0 octets = record { rest = text.1; len = part-len v text.0 text.2; octets_are = text.3 } in
     framed-said (kind_of v) text.0 octets framed ∙ ap in_message (part-said v text.0 text.2)
 
 -- what is written is a text
-pub text-is : (v : Rr) → IsPart v (part_text v) → IsText v (text v)
+pub text-is : (v : Rr) → IsPart v (part_text v) → IsRrText v (rr_text v)
 text-is v part = (part_text v, [], part, ap (λ octets. 6 ∷ type_of (kind_of v) ∷ octets) (sym (append-nil (part_text v))))
 
 -- a framed part that is the value's
-pub framed-text : (v : Rr) (k : Kind) (part octets : List ℕ) → IsFramed k part octets → kind_of v ≡ k → IsPart v part → IsText v octets
+pub framed-text : (v : Rr) (k : Kind) (part octets : List ℕ) → IsFramed k part octets → kind_of v ≡ k → IsPart v part → IsRrText v octets
 framed-text v k part octets framed same is = (part, framed.rest, is, rw same framed.octets_are)
 
 -- each value that fits has a text

@@ -41,8 +41,8 @@ pub record IsFramed (k : Kind) (part octets : List ℕ) : Type 0 where
   pub octets_are : octets ≡ 6 ∷ type_of k ∷ part ++ rest
 
 -- the octets are a text of the value: discriminator 6, the type, a mandatory part, and any rest
-abbrev pub IsText : Rr → List ℕ → Type 0
-IsText v octets = (part rest : List ℕ) × IsPart v part × (octets ≡ 6 ∷ type_of (kind_of v) ∷ part ++ rest)
+abbrev pub IsRrText : Rr → List ℕ → Type 0
+IsRrText v octets = (part rest : List ℕ) × IsPart v part × (octets ≡ 6 ∷ type_of (kind_of v) ∷ part ++ rest)
 
 -- the mandatory part that is written
 abbrev pub part_text : Rr → List ℕ
@@ -54,8 +54,8 @@ part_text (PhysicalInformation advance) = advance ∷ []
 part_text (MeasurementReport results) = results_text results
 
 -- the text that is written: no rest
-abbrev pub text : Rr → List ℕ
-text v = 6 ∷ type_of (kind_of v) ∷ part_text v
+abbrev pub rr_text : Rr → List ℕ
+rr_text v = 6 ∷ type_of (kind_of v) ∷ part_text v
 
 -- how many octets are written
 abbrev pub text_len : Rr → ℕ
@@ -110,6 +110,6 @@ typed_said [] = Err Short
 typed_said (octet ∷ body) = body_said octet (kind_at octet) body
 
 -- what octets say, or the first fault
-abbrev pub said : List ℕ → Result Rr RrFault
-said [] = Err NotRr
-said (discriminator ∷ octets) = if discriminator == 6 then typed_said octets else Err NotRr
+abbrev pub rr_said : List ℕ → Result Rr RrFault
+rr_said [] = Err NotRr
+rr_said (discriminator ∷ octets) = if discriminator == 6 then typed_said octets else Err NotRr

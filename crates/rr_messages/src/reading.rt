@@ -1,6 +1,6 @@
 //! Octets as messages.
 ghost use Rattle.std.specs.Prelude.{◌≡◌, ◌≢◌, IfOk, Ok, Err};
-ghost use Rattle.rr_messages.specs.Rr.{kind_of, IsFramed, IsPart, IsText, part_said, command_said, said};
+ghost use Rattle.rr_messages.specs.Rr.{kind_of, IsFramed, IsPart, IsRrText, part_said, command_said, rr_said};
 ghost use Rattle.rr_messages.specs.declared.kind.Kind.TheVariants.{HandoverCommand as CommandKind};
 
 use crate::fault::RrFault;
@@ -53,21 +53,15 @@ fn message(kind: Kind, part: &[u8]) -> Result<Rr, ElementFault>
 // The type of a message and its mandatory part.
 fn frame(octets: &[u8]) -> Result<(Kind, &[u8]), RrFault>
     ensures ok { IfOk result (λ x. IsFramed x.0 x.1.now octets.now) }
-    ensures err { (fault : RrFault) → result ≡ Err fault → said octets.now ≡ Err fault }
+    ensures err { (fault : RrFault) → result ≡ Err fault → rr_said octets.now ≡ Err fault }
     ensures no_memory { result ≢ Err RrFault.NoMemory }
 {
-    let Some((discriminator, octets)) = octets.split_first() else {
-        return Err(RrFault::NotRr);
-    };
+    let (discriminator, octets) = octets.split_first().ok_or(RrFault::NotRr)?;
     if *discriminator != RADIO_RESOURCES {
         return Err(RrFault::NotRr);
     }
-    let Some((octet, body)) = octets.split_first() else {
-        return Err(RrFault::Short);
-    };
-    let Some(kind) = Kind::at(*octet) else {
-        return Err(RrFault::UnknownType(*octet));
-    };
+    let (octet, body) = octets.split_first().ok_or(RrFault::Short)?;
+    let kind = Kind::at(*octet).ok_or(RrFault::UnknownType(*octet))?;
     let len = kind.part_len();
     if body.len() < len {
         return Err(RrFault::Short);
@@ -80,11 +74,11 @@ fn frame(octets: &[u8]) -> Result<(Kind, &[u8]), RrFault>
 /// `Short` (the mandatory part is cut), `Element`. Octets after the mandatory part are ignored.
 pub fn decode(octets: &[u8]) -> Result<Rr, RrFault>
     // What is read has the octets as a text, and each text is read.
-    ensures text { IfOk result (λ v. IsText v octets.now) }
-    ensures only { (v : Rr) → IsText v octets.now → result ≡ Ok v }
+    ensures text { IfOk result (λ v. IsRrText v octets.now) }
+    ensures only { (v : Rr) → IsRrText v octets.now → result ≡ Ok v }
 
     // The first fault; want of memory is none of them.
-    ensures said { result ≡ said octets.now }
+    ensures said { result ≡ rr_said octets.now }
     ensures no_memory { result ≢ Err RrFault.NoMemory }
 {
     let (kind, part) = frame(octets)?;

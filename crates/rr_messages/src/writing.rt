@@ -1,7 +1,7 @@
 //! Messages as octets.
 ghost use Rattle.std.specs.Prelude.{◌≡◌, ◌+◌, ◌≤◌, ◌<◌, ◌++◌, OnOk, OnErr, IsOk, IfOk, Ok, Err, length, vec_len, vec_capacity};
 ghost use Rattle.rr_messages.specs.Kind.{part_len};
-ghost use Rattle.rr_messages.specs.Rr.{kind_of, IsPart, IsText, part_text, text, text_len, said};
+ghost use Rattle.rr_messages.specs.Rr.{kind_of, IsPart, IsRrText, part_text, rr_text, text_len, rr_said};
 
 use crate::message::Rr;
 use crate::reading::RADIO_RESOURCES;
@@ -38,8 +38,11 @@ fn append_part<A: Allocator + Copy>(message: &Rr, out: &mut Vec<u8, A>) -> Resul
 
 /// Appends a message. It takes no memory where the list has room, and leaves the list as it was
 /// where memory is refused.
-pub fn encode_into<A: Allocator + Copy>(message: &Rr, out: &mut Vec<u8, A>) -> Result<(), AllocError>
-    ensures ok { OnOk result (out.new.items ≡ out.old.items ++ text message.now) }
+pub fn encode_into<A: Allocator + Copy>(
+    message: &Rr,
+    out: &mut Vec<u8, A>,
+) -> Result<(), AllocError>
+    ensures ok { OnOk result (out.new.items ≡ out.old.items ++ rr_text message.now) }
     ensures err { OnErr result (out.new.items ≡ out.old.items) }
     ensures room { vec_len out.old + text_len message.now ≤ vec_capacity out.old → IsOk result }
     ensures full { OnErr result (vec_capacity out.old < vec_len out.old + text_len message.now) }
@@ -47,8 +50,8 @@ pub fn encode_into<A: Allocator + Copy>(message: &Rr, out: &mut Vec<u8, A>) -> R
     ensures capacity { vec_capacity out.old ≤ vec_capacity out.new }
 
     // What is written is a text of the message, and is read as it.
-    ensures text { OnOk result (IsText message.now (text message.now)) }
-    ensures again { OnOk result (said (text message.now) ≡ Ok message.now) }
+    ensures text { OnOk result (IsRrText message.now (rr_text message.now)) }
+    ensures again { OnOk result (rr_said (rr_text message.now) ≡ Ok message.now) }
 {
     let kind = message.kind();
     out.reserve(2 + kind.part_len())?;
@@ -59,11 +62,11 @@ pub fn encode_into<A: Allocator + Copy>(message: &Rr, out: &mut Vec<u8, A>) -> R
 
 /// A message as octets: its canonical text.
 pub fn encode<A: Allocator + Copy>(alloc: A, message: &Rr) -> Result<Vec<u8, A>, AllocError>
-    ensures ok { IfOk result (λ octets. octets.items ≡ text message.now) }
+    ensures ok { IfOk result (λ octets. octets.items ≡ rr_text message.now) }
 
     // The octets are a text of the message, and are read as it.
-    ensures text { IfOk result (λ octets. IsText message.now octets.items) }
-    ensures again { IfOk result (λ octets. said octets.items ≡ Ok message.now) }
+    ensures text { IfOk result (λ octets. IsRrText message.now octets.items) }
+    ensures again { IfOk result (λ octets. rr_said octets.items ≡ Ok message.now) }
 {
     let mut out = Vec::new(alloc);
     encode_into(message, &mut out)?;
