@@ -3,3 +3,11 @@
 #![tactic(auto)]
 
 pub mod exchange;
+pub mod procedure;
+pub mod run;
+pub mod script;
+pub mod trace;
+pub mod words;
+
+#[cfg(test)]
+mod tests;
