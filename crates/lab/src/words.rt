@@ -53,6 +53,7 @@ fn lab_command<'a>(alloc: Global) -> Result<Command<'a>, AllocError> {
         .version("0.1")
         .about("A laboratory of a GSM base station controller")
         .no_binary_name(true)
+        .bin_name("bsc_lab")?
         .subcommand_required(true)
         .subcommand(run_command(alloc)?)
 }
