@@ -1,4 +1,8 @@
 //! A controller that is driven by a script, on one thread.
+ghost use Rattle.std.specs.Prelude.{◌≡◌, ◌⊎◌, Ok, None, IsSome};
+ghost use Rattle.radio_book.specs.SiteFile.{described_site};
+ghost use Rattle.lab.specs.Script.{first_unread};
+
 use crate::exchange::{Inbound, PlainFault};
 use crate::procedure::handle_plain;
 use crate::script::{ScriptFault, read_script};
@@ -94,7 +98,10 @@ pub fn lab_run<A: Allocator + Copy, W: Write>(
     site: &str,
     script: &str,
     out: &mut W,
-) -> Result<Status, LabFault> {
+) -> Result<Status, LabFault>
+    ensures done { result ≡ Ok Status.Done → IsSome (described_site site.now) × (first_unread script.now ≡ None) }
+    ensures refused { result ≡ Ok Status.Refused → (described_site site.now ≡ None) ⊎ IsSome (first_unread script.now) }
+{
     let site = match Site::read(alloc, scratch, site) {
         Ok(site) => site,
         Err(SiteFault::Toml) => {

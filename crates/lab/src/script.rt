@@ -276,6 +276,7 @@ pub fn read_script<A: Allocator + Copy>(
     text: &str,
 ) -> Result<Vec<Inbound<A>, A>, ScriptFault>
     ensures inputs { IfOk result (λ inputs. inputs.items ≡ said.inputs_of text.now) }
+    ensures readable { OnOk result (said.first_unread text.now ≡ None) }
     ensures line { (number : ℕ) → (result ≡ Err (ScriptFault.Line number)) ↔ (said.first_unread text.now ≡ Some number) }
     ensures memory { result ≡ Err ScriptFault.NoMemory → said.inputs_of {A = A} text.now ≢ [] }
 {

@@ -1,4 +1,6 @@
 //! The words of the command line.
+ghost use Rattle.std.specs.Prelude.{◌≡◌};
+
 use clap::error::ErrorKind;
 use clap::{Arg, ArgAction, ArgMatches, Command, Error};
 use std::alloc::{AllocError, Global};
