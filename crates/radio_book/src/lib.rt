@@ -2,6 +2,12 @@
 //! which handover references and timers they hold. Every change of it is one event, judged by a written table.
 #![tactic(auto)]
 
+pub mod book;
 pub mod channel;
+mod entry;
 pub mod event;
 mod journal;
+pub mod laws;
+mod records;
+pub mod site;
+mod tables;
