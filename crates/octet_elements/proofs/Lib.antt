@@ -1,3 +1,4 @@
 pub mod Spelling
 pub mod Splits
-pub mod Firsts
+pub mod Places
+pub mod Turns

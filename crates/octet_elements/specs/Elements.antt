@@ -1,6 +1,6 @@
 -- Elements of a message: an identifier octet, and a value that is delimited by the identifier's form
 -- (TS 48.058 clause 9.3, TS 48.008 clause 3.2.2).
-use Rattle.std.specs.Prelude.{◌≡◌, ℕ, ◌+◌, ◌*◌, ◌<◌, ◌/◌, ◌%◌, ◌^◌, if◌then◌else◌, ◌==◌, List, [], ◌∷◌, ◌++◌, length, flat_map, Option, Some, None}
+use Rattle.std.specs.Prelude.{◌≡◌, ℕ, ◌+◌, ◌*◌, ◌<◌, ◌/◌, ◌%◌, ◌^◌, if◌then◌else◌, ◌==◌, zero, suc, List, [], ◌∷◌, ◌++◌, length, flat_map, Option, Some, None}
 use Rattle.std.specs.List.{AllByRecursion}
 use Rattle.octet_elements.specs.declared.form.Form.{Form}
 use Rattle.octet_elements.specs.declared.form.Form.TheVariants.{Fixed, Counted, LongCounted}
@@ -55,20 +55,45 @@ pub record AreTorn (forms : Forms) (es : List Element) (rest octets : List ℕ) 
 abbrev pub IsTornAt : Forms → List ℕ → ℕ → Type 0
 IsTornAt forms octets at = (es : List Element) × (rest : List ℕ) × AreTorn forms es rest octets × (at ≡ length (all_spelled forms es))
 
+-- the values of the elements with the identifier, in order
+abbrev pub values_of : ℕ → List Element → List (List ℕ)
+values_of i [] = []
+values_of i (e ∷ es) = if e.0 == i then e.1 ∷ values_of i es else values_of i es
+
+-- the value at a place
+abbrev pub nth : ℕ → List (List ℕ) → Option (List ℕ)
+nth n [] = None
+nth zero (v ∷ vs) = Some v
+nth (suc n) (v ∷ vs) = nth n vs
+
 -- the value of the first element with the identifier
 abbrev pub first_of : ℕ → List Element → Option (List ℕ)
-first_of i [] = None
-first_of i (e ∷ es) = if e.0 == i then Some e.1 else first_of i es
+first_of i es = nth 0 (values_of i es)
 
 -- the value of the second element with the identifier
 abbrev pub second_of : ℕ → List Element → Option (List ℕ)
-second_of i [] = None
-second_of i (e ∷ es) = if e.0 == i then first_of i es else second_of i es
+second_of i es = nth 1 (values_of i es)
 
--- the one that came first
-abbrev pub first_or : Option (List ℕ) → Option (List ℕ) → Option (List ℕ)
-first_or None later = later
-first_or (Some v) later = Some v
+-- how many places of the list want the identifier
+abbrev pub times : ℕ → List ℕ → ℕ
+times i [] = 0
+times i (j ∷ js) = if j == i then 1 + times i js else times i js
+
+-- What each place of a list of wanted identifiers gets, where other places came before: of the places
+-- that want one identifier the first gets its first value, the second its second.
+abbrev pub wanted_after : List ℕ → List ℕ → List Element → List (Option (List ℕ))
+wanted_after before [] es = []
+wanted_after before (i ∷ wanted) es = nth (times i before) (values_of i es) ∷ wanted_after (i ∷ before) wanted es
+
+abbrev pub wanted_of : List ℕ → List Element → List (Option (List ℕ))
+wanted_of wanted es = wanted_after [] wanted es
+
+-- one more element goes to the first place that wants it and has nothing
+abbrev pub placed : List ℕ → ℕ → List ℕ → List (Option (List ℕ)) → List (Option (List ℕ))
+placed [] i v noted = noted
+placed (j ∷ wanted) i v [] = []
+placed (j ∷ wanted) i v (None ∷ noted) = if j == i then Some v ∷ noted else None ∷ placed wanted i v noted
+placed (j ∷ wanted) i v (Some w ∷ noted) = Some w ∷ placed wanted i v noted
 
 -- octets are elements in one way only, torn or whole
 abbrev pub SplitIsUnique : Type 0
