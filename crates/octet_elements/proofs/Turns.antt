@@ -3,7 +3,7 @@ use Rattle.std.proofs.Common.{append-nil, ◌≡◌, ◌≢◌, ℕ, ◌+◌, �
 use Rattle.std.proofs.lemmas.Bool.Decides.{nat_tests}
 use Rattle.std.proofs.lemmas.Bool.{cases_lt}
 use borrow.Author.Tests.{eq-eqb}
-use Rattle.octet_elements.specs.Elements.{Element, values_of, nth, times, wanted_after, wanted_of, placed}
+use Rattle.octet_elements.specs.Elements.{Element, values_of, nth, times, wanted_after, placed}
 
 pub eqb_no : (a b : ℕ) → a ≢ b → eqb a b ≡ false
 eqb_no a b differ = grind (arith, nat_tests)

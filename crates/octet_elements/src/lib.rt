@@ -17,6 +17,6 @@ mod write;
 
 pub use element::{Leading, leading_element};
 pub use form::{ElementTable, Form};
-pub use laws::{split_is_unique, spelling_is_unique};
+pub use laws::{spelling_is_unique, split_is_unique};
 pub use wanted::read_values;
 pub use write::{append_element, append_octets};

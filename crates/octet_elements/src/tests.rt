@@ -26,11 +26,11 @@ impl ElementTable for Sample {
 
 #[test]
 fn notes_the_first_values(rt: HostRuntime) -> Result<(), Fail> {
-    let octets = [
+    let octets: &[u8] = &[
         1, 10, 11, 2, 5, 1, 7, 3, 0, 2, 8, 9, 5, 0, 1, 20, 21, 5, 2, 1, 1,
     ];
     let mut values = [None; 4];
-    read_values::<Sample>(&octets, &[1, 5, 5, 9], &mut values)?;
+    read_values::<Sample>(octets, &[1, 5, 5, 9], &mut values)?;
     let [one, five, second, other] = values;
     assert_eq!(rt; one, Some([10, 11].as_slice()));
     assert_eq!(rt; five, Some([7].as_slice()));

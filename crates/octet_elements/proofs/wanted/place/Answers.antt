@@ -1,4 +1,4 @@
-use Rattle.std.proofs.Common.{◌≡◌, ◌+◌, ℕ, ◌<◌, None, Some, map, get_or, sym, ◌∙◌, ap, subst, arith, length, not, true, false}
+use Rattle.std.proofs.Common.{◌≡◌, ℕ, None, Some, get_or, sym, ◌∙◌, ap, arith, length}
 use Rattle.std.specs.Option.{option_map}
 use Rattle.std.proofs.lemmas.List.{map-set}
 use borrow.Author.Count.{below_more}
@@ -23,8 +23,9 @@ loop-at-preserved c =
     let values = c.loop-at.values in
     let P : ℕ → Type 0 = λ k. Passes (get_or c.args.wanted.now k 0) (get_or (shown values) k None) c.args.identifier in
     let here : P at = elim c.else-wanted-at.branch [
-        else-wanted-at-via-then-wanted-at+else-is_none w ↦ record { passes = λ same none. shown_taken (get_or values at None) w.if-is_none.ensures (sym (shown-get values at) ∙ none) }
-      | else-wanted-at-via-else-wanted-at w ↦ record { passes = λ same none. w.if-wanted-at.false same } ] in
+      | else-wanted-at-via-then-wanted-at+else-is_none w ↦ record { passes = λ same none. shown_taken (get_or values at None) w.if-is_none.ensures (sym (shown-get values at) ∙ none) }
+      | else-wanted-at-via-else-wanted-at w ↦ record { passes = λ same none. w.if-wanted-at.false same }
+    ] in
     (c.loop-at.invariant.0, below_more P at c.loop-at.invariant.1 here)
 
 pub returns : goal.returns
