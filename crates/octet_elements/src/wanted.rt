@@ -1,5 +1,5 @@
 //! One pass over elements for the values that a message uses.
-ghost use Rattle.std.specs.Prelude.{◌≡◌, List, [], length, map, OnOk, IfErr};
+ghost use Rattle.std.specs.Prelude.{◌≡◌, ◌<◌, List, [], length, map, OnOk, IfErr};
 ghost use Rattle.std.specs.Option.{option_map};
 ghost use Rattle.octet_elements.specs.Elements.{Element, AreElements, IsTornAt, wanted_of, placed};
 
@@ -19,6 +19,7 @@ pub fn read_values<'a, T: ElementTable>(
     requires { map (option_map (λ v. v.now)) values.old ≡ wanted_of wanted.now [] }
     ensures whole { OnOk result ((es : List Element) × AreElements T.form_of es octets.now × (map (option_map (λ v. v.now)) values.new ≡ wanted_of wanted.now es)) }
     ensures torn { IfErr result (IsTornAt T.form_of octets.now) }
+    ensures within { IfErr result (λ at. at < length octets.now) }
 {
     let mut rest = octets;
     while !rest.is_empty() {
