@@ -1,21 +1,43 @@
 //! Why octets are no message.
+use std::alloc::AllocError;
 use thiserror::Error;
 
-/// Why octets are no message.
-#[derive(Clone, Copy, Debug, PartialEq, Eq, Error)]
+/// Why octets are no message. Faults are looked for in this order: `TooLong`, `NotRsl`, `Torn(1)`,
+/// `UnknownType`, `Torn` with a later offset, then `Missing` or `BadElement` element by element in
+/// the order in which the message is written; `NoMemory` is last.
+#[derive(Clone, Copy, PartialEq, Eq, Debug, Error)]
 pub enum RslFault {
-    #[error("no message of the Abis interface")]
+    /// There is no octet, or the first is not the discriminator of a message that is read here.
+    #[error("not a message of radio link layer or dedicated channel management")]
     NotRsl,
-    #[error("unknown type {0}")]
+    /// The discriminator has no message of this type.
+    #[error("unknown message type 0x{0:02x}")]
     UnknownType(u8),
-    #[error("element {0} is missing")]
+    /// The mandatory element with this identifier is not there.
+    #[error("element 0x{0:02x} is missing")]
     Missing(u8),
-    #[error("element {0} is wrong")]
+    /// The element with this identifier has a value that can't be read.
+    #[error("element 0x{0:02x} is bad")]
     BadElement(u8),
-    #[error("the element at {0} is cut")]
+    /// The element at this offset, counted from the first octet, runs past the end. At offset 1 the
+    /// type is missing.
+    #[error("torn at offset {0}")]
     Torn(usize),
-    #[error("too long")]
+    /// There are more than 1,024 octets.
+    #[error("longer than 1,024 octets")]
     TooLong,
+    /// Memory ran out.
     #[error("out of memory")]
     NoMemory,
+}
+
+impl From<AllocError> for RslFault {
+    ghost use Rattle.std.specs.Prelude.{◌≡◌};
+    ghost use Rattle.rsl_messages.specs.declared.fault.RslFault.TheVariants.{NoMemory};
+
+    ghost from_gives = { λ _ e. e ≡ NoMemory };
+
+    fn from(_error: AllocError) -> RslFault {
+        RslFault::NoMemory
+    }
 }

@@ -1,8 +1,15 @@
-//! Stand-in for the codec of Abis messages: its octet list and its faults.
+//! Messages between a base station controller and a base station, on Abis (TS 48.058).
+//!
+//! A message is a discriminator, a type and then elements. [`decode`] reads one, [`encode`] and
+//! [`encode_into`] write one, and [`fits`] says whether a value can be written.
 #![tactic(auto)]
 
 mod fault;
+mod head;
+mod message;
 mod octets;
+mod table;
 
 pub use fault::RslFault;
+pub use message::{ChanBits, Rsl};
 pub use octets::Octets;

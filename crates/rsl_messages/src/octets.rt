@@ -1,11 +1,11 @@
-//! A list of octets that a message keeps.
+//! An octet list inside a message.
 ghost use Rattle.std.specs.Prelude.{◌≡◌, IfOk};
 
 use std::alloc::{AllocError, Allocator, Global};
 use std::marker::Model;
 
-/// A list of octets.
-#[derive(Drop)]
+/// An octet list inside a message, as a layer 3 message or a channel mode.
+#[derive(Debug, Drop)]
 pub struct Octets<A: Allocator = Global> {
     items: Vec<u8, A>,
 }
@@ -15,18 +15,20 @@ impl<A: Allocator> Model for Octets<A> {
 
     ghost Value = { List ℕ };
 
-    ghost view = { λ octets. octets.items.items };
+    ghost view = { λ o. o.items.items };
 }
 
-impl<A: Allocator> Octets<A> {
+impl<A: Allocator + Copy> Octets<A> {
+    /// A list of these octets.
     pub fn new(alloc: A, octets: &[u8]) -> Result<Self, AllocError>
-        ensures { IfOk result (λ list. list ≡ octets.now) }
+        ensures { IfOk result (λ o. o ≡ octets.now) }
     {
         Ok(Octets {
             items: Vec::from_slice(alloc, octets)?,
         })
     }
 
+    /// Its octets.
     pub fn as_slice(&self) -> &[u8]
         ensures { result.now ≡ self.now }
     {

@@ -1,0 +1,20 @@
+//! The forms of the elements on Abis.
+use octet_elements::{ElementTable, Form};
+
+/// The forms of the elements on Abis (TS 48.058 clause 9.3).
+pub struct Abis;
+
+impl ElementTable for Abis {
+    ghost use Rattle.rsl_messages.specs.Forms.{abis};
+
+    ghost form_of = { abis };
+
+    fn form_for(identifier: u8) -> Form {
+        match identifier {
+            1..=4 | 9 | 0x0D | 0x11 | 0x18 | 0x1B | 0x25 => Form::Fixed(1),
+            8 | 0x0A => Form::Fixed(2),
+            0x0B => Form::LongCounted,
+            _ => Form::Counted,
+        }
+    }
+}
