@@ -1,4 +1,5 @@
 pub mod Site
+pub mod SiteFile
 pub mod Keys
 pub mod Maps
 pub mod State

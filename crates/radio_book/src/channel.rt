@@ -1,4 +1,5 @@
 //! Channels of a cell, and what is done with them.
+use std::fmt;
 
 /// A channel: one timeslot of one TRX of one cell (TS 45.002 clause 5).
 #[derive(Clone, Copy, Debug, PartialEq, Eq, PartialOrd, Ord, Hash)]
@@ -9,6 +10,13 @@ pub struct ChanId {
     pub trx: u8,
     /// The timeslot, 0 to 7.
     pub tn: u8,
+}
+
+/// `cell/trx/tn`, in decimal digits.
+impl fmt::Display for ChanId {
+    fn fmt<W: fmt::Write>(&self, f: &mut fmt::Formatter<W>) -> fmt::Result {
+        write!(f, "{}/{}/{}", self.cell, self.trx, self.tn)
+    }
 }
 
 /// What a channel is used for at present.
