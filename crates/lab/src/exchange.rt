@@ -1,8 +1,10 @@
 //! What goes into a controller, and what comes out of it.
+ghost use Rattle.std.specs.Prelude.{◌≡◌};
+
 use radio_book::channel::ChanId;
 use radio_book::event::{Event, Reply};
 use rsl_messages::{Octets, RslFault};
-use std::alloc::{Allocator, Global};
+use std::alloc::{AllocError, Allocator, Global};
 use thiserror::Error;
 
 /// What an operator asks for. A call is named by its number, 0 to 65535.
@@ -45,6 +47,17 @@ pub struct Handled<A: Allocator = Global> {
     pub out: Vec<Outbound<A>, A>,
 }
 
+impl<A: Allocator + Copy> Handled<A> {
+    /// Nothing was asked and nothing is sent.
+    pub fn new(alloc: A) -> Handled<A> {
+        Handled {
+            events: Vec::new(alloc),
+            none_free: None,
+            out: Vec::new(alloc),
+        }
+    }
+}
+
 /// Why an input was not handled to its end.
 #[derive(Clone, Copy, Debug, PartialEq, Eq, Error)]
 pub enum PlainFault {
@@ -54,4 +67,14 @@ pub enum PlainFault {
     /// Memory was refused: the events that were judged stand.
     #[error("out of memory")]
     NoMemory,
+}
+
+impl From<AllocError> for PlainFault {
+    ghost use Rattle.lab.specs.declared.exchange.PlainFault.TheVariants.{NoMemory};
+
+    ghost from_gives = { λ _ fault. fault ≡ NoMemory };
+
+    fn from(_: AllocError) -> PlainFault {
+        PlainFault::NoMemory
+    }
 }

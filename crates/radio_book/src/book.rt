@@ -4,7 +4,7 @@ ghost use Rattle.std.specs.FinMap as map;
 ghost use Rattle.radio_book.specs.State.{empty_book};
 ghost use Rattle.radio_book.specs.Table.{step, reply_to, row, NeedsRoom};
 
-use crate::event::{Event, Reply};
+use crate::event::{Event, Kind, Reply};
 use crate::records::Records;
 use crate::site::Site;
 use std::alloc::{AllocError, Allocator, Global};
@@ -79,5 +79,27 @@ impl<A: Allocator + Copy> Book<A> {
         ensures memory { OnErr result (NeedsRoom self.old (row self.old event)) }
     {
         self.records.step(event)
+    }
+
+    /// The site of the book.
+    pub fn site(&self) -> &Arc<Site<A>, A>
+        ensures { result.now.value ≡ self.now.site }
+    {
+        self.records.site()
+    }
+
+    /// Stand-in.
+    pub fn take_any(&mut self, call: u16, kind: Kind, cell: u8) -> Result<Option<(Event, Reply)>, AllocError> {
+        let Some(x) = self.records.first_free(cell) else {
+            return Ok(None);
+        };
+        let event = Event::Take(call, kind, x);
+        Ok(Some((event, self.step(event)?)))
+    }
+
+    /// Stand-in.
+    pub fn reserve_any(&mut self, call: u16) -> Result<(Event, Reply), AllocError> {
+        let event = Event::Reserve(call, self.records.free_number(call));
+        Ok((event, self.step(event)?))
     }
 }

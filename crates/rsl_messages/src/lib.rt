@@ -8,8 +8,10 @@ mod fault;
 mod head;
 mod message;
 mod octets;
+mod stand_in;
 mod table;
 
 pub use fault::RslFault;
 pub use message::{ChanBits, Rsl};
 pub use octets::Octets;
+pub use stand_in::{decode, encode};
