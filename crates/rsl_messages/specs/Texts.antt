@@ -32,10 +32,14 @@ pub record IsTextOf {A : Type 0} (v : Rsl A) (octets : List ℕ) : Type 0 where
   pub head : Begins kind octets body
   pub says : Says kind body (Ok v)
 
--- The body has this fault: an element that runs past the end, at an offset that counts the head too, or
--- an element that is missing or bad. Memory runs out only for a message that keeps an octet list.
+-- an element of the body runs past the end; its offset counts the head too
+abbrev pub IsTornBody : List ℕ → RslFault → Type 0
+IsTornBody body (fault.Torn at) = (offset : ℕ) × IsTornAt abis body offset × (at ≡ 2 + offset)
+IsTornBody body _ = ⊥
+
+-- The body has this fault: it is torn, or an element is missing or bad. Memory runs out only for a message that keeps an octet list.
 abbrev pub HasBodyFault : (A : Type 0) → MessageKind → List ℕ → RslFault → Type 0
-HasBodyFault A kind body (fault.Torn at) = (offset : ℕ) × IsTornAt abis body offset × (at ≡ 2 + offset)
+HasBodyFault A kind body (fault.Torn at) = IsTornBody body (fault.Torn at)
 HasBodyFault A kind body (fault.Missing i) = Says {A = A} kind body (Err (Absent i))
 HasBodyFault A kind body (fault.BadElement i) = Says {A = A} kind body (Err (Bad i))
 HasBodyFault A kind body fault.NoMemory = (v : Rsl A) × Says kind body (Ok v) × HasOctets v

@@ -1,11 +1,17 @@
 -- What the value of an element says, and how it is written (TS 48.058 clause 9.3).
 use Rattle.std.specs.Prelude.{◌≡◌, ℕ, ◌+◌, ◌*◌, ◌/◌, ◌%◌, if◌then◌else◌, ◌==◌, List, [], ◌∷◌, Option, Some, None, Result, Ok, Err}
+use Rattle.std.specs.Option.{option_map}
+use Rattle.std.proofs.Common.{Bor}
 use Rattle.octet_elements.specs.Elements.{Element}
 use Rattle.rsl_messages.specs.declared.message.ChanBits.{ChanBits}
 use Rattle.rsl_messages.specs.declared.fault.ElementFault.{ElementFault}
 use Rattle.rsl_messages.specs.declared.fault.ElementFault.TheVariants.{Absent, Bad}
 use Rattle.rsl_messages.specs.declared.fault.RslFault.{RslFault}
 use Rattle.rsl_messages.specs.declared.fault.RslFault.TheVariants.{Missing, BadElement}
+
+-- a value that is passed by reference
+abbrev pub seen : Option (Bor (List ℕ)) → Option (List ℕ)
+seen value = option_map (λ v. v.now) value
 
 -- the fault that a message has by its element
 abbrev pub fault_of : ElementFault → RslFault

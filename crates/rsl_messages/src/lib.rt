@@ -8,8 +8,11 @@ mod fault;
 mod head;
 mod message;
 mod octets;
+mod reading;
 mod table;
+mod values;
 
 pub use fault::RslFault;
 pub use message::{ChanBits, Rsl};
 pub use octets::Octets;
+pub use reading::decode;
