@@ -41,3 +41,26 @@ impl From<AllocError> for RslFault {
         RslFault::NoMemory
     }
 }
+
+/// What is wrong with an element of a message whose elements are all whole.
+#[derive(Clone, Copy, PartialEq, Eq, Debug)]
+pub enum ElementFault {
+    /// The element with this identifier is not there.
+    Absent(u8),
+    /// The element with this identifier has a value that can't be read.
+    Bad(u8),
+}
+
+impl From<ElementFault> for RslFault {
+    ghost use Rattle.std.specs.Prelude.{◌≡◌};
+    ghost use Rattle.rsl_messages.specs.Values.{fault_of};
+
+    ghost from_gives = { λ e f. f ≡ fault_of e };
+
+    fn from(fault: ElementFault) -> RslFault {
+        match fault {
+            ElementFault::Absent(identifier) => RslFault::Missing(identifier),
+            ElementFault::Bad(identifier) => RslFault::BadElement(identifier),
+        }
+    }
+}

@@ -1,4 +1,9 @@
 //! Discriminator and type.
+ghost use Rattle.std.specs.Prelude.{◌≡◌, IfOk, IfErr, IfSome, IfNone};
+ghost use Rattle.rsl_messages.specs.Heads.{IsHead, Begins, HasHeadFault};
+
+use crate::fault::RslFault;
+
 /// Which message it is.
 #[derive(Clone, Copy, Debug, PartialEq, Eq)]
 pub enum MessageKind {
@@ -7,4 +12,38 @@ pub enum MessageKind {
     ChannelActivationNack,
     RfChannelRelease,
     RfChannelReleaseAck,
+}
+
+/// Which message has this discriminator, whose bit 1 is ignored, and this type.
+fn kind_for(discriminator: u8, message_type: u8) -> Option<MessageKind>
+    ensures found { IfSome result (λ kind. IsHead kind discriminator message_type) }
+    ensures none { IfNone result ((kind : MessageKind) → IsHead kind discriminator message_type → ⊥) }
+{
+    match (discriminator / 2, message_type) {
+        (4, 0x21) => Some(MessageKind::ChannelActivation),
+        (4, 0x22) => Some(MessageKind::ChannelActivationAck),
+        (4, 0x23) => Some(MessageKind::ChannelActivationNack),
+        (4, 0x2E) => Some(MessageKind::RfChannelRelease),
+        (4, 0x33) => Some(MessageKind::RfChannelReleaseAck),
+        _ => None,
+    }
+}
+
+/// Which message the octets are, and the body after the head.
+pub fn read_head(octets: &[u8]) -> Result<(MessageKind, &[u8]), RslFault>
+    ensures found { IfOk result (λ h. Begins h.0 octets.now h.1.now) }
+    ensures fault { IfErr result (HasHeadFault octets.now) }
+{
+    let [discriminator, rest @ ..] = octets else {
+        return Err(RslFault::NotRsl);
+    };
+    if !matches!(*discriminator / 2, 1 | 4) {
+        return Err(RslFault::NotRsl);
+    }
+    let [message_type, body @ ..] = rest else {
+        return Err(RslFault::Torn(1));
+    };
+    let kind = kind_for(*discriminator, *message_type)
+        .ok_or(RslFault::UnknownType(*message_type))?;
+    Ok((kind, body))
 }

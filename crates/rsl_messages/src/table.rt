@@ -1,6 +1,13 @@
 //! The forms of the elements on Abis.
 use octet_elements::{ElementTable, Form};
 
+pub const CHANNEL_NUMBER: u8 = 0x01;
+pub const ACTIVATION_TYPE: u8 = 0x03;
+pub const CHANNEL_MODE: u8 = 0x06;
+pub const FRAME_NUMBER: u8 = 0x08;
+pub const HANDOVER_REFERENCE: u8 = 0x09;
+pub const CAUSE: u8 = 0x1A;
+
 /// The forms of the elements on Abis (TS 48.058 clause 9.3).
 pub struct Abis;
 
