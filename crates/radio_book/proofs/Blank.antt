@@ -1,5 +1,5 @@
 -- A text of white space and comments is an empty document, which describes no site.
-use Rattle.std.proofs.Common.{◌≡◌, ℕ, List, None, Some, option_and_then, refl, ◌∙◌, ap}
+use Rattle.std.proofs.Common.{◌≡◌, ℕ, List, None, Some, option_and_then, refl, ap}
 use Rattle.toml.specs.Data.{no_members, table}
 use Rattle.toml.specs.Errors.{IsBlank}
 use Rattle.toml.specs.Parse.{parse_document, lines}

@@ -1,5 +1,5 @@
 -- What the tests of a document show of what it tells.
-use Rattle.std.proofs.Common.{◌≡◌, ℕ, Bool, true, false, not, ◌&&◌, ◌==◌, ◌<◌, nat_le, if◌then◌else◌, List, [], ◌∷◌, length, get_or, slice_get, Option, Some, None, is_some, option_and_then, unwrap_or, IfSome, refl, ap, ◌∙◌, sym, arith}
+use Rattle.std.proofs.Common.{◌≡◌, ℕ, Bool, true, false, not, ◌&&◌, ◌==◌, ◌<◌, nat_le, if◌then◌else◌, List, [], ◌∷◌, length, get_or, slice_get, Option, Some, None, is_some, option_and_then, IfSome, refl, ◌∙◌, sym, arith}
 use Rattle.std.proofs.Math.Bool.{and-true}
 use Rattle.std.proofs.lemmas.Bool.{false≢true, and_parts, and_right}
 use Rattle.std.proofs.lemmas.Bool.Decides.{nat_tests}

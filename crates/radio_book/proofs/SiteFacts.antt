@@ -1,13 +1,16 @@
 -- What holds of every site: what a document tells keeps the limits, and a traffic channel lies within them.
-use Rattle.std.proofs.Common.{◌≡◌, ℕ, Bool, true, false, not, ◌&&◌, ◌==◌, ◌<◌, ◌≤◌, nat_le, nat_lt, if◌then◌else◌, List, [], ◌∷◌, length, Option, Some, None, is_some, All, codes, option_and_then, IfSome, take, refl, sym, arith}
+use Rattle.std.proofs.Common.{◌≡◌, ℕ, Bool, true, false, not, ◌&&◌, ◌==◌, ◌<◌, ◌≤◌, nat_le, nat_lt, if◌then◌else◌, List, [], ◌∷◌, length, Option, Some, None, is_some, All, codes, option_and_then, IfSome, take, get_or, slice_get, unwrap_or, refl, sym, ◌∙◌, subst, inl, inr, arith}
 use Rattle.std.proofs.lemmas.List.{take_all}
-use Rattle.std.proofs.lemmas.Bool.{false≢true, and_parts}
+use Rattle.std.proofs.lemmas.List.Elements.{All-head, All-tail}
+use Rattle.std.proofs.lemmas.Bool.{false≢true, and_parts, cases_Bool}
 use Rattle.std.proofs.lemmas.Bool.Decides.{nat_tests}
-use Rattle.std.proofs.lemmas.Option.{same_Some, none-some, option_and_then_some}
+use Rattle.std.proofs.lemmas.Option.{same_Some, none-some, option_and_then_some, slice_get_within, slice_get-get_or}
 use Rattle.toml.specs.Data.{Data, Items, as_integer}
 use Rattle.toml.specs.View.{items_view}
 use Rattle.toml.specs.declared.value.Value.{Value}
-use Rattle.radio_book.specs.Site.{SiteView, IsCell, IsSite, names_broadcast}
+use Rattle.radio_book.specs.Site.{SiteView, IsCell, IsSite, IsWithinLimits, names_broadcast, is_traffic}
+use Rattle.radio_book.specs.declared.channel.ChanId.{ChanId}
+use Rattle.std.specs.List.{list_any}
 use Rattle.radio_book.specs.SiteFile.{each, only, array_at, natural, timeslot_of, trx_of, cell_of, site_of, keeps_cell_rules, keeps_site_rules}
 use Rattle.radio_book.proofs.Told.{All-each, IsTold}
 
@@ -39,11 +42,11 @@ cell_limits d cell e =
     let (count, silent) = and_parts (nat_le 1 (length cell) && nat_le (length cell) 4) (not (names_broadcast cell)) kept in
     let (least, most) = and_parts (nat_le 1 (length cell)) (nat_le (length cell) 4) count in
     record {
-      some_trx = grind (arith, nat_tests)
-      ; trx_limit = grind (arith, nat_tests)
-      ; timeslot_range = option_and_then_some (each trx_of) (array_at (codes "trx") d) cell read
-      (λ ds found told. All-each trx_of (λ trx. All (λ tn. tn < 8) trx) trx_range ds cell told)
-      ; broadcast = true_of_not (names_broadcast cell) silent
+      some_trx = grind (arith, nat_tests);
+      trx_limit = grind (arith, nat_tests);
+      timeslot_range = option_and_then_some (each trx_of) (array_at (codes "trx") d) cell read
+          (λ ds found told. All-each trx_of (λ trx. All (λ tn. tn < 8) trx) trx_range ds cell told);
+      broadcast = true_of_not (names_broadcast cell) silent;
     }
 
 -- a document tells of no site beyond the limits
@@ -52,10 +55,10 @@ site_limits d site e =
     let (read, kept) = only_parts keeps_site_rules (option_and_then (each cell_of) (array_at (codes "cell") d)) site e in
     let (least, most) = and_parts (nat_le 1 (length site)) (nat_le (length site) 64) kept in
     record {
-      some_cell = grind (arith, nat_tests)
-      ; cell_limit = grind (arith, nat_tests)
-      ; each_cell = option_and_then_some (each cell_of) (array_at (codes "cell") d) site read
-      (λ ds found told. All-each cell_of IsCell cell_limits ds site told)
+      some_cell = grind (arith, nat_tests);
+      cell_limit = grind (arith, nat_tests);
+      each_cell = option_and_then_some (each cell_of) (array_at (codes "cell") d) site read
+          (λ ds found told. All-each cell_of IsCell cell_limits ds site told);
     }
 
 if_some : {A : Type 0} (b : Bool) (x : A) → is_some (if b then Some x else None) ≡ true → (if b then Some x else None) ≡ Some x
@@ -73,3 +76,39 @@ pub site_kept : (found : Option Items) (vs : List Value) (i : ℕ) (kept : SiteV
 site_kept None vs i kept same end told e = absurd (false≢true e)
 site_kept (Some ds) vs i kept same end told e =
     whole_kept (each cell_of ds) kept (rw (← same, ← take_all i vs end) told) e
+
+within_any : (slots : List ℕ) (tn : ℕ) → All (λ n. n < 8) slots → list_any (λ n. n == tn) slots ≡ true → tn < 8
+within_any [] tn limits named = absurd (false≢true named)
+within_any (n ∷ slots) tn limits named =
+    let here : n < 8 = All-head (λ n. n < 8) n slots limits in
+    elim (cases_Bool (n == tn)) [
+      | inl same ↦ grind (arith, nat_tests)
+      | inr other ↦ within_any slots tn (All-tail (λ n. n < 8) n slots limits) (rw other at named)
+    ]
+
+got : {A : Type 0} (P : A → Type 0) (xs : List A) (i : ℕ) (x : A) → All P xs → slice_get xs i ≡ Some x → P x
+got P xs i x all at =
+    let within = slice_get_within xs i x at in
+    let same : get_or xs i x ≡ x = same_Some (get_or xs i x) x (sym (slice_get-get_or xs i x within) ∙ at) in
+    subst P same (all i x within)
+
+trx_traffic : (cell : List (List ℕ)) (trx tn : ℕ) (slots : Option (List ℕ)) → slice_get cell trx ≡ slots → IsCell cell
+    → list_any (λ n. n == tn) (unwrap_or slots []) ≡ true → (trx < 4) × (tn < 8)
+trx_traffic cell trx tn None at limits named = absurd (false≢true named)
+trx_traffic cell trx tn (Some slots) at limits named =
+    let within = slice_get_within cell trx slots at in
+    let most = limits.trx_limit in
+    (omega arith, within_any slots tn (got (λ t. All (λ n. n < 8) t) cell trx slots limits.timeslot_range at) named)
+
+cell_traffic : (site : SiteView) (chan : ChanId) (cell : Option (List (List ℕ))) → slice_get site chan.cell ≡ cell → IsSite site
+    → list_any (λ n. n == chan.tn) (unwrap_or (option_and_then (λ found. slice_get found chan.trx) cell) []) ≡ true → IsWithinLimits chan
+cell_traffic site chan None at limits named = absurd (false≢true named)
+cell_traffic site chan (Some cell) at limits named =
+    let within = slice_get_within site chan.cell cell at in
+    let most = limits.cell_limit in
+    let (trx, timeslot) = trx_traffic cell chan.trx chan.tn (slice_get cell chan.trx) refl (got IsCell site chan.cell cell limits.each_cell at) named in
+    record { cell = omega arith; trx = trx; timeslot = timeslot }
+
+-- a traffic channel of a site lies within the limits
+pub traffic_limits : (site : SiteView) (chan : ChanId) → IsSite site → is_traffic site chan ≡ true → IsWithinLimits chan
+traffic_limits site chan limits named = cell_traffic site chan (slice_get site chan.cell) refl limits named

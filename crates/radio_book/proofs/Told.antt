@@ -1,5 +1,5 @@
 -- The values of an array, each as it is read, beside the loops and tests that go over them.
-use Rattle.std.proofs.Common.{◌≡◌, ℕ, suc, Bool, true, false, ◌&&◌, ◌==◌, ◌<◌, List, [], ◌∷◌, ◌++◌, length, get_or, slice_get, take, ◌+◌, Option, Some, None, is_some, option_map, option_and_then, IfSome, All, refl, sym, ap, ◌∙◌, arith}
+use Rattle.std.proofs.Common.{◌≡◌, ℕ, suc, Bool, false, ◌&&◌, ◌<◌, List, [], ◌∷◌, ◌++◌, length, get_or, slice_get, take, ◌+◌, Option, Some, None, is_some, option_map, option_and_then, IfSome, All, refl, sym, ap, ◌∙◌, arith}
 use Rattle.std.proofs.lemmas.List.{take_more}
 use Rattle.std.proofs.lemmas.List.Elements.{All-cons, All-nil}
 use Rattle.std.proofs.lemmas.Option.{same_Some, none-some}

@@ -1,6 +1,6 @@
 -- What a site file says, read off the TOML document that it is: [[cell]] has trx, and each of them tch.
 use Rattle.std.specs.Prelude.{ℕ, ℤ, pos, negsuc, nat_le, nat_lt, Bool, not, ◌&&◌, if◌then◌else◌, Option, Some, None, option_map, option_and_then, List, [], ◌∷◌, length, codes}
-use Rattle.toml.specs.Data.{Data, Items, no_items, item, Members, table, get, as_array, as_integer}
+use Rattle.toml.specs.Data.{Data, Items, no_items, item, table, get, as_array, as_integer}
 use Rattle.toml.specs.Parse.{parse_document}
 use Rattle.radio_book.specs.Site.{SiteView, names_broadcast}
 

@@ -3,15 +3,18 @@ ghost use Rattle.std.specs.Prelude.{◌≡◌, ◌==◌, ◌&&◌, Some, None, t
 ghost use Rattle.std.specs.List.{list_any};
 ghost use Rattle.toml.specs.Errors.{IsBlank};
 ghost use Rattle.toml.specs.View.{view, array_view, items_view};
-ghost use Rattle.radio_book.specs.Site.{is_traffic};
+ghost use Rattle.radio_book.specs.Site.{IsSite, IsWithinLimits, is_traffic};
 ghost use Rattle.radio_book.specs.SiteFile.{each, array_at, timeslot_of, trx_of, cell_of, site_of, described_site};
 
 use crate::channel::ChanId;
 use std::alloc::{AllocError, Allocator, Global};
 use std::marker::Model;
 use thiserror::Error;
+use toml::Value;
 use toml::value::Array;
-use toml::{Table, Value};
+
+#[cfg(test)]
+mod tests;
 
 /// Why a text gives no site.
 #[derive(Clone, Copy, Debug, PartialEq, Eq, Error)]
@@ -108,7 +111,8 @@ impl<A: Allocator + Copy> Site<A> {
 
     /// The number of cells, 1 to 64.
     pub fn cells(&self) -> u8
-        ensures { result ≡ length self.now }
+        ensures value { result ≡ length self.now }
+        ensures limits { IsSite self.now }
     {
         self.cells.len() as u8
     }
@@ -126,24 +130,30 @@ impl<A: Allocator + Copy> Site<A> {
     /// The traffic timeslots of a TRX of a cell, in the site file's order; `None` where there is no
     /// such cell or TRX.
     pub fn timeslots(&self, cell: u8, trx: u8) -> Option<&[u8]>
-        ensures {
-            option_map (λ found. found.now) result ≡ option_and_then (λ found. slice_get found trx) (slice_get self.now cell)
-        }
+        ensures { option_map (λ found. found.now) result ≡ option_and_then (λ found. slice_get found trx) (slice_get self.now cell) }
     {
-        let found = self.cells.get(cell as usize)?;
-        let found = found.trx.get(trx as usize)?;
-        Some(found.timeslots.as_slice())
+        timeslots_in(self.cells.as_slice(), cell, trx)
     }
 
     /// Whether the site names the channel as one that carries traffic.
     pub fn is_traffic(&self, chan: ChanId) -> bool
-        ensures { result ≡ is_traffic self.now chan }
+        ensures value { result ≡ is_traffic self.now chan }
+        ensures limits { result ≡ true → IsWithinLimits chan }
     {
-        match self.timeslots(chan.cell, chan.trx) {
+        match timeslots_in(self.cells.as_slice(), chan.cell, chan.trx) {
             Some(timeslots) => timeslots.contains(&chan.tn),
             None => false,
         }
     }
+}
+
+/// The traffic timeslots of a TRX of a cell.
+fn timeslots_in<A: Allocator + Copy>(cells: &[Cell<A>], cell: u8, trx: u8) -> Option<&[u8]>
+    ensures { option_map (λ found. found.now) result ≡ option_and_then (λ found. slice_get found trx) (slice_get cells.now cell) }
+{
+    let found = cells.get(cell as usize)?;
+    let found = found.trx.get(trx as usize)?;
+    Some(found.timeslots.as_slice())
 }
 
 /// The site that a document describes. No memory is asked for before it is known to describe one.
@@ -203,7 +213,9 @@ fn is_trx_count(count: usize) -> bool
 fn names_timeslot_zero(trx: &Value) -> bool
     ensures { IfSome (trx_of (view trx.now)) (λ told. result ≡ list_any (λ tn. tn == 0) told) }
 {
-    values_at(trx, "tch").iter().any(|each| timeslot(each) == Some(0))
+    values_at(trx, "tch")
+        .iter()
+        .any(|each| timeslot(each) == Some(0))
 }
 
 /// Whether a value describes a cell.

@@ -12,7 +12,7 @@ loop-each-preserved g c =
     let kept = c.loop-each.timeslots.items in
     elim c.match-timeslot.branch [
       | in-Some+in_ok-push w ↦
-        rw (w.timeslots-is, w.in_ok-push.ensures.items)
-        (IsTold-push timeslot_of told i v kept w.in-Some.tn c.loop-each-test.true c.each-item.is c.loop-each.invariant (rw (← c.timeslot.ensures, w.in-Some.is) refl))
+          rw (w.timeslots-is, w.in_ok-push.ensures.items)
+          (IsTold-push timeslot_of told i v kept w.in-Some.tn c.loop-each-test.true c.each-item.is c.loop-each.invariant (rw (← c.timeslot.ensures, w.in-Some.is) refl))
       | in_default w ↦ rw w.timeslots-is (IsTold-skip timeslot_of told i v kept c.loop-each-test.true c.each-item.is (search rules))
     ]
