@@ -1,9 +1,8 @@
 -- The procedure: for each input, what the controller asks of the book and what it sends, by the replies.
-use Rattle.std.specs.Prelude.{◌≡◌, ◌≢◌, ℕ, ◌<◌, Bool, true, false, if◌then◌else◌, ◌&&◌, nat_lt, List, [], ◌∷◌, ◌++◌, length, Option, Some, None}
+use Rattle.std.specs.Prelude.{ℕ, Bool, true, false, if◌then◌else◌, nat_lt, List, [], ◌∷◌, length, Option, Some, None}
 use Rattle.radio_book.specs.declared.channel.ChanId.{ChanId}
 use Rattle.radio_book.specs.declared.channel.ChanState.{ChanState}
-use Rattle.radio_book.specs.declared.channel.ChanState.TheVariants.{Free, Held, Pending, On, Off}
-use Rattle.radio_book.specs.declared.event.Kind.{Kind}
+use Rattle.radio_book.specs.declared.channel.ChanState.TheVariants.{Held}
 use Rattle.radio_book.specs.declared.event.Kind.TheVariants as kind
 use Rattle.radio_book.specs.declared.event.AttemptKind.{AttemptKind}
 use Rattle.radio_book.specs.declared.event.AttemptKind.TheVariants.{Internal, Incoming}
@@ -12,84 +11,97 @@ use Rattle.radio_book.specs.declared.event.Stage.TheVariants as stage
 use Rattle.radio_book.specs.declared.event.Why.TheVariants.{Asked}
 use Rattle.radio_book.specs.declared.event.Attempt.{Attempt}
 use Rattle.radio_book.specs.declared.event.CallRecord.{CallRecord}
-use Rattle.radio_book.specs.declared.event.Event.{Event}
 use Rattle.radio_book.specs.declared.event.Event.TheVariants as event
 use Rattle.radio_book.specs.declared.event.Reply.{Reply}
 use Rattle.radio_book.specs.declared.event.Reply.TheVariants.{Done, Record, Owned}
 use Rattle.radio_book.specs.Site.{SiteView}
 use Rattle.radio_book.specs.Sound.{target_in}
 use Rattle.radio_book.specs.Table.{is_target}
+use Rattle.rsl_messages.specs.declared.message.ChanBits.{ChanBits}
+use Rattle.rsl_messages.specs.declared.message.Rsl.{Rsl}
+use Rattle.rsl_messages.specs.declared.message.Rsl.TheVariants.{ChannelActivation, ChannelActivationAck, ChannelActivationNack, RfChannelRelease, RfChannelReleaseAck}
+use Rattle.rsl_messages.specs.Texts.{canonical}
+use Rattle.lab.specs.declared.exchange.Line.{Line}
+use Rattle.lab.specs.declared.exchange.Line.TheVariants as line
+use Rattle.lab.specs.declared.procedure.release.Release.{Release}
+use Rattle.lab.specs.declared.procedure.release.Release.TheVariants.{Nothing, Channel, Unknown}
+use Rattle.lab.specs.Plan.{Sent, OnAbis, Plan, Ends, Asks, Takes, Reserves, Sends}
 
--- a message to the station behind a TRX, in octets
-pub data Sent : Type 0 where
-  OnAbis : ℕ → ℕ → List ℕ → Sent
+-- Messages on Abis (TS 48.058).
 
--- A row: ask the book an event and go on by its reply, take some channel of a cell or reserve some number
--- and go on by what was chosen and its reply, send a message and go on, or end.
-pub data Plan : Type 0 where
-  Ends : Plan
-  Asks : Event → (Reply → Plan) → Plan
-  Takes : ℕ → Kind → ℕ → (ChanId → Reply → Plan) → Plan
-  Reserves : ℕ → (ℕ → Reply → Plan) → Plan
-  Sends : Sent → Plan → Plan
+-- the channel that a message from a TRX of a cell names (clause 9.3.1)
+abbrev pub chan_of : ℕ → ℕ → ChanBits → ChanId
+chan_of cell trx channel = record { cell = cell; trx = trx; tn = channel.tn }
 
--- These events with their replies, the cell in which no channel was free, and these messages follow the row.
--- Where no channel of the cell is free there is no event, and the row ends.
-abbrev pub Follows : Plan → List (Event × Reply) → Option ℕ → List Sent → Type 0
-Follows Ends steps none_free out = (steps ≡ []) × (none_free ≡ None) × (out ≡ [])
-Follows (Asks e next) [] none_free out = ⊥
-Follows (Asks e next) (s ∷ steps) none_free out = (s.0 ≡ e) × Follows (next s.1) steps none_free out
-Follows (Takes c k cell next) [] none_free out = (none_free ≡ Some cell) × (out ≡ [])
-Follows (Takes c k cell next) (s ∷ steps) none_free out = (x : ChanId) × (s.0 ≡ event.Take c k x) × (x.cell ≡ cell) × Follows (next x s.1) steps none_free out
-Follows (Reserves c next) [] none_free out = ⊥
-Follows (Reserves c next) (s ∷ steps) none_free out = (n : ℕ) × (s.0 ≡ event.Reserve c n) × Follows (next n s.1) steps none_free out
-Follows (Sends m next) steps none_free [] = ⊥
-Follows (Sends m next) steps none_free (o ∷ out) = (o ≡ m) × Follows next steps none_free out
+-- a message about a channel: it goes to the channel's TRX, names its timeslot, and is written in its canonical text
+abbrev pub about : ChanId → (ChanBits → Rsl Unit) → Sent
+about x message = OnAbis x.cell x.trx (canonical (message (record { tn = x.tn })))
 
--- these events with their replies are a beginning of the row's
-abbrev pub Begins : Plan → List (Event × Reply) → Type 0
-Begins p [] = Unit {0}
-Begins Ends (s ∷ steps) = ⊥
-Begins (Asks e next) (s ∷ steps) = (s.0 ≡ e) × Begins (next s.1) steps
-Begins (Takes c k cell next) (s ∷ steps) = (x : ChanId) × (s.0 ≡ event.Take c k x) × (x.cell ≡ cell) × Begins (next x s.1) steps
-Begins (Reserves c next) (s ∷ steps) = (n : ℕ) × (s.0 ≡ event.Reserve c n) × Begins (next n s.1) steps
-Begins (Sends m next) (s ∷ steps) = Begins next (s ∷ steps)
+-- full-rate speech, version 1, without discontinuous transmission (clause 9.3.6)
+abbrev pub speech : List ℕ
+speech = 0 ∷ 1 ∷ 8 ∷ 1 ∷ []
 
--- Messages on Abis (TS 48.058 clause 8.4): the octets are the canonical text of the message, on the channel's own timeslot.
+-- CHANNEL ACTIVATION for an immediate assignment, type 0 (clauses 8.4.1 and 9.3.3)
+abbrev pub activation : ChanId → Sent
+activation x = about x (λ channel. ChannelActivation channel 0 speech None)
 
--- CHANNEL ACTIVATION: speech on a full rate channel, version 1; for a handover with its reference
-abbrev pub activation : ChanId → ℕ → Option ℕ → Sent
-activation x activation_type reference = OnAbis x.cell x.trx []
+-- CHANNEL ACTIVATION for an asynchronous handover, type 2, with its reference (clauses 8.4.1, 9.3.3 and 9.3.9)
+abbrev pub target_activation : ChanId → ℕ → Sent
+target_activation x n = about x (λ channel. ChannelActivation channel 2 speech (Some n))
 
--- RF CHANNEL RELEASE
+-- RF CHANNEL RELEASE (clause 8.4.14)
 abbrev pub release : ChanId → Sent
-release x = OnAbis x.cell x.trx []
+release x = about x (λ channel. RfChannelRelease channel)
 
--- channels that the rest of a row sends on: a row ends at a reply that lacks one, or has one without such a timeslot
-abbrev pub can_send_on : List (Option ChanId) → Bool
-can_send_on [] = true
-can_send_on (None ∷ xs) = false
-can_send_on (Some x ∷ xs) = nat_lt x.tn 8 && can_send_on xs
+-- A row ends at a reply after which it would send a message about a channel that the reply lacks, or whose
+-- timeslot no message can name.
+abbrev pub if_named : ChanId → Plan → Plan
+if_named x next = if nat_lt x.tn 8 then next else Ends
 
-abbrev pub if_sendable : List (Option ChanId) → Plan → Plan
-if_sendable xs next = if can_send_on xs then next else Ends
+-- The release of a channel of which the station may know.
+abbrev pub release_of : Option ChanId → Release
+release_of None = Unknown
+release_of (Some x) = if nat_lt x.tn 8 then Channel x else Unknown
 
-abbrev pub release_all : List (Option ChanId) → Plan → Plan
-release_all [] next = next
-release_all (None ∷ xs) next = release_all xs next
-release_all (Some x ∷ xs) next = Sends (release x) (release_all xs next)
+-- a target is switched on from its activation on, until the station refused it
+abbrev pub is_switched_on : Stage → Bool
+is_switched_on stage.Sent = true
+is_switched_on stage.Confirmed = true
+is_switched_on s = false
 
--- An operator opens a call: the activation is sent.
+-- the release of an attempt's target, where it was switched on
+abbrev pub target_release : Option Attempt → Release
+target_release None = Nothing
+target_release (Some a) = if is_switched_on a.stage then release_of a.target else Nothing
+
+-- the release of the serving channel, unless it was held: the station knows nothing of a held one
+abbrev pub serving_release : CallRecord → Option ChanState → Release
+serving_release r (Some (Held c)) = Nothing
+serving_release r s = release_of r.serving
+
+-- send the release and go on
+abbrev pub releases : Release → Plan → Plan
+releases Nothing next = next
+releases (Channel x) next = Sends (release x) next
+releases Unknown next = Ends
+
+-- go on where the row can send the release later
+abbrev pub if_known : Release → Plan → Plan
+if_known Nothing next = next
+if_known (Channel x) next = next
+if_known Unknown next = Ends
+
+-- An operator opens a call: its channel is activated.
 abbrev pub opened : ChanId → Reply → Plan
-opened x Done = if_sendable (Some x ∷ []) (Sends (activation x 0 None) Ends)
+opened x Done = if_named x (Sends (activation x) Ends)
 opened x reply = Ends
 
 abbrev pub open_plan : ℕ → ChanId → Plan
 open_plan c x = Asks (event.Open c x) (opened x)
 
--- A handover begins: a channel is taken, a reference reserved, the activation sent.
+-- A handover begins: a channel is taken, a reference reserved, the channel activated.
 abbrev pub start_activated : ChanId → ℕ → Reply → Plan
-start_activated x n Done = Sends (activation x 2 (Some n)) Ends
+start_activated x n Done = Sends (target_activation x n) Ends
 start_activated x n reply = Ends
 
 abbrev pub start_reserved : ℕ → ChanId → ℕ → Reply → Plan
@@ -97,7 +109,7 @@ start_reserved c x n Done = Asks (event.Activate c) (start_activated x n)
 start_reserved c x n reply = Ends
 
 abbrev pub start_taken : ℕ → ChanId → Reply → Plan
-start_taken c x Done = if_sendable (Some x ∷ []) (Reserves c (start_reserved c x))
+start_taken c x Done = if_named x (Reserves c (start_reserved c x))
 start_taken c x reply = Ends
 
 abbrev pub start_plan : ℕ → ℕ → Plan
@@ -107,59 +119,45 @@ start_plan c cell = Takes c kind.Internal cell (start_taken c)
 abbrev pub handover_plan : SiteView → ℕ → ℕ → Plan
 handover_plan site c cell = if nat_lt cell (length site) then start_plan c cell else Ends
 
--- the target may be active: it was switched on
-abbrev pub is_switched_on : Stage → Bool
-is_switched_on stage.Sent = true
-is_switched_on stage.Confirmed = true
-is_switched_on s = false
-
--- the target of an attempt where it was switched on
-abbrev pub switched_target : Option Attempt → List (Option ChanId)
-switched_target None = []
-switched_target (Some a) = if is_switched_on a.stage then a.target ∷ [] else []
-
 -- An operator takes an attempt back: its target is released where it was switched on.
 abbrev pub undo_answered : Reply → Plan
-undo_answered (Record r s) = if_sendable (switched_target r.attempt) (release_all (switched_target r.attempt) Ends)
+undo_answered (Record r s) = releases (target_release r.attempt) Ends
 undo_answered reply = Ends
 
 abbrev pub undo_plan : ℕ → Plan
 undo_plan c = Asks (event.Undo c Asked) undo_answered
 
-abbrev pub is_held : Option ChanState → Bool
-is_held (Some (Held c)) = true
-is_held s = false
+-- A call without an attempt is cleared, and its serving channel released.
+abbrev pub cleared : Release → Reply → Plan
+cleared serving Done = releases serving Ends
+cleared serving reply = Ends
 
--- the serving channel, unless it was held: of that one the station knows nothing
-abbrev pub released_serving : CallRecord → Option ChanState → List (Option ChanId)
-released_serving r s = if is_held s then [] else (r.serving ∷ [])
+abbrev pub clear_rest : ℕ → Release → Plan
+clear_rest c serving = Asks (event.Clear c) (cleared serving)
 
-abbrev pub cleared : List (Option ChanId) → Reply → Plan
-cleared xs Done = release_all xs Ends
-cleared xs reply = Ends
+-- the record remains after an undo, but that of a call which comes from another controller
+abbrev pub remains_of : AttemptKind → Bool
+remains_of Internal = true
+remains_of Incoming = false
 
--- the record remains after an undo, but of a call that comes from another controller
 abbrev pub remains : Option Attempt → Bool
 remains None = true
 remains (Some a) = remains_of a.kind
-  where
-    remains_of : AttemptKind → Bool
-    remains_of Internal = true
-    remains_of Incoming = false
+
+abbrev pub clear_remaining : ℕ → Bool → Release → Release → Plan
+clear_remaining c false target serving = releases target Ends
+clear_remaining c true target serving = if_known serving (releases target (clear_rest c serving))
 
 abbrev pub clear_undone : ℕ → Reply → Plan
-clear_undone c (Record r s) =
-    if remains r.attempt
-    then if_sendable (switched_target r.attempt ++ released_serving r s) (release_all (switched_target r.attempt) (Asks (event.Clear c) (cleared (released_serving r s))))
-    else if_sendable (switched_target r.attempt) (release_all (switched_target r.attempt) Ends)
+clear_undone c (Record r s) = clear_remaining c (remains r.attempt) (target_release r.attempt) (serving_release r s)
 clear_undone c reply = Ends
 
-abbrev pub clear_attempt : ℕ → CallRecord → Option ChanState → Option Attempt → Plan
-clear_attempt c r s None = if_sendable (released_serving r s) (Asks (event.Clear c) (cleared (released_serving r s)))
-clear_attempt c r s (Some a) = Asks (event.Undo c Asked) (clear_undone c)
+abbrev pub clear_attempt : ℕ → Release → Option Attempt → Plan
+clear_attempt c serving None = if_known serving (clear_rest c serving)
+clear_attempt c serving (Some a) = Asks (event.Undo c Asked) (clear_undone c)
 
 abbrev pub clear_looked : ℕ → Reply → Plan
-clear_looked c (Record r s) = clear_attempt c r s r.attempt
+clear_looked c (Record r s) = clear_attempt c (serving_release r s) r.attempt
 clear_looked c reply = Ends
 
 -- An operator clears a call: an open attempt is taken back first, its target and the serving channel are released.
@@ -169,15 +167,15 @@ clear_plan c = Asks (event.Look c) (clear_looked c)
 abbrev pub nothing_more : Reply → Plan
 nothing_more reply = Ends
 
-abbrev pub acknowledged : Reply → Plan
-acknowledged (Owned c) = Asks (event.Look c) nothing_more
-acknowledged reply = Ends
+-- CHANNEL ACTIVATION ACKNOWLEDGE
+abbrev pub confirmed : Reply → Plan
+confirmed (Owned c) = Asks (event.Look c) nothing_more
+confirmed reply = Ends
 
--- CHANNEL ACTIVATION ACK
-abbrev pub acknowledged_plan : ChanId → Plan
-acknowledged_plan x = Asks (event.Confirm x) acknowledged
+abbrev pub confirm_plan : ChanId → Plan
+confirm_plan x = Asks (event.Confirm x) confirmed
 
--- the refused channel is the target of an attempt, which is taken back
+-- CHANNEL ACTIVATION NEGATIVE ACKNOWLEDGE: where the channel is the target of an attempt, the attempt is taken back.
 abbrev pub refused_looked : ChanId → ℕ → Reply → Plan
 refused_looked x c (Record r s) = if is_target x (target_in r) then Asks (event.Undo c Asked) nothing_more else Ends
 refused_looked x c reply = Ends
@@ -186,10 +184,24 @@ abbrev pub refused : ChanId → Reply → Plan
 refused x (Owned c) = Asks (event.Look c) (refused_looked x c)
 refused x reply = Ends
 
--- CHANNEL ACTIVATION NACK
-abbrev pub refused_plan : ChanId → Plan
-refused_plan x = Asks (event.Refuse x) (refused x)
+abbrev pub refuse_plan : ChanId → Plan
+refuse_plan x = Asks (event.Refuse x) (refused x)
 
--- RF CHANNEL RELEASE ACK
+-- RF CHANNEL RELEASE ACKNOWLEDGE
 abbrev pub released_plan : ChanId → Plan
 released_plan x = Asks (event.Released x) nothing_more
+
+-- the row of each line of the operator
+abbrev pub line_plan : SiteView → Line → Plan
+line_plan site (line.Open c x) = open_plan c x
+line_plan site (line.Handover c cell) = handover_plan site c cell
+line_plan site (line.Undo c) = undo_plan c
+line_plan site (line.Clear c) = clear_plan c
+
+-- the row of each message from a TRX of a cell; a controller sends the others, and nothing is asked for them
+abbrev pub message_plan : {A : Type 0} → ℕ → ℕ → Rsl A → Plan
+message_plan cell trx (ChannelActivationAck channel frame) = confirm_plan (chan_of cell trx channel)
+message_plan cell trx (ChannelActivationNack channel cause) = refuse_plan (chan_of cell trx channel)
+message_plan cell trx (RfChannelReleaseAck channel) = released_plan (chan_of cell trx channel)
+message_plan cell trx (ChannelActivation channel activation_type mode reference) = Ends
+message_plan cell trx (RfChannelRelease channel) = Ends

@@ -8,17 +8,13 @@ mod fault;
 mod head;
 mod message;
 mod octets;
-mod octets;
 mod reading;
 mod stand_in;
-mod table;
-mod values;
 mod table;
 mod values;
 
 pub use fault::RslFault;
 pub use message::{ChanBits, Rsl};
-pub use octets::Octets;
 pub use octets::Octets;
 pub use reading::decode;
 pub use stand_in::encode;
