@@ -10,3 +10,5 @@ pub mod SoundSteps
 pub mod Inverses
 pub mod RecordFacts
 pub mod RunBack
+pub mod Chosen
+pub mod Numbers

@@ -1,8 +1,10 @@
 //! The radio book.
-ghost use Rattle.std.specs.Prelude.{◌≡◌, OnOk, OnErr, IfOk};
+ghost use Rattle.std.specs.Prelude.{◌≡◌, Ok, None, OnOk, OnErr, IfOk, IfSome, IsOkAnd};
 ghost use Rattle.std.specs.FinMap as map;
 ghost use Rattle.radio_book.specs.State.{empty_book};
+ghost use Rattle.radio_book.specs.declared.event.Event.{Event};
 ghost use Rattle.radio_book.specs.Table.{step, reply_to, row, NeedsRoom};
+ghost use Rattle.radio_book.specs.Choice.{NoneFree, TakesFree, ReservesFree, free_count};
 
 use crate::event::{Event, Kind, Reply};
 use crate::records::Records;
@@ -46,7 +48,7 @@ impl<A: Allocator> Model for Book<A> {
 impl<A: Allocator + Copy> Book<A> {
     /// The book of a site in which nothing is in use.
     pub fn new(alloc: A, site: Arc<Site<A>, A>) -> Result<Book<A>, AllocError>
-        ensures { IfOk result (λ book. book ≡ empty_book site.value) }
+        ensures { IsOkAnd result (λ book. book ≡ empty_book site.value) }
     {
         Ok(Book {
             records: Records::new(alloc, site),
@@ -81,25 +83,47 @@ impl<A: Allocator + Copy> Book<A> {
         self.records.step(event)
     }
 
-    /// The site of the book.
-    pub fn site(&self) -> &Arc<Site<A>, A>
-        ensures { result.now.value ≡ self.now.site }
+    /// A `Take` of a free channel of the cell, judged as by [`Book::step`], with its answer; `None` where no
+    /// channel of the cell is free, which takes no memory and changes nothing. A cell that isn't the site's
+    /// has no channel. The channel is that of the lowest TRX, then timeslot.
+    pub fn take_any(&mut self, call: u16, kind: Kind, cell: u8) -> Result<Option<(Event, Reply)>, AllocError>
+        ensures none { result ≡ Ok None → NoneFree self.old cell }
+        ensures kept { result ≡ Ok None → self.new ≡ self.old }
+        ensures event { IfOk result (λ chosen. IfSome chosen (λ taken. TakesFree self.old call kind cell taken.0)) }
+        ensures reply { IfOk result (λ chosen. IfSome chosen (λ taken. taken.1 ≡ reply_to self.old taken.0)) }
+        ensures book { IfOk result (λ chosen. IfSome chosen (λ taken. self.new ≡ step self.old taken.0)) }
+        ensures unchanged { OnErr result (self.new ≡ self.old) }
+        ensures memory { OnErr result ((e : Event) × TakesFree self.old call kind cell e × NeedsRoom self.old (row self.old e)) }
     {
-        self.records.site()
-    }
-
-    /// Stand-in.
-    pub fn take_any(&mut self, call: u16, kind: Kind, cell: u8) -> Result<Option<(Event, Reply)>, AllocError> {
-        let Some(x) = self.records.first_free(cell) else {
+        let Some(x) = self.records.choose_channel(cell) else {
             return Ok(None);
         };
         let event = Event::Take(call, kind, x);
-        Ok(Some((event, self.step(event)?)))
+        let reply = self.step(event)?;
+        Ok(Some((event, reply)))
     }
 
-    /// Stand-in.
-    pub fn reserve_any(&mut self, call: u16) -> Result<(Event, Reply), AllocError> {
-        let event = Event::Reserve(call, self.records.free_number(call));
-        Ok((event, self.step(event)?))
+    /// A `Reserve` of a number whose reference in the cell of the call's target isn't in use, judged as by
+    /// [`Book::step`], with its answer. There is always one: a cell has no more than 32 channels. Where the
+    /// call has no attempt that waits for a reference, it is `Reserve(call, 0)`, and the answer its refusal.
+    /// The number is the lowest.
+    pub fn reserve_any(&mut self, call: u16) -> Result<(Event, Reply), AllocError>
+        ensures event { IfOk result (λ chosen. ReservesFree self.old call chosen.0) }
+        ensures reply { IfOk result (λ chosen. chosen.1 ≡ reply_to self.old chosen.0) }
+        ensures book { IfOk result (λ chosen. self.new ≡ step self.old chosen.0) }
+        ensures unchanged { OnErr result (self.new ≡ self.old) }
+        ensures memory { OnErr result ((e : Event) × ReservesFree self.old call e × NeedsRoom self.old (row self.old e)) }
+    {
+        let number = self.records.choose_number(call);
+        let event = Event::Reserve(call, number);
+        let reply = self.step(event)?;
+        Ok((event, reply))
+    }
+
+    /// How many traffic channels of the cell are free. A cell that isn't the site's has none.
+    pub fn free_in(&self, cell: u8) -> u32
+        ensures { result ≡ free_count self.now cell }
+    {
+        self.records.free_in(cell)
     }
 }

@@ -8,6 +8,7 @@ ghost use Rattle.radio_book.specs.Table.{step, reply_to, row, NeedsRoom, shown};
 
 mod attempt;
 mod calling;
+mod choice;
 mod station;
 mod undo;
 
