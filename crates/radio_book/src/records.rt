@@ -13,7 +13,7 @@ mod station;
 mod undo;
 
 use crate::channel::{ChanId, ChanState};
-use crate::event::{CallRecord, Event, Kind, Reference, Reply, Stage};
+use crate::event::{CallRecord, Event, Kind, Reply};
 use crate::site::Site;
 use crate::tables::{Calls, Channels, References, Timers};
 use std::alloc::{AllocError, Allocator, Global};
@@ -57,43 +57,6 @@ impl<A: Allocator + Copy> Records<A> {
             references: References::new(alloc),
             timers: Timers::new(alloc),
         }
-    }
-
-    pub fn site(&self) -> &Arc<Site<A>, A> {
-        &self.site
-    }
-
-    pub fn first_free(&self, cell: u8) -> Option<ChanId> {
-        for trx in 0..4 {
-            for tn in 0..8 {
-                let x = ChanId { cell, trx, tn };
-                if self.is_traffic(x) && self.channels.get(x).is_none() {
-                    return Some(x);
-                }
-            }
-        }
-        None
-    }
-
-    pub fn free_number(&self, call: u16) -> u8 {
-        let Some(found) = self.calls.get(call) else {
-            return 0;
-        };
-        let Some(attempt) = found.attempt else {
-            return 0;
-        };
-        if attempt.stage != Stage::Taken {
-            return 0;
-        }
-        let Some(t) = attempt.target else {
-            return 0;
-        };
-        for number in 0..=255 {
-            if self.references.get(Reference { cell: t.cell, number }).is_none() {
-                return number;
-            }
-        }
-        0
     }
 
     pub fn channels(&self) -> usize

@@ -9,6 +9,7 @@ use Rattle.rsl_messages.specs.declared.fault.RslFault.{RslFault}
 use Rattle.rsl_messages.specs.declared.fault.RslFault.TheVariants as fault
 use Rattle.rsl_messages.specs.declared.head.MessageKind.{MessageKind}
 use Rattle.rsl_messages.specs.declared.message.Rsl.{Rsl}
+use Rattle.rsl_messages.specs.declared.message.Rsl.TheVariants.{ChannelActivation, ChannelActivationAck, ChannelActivationNack, RfChannelRelease, RfChannelReleaseAck}
 use Rattle.rsl_messages.specs.Forms.{abis}
 use Rattle.rsl_messages.specs.Heads.{Begins, HasHeadFault, head_of}
 use Rattle.rsl_messages.specs.Values.{fault_of}
@@ -68,6 +69,14 @@ pub record HasCanonical {A : Type 0} (v : Rsl A) : Type 0 where
   pub says : meaning_of (kind_of v) (elements_of v) ≡ Ok v
   pub within : length (canonical v) ≤ limit
 
+-- the same, by the fields of the message: what is tested before it is written
+abbrev pub IsWritable : {A : Type 0} → Rsl A → Type 0
+IsWritable (ChannelActivation channel activation mode reference) = (channel.tn < 8) × (0 < length mode) × (length mode < 256)
+IsWritable (ChannelActivationAck channel frame) = channel.tn < 8
+IsWritable (ChannelActivationNack channel cause) = channel.tn < 8
+IsWritable (RfChannelRelease channel) = channel.tn < 8
+IsWritable (RfChannelReleaseAck channel) = channel.tn < 8
+
 -- What a reader of values answers: what they say, or their fault; memory runs out only for a message
 -- that keeps an octet list.
 abbrev pub Answers : {A : Type 0} → Result (Rsl A) RslFault → Said A → Type 0
@@ -78,3 +87,11 @@ Answers {A} (Err f) said = ((e : ElementFault) × (said ≡ Err e) × (f ≡ fau
 abbrev pub ReadsBody : {A : Type 0} → MessageKind → List ℕ → Result (Rsl A) RslFault → Type 0
 ReadsBody kind body (Ok v) = Says kind body (Ok v)
 ReadsBody {A} kind body (Err f) = HasBodyFault A kind body f
+
+-- a text has one value and no fault, and what is no text has one fault
+abbrev pub ReadingIsUnique : (A : Type 0) → Type 0
+ReadingIsUnique A = ((v w : Rsl A) (octets : List ℕ) → IsTextOf v octets → IsTextOf w octets → v ≡ w) × ((v : Rsl A) (octets : List ℕ) (f : RslFault) → IsTextOf v octets → HasFault A octets f → f ≡ fault.NoMemory)
+
+-- the canonical text is a text of its message
+abbrev pub CanonicalIsText : (A : Type 0) → Type 0
+CanonicalIsText A = (v : Rsl A) → HasCanonical v → IsTextOf v (canonical v)

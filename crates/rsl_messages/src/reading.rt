@@ -1,10 +1,10 @@
 //! Reading a message.
-ghost use Rattle.std.specs.Prelude.{◌≡◌, ◌≤◌, ◌+◌, List, [], length, map, IfOk, IfErr, OnOk};
+ghost use Rattle.std.specs.Prelude.{◌≡◌, ◌≢◌, Ok, Err, ◌≤◌, ◌+◌, List, [], length, map, IfOk, IfErr, OnOk};
 ghost use Rattle.std.specs.Option.{option_map};
 ghost use Rattle.octet_elements.specs.Elements.{Element, AreElements, wanted_of, IsTornAt};
 ghost use Rattle.rsl_messages.specs.Forms.{abis};
 ghost use Rattle.rsl_messages.specs.Values.{seen};
-ghost use Rattle.rsl_messages.specs.Messages.{channel_activation, channel_activation_ack, channel_activation_nack, rf_channel_release, rf_channel_release_ack};
+ghost use Rattle.rsl_messages.specs.Messages.{HasOctets, channel_activation, channel_activation_ack, channel_activation_nack, rf_channel_release, rf_channel_release_ack};
 ghost use Rattle.rsl_messages.specs.Texts.{limit, IsTextOf, HasFault, HasBodyFault, Answers, ReadsBody, IsTornBody};
 
 use crate::fault::RslFault;
@@ -172,8 +172,7 @@ fn read_body<A: Allocator + Copy>(
     }
 }
 
-/// Reads a message.
-pub fn decode<A: Allocator + Copy>(alloc: A, octets: &[u8]) -> Result<Rsl<A>, RslFault>
+fn read_message<A: Allocator + Copy>(alloc: A, octets: &[u8]) -> Result<Rsl<A>, RslFault>
     ensures text { IfOk result (λ v. IsTextOf v octets.now) }
     ensures fault { IfErr result (HasFault A octets.now) }
 {
@@ -182,4 +181,19 @@ pub fn decode<A: Allocator + Copy>(alloc: A, octets: &[u8]) -> Result<Rsl<A>, Rs
     }
     let (kind, body) = read_head(octets)?;
     read_body(alloc, kind, body)
+}
+
+/// Reads a message.
+///
+/// Elements are read in any order; of a repeated one the first counts, and those that the message
+/// doesn't use are skipped.
+pub fn decode<A: Allocator + Copy>(alloc: A, octets: &[u8]) -> Result<Rsl<A>, RslFault>
+    ensures text { IfOk result (λ v. IsTextOf v octets.now) }
+    ensures exact { (v : Rsl A) → IsTextOf v octets.now → result ≢ Err RslFault.NoMemory → result ≡ Ok v }
+
+    // It is the first fault in the order of `RslFault`.
+    ensures fault { IfErr result (HasFault A octets.now) }
+    ensures memory { result ≡ Err RslFault.NoMemory → (v : Rsl A) × IsTextOf v octets.now × HasOctets v }
+{
+    read_message(alloc, octets)
 }
