@@ -6,13 +6,14 @@
 
 use lab::run::{LabFault, Status, lab_run};
 use lab::words::{Job, WordsFault, read_words};
-use std::alloc::{AllocError, Global};
+use std::alloc::AllocError;
 use std::io::{self, BufWriter, Write};
 use std::process::ExitCode;
 use std::rt::{Env, Files};
 use std::{env, fs};
 
 const REFUSED: u8 = 2;
+
 const NO_MEMORY: u8 = 3;
 
 /// Why the program ends early.
@@ -62,16 +63,17 @@ fn run<R: Files + Print + AllocGlobal>(rt: &R, site: &str, script: &str) -> Resu
     let site = text_of(rt, site)?;
     let script = text_of(rt, script)?;
     let mut out = BufWriter::new(alloc, io::writer(rt))?;
-    let status = lab_run(alloc, alloc, &site, &script, &mut out)?;
+    let status = lab_run(alloc, alloc, &site, &script, &mut out);
+    // what was printed before a fault is shown
     out.flush()?;
-    match status {
+    match status? {
         Status::Done => Ok(()),
         Status::Refused => Err(Stop::Refused),
     }
 }
 
 /// Does what the words of the command line ask for.
-fn work<R: Files + Print + Eprint + Env + AllocGlobal>(rt: &R, words: &[&str]) -> Result<(), Stop> {
+fn work<R: Files + Print + Eprint + AllocGlobal>(rt: &R, words: &[&str]) -> Result<(), Stop> {
     match read_words(rt.alloc(), words) {
         Ok(Job::Run { site, script }) => run(rt, site, script),
         Ok(Job::Show(text)) => {
@@ -90,7 +92,11 @@ fn work<R: Files + Print + Eprint + Env + AllocGlobal>(rt: &R, words: &[&str]) -
 fn start<R: Files + Print + Eprint + Env + AllocGlobal>(rt: &R) -> Result<(), Stop> {
     let alloc = rt.alloc();
     let words: Vec<String> = env::args(rt)?.collect(alloc)?;
-    let words: Vec<&str> = words.iter().skip(1).map(|word| word.as_str()).collect(alloc)?;
+    let words: Vec<&str> = words
+        .iter()
+        .skip(1)
+        .map(|word| word.as_str())
+        .collect(alloc)?;
     work(rt, &words)
 }
 

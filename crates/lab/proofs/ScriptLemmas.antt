@@ -107,11 +107,11 @@ filter_map-some h (x ∷ xs) (suc k) d l s = more (h x) (filter_map-some h xs k 
 -- what the lines so far give, and one line more
 pub inputs-more : {A : Type 0} (lines : List (Bor (List ℕ))) (line : Bor (List ℕ))
     → filter_map (input_of {A = A}) (map strip_carriage_return (map (λ x. x.now) (lines ++ line ∷ [])))
-      ≡ filter_map (input_of {A = A}) (map strip_carriage_return (map (λ x. x.now) lines)) ++ filter_map (input_of {A = A}) (strip_carriage_return line.now ∷ [])
+    ≡ filter_map (input_of {A = A}) (map strip_carriage_return (map (λ x. x.now) lines)) ++ filter_map (input_of {A = A}) (strip_carriage_return line.now ∷ [])
 inputs-more {A = A} lines line =
     let texts = map-append (λ (x : Bor (List ℕ)). x.now) lines (line ∷ []) in
     rw (texts, map-append strip_carriage_return (map (λ (x : Bor (List ℕ)). x.now) lines) (line.now ∷ []))
-      (filter_map-append (input_of {A = A}) (map strip_carriage_return (map (λ (x : Bor (List ℕ)). x.now) lines)) (strip_carriage_return line.now ∷ []))
+    (filter_map-append (input_of {A = A}) (map strip_carriage_return (map (λ (x : Bor (List ℕ)). x.now) lines)) (strip_carriage_return line.now ∷ []))
 
 -- a line that gives something is one of the text's
 pub inputs_of-some : {A : Type 0} (text line : List ℕ) (k : ℕ) → k < length (slice_split (λ b. b == 10) text)
@@ -120,6 +120,6 @@ pub inputs_of-some : {A : Type 0} (text line : List ℕ) (k : ℕ) → k < lengt
 inputs_of-some {A = A} text line k l e s =
     let parts = slice_split (λ b. b == 10) text in
     let stripped_line : get_or (map strip_carriage_return parts) k (strip_carriage_return line) ≡ strip_carriage_return line =
-      get_or-map strip_carriage_return parts k line (strip_carriage_return line) l ∙ ap strip_carriage_return (sym e) in
+    get_or-map strip_carriage_return parts k line (strip_carriage_return line) l ∙ ap strip_carriage_return (sym e) in
     filter_map-some (input_of {A = A}) (map strip_carriage_return parts) k (strip_carriage_return line) (omega (arith, length-map parts strip_carriage_return))
-      (ap (λ (x : List ℕ). is_some (input_of {A = A} x)) stripped_line ∙ s)
+    (ap (λ (x : List ℕ). is_some (input_of {A = A} x)) stripped_line ∙ s)

@@ -6,8 +6,7 @@ pub mod exchange;
 pub mod procedure;
 pub mod run;
 pub mod script;
-pub mod trace;
-pub mod words;
-
 #[cfg(test)]
 mod tests;
+pub mod trace;
+pub mod words;

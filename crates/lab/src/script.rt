@@ -64,14 +64,22 @@ fn is_digits(text: &str) -> bool
 fn call_number(text: &str) -> Option<u16>
     ensures { result ≡ said.number_below 65536 text.now }
 {
-    if is_digits(text) { text.parse().ok() } else { None }
+    if is_digits(text) {
+        text.parse().ok()
+    } else {
+        None
+    }
 }
 
 /// The number from 0 to 255 that the digits of a text write.
 fn octet(text: &str) -> Option<u8>
     ensures { result ≡ said.number_below 256 text.now }
 {
-    if is_digits(text) { text.parse().ok() } else { None }
+    if is_digits(text) {
+        text.parse().ok()
+    } else {
+        None
+    }
 }
 
 /// The timeslot, 0 to 7, that the digits of a text write.
@@ -168,7 +176,11 @@ fn abis_line(line: &str) -> Option<(u8, u8, &str)>
 {
     let (cell, text) = first_word(after_keyword(line, "abis")?);
     let (trx, hex) = first_word(text);
-    if is_octets(hex) { Some((octet(cell)?, octet(trx)?, hex)) } else { None }
+    if is_octets(hex) {
+        Some((octet(cell)?, octet(trx)?, hex))
+    } else {
+        None
+    }
 }
 
 /// Whether a line is a comment.
@@ -237,9 +249,7 @@ fn input<A: Allocator + Copy>(alloc: A, line: &str) -> Result<Option<Inbound<A>>
 pub fn first_unread(text: &str) -> Option<usize>
     ensures { result ≡ said.first_unread text.now }
 {
-    let index = text
-        .split('\n')
-        .position(|line| is_unread(line))?;
+    let index = text.split('\n').position(|line| is_unread(line))?;
     Some(index + 1)
 }
 

@@ -14,7 +14,9 @@
 use crate::exchange::{Handled, Inbound, Line, Outbound};
 use radio_book::book::Usage;
 use radio_book::channel::ChanState;
-use radio_book::event::{Attempt, AttemptKind, CallRecord, Event, Kind, Refusal, Reply, Stage, Timer, Why};
+use radio_book::event::{
+    Attempt, AttemptKind, CallRecord, Event, Kind, Refusal, Reply, Stage, Timer, Why,
+};
 use rsl_messages::RslFault;
 use std::alloc::Allocator;
 use std::fmt;

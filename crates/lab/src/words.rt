@@ -74,13 +74,18 @@ fn job_of<'a>(matches: &ArgMatches<'a>) -> Option<Job<'a>> {
 /// What words that weren't matched come to.
 fn unmatched<'a>(alloc: Global, error: Error) -> Result<Job<'a>, WordsFault> {
     match error.kind() {
-        ErrorKind::DisplayHelp | ErrorKind::DisplayVersion => Ok(Job::Show(error.to_string(alloc)?)),
+        ErrorKind::DisplayHelp | ErrorKind::DisplayVersion => Ok(Job::Show(error.to_string(
+            alloc,
+        )?)),
         ErrorKind::OutOfMemory => Err(WordsFault::NoMemory),
         _ => Err(WordsFault::Refused(error.to_string(alloc)?)),
     }
 }
 
-/// Reads the words of a command line, those after the program's own name.
+/// Reads the words of a command line, those after the program's own name. A command that is named gives its job, a
+/// wish for help or for the version the text to be shown; all other words are refused by a text for standard error.
+///
+/// No clause says which words are which: that is shown by tests.
 pub fn read_words<'a>(alloc: Global, words: &'a [&'a str]) -> Result<Job<'a>, WordsFault> {
     match lab_command(alloc)?.try_get_matches_from(words) {
         Ok(matches) => match job_of(&matches) {

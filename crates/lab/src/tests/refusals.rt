@@ -7,7 +7,13 @@ use std::process::Abort;
 use std::test::Fail;
 
 /// Two texts are refused by this one line.
-fn refuses(rt: &impl Abort, alloc: Global, site: &str, script: &str, wanted: &str) -> Result<(), Fail> {
+fn refuses(
+    rt: &impl Abort,
+    alloc: Global,
+    site: &str,
+    script: &str,
+    wanted: &str,
+) -> Result<(), Fail> {
     let (status, text) = printed(alloc, alloc, site, script)?;
     assert_eq!(rt; status, Ok(Status::Refused), "{site} {script}");
     assert_eq!(rt; text.as_str(), wanted, "{site} {script}");
@@ -16,7 +22,13 @@ fn refuses(rt: &impl Abort, alloc: Global, site: &str, script: &str, wanted: &st
 
 #[test]
 fn a_text_without_a_site(rt: HostRuntime) -> Result<(), Fail> {
-    let sites = ["", "[", "cell = 3", "[[cell]]\n", "[[cell]]\ntrx = [{ tch = [0] }]\n"];
+    let sites = [
+        "",
+        "[",
+        "cell = 3",
+        "[[cell]]\n",
+        "[[cell]]\ntrx = [{ tch = [0] }]\n",
+    ];
     for site in sites {
         // the site is looked at before the script
         refuses(&rt, rt.alloc(), site, "no line", "site 1\n")?;
@@ -129,7 +141,14 @@ impl Write for Failing {
 }
 
 /// Whether a run met no failing write, where so many come before it.
-fn writes_all(rt: &impl Abort, alloc: Global, site: &str, script: &str, wanted: &str, before: u64) -> Result<bool, Fail> {
+fn writes_all(
+    rt: &impl Abort,
+    alloc: Global,
+    site: &str,
+    script: &str,
+    wanted: &str,
+    before: u64,
+) -> Result<bool, Fail> {
     let mut out = Failing {
         before,
         failed: false,
@@ -153,7 +172,12 @@ fn each_write_fails(rt: HostRuntime) -> Result<(), Fail> {
         (SITE, ONE_CALL.0, ONE_CALL.1, 13),
         ("", "", "site 1\n", 1),
         (SITE, "undo", "line 1\n", 1),
-        (SITE, "abis 0 0 04", "in abis 0 0 04\nfault abis 1\nend channels=0 calls=0 references=0 timers=0\n", 3),
+        (
+            SITE,
+            "abis 0 0 04",
+            "in abis 0 0 04\nfault abis 1\nend channels=0 calls=0 references=0 timers=0\n",
+            3,
+        ),
     ];
     for (site, script, wanted, at_least) in runs {
         let mut tried = 0u64;

@@ -1,7 +1,7 @@
 use super::{ONE_CALL, SITE, printed};
 use crate::run::Status;
-use std::process::Abort;
 use std::alloc::Global;
+use std::process::Abort;
 use std::test::Fail;
 
 /// A script prints just this, and is done.
@@ -19,7 +19,12 @@ fn one_call(rt: HostRuntime) -> Result<(), Fail> {
 
 #[test]
 fn no_line_prints_the_end_alone(rt: HostRuntime) -> Result<(), Fail> {
-    prints(&rt, rt.alloc(), "", "end channels=0 calls=0 references=0 timers=0\n")
+    prints(
+        &rt,
+        rt.alloc(),
+        "",
+        "end channels=0 calls=0 references=0 timers=0\n",
+    )
 }
 
 #[test]

@@ -43,7 +43,10 @@ fn other_words_are_refused(rt: HostRuntime) -> Result<(), Fail> {
     ];
     for words in rows {
         match read_words(rt.alloc(), words) {
-            Err(WordsFault::Refused(text)) => assert!(rt; text.contains("error:"), "{words:?}: {text}"),
+            Err(WordsFault::Refused(text)) => assert!(rt;
+                text.contains("error:"),
+                "{words:?}: {text}"
+            ),
             _ => assert!(rt; false, "{words:?}: a refusal"),
         }
     }
