@@ -63,6 +63,15 @@ abbrev pub release_of : Option ChanId → Release
 release_of None = Unknown
 release_of (Some x) = if nat_lt x.tn 8 then Channel x else Unknown
 
+abbrev pub is_unknown : Release → Bool
+is_unknown Unknown = true
+is_unknown release = false
+
+-- a message can name the timeslot of the channel that is released
+abbrev pub can_name : Release → Bool
+can_name (Channel x) = nat_lt x.tn 8
+can_name release = true
+
 -- a target is switched on from its activation on, until the station refused it
 abbrev pub is_switched_on : Stage → Bool
 is_switched_on stage.Sent = true
@@ -84,6 +93,12 @@ abbrev pub releases : Release → Plan → Plan
 releases Nothing next = next
 releases (Channel x) next = Sends (release x) next
 releases Unknown next = Ends
+
+-- what is sent for a release
+abbrev pub sent_by : Release → List Sent
+sent_by Nothing = []
+sent_by (Channel x) = release x ∷ []
+sent_by Unknown = []
 
 -- go on where the row can send the release later
 abbrev pub if_known : Release → Plan → Plan

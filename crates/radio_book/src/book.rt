@@ -126,4 +126,11 @@ impl<A: Allocator + Copy> Book<A> {
     {
         self.records.free_in(cell)
     }
+
+    /// The site of the book.
+    pub fn site(&self) -> &Arc<Site<A>, A>
+        ensures { result.now.value ≡ self.now.site }
+    {
+        self.records.site()
+    }
 }
