@@ -10,9 +10,6 @@ use Rattle.radio_book.specs.declared.event.AttemptKind.{AttemptKind}
 use Rattle.radio_book.specs.declared.event.AttemptKind.TheVariants.{Internal, Incoming}
 use Rattle.radio_book.specs.declared.event.Stage.{Stage}
 use Rattle.radio_book.specs.declared.event.Stage.TheVariants.{Taken, Reserved, Sent, Refused, Confirmed}
-use Rattle.radio_book.specs.declared.event.Attempt.{Attempt}
-use Rattle.radio_book.specs.declared.event.CallRecord.{CallRecord}
-use Rattle.radio_book.specs.declared.event.Reference.{Reference}
 use Rattle.radio_book.specs.declared.journal.Inverse.TheVariants.{FreeChannel, DropReference}
 use Rattle.radio_book.specs.Keys.{chan_cmp, reference_cmp}
 use Rattle.radio_book.specs.Maps.{put, changed}

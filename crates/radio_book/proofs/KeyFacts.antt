@@ -1,6 +1,6 @@
 -- The orders of the keys are total, and keys that tie are one.
-use Rattle.std.proofs.Common.{◌≡◌, ◌==◌, ℕ, true, refl, ap}
-use Rattle.std.proofs.lemmas.Bool.{eqb-true, eq-eqb, and_parts, and_from}
+use Rattle.std.proofs.Common.{◌≡◌, ℕ, true, refl, ap}
+use Rattle.std.proofs.lemmas.Bool.{eq-eqb, and_from}
 use Rattle.std.specs.Ordering.{nat_cmp}
 use Rattle.std.specs.Cmp.{IsTotalOrder, nat_cmp_total}
 use Rattle.std.specs.FinMap.{IsAntisymmetric}
@@ -29,15 +29,6 @@ reference_exact k j h =
     let tied = exact_pairs nat_cmp nat_cmp exact_unsigned exact_unsigned (k.cell, k.number) (j.cell, j.number) h in
     ap (λ (p : ℕ × ℕ). record { cell = p.0; number = p.1 }) tied
 
--- the table's test tells channels apart
-pub same_chan_true : (x y : ChanId) → same_chan x y ≡ true → x ≡ y
-same_chan_true x y e =
-    let cell = and_parts (x.cell == y.cell) _ e in
-    let rest = and_parts (x.trx == y.trx) _ cell.1 in
-    let a : x.cell ≡ y.cell = eqb-true _ _ cell.0 in
-    let b : x.trx ≡ y.trx = eqb-true _ _ rest.0 in
-    let c : x.tn ≡ y.tn = eqb-true _ _ rest.1 in
-    λ i. record { cell = a i; trx = b i; tn = c i }
-
+-- the table's test finds a channel in its place
 pub same_chan_itself : (x : ChanId) → same_chan x x ≡ true
 same_chan_itself x = and_from _ _ (eq-eqb x.cell x.cell refl) (and_from _ _ (eq-eqb x.trx x.trx refl) (eq-eqb x.tn x.tn refl))

@@ -12,3 +12,9 @@ pub mod RecordFacts
 pub mod RunBack
 pub mod Chosen
 pub mod Numbers
+pub mod Changes
+pub mod Agreement
+pub mod OthersCalls
+pub mod OthersAttempts
+pub mod OthersStations
+pub mod OthersPhases

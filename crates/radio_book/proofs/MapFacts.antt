@@ -13,12 +13,12 @@ use Rattle.radio_book.specs.declared.channel.ChanState.{ChanState}
 use Rattle.radio_book.specs.declared.event.Reference.{Reference}
 use Rattle.radio_book.specs.declared.event.CallRecord.{CallRecord}
 use Rattle.radio_book.specs.Keys.{chan_cmp, reference_cmp}
-use Rattle.radio_book.specs.Maps.{Entry, put, changed}
-use Rattle.radio_book.specs.State.{State, or_free, state_of, record_of}
-use Rattle.radio_book.proofs.KeyFacts.{chan_total, chan_exact, reference_total, reference_exact}
+use Rattle.radio_book.specs.Maps.{put}
+use Rattle.radio_book.specs.State.{or_free}
+use Rattle.radio_book.proofs.KeyFacts.{chan_total, chan_exact, reference_total}
 
 -- keys that tie are one
-pub tied_keys : {K : Type 0} (R : K → K → Ordering) → IsAntisymmetric R → (q k : K) → eq_by_cmp R q k ≡ true → q ≡ k
+tied_keys : {K : Type 0} (R : K → K → Ordering) → IsAntisymmetric R → (q k : K) → eq_by_cmp R q k ≡ true → q ≡ k
 tied_keys R exact q k e =
     exact q k (elim (R q k) as (λ r. is_eq r ≡ true → r ≡ Equal) [ Less ↦ λ h. cc | Equal ↦ λ h. refl | Greater ↦ λ h. cc ] e)
 
@@ -56,7 +56,7 @@ module _ {K X : Type 0} {R : K → K → Ordering} (o : IsTotalOrder R) where
   pub get_listed : (es : List (K × X)) (q : K) → map.get (map.from_entries {R = R} es) q ≡ lookup (is_at (R q)) es
   get_listed es q = get-from_entries o es q ∙ find_is_lookup R es q
 
-  pub get_put : (m : FinMap R X) (k : K) (w : Option X) (q : K) → map.get (put m k w) q ≡ cond (eq_by_cmp R q k) w (map.get m q)
+  get_put : (m : FinMap R X) (k : K) (w : Option X) (q : K) → map.get (put m k w) q ≡ cond (eq_by_cmp R q k) w (map.get m q)
   get_put m k None q = get-remove o m k q
   get_put m k (Some v) q = get-insert o m k v q
 
@@ -89,10 +89,6 @@ module _ {K X : Type 0} {R : K → K → Ordering} (o : IsTotalOrder R) (exact :
         | false ↦ λ e. refl
       ] refl)
 
-  -- nothing is taken away where nothing stands
-  pub put_absent : (m : FinMap R X) (k : K) → map.get m k ≡ None → put m k None ≡ m
-  put_absent m k absent = put_again m k None absent
-
   -- a new entry, taken away again
   pub remove_inserted : (m : FinMap R X) (k : K) (v : X) → map.get m k ≡ None → map.remove (map.insert m k v) k ≡ m
   remove_inserted m k v absent = put_put_same m k (Some v) None ∙ put_again m k None absent
@@ -105,14 +101,8 @@ module _ {K X : Type 0} {R : K → K → Ordering} (o : IsTotalOrder R) (exact :
 
 -- the maps of a book
 
-pub chan_cases : (x y : ChanId) → (x ≡ y) ⊎ (x ≢ y)
-chan_cases = key_cases chan_total chan_exact
-
 pub call_cases : (c d : ℕ) → (c ≡ d) ⊎ (c ≢ d)
 call_cases = key_cases nat_cmp_total nat_cmp-IsAntisymmetric
-
-pub reference_cases : (k j : Reference) → (k ≡ j) ⊎ (k ≢ j)
-reference_cases = key_cases reference_total reference_exact
 
 pub channel_same : (m : FinMap chan_cmp ChanState) (x : ChanId) (w : Option ChanState) → map.get (put m x w) x ≡ w
 channel_same = get_put_same chan_total
@@ -129,11 +119,5 @@ state_other m x w y apart = ap or_free (channel_other m x w y apart)
 pub record_same : (m : FinMap nat_cmp CallRecord) (c : ℕ) (w : Option CallRecord) → map.get (put m c w) c ≡ w
 record_same = get_put_same nat_cmp_total
 
-pub record_other : (m : FinMap nat_cmp CallRecord) (c : ℕ) (w : Option CallRecord) (d : ℕ) → d ≢ c → map.get (put m c w) d ≡ map.get m d
-record_other = get_put_other nat_cmp_total nat_cmp-IsAntisymmetric
-
 pub reference_same : (m : FinMap reference_cmp ℕ) (k : Reference) (w : Option ℕ) → map.get (put m k w) k ≡ w
 reference_same = get_put_same reference_total
-
-pub reference_other : (m : FinMap reference_cmp ℕ) (k : Reference) (w : Option ℕ) (j : Reference) → j ≢ k → map.get (put m k w) j ≡ map.get m j
-reference_other = get_put_other reference_total reference_exact

@@ -8,16 +8,16 @@ use Rattle.std.proofs.lemmas.Map.Steps.{length-le_from_distinct_below}
 use Rattle.std.proofs.lemmas.Map.Views.{Contains-from_any}
 use Rattle.std.specs.FinMap as map
 use Rattle.radio_book.specs.declared.channel.ChanId.{ChanId}
-use Rattle.radio_book.specs.declared.channel.ChanState.{ChanState}
 use Rattle.radio_book.specs.declared.event.Attempt.{Attempt}
 use Rattle.radio_book.specs.declared.event.CallRecord.{CallRecord}
 use Rattle.radio_book.specs.declared.event.Reference.{Reference}
-use Rattle.radio_book.specs.Site.{IsSite, IsWithinLimits, is_traffic}
-use Rattle.radio_book.specs.State.{State, or_free, state_of, record_of}
+use Rattle.radio_book.specs.Site.{IsSite, IsWithinLimits}
+use Rattle.radio_book.specs.State.{State, state_of, record_of}
 use Rattle.radio_book.specs.Table.{reference_held}
 use Rattle.radio_book.specs.Sound.{IsSound, owner, target_in, reference_of}
 use Rattle.radio_book.proofs.SiteFacts.{traffic_limits}
 use Rattle.radio_book.proofs.Frame.{same_some, is_owned}
+use Rattle.radio_book.proofs.SoundSteps.{owned_traffic}
 
 abbrev numbered : ℕ → ℕ → Reference
 numbered cell n = record { cell = cell; number = n }
@@ -41,33 +41,26 @@ held_by None m k e = cc
 held_by (Some t) None k e = cc
 held_by (Some t) (Some m) k e = (t, refl, ap (λ r. r.cell) (same_some _ _ e))
 
-owned_traffic : (b : State) → IsSound b → (x : ChanId) (c : ℕ) → owner (state_of b x) ≡ Some c → is_traffic b.site x ≡ true
-owned_traffic b sound x c e =
-    elim (map.get b.channels x) as (λ o. map.get b.channels x ≡ o → owner (or_free o) ≡ Some c → is_traffic b.site x ≡ true) [
-      | None ↦ λ is h. cc
-      | Some s ↦ λ is h. sound.traffic x s is
-    ] refl e
-
 used_by : (b : State) → IsSound b → IsSite b.site → (cell n c : ℕ) (r : CallRecord) → map.get b.references (numbered cell n) ≡ Some c → record_of b c ≡ Some r → reference_of r.attempt ≡ Some (numbered cell n) → IsUsed b cell n
 used_by b sound site cell n c r user recorded reference =
     elim r.attempt as (λ o. r.attempt ≡ o → reference_of o ≡ Some (numbered cell n) → IsUsed b cell n) [
       | None ↦ λ is h. cc
       | Some a ↦ λ is h.
-        let held = held_by a.target a.reference (numbered cell n) h in
-        let t = held.0 in
-        let owned = ap owner (sound.target c r a t recorded is held.1) ∙ is_owned c a.stage in
-        record {
-          call = c;
-          known = r;
-          channel = t;
-          user = user;
-          recorded = recorded;
-          reference = reference;
-          target = ap (option_and_then (λ a. a.target)) is ∙ held.1;
-          in_cell = held.2;
-          owned = owned;
-          limits = traffic_limits b.site t site (owned_traffic b sound t c owned);
-        }
+          let held = held_by a.target a.reference (numbered cell n) h in
+          let t = held.0 in
+          let owned = ap owner (sound.target c r a t recorded is held.1) ∙ is_owned c a.stage in
+          record {
+            call = c;
+            known = r;
+            channel = t;
+            user = user;
+            recorded = recorded;
+            reference = reference;
+            target = ap (option_and_then (λ a. a.target)) is ∙ held.1;
+            in_cell = held.2;
+            owned = owned;
+            limits = traffic_limits b.site t site (owned_traffic b sound t c owned);
+          }
     ] refl reference
 
 used : (b : State) → IsSound b → IsSite b.site → (cell n : ℕ) → is_some (map.get b.references (numbered cell n)) ≡ true → IsUsed b cell n
@@ -75,8 +68,8 @@ used b sound site cell n there =
     elim (map.get b.references (numbered cell n)) as (λ o. map.get b.references (numbered cell n) ≡ o → is_some o ≡ true → IsUsed b cell n) [
       | None ↦ λ is h. cc
       | Some c ↦ λ is h.
-        let found = sound.in_use (numbered cell n) c is in
-        used_by b sound site cell n c found.0 is found.1 found.2
+          let found = sound.in_use (numbered cell n) c is in
+          used_by b sound site cell n c found.0 is found.1 found.2
     ] refl there
 
 -- the place of the channel that a number is used for
@@ -116,15 +109,15 @@ not_all_used b sound site cell all =
     let size = length-map-range_with_len f 0 33 in
     let each : (n : ℕ) → n < 33 → IsUsed b cell n = λ n h. used b sound site cell n (all n h) in
     let distinct = IsDistinct-from_apart ◌==◌ xs (λ i j d less inside.
-      let below : j < 33 = omega (arith, inside, size) in
-      let first : i < 33 = omega (arith, less, below) in
-      ap (λ x. x == get_or xs j d) (get_or-map-range_with_len f 0 33 i i d first (zero-add i))
-      ∙ ap (λ x. f i == x) (get_or-map-range_with_len f 0 33 j j d below (zero-add j))
-      ∙ ne_eqb (f i) (f j) (λ e. let same = same_number b cell i j (each i first) (each j below) e in absurd (omega (arith, same, less)))) in
+    let below : j < 33 = omega (arith, inside, size) in
+    let first : i < 33 = omega (arith, less, below) in
+    ap (λ x. x == get_or xs j d) (get_or-map-range_with_len f 0 33 i i d first (zero-add i))
+    ∙ ap (λ x. f i == x) (get_or-map-range_with_len f 0 33 j j d below (zero-add j))
+    ∙ ne_eqb (f i) (f j) (λ e. let same = same_number b cell i j (each i first) (each j below) e in absurd (omega (arith, same, less)))) in
     let small : (q : ℕ) → list_any (◌==◌ q) xs ≡ true → q < 32 = λ q h.
-      let at = Contains-from_any eqb-true q xs h in
-      let below : at.0 < 33 = omega (arith, at.1, size) in
-      let is = sym (get_or-map-range_with_len f 0 33 at.0 at.0 q below (zero-add at.0)) ∙ at.2 in
-      omega (arith, is, place_small b cell at.0 (each at.0 below)) in
+    let at = Contains-from_any eqb-true q xs h in
+    let below : at.0 < 33 = omega (arith, at.1, size) in
+    let is = sym (get_or-map-range_with_len f 0 33 at.0 at.0 q below (zero-add at.0)) ∙ at.2 in
+    omega (arith, is, place_small b cell at.0 (each at.0 below)) in
     let fits = length-le_from_distinct_below xs 32 distinct small in
     absurd (omega (arith, fits, size))

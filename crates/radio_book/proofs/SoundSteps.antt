@@ -1,5 +1,5 @@
 -- Each step keeps a book sound.
-use Rattle.std.proofs.Common.{◌≡◌, ◌≢◌, ◌⊎◌, inl, inr, ℕ, Bool, true, false, List, [], ◌∷◌, Option, Some, None, IsSome, if◌then◌else◌, ◌==◌, refl, sym, ◌∙◌, ap, subst}
+use Rattle.std.proofs.Common.{◌≡◌, ◌≢◌, inl, inr, ℕ, Bool, true, false, List, [], ◌∷◌, Option, Some, None, IsSome, if◌then◌else◌, ◌==◌, refl, sym, ◌∙◌, ap, subst}
 use Rattle.std.specs.declared.cmp.Ordering.{Ordering}
 use Rattle.std.specs.Ordering.{nat_cmp}
 use Rattle.std.specs.Option.{option_map}
@@ -28,12 +28,12 @@ use Rattle.radio_book.specs.Site.{SiteView, is_traffic}
 use Rattle.radio_book.specs.Keys.{chan_cmp, reference_cmp}
 use Rattle.radio_book.specs.Maps.{Entry, put}
 use Rattle.radio_book.specs.State.{State, Change, apply, or_free, state_of, record_of, empty_book}
-use Rattle.radio_book.specs.Table.{step, after, no_change, becomes, is_freed, is_recorded, open_row, cleared_state, clear_row, clear_at, look_row, moved, attempt_moved, confirm_row, refuse_row, released_row, takes, take_from, take_incoming, take_internal, take_row, reference_at, reference_held, reserve_number, reserve_at, reserve_by, reserve_row, activate_at, activate_by, activate_row, left_state, resting_record, undone, undo_attempt, undo_row}
+use Rattle.radio_book.specs.Table.{step, after, becomes, is_freed, is_recorded, open_row, cleared_state, clear_row, clear_at, look_row, moved, confirm_row, refuse_row, released_row, takes, take_from, take_incoming, take_internal, take_row, reference_at, reference_held, reserve_number, reserve_at, reserve_by, reserve_row, activate_at, activate_by, activate_row, left_state, resting_record, undone, undo_attempt, undo_row}
 use Rattle.radio_book.specs.Sound.{IsSound, owner, Uses, target_state, HasServing, HasReference}
 use Rattle.radio_book.specs.Run.{run_book, RunsAreSound}
 use Rattle.radio_book.proofs.KeyFacts.{same_chan_itself}
 use Rattle.radio_book.proofs.MapFacts.{state_same, state_other, record_same, reference_same}
-use Rattle.radio_book.proofs.Frame.{same_some, at_some, Touches, AtKey, UsedBy, ReferredBy, IsCallSound, call_of, call_stays, resting_call, attempting, HasAttempt, attempt_of, attempting_call, is_owned, SoundIfAny, Concerns, concerned_sound}
+use Rattle.radio_book.proofs.Frame.{same_some, at_some, Touches, AtKey, UsedBy, ReferredBy, call_of, call_stays, resting_call, attempting, attempt_of, attempting_call, is_owned, SoundIfAny, concerned_sound}
 
 -- facts of states
 
@@ -49,7 +49,7 @@ listed : (b : State) → IsSound b → (x : ChanId) (o : Option ChanState) → m
 listed b sound x None e used = absurd (used refl)
 listed b sound x (Some s) e used = sound.traffic x s e
 
-owned_traffic : (b : State) → IsSound b → (x : ChanId) (c : ℕ) → owner (state_of b x) ≡ Some c → is_traffic b.site x ≡ true
+pub owned_traffic : (b : State) → IsSound b → (x : ChanId) (c : ℕ) → owner (state_of b x) ≡ Some c → is_traffic b.site x ≡ true
 owned_traffic b sound x c h = listed b sound x (map.get b.channels x) refl (owned_not_free (state_of b x) c h)
 
 -- what a channel becomes, when that isn't free

@@ -15,7 +15,7 @@ timeslots site cell trx = unwrap_or (option_and_then (λ found. slice_get found 
 abbrev pub is_traffic : SiteView → ChanId → Bool
 is_traffic site chan = list_any (λ tn. tn == chan.tn) (timeslots site chan.cell chan.trx)
 
--- the first TRX names timeslot 0, which carries the cell's broadcast channel and never traffic
+-- the first TRX names timeslot 0, which carries the cell's broadcast channels (TS 45.002 clause 7) and never traffic
 abbrev pub names_broadcast : List (List ℕ) → Bool
 names_broadcast cell = list_any (λ tn. tn == 0) (unwrap_or (slice_get cell 0) [])
 

@@ -8,6 +8,7 @@ mod entry;
 pub mod event;
 mod journal;
 pub mod laws;
+pub mod others;
 mod records;
 pub mod site;
 mod tables;

@@ -16,12 +16,13 @@ use toml::value::Array;
 #[cfg(test)]
 mod tests;
 
-/// Why a text gives no site.
+/// Why `Site::read` gives no site.
 #[derive(Clone, Copy, Debug, PartialEq, Eq, Error)]
 pub enum SiteFault {
     /// The text isn't TOML, or doesn't describe a site.
     #[error("the text describes no site")]
     Toml,
+    /// Memory was wanted and refused.
     #[error("out of memory")]
     NoMemory,
 }
@@ -68,8 +69,9 @@ impl<A: Allocator> Model for Cell<A> {
 /// of the site file and numbered from 0.
 ///
 /// A site has 1 to 64 cells, a cell 1 to 4 TRX, and a timeslot is a number from 0 to 7
-/// (TS 45.002 clause 4.3.2). Timeslot 0 of the first TRX carries the cell's broadcast channel and
-/// never traffic.
+/// (TS 45.002 clause 4.3.2). Timeslot 0 of the first TRX carries the cell's broadcast channels
+/// (TS 45.002 clause 7) and never traffic. A cell may have no traffic channel, and a timeslot may
+/// stand twice in a TRX.
 #[derive(Debug, Drop)]
 pub struct Site<A: Allocator = Global> {
     cells: Vec<Cell<A>, A>,
@@ -109,7 +111,7 @@ impl<A: Allocator + Copy> Site<A> {
         }
     }
 
-    /// The number of cells, 1 to 64.
+    /// The number of cells, 1 to 64. Its contract also hands out what holds of every site.
     pub fn cells(&self) -> u8
         ensures value { result ≡ length self.now }
         ensures limits { IsSite self.now }
@@ -135,7 +137,8 @@ impl<A: Allocator + Copy> Site<A> {
         timeslots_in(self.cells.as_slice(), cell, trx)
     }
 
-    /// Whether the site names the channel as one that carries traffic.
+    /// Whether the site names the channel as one that carries traffic. Such a channel lies in one
+    /// of the cells 0 to 63, on TRX 0 to 3 and timeslot 0 to 7.
     pub fn is_traffic(&self, chan: ChanId) -> bool
         ensures value { result ≡ is_traffic self.now chan }
         ensures limits { result ≡ true → IsWithinLimits chan }

@@ -1,6 +1,6 @@
 -- Which octets are the text of a message, what is wrong with all others, and which text is written
 -- (TS 48.058 clause 9).
-use Rattle.std.specs.Prelude.{◌≡◌, ◌⊎◌, ℕ, ◌+◌, ◌<◌, ◌≤◌, List, [], ◌∷◌, ◌++◌, length, Result, Ok, Err}
+use Rattle.std.specs.Prelude.{◌≡◌, ◌⊎◌, ℕ, ◌+◌, ◌<◌, ◌≤◌, List, [], ◌∷◌, ◌++◌, length, Option, Some, None, Result, Ok, Err}
 use Rattle.std.specs.List.{AllByRecursion}
 use Rattle.octet_elements.specs.Elements.{Element, Fits, AreElements, IsTornAt, all_spelled}
 use Rattle.rsl_messages.specs.declared.fault.ElementFault.{ElementFault}
@@ -9,7 +9,7 @@ use Rattle.rsl_messages.specs.declared.fault.RslFault.{RslFault}
 use Rattle.rsl_messages.specs.declared.fault.RslFault.TheVariants as fault
 use Rattle.rsl_messages.specs.declared.head.MessageKind.{MessageKind}
 use Rattle.rsl_messages.specs.declared.message.Rsl.{Rsl}
-use Rattle.rsl_messages.specs.declared.message.Rsl.TheVariants.{ChannelActivation, ChannelActivationAck, ChannelActivationNack, RfChannelRelease, RfChannelReleaseAck}
+use Rattle.rsl_messages.specs.declared.message.Rsl.TheVariants.{DataRequest, DataIndication, ChannelActivation, ChannelActivationAck, ChannelActivationNack, ConnectionFailureIndication, HandoverDetection, MeasurementResult, RfChannelRelease, RfChannelReleaseAck}
 use Rattle.rsl_messages.specs.Forms.{abis}
 use Rattle.rsl_messages.specs.Heads.{Begins, HasHeadFault, head_of}
 use Rattle.rsl_messages.specs.Values.{fault_of}
@@ -71,9 +71,15 @@ pub record HasCanonical {A : Type 0} (v : Rsl A) : Type 0 where
 
 -- the same, by the fields of the message: what is tested before it is written
 abbrev pub IsWritable : {A : Type 0} → Rsl A → Type 0
+IsWritable (DataRequest channel link layer3) = (channel.tn < 8) × (0 < length layer3) × (9 + length layer3 ≤ limit)
+IsWritable (DataIndication channel link layer3) = (channel.tn < 8) × (0 < length layer3) × (9 + length layer3 ≤ limit)
 IsWritable (ChannelActivation channel activation mode reference) = (channel.tn < 8) × (0 < length mode) × (length mode < 256)
 IsWritable (ChannelActivationAck channel frame) = channel.tn < 8
 IsWritable (ChannelActivationNack channel cause) = channel.tn < 8
+IsWritable (ConnectionFailureIndication channel cause) = channel.tn < 8
+IsWritable (HandoverDetection channel delay) = channel.tn < 8
+IsWritable (MeasurementResult channel number uplink power None) = (channel.tn < 8) × (length uplink < 256)
+IsWritable (MeasurementResult channel number uplink power (Some layer3)) = (channel.tn < 8) × (length uplink < 256) × (0 < length layer3) × (13 + length uplink + length layer3 ≤ limit)
 IsWritable (RfChannelRelease channel) = channel.tn < 8
 IsWritable (RfChannelReleaseAck channel) = channel.tn < 8
 

@@ -56,7 +56,23 @@ octets_in i None = Err (Absent i)
 octets_in i (Some []) = Err (Bad i)
 octets_in i (Some (octet ∷ v)) = Ok (octet ∷ v)
 
+-- the whole value, which has at least one octet, where the element is there
+abbrev pub optional_octets_in : ℕ → Option (List ℕ) → Result (Option (List ℕ)) ElementFault
+optional_octets_in i None = Ok None
+optional_octets_in i (Some []) = Err (Bad i)
+optional_octets_in i (Some (octet ∷ v)) = Ok (Some (octet ∷ v))
+
+-- the whole value, which may be empty
+abbrev pub any_octets_in : ℕ → Option (List ℕ) → Result (List ℕ) ElementFault
+any_octets_in i None = Err (Absent i)
+any_octets_in i (Some v) = Ok v
+
 -- an element that is written where there is an octet for it
 abbrev pub where_some : ℕ → Option ℕ → List Element
 where_some i None = []
 where_some i (Some octet) = (i, octet ∷ []) ∷ []
+
+-- an element that is written where there is a value for it
+abbrev pub where_value : ℕ → Option (List ℕ) → List Element
+where_value i None = []
+where_value i (Some v) = (i, v) ∷ []

@@ -35,6 +35,14 @@ ncc = 3
 bcc = 0
 ";
 
+// Whether the site has the TRX, with these timeslots.
+fn has_timeslots(site: &Site, cell: u8, trx: u8, timeslots: &[u8]) -> bool {
+    match site.timeslots(cell, trx) {
+        Some(found) => found == timeslots,
+        None => false,
+    }
+}
+
 #[test]
 fn two_cells_are_read(rt: HostRuntime) -> Result<(), Fail> {
     let site = Site::read(rt.alloc(), rt.alloc(), TWO_CELLS)?;
@@ -42,12 +50,15 @@ fn two_cells_are_read(rt: HostRuntime) -> Result<(), Fail> {
     for (cell, count) in [(0, Some(1)), (1, Some(2)), (2, None), (255, None)] {
         assert_eq!(rt; site.trx(cell), count, "cell {cell}");
     }
-    let none: &[u8] = &[];
-    assert_eq!(rt; site.timeslots(0, 0), Some([2u8, 3].as_slice()));
-    assert_eq!(rt; site.timeslots(1, 0), Some(none));
-    assert_eq!(rt; site.timeslots(1, 1), Some([3u8].as_slice()));
-    assert_eq!(rt; site.timeslots(0, 1), None);
-    assert_eq!(rt; site.timeslots(2, 0), None);
+    assert!(rt; has_timeslots(&site, 0, 0, &[2, 3]));
+    assert!(rt; has_timeslots(&site, 1, 0, &[]));
+    assert!(rt; has_timeslots(&site, 1, 1, &[3]));
+    for (cell, trx) in [(0, 1), (1, 2), (2, 0), (255, 255)] {
+        assert!(rt;
+            site.timeslots(cell, trx).is_none(),
+            "cell {cell}, TRX {trx}"
+        );
+    }
     let rows = [
         (0, 0, 2, true),
         (0, 0, 3, true),
@@ -67,10 +78,17 @@ fn two_cells_are_read(rt: HostRuntime) -> Result<(), Fail> {
     Ok(())
 }
 
+fn refuses(rt: &(impl AllocGlobal + Abort), text: &str) {
+    assert_eq!(rt;
+        Site::read(rt.alloc(), rt.alloc(), text).err(),
+        Some(SiteFault::Toml),
+        "{text}"
+    );
+}
+
 #[test]
-fn what_describes_no_site_is_refused(rt: HostRuntime) {
+fn documents_without_cells_are_refused(rt: HostRuntime) {
     let rows = [
-        // No document, or none that has cells.
         "",
         "  # nothing\n",
         "[",
@@ -82,43 +100,58 @@ fn what_describes_no_site_is_refused(rt: HostRuntime) {
         "cell = [{ trx = [{ tch = [1] }] }, 3]",
         "[cell]\ntrx = [{ tch = [1] }]",
         "[[outside]]\ntrx = [{ tch = [1] }]",
-        "[[cell]]\ntrx = [{ tch = [1] }]\n[[cell]]",
-        // Cells without TRX.
+    ];
+    for text in rows {
+        refuses(&rt, text);
+    }
+}
+
+#[test]
+fn cells_of_another_shape_are_refused(rt: HostRuntime) {
+    let rows = [
         "[[cell]]\nlac = 23",
         "[[cell]]\ntrx = 1",
         "[[cell]]\ntrx = { tch = [1] }",
         "[[cell]]\ntrx = []",
         "[[cell]]\ntrx = [1]",
         "[[cell]]\ntrx = [{ tch = [1] }, [1]]",
-        // TRX without timeslots.
+        "[[cell]]\ntrx = [{ tch = [1] }]\n[[cell]]",
         "[[cell]]\ntrx = [{}]",
         "[[cell]]\ntrx = [{ tch = 1 }]",
         "[[cell]]\ntrx = [{ tch = \"1\" }]",
         "[[cell]]\ntrx = [{ tch = { a = 1 } }]",
-        // What is no timeslot.
-        "[[cell]]\ntrx = [{ tch = [-1] }]",
-        "[[cell]]\ntrx = [{ tch = [8] }]",
-        "[[cell]]\ntrx = [{ tch = [258] }]",
-        "[[cell]]\ntrx = [{ tch = [9223372036854775807] }]",
-        "[[cell]]\ntrx = [{ tch = [9223372036854775808] }]",
-        "[[cell]]\ntrx = [{ tch = [2.0] }]",
-        "[[cell]]\ntrx = [{ tch = [true] }]",
-        "[[cell]]\ntrx = [{ tch = [\"2\"] }]",
-        "[[cell]]\ntrx = [{ tch = [1979-05-27] }]",
-        "[[cell]]\ntrx = [{ tch = [[2]] }]",
-        "[[cell]]\ntrx = [{ tch = [1, 2, 8] }]",
-        // Timeslot 0 of a first TRX, and too many TRX.
-        "[[cell]]\ntrx = [{ tch = [0] }]",
-        "[[cell]]\ntrx = [{ tch = [1] }]\n[[cell]]\ntrx = [{ tch = [2, 0] }, { tch = [1] }]",
+        // More TRX than a cell may have.
         "[[cell]]\ntrx = [{ tch = [] }, { tch = [] }, { tch = [] }, { tch = [] }, { tch = [1] }]",
     ];
     for text in rows {
-        assert_eq!(rt;
-            Site::read(rt.alloc(), rt.alloc(), text).err(),
-            Some(SiteFault::Toml),
-            "{text}"
-        );
+        refuses(&rt, text);
     }
+}
+
+#[test]
+fn what_is_no_timeslot_is_refused(rt: HostRuntime) -> Result<(), Fail> {
+    let rows = [
+        "-1",
+        "8",
+        "258",
+        "9223372036854775807",
+        "9223372036854775808",
+        "2.0",
+        "true",
+        "\"2\"",
+        "1979-05-27",
+        "[2]",
+        "1, 2, 8",
+        // No first TRX carries traffic on timeslot 0.
+        "0",
+        "2, 0",
+        "3] }]\n[[cell]]\ntrx = [{ tch = [0] }, { tch = [1",
+    ];
+    for timeslots in rows {
+        let text = format!(in rt.alloc(); "[[cell]]\ntrx = [{{ tch = [{timeslots}] }}]")?;
+        refuses(&rt, text.as_str());
+    }
+    Ok(())
 }
 
 #[test]
