@@ -1,5 +1,5 @@
 -- What the handling of an input comes to.
-use Rattle.std.specs.Prelude.{◌⊎◌, ℕ, List, [], ◌∷◌, map, Option}
+use Rattle.std.specs.Prelude.{◌≡◌, ◌⊎◌, ℕ, List, [], ◌∷◌, map, Option, None}
 use Rattle.radio_book.specs.declared.channel.ChanId.{ChanId}
 use Rattle.radio_book.specs.declared.event.Event.{Event}
 use Rattle.radio_book.specs.declared.event.Event.TheVariants.{Open, Clear, Look, Take, Reserve, Activate, Undo, Confirm, Refuse, Released}
@@ -12,6 +12,7 @@ use Rattle.rsl_messages.specs.declared.message.Rsl.{Rsl}
 use Rattle.rsl_messages.specs.declared.fault.RslFault.{RslFault}
 use Rattle.rsl_messages.specs.Messages.{HasOctets}
 use Rattle.rsl_messages.specs.Texts.{IsTextOf, HasFault}
+use Rattle.lab.specs.declared.exchange.Handled.{Handled}
 use Rattle.lab.specs.declared.exchange.Inbound.{Inbound}
 use Rattle.lab.specs.declared.exchange.Inbound.TheVariants as inbound
 use Rattle.lab.specs.declared.exchange.Outbound.{Outbound}
@@ -59,3 +60,9 @@ StopsInRow {A} site (inbound.Abis cell trx octets) steps = (v : Rsl A) × IsText
 abbrev pub HasFaultIn : {A : Type 0} → Inbound A → RslFault → Type 0
 HasFaultIn (inbound.Operator line) f = ⊥
 HasFaultIn {A} (inbound.Abis cell trx octets) f = HasFault A octets f
+
+-- nothing was asked yet, and nothing sent
+pub record IsFresh {A : Type 0} (h : Handled A) : Type 0 where
+  pub events : h.events.items ≡ []
+  pub none_free : h.none_free ≡ None
+  pub out : h.out.items ≡ []

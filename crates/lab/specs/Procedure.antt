@@ -63,6 +63,15 @@ abbrev pub release_of : Option ChanId → Release
 release_of None = Unknown
 release_of (Some x) = if nat_lt x.tn 8 then Channel x else Unknown
 
+abbrev pub is_unknown : Release → Bool
+is_unknown Unknown = true
+is_unknown release = false
+
+-- a message can name the timeslot of the channel that is released
+abbrev pub can_name : Release → Bool
+can_name (Channel x) = nat_lt x.tn 8
+can_name release = true
+
 -- a target is switched on from its activation on, until the station refused it
 abbrev pub is_switched_on : Stage → Bool
 is_switched_on stage.Sent = true
@@ -84,6 +93,12 @@ abbrev pub releases : Release → Plan → Plan
 releases Nothing next = next
 releases (Channel x) next = Sends (release x) next
 releases Unknown next = Ends
+
+-- what is sent for a release
+abbrev pub sent_by : Release → List Sent
+sent_by Nothing = []
+sent_by (Channel x) = release x ∷ []
+sent_by Unknown = []
 
 -- go on where the row can send the release later
 abbrev pub if_known : Release → Plan → Plan
@@ -198,10 +213,9 @@ line_plan site (line.Handover c cell) = handover_plan site c cell
 line_plan site (line.Undo c) = undo_plan c
 line_plan site (line.Clear c) = clear_plan c
 
--- the row of each message from a TRX of a cell; a controller sends the others, and nothing is asked for them
+-- the row of each message from a TRX of a cell; for a message without a row nothing is asked
 abbrev pub message_plan : {A : Type 0} → ℕ → ℕ → Rsl A → Plan
 message_plan cell trx (ChannelActivationAck channel frame) = confirm_plan (chan_of cell trx channel)
 message_plan cell trx (ChannelActivationNack channel cause) = refuse_plan (chan_of cell trx channel)
 message_plan cell trx (RfChannelReleaseAck channel) = released_plan (chan_of cell trx channel)
-message_plan cell trx (ChannelActivation channel activation_type mode reference) = Ends
-message_plan cell trx (RfChannelRelease channel) = Ends
+message_plan cell trx message = Ends

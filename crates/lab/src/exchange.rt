@@ -1,5 +1,6 @@
 //! What goes into a controller, and what comes out of it.
 ghost use Rattle.std.specs.Prelude.{◌≡◌};
+ghost use Rattle.lab.specs.Handling.{IsFresh};
 
 use radio_book::channel::ChanId;
 use radio_book::event::{Event, Reply};
@@ -49,7 +50,9 @@ pub struct Handled<A: Allocator = Global> {
 
 impl<A: Allocator + Copy> Handled<A> {
     /// Nothing was asked and nothing is sent.
-    pub fn new(alloc: A) -> Handled<A> {
+    pub fn new(alloc: A) -> Handled<A>
+        ensures { IsFresh result }
+    {
         Handled {
             events: Vec::new(alloc),
             none_free: None,

@@ -1,4 +1,11 @@
 //! The procedure: what the controller asks of the book for each input, and what it sends.
+ghost use Rattle.std.specs.Prelude.{◌≡◌, ◌≢◌, List, Err, IfOk, IfSome};
+ghost use Rattle.radio_book.specs.declared.event.Event.{Event};
+ghost use Rattle.radio_book.specs.declared.event.Reply.{Reply};
+ghost use Rattle.radio_book.specs.Run.{Leads};
+ghost use Rattle.radio_book.specs.Choice.{NoneFree};
+ghost use Rattle.lab.specs.Handling.{FollowsRow, StopsInRow, HasFaultIn, AreChoices, all_sent};
+
 use crate::exchange::{Handled, Inbound, Line, PlainFault};
 use radio_book::book::Book;
 use rsl_messages::{RslFault, decode};
@@ -21,7 +28,16 @@ pub fn handle_plain<A: Allocator + Copy, B: Allocator + Copy>(
     alloc: A,
     book: &mut Book<B>,
     input: Inbound<A>,
-) -> Result<Handled<A>, PlainFault> {
+) -> Result<Handled<A>, PlainFault>
+    ensures follows { IfOk result (λ handled. FollowsRow {A = A} book.old.site (input) handled.events.items handled.none_free (all_sent handled.out.items)) }
+    ensures leads { IfOk result (λ handled. Leads book.old handled.events.items book.new) }
+    ensures choices { IfOk result (λ handled. AreChoices book.old handled.events.items) }
+    ensures none_free { IfOk result (λ handled. IfSome handled.none_free (NoneFree book.old)) }
+    ensures undecoded { (f : RslFault) → result ≡ Err (PlainFault.Undecoded f) → HasFaultIn {A = A} (input) f }
+    ensures not_memory { (f : RslFault) → result ≡ Err (PlainFault.Undecoded f) → f ≢ RslFault.NoMemory }
+    ensures unchanged { (f : RslFault) → result ≡ Err (PlainFault.Undecoded f) → book.new ≡ book.old }
+    ensures memory { result ≡ Err PlainFault.NoMemory → (steps : List (Event × Reply)) × StopsInRow {A = A} book.old.site (input) steps × Leads book.old steps book.new × AreChoices book.old steps }
+{
     match input {
         Inbound::Abis { cell, trx, bytes } => handle_octets(alloc, book, cell, trx, bytes.as_slice()),
         Inbound::Operator(line) => handle_line(alloc, book, line),
@@ -35,7 +51,16 @@ fn handle_octets<A: Allocator + Copy, B: Allocator + Copy>(
     cell: u8,
     trx: u8,
     octets: &[u8],
-) -> Result<Handled<A>, PlainFault> {
+) -> Result<Handled<A>, PlainFault>
+    ensures follows { IfOk result (λ handled. FollowsRow {A = A} book.old.site (Inbound.Abis cell trx octets.now) handled.events.items handled.none_free (all_sent handled.out.items)) }
+    ensures leads { IfOk result (λ handled. Leads book.old handled.events.items book.new) }
+    ensures choices { IfOk result (λ handled. AreChoices book.old handled.events.items) }
+    ensures none_free { IfOk result (λ handled. IfSome handled.none_free (NoneFree book.old)) }
+    ensures undecoded { (f : RslFault) → result ≡ Err (PlainFault.Undecoded f) → HasFaultIn {A = A} (Inbound.Abis cell trx octets.now) f }
+    ensures not_memory { (f : RslFault) → result ≡ Err (PlainFault.Undecoded f) → f ≢ RslFault.NoMemory }
+    ensures unchanged { (f : RslFault) → result ≡ Err (PlainFault.Undecoded f) → book.new ≡ book.old }
+    ensures memory { result ≡ Err PlainFault.NoMemory → (steps : List (Event × Reply)) × StopsInRow {A = A} book.old.site (Inbound.Abis cell trx octets.now) steps × Leads book.old steps book.new × AreChoices book.old steps }
+{
     match decode(alloc, octets) {
         Ok(message) => {
             let mut handled = Handled::new(alloc);
@@ -52,7 +77,16 @@ fn handle_line<A: Allocator + Copy, B: Allocator + Copy>(
     alloc: A,
     book: &mut Book<B>,
     line: Line,
-) -> Result<Handled<A>, PlainFault> {
+) -> Result<Handled<A>, PlainFault>
+    ensures follows { IfOk result (λ handled. FollowsRow {A = A} book.old.site (Inbound.Operator line) handled.events.items handled.none_free (all_sent handled.out.items)) }
+    ensures leads { IfOk result (λ handled. Leads book.old handled.events.items book.new) }
+    ensures choices { IfOk result (λ handled. AreChoices book.old handled.events.items) }
+    ensures none_free { IfOk result (λ handled. IfSome handled.none_free (NoneFree book.old)) }
+    ensures undecoded { (f : RslFault) → result ≡ Err (PlainFault.Undecoded f) → HasFaultIn {A = A} (Inbound.Operator line) f }
+    ensures not_memory { (f : RslFault) → result ≡ Err (PlainFault.Undecoded f) → f ≢ RslFault.NoMemory }
+    ensures unchanged { (f : RslFault) → result ≡ Err (PlainFault.Undecoded f) → book.new ≡ book.old }
+    ensures memory { result ≡ Err PlainFault.NoMemory → (steps : List (Event × Reply)) × StopsInRow {A = A} book.old.site (Inbound.Operator line) steps × Leads book.old steps book.new × AreChoices book.old steps }
+{
     let mut handled = Handled::new(alloc);
     match line {
         Line::Open { call, chan } => open(alloc, book, &mut handled, call, chan)?,

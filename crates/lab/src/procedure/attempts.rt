@@ -1,10 +1,16 @@
 //! Rows that begin a handover and take it back.
+ghost use Rattle.std.specs.Prelude.{◌≡◌, None, OnOk, OnErr, IfSome};
+ghost use Rattle.radio_book.specs.Run.{Leads};
+ghost use Rattle.radio_book.specs.Choice.{NoneFree};
+ghost use Rattle.lab.specs.Plan.{Follows, Begins, HasStep};
+ghost use Rattle.lab.specs.Procedure.{handover_plan, undo_plan};
+ghost use Rattle.lab.specs.Handling.{all_sent, AreChoices, IsFresh};
+
 use super::calls::release;
 use super::release::target_release;
 use super::steps::{ask, reserve, send_target_activation, take};
 use crate::exchange::Handled;
 use radio_book::book::Book;
-use radio_book::channel::ChanId;
 use radio_book::event::{Event, Reply, Why};
 use std::alloc::{AllocError, Allocator};
 
@@ -16,41 +22,27 @@ pub(super) fn start<A: Allocator + Copy, B: Allocator + Copy>(
     handled: &mut Handled<A>,
     call: u16,
     cell: u8,
-) -> Result<(), AllocError> {
+) -> Result<(), AllocError>
+    requires { IsFresh handled.old }
+    ensures row { OnOk result (Follows (handover_plan book.old.site call cell) handled.new.events.items handled.new.none_free (all_sent handled.new.out.items)) }
+    ensures begins { OnErr result (Begins (handover_plan book.old.site call cell) handled.new.events.items) }
+    ensures wanted { OnErr result (HasStep (handover_plan book.old.site call cell)) }
+    ensures leads { Leads book.old handled.new.events.items book.new }
+    ensures choices { AreChoices book.old handled.new.events.items }
+    ensures none_free { IfSome handled.new.none_free (NoneFree book.old) }
+{
     if cell >= book.site().cells() {
         return Ok(());
     }
-    match take(book, handled, call, cell)? {
-        Some((target, Reply::Done)) if target.tn < 8 => {
-            start_taken(alloc, book, handled, call, target)
-        }
-        _ => Ok(()),
+    let Some((target, Reply::Done)) = take(book, handled, call, cell)? else {
+        return Ok(());
+    };
+    if target.tn >= 8 {
+        return Ok(());
     }
-}
-
-/// Goes on with a handover that has its channel.
-fn start_taken<A: Allocator + Copy, B: Allocator + Copy>(
-    alloc: A,
-    book: &mut Book<B>,
-    handled: &mut Handled<A>,
-    call: u16,
-    target: ChanId,
-) -> Result<(), AllocError> {
-    match reserve(book, handled, call)? {
-        (number, Reply::Done) => start_reserved(alloc, book, handled, call, target, number),
-        _ => Ok(()),
-    }
-}
-
-/// Goes on with a handover that has its channel and its reference.
-fn start_reserved<A: Allocator + Copy, B: Allocator + Copy>(
-    alloc: A,
-    book: &mut Book<B>,
-    handled: &mut Handled<A>,
-    call: u16,
-    target: ChanId,
-    number: u8,
-) -> Result<(), AllocError> {
+    let (number, Reply::Done) = reserve(book, handled, call)? else {
+        return Ok(());
+    };
     match ask(book, handled, Event::Activate(call))? {
         Reply::Done => send_target_activation(alloc, handled, target, number),
         _ => Ok(()),
@@ -63,7 +55,14 @@ pub(super) fn undo<A: Allocator + Copy, B: Allocator + Copy>(
     book: &mut Book<B>,
     handled: &mut Handled<A>,
     call: u16,
-) -> Result<(), AllocError> {
+) -> Result<(), AllocError>
+    requires { IsFresh handled.old }
+    ensures row { OnOk result (Follows (undo_plan call) handled.new.events.items handled.new.none_free (all_sent handled.new.out.items)) }
+    ensures begins { OnErr result (Begins (undo_plan call) handled.new.events.items) }
+    ensures leads { Leads book.old handled.new.events.items book.new }
+    ensures choices { AreChoices book.old handled.new.events.items }
+    ensures none_free { handled.new.none_free ≡ None }
+{
     match ask(book, handled, Event::Undo(call, Why::Asked))? {
         Reply::Record(record, _) => release(alloc, handled, target_release(record.attempt)),
         _ => Ok(()),

@@ -1,4 +1,10 @@
 //! Rows that begin and end a call.
+ghost use Rattle.std.specs.Prelude.{◌≡◌, ◌++◌, IsTrue, None, OnOk, OnErr};
+ghost use Rattle.radio_book.specs.Run.{Leads};
+ghost use Rattle.lab.specs.Plan.{Follows, Begins};
+ghost use Rattle.lab.specs.Procedure.{open_plan, clear_plan, remains, sent_by, can_name};
+ghost use Rattle.lab.specs.Handling.{all_sent, AreChoices, IsFresh};
+
 use super::release::{Release, serving_release, target_release};
 use super::steps::{ask, send_activation, send_release};
 use crate::exchange::Handled;
@@ -14,7 +20,14 @@ pub(super) fn open<A: Allocator + Copy, B: Allocator + Copy>(
     handled: &mut Handled<A>,
     call: u16,
     chan: ChanId,
-) -> Result<(), AllocError> {
+) -> Result<(), AllocError>
+    requires { IsFresh handled.old }
+    ensures row { OnOk result (Follows (open_plan call chan) handled.new.events.items handled.new.none_free (all_sent handled.new.out.items)) }
+    ensures begins { OnErr result (Begins (open_plan call chan) handled.new.events.items) }
+    ensures leads { Leads book.old handled.new.events.items book.new }
+    ensures choices { AreChoices book.old handled.new.events.items }
+    ensures none_free { handled.new.none_free ≡ None }
+{
     match ask(book, handled, Event::Open(call, chan))? {
         Reply::Done if chan.tn < 8 => send_activation(alloc, handled, chan),
         _ => Ok(()),
@@ -26,10 +39,25 @@ pub(super) fn release<A: Allocator + Copy>(
     alloc: A,
     handled: &mut Handled<A>,
     release: Release,
-) -> Result<(), AllocError> {
+) -> Result<(), AllocError>
+    requires { IsTrue (can_name release) }
+    ensures sent { OnOk result (all_sent handled.new.out.items ≡ all_sent handled.old.out.items ++ sent_by release) }
+    ensures events { handled.new.events ≡ handled.old.events }
+    ensures none_free { handled.new.none_free ≡ handled.old.none_free }
+{
     match release {
         Release::Channel(chan) => send_release(alloc, handled, chan),
         _ => Ok(()),
+    }
+}
+
+/// The record of a call remains once its attempt was taken back.
+fn remains(attempt: Option<Attempt>) -> bool
+    ensures { result ≡ remains attempt }
+{
+    match attempt {
+        Some(attempt) => matches!(attempt.kind, AttemptKind::Internal),
+        None => true,
     }
 }
 
@@ -40,59 +68,45 @@ pub(super) fn clear<A: Allocator + Copy, B: Allocator + Copy>(
     book: &mut Book<B>,
     handled: &mut Handled<A>,
     call: u16,
-) -> Result<(), AllocError> {
-    let Reply::Record(record, state) = ask(book, handled, Event::Look(call))? else {
+) -> Result<(), AllocError>
+    requires { IsFresh handled.old }
+    ensures row { OnOk result (Follows (clear_plan call) handled.new.events.items handled.new.none_free (all_sent handled.new.out.items)) }
+    ensures begins { OnErr result (Begins (clear_plan call) handled.new.events.items) }
+    ensures leads { Leads book.old handled.new.events.items book.new }
+    ensures choices { AreChoices book.old handled.new.events.items }
+    ensures none_free { handled.new.none_free ≡ None }
+{
+    let Reply::Record(shown, state) = ask(book, handled, Event::Look(call))? else {
         return Ok(());
     };
-    match record.attempt {
-        Some(_) => clear_attempt(alloc, book, handled, call),
-        None => clear_serving(alloc, book, handled, call, serving_release(record, state)),
-    }
-}
-
-/// The record of a call remains once its attempt was taken back.
-fn remains(attempt: Option<Attempt>) -> bool {
-    match attempt {
-        Some(attempt) => matches!(attempt.kind, AttemptKind::Internal),
-        None => true,
-    }
-}
-
-/// Takes the attempt of a call back, and ends the call where its record remains.
-fn clear_attempt<A: Allocator + Copy, B: Allocator + Copy>(
-    alloc: A,
-    book: &mut Book<B>,
-    handled: &mut Handled<A>,
-    call: u16,
-) -> Result<(), AllocError> {
-    let Reply::Record(record, state) = ask(book, handled, Event::Undo(call, Why::Asked))? else {
-        return Ok(());
-    };
-    let target = target_release(record.attempt);
-    if !remains(record.attempt) {
-        return release(alloc, handled, target);
-    }
-    let serving = serving_release(record, state);
-    if matches!(target, Release::Unknown) || matches!(serving, Release::Unknown) {
-        return Ok(());
-    }
-    release(alloc, handled, target)?;
-    clear_serving(alloc, book, handled, call, serving)
-}
-
-/// Ends a call without an attempt, and releases its serving channel.
-fn clear_serving<A: Allocator + Copy, B: Allocator + Copy>(
-    alloc: A,
-    book: &mut Book<B>,
-    handled: &mut Handled<A>,
-    call: u16,
-    serving: Release,
-) -> Result<(), AllocError> {
-    if matches!(serving, Release::Unknown) {
-        return Ok(());
-    }
-    match ask(book, handled, Event::Clear(call))? {
-        Reply::Done => release(alloc, handled, serving),
-        _ => Ok(()),
+    match shown.attempt {
+        None => {
+            let serving = serving_release(shown, state);
+            if serving.is_unknown() {
+                return Ok(());
+            }
+            match ask(book, handled, Event::Clear(call))? {
+                Reply::Done => release(alloc, handled, serving),
+                _ => Ok(()),
+            }
+        }
+        Some(_) => {
+            let Reply::Record(shown, state) = ask(book, handled, Event::Undo(call, Why::Asked))? else {
+                return Ok(());
+            };
+            let target = target_release(shown.attempt);
+            if !remains(shown.attempt) {
+                return release(alloc, handled, target);
+            }
+            let serving = serving_release(shown, state);
+            if target.is_unknown() || serving.is_unknown() {
+                return Ok(());
+            }
+            release(alloc, handled, target)?;
+            match ask(book, handled, Event::Clear(call))? {
+                Reply::Done => release(alloc, handled, serving),
+                _ => Ok(()),
+            }
+        }
     }
 }

@@ -1,4 +1,7 @@
 //! Which channels a row releases.
+ghost use Rattle.std.specs.Prelude.{◌≡◌, IsTrue};
+ghost use Rattle.lab.specs.Procedure.{release_of, is_switched_on, target_release, serving_release, is_unknown, can_name};
+
 use radio_book::channel::{ChanId, ChanState};
 use radio_book::event::{Attempt, CallRecord, Stage};
 
@@ -14,8 +17,19 @@ pub enum Release {
     Unknown,
 }
 
+impl Release {
+    pub(super) fn is_unknown(self) -> bool
+        ensures { result ≡ is_unknown self }
+    {
+        matches!(self, Release::Unknown)
+    }
+}
+
 /// The release of a channel that the station knows of.
-fn release_of(chan: Option<ChanId>) -> Release {
+fn release_of(chan: Option<ChanId>) -> Release
+    ensures value { result ≡ release_of chan }
+    ensures named { IsTrue (can_name result) }
+{
     match chan {
         Some(chan) if chan.tn < 8 => Release::Channel(chan),
         _ => Release::Unknown,
@@ -23,12 +37,17 @@ fn release_of(chan: Option<ChanId>) -> Release {
 }
 
 /// The activation of the target was sent, and not refused.
-fn is_switched_on(stage: Stage) -> bool {
+fn is_switched_on(stage: Stage) -> bool
+    ensures { result ≡ is_switched_on stage }
+{
     matches!(stage, Stage::Sent | Stage::Confirmed)
 }
 
 /// The release of an attempt's target, where it was switched on.
-pub(super) fn target_release(attempt: Option<Attempt>) -> Release {
+pub(super) fn target_release(attempt: Option<Attempt>) -> Release
+    ensures value { result ≡ target_release attempt }
+    ensures named { IsTrue (can_name result) }
+{
     match attempt {
         Some(attempt) if is_switched_on(attempt.stage) => release_of(attempt.target),
         _ => Release::Nothing,
@@ -36,9 +55,12 @@ pub(super) fn target_release(attempt: Option<Attempt>) -> Release {
 }
 
 /// The release of the serving channel, unless it was held.
-pub(super) fn serving_release(record: CallRecord, state: Option<ChanState>) -> Release {
+pub(super) fn serving_release(shown: CallRecord, state: Option<ChanState>) -> Release
+    ensures value { result ≡ serving_release shown state }
+    ensures named { IsTrue (can_name result) }
+{
     match state {
         Some(ChanState::Held(_)) => Release::Nothing,
-        _ => release_of(record.serving),
+        _ => release_of(shown.serving),
     }
 }
