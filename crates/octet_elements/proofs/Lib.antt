@@ -1,0 +1,4 @@
+pub mod Spelling
+pub mod Splits
+pub mod Places
+pub mod Turns

@@ -1,0 +1,44 @@
+//! The element that octets begin with.
+ghost use Rattle.std.specs.Prelude.{◌≡◌, ◌++◌, IfSome, IfNone};
+ghost use Rattle.octet_elements.specs.Elements.{spelled, Fits, IsCut};
+
+use crate::form::{ElementTable, Form};
+
+/// The element that octets begin with, and what follows it.
+#[derive(Clone, Copy)]
+pub struct Leading<'a> {
+    pub identifier: u8,
+    pub value: &'a [u8],
+    pub rest: &'a [u8],
+}
+
+/// The element that the octets begin with; `None` where they are empty or it runs past their end.
+pub fn leading_element<T: ElementTable>(octets: &[u8]) -> Option<Leading<'_>>
+    ensures found { IfSome result (λ f. Fits T.form_of (f.identifier, f.value.now) × (octets.now ≡ spelled T.form_of (f.identifier, f.value.now) ++ f.rest.now)) }
+    ensures cut { IfNone result (IsCut T.form_of octets.now) }
+{
+    let (identifier, after) = octets.split_first()?;
+    let identifier = *identifier;
+    let (count, after) = match T::form_for(identifier) {
+        Form::Fixed(count) => (count, after),
+        Form::Counted => {
+            let (count, after) = after.split_first()?;
+            (usize::from(*count), after)
+        }
+        Form::LongCounted => {
+            let [high, low, after @ ..] = after else {
+                return None;
+            };
+            (256 * usize::from(*high) + usize::from(*low), after)
+        }
+    };
+    if after.len() < count {
+        return None;
+    }
+    let (value, rest) = after.split_at(count);
+    Some(Leading {
+        identifier,
+        value,
+        rest,
+    })
+}

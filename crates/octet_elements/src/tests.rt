@@ -1,0 +1,89 @@
+use crate::element::leading_element;
+use crate::form::{ElementTable, Form};
+use crate::wanted::read_values;
+use crate::write::{append_element, append_octets};
+use std::alloc::Global;
+use std::test::Fail;
+
+/// A table with each form: 1 has two octets, 2 stands alone, 3 has a long length, others a length.
+struct Sample;
+
+impl ElementTable for Sample {
+    ghost use Rattle.std.specs.Prelude.{if◌then◌else◌, ◌==◌};
+    ghost use Rattle.octet_elements.specs.declared.form.Form.TheVariants.{Fixed, Counted, LongCounted};
+
+    ghost form_of = { λ i. if i == 1 then Fixed 2 else if i == 2 then Fixed 0 else if i == 3 then LongCounted else Counted };
+
+    fn form_for(identifier: u8) -> Form {
+        match identifier {
+            1 => Form::Fixed(2),
+            2 => Form::Fixed(0),
+            3 => Form::LongCounted,
+            _ => Form::Counted,
+        }
+    }
+}
+
+#[test]
+fn notes_the_first_values(rt: HostRuntime) -> Result<(), Fail> {
+    let octets: &[u8] = &[
+        1, 10, 11, 2, 5, 1, 7, 3, 0, 2, 8, 9, 5, 0, 1, 20, 21, 5, 2, 1, 1,
+    ];
+    let mut values = [None; 4];
+    read_values::<Sample>(octets, &[1, 5, 5, 9], &mut values)?;
+    let [one, five, second, other] = values;
+    assert_eq!(rt; one, Some([10, 11].as_slice()));
+    assert_eq!(rt; five, Some([7].as_slice()));
+    assert_eq!(rt; second, Some([].as_slice()));
+    assert_eq!(rt; other, None);
+    let mut values = [None; 1];
+    read_values::<Sample>(&[], &[1], &mut values)?;
+    assert_eq!(rt; values[0], None);
+    Ok(())
+}
+
+#[test]
+fn names_the_torn_offset(rt: HostRuntime) {
+    let torn: [(&[u8], usize); 7] = [
+        (&[1], 0),
+        (&[1, 9], 0),
+        (&[2, 5], 1),
+        (&[2, 5, 1], 1),
+        (&[1, 9, 9, 3], 3),
+        (&[1, 9, 9, 3, 0], 3),
+        (&[5, 0, 3, 1, 0, 7], 2),
+    ];
+    for (octets, at) in torn {
+        let mut values = [None; 1];
+        assert_eq!(rt; read_values::<Sample>(octets, &[5], &mut values), Err(at));
+    }
+}
+
+#[test]
+fn gives_the_leading_element(rt: HostRuntime) -> Result<(), Fail> {
+    let mut long = [6; 260];
+    long[0] = 3;
+    long[1] = 1;
+    long[2] = 0;
+    let found = leading_element::<Sample>(&long).ok_or("no element")?;
+    assert_eq!(rt; found.identifier, 3);
+    assert_eq!(rt; found.value.len(), 256);
+    assert_eq!(rt; found.rest, [6].as_slice());
+    assert!(rt; leading_element::<Sample>(&[]).is_none());
+    Ok(())
+}
+
+#[test]
+fn writes_elements(rt: HostRuntime) -> Result<(), Fail> {
+    let mut out = Vec::with_capacity(rt.alloc(), 300)?;
+    append_octets(&mut out, &[8, 33]);
+    append_element::<Sample, Global>(&mut out, 1, &[10, 11]);
+    append_element::<Sample, Global>(&mut out, 2, &[]);
+    append_element::<Sample, Global>(&mut out, 5, &[7]);
+    assert_eq!(rt; out.as_slice(), [8, 33, 1, 10, 11, 2, 5, 1, 7].as_slice());
+    let long = [0; 258];
+    append_element::<Sample, Global>(&mut out, 3, &long);
+    assert_eq!(rt; &out[9..13], [3, 1, 2, 0].as_slice());
+    assert_eq!(rt; out.len(), 270);
+    Ok(())
+}

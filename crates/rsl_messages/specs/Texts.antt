@@ -1,0 +1,103 @@
+-- Which octets are the text of a message, what is wrong with all others, and which text is written
+-- (TS 48.058 clause 9).
+use Rattle.std.specs.Prelude.{◌≡◌, ◌⊎◌, ℕ, ◌+◌, ◌<◌, ◌≤◌, List, [], ◌∷◌, ◌++◌, length, Option, Some, None, Result, Ok, Err}
+use Rattle.std.specs.List.{AllByRecursion}
+use Rattle.octet_elements.specs.Elements.{Element, Fits, AreElements, IsTornAt, all_spelled}
+use Rattle.rsl_messages.specs.declared.fault.ElementFault.{ElementFault}
+use Rattle.rsl_messages.specs.declared.fault.ElementFault.TheVariants.{Absent, Bad}
+use Rattle.rsl_messages.specs.declared.fault.RslFault.{RslFault}
+use Rattle.rsl_messages.specs.declared.fault.RslFault.TheVariants as fault
+use Rattle.rsl_messages.specs.declared.head.MessageKind.{MessageKind}
+use Rattle.rsl_messages.specs.declared.message.Rsl.{Rsl}
+use Rattle.rsl_messages.specs.declared.message.Rsl.TheVariants.{DataRequest, DataIndication, ChannelActivation, ChannelActivationAck, ChannelActivationNack, ConnectionFailureIndication, HandoverDetection, MeasurementResult, RfChannelRelease, RfChannelReleaseAck}
+use Rattle.rsl_messages.specs.Forms.{abis}
+use Rattle.rsl_messages.specs.Heads.{Begins, HasHeadFault, head_of}
+use Rattle.rsl_messages.specs.Values.{fault_of}
+use Rattle.rsl_messages.specs.Messages.{Said, meaning_of, kind_of, elements_of, HasOctets}
+
+-- a message has at most so many octets
+abbrev pub limit : ℕ
+limit = 1024
+
+-- The body of a message of this kind is whole elements, in any order, and this is what they say.
+pub record Says {A : Type 0} (kind : MessageKind) (body : List ℕ) (said : Said A) : Type 0 where
+  pub elements : List Element
+  pub split : AreElements abis elements body
+  pub says : meaning_of kind elements ≡ said
+
+-- The octets are a text of the message: a head and a body that says it.
+pub record IsTextOf {A : Type 0} (v : Rsl A) (octets : List ℕ) : Type 0 where
+  pub within : length octets ≤ limit
+  pub kind : MessageKind
+  pub body : List ℕ
+  pub head : Begins kind octets body
+  pub says : Says kind body (Ok v)
+
+-- an element of the body runs past the end; its offset counts the head too
+abbrev pub IsTornBody : List ℕ → RslFault → Type 0
+IsTornBody body (fault.Torn at) = (offset : ℕ) × IsTornAt abis body offset × (at ≡ 2 + offset)
+IsTornBody body _ = ⊥
+
+-- The body has this fault: it is torn, or an element is missing or bad. Memory runs out only for a message that keeps an octet list.
+abbrev pub HasBodyFault : (A : Type 0) → MessageKind → List ℕ → RslFault → Type 0
+HasBodyFault A kind body (fault.Torn at) = IsTornBody body (fault.Torn at)
+HasBodyFault A kind body (fault.Missing i) = Says {A = A} kind body (Err (Absent i))
+HasBodyFault A kind body (fault.BadElement i) = Says {A = A} kind body (Err (Bad i))
+HasBodyFault A kind body fault.NoMemory = (v : Rsl A) × Says kind body (Ok v) × HasOctets v
+HasBodyFault A kind body _ = ⊥
+
+-- The octets begin with a head, and the body after it has this fault.
+pub record HasFaultInBody (A : Type 0) (octets : List ℕ) (f : RslFault) : Type 0 where
+  pub kind : MessageKind
+  pub body : List ℕ
+  pub head : Begins kind octets body
+  pub fault : HasBodyFault A kind body f
+
+-- The first fault of octets: they are too long; else the head has it; else the body.
+abbrev pub HasFault : (A : Type 0) → List ℕ → RslFault → Type 0
+HasFault A octets fault.TooLong = limit < length octets
+HasFault A octets f = (length octets ≤ limit) × (HasHeadFault octets f ⊎ HasFaultInBody A octets f)
+
+-- The canonical text: the head and the elements as they are written.
+abbrev pub canonical : {A : Type 0} → Rsl A → List ℕ
+canonical v = (head_of (kind_of v)).0 ∷ (head_of (kind_of v)).1 ∷ all_spelled abis (elements_of v)
+
+-- The message has a canonical text: its elements as written can be spelled, they say the message, and
+-- the text isn't too long.
+pub record HasCanonical {A : Type 0} (v : Rsl A) : Type 0 where
+  pub each : AllByRecursion (Fits abis) (elements_of v)
+  pub says : meaning_of (kind_of v) (elements_of v) ≡ Ok v
+  pub within : length (canonical v) ≤ limit
+
+-- the same, by the fields of the message: what is tested before it is written
+abbrev pub IsWritable : {A : Type 0} → Rsl A → Type 0
+IsWritable (DataRequest channel link layer3) = (channel.tn < 8) × (0 < length layer3) × (9 + length layer3 ≤ limit)
+IsWritable (DataIndication channel link layer3) = (channel.tn < 8) × (0 < length layer3) × (9 + length layer3 ≤ limit)
+IsWritable (ChannelActivation channel activation mode reference) = (channel.tn < 8) × (0 < length mode) × (length mode < 256)
+IsWritable (ChannelActivationAck channel frame) = channel.tn < 8
+IsWritable (ChannelActivationNack channel cause) = channel.tn < 8
+IsWritable (ConnectionFailureIndication channel cause) = channel.tn < 8
+IsWritable (HandoverDetection channel delay) = channel.tn < 8
+IsWritable (MeasurementResult channel number uplink power None) = (channel.tn < 8) × (length uplink < 256)
+IsWritable (MeasurementResult channel number uplink power (Some layer3)) = (channel.tn < 8) × (length uplink < 256) × (0 < length layer3) × (13 + length uplink + length layer3 ≤ limit)
+IsWritable (RfChannelRelease channel) = channel.tn < 8
+IsWritable (RfChannelReleaseAck channel) = channel.tn < 8
+
+-- What a reader of values answers: what they say, or their fault; memory runs out only for a message
+-- that keeps an octet list.
+abbrev pub Answers : {A : Type 0} → Result (Rsl A) RslFault → Said A → Type 0
+Answers (Ok v) said = said ≡ Ok v
+Answers {A} (Err f) said = ((e : ElementFault) × (said ≡ Err e) × (f ≡ fault_of e)) ⊎ ((f ≡ fault.NoMemory) × (v : Rsl A) × (said ≡ Ok v) × HasOctets v)
+
+-- what reading the body of a message gives
+abbrev pub ReadsBody : {A : Type 0} → MessageKind → List ℕ → Result (Rsl A) RslFault → Type 0
+ReadsBody kind body (Ok v) = Says kind body (Ok v)
+ReadsBody {A} kind body (Err f) = HasBodyFault A kind body f
+
+-- a text has one value and no fault, and what is no text has one fault
+abbrev pub ReadingIsUnique : (A : Type 0) → Type 0
+ReadingIsUnique A = ((v w : Rsl A) (octets : List ℕ) → IsTextOf v octets → IsTextOf w octets → v ≡ w) × ((v : Rsl A) (octets : List ℕ) (f : RslFault) → IsTextOf v octets → HasFault A octets f → f ≡ fault.NoMemory)
+
+-- the canonical text is a text of its message
+abbrev pub CanonicalIsText : (A : Type 0) → Type 0
+CanonicalIsText A = (v : Rsl A) → HasCanonical v → IsTextOf v (canonical v)

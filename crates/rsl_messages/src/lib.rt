@@ -1,0 +1,22 @@
+//! Messages between a base station controller and a base station, on Abis (TS 48.058).
+//!
+//! A message is a discriminator, a type and then elements. [`decode`] reads one, [`encode`] and
+//! [`encode_into`] write one, and [`fits`] says whether a value can be written.
+#![tactic(auto)]
+
+mod fault;
+mod head;
+mod laws;
+mod message;
+mod octets;
+mod reading;
+mod table;
+mod values;
+mod writing;
+
+pub use fault::RslFault;
+pub use laws::{canonical_is_text, reading_is_unique};
+pub use message::{ChanBits, Rsl};
+pub use octets::Octets;
+pub use reading::decode;
+pub use writing::{encode, encode_into, fits};

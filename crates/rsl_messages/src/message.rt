@@ -1,0 +1,74 @@
+//! The messages.
+use crate::octets::Octets;
+use std::alloc::{Allocator, Global};
+
+/// A channel of a TRX, as an element names it (TS 48.058 clause 9.3.1): a full-rate traffic channel.
+#[derive(Clone, Copy, Debug, PartialEq, Eq)]
+pub struct ChanBits {
+    /// The timeslot, from 0 to 7.
+    pub tn: u8,
+}
+
+/// A message on Abis.
+#[derive(Debug, Drop)]
+pub enum Rsl<A: Allocator = Global> {
+    /// DATA REQUEST, TS 48.058 clause 8.3.1.
+    DataRequest {
+        channel: ChanBits,
+        /// The link identifier; 0 is the main channel with SAPI 0.
+        link: u8,
+        /// A layer 3 message, from 1 to 1,015 octets.
+        layer3: Octets<A>,
+    },
+    /// DATA INDICATION, TS 48.058 clause 8.3.2.
+    DataIndication {
+        channel: ChanBits,
+        /// The link identifier; 0 is the main channel with SAPI 0.
+        link: u8,
+        /// A layer 3 message, from 1 to 1,015 octets.
+        layer3: Octets<A>,
+    },
+    /// CHANNEL ACTIVATION, TS 48.058 clause 8.4.1.
+    ChannelActivation {
+        channel: ChanBits,
+        /// 0 for an immediate assignment, 2 for an asynchronous handover.
+        activation: u8,
+        /// The channel mode, from 1 to 255 octets.
+        mode: Octets<A>,
+        /// The handover reference.
+        reference: Option<u8>,
+    },
+    /// CHANNEL ACTIVATION ACKNOWLEDGE, TS 48.058 clause 8.4.2.
+    ChannelActivationAck {
+        channel: ChanBits,
+        /// The frame number.
+        frame: u16,
+    },
+    /// CHANNEL ACTIVATION NEGATIVE ACKNOWLEDGE, TS 48.058 clause 8.4.3.
+    ChannelActivationNack { channel: ChanBits, cause: u8 },
+    /// CONNECTION FAILURE INDICATION, TS 48.058 clause 8.4.4.
+    ConnectionFailureIndication { channel: ChanBits, cause: u8 },
+    /// HANDOVER DETECTION, TS 48.058 clause 8.4.7.
+    HandoverDetection {
+        channel: ChanBits,
+        /// The access delay.
+        delay: Option<u8>,
+    },
+    /// MEASUREMENT RESULT, TS 48.058 clause 8.4.8.
+    MeasurementResult {
+        channel: ChanBits,
+        /// The measurement result number.
+        number: u8,
+        /// The uplink measurements, at most 255 octets.
+        uplink: Octets<A>,
+        /// The power of the base station.
+        power: u8,
+        /// The layer 3 message with the mobile's measurement report, at least one octet. The whole
+        /// message has at most 1,024 octets.
+        layer3: Option<Octets<A>>,
+    },
+    /// RF CHANNEL RELEASE, TS 48.058 clause 8.4.14.
+    RfChannelRelease { channel: ChanBits },
+    /// RF CHANNEL RELEASE ACKNOWLEDGE, TS 48.058 clause 8.4.19.
+    RfChannelReleaseAck { channel: ChanBits },
+}

@@ -1,0 +1,39 @@
+//! An octet list inside a message.
+ghost use Rattle.std.specs.Prelude.{◌≡◌, IfOk};
+
+use std::alloc::{AllocError, Allocator, Global};
+use std::marker::Model;
+
+/// An octet list inside a message, as a layer 3 message or a channel mode.
+#[derive(Debug, Drop)]
+pub struct Octets<A: Allocator = Global> {
+    items: Vec<u8, A>,
+}
+
+impl<A: Allocator> Model for Octets<A> {
+    ghost use Rattle.std.specs.Prelude.{List, ℕ};
+
+    ghost Value = { List ℕ };
+
+    ghost view = { λ o. o.items.items };
+}
+
+impl<A: Allocator + Copy> Octets<A> {
+    /// A list of these octets.
+    pub fn new(alloc: A, octets: &[u8]) -> Result<Self, AllocError>
+        ensures { IfOk result (λ o. o ≡ octets.now) }
+    {
+        Ok(Octets {
+            items: Vec::from_slice(alloc, octets)?,
+        })
+    }
+}
+
+impl<A: Allocator> Octets<A> {
+    /// Its octets.
+    pub fn as_slice(&self) -> &[u8]
+        ensures { result.now ≡ self.now }
+    {
+        self.items.as_slice()
+    }
+}
