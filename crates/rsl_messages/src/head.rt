@@ -53,8 +53,7 @@ pub fn read_head(octets: &[u8]) -> Result<(MessageKind, &[u8]), RslFault>
     let [message_type, body @ ..] = rest else {
         return Err(RslFault::Torn(1));
     };
-    let kind = kind_for(*discriminator, *message_type)
-        .ok_or(RslFault::UnknownType(*message_type))?;
+    let kind = kind_for(*discriminator, *message_type).ok_or(RslFault::UnknownType(*message_type))?;
     Ok((kind, body))
 }
 

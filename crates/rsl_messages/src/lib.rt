@@ -11,6 +11,8 @@ mod message;
 mod octets;
 mod reading;
 mod table;
+#[cfg(test)]
+mod tests;
 mod values;
 mod writing;
 

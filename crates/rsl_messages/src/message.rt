@@ -45,9 +45,15 @@ pub enum Rsl<A: Allocator = Global> {
         frame: u16,
     },
     /// CHANNEL ACTIVATION NEGATIVE ACKNOWLEDGE, TS 48.058 clause 8.4.3.
-    ChannelActivationNack { channel: ChanBits, cause: u8 },
+    ChannelActivationNack {
+        channel: ChanBits,
+        cause: u8,
+    },
     /// CONNECTION FAILURE INDICATION, TS 48.058 clause 8.4.4.
-    ConnectionFailureIndication { channel: ChanBits, cause: u8 },
+    ConnectionFailureIndication {
+        channel: ChanBits,
+        cause: u8,
+    },
     /// HANDOVER DETECTION, TS 48.058 clause 8.4.7.
     HandoverDetection {
         channel: ChanBits,
@@ -68,7 +74,11 @@ pub enum Rsl<A: Allocator = Global> {
         layer3: Option<Octets<A>>,
     },
     /// RF CHANNEL RELEASE, TS 48.058 clause 8.4.14.
-    RfChannelRelease { channel: ChanBits },
+    RfChannelRelease {
+        channel: ChanBits,
+    },
     /// RF CHANNEL RELEASE ACKNOWLEDGE, TS 48.058 clause 8.4.19.
-    RfChannelReleaseAck { channel: ChanBits },
+    RfChannelReleaseAck {
+        channel: ChanBits,
+    },
 }

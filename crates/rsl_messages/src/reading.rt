@@ -76,7 +76,11 @@ fn read_data_request<A: Allocator + Copy>(alloc: A, body: &[u8]) -> Result<Rsl<A
     ensures { ReadsBody MessageKind.DataRequest body.now result }
 {
     let mut values = [None; 3];
-    read_wanted(body, &[CHANNEL_NUMBER, LINK_IDENTIFIER, LAYER3], &mut values)?;
+    read_wanted(
+        body,
+        &[CHANNEL_NUMBER, LINK_IDENTIFIER, LAYER3],
+        &mut values,
+    )?;
     let [channel, link, layer3] = values;
     data_request_of(alloc, channel, link, layer3)
 }
@@ -105,7 +109,11 @@ fn read_data_indication<A: Allocator + Copy>(alloc: A, body: &[u8]) -> Result<Rs
     ensures { ReadsBody MessageKind.DataIndication body.now result }
 {
     let mut values = [None; 3];
-    read_wanted(body, &[CHANNEL_NUMBER, LINK_IDENTIFIER, LAYER3], &mut values)?;
+    read_wanted(
+        body,
+        &[CHANNEL_NUMBER, LINK_IDENTIFIER, LAYER3],
+        &mut values,
+    )?;
     let [channel, link, layer3] = values;
     data_indication_of(alloc, channel, link, layer3)
 }
@@ -137,7 +145,16 @@ fn read_activation<A: Allocator + Copy>(alloc: A, body: &[u8]) -> Result<Rsl<A>,
     ensures { ReadsBody MessageKind.ChannelActivation body.now result }
 {
     let mut values = [None; 4];
-    read_wanted(body, &[CHANNEL_NUMBER, ACTIVATION_TYPE, CHANNEL_MODE, HANDOVER_REFERENCE], &mut values)?;
+    read_wanted(
+        body,
+        &[
+            CHANNEL_NUMBER,
+            ACTIVATION_TYPE,
+            CHANNEL_MODE,
+            HANDOVER_REFERENCE,
+        ],
+        &mut values,
+    )?;
     let [channel, activation, mode, reference] = values;
     activation_of(alloc, channel, activation, mode, reference)
 }
@@ -260,15 +277,23 @@ fn read_measurement_result<A: Allocator + Copy>(alloc: A, body: &[u8]) -> Result
     ensures { ReadsBody MessageKind.MeasurementResult body.now result }
 {
     let mut values = [None; 5];
-    read_wanted(body, &[CHANNEL_NUMBER, RESULT_NUMBER, UPLINK_MEASUREMENTS, POWER, LAYER3], &mut values)?;
+    read_wanted(
+        body,
+        &[
+            CHANNEL_NUMBER,
+            RESULT_NUMBER,
+            UPLINK_MEASUREMENTS,
+            POWER,
+            LAYER3,
+        ],
+        &mut values,
+    )?;
     let [channel, number, uplink, power, layer3] = values;
     measurement_result_of(alloc, channel, number, uplink, power, layer3)
 }
 
 #[tactic(auto, unfolding(crate::specs::Messages::rf_channel_release))]
-fn release_of<A: Allocator>(
-    channel_value: Option<&[u8]>,
-) -> Result<Rsl<A>, RslFault>
+fn release_of<A: Allocator>(channel_value: Option<&[u8]>) -> Result<Rsl<A>, RslFault>
     ensures { Answers result (rf_channel_release (seen channel_value.entry)) }
 {
     let channel = channel(channel_value)?;
@@ -286,9 +311,7 @@ fn read_release<A: Allocator>(body: &[u8]) -> Result<Rsl<A>, RslFault>
 }
 
 #[tactic(auto, unfolding(crate::specs::Messages::rf_channel_release_ack))]
-fn release_ack_of<A: Allocator>(
-    channel_value: Option<&[u8]>,
-) -> Result<Rsl<A>, RslFault>
+fn release_ack_of<A: Allocator>(channel_value: Option<&[u8]>) -> Result<Rsl<A>, RslFault>
     ensures { Answers result (rf_channel_release_ack (seen channel_value.entry)) }
 {
     let channel = channel(channel_value)?;

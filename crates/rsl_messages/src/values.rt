@@ -50,6 +50,17 @@ pub fn pair(identifier: u8, value: Option<&[u8]>) -> Result<u16, ElementFault>
     }
 }
 
+/// The value, unless it is empty.
+fn some_octets(identifier: u8, value: &[u8]) -> Result<&[u8], ElementFault>
+    ensures ok { IfOk result (λ v. octets_in identifier (Some value.now) ≡ Ok v.now) }
+    ensures err { IfErr result (λ e. octets_in identifier (Some value.now) ≡ Err e) }
+{
+    if value.is_empty() {
+        return Err(ElementFault::Bad(identifier));
+    }
+    Ok(value)
+}
+
 /// The whole value, which has at least one octet.
 pub fn octets(identifier: u8, value: Option<&[u8]>) -> Result<&[u8], ElementFault>
     ensures ok { IfOk result (λ v. octets_in identifier (seen value.entry) ≡ Ok v.now) }
@@ -57,8 +68,7 @@ pub fn octets(identifier: u8, value: Option<&[u8]>) -> Result<&[u8], ElementFaul
 {
     match value {
         None => Err(ElementFault::Absent(identifier)),
-        Some([]) => Err(ElementFault::Bad(identifier)),
-        Some(value) => Ok(value),
+        Some(value) => some_octets(identifier, value),
     }
 }
 
@@ -68,8 +78,8 @@ pub fn optional_octets(identifier: u8, value: Option<&[u8]>) -> Result<Option<&[
     ensures err { IfErr result (λ e. optional_octets_in identifier (seen value.entry) ≡ Err e) }
 {
     match value {
-        Some([]) => Err(ElementFault::Bad(identifier)),
-        value => Ok(value),
+        None => Ok(None),
+        Some(value) => Ok(Some(some_octets(identifier, value)?)),
     }
 }
 

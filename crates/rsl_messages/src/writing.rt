@@ -1,10 +1,11 @@
 //! Writing a message.
 ghost use Rattle.std.specs.Prelude.{◌≡◌, ◌≤◌, ◌<◌, ◌+◌, ◌++◌, ◌↔◌, [], IsTrue, IsNone, IfSome, length, IsOk, IfOk, OnOk, OnErr, vec_len, vec_capacity};
+ghost use Rattle.std.specs.Option.{option_map};
 ghost use Rattle.octet_elements.specs.Elements.{all_spelled};
 ghost use Rattle.rsl_messages.specs.Forms.{abis};
 ghost use Rattle.rsl_messages.specs.Messages.{elements_of, kind_of};
 ghost use Rattle.rsl_messages.specs.Heads.{head_of};
-ghost use Rattle.rsl_messages.specs.Values.{channel_octet, pair_octets};
+ghost use Rattle.rsl_messages.specs.Values.{channel_octet, pair_octets, where_value};
 ghost use Rattle.rsl_messages.specs.Texts.{limit, HasCanonical, IsWritable, canonical};
 
 use crate::head::{MessageKind, head_octets};
@@ -31,10 +32,14 @@ fn is_writable<A: Allocator>(message: &Rsl<A>) -> bool
 {
     match message {
         Rsl::DataRequest {
-            channel, layer3, ..
+            channel,
+            layer3,
+            ..
         }
         | Rsl::DataIndication {
-            channel, layer3, ..
+            channel,
+            layer3,
+            ..
         } => is_full_rate(*channel) && is_layer3(layer3.as_slice(), LIMIT - 9),
         Rsl::ChannelActivation { channel, mode, .. } => {
             is_full_rate(*channel) && matches!(mode.as_slice().len(), 1..=255)
@@ -104,6 +109,17 @@ fn kind_of<A: Allocator>(message: &Rsl<A>) -> MessageKind
     }
 }
 
+/// How many octets the layer 3 element of a MEASUREMENT RESULT takes.
+fn reported_len<A: Allocator>(layer3: Option<&Octets<A>>) -> usize
+    requires { IfSome layer3 (λ l. length l.now ≤ limit) }
+    ensures { result ≡ length (all_spelled abis (where_value 11 (option_map (λ l. l.now) layer3.entry))) }
+{
+    match layer3 {
+        None => 0,
+        Some(layer3) => 3 + layer3.as_slice().len(),
+    }
+}
+
 /// How many octets the elements of a message take.
 fn elements_len<A: Allocator>(message: &Rsl<A>) -> usize
     requires { IsWritable message.now }
@@ -114,19 +130,14 @@ fn elements_len<A: Allocator>(message: &Rsl<A>) -> usize
             7 + layer3.as_slice().len()
         }
         Rsl::ChannelActivation {
-            mode, reference, ..
+            mode,
+            reference,
+            ..
         } => 6 + mode.as_slice().len() + if reference.is_some() { 2 } else { 0 },
         Rsl::HandoverDetection { delay, .. } => 2 + if delay.is_some() { 2 } else { 0 },
-        Rsl::MeasurementResult {
-            uplink,
-            layer3: None,
-            ..
-        } => 8 + uplink.as_slice().len(),
-        Rsl::MeasurementResult {
-            uplink,
-            layer3: Some(layer3),
-            ..
-        } => 11 + uplink.as_slice().len() + layer3.as_slice().len(),
+        Rsl::MeasurementResult { uplink, layer3, .. } => {
+            8 + uplink.as_slice().len() + reported_len(layer3.as_ref())
+        }
         Rsl::ChannelActivationAck { .. }
         | Rsl::ChannelActivationNack { .. }
         | Rsl::ConnectionFailureIndication { .. } => 5,
@@ -140,6 +151,99 @@ fn channel_octet(channel: ChanBits) -> u8
     ensures { result ≡ channel_octet channel }
 {
     8 + channel.tn
+}
+
+/// Appends the elements of a DATA message.
+fn append_data<A: Allocator>(out: &mut Vec<u8, A>, channel: ChanBits, link: u8, layer3: &[u8])
+    requires channel { channel.tn < 8 }
+    requires layer3 { length layer3.now ≤ limit }
+    requires room { vec_len out.old + length (all_spelled abis (elements_of {A = A} (Rsl.DataRequest channel link layer3.now))) ≤ vec_capacity out.old }
+    ensures items { out.new.items ≡ out.old.items ++ all_spelled abis (elements_of {A = A} (Rsl.DataRequest channel link layer3.now)) }
+{
+    append_element::<Abis, A>(out, CHANNEL_NUMBER, &[channel_octet(channel)]);
+    append_element::<Abis, A>(out, LINK_IDENTIFIER, &[link]);
+    append_element::<Abis, A>(out, LAYER3, layer3);
+}
+
+/// Appends the elements of a CHANNEL ACTIVATION.
+fn append_activation<A: Allocator>(
+    out: &mut Vec<u8, A>,
+    channel: ChanBits,
+    activation: u8,
+    mode: &[u8],
+    reference: Option<u8>,
+)
+    requires channel { channel.tn < 8 }
+    requires mode { length mode.now < 256 }
+    requires room { vec_len out.old + length (all_spelled abis (elements_of {A = A} (Rsl.ChannelActivation channel activation mode.now reference))) ≤ vec_capacity out.old }
+    ensures items { out.new.items ≡ out.old.items ++ all_spelled abis (elements_of {A = A} (Rsl.ChannelActivation channel activation mode.now reference)) }
+{
+    append_element::<Abis, A>(out, CHANNEL_NUMBER, &[channel_octet(channel)]);
+    append_element::<Abis, A>(out, ACTIVATION_TYPE, &[activation]);
+    append_element::<Abis, A>(out, CHANNEL_MODE, mode);
+    if let Some(reference) = reference {
+        append_element::<Abis, A>(out, HANDOVER_REFERENCE, &[reference]);
+    }
+}
+
+/// Appends the elements of a CHANNEL ACTIVATION ACKNOWLEDGE.
+fn append_ack<A: Allocator>(out: &mut Vec<u8, A>, channel: ChanBits, frame: u16)
+    requires channel { channel.tn < 8 }
+    requires room { vec_len out.old + length (all_spelled abis (elements_of {A = A} (Rsl.ChannelActivationAck channel frame))) ≤ vec_capacity out.old }
+    ensures items { out.new.items ≡ out.old.items ++ all_spelled abis (elements_of {A = A} (Rsl.ChannelActivationAck channel frame)) }
+{
+    append_element::<Abis, A>(out, CHANNEL_NUMBER, &[channel_octet(channel)]);
+    append_element::<Abis, A>(
+        out,
+        FRAME_NUMBER,
+        &[(frame / 256) as u8, (frame % 256) as u8],
+    );
+}
+
+/// Appends the elements of a message with a cause.
+fn append_cause<A: Allocator>(out: &mut Vec<u8, A>, channel: ChanBits, cause: u8)
+    requires channel { channel.tn < 8 }
+    requires room { vec_len out.old + length (all_spelled abis (elements_of {A = A} (Rsl.ChannelActivationNack channel cause))) ≤ vec_capacity out.old }
+    ensures items { out.new.items ≡ out.old.items ++ all_spelled abis (elements_of {A = A} (Rsl.ChannelActivationNack channel cause)) }
+{
+    append_element::<Abis, A>(out, CHANNEL_NUMBER, &[channel_octet(channel)]);
+    append_element::<Abis, A>(out, CAUSE, &[cause]);
+}
+
+/// Appends the elements of a HANDOVER DETECTION.
+fn append_detection<A: Allocator>(out: &mut Vec<u8, A>, channel: ChanBits, delay: Option<u8>)
+    requires channel { channel.tn < 8 }
+    requires room { vec_len out.old + length (all_spelled abis (elements_of {A = A} (Rsl.HandoverDetection channel delay))) ≤ vec_capacity out.old }
+    ensures items { out.new.items ≡ out.old.items ++ all_spelled abis (elements_of {A = A} (Rsl.HandoverDetection channel delay)) }
+{
+    append_element::<Abis, A>(out, CHANNEL_NUMBER, &[channel_octet(channel)]);
+    if let Some(delay) = delay {
+        append_element::<Abis, A>(out, ACCESS_DELAY, &[delay]);
+    }
+}
+
+/// Appends the elements of a MEASUREMENT RESULT.
+fn append_measurement<A: Allocator>(
+    out: &mut Vec<u8, A>,
+    channel: ChanBits,
+    number: u8,
+    uplink: &[u8],
+    power: u8,
+    layer3: Option<&Octets<A>>,
+)
+    requires channel { channel.tn < 8 }
+    requires uplink { length uplink.now < 256 }
+    requires layer3 { IfSome layer3 (λ l. length l.now ≤ limit) }
+    requires room { vec_len out.old + length (all_spelled abis (elements_of {A = A} (Rsl.MeasurementResult channel number uplink.now power (option_map (λ l. l.now) layer3)))) ≤ vec_capacity out.old }
+    ensures items { out.new.items ≡ out.old.items ++ all_spelled abis (elements_of {A = A} (Rsl.MeasurementResult channel number uplink.now power (option_map (λ l. l.now) layer3.entry))) }
+{
+    append_element::<Abis, A>(out, CHANNEL_NUMBER, &[channel_octet(channel)]);
+    append_element::<Abis, A>(out, RESULT_NUMBER, &[number]);
+    append_element::<Abis, A>(out, UPLINK_MEASUREMENTS, uplink);
+    append_element::<Abis, A>(out, POWER, &[power]);
+    if let Some(layer3) = layer3 {
+        append_element::<Abis, A>(out, LAYER3, layer3.as_slice());
+    }
 }
 
 /// Appends the elements of a message, for which the list has room.
@@ -158,54 +262,33 @@ fn append_elements<A: Allocator>(message: &Rsl<A>, out: &mut Vec<u8, A>)
             channel,
             link,
             layer3,
-        } => {
-            append_element::<Abis, A>(out, CHANNEL_NUMBER, &[channel_octet(*channel)]);
-            append_element::<Abis, A>(out, LINK_IDENTIFIER, &[*link]);
-            append_element::<Abis, A>(out, LAYER3, layer3.as_slice());
-        }
+        } => append_data(out, *channel, *link, layer3.as_slice()),
         Rsl::ChannelActivation {
             channel,
             activation,
             mode,
             reference,
-        } => {
-            append_element::<Abis, A>(out, CHANNEL_NUMBER, &[channel_octet(*channel)]);
-            append_element::<Abis, A>(out, ACTIVATION_TYPE, &[*activation]);
-            append_element::<Abis, A>(out, CHANNEL_MODE, mode.as_slice());
-            if let Some(reference) = reference {
-                append_element::<Abis, A>(out, HANDOVER_REFERENCE, &[*reference]);
-            }
-        }
-        Rsl::ChannelActivationAck { channel, frame } => {
-            append_element::<Abis, A>(out, CHANNEL_NUMBER, &[channel_octet(*channel)]);
-            append_element::<Abis, A>(out, FRAME_NUMBER, &[(*frame / 256) as u8, (*frame % 256) as u8]);
-        }
+        } => append_activation(out, *channel, *activation, mode.as_slice(), *reference),
+        Rsl::ChannelActivationAck { channel, frame } => append_ack(out, *channel, *frame),
         Rsl::ChannelActivationNack { channel, cause }
         | Rsl::ConnectionFailureIndication { channel, cause } => {
-            append_element::<Abis, A>(out, CHANNEL_NUMBER, &[channel_octet(*channel)]);
-            append_element::<Abis, A>(out, CAUSE, &[*cause]);
+            append_cause(out, *channel, *cause);
         }
-        Rsl::HandoverDetection { channel, delay } => {
-            append_element::<Abis, A>(out, CHANNEL_NUMBER, &[channel_octet(*channel)]);
-            if let Some(delay) = delay {
-                append_element::<Abis, A>(out, ACCESS_DELAY, &[*delay]);
-            }
-        }
+        Rsl::HandoverDetection { channel, delay } => append_detection(out, *channel, *delay),
         Rsl::MeasurementResult {
             channel,
             number,
             uplink,
             power,
             layer3,
-        } => {
-            append_element::<Abis, A>(out, CHANNEL_NUMBER, &[channel_octet(*channel)]);
-            append_element::<Abis, A>(out, RESULT_NUMBER, &[*number]);
-            append_element::<Abis, A>(out, UPLINK_MEASUREMENTS, uplink.as_slice());
-            append_element::<Abis, A>(out, POWER, &[*power]);
-            if let Some(layer3) = layer3 {
-                append_element::<Abis, A>(out, LAYER3, layer3.as_slice());
-            }
-        }
+        } => append_measurement(
+            out,
+            *channel,
+            *number,
+            uplink.as_slice(),
+            *power,
+            layer3.as_ref(),
+        ),
         Rsl::RfChannelRelease { channel } | Rsl::RfChannelReleaseAck { channel } => {
             append_element::<Abis, A>(out, CHANNEL_NUMBER, &[channel_octet(*channel)]);
         }
@@ -214,10 +297,7 @@ fn append_elements<A: Allocator>(message: &Rsl<A>, out: &mut Vec<u8, A>)
 
 /// Appends the canonical text of a message. It takes no memory where the list has room for it.
 #[tactic(auto, using(crate::proofs::Written::writable_of))]
-pub fn encode_into<A: Allocator>(
-    message: &Rsl<A>,
-    out: &mut Vec<u8, A>,
-) -> Result<(), AllocError>
+pub fn encode_into<A: Allocator>(message: &Rsl<A>, out: &mut Vec<u8, A>) -> Result<(), AllocError>
     requires { HasCanonical message.now }
     ensures ok { OnOk result (out.new.items ≡ out.old.items ++ canonical message.now) }
     ensures err { OnErr result (out.new.items ≡ out.old.items) }
