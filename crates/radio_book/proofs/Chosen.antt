@@ -116,9 +116,9 @@ none_free b cell site e x free =
     let place = 8 * x.trx + x.tn in
     let small : place < 32 = omega (arith, limits.trx, limits.timeslot) in
     let here : get_or (channels_of cell) place x ≡ x =
-        place_at cell place x small ∙ ap (λ k. channel_at k place) (sym free.in_cell) ∙ by_place x limits.timeslot in
+    place_at cell place x small ∙ ap (λ k. channel_at k place) (sym free.in_cell) ∙ by_place x limits.timeslot in
     let busy = All-get_or (λ y. is_free_traffic b y ≡ false) (channels_of cell) place x (within cell place small)
-        (All-from_recursion (λ y. is_free_traffic b y ≡ false) (channels_of cell) (failed (is_free_traffic b) (channels_of cell) e)) in
+    (All-from_recursion (λ y. is_free_traffic b y ≡ false) (channels_of cell) (failed (is_free_traffic b) (channels_of cell) e)) in
     let passes : is_free_traffic b x ≡ true = and_from _ _ free.traffic (ap is_free free.free) in
     let fails : is_free_traffic b x ≡ false = ap (is_free_traffic b) (sym here) ∙ busy in
     cc

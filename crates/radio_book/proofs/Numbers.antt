@@ -46,21 +46,21 @@ used_by b sound site cell n c r user recorded reference =
     elim r.attempt as (λ o. r.attempt ≡ o → reference_of o ≡ Some (numbered cell n) → IsUsed b cell n) [
       | None ↦ λ is h. cc
       | Some a ↦ λ is h.
-        let held = held_by a.target a.reference (numbered cell n) h in
-        let t = held.0 in
-        let owned = ap owner (sound.target c r a t recorded is held.1) ∙ is_owned c a.stage in
-        record {
-          call = c;
-          known = r;
-          channel = t;
-          user = user;
-          recorded = recorded;
-          reference = reference;
-          target = ap (option_and_then (λ a. a.target)) is ∙ held.1;
-          in_cell = held.2;
-          owned = owned;
-          limits = traffic_limits b.site t site (owned_traffic b sound t c owned);
-        }
+          let held = held_by a.target a.reference (numbered cell n) h in
+          let t = held.0 in
+          let owned = ap owner (sound.target c r a t recorded is held.1) ∙ is_owned c a.stage in
+          record {
+            call = c;
+            known = r;
+            channel = t;
+            user = user;
+            recorded = recorded;
+            reference = reference;
+            target = ap (option_and_then (λ a. a.target)) is ∙ held.1;
+            in_cell = held.2;
+            owned = owned;
+            limits = traffic_limits b.site t site (owned_traffic b sound t c owned);
+          }
     ] refl reference
 
 used : (b : State) → IsSound b → IsSite b.site → (cell n : ℕ) → is_some (map.get b.references (numbered cell n)) ≡ true → IsUsed b cell n
@@ -68,8 +68,8 @@ used b sound site cell n there =
     elim (map.get b.references (numbered cell n)) as (λ o. map.get b.references (numbered cell n) ≡ o → is_some o ≡ true → IsUsed b cell n) [
       | None ↦ λ is h. cc
       | Some c ↦ λ is h.
-        let found = sound.in_use (numbered cell n) c is in
-        used_by b sound site cell n c found.0 is found.1 found.2
+          let found = sound.in_use (numbered cell n) c is in
+          used_by b sound site cell n c found.0 is found.1 found.2
     ] refl there
 
 -- the place of the channel that a number is used for
@@ -109,15 +109,15 @@ not_all_used b sound site cell all =
     let size = length-map-range_with_len f 0 33 in
     let each : (n : ℕ) → n < 33 → IsUsed b cell n = λ n h. used b sound site cell n (all n h) in
     let distinct = IsDistinct-from_apart ◌==◌ xs (λ i j d less inside.
-      let below : j < 33 = omega (arith, inside, size) in
-      let first : i < 33 = omega (arith, less, below) in
-      ap (λ x. x == get_or xs j d) (get_or-map-range_with_len f 0 33 i i d first (zero-add i))
-      ∙ ap (λ x. f i == x) (get_or-map-range_with_len f 0 33 j j d below (zero-add j))
-      ∙ ne_eqb (f i) (f j) (λ e. let same = same_number b cell i j (each i first) (each j below) e in absurd (omega (arith, same, less)))) in
+    let below : j < 33 = omega (arith, inside, size) in
+    let first : i < 33 = omega (arith, less, below) in
+    ap (λ x. x == get_or xs j d) (get_or-map-range_with_len f 0 33 i i d first (zero-add i))
+    ∙ ap (λ x. f i == x) (get_or-map-range_with_len f 0 33 j j d below (zero-add j))
+    ∙ ne_eqb (f i) (f j) (λ e. let same = same_number b cell i j (each i first) (each j below) e in absurd (omega (arith, same, less)))) in
     let small : (q : ℕ) → list_any (◌==◌ q) xs ≡ true → q < 32 = λ q h.
-      let at = Contains-from_any eqb-true q xs h in
-      let below : at.0 < 33 = omega (arith, at.1, size) in
-      let is = sym (get_or-map-range_with_len f 0 33 at.0 at.0 q below (zero-add at.0)) ∙ at.2 in
-      omega (arith, is, place_small b cell at.0 (each at.0 below)) in
+    let at = Contains-from_any eqb-true q xs h in
+    let below : at.0 < 33 = omega (arith, at.1, size) in
+    let is = sym (get_or-map-range_with_len f 0 33 at.0 at.0 q below (zero-add at.0)) ∙ at.2 in
+    omega (arith, is, place_small b cell at.0 (each at.0 below)) in
     let fits = length-le_from_distinct_below xs 32 distinct small in
     absurd (omega (arith, fits, size))

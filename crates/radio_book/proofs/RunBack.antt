@@ -11,9 +11,9 @@ use Rattle.radio_book.specs.Journal.{run_inverse, run_back, journal_of}
 use Rattle.radio_book.proofs.Inverses.{inverses_undo}
 
 -- the inverse that was pushed last runs first
-pub run_back_push : (c : ℕ) (js : List Inverse) (j : Inverse) (b : State) → run_back c (js ++ j ∷ []) b ≡ run_back c js (run_inverse c j b)
-run_back_push c [] j b = refl
-run_back_push c (i ∷ js) j b = ap (run_inverse c i) (run_back_push c js j b)
+pub runs_last_first : (c : ℕ) (before : List Inverse) (last : Inverse) (b : State) → run_back c (before ++ last ∷ []) b ≡ run_back c before (run_inverse c last b)
+runs_last_first c [] last b = refl
+runs_last_first c (first ∷ rest) last b = ap (run_inverse c first) (runs_last_first c rest last b)
 
 -- where an attempt is open, they are its undo
 pub taken_back : (c : ℕ) (r : CallRecord) (refusal : Refusal) (b : State) → IsSound b → record_of b c ≡ Some r → is_some r.attempt ≡ true →

@@ -12,10 +12,6 @@ use Rattle.std.specs.FinMap as map
 use Rattle.std.specs.FinMap.{len-empty, len-insert}
 use Rattle.radio_book.proofs.MapFacts.{get_listed}
 
-pub on_err_anyway : {T E P : Type 0} (r : Result T E) → P → OnErr r P
-on_err_anyway (Ok x) p = tt
-on_err_anyway (Err e) p = p
-
 module _ {K X : Type 0} {R : K → K → Ordering} (o : IsTotalOrder R) where
   absent_below : (q : K) (es : List (K × X)) → AllByRecursion (λ y. R q y ≡ Less) (keys_of es) → lookup (is_at (R q)) es ≡ None
   absent_below q [] h = refl
@@ -35,6 +31,11 @@ module _ {K X : Type 0} {R : K → K → Ordering} (o : IsTotalOrder R) where
   pub len_listed : (t : BTreeMap K X) → IsOrdered R t → map.len (map.from_entries {R = R} t.entries) ≡ btree_map_len t
   len_listed t h = len_entries t.entries h
 
-pub on_err_at : {T E P : Type 0} (r : Result T E) → is_err r ≡ true → OnErr r P → P
-on_err_at (Ok x) e p = cc
-on_err_at (Err e) h p = p
+-- a fact of an error, from one that holds anyway, and where there is an error
+pub err_holds : {X E P : Type 0} (answer : Result X E) → P → OnErr answer P
+err_holds (Ok value) fact = tt
+err_holds (Err error) fact = fact
+
+pub at_err : {X E P : Type 0} (answer : Result X E) → is_err answer ≡ true → OnErr answer P → P
+at_err (Ok value) is fact = cc
+at_err (Err error) is fact = fact

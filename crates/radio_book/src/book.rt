@@ -13,6 +13,9 @@ use std::alloc::{AllocError, Allocator, Global};
 use std::marker::Model;
 use std::sync::Arc;
 
+#[cfg(test)]
+mod tests;
+
 /// How much a book holds.
 #[derive(Clone, Copy, Debug, PartialEq, Eq)]
 pub struct Usage {
@@ -50,11 +53,18 @@ impl<A: Allocator + Copy> Book<A> {
     pub fn new(alloc: A, site: Arc<Site<A>, A>) -> Result<Book<A>, AllocError>
         ensures { IsOkAnd result (λ book. book ≡ empty_book site.value) }
     {
-        Ok(Book {
-            records: Records::new(alloc, site),
-        })
+        let records = Records::new(alloc, site);
+        Ok(Book { records })
     }
 
+    /// The site, which never changes.
+    pub fn site(&self) -> &Arc<Site<A>, A>
+        ensures { result.now.value ≡ self.now.site }
+    {
+        self.records.site()
+    }
+
+    /// How much the book holds.
     pub fn usage(&self) -> Usage
         ensures channels { result.channels ≡ map.len self.now.channels }
         ensures calls { result.calls ≡ map.len self.now.calls }
@@ -86,7 +96,12 @@ impl<A: Allocator + Copy> Book<A> {
     /// A `Take` of a free channel of the cell, judged as by [`Book::step`], with its answer; `None` where no
     /// channel of the cell is free, which takes no memory and changes nothing. A cell that isn't the site's
     /// has no channel. The channel is that of the lowest TRX, then timeslot.
-    pub fn take_any(&mut self, call: u16, kind: Kind, cell: u8) -> Result<Option<(Event, Reply)>, AllocError>
+    pub fn take_any(
+        &mut self,
+        call: u16,
+        kind: Kind,
+        cell: u8,
+    ) -> Result<Option<(Event, Reply)>, AllocError>
         ensures none { result ≡ Ok None → NoneFree self.old cell }
         ensures kept { result ≡ Ok None → self.new ≡ self.old }
         ensures event { IfOk result (λ chosen. IfSome chosen (λ taken. TakesFree self.old call kind cell taken.0)) }

@@ -59,6 +59,12 @@ impl<A: Allocator + Copy> Records<A> {
         }
     }
 
+    pub fn site(&self) -> &Arc<Site<A>, A>
+        ensures { result.now.value ≡ self.now.site }
+    {
+        &self.site
+    }
+
     pub fn channels(&self) -> usize
         ensures { result ≡ map.len self.now.channels }
     {

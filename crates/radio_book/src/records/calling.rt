@@ -35,7 +35,13 @@ impl<A: Allocator + Copy> Records<A> {
     }
 
     /// A new call, and its channel: both, or none where memory is wanted and not given.
-    pub(super) fn add_call(&mut self, call: u16, entry: CallEntry, x: ChanId, state: ChanState) -> Result<(), AllocError>
+    pub(super) fn add_call(
+        &mut self,
+        call: u16,
+        entry: CallEntry,
+        x: ChanId,
+        state: ChanState,
+    ) -> Result<(), AllocError>
         requires call { record_of self.old call ≡ None }
         requires channel { map.get self.old.channels x ≡ None }
         ensures book { OnOk result (self.new ≡ apply (record no_change { channel = becomes x state; call = is_recorded call entry }) self.old) }

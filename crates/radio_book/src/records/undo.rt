@@ -58,12 +58,8 @@ impl<A: Allocator + Copy> Records<A> {
     fn take_back(&mut self, call: u16, entry: CallEntry, refusal: Refusal) -> Reply
         requires sound { IsSound self.old }
         requires entry { record_of self.old call ≡ Some entry }
-        ensures reply {
-            result ≡ reply_of (undo_attempt call refusal entry entry.attempt (state_of self.old) (map.get self.old.timers call))
-        }
-        ensures book {
-            self.new ≡ after (undo_attempt call refusal entry entry.attempt (state_of self.old) (map.get self.old.timers call)) self.old
-        }
+        ensures reply { result ≡ reply_of (undo_attempt call refusal entry entry.attempt (state_of self.old) (map.get self.old.timers call)) }
+        ensures book { self.new ≡ after (undo_attempt call refusal entry entry.attempt (state_of self.old) (map.get self.old.timers call)) self.old }
     {
         let found = entry.record();
         if found.attempt.is_none() {
@@ -142,6 +138,8 @@ fn is_armed(timer: Timer, armed: Option<Timer>) -> bool
 {
     matches!(
         (timer, armed),
-        (Timer::T3103, Some(Timer::T3103)) | (Timer::T7, Some(Timer::T7)) | (Timer::T8, Some(Timer::T8))
+        (Timer::T3103, Some(Timer::T3103))
+            | (Timer::T7, Some(Timer::T7))
+            | (Timer::T8, Some(Timer::T8))
     )
 }

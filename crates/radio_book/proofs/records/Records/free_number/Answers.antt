@@ -10,5 +10,5 @@ unreachable-requires g c =
     let cell = c.args.cell in
     let site = subst IsSite (c.deref.ensures ∙ ap (λ b. b.site) c.self.view_is) c.cells-cells.ensures.limits in
     not_all_used b c.requires site cell (λ n h.
-      sym (ap (λ b. is_some (map.get b.references (record { cell = cell; number = n }))) c.self.view_is)
-      ∙ c.loop-number.invariant n (omega (arith, h, c.loop-number-test.false)))
+    sym (ap (λ b. is_some (map.get b.references (record { cell = cell; number = n }))) c.self.view_is)
+    ∙ c.loop-number.invariant n (omega (arith, h, c.loop-number-test.false)))
