@@ -4,8 +4,10 @@ use Rattle.rsl_messages.specs.declared.fault.RslFault.{RslFault}
 use Rattle.rsl_messages.specs.declared.fault.RslFault.TheVariants as rsl
 use Rattle.rr_messages.specs.declared.fault.RrFault.{RrFault}
 use Rattle.rr_messages.specs.declared.fault.RrFault.TheVariants as rr
+use Rattle.lab.specs.declared.exchange.PlainFault.{PlainFault}
+use Rattle.lab.specs.declared.exchange.PlainFault.TheVariants as plain
 use Rattle.bsc_bench.specs.declared.work.Work.{Work}
-use Rattle.bsc_bench.specs.declared.work.Work.TheVariants.{DecodeActivation, EncodeActivation, LiveByStep, DecodeMeasurement, EncodeMeasurement, DecodeCommand, EncodeCommand}
+use Rattle.bsc_bench.specs.declared.work.Work.TheVariants.{DecodeActivation, EncodeActivation, CallByOctets, LiveByStep, DecodeMeasurement, EncodeMeasurement, DecodeCommand, EncodeCommand}
 use Rattle.bsc_bench.specs.declared.fault.Fault.{Fault}
 use Rattle.bsc_bench.specs.declared.fault.Fault.TheVariants.{Words, NoMemory, Output, Setting}
 
@@ -13,6 +15,7 @@ use Rattle.bsc_bench.specs.declared.fault.Fault.TheVariants.{Words, NoMemory, Ou
 abbrev pub name_of : Work → List ℕ
 name_of DecodeActivation = codes "chan_act.dec"
 name_of EncodeActivation = codes "chan_act.enc"
+name_of CallByOctets = codes "call.octets"
 name_of LiveByStep = codes "step.life"
 name_of DecodeMeasurement = codes "meas_res.dec"
 name_of EncodeMeasurement = codes "meas_res.enc"
@@ -35,3 +38,8 @@ of_abis _ = Words
 abbrev pub of_radio : RrFault → Fault
 of_radio rr.NoMemory = NoMemory
 of_radio _ = Words
+
+-- the same of a fault of the procedure
+abbrev pub of_procedure : PlainFault → Fault
+of_procedure plain.NoMemory = NoMemory
+of_procedure _ = Words

@@ -2,6 +2,7 @@
 ghost use Rattle.std.specs.Prelude.{◌≡◌};
 ghost use Rattle.bsc_bench.specs.Works.{status_of};
 
+use lab::exchange::PlainFault;
 use radio_book::site::SiteFault;
 use rr_messages::RrFault;
 use rsl_messages::RslFault;
@@ -69,6 +70,19 @@ impl From<RrFault> for Fault {
         match cause {
             RrFault::NoMemory => Fault::NoMemory,
             _ => Fault::Words,
+        }
+    }
+}
+
+impl From<PlainFault> for Fault {
+    ghost use Rattle.bsc_bench.specs.Works.{of_procedure};
+
+    ghost from_gives = { λ cause fault. fault ≡ of_procedure cause };
+
+    fn from(cause: PlainFault) -> Fault {
+        match cause {
+            PlainFault::NoMemory => Fault::NoMemory,
+            PlainFault::Undecoded(_) => Fault::Words,
         }
     }
 }

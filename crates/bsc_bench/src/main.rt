@@ -6,6 +6,7 @@
 #![tactic(auto)]
 
 mod abis;
+mod call;
 mod fault;
 mod life;
 mod measured;
@@ -30,6 +31,7 @@ fn sum_of(alloc: Global, work: Work, count: u64, octets: &[u8]) -> Result<u64, F
     match work {
         Work::DecodeActivation => abis::decode_activations(alloc, &mut turning, count),
         Work::EncodeActivation => abis::encode_activations(alloc, &mut turning, count),
+        Work::CallByOctets => call::call_by_octets(alloc, &mut turning, count),
         Work::LiveByStep => life::live_by_steps(alloc, &mut turning, count),
         Work::DecodeMeasurement => measured::decode_measurements(alloc, &mut turning, count),
         Work::EncodeMeasurement => measured::encode_measurements(alloc, &mut turning, count),

@@ -6,15 +6,18 @@ use std::test::Fail;
 ///
 /// - CHANNEL ACTIVATION read: timeslot 3, type 2, mode 0 + 1 + 8 + 1, reference 42 and then 43: 57 + 58. Written: the 14
 ///   octets, 129 and then 130.
+/// - A whole call: the octets that are sent, 76 of `08 21 01 0B 03 00 06 04 00 01 08 01` and 66 of `08 2E 01 0B`: 142
+///   in each turn.
 /// - A life: ten events that are accepted.
 /// - MEASUREMENT RESULT read: timeslot 3, number 0 and then 1, uplink 0 + 30 + 0, power 0; levels 30 + 30, qualities
 ///   0 + 0, one neighbour, 40 + 2 + 21: 157 + 158. Written: the report's 18 octets, 369, and the message's 34 octets,
 ///   547 and then 548: 916 + 917.
 /// - HANDOVER COMMAND read: 871 + 2 + 5, 3 + 5 + 875, reference 42 and then 43, level 5: 1,808 + 1,809. Written: the 9
 ///   octets, 693 and then 694.
-const SUMS: [(Work, u64); 7] = [
+const SUMS: [(Work, u64); 8] = [
     (Work::DecodeActivation, 115),
     (Work::EncodeActivation, 259),
+    (Work::CallByOctets, 284),
     (Work::LiveByStep, 20),
     (Work::DecodeMeasurement, 315),
     (Work::EncodeMeasurement, 1833),

@@ -1,6 +1,4 @@
 //! Octets of which one changes with the turn.
-ghost use Rattle.std.specs.Prelude.{◌≡◌, IfOk, length};
-
 use std::alloc::{AllocError, Global};
 
 /// Octets of which one changes with the turn: the turn's number is added to it, modulo 256. Where there is no such
@@ -32,7 +30,9 @@ impl Turning {
     }
 }
 
-/// The sum of octets, to which each octet adds its value.
+/// The sum of octets, to which each octet adds its value. It isn't inlined, so that its instructions can be told from
+/// those of the work.
+#[inline(never)]
 pub fn octets_sum(octets: &[u8]) -> u64 {
     octets
         .iter()

@@ -12,6 +12,9 @@ pub enum Work {
     DecodeActivation,
     /// Writes a CHANNEL ACTIVATION.
     EncodeActivation,
+    /// A whole call by the procedure: its opening, the CHANNEL ACTIVATION ACKNOWLEDGE (TS 48.058 clause 8.4.2), its
+    /// clearing and the RF CHANNEL RELEASE ACKNOWLEDGE.
+    CallByOctets,
     /// A call's life, from its opening to the release of its channel, with an attempt at handover that is taken
     /// back: ten events of the radio book, beside 1,024 other calls on 64 cells.
     LiveByStep,
@@ -27,9 +30,10 @@ pub enum Work {
 
 impl Work {
     /// Every work, in the order in which they are printed.
-    pub const ALL: [Work; 7] = [
+    pub const ALL: [Work; 8] = [
         Work::DecodeActivation,
         Work::EncodeActivation,
+        Work::CallByOctets,
         Work::LiveByStep,
         Work::DecodeMeasurement,
         Work::EncodeMeasurement,
@@ -44,6 +48,7 @@ impl Work {
         match self {
             Work::DecodeActivation => "chan_act.dec",
             Work::EncodeActivation => "chan_act.enc",
+            Work::CallByOctets => "call.octets",
             Work::LiveByStep => "step.life",
             Work::DecodeMeasurement => "meas_res.dec",
             Work::EncodeMeasurement => "meas_res.enc",
@@ -60,6 +65,7 @@ impl Work {
         match name {
             "chan_act.dec" => Some(Work::DecodeActivation),
             "chan_act.enc" => Some(Work::EncodeActivation),
+            "call.octets" => Some(Work::CallByOctets),
             "step.life" => Some(Work::LiveByStep),
             "meas_res.dec" => Some(Work::DecodeMeasurement),
             "meas_res.enc" => Some(Work::EncodeMeasurement),
@@ -73,6 +79,7 @@ impl Work {
     pub fn octets(self) -> &'static [u8] {
         match self {
             Work::DecodeActivation | Work::EncodeActivation => &ACTIVATION,
+            Work::CallByOctets => &ACKNOWLEDGEMENT,
             Work::LiveByStep => &[0],
             Work::DecodeMeasurement | Work::EncodeMeasurement => &MEASUREMENT,
             Work::DecodeCommand | Work::EncodeCommand => &COMMAND,
@@ -83,6 +90,7 @@ impl Work {
     pub fn place(self) -> usize {
         match self {
             Work::DecodeActivation | Work::EncodeActivation => 13,
+            Work::CallByOctets => 6,
             Work::LiveByStep => 0,
             Work::DecodeMeasurement | Work::EncodeMeasurement => 5,
             Work::DecodeCommand | Work::EncodeCommand => 7,
@@ -100,6 +108,9 @@ impl fmt::Display for Work {
 const ACTIVATION: [u8; 14] = [
     0x08, 0x21, 0x01, 0x0B, 0x03, 0x02, 0x06, 0x04, 0x00, 0x01, 0x08, 0x01, 0x09, 0x2A,
 ];
+
+/// CHANNEL ACTIVATION ACKNOWLEDGE of timeslot 3 with frame number 4660.
+const ACKNOWLEDGEMENT: [u8; 7] = [0x08, 0x22, 0x01, 0x0B, 0x08, 0x12, 0x34];
 
 /// MEASUREMENT RESULT of timeslot 3 with number 0 and three octets of uplink measurements; its report has one
 /// neighbour of level 40 at position 2 with code 21, and serving levels of 30.
