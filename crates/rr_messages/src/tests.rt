@@ -1,3 +1,5 @@
+ghost use Rattle.std.specs.Prelude.{◌≤◌};
+
 use crate::{Rr, RrFault, decode, encode, encode_into};
 use refusing_heap::RefusingHeap;
 use rr_elements::{
@@ -44,34 +46,57 @@ fn command(
     })
 }
 
-// Each message with its text.
-fn messages() -> Result<[(Rr, &'static [u8]); 10], ElementFault> {
+// A message with its text, which is filled up with zeros.
+fn row(message: Rr, text: &[u8]) -> (Rr, [u8; 18]) {
+    let mut octets = [0; 18];
+    for (place, octet) in octets.iter_mut().zip(text) {
+        *place = *octet;
+    }
+    (message, octets)
+}
+
+// How long the text is.
+fn text_len(message: &Rr) -> usize
+    ensures { result ≤ 18 }
+{
+    match message {
+        Rr::HandoverCommand { .. } => 9,
+        Rr::MeasurementReport(_) => 18,
+        _ => 3,
+    }
+}
+
+fn messages() -> Result<[(Rr, [u8; 18]); 10], ElementFault> {
+    let first = command((871, 2, 5), (3, 5, 875), 42, 5)?;
+    let second = command((871, 2, 5), (3, 5, 875), 0, 5)?;
+    let third = command((62, 3, 0), (1, 0, 62), 0, 7)?;
     Ok([
-        (
-            command((871, 2, 5), (3, 5, 875), 42, 5)?,
+        row(
+            first,
             &[0x06, 0x2B, 0xD5, 0x67, 0x0B, 0xA3, 0x6B, 0x2A, 0x05],
         ),
-        (
-            command((871, 2, 5), (3, 5, 875), 0, 5)?,
+        row(
+            second,
             &[0x06, 0x2B, 0xD5, 0x67, 0x0B, 0xA3, 0x6B, 0x00, 0x05],
         ),
-        (
-            command((62, 3, 0), (1, 0, 62), 0, 7)?,
+        row(
+            third,
             &[0x06, 0x2B, 0x18, 0x3E, 0x09, 0x00, 0x3E, 0x00, 0x07],
         ),
-        (Rr::HandoverComplete(RrCause(0)), &[0x06, 0x2C, 0x00]),
-        (Rr::HandoverFailure(RrCause(8)), &[0x06, 0x28, 0x08]),
-        (Rr::HandoverFailure(RrCause(0)), &[0x06, 0x28, 0x00]),
-        (Rr::ChannelRelease(RrCause(1)), &[0x06, 0x0D, 0x01]),
-        (Rr::PhysicalInformation(63), &[0x06, 0x2D, 0x3F]),
-        (Rr::PhysicalInformation(255), &[0x06, 0x2D, 0xFF]),
-        (report()?, &REPORT),
+        row(Rr::HandoverComplete(RrCause(0)), &[0x06, 0x2C, 0x00]),
+        row(Rr::HandoverFailure(RrCause(8)), &[0x06, 0x28, 0x08]),
+        row(Rr::HandoverFailure(RrCause(0)), &[0x06, 0x28, 0x00]),
+        row(Rr::ChannelRelease(RrCause(1)), &[0x06, 0x0D, 0x01]),
+        row(Rr::PhysicalInformation(63), &[0x06, 0x2D, 0x3F]),
+        row(Rr::PhysicalInformation(255), &[0x06, 0x2D, 0xFF]),
+        row(report()?, &REPORT),
     ])
 }
 
 #[test]
 fn reads_and_writes_each_message(rt: HostRuntime) -> Result<(), Fail> {
     for (message, octets) in messages()? {
+        let octets = &octets[..text_len(&message)];
         assert_eq!(rt; decode(octets)?, message);
         assert_eq!(rt; encode(rt.alloc(), &message)?.as_slice(), octets);
 
@@ -91,7 +116,8 @@ fn reads_and_writes_each_message(rt: HostRuntime) -> Result<(), Fail> {
 
 #[test]
 fn refuses_each_truncation(rt: HostRuntime) -> Result<(), Fail> {
-    for (_, octets) in messages()? {
+    for (message, octets) in messages()? {
+        let octets = &octets[..text_len(&message)];
         for len in 0..octets.len() {
             let fault = if len == 0 {
                 RrFault::NotRr
@@ -160,6 +186,7 @@ fn reads_what_is_not_canonical(rt: HostRuntime) -> Result<(), Fail> {
 #[test]
 fn answers_each_refusal(rt: HostRuntime) -> Result<(), Fail> {
     for (message, octets) in messages()? {
+        let octets = &octets[..text_len(&message)];
         let mut refused = 0u64;
         for n in 1..100 {
             let heap = RefusingHeap::refusing_nth(rt.alloc(), n);
@@ -179,6 +206,7 @@ fn answers_each_refusal(rt: HostRuntime) -> Result<(), Fail> {
 #[test]
 fn takes_no_memory_where_there_is_room(rt: HostRuntime) -> Result<(), Fail> {
     for (message, octets) in messages()? {
+        let octets = &octets[..text_len(&message)];
         let heap = RefusingHeap::ample(rt.alloc());
         let mut out = Vec::with_capacity(&heap, 20)?;
         heap.refuse_from_now();
