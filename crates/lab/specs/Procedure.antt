@@ -213,10 +213,9 @@ line_plan site (line.Handover c cell) = handover_plan site c cell
 line_plan site (line.Undo c) = undo_plan c
 line_plan site (line.Clear c) = clear_plan c
 
--- the row of each message from a TRX of a cell; a controller sends the others, and nothing is asked for them
+-- the row of each message from a TRX of a cell; for a message without a row nothing is asked
 abbrev pub message_plan : {A : Type 0} → ℕ → ℕ → Rsl A → Plan
 message_plan cell trx (ChannelActivationAck channel frame) = confirm_plan (chan_of cell trx channel)
 message_plan cell trx (ChannelActivationNack channel cause) = refuse_plan (chan_of cell trx channel)
 message_plan cell trx (RfChannelReleaseAck channel) = released_plan (chan_of cell trx channel)
-message_plan cell trx (ChannelActivation channel activation_type mode reference) = Ends
-message_plan cell trx (RfChannelRelease channel) = Ends
+message_plan cell trx message = Ends

@@ -46,7 +46,7 @@ pub(super) fn handle_message<A: Allocator + Copy, B: Allocator + Copy>(
         Rsl::ChannelActivationAck { channel, .. } => confirm(book, handled, chan_of(cell, trx, *channel)),
         Rsl::ChannelActivationNack { channel, .. } => refuse(book, handled, chan_of(cell, trx, *channel)),
         Rsl::RfChannelReleaseAck { channel } => released(book, handled, chan_of(cell, trx, *channel)),
-        Rsl::ChannelActivation { .. } | Rsl::RfChannelRelease { .. } => Ok(()),
+        _ => Ok(()),
     }
 }
 

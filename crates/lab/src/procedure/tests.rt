@@ -262,3 +262,49 @@ fn octets_that_are_no_message_ask_nothing(rt: HostRuntime) -> Result<(), Fail> {
     }
     Ok(())
 }
+
+/// An input at a book in which call 1 is steady, or has an attempt whose activation was sent.
+fn refuse_in_turn(rt: &impl Abort, alloc: Global, attempted: bool, given: Given<'_>) -> Result<(), Fail> {
+    for request in 1..1000 {
+        let mut book = opened(alloc, alloc)?;
+        make_steady(rt, alloc, &mut book)?;
+        if attempted {
+            hand_over(rt, alloc, &mut book)?;
+        }
+        let heap = RefusingHeap::refusing_nth(alloc, request);
+        let Ok(input) = inbound(&heap, given) else {
+            continue;
+        };
+        match handle_plain(&heap, &mut book, input) {
+            Ok(_) => {
+                assert!(rt; !heap.was_refused(), "{given:?}");
+                return Ok(());
+            }
+            Err(fault) => {
+                assert_eq!(rt; fault, PlainFault::NoMemory, "{given:?}");
+                assert!(rt; heap.was_refused(), "{given:?}");
+            }
+        }
+    }
+    assert!(rt; false, "{given:?} always refuses");
+    Ok(())
+}
+
+#[test]
+fn refused_memory_is_answered(rt: HostRuntime) -> Result<(), Fail> {
+    let rows = [
+        (false, Given::Operator(Line::Open { call: 2, chan: FIRST })),
+        (false, Given::Operator(Line::Handover { call: 1, cell: 1 })),
+        (false, Given::Operator(Line::Clear { call: 1 })),
+        (true, Given::Operator(Line::Undo { call: 1 })),
+        (true, Given::Operator(Line::Clear { call: 1 })),
+        (true, Given::Abis(1, 1, &[0x08, 0x22, 0x01, 0x0B, 0x08, 0x00, 0x00])),
+        (true, Given::Abis(1, 1, &[0x08, 0x23, 0x01, 0x0B, 0x1A, 0x01, 0x20])),
+        (true, Given::Abis(1, 1, &[0x08, 0x33, 0x01, 0x0B])),
+        (true, Given::Abis(1, 1, &[0x08, 0x21, 0x01, 0x0B, 0x03, 0x00, 0x06, 0x01, 0x00])),
+    ];
+    for (attempted, given) in rows {
+        refuse_in_turn(&rt, rt.alloc(), attempted, given)?;
+    }
+    Ok(())
+}
