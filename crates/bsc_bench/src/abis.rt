@@ -14,10 +14,12 @@ fn activation_sum(message: &Rsl) -> Result<u64, Fault> {
             activation,
             mode,
             reference,
-        } => Ok(u64::from(channel.tn)
-            .wrapping_add(u64::from(*activation))
-            .wrapping_add(octets_sum(mode.as_slice()))
-            .wrapping_add(u64::from(reference.unwrap_or(0)))),
+        } => Ok(
+            u64::from(channel.tn)
+                .wrapping_add(u64::from(*activation))
+                .wrapping_add(octets_sum(mode.as_slice()))
+                .wrapping_add(u64::from(reference.unwrap_or(0))),
+        ),
         _ => Err(Fault::Words),
     }
 }

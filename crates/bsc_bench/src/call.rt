@@ -41,9 +41,11 @@ trx = [{ arfcn = 60, tch = [2, 3] }]
 /// Handles one input. The sum is that of the octets of all messages that are sent.
 fn handle(alloc: Global, book: &mut Book, input: Inbound) -> Result<u64, Fault> {
     let handled = handle_plain(alloc, book, input)?;
-    Ok(handled.out.iter().fold(0u64, |sum, message| match message {
-        Outbound::Abis { bytes, .. } => sum.wrapping_add(octets_sum(bytes.as_slice())),
-    }))
+    Ok(
+        handled.out.iter().fold(0u64, |sum, message| match message {
+            Outbound::Abis { bytes, .. } => sum.wrapping_add(octets_sum(bytes.as_slice())),
+        }),
+    )
 }
 
 /// Handles what a station sends on the channel's TRX.
@@ -55,16 +57,21 @@ fn hear(alloc: Global, book: &mut Book, octets: &[u8]) -> Result<u64, Fault> {
 
 /// A whole call: it is opened, its channel is acknowledged by these octets, it is cleared, its channel is released.
 fn call_once(alloc: Global, book: &mut Book, acknowledgement: &[u8]) -> Result<u64, Fault> {
-    let open = Line::Open { call: CALL, chan: CHAN };
+    let open = Line::Open {
+        call: CALL,
+        chan: CHAN,
+    };
     let clear = Line::Clear { call: CALL };
     let opened = handle(alloc, book, Inbound::Operator(open))?;
     let confirmed = hear(alloc, book, acknowledgement)?;
     let cleared = handle(alloc, book, Inbound::Operator(clear))?;
     let released = hear(alloc, book, &RELEASED)?;
-    Ok(opened
-        .wrapping_add(confirmed)
-        .wrapping_add(cleared)
-        .wrapping_add(released))
+    Ok(
+        opened
+            .wrapping_add(confirmed)
+            .wrapping_add(cleared)
+            .wrapping_add(released),
+    )
 }
 
 /// A whole call in each turn. The sum is that of the octets of all messages that are sent: a CHANNEL ACTIVATION and an

@@ -27,9 +27,18 @@ fn write_cell(text: &mut String, cell: u8) -> Result<(), AllocError> {
     let third = carrier + 2;
     writeln!(text, "[[cell]]\nlac = 1\nci = {cell}\nbcch = {carrier}")?;
     writeln!(text, "ncc = 1\nbcc = 1\npower = 5\nba = []")?;
-    writeln!(text, "trx = [{{ arfcn = {carrier}, tch = [1, 2, 3, 4, 5, 6, 7] }},")?;
-    writeln!(text, "{{ arfcn = {second}, tch = [0, 1, 2, 3, 4, 5, 6, 7] }},")?;
-    writeln!(text, "{{ arfcn = {third}, tch = [0, 1, 2, 3, 4, 5, 6, 7] }}]")
+    writeln!(
+        text,
+        "trx = [{{ arfcn = {carrier}, tch = [1, 2, 3, 4, 5, 6, 7] }},"
+    )?;
+    writeln!(
+        text,
+        "{{ arfcn = {second}, tch = [0, 1, 2, 3, 4, 5, 6, 7] }},"
+    )?;
+    writeln!(
+        text,
+        "{{ arfcn = {third}, tch = [0, 1, 2, 3, 4, 5, 6, 7] }}]"
+    )
 }
 
 /// The site file of 64 cells.

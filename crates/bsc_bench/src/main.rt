@@ -41,7 +41,12 @@ fn sum_of(alloc: Global, work: Work, count: u64, octets: &[u8]) -> Result<u64, F
 }
 
 /// Does a work and prints its line.
-fn show<R: Print + AllocGlobal>(rt: &R, work: Work, count: u64, octets: &[u8]) -> Result<(), Fault> {
+fn show<R: Print + AllocGlobal>(
+    rt: &R,
+    work: Work,
+    count: u64,
+    octets: &[u8],
+) -> Result<(), Fault> {
     let sum = sum_of(rt.alloc(), work, count, octets)?;
     println!(rt; "{work} {count} {sum}")?;
     Ok(())
@@ -51,9 +56,17 @@ fn show<R: Print + AllocGlobal>(rt: &R, work: Work, count: u64, octets: &[u8]) -
 fn start<R: Print + Env + AllocGlobal>(rt: &R) -> Result<(), Fault> {
     let alloc = rt.alloc();
     let words: Vec<String> = env::args(rt)?.collect(alloc)?;
-    let words: Vec<&str> = words.iter().skip(1).map(|word| word.as_str()).collect(alloc)?;
+    let words: Vec<&str> = words
+        .iter()
+        .skip(1)
+        .map(|word| word.as_str())
+        .collect(alloc)?;
     match read_words(alloc, &words)? {
-        Job::One { work, count, octets } => show(rt, work, count, octets.as_slice())?,
+        Job::One {
+            work,
+            count,
+            octets,
+        } => show(rt, work, count, octets.as_slice())?,
         Job::All { count } => {
             for work in Work::ALL {
                 show(rt, work, count, work.octets())?;

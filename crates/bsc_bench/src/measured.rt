@@ -34,9 +34,11 @@ fn result_sum(message: &Rsl) -> Result<u64, Fault> {
         } => {
             let head = u64::from(channel.tn) + u64::from(*number) + u64::from(*power);
             let results = read_results(layer3.as_slice())?;
-            Ok(octets_sum(uplink.as_slice())
-                .wrapping_add(head)
-                .wrapping_add(results_sum(&results)))
+            Ok(
+                octets_sum(uplink.as_slice())
+                    .wrapping_add(head)
+                    .wrapping_add(results_sum(&results)),
+            )
         }
         _ => Err(Fault::Words),
     }

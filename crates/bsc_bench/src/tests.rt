@@ -38,16 +38,31 @@ fn each_work_has_its_sum(rt: HostRuntime) -> Result<(), Fail> {
 fn other_octets_of_the_message(rt: HostRuntime) -> Result<(), Fail> {
     // reference 255 wraps to 0: 3 + 2 + 10 + 255, then 3 + 2 + 10
     let octets = [8, 0x21, 1, 0x0B, 3, 2, 6, 4, 0, 1, 8, 1, 9, 255];
-    assert_eq!(rt; sum_of(rt.alloc(), Work::DecodeActivation, 2, &octets)?, 285);
+    assert_eq!(rt;
+        sum_of(rt.alloc(), Work::DecodeActivation, 2, &octets)?,
+        285
+    );
     Ok(())
 }
 
 #[test]
 fn octets_of_no_such_message(rt: HostRuntime) {
     let release = [8, 0x2E, 1, 0x0B];
-    for work in [Work::DecodeActivation, Work::EncodeActivation, Work::DecodeMeasurement] {
-        assert_eq!(rt; sum_of(rt.alloc(), work, 1, &release), Err(Fault::Words), "{work}");
-        assert_eq!(rt; sum_of(rt.alloc(), work, 1, &[]), Err(Fault::Words), "{work}");
+    for work in [
+        Work::DecodeActivation,
+        Work::EncodeActivation,
+        Work::DecodeMeasurement,
+    ] {
+        assert_eq!(rt;
+            sum_of(rt.alloc(), work, 1, &release),
+            Err(Fault::Words),
+            "{work}"
+        );
+        assert_eq!(rt;
+            sum_of(rt.alloc(), work, 1, &[]),
+            Err(Fault::Words),
+            "{work}"
+        );
     }
 }
 
@@ -65,15 +80,32 @@ fn words_that_ask_for_nothing(rt: HostRuntime) {
         &["chan_act.dec", "1", "00", "00"],
     ];
     for words in wrong {
-        assert!(rt; matches!(read_words(rt.alloc(), words), Err(Fault::Words)), "{words:?}");
+        assert!(rt;
+            matches!(read_words(rt.alloc(), words), Err(Fault::Words)),
+            "{words:?}"
+        );
     }
 }
 
 #[test]
 fn words_that_ask_for_work(rt: HostRuntime) -> Result<(), Fail> {
-    assert!(rt; matches!(read_words(rt.alloc(), &["all", "7"])?, Job::All { count: 7 }));
+    assert!(rt;
+        matches!(
+            read_words(rt.alloc(), &["all", "7"])?,
+            Job::All { count: 7 }
+        )
+    );
     let job = read_words(rt.alloc(), &["ho_command.enc", "3", "062B"])?;
-    assert!(rt; matches!(job, Job::One { work: Work::EncodeCommand, count: 3, .. }));
+    assert!(rt;
+        matches!(
+            job,
+            Job::One {
+                work: Work::EncodeCommand,
+                count: 3,
+                ..
+            }
+        )
+    );
     let Job::One { octets, .. } = job else {
         return Ok(());
     };
@@ -83,7 +115,12 @@ fn words_that_ask_for_work(rt: HostRuntime) -> Result<(), Fail> {
 
 #[test]
 fn statuses(rt: HostRuntime) {
-    for (fault, status) in [(Fault::Words, 2), (Fault::NoMemory, 3), (Fault::Output, 1), (Fault::Setting, 1)] {
+    for (fault, status) in [
+        (Fault::Words, 2),
+        (Fault::NoMemory, 3),
+        (Fault::Output, 1),
+        (Fault::Setting, 1),
+    ] {
         assert_eq!(rt; fault.status(), status, "{fault}");
     }
 }

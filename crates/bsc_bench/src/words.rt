@@ -14,7 +14,9 @@ pub enum Job {
         octets: Vec<u8>,
     },
     /// Every work, so many times, on its own octets.
-    All { count: u64 },
+    All {
+        count: u64,
+    },
 }
 
 /// Octets in hexadecimal.
@@ -43,7 +45,11 @@ pub fn read_words(alloc: Global, words: &[&str]) -> Result<Job, Fault> {
             let work = read_work(name)?;
             let count = read_count(count)?;
             let octets = Vec::from_slice(alloc, work.octets())?;
-            Ok(Job::One { work, count, octets })
+            Ok(Job::One {
+                work,
+                count,
+                octets,
+            })
         }
         [name, count, octets] => Ok(Job::One {
             work: read_work(name)?,
