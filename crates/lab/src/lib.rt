@@ -4,3 +4,9 @@
 
 pub mod exchange;
 pub mod procedure;
+pub mod run;
+pub mod script;
+#[cfg(test)]
+mod tests;
+pub mod trace;
+pub mod words;

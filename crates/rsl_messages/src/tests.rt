@@ -203,6 +203,7 @@ fn reads_other_texts_of_a_message(rt: HostRuntime) -> Result<(), Fail> {
     ];
     for (text, written) in rows {
         let message = decode(rt.alloc(), text)?;
+        assert!(rt; fits(&message));
         assert_eq!(rt;
             encode(rt.alloc(), &message)?.as_slice(),
             written,
@@ -279,6 +280,7 @@ fn has_at_most_1024_octets(rt: HostRuntime) -> Result<(), Fail> {
     let mut octets = [0; 1024];
     octets[..4].copy_from_slice(RELEASE);
     let message = decode(rt.alloc(), &octets)?;
+    assert!(rt; fits(&message));
     assert_eq!(rt; encode(rt.alloc(), &message)?.as_slice(), RELEASE);
     Ok(())
 }
@@ -472,6 +474,7 @@ fn refused_memory_leaves_what_was_written(rt: HostRuntime) -> Result<(), Fail> {
     for text in TEXTS {
         let heap = RefusingHeap::ample(rt.alloc());
         let message = decode(&heap, text)?;
+        assert!(rt; fits(&message));
         // with room for the text it takes no memory
         let mut out = Vec::with_capacity(&heap, text.len())?;
         let mut full = Vec::new(&heap);
