@@ -1,5 +1,5 @@
 -- Which channels a choice finds, and how many it counts.
-use Rattle.std.proofs.Common.{◌≡◌, ◌==◌, IfSome, IfNone, ℕ, ◌+◌, ◌*◌, lit≤, ◌<◌, ◌≤◌, ◌/◌, ◌%◌, Bool, true, false, ◌&&◌, cond, List, [], ◌∷◌, length, get_or, take, drop, map as map_list, count_by, Option, Some, None, slice_get, option_and_then, unwrap_or, refl, sym, ap, ◌∙◌, subst, zero-add, arith}
+use Rattle.std.proofs.Common.{◌≡◌, ◌==◌, IfSome, IfNone, ℕ, ◌+◌, ◌*◌, lit≤, ◌<◌, ◌≤◌, ◌/◌, ◌%◌, Bool, true, false, cond, List, [], ◌∷◌, length, get_or, take, drop, map as map_list, count_by, Option, Some, None, slice_get, option_and_then, unwrap_or, refl, sym, ap, ◌∙◌, subst, zero-add, arith}
 use Rattle.std.specs.List.{find, list_any, range_with_len}
 use Rattle.std.specs.Int.{from_bool}
 use Rattle.std.proofs.lemmas.List.{at_drop_more, drop_all, take_all}
@@ -10,7 +10,7 @@ use Rattle.std.proofs.lemmas.Bool.{and_parts, and_from}
 use Rattle.radio_book.specs.declared.channel.ChanId.{ChanId}
 use Rattle.radio_book.specs.declared.channel.ChanState.{ChanState}
 use Rattle.radio_book.specs.declared.channel.ChanState.TheVariants.{Free, Held, Pending, On, Off}
-use Rattle.radio_book.specs.Site.{SiteView, IsSite, is_traffic, timeslots}
+use Rattle.radio_book.specs.Site.{IsSite, is_traffic}
 use Rattle.radio_book.specs.State.{State, state_of}
 use Rattle.radio_book.specs.Choice.{IsFreeIn, NoneFree, channels_of, channel_at, is_free, is_free_traffic, free_count}
 use Rattle.radio_book.proofs.SiteFacts.{traffic_limits}

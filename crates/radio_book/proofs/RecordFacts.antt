@@ -1,5 +1,5 @@
 -- What a sound book says of the channels that an event reads.
-use Rattle.std.proofs.Common.{◌≡◌, ◌≢◌, ℕ, Bool, true, false, Option, Some, None, IsSome, is_some, Result, Ok, Err, OnOk, OnErr, refl, sym, ap, ◌∙◌, subst}
+use Rattle.std.proofs.Common.{◌≡◌, ◌≢◌, ℕ, true, false, Option, Some, None, IsSome, is_some, Result, Ok, Err, OnOk, OnErr, refl, sym, ap, ◌∙◌, subst}
 use Rattle.std.specs.FinMap as map
 use Rattle.radio_book.specs.declared.channel.ChanId.{ChanId}
 use Rattle.radio_book.specs.declared.channel.ChanState.{ChanState}
@@ -8,7 +8,6 @@ use Rattle.radio_book.specs.declared.event.Stage.{Stage}
 use Rattle.radio_book.specs.declared.event.Stage.TheVariants.{Taken, Reserved, Sent, Refused, Confirmed}
 use Rattle.radio_book.specs.declared.event.Attempt.{Attempt}
 use Rattle.radio_book.specs.declared.event.CallRecord.{CallRecord}
-use Rattle.radio_book.specs.declared.event.Kind.TheVariants as kind
 use Rattle.radio_book.specs.declared.event.Event.{Event}
 use Rattle.radio_book.specs.declared.event.Event.TheVariants as event
 use Rattle.radio_book.specs.declared.event.Refusal.TheVariants.{ChannelBusy}
@@ -16,8 +15,8 @@ use Rattle.radio_book.specs.declared.journal.Inverse.{Inverse}
 use Rattle.radio_book.specs.Site.{is_traffic}
 use Rattle.radio_book.specs.State.{State, or_free, state_of, record_of}
 use Rattle.radio_book.specs.Sound.{IsSound, owner, target_state}
-use Rattle.radio_book.specs.Table.{Outcome, Refuses, Accepts, row, step, open_row, take_incoming, take_from, take_internal}
-use Rattle.radio_book.specs.Journal.{journal_of, inverses_at, stage_inverses, opening_inverse, or_zero}
+use Rattle.radio_book.specs.Table.{Refuses, row, step, open_row, take_incoming, take_from}
+use Rattle.radio_book.specs.Journal.{inverses_at, stage_inverses, opening_inverse, or_zero}
 use Rattle.radio_book.specs.Waiting.{MayMove}
 use Rattle.radio_book.proofs.SoundSteps.{sound_step}
 

@@ -1,6 +1,5 @@
 -- What a radio book is: four finite maps over a site.
-use Rattle.std.specs.Prelude.{◌≡◌, ℕ, List, Option, Some, None, refl}
-use Rattle.std.specs.Option.{option_map}
+use Rattle.std.specs.Prelude.{ℕ, Option, Some, None, refl}
 use Rattle.std.specs.Ordering.{nat_cmp}
 use Rattle.std.specs.Coded.{Coded, code_by, coded×, coded_ℕ, coded_list}
 use Rattle.std.specs.FinMap as map

@@ -6,7 +6,7 @@ use Rattle.std.proofs.Math.Seq.{take-length}
 use Rattle.std.proofs.Math.Nat.{mod-eq_of_lt, pow-suc, suc-mul}
 use Rattle.std.specs.Int.{byte_at, bytes_high_first, to_be_bytes, w128}
 use Rattle.std.specs.Int.RustNames.{bit_or}
-use Rattle.rr_elements.specs.Bits.{bits, bits_of, number_of, cut, written, octets_of}
+use Rattle.rr_elements.specs.Bits.{bits, number_of, cut, octets_of}
 
 pub length-bits : (w n : ℕ) → length (bits w n) ≡ w
 unfolding bits

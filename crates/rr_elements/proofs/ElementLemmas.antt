@@ -1,5 +1,5 @@
 -- Texts of the short elements: each is read as its value, and what is written is a text.
-use Rattle.std.proofs.Common.{◌≡◌, ◌∙◌, sym, ℕ, ◌+◌, ◌*◌, ◌/◌, ◌%◌, ◌^◌, ◌<◌, ◌==◌, Bool, true, false, List, length, refl, ap, arith, Ok}
+use Rattle.std.proofs.Common.{◌≡◌, ◌∙◌, ℕ, ◌+◌, ◌*◌, ◌/◌, ◌%◌, ◌^◌, ◌<◌, ◌==◌, Bool, true, false, List, length, refl, ap, arith, Ok}
 use Rattle.rr_elements.specs.Fields.{flag}
 use Rattle.rr_elements.specs.CellDescription.{Cell, CellFits, IsCellText, cell_widths, cell_numbers, cell_text, cell_of, cell_said}
 use Rattle.rr_elements.specs.ChanDescription.{Chan, ChanFits, IsChanText, chan_widths, chan_numbers, chan_text, chan_of, chan_said}

@@ -1,12 +1,12 @@
 -- Fields that are written and cut again.
-use Rattle.std.proofs.Common.{◌≡◌, ◌∙◌, sym, ℕ, zero, suc, ◌+◌, ◌*◌, ◌/◌, ◌%◌, ◌-◌, ◌^◌, ◌<◌, ◌≤◌, List, [], ◌∷◌, ◌++◌, length, take, drop, replicate, flat_map, refl, ap, arith}
-use Rattle.std.proofs.lemmas.List.{take_at, drop_at, length-append}
+use Rattle.std.proofs.Common.{◌≡◌, ◌∙◌, sym, ℕ, zero, suc, ◌+◌, ◌*◌, ◌/◌, ◌%◌, ◌^◌, ◌<◌, List, [], ◌∷◌, ◌++◌, length, take, drop, replicate, refl, ap, arith}
+use Rattle.std.proofs.lemmas.List.{take_at, drop_at}
 use Rattle.std.proofs.lemmas.List.Concat.{flat_map-cons}
-use Rattle.std.proofs.lemmas.Nat.{mod-pow-add, mod_below, pow_pos}
+use Rattle.std.proofs.lemmas.Nat.{mod_below, pow_pos}
 use Rattle.std.proofs.Math.Nat.{mod-eq_of_lt}
-use Rattle.rr_elements.specs.Bits.{bits, bits_of, number_of, total, cut, written, octets_of}
+use Rattle.rr_elements.specs.Bits.{bits, bits_of, number_of, total, cut, written}
 use Rattle.rr_elements.specs.Fields.{AreFields, spelled}
-use Rattle.rr_elements.proofs.BitLemmas.{length-bits, number_of-bits, bits-add, bits-same, bits-put, put_below, take-bits, drop-bits, number_of-take-bits, length-octets_of}
+use Rattle.rr_elements.proofs.BitLemmas.{length-bits, number_of-bits, bits-add, bits-same, bits-put, put_below, drop-bits, number_of-take-bits, length-octets_of}
 
 -- each number fits its width
 abbrev pub FieldsFit : List ℕ → List ℕ → Type 0

@@ -1,12 +1,12 @@
 -- How measurement results are kept: six places, the unused ones 0.
-use Rattle.std.proofs.Common.{◌≡◌, ◌∙◌, sym, ℕ, ◌+◌, ◌-◌, ◌<◌, ◌≤◌, ◌==◌, Bool, true, false, if◌then◌else◌, List, [], ◌∷◌, ◌++◌, length, take, drop, replicate, refl, ap, arith, All}
+use Rattle.std.proofs.Common.{◌≡◌, ◌∙◌, sym, ℕ, ◌+◌, ◌-◌, ◌<◌, ◌≤◌, List, ◌++◌, length, take, drop, replicate, ap, arith, All}
 use Rattle.std.proofs.lemmas.Bool.Decides.{nat_tests}
-use Rattle.std.proofs.lemmas.List.{take_at, drop_at, take-append-drop, drop-replicate, length-append, length-replicate, length-take-le}
+use Rattle.std.proofs.lemmas.List.{take_at, drop_at, drop-replicate, length-append, length-replicate, length-take-le}
 use Rattle.std.proofs.lemmas.List.Elements.{All-append, All-same, All-replicate}
 use Rattle.rr_elements.specs.declared.measurement.MeasHead.{MeasHead}
 use Rattle.rr_elements.specs.declared.measurement.Ncell.{Ncell}
 use Rattle.rr_elements.specs.ResultsKept.{kept_again}
-use Rattle.rr_elements.specs.MeasResults.{HeadFits, NcellFits, ResultsFit, IsKept, used, no_ncell}
+use Rattle.rr_elements.specs.MeasResults.{HeadFits, NcellFits, IsKept, used, no_ncell}
 
 pub used_le : (count : ℕ) → count < 8 → used count ≤ 6
 used_le count h = grind (arith, nat_tests)

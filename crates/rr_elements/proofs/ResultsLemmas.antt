@@ -1,13 +1,13 @@
 -- Measurement results, read and written.
-use Rattle.std.proofs.Common.{◌≡◌, ◌∙◌, sym, ℕ, zero, suc, ◌+◌, ◌*◌, ◌-◌, ◌<◌, ◌≤◌, ◌==◌, Bool, true, false, not, if◌then◌else◌, List, [], ◌∷◌, ◌++◌, append_assoc, length, take, drop, replicate, flat_map, refl, ap, arith, All, sum, Ok, Err}
+use Rattle.std.proofs.Common.{◌≡◌, ◌∙◌, sym, ℕ, zero, suc, ◌+◌, ◌*◌, ◌-◌, ◌≤◌, ◌==◌, Bool, true, false, not, List, [], ◌∷◌, ◌++◌, length, take, replicate, flat_map, refl, ap, arith, Ok}
 use Rattle.std.proofs.lemmas.Grind.{flat_map-append}
-use Rattle.std.proofs.lemmas.List.{take_at, length-append}
+use Rattle.std.proofs.lemmas.List.{take_at}
 use Rattle.std.proofs.lemmas.List.{length-take-le}
 use Rattle.rr_elements.specs.declared.measurement.MeasHead.{MeasHead}
 use Rattle.rr_elements.specs.declared.measurement.Ncell.{Ncell}
 use Rattle.rr_elements.specs.Bits.{bits_of, cut, after, repeated, written}
-use Rattle.rr_elements.specs.Fields.{AreFields, flag}
-use Rattle.rr_elements.specs.MeasResults.{Results, HeadFits, IsKept, IsResultsText, used, head_widths, head_numbers, ncell_widths, ncell_numbers, results_widths, results_numbers, ncells_of, results_of, results_said, no_ncell}
+use Rattle.rr_elements.specs.Fields.{flag}
+use Rattle.rr_elements.specs.MeasResults.{Results, IsKept, IsResultsText, used, head_widths, head_numbers, ncell_widths, ncell_numbers, results_widths, results_numbers, ncells_of, results_of, results_said, no_ncell}
 use Rattle.rr_elements.proofs.CutLemmas.{cut-append, repeated-add, written-append}
 use Rattle.rr_elements.specs.ResultsKept.{kept_again}
 use Rattle.rr_elements.proofs.ElementLemmas.{flag-one}

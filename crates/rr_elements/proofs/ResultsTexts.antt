@@ -1,10 +1,10 @@
 -- What is written of measurement results is a text of them.
-use Rattle.std.proofs.Common.{◌≡◌, ◌∙◌, sym, ℕ, ◌+◌, ◌-◌, ◌<◌, ◌≤◌, ◌^◌, List, [], ◌∷◌, ◌++◌, length, replicate, flat_map, refl, ap, arith, All, not, Ok}
+use Rattle.std.proofs.Common.{◌≡◌, ◌∙◌, ◌+◌, ◌-◌, List, [], ◌∷◌, ◌++◌, length, replicate, flat_map, refl, ap, arith, All, not, Ok}
 use Rattle.std.proofs.lemmas.List.{length-replicate, length-append}
 use Rattle.std.proofs.lemmas.List.Elements.{All-append, All-replicate, All-head, All-tail}
 use Rattle.rr_elements.specs.declared.measurement.Ncell.{Ncell}
 use Rattle.rr_elements.specs.Bits.{repeated}
-use Rattle.rr_elements.specs.MeasResults.{Results, ResultsFit, HeadFits, NcellFits, IsResultsText, used, head_widths, head_numbers, ncell_widths, ncell_numbers, results_widths, results_numbers, results_text, results_said, no_ncell}
+use Rattle.rr_elements.specs.MeasResults.{Results, ResultsFit, NcellFits, IsResultsText, head_widths, head_numbers, ncell_widths, ncell_numbers, results_widths, results_numbers, results_text, results_said, no_ncell}
 use Rattle.rr_elements.proofs.ElementLemmas.{flag_below}
 use Rattle.rr_elements.proofs.FieldLemmas.{FieldsFit, fit-append, spelled-fields}
 use Rattle.rr_elements.proofs.ResultsLemmas.{text-said}

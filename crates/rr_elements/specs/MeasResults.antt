@@ -1,5 +1,5 @@
 -- Measurement Results (TS 44.018 section 10.5.2.20), without an identifier: 128 bits.
-use Rattle.std.specs.Prelude.{◌≡◌, ℕ, ◌+◌, ◌*◌, ◌-◌, ◌/◌, ◌%◌, ◌^◌, ◌<◌, ◌==◌, if◌then◌else◌, Bool, not, List, [], ◌∷◌, ◌++◌, length, take, drop, replicate, flat_map, All, Result, Ok, Err}
+use Rattle.std.specs.Prelude.{◌≡◌, ℕ, ◌+◌, ◌-◌, ◌^◌, ◌<◌, ◌==◌, if◌then◌else◌, not, List, [], ◌∷◌, ◌++◌, length, take, drop, replicate, flat_map, All, Result, Ok, Err}
 use Rattle.rr_elements.specs.Bits.{bits_of, cut, repeated}
 use Rattle.rr_elements.specs.Fields.{AreFields, spelled, flag}
 use Rattle.rr_elements.specs.declared.fault.ElementFault.{ElementFault}

@@ -66,6 +66,11 @@ fn text_len(message: &Rr) -> usize
     }
 }
 
+// The text alone.
+fn text<'a>(message: &Rr, octets: &'a [u8; 18]) -> &'a [u8] {
+    &octets[..text_len(message)]
+}
+
 fn messages() -> Result<[(Rr, [u8; 18]); 10], ElementFault> {
     let first = command((871, 2, 5), (3, 5, 875), 42, 5)?;
     let second = command((871, 2, 5), (3, 5, 875), 0, 5)?;
@@ -96,7 +101,7 @@ fn messages() -> Result<[(Rr, [u8; 18]); 10], ElementFault> {
 #[test]
 fn reads_and_writes_each_message(rt: HostRuntime) -> Result<(), Fail> {
     for (message, octets) in messages()? {
-        let octets = &octets[..text_len(&message)];
+        let octets = text(&message, &octets);
         assert_eq!(rt; decode(octets)?, message);
         assert_eq!(rt; encode(rt.alloc(), &message)?.as_slice(), octets);
 
@@ -117,7 +122,7 @@ fn reads_and_writes_each_message(rt: HostRuntime) -> Result<(), Fail> {
 #[test]
 fn refuses_each_truncation(rt: HostRuntime) -> Result<(), Fail> {
     for (message, octets) in messages()? {
-        let octets = &octets[..text_len(&message)];
+        let octets = text(&message, &octets);
         for len in 0..octets.len() {
             let fault = if len == 0 {
                 RrFault::NotRr
@@ -186,14 +191,14 @@ fn reads_what_is_not_canonical(rt: HostRuntime) -> Result<(), Fail> {
 #[test]
 fn answers_each_refusal(rt: HostRuntime) -> Result<(), Fail> {
     for (message, octets) in messages()? {
-        let octets = &octets[..text_len(&message)];
+        let octets = text(&message, &octets);
         let mut refused = 0u64;
         for n in 1..100 {
             let heap = RefusingHeap::refusing_nth(rt.alloc(), n);
             let answer = encode(&heap, &message);
             assert_eq!(rt; answer.is_err(), heap.was_refused(), "request {n}");
-            if let Ok(text) = answer {
-                assert_eq!(rt; text.as_slice(), octets);
+            if let Ok(written) = answer {
+                assert_eq!(rt; written.as_slice(), octets);
                 break;
             }
             refused = refused.saturating_add(1);
@@ -206,7 +211,7 @@ fn answers_each_refusal(rt: HostRuntime) -> Result<(), Fail> {
 #[test]
 fn takes_no_memory_where_there_is_room(rt: HostRuntime) -> Result<(), Fail> {
     for (message, octets) in messages()? {
-        let octets = &octets[..text_len(&message)];
+        let octets = text(&message, &octets);
         let heap = RefusingHeap::ample(rt.alloc());
         let mut out = Vec::with_capacity(&heap, 20)?;
         heap.refuse_from_now();

@@ -1,6 +1,6 @@
 -- A text has one value and no fault.
-use Rattle.std.proofs.Common.{IfOk, IfErr, ◌≢◌, ◌≡◌, ℕ, ◌/◌, ◌<◌, ◌≤◌, List, [], ◌∷◌, Option, Some, None, Result, Ok, Err, refl, sym, ◌∙◌, ap, arith, subst, cond, eqb, inl, inr, length}
-use Rattle.octet_elements.specs.Elements.{Element, AreElements, AreTorn, IsTornAt}
+use Rattle.std.proofs.Common.{IfOk, IfErr, ◌≢◌, ◌≡◌, ℕ, ◌/◌, List, Option, Some, None, Result, Ok, Err, refl, sym, ◌∙◌, ap, arith, subst, cond, eqb, inl, inr}
+use Rattle.octet_elements.specs.Elements.{AreElements, IsTornAt}
 use Rattle.octet_elements.proofs.Splits.{same_elements, whole_not_torn}
 use Rattle.rsl_messages.specs.declared.fault.ElementFault.{ElementFault}
 use Rattle.rsl_messages.specs.declared.fault.RslFault.{RslFault}
@@ -9,9 +9,9 @@ use Rattle.rsl_messages.specs.declared.head.MessageKind.{MessageKind}
 use Rattle.rsl_messages.specs.declared.head.MessageKind.TheVariants as kind
 use Rattle.rsl_messages.specs.declared.message.Rsl.{Rsl}
 use Rattle.rsl_messages.specs.Forms.{abis}
-use Rattle.rsl_messages.specs.Heads.{IsDiscriminator, IsHead, Begins, head_of}
+use Rattle.rsl_messages.specs.Heads.{IsDiscriminator, IsHead, Begins}
 use Rattle.rsl_messages.specs.Messages.{Said, meaning_of}
-use Rattle.rsl_messages.specs.Texts.{Says, IsTextOf, HasFaultInBody, HasFault, limit}
+use Rattle.rsl_messages.specs.Texts.{Says, IsTextOf, HasFault}
 
 -- which message has half of its discriminator and its type
 kind_at : ℕ → ℕ → Option MessageKind

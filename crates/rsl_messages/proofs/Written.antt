@@ -1,5 +1,5 @@
 -- A message has a canonical text exactly where its fields can be written.
-use Rattle.std.proofs.Common.{◌≡◌, ◌≢◌, ℕ, ◌+◌, ◌*◌, ◌<◌, ◌≤◌, ◌/◌, ◌%◌, List, [], ◌∷◌, ◌++◌, length, length-append, Option, Some, None, Result, Ok, Err, refl, sym, ◌∙◌, ap, arith, subst, cond, eqb, Bool, true, false}
+use Rattle.std.proofs.Common.{◌≡◌, ℕ, ◌+◌, ◌*◌, ◌<◌, ◌≤◌, ◌/◌, ◌%◌, List, [], ◌∷◌, ◌++◌, length, length-append, Option, Some, None, Result, Ok, Err, refl, sym, ◌∙◌, ap, arith, subst, cond, eqb, Bool, true, false}
 use Rattle.std.proofs.lemmas.Bool.Decides.{nat_tests}
 use borrow.Author.Tests.{eq-eqb}
 use Rattle.std.specs.List.{AllByRecursion}
@@ -12,9 +12,9 @@ use Rattle.rsl_messages.specs.declared.message.Rsl.TheVariants.{DataRequest, Dat
 use Rattle.rsl_messages.specs.declared.fault.ElementFault.{ElementFault}
 use Rattle.rsl_messages.specs.declared.fault.ElementFault.TheVariants.{Bad}
 use Rattle.rsl_messages.specs.Forms.{abis}
-use Rattle.rsl_messages.specs.Values.{channel_in, channel_octet, octet_in, optional_octet_in, pair_in, pair_octets, octets_in, optional_octets_in, any_octets_in, where_some, where_value}
-use Rattle.rsl_messages.specs.Messages.{Said, elements_of, data_request, data_indication, channel_activation, channel_activation_ack, channel_activation_nack, connection_failure, handover_detection, measurement_result, rf_channel_release, rf_channel_release_ack}
-use Rattle.rsl_messages.specs.Texts.{HasCanonical, IsWritable, canonical, limit}
+use Rattle.rsl_messages.specs.Values.{channel_in, channel_octet, optional_octet_in, pair_in, pair_octets, octets_in, optional_octets_in, where_some}
+use Rattle.rsl_messages.specs.Messages.{Said, data_request, data_indication, channel_activation, channel_activation_ack, channel_activation_nack, connection_failure, handover_detection, measurement_result, rf_channel_release, rf_channel_release_ack}
+use Rattle.rsl_messages.specs.Texts.{HasCanonical, IsWritable}
 
 -- Each reader reads again what is written.
 channel_again : (channel : ChanBits) → channel.tn < 8 → channel_in (Some (channel_octet channel ∷ [])) ≡ Ok channel

@@ -1,5 +1,5 @@
 -- The messages: what their elements say, and how they are written.
-use Rattle.std.specs.Prelude.{ℕ, List, [], ◌∷◌, Option, Result, Ok, Err}
+use Rattle.std.specs.Prelude.{ℕ, List, [], ◌∷◌, Option, Result, Ok}
 use Rattle.octet_elements.specs.Elements.{Element, first_of}
 use Rattle.octet_elements.specs.Reading.{◌>>=◌}
 use Rattle.rsl_messages.specs.declared.fault.ElementFault.{ElementFault}

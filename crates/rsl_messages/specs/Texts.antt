@@ -1,6 +1,6 @@
 -- Which octets are the text of a message, what is wrong with all others, and which text is written
 -- (TS 48.058 clause 9).
-use Rattle.std.specs.Prelude.{◌≡◌, ◌⊎◌, ℕ, ◌+◌, ◌<◌, ◌≤◌, List, [], ◌∷◌, ◌++◌, length, Option, Some, None, Result, Ok, Err}
+use Rattle.std.specs.Prelude.{◌≡◌, ◌⊎◌, ℕ, ◌+◌, ◌<◌, ◌≤◌, List, ◌∷◌, length, Some, None, Result, Ok, Err}
 use Rattle.std.specs.List.{AllByRecursion}
 use Rattle.octet_elements.specs.Elements.{Element, Fits, AreElements, IsTornAt, all_spelled}
 use Rattle.rsl_messages.specs.declared.fault.ElementFault.{ElementFault}

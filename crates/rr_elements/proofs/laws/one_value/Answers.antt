@@ -1,4 +1,4 @@
-use Rattle.std.proofs.Common.{◌≡◌, ◌∙◌, sym, Ok, Result}
+use Rattle.std.proofs.Common.{◌≡◌, Ok, Result}
 use Rattle.rr_elements.specs.declared.fault.ElementFault.{ElementFault}
 use Rattle.rr_elements.proofs.ElementLemmas.{cell-said, chan-said, power-said, cause-said}
 use Rattle.rr_elements.proofs.ResultsLemmas.{text-said}

@@ -1,4 +1,4 @@
-use Rattle.std.proofs.Common.{◌≡◌, ◌∙◌, ◌+◌, ◌*◌, ◌-◌, ◌++◌, ◌∷◌, [], sym, ap, arith, rules, All, length, take, drop, replicate, flat_map, slice_set}
+use Rattle.std.proofs.Common.{◌≡◌, ◌∙◌, ◌+◌, ◌-◌, ◌++◌, ◌∷◌, [], sym, ap, arith, rules, take, drop, replicate, flat_map}
 use Rattle.std.proofs.lemmas.Grind.{take-set_at, flat_map-append}
 use Rattle.std.proofs.lemmas.List.{drop-set-lt, drop-replicate, drop-drop}
 use Rattle.std.proofs.lemmas.List.Elements.{All-push, All-same}

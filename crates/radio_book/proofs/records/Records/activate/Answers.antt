@@ -1,4 +1,4 @@
-use Rattle.std.proofs.Common.{◌≡◌, sym, ◌∙◌, ap, is_some}
+use Rattle.std.proofs.Common.{sym, ◌∙◌, ap, is_some}
 use Rattle.std.specs.FinMap as map
 use Rattle.radio_book.specs.State.{record_of}
 use Rattle.radio_book.proofs.RecordFacts.{target_there}

@@ -1,4 +1,4 @@
-use Rattle.std.proofs.Common.{◌≡◌, sym, ◌∙◌, ap}
+use Rattle.std.proofs.Common.{sym, ◌∙◌, ap}
 use Rattle.radio_book.specs.State.{record_of}
 use Rattle.radio_book.proofs.RecordFacts.{serving_there}
 use Rattle.radio_book.proofs.records.Records.clear.Goals as goal

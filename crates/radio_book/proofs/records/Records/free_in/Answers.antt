@@ -1,4 +1,4 @@
-use Rattle.std.proofs.Common.{◌≡◌, sym, ◌∙◌, ap, count_by, arith}
+use Rattle.std.proofs.Common.{◌∙◌, ap, arith}
 use Rattle.std.specs.Int.{from_bool}
 use Rattle.radio_book.specs.Choice.{is_free_traffic}
 use Rattle.radio_book.proofs.Chosen.{counted_at, counted_all, one_at_most}

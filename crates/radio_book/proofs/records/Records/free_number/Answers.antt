@@ -1,4 +1,4 @@
-use Rattle.std.proofs.Common.{◌≡◌, ◌≤◌, ◌<◌, is_some, true, sym, ◌∙◌, ap, subst, arith}
+use Rattle.std.proofs.Common.{is_some, sym, ◌∙◌, ap, subst, arith}
 use Rattle.std.specs.FinMap as map
 use Rattle.radio_book.specs.Site.{IsSite}
 use Rattle.radio_book.proofs.Numbers.{not_all_used}

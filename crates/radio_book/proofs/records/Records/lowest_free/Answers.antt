@@ -1,4 +1,4 @@
-use Rattle.std.proofs.Common.{◌≡◌, Some, sym, ◌∙◌, ap}
+use Rattle.std.proofs.Common.{Some, sym, ◌∙◌, ap}
 use Rattle.radio_book.specs.Choice.{is_free_traffic}
 use Rattle.radio_book.proofs.Chosen.{found_at, passed_at, passed_all}
 use Rattle.radio_book.proofs.records.Records.lowest_free.Goals as goal

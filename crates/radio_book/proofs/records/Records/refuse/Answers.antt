@@ -1,4 +1,4 @@
-use Rattle.std.proofs.Common.{◌≡◌, Some, refl, sym, ◌∙◌, ap}
+use Rattle.std.proofs.Common.{Some, refl, sym, ◌∙◌, ap}
 use Rattle.std.specs.FinMap as map
 use Rattle.radio_book.specs.declared.event.Stage.TheVariants.{Refused}
 use Rattle.radio_book.specs.State.{record_of}

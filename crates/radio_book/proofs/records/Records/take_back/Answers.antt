@@ -1,4 +1,4 @@
-use Rattle.std.proofs.Common.{◌≡◌, ◌∙◌, sym, ap, is_some}
+use Rattle.std.proofs.Common.{◌∙◌, sym, ap, is_some}
 use Rattle.radio_book.specs.Journal.{run_back}
 use Rattle.radio_book.proofs.RunBack.{taken_back}
 use Rattle.radio_book.proofs.records.Records.take_back.Goals as goal

@@ -1,4 +1,4 @@
-use Rattle.std.proofs.Common.{◌≡◌, OnErr, Some, None, sym, ◌∙◌, ap}
+use Rattle.std.proofs.Common.{Some, sym, ◌∙◌, ap}
 use Rattle.std.specs.FinMap as map
 use Rattle.radio_book.specs.Maps.{put}
 use Rattle.radio_book.proofs.TableFacts.{err_holds}

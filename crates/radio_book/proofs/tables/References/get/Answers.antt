@@ -1,4 +1,4 @@
-use Rattle.std.proofs.Common.{◌≡◌, sym, ◌∙◌, ap}
+use Rattle.std.proofs.Common.{sym, ◌∙◌, ap}
 use Rattle.std.specs.FinMap as map
 use Rattle.radio_book.proofs.MapFacts.{get_listed}
 use Rattle.radio_book.proofs.KeyFacts.{reference_total}

@@ -1,4 +1,4 @@
-use Rattle.std.proofs.Common.{◌≡◌, None, ◌∙◌, ap}
+use Rattle.std.proofs.Common.{None, ◌∙◌, ap}
 use Rattle.radio_book.specs.Maps.{put}
 use Rattle.radio_book.proofs.MapFacts.{put_listed}
 use Rattle.radio_book.proofs.KeyFacts.{reference_total, reference_exact}

@@ -1,4 +1,4 @@
-use Rattle.std.proofs.Common.{◌≡◌, sym, ◌∙◌, ap}
+use Rattle.std.proofs.Common.{sym, ◌∙◌, ap}
 use Rattle.std.specs.FinMap as map
 use Rattle.radio_book.proofs.TableFacts.{len_listed}
 use Rattle.std.specs.Cmp.{nat_cmp_total}

@@ -1,4 +1,4 @@
-use Rattle.std.proofs.Common.{◌≡◌, ◌∙◌, ◌+◌, ◌-◌, ◌*◌, ◌^◌, ◌≤◌, ◌%◌, ℕ, sym, ap, length, arith, take, drop}
+use Rattle.std.proofs.Common.{◌≡◌, ◌∙◌, ◌+◌, ◌-◌, sym, ap, length, arith, take, drop}
 use Rattle.std.proofs.lemmas.Nat.{one_shl}
 use Rattle.rr_elements.specs.Bits.{bits, number_of}
 use Rattle.rr_elements.proofs.BitLemmas.{length-bits, number_of-take-bits, drop-bits}

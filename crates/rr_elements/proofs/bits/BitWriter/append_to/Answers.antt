@@ -1,7 +1,4 @@
-use Rattle.std.proofs.Common.{◌≡◌, ◌∙◌, ◌+◌, ◌/◌, ◌-◌, ◌≤◌, ◌<◌, ◌++◌, sym, ap, length, arith, drop, take, rules, OnOk, OnErr, IsOk, vec_len, vec_capacity}
-use Rattle.std.specs.Int.{to_be_bytes, w128}
-use Rattle.std.proofs.lemmas.Grind.{common_steps}
-use Rattle.rr_elements.specs.Bits.{bits, octets_of}
+use Rattle.std.proofs.Common.{rules}
 use Rattle.rr_elements.proofs.BitLemmas.{slice-octets_of, length-octets_of}
 use Rattle.rr_elements.proofs.bits.BitWriter.append_to.Goals as goal
 

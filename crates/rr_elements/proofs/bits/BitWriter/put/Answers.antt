@@ -1,5 +1,4 @@
-use Rattle.std.proofs.Common.{◌≡◌, ◌∙◌, ◌+◌, ◌*◌, ◌^◌, ◌≤◌, ◌%◌, sym, ap, length, arith}
-use Rattle.rr_elements.specs.Bits.{bits}
+use Rattle.std.proofs.Common.{◌≡◌, ◌∙◌, ◌+◌, ◌≤◌, sym, ap, length, arith}
 use Rattle.rr_elements.proofs.BitLemmas.{length-bits, put_number, put_below, bits-put}
 use Rattle.rr_elements.proofs.bits.BitWriter.put.Goals as goal
 

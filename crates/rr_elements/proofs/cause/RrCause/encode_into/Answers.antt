@@ -1,4 +1,4 @@
-use Rattle.std.proofs.Common.{◌<◌, ◌^◌, rules}
+use Rattle.std.proofs.Common.{rules}
 use Rattle.rr_elements.proofs.ElementLemmas.{cause-again, cause-text}
 use Rattle.rr_elements.proofs.cause.RrCause.encode_into.Goals as goal
 

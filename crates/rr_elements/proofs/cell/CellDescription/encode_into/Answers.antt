@@ -1,4 +1,3 @@
-use Rattle.std.proofs.Common.{◌≡◌}
 use Rattle.rr_elements.proofs.ElementLemmas.{cell-again, cell-text}
 use Rattle.rr_elements.proofs.cell.CellDescription.encode_into.Goals as goal
 

@@ -1,4 +1,3 @@
-use Rattle.std.proofs.Common.{◌≡◌}
 use Rattle.rr_elements.proofs.ElementLemmas.{chan-again, chan-text}
 use Rattle.rr_elements.proofs.channel.ChanDescription.encode_into.Goals as goal
 

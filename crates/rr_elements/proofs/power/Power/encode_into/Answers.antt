@@ -1,4 +1,3 @@
-use Rattle.std.proofs.Common.{◌≡◌}
 use Rattle.rr_elements.proofs.ElementLemmas.{power-again, power-text}
 use Rattle.rr_elements.proofs.power.Power.encode_into.Goals as goal
 

@@ -1,4 +1,4 @@
-use Rattle.std.proofs.Common.{◌≡◌, ◌∙◌, sym, ap, arith, rules, length, flat_map, take, ◌≤◌, ◌*◌, List, ℕ}
+use Rattle.std.proofs.Common.{◌≡◌, ◌∙◌, sym, ap, arith, rules, length, flat_map, take, ◌*◌, List, ℕ}
 use Rattle.rr_elements.specs.Bits.{bits_of, cut, after, repeated}
 use Rattle.rr_elements.specs.MeasResults.{Results, IsResultsText, results_said, used, head_numbers, head_widths, ncell_numbers, ncell_widths}
 use Rattle.rr_elements.proofs.ResultsLemmas.{text-said, read-text}

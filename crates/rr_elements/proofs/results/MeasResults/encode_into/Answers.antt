@@ -1,5 +1,3 @@
-use Rattle.std.proofs.Common.{◌≡◌, ◌∙◌, sym, ap, arith, rules, length, take, drop, replicate, ◌++◌, OnOk}
-use Rattle.rr_elements.specs.MeasResults.{IsKept, used, no_ncell}
 use Rattle.rr_elements.proofs.KeptLemmas.{kept_fits}
 use Rattle.rr_elements.proofs.ResultsLemmas.{written-kept}
 use Rattle.rr_elements.proofs.ResultsTexts.{results-again, results-text}

@@ -1,5 +1,5 @@
-use Rattle.std.proofs.Common.{◌≡◌, ◌∙◌, sym, ap, arith, rules, length, take, drop, replicate, ◌++◌}
-use Rattle.rr_elements.specs.MeasResults.{IsKept, used, no_ncell}
+use Rattle.std.proofs.Common.{rules, length, drop, replicate, ◌++◌}
+use Rattle.rr_elements.specs.MeasResults.{IsKept, no_ncell}
 use Rattle.rr_elements.proofs.KeptLemmas.{kept_new}
 use Rattle.rr_elements.proofs.results.MeasResults.new.Goals as goal
 
