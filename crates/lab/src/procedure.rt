@@ -39,7 +39,13 @@ pub fn handle_plain<A: Allocator + Copy, B: Allocator + Copy>(
     ensures memory { result ≡ Err PlainFault.NoMemory → (steps : List (Event × Reply)) × StopsInRow {A = A} book.old.site (input) steps × Leads book.old steps book.new × AreChoices book.old steps }
 {
     match input {
-        Inbound::Abis { cell, trx, bytes } => handle_octets(alloc, book, cell, trx, bytes.as_slice()),
+        Inbound::Abis { cell, trx, bytes } => handle_octets(
+            alloc,
+            book,
+            cell,
+            trx,
+            bytes.as_slice(),
+        ),
         Inbound::Operator(line) => handle_line(alloc, book, line),
     }
 }

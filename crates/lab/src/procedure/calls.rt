@@ -91,7 +91,8 @@ pub(super) fn clear<A: Allocator + Copy, B: Allocator + Copy>(
             }
         }
         Some(_) => {
-            let Reply::Record(shown, state) = ask(book, handled, Event::Undo(call, Why::Asked))? else {
+            let Reply::Record(shown, state) = ask(book, handled, Event::Undo(call, Why::Asked))?
+            else {
                 return Ok(());
             };
             let target = target_release(shown.attempt);

@@ -43,9 +43,21 @@ pub(super) fn handle_message<A: Allocator + Copy, B: Allocator + Copy>(
     ensures none_free { handled.new.none_free ≡ None }
 {
     match message {
-        Rsl::ChannelActivationAck { channel, .. } => confirm(book, handled, chan_of(cell, trx, *channel)),
-        Rsl::ChannelActivationNack { channel, .. } => refuse(book, handled, chan_of(cell, trx, *channel)),
-        Rsl::RfChannelReleaseAck { channel } => released(book, handled, chan_of(cell, trx, *channel)),
+        Rsl::ChannelActivationAck { channel, .. } => confirm(
+            book,
+            handled,
+            chan_of(cell, trx, *channel),
+        ),
+        Rsl::ChannelActivationNack { channel, .. } => refuse(
+            book,
+            handled,
+            chan_of(cell, trx, *channel),
+        ),
+        Rsl::RfChannelReleaseAck { channel } => released(
+            book,
+            handled,
+            chan_of(cell, trx, *channel),
+        ),
         _ => Ok(()),
     }
 }

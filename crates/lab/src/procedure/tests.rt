@@ -2,7 +2,9 @@ use super::handle_plain;
 use crate::exchange::{Handled, Inbound, Line, Outbound, PlainFault};
 use radio_book::book::Book;
 use radio_book::channel::{ChanId, ChanState};
-use radio_book::event::{Attempt, AttemptKind, CallRecord, Event, Kind, Refusal, Reply, Stage, Why};
+use radio_book::event::{
+    Attempt, AttemptKind, CallRecord, Event, Kind, Refusal, Reply, Stage, Why,
+};
 use radio_book::site::Site;
 use refusing_heap::RefusingHeap;
 use rsl_messages::{Octets, RslFault};
@@ -18,9 +20,23 @@ trx = [{ tch = [2, 3] }]
 trx = [{ tch = [] }, { tch = [3] }]
 ";
 
-const FIRST: ChanId = ChanId { cell: 0, trx: 0, tn: 2 };
-const SERVING: ChanId = ChanId { cell: 0, trx: 0, tn: 3 };
-const TARGET: ChanId = ChanId { cell: 1, trx: 1, tn: 3 };
+const FIRST: ChanId = ChanId {
+    cell: 0,
+    trx: 0,
+    tn: 2,
+};
+
+const SERVING: ChanId = ChanId {
+    cell: 0,
+    trx: 0,
+    tn: 3,
+};
+
+const TARGET: ChanId = ChanId {
+    cell: 1,
+    trx: 1,
+    tn: 3,
+};
 
 /// An input, with octets that nobody owns.
 #[derive(Clone, Copy, Debug)]
@@ -64,7 +80,10 @@ fn expect(
 
 /// The record of call 1 on its serving channel.
 fn steady(attempt: Option<Attempt>) -> Reply {
-    let record = CallRecord { serving: Some(SERVING), attempt };
+    let record = CallRecord {
+        serving: Some(SERVING),
+        attempt,
+    };
     Reply::Record(record, Some(ChanState::On(1)))
 }
 
@@ -80,14 +99,23 @@ fn attempted(stage: Stage) -> Option<Attempt> {
 
 /// Opens call 1 and confirms its channel.
 fn make_steady(rt: &impl Abort, alloc: Global, book: &mut Book<Global>) -> Result<(), Fail> {
-    let open = Line::Open { call: 1, chan: SERVING };
+    let open = Line::Open {
+        call: 1,
+        chan: SERVING,
+    };
     let handled = handle_plain(alloc, book, Inbound::Operator(open))?;
     expect(
         rt,
         &handled,
         &[(Event::Open(1, SERVING), Reply::Done)],
         None,
-        &[(0, 0, &[0x08, 0x21, 0x01, 0x0B, 0x03, 0x00, 0x06, 0x04, 0x00, 0x01, 0x08, 0x01])],
+        &[(
+            0,
+            0,
+            &[
+                0x08, 0x21, 0x01, 0x0B, 0x03, 0x00, 0x06, 0x04, 0x00, 0x01, 0x08, 0x01,
+            ],
+        )],
     );
     let acknowledged = Given::Abis(0, 0, &[0x08, 0x22, 0x01, 0x0B, 0x08, 0x12, 0x34]);
     let handled = handle_plain(alloc, book, inbound(alloc, acknowledged)?)?;
@@ -117,7 +145,13 @@ fn hand_over(rt: &impl Abort, alloc: Global, book: &mut Book<Global>) -> Result<
             (Event::Activate(1), Reply::Done),
         ],
         None,
-        &[(1, 1, &[0x08, 0x21, 0x01, 0x0B, 0x03, 0x02, 0x06, 0x04, 0x00, 0x01, 0x08, 0x01, 0x09, 0x00])],
+        &[(
+            1,
+            1,
+            &[
+                0x08, 0x21, 0x01, 0x0B, 0x03, 0x02, 0x06, 0x04, 0x00, 0x01, 0x08, 0x01, 0x09, 0x00,
+            ],
+        )],
     );
     Ok(())
 }
@@ -132,13 +166,22 @@ fn a_call_begins_and_ends(rt: HostRuntime) -> Result<(), Fail> {
     expect(
         &rt,
         &handled,
-        &[(Event::Look(1), steady(None)), (Event::Clear(1), Reply::Done)],
+        &[
+            (Event::Look(1), steady(None)),
+            (Event::Clear(1), Reply::Done),
+        ],
         None,
         &[(0, 0, &[0x08, 0x2E, 0x01, 0x0B])],
     );
     let released = inbound(alloc, Given::Abis(0, 0, &[0x08, 0x33, 0x01, 0x0B]))?;
     let handled = handle_plain(alloc, &mut book, released)?;
-    expect(&rt, &handled, &[(Event::Released(SERVING), Reply::Done)], None, &[]);
+    expect(
+        &rt,
+        &handled,
+        &[(Event::Released(SERVING), Reply::Done)],
+        None,
+        &[],
+    );
     assert_eq!(rt; (book.usage().channels, book.usage().calls), (0, 0));
     Ok(())
 }
@@ -147,13 +190,25 @@ fn a_call_begins_and_ends(rt: HostRuntime) -> Result<(), Fail> {
 fn a_refused_channel_is_cleared_without_a_message(rt: HostRuntime) -> Result<(), Fail> {
     let alloc = rt.alloc();
     let mut book = opened(alloc, alloc)?;
-    let open = Line::Open { call: 2, chan: FIRST };
+    let open = Line::Open {
+        call: 2,
+        chan: FIRST,
+    };
     handle_plain(alloc, &mut book, Inbound::Operator(open))?;
-    let held = CallRecord { serving: Some(FIRST), attempt: None };
+    let held = CallRecord {
+        serving: Some(FIRST),
+        attempt: None,
+    };
     let held = Reply::Record(held, Some(ChanState::Held(2)));
-    let refused = inbound(alloc, Given::Abis(0, 0, &[0x08, 0x23, 0x01, 0x0A, 0x1A, 0x01, 0x20]))?;
+    let refused = inbound(
+        alloc,
+        Given::Abis(0, 0, &[0x08, 0x23, 0x01, 0x0A, 0x1A, 0x01, 0x20]),
+    )?;
     let handled = handle_plain(alloc, &mut book, refused)?;
-    let events = [(Event::Refuse(FIRST), Reply::Owned(2)), (Event::Look(2), held)];
+    let events = [
+        (Event::Refuse(FIRST), Reply::Owned(2)),
+        (Event::Look(2), held),
+    ];
     expect(&rt, &handled, &events, None, &[]);
     let clear = Inbound::Operator(Line::Clear { call: 2 });
     let handled = handle_plain(alloc, &mut book, clear)?;
@@ -172,12 +227,27 @@ fn a_handover_is_taken_back(rt: HostRuntime) -> Result<(), Fail> {
     let undo = Inbound::Operator(Line::Undo { call: 1 });
     let handled = handle_plain(alloc, &mut book, undo)?;
     let undone = (Event::Undo(1, Why::Asked), steady(attempted(Stage::Sent)));
-    expect(&rt, &handled, &[undone], None, &[(1, 1, &[0x08, 0x2E, 0x01, 0x0B])]);
+    expect(
+        &rt,
+        &handled,
+        &[undone],
+        None,
+        &[(1, 1, &[0x08, 0x2E, 0x01, 0x0B])],
+    );
     let released = inbound(alloc, Given::Abis(1, 1, &[0x08, 0x33, 0x01, 0x0B]))?;
     let handled = handle_plain(alloc, &mut book, released)?;
-    expect(&rt, &handled, &[(Event::Released(TARGET), Reply::Done)], None, &[]);
+    expect(
+        &rt,
+        &handled,
+        &[(Event::Released(TARGET), Reply::Done)],
+        None,
+        &[],
+    );
     let usage = book.usage();
-    assert_eq!(rt; (usage.channels, usage.calls, usage.references, usage.timers), (1, 1, 0, 0));
+    assert_eq!(rt;
+        (usage.channels, usage.calls, usage.references, usage.timers),
+        (1, 1, 0, 0)
+    );
     Ok(())
 }
 
@@ -187,7 +257,10 @@ fn a_refused_target_is_taken_back(rt: HostRuntime) -> Result<(), Fail> {
     let mut book = opened(alloc, alloc)?;
     make_steady(&rt, alloc, &mut book)?;
     hand_over(&rt, alloc, &mut book)?;
-    let refused = inbound(alloc, Given::Abis(1, 1, &[0x08, 0x23, 0x01, 0x0B, 0x1A, 0x01, 0x20]))?;
+    let refused = inbound(
+        alloc,
+        Given::Abis(1, 1, &[0x08, 0x23, 0x01, 0x0B, 0x1A, 0x01, 0x20]),
+    )?;
     let handled = handle_plain(alloc, &mut book, refused)?;
     let record = steady(attempted(Stage::Refused));
     let events = [
@@ -215,7 +288,13 @@ fn a_call_with_an_attempt_is_cleared(rt: HostRuntime) -> Result<(), Fail> {
         (Event::Clear(1), Reply::Done),
     ];
     let release: &[u8] = &[0x08, 0x2E, 0x01, 0x0B];
-    expect(&rt, &handled, &events, None, &[(1, 1, release), (0, 0, release)]);
+    expect(
+        &rt,
+        &handled,
+        &events,
+        None,
+        &[(1, 1, release), (0, 0, release)],
+    );
     Ok(())
 }
 
@@ -223,7 +302,10 @@ fn a_call_with_an_attempt_is_cleared(rt: HostRuntime) -> Result<(), Fail> {
 fn a_handover_that_finds_nothing_asks_nothing(rt: HostRuntime) -> Result<(), Fail> {
     let alloc = rt.alloc();
     let mut book = opened(alloc, alloc)?;
-    let open = Line::Open { call: 2, chan: TARGET };
+    let open = Line::Open {
+        call: 2,
+        chan: TARGET,
+    };
     handle_plain(alloc, &mut book, Inbound::Operator(open))?;
     for (cell, none_free) in [(1, Some(1)), (2, None), (64, None)] {
         let line = Line::Handover { call: 1, cell };
@@ -232,7 +314,10 @@ fn a_handover_that_finds_nothing_asks_nothing(rt: HostRuntime) -> Result<(), Fai
     }
     let line = Line::Handover { call: 1, cell: 0 };
     let handled = handle_plain(alloc, &mut book, Inbound::Operator(line))?;
-    let events = [(Event::Take(1, Kind::Internal, FIRST), Reply::Refused(Refusal::NoCall))];
+    let events = [(
+        Event::Take(1, Kind::Internal, FIRST),
+        Reply::Refused(Refusal::NoCall),
+    )];
     expect(&rt, &handled, &events, None, &[]);
     Ok(())
 }
@@ -256,7 +341,10 @@ fn octets_that_are_no_message_ask_nothing(rt: HostRuntime) -> Result<(), Fail> {
             Err(answer) => assert_eq!(rt; answer, PlainFault::Undecoded(fault)),
         }
     }
-    for octets in [&[0x08u8, 0x2E, 0x01, 0x0B] as &[u8], &[0x08, 0x21, 0x01, 0x0B, 0x03, 0x00, 0x06, 0x01, 0x00]] {
+    for octets in [
+        &[0x08u8, 0x2E, 0x01, 0x0B] as &[u8],
+        &[0x08, 0x21, 0x01, 0x0B, 0x03, 0x00, 0x06, 0x01, 0x00],
+    ] {
         let handled = handle_plain(alloc, &mut book, inbound(alloc, Given::Abis(0, 0, octets))?)?;
         expect(&rt, &handled, &[], None, &[]);
     }
@@ -264,7 +352,12 @@ fn octets_that_are_no_message_ask_nothing(rt: HostRuntime) -> Result<(), Fail> {
 }
 
 /// An input at a book in which call 1 is steady, or has an attempt whose activation was sent.
-fn refuse_in_turn(rt: &impl Abort, alloc: Global, attempted: bool, given: Given<'_>) -> Result<(), Fail> {
+fn refuse_in_turn(
+    rt: &impl Abort,
+    alloc: Global,
+    attempted: bool,
+    given: Given<'_>,
+) -> Result<(), Fail> {
     for request in 1..1000 {
         let mut book = opened(alloc, alloc)?;
         make_steady(rt, alloc, &mut book)?;
@@ -293,15 +386,34 @@ fn refuse_in_turn(rt: &impl Abort, alloc: Global, attempted: bool, given: Given<
 #[test]
 fn refused_memory_is_answered(rt: HostRuntime) -> Result<(), Fail> {
     let rows = [
-        (false, Given::Operator(Line::Open { call: 2, chan: FIRST })),
+        (
+            false,
+            Given::Operator(Line::Open {
+                call: 2,
+                chan: FIRST,
+            }),
+        ),
         (false, Given::Operator(Line::Handover { call: 1, cell: 1 })),
         (false, Given::Operator(Line::Clear { call: 1 })),
         (true, Given::Operator(Line::Undo { call: 1 })),
         (true, Given::Operator(Line::Clear { call: 1 })),
-        (true, Given::Abis(1, 1, &[0x08, 0x22, 0x01, 0x0B, 0x08, 0x00, 0x00])),
-        (true, Given::Abis(1, 1, &[0x08, 0x23, 0x01, 0x0B, 0x1A, 0x01, 0x20])),
+        (
+            true,
+            Given::Abis(1, 1, &[0x08, 0x22, 0x01, 0x0B, 0x08, 0x00, 0x00]),
+        ),
+        (
+            true,
+            Given::Abis(1, 1, &[0x08, 0x23, 0x01, 0x0B, 0x1A, 0x01, 0x20]),
+        ),
         (true, Given::Abis(1, 1, &[0x08, 0x33, 0x01, 0x0B])),
-        (true, Given::Abis(1, 1, &[0x08, 0x21, 0x01, 0x0B, 0x03, 0x00, 0x06, 0x01, 0x00])),
+        (
+            true,
+            Given::Abis(
+                1,
+                1,
+                &[0x08, 0x21, 0x01, 0x0B, 0x03, 0x00, 0x06, 0x01, 0x00],
+            ),
+        ),
     ];
     for (attempted, given) in rows {
         refuse_in_turn(&rt, rt.alloc(), attempted, given)?;
