@@ -1,7 +1,8 @@
 -- Which octets are the text of a message, what is wrong with all others, and which text is written
 -- (TS 48.008 clause 3.2).
-use Rattle.std.specs.Prelude.{◌≡◌, ◌⊎◌, ℕ, ◌+◌, ◌<◌, ◌≤◌, List, [], ◌∷◌, ◌++◌, length, Result, Ok, Err}
-use Rattle.std.specs.List.{AllByRecursion}
+use Rattle.std.specs.Prelude.{◌≡◌, ◌⊎◌, ℕ, ◌+◌, ◌*◌, ◌<◌, ◌≤◌, Bool, true, false, IsTrue, IsSome, List, [], ◌∷◌, ◌++◌, length, Result, Ok, Err}
+use Rattle.std.specs.List.{AllByRecursion, list_all}
+use Rattle.std.specs.Option.{is_some}
 use Rattle.octet_elements.specs.Elements.{Element, Fits, AreElements, IsTornAt, all_spelled}
 use Rattle.bssmap_messages.specs.declared.fault.ElementFault.{ElementFault}
 use Rattle.bssmap_messages.specs.declared.fault.ElementFault.TheVariants.{Absent, Bad}
@@ -9,6 +10,10 @@ use Rattle.bssmap_messages.specs.declared.fault.BssmapFault.{BssmapFault}
 use Rattle.bssmap_messages.specs.declared.fault.BssmapFault.TheVariants as fault
 use Rattle.bssmap_messages.specs.declared.head.MessageKind.{MessageKind}
 use Rattle.bssmap_messages.specs.declared.message.Bssmap.{Bssmap}
+use Rattle.bssmap_messages.specs.declared.message.Bssmap.TheVariants.{HandoverRequest, HandoverRequired, HandoverRequestAck, HandoverCommand, HandoverPerformed}
+use Rattle.bssmap_messages.specs.declared.message.CellId.{CellId}
+use Rattle.bssmap_messages.specs.declared.message.Classmark.{Classmark}
+use Rattle.bssmap_messages.specs.declared.message.Classmark.TheVariants.{One, Two}
 use Rattle.bssmap_messages.specs.Forms.{interface_a}
 use Rattle.bssmap_messages.specs.Heads.{Begins, HasHeadFault, limit, type_of}
 use Rattle.bssmap_messages.specs.Values.{fault_of}
@@ -77,3 +82,36 @@ Answers {A} (Err f) said = ((e : ElementFault) × (said ≡ Err e) × (f ≡ fau
 abbrev pub ReadsBody : {A : Type 0} → MessageKind → List ℕ → Result (Bssmap A) BssmapFault → Type 0
 ReadsBody kind body (Ok v) = Says kind body (Ok v)
 ReadsBody {A} kind body (Err f) = HasBodyFault A kind body f
+
+-- how many octets the element of a classmark has
+abbrev pub classmark_length : {A : Type 0} → Classmark A → ℕ
+classmark_length (One octet) = 2
+classmark_length (Two v) = 2 + length v
+
+-- how many octets a response request has
+abbrev pub response_length : Bool → ℕ
+response_length true = 1
+response_length false = 0
+
+abbrev pub HasArea : CellId → Type 0
+HasArea cell = IsSome cell.lac
+
+abbrev pub have_areas : List CellId → Bool
+have_areas cells = list_all (λ cell. is_some cell.lac) cells
+
+-- the same, by the fields of the message: what is tested before it is written
+abbrev pub IsWritable : {A : Type 0} → Bssmap A → Type 0
+IsWritable (HandoverRequest channel encryption classmark serving target) = (1 < length channel) × (0 < length encryption) × HasArea serving × HasArea target × (19 + length channel + length encryption + classmark_length classmark ≤ limit)
+IsWritable (HandoverRequired cause response cells) = (0 < length cells) × IsTrue (have_areas cells) × (7 + response_length response + 4 * length cells ≤ limit)
+IsWritable (HandoverRequestAck layer3) = (0 < length layer3) × (3 + length layer3 ≤ limit)
+IsWritable (HandoverCommand layer3) = (0 < length layer3) × (3 + length layer3 ≤ limit)
+IsWritable (HandoverPerformed cause cell) = HasArea cell
+IsWritable v = Unit {0}
+
+-- a text has one value and no fault, and what is no text has one fault
+abbrev pub ReadingIsUnique : (A : Type 0) → Type 0
+ReadingIsUnique A = ((v w : Bssmap A) (octets : List ℕ) → IsTextOf v octets → IsTextOf w octets → v ≡ w) × ((v : Bssmap A) (octets : List ℕ) (f : BssmapFault) → IsTextOf v octets → HasFault A octets f → f ≡ fault.NoMemory)
+
+-- the canonical text is a text of its message
+abbrev pub CanonicalIsText : (A : Type 0) → Type 0
+CanonicalIsText A = (v : Bssmap A) → HasCanonical v → IsTextOf v (canonical v)

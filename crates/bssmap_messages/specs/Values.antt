@@ -1,13 +1,21 @@
 -- What the value of an element says, and how it is written (TS 48.008 clause 3.2.2).
-use Rattle.std.specs.Prelude.{◌≡◌, ℕ, ◌+◌, ◌*◌, ◌/◌, ◌%◌, if◌then◌else◌, ◌==◌, Bool, true, false, List, [], ◌∷◌, ◌++◌, Option, Some, None, option_map, flat_map, unwrap_or, Result, Ok, Err}
+use Rattle.std.specs.Prelude.{◌≡◌, ℕ, ◌+◌, ◌*◌, ◌/◌, ◌%◌, if◌then◌else◌, ◌==◌, Bool, true, false, List, [], ◌∷◌, ◌++◌, Option, Some, None, flat_map, unwrap_or, Result, Ok, Err}
+use Rattle.std.specs.Borrow.{Bor}
+use Rattle.std.specs.Option.{option_map}
 use Rattle.octet_elements.specs.Elements.{Element}
 use Rattle.bssmap_messages.specs.declared.message.CellId.{CellId}
 use Rattle.bssmap_messages.specs.declared.message.Classmark.{Classmark}
 use Rattle.bssmap_messages.specs.declared.message.Classmark.TheVariants.{One, Two}
+use Rattle.bssmap_messages.specs.declared.values.ClassmarkValue.{ClassmarkValue}
+use Rattle.bssmap_messages.specs.declared.values.ClassmarkValue.TheVariants as in_octets
 use Rattle.bssmap_messages.specs.declared.fault.ElementFault.{ElementFault}
 use Rattle.bssmap_messages.specs.declared.fault.ElementFault.TheVariants.{Absent, Bad}
 use Rattle.bssmap_messages.specs.declared.fault.BssmapFault.{BssmapFault}
 use Rattle.bssmap_messages.specs.declared.fault.BssmapFault.TheVariants.{Missing, BadElement}
+
+-- a value where it is there, seen without its reference
+abbrev pub seen : Option (Bor (List ℕ)) → Option (List ℕ)
+seen value = option_map (λ v. v.now) value
 
 -- the fault that a message has by its element
 abbrev pub fault_of : ElementFault → BssmapFault
@@ -47,6 +55,11 @@ classmark_in (Some []) two = Err (Bad 0x1D)
 classmark_in None (Some v) = Ok (Two v)
 classmark_in None None = Err (Absent 0x12)
 
+-- a classmark in the octets of a message, with octets of its own
+abbrev pub kept : {A : Type 0} → ClassmarkValue → Classmark A
+kept (in_octets.One octet) = One octet
+kept (in_octets.Two v) = Two v.now
+
 -- an element that stands alone says that it is there
 abbrev pub stands : Option (List ℕ) → Bool
 stands None = false
@@ -79,9 +92,12 @@ cells_alone [] = Some []
 cells_alone (a ∷ b ∷ v) = option_map (λ cells. record { lac = None; ci = pair a b } ∷ cells) (cells_alone v)
 cells_alone _ = None
 
--- the low four bits of the discriminator say which
+-- The low four bits of the discriminator say which: 0, 1 or 2.
+abbrev pub cells_by : ℕ → List ℕ → Option (List CellId)
+cells_by form v = if form == 0 then cells_with_network v else if form == 1 then cells_with_area v else if form == 2 then cells_alone v else None
+
 abbrev pub cells_after : ℕ → List ℕ → Option (List CellId)
-cells_after d v = if d % 16 == 0 then cells_with_network v else if d % 16 == 1 then cells_with_area v else if d % 16 == 2 then cells_alone v else None
+cells_after d v = cells_by (d % 16) v
 
 -- exactly one cell
 abbrev pub only_cell : Option (List CellId) → Result CellId ElementFault

@@ -62,6 +62,13 @@ impl<A: Allocator + Copy> CellList<A> {
         })
     }
 
+    /// The list of these cells, which takes no memory.
+    pub(crate) fn from_cells(cells: Vec<CellId, A>) -> Self
+        ensures { result ≡ cells.items }
+    {
+        CellList { items: cells }
+    }
+
     /// Its cells.
     pub fn as_slice(&self) -> &[CellId]
         ensures { result.now ≡ self.now }

@@ -1,6 +1,17 @@
 //! The identifiers and forms of the elements on A (TS 48.008 clause 3.2.2).
 use octet_elements::{ElementTable, Form};
 
+pub const CAUSE: u8 = 0x04;
+pub const CELL_IDENTIFIER: u8 = 0x05;
+pub const ENCRYPTION_INFORMATION: u8 = 0x0A;
+pub const CHANNEL_TYPE: u8 = 0x0B;
+pub const CLASSMARK_2: u8 = 0x12;
+pub const RR_CAUSE: u8 = 0x15;
+pub const LAYER_3_INFORMATION: u8 = 0x17;
+pub const CELL_IDENTIFIER_LIST: u8 = 0x1A;
+pub const RESPONSE_REQUEST: u8 = 0x1B;
+pub const CLASSMARK_1: u8 = 0x1D;
+
 /// The forms of the elements on A.
 pub struct InterfaceA;
 
