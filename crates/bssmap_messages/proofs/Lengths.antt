@@ -27,3 +27,14 @@ five_appended o p q r s t a b c d e first second third fourth fifth =
   where
     regroup : ((((o ++ a) ++ b) ++ c) ++ d) ++ e ≡ o ++ (a ++ (b ++ (c ++ (d ++ (e ++ [])))))
     regroup = simp (append_assoc, append-nil)
+
+pub required_appended : (o p q r s : List ℕ) (cause n : ℕ) (response : Bool) (cells : List CellId) → p ≡ o ++ (4 ∷ 1 ∷ cause ∷ []) → q ≡ p ++ all_spelled interface_a (where_true 0x1B response) → r ≡ q ++ (26 ∷ n ∷ 1 ∷ []) → s ≡ r ++ flat_map cell_octets cells → n ≡ 1 + 4 * length cells → s ≡ o ++ all_spelled interface_a ((0x04, cause ∷ []) ∷ where_true 0x1B response ++ (0x1A, cells_value cells) ∷ [])
+required_appended o p q r s cause n response cells first second third fourth count =
+    fourth ∙ ap (λ x. x ++ flat_map cell_octets cells) (third ∙ ap (λ x. x ++ (26 ∷ n ∷ 1 ∷ [])) (second ∙ ap (λ x. x ++ all_spelled interface_a (where_true 0x1B response)) first)) ∙ regroup response
+  where
+    number : n ≡ length (1 ∷ flat_map cell_octets cells)
+    number = let long = cells_length cells in omega arith
+
+    regroup : (response : Bool) → (((o ++ (4 ∷ 1 ∷ cause ∷ [])) ++ all_spelled interface_a (where_true 0x1B response)) ++ (26 ∷ n ∷ 1 ∷ [])) ++ flat_map cell_octets cells ≡ o ++ all_spelled interface_a ((0x04, cause ∷ []) ∷ where_true 0x1B response ++ (0x1A, cells_value cells) ∷ [])
+    regroup true = simp (append_assoc, append-nil) (ap (λ m. o ++ (4 ∷ 1 ∷ cause ∷ 27 ∷ 26 ∷ m ∷ 1 ∷ flat_map cell_octets cells)) number)
+    regroup false = simp (append_assoc, append-nil) (ap (λ m. o ++ (4 ∷ 1 ∷ cause ∷ 26 ∷ m ∷ 1 ∷ flat_map cell_octets cells)) number)
