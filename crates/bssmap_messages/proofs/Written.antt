@@ -153,20 +153,20 @@ canonical_of (HandoverCommand layer3) h = record {
   says = λ i. octets_again 0x17 layer3 h.0 i >>= λ layer3. Ok (HandoverCommand layer3);
   within = simp length-append (omega arith);
 }
-canonical_of (HandoverComplete None) h = record { each = tt; says = refl; within = omega arith; }
-canonical_of (HandoverComplete (Some rr)) h = record { each = (refl, tt); says = refl; within = omega arith; }
-canonical_of (HandoverFailure cause None) h = record { each = (omega arith, tt); says = refl; within = omega arith; }
-canonical_of (HandoverFailure cause (Some rr)) h = record { each = (omega arith, (refl, tt)); says = refl; within = omega arith; }
+canonical_of (HandoverComplete None) h = record { each = tt; says = refl; within = omega arith }
+canonical_of (HandoverComplete (Some rr)) h = record { each = (refl, tt); says = refl; within = omega arith }
+canonical_of (HandoverFailure cause None) h = record { each = (omega arith, tt); says = refl; within = omega arith }
+canonical_of (HandoverFailure cause (Some rr)) h = record { each = (omega arith, (refl, tt)); says = refl; within = omega arith }
 canonical_of (HandoverPerformed cause cell) h = record {
   each = (omega arith, (omega arith, tt));
   says = λ i. cell_again cell h i >>= λ cell. Ok (HandoverPerformed cause cell);
   within = omega arith;
 }
-canonical_of (HandoverRequiredReject cause) h = record { each = (omega arith, tt); says = refl; within = omega arith; }
-canonical_of HandoverDetect h = record { each = tt; says = refl; within = omega arith; }
-canonical_of (ClearCommand cause) h = record { each = (omega arith, tt); says = refl; within = omega arith; }
-canonical_of ClearComplete h = record { each = tt; says = refl; within = omega arith; }
-canonical_of (ClearRequest cause) h = record { each = (omega arith, tt); says = refl; within = omega arith; }
+canonical_of (HandoverRequiredReject cause) h = record { each = (omega arith, tt); says = refl; within = omega arith }
+canonical_of HandoverDetect h = record { each = tt; says = refl; within = omega arith }
+canonical_of (ClearCommand cause) h = record { each = (omega arith, tt); says = refl; within = omega arith }
+canonical_of ClearComplete h = record { each = tt; says = refl; within = omega arith }
+canonical_of (ClearRequest cause) h = record { each = (omega arith, tt); says = refl; within = omega arith }
 
 -- What has a canonical text can be written.
 request_writable : {A : Type 0} (channel encryption : List ℕ) (classmark : Classmark A) (serving target : CellId) → HasCanonical (HandoverRequest channel encryption classmark serving target) → IsWritable (HandoverRequest channel encryption classmark serving target)

@@ -55,9 +55,14 @@ pub enum Bssmap<A: Allocator = Global> {
         layer3: Octets<A>,
     },
     /// HANDOVER COMPLETE, TS 48.008 clause 3.2.1.12.
-    HandoverComplete { rr: Option<u8> },
+    HandoverComplete {
+        rr: Option<u8>,
+    },
     /// HANDOVER FAILURE, TS 48.008 clause 3.2.1.16.
-    HandoverFailure { cause: u8, rr: Option<u8> },
+    HandoverFailure {
+        cause: u8,
+        rr: Option<u8>,
+    },
     /// HANDOVER PERFORMED, TS 48.008 clause 3.2.1.25.
     HandoverPerformed {
         cause: u8,
@@ -65,13 +70,19 @@ pub enum Bssmap<A: Allocator = Global> {
         cell: CellId,
     },
     /// HANDOVER REQUIRED REJECT, TS 48.008 clause 3.2.1.37.
-    HandoverRequiredReject { cause: u8 },
+    HandoverRequiredReject {
+        cause: u8,
+    },
     /// HANDOVER DETECT, TS 48.008 clause 3.2.1.40.
     HandoverDetect,
     /// CLEAR COMMAND, TS 48.008 clause 3.2.1.21.
-    ClearCommand { cause: u8 },
+    ClearCommand {
+        cause: u8,
+    },
     /// CLEAR COMPLETE, TS 48.008 clause 3.2.1.22.
     ClearComplete,
     /// CLEAR REQUEST, TS 48.008 clause 3.2.1.20.
-    ClearRequest { cause: u8 },
+    ClearRequest {
+        cause: u8,
+    },
 }

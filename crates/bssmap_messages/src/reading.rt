@@ -17,7 +17,9 @@ use crate::table::{
     CAUSE, CELL_IDENTIFIER, CELL_IDENTIFIER_LIST, CHANNEL_TYPE, CLASSMARK_1, CLASSMARK_2,
     ENCRYPTION_INFORMATION, InterfaceA, LAYER_3_INFORMATION, RESPONSE_REQUEST, RR_CAUSE,
 };
-use crate::values::{channel_type, classmark, keep_classmark, octet, octets, optional_octet, stands};
+use crate::values::{
+    channel_type, classmark, keep_classmark, octet, octets, optional_octet, stands,
+};
 use octet_elements::read_values;
 use std::alloc::Allocator;
 
@@ -71,7 +73,14 @@ fn read_request<A: Allocator + Copy>(alloc: A, body: &[u8]) -> Result<Bssmap<A>,
     let mut values = [None; 6];
     read_wanted(
         body,
-        &[CHANNEL_TYPE, ENCRYPTION_INFORMATION, CLASSMARK_1, CLASSMARK_2, CELL_IDENTIFIER, CELL_IDENTIFIER],
+        &[
+            CHANNEL_TYPE,
+            ENCRYPTION_INFORMATION,
+            CLASSMARK_1,
+            CLASSMARK_2,
+            CELL_IDENTIFIER,
+            CELL_IDENTIFIER,
+        ],
         &mut values,
     )?;
     let [channel, encryption, one, two, serving, target] = values;
@@ -111,11 +120,16 @@ fn read_required<A: Allocator + Copy>(alloc: A, body: &[u8]) -> Result<Bssmap<A>
 }
 
 #[tactic(auto, unfolding(crate::specs::Messages::handover_request_ack))]
-fn request_ack_of<A: Allocator + Copy>(alloc: A, layer3_value: Option<&[u8]>) -> Result<Bssmap<A>, BssmapFault>
+fn request_ack_of<A: Allocator + Copy>(
+    alloc: A,
+    layer3_value: Option<&[u8]>,
+) -> Result<Bssmap<A>, BssmapFault>
     ensures { Answers result (handover_request_ack (seen layer3_value.entry)) }
 {
     let layer3 = octets(LAYER_3_INFORMATION, layer3_value)?;
-    Ok(Bssmap::HandoverRequestAck { layer3: Octets::new(alloc, layer3)? })
+    Ok(Bssmap::HandoverRequestAck {
+        layer3: Octets::new(alloc, layer3)?,
+    })
 }
 
 fn read_request_ack<A: Allocator + Copy>(alloc: A, body: &[u8]) -> Result<Bssmap<A>, BssmapFault>
@@ -129,11 +143,16 @@ fn read_request_ack<A: Allocator + Copy>(alloc: A, body: &[u8]) -> Result<Bssmap
 }
 
 #[tactic(auto, unfolding(crate::specs::Messages::handover_command))]
-fn command_of<A: Allocator + Copy>(alloc: A, layer3_value: Option<&[u8]>) -> Result<Bssmap<A>, BssmapFault>
+fn command_of<A: Allocator + Copy>(
+    alloc: A,
+    layer3_value: Option<&[u8]>,
+) -> Result<Bssmap<A>, BssmapFault>
     ensures { Answers result (handover_command (seen layer3_value.entry)) }
 {
     let layer3 = octets(LAYER_3_INFORMATION, layer3_value)?;
-    Ok(Bssmap::HandoverCommand { layer3: Octets::new(alloc, layer3)? })
+    Ok(Bssmap::HandoverCommand {
+        layer3: Octets::new(alloc, layer3)?,
+    })
 }
 
 fn read_command<A: Allocator + Copy>(alloc: A, body: &[u8]) -> Result<Bssmap<A>, BssmapFault>

@@ -42,7 +42,9 @@ fn is_writable<A: Allocator + Copy>(message: &Bssmap<A>) -> bool
                 && request_fits(channel.as_slice(), encryption.as_slice(), classmark)
         }
         Bssmap::HandoverRequired {
-            response, cells, ..
+            response,
+            cells,
+            ..
         } => required_fits(*response, cells.as_slice()),
         Bssmap::HandoverRequestAck { layer3 } | Bssmap::HandoverCommand { layer3 } => {
             layer3_fits(layer3.as_slice())
@@ -150,7 +152,9 @@ fn elements_len<A: Allocator + Copy>(message: &Bssmap<A>) -> usize
             ..
         } => 18 + channel.as_slice().len() + encryption.as_slice().len() + classmark_len(classmark),
         Bssmap::HandoverRequired {
-            response, cells, ..
+            response,
+            cells,
+            ..
         } => 6 + response_len(*response) + 4 * cells.as_slice().len(),
         Bssmap::HandoverRequestAck { layer3 } | Bssmap::HandoverCommand { layer3 } => {
             2 + layer3.as_slice().len()
@@ -213,7 +217,11 @@ fn append_classmark<A: Allocator + Copy>(out: &mut Vec<u8, A>, classmark: &Class
 {
     match classmark {
         Classmark::One(octet) => append_element::<InterfaceA, A>(out, CLASSMARK_1, &[*octet]),
-        Classmark::Two(octets) => append_element::<InterfaceA, A>(out, CLASSMARK_2, octets.as_slice()),
+        Classmark::Two(octets) => append_element::<InterfaceA, A>(
+            out,
+            CLASSMARK_2,
+            octets.as_slice(),
+        ),
     }
 }
 
@@ -248,12 +256,7 @@ fn append_cells<A: Allocator>(out: &mut Vec<u8, A>, cells: &[CellId])
 }
 
 /// Appends the elements of a HANDOVER REQUIRED, for which the list has room.
-fn append_required<A: Allocator>(
-    out: &mut Vec<u8, A>,
-    cause: u8,
-    response: bool,
-    cells: &[CellId],
-)
+fn append_required<A: Allocator>(out: &mut Vec<u8, A>, cause: u8, response: bool, cells: &[CellId])
     requires short { 7 + response_length response + 4 * length cells.now ≤ limit }
     requires room { vec_len out.old + (6 + response_length response + 4 * length cells.now) ≤ vec_capacity out.old }
     ensures { out.new.items ≡ out.old.items ++ all_spelled interface_a ((0x04, cause ∷ []) ∷ where_true 0x1B response ++ (0x1A, cells_value cells.now) ∷ []) }
