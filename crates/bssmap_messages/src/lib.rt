@@ -12,6 +12,8 @@ mod lists;
 mod message;
 mod reading;
 mod table;
+#[cfg(test)]
+mod tests;
 mod values;
 mod writing;
 

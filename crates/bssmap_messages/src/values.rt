@@ -15,7 +15,7 @@ pub fn octet(identifier: u8, value: Option<&[u8]>) -> Result<u8, ElementFault>
     match value {
         None => Err(ElementFault::Absent(identifier)),
         Some([octet, ..]) => Ok(*octet),
-        Some([]) => Err(ElementFault::Bad(identifier)),
+        Some(_) => Err(ElementFault::Bad(identifier)),
     }
 }
 
