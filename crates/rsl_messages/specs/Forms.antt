@@ -1,6 +1,5 @@
 -- The forms of the elements on Abis (TS 48.058 clause 9.3).
 use Rattle.std.specs.Prelude.{ℕ, Bool, false, if◌then◌else◌, ◌==◌, ◌||◌, List, [], ◌∷◌}
-use Rattle.octet_elements.specs.declared.form.Form.{Form}
 use Rattle.octet_elements.specs.declared.form.Form.TheVariants.{Fixed, Counted, LongCounted}
 use Rattle.octet_elements.specs.Elements.{Forms}
 

@@ -3,13 +3,18 @@ use Rattle.std.specs.Prelude.{◌≡◌, ◌⊎◌, ℕ, ◌/◌, List, [], ◌�
 use Rattle.rsl_messages.specs.declared.fault.RslFault.{RslFault}
 use Rattle.rsl_messages.specs.declared.fault.RslFault.TheVariants.{NotRsl, Torn, UnknownType}
 use Rattle.rsl_messages.specs.declared.head.MessageKind.{MessageKind}
-use Rattle.rsl_messages.specs.declared.head.MessageKind.TheVariants.{ChannelActivation, ChannelActivationAck, ChannelActivationNack, RfChannelRelease, RfChannelReleaseAck}
+use Rattle.rsl_messages.specs.declared.head.MessageKind.TheVariants.{DataRequest, DataIndication, ChannelActivation, ChannelActivationAck, ChannelActivationNack, ConnectionFailureIndication, HandoverDetection, MeasurementResult, RfChannelRelease, RfChannelReleaseAck}
 
 -- discriminator and type as they are written
 abbrev pub head_of : MessageKind → ℕ × ℕ
+head_of DataRequest = (3, 1)
+head_of DataIndication = (3, 2)
 head_of ChannelActivation = (8, 33)
 head_of ChannelActivationAck = (8, 34)
 head_of ChannelActivationNack = (8, 35)
+head_of ConnectionFailureIndication = (8, 36)
+head_of HandoverDetection = (8, 39)
+head_of MeasurementResult = (8, 40)
 head_of RfChannelRelease = (8, 46)
 head_of RfChannelReleaseAck = (8, 51)
 

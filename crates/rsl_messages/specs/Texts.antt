@@ -1,6 +1,6 @@
 -- Which octets are the text of a message, what is wrong with all others, and which text is written
 -- (TS 48.058 clause 9).
-use Rattle.std.specs.Prelude.{◌≡◌, ◌⊎◌, ℕ, ◌+◌, ◌<◌, ◌≤◌, List, [], ◌∷◌, ◌++◌, length, Result, Ok, Err}
+use Rattle.std.specs.Prelude.{◌≡◌, ◌⊎◌, ℕ, ◌+◌, ◌<◌, ◌≤◌, List, ◌∷◌, length, Some, None, Result, Ok, Err}
 use Rattle.std.specs.List.{AllByRecursion}
 use Rattle.octet_elements.specs.Elements.{Element, Fits, AreElements, IsTornAt, all_spelled}
 use Rattle.rsl_messages.specs.declared.fault.ElementFault.{ElementFault}
@@ -9,6 +9,7 @@ use Rattle.rsl_messages.specs.declared.fault.RslFault.{RslFault}
 use Rattle.rsl_messages.specs.declared.fault.RslFault.TheVariants as fault
 use Rattle.rsl_messages.specs.declared.head.MessageKind.{MessageKind}
 use Rattle.rsl_messages.specs.declared.message.Rsl.{Rsl}
+use Rattle.rsl_messages.specs.declared.message.Rsl.TheVariants.{DataRequest, DataIndication, ChannelActivation, ChannelActivationAck, ChannelActivationNack, ConnectionFailureIndication, HandoverDetection, MeasurementResult, RfChannelRelease, RfChannelReleaseAck}
 use Rattle.rsl_messages.specs.Forms.{abis}
 use Rattle.rsl_messages.specs.Heads.{Begins, HasHeadFault, head_of}
 use Rattle.rsl_messages.specs.Values.{fault_of}
@@ -32,10 +33,14 @@ pub record IsTextOf {A : Type 0} (v : Rsl A) (octets : List ℕ) : Type 0 where
   pub head : Begins kind octets body
   pub says : Says kind body (Ok v)
 
--- The body has this fault: an element that runs past the end, at an offset that counts the head too, or
--- an element that is missing or bad. Memory runs out only for a message that keeps an octet list.
+-- an element of the body runs past the end; its offset counts the head too
+abbrev pub IsTornBody : List ℕ → RslFault → Type 0
+IsTornBody body (fault.Torn at) = (offset : ℕ) × IsTornAt abis body offset × (at ≡ 2 + offset)
+IsTornBody body _ = ⊥
+
+-- The body has this fault: it is torn, or an element is missing or bad. Memory runs out only for a message that keeps an octet list.
 abbrev pub HasBodyFault : (A : Type 0) → MessageKind → List ℕ → RslFault → Type 0
-HasBodyFault A kind body (fault.Torn at) = (offset : ℕ) × IsTornAt abis body offset × (at ≡ 2 + offset)
+HasBodyFault A kind body (fault.Torn at) = IsTornBody body (fault.Torn at)
 HasBodyFault A kind body (fault.Missing i) = Says {A = A} kind body (Err (Absent i))
 HasBodyFault A kind body (fault.BadElement i) = Says {A = A} kind body (Err (Bad i))
 HasBodyFault A kind body fault.NoMemory = (v : Rsl A) × Says kind body (Ok v) × HasOctets v
@@ -64,6 +69,20 @@ pub record HasCanonical {A : Type 0} (v : Rsl A) : Type 0 where
   pub says : meaning_of (kind_of v) (elements_of v) ≡ Ok v
   pub within : length (canonical v) ≤ limit
 
+-- the same, by the fields of the message: what is tested before it is written
+abbrev pub IsWritable : {A : Type 0} → Rsl A → Type 0
+IsWritable (DataRequest channel link layer3) = (channel.tn < 8) × (0 < length layer3) × (9 + length layer3 ≤ limit)
+IsWritable (DataIndication channel link layer3) = (channel.tn < 8) × (0 < length layer3) × (9 + length layer3 ≤ limit)
+IsWritable (ChannelActivation channel activation mode reference) = (channel.tn < 8) × (0 < length mode) × (length mode < 256)
+IsWritable (ChannelActivationAck channel frame) = channel.tn < 8
+IsWritable (ChannelActivationNack channel cause) = channel.tn < 8
+IsWritable (ConnectionFailureIndication channel cause) = channel.tn < 8
+IsWritable (HandoverDetection channel delay) = channel.tn < 8
+IsWritable (MeasurementResult channel number uplink power None) = (channel.tn < 8) × (length uplink < 256)
+IsWritable (MeasurementResult channel number uplink power (Some layer3)) = (channel.tn < 8) × (length uplink < 256) × (0 < length layer3) × (13 + length uplink + length layer3 ≤ limit)
+IsWritable (RfChannelRelease channel) = channel.tn < 8
+IsWritable (RfChannelReleaseAck channel) = channel.tn < 8
+
 -- What a reader of values answers: what they say, or their fault; memory runs out only for a message
 -- that keeps an octet list.
 abbrev pub Answers : {A : Type 0} → Result (Rsl A) RslFault → Said A → Type 0
@@ -74,3 +93,11 @@ Answers {A} (Err f) said = ((e : ElementFault) × (said ≡ Err e) × (f ≡ fau
 abbrev pub ReadsBody : {A : Type 0} → MessageKind → List ℕ → Result (Rsl A) RslFault → Type 0
 ReadsBody kind body (Ok v) = Says kind body (Ok v)
 ReadsBody {A} kind body (Err f) = HasBodyFault A kind body f
+
+-- a text has one value and no fault, and what is no text has one fault
+abbrev pub ReadingIsUnique : (A : Type 0) → Type 0
+ReadingIsUnique A = ((v w : Rsl A) (octets : List ℕ) → IsTextOf v octets → IsTextOf w octets → v ≡ w) × ((v : Rsl A) (octets : List ℕ) (f : RslFault) → IsTextOf v octets → HasFault A octets f → f ≡ fault.NoMemory)
+
+-- the canonical text is a text of its message
+abbrev pub CanonicalIsText : (A : Type 0) → Type 0
+CanonicalIsText A = (v : Rsl A) → HasCanonical v → IsTextOf v (canonical v)

@@ -1,10 +1,76 @@
 //! Discriminator and type.
+ghost use Rattle.std.specs.Prelude.{◌≡◌, ◌∷◌, [], IfOk, IfErr, IfSome, IfNone};
+ghost use Rattle.rsl_messages.specs.Heads.{head_of, IsHead, Begins, HasHeadFault};
+
+use crate::fault::RslFault;
+
 /// Which message it is.
 #[derive(Clone, Copy, Debug, PartialEq, Eq)]
 pub enum MessageKind {
+    DataRequest,
+    DataIndication,
     ChannelActivation,
     ChannelActivationAck,
     ChannelActivationNack,
+    ConnectionFailureIndication,
+    HandoverDetection,
+    MeasurementResult,
     RfChannelRelease,
     RfChannelReleaseAck,
+}
+
+/// Which message has this discriminator, whose bit 1 is ignored, and this type.
+fn kind_for(discriminator: u8, message_type: u8) -> Option<MessageKind>
+    ensures found { IfSome result (λ kind. IsHead kind discriminator message_type) }
+    ensures none { IfNone result ((kind : MessageKind) → IsHead kind discriminator message_type → ⊥) }
+{
+    match (discriminator / 2, message_type) {
+        (1, 0x01) => Some(MessageKind::DataRequest),
+        (1, 0x02) => Some(MessageKind::DataIndication),
+        (4, 0x21) => Some(MessageKind::ChannelActivation),
+        (4, 0x22) => Some(MessageKind::ChannelActivationAck),
+        (4, 0x23) => Some(MessageKind::ChannelActivationNack),
+        (4, 0x24) => Some(MessageKind::ConnectionFailureIndication),
+        (4, 0x27) => Some(MessageKind::HandoverDetection),
+        (4, 0x28) => Some(MessageKind::MeasurementResult),
+        (4, 0x2E) => Some(MessageKind::RfChannelRelease),
+        (4, 0x33) => Some(MessageKind::RfChannelReleaseAck),
+        _ => None,
+    }
+}
+
+/// Which message the octets are, and the body after the head.
+pub fn read_head(octets: &[u8]) -> Result<(MessageKind, &[u8]), RslFault>
+    ensures found { IfOk result (λ h. Begins h.0 octets.now h.1.now) }
+    ensures fault { IfErr result (HasHeadFault octets.now) }
+{
+    let [discriminator, rest @ ..] = octets else {
+        return Err(RslFault::NotRsl);
+    };
+    if !matches!(*discriminator / 2, 1 | 4) {
+        return Err(RslFault::NotRsl);
+    }
+    let [message_type, body @ ..] = rest else {
+        return Err(RslFault::Torn(1));
+    };
+    let kind = kind_for(*discriminator, *message_type).ok_or(RslFault::UnknownType(*message_type))?;
+    Ok((kind, body))
+}
+
+/// Discriminator and type of a message, as they are written.
+pub fn head_octets(kind: MessageKind) -> [u8; 2]
+    ensures { result ≡ (head_of kind).0 ∷ (head_of kind).1 ∷ [] }
+{
+    match kind {
+        MessageKind::DataRequest => [3, 0x01],
+        MessageKind::DataIndication => [3, 0x02],
+        MessageKind::ChannelActivation => [8, 0x21],
+        MessageKind::ChannelActivationAck => [8, 0x22],
+        MessageKind::ChannelActivationNack => [8, 0x23],
+        MessageKind::ConnectionFailureIndication => [8, 0x24],
+        MessageKind::HandoverDetection => [8, 0x27],
+        MessageKind::MeasurementResult => [8, 0x28],
+        MessageKind::RfChannelRelease => [8, 0x2E],
+        MessageKind::RfChannelReleaseAck => [8, 0x33],
+    }
 }

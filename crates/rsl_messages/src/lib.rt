@@ -6,10 +6,19 @@
 
 mod fault;
 mod head;
+mod laws;
 mod message;
 mod octets;
+mod reading;
 mod table;
+#[cfg(test)]
+mod tests;
+mod values;
+mod writing;
 
 pub use fault::RslFault;
+pub use laws::{canonical_is_text, reading_is_unique};
 pub use message::{ChanBits, Rsl};
 pub use octets::Octets;
+pub use reading::decode;
+pub use writing::{encode, encode_into, fits};

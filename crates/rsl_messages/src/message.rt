@@ -12,6 +12,22 @@ pub struct ChanBits {
 /// A message on Abis.
 #[derive(Debug, Drop)]
 pub enum Rsl<A: Allocator = Global> {
+    /// DATA REQUEST, TS 48.058 clause 8.3.1.
+    DataRequest {
+        channel: ChanBits,
+        /// The link identifier; 0 is the main channel with SAPI 0.
+        link: u8,
+        /// A layer 3 message, from 1 to 1,015 octets.
+        layer3: Octets<A>,
+    },
+    /// DATA INDICATION, TS 48.058 clause 8.3.2.
+    DataIndication {
+        channel: ChanBits,
+        /// The link identifier; 0 is the main channel with SAPI 0.
+        link: u8,
+        /// A layer 3 message, from 1 to 1,015 octets.
+        layer3: Octets<A>,
+    },
     /// CHANNEL ACTIVATION, TS 48.058 clause 8.4.1.
     ChannelActivation {
         channel: ChanBits,
@@ -29,9 +45,40 @@ pub enum Rsl<A: Allocator = Global> {
         frame: u16,
     },
     /// CHANNEL ACTIVATION NEGATIVE ACKNOWLEDGE, TS 48.058 clause 8.4.3.
-    ChannelActivationNack { channel: ChanBits, cause: u8 },
+    ChannelActivationNack {
+        channel: ChanBits,
+        cause: u8,
+    },
+    /// CONNECTION FAILURE INDICATION, TS 48.058 clause 8.4.4.
+    ConnectionFailureIndication {
+        channel: ChanBits,
+        cause: u8,
+    },
+    /// HANDOVER DETECTION, TS 48.058 clause 8.4.7.
+    HandoverDetection {
+        channel: ChanBits,
+        /// The access delay.
+        delay: Option<u8>,
+    },
+    /// MEASUREMENT RESULT, TS 48.058 clause 8.4.8.
+    MeasurementResult {
+        channel: ChanBits,
+        /// The measurement result number.
+        number: u8,
+        /// The uplink measurements, at most 255 octets.
+        uplink: Octets<A>,
+        /// The power of the base station.
+        power: u8,
+        /// The layer 3 message with the mobile's measurement report, at least one octet. The whole
+        /// message has at most 1,024 octets.
+        layer3: Option<Octets<A>>,
+    },
     /// RF CHANNEL RELEASE, TS 48.058 clause 8.4.14.
-    RfChannelRelease { channel: ChanBits },
+    RfChannelRelease {
+        channel: ChanBits,
+    },
     /// RF CHANNEL RELEASE ACKNOWLEDGE, TS 48.058 clause 8.4.19.
-    RfChannelReleaseAck { channel: ChanBits },
+    RfChannelReleaseAck {
+        channel: ChanBits,
+    },
 }

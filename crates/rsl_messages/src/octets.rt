@@ -27,7 +27,9 @@ impl<A: Allocator + Copy> Octets<A> {
             items: Vec::from_slice(alloc, octets)?,
         })
     }
+}
 
+impl<A: Allocator> Octets<A> {
     /// Its octets.
     pub fn as_slice(&self) -> &[u8]
         ensures { result.now ≡ self.now }

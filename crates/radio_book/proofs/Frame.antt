@@ -1,0 +1,268 @@
+-- What has to be known of a change of one call, one channel and one reference, so that the book after it is sound.
+use Rattle.std.proofs.Common.{◌≡◌, ◌≢◌, ◌⊎◌, inl, inr, ℕ, true, Option, Some, None, IsSome, refl, sym, ◌∙◌, ap, subst}
+use Rattle.std.specs.declared.cmp.Ordering.{Ordering}
+use Rattle.std.specs.Cmp.{IsTotalOrder, nat_cmp_total}
+use Rattle.std.specs.FinMap as map
+use Rattle.std.specs.FinMap.{FinMap, IsAntisymmetric, nat_cmp-IsAntisymmetric}
+use Rattle.radio_book.specs.declared.channel.ChanId.{ChanId}
+use Rattle.radio_book.specs.declared.channel.ChanState.{ChanState}
+use Rattle.radio_book.specs.declared.channel.ChanState.TheVariants.{Free}
+use Rattle.radio_book.specs.declared.event.AttemptKind.{AttemptKind}
+use Rattle.radio_book.specs.declared.event.AttemptKind.TheVariants.{Internal, Incoming}
+use Rattle.radio_book.specs.declared.event.Stage.{Stage}
+use Rattle.radio_book.specs.declared.event.Stage.TheVariants.{Taken, Reserved, Sent, Refused, Confirmed}
+use Rattle.radio_book.specs.declared.event.Attempt.{Attempt}
+use Rattle.radio_book.specs.declared.event.CallRecord.{CallRecord}
+use Rattle.radio_book.specs.declared.event.Reference.{Reference}
+use Rattle.radio_book.specs.Site.{is_traffic}
+use Rattle.radio_book.specs.Maps.{Entry, put, changed}
+use Rattle.radio_book.specs.State.{State, Change, apply, or_free, state_of, record_of}
+use Rattle.radio_book.specs.Table.{reference_at, reference_held}
+use Rattle.radio_book.specs.Sound.{IsSound, owner, Uses, target_in, reference_of, target_state, HasServing, HasReference}
+use Rattle.radio_book.proofs.KeyFacts.{chan_total, chan_exact, reference_total, reference_exact}
+use Rattle.radio_book.proofs.MapFacts.{key_cases, get_put_same, get_put_other, call_cases}
+
+pub same_some : {X : Type 0} (x y : X) → Some x ≡ Some y → x ≡ y
+same_some x y e = cc
+
+-- what holds of the one value that an option has
+pub at_some : {X : Type 0} (P : X → Type 0) (x y : X) → P x → Some x ≡ Some y → P y
+at_some P x y p e = subst P (same_some x y e) p
+
+-- the change is of this key
+abbrev pub Touches : {K X : Type 0} → Option (Entry K X) → K → Type 0
+Touches None q = ⊥
+Touches (Some e) q = q ≡ e.0
+
+-- this holds of the key that is changed, if any, and of what it gets
+abbrev pub AtKey : {K X : Type 0} → Option (Entry K X) → (K → Option X → Type 0) → Type 0
+AtKey None P = Unit {0}
+AtKey (Some e) P = P e.0 e.1
+
+module _ {K X : Type 0} {R : K → K → Ordering} (o : IsTotalOrder R) (exact : IsAntisymmetric R) where
+  pub get_untouched : (m : FinMap R X) (e : Option (Entry K X)) (q : K) → (Touches e q → ⊥) → map.get (changed m e) q ≡ map.get m q
+  get_untouched m None q other = refl
+  get_untouched m (Some e) q other = get_put_other o exact m e.0 e.1 q other
+
+  -- at a key that is changed stands what it gets, at another what stood there
+  pub get_changed : (m : FinMap R X) (e : Option (Entry K X)) (P : K → Option X → Type 0) (q : K) → AtKey e P → (P q (map.get (changed m e) q) × Touches e q) ⊎ ((Touches e q → ⊥) × (map.get (changed m e) q ≡ map.get m q))
+  get_changed m None P q p = inr (λ t. t, refl)
+  get_changed m (Some e) P q p = elim (key_cases o exact q e.0) [
+    | inl same ↦ inl (subst (λ k. P k (map.get (put m e.0 e.1) k)) (sym same) (subst (P e.0) (sym (get_put_same o m e.0 e.1)) p), same)
+    | inr other ↦ inr (other, get_put_other o exact m e.0 e.1 q other)
+  ]
+
+-- what a sound book says of one call
+pub record IsCallSound (look : ChanId → ChanState) (user : Reference → Option ℕ) (c : ℕ) (r : CallRecord) : Type 0 where
+  pub serving : (x : ChanId) → r.serving ≡ Some x → owner (look x) ≡ Some c
+  pub has_target : (a : Attempt) → r.attempt ≡ Some a → IsSome a.target
+  pub target : (a : Attempt) (x : ChanId) → r.attempt ≡ Some a → a.target ≡ Some x → look x ≡ target_state c a.stage
+  pub apart : (x y : ChanId) → r.serving ≡ Some x → target_in r ≡ Some y → x.cell ≢ y.cell
+  pub during : (a : Attempt) → r.attempt ≡ Some a → HasServing c a.kind r.serving look
+  pub resting : r.attempt ≡ None → IsSome r.serving
+  pub referred : (k : Reference) → reference_of r.attempt ≡ Some k → user k ≡ Some c
+  pub reserved : (a : Attempt) → r.attempt ≡ Some a → HasReference a.stage a.reference
+
+pub call_of : (b : State) → IsSound b → (c : ℕ) (r : CallRecord) → record_of b c ≡ Some r → IsCallSound (state_of b) (map.get b.references) c r
+call_of b sound c r e = record {
+  serving = λ x h. sound.serving c r x e h;
+  has_target = λ a h. sound.has_target c r a e h;
+  target = λ a x h g. sound.target c r a x e h g;
+  apart = λ x y h g. sound.apart c r x y e h g;
+  during = λ a h. sound.during c r a e h;
+  resting = λ h. sound.resting c r e h;
+  referred = λ k h. sound.referred c r k e h;
+  reserved = λ a h. sound.reserved c r a e h;
+}
+
+pub is_owned : (c : ℕ) (s : Stage) → owner (target_state c s) ≡ Some c
+is_owned c Taken = refl
+is_owned c Reserved = refl
+is_owned c Sent = refl
+is_owned c Refused = refl
+is_owned c Confirmed = refl
+
+serving_stays : (c : ℕ) (look seen : ChanId → ChanState) → ((x : ChanId) → owner (look x) ≡ Some c → seen x ≡ look x) → (k : AttemptKind) (s : Option ChanId) → HasServing c k s look → HasServing c k s seen
+serving_stays c look seen same Internal None h = h
+serving_stays c look seen same Internal (Some x) h = same x (ap owner h) ∙ h
+serving_stays c look seen same Incoming s h = h
+
+-- a call whose channels and references stay, stays sound
+pub call_stays : (look seen : ChanId → ChanState) (user used : Reference → Option ℕ) (c : ℕ) (r : CallRecord) → ((x : ChanId) → owner (look x) ≡ Some c → seen x ≡ look x) → ((k : Reference) → user k ≡ Some c → used k ≡ Some c) → IsCallSound look user c r → IsCallSound seen used c r
+call_stays look seen user used c r same kept is = record {
+  serving = λ x h. ap owner (same x (is.serving x h)) ∙ is.serving x h;
+  has_target = is.has_target;
+  target = λ a x h g. same x (ap owner (is.target a x h g) ∙ is_owned c a.stage) ∙ is.target a x h g;
+  apart = is.apart;
+  during = λ a h. serving_stays c look seen same a.kind r.serving (is.during a h);
+  resting = is.resting;
+  referred = λ k h. kept k (is.referred k h);
+  reserved = is.reserved;
+}
+
+-- a call without an attempt, and one with an attempt, by their parts
+
+pub resting_call : (look : ChanId → ChanState) (user : Reference → Option ℕ) (c : ℕ) (x : ChanId) → owner (look x) ≡ Some c → IsCallSound look user c (record { serving = Some x; attempt = None })
+resting_call look user c x owned = record {
+  serving = λ y h. at_some (λ z. owner (look z) ≡ Some c) x y owned h;
+  has_target = λ a h. cc;
+  target = λ a y h g. cc;
+  apart = λ y z h g. cc;
+  during = λ a h. cc;
+  resting = λ h. refl;
+  referred = λ k h. cc;
+  reserved = λ a h. cc;
+}
+
+abbrev pub attempting : Option ChanId → AttemptKind → Stage → ChanId → Option ℕ → CallRecord
+attempting s k g t n = record { serving = s; attempt = Some (record { kind = k; stage = g; target = Some t; reference = n }) }
+
+pub record HasAttempt (look : ChanId → ChanState) (user : Reference → Option ℕ) (c : ℕ) (s : Option ChanId) (k : AttemptKind) (g : Stage) (t : ChanId) (n : Option ℕ) : Type 0 where
+  pub state : look t ≡ target_state c g
+  pub apart : (x : ChanId) → s ≡ Some x → x.cell ≢ t.cell
+  pub during : HasServing c k s look
+  pub referred : (m : ℕ) → n ≡ Some m → user (reference_at t m) ≡ Some c
+  pub reserved : HasReference g n
+
+pub attempt_of : (look : ChanId → ChanState) (user : Reference → Option ℕ) (c : ℕ) (s : Option ChanId) (k : AttemptKind) (g : Stage) (t : ChanId) (n : Option ℕ) → IsCallSound look user c (attempting s k g t n) → HasAttempt look user c s k g t n
+attempt_of look user c s k g t n is = record {
+  state = is.target _ t refl refl;
+  apart = λ x h. is.apart x t h refl;
+  during = is.during _ refl;
+  referred = λ m h. is.referred (reference_at t m) (ap (reference_held (Some t)) h);
+  reserved = is.reserved _ refl;
+}
+
+serving_owned : (c : ℕ) (look : ChanId → ChanState) (k : AttemptKind) (s : Option ChanId) → HasServing c k s look → (x : ChanId) → s ≡ Some x → owner (look x) ≡ Some c
+serving_owned c look Internal None h x e = absurd h
+serving_owned c look Internal (Some y) h x e = at_some (λ z. owner (look z) ≡ Some c) y x (ap owner h) e
+serving_owned c look Incoming s h x e = cc
+
+reference_kept : (user : Reference → Option ℕ) (c : ℕ) (t : ChanId) (n : Option ℕ) → ((m : ℕ) → n ≡ Some m → user (reference_at t m) ≡ Some c) → (k : Reference) → reference_held (Some t) n ≡ Some k → user k ≡ Some c
+reference_kept user c t None h k e = cc
+reference_kept user c t (Some m) h k e = at_some (λ j. user j ≡ Some c) _ k (h m refl) e
+
+pub attempting_call : (look : ChanId → ChanState) (user : Reference → Option ℕ) (c : ℕ) (s : Option ChanId) (k : AttemptKind) (g : Stage) (t : ChanId) (n : Option ℕ) → HasAttempt look user c s k g t n → IsCallSound look user c (attempting s k g t n)
+attempting_call look user c s k g t n has = record {
+  serving = λ x h. serving_owned c look k s has.during x h;
+  has_target = λ a h. at_some (λ (a : Attempt). IsSome a.target) (record { kind = k; stage = g; target = Some t; reference = n }) a refl h;
+  target = λ a x h e. at_some (λ (a : Attempt). a.target ≡ Some x → look x ≡ target_state c a.stage) _ a (λ e. at_some (λ y. look y ≡ target_state c g) t x has.state e) h e;
+  apart = λ x y h e. at_some (λ z. x.cell ≢ z.cell) t y (has.apart x h) e;
+  during = λ a h. at_some (λ (a : Attempt). HasServing c a.kind s look) _ a has.during h;
+  resting = λ h. cc;
+  referred = λ k h. reference_kept user c t n has.referred k h;
+  reserved = λ a h. at_some (λ (a : Attempt). HasReference a.stage a.reference) _ a has.reserved h;
+}
+
+-- a call's record, if it has one, uses the channel; has the reference; is sound
+
+abbrev pub UsedBy : Option CallRecord → ChanId → Type 0
+UsedBy None x = ⊥
+UsedBy (Some r) x = Uses r x
+
+abbrev pub ReferredBy : Option CallRecord → Reference → Type 0
+ReferredBy None k = ⊥
+ReferredBy (Some r) k = reference_of r.attempt ≡ Some k
+
+abbrev pub SoundIfAny : (ChanId → ChanState) → (Reference → Option ℕ) → ℕ → Option CallRecord → Type 0
+SoundIfAny look user c None = Unit {0}
+SoundIfAny look user c (Some r) = IsCallSound look user c r
+
+-- what has to be known of a change which concerns one call, whose record this was and that will be
+pub record Concerns (b : State) (change : Change) (c : ℕ) (was is : Option CallRecord) : Type 0 where
+  pub before : record_of b c ≡ was
+  pub after : record_of (apply change b) c ≡ is
+  -- no other call is changed
+  pub call : AtKey change.call (λ d v. d ≡ c)
+  -- the channel was of no other call, and is of none
+  pub channel_was : AtKey change.channel (λ x v. (d : ℕ) → owner (state_of b x) ≡ Some d → d ≡ c)
+  pub channel_is : AtKey change.channel (λ x v. (d : ℕ) → owner (or_free v) ≡ Some d → (d ≡ c) × UsedBy is x)
+  pub entry : AtKey change.channel (λ x v. (s : ChanState) → v ≡ Some s → (is_traffic b.site x ≡ true) × (s ≢ Free))
+  -- the call goes on using its other channels
+  pub channels : (x : ChanId) → (Touches change.channel x → ⊥) → UsedBy was x → UsedBy is x
+  -- the reference was of no other call, and is of none
+  pub reference_was : AtKey change.reference (λ k v. (d : ℕ) → map.get b.references k ≡ Some d → d ≡ c)
+  pub reference_is : AtKey change.reference (λ k v. (d : ℕ) → v ≡ Some d → (d ≡ c) × ReferredBy is k)
+  -- the call keeps its other references
+  pub references : (k : Reference) → (Touches change.reference k → ⊥) → ReferredBy was k → ReferredBy is k
+  pub sound : SoundIfAny (state_of (apply change b)) (map.get (apply change b).references) c is
+  pub timers : (d : ℕ) → map.get (apply change b).timers d ≡ None
+
+module _ (b : State) (sound : IsSound b) (change : Change) (c : ℕ) (was is : Option CallRecord) (concerns : Concerns b change c was is) where
+  abbrev b' : State
+  b' = apply change b
+
+  other_call : (d : ℕ) → d ≢ c → record_of b' d ≡ record_of b d
+  other_call d other = elim (get_changed nat_cmp_total nat_cmp-IsAntisymmetric b.calls change.call (λ e v. e ≡ c) d concerns.call) [
+    | inl (same, t) ↦ absurd (other same)
+    | inr (t, same) ↦ same
+  ]
+
+  other_channel : (d : ℕ) → d ≢ c → (x : ChanId) → owner (state_of b x) ≡ Some d → state_of b' x ≡ state_of b x
+  other_channel d other x owned = elim (get_changed chan_total chan_exact b.channels change.channel (λ x v. (d : ℕ) → owner (state_of b x) ≡ Some d → d ≡ c) x concerns.channel_was) [
+    | inl (was, t) ↦ absurd (other (was d owned))
+    | inr (t, same) ↦ ap or_free same
+  ]
+
+  other_reference : (d : ℕ) → d ≢ c → (k : Reference) → map.get b.references k ≡ Some d → map.get b'.references k ≡ Some d
+  other_reference d other k used = elim (get_changed reference_total reference_exact b.references change.reference (λ k v. (d : ℕ) → map.get b.references k ≡ Some d → d ≡ c) k concerns.reference_was) [
+    | inl (was, t) ↦ absurd (other (was d used))
+    | inr (t, same) ↦ same ∙ used
+  ]
+
+  calls : (d : ℕ) (r : CallRecord) → record_of b' d ≡ Some r → IsCallSound (state_of b') (map.get b'.references) d r
+  calls d r e = elim (call_cases d c) [
+    | inl same ↦ subst (λ z. IsCallSound (state_of b') (map.get b'.references) z r) (sym same)
+        (subst (SoundIfAny (state_of b') (map.get b'.references) c) (sym concerns.after ∙ ap (record_of b') (sym same) ∙ e) concerns.sound)
+    | inr other ↦ call_stays (state_of b) (state_of b') (map.get b.references) (map.get b'.references) d r (other_channel d other) (other_reference d other)
+        (call_of b sound d r (sym (other_call d other) ∙ e))
+  ]
+
+  user_of : (o : Option CallRecord) → record_of b' c ≡ o → (d : ℕ) → d ≡ c → (x : ChanId) → UsedBy o x → (r : CallRecord) × (record_of b' d ≡ Some r) × Uses r x
+  user_of None e d same x used = absurd used
+  user_of (Some r) e d same x used = (r, ap (record_of b') same ∙ e, used)
+
+  referrer_of : (o : Option CallRecord) → record_of b' c ≡ o → (d : ℕ) → d ≡ c → (k : Reference) → ReferredBy o k → (r : CallRecord) × (record_of b' d ≡ Some r) × (reference_of r.attempt ≡ Some k)
+  referrer_of None e d same k has = absurd has
+  referrer_of (Some r) e d same k has = (r, ap (record_of b') same ∙ e, has)
+
+  named : (x : ChanId) (d : ℕ) → owner (state_of b' x) ≡ Some d → (r : CallRecord) × (record_of b' d ≡ Some r) × Uses r x
+  named x d owned = elim (get_changed chan_total chan_exact b.channels change.channel (λ x v. (d : ℕ) → owner (or_free v) ≡ Some d → (d ≡ c) × UsedBy is x) x concerns.channel_is) [
+    | inl (now, t) ↦ let n = now d owned in user_of is concerns.after d n.0 x n.1
+    | inr (t, same) ↦ let n = sound.named x d (sym (ap (λ o. owner (or_free o)) same) ∙ owned) in elim (call_cases d c) [
+      | inl at ↦ user_of is concerns.after d at x (concerns.channels x t (subst (λ o. UsedBy o x) (sym n.1 ∙ ap (record_of b) at ∙ concerns.before) n.2))
+      | inr other ↦ (n.0, other_call d other ∙ n.1, n.2)
+    ]
+  ]
+
+  in_use : (k : Reference) (d : ℕ) → map.get b'.references k ≡ Some d → (r : CallRecord) × (record_of b' d ≡ Some r) × (reference_of r.attempt ≡ Some k)
+  in_use k d used = elim (get_changed reference_total reference_exact b.references change.reference (λ k v. (d : ℕ) → v ≡ Some d → (d ≡ c) × ReferredBy is k) k concerns.reference_is) [
+    | inl (now, t) ↦ let n = now d used in referrer_of is concerns.after d n.0 k n.1
+    | inr (t, same) ↦ let n = sound.in_use k d (sym same ∙ used) in elim (call_cases d c) [
+      | inl at ↦ referrer_of is concerns.after d at k (concerns.references k t (subst (λ o. ReferredBy o k) (sym n.1 ∙ ap (record_of b) at ∙ concerns.before) n.2))
+      | inr other ↦ (n.0, other_call d other ∙ n.1, n.2)
+    ]
+  ]
+
+  entries : (x : ChanId) (s : ChanState) → map.get b'.channels x ≡ Some s → (is_traffic b.site x ≡ true) × (s ≢ Free)
+  entries x s e = elim (get_changed chan_total chan_exact b.channels change.channel (λ x v. (s : ChanState) → v ≡ Some s → (is_traffic b.site x ≡ true) × (s ≢ Free)) x concerns.entry) [
+    | inl (now, t) ↦ now s e
+    | inr (t, same) ↦ (sound.traffic x s (sym same ∙ e), sound.taken x s (sym same ∙ e))
+  ]
+
+  pub concerned_sound : IsSound (apply change b)
+  concerned_sound = record {
+    traffic = λ x s e. (entries x s e).0;
+    taken = λ x s e. (entries x s e).1;
+    named = named;
+    serving = λ d r x e h. (calls d r e).serving x h;
+    has_target = λ d r a e h. (calls d r e).has_target a h;
+    target = λ d r a x e h g. (calls d r e).target a x h g;
+    apart = λ d r x y e h g. (calls d r e).apart x y h g;
+    during = λ d r a e h. (calls d r e).during a h;
+    resting = λ d r e h. (calls d r e).resting h;
+    referred = λ d r k e h. (calls d r e).referred k h;
+    in_use = in_use;
+    reserved = λ d r a e h. (calls d r e).reserved a h;
+    timers = concerns.timers;
+  }

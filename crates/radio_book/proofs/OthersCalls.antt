@@ -1,0 +1,58 @@
+-- Open, Clear and Look by another call agree, whatever is gone.
+use Rattle.std.proofs.Common.{◌≡◌, ℕ, Bool, true, false, Option, Some, None, refl, ap}
+use Rattle.radio_book.specs.declared.channel.ChanId.{ChanId}
+use Rattle.radio_book.specs.declared.event.Attempt.{Attempt}
+use Rattle.radio_book.specs.declared.event.CallRecord.{CallRecord}
+use Rattle.radio_book.specs.declared.event.Event.TheVariants as event
+use Rattle.radio_book.specs.declared.event.Refusal.TheVariants.{NoCall, CallExists, WrongPhase, NoChannel, ChannelBusy}
+use Rattle.radio_book.specs.declared.event.Reply.TheVariants.{Done, Record, Refused}
+use Rattle.radio_book.specs.Site.{is_traffic}
+use Rattle.radio_book.specs.State.{apply, state_of, record_of}
+use Rattle.radio_book.specs.Table.{Accepts, reply_of, no_change, open_row, clear_row, clear_at, cleared_state, look_row}
+use Rattle.radio_book.proofs.Changes.{Misses, option_apart, record_kept}
+use Rattle.radio_book.proofs.Agreement.{Agrees, refused, as_read, AgreesWithOthers, wants_free, states_kept, serving_missed}
+
+pub open_agrees : (d : ℕ) (y : ChanId) → AgreesWithOthers (event.Open d y)
+open_agrees d y gone b sound hides other not_held =
+    as_read (ap (λ o. open_row d y o (is_traffic b.site y) (state_of (apply gone b) y)) (record_kept gone b d other))
+    (by (record_of b d) (is_traffic b.site y) (not_held.channel y))
+  where
+    by : (o : Option CallRecord) (traffic : Bool) → (reply_of (open_row d y o traffic (state_of b y)) ≡ Refused (ChannelBusy y) → Misses gone.channel y) →
+        Agrees gone (open_row d y o traffic (state_of b y)) (open_row d y o traffic (state_of (apply gone b) y))
+    by (Some r) traffic h = refused gone CallExists
+    by None false h = refused gone NoChannel
+    by None true h =
+        wants_free gone b hides y (open_row d y None true) (λ c. refl) (λ c. refl) (λ c. refl) refl
+        (λ missed. record { channel = missed; call = other; reference = tt; timer = tt }) h
+
+pub clear_agrees : (d : ℕ) → AgreesWithOthers (event.Clear d)
+clear_agrees d gone b sound hides other not_held =
+    as_read (ap (λ o. clear_row d o (state_of (apply gone b))) (record_kept gone b d other)) (by (record_of b d) refl)
+  where
+    rested : (r : CallRecord) → record_of b d ≡ Some r → Agrees gone (clear_at d r None (state_of b)) (clear_at d r None (state_of (apply gone b)))
+    rested r is =
+        let missed = serving_missed gone b sound hides d other r is in
+        record {
+          same = ap (λ entry. Accepts (record { channel = entry; call = Some (d, None); reference = None; timer = None }) Done)
+              (states_kept gone b (λ x s. (x, cleared_state s)) r.serving missed);
+          away = record { channel = option_apart (λ x. (x, cleared_state (state_of b x))) r.serving gone.channel missed; call = other; reference = tt; timer = tt };
+        }
+
+    at : (r : CallRecord) → record_of b d ≡ Some r → (o : Option Attempt) → Agrees gone (clear_at d r o (state_of b)) (clear_at d r o (state_of (apply gone b)))
+    at r is (Some a) = refused gone WrongPhase
+    at r is None = rested r is
+
+    by : (o : Option CallRecord) → record_of b d ≡ o → Agrees gone (clear_row d o (state_of b)) (clear_row d o (state_of (apply gone b)))
+    by None is = refused gone NoCall
+    by (Some r) is = at r is r.attempt
+
+pub look_agrees : (d : ℕ) → AgreesWithOthers (event.Look d)
+look_agrees d gone b sound hides other not_held =
+    as_read (ap (λ o. look_row o (state_of (apply gone b))) (record_kept gone b d other)) (by (record_of b d) refl)
+  where
+    by : (o : Option CallRecord) → record_of b d ≡ o → Agrees gone (look_row o (state_of b)) (look_row o (state_of (apply gone b)))
+    by None is = refused gone NoCall
+    by (Some r) is = record {
+      same = ap (λ s. Accepts no_change (Record r s)) (states_kept gone b (λ x s. s) r.serving (serving_missed gone b sound hides d other r is));
+      away = record { channel = tt; call = tt; reference = tt; timer = tt };
+    }

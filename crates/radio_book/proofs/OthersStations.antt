@@ -1,0 +1,70 @@
+-- Confirm, Refuse and Released on another channel agree, whatever is gone.
+use Rattle.std.proofs.Common.{◌≡◌, ℕ, Bool, true, false, if◌then◌else◌, Option, Some, None, refl, ap}
+use Rattle.radio_book.specs.declared.channel.ChanId.{ChanId}
+use Rattle.radio_book.specs.declared.channel.ChanState.{ChanState}
+use Rattle.radio_book.specs.declared.channel.ChanState.TheVariants.{Free, Held, Pending, On, Off}
+use Rattle.radio_book.specs.declared.event.Stage.{Stage}
+use Rattle.radio_book.specs.declared.event.Stage.TheVariants as stage
+use Rattle.radio_book.specs.declared.event.Attempt.{Attempt}
+use Rattle.radio_book.specs.declared.event.CallRecord.{CallRecord}
+use Rattle.radio_book.specs.declared.event.Event.TheVariants as event
+use Rattle.radio_book.specs.declared.event.Refusal.TheVariants.{Unexpected}
+use Rattle.radio_book.specs.declared.event.Reply.TheVariants.{Owned}
+use Rattle.radio_book.specs.State.{State, Change, apply, state_of, record_of}
+use Rattle.radio_book.specs.Table.{Accepts, becomes, is_recorded, at_stage, is_target, attempt_moved, moved, confirm_row, refuse_row, released_row}
+use Rattle.radio_book.proofs.Changes.{Misses, AreApart, state_kept, record_kept}
+use Rattle.radio_book.proofs.Agreement.{Agrees, refused, as_read, AgreesWithOthers}
+
+module _ (gone : Change) (c : ℕ) (other : Misses gone.call c) (x : ChanId) (s : Stage) where
+  recorded_apart : (aimed : Bool) (r : CallRecord) → AreApart (if aimed then is_recorded c r else None) gone.call
+  recorded_apart true r = other
+  recorded_apart false r = tt
+
+  attempt_moved_apart : (r : CallRecord) (o : Option Attempt) → AreApart (attempt_moved x s c r o) gone.call
+  attempt_moved_apart r None = tt
+  attempt_moved_apart r (Some a) = recorded_apart (is_target x a.target) (at_stage r a s)
+
+  moved_apart : (o : Option CallRecord) → AreApart (moved x s c o) gone.call
+  moved_apart None = tt
+  moved_apart (Some r) = attempt_moved_apart r r.attempt
+
+  -- the station's answer on a channel of another call
+  answer_agrees : (b : State) (state : ChanState) → Misses gone.channel x →
+      Agrees gone (Accepts (record { channel = becomes x state; call = moved x s c (record_of b c); reference = None; timer = None }) (Owned c))
+      (Accepts (record { channel = becomes x state; call = moved x s c (record_of (apply gone b) c); reference = None; timer = None }) (Owned c))
+  answer_agrees b state missed = record {
+    same = ap (λ o. Accepts (record { channel = becomes x state; call = moved x s c o; reference = None; timer = None }) (Owned c)) (record_kept gone b c other);
+    away = record { channel = missed; call = moved_apart (record_of b c); reference = tt; timer = tt };
+  }
+
+pub confirm_agrees : (y : ChanId) → AgreesWithOthers (event.Confirm y)
+confirm_agrees y gone b sound hides other not_held =
+    as_read (ap (λ s. confirm_row y s (record_of (apply gone b))) (state_kept gone b y other)) (by (state_of b y) refl)
+  where
+    by : (s : ChanState) → state_of b y ≡ s → Agrees gone (confirm_row y s (record_of b)) (confirm_row y s (record_of (apply gone b)))
+    by Free is = refused gone (Unexpected y)
+    by (Held c) is = refused gone (Unexpected y)
+    by (Pending c) is = answer_agrees gone c (hides.others_pending y c is other) y stage.Confirmed b (On c) other
+    by (On c) is = refused gone (Unexpected y)
+    by Off is = refused gone (Unexpected y)
+
+pub refuse_agrees : (y : ChanId) → AgreesWithOthers (event.Refuse y)
+refuse_agrees y gone b sound hides other not_held =
+    as_read (ap (λ s. refuse_row y s (record_of (apply gone b))) (state_kept gone b y other)) (by (state_of b y) refl)
+  where
+    by : (s : ChanState) → state_of b y ≡ s → Agrees gone (refuse_row y s (record_of b)) (refuse_row y s (record_of (apply gone b)))
+    by Free is = refused gone (Unexpected y)
+    by (Held c) is = refused gone (Unexpected y)
+    by (Pending c) is = answer_agrees gone c (hides.others_pending y c is other) y stage.Refused b (Held c) other
+    by (On c) is = refused gone (Unexpected y)
+    by Off is = refused gone (Unexpected y)
+
+pub released_agrees : (y : ChanId) → AgreesWithOthers (event.Released y)
+released_agrees y gone b sound hides other not_held = as_read (ap (released_row y) (state_kept gone b y other)) (by (state_of b y))
+  where
+    by : (s : ChanState) → Agrees gone (released_row y s) (released_row y s)
+    by Free = refused gone (Unexpected y)
+    by (Held c) = refused gone (Unexpected y)
+    by (Pending c) = refused gone (Unexpected y)
+    by (On c) = refused gone (Unexpected y)
+    by Off = record { same = refl; away = record { channel = other; call = tt; reference = tt; timer = tt } }

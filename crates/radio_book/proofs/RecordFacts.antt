@@ -1,0 +1,100 @@
+-- What a sound book says of the channels that an event reads.
+use Rattle.std.proofs.Common.{◌≡◌, ◌≢◌, ℕ, true, false, Option, Some, None, IsSome, is_some, Result, Ok, Err, OnOk, OnErr, refl, sym, ap, ◌∙◌, subst}
+use Rattle.std.specs.FinMap as map
+use Rattle.radio_book.specs.declared.channel.ChanId.{ChanId}
+use Rattle.radio_book.specs.declared.channel.ChanState.{ChanState}
+use Rattle.radio_book.specs.declared.channel.ChanState.TheVariants.{Free, Held, Pending, On, Off}
+use Rattle.radio_book.specs.declared.event.Stage.{Stage}
+use Rattle.radio_book.specs.declared.event.Stage.TheVariants.{Taken, Reserved, Sent, Refused, Confirmed}
+use Rattle.radio_book.specs.declared.event.Attempt.{Attempt}
+use Rattle.radio_book.specs.declared.event.CallRecord.{CallRecord}
+use Rattle.radio_book.specs.declared.event.Event.{Event}
+use Rattle.radio_book.specs.declared.event.Event.TheVariants as event
+use Rattle.radio_book.specs.declared.event.Refusal.TheVariants.{ChannelBusy}
+use Rattle.radio_book.specs.declared.journal.Inverse.{Inverse}
+use Rattle.radio_book.specs.Site.{is_traffic}
+use Rattle.radio_book.specs.State.{State, or_free, state_of, record_of}
+use Rattle.radio_book.specs.Sound.{IsSound, owner, target_state}
+use Rattle.radio_book.specs.Table.{Refuses, row, step, open_row, take_incoming, take_from}
+use Rattle.radio_book.specs.Journal.{inverses_at, stage_inverses, opening_inverse, or_zero}
+use Rattle.radio_book.specs.Waiting.{MayMove}
+use Rattle.radio_book.proofs.SoundSteps.{sound_step}
+
+-- a state that names a call is an entry
+owned_there : (o : Option ChanState) (c : ℕ) → owner (or_free o) ≡ Some c → IsSome o
+owned_there None c e = cc
+owned_there (Some s) c e = refl
+
+owner_target : (c : ℕ) (s : Stage) → owner (target_state c s) ≡ Some c
+owner_target c Taken = refl
+owner_target c Reserved = refl
+owner_target c Sent = refl
+owner_target c Refused = refl
+owner_target c Confirmed = refl
+
+pub serving_there : (b : State) (c : ℕ) (r : CallRecord) (x : ChanId) → IsSound b → record_of b c ≡ Some r → r.serving ≡ Some x → IsSome (map.get b.channels x)
+serving_there b c r x sound known serving = owned_there (map.get b.channels x) c (sound.serving c r x known serving)
+
+pub target_there : (b : State) (c : ℕ) (r : CallRecord) (a : Attempt) (x : ChanId) → IsSound b → record_of b c ≡ Some r → r.attempt ≡ Some a → a.target ≡ Some x → IsSome (map.get b.channels x)
+target_there b c r a x sound known opened target =
+    owned_there (map.get b.channels x) c (ap owner (sound.target c r a x known opened target) ∙ owner_target c a.stage)
+
+-- an entry is of a channel that isn't free
+not_free : (b : State) (x : ChanId) → IsSound b → is_some (map.get b.channels x) ≡ true → state_of b x ≢ Free
+not_free b x sound there =
+    elim (map.get b.channels x) as (λ o. map.get b.channels x ≡ o → is_some o ≡ true → or_free o ≢ Free) [
+      | None ↦ λ is h. cc
+      | Some s ↦ λ is h free. sound.taken x s is free
+    ] refl there
+
+open_busy : (c : ℕ) (x : ChanId) (s : ChanState) → s ≢ Free → open_row c x None true s ≡ Refuses (ChannelBusy x)
+open_busy c x Free apart = absurd (apart refl)
+open_busy c x (Held d) apart = refl
+open_busy c x (Pending d) apart = refl
+open_busy c x (On d) apart = refl
+open_busy c x Off apart = refl
+
+incoming_busy : (c : ℕ) (x : ChanId) (s : ChanState) → s ≢ Free → take_incoming c x true s ≡ Refuses (ChannelBusy x)
+incoming_busy c x Free apart = absurd (apart refl)
+incoming_busy c x (Held d) apart = refl
+incoming_busy c x (Pending d) apart = refl
+incoming_busy c x (On d) apart = refl
+incoming_busy c x Off apart = refl
+
+internal_busy : (c : ℕ) (x : ChanId) (r : CallRecord) (d : ℕ) (s : ChanState) → s ≢ Free → take_from c x r (On d) true false s ≡ Refuses (ChannelBusy x)
+internal_busy c x r d Free apart = absurd (apart refl)
+internal_busy c x r d (Held e) apart = refl
+internal_busy c x r d (Pending e) apart = refl
+internal_busy c x r d (On e) apart = refl
+internal_busy c x r d Off apart = refl
+
+no_record : (o : Option CallRecord) → is_some o ≡ false → o ≡ None
+no_record None h = refl
+no_record (Some r) h = cc
+
+pub open_is_busy : (b : State) (c : ℕ) (x : ChanId) → IsSound b → is_some (record_of b c) ≡ false → is_traffic b.site x ≡ true → is_some (map.get b.channels x) ≡ true → row b (event.Open c x) ≡ Refuses (ChannelBusy x)
+open_is_busy b c x sound new traffic there =
+    ap (λ o. open_row c x o (is_traffic b.site x) (state_of b x)) (no_record (record_of b c) new)
+    ∙ ap (λ t. open_row c x None t (state_of b x)) traffic ∙ open_busy c x (state_of b x) (not_free b x sound there)
+
+target_of_sent : (c : ℕ) (s : Stage) → target_state c s ≡ Pending c → s ≡ Sent
+target_of_sent c Taken e = cc
+target_of_sent c Reserved e = cc
+target_of_sent c Sent e = refl
+target_of_sent c Refused e = cc
+target_of_sent c Confirmed e = cc
+
+-- the inverses stay where a target that was asked for is answered
+pub pending_moves : (b : State) (c : ℕ) (x : ChanId) (s : Stage) → IsSound b → map.get b.channels x ≡ Some (Pending c) →
+    ((o : Inverse) (t : ChanId) (n : ℕ) → stage_inverses o t n s ≡ stage_inverses o t n Sent) → MayMove c x s b
+pending_moves b c x s sound pending same r a known opened target =
+    let sent = target_of_sent c a.stage (sym (sound.target c r a x known opened target) ∙ ap or_free pending) in
+    ap (inverses_at (record a { stage = s })) target
+    ∙ same (opening_inverse a.kind) x (or_zero a.reference)
+    ∙ ap (stage_inverses (opening_inverse a.kind) x (or_zero a.reference)) (sym sent)
+    ∙ sym (ap (inverses_at a) target)
+
+-- a book is sound after a step, whether or not memory was refused
+pub stepped_sound : {T E : Type 0} (r : Result T E) (b n : State) (e : Event) → IsSound b → OnOk r (n ≡ step b e) → OnErr r (n ≡ b) → IsSound n
+stepped_sound (Ok x) b n e sound stepped same = subst IsSound (sym stepped) (sound_step b e sound)
+stepped_sound (Err f) b n e sound stepped same = subst IsSound (sym same) sound

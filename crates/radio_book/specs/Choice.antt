@@ -1,0 +1,76 @@
+-- What a choice of a channel or of a reference allows.
+use Rattle.std.specs.Prelude.{◌≡◌, ℕ, ◌<◌, ◌/◌, ◌%◌, Bool, true, false, ◌&&◌, List, [], ◌∷◌, count_by, flat_map, map as map_list, Option, Some, None}
+use Rattle.std.specs.FinMap as map
+use Rattle.radio_book.specs.declared.channel.ChanId.{ChanId}
+use Rattle.radio_book.specs.declared.channel.ChanState.{ChanState}
+use Rattle.radio_book.specs.declared.channel.ChanState.TheVariants.{Free}
+use Rattle.radio_book.specs.declared.event.Kind.{Kind}
+use Rattle.radio_book.specs.declared.event.Stage.{Stage}
+use Rattle.radio_book.specs.declared.event.Stage.TheVariants.{Taken}
+use Rattle.radio_book.specs.declared.event.Attempt.{Attempt}
+use Rattle.radio_book.specs.declared.event.CallRecord.{CallRecord}
+use Rattle.radio_book.specs.declared.event.Event.{Event}
+use Rattle.radio_book.specs.declared.event.Event.TheVariants as event
+use Rattle.radio_book.specs.Site.{is_traffic}
+use Rattle.radio_book.specs.State.{State, state_of, record_of}
+
+-- a traffic channel of the cell that is free
+pub record IsFreeIn (b : State) (cell : ℕ) (x : ChanId) : Type 0 where
+  pub in_cell : x.cell ≡ cell
+  pub traffic : is_traffic b.site x ≡ true
+  pub free : state_of b x ≡ Free
+
+abbrev pub NoneFree : State → ℕ → Type 0
+NoneFree b cell = (x : ChanId) → IsFreeIn b cell x → ⊥
+
+-- the event takes a free channel of the cell for the call
+abbrev pub TakesFree : State → ℕ → Kind → ℕ → Event → Type 0
+TakesFree b c kind cell e = (x : ChanId) × IsFreeIn b cell x × (e ≡ event.Take c kind x)
+
+-- a number, 0 to 255, whose reference in the cell is not in use
+pub record IsNumberFree (b : State) (cell number : ℕ) : Type 0 where
+  pub range : number < 256
+  pub unused : map.get b.references (record { cell = cell; number = number }) ≡ None
+
+-- the channel of an attempt that has taken it and reserved no reference
+abbrev pub taken_at : Stage → Option ChanId → Option ChanId
+taken_at Taken target = target
+taken_at s target = None
+
+abbrev pub taken_by : Option Attempt → Option ChanId
+taken_by None = None
+taken_by (Some a) = taken_at a.stage a.target
+
+abbrev pub taken_channel : Option CallRecord → Option ChanId
+taken_channel None = None
+taken_channel (Some r) = taken_by r.attempt
+
+-- a free number in the cell of the taken channel, or 0 where there is none
+abbrev pub MayReserve : State → Option ChanId → ℕ → Type 0
+MayReserve b None number = number ≡ 0
+MayReserve b (Some t) number = IsNumberFree b t.cell number
+
+-- the event reserves such a number for the call
+abbrev pub ReservesFree : State → ℕ → Event → Type 0
+ReservesFree b c e = (number : ℕ) × MayReserve b (taken_channel (record_of b c)) number × (e ≡ event.Reserve c number)
+
+abbrev pub is_free : ChanState → Bool
+is_free Free = true
+is_free s = false
+
+abbrev pub is_free_traffic : State → ChanId → Bool
+is_free_traffic b x = is_traffic b.site x && is_free (state_of b x)
+
+-- every channel that a cell can have: four TRX of eight timeslots, by TRX, then timeslot
+unfoldable pub channels_of : ℕ → List ChanId
+channels_of cell =
+    flat_map (λ trx. map_list (λ tn. record { cell = cell; trx = trx; tn = tn }) (0 ∷ 1 ∷ 2 ∷ 3 ∷ 4 ∷ 5 ∷ 6 ∷ 7 ∷ []))
+    (0 ∷ 1 ∷ 2 ∷ 3 ∷ [])
+
+-- how many traffic channels of the cell are free
+abbrev pub free_count : State → ℕ → ℕ
+free_count b cell = count_by (is_free_traffic b) (channels_of cell)
+
+-- the channel at a place among those
+abbrev pub channel_at : ℕ → ℕ → ChanId
+channel_at cell place = record { cell = cell; trx = place / 8; tn = place % 8 }

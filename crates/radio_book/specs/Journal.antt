@@ -1,0 +1,87 @@
+-- The stored inverses of an attempt, and what running them does.
+use Rattle.std.specs.Prelude.{◌≡◌, ℕ, List, [], ◌∷◌, Option, Some, None}
+use Rattle.std.specs.Option.{option_map}
+use Rattle.std.specs.FinMap as map
+use Rattle.radio_book.specs.declared.channel.ChanId.{ChanId}
+use Rattle.radio_book.specs.declared.channel.ChanState.{ChanState}
+use Rattle.radio_book.specs.declared.channel.ChanState.TheVariants.{Held, Pending, On, Off}
+use Rattle.radio_book.specs.declared.event.AttemptKind.{AttemptKind}
+use Rattle.radio_book.specs.declared.event.AttemptKind.TheVariants.{Internal, Incoming}
+use Rattle.radio_book.specs.declared.event.Stage.{Stage}
+use Rattle.radio_book.specs.declared.event.Stage.TheVariants.{Taken, Reserved, Sent, Refused, Confirmed}
+use Rattle.radio_book.specs.declared.event.Attempt.{Attempt}
+use Rattle.radio_book.specs.declared.event.CallRecord.{CallRecord}
+use Rattle.radio_book.specs.declared.event.Reference.{Reference}
+use Rattle.radio_book.specs.declared.journal.Inverse.{Inverse}
+use Rattle.radio_book.specs.declared.journal.Inverse.TheVariants.{FreeChannel, Settle, Forget, DropReference, SwitchOff}
+use Rattle.radio_book.specs.Maps.{Entry}
+use Rattle.radio_book.specs.State.{State, Change, apply, state_of, record_of}
+use Rattle.radio_book.specs.Table.{no_change, undone, reference_held}
+use Rattle.radio_book.specs.Sound.{IsSound}
+
+-- the inverse of the opening
+abbrev pub opening_inverse : AttemptKind → Inverse
+opening_inverse Internal = Settle
+opening_inverse Incoming = Forget
+
+-- the inverses of an attempt at a stage with this target and reference, first pushed first
+abbrev pub stage_inverses : Inverse → ChanId → ℕ → Stage → List Inverse
+stage_inverses opening t n Taken = opening ∷ FreeChannel t ∷ []
+stage_inverses opening t n Reserved = opening ∷ FreeChannel t ∷ DropReference n ∷ []
+stage_inverses opening t n Sent = opening ∷ FreeChannel t ∷ DropReference n ∷ SwitchOff t ∷ []
+stage_inverses opening t n Refused = opening ∷ FreeChannel t ∷ DropReference n ∷ SwitchOff t ∷ []
+stage_inverses opening t n Confirmed = opening ∷ FreeChannel t ∷ DropReference n ∷ SwitchOff t ∷ []
+
+abbrev pub or_zero : Option ℕ → ℕ
+or_zero None = 0
+or_zero (Some n) = n
+
+abbrev pub inverses_at : Attempt → Option ChanId → List Inverse
+inverses_at a None = []
+inverses_at a (Some t) = stage_inverses (opening_inverse a.kind) t (or_zero a.reference) a.stage
+
+-- the journal of a call is fixed by its attempt
+abbrev pub journal_of : Option Attempt → List Inverse
+journal_of None = []
+journal_of (Some a) = inverses_at a a.target
+
+-- a held channel becomes free, any other stays
+abbrev pub freed_if_held : ChanId → ChanState → Option (Entry ChanId ChanState)
+freed_if_held x (Held c) = Some (x, None)
+freed_if_held x s = None
+
+-- a channel that may be active is off, any other stays
+abbrev pub off_if_active : ChanId → ChanState → Option (Entry ChanId ChanState)
+off_if_active x (Pending c) = Some (x, Some Off)
+off_if_active x (On c) = Some (x, Some Off)
+off_if_active x s = None
+
+abbrev pub dropped_reference : ℕ → Option Attempt → Option (Entry Reference ℕ)
+dropped_reference n None = None
+dropped_reference n (Some a) = option_map (λ k. (k, None)) (reference_held a.target (Some n))
+
+abbrev pub reference_dropped : ℕ → Option CallRecord → Option (Entry Reference ℕ)
+reference_dropped n None = None
+reference_dropped n (Some r) = dropped_reference n r.attempt
+
+-- what one inverse of a call changes
+abbrev pub inverse_change : ℕ → Inverse → State → Change
+inverse_change c (FreeChannel x) b = record no_change { channel = freed_if_held x (state_of b x) }
+inverse_change c (SwitchOff x) b = record no_change { channel = off_if_active x (state_of b x) }
+inverse_change c (DropReference n) b = record no_change { reference = reference_dropped n (record_of b c) }
+inverse_change c Settle b = record no_change { call = option_map (λ r. (c, Some (record r { attempt = None }))) (record_of b c) }
+inverse_change c Forget b = record no_change { call = Some (c, None) }
+
+abbrev pub run_inverse : ℕ → Inverse → State → State
+run_inverse c j b = apply (inverse_change c j b) b
+
+-- the inverses, last pushed first
+abbrev pub run_back : ℕ → List Inverse → State → State
+run_back c [] b = b
+run_back c (j ∷ js) b = run_inverse c j (run_back c js b)
+
+-- in a sound book the stored inverses of an open attempt, run last first, are its undo
+abbrev pub InversesUndo : Type 0
+InversesUndo =
+    (c : ℕ) (r : CallRecord) (a : Attempt) (b : State) → IsSound b → record_of b c ≡ Some r → r.attempt ≡ Some a →
+    run_back c (journal_of r.attempt) b ≡ apply (undone c r a (state_of b) (map.get b.timers c)) b

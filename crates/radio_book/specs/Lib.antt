@@ -1,0 +1,12 @@
+pub mod Site
+pub mod SiteFile
+pub mod Keys
+pub mod Maps
+pub mod State
+pub mod Table
+pub mod Sound
+pub mod Journal
+pub mod Waiting
+pub mod Run
+pub mod Choice
+pub mod Others

@@ -1,0 +1,31 @@
+-- Runs: lists of events from a book.
+use Rattle.std.specs.Prelude.{◌≡◌, List, [], ◌∷◌}
+use Rattle.radio_book.specs.declared.event.Event.{Event}
+use Rattle.radio_book.specs.declared.event.Reply.{Reply}
+use Rattle.radio_book.specs.Site.{SiteView}
+use Rattle.radio_book.specs.State.{State, empty_book}
+use Rattle.radio_book.specs.Table.{step, reply_to}
+use Rattle.radio_book.specs.Sound.{IsSound}
+
+-- the book after the events, one after another
+abbrev pub run_book : State → List Event → State
+run_book b [] = b
+run_book b (e ∷ es) = run_book (step b e) es
+
+-- the replies to the events
+abbrev pub run_replies : State → List Event → List Reply
+run_replies b [] = []
+run_replies b (e ∷ es) = reply_to b e ∷ run_replies (step b e) es
+
+-- events with their replies, which lead from one book to another
+abbrev pub Leads : State → List (Event × Reply) → State → Type 0
+Leads b [] b' = b' ≡ b
+Leads b (s ∷ ss) b' = (s.1 ≡ reply_to b s.0) × Leads (step b s.0) ss b'
+
+-- every step keeps a book sound
+abbrev pub StepsKeepSound : Type 0
+StepsKeepSound = (b : State) (e : Event) → IsSound b → IsSound (step b e)
+
+-- whatever happens, the book of a site is sound
+abbrev pub RunsAreSound : Type 0
+RunsAreSound = (site : SiteView) (es : List Event) → IsSound (run_book (empty_book site) es)

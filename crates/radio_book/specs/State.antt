@@ -1,0 +1,70 @@
+-- What a radio book is: four finite maps over a site.
+use Rattle.std.specs.Prelude.{ℕ, Option, Some, None, refl}
+use Rattle.std.specs.Ordering.{nat_cmp}
+use Rattle.std.specs.Coded.{Coded, code_by, coded×, coded_ℕ, coded_list}
+use Rattle.std.specs.FinMap as map
+use Rattle.radio_book.specs.declared.channel.ChanId.{ChanId}
+use Rattle.radio_book.specs.declared.channel.ChanState.{ChanState}
+use Rattle.radio_book.specs.declared.channel.ChanState.TheVariants.{Free}
+use Rattle.radio_book.specs.declared.event.Reference.{Reference}
+use Rattle.radio_book.specs.declared.event.CallRecord.{CallRecord}
+use Rattle.radio_book.specs.declared.event.Timer.{Timer}
+use Rattle.radio_book.specs.contracts.channel.ChanState.{the_row as state_row}
+use Rattle.radio_book.specs.contracts.event.CallRecord.{the_row as record_row}
+use Rattle.radio_book.specs.contracts.event.Timer.{the_row as timer_row}
+use Rattle.radio_book.specs.Site.{SiteView}
+use Rattle.radio_book.specs.Keys.{chan_cmp, reference_cmp, coded_chan, coded_reference}
+use Rattle.radio_book.specs.Maps.{Entry, changed}
+
+pub record State : Type 0 where
+  pub site : SiteView
+  -- the state of each channel that isn't free
+  pub channels : map.FinMap chan_cmp ChanState
+  -- the record of each call
+  pub calls : map.FinMap nat_cmp CallRecord
+  -- the call of each handover reference in use
+  pub references : map.FinMap reference_cmp ℕ
+  -- the armed timers: a call has at most one, so they stand by their calls
+  pub timers : map.FinMap nat_cmp Timer
+
+abbrev pub state_code : Coded State
+state_code =
+    code_by (SiteView × (map.FinMap chan_cmp ChanState × (map.FinMap nat_cmp CallRecord × (map.FinMap reference_cmp ℕ × map.FinMap nat_cmp Timer))))
+    (coded× (coded_list (coded_list (coded_list coded_ℕ)))
+    (coded× (map.code coded_chan state_row.coded)
+    (coded× (map.code coded_ℕ record_row.coded) (coded× (map.code coded_reference coded_ℕ) (map.code coded_ℕ timer_row.coded)))))
+    (λ b. (b.site, (b.channels, (b.calls, (b.references, b.timers)))))
+    (λ p. record { site = p.0; channels = p.1.0; calls = p.1.1.0; references = p.1.1.1.0; timers = p.1.1.1.1 })
+    (λ _. refl)
+
+-- the book of a site in which nothing is in use
+abbrev pub empty_book : SiteView → State
+empty_book site = record { site = site; channels = map.empty; calls = map.empty; references = map.empty; timers = map.empty }
+
+-- a channel that has no entry is free
+abbrev pub or_free : Option ChanState → ChanState
+or_free None = Free
+or_free (Some s) = s
+
+abbrev pub state_of : State → ChanId → ChanState
+state_of b x = or_free (map.get b.channels x)
+
+abbrev pub record_of : State → ℕ → Option CallRecord
+record_of b c = map.get b.calls c
+
+-- what one event may change: at most one entry of each map
+pub record Change : Type 0 where
+  pub channel : Option (Entry ChanId ChanState)
+  pub call : Option (Entry ℕ CallRecord)
+  pub reference : Option (Entry Reference ℕ)
+  pub timer : Option (Entry ℕ Timer)
+
+-- the book after a change
+abbrev pub apply : Change → State → State
+apply ch b = record {
+  site = b.site;
+  channels = changed b.channels ch.channel;
+  calls = changed b.calls ch.call;
+  references = changed b.references ch.reference;
+  timers = changed b.timers ch.timer;
+}

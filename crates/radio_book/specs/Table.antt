@@ -1,0 +1,265 @@
+-- The table of the book: for each event, by what the book has, the first refusal that holds or the change and the reply.
+use Rattle.std.specs.Prelude.{ℕ, Bool, true, false, ◌&&◌, if◌then◌else◌, ◌==◌, ◌⊎◌, Option, Some, None}
+use Rattle.std.specs.Option.{option_map}
+use Rattle.std.specs.FinMap as map
+use Rattle.radio_book.specs.declared.channel.ChanId.{ChanId}
+use Rattle.radio_book.specs.declared.channel.ChanState.{ChanState}
+use Rattle.radio_book.specs.declared.channel.ChanState.TheVariants.{Free, Held, Pending, On, Off}
+use Rattle.radio_book.specs.declared.event.Kind.{Kind}
+use Rattle.radio_book.specs.declared.event.Kind.TheVariants as kind
+use Rattle.radio_book.specs.declared.event.AttemptKind.{AttemptKind}
+use Rattle.radio_book.specs.declared.event.AttemptKind.TheVariants.{Internal, Incoming}
+use Rattle.radio_book.specs.declared.event.Timer.{Timer}
+use Rattle.radio_book.specs.declared.event.Timer.TheVariants.{T3103, T7, T8}
+use Rattle.radio_book.specs.declared.event.Why.{Why}
+use Rattle.radio_book.specs.declared.event.Why.TheVariants.{Asked, Expired}
+use Rattle.radio_book.specs.declared.event.Stage.{Stage}
+use Rattle.radio_book.specs.declared.event.Stage.TheVariants as stage
+use Rattle.radio_book.specs.declared.event.Attempt.{Attempt}
+use Rattle.radio_book.specs.declared.event.CallRecord.{CallRecord}
+use Rattle.radio_book.specs.declared.event.Reference.{Reference}
+use Rattle.radio_book.specs.declared.event.Event.{Event}
+use Rattle.radio_book.specs.declared.event.Event.TheVariants as event
+use Rattle.radio_book.specs.declared.event.Refusal.{Refusal}
+use Rattle.radio_book.specs.declared.event.Refusal.TheVariants.{NoCall, CallExists, WrongPhase, NoChannel, SameCell, ChannelBusy, RefBusy, Unexpected, NotArmed}
+use Rattle.radio_book.specs.declared.event.Reply.{Reply}
+use Rattle.radio_book.specs.declared.event.Reply.TheVariants.{Done, Record, Owned, Refused}
+use Rattle.radio_book.specs.Site.{is_traffic}
+use Rattle.radio_book.specs.Maps.{Entry, AddsKey}
+use Rattle.radio_book.specs.State.{State, Change, apply, state_of, record_of}
+
+-- an event is refused, or it is accepted with what it changes and what it is answered
+pub data Outcome : Type 0 where
+  Refuses : Refusal → Outcome
+  Accepts : Change → Reply → Outcome
+
+abbrev pub same_chan : ChanId → ChanId → Bool
+same_chan a b = a.cell == b.cell && (a.trx == b.trx && a.tn == b.tn)
+
+-- parts of changes
+
+abbrev pub no_change : Change
+no_change = record { channel = None; call = None; reference = None; timer = None }
+
+abbrev pub becomes : ChanId → ChanState → Option (Entry ChanId ChanState)
+becomes x s = Some (x, Some s)
+
+abbrev pub is_freed : ChanId → Option (Entry ChanId ChanState)
+is_freed x = Some (x, None)
+
+abbrev pub is_recorded : ℕ → CallRecord → Option (Entry ℕ CallRecord)
+is_recorded c r = Some (c, Some r)
+
+abbrev pub with_attempt : CallRecord → Attempt → CallRecord
+with_attempt r a = record r { attempt = Some a }
+
+-- the record, its attempt at another stage
+abbrev pub at_stage : CallRecord → Attempt → Stage → CallRecord
+at_stage r a s = with_attempt r (record a { stage = s })
+
+-- the record, and the state of its serving channel
+abbrev pub shown : CallRecord → (ChanId → ChanState) → Reply
+shown r look = Record r (option_map look r.serving)
+
+-- Open: a call begins on a free channel, whose activation is sent
+abbrev pub open_row : ℕ → ChanId → Option CallRecord → Bool → ChanState → Outcome
+open_row c x (Some r) traffic state = Refuses CallExists
+open_row c x None false state = Refuses NoChannel
+open_row c x None true Free = Accepts (record { channel = becomes x (Pending c); call = is_recorded c (record { serving = Some x; attempt = None }); reference = None; timer = None }) Done
+open_row c x None true busy = Refuses (ChannelBusy x)
+
+-- what the end of a call leaves of its serving channel: a held one is free, of the others a release is awaited
+abbrev pub cleared_state : ChanState → Option ChanState
+cleared_state (Held c) = None
+cleared_state s = Some Off
+
+abbrev pub clear_at : ℕ → CallRecord → Option Attempt → (ChanId → ChanState) → Outcome
+clear_at c r (Some a) look = Refuses WrongPhase
+clear_at c r None look = Accepts (record { channel = option_map (λ x. (x, cleared_state (look x))) r.serving; call = Some (c, None); reference = None; timer = None }) Done
+
+-- Clear: a call without an attempt ends
+abbrev pub clear_row : ℕ → Option CallRecord → (ChanId → ChanState) → Outcome
+clear_row c None look = Refuses NoCall
+clear_row c (Some r) look = clear_at c r r.attempt look
+
+-- Look
+abbrev pub look_row : Option CallRecord → (ChanId → ChanState) → Outcome
+look_row None look = Refuses NoCall
+look_row (Some r) look = Accepts no_change (shown r look)
+
+abbrev pub taken_attempt : AttemptKind → ChanId → Attempt
+taken_attempt k x = record { kind = k; stage = stage.Taken; target = Some x; reference = None }
+
+-- the channel is held by the call, whose record is this from now on
+abbrev pub takes : ℕ → ChanId → CallRecord → Change
+takes c x r = record { channel = becomes x (Held c); call = is_recorded c r; reference = None; timer = None }
+
+-- an attempt of a call of this controller, by the state of the serving channel, whether the wanted one is a traffic channel and in the same cell, and its state
+abbrev pub take_from : ℕ → ChanId → CallRecord → ChanState → Bool → Bool → ChanState → Outcome
+take_from c x r (On d) false same wanted = Refuses NoChannel
+take_from c x r (On d) true true wanted = Refuses SameCell
+take_from c x r (On d) true false Free = Accepts (takes c x (with_attempt r (taken_attempt Internal x))) Done
+take_from c x r (On d) true false busy = Refuses (ChannelBusy x)
+take_from c x r serving traffic same wanted = Refuses WrongPhase
+
+abbrev pub take_internal : ℕ → ChanId → CallRecord → Option Attempt → Option ChanId → (ChanId → ChanState) → Bool → Outcome
+take_internal c x r (Some a) serving look traffic = Refuses WrongPhase
+take_internal c x r None None look traffic = Refuses WrongPhase
+take_internal c x r None (Some s) look traffic = take_from c x r (look s) traffic (s.cell == x.cell) (look x)
+
+-- an attempt of a call that comes from another controller
+abbrev pub take_incoming : ℕ → ChanId → Bool → ChanState → Outcome
+take_incoming c x false wanted = Refuses NoChannel
+take_incoming c x true Free = Accepts (takes c x (record { serving = None; attempt = Some (taken_attempt Incoming x) })) Done
+take_incoming c x true busy = Refuses (ChannelBusy x)
+
+-- Take: an attempt is opened, and takes a free channel
+abbrev pub take_row : ℕ → Kind → ChanId → Option CallRecord → (ChanId → ChanState) → Bool → Outcome
+take_row c kind.Internal x None look traffic = Refuses NoCall
+take_row c kind.Internal x (Some r) look traffic = take_internal c x r r.attempt r.serving look traffic
+take_row c kind.Incoming x (Some r) look traffic = Refuses CallExists
+take_row c kind.Incoming x None look traffic = take_incoming c x traffic (look x)
+
+-- the reference with a number in the cell of a channel
+abbrev pub reference_at : ChanId → ℕ → Reference
+reference_at x n = record { cell = x.cell; number = n }
+
+abbrev pub reserve_number : ℕ → ℕ → CallRecord → Attempt → ChanId → Option ℕ → Outcome
+reserve_number c n r a t (Some d) = Refuses (RefBusy t.cell n)
+reserve_number c n r a t None = Accepts (record { channel = None; call = is_recorded c (with_attempt r (record a { stage = stage.Reserved; reference = Some n })); reference = Some (reference_at t n, Some c); timer = None }) Done
+
+abbrev pub reserve_at : ℕ → ℕ → CallRecord → Attempt → Stage → Option ChanId → (Reference → Option ℕ) → Outcome
+reserve_at c n r a stage.Taken (Some t) user = reserve_number c n r a t (user (reference_at t n))
+reserve_at c n r a s target user = Refuses WrongPhase
+
+abbrev pub reserve_by : ℕ → ℕ → CallRecord → Option Attempt → (Reference → Option ℕ) → Outcome
+reserve_by c n r None user = Refuses WrongPhase
+reserve_by c n r (Some a) user = reserve_at c n r a a.stage a.target user
+
+-- Reserve: an attempt that has its channel reserves a reference of the channel's cell
+abbrev pub reserve_row : ℕ → ℕ → Option CallRecord → (Reference → Option ℕ) → Outcome
+reserve_row c n None user = Refuses NoCall
+reserve_row c n (Some r) user = reserve_by c n r r.attempt user
+
+abbrev pub activate_at : ℕ → CallRecord → Attempt → Stage → Option ChanId → Outcome
+activate_at c r a stage.Reserved (Some t) = Accepts (record { channel = becomes t (Pending c); call = is_recorded c (at_stage r a stage.Sent); reference = None; timer = None }) Done
+activate_at c r a s target = Refuses WrongPhase
+
+abbrev pub activate_by : ℕ → CallRecord → Option Attempt → Outcome
+activate_by c r None = Refuses WrongPhase
+activate_by c r (Some a) = activate_at c r a a.stage a.target
+
+-- Activate: the activation of an attempt's channel is sent
+abbrev pub activate_row : ℕ → Option CallRecord → Outcome
+activate_row c None = Refuses NoCall
+activate_row c (Some r) = activate_by c r r.attempt
+
+-- what an undo leaves of the target: of a channel that may be active a release is awaited, any other is free
+abbrev pub left_state : ChanState → Option ChanState
+left_state (Pending c) = Some Off
+left_state (On c) = Some Off
+left_state s = None
+
+-- what an undo leaves of the record: a call of this controller rests on its serving channel, another is forgotten
+abbrev pub resting_record : AttemptKind → CallRecord → Option CallRecord
+resting_record Internal r = Some (record r { attempt = None })
+resting_record Incoming r = None
+
+-- the reference that an attempt has, in the cell of its target
+abbrev pub reference_held : Option ChanId → Option ℕ → Option Reference
+reference_held (Some t) (Some n) = Some (reference_at t n)
+reference_held target number = None
+
+-- the attempt is gone: nothing of it is left but a target whose release is awaited
+abbrev pub undone : ℕ → CallRecord → Attempt → (ChanId → ChanState) → Option Timer → Change
+undone c r a look armed = record {
+  channel = option_map (λ t. (t, left_state (look t))) a.target;
+  call = Some (c, resting_record a.kind r);
+  reference = option_map (λ k. (k, None)) (reference_held a.target a.reference);
+  timer = option_map (λ m. (c, None)) armed;
+}
+
+abbrev pub undo_attempt : ℕ → Refusal → CallRecord → Option Attempt → (ChanId → ChanState) → Option Timer → Outcome
+undo_attempt c refusal r None look armed = Refuses refusal
+undo_attempt c refusal r (Some a) look armed = Accepts (undone c r a look armed) (shown r look)
+
+abbrev pub is_same_timer : Timer → Timer → Bool
+is_same_timer T3103 T3103 = true
+is_same_timer T7 T7 = true
+is_same_timer T8 T8 = true
+is_same_timer m n = false
+
+abbrev pub is_armed : Timer → Option Timer → Bool
+is_armed m None = false
+is_armed m (Some n) = is_same_timer m n
+
+abbrev pub undo_by : ℕ → Why → CallRecord → (ChanId → ChanState) → Option Timer → Outcome
+undo_by c Asked r look armed = undo_attempt c WrongPhase r r.attempt look armed
+undo_by c (Expired m) r look armed = if is_armed m armed then undo_attempt c NotArmed r r.attempt look armed else Refuses NotArmed
+
+-- Undo: an attempt is taken back, because it was asked or because a timer of it expired
+abbrev pub undo_row : ℕ → Why → Option CallRecord → (ChanId → ChanState) → Option Timer → Outcome
+undo_row c why None look armed = Refuses NoCall
+undo_row c why (Some r) look armed = undo_by c why r look armed
+
+abbrev pub is_target : ChanId → Option ChanId → Bool
+is_target x None = false
+is_target x (Some t) = same_chan t x
+
+abbrev pub attempt_moved : ChanId → Stage → ℕ → CallRecord → Option Attempt → Option (Entry ℕ CallRecord)
+attempt_moved x s c r None = None
+attempt_moved x s c r (Some a) = if is_target x a.target then is_recorded c (at_stage r a s) else None
+
+-- the call's attempt comes to a stage where the channel is its target
+abbrev pub moved : ChanId → Stage → ℕ → Option CallRecord → Option (Entry ℕ CallRecord)
+moved x s c None = None
+moved x s c (Some r) = attempt_moved x s c r r.attempt
+
+-- Confirm: a station activated a channel
+abbrev pub confirm_row : ChanId → ChanState → (ℕ → Option CallRecord) → Outcome
+confirm_row x (Pending c) find = Accepts (record { channel = becomes x (On c); call = moved x stage.Confirmed c (find c); reference = None; timer = None }) (Owned c)
+confirm_row x s find = Refuses (Unexpected x)
+
+-- Refuse: a station refused to activate a channel
+abbrev pub refuse_row : ChanId → ChanState → (ℕ → Option CallRecord) → Outcome
+refuse_row x (Pending c) find = Accepts (record { channel = becomes x (Held c); call = moved x stage.Refused c (find c); reference = None; timer = None }) (Owned c)
+refuse_row x s find = Refuses (Unexpected x)
+
+-- Released: a station released a channel
+abbrev pub released_row : ChanId → ChanState → Outcome
+released_row x Off = Accepts (record { channel = is_freed x; call = None; reference = None; timer = None }) Done
+released_row x s = Refuses (Unexpected x)
+
+-- the row of each event
+abbrev pub row : State → Event → Outcome
+row b (event.Open c x) = open_row c x (record_of b c) (is_traffic b.site x) (state_of b x)
+row b (event.Clear c) = clear_row c (record_of b c) (state_of b)
+row b (event.Look c) = look_row (record_of b c) (state_of b)
+row b (event.Take c k x) = take_row c k x (record_of b c) (state_of b) (is_traffic b.site x)
+row b (event.Reserve c n) = reserve_row c n (record_of b c) (map.get b.references)
+row b (event.Activate c) = activate_row c (record_of b c)
+row b (event.Undo c why) = undo_row c why (record_of b c) (state_of b) (map.get b.timers c)
+row b (event.Confirm x) = confirm_row x (state_of b x) (record_of b)
+row b (event.Refuse x) = refuse_row x (state_of b x) (record_of b)
+row b (event.Released x) = released_row x (state_of b x)
+
+abbrev pub after : Outcome → State → State
+after (Refuses refusal) b = b
+after (Accepts change reply) b = apply change b
+
+abbrev pub reply_of : Outcome → Reply
+reply_of (Refuses refusal) = Refused refusal
+reply_of (Accepts change reply) = reply
+
+-- the book after an event
+abbrev pub step : State → Event → State
+step b e = after (row b e) b
+
+-- the reply to an event
+abbrev pub reply_to : State → Event → Reply
+reply_to b e = reply_of (row b e)
+
+-- the event is accepted, and its change puts a key that a map doesn't have
+abbrev pub NeedsRoom : State → Outcome → Type 0
+NeedsRoom b (Refuses refusal) = ⊥
+NeedsRoom b (Accepts change reply) = AddsKey b.channels change.channel ⊎ AddsKey b.calls change.call ⊎ AddsKey b.references change.reference

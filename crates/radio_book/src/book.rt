@@ -1,0 +1,144 @@
+//! The radio book.
+ghost use Rattle.std.specs.Prelude.{◌≡◌, Ok, None, OnOk, OnErr, IfOk, IfSome, IsOkAnd};
+ghost use Rattle.std.specs.FinMap as map;
+ghost use Rattle.radio_book.specs.State.{empty_book};
+ghost use Rattle.radio_book.specs.declared.event.Event.{Event};
+ghost use Rattle.radio_book.specs.Table.{step, reply_to, row, NeedsRoom};
+ghost use Rattle.radio_book.specs.Choice.{NoneFree, TakesFree, ReservesFree, free_count};
+
+use crate::event::{Event, Kind, Reply};
+use crate::records::Records;
+use crate::site::Site;
+use std::alloc::{AllocError, Allocator, Global};
+use std::marker::Model;
+use std::sync::Arc;
+
+#[cfg(test)]
+mod tests;
+
+/// How much a book holds.
+#[derive(Clone, Copy, Debug, PartialEq, Eq)]
+pub struct Usage {
+    /// Channels that aren't free.
+    pub channels: usize,
+    pub calls: usize,
+    /// Handover references in use.
+    pub references: usize,
+    /// Armed timers.
+    pub timers: usize,
+}
+
+/// The book of a site: the state of each channel that isn't free, the record of each call, and the
+/// handover references and timers that attempts hold. It is sound at all times.
+#[derive(Drop)]
+pub struct Book<A: Allocator = Global> {
+    records: Records<A>,
+}
+
+impl<A: Allocator> Model for Book<A> {
+    ghost use Rattle.radio_book.specs.State.{State, state_code};
+    ghost use Rattle.radio_book.specs.Sound.{IsSound};
+
+    ghost Value = { State };
+
+    ghost coded = { state_code };
+
+    ghost view = { λ book. book.records };
+
+    ghost invariant = { λ book. IsSound book.records };
+}
+
+impl<A: Allocator + Copy> Book<A> {
+    /// The book of a site in which nothing is in use.
+    pub fn new(alloc: A, site: Arc<Site<A>, A>) -> Result<Book<A>, AllocError>
+        ensures { IsOkAnd result (λ book. book ≡ empty_book site.value) }
+    {
+        let records = Records::new(alloc, site);
+        Ok(Book { records })
+    }
+
+    /// The site, which never changes.
+    pub fn site(&self) -> &Arc<Site<A>, A>
+        ensures { result.now.value ≡ self.now.site }
+    {
+        self.records.site()
+    }
+
+    /// How much the book holds.
+    pub fn usage(&self) -> Usage
+        ensures channels { result.channels ≡ map.len self.now.channels }
+        ensures calls { result.calls ≡ map.len self.now.calls }
+        ensures references { result.references ≡ map.len self.now.references }
+        ensures timers { result.timers ≡ map.len self.now.timers }
+    {
+        Usage {
+            channels: self.records.channels(),
+            calls: self.records.calls(),
+            references: self.records.references(),
+            timers: self.records.timers(),
+        }
+    }
+
+    /// Judges one event by the table: its refusal, or what it changes and its answer. A refused event
+    /// changes nothing.
+    ///
+    /// Memory is wanted only by an event that is accepted and brings a channel, a call or a reference
+    /// that the book doesn't have; where it isn't given, the book is as it was.
+    pub fn step(&mut self, event: Event) -> Result<Reply, AllocError>
+        ensures reply { IfOk result (λ reply. reply ≡ reply_to self.old event) }
+        ensures book { OnOk result (self.new ≡ step self.old event) }
+        ensures unchanged { OnErr result (self.new ≡ self.old) }
+        ensures memory { OnErr result (NeedsRoom self.old (row self.old event)) }
+    {
+        self.records.step(event)
+    }
+
+    /// A `Take` of a free channel of the cell, judged as by [`Book::step`], with its answer; `None` where no
+    /// channel of the cell is free, which takes no memory and changes nothing. A cell that isn't the site's
+    /// has no channel. The channel is that of the lowest TRX, then timeslot.
+    pub fn take_any(
+        &mut self,
+        call: u16,
+        kind: Kind,
+        cell: u8,
+    ) -> Result<Option<(Event, Reply)>, AllocError>
+        ensures none { result ≡ Ok None → NoneFree self.old cell }
+        ensures kept { result ≡ Ok None → self.new ≡ self.old }
+        ensures event { IfOk result (λ chosen. IfSome chosen (λ taken. TakesFree self.old call kind cell taken.0)) }
+        ensures reply { IfOk result (λ chosen. IfSome chosen (λ taken. taken.1 ≡ reply_to self.old taken.0)) }
+        ensures book { IfOk result (λ chosen. IfSome chosen (λ taken. self.new ≡ step self.old taken.0)) }
+        ensures unchanged { OnErr result (self.new ≡ self.old) }
+        ensures memory { OnErr result ((e : Event) × TakesFree self.old call kind cell e × NeedsRoom self.old (row self.old e)) }
+    {
+        let Some(x) = self.records.choose_channel(cell) else {
+            return Ok(None);
+        };
+        let event = Event::Take(call, kind, x);
+        let reply = self.step(event)?;
+        Ok(Some((event, reply)))
+    }
+
+    /// A `Reserve` of a number whose reference in the cell of the call's target isn't in use, judged as by
+    /// [`Book::step`], with its answer. There is always one: a cell has no more than 32 channels. Where the
+    /// call has no attempt that waits for a reference, it is `Reserve(call, 0)`, and the answer its refusal.
+    /// The number is the lowest.
+    pub fn reserve_any(&mut self, call: u16) -> Result<(Event, Reply), AllocError>
+        ensures event { IfOk result (λ chosen. ReservesFree self.old call chosen.0) }
+        ensures reply { IfOk result (λ chosen. chosen.1 ≡ reply_to self.old chosen.0) }
+        ensures book { IfOk result (λ chosen. self.new ≡ step self.old chosen.0) }
+        ensures unchanged { OnErr result (self.new ≡ self.old) }
+        ensures memory { OnErr result ((e : Event) × ReservesFree self.old call e × NeedsRoom self.old (row self.old e)) }
+    {
+        let number = self.records.choose_number(call);
+        let event = Event::Reserve(call, number);
+        let reply = self.step(event)?;
+        Ok((event, reply))
+    }
+
+    /// How many traffic channels of the cell are free. A cell that isn't the site's has none.
+    pub fn free_in(&self, cell: u8) -> u32
+        ensures { result ≡ free_count self.now cell }
+    {
+        self.records.free_in(cell)
+    }
+}

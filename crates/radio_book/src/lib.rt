@@ -1,0 +1,14 @@
+//! The radio book: which channels are in use and by which call, which attempts at handover are open, and
+//! which handover references and timers they hold. Every change of it is one event, judged by a written table.
+#![tactic(auto)]
+
+pub mod book;
+pub mod channel;
+mod entry;
+pub mod event;
+mod journal;
+pub mod laws;
+pub mod others;
+mod records;
+pub mod site;
+mod tables;

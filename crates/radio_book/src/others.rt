@@ -1,0 +1,64 @@
+//! Laws of the table: a step of others commutes with the taking away of what an attempt has.
+//!
+//! While an attempt is open, all that it has may be taken out of the book: its channel, its reference, its
+//! timer and itself. Once it was undone and its target's release is awaited, the target may be taken out. A
+//! step that is not by the attempt's call, nor a station's on its target, and is not refused for what the
+//! attempt has, then comes to the same book whether it stands before the taking away or after it, and is
+//! answered the same. There is one law for each kind of event.
+
+ghost use Rattle.std.specs.Prelude.{ℕ};
+ghost use Rattle.radio_book.specs.declared.channel.ChanId.{ChanId};
+ghost use Rattle.radio_book.specs.declared.event.Kind.{Kind};
+ghost use Rattle.radio_book.specs.declared.event.Why.{Why};
+ghost use Rattle.radio_book.specs.declared.event.Event.TheVariants as event;
+ghost use Rattle.radio_book.specs.Others.{CommutesWithUndone};
+
+/// A call that begins.
+pub fn open_commutes()
+    ensures commutes { (c : ℕ) (x : ChanId) → CommutesWithUndone (event.Open c x) }
+{}
+
+/// A call that ends.
+pub fn clear_commutes()
+    ensures commutes { (c : ℕ) → CommutesWithUndone (event.Clear c) }
+{}
+
+/// A look at a call.
+pub fn look_commutes()
+    ensures commutes { (c : ℕ) → CommutesWithUndone (event.Look c) }
+{}
+
+/// An attempt that takes a channel.
+pub fn take_commutes()
+    ensures commutes { (c : ℕ) (kind : Kind) (x : ChanId) → CommutesWithUndone (event.Take c kind x) }
+{}
+
+/// An attempt that reserves a reference.
+pub fn reserve_commutes()
+    ensures commutes { (c n : ℕ) → CommutesWithUndone (event.Reserve c n) }
+{}
+
+/// An activation that is sent.
+pub fn activate_commutes()
+    ensures commutes { (c : ℕ) → CommutesWithUndone (event.Activate c) }
+{}
+
+/// An attempt that is taken back.
+pub fn undo_commutes()
+    ensures commutes { (c : ℕ) (why : Why) → CommutesWithUndone (event.Undo c why) }
+{}
+
+/// A station that activated a channel.
+pub fn confirm_commutes()
+    ensures commutes { (x : ChanId) → CommutesWithUndone (event.Confirm x) }
+{}
+
+/// A station that refused to activate a channel.
+pub fn refuse_commutes()
+    ensures commutes { (x : ChanId) → CommutesWithUndone (event.Refuse x) }
+{}
+
+/// A station that released a channel.
+pub fn released_commutes()
+    ensures commutes { (x : ChanId) → CommutesWithUndone (event.Released x) }
+{}

@@ -1,0 +1,139 @@
+//! The four tables over a site, and what each event does to them.
+ghost use Rattle.std.specs.Prelude.{◌≡◌, OnOk, OnErr, IfOk, Some, None};
+ghost use Rattle.std.specs.FinMap as map;
+ghost use Rattle.radio_book.specs.Site.{is_traffic};
+ghost use Rattle.radio_book.specs.State.{empty_book, state_of};
+ghost use Rattle.radio_book.specs.Sound.{IsSound};
+ghost use Rattle.radio_book.specs.Table.{step, reply_to, row, NeedsRoom, shown};
+
+mod attempt;
+mod calling;
+mod choice;
+mod station;
+mod undo;
+
+use crate::channel::{ChanId, ChanState};
+use crate::event::{CallRecord, Event, Kind, Reply};
+use crate::site::Site;
+use crate::tables::{Calls, Channels, References, Timers};
+use std::alloc::{AllocError, Allocator, Global};
+use std::marker::Model;
+use std::sync::Arc;
+
+/// The four tables of a book, and its site. Any tables: whether they are sound, the book says.
+#[derive(Drop)]
+pub struct Records<A: Allocator = Global> {
+    site: Arc<Site<A>, A>,
+    channels: Channels<A>,
+    calls: Calls<A>,
+    references: References<A>,
+    timers: Timers<A>,
+}
+
+impl<A: Allocator> Model for Records<A> {
+    ghost use Rattle.radio_book.specs.State.{State, state_code};
+
+    ghost Value = { State };
+
+    ghost coded = { state_code };
+
+    ghost view = { λ tables. record {
+      site = tables.site.value;
+      channels = tables.channels;
+      calls = tables.calls;
+      references = tables.references;
+      timers = tables.timers;
+    } };
+}
+
+impl<A: Allocator + Copy> Records<A> {
+    pub fn new(alloc: A, site: Arc<Site<A>, A>) -> Records<A>
+        ensures { result ≡ empty_book site.value }
+    {
+        Records {
+            site,
+            channels: Channels::new(alloc),
+            calls: Calls::new(alloc),
+            references: References::new(alloc),
+            timers: Timers::new(alloc),
+        }
+    }
+
+    pub fn site(&self) -> &Arc<Site<A>, A>
+        ensures { result.now.value ≡ self.now.site }
+    {
+        &self.site
+    }
+
+    pub fn channels(&self) -> usize
+        ensures { result ≡ map.len self.now.channels }
+    {
+        self.channels.len()
+    }
+
+    pub fn calls(&self) -> usize
+        ensures { result ≡ map.len self.now.calls }
+    {
+        self.calls.len()
+    }
+
+    pub fn references(&self) -> usize
+        ensures { result ≡ map.len self.now.references }
+    {
+        self.references.len()
+    }
+
+    pub fn timers(&self) -> usize
+        ensures { result ≡ map.len self.now.timers }
+    {
+        self.timers.len()
+    }
+
+    /// What the table says.
+    pub fn step(&mut self, event: Event) -> Result<Reply, AllocError>
+        requires { IsSound self.old }
+        ensures reply { IfOk result (λ reply. reply ≡ reply_to self.old event) }
+        ensures book { OnOk result (self.new ≡ step self.old event) }
+        ensures unchanged { OnErr result (self.new ≡ self.old) }
+        ensures memory { OnErr result (NeedsRoom self.old (row self.old event)) }
+    {
+        match event {
+            Event::Open(call, x) => self.open(call, x),
+            Event::Clear(call) => Ok(self.clear(call)),
+            Event::Look(call) => Ok(self.look(call)),
+            Event::Take(call, Kind::Internal, x) => self.take_internal(call, x),
+            Event::Take(call, Kind::Incoming, x) => self.take_incoming(call, x),
+            Event::Reserve(call, number) => self.reserve(call, number),
+            Event::Activate(call) => Ok(self.activate(call)),
+            Event::Undo(call, why) => Ok(self.undo(call, why)),
+            Event::Confirm(x) => Ok(self.confirm(x)),
+            Event::Refuse(x) => Ok(self.refuse(x)),
+            Event::Released(x) => Ok(self.released(x)),
+        }
+    }
+
+    fn is_traffic(&self, x: ChanId) -> bool
+        ensures { result ≡ is_traffic self.now.site x }
+    {
+        self.site.is_traffic(x)
+    }
+
+    fn state_of(&self, x: ChanId) -> ChanState
+        ensures { result ≡ state_of self.now x }
+    {
+        match self.channels.get(x) {
+            Some(state) => state,
+            None => ChanState::Free,
+        }
+    }
+
+    /// The record, and the state of its serving channel.
+    fn shown(&self, found: CallRecord) -> Reply
+        ensures { result ≡ shown found (state_of self.now) }
+    {
+        match found.serving {
+            Some(x) => Reply::Record(found, Some(self.state_of(x))),
+            None => Reply::Record(found, None),
+        }
+    }
+}

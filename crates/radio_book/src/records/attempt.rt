@@ -1,0 +1,124 @@
+//! An attempt takes its steps.
+ghost use Rattle.std.specs.Prelude.{◌≡◌, OnOk, OnErr, IfOk};
+ghost use Rattle.radio_book.specs.declared.event.Kind.TheVariants as kind;
+ghost use Rattle.radio_book.specs.declared.event.Event.TheVariants as event;
+ghost use Rattle.radio_book.specs.Sound.{IsSound};
+ghost use Rattle.radio_book.specs.Table.{step, reply_to, row, NeedsRoom, reference_at};
+
+use crate::channel::{ChanId, ChanState};
+use crate::entry::CallEntry;
+use crate::event::{Reference, Refusal, Reply, Stage};
+use crate::records::Records;
+use std::alloc::{AllocError, Allocator};
+
+impl<A: Allocator + Copy> Records<A> {
+    pub(super) fn take_internal(&mut self, call: u16, x: ChanId) -> Result<Reply, AllocError>
+        requires { IsSound self.old }
+        ensures reply { IfOk result (λ reply. reply ≡ reply_to self.old (event.Take call kind.Internal x)) }
+        ensures book { OnOk result (self.new ≡ step self.old (event.Take call kind.Internal x)) }
+        ensures unchanged { OnErr result (self.new ≡ self.old) }
+        ensures memory { OnErr result (NeedsRoom self.old (row self.old (event.Take call kind.Internal x))) }
+    {
+        let Some(mut entry) = self.calls.entry(call) else {
+            return Ok(Reply::Refused(Refusal::NoCall));
+        };
+        let record = entry.record();
+        if record.attempt.is_some() {
+            return Ok(Reply::Refused(Refusal::WrongPhase));
+        }
+        let Some(serving) = record.serving else {
+            return Ok(Reply::Refused(Refusal::WrongPhase));
+        };
+        if !matches!(self.state_of(serving), ChanState::On(_)) {
+            return Ok(Reply::Refused(Refusal::WrongPhase));
+        }
+        if !self.is_traffic(x) {
+            return Ok(Reply::Refused(Refusal::NoChannel));
+        }
+        if serving.cell == x.cell {
+            return Ok(Reply::Refused(Refusal::SameCell));
+        }
+        if self.channels.get(x).is_some() {
+            return Ok(Reply::Refused(Refusal::ChannelBusy(x)));
+        }
+        self.channels.insert(x, ChanState::Held(call))?;
+        entry.take(x);
+        self.calls.replace(call, entry);
+        Ok(Reply::Done)
+    }
+
+    pub(super) fn take_incoming(&mut self, call: u16, x: ChanId) -> Result<Reply, AllocError>
+        requires { IsSound self.old }
+        ensures reply { IfOk result (λ reply. reply ≡ reply_to self.old (event.Take call kind.Incoming x)) }
+        ensures book { OnOk result (self.new ≡ step self.old (event.Take call kind.Incoming x)) }
+        ensures unchanged { OnErr result (self.new ≡ self.old) }
+        ensures memory { OnErr result (NeedsRoom self.old (row self.old (event.Take call kind.Incoming x))) }
+    {
+        if self.calls.get(call).is_some() {
+            return Ok(Reply::Refused(Refusal::CallExists));
+        }
+        if !self.is_traffic(x) {
+            return Ok(Reply::Refused(Refusal::NoChannel));
+        }
+        if self.channels.get(x).is_some() {
+            return Ok(Reply::Refused(Refusal::ChannelBusy(x)));
+        }
+        self.add_call(call, CallEntry::coming_to(x), x, ChanState::Held(call))?;
+        Ok(Reply::Done)
+    }
+
+    pub(super) fn reserve(&mut self, call: u16, number: u8) -> Result<Reply, AllocError>
+        ensures reply { IfOk result (λ reply. reply ≡ reply_to self.old (event.Reserve call number)) }
+        ensures book { OnOk result (self.new ≡ step self.old (event.Reserve call number)) }
+        ensures unchanged { OnErr result (self.new ≡ self.old) }
+        ensures memory { OnErr result (NeedsRoom self.old (row self.old (event.Reserve call number))) }
+    {
+        let Some(mut entry) = self.calls.entry(call) else {
+            return Ok(Reply::Refused(Refusal::NoCall));
+        };
+        let Some(attempt) = entry.record().attempt else {
+            return Ok(Reply::Refused(Refusal::WrongPhase));
+        };
+        let (Stage::Taken, Some(target)) = (attempt.stage, attempt.target) else {
+            return Ok(Reply::Refused(Refusal::WrongPhase));
+        };
+        let reference = reference_at(target, number);
+        if self.references.get(reference).is_some() {
+            return Ok(Reply::Refused(Refusal::RefBusy(target.cell, number)));
+        }
+        self.references.insert(reference, call)?;
+        entry.reserve(attempt, number);
+        self.calls.replace(call, entry);
+        Ok(Reply::Done)
+    }
+
+    pub(super) fn activate(&mut self, call: u16) -> Reply
+        requires { IsSound self.old }
+        ensures reply { result ≡ reply_to self.old (event.Activate call) }
+        ensures book { self.new ≡ step self.old (event.Activate call) }
+    {
+        let Some(mut entry) = self.calls.entry(call) else {
+            return Reply::Refused(Refusal::NoCall);
+        };
+        let Some(attempt) = entry.record().attempt else {
+            return Reply::Refused(Refusal::WrongPhase);
+        };
+        let (Stage::Reserved, Some(target)) = (attempt.stage, attempt.target) else {
+            return Reply::Refused(Refusal::WrongPhase);
+        };
+        self.channels.replace(target, ChanState::Pending(call));
+        entry.activate(attempt, target);
+        self.calls.replace(call, entry);
+        Reply::Done
+    }
+}
+
+/// The reference with a number in the cell of a channel.
+pub(super) fn reference_at(x: ChanId, number: u8) -> Reference
+    ensures { result ≡ reference_at x number }
+{
+    Reference {
+        cell: x.cell,
+        number,
+    }
+}

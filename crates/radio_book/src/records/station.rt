@@ -1,0 +1,68 @@
+//! A station answers.
+ghost use Rattle.std.specs.Prelude.{◌≡◌};
+ghost use Rattle.radio_book.specs.declared.event.Event.TheVariants as event;
+ghost use Rattle.radio_book.specs.State.{apply, record_of};
+ghost use Rattle.radio_book.specs.Sound.{IsSound};
+ghost use Rattle.radio_book.specs.Table.{step, reply_to, no_change, moved};
+ghost use Rattle.radio_book.specs.Waiting.{MayMove};
+
+use crate::channel::{ChanId, ChanState};
+use crate::event::{Refusal, Reply, Stage};
+use crate::records::Records;
+use std::alloc::Allocator;
+
+impl<A: Allocator + Copy> Records<A> {
+    pub(super) fn confirm(&mut self, x: ChanId) -> Reply
+        requires { IsSound self.old }
+        ensures reply { result ≡ reply_to self.old (event.Confirm x) }
+        ensures book { self.new ≡ step self.old (event.Confirm x) }
+    {
+        let Some(ChanState::Pending(call)) = self.channels.get(x) else {
+            return Reply::Refused(Refusal::Unexpected(x));
+        };
+        self.channels.replace(x, ChanState::On(call));
+        self.move_attempt(call, x, Stage::Confirmed);
+        Reply::Owned(call)
+    }
+
+    pub(super) fn refuse(&mut self, x: ChanId) -> Reply
+        requires { IsSound self.old }
+        ensures reply { result ≡ reply_to self.old (event.Refuse x) }
+        ensures book { self.new ≡ step self.old (event.Refuse x) }
+    {
+        let Some(ChanState::Pending(call)) = self.channels.get(x) else {
+            return Reply::Refused(Refusal::Unexpected(x));
+        };
+        self.channels.replace(x, ChanState::Held(call));
+        self.move_attempt(call, x, Stage::Refused);
+        Reply::Owned(call)
+    }
+
+    /// The call's attempt comes to a stage, where the channel is its target.
+    fn move_attempt(&mut self, call: u16, x: ChanId, stage: Stage)
+        requires { MayMove call x stage self.old }
+        ensures { self.new ≡ apply (record no_change { call = moved x stage call (record_of self.old call) }) self.old }
+    {
+        let Some(mut entry) = self.calls.entry(call) else {
+            return;
+        };
+        let Some(attempt) = entry.record().attempt else {
+            return;
+        };
+        if attempt.target == Some(x) {
+            entry.move_to(attempt, stage);
+            self.calls.replace(call, entry);
+        }
+    }
+
+    pub(super) fn released(&mut self, x: ChanId) -> Reply
+        ensures reply { result ≡ reply_to self.old (event.Released x) }
+        ensures book { self.new ≡ step self.old (event.Released x) }
+    {
+        let Some(ChanState::Off) = self.channels.get(x) else {
+            return Reply::Refused(Refusal::Unexpected(x));
+        };
+        self.channels.remove(x);
+        Reply::Done
+    }
+}

@@ -1,0 +1,257 @@
+//! The maps of the book, each seen as a finite map.
+ghost use Rattle.std.specs.Prelude.{◌≡◌, OnOk, OnErr, None, IsSome};
+ghost use Rattle.std.specs.FinMap as map;
+
+use crate::channel::{ChanId, ChanState};
+use crate::entry::CallEntry;
+use crate::event::{CallRecord, Reference, Timer};
+use std::alloc::{AllocError, Allocator, Global};
+use std::collections::BTreeMap;
+use std::marker::Model;
+
+/// The state of each channel that isn't free.
+#[derive(Drop)]
+pub struct Channels<A: Allocator = Global> {
+    states: BTreeMap<ChanId, ChanState, A>,
+}
+
+impl<A: Allocator> Model for Channels<A> {
+    ghost use Rattle.std.specs.FinMap as map;
+    ghost use Rattle.radio_book.specs.Keys.{chan_cmp, coded_chan};
+    ghost use Rattle.radio_book.specs.declared.channel.ChanState.{ChanState};
+    ghost use Rattle.radio_book.specs.contracts.channel.ChanState.{the_row};
+
+    ghost Value = { map.FinMap chan_cmp ChanState };
+
+    ghost coded = { map.code coded_chan the_row.coded };
+
+    ghost view = { λ table. map.from_entries table.states.entries };
+}
+
+impl<A: Allocator + Copy> Channels<A> {
+    pub fn new(alloc: A) -> Channels<A>
+        ensures { result ≡ map.empty }
+    {
+        Channels {
+            states: BTreeMap::new(alloc),
+        }
+    }
+
+    pub fn len(&self) -> usize
+        ensures { result ≡ map.len self.now }
+    {
+        self.states.len()
+    }
+
+    pub fn get(&self, x: ChanId) -> Option<ChanState>
+        ensures { result ≡ map.get self.now x }
+    {
+        self.states.get(&x).copied()
+    }
+
+    /// Memory is wanted for a new key alone.
+    pub fn insert(&mut self, x: ChanId, state: ChanState) -> Result<(), AllocError>
+        ensures ok { OnOk result (self.new ≡ map.insert self.old x state) }
+        ensures err { OnErr result (self.new ≡ self.old) }
+        ensures new_key { OnErr result (map.get self.old x ≡ None) }
+    {
+        self.states.insert(x, state)?;
+        Ok(())
+    }
+
+    /// A change in place, which takes no memory.
+    pub fn replace(&mut self, x: ChanId, state: ChanState)
+        requires { IsSome (map.get self.old x) }
+        ensures { self.new ≡ map.insert self.old x state }
+    {
+        if self.insert(x, state).is_err() {
+            unreachable!()
+        }
+    }
+
+    pub fn remove(&mut self, x: ChanId)
+        ensures { self.new ≡ map.remove self.old x }
+    {
+        let _ = self.states.remove(&x);
+    }
+}
+
+/// What is kept of each call, seen as its record.
+#[derive(Drop)]
+pub struct Calls<A: Allocator = Global> {
+    entries: BTreeMap<u16, CallEntry, A>,
+}
+
+impl<A: Allocator> Model for Calls<A> {
+    ghost use Rattle.std.specs.FinMap as map;
+    ghost use Rattle.std.specs.Ordering.{nat_cmp};
+    ghost use Rattle.std.specs.Coded.{coded_ℕ};
+    ghost use Rattle.radio_book.specs.declared.event.CallRecord.{CallRecord};
+    ghost use Rattle.radio_book.specs.contracts.event.CallRecord.{the_row};
+
+    ghost Value = { map.FinMap nat_cmp CallRecord };
+
+    ghost coded = { map.code coded_ℕ the_row.coded };
+
+    ghost view = { λ table. map.from_entries table.entries.entries };
+}
+
+impl<A: Allocator + Copy> Calls<A> {
+    pub fn new(alloc: A) -> Calls<A>
+        ensures { result ≡ map.empty }
+    {
+        Calls {
+            entries: BTreeMap::new(alloc),
+        }
+    }
+
+    pub fn len(&self) -> usize
+        ensures { result ≡ map.len self.now }
+    {
+        self.entries.len()
+    }
+
+    pub fn get(&self, call: u16) -> Option<CallRecord>
+        ensures { result ≡ map.get self.now call }
+    {
+        match self.entries.get(&call) {
+            Some(entry) => Some(entry.record()),
+            None => None,
+        }
+    }
+
+    /// A copy of what is kept.
+    pub fn entry(&self, call: u16) -> Option<CallEntry>
+        ensures { result ≡ map.get self.now call }
+    {
+        match self.entries.get(&call) {
+            Some(entry) => Some(entry.copy()),
+            None => None,
+        }
+    }
+
+    /// Memory is wanted for a new key alone.
+    pub fn insert(&mut self, call: u16, entry: CallEntry) -> Result<(), AllocError>
+        ensures ok { OnOk result (self.new ≡ map.insert self.old call entry) }
+        ensures err { OnErr result (self.new ≡ self.old) }
+        ensures new_key { OnErr result (map.get self.old call ≡ None) }
+    {
+        self.entries.insert(call, entry)?;
+        Ok(())
+    }
+
+    /// A change in place, which takes no memory.
+    pub fn replace(&mut self, call: u16, entry: CallEntry)
+        requires { IsSome (map.get self.old call) }
+        ensures { self.new ≡ map.insert self.old call entry }
+    {
+        if self.insert(call, entry).is_err() {
+            unreachable!()
+        }
+    }
+
+    pub fn remove(&mut self, call: u16)
+        ensures { self.new ≡ map.remove self.old call }
+    {
+        let _ = self.entries.remove(&call);
+    }
+}
+
+/// The call of each handover reference in use.
+#[derive(Drop)]
+pub struct References<A: Allocator = Global> {
+    users: BTreeMap<Reference, u16, A>,
+}
+
+impl<A: Allocator> Model for References<A> {
+    ghost use Rattle.std.specs.FinMap as map;
+    ghost use Rattle.std.specs.Prelude.{ℕ};
+    ghost use Rattle.std.specs.Coded.{coded_ℕ};
+    ghost use Rattle.radio_book.specs.Keys.{reference_cmp, coded_reference};
+
+    ghost Value = { map.FinMap reference_cmp ℕ };
+
+    ghost coded = { map.code coded_reference coded_ℕ };
+
+    ghost view = { λ table. map.from_entries table.users.entries };
+}
+
+impl<A: Allocator + Copy> References<A> {
+    pub fn new(alloc: A) -> References<A>
+        ensures { result ≡ map.empty }
+    {
+        References {
+            users: BTreeMap::new(alloc),
+        }
+    }
+
+    pub fn len(&self) -> usize
+        ensures { result ≡ map.len self.now }
+    {
+        self.users.len()
+    }
+
+    pub fn get(&self, reference: Reference) -> Option<u16>
+        ensures { result ≡ map.get self.now reference }
+    {
+        self.users.get(&reference).copied()
+    }
+
+    /// Memory is wanted for a new key alone.
+    pub fn insert(&mut self, reference: Reference, call: u16) -> Result<(), AllocError>
+        ensures ok { OnOk result (self.new ≡ map.insert self.old reference call) }
+        ensures err { OnErr result (self.new ≡ self.old) }
+        ensures new_key { OnErr result (map.get self.old reference ≡ None) }
+    {
+        self.users.insert(reference, call)?;
+        Ok(())
+    }
+
+    pub fn remove(&mut self, reference: Reference)
+        ensures { self.new ≡ map.remove self.old reference }
+    {
+        let _ = self.users.remove(&reference);
+    }
+}
+
+/// The armed timer of each call that has one.
+#[derive(Drop)]
+pub struct Timers<A: Allocator = Global> {
+    armed: BTreeMap<u16, Timer, A>,
+}
+
+impl<A: Allocator> Model for Timers<A> {
+    ghost use Rattle.std.specs.FinMap as map;
+    ghost use Rattle.std.specs.Ordering.{nat_cmp};
+    ghost use Rattle.std.specs.Coded.{coded_ℕ};
+    ghost use Rattle.radio_book.specs.declared.event.Timer.{Timer};
+    ghost use Rattle.radio_book.specs.contracts.event.Timer.{the_row};
+
+    ghost Value = { map.FinMap nat_cmp Timer };
+
+    ghost coded = { map.code coded_ℕ the_row.coded };
+
+    ghost view = { λ table. map.from_entries table.armed.entries };
+}
+
+impl<A: Allocator + Copy> Timers<A> {
+    pub fn new(alloc: A) -> Timers<A>
+        ensures { result ≡ map.empty }
+    {
+        Timers {
+            armed: BTreeMap::new(alloc),
+        }
+    }
+
+    pub fn len(&self) -> usize
+        ensures { result ≡ map.len self.now }
+    {
+        self.armed.len()
+    }
+
+    pub fn get(&self, call: u16) -> Option<Timer>
+        ensures { result ≡ map.get self.now call }
+    {
+        self.armed.get(&call).copied()
+    }
+}

@@ -1,0 +1,42 @@
+-- Cell Description (TS 44.018 section 10.5.2.2), without an identifier.
+use Rattle.std.specs.Prelude.{ℕ, ◌+◌, ◌*◌, ◌/◌, ◌%◌, ◌^◌, ◌<◌, ◌==◌, if◌then◌else◌, List, [], ◌∷◌, length, Result, Ok, Err}
+use Rattle.rr_elements.specs.Bits.{bits_of, cut}
+use Rattle.rr_elements.specs.Fields.{AreFields, spelled}
+use Rattle.rr_elements.specs.declared.fault.ElementFault.{ElementFault}
+use Rattle.rr_elements.specs.declared.fault.ElementFault.TheVariants.{Length}
+
+-- the carrier of the cell's BCCH, and the two halves of its colour
+pub record Cell : Type 0 where
+  pub arfcn : ℕ
+  pub ncc : ℕ
+  pub bcc : ℕ
+
+-- each field has its bits
+pub record CellFits (v : Cell) : Type 0 where
+  pub arfcn : v.arfcn < 2 ^ 10
+  pub ncc : v.ncc < 2 ^ 3
+  pub bcc : v.bcc < 2 ^ 3
+
+-- octet 1: the carrier's two high bits, NCC, BCC; octet 2: its low eight bits
+abbrev pub cell_widths : List ℕ
+cell_widths = 2 ∷ 3 ∷ 3 ∷ 8 ∷ []
+
+abbrev pub cell_numbers : Cell → List ℕ
+cell_numbers v = v.arfcn / 256 ∷ v.ncc ∷ v.bcc ∷ v.arfcn % 256 ∷ []
+
+-- the octets are a text of the value
+abbrev pub IsCellText : Cell → List ℕ → Type 0
+IsCellText v octets = AreFields cell_widths (cell_numbers v) octets
+
+-- the text that is written
+abbrev pub cell_text : Cell → List ℕ
+cell_text v = spelled cell_widths (cell_numbers v)
+
+-- what fields say
+abbrev pub cell_of : List ℕ → Result Cell ElementFault
+cell_of (high ∷ ncc ∷ bcc ∷ low ∷ []) = Ok (record { arfcn = 256 * high + low; ncc = ncc; bcc = bcc })
+cell_of _ = Err Length
+
+-- what octets say
+abbrev pub cell_said : List ℕ → Result Cell ElementFault
+cell_said octets = if length octets == 2 then cell_of (cut cell_widths (bits_of octets)) else Err Length

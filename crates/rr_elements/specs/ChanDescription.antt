@@ -1,0 +1,44 @@
+-- Channel Description 2 (TS 44.018 section 10.5.2.5a), without an identifier: a full rate traffic channel that does not hop.
+use Rattle.std.specs.Prelude.{ℕ, ◌+◌, ◌*◌, ◌/◌, ◌%◌, ◌^◌, ◌<◌, ◌==◌, if◌then◌else◌, List, [], ◌∷◌, length, Result, Ok, Err}
+use Rattle.rr_elements.specs.Bits.{bits_of, cut}
+use Rattle.rr_elements.specs.Fields.{AreFields, spelled}
+use Rattle.rr_elements.specs.declared.fault.ElementFault.{ElementFault}
+use Rattle.rr_elements.specs.declared.fault.ElementFault.TheVariants.{Length, BadType, Hopping}
+
+-- timeslot, training sequence code and carrier
+pub record Chan : Type 0 where
+  pub tn : ℕ
+  pub tsc : ℕ
+  pub carrier : ℕ
+
+-- each field has its bits
+pub record ChanFits (v : Chan) : Type 0 where
+  pub tn : v.tn < 2 ^ 3
+  pub tsc : v.tsc < 2 ^ 3
+  pub carrier : v.carrier < 2 ^ 10
+
+-- octet 1: the type, TN; octet 2: TSC, H, two spare bits, the carrier's two high bits; octet 3: its low eight bits
+abbrev pub chan_widths : List ℕ
+chan_widths = 5 ∷ 3 ∷ 3 ∷ 1 ∷ 2 ∷ 2 ∷ 8 ∷ []
+
+-- type 00001 is TCH/F with its associated channels, H is 0
+abbrev pub chan_numbers : ℕ → Chan → List ℕ
+chan_numbers spare v = 1 ∷ v.tn ∷ v.tsc ∷ 0 ∷ spare ∷ v.carrier / 256 ∷ v.carrier % 256 ∷ []
+
+-- the octets are a text of the value, whatever the spare bits are
+abbrev pub IsChanText : Chan → List ℕ → Type 0
+IsChanText v octets = (spare : ℕ) × AreFields chan_widths (chan_numbers spare v) octets
+
+-- the text that is written
+abbrev pub chan_text : Chan → List ℕ
+chan_text v = spelled chan_widths (chan_numbers 0 v)
+
+-- what fields say, or the first fault
+abbrev pub chan_of : List ℕ → Result Chan ElementFault
+chan_of (kind ∷ tn ∷ tsc ∷ hopping ∷ spare ∷ high ∷ low ∷ []) =
+    if kind == 1 then (if hopping == 0 then Ok (record { tn = tn; tsc = tsc; carrier = 256 * high + low }) else Err Hopping) else Err BadType
+chan_of _ = Err Length
+
+-- what octets say, or the first fault
+abbrev pub chan_said : List ℕ → Result Chan ElementFault
+chan_said octets = if length octets == 3 then chan_of (cut chan_widths (bits_of octets)) else Err Length

@@ -1,0 +1,17 @@
+-- Octets as fields: a table of widths, and the numbers of the fields.
+use Rattle.std.specs.Prelude.{◌≡◌, ℕ, ◌*◌, Bool, true, false, List, length}
+use Rattle.rr_elements.specs.Bits.{bits_of, total, cut, written, octets_of}
+
+-- the octets are fields of these widths, and the fields are these numbers
+pub record AreFields (widths numbers octets : List ℕ) : Type 0 where
+  pub len : 8 * length octets ≡ total widths
+  pub pieces : cut widths (bits_of octets) ≡ numbers
+
+-- the octets of fields of these widths
+abbrev pub spelled : List ℕ → List ℕ → List ℕ
+spelled widths numbers = octets_of (written widths numbers)
+
+-- a field of one bit
+abbrev pub flag : Bool → ℕ
+flag true = 1
+flag false = 0

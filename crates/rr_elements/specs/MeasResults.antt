@@ -1,0 +1,97 @@
+-- Measurement Results (TS 44.018 section 10.5.2.20), without an identifier: 128 bits.
+use Rattle.std.specs.Prelude.{◌≡◌, ℕ, ◌+◌, ◌-◌, ◌^◌, ◌<◌, ◌==◌, if◌then◌else◌, not, List, [], ◌∷◌, ◌++◌, length, take, drop, replicate, flat_map, All, Result, Ok, Err}
+use Rattle.rr_elements.specs.Bits.{bits_of, cut, repeated}
+use Rattle.rr_elements.specs.Fields.{AreFields, spelled, flag}
+use Rattle.rr_elements.specs.declared.fault.ElementFault.{ElementFault}
+use Rattle.rr_elements.specs.declared.fault.ElementFault.TheVariants.{Length}
+use Rattle.rr_elements.specs.declared.measurement.MeasHead.{MeasHead}
+use Rattle.rr_elements.specs.declared.measurement.Ncell.{Ncell}
+
+-- what a mobile measured: the fields before the neighbours, and the neighbours
+pub record Results : Type 0 where
+  pub head : MeasHead
+  pub neighbours : List Ncell
+
+-- how many neighbours stand there: 7 says that there is no neighbour information
+abbrev pub used : ℕ → ℕ
+used count = if count == 7 then 0 else count
+
+-- each field has its bits
+pub record HeadFits (h : MeasHead) : Type 0 where
+  pub full : h.full < 2 ^ 6
+  pub sub : h.sub < 2 ^ 6
+  pub qfull : h.qfull < 2 ^ 3
+  pub qsub : h.qsub < 2 ^ 3
+  pub count : h.count < 2 ^ 3
+
+pub record NcellFits (n : Ncell) : Type 0 where
+  pub level : n.level < 2 ^ 6
+  pub position : n.position < 2 ^ 5
+  pub bsic : n.bsic < 2 ^ 6
+
+-- each field has its bits, and there are as many neighbours as the count says
+pub record ResultsFit (v : Results) : Type 0 where
+  pub head : HeadFits v.head
+  pub each : All NcellFits v.neighbours
+  pub count : length v.neighbours ≡ used v.head.count
+
+-- BA-USED, DTX-USED, RXLEV-FULL, 3G-BA-USED, MEAS-VALID, RXLEV-SUB, SI23-BA-USED, RXQUAL-FULL, RXQUAL-SUB, NO-NCELL-M
+abbrev pub head_widths : List ℕ
+head_widths = 1 ∷ 1 ∷ 6 ∷ 1 ∷ 1 ∷ 6 ∷ 1 ∷ 3 ∷ 3 ∷ 3 ∷ []
+
+-- RXLEV-NCELL, BCCH-FREQ-NCELL, BSIC-NCELL
+abbrev pub ncell_widths : List ℕ
+ncell_widths = 6 ∷ 5 ∷ 6 ∷ []
+
+-- six neighbours follow the head
+abbrev pub results_widths : List ℕ
+results_widths = head_widths ++ repeated 6 ncell_widths
+
+-- MEAS-VALID is 0 where the results are valid
+abbrev pub head_numbers : MeasHead → List ℕ
+head_numbers h =
+    flag h.ba ∷ flag h.dtx ∷ h.full ∷ flag h.ba3g ∷ flag (not h.valid) ∷ h.sub ∷ flag h.si23 ∷ h.qfull ∷ h.qsub ∷ h.count ∷ []
+
+abbrev pub ncell_numbers : Ncell → List ℕ
+ncell_numbers n = n.level ∷ n.position ∷ n.bsic ∷ []
+
+-- the neighbours that are in use, and then the others
+abbrev pub results_numbers : Results → List Ncell → List ℕ
+results_numbers v others = head_numbers v.head ++ flat_map ncell_numbers (v.neighbours ++ others)
+
+-- the octets are a text of the value, whatever stands in the places that are not in use
+pub record IsResultsText (v : Results) (octets : List ℕ) : Type 0 where
+  pub others : List Ncell
+  pub count : length v.neighbours ≡ used v.head.count
+  pub six : length v.neighbours + length others ≡ 6
+  pub fields : AreFields results_widths (results_numbers v others) octets
+
+-- a place that is not in use is written 0
+abbrev pub no_ncell : Ncell
+no_ncell = record { level = 0; position = 0; bsic = 0 }
+
+-- the text that is written
+abbrev pub results_text : Results → List ℕ
+results_text v = spelled results_widths (results_numbers v (replicate (6 - length v.neighbours) no_ncell))
+
+-- what the fields of neighbours say
+abbrev pub ncells_of : List ℕ → List Ncell
+ncells_of (level ∷ position ∷ bsic ∷ ns) = record { level = level; position = position; bsic = bsic } ∷ ncells_of ns
+ncells_of _ = []
+
+-- what fields say
+abbrev pub results_of : List ℕ → Result Results ElementFault
+results_of (ba ∷ dtx ∷ full ∷ ba3g ∷ invalid ∷ sub ∷ si23 ∷ qfull ∷ qsub ∷ count ∷ ns) =
+    let head : MeasHead = record { ba = ba == 1; dtx = dtx == 1; full = full; ba3g = ba3g == 1; valid = invalid == 0; sub = sub; si23 = si23 == 1; qfull = qfull; qsub = qsub; count = count } in
+    Ok (record { head = head; neighbours = take (used count) (ncells_of ns) })
+results_of _ = Err Length
+
+-- what octets say
+unfoldable pub results_said : List ℕ → Result Results ElementFault
+results_said octets = if length octets == 16 then results_of (cut results_widths (bits_of octets)) else Err Length
+
+-- how the value is kept: six places, of which those that are not in use are 0
+pub record IsKept (head : MeasHead) (places : List Ncell) : Type 0 where
+  pub fits : ResultsFit (record { head = head; neighbours = take (used head.count) places })
+  pub six : length places ≡ 6
+  pub others : drop (used head.count) places ≡ replicate (6 - used head.count) no_ncell

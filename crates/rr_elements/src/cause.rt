@@ -1,0 +1,64 @@
+//! RR Cause.
+ghost use Rattle.std.specs.Prelude.{◌≡◌, ◌+◌, ◌<◌, ◌≤◌, ◌++◌, OnOk, OnErr, IsOk, Ok, vec_len, vec_capacity, ◌↔◌, ◌≢◌, IfOk, length, Err};
+
+use crate::bits::{BitReader, BitWriter};
+use crate::fault::ElementFault;
+use std::alloc::{AllocError, Allocator};
+
+/// Why a connection is released or a handover ended (TS 44.018 section 10.5.2.31): any octet.
+#[derive(Clone, Copy, Debug, PartialEq, Eq)]
+pub struct RrCause(pub u8);
+
+impl RrCause {
+    ghost use Rattle.rr_elements.specs.RrCause.{IsCauseText, cause_text, cause_said};
+
+    /// The cause with this value; each octet is one, so no fault comes.
+    pub fn new(value: u8) -> Result<Self, ElementFault>
+        ensures { result ≡ Ok (record { 0 = value }) }
+    {
+        Ok(RrCause(value))
+    }
+
+    /// The value of the cause.
+    pub fn value(&self) -> u8
+        ensures { result ≡ self.now.0 }
+    {
+        self.0
+    }
+
+    /// Appends the element's one octet.
+    pub fn encode_into<A: Allocator + Copy>(&self, out: &mut Vec<u8, A>) -> Result<(), AllocError>
+        ensures ok { OnOk result (out.new.items ≡ out.old.items ++ cause_text self.now) }
+        ensures err { OnErr result (out.new.items ≡ out.old.items) }
+        ensures room { vec_len out.old + 1 ≤ vec_capacity out.old → IsOk result }
+        ensures full { OnErr result (vec_capacity out.old < vec_len out.old + 1) }
+        ensures len { OnOk result (vec_len out.new ≡ vec_len out.old + 1) }
+        ensures capacity { vec_capacity out.old ≤ vec_capacity out.new }
+
+        // What is written is a text of the value, and is read as it.
+        ensures text { IsCauseText self.now (cause_text self.now) }
+        ensures again { cause_said (cause_text self.now) ≡ Ok self.now }
+    {
+        let mut bits = BitWriter::new();
+        bits.put(8, self.value());
+        bits.append_to(out)
+    }
+
+    /// Reads the element's one octet; `Length` where it is not one.
+    pub fn decode(octets: &[u8]) -> Result<Self, ElementFault>
+        // What is read has the octets as a text, and each text is read.
+        ensures text { IfOk result (λ v. IsCauseText v octets.now) }
+        ensures only { (v : RrCause) → IsCauseText v octets.now → result ≡ Ok v }
+
+        // The first fault.
+        ensures length { (result ≡ Err ElementFault.Length) ↔ (length octets.now ≢ 1) }
+        ensures said { result ≡ cause_said octets.now }
+    {
+        if octets.len() != 1 {
+            return Err(ElementFault::Length);
+        }
+        let mut bits = BitReader::new(octets);
+        let cause = bits.take(8);
+        Ok(RrCause(cause))
+    }
+}

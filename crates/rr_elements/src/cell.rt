@@ -1,0 +1,115 @@
+//! Cell Description.
+ghost use Rattle.std.specs.Prelude.{◌≡◌, ◌↔◌, ◌+◌, ◌<◌, ◌≤◌, ◌++◌, OnOk, OnErr, IsOk, Ok, Err, length, vec_len, vec_capacity, ◌≢◌, IfOk};
+
+use crate::bits::{BitReader, BitWriter};
+use crate::fault::ElementFault;
+use std::alloc::{AllocError, Allocator};
+use std::marker::Model;
+
+/// The carrier of a cell's BCCH and the cell's colour (TS 44.018 section 10.5.2.2).
+#[derive(Clone, Copy, Debug, PartialEq, Eq)]
+pub struct CellDescription {
+    arfcn: u16,
+    ncc: u8,
+    bcc: u8,
+}
+
+impl Model for CellDescription {
+    ghost use Rattle.rr_elements.specs.CellDescription.{Cell, CellFits};
+
+    ghost Value = { Cell };
+
+    ghost view = { λ a. record { arfcn = a.arfcn; ncc = a.ncc; bcc = a.bcc } };
+
+    ghost invariant = { λ a. CellFits (record { arfcn = a.arfcn; ncc = a.ncc; bcc = a.bcc }) };
+
+    ghost inverse = { λ v. record { arfcn = v.arfcn; ncc = v.ncc; bcc = v.bcc } };
+}
+
+impl CellDescription {
+    ghost use Rattle.rr_elements.specs.CellDescription.{Cell, CellFits, IsCellText, cell_text, cell_said};
+
+    /// A description of the cell with this carrier (0 to 1023), network colour code and base
+    /// station colour code (0 to 7 each); `BadRange` where one of them is more.
+    pub fn new(arfcn: u16, ncc: u8, bcc: u8) -> Result<Self, ElementFault>
+        ensures ok { CellFits (record { arfcn = arfcn; ncc = ncc; bcc = bcc }) → result ≡ Ok (record { arfcn = arfcn; ncc = ncc; bcc = bcc }) }
+        ensures bad_range { ¬ CellFits (record { arfcn = arfcn; ncc = ncc; bcc = bcc }) → result ≡ Err ElementFault.BadRange }
+    {
+        if arfcn < 1024 && ncc < 8 && bcc < 8 {
+            Ok(CellDescription { arfcn, ncc, bcc })
+        } else {
+            Err(ElementFault::BadRange)
+        }
+    }
+
+    /// The carrier of the BCCH, 0 to 1023.
+    pub fn arfcn(&self) -> u16
+        ensures value { result ≡ self.now.arfcn }
+        ensures range { result < 1024 }
+    {
+        self.arfcn
+    }
+
+    /// The network colour code, 0 to 7.
+    pub fn ncc(&self) -> u8
+        ensures value { result ≡ self.now.ncc }
+        ensures range { result < 8 }
+    {
+        self.ncc
+    }
+
+    /// The base station colour code, 0 to 7.
+    pub fn bcc(&self) -> u8
+        ensures value { result ≡ self.now.bcc }
+        ensures range { result < 8 }
+    {
+        self.bcc
+    }
+
+    /// Appends the element's two octets.
+    pub fn encode_into<A: Allocator + Copy>(&self, out: &mut Vec<u8, A>) -> Result<(), AllocError>
+        ensures ok { OnOk result (out.new.items ≡ out.old.items ++ cell_text self.now) }
+        ensures err { OnErr result (out.new.items ≡ out.old.items) }
+        ensures room { vec_len out.old + 2 ≤ vec_capacity out.old → IsOk result }
+        ensures full { OnErr result (vec_capacity out.old < vec_len out.old + 2) }
+        ensures len { OnOk result (vec_len out.new ≡ vec_len out.old + 2) }
+        ensures capacity { vec_capacity out.old ≤ vec_capacity out.new }
+
+        // What is written is a text of the value, and is read as it.
+        ensures text { IsCellText self.now (cell_text self.now) }
+        ensures again { cell_said (cell_text self.now) ≡ Ok self.now }
+    {
+        let CellDescription { arfcn, ncc, bcc } = *self;
+        let mut bits = BitWriter::new();
+        bits.put(2, (arfcn / 256) as u8);
+        bits.put(3, ncc);
+        bits.put(3, bcc);
+        bits.put(8, (arfcn % 256) as u8);
+        bits.append_to(out)
+    }
+
+    /// Reads the element's two octets; `Length` where they are not two.
+    pub fn decode(octets: &[u8]) -> Result<Self, ElementFault>
+        // What is read has the octets as a text, and each text is read.
+        ensures text { IfOk result (λ v. IsCellText v octets.now) }
+        ensures only { (v : Cell) → IsCellText v octets.now → result ≡ Ok v }
+
+        // The first fault.
+        ensures length { (result ≡ Err ElementFault.Length) ↔ (length octets.now ≢ 2) }
+        ensures said { result ≡ cell_said octets.now }
+    {
+        if octets.len() != 2 {
+            return Err(ElementFault::Length);
+        }
+        let mut bits = BitReader::new(octets);
+        let high = bits.take(2);
+        let network = bits.take(3);
+        let station = bits.take(3);
+        let low = bits.take(8);
+        Ok(CellDescription {
+            arfcn: 256 * u16::from(high) + u16::from(low),
+            ncc: network,
+            bcc: station,
+        })
+    }
+}

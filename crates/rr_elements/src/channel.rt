@@ -1,0 +1,128 @@
+//! Channel Description 2.
+ghost use Rattle.std.specs.Prelude.{◌≡◌, ◌+◌, ◌<◌, ◌≤◌, ◌++◌, OnOk, OnErr, IsOk, Ok, Err, vec_len, vec_capacity, ◌↔◌, ◌≢◌, IfOk, length};
+
+use crate::bits::{BitReader, BitWriter};
+use crate::fault::ElementFault;
+use std::alloc::{AllocError, Allocator};
+use std::marker::Model;
+
+/// The channel type TCH/F with its associated channels.
+const FULL_RATE: u8 = 1;
+
+/// A full rate traffic channel that does not hop (TS 44.018 section 10.5.2.5a).
+#[derive(Clone, Copy, Debug, PartialEq, Eq)]
+pub struct ChanDescription {
+    tn: u8,
+    tsc: u8,
+    carrier: u16,
+}
+
+impl Model for ChanDescription {
+    ghost use Rattle.rr_elements.specs.ChanDescription.{Chan, ChanFits};
+
+    ghost Value = { Chan };
+
+    ghost view = { λ a. record { tn = a.tn; tsc = a.tsc; carrier = a.carrier } };
+
+    ghost invariant = { λ a. ChanFits (record { tn = a.tn; tsc = a.tsc; carrier = a.carrier }) };
+
+    ghost inverse = { λ v. record { tn = v.tn; tsc = v.tsc; carrier = v.carrier } };
+}
+
+impl ChanDescription {
+    ghost use Rattle.rr_elements.specs.ChanDescription.{Chan, ChanFits, IsChanText, chan_text, chan_said};
+
+    /// The channel with this timeslot and training sequence code (0 to 7 each) and carrier (0 to
+    /// 1023); `BadRange` where one of them is more.
+    pub fn new(tn: u8, tsc: u8, carrier: u16) -> Result<Self, ElementFault>
+        ensures ok { ChanFits (record { tn = tn; tsc = tsc; carrier = carrier }) → result ≡ Ok (record { tn = tn; tsc = tsc; carrier = carrier }) }
+        ensures bad_range { ¬ ChanFits (record { tn = tn; tsc = tsc; carrier = carrier }) → result ≡ Err ElementFault.BadRange }
+    {
+        if tn < 8 && tsc < 8 && carrier < 1024 {
+            Ok(ChanDescription { tn, tsc, carrier })
+        } else {
+            Err(ElementFault::BadRange)
+        }
+    }
+
+    /// The timeslot, 0 to 7.
+    pub fn tn(&self) -> u8
+        ensures value { result ≡ self.now.tn }
+        ensures range { result < 8 }
+    {
+        self.tn
+    }
+
+    /// The training sequence code, 0 to 7.
+    pub fn tsc(&self) -> u8
+        ensures value { result ≡ self.now.tsc }
+        ensures range { result < 8 }
+    {
+        self.tsc
+    }
+
+    /// The carrier, 0 to 1023.
+    pub fn carrier(&self) -> u16
+        ensures value { result ≡ self.now.carrier }
+        ensures range { result < 1024 }
+    {
+        self.carrier
+    }
+
+    /// Appends the element's three octets.
+    pub fn encode_into<A: Allocator + Copy>(&self, out: &mut Vec<u8, A>) -> Result<(), AllocError>
+        ensures ok { OnOk result (out.new.items ≡ out.old.items ++ chan_text self.now) }
+        ensures err { OnErr result (out.new.items ≡ out.old.items) }
+        ensures room { vec_len out.old + 3 ≤ vec_capacity out.old → IsOk result }
+        ensures full { OnErr result (vec_capacity out.old < vec_len out.old + 3) }
+        ensures len { OnOk result (vec_len out.new ≡ vec_len out.old + 3) }
+        ensures capacity { vec_capacity out.old ≤ vec_capacity out.new }
+
+        // What is written is a text of the value, and is read as it.
+        ensures text { IsChanText self.now (chan_text self.now) }
+        ensures again { chan_said (chan_text self.now) ≡ Ok self.now }
+    {
+        let ChanDescription { tn, tsc, carrier } = *self;
+        let mut bits = BitWriter::new();
+        bits.put(5, FULL_RATE);
+        bits.put(3, tn);
+        bits.put(3, tsc);
+        bits.put(1, 0);
+        bits.put(2, 0);
+        bits.put(2, (carrier / 256) as u8);
+        bits.put(8, (carrier % 256) as u8);
+        bits.append_to(out)
+    }
+
+    /// Reads the element's three octets. The first fault of `Length` (they are not three),
+    /// `BadType` (another channel type) and `Hopping` (H is 1) that holds comes.
+    pub fn decode(octets: &[u8]) -> Result<Self, ElementFault>
+        // What is read has the octets as a text, and each text is read.
+        ensures text { IfOk result (λ v. IsChanText v octets.now) }
+        ensures only { (v : Chan) → IsChanText v octets.now → result ≡ Ok v }
+
+        // The first fault.
+        ensures length { (result ≡ Err ElementFault.Length) ↔ (length octets.now ≢ 3) }
+        ensures said { result ≡ chan_said octets.now }
+    {
+        if octets.len() != 3 {
+            return Err(ElementFault::Length);
+        }
+        let mut bits = BitReader::new(octets);
+        let kind = bits.take(5);
+        let tn = bits.take(3);
+        let tsc = bits.take(3);
+        let hopping = bits.take(1);
+        let _spare = bits.take(2);
+        let high = bits.take(2);
+        let low = bits.take(8);
+        let carrier = 256 * u16::from(high) + u16::from(low);
+        if kind != FULL_RATE {
+            return Err(ElementFault::BadType);
+        }
+        if hopping == 1 {
+            return Err(ElementFault::Hopping);
+        }
+        Ok(ChanDescription { tn, tsc, carrier })
+    }
+}

@@ -1,0 +1,22 @@
+//! Elements of radio resource messages.
+#![tactic(auto)]
+
+mod bits;
+mod cause;
+mod cell;
+mod channel;
+mod fault;
+pub mod laws;
+mod measurement;
+mod power;
+mod results;
+#[cfg(test)]
+mod tests;
+
+pub use cause::RrCause;
+pub use cell::CellDescription;
+pub use channel::ChanDescription;
+pub use fault::ElementFault;
+pub use measurement::{MeasHead, Ncell};
+pub use power::Power;
+pub use results::MeasResults;

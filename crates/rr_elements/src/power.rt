@@ -1,0 +1,103 @@
+//! Power Command and access type.
+ghost use Rattle.std.specs.Prelude.{◌≡◌, ◌+◌, ◌<◌, ◌≤◌, ◌++◌, OnOk, OnErr, IsOk, Ok, Err, vec_len, vec_capacity, ◌↔◌, ◌≢◌, IfOk, length};
+
+use crate::bits::{BitReader, BitWriter};
+use crate::fault::ElementFault;
+use std::alloc::{AllocError, Allocator};
+use std::marker::Model;
+
+/// The power that a mobile is to use, and whether it may leave the handover access out (TS 44.018
+/// section 10.5.2.28a).
+#[derive(Clone, Copy, Debug, PartialEq, Eq)]
+pub struct Power {
+    atc: bool,
+    level: u8,
+}
+
+impl Model for Power {
+    ghost use Rattle.rr_elements.specs.Power.{PowerCommand, PowerFits};
+
+    ghost Value = { PowerCommand };
+
+    ghost view = { λ a. record { atc = a.atc; level = a.level } };
+
+    ghost invariant = { λ a. PowerFits (record { atc = a.atc; level = a.level }) };
+
+    ghost inverse = { λ v. record { atc = v.atc; level = v.level } };
+}
+
+impl Power {
+    ghost use Rattle.rr_elements.specs.Power.{PowerCommand, PowerFits, IsPowerText, power_text, power_said};
+
+    /// This access type (`true`: the handover access is optional) and power level (0 to 31);
+    /// `BadRange` where the level is more.
+    pub fn new(atc: bool, level: u8) -> Result<Self, ElementFault>
+        ensures ok { PowerFits (record { atc = atc; level = level }) → result ≡ Ok (record { atc = atc; level = level }) }
+        ensures bad_range { ¬ PowerFits (record { atc = atc; level = level }) → result ≡ Err ElementFault.BadRange }
+    {
+        if level < 32 {
+            Ok(Power { atc, level })
+        } else {
+            Err(ElementFault::BadRange)
+        }
+    }
+
+    /// Whether the handover access is optional.
+    pub fn atc(&self) -> bool
+        ensures { result ≡ self.now.atc }
+    {
+        self.atc
+    }
+
+    /// The power level, 0 to 31.
+    pub fn level(&self) -> u8
+        ensures value { result ≡ self.now.level }
+        ensures range { result < 32 }
+    {
+        self.level
+    }
+
+    /// Appends the element's one octet.
+    pub fn encode_into<A: Allocator + Copy>(&self, out: &mut Vec<u8, A>) -> Result<(), AllocError>
+        ensures ok { OnOk result (out.new.items ≡ out.old.items ++ power_text self.now) }
+        ensures err { OnErr result (out.new.items ≡ out.old.items) }
+        ensures room { vec_len out.old + 1 ≤ vec_capacity out.old → IsOk result }
+        ensures full { OnErr result (vec_capacity out.old < vec_len out.old + 1) }
+        ensures len { OnOk result (vec_len out.new ≡ vec_len out.old + 1) }
+        ensures capacity { vec_capacity out.old ≤ vec_capacity out.new }
+
+        // What is written is a text of the value, and is read as it.
+        ensures text { IsPowerText self.now (power_text self.now) }
+        ensures again { power_said (power_text self.now) ≡ Ok self.now }
+    {
+        let Power { atc, level } = *self;
+        let mut bits = BitWriter::new();
+        bits.put(1, u8::from(atc));
+        bits.put(2, 0);
+        bits.put(5, level);
+        bits.append_to(out)
+    }
+
+    /// Reads the element's one octet; `Length` where it is not one.
+    pub fn decode(octets: &[u8]) -> Result<Self, ElementFault>
+        // What is read has the octets as a text, and each text is read.
+        ensures text { IfOk result (λ v. IsPowerText v octets.now) }
+        ensures only { (v : PowerCommand) → IsPowerText v octets.now → result ≡ Ok v }
+
+        // The first fault.
+        ensures length { (result ≡ Err ElementFault.Length) ↔ (length octets.now ≢ 1) }
+        ensures said { result ≡ power_said octets.now }
+    {
+        if octets.len() != 1 {
+            return Err(ElementFault::Length);
+        }
+        let mut bits = BitReader::new(octets);
+        let atc = bits.take(1);
+        let _ignored = bits.take(2);
+        let level = bits.take(5);
+        Ok(Power {
+            atc: atc == 1,
+            level,
+        })
+    }
+}

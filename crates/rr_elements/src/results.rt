@@ -1,0 +1,186 @@
+//! Measurement Results.
+ghost use Rattle.std.specs.Prelude.{◌≡◌, ◌↔◌, ◌≢◌, ◌+◌, ◌<◌, ◌≤◌, ◌^◌, ◌++◌, OnOk, OnErr, IsOk, IsErr, IfOk, Ok, Err, All, length, vec_len, vec_capacity};
+
+use crate::bits::{BitReader, BitWriter};
+use crate::fault::ElementFault;
+use crate::measurement::{
+    MeasHead, NO_NCELL, Ncell, all_fit, put_head, put_ncells, take_head, take_ncells,
+};
+use std::alloc::{AllocError, Allocator};
+use std::marker::Model;
+
+/// What a mobile measured of its serving cell and of up to six neighbours (TS 44.018 section
+/// 10.5.2.20).
+#[derive(Clone, Copy, Debug, PartialEq, Eq)]
+pub struct MeasResults {
+    head: MeasHead,
+    places: [Ncell; 6],
+}
+
+impl Model for MeasResults {
+    ghost use Rattle.std.specs.Prelude.{◌++◌, ◌-◌, length, take, replicate};
+    ghost use Rattle.rr_elements.specs.MeasResults.{Results, IsKept, used, no_ncell};
+
+    ghost Value = { Results };
+
+    ghost view = { λ a. record { head = a.head; neighbours = take (used a.head.count) a.places } };
+
+    ghost invariant = { λ a. IsKept a.head a.places };
+
+    ghost inverse = { λ v. record { head = v.head; places = v.neighbours ++ replicate (6 - length v.neighbours) no_ncell } };
+
+    ghost use Rattle.std.proofs.Common.{ap};
+    ghost use Rattle.rr_elements.specs.ResultsKept.{kept_again};
+
+    ghost inverse_ok = { λ a h. ap (λ places. record { head = a.head; places = places }) (kept_again a.head a.places h) };
+}
+
+impl MeasResults {
+    ghost use Rattle.rr_elements.specs.MeasResults.{Results, ResultsFit, HeadFits, NcellFits, used, IsResultsText, results_text, results_said};
+
+    /// Results with these fields and neighbours. `BadRange` where a field does not fit its bits,
+    /// or there are not as many neighbours as the count says (none where it is 7).
+    pub fn new(head: MeasHead, neighbours: &[Ncell]) -> Result<Self, ElementFault>
+        ensures ok { ResultsFit (record { head = head; neighbours = neighbours.now }) → result ≡ Ok (record { head = head; neighbours = neighbours.now }) }
+        ensures bad_range { ¬ ResultsFit (record { head = head; neighbours = neighbours.now }) → result ≡ Err ElementFault.BadRange }
+    {
+        let count = neighbours.len();
+        if !head.fits() || count != head.used() || !all_fit(neighbours) {
+            return Err(ElementFault::BadRange);
+        }
+        let mut places = [NO_NCELL; 6];
+        places[..count].copy_from_slice(neighbours);
+        Ok(MeasResults { head, places })
+    }
+
+    /// The fields before the neighbours.
+    pub fn head(&self) -> MeasHead
+        ensures value { result ≡ self.now.head }
+        ensures fits { HeadFits result }
+    {
+        let MeasResults { head, .. } = *self;
+        head
+    }
+
+    /// BA-USED: which neighbour list was used.
+    pub fn ba(&self) -> bool
+        ensures { result ≡ self.now.head.ba }
+    {
+        self.head().ba
+    }
+
+    /// DTX-USED: whether discontinuous transmission was used.
+    pub fn dtx(&self) -> bool
+        ensures { result ≡ self.now.head.dtx }
+    {
+        self.head.dtx
+    }
+
+    /// RXLEV-FULL: the serving cell's level over all frames, 0 to 63.
+    pub fn full(&self) -> u8
+        ensures value { result ≡ self.now.head.full }
+        ensures range { result < 64 }
+    {
+        self.head.full
+    }
+
+    /// 3G-BA-USED: which list of other radio systems was used.
+    pub fn ba3g(&self) -> bool
+        ensures { result ≡ self.now.head.ba3g }
+    {
+        self.head.ba3g
+    }
+
+    /// Whether the results are valid (MEAS-VALID is 0).
+    pub fn valid(&self) -> bool
+        ensures { result ≡ self.now.head.valid }
+    {
+        self.head.valid
+    }
+
+    /// RXLEV-SUB: the serving cell's level over a subset of frames, 0 to 63.
+    pub fn sub(&self) -> u8
+        ensures value { result ≡ self.now.head.sub }
+        ensures range { result < 64 }
+    {
+        self.head.sub
+    }
+
+    /// SI23-BA-USED: whether the list came from system information 23.
+    pub fn si23(&self) -> bool
+        ensures { result ≡ self.now.head.si23 }
+    {
+        self.head.si23
+    }
+
+    /// RXQUAL-FULL: the serving cell's quality over all frames, 0 to 7.
+    pub fn qfull(&self) -> u8
+        ensures value { result ≡ self.now.head.qfull }
+        ensures range { result < 8 }
+    {
+        self.head.qfull
+    }
+
+    /// RXQUAL-SUB: the serving cell's quality over a subset of frames, 0 to 7.
+    pub fn qsub(&self) -> u8
+        ensures value { result ≡ self.now.head.qsub }
+        ensures range { result < 8 }
+    {
+        self.head.qsub
+    }
+
+    /// NO-NCELL-M: how many neighbours there are, 0 to 6, or 7: there is no neighbour information.
+    pub fn count(&self) -> u8
+        ensures value { result ≡ self.now.head.count }
+        ensures range { result < 8 }
+    {
+        self.head.count
+    }
+
+    /// The neighbours, at most six.
+    pub fn neighbours(&self) -> &[Ncell]
+        ensures value { result.now ≡ self.now.neighbours }
+        ensures fits { All NcellFits result.now }
+        ensures count { length result.now ≡ used self.now.head.count }
+    {
+        &self.places[..self.head.used()]
+    }
+
+    /// Appends the element's sixteen octets.
+    pub fn encode_into<A: Allocator + Copy>(&self, out: &mut Vec<u8, A>) -> Result<(), AllocError>
+        ensures ok { OnOk result (out.new.items ≡ out.old.items ++ results_text self.now) }
+        ensures err { OnErr result (out.new.items ≡ out.old.items) }
+        ensures room { vec_len out.old + 16 ≤ vec_capacity out.old → IsOk result }
+        ensures full { OnErr result (vec_capacity out.old < vec_len out.old + 16) }
+        ensures len { OnOk result (vec_len out.new ≡ vec_len out.old + 16) }
+        ensures capacity { vec_capacity out.old ≤ vec_capacity out.new }
+
+        // What is written is a text of the value, and is read as it.
+        ensures text { IsResultsText self.now (results_text self.now) }
+        ensures again { results_said (results_text self.now) ≡ Ok self.now }
+    {
+        let mut bits = BitWriter::new();
+        put_head(&mut bits, &self.head);
+        put_ncells(&mut bits, &self.places);
+        bits.append_to(out)
+    }
+
+    /// Reads the element's sixteen octets; `Length` where they are not sixteen.
+    pub fn decode(octets: &[u8]) -> Result<Self, ElementFault>
+        // What is read has the octets as a text, and each text is read.
+        ensures text { IfOk result (λ v. IsResultsText v octets.now) }
+        ensures only { (v : Results) → IsResultsText v octets.now → result ≡ Ok v }
+
+        // The first fault.
+        ensures length { (result ≡ Err ElementFault.Length) ↔ (length octets.now ≢ 16) }
+        ensures said { result ≡ results_said octets.now }
+    {
+        if octets.len() != 16 {
+            return Err(ElementFault::Length);
+        }
+        let mut bits = BitReader::new(octets);
+        let head = take_head(&mut bits);
+        let places = take_ncells(&mut bits, head.used());
+        Ok(MeasResults { head, places })
+    }
+}

@@ -1,0 +1,33 @@
+-- Message types (TS 44.018 section 10.4), and how long the mandatory part of each is.
+use Rattle.std.specs.Prelude.{ℕ, ◌==◌, if◌then◌else◌, Option, Some, None}
+use Rattle.rr_messages.specs.declared.kind.Kind.{Kind}
+use Rattle.rr_messages.specs.declared.kind.Kind.TheVariants.{ChannelRelease, MeasurementReport, HandoverFailure, HandoverCommand, HandoverComplete, PhysicalInformation}
+
+-- the octet of a message type
+abbrev pub type_of : Kind → ℕ
+type_of ChannelRelease = 0x0D
+type_of MeasurementReport = 0x15
+type_of HandoverFailure = 0x28
+type_of HandoverCommand = 0x2B
+type_of HandoverComplete = 0x2C
+type_of PhysicalInformation = 0x2D
+
+-- the message type of an octet
+abbrev pub kind_at : ℕ → Option Kind
+kind_at octet =
+    if octet == 0x0D then Some ChannelRelease
+    else if octet == 0x15 then Some MeasurementReport
+    else if octet == 0x28 then Some HandoverFailure
+    else if octet == 0x2B then Some HandoverCommand
+    else if octet == 0x2C then Some HandoverComplete
+    else if octet == 0x2D then Some PhysicalInformation
+    else None
+
+-- how many octets the mandatory part has
+abbrev pub part_len : Kind → ℕ
+part_len ChannelRelease = 1
+part_len MeasurementReport = 16
+part_len HandoverFailure = 1
+part_len HandoverCommand = 7
+part_len HandoverComplete = 1
+part_len PhysicalInformation = 1

@@ -1,0 +1,16 @@
+//! Radio resource messages.
+#![tactic(auto)]
+
+mod fault;
+mod kind;
+pub mod laws;
+mod message;
+mod reading;
+#[cfg(test)]
+mod tests;
+mod writing;
+
+pub use fault::RrFault;
+pub use message::Rr;
+pub use reading::decode;
+pub use writing::{encode, encode_into};

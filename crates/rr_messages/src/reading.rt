@@ -1,0 +1,86 @@
+//! Octets as messages.
+ghost use Rattle.std.specs.Prelude.{◌≡◌, ◌≢◌, IfOk, Ok, Err};
+ghost use Rattle.rr_messages.specs.Rr.{kind_of, IsFramed, IsPart, IsRrText, part_said, command_said, rr_said};
+ghost use Rattle.rr_messages.specs.declared.kind.Kind.TheVariants.{HandoverCommand as CommandKind};
+
+use crate::fault::RrFault;
+use crate::kind::Kind;
+use crate::message::Rr;
+use rr_elements::{CellDescription, ChanDescription, ElementFault, MeasResults, Power, RrCause};
+
+/// The discriminator of radio resource messages.
+pub(crate) const RADIO_RESOURCES: u8 = 6;
+
+fn command(part: &[u8]) -> Result<Rr, ElementFault>
+    ensures said { result ≡ command_said part.now }
+    ensures part { IfOk result (λ v. IsPart v part.now) }
+    ensures kind { IfOk result (λ v. kind_of v ≡ CommandKind) }
+{
+    let [cell1, cell2, chan1, chan2, chan3, reference, power] = part else {
+        return Err(ElementFault::Length);
+    };
+    let cell = CellDescription::decode(&[*cell1, *cell2])?;
+    let channel = ChanDescription::decode(&[*chan1, *chan2, *chan3])?;
+    let power = Power::decode(&[*power])?;
+    Ok(Rr::HandoverCommand {
+        cell,
+        channel,
+        reference: *reference,
+        power,
+    })
+}
+
+fn message(kind: Kind, part: &[u8]) -> Result<Rr, ElementFault>
+    ensures said { result ≡ part_said kind part.now }
+    ensures part { IfOk result (λ v. IsPart v part.now) }
+    ensures kind { IfOk result (λ v. kind_of v ≡ kind) }
+{
+    match kind {
+        Kind::ChannelRelease => Ok(Rr::ChannelRelease(RrCause::decode(part)?)),
+        Kind::MeasurementReport => Ok(Rr::MeasurementReport(MeasResults::decode(part)?)),
+        Kind::HandoverFailure => Ok(Rr::HandoverFailure(RrCause::decode(part)?)),
+        Kind::HandoverCommand => command(part),
+        Kind::HandoverComplete => Ok(Rr::HandoverComplete(RrCause::decode(part)?)),
+        Kind::PhysicalInformation => {
+            let [advance] = part else {
+                return Err(ElementFault::Length);
+            };
+            Ok(Rr::PhysicalInformation(*advance))
+        }
+    }
+}
+
+// The type of a message and its mandatory part.
+fn frame(octets: &[u8]) -> Result<(Kind, &[u8]), RrFault>
+    ensures ok { IfOk result (λ x. IsFramed x.0 x.1.now octets.now) }
+    ensures err { (fault : RrFault) → result ≡ Err fault → rr_said octets.now ≡ Err fault }
+    ensures no_memory { result ≢ Err RrFault.NoMemory }
+{
+    let (discriminator, octets) = octets.split_first().ok_or(RrFault::NotRr)?;
+    if *discriminator != RADIO_RESOURCES {
+        return Err(RrFault::NotRr);
+    }
+    let (octet, body) = octets.split_first().ok_or(RrFault::Short)?;
+    let kind = Kind::at(*octet).ok_or(RrFault::UnknownType(*octet))?;
+    let len = kind.part_len();
+    if body.len() < len {
+        return Err(RrFault::Short);
+    }
+    let (part, _rest) = body.split_at(len);
+    Ok((kind, part))
+}
+
+/// Reads a message. The faults are tried in this order: `NotRr`, `Short` (no type), `UnknownType`,
+/// `Short` (the mandatory part is cut), `Element`. Octets after the mandatory part are ignored.
+pub fn decode(octets: &[u8]) -> Result<Rr, RrFault>
+    // What is read has the octets as a text, and each text is read.
+    ensures text { IfOk result (λ v. IsRrText v octets.now) }
+    ensures only { (v : Rr) → IsRrText v octets.now → result ≡ Ok v }
+
+    // The first fault; want of memory is none of them.
+    ensures said { result ≡ rr_said octets.now }
+    ensures no_memory { result ≢ Err RrFault.NoMemory }
+{
+    let (kind, part) = frame(octets)?;
+    Ok(message(kind, part)?)
+}

@@ -1,0 +1,74 @@
+//! Messages as octets.
+ghost use Rattle.std.specs.Prelude.{◌≡◌, ◌+◌, ◌≤◌, ◌<◌, ◌++◌, OnOk, OnErr, IsOk, IfOk, Ok, Err, length, vec_len, vec_capacity};
+ghost use Rattle.rr_messages.specs.Kind.{part_len};
+ghost use Rattle.rr_messages.specs.Rr.{kind_of, IsPart, IsRrText, part_text, rr_text, text_len, rr_said};
+
+use crate::message::Rr;
+use crate::reading::RADIO_RESOURCES;
+use std::alloc::{AllocError, Allocator};
+
+// Appends the mandatory part, for which there is room.
+fn append_part<A: Allocator + Copy>(message: &Rr, out: &mut Vec<u8, A>) -> Result<(), AllocError>
+    requires { vec_len out.old + part_len (kind_of message.now) ≤ vec_capacity out.old }
+    ensures ok { IsOk result }
+    ensures items { out.new.items ≡ out.old.items ++ part_text message.now }
+    ensures len { vec_len out.new ≡ vec_len out.old + part_len (kind_of message.now) }
+    ensures capacity { vec_capacity out.old ≤ vec_capacity out.new }
+    ensures part { IsPart message.now (part_text message.now) }
+{
+    match message {
+        Rr::HandoverCommand {
+            cell,
+            channel,
+            reference,
+            power,
+        } => {
+            cell.encode_into(out)?;
+            channel.encode_into(out)?;
+            out.push(*reference)?;
+            power.encode_into(out)
+        }
+        Rr::HandoverComplete(cause) | Rr::HandoverFailure(cause) | Rr::ChannelRelease(cause) => {
+            cause.encode_into(out)
+        }
+        Rr::PhysicalInformation(advance) => Ok(out.push(*advance)?),
+        Rr::MeasurementReport(results) => results.encode_into(out),
+    }
+}
+
+/// Appends a message. It takes no memory where the list has room, and leaves the list as it was
+/// where memory is refused.
+pub fn encode_into<A: Allocator + Copy>(
+    message: &Rr,
+    out: &mut Vec<u8, A>,
+) -> Result<(), AllocError>
+    ensures ok { OnOk result (out.new.items ≡ out.old.items ++ rr_text message.now) }
+    ensures err { OnErr result (out.new.items ≡ out.old.items) }
+    ensures room { vec_len out.old + text_len message.now ≤ vec_capacity out.old → IsOk result }
+    ensures full { OnErr result (vec_capacity out.old < vec_len out.old + text_len message.now) }
+    ensures len { OnOk result (vec_len out.new ≡ vec_len out.old + text_len message.now) }
+    ensures capacity { vec_capacity out.old ≤ vec_capacity out.new }
+
+    // What is written is a text of the message, and is read as it.
+    ensures text { OnOk result (IsRrText message.now (rr_text message.now)) }
+    ensures again { OnOk result (rr_said (rr_text message.now) ≡ Ok message.now) }
+{
+    let kind = message.kind();
+    out.reserve(2 + kind.part_len())?;
+    out.push_reserved(RADIO_RESOURCES);
+    out.push_reserved(kind.octet());
+    append_part(message, out)
+}
+
+/// A message as octets: its canonical text.
+pub fn encode<A: Allocator + Copy>(alloc: A, message: &Rr) -> Result<Vec<u8, A>, AllocError>
+    ensures ok { IfOk result (λ octets. octets.items ≡ rr_text message.now) }
+
+    // The octets are a text of the message, and are read as it.
+    ensures text { IfOk result (λ octets. IsRrText message.now octets.items) }
+    ensures again { IfOk result (λ octets. rr_said octets.items ≡ Ok message.now) }
+{
+    let mut out = Vec::new(alloc);
+    encode_into(message, &mut out)?;
+    Ok(out)
+}
