@@ -262,4 +262,6 @@ reply_to b e = reply_of (row b e)
 -- the event is accepted, and its change puts a key that a map doesn't have
 abbrev pub NeedsRoom : State → Outcome → Type 0
 NeedsRoom b (Refuses refusal) = ⊥
-NeedsRoom b (Accepts change reply) = AddsKey b.channels change.channel ⊎ AddsKey b.calls change.call ⊎ AddsKey b.references change.reference
+NeedsRoom b (Accepts change reply) =
+    AddsKey b.channels change.channel ⊎ AddsKey b.calls change.call ⊎
+    AddsKey b.references change.reference ⊎ AddsKey b.timers change.timer
