@@ -1,4 +1,4 @@
--- Steps of others, while an attempt is open and while its target's release is awaited.
+-- Steps of others, while an attempt is open and while its target's release is awaited. Ours, of no standard.
 use Rattle.std.specs.Prelude.{◌≡◌, ℕ, Option, Some, None}
 use Rattle.std.specs.Option.{option_map}
 use Rattle.std.specs.FinMap as map
@@ -24,7 +24,7 @@ IsOn x (event.Refuse y) = y ≡ x
 IsOn x (event.Released y) = y ≡ x
 IsOn x e = ⊥
 
--- every other event is by the call that it names
+-- an event that names a call, and no channel of a station's answer, is by that call
 abbrev pub IsBy : ℕ → Event → Type 0
 IsBy c (event.Open d y) = d ≡ c
 IsBy c (event.Clear d) = d ≡ c
@@ -59,8 +59,10 @@ pub record Commutes (gone : Change) (b : State) (e : Event) : Type 0 where
 -- while an attempt is open: a step that isn't by its call nor on its target, and is no refusal that comes from what it holds
 abbrev pub CommutesWhileOpen : Event → Type 0
 CommutesWhileOpen e =
-    (c : ℕ) (r : CallRecord) (a : Attempt) (t : ChanId) (b : State) → IsSound b → record_of b c ≡ Some r → r.attempt ≡ Some a → a.target ≡ Some t →
-    (IsBy c e → ⊥) → (IsOn t e → ⊥) → (IsHeldChannel t (reply_to b e) → ⊥) → (IsHeldReference (reference_held a.target a.reference) (reply_to b e) → ⊥) →
+    (c : ℕ) (r : CallRecord) (a : Attempt) (t : ChanId) (b : State) →
+    IsSound b → record_of b c ≡ Some r → r.attempt ≡ Some a → a.target ≡ Some t →
+    (IsBy c e → ⊥) → (IsOn t e → ⊥) → (IsHeldChannel t (reply_to b e) → ⊥) →
+    (IsHeldReference (reference_held a.target a.reference) (reply_to b e) → ⊥) →
     Commutes (attempt_gone c r a (map.get b.timers c)) b e
 
 -- once it is undone, while its target is off: a step that isn't on the target, and is no refusal that comes from it

@@ -22,6 +22,7 @@ mod tests;
 pub struct Usage {
     /// Channels that aren't free.
     pub channels: usize,
+    /// Calls that have a record.
     pub calls: usize,
     /// Handover references in use.
     pub references: usize,
