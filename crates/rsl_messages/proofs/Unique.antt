@@ -30,7 +30,7 @@ found_at kind.MeasurementResult d t h = λ i. kind_at (h.0 i) (h.1 i)
 found_at kind.RfChannelRelease d t h = λ i. kind_at (h.0 i) (h.1 i)
 found_at kind.RfChannelReleaseAck d t h = λ i. kind_at (h.0 i) (h.1 i)
 
-discriminates : (k : MessageKind) (d t : ℕ) → IsHead k d t → IsDiscriminator d
+pub discriminates : (k : MessageKind) (d t : ℕ) → IsHead k d t → IsDiscriminator d
 discriminates kind.DataRequest d t h = inl h.0
 discriminates kind.DataIndication d t h = inl h.0
 discriminates kind.ChannelActivation d t h = inr h.0
@@ -43,7 +43,7 @@ discriminates kind.RfChannelRelease d t h = inr h.0
 discriminates kind.RfChannelReleaseAck d t h = inr h.0
 
 -- octets begin with the head of one message
-one_head : (j k : MessageKind) (octets x y : List ℕ) → Begins j octets x → Begins k octets y → (j ≡ k) × (x ≡ y)
+pub one_head : (j k : MessageKind) (octets x y : List ℕ) → Begins j octets x → Begins k octets y → (j ≡ k) × (x ≡ y)
 one_head j k octets x y (d, t, p, h) (e, u, q, g) =
     let same_d : d ≡ e = cc in
     let same_t : t ≡ u = cc in
@@ -54,7 +54,7 @@ one_head j k octets x y (d, t, p, h) (e, u, q, g) =
     (cc, cc)
 
 -- a body says one thing
-one_saying : {A : Type 0} (j k : MessageKind) (octets x y : List ℕ) (a b : Said A) → Begins j octets x → Begins k octets y → Says j x a → Says k y b → a ≡ b
+pub one_saying : {A : Type 0} (j k : MessageKind) (octets x y : List ℕ) (a b : Said A) → Begins j octets x → Begins k octets y → Says j x a → Says k y b → a ≡ b
 one_saying j k octets x y a b p q h g =
     let same = one_head j k octets x y p q in
     let split : AreElements abis g.elements x = subst (λ z. AreElements abis g.elements z) (sym same.1) g.split in

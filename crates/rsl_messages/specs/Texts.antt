@@ -38,7 +38,8 @@ abbrev pub IsTornBody : List ℕ → RslFault → Type 0
 IsTornBody body (fault.Torn at) = (offset : ℕ) × IsTornAt abis body offset × (at ≡ 2 + offset)
 IsTornBody body _ = ⊥
 
--- The body has this fault: it is torn, or an element is missing or bad. Memory runs out only for a message that keeps an octet list.
+-- The body has this fault: it is torn, or an element is missing or bad. Memory runs out only for a
+-- message that keeps an octet list.
 abbrev pub HasBodyFault : (A : Type 0) → MessageKind → List ℕ → RslFault → Type 0
 HasBodyFault A kind body (fault.Torn at) = IsTornBody body (fault.Torn at)
 HasBodyFault A kind body (fault.Missing i) = Says {A = A} kind body (Err (Absent i))
@@ -94,9 +95,12 @@ abbrev pub ReadsBody : {A : Type 0} → MessageKind → List ℕ → Result (Rsl
 ReadsBody kind body (Ok v) = Says kind body (Ok v)
 ReadsBody {A} kind body (Err f) = HasBodyFault A kind body f
 
--- a text has one value and no fault, and what is no text has one fault
-abbrev pub ReadingIsUnique : (A : Type 0) → Type 0
-ReadingIsUnique A = ((v w : Rsl A) (octets : List ℕ) → IsTextOf v octets → IsTextOf w octets → v ≡ w) × ((v : Rsl A) (octets : List ℕ) (f : RslFault) → IsTextOf v octets → HasFault A octets f → f ≡ fault.NoMemory)
+-- Octets have one reading: a text has one value, and no fault but want of memory; what is no text has one
+-- fault.
+pub record ReadingIsUnique (A : Type 0) : Type 0 where
+  pub value : (v w : Rsl A) (octets : List ℕ) → IsTextOf v octets → IsTextOf w octets → v ≡ w
+  pub text : (v : Rsl A) (octets : List ℕ) (f : RslFault) → IsTextOf v octets → HasFault A octets f → f ≡ fault.NoMemory
+  pub fault : (octets : List ℕ) (f g : RslFault) → HasFault A octets f → HasFault A octets g → f ≡ g
 
 -- the canonical text is a text of its message
 abbrev pub CanonicalIsText : (A : Type 0) → Type 0

@@ -1,0 +1,45 @@
+-- The names of the works, and the statuses of the program.
+use Rattle.std.specs.Prelude.{ℕ, List, codes}
+use Rattle.rsl_messages.specs.declared.fault.RslFault.{RslFault}
+use Rattle.rsl_messages.specs.declared.fault.RslFault.TheVariants as rsl
+use Rattle.rr_messages.specs.declared.fault.RrFault.{RrFault}
+use Rattle.rr_messages.specs.declared.fault.RrFault.TheVariants as rr
+use Rattle.lab.specs.declared.exchange.PlainFault.{PlainFault}
+use Rattle.lab.specs.declared.exchange.PlainFault.TheVariants as plain
+use Rattle.bsc_bench.specs.declared.work.Work.{Work}
+use Rattle.bsc_bench.specs.declared.work.Work.TheVariants.{DecodeActivation, EncodeActivation, CallByOctets, LiveByStep, DecodeMeasurement, EncodeMeasurement, DecodeCommand, EncodeCommand}
+use Rattle.bsc_bench.specs.declared.fault.Fault.{Fault}
+use Rattle.bsc_bench.specs.declared.fault.Fault.TheVariants.{Words, NoMemory, Output, Setting}
+
+-- the name of a work on the command line
+abbrev pub name_of : Work → List ℕ
+name_of DecodeActivation = codes "chan_act.dec"
+name_of EncodeActivation = codes "chan_act.enc"
+name_of CallByOctets = codes "call.octets"
+name_of LiveByStep = codes "step.life"
+name_of DecodeMeasurement = codes "meas_res.dec"
+name_of EncodeMeasurement = codes "meas_res.enc"
+name_of DecodeCommand = codes "ho_command.dec"
+name_of EncodeCommand = codes "ho_command.enc"
+
+-- the status that the program ends with
+abbrev pub status_of : Fault → ℕ
+status_of Output = 1
+status_of Setting = 1
+status_of Words = 2
+status_of NoMemory = 3
+
+-- what a fault of a message on Abis comes to: want of memory stays so, and other octets are wrong words
+abbrev pub of_abis : RslFault → Fault
+of_abis rsl.NoMemory = NoMemory
+of_abis _ = Words
+
+-- the same of a fault of a radio resource message
+abbrev pub of_radio : RrFault → Fault
+of_radio rr.NoMemory = NoMemory
+of_radio _ = Words
+
+-- the same of a fault of the procedure
+abbrev pub of_procedure : PlainFault → Fault
+of_procedure plain.NoMemory = NoMemory
+of_procedure _ = Words

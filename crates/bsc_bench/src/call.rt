@@ -1,0 +1,86 @@
+//! A whole call, from the operator's line to the release of its channel.
+use crate::fault::Fault;
+use crate::life::book_of;
+use crate::turning::{Turning, octets_sum};
+use lab::exchange::{Inbound, Line, Outbound};
+use lab::procedure::handle_plain;
+use radio_book::book::Book;
+use radio_book::channel::ChanId;
+use rsl_messages::Octets;
+use std::alloc::Global;
+
+/// The call whose life it is.
+const CALL: u16 = 1;
+
+/// The channel that it is opened on.
+const CHAN: ChanId = ChanId {
+    cell: 0,
+    trx: 0,
+    tn: 3,
+};
+
+/// RF CHANNEL RELEASE ACKNOWLEDGE (TS 48.058 clause 8.4.19) of timeslot 3.
+const RELEASED: [u8; 4] = [0x08, 0x33, 0x01, 0x0B];
+
+/// A site of one cell with two traffic channels.
+const SITE: &str = "[handover]
+window = 2
+margin = 3
+minimum = 10
+[[cell]]
+lac = 23
+ci = 100
+bcch = 60
+ncc = 1
+bcc = 1
+power = 5
+ba = [62, 70, 871]
+trx = [{ arfcn = 60, tch = [2, 3] }]
+";
+
+/// Handles one input. The sum is that of the octets of all messages that are sent.
+fn handle(alloc: Global, book: &mut Book, input: Inbound) -> Result<u64, Fault> {
+    let handled = handle_plain(alloc, book, input)?;
+    Ok(
+        handled.out.iter().fold(0u64, |sum, message| match message {
+            Outbound::Abis { bytes, .. } => sum.wrapping_add(octets_sum(bytes.as_slice())),
+        }),
+    )
+}
+
+/// Handles what a station sends on the channel's TRX.
+fn hear(alloc: Global, book: &mut Book, octets: &[u8]) -> Result<u64, Fault> {
+    let bytes = Octets::new(alloc, octets)?;
+    let ChanId { cell, trx, .. } = CHAN;
+    handle(alloc, book, Inbound::Abis { cell, trx, bytes })
+}
+
+/// A whole call: it is opened, its channel is acknowledged by these octets, it is cleared, its channel is released.
+fn call_once(alloc: Global, book: &mut Book, acknowledgement: &[u8]) -> Result<u64, Fault> {
+    let open = Line::Open {
+        call: CALL,
+        chan: CHAN,
+    };
+    let clear = Line::Clear { call: CALL };
+    let opened = handle(alloc, book, Inbound::Operator(open))?;
+    let confirmed = hear(alloc, book, acknowledgement)?;
+    let cleared = handle(alloc, book, Inbound::Operator(clear))?;
+    let released = hear(alloc, book, &RELEASED)?;
+    Ok(
+        opened
+            .wrapping_add(confirmed)
+            .wrapping_add(cleared)
+            .wrapping_add(released),
+    )
+}
+
+/// A whole call in each turn. The sum is that of the octets of all messages that are sent: a CHANNEL ACTIVATION and an
+/// RF CHANNEL RELEASE for each call.
+pub fn call_by_octets(alloc: Global, octets: &mut Turning, count: u64) -> Result<u64, Fault> {
+    let mut book = book_of(alloc, SITE)?;
+    let mut sum = 0u64;
+    for turn in 0..count {
+        sum = sum.wrapping_add(call_once(alloc, &mut book, octets.at(turn))?);
+    }
+    Ok(sum)
+}

@@ -1,0 +1,107 @@
+//! Why the program gives no sum.
+ghost use Rattle.std.specs.Prelude.{◌≡◌};
+ghost use Rattle.bsc_bench.specs.Works.{status_of};
+
+use lab::exchange::PlainFault;
+use radio_book::site::SiteFault;
+use rr_messages::RrFault;
+use rsl_messages::RslFault;
+use std::alloc::AllocError;
+use std::io;
+use thiserror::Error;
+
+/// Why the program gives no sum.
+#[derive(Clone, Copy, Debug, PartialEq, Eq, Error)]
+pub enum Fault {
+    /// The words name no work and count, or the octets are no message of the work.
+    #[error("usage: bsc_bench NAME N [OCTETS] | bsc_bench all N")]
+    Words,
+    #[error("out of memory")]
+    NoMemory,
+    #[error("the sum can't be printed")]
+    Output,
+    /// What a work starts from is refused, as the site or a call that should be steady.
+    #[error("the setting of the work is refused")]
+    Setting,
+}
+
+impl Fault {
+    /// The status that the program ends with.
+    pub fn status(self) -> u8
+        ensures { result ≡ status_of self }
+    {
+        match self {
+            Fault::Output | Fault::Setting => 1,
+            Fault::Words => 2,
+            Fault::NoMemory => 3,
+        }
+    }
+}
+
+impl From<AllocError> for Fault {
+    ghost use Rattle.bsc_bench.specs.declared.fault.Fault.TheVariants.{NoMemory};
+
+    ghost from_gives = { λ _ fault. fault ≡ NoMemory };
+
+    fn from(_: AllocError) -> Fault {
+        Fault::NoMemory
+    }
+}
+
+impl From<RslFault> for Fault {
+    ghost use Rattle.bsc_bench.specs.Works.{of_abis};
+
+    ghost from_gives = { λ cause fault. fault ≡ of_abis cause };
+
+    fn from(cause: RslFault) -> Fault {
+        match cause {
+            RslFault::NoMemory => Fault::NoMemory,
+            _ => Fault::Words,
+        }
+    }
+}
+
+impl From<RrFault> for Fault {
+    ghost use Rattle.bsc_bench.specs.Works.{of_radio};
+
+    ghost from_gives = { λ cause fault. fault ≡ of_radio cause };
+
+    fn from(cause: RrFault) -> Fault {
+        match cause {
+            RrFault::NoMemory => Fault::NoMemory,
+            _ => Fault::Words,
+        }
+    }
+}
+
+impl From<PlainFault> for Fault {
+    ghost use Rattle.bsc_bench.specs.Works.{of_procedure};
+
+    ghost from_gives = { λ cause fault. fault ≡ of_procedure cause };
+
+    fn from(cause: PlainFault) -> Fault {
+        match cause {
+            PlainFault::NoMemory => Fault::NoMemory,
+            PlainFault::Undecoded(_) => Fault::Words,
+        }
+    }
+}
+
+impl From<SiteFault> for Fault {
+    fn from(cause: SiteFault) -> Fault {
+        match cause {
+            SiteFault::NoMemory => Fault::NoMemory,
+            SiteFault::Toml => Fault::Setting,
+        }
+    }
+}
+
+impl From<io::Error> for Fault {
+    fn from(error: io::Error) -> Fault {
+        match error.kind() {
+            io::ErrorKind::OutOfMemory => Fault::NoMemory,
+            io::ErrorKind::InvalidData => Fault::Words,
+            _ => Fault::Output,
+        }
+    }
+}

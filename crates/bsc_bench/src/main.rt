@@ -1,0 +1,87 @@
+//! `bsc_bench` does one piece of work many times, so that its instructions can be counted.
+//!
+//! `bsc_bench NAME N [OCTETS]` does the work `NAME` `N` times on octets in hexadecimal, or on the work's own, and
+//! prints the name, the count and a sum of what the turns gave. One of the octets changes with the turn, and each
+//! turn adds to the sum, so that no turn can be left out. `bsc_bench all N` does every work so, on its own octets.
+#![tactic(auto)]
+
+mod abis;
+mod call;
+mod fault;
+mod life;
+mod measured;
+mod radio;
+#[cfg(test)]
+mod tests;
+mod turning;
+mod words;
+mod work;
+
+use crate::fault::Fault;
+use crate::turning::Turning;
+use crate::words::{Job, read_words};
+use crate::work::Work;
+use std::alloc::Global;
+use std::env::{self, Env};
+use std::process::ExitCode;
+
+/// The sum of so many turns of a work.
+fn sum_of(alloc: Global, work: Work, count: u64, octets: &[u8]) -> Result<u64, Fault> {
+    let mut turning = Turning::new(alloc, octets, work.place())?;
+    match work {
+        Work::DecodeActivation => abis::decode_activations(alloc, &mut turning, count),
+        Work::EncodeActivation => abis::encode_activations(alloc, &mut turning, count),
+        Work::CallByOctets => call::call_by_octets(alloc, &mut turning, count),
+        Work::LiveByStep => life::live_by_steps(alloc, &mut turning, count),
+        Work::DecodeMeasurement => measured::decode_measurements(alloc, &mut turning, count),
+        Work::EncodeMeasurement => measured::encode_measurements(alloc, &mut turning, count),
+        Work::DecodeCommand => radio::decode_commands(&mut turning, count),
+        Work::EncodeCommand => radio::encode_commands(alloc, &mut turning, count),
+    }
+}
+
+/// Does a work and prints its line.
+fn show<R: Print + AllocGlobal>(
+    rt: &R,
+    work: Work,
+    count: u64,
+    octets: &[u8],
+) -> Result<(), Fault> {
+    let sum = sum_of(rt.alloc(), work, count, octets)?;
+    println!(rt; "{work} {count} {sum}")?;
+    Ok(())
+}
+
+/// Does what the words of the command line ask for.
+fn start<R: Print + Env + AllocGlobal>(rt: &R) -> Result<(), Fault> {
+    let alloc = rt.alloc();
+    let words: Vec<String> = env::args(rt)?.collect(alloc)?;
+    let words: Vec<&str> = words
+        .iter()
+        .skip(1)
+        .map(|word| word.as_str())
+        .collect(alloc)?;
+    match read_words(alloc, &words)? {
+        Job::One {
+            work,
+            count,
+            octets,
+        } => show(rt, work, count, octets.as_slice())?,
+        Job::All { count } => {
+            for work in Work::ALL {
+                show(rt, work, count, work.octets())?;
+            }
+        }
+    }
+    Ok(())
+}
+
+fn main(rt: HostRuntime) -> ExitCode {
+    match start(&rt) {
+        Ok(()) => ExitCode::SUCCESS,
+        Err(fault) => {
+            let _ = eprintln!(&rt; "{fault}");
+            ExitCode::from(fault.status())
+        }
+    }
+}

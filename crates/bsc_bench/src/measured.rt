@@ -1,0 +1,84 @@
+//! Works on a MEASUREMENT RESULT of Abis (TS 48.058 clause 8.4.8) with the MEASUREMENT REPORT in it (TS 44.018 clause
+//! 9.1.21).
+ghost use Rattle.rsl_messages.specs.Texts.{HasCanonical};
+
+use crate::abis;
+use crate::fault::Fault;
+use crate::radio::{self, read_results, results_sum};
+use crate::turning::{Turning, octets_sum};
+use rr_messages::Rr;
+use rsl_messages::{Rsl, decode, fits};
+use std::alloc::Global;
+
+/// The octets of the report in a MEASUREMENT RESULT.
+fn report_of(message: &Rsl) -> Result<&[u8], Fault> {
+    match message {
+        Rsl::MeasurementResult {
+            layer3: Some(layer3),
+            ..
+        } => Ok(layer3.as_slice()),
+        _ => Err(Fault::Words),
+    }
+}
+
+/// The fields of a MEASUREMENT RESULT, added up: the timeslot, the number, each octet of the uplink measurements and
+/// the power; then its report's results.
+fn result_sum(message: &Rsl) -> Result<u64, Fault> {
+    match message {
+        Rsl::MeasurementResult {
+            channel,
+            number,
+            uplink,
+            power,
+            layer3: Some(layer3),
+        } => {
+            let head = u64::from(channel.tn) + u64::from(*number) + u64::from(*power);
+            let results = read_results(layer3.as_slice())?;
+            Ok(
+                octets_sum(uplink.as_slice())
+                    .wrapping_add(head)
+                    .wrapping_add(results_sum(&results)),
+            )
+        }
+        _ => Err(Fault::Words),
+    }
+}
+
+/// Reads a MEASUREMENT RESULT and its report in each turn. The sum is that of the fields that were read.
+pub fn decode_measurements(alloc: Global, octets: &mut Turning, count: u64) -> Result<u64, Fault> {
+    let mut sum = 0u64;
+    for turn in 0..count {
+        let message = decode(alloc, octets.at(turn))?;
+        sum = sum.wrapping_add(result_sum(&message)?);
+    }
+    Ok(sum)
+}
+
+/// Writes a report, and the message that carries one. The sum is that of the octets of both.
+fn encode_both(report: &Rr, message: &Rsl, out: &mut Vec<u8>) -> Result<u64, Fault>
+    requires { HasCanonical message.now }
+{
+    let inner = radio::encode_once(report, out)?;
+    let outer = abis::encode_once(message, out)?;
+    Ok(inner.wrapping_add(outer))
+}
+
+/// Writes a MEASUREMENT RESULT and its report in each turn: that of turn 0 and that of turn 1 alternately.
+pub fn encode_measurements(alloc: Global, octets: &mut Turning, count: u64) -> Result<u64, Fault> {
+    let even = decode(alloc, octets.at(0))?;
+    let odd = decode(alloc, octets.at(1))?;
+    if !fits(&even) || !fits(&odd) {
+        return Err(Fault::Words);
+    }
+    let report = Rr::MeasurementReport(read_results(report_of(&even)?)?);
+    let mut out = Vec::new(alloc);
+    let mut sum = 0u64;
+    for turn in 0..count {
+        let written = match turn % 2 {
+            0 => encode_both(&report, &even, &mut out)?,
+            _ => encode_both(&report, &odd, &mut out)?,
+        };
+        sum = sum.wrapping_add(written);
+    }
+    Ok(sum)
+}

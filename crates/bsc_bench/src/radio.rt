@@ -1,0 +1,81 @@
+//! Works on messages between the mobile and the network (TS 44.018).
+use crate::fault::Fault;
+use crate::turning::{Turning, octets_sum};
+use rr_elements::MeasResults;
+use rr_messages::{Rr, decode, encode_into};
+use std::alloc::Global;
+
+/// The fields of a HANDOVER COMMAND, added up: the target cell's carrier, its network and base station colour codes,
+/// the channel's timeslot, training sequence and carrier, the handover reference and the power level.
+fn command_sum(message: &Rr) -> Result<u64, Fault> {
+    match message {
+        Rr::HandoverCommand {
+            cell,
+            channel,
+            reference,
+            power,
+        } => {
+            let carriers = u64::from(cell.arfcn()) + u64::from(channel.carrier());
+            let colours = u64::from(cell.ncc()) + u64::from(cell.bcc());
+            let slot = u64::from(channel.tn()) + u64::from(channel.tsc());
+            let access = u64::from(*reference) + u64::from(power.level());
+            Ok(carriers + colours + slot + access)
+        }
+        _ => Err(Fault::Words),
+    }
+}
+
+/// Reads a HANDOVER COMMAND in each turn. The sum is that of the fields that were read.
+pub fn decode_commands(octets: &mut Turning, count: u64) -> Result<u64, Fault> {
+    let mut sum = 0u64;
+    for turn in 0..count {
+        let message = decode(octets.at(turn))?;
+        sum = sum.wrapping_add(command_sum(&message)?);
+    }
+    Ok(sum)
+}
+
+/// Writes a message. The sum is that of the octets that were written.
+pub fn encode_once(message: &Rr, out: &mut Vec<u8>) -> Result<u64, Fault> {
+    out.clear();
+    encode_into(message, out)?;
+    Ok(octets_sum(out.as_slice()))
+}
+
+/// Writes a HANDOVER COMMAND in each turn: that of turn 0 and that of turn 1 alternately. The sum is that of the
+/// octets that were written.
+pub fn encode_commands(alloc: Global, octets: &mut Turning, count: u64) -> Result<u64, Fault> {
+    let even = decode(octets.at(0))?;
+    let odd = decode(octets.at(1))?;
+    let mut out = Vec::new(alloc);
+    let mut sum = 0u64;
+    for turn in 0..count {
+        let message = match turn % 2 {
+            0 => &even,
+            _ => &odd,
+        };
+        sum = sum.wrapping_add(encode_once(message, &mut out)?);
+    }
+    Ok(sum)
+}
+
+/// The measurement results of the octets of a MEASUREMENT REPORT.
+pub fn read_results(octets: &[u8]) -> Result<MeasResults, Fault> {
+    match decode(octets)? {
+        Rr::MeasurementReport(results) => Ok(results),
+        _ => Err(Fault::Words),
+    }
+}
+
+/// Measurement results, added up: the serving cell's two levels and two qualities, the number of neighbours, and
+/// the level, position and code of each. Flags are left out.
+pub fn results_sum(results: &MeasResults) -> u64 {
+    let levels = u64::from(results.full()) + u64::from(results.sub());
+    let qualities = u64::from(results.qfull()) + u64::from(results.qsub());
+    let serving = levels + qualities + u64::from(results.count());
+    results.neighbours().iter().fold(serving, |sum, neighbour| {
+        sum.wrapping_add(u64::from(neighbour.level))
+            .wrapping_add(u64::from(neighbour.position))
+            .wrapping_add(u64::from(neighbour.bsic))
+    })
+}

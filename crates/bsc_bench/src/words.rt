@@ -1,0 +1,61 @@
+//! The words of the command line.
+use crate::fault::Fault;
+use crate::work::Work;
+use hex::FromHexError;
+use std::alloc::Global;
+
+/// What the command line asks for.
+#[derive(Debug, Drop)]
+pub enum Job {
+    /// One work, so many times, on these octets.
+    One {
+        work: Work,
+        count: u64,
+        octets: Vec<u8>,
+    },
+    /// Every work, so many times, on its own octets.
+    All {
+        count: u64,
+    },
+}
+
+/// Octets in hexadecimal.
+fn read_octets(alloc: Global, word: &str) -> Result<Vec<u8>, Fault> {
+    hex::decode(alloc, word).map_err(|fault| match fault {
+        FromHexError::OutOfMemory => Fault::NoMemory,
+        _ => Fault::Words,
+    })
+}
+
+fn read_count(word: &str) -> Result<u64, Fault> {
+    word.parse::<u64>().map_err(|_| Fault::Words)
+}
+
+fn read_work(word: &str) -> Result<Work, Fault> {
+    Work::from_name(word).ok_or(Fault::Words)
+}
+
+/// Reads the words after the program's name: `all N`, `NAME N` or `NAME N OCTETS`.
+pub fn read_words(alloc: Global, words: &[&str]) -> Result<Job, Fault> {
+    match words {
+        ["all", count] => Ok(Job::All {
+            count: read_count(count)?,
+        }),
+        [name, count] => {
+            let work = read_work(name)?;
+            let count = read_count(count)?;
+            let octets = Vec::from_slice(alloc, work.octets())?;
+            Ok(Job::One {
+                work,
+                count,
+                octets,
+            })
+        }
+        [name, count, octets] => Ok(Job::One {
+            work: read_work(name)?,
+            count: read_count(count)?,
+            octets: read_octets(alloc, octets)?,
+        }),
+        _ => Err(Fault::Words),
+    }
+}

@@ -1,0 +1,109 @@
+//! A laboratory of a GSM base station controller: runs a script over a site and prints the trace.
+//!
+//! Statuses: 0 done, 2 the words, a file, the site or a line of the script refused or the output not to be
+//! written, 3 memory refused.
+#![tactic(auto)]
+
+use lab::run::{LabFault, Status, lab_run};
+use lab::words::{Job, WordsFault, read_words};
+use std::alloc::AllocError;
+use std::io::{self, BufWriter, Write};
+use std::process::ExitCode;
+use std::rt::{Env, Files};
+use std::{env, fs};
+
+const REFUSED: u8 = 2;
+
+const NO_MEMORY: u8 = 3;
+
+/// Why the program ends early.
+#[derive(Drop)]
+enum Stop {
+    /// Something was refused, and said so.
+    Refused,
+    NoMemory,
+}
+
+impl From<AllocError> for Stop {
+    fn from(_: AllocError) -> Stop {
+        Stop::NoMemory
+    }
+}
+
+impl From<io::Error> for Stop {
+    fn from(_: io::Error) -> Stop {
+        Stop::Refused
+    }
+}
+
+impl From<LabFault> for Stop {
+    fn from(fault: LabFault) -> Stop {
+        match fault {
+            LabFault::NoMemory => Stop::NoMemory,
+            LabFault::Write => Stop::Refused,
+        }
+    }
+}
+
+/// The text of a file. One that can't be read is named on standard output.
+fn text_of<R: Files + Print + AllocGlobal>(rt: &R, path: &str) -> Result<String, Stop> {
+    match fs::read_to_string(rt, path) {
+        Ok(text) => Ok(text),
+        Err(error) if error.kind() == io::ErrorKind::OutOfMemory => Err(Stop::NoMemory),
+        Err(_) => {
+            println!(rt; "file {path}")?;
+            Err(Stop::Refused)
+        }
+    }
+}
+
+/// Runs the script of a file over the site of a file.
+fn run<R: Files + Print + AllocGlobal>(rt: &R, site: &str, script: &str) -> Result<(), Stop> {
+    let alloc = rt.alloc();
+    let site = text_of(rt, site)?;
+    let script = text_of(rt, script)?;
+    let mut out = BufWriter::new(alloc, io::writer(rt))?;
+    let status = lab_run(alloc, alloc, &site, &script, &mut out);
+    // what was printed before a fault is shown
+    out.flush()?;
+    match status? {
+        Status::Done => Ok(()),
+        Status::Refused => Err(Stop::Refused),
+    }
+}
+
+/// Does what the words of the command line ask for.
+fn work<R: Files + Print + Eprint + AllocGlobal>(rt: &R, words: &[&str]) -> Result<(), Stop> {
+    match read_words(rt.alloc(), words) {
+        Ok(Job::Run { site, script }) => run(rt, site, script),
+        Ok(Job::Show(text)) => {
+            print!(rt; "{text}")?;
+            Ok(())
+        }
+        Err(WordsFault::Refused(text)) => {
+            eprint!(rt; "{text}")?;
+            Err(Stop::Refused)
+        }
+        Err(WordsFault::NoMemory) => Err(Stop::NoMemory),
+    }
+}
+
+/// Reads the words of the command line, and does what they ask for.
+fn start<R: Files + Print + Eprint + Env + AllocGlobal>(rt: &R) -> Result<(), Stop> {
+    let alloc = rt.alloc();
+    let words: Vec<String> = env::args(rt)?.collect(alloc)?;
+    let words: Vec<&str> = words
+        .iter()
+        .skip(1)
+        .map(|word| word.as_str())
+        .collect(alloc)?;
+    work(rt, &words)
+}
+
+fn main(rt: HostRuntime) -> ExitCode {
+    match start(&rt) {
+        Ok(()) => ExitCode::SUCCESS,
+        Err(Stop::Refused) => ExitCode::from(REFUSED),
+        Err(Stop::NoMemory) => ExitCode::from(NO_MEMORY),
+    }
+}

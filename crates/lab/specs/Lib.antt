@@ -1,0 +1,4 @@
+pub mod Plan
+pub mod Procedure
+pub mod Handling
+pub mod Script

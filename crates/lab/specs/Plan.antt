@@ -1,0 +1,53 @@
+-- Plans: what a controller asks of the book and what it sends, each step by the replies before it.
+use Rattle.std.specs.Prelude.{◌≡◌, ℕ, List, [], ◌∷◌, Option, Some, None}
+use Rattle.radio_book.specs.declared.channel.ChanId.{ChanId}
+use Rattle.radio_book.specs.declared.event.Kind.{Kind}
+use Rattle.radio_book.specs.declared.event.Event.{Event}
+use Rattle.radio_book.specs.declared.event.Event.TheVariants.{Take, Reserve}
+use Rattle.radio_book.specs.declared.event.Reply.{Reply}
+
+-- a message to the station behind a TRX of a cell, in octets
+pub data Sent : Type 0 where
+  OnAbis : ℕ → ℕ → List ℕ → Sent
+
+-- A plan: ask the book an event and go on by its reply; take some channel of a cell, or reserve some number,
+-- and go on by what was chosen and its reply; send a message and go on; or end.
+pub data Plan : Type 0 where
+  Ends : Plan
+  Asks : Event → (Reply → Plan) → Plan
+  Takes : ℕ → Kind → ℕ → (ChanId → Reply → Plan) → Plan
+  Reserves : ℕ → (ℕ → Reply → Plan) → Plan
+  Sends : Sent → Plan → Plan
+
+-- Events with their replies, the cell in which no channel was free, and messages follow a plan from its
+-- beginning to its end. Where no channel of a cell is free there is no event, and the plan ends.
+abbrev pub Follows : Plan → List (Event × Reply) → Option ℕ → List Sent → Type 0
+Follows Ends [] none_free [] = none_free ≡ None
+Follows Ends [] none_free (o ∷ out) = ⊥
+Follows Ends (s ∷ steps) none_free out = ⊥
+Follows (Asks e next) [] none_free out = ⊥
+Follows (Asks e next) (s ∷ steps) none_free out = (s.0 ≡ e) × Follows (next s.1) steps none_free out
+Follows (Takes c k cell next) [] none_free [] = none_free ≡ Some cell
+Follows (Takes c k cell next) [] none_free (o ∷ out) = ⊥
+Follows (Takes c k cell next) (s ∷ steps) none_free out = (x : ChanId) × (s.0 ≡ Take c k x) × (x.cell ≡ cell) × Follows (next x s.1) steps none_free out
+Follows (Reserves c next) [] none_free out = ⊥
+Follows (Reserves c next) (s ∷ steps) none_free out = (n : ℕ) × (s.0 ≡ Reserve c n) × Follows (next n s.1) steps none_free out
+Follows (Sends m next) steps none_free [] = ⊥
+Follows (Sends m next) steps none_free (o ∷ out) = (o ≡ m) × Follows next steps none_free out
+
+-- Events with their replies are a beginning of a plan's.
+abbrev pub Begins : Plan → List (Event × Reply) → Type 0
+Begins p [] = Unit {0}
+Begins Ends (s ∷ steps) = ⊥
+Begins (Asks e next) (s ∷ steps) = (s.0 ≡ e) × Begins (next s.1) steps
+Begins (Takes c k cell next) (s ∷ steps) = (x : ChanId) × (s.0 ≡ Take c k x) × (x.cell ≡ cell) × Begins (next x s.1) steps
+Begins (Reserves c next) (s ∷ steps) = (n : ℕ) × (s.0 ≡ Reserve c n) × Begins (next n s.1) steps
+Begins (Sends m next) (s ∷ steps) = Begins next (s ∷ steps)
+
+-- the plan has a step
+abbrev pub HasStep : Plan → Type 0
+HasStep Ends = ⊥
+HasStep (Asks e next) = Unit {0}
+HasStep (Takes c k cell next) = Unit {0}
+HasStep (Reserves c next) = Unit {0}
+HasStep (Sends m next) = Unit {0}

@@ -1,0 +1,123 @@
+//! A controller that is driven by a script, on one thread.
+ghost use Rattle.std.specs.Prelude.{◌≡◌, ◌⊎◌, Ok, None, IsSome};
+ghost use Rattle.radio_book.specs.SiteFile.{described_site};
+ghost use Rattle.lab.specs.Script.{first_unread};
+
+use crate::exchange::{Inbound, PlainFault};
+use crate::procedure::handle_plain;
+use crate::script::{ScriptFault, read_script};
+use crate::trace::{print_end, print_fault, print_handled, print_input};
+use radio_book::book::Book;
+use radio_book::site::{Site, SiteFault};
+use std::alloc::{AllocError, Allocator, Global};
+use std::io::{self, Write};
+use std::sync::Arc;
+use thiserror::Error;
+
+/// How a run ended.
+#[derive(Clone, Copy, Debug, PartialEq, Eq)]
+pub enum Status {
+    /// All inputs were handled.
+    Done,
+    /// The site or a line of the script was refused, as the one line that was printed says.
+    Refused,
+}
+
+/// Why a run didn't come to its end.
+#[derive(Clone, Copy, Debug, PartialEq, Eq, Error)]
+pub enum LabFault {
+    /// Memory was refused.
+    #[error("out of memory")]
+    NoMemory,
+    /// A write of the output failed.
+    #[error("the output can't be written")]
+    Write,
+}
+
+impl From<AllocError> for LabFault {
+    ghost use Rattle.lab.specs.declared.run.LabFault.TheVariants.{NoMemory};
+
+    ghost from_gives = { λ _ fault. fault ≡ NoMemory };
+
+    fn from(_: AllocError) -> LabFault {
+        LabFault::NoMemory
+    }
+}
+
+impl From<io::Error> for LabFault {
+    ghost use Rattle.lab.specs.declared.run.LabFault.TheVariants.{Write};
+
+    ghost from_gives = { λ _ fault. fault ≡ Write };
+
+    fn from(_: io::Error) -> LabFault {
+        LabFault::Write
+    }
+}
+
+/// Handles one input, and prints what came of it.
+fn run_input<A: Allocator + Copy, W: Write>(
+    alloc: A,
+    book: &mut Book<A>,
+    input: Inbound<A>,
+    out: &mut W,
+) -> Result<(), LabFault> {
+    print_input(out, &input)?;
+    match handle_plain(alloc, book, input) {
+        Ok(handled) => print_handled(out, &handled)?,
+        Err(PlainFault::Undecoded(fault)) => print_fault(out, fault)?,
+        Err(PlainFault::NoMemory) => return Err(LabFault::NoMemory),
+    }
+    Ok(())
+}
+
+/// Handles the inputs in their order over an empty book of the site, and prints the trace.
+fn run_inputs<A: Allocator + Copy, W: Write>(
+    alloc: A,
+    site: Site<A>,
+    inputs: Vec<Inbound<A>, A>,
+    out: &mut W,
+) -> Result<(), LabFault> {
+    let site = Arc::new(alloc, site).map_err(AllocError::from)?;
+    let mut book = Book::new(alloc, site)?;
+    for input in inputs {
+        run_input(alloc, &mut book, input, out)?;
+    }
+    print_end(out, book.usage())?;
+    Ok(())
+}
+
+/// Runs a script over a site, both given as texts, and prints the trace to `out`.
+///
+/// The site is read first, then all lines of the script. A text that describes no site prints `site 1`, a script
+/// prints `line` and the number of its first line that can't be read, counted from 1; then nothing else is printed
+/// and the answer is `Refused`. `scratch` serves while the site is read, `alloc` for all else. Once memory was
+/// refused nothing more is printed.
+pub fn lab_run<A: Allocator + Copy, W: Write>(
+    alloc: A,
+    scratch: Global,
+    site: &str,
+    script: &str,
+    out: &mut W,
+) -> Result<Status, LabFault>
+    ensures done { result ≡ Ok Status.Done → IsSome (described_site site.now) × (first_unread script.now ≡ None) }
+    ensures refused { result ≡ Ok Status.Refused → (described_site site.now ≡ None) ⊎ IsSome (first_unread script.now) }
+{
+    let site = match Site::read(alloc, scratch, site) {
+        Ok(site) => site,
+        Err(SiteFault::Toml) => {
+            writeln!(out, "site 1")?;
+            return Ok(Status::Refused);
+        }
+        Err(SiteFault::NoMemory) => return Err(LabFault::NoMemory),
+    };
+    let inputs = match read_script(alloc, script) {
+        Ok(inputs) => inputs,
+        Err(ScriptFault::Line(number)) => {
+            writeln!(out, "line {number}")?;
+            return Ok(Status::Refused);
+        }
+        Err(ScriptFault::NoMemory) => return Err(LabFault::NoMemory),
+    };
+    run_inputs(alloc, site, inputs, out)?;
+    Ok(Status::Done)
+}

@@ -1,0 +1,47 @@
+//! What no clause says: the printed texts on the whole way from two files to a trace, what is refused, want of
+//! memory and failing writes.
+mod refusals;
+mod traces;
+mod words;
+
+use crate::run::{LabFault, Status, lab_run};
+use std::alloc::{Allocator, Global};
+use std::test::Fail;
+
+/// In cell 0 timeslots 2 and 3 of TRX 0 carry traffic, in cell 1 timeslot 3 of TRX 1.
+const SITE: &str = "[[cell]]
+trx = [{ arfcn = 60, tch = [2, 3] }]
+[[cell]]
+trx = [{ arfcn = 871, tch = [] }, { arfcn = 875, tch = [3] }]
+";
+
+/// A call from its begin to its end, and what it prints.
+const ONE_CALL: (&str, &str) = (
+    "open 1 0 0 3\nabis 0 0 0822010b081234\nclear 1\nabis 0 0 0833010b\n",
+    "in open 1 0 0 3
+event open 1 0/0/3 -> done
+out abis 0 0 0821010b0300060400010801
+in abis 0 0 0822010b081234
+event confirm 0/0/3 -> owned 1
+event look 1 -> record 0/0/3 on
+in clear 1
+event look 1 -> record 0/0/3 on
+event clear 1 -> done
+out abis 0 0 082e010b
+in abis 0 0 0833010b
+event released 0/0/3 -> done
+end channels=0 calls=0 references=0 timers=0
+",
+);
+
+/// What a run printed, and how it ended.
+fn printed<A: Allocator + Copy>(
+    alloc: A,
+    scratch: Global,
+    site: &str,
+    script: &str,
+) -> Result<(Result<Status, LabFault>, String), Fail> {
+    let mut out = Vec::new(scratch);
+    let status = lab_run(alloc, scratch, site, script, &mut out);
+    Ok((status, String::from_utf8(out)?))
+}

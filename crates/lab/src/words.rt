@@ -1,0 +1,97 @@
+//! The words of the command line.
+ghost use Rattle.std.specs.Prelude.{◌≡◌};
+
+use clap::error::ErrorKind;
+use clap::{Arg, ArgAction, ArgMatches, Command, Error};
+use std::alloc::{AllocError, Global};
+
+/// What the command line asks for.
+#[derive(Drop)]
+pub enum Job<'a> {
+    /// A script is run over a site: the paths of both files.
+    Run { site: &'a str, script: &'a str },
+    /// A text is shown: the help that was asked for, or the version.
+    Show(String),
+}
+
+/// Why the words ask for nothing.
+#[derive(Debug, Drop)]
+pub enum WordsFault {
+    /// The words are wrong, as this text for standard error says.
+    Refused(String),
+    /// Memory was refused.
+    NoMemory,
+}
+
+impl From<AllocError> for WordsFault {
+    ghost use Rattle.lab.specs.declared.words.WordsFault.TheVariants.{NoMemory};
+
+    ghost from_gives = { λ _ fault. fault ≡ NoMemory };
+
+    fn from(_: AllocError) -> WordsFault {
+        WordsFault::NoMemory
+    }
+}
+
+/// An argument that has to be given, by its place.
+fn path<'a>(alloc: Global, name: &'a str, help: &'a str) -> Arg<'a> {
+    Arg::new(alloc, name)
+        .required(true)
+        .action(ArgAction::Set)
+        .help(help)
+}
+
+/// `run SITE SCRIPT`
+fn run_command<'a>(alloc: Global) -> Result<Command<'a>, AllocError> {
+    Command::new(alloc, "run")
+        .about("Runs a script over a site and prints the trace")
+        .arg(path(alloc, "SITE", "The site file"))?
+        .arg(path(alloc, "SCRIPT", "The script file"))
+}
+
+/// The whole command line.
+fn lab_command<'a>(alloc: Global) -> Result<Command<'a>, AllocError> {
+    Command::new(alloc, "bsc_lab")
+        .version("0.1")
+        .about("A laboratory of a GSM base station controller")
+        .no_binary_name(true)
+        .bin_name("bsc_lab")?
+        .subcommand_required(true)
+        .subcommand(run_command(alloc)?)
+}
+
+/// The job of a command line that was read.
+fn job_of<'a>(matches: &ArgMatches<'a>) -> Option<Job<'a>> {
+    match matches.subcommand()? {
+        ("run", run) => Some(Job::Run {
+            site: run.get_str("SITE")?,
+            script: run.get_str("SCRIPT")?,
+        }),
+        _ => None,
+    }
+}
+
+/// What words that weren't matched come to.
+fn unmatched<'a>(alloc: Global, error: Error) -> Result<Job<'a>, WordsFault> {
+    match error.kind() {
+        ErrorKind::DisplayHelp | ErrorKind::DisplayVersion => Ok(Job::Show(error.to_string(
+            alloc,
+        )?)),
+        ErrorKind::OutOfMemory => Err(WordsFault::NoMemory),
+        _ => Err(WordsFault::Refused(error.to_string(alloc)?)),
+    }
+}
+
+/// Reads the words of a command line, those after the program's own name. A command that is named gives its job, a
+/// wish for help or for the version the text to be shown; all other words are refused by a text for standard error.
+///
+/// No clause says which words are which: that is shown by tests.
+pub fn read_words<'a>(alloc: Global, words: &'a [&'a str]) -> Result<Job<'a>, WordsFault> {
+    match lab_command(alloc)?.try_get_matches_from(words) {
+        Ok(matches) => match job_of(&matches) {
+            Some(job) => Ok(job),
+            None => Err(WordsFault::Refused(String::new(alloc))),
+        },
+        Err(error) => unmatched(alloc, error),
+    }
+}
