@@ -3,6 +3,7 @@ ghost use Rattle.std.specs.Prelude.{◌≡◌, ◌≢◌, List, Err, IfOk, IfSom
 ghost use Rattle.radio_book.specs.declared.event.Event.{Event};
 ghost use Rattle.radio_book.specs.declared.event.Reply.{Reply};
 ghost use Rattle.radio_book.specs.Run.{Leads};
+ghost use Rattle.rsl_messages.specs.Texts.{HasFault};
 ghost use Rattle.radio_book.specs.Choice.{NoneFree};
 ghost use Rattle.lab.specs.Handling.{FollowsRow, StopsInRow, HasFaultIn, AreChoices, all_sent};
 
@@ -35,6 +36,7 @@ pub fn handle_plain<A: Allocator + Copy, B: Allocator + Copy>(
     ensures none_free { IfOk result (λ handled. IfSome handled.none_free (NoneFree book.old)) }
     ensures undecoded { (f : RslFault) → result ≡ Err (PlainFault.Undecoded f) → HasFaultIn {A = A} (input) f }
     ensures not_memory { (f : RslFault) → result ≡ Err (PlainFault.Undecoded f) → f ≢ RslFault.NoMemory }
+    ensures decoded { (f : RslFault) → f ≢ RslFault.NoMemory → HasFaultIn {A = A} (input) f → result ≡ Err (PlainFault.Undecoded f) }
     ensures unchanged { (f : RslFault) → result ≡ Err (PlainFault.Undecoded f) → book.new ≡ book.old }
     ensures memory { result ≡ Err PlainFault.NoMemory → (steps : List (Event × Reply)) × StopsInRow {A = A} book.old.site (input) steps × Leads book.old steps book.new × AreChoices book.old steps }
 {
@@ -64,6 +66,7 @@ fn handle_octets<A: Allocator + Copy, B: Allocator + Copy>(
     ensures none_free { IfOk result (λ handled. IfSome handled.none_free (NoneFree book.old)) }
     ensures undecoded { (f : RslFault) → result ≡ Err (PlainFault.Undecoded f) → HasFaultIn {A = A} (Inbound.Abis cell trx octets.now) f }
     ensures not_memory { (f : RslFault) → result ≡ Err (PlainFault.Undecoded f) → f ≢ RslFault.NoMemory }
+    ensures decoded { (f : RslFault) → f ≢ RslFault.NoMemory → HasFault A octets.now f → result ≡ Err (PlainFault.Undecoded f) }
     ensures unchanged { (f : RslFault) → result ≡ Err (PlainFault.Undecoded f) → book.new ≡ book.old }
     ensures memory { result ≡ Err PlainFault.NoMemory → (steps : List (Event × Reply)) × StopsInRow {A = A} book.old.site (Inbound.Abis cell trx octets.now) steps × Leads book.old steps book.new × AreChoices book.old steps }
 {
