@@ -136,7 +136,7 @@ pub undone_is_gone : UndoneIsGone
 undone_is_gone c r a t b aims =
     let gone = apply (attempt_gone c r a (map.get b.timers c)) b in
     let channels =
-        ap (λ o. put (changed b.channels (option_map (λ y. (y, left_state (state_of b y))) o)) t None) aims
-        ∙ put_put_same chan_total chan_exact b.channels t (left_state (state_of b t)) None
-        ∙ sym (ap (λ o. changed b.channels (option_map (λ y. (y, None)) o)) aims) in
+    ap (λ o. put (changed b.channels (option_map (λ y. (y, left_state (state_of b y))) o)) t None) aims
+    ∙ put_put_same chan_total chan_exact b.channels t (left_state (state_of b t)) None
+    ∙ sym (ap (λ o. changed b.channels (option_map (λ y. (y, None)) o)) aims) in
     (λ i. record { site = b.site; channels = channels i; calls = gone.calls; references = gone.references; timers = gone.timers })

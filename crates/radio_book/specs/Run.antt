@@ -35,4 +35,4 @@ abbrev pub LeadsIsRun : Type 0
 LeadsIsRun =
     (b : State) (steps : List (Event × Reply)) (b' : State) →
     Leads b steps b' ↔
-        (b' ≡ run_book b (map (λ s. s.0) steps)) × (map (λ s. s.1) steps ≡ run_replies b (map (λ s. s.0) steps))
+    (b' ≡ run_book b (map (λ s. s.0) steps)) × (map (λ s. s.1) steps ≡ run_replies b (map (λ s. s.0) steps))

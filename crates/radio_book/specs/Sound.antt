@@ -68,24 +68,24 @@ pub record IsSound (b : State) : Type 0 where
   -- an attempt has a target, in the state of its stage
   pub has_target : (c : ℕ) (r : CallRecord) (a : Attempt) → record_of b c ≡ Some r → r.attempt ≡ Some a → IsSome a.target
   pub target :
-    (c : ℕ) (r : CallRecord) (a : Attempt) (x : ChanId) →
-    record_of b c ≡ Some r → r.attempt ≡ Some a → a.target ≡ Some x → state_of b x ≡ target_state c a.stage
+      (c : ℕ) (r : CallRecord) (a : Attempt) (x : ChanId) →
+      record_of b c ≡ Some r → r.attempt ≡ Some a → a.target ≡ Some x → state_of b x ≡ target_state c a.stage
   -- an attempt never moves its call within a cell
   pub apart :
-    (c : ℕ) (r : CallRecord) (x y : ChanId) →
-    record_of b c ≡ Some r → r.serving ≡ Some x → target_in r ≡ Some y → x.cell ≢ y.cell
+      (c : ℕ) (r : CallRecord) (x y : ChanId) →
+      record_of b c ≡ Some r → r.serving ≡ Some x → target_in r ≡ Some y → x.cell ≢ y.cell
   -- the serving channel while an attempt is open, and while none is
   pub during :
-    (c : ℕ) (r : CallRecord) (a : Attempt) →
-    record_of b c ≡ Some r → r.attempt ≡ Some a → HasServing c a.kind r.serving (state_of b)
+      (c : ℕ) (r : CallRecord) (a : Attempt) →
+      record_of b c ≡ Some r → r.attempt ≡ Some a → HasServing c a.kind r.serving (state_of b)
   pub resting : (c : ℕ) (r : CallRecord) → record_of b c ≡ Some r → r.attempt ≡ None → IsSome r.serving
   -- the references in use are those that attempts have
   pub referred :
-    (c : ℕ) (r : CallRecord) (k : Reference) →
-    record_of b c ≡ Some r → reference_of r.attempt ≡ Some k → map.get b.references k ≡ Some c
+      (c : ℕ) (r : CallRecord) (k : Reference) →
+      record_of b c ≡ Some r → reference_of r.attempt ≡ Some k → map.get b.references k ≡ Some c
   pub in_use :
-    (k : Reference) (c : ℕ) →
-    map.get b.references k ≡ Some c → (r : CallRecord) × (record_of b c ≡ Some r) × (reference_of r.attempt ≡ Some k)
+      (k : Reference) (c : ℕ) →
+      map.get b.references k ≡ Some c → (r : CallRecord) × (record_of b c ≡ Some r) × (reference_of r.attempt ≡ Some k)
   pub reserved : (c : ℕ) (r : CallRecord) (a : Attempt) → record_of b c ≡ Some r → r.attempt ≡ Some a → HasReference a.stage a.reference
   -- no stage arms a timer yet
   pub timers : (c : ℕ) → map.get b.timers c ≡ None
