@@ -132,17 +132,16 @@ fn reads_cells(rt: HostRuntime) -> Result<(), Fail> {
             &[cell(23, 102)],
         ),
         (
-            &[0, 15, 0x11, 4, 1, 0x0C, 0x1A, 9, 0xF1, 1, 2, 3, 4, 5, 6, 7, 8],
+            &[
+                0, 15, 0x11, 4, 1, 0x0C, 0x1A, 9, 0xF1, 1, 2, 3, 4, 5, 6, 7, 8,
+            ],
             &[cell(0x0102, 0x0304), cell(0x0506, 0x0708)],
         ),
         (
             &[0, 14, 0x11, 4, 1, 0x0C, 0x1A, 8, 0, 9, 9, 9, 1, 2, 3, 4],
             &[cell(0x0102, 0x0304)],
         ),
-        (
-            &[0, 9, 0x11, 4, 1, 0x0C, 0x1A, 3, 2, 5, 6],
-            &[lone],
-        ),
+        (&[0, 9, 0x11, 4, 1, 0x0C, 0x1A, 3, 2, 5, 6], &[lone]),
         (
             &[0, 11, 0x11, 4, 1, 0x0C, 0x1A, 5, 0x12, 5, 6, 5, 6],
             &[lone, lone],
@@ -202,7 +201,10 @@ fn reads_small_messages(rt: HostRuntime) -> Result<(), Fail> {
 fn reads_other_texts_of_a_message(rt: HostRuntime) -> Result<(), Fail> {
     let rows: [(&[u8], &[u8]); 9] = [
         // unknown elements before, between and after
-        (&[0, 7, 0x16, 0x99, 1, 0, 4, 1, 0x21], &[0, 4, 0x16, 4, 1, 0x21]),
+        (
+            &[0, 7, 0x16, 0x99, 1, 0, 4, 1, 0x21],
+            &[0, 4, 0x16, 4, 1, 0x21],
+        ),
         (&[0, 5, 0x20, 4, 1, 9, 0x8F], CLEAR_COMMAND),
         (&[0, 9, 0x16, 4, 1, 0x0A, 0x40, 7, 0x15, 0, 0x8C], FAILURE),
         (&[0, 3, 0x21, 0x70, 0], CLEAR_COMPLETE),
@@ -218,7 +220,11 @@ fn reads_other_texts_of_a_message(rt: HostRuntime) -> Result<(), Fail> {
     for (text, written) in rows {
         let message = decode(rt.alloc(), text)?;
         assert!(rt; fits(&message));
-        assert_eq!(rt; encode(rt.alloc(), &message)?.as_slice(), written, "{message:?}");
+        assert_eq!(rt;
+            encode(rt.alloc(), &message)?.as_slice(),
+            written,
+            "{message:?}"
+        );
     }
     Ok(())
 }
@@ -245,22 +251,46 @@ fn finds_the_first_fault(rt: HostRuntime) {
         (&[0, 1, 0x16], BssmapFault::Missing(4)),
         (&[0, 1, 0x10], BssmapFault::Missing(0x0B)),
         (&[0, 5, 0x10, 0x0B, 2, 1, 8], BssmapFault::Missing(0x0A)),
-        (&[0, 8, 0x10, 0x0B, 2, 1, 8, 0x0A, 1, 1], BssmapFault::Missing(0x12)),
-        (&[0, 10, 0x10, 0x0B, 2, 1, 8, 0x0A, 1, 1, 0x12, 0], BssmapFault::Missing(5)),
+        (
+            &[0, 8, 0x10, 0x0B, 2, 1, 8, 0x0A, 1, 1],
+            BssmapFault::Missing(0x12),
+        ),
+        (
+            &[0, 10, 0x10, 0x0B, 2, 1, 8, 0x0A, 1, 1, 0x12, 0],
+            BssmapFault::Missing(5),
+        ),
         (&[0, 4, 0x11, 4, 1, 0], BssmapFault::Missing(0x1A)),
         (&[0, 1, 0x12], BssmapFault::Missing(0x17)),
         (&[0, 4, 0x17, 4, 1, 0], BssmapFault::Missing(5)),
         // a missing element comes before a later bad one
         (&[0, 3, 0x10, 0x0A, 0], BssmapFault::Missing(0x0B)),
         (&[0, 4, 0x10, 0x0B, 1, 1], BssmapFault::BadElement(0x0B)),
-        (&[0, 7, 0x10, 0x0B, 2, 1, 8, 0x0A, 0], BssmapFault::BadElement(0x0A)),
+        (
+            &[0, 7, 0x10, 0x0B, 2, 1, 8, 0x0A, 0],
+            BssmapFault::BadElement(0x0A),
+        ),
         (&[0, 3, 0x22, 4, 0], BssmapFault::BadElement(4)),
         (&[0, 3, 0x13, 0x17, 0], BssmapFault::BadElement(0x17)),
-        (&[0, 7, 0x11, 4, 1, 0, 0x1A, 1, 1], BssmapFault::BadElement(0x1A)),
-        (&[0, 6, 0x11, 4, 1, 0, 0x1A, 0], BssmapFault::BadElement(0x1A)),
-        (&[0, 10, 0x11, 4, 1, 0, 0x1A, 4, 1, 1, 1, 1], BssmapFault::BadElement(0x1A)),
-        (&[0, 9, 0x17, 4, 1, 0, 5, 3, 3, 1, 1], BssmapFault::BadElement(5)),
-        (&[0, 11, 0x17, 4, 1, 0, 5, 5, 2, 1, 1, 1, 1], BssmapFault::BadElement(5)),
+        (
+            &[0, 7, 0x11, 4, 1, 0, 0x1A, 1, 1],
+            BssmapFault::BadElement(0x1A),
+        ),
+        (
+            &[0, 6, 0x11, 4, 1, 0, 0x1A, 0],
+            BssmapFault::BadElement(0x1A),
+        ),
+        (
+            &[0, 10, 0x11, 4, 1, 0, 0x1A, 4, 1, 1, 1, 1],
+            BssmapFault::BadElement(0x1A),
+        ),
+        (
+            &[0, 9, 0x17, 4, 1, 0, 5, 3, 3, 1, 1],
+            BssmapFault::BadElement(5),
+        ),
+        (
+            &[0, 11, 0x17, 4, 1, 0, 5, 5, 2, 1, 1, 1, 1],
+            BssmapFault::BadElement(5),
+        ),
     ];
     for (octets, fault) in rows {
         assert_eq!(rt; decode(rt.alloc(), octets).err(), Some(fault), "{octets:?}");
@@ -269,7 +299,10 @@ fn finds_the_first_fault(rt: HostRuntime) {
     let mut one_cell = [0; 20];
     one_cell.copy_from_slice(&REQUEST[..20]);
     one_cell[1] = 18;
-    assert_eq!(rt; decode(rt.alloc(), &one_cell).err(), Some(BssmapFault::Missing(5)));
+    assert_eq!(rt;
+        decode(rt.alloc(), &one_cell).err(),
+        Some(BssmapFault::Missing(5))
+    );
 }
 
 /// What is wrong with the first n octets of a text, once the length octet counts them.
@@ -312,7 +345,10 @@ fn counts_at_most_253_octets(rt: HostRuntime) -> Result<(), Fail> {
     octets[1] = 253;
     assert!(rt; decode(rt.alloc(), &octets[..255]).is_ok());
     octets[1] = 254;
-    assert_eq!(rt; decode(rt.alloc(), &octets).err(), Some(BssmapFault::Length));
+    assert_eq!(rt;
+        decode(rt.alloc(), &octets).err(),
+        Some(BssmapFault::Length)
+    );
     let longest = Bssmap::HandoverCommand {
         layer3: Octets::new(rt.alloc(), &[6; 250])?,
     };
@@ -337,8 +373,18 @@ fn counts_at_most_253_octets(rt: HostRuntime) -> Result<(), Fail> {
 #[test]
 fn fits_wants_a_location_area_code(rt: HostRuntime) -> Result<(), Fail> {
     let lone = CellId { lac: None, ci: 1 };
-    assert!(rt; !fits(&Bssmap::<Global>::HandoverPerformed { cause: 0, cell: lone }));
-    assert!(rt; fits(&Bssmap::<Global>::HandoverPerformed { cause: 0, cell: cell(0, 1) }));
+    assert!(rt;
+        !fits(&Bssmap::<Global>::HandoverPerformed {
+            cause: 0,
+            cell: lone
+        })
+    );
+    assert!(rt;
+        fits(&Bssmap::<Global>::HandoverPerformed {
+            cause: 0,
+            cell: cell(0, 1)
+        })
+    );
     let rows: [(&[CellId], bool); 4] = [
         (&[], false),
         (&[lone], false),
