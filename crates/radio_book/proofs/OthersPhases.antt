@@ -18,7 +18,7 @@ use Rattle.radio_book.specs.declared.event.Reply.{Reply}
 use Rattle.radio_book.specs.declared.event.Reply.TheVariants.{Refused}
 use Rattle.radio_book.specs.Maps.{put, changed}
 use Rattle.radio_book.specs.State.{State, apply, state_of, record_of}
-use Rattle.radio_book.specs.Table.{reference_held, reply_to, undone, left_state}
+use Rattle.radio_book.specs.Table.{reference_held, reply_to, left_state}
 use Rattle.radio_book.specs.Sound.{IsSound, owner, target_in, reference_of, HasServing}
 use Rattle.radio_book.specs.Others.{IsOn, IsBy, IsHeldChannel, IsHeldReference, attempt_gone, channel_gone, CommutesWithUndone, UndoneIsGone}
 use Rattle.radio_book.proofs.KeyFacts.{chan_total, chan_exact}
