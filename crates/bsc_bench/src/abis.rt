@@ -43,11 +43,13 @@ pub fn encode_once(message: &Rsl, out: &mut Vec<u8>) -> Result<u64, Fault>
     Ok(octets_sum(out.as_slice()))
 }
 
-/// Writes a message in each turn: that of turn 0 and that of turn 1 alternately. The sum is that of the octets that
-/// were written.
-fn encode_each(alloc: Global, octets: &mut Turning, count: u64) -> Result<u64, Fault> {
+/// Writes a CHANNEL ACTIVATION in each turn: that of turn 0 and that of turn 1 alternately. The sum is that of the
+/// octets that were written.
+pub fn encode_activations(alloc: Global, octets: &mut Turning, count: u64) -> Result<u64, Fault> {
     let even = decode(alloc, octets.at(0))?;
     let odd = decode(alloc, octets.at(1))?;
+    activation_sum(&even)?;
+    activation_sum(&odd)?;
     if !fits(&even) || !fits(&odd) {
         return Err(Fault::Words);
     }
@@ -61,9 +63,4 @@ fn encode_each(alloc: Global, octets: &mut Turning, count: u64) -> Result<u64, F
         sum = sum.wrapping_add(written);
     }
     Ok(sum)
-}
-
-/// Writes a CHANNEL ACTIVATION in each turn.
-pub fn encode_activations(alloc: Global, octets: &mut Turning, count: u64) -> Result<u64, Fault> {
-    encode_each(alloc, octets, count)
 }

@@ -47,6 +47,8 @@ pub fn encode_once(message: &Rr, out: &mut Vec<u8>) -> Result<u64, Fault> {
 pub fn encode_commands(alloc: Global, octets: &mut Turning, count: u64) -> Result<u64, Fault> {
     let even = decode(octets.at(0))?;
     let odd = decode(octets.at(1))?;
+    command_sum(&even)?;
+    command_sum(&odd)?;
     let mut out = Vec::new(alloc);
     let mut sum = 0u64;
     for turn in 0..count {

@@ -47,14 +47,23 @@ fn other_octets_of_the_message(rt: HostRuntime) -> Result<(), Fail> {
 
 #[test]
 fn octets_of_no_such_message(rt: HostRuntime) {
-    let release = [8, 0x2E, 1, 0x0B];
+    let abis = [8, 0x2E, 1, 0x0B];
+    let radio = [6, 0x2C, 0];
     for work in [
         Work::DecodeActivation,
         Work::EncodeActivation,
         Work::DecodeMeasurement,
+        Work::EncodeMeasurement,
+        Work::DecodeCommand,
+        Work::EncodeCommand,
     ] {
         assert_eq!(rt;
-            sum_of(rt.alloc(), work, 1, &release),
+            sum_of(rt.alloc(), work, 1, &abis),
+            Err(Fault::Words),
+            "{work}"
+        );
+        assert_eq!(rt;
+            sum_of(rt.alloc(), work, 1, &radio),
             Err(Fault::Words),
             "{work}"
         );
@@ -64,6 +73,10 @@ fn octets_of_no_such_message(rt: HostRuntime) {
             "{work}"
         );
     }
+    assert_eq!(rt;
+        sum_of(rt.alloc(), Work::CallByOctets, 1, &[]),
+        Err(Fault::Words)
+    );
 }
 
 #[test]

@@ -17,7 +17,7 @@ use Rattle.radio_book.proofs.KeyFacts.{chan_total, chan_exact, reference_total, 
 abbrev pub Misses : {K X : Type 0} → Option (Entry K X) → K → Type 0
 Misses p k = Touches p k → ⊥
 
--- two changes of one map name different keys
+-- whichever of two changes of a map comes first, the other doesn't meet it
 abbrev pub AreApart : {K X : Type 0} → Option (Entry K X) → Option (Entry K X) → Type 0
 AreApart None q = Unit {0}
 AreApart (Some e) q = Misses q e.0
@@ -48,7 +48,7 @@ module _ {K X : Type 0} {R : K → K → Ordering} (o : IsTotalOrder R) (exact :
   changed_cover m (Some e) None covered = absurd covered
   changed_cover m (Some e) (Some f) covered = ap (λ k. put (put m k e.1) f.0 f.1) covered ∙ put_put_same o exact m f.0 e.1 f.1
 
--- in each map, different entries
+-- two changes of a book, apart in each of its maps
 pub record ChangesApart (p q : Change) : Type 0 where
   pub channel : AreApart p.channel q.channel
   pub call : AreApart p.call q.call

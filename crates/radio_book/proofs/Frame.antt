@@ -247,13 +247,13 @@ module _ (b : State) (sound : IsSound b) (change : Change) (c : ℕ) (was is : O
   entries : (x : ChanId) (s : ChanState) → map.get b'.channels x ≡ Some s → (is_traffic b.site x ≡ true) × (s ≢ Free)
   entries x s e = elim (get_changed chan_total chan_exact b.channels change.channel (λ x v. (s : ChanState) → v ≡ Some s → (is_traffic b.site x ≡ true) × (s ≢ Free)) x concerns.entry) [
     | inl (now, t) ↦ now s e
-    | inr (t, same) ↦ (sound.traffic x s (sym same ∙ e), sound.taken x s (sym same ∙ e))
+    | inr (t, same) ↦ (sound.traffic x s (sym same ∙ e), sound.not_free x s (sym same ∙ e))
   ]
 
   pub concerned_sound : IsSound (apply change b)
   concerned_sound = record {
     traffic = λ x s e. (entries x s e).0;
-    taken = λ x s e. (entries x s e).1;
+    not_free = λ x s e. (entries x s e).1;
     named = named;
     serving = λ d r x e h. (calls d r e).serving x h;
     has_target = λ d r a e h. (calls d r e).has_target a h;

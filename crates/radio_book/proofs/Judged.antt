@@ -8,8 +8,8 @@ use Rattle.std.specs.Option.{option_map_or}
 use Rattle.toml.specs.Data.{Items}
 use Rattle.toml.specs.View.{view, items_view}
 use Rattle.toml.specs.declared.value.Value.{Value}
-use Rattle.radio_book.specs.Site.{names_broadcast}
-use Rattle.radio_book.specs.SiteFile.{each, only, timeslot_of, trx_of, keeps_cell_rules, keeps_site_rules, cell_of}
+use Rattle.radio_book.specs.Site.{names_broadcast, keeps_cell_rules, keeps_site_rules}
+use Rattle.radio_book.specs.SiteFile.{each, only, timeslot_of, trx_of, cell_of}
 use Rattle.radio_book.proofs.Told.{length-each, first-each, list_any-each}
 
 any_told : (vs : List Value) (told : Option (List ℕ)) → each timeslot_of (items_view vs) ≡ told

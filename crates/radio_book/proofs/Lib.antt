@@ -9,6 +9,7 @@ pub mod Frame
 pub mod SoundSteps
 pub mod Inverses
 pub mod RecordFacts
+pub mod Runs
 pub mod RunBack
 pub mod Chosen
 pub mod Numbers

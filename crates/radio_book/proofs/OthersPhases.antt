@@ -16,10 +16,13 @@ use Rattle.radio_book.specs.declared.event.Event.TheVariants as event
 use Rattle.radio_book.specs.declared.event.Refusal.TheVariants.{ChannelBusy, RefBusy}
 use Rattle.radio_book.specs.declared.event.Reply.{Reply}
 use Rattle.radio_book.specs.declared.event.Reply.TheVariants.{Refused}
-use Rattle.radio_book.specs.State.{State, state_of, record_of}
-use Rattle.radio_book.specs.Table.{reference_held, reply_to}
+use Rattle.radio_book.specs.Maps.{put, changed}
+use Rattle.radio_book.specs.State.{State, apply, state_of, record_of}
+use Rattle.radio_book.specs.Table.{reference_held, reply_to, left_state}
 use Rattle.radio_book.specs.Sound.{IsSound, owner, target_in, reference_of, HasServing}
-use Rattle.radio_book.specs.Others.{IsOn, IsBy, IsHeldChannel, IsHeldReference, attempt_gone, channel_gone, CommutesWithUndone}
+use Rattle.radio_book.specs.Others.{IsOn, IsBy, IsHeldChannel, IsHeldReference, attempt_gone, channel_gone, CommutesWithUndone, UndoneIsGone}
+use Rattle.radio_book.proofs.KeyFacts.{chan_total, chan_exact}
+use Rattle.radio_book.proofs.MapFacts.{put_put_same}
 use Rattle.radio_book.proofs.Frame.{is_owned}
 use Rattle.radio_book.proofs.Changes.{Misses, option_missed}
 use Rattle.radio_book.proofs.Agreement.{Hides, IsOfOther, IsNotHeld, AgreesWithOthers, agrees_commute}
@@ -127,3 +130,13 @@ commutes_with_undone e agrees = record {
       agrees_commute (channel_gone t) b e
       (agrees (channel_gone t) b sound (off_hides t b off) (off_others t e on) (off_not_held t (reply_to b e) channel));
 }
+
+-- of the target two changes follow one another, and the later stands; all else is the same in both
+pub undone_is_gone : UndoneIsGone
+undone_is_gone c r a t b aims =
+    let gone = apply (attempt_gone c r a (map.get b.timers c)) b in
+    let channels =
+    ap (λ o. put (changed b.channels (option_map (λ y. (y, left_state (state_of b y))) o)) t None) aims
+    ∙ put_put_same chan_total chan_exact b.channels t (left_state (state_of b t)) None
+    ∙ sym (ap (λ o. changed b.channels (option_map (λ y. (y, None)) o)) aims) in
+    (λ i. record { site = b.site; channels = channels i; calls = gone.calls; references = gone.references; timers = gone.timers })

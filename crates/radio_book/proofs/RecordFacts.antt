@@ -44,7 +44,7 @@ not_free : (b : State) (x : ChanId) → IsSound b → is_some (map.get b.channel
 not_free b x sound there =
     elim (map.get b.channels x) as (λ o. map.get b.channels x ≡ o → is_some o ≡ true → or_free o ≢ Free) [
       | None ↦ λ is h. cc
-      | Some s ↦ λ is h free. sound.taken x s is free
+      | Some s ↦ λ is h free. sound.not_free x s is free
     ] refl there
 
 open_busy : (c : ℕ) (x : ChanId) (s : ChanState) → s ≢ Free → open_row c x None true s ≡ Refuses (ChannelBusy x)

@@ -8,10 +8,10 @@ use Rattle.std.proofs.lemmas.Option.{same_Some, none-some, option_and_then_some,
 use Rattle.toml.specs.Data.{Data, Items, as_integer}
 use Rattle.toml.specs.View.{items_view}
 use Rattle.toml.specs.declared.value.Value.{Value}
-use Rattle.radio_book.specs.Site.{SiteView, IsCell, IsSite, IsWithinLimits, names_broadcast, is_traffic}
+use Rattle.radio_book.specs.Site.{SiteView, IsCell, IsSite, IsWithinLimits, keeps_cell_rules, keeps_site_rules, names_broadcast, is_traffic}
 use Rattle.radio_book.specs.declared.channel.ChanId.{ChanId}
 use Rattle.std.specs.List.{list_any}
-use Rattle.radio_book.specs.SiteFile.{each, only, array_at, natural, timeslot_of, trx_of, cell_of, site_of, keeps_cell_rules, keeps_site_rules}
+use Rattle.radio_book.specs.SiteFile.{each, only, array_at, natural, timeslot_of, trx_of, cell_of, site_of}
 use Rattle.radio_book.proofs.Told.{All-each, IsTold}
 
 if_kept : {A : Type 0} (b : Bool) (x y : A) → (if b then Some x else None) ≡ Some y → (x ≡ y) × (b ≡ true)
@@ -32,31 +32,21 @@ trx_range d trx e =
     option_and_then_some (each timeslot_of) (array_at (codes "tch") d) trx e
     (λ ds found told. All-each timeslot_of (λ tn. tn < 8) timeslot_range ds trx told)
 
-true_of_not : (b : Bool) → not b ≡ true → b ≡ false
-true_of_not true e = absurd (false≢true e)
-true_of_not false e = refl
-
 cell_limits : (d : Data) (cell : List (List ℕ)) → cell_of d ≡ Some cell → IsCell cell
 cell_limits d cell e =
     let (read, kept) = only_parts keeps_cell_rules (option_and_then (each trx_of) (array_at (codes "trx") d)) cell e in
-    let (count, silent) = and_parts (nat_le 1 (length cell) && nat_le (length cell) 4) (not (names_broadcast cell)) kept in
-    let (least, most) = and_parts (nat_le 1 (length cell)) (nat_le (length cell) 4) count in
     record {
-      some_trx = grind (arith, nat_tests);
-      trx_limit = grind (arith, nat_tests);
+      rules = kept;
       timeslot_range = option_and_then_some (each trx_of) (array_at (codes "trx") d) cell read
           (λ ds found told. All-each trx_of (λ trx. All (λ tn. tn < 8) trx) trx_range ds cell told);
-      broadcast = true_of_not (names_broadcast cell) silent;
     }
 
 -- a document tells of no site beyond the limits
 pub site_limits : (d : Data) (site : SiteView) → site_of d ≡ Some site → IsSite site
 site_limits d site e =
     let (read, kept) = only_parts keeps_site_rules (option_and_then (each cell_of) (array_at (codes "cell") d)) site e in
-    let (least, most) = and_parts (nat_le 1 (length site)) (nat_le (length site) 64) kept in
     record {
-      some_cell = grind (arith, nat_tests);
-      cell_limit = grind (arith, nat_tests);
+      rules = kept;
       each_cell = option_and_then_some (each cell_of) (array_at (codes "cell") d) site read
           (λ ds found told. All-each cell_of IsCell cell_limits ds site told);
     }
@@ -97,7 +87,9 @@ trx_traffic : (cell : List (List ℕ)) (trx tn : ℕ) (slots : Option (List ℕ)
 trx_traffic cell trx tn None at limits named = absurd (false≢true named)
 trx_traffic cell trx tn (Some slots) at limits named =
     let within = slice_get_within cell trx slots at in
-    let most = limits.trx_limit in
+    let (count, silent) = and_parts (nat_le 1 (length cell) && nat_le (length cell) 4) (not (names_broadcast cell)) limits.rules in
+    let (least, few) = and_parts (nat_le 1 (length cell)) (nat_le (length cell) 4) count in
+    let most : length cell ≤ 4 = grind (arith, nat_tests) in
     (omega arith, within_any slots tn (got (λ t. All (λ n. n < 8) t) cell trx slots limits.timeslot_range at) named)
 
 cell_traffic : (site : SiteView) (chan : ChanId) (cell : Option (List (List ℕ))) → slice_get site chan.cell ≡ cell → IsSite site
@@ -105,7 +97,8 @@ cell_traffic : (site : SiteView) (chan : ChanId) (cell : Option (List (List ℕ)
 cell_traffic site chan None at limits named = absurd (false≢true named)
 cell_traffic site chan (Some cell) at limits named =
     let within = slice_get_within site chan.cell cell at in
-    let most = limits.cell_limit in
+    let (least, few) = and_parts (nat_le 1 (length site)) (nat_le (length site) 64) limits.rules in
+    let most : length site ≤ 64 = grind (arith, nat_tests) in
     let (trx, timeslot) = trx_traffic cell chan.trx chan.tn (slice_get cell chan.trx) refl (got IsCell site chan.cell cell limits.each_cell at) named in
     record { cell = omega arith; trx = trx; timeslot = timeslot }
 

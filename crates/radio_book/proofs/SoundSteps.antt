@@ -524,7 +524,7 @@ sound_step b (event.Released x) sound = sound_released b sound x
 pub sound_empty : (site : SiteView) → IsSound (empty_book site)
 sound_empty site = record {
   traffic = λ x s e. absurd (no_entry chan_cmp x s e);
-  taken = λ x s e. absurd (no_entry chan_cmp x s e);
+  not_free = λ x s e. absurd (no_entry chan_cmp x s e);
   named = λ x c h. let bad : None ≡ Some c = sym (ap (λ o. owner (or_free o)) (map.get-empty chan_cmp x)) ∙ h in cc;
   serving = λ c r x e h. absurd (no_entry nat_cmp c r e);
   has_target = λ c r a e h. absurd (no_entry nat_cmp c r e);

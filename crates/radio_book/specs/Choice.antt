@@ -1,4 +1,4 @@
--- What a choice of a channel or of a reference allows.
+-- What a choice of a channel (TS 48.058 clause 4) or of a Handover Reference (TS 44.018 clause 10.5.2.15) allows.
 use Rattle.std.specs.Prelude.{◌≡◌, ℕ, ◌<◌, ◌/◌, ◌%◌, Bool, true, false, ◌&&◌, List, [], ◌∷◌, count_by, flat_map, map as map_list, Option, Some, None}
 use Rattle.std.specs.FinMap as map
 use Rattle.radio_book.specs.declared.channel.ChanId.{ChanId}
@@ -61,7 +61,7 @@ is_free s = false
 abbrev pub is_free_traffic : State → ChanId → Bool
 is_free_traffic b x = is_traffic b.site x && is_free (state_of b x)
 
--- every channel that a cell can have: four TRX of eight timeslots, by TRX, then timeslot
+-- every channel that a cell can have: four TRX of eight timeslots (TS 45.002 clause 4.3.2), by TRX, then timeslot
 unfoldable pub channels_of : ℕ → List ChanId
 channels_of cell =
     flat_map (λ trx. map_list (λ tn. record { cell = cell; trx = trx; tn = tn }) (0 ∷ 1 ∷ 2 ∷ 3 ∷ 4 ∷ 5 ∷ 6 ∷ 7 ∷ []))

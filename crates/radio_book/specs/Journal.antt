@@ -1,4 +1,4 @@
--- The stored inverses of an attempt, and what running them does.
+-- The stored inverses of an attempt, and what running them does. Ours, of no standard.
 use Rattle.std.specs.Prelude.{◌≡◌, ℕ, List, [], ◌∷◌, Option, Some, None}
 use Rattle.std.specs.Option.{option_map}
 use Rattle.std.specs.FinMap as map
@@ -32,15 +32,17 @@ stage_inverses opening t n Sent = opening ∷ FreeChannel t ∷ DropReference n 
 stage_inverses opening t n Refused = opening ∷ FreeChannel t ∷ DropReference n ∷ SwitchOff t ∷ []
 stage_inverses opening t n Confirmed = opening ∷ FreeChannel t ∷ DropReference n ∷ SwitchOff t ∷ []
 
+-- Only a stage that has a reference reads this, and has one in a sound book; so the 0 never counts.
 abbrev pub or_zero : Option ℕ → ℕ
 or_zero None = 0
 or_zero (Some n) = n
 
+-- the inverses of an attempt with this target
 abbrev pub inverses_at : Attempt → Option ChanId → List Inverse
 inverses_at a None = []
 inverses_at a (Some t) = stage_inverses (opening_inverse a.kind) t (or_zero a.reference) a.stage
 
--- the journal of a call is fixed by its attempt
+-- what a call's journal holds follows from its attempt alone
 abbrev pub journal_of : Option Attempt → List Inverse
 journal_of None = []
 journal_of (Some a) = inverses_at a a.target
@@ -56,10 +58,12 @@ off_if_active x (Pending c) = Some (x, Some Off)
 off_if_active x (On c) = Some (x, Some Off)
 off_if_active x s = None
 
+-- the reference with this number in the cell of the attempt's target is in use no more
 abbrev pub dropped_reference : ℕ → Option Attempt → Option (Entry Reference ℕ)
 dropped_reference n None = None
 dropped_reference n (Some a) = option_map (λ k. (k, None)) (reference_held a.target (Some n))
 
+-- and so of the call's attempt
 abbrev pub reference_dropped : ℕ → Option CallRecord → Option (Entry Reference ℕ)
 reference_dropped n None = None
 reference_dropped n (Some r) = dropped_reference n r.attempt

@@ -1,4 +1,4 @@
--- The orders of the keys, and what the keys are stored as.
+-- By what order the tables keep channels and references, and how each is written as numbers. Ours, of no standard.
 use Rattle.std.specs.Prelude.{ℕ, refl}
 use Rattle.std.specs.declared.cmp.Ordering.{Ordering}
 use Rattle.std.specs.Ordering.{nat_cmp, ordering_then}

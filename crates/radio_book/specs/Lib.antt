@@ -1,6 +1,7 @@
 pub mod Site
 pub mod SiteFile
 pub mod Keys
+pub mod Text
 pub mod Maps
 pub mod State
 pub mod Table

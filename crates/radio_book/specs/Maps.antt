@@ -1,4 +1,4 @@
--- Finite maps, changed at one key.
+-- What becomes of a finite map where one of its keys gets a value, or loses it. Ours, of no standard.
 use Rattle.std.specs.Prelude.{◌≡◌, Option, Some, None}
 use Rattle.std.specs.declared.cmp.Ordering.{Ordering}
 use Rattle.std.specs.FinMap as map

@@ -1,9 +1,9 @@
--- Steps of others, while an attempt is open and while its target's release is awaited.
+-- Steps of others, while an attempt is open and while its target's release is awaited. Ours, of no standard.
 use Rattle.std.specs.Prelude.{◌≡◌, ℕ, Option, Some, None}
 use Rattle.std.specs.Option.{option_map}
 use Rattle.std.specs.FinMap as map
 use Rattle.radio_book.specs.declared.channel.ChanId.{ChanId}
-use Rattle.radio_book.specs.declared.channel.ChanState.TheVariants.{Off}
+use Rattle.radio_book.specs.declared.channel.ChanState.TheVariants.{Free, Off}
 use Rattle.radio_book.specs.declared.event.Reference.{Reference}
 use Rattle.radio_book.specs.declared.event.Attempt.{Attempt}
 use Rattle.radio_book.specs.declared.event.CallRecord.{CallRecord}
@@ -15,7 +15,7 @@ use Rattle.radio_book.specs.declared.event.Reply.TheVariants.{Refused}
 use Rattle.radio_book.specs.declared.event.Timer.{Timer}
 use Rattle.radio_book.specs.State.{State, Change, apply, state_of, record_of}
 use Rattle.radio_book.specs.Sound.{IsSound}
-use Rattle.radio_book.specs.Table.{step, reply_to, resting_record, reference_held, no_change}
+use Rattle.radio_book.specs.Table.{step, reply_to, undone, reference_held, no_change}
 
 -- a station's event is on the channel that it names
 abbrev pub IsOn : ChanId → Event → Type 0
@@ -24,7 +24,7 @@ IsOn x (event.Refuse y) = y ≡ x
 IsOn x (event.Released y) = y ≡ x
 IsOn x e = ⊥
 
--- every other event is by the call that it names
+-- an event that names a call, and no channel of a station's answer, is by that call
 abbrev pub IsBy : ℕ → Event → Type 0
 IsBy c (event.Open d y) = d ≡ c
 IsBy c (event.Clear d) = d ≡ c
@@ -43,14 +43,9 @@ abbrev pub IsHeldReference : Option Reference → Reply → Type 0
 IsHeldReference None reply = ⊥
 IsHeldReference (Some k) reply = reply ≡ Refused (RefBusy k.cell k.number)
 
--- all that an open attempt has is gone: its channel, its reference, its timer, and itself from the record
+-- all that an open attempt has is gone: what its undo takes away, and its channel, whatever its state
 abbrev pub attempt_gone : ℕ → CallRecord → Attempt → Option Timer → Change
-attempt_gone c r a armed = record {
-  channel = option_map (λ t. (t, None)) a.target;
-  call = Some (c, resting_record a.kind r);
-  reference = option_map (λ k. (k, None)) (reference_held a.target a.reference);
-  timer = option_map (λ m. (c, None)) armed;
-}
+attempt_gone c r a armed = record (undone c r a (λ x. Free) armed) { channel = option_map (λ t. (t, None)) a.target }
 
 -- a channel whose release is awaited is gone
 abbrev pub channel_gone : ChanId → Change
@@ -64,8 +59,10 @@ pub record Commutes (gone : Change) (b : State) (e : Event) : Type 0 where
 -- while an attempt is open: a step that isn't by its call nor on its target, and is no refusal that comes from what it holds
 abbrev pub CommutesWhileOpen : Event → Type 0
 CommutesWhileOpen e =
-    (c : ℕ) (r : CallRecord) (a : Attempt) (t : ChanId) (b : State) → IsSound b → record_of b c ≡ Some r → r.attempt ≡ Some a → a.target ≡ Some t →
-    (IsBy c e → ⊥) → (IsOn t e → ⊥) → (IsHeldChannel t (reply_to b e) → ⊥) → (IsHeldReference (reference_held a.target a.reference) (reply_to b e) → ⊥) →
+    (c : ℕ) (r : CallRecord) (a : Attempt) (t : ChanId) (b : State) →
+    IsSound b → record_of b c ≡ Some r → r.attempt ≡ Some a → a.target ≡ Some t →
+    (IsBy c e → ⊥) → (IsOn t e → ⊥) → (IsHeldChannel t (reply_to b e) → ⊥) →
+    (IsHeldReference (reference_held a.target a.reference) (reply_to b e) → ⊥) →
     Commutes (attempt_gone c r a (map.get b.timers c)) b e
 
 -- once it is undone, while its target is off: a step that isn't on the target, and is no refusal that comes from it
@@ -78,3 +75,9 @@ CommutesWhileOff e =
 pub record CommutesWithUndone (e : Event) : Type 0 where
   pub while_open : CommutesWhileOpen e
   pub while_off : CommutesWhileOff e
+
+-- an attempt is undone, and its channel is gone then: what is left is the book without the attempt
+abbrev pub UndoneIsGone : Type 0
+UndoneIsGone =
+    (c : ℕ) (r : CallRecord) (a : Attempt) (t : ChanId) (b : State) → a.target ≡ Some t →
+    apply (channel_gone t) (apply (undone c r a (state_of b) (map.get b.timers c)) b) ≡ apply (attempt_gone c r a (map.get b.timers c)) b

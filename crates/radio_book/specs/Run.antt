@@ -1,5 +1,5 @@
--- Runs: lists of events from a book.
-use Rattle.std.specs.Prelude.{◌≡◌, List, [], ◌∷◌}
+-- Runs: lists of events from a book. Ours, of no standard.
+use Rattle.std.specs.Prelude.{◌≡◌, ◌↔◌, List, [], ◌∷◌, map}
 use Rattle.radio_book.specs.declared.event.Event.{Event}
 use Rattle.radio_book.specs.declared.event.Reply.{Reply}
 use Rattle.radio_book.specs.Site.{SiteView}
@@ -29,3 +29,10 @@ StepsKeepSound = (b : State) (e : Event) → IsSound b → IsSound (step b e)
 -- whatever happens, the book of a site is sound
 abbrev pub RunsAreSound : Type 0
 RunsAreSound = (site : SiteView) (es : List Event) → IsSound (run_book (empty_book site) es)
+
+-- events with their replies lead from one book to another just where that is the book after them, and those the replies
+abbrev pub LeadsIsRun : Type 0
+LeadsIsRun =
+    (b : State) (steps : List (Event × Reply)) (b' : State) →
+    Leads b steps b' ↔
+    (b' ≡ run_book b (map (λ s. s.0) steps)) × (map (λ s. s.1) steps ≡ run_replies b (map (λ s. s.0) steps))

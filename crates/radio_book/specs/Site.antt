@@ -1,5 +1,5 @@
 -- What a site is: the traffic channels of a controller's cells.
-use Rattle.std.specs.Prelude.{ℕ, ◌==◌, ◌≤◌, ◌<◌, ◌≡◌, Bool, false, List, [], length, All, slice_get, option_and_then, unwrap_or}
+use Rattle.std.specs.Prelude.{ℕ, ◌==◌, ◌<◌, ◌≡◌, Bool, true, nat_le, not, ◌&&◌, List, [], length, All, slice_get, option_and_then, unwrap_or}
 use Rattle.std.specs.List.{list_any}
 use Rattle.radio_book.specs.declared.channel.ChanId.{ChanId}
 
@@ -19,17 +19,22 @@ is_traffic site chan = list_any (λ tn. tn == chan.tn) (timeslots site chan.cell
 abbrev pub names_broadcast : List (List ℕ) → Bool
 names_broadcast cell = list_any (λ tn. tn == 0) (unwrap_or (slice_get cell 0) [])
 
--- A cell has 1 to 4 TRX with timeslots 0 to 7, and leaves the broadcast channel alone.
-pub record IsCell (cell : List (List ℕ)) : Type 0 where
-  pub some_trx : 1 ≤ length cell
-  pub trx_limit : length cell ≤ 4
-  pub timeslot_range : All (λ trx. All (λ tn. tn < 8) trx) cell
-  pub broadcast : names_broadcast cell ≡ false
+-- a cell has 1 to 4 TRX, and leaves the broadcast channel alone
+abbrev pub keeps_cell_rules : List (List ℕ) → Bool
+keeps_cell_rules cell = (nat_le 1 (length cell) && nat_le (length cell) 4) && not (names_broadcast cell)
 
--- A site has 1 to 64 cells.
+-- a site has 1 to 64 cells
+abbrev pub keeps_site_rules : SiteView → Bool
+keeps_site_rules site = nat_le 1 (length site) && nat_le (length site) 64
+
+-- A cell keeps its rules, and has timeslots 0 to 7 (TS 45.002 clause 4.3.2).
+pub record IsCell (cell : List (List ℕ)) : Type 0 where
+  pub rules : keeps_cell_rules cell ≡ true
+  pub timeslot_range : All (λ trx. All (λ tn. tn < 8) trx) cell
+
+-- A site keeps its rules, and so does each of its cells.
 pub record IsSite (site : SiteView) : Type 0 where
-  pub some_cell : 1 ≤ length site
-  pub cell_limit : length site ≤ 64
+  pub rules : keeps_site_rules site ≡ true
   pub each_cell : All IsCell site
 
 -- Where every traffic channel of a site lies.

@@ -1,8 +1,8 @@
 -- What a site file says, read off the TOML document that it is: [[cell]] has trx, and each of them tch.
-use Rattle.std.specs.Prelude.{ℕ, ℤ, pos, negsuc, nat_le, nat_lt, Bool, not, ◌&&◌, if◌then◌else◌, Option, Some, None, option_map, option_and_then, List, [], ◌∷◌, length, codes}
+use Rattle.std.specs.Prelude.{ℕ, ℤ, pos, negsuc, nat_lt, Bool, if◌then◌else◌, Option, Some, None, option_map, option_and_then, List, [], ◌∷◌, codes}
 use Rattle.toml.specs.Data.{Data, Items, no_items, item, table, get, as_array, as_integer}
 use Rattle.toml.specs.Parse.{parse_document}
-use Rattle.radio_book.specs.Site.{SiteView, names_broadcast}
+use Rattle.radio_book.specs.Site.{SiteView, keeps_cell_rules, keeps_site_rules}
 
 -- the values of an array, each as it is read; None where one of them can't be read
 abbrev pub each : {A : Type 0} → (Data → Option A) → Items → Option (List A)
@@ -30,17 +30,11 @@ timeslot_of d = only (λ tn. nat_lt tn 8) (option_and_then natural (as_integer d
 abbrev pub trx_of : Data → Option (List ℕ)
 trx_of d = option_and_then (each timeslot_of) (array_at (codes "tch") d)
 
--- a cell has `trx`, an array of 1 to 4 TRX, the first of which doesn't name the broadcast channel
-abbrev pub keeps_cell_rules : List (List ℕ) → Bool
-keeps_cell_rules cell = (nat_le 1 (length cell) && nat_le (length cell) 4) && not (names_broadcast cell)
-
+-- a cell has `trx`, an array of as many TRX as a cell may have
 abbrev pub cell_of : Data → Option (List (List ℕ))
 cell_of d = only keeps_cell_rules (option_and_then (each trx_of) (array_at (codes "trx") d))
 
--- a document has `cell`, an array of 1 to 64 cells
-abbrev pub keeps_site_rules : SiteView → Bool
-keeps_site_rules site = nat_le 1 (length site) && nat_le (length site) 64
-
+-- a document has `cell`, an array of as many cells as a site may have
 abbrev pub site_of : Data → Option SiteView
 site_of d = only keeps_site_rules (option_and_then (each cell_of) (array_at (codes "cell") d))
 

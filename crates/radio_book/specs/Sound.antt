@@ -1,4 +1,4 @@
--- Which books are sound: what the maps say of one another.
+-- Which books are sound: what the maps say of one another. Ours, of no standard.
 use Rattle.std.specs.Prelude.{◌≡◌, ◌≢◌, ◌⊎◌, ℕ, true, Option, Some, None, IsSome}
 use Rattle.std.specs.Option.{option_and_then}
 use Rattle.std.specs.FinMap as map
@@ -16,7 +16,7 @@ use Rattle.radio_book.specs.Site.{is_traffic}
 use Rattle.radio_book.specs.State.{State, state_of, record_of}
 use Rattle.radio_book.specs.Table.{reference_held}
 
--- the call that a state names
+-- a state of use says whose the channel is
 abbrev pub owner : ChanState → Option ℕ
 owner Free = None
 owner (Held c) = Some c
@@ -35,7 +35,7 @@ reference_of (Some a) = reference_held a.target a.reference
 abbrev pub Uses : CallRecord → ChanId → Type 0
 Uses r x = (r.serving ≡ Some x) ⊎ (target_in r ≡ Some x)
 
--- the state of the target in each stage
+-- what a target is used for, by how far its attempt has come
 abbrev pub target_state : ℕ → Stage → ChanState
 target_state c Taken = Held c
 target_state c Reserved = Held c
@@ -58,24 +58,34 @@ HasReference Refused number = IsSome number
 HasReference Confirmed number = IsSome number
 
 pub record IsSound (b : State) : Type 0 where
-  -- only traffic channels have an entry, and none has it that is free
+  -- only traffic channels have an entry, and none of the entries says Free
   pub traffic : (x : ChanId) (s : ChanState) → map.get b.channels x ≡ Some s → is_traffic b.site x ≡ true
-  pub taken : (x : ChanId) (s : ChanState) → map.get b.channels x ≡ Some s → s ≢ Free
+  pub not_free : (x : ChanId) (s : ChanState) → map.get b.channels x ≡ Some s → s ≢ Free
   -- a state that names a call stands on a channel which that call uses
   pub named : (x : ChanId) (c : ℕ) → owner (state_of b x) ≡ Some c → (r : CallRecord) × (record_of b c ≡ Some r) × Uses r x
   -- a serving channel has a state that names its call
   pub serving : (c : ℕ) (r : CallRecord) (x : ChanId) → record_of b c ≡ Some r → r.serving ≡ Some x → owner (state_of b x) ≡ Some c
   -- an attempt has a target, in the state of its stage
   pub has_target : (c : ℕ) (r : CallRecord) (a : Attempt) → record_of b c ≡ Some r → r.attempt ≡ Some a → IsSome a.target
-  pub target : (c : ℕ) (r : CallRecord) (a : Attempt) (x : ChanId) → record_of b c ≡ Some r → r.attempt ≡ Some a → a.target ≡ Some x → state_of b x ≡ target_state c a.stage
-  -- the two channels of a call lie in different cells
-  pub apart : (c : ℕ) (r : CallRecord) (x y : ChanId) → record_of b c ≡ Some r → r.serving ≡ Some x → target_in r ≡ Some y → x.cell ≢ y.cell
+  pub target :
+      (c : ℕ) (r : CallRecord) (a : Attempt) (x : ChanId) →
+      record_of b c ≡ Some r → r.attempt ≡ Some a → a.target ≡ Some x → state_of b x ≡ target_state c a.stage
+  -- an attempt never moves its call within a cell
+  pub apart :
+      (c : ℕ) (r : CallRecord) (x y : ChanId) →
+      record_of b c ≡ Some r → r.serving ≡ Some x → target_in r ≡ Some y → x.cell ≢ y.cell
   -- the serving channel while an attempt is open, and while none is
-  pub during : (c : ℕ) (r : CallRecord) (a : Attempt) → record_of b c ≡ Some r → r.attempt ≡ Some a → HasServing c a.kind r.serving (state_of b)
+  pub during :
+      (c : ℕ) (r : CallRecord) (a : Attempt) →
+      record_of b c ≡ Some r → r.attempt ≡ Some a → HasServing c a.kind r.serving (state_of b)
   pub resting : (c : ℕ) (r : CallRecord) → record_of b c ≡ Some r → r.attempt ≡ None → IsSome r.serving
   -- the references in use are those that attempts have
-  pub referred : (c : ℕ) (r : CallRecord) (k : Reference) → record_of b c ≡ Some r → reference_of r.attempt ≡ Some k → map.get b.references k ≡ Some c
-  pub in_use : (k : Reference) (c : ℕ) → map.get b.references k ≡ Some c → (r : CallRecord) × (record_of b c ≡ Some r) × (reference_of r.attempt ≡ Some k)
+  pub referred :
+      (c : ℕ) (r : CallRecord) (k : Reference) →
+      record_of b c ≡ Some r → reference_of r.attempt ≡ Some k → map.get b.references k ≡ Some c
+  pub in_use :
+      (k : Reference) (c : ℕ) →
+      map.get b.references k ≡ Some c → (r : CallRecord) × (record_of b c ≡ Some r) × (reference_of r.attempt ≡ Some k)
   pub reserved : (c : ℕ) (r : CallRecord) (a : Attempt) → record_of b c ≡ Some r → r.attempt ≡ Some a → HasReference a.stage a.reference
   -- no stage arms a timer yet
   pub timers : (c : ℕ) → map.get b.timers c ≡ None

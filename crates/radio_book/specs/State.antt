@@ -1,4 +1,5 @@
--- What a radio book is: four finite maps over a site.
+-- What a radio book is: four finite maps over a site. They serve handover (TS 44.018 clause 3.4.4, TS 48.008 clause
+-- 3.1.5) and the activation and release of channels (TS 48.058 clause 4).
 use Rattle.std.specs.Prelude.{ℕ, Option, Some, None, refl}
 use Rattle.std.specs.Ordering.{nat_cmp}
 use Rattle.std.specs.Coded.{Coded, code_by, coded×, coded_ℕ, coded_list}
@@ -18,18 +19,20 @@ use Rattle.radio_book.specs.Maps.{Entry, changed}
 
 pub record State : Type 0 where
   pub site : SiteView
-  -- the state of each channel that isn't free
+  -- channels with their states; a free one has no entry
   pub channels : map.FinMap chan_cmp ChanState
   -- the record of each call
   pub calls : map.FinMap nat_cmp CallRecord
-  -- the call of each handover reference in use
+  -- the call of each handover reference in use (TS 44.018 clause 10.5.2.15)
   pub references : map.FinMap reference_cmp ℕ
-  -- the armed timers: a call has at most one, so they stand by their calls
+  -- the armed timers (TS 44.018 clause 11.1.2, TS 48.008 clause 3.1.5): a call has at most one, so they stand by their calls
   pub timers : map.FinMap nat_cmp Timer
 
 abbrev pub state_code : Coded State
 state_code =
-    code_by (SiteView × (map.FinMap chan_cmp ChanState × (map.FinMap nat_cmp CallRecord × (map.FinMap reference_cmp ℕ × map.FinMap nat_cmp Timer))))
+    code_by
+    (SiteView ×
+    (map.FinMap chan_cmp ChanState × (map.FinMap nat_cmp CallRecord × (map.FinMap reference_cmp ℕ × map.FinMap nat_cmp Timer))))
     (coded× (coded_list (coded_list (coded_list coded_ℕ)))
     (coded× (map.code coded_chan state_row.coded)
     (coded× (map.code coded_ℕ record_row.coded) (coded× (map.code coded_reference coded_ℕ) (map.code coded_ℕ timer_row.coded)))))

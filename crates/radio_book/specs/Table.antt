@@ -1,4 +1,6 @@
 -- The table of the book: for each event, by what the book has, the first refusal that holds or the change and the reply.
+-- Its rows are the steps of calls and handovers (TS 44.018 clause 3.4.4, TS 48.008 clause 3.1.5), and of the activation and
+-- release of channels (TS 48.058 clause 4).
 use Rattle.std.specs.Prelude.{ℕ, Bool, true, false, ◌&&◌, if◌then◌else◌, ◌==◌, ◌⊎◌, Option, Some, None}
 use Rattle.std.specs.Option.{option_map}
 use Rattle.std.specs.FinMap as map
@@ -61,28 +63,31 @@ at_stage r a s = with_attempt r (record a { stage = s })
 abbrev pub shown : CallRecord → (ChanId → ChanState) → Reply
 shown r look = Record r (option_map look r.serving)
 
--- Open: a call begins on a free channel, whose activation is sent
+-- Open: a call begins on a free channel, whose CHANNEL ACTIVATION is sent (TS 48.058 clause 8.4.1)
 abbrev pub open_row : ℕ → ChanId → Option CallRecord → Bool → ChanState → Outcome
 open_row c x (Some r) traffic state = Refuses CallExists
 open_row c x None false state = Refuses NoChannel
-open_row c x None true Free = Accepts (record { channel = becomes x (Pending c); call = is_recorded c (record { serving = Some x; attempt = None }); reference = None; timer = None }) Done
+open_row c x None true Free =
+    Accepts (record no_change { channel = becomes x (Pending c); call = is_recorded c (record { serving = Some x; attempt = None }) }) Done
 open_row c x None true busy = Refuses (ChannelBusy x)
 
--- what the end of a call leaves of its serving channel: a held one is free, of the others a release is awaited
+-- what the end of a call leaves of its serving channel: a held one is free, to the others RF CHANNEL RELEASE is sent
+-- (TS 48.058 clause 8.4.14)
 abbrev pub cleared_state : ChanState → Option ChanState
 cleared_state (Held c) = None
 cleared_state s = Some Off
 
 abbrev pub clear_at : ℕ → CallRecord → Option Attempt → (ChanId → ChanState) → Outcome
 clear_at c r (Some a) look = Refuses WrongPhase
-clear_at c r None look = Accepts (record { channel = option_map (λ x. (x, cleared_state (look x))) r.serving; call = Some (c, None); reference = None; timer = None }) Done
+clear_at c r None look =
+    Accepts (record no_change { channel = option_map (λ x. (x, cleared_state (look x))) r.serving; call = Some (c, None) }) Done
 
 -- Clear: a call without an attempt ends
 abbrev pub clear_row : ℕ → Option CallRecord → (ChanId → ChanState) → Outcome
 clear_row c None look = Refuses NoCall
 clear_row c (Some r) look = clear_at c r r.attempt look
 
--- Look
+-- Look: what the book has of a call
 abbrev pub look_row : Option CallRecord → (ChanId → ChanState) → Outcome
 look_row None look = Refuses NoCall
 look_row (Some r) look = Accepts no_change (shown r look)
@@ -92,9 +97,10 @@ taken_attempt k x = record { kind = k; stage = stage.Taken; target = Some x; ref
 
 -- the channel is held by the call, whose record is this from now on
 abbrev pub takes : ℕ → ChanId → CallRecord → Change
-takes c x r = record { channel = becomes x (Held c); call = is_recorded c r; reference = None; timer = None }
+takes c x r = record no_change { channel = becomes x (Held c); call = is_recorded c r }
 
--- an attempt of a call of this controller, by the state of the serving channel, whether the wanted one is a traffic channel and in the same cell, and its state
+-- an attempt of a call of this controller (TS 44.018 clause 3.4.4): by the state of the serving channel, whether the
+-- wanted one is a traffic channel, whether it lies in the same cell, and its state
 abbrev pub take_from : ℕ → ChanId → CallRecord → ChanState → Bool → Bool → ChanState → Outcome
 take_from c x r (On d) false same wanted = Refuses NoChannel
 take_from c x r (On d) true true wanted = Refuses SameCell
@@ -107,7 +113,7 @@ take_internal c x r (Some a) serving look traffic = Refuses WrongPhase
 take_internal c x r None None look traffic = Refuses WrongPhase
 take_internal c x r None (Some s) look traffic = take_from c x r (look s) traffic (s.cell == x.cell) (look x)
 
--- an attempt of a call that comes from another controller
+-- an attempt of a call that comes from another controller (TS 48.008 clause 3.1.5)
 abbrev pub take_incoming : ℕ → ChanId → Bool → ChanState → Outcome
 take_incoming c x false wanted = Refuses NoChannel
 take_incoming c x true Free = Accepts (takes c x (record { serving = None; attempt = Some (taken_attempt Incoming x) })) Done
@@ -120,13 +126,18 @@ take_row c kind.Internal x (Some r) look traffic = take_internal c x r r.attempt
 take_row c kind.Incoming x (Some r) look traffic = Refuses CallExists
 take_row c kind.Incoming x None look traffic = take_incoming c x traffic (look x)
 
--- the reference with a number in the cell of a channel
+-- the Handover Reference (TS 44.018 clause 10.5.2.15) with a number in the cell of a channel
 abbrev pub reference_at : ChanId → ℕ → Reference
 reference_at x n = record { cell = x.cell; number = n }
 
+-- the record, its attempt with a reference
+abbrev pub reserved_record : CallRecord → Attempt → ℕ → CallRecord
+reserved_record r a n = with_attempt r (record a { stage = stage.Reserved; reference = Some n })
+
 abbrev pub reserve_number : ℕ → ℕ → CallRecord → Attempt → ChanId → Option ℕ → Outcome
 reserve_number c n r a t (Some d) = Refuses (RefBusy t.cell n)
-reserve_number c n r a t None = Accepts (record { channel = None; call = is_recorded c (with_attempt r (record a { stage = stage.Reserved; reference = Some n })); reference = Some (reference_at t n, Some c); timer = None }) Done
+reserve_number c n r a t None =
+    Accepts (record no_change { call = is_recorded c (reserved_record r a n); reference = Some (reference_at t n, Some c) }) Done
 
 abbrev pub reserve_at : ℕ → ℕ → CallRecord → Attempt → Stage → Option ChanId → (Reference → Option ℕ) → Outcome
 reserve_at c n r a stage.Taken (Some t) user = reserve_number c n r a t (user (reference_at t n))
@@ -142,19 +153,21 @@ reserve_row c n None user = Refuses NoCall
 reserve_row c n (Some r) user = reserve_by c n r r.attempt user
 
 abbrev pub activate_at : ℕ → CallRecord → Attempt → Stage → Option ChanId → Outcome
-activate_at c r a stage.Reserved (Some t) = Accepts (record { channel = becomes t (Pending c); call = is_recorded c (at_stage r a stage.Sent); reference = None; timer = None }) Done
+activate_at c r a stage.Reserved (Some t) =
+    Accepts (record no_change { channel = becomes t (Pending c); call = is_recorded c (at_stage r a stage.Sent) }) Done
 activate_at c r a s target = Refuses WrongPhase
 
 abbrev pub activate_by : ℕ → CallRecord → Option Attempt → Outcome
 activate_by c r None = Refuses WrongPhase
 activate_by c r (Some a) = activate_at c r a a.stage a.target
 
--- Activate: the activation of an attempt's channel is sent
+-- Activate: the CHANNEL ACTIVATION of an attempt's channel is sent (TS 48.058 clause 8.4.1)
 abbrev pub activate_row : ℕ → Option CallRecord → Outcome
 activate_row c None = Refuses NoCall
 activate_row c (Some r) = activate_by c r r.attempt
 
--- what an undo leaves of the target: of a channel that may be active a release is awaited, any other is free
+-- what an undo leaves of the target: to a channel that may be active RF CHANNEL RELEASE is sent (TS 48.058 clause 8.4.14),
+-- any other is free
 abbrev pub left_state : ChanState → Option ChanState
 left_state (Pending c) = Some Off
 left_state (On c) = Some Off
@@ -197,7 +210,8 @@ abbrev pub undo_by : ℕ → Why → CallRecord → (ChanId → ChanState) → O
 undo_by c Asked r look armed = undo_attempt c WrongPhase r r.attempt look armed
 undo_by c (Expired m) r look armed = if is_armed m armed then undo_attempt c NotArmed r r.attempt look armed else Refuses NotArmed
 
--- Undo: an attempt is taken back, because it was asked or because a timer of it expired
+-- Undo: an attempt is taken back, because it was asked or because a timer of it expired (T3103 by TS 44.018 clause 11.1.2,
+-- T7 and T8 by TS 48.008 clause 3.1.5)
 abbrev pub undo_row : ℕ → Why → Option CallRecord → (ChanId → ChanState) → Option Timer → Outcome
 undo_row c why None look armed = Refuses NoCall
 undo_row c why (Some r) look armed = undo_by c why r look armed
@@ -215,19 +229,21 @@ abbrev pub moved : ChanId → Stage → ℕ → Option CallRecord → Option (En
 moved x s c None = None
 moved x s c (Some r) = attempt_moved x s c r r.attempt
 
--- Confirm: a station activated a channel
+-- Confirm: a station activated a channel, by CHANNEL ACTIVATION ACKNOWLEDGE (TS 48.058 clause 8.4.2)
 abbrev pub confirm_row : ChanId → ChanState → (ℕ → Option CallRecord) → Outcome
-confirm_row x (Pending c) find = Accepts (record { channel = becomes x (On c); call = moved x stage.Confirmed c (find c); reference = None; timer = None }) (Owned c)
+confirm_row x (Pending c) find =
+    Accepts (record no_change { channel = becomes x (On c); call = moved x stage.Confirmed c (find c) }) (Owned c)
 confirm_row x s find = Refuses (Unexpected x)
 
--- Refuse: a station refused to activate a channel
+-- Refuse: a station refused to activate a channel, by CHANNEL ACTIVATION NEGATIVE ACKNOWLEDGE (TS 48.058 clause 8.4.3)
 abbrev pub refuse_row : ChanId → ChanState → (ℕ → Option CallRecord) → Outcome
-refuse_row x (Pending c) find = Accepts (record { channel = becomes x (Held c); call = moved x stage.Refused c (find c); reference = None; timer = None }) (Owned c)
+refuse_row x (Pending c) find =
+    Accepts (record no_change { channel = becomes x (Held c); call = moved x stage.Refused c (find c) }) (Owned c)
 refuse_row x s find = Refuses (Unexpected x)
 
--- Released: a station released a channel
+-- Released: a station released a channel, by RF CHANNEL RELEASE ACKNOWLEDGE (TS 48.058 clause 8.4.19)
 abbrev pub released_row : ChanId → ChanState → Outcome
-released_row x Off = Accepts (record { channel = is_freed x; call = None; reference = None; timer = None }) Done
+released_row x Off = Accepts (record no_change { channel = is_freed x }) Done
 released_row x s = Refuses (Unexpected x)
 
 -- the row of each event
@@ -251,7 +267,7 @@ abbrev pub reply_of : Outcome → Reply
 reply_of (Refuses refusal) = Refused refusal
 reply_of (Accepts change reply) = reply
 
--- the book after an event
+-- what an event makes of a book; a refused one leaves it as it is
 abbrev pub step : State → Event → State
 step b e = after (row b e) b
 
@@ -262,4 +278,6 @@ reply_to b e = reply_of (row b e)
 -- the event is accepted, and its change puts a key that a map doesn't have
 abbrev pub NeedsRoom : State → Outcome → Type 0
 NeedsRoom b (Refuses refusal) = ⊥
-NeedsRoom b (Accepts change reply) = AddsKey b.channels change.channel ⊎ AddsKey b.calls change.call ⊎ AddsKey b.references change.reference
+NeedsRoom b (Accepts change reply) =
+    AddsKey b.channels change.channel ⊎ AddsKey b.calls change.call ⊎
+    AddsKey b.references change.reference ⊎ AddsKey b.timers change.timer

@@ -1,7 +1,8 @@
 //! The radio book.
-ghost use Rattle.std.specs.Prelude.{◌≡◌, Ok, None, OnOk, OnErr, IfOk, IfSome, IsOkAnd};
+ghost use Rattle.std.specs.Prelude.{◌≡◌, ◌↔◌, Ok, None, OnOk, OnErr, IfOk, IfSome, IsOk};
 ghost use Rattle.std.specs.FinMap as map;
 ghost use Rattle.radio_book.specs.State.{empty_book};
+ghost use Rattle.radio_book.specs.Sound.{IsSound};
 ghost use Rattle.radio_book.specs.declared.event.Event.{Event};
 ghost use Rattle.radio_book.specs.Table.{step, reply_to, row, NeedsRoom};
 ghost use Rattle.radio_book.specs.Choice.{NoneFree, TakesFree, ReservesFree, free_count};
@@ -21,6 +22,7 @@ mod tests;
 pub struct Usage {
     /// Channels that aren't free.
     pub channels: usize,
+    /// Calls that have a record.
     pub calls: usize,
     /// Handover references in use.
     pub references: usize,
@@ -51,7 +53,8 @@ impl<A: Allocator> Model for Book<A> {
 impl<A: Allocator + Copy> Book<A> {
     /// The book of a site in which nothing is in use.
     pub fn new(alloc: A, site: Arc<Site<A>, A>) -> Result<Book<A>, AllocError>
-        ensures { IsOkAnd result (λ book. book ≡ empty_book site.value) }
+        ensures empty { IfOk result (λ book. book ≡ empty_book site.value) }
+        ensures memory { IsOk result }
     {
         let records = Records::new(alloc, site);
         Ok(Book { records })
@@ -59,17 +62,18 @@ impl<A: Allocator + Copy> Book<A> {
 
     /// The site, which never changes.
     pub fn site(&self) -> &Arc<Site<A>, A>
-        ensures { result.now.value ≡ self.now.site }
+        ensures site { result.now.value ≡ self.now.site }
     {
         self.records.site()
     }
 
-    /// How much the book holds.
+    /// How much the book holds. Its contract also hands out that every book is sound.
     pub fn usage(&self) -> Usage
         ensures channels { result.channels ≡ map.len self.now.channels }
         ensures calls { result.calls ≡ map.len self.now.calls }
         ensures references { result.references ≡ map.len self.now.references }
         ensures timers { result.timers ≡ map.len self.now.timers }
+        ensures sound { IsSound self.now }
     {
         Usage {
             channels: self.records.channels(),
@@ -102,7 +106,7 @@ impl<A: Allocator + Copy> Book<A> {
         kind: Kind,
         cell: u8,
     ) -> Result<Option<(Event, Reply)>, AllocError>
-        ensures none { result ≡ Ok None → NoneFree self.old cell }
+        ensures none { result ≡ Ok None ↔ NoneFree self.old cell }
         ensures kept { result ≡ Ok None → self.new ≡ self.old }
         ensures event { IfOk result (λ chosen. IfSome chosen (λ taken. TakesFree self.old call kind cell taken.0)) }
         ensures reply { IfOk result (λ chosen. IfSome chosen (λ taken. taken.1 ≡ reply_to self.old taken.0)) }
@@ -137,7 +141,7 @@ impl<A: Allocator + Copy> Book<A> {
 
     /// How many traffic channels of the cell are free. A cell that isn't the site's has none.
     pub fn free_in(&self, cell: u8) -> u32
-        ensures { result ≡ free_count self.now cell }
+        ensures count { result ≡ free_count self.now cell }
     {
         self.records.free_in(cell)
     }

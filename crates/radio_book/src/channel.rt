@@ -1,4 +1,5 @@
-//! Channels of a cell, and what is done with them.
+//! Channels of a cell, and what is done with them: a station is asked to activate and to release them, and
+//! answers (TS 48.058 clause 4).
 use std::fmt;
 
 /// A channel: one timeslot of one TRX of one cell (TS 45.002 clause 5).
@@ -14,6 +15,11 @@ pub struct ChanId {
 
 /// `cell/trx/tn`, in decimal digits.
 impl fmt::Display for ChanId {
+    ghost use Rattle.std.specs.Prelude.{Some};
+    ghost use Rattle.radio_book.specs.Text.{chan_text};
+
+    ghost output = { λ x. Some (chan_text x) };
+
     fn fmt<W: fmt::Write>(&self, f: &mut fmt::Formatter<W>) -> fmt::Result {
         write!(f, "{}/{}/{}", self.cell, self.trx, self.tn)
     }
@@ -22,14 +28,16 @@ impl fmt::Display for ChanId {
 /// What a channel is used for at present.
 #[derive(Clone, Copy, Debug, PartialEq, Eq)]
 pub enum ChanState {
-    /// Nobody has it.
+    /// No call has it, and it is not active.
     Free,
-    /// A call has it, and the station was not told.
+    /// A call has it, and it is not active: the station was not asked to activate it, or refused to.
     Held(u16),
-    /// The station was asked to activate it for a call, and has not answered.
+    /// The station was asked to activate it for a call (CHANNEL ACTIVATION, TS 48.058 clause 8.4.1), and has
+    /// not answered.
     Pending(u16),
-    /// It is active for a call.
+    /// It is active for a call: the station acknowledged its activation (TS 48.058 clause 8.4.2).
     On(u16),
-    /// It was, or may have been, active; the station was asked to release it, and has not acknowledged.
+    /// It was, or may have been, active; the station was asked to release it (RF CHANNEL RELEASE, TS 48.058
+    /// clause 8.4.14), and has not acknowledged.
     Off,
 }

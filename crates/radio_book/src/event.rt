@@ -1,4 +1,5 @@
-//! What may happen to a radio book, and what it answers.
+//! What may happen to a radio book, and what it answers: the steps of calls and of handovers (TS 44.018 clause
+//! 3.4.4, TS 48.008 clause 3.1.5), and the answers of stations about channels (TS 48.058 clause 4).
 use crate::channel::{ChanId, ChanState};
 
 /// Where the call of an attempt comes from.
@@ -13,19 +14,24 @@ pub enum Kind {
 /// The timers that guard a handover (TS 44.018 clause 11.1.2, TS 48.008 clause 3.1.5).
 #[derive(Clone, Copy, Debug, PartialEq, Eq)]
 pub enum Timer {
+    /// From the HANDOVER COMMAND until the mobile has come to the new channel (TS 44.018 clause 11.1.2).
     T3103,
+    /// From HANDOVER REQUIRED until the switching centre answers (TS 48.008 clause 3.1.5).
     T7,
+    /// From the HANDOVER COMMAND to another controller until the call is cleared (TS 48.008 clause 3.1.5).
     T8,
 }
 
 /// Why an attempt is taken back.
 #[derive(Clone, Copy, Debug, PartialEq, Eq)]
 pub enum Why {
+    /// A caller asked for it.
     Asked,
+    /// A timer that guards it ran out.
     Expired(Timer),
 }
 
-/// How far an attempt has come.
+/// The steps that an attempt at handover has behind it.
 #[derive(Clone, Copy, Debug, PartialEq, Eq)]
 pub enum Stage {
     /// It has a channel.
@@ -40,66 +46,97 @@ pub enum Stage {
     Confirmed,
 }
 
-/// What kind of handover is attempted.
+/// What kind of handover is attempted: within this controller (TS 44.018 clause 3.4.4), or towards it from another
+/// (TS 48.008 clause 3.1.5).
 #[derive(Clone, Copy, Debug, PartialEq, Eq)]
 pub enum AttemptKind {
+    /// As [`Kind::Internal`].
     Internal,
+    /// As [`Kind::Incoming`].
     Incoming,
 }
 
 /// An attempt at handover that is open.
 #[derive(Clone, Copy, Debug, PartialEq, Eq)]
 pub struct Attempt {
+    /// Where the call comes from.
     pub kind: AttemptKind,
+    /// How far it has come.
     pub stage: Stage,
-    /// The channel that the call is to move to.
+    /// The channel that the call is to move to. An attempt of today's kinds has one in every stage.
     pub target: Option<ChanId>,
-    /// The handover reference in the target's cell, 0 to 255.
+    /// The handover reference in the target's cell, 0 to 255. `None` in [`Stage::Taken`] alone.
     pub reference: Option<u8>,
 }
 
 /// What the book has of a call.
 #[derive(Clone, Copy, Debug, PartialEq, Eq)]
 pub struct CallRecord {
-    /// The channel that the call is on.
+    /// The channel that the call is on. `None` for a call that comes from another controller.
     pub serving: Option<ChanId>,
+    /// The attempt that is open. `None` where the call rests on its serving channel.
     pub attempt: Option<Attempt>,
 }
 
 /// A handover reference of a cell (TS 44.018 clause 10.5.2.15).
 #[derive(Clone, Copy, Debug, PartialEq, Eq, PartialOrd, Ord)]
 pub struct Reference {
+    /// The cell that the call moves to.
     pub cell: u8,
-    /// 0 to 255.
+    /// 0 to 255, of one attempt of the cell at a time.
     pub number: u8,
 }
 
-/// What may happen. A call is named by its number, 0 to 65535.
+/// What may happen, and why it may be refused. A call is named by its number, 0 to 65535.
 #[derive(Clone, Copy, Debug, PartialEq, Eq)]
 pub enum Event {
-    /// A call begins on a channel.
+    /// A call begins on a channel, whose CHANNEL ACTIVATION is sent (TS 48.058 clause 8.4.1).
+    ///
+    /// Refused: `CallExists`, `NoChannel`, `ChannelBusy`.
     Open(u16, ChanId),
-    /// A call ends.
+    /// A call ends. Where its channel may be active, the RF CHANNEL RELEASE is sent (TS 48.058 clause 8.4.14).
+    ///
+    /// Refused: `NoCall`, `WrongPhase` (an attempt is open).
     Clear(u16),
     /// What the book has of a call is asked.
+    ///
+    /// Refused: `NoCall`.
     Look(u16),
-    /// An attempt takes a channel.
+    /// An attempt opens, and takes a channel of another cell than the call's.
+    ///
+    /// Refused where the call is of this controller: `NoCall`, `WrongPhase` (an attempt is open, or the serving
+    /// channel isn't active), `NoChannel`, `SameCell`, `ChannelBusy`. Where it comes from another: `CallExists`,
+    /// `NoChannel`, `ChannelBusy`.
     Take(u16, Kind, ChanId),
-    /// An attempt reserves a handover reference in the cell of its channel.
+    /// An attempt reserves a Handover Reference (TS 44.018 clause 10.5.2.15) in the cell of its channel.
+    ///
+    /// Refused: `NoCall`, `WrongPhase` (no attempt in [`Stage::Taken`]), `RefBusy`.
     Reserve(u16, u8),
-    /// The activation of an attempt's channel is sent.
+    /// The CHANNEL ACTIVATION (TS 48.058 clause 8.4.1) of an attempt's channel is sent.
+    ///
+    /// Refused: `NoCall`, `WrongPhase` (no attempt in [`Stage::Reserved`]).
     Activate(u16),
-    /// An attempt is taken back.
+    /// An attempt is taken back. Where its channel may be active, the RF CHANNEL RELEASE is sent (TS 48.058
+    /// clause 8.4.14).
+    ///
+    /// Refused where it was asked: `NoCall`, `WrongPhase` (no attempt is open). Where a timer expired: `NoCall`,
+    /// `NotArmed`.
     Undo(u16, Why),
-    /// A station activated a channel.
+    /// A station activated a channel: CHANNEL ACTIVATION ACKNOWLEDGE (TS 48.058 clause 8.4.2).
+    ///
+    /// Refused: `Unexpected` (the channel isn't [`ChanState::Pending`]).
     Confirm(ChanId),
-    /// A station refused to activate a channel.
+    /// A station refused to activate a channel: CHANNEL ACTIVATION NEGATIVE ACKNOWLEDGE (TS 48.058 clause 8.4.3).
+    ///
+    /// Refused: `Unexpected` (the channel isn't [`ChanState::Pending`]).
     Refuse(ChanId),
-    /// A station released a channel.
+    /// A station released a channel: RF CHANNEL RELEASE ACKNOWLEDGE (TS 48.058 clause 8.4.19).
+    ///
+    /// Refused: `Unexpected` (the channel isn't [`ChanState::Off`]).
     Released(ChanId),
 }
 
-/// Why an event is refused.
+/// Why an event is refused. Of those that hold, the first in this order is answered.
 #[derive(Clone, Copy, Debug, PartialEq, Eq)]
 pub enum Refusal {
     /// The book has no such call.
@@ -114,7 +151,7 @@ pub enum Refusal {
     SameCell,
     /// The channel is not free.
     ChannelBusy(ChanId),
-    /// The handover reference of the cell is in use.
+    /// The handover reference is in use: its cell, and its number.
     RefBusy(u8, u8),
     /// The channel does not wait for this message of its station.
     Unexpected(ChanId),
@@ -125,10 +162,12 @@ pub enum Refusal {
 /// What the book answers to an event.
 #[derive(Clone, Copy, Debug, PartialEq, Eq)]
 pub enum Reply {
+    /// The event was accepted, and there is nothing to tell.
     Done,
     /// What the book had of the call, and the state of its serving channel.
     Record(CallRecord, Option<ChanState>),
     /// The channel is used by this call.
     Owned(u16),
+    /// The event was refused, and changed nothing.
     Refused(Refusal),
 }

@@ -1,10 +1,10 @@
-//! What takes the steps of an attempt back.
+//! The journal of an attempt: for each of its steps, what undoes it. Ours, of no standard.
 ghost use Rattle.std.specs.Prelude.{◌≡◌, ◌<◌, [], ◌∷◌, ◌++◌, length, option_to_list, IfNone};
 
 use crate::channel::ChanId;
 use std::marker::Model;
 
-/// What takes one step of an attempt back.
+/// The inverse of a step.
 #[derive(Clone, Copy, Debug, PartialEq, Eq)]
 pub enum Inverse {
     /// The channel is free, where it is held.
@@ -19,11 +19,12 @@ pub enum Inverse {
     SwitchOff(ChanId),
 }
 
-/// Up to seven inverses, the last pushed first out. It keeps them in itself, and takes no memory.
+/// A stack of up to seven inverses, which it keeps in itself: it takes no memory.
 #[derive(Drop)]
 pub struct Journal {
-    places: [Inverse; 7],
-    count: usize,
+    inverses: [Inverse; 7],
+    // How many of them were pushed; those behind say nothing.
+    pushed: usize,
 }
 
 impl Model for Journal {
@@ -32,9 +33,10 @@ impl Model for Journal {
 
     ghost Value = { List Inverse };
 
-    ghost view = { λ journal. take journal.count journal.places };
+    ghost view = { λ journal. take journal.pushed journal.inverses };
 
-    ghost invariant = { λ journal. (journal.count ≤ 7) × (length journal.places ≡ 7) };
+    // no more is pushed than there is room for, and that is seven whatever was written
+    ghost invariant = { λ journal. (journal.pushed ≤ 7) × (length journal.inverses ≡ 7) };
 }
 
 impl Journal {
@@ -42,8 +44,8 @@ impl Journal {
         ensures { result ≡ [] }
     {
         Journal {
-            places: [Inverse::Settle; 7],
-            count: 0,
+            inverses: [Inverse::Settle; 7],
+            pushed: 0,
         }
     }
 
@@ -51,23 +53,24 @@ impl Journal {
         ensures { result ≡ self.now }
     {
         Journal {
-            places: self.places,
-            count: self.count,
+            inverses: self.inverses,
+            pushed: self.pushed,
         }
     }
 
     pub fn len(&self) -> usize
         ensures { result ≡ length self.now }
     {
-        self.count
+        self.pushed
     }
 
     pub fn push(&mut self, inverse: Inverse)
         requires { length self.old < 7 }
         ensures { self.new ≡ self.old ++ inverse ∷ [] }
     {
-        self.places[self.count] = inverse;
-        self.count += 1;
+        let next = self.pushed;
+        self.inverses[next] = inverse;
+        self.pushed = next + 1;
     }
 
     /// The inverse that was pushed last.
@@ -75,10 +78,11 @@ impl Journal {
         ensures items { self.old ≡ self.new ++ option_to_list result }
         ensures empty { IfNone result (self.new ≡ []) }
     {
-        if self.count == 0 {
+        if self.pushed == 0 {
             return None;
         }
-        self.count -= 1;
-        Some(self.places[self.count])
+        let last = self.pushed - 1;
+        self.pushed = last;
+        Some(self.inverses[last])
     }
 }

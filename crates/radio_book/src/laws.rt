@@ -1,5 +1,5 @@
-//! Laws of the table, of every book and every event.
-ghost use Rattle.radio_book.specs.Run.{StepsKeepSound, RunsAreSound};
+//! Laws of the table, of every book and every event. Ours, of no standard.
+ghost use Rattle.radio_book.specs.Run.{StepsKeepSound, RunsAreSound, LeadsIsRun};
 ghost use Rattle.radio_book.specs.Journal.{InversesUndo};
 
 /// Every event leads from a sound book to a sound one.
@@ -15,4 +15,9 @@ pub fn runs_are_sound()
 /// The stored inverses of an open attempt, run last first, are its undo.
 pub fn inverses_undo()
     ensures undone { InversesUndo }
+{}
+
+/// Events with their replies lead to a book just where that is the book after them, and those their replies.
+pub fn leads_is_run()
+    ensures run { LeadsIsRun }
 {}

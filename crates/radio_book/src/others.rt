@@ -1,17 +1,25 @@
-//! Laws of the table: a step of others commutes with the taking away of what an attempt has.
+//! Laws of the table: a step of others commutes with the taking away of what an attempt has. They are of no
+//! standard, but ours.
 //!
 //! While an attempt is open, all that it has may be taken out of the book: its channel, its reference, its
-//! timer and itself. Once it was undone and its target's release is awaited, the target may be taken out. A
-//! step that is not by the attempt's call, nor a station's on its target, and is not refused for what the
-//! attempt has, then comes to the same book whether it stands before the taking away or after it, and is
-//! answered the same. There is one law for each kind of event.
+//! timer and itself. A step that is not by the attempt's call, nor a station's on its target, and is not
+//! refused for its target or its reference, comes to the same book whether it stands before the taking away
+//! or after it, and is answered the same.
+//!
+//! Once the attempt was undone and its target's release is awaited, the target alone may be taken out. A step
+//! that is not a station's on the target, and is not refused for it, commutes with that in the same way, be it
+//! by the attempt's call or by another.
+//!
+//! There is one law for each kind of event, one for them all, and one that ties the two phases: what an undo
+//! and then the taking out of the target leave is the book without the attempt.
 
 ghost use Rattle.std.specs.Prelude.{ℕ};
 ghost use Rattle.radio_book.specs.declared.channel.ChanId.{ChanId};
 ghost use Rattle.radio_book.specs.declared.event.Kind.{Kind};
 ghost use Rattle.radio_book.specs.declared.event.Why.{Why};
+ghost use Rattle.radio_book.specs.declared.event.Event.{Event};
 ghost use Rattle.radio_book.specs.declared.event.Event.TheVariants as event;
-ghost use Rattle.radio_book.specs.Others.{CommutesWithUndone};
+ghost use Rattle.radio_book.specs.Others.{CommutesWithUndone, UndoneIsGone};
 
 /// A call that begins.
 pub fn open_commutes()
@@ -61,4 +69,14 @@ pub fn refuse_commutes()
 /// A station that released a channel.
 pub fn released_commutes()
     ensures commutes { (x : ChanId) → CommutesWithUndone (event.Released x) }
+{}
+
+/// Any event.
+pub fn steps_commute()
+    ensures commutes { (e : Event) → CommutesWithUndone e }
+{}
+
+/// An undo, and then its target out of the book: the attempt is out of the book.
+pub fn undone_is_gone()
+    ensures gone { UndoneIsGone }
 {}

@@ -121,7 +121,7 @@ impl<A: Allocator + Copy> Site<A> {
 
     /// The number of TRX of a cell, 1 to 4; `None` where there is no such cell.
     pub fn trx(&self, cell: u8) -> Option<u8>
-        ensures { result ≡ option_map (λ found. length found) (slice_get self.now cell) }
+        ensures count { result ≡ option_map (λ found. length found) (slice_get self.now cell) }
     {
         match self.cells.get(cell as usize) {
             Some(found) => Some(found.trx.len() as u8),
@@ -132,7 +132,7 @@ impl<A: Allocator + Copy> Site<A> {
     /// The traffic timeslots of a TRX of a cell, in the site file's order; `None` where there is no
     /// such cell or TRX.
     pub fn timeslots(&self, cell: u8, trx: u8) -> Option<&[u8]>
-        ensures { option_map (λ found. found.now) result ≡ option_and_then (λ found. slice_get found trx) (slice_get self.now cell) }
+        ensures value { option_map (λ found. found.now) result ≡ option_and_then (λ found. slice_get found trx) (slice_get self.now cell) }
     {
         timeslots_in(self.cells.as_slice(), cell, trx)
     }

@@ -1,4 +1,4 @@
-//! The maps of the book, each seen as a finite map.
+//! The four tables of a book. Each wraps a tree, and is seen as the finite map from its keys to its values.
 ghost use Rattle.std.specs.Prelude.{◌≡◌, OnOk, OnErr, None, IsSome};
 ghost use Rattle.std.specs.FinMap as map;
 
@@ -9,7 +9,7 @@ use std::alloc::{AllocError, Allocator, Global};
 use std::collections::BTreeMap;
 use std::marker::Model;
 
-/// The state of each channel that isn't free.
+/// Channels with their states; a free one has no entry.
 #[derive(Drop)]
 pub struct Channels<A: Allocator = Global> {
     states: BTreeMap<ChanId, ChanState, A>,
@@ -59,7 +59,7 @@ impl<A: Allocator + Copy> Channels<A> {
         Ok(())
     }
 
-    /// A change in place, which takes no memory.
+    /// Another value at a key that is there, so no memory is wanted.
     pub fn replace(&mut self, x: ChanId, state: ChanState)
         requires { IsSome (map.get self.old x) }
         ensures { self.new ≡ map.insert self.old x state }
@@ -140,7 +140,7 @@ impl<A: Allocator + Copy> Calls<A> {
         Ok(())
     }
 
-    /// A change in place, which takes no memory.
+    /// Another value at a key that is there, so no memory is wanted.
     pub fn replace(&mut self, call: u16, entry: CallEntry)
         requires { IsSome (map.get self.old call) }
         ensures { self.new ≡ map.insert self.old call entry }

@@ -51,5 +51,10 @@ fn other_words_are_refused(rt: HostRuntime) {
     refuses(&rt, alloc, &["run", "a.toml", "b.txt", "c.txt"], "c.txt");
     refuses(&rt, alloc, &["runn", "a.toml", "b.txt"], "runn");
     refuses(&rt, alloc, &["--verbose"], "--verbose");
-    refuses(&rt, alloc, &["run", "--peer", "c.toml", "a.toml", "b.txt"], "--peer");
+    refuses(
+        &rt,
+        alloc,
+        &["run", "--peer", "c.toml", "a.toml", "b.txt"],
+        "--peer",
+    );
 }

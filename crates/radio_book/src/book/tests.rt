@@ -159,48 +159,50 @@ fn a_refused_serving_channel_is_held_until_the_call_ends(rt: HostRuntime) -> Res
     Ok(())
 }
 
+// What a book with call 1 alone refuses, and why.
+const REFUSALS: [(Event, Refusal); 23] = [
+    (Event::Open(1, NO_TRAFFIC), Refusal::CallExists),
+    (Event::Open(2, NO_TRAFFIC), Refusal::NoChannel),
+    (Event::Open(2, HOME), Refusal::ChannelBusy(HOME)),
+    (Event::Clear(2), Refusal::NoCall),
+    (Event::Look(2), Refusal::NoCall),
+    (Event::Take(2, Kind::Internal, NO_TRAFFIC), Refusal::NoCall),
+    (
+        Event::Take(1, Kind::Internal, NO_TRAFFIC),
+        Refusal::NoChannel,
+    ),
+    (Event::Take(1, Kind::Internal, HOME), Refusal::SameCell),
+    (Event::Take(1, Kind::Internal, OTHER), Refusal::SameCell),
+    (
+        Event::Take(1, Kind::Incoming, NO_TRAFFIC),
+        Refusal::CallExists,
+    ),
+    (
+        Event::Take(2, Kind::Incoming, NO_TRAFFIC),
+        Refusal::NoChannel,
+    ),
+    (
+        Event::Take(2, Kind::Incoming, HOME),
+        Refusal::ChannelBusy(HOME),
+    ),
+    (Event::Reserve(2, 0), Refusal::NoCall),
+    (Event::Reserve(1, 0), Refusal::WrongPhase),
+    (Event::Activate(2), Refusal::NoCall),
+    (Event::Activate(1), Refusal::WrongPhase),
+    (Event::Undo(2, Why::Asked), Refusal::NoCall),
+    (Event::Undo(1, Why::Asked), Refusal::WrongPhase),
+    (Event::Undo(2, Why::Expired(Timer::T3103)), Refusal::NoCall),
+    (Event::Undo(1, Why::Expired(Timer::T7)), Refusal::NotArmed),
+    (Event::Confirm(HOME), Refusal::Unexpected(HOME)),
+    (Event::Refuse(TARGET), Refusal::Unexpected(TARGET)),
+    (Event::Released(HOME), Refusal::Unexpected(HOME)),
+];
+
 #[test]
 fn the_first_refusal_is_answered(rt: HostRuntime) -> Result<(), Fail> {
     let mut book = book_of(rt.alloc(), rt.alloc(), THREE_CHANNELS)?;
     play(&rt, &mut book, &STEADY)?;
-    let refusals = [
-        (Event::Open(1, NO_TRAFFIC), Refusal::CallExists),
-        (Event::Open(2, NO_TRAFFIC), Refusal::NoChannel),
-        (Event::Open(2, HOME), Refusal::ChannelBusy(HOME)),
-        (Event::Clear(2), Refusal::NoCall),
-        (Event::Look(2), Refusal::NoCall),
-        (Event::Take(2, Kind::Internal, NO_TRAFFIC), Refusal::NoCall),
-        (
-            Event::Take(1, Kind::Internal, NO_TRAFFIC),
-            Refusal::NoChannel,
-        ),
-        (Event::Take(1, Kind::Internal, HOME), Refusal::SameCell),
-        (Event::Take(1, Kind::Internal, OTHER), Refusal::SameCell),
-        (
-            Event::Take(1, Kind::Incoming, NO_TRAFFIC),
-            Refusal::CallExists,
-        ),
-        (
-            Event::Take(2, Kind::Incoming, NO_TRAFFIC),
-            Refusal::NoChannel,
-        ),
-        (
-            Event::Take(2, Kind::Incoming, HOME),
-            Refusal::ChannelBusy(HOME),
-        ),
-        (Event::Reserve(2, 0), Refusal::NoCall),
-        (Event::Reserve(1, 0), Refusal::WrongPhase),
-        (Event::Activate(2), Refusal::NoCall),
-        (Event::Activate(1), Refusal::WrongPhase),
-        (Event::Undo(2, Why::Asked), Refusal::NoCall),
-        (Event::Undo(1, Why::Asked), Refusal::WrongPhase),
-        (Event::Undo(2, Why::Expired(Timer::T3103)), Refusal::NoCall),
-        (Event::Undo(1, Why::Expired(Timer::T7)), Refusal::NotArmed),
-        (Event::Confirm(HOME), Refusal::Unexpected(HOME)),
-        (Event::Refuse(TARGET), Refusal::Unexpected(TARGET)),
-        (Event::Released(HOME), Refusal::Unexpected(HOME)),
-    ];
-    for (event, refusal) in refusals {
+    for (event, refusal) in REFUSALS {
         assert_eq!(rt; book.step(event)?, Reply::Refused(refusal), "{event:?}");
     }
     assert_eq!(rt; book.usage(), usage(1, 1, 0));
@@ -386,6 +388,40 @@ fn any_free_channel_is_taken(rt: HostRuntime) -> Result<(), Fail> {
         book.reserve_any(1)?,
         (Event::Reserve(1, 0), Reply::Refused(Refusal::WrongPhase))
     );
+    Ok(())
+}
+
+// Timeslots 5 and 3 of TRX 1, and 6 and 2 of TRX 2.
+const SCATTERED: &str = "[[cell]]
+trx = [{ tch = [] }, { tch = [5, 3] }, { tch = [6, 2] }]
+";
+
+#[test]
+fn the_lowest_free_channel_is_taken(rt: HostRuntime) -> Result<(), Fail> {
+    let mut book = book_of(rt.alloc(), rt.alloc(), SCATTERED)?;
+    for (call, trx, tn) in [(1, 1, 3), (2, 1, 5), (3, 2, 2), (4, 2, 6)] {
+        let x = ChanId { cell: 0, trx, tn };
+        let taken = (Event::Take(call, Kind::Incoming, x), Reply::Done);
+        let chosen = book.take_any(call, Kind::Incoming, 0)?;
+        assert_eq!(rt; chosen, Some(taken), "call {call}");
+    }
+    assert_eq!(rt; book.take_any(5, Kind::Incoming, 0)?, None);
+    Ok(())
+}
+
+#[test]
+fn the_lowest_free_number_is_reserved(rt: HostRuntime) -> Result<(), Fail> {
+    for (first, second, lowest) in [(0, 1, 2), (0, 2, 1), (2, 1, 0), (1, 0, 2), (255, 0, 1)] {
+        let mut book = book_of(rt.alloc(), rt.alloc(), SCATTERED)?;
+        book.take_any(1, Kind::Incoming, 0)?;
+        book.take_any(2, Kind::Incoming, 0)?;
+        book.take_any(3, Kind::Incoming, 0)?;
+        book.step(Event::Reserve(1, first))?;
+        book.step(Event::Reserve(2, second))?;
+        let reserved = (Event::Reserve(3, lowest), Reply::Done);
+        let chosen = book.reserve_any(3)?;
+        assert_eq!(rt; chosen, reserved, "{first} and {second} in use");
+    }
     Ok(())
 }
 

@@ -1,4 +1,3 @@
-use Rattle.rsl_messages.specs.Texts.{ReadingIsUnique}
 use Rattle.rsl_messages.proofs.Faults.{one_fault}
 use Rattle.rsl_messages.proofs.Unique.{one_value, no_fault}
 use Rattle.rsl_messages.proofs.laws.reading_is_unique.Goals as goal

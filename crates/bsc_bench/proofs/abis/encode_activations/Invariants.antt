@@ -1,5 +1,5 @@
 use Rattle.rsl_messages.specs.Texts.{HasCanonical}
-use Rattle.bsc_bench.proofs.abis.encode_each.Given as goal
+use Rattle.bsc_bench.proofs.abis.encode_activations.Given as goal
 
 -- both messages can be written
 abbrev pub invariant-loop-turn : goal.invariant-loop-turn

@@ -1,0 +1,4 @@
+pub mod ReadCells
+pub mod Lengths
+pub mod Written
+pub mod Unique

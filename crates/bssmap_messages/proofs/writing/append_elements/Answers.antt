@@ -1,0 +1,29 @@
+use Rattle.std.proofs.Common.{◌≡◌, ◌+◌, ◌*◌, ◌∷◌, [], ◌++◌, length, ap, ◌∙◌, append_assoc, arith}
+use Rattle.octet_elements.specs.Elements.{all_spelled, spelled}
+use Rattle.bssmap_messages.specs.Forms.{interface_a}
+use Rattle.bssmap_messages.specs.Values.{cell_value, classmark_element, where_some, where_true, cells_value}
+use Rattle.bssmap_messages.proofs.Lengths.{required_length}
+use Rattle.bssmap_messages.proofs.writing.append_elements.Goals as goal
+
+pub append_required-requires-clause-room : goal.append_required-requires-clause-room
+append_required-requires-clause-room g c =
+    let arm = c.in-HandoverRequired in
+    let long = required_length arm.cause arm.response arm.cells in
+    let cells : length c.as_slice-in-HandoverRequired.result.now ≡ length arm.cells = ap length c.as_slice-in-HandoverRequired.ensures in
+    let room = rw arm.is at c.requires.room in
+    omega arith
+
+pub returns-in-HandoverRequest : goal.returns-in-HandoverRequest
+returns-in-HandoverRequest g c =
+    let arm = c.in-HandoverRequest in
+    rw arm.is (c.append_request.ensures ∙ (λ i. c.args.out.now.items ++ all_spelled interface_a ((0x0B, c.as_slice.ensures i) ∷ (0x0A, c.as_slice-in-HandoverRequest.ensures i) ∷ classmark_element arm.classmark ∷ (0x05, cell_value arm.serving) ∷ (0x05, cell_value arm.target) ∷ [])))
+
+pub returns-in-HandoverFailure : goal.returns-in-HandoverFailure
+returns-in-HandoverFailure g c =
+    let arm = c.in-HandoverFailure in
+    rw arm.is (c.append_rr-in-HandoverFailure.ensures ∙ ap (λ x. x ++ all_spelled interface_a (where_some 0x15 arm.rr)) c.append_element.ensures.items ∙ append_assoc c.args.out.now.items (4 ∷ 1 ∷ arm.cause ∷ []) (all_spelled interface_a (where_some 0x15 arm.rr)))
+
+pub returns-in-HandoverPerformed : goal.returns-in-HandoverPerformed
+returns-in-HandoverPerformed g c =
+    let arm = c.in-HandoverPerformed in
+    rw arm.is (c.append_cell.ensures.items ∙ ap (λ x. x ++ spelled interface_a (0x05, cell_value arm.cell)) c.append_element-in-HandoverPerformed.ensures.items ∙ append_assoc c.args.out.now.items (4 ∷ 1 ∷ arm.cause ∷ []) (spelled interface_a (0x05, cell_value arm.cell)))

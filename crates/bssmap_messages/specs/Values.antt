@@ -1,0 +1,148 @@
+-- What the value of an element says, and how it is written (TS 48.008 clause 3.2.2).
+use Rattle.std.specs.Prelude.{◌≡◌, ℕ, ◌+◌, ◌*◌, ◌/◌, ◌%◌, if◌then◌else◌, ◌==◌, Bool, true, false, List, [], ◌∷◌, ◌++◌, Option, Some, None, flat_map, unwrap_or, Result, Ok, Err}
+use Rattle.std.specs.Borrow.{Bor}
+use Rattle.std.specs.Option.{option_map}
+use Rattle.octet_elements.specs.Elements.{Element}
+use Rattle.bssmap_messages.specs.declared.message.CellId.{CellId}
+use Rattle.bssmap_messages.specs.declared.message.Classmark.{Classmark}
+use Rattle.bssmap_messages.specs.declared.message.Classmark.TheVariants.{One, Two}
+use Rattle.bssmap_messages.specs.declared.values.ClassmarkValue.{ClassmarkValue}
+use Rattle.bssmap_messages.specs.declared.values.ClassmarkValue.TheVariants as in_octets
+use Rattle.bssmap_messages.specs.declared.fault.ElementFault.{ElementFault}
+use Rattle.bssmap_messages.specs.declared.fault.ElementFault.TheVariants.{Absent, Bad}
+use Rattle.bssmap_messages.specs.declared.fault.BssmapFault.{BssmapFault}
+use Rattle.bssmap_messages.specs.declared.fault.BssmapFault.TheVariants.{Missing, BadElement}
+
+-- a value where it is there, seen without its reference
+abbrev pub seen : Option (Bor (List ℕ)) → Option (List ℕ)
+seen value = option_map (λ v. v.now) value
+
+-- the fault that a message has by its element
+abbrev pub fault_of : ElementFault → BssmapFault
+fault_of (Absent i) = Missing i
+fault_of (Bad i) = BadElement i
+
+-- the value's first octet
+abbrev pub octet_in : ℕ → Option (List ℕ) → Result ℕ ElementFault
+octet_in i None = Err (Absent i)
+octet_in i (Some []) = Err (Bad i)
+octet_in i (Some (octet ∷ v)) = Ok octet
+
+-- the value's first octet, where the element is there
+abbrev pub optional_octet_in : ℕ → Option (List ℕ) → Result (Option ℕ) ElementFault
+optional_octet_in i None = Ok None
+optional_octet_in i (Some []) = Err (Bad i)
+optional_octet_in i (Some (octet ∷ v)) = Ok (Some octet)
+
+-- the whole value, which has at least one octet
+abbrev pub octets_in : ℕ → Option (List ℕ) → Result (List ℕ) ElementFault
+octets_in i None = Err (Absent i)
+octets_in i (Some []) = Err (Bad i)
+octets_in i (Some (octet ∷ v)) = Ok (octet ∷ v)
+
+-- Channel type (clause 3.2.2.11): at least two octets.
+abbrev pub channel_type_in : Option (List ℕ) → Result (List ℕ) ElementFault
+channel_type_in None = Err (Absent 0x0B)
+channel_type_in (Some []) = Err (Bad 0x0B)
+channel_type_in (Some (octet ∷ [])) = Err (Bad 0x0B)
+channel_type_in (Some (first ∷ second ∷ v)) = Ok (first ∷ second ∷ v)
+
+-- Classmark information type 1 (clause 3.2.2.30) counts where it is there; else type 2 (clause
+-- 3.2.2.19), which may be empty. It is type 2 that is missing where there is neither.
+abbrev pub classmark_in : {A : Type 0} → Option (List ℕ) → Option (List ℕ) → Result (Classmark A) ElementFault
+classmark_in (Some (octet ∷ v)) two = Ok (One octet)
+classmark_in (Some []) two = Err (Bad 0x1D)
+classmark_in None (Some v) = Ok (Two v)
+classmark_in None None = Err (Absent 0x12)
+
+-- a classmark in the octets of a message, with octets of its own
+abbrev pub kept : {A : Type 0} → ClassmarkValue → Classmark A
+kept (in_octets.One octet) = One octet
+kept (in_octets.Two v) = Two v.now
+
+-- an element that stands alone says that it is there
+abbrev pub stands : Option (List ℕ) → Bool
+stands None = false
+stands (Some v) = true
+
+-- a number of two octets, the high one first
+abbrev pub pair : ℕ → ℕ → ℕ
+pair high low = 256 * high + low
+
+abbrev pub pair_octets : ℕ → List ℕ
+pair_octets n = n / 256 ∷ n % 256 ∷ []
+
+-- Cells after the discriminator (clauses 3.2.2.17 and 3.2.2.27) are one after the other:
+-- each has a mobile country and network code of three octets, which isn't kept, location area code and
+-- cell identity;
+abbrev pub cells_with_network : List ℕ → Option (List CellId)
+cells_with_network [] = Some []
+cells_with_network (a ∷ b ∷ c ∷ d ∷ e ∷ f ∷ g ∷ v) = option_map (λ cells. record { lac = Some (pair d e); ci = pair f g } ∷ cells) (cells_with_network v)
+cells_with_network _ = None
+
+-- or location area code and cell identity;
+abbrev pub cells_with_area : List ℕ → Option (List CellId)
+cells_with_area [] = Some []
+cells_with_area (a ∷ b ∷ c ∷ d ∷ v) = option_map (λ cells. record { lac = Some (pair a b); ci = pair c d } ∷ cells) (cells_with_area v)
+cells_with_area _ = None
+
+-- or the cell identity alone.
+abbrev pub cells_alone : List ℕ → Option (List CellId)
+cells_alone [] = Some []
+cells_alone (a ∷ b ∷ v) = option_map (λ cells. record { lac = None; ci = pair a b } ∷ cells) (cells_alone v)
+cells_alone _ = None
+
+-- The low four bits of the discriminator say which: 0, 1 or 2.
+abbrev pub cells_by : ℕ → List ℕ → Option (List CellId)
+cells_by form v = if form == 0 then cells_with_network v else if form == 1 then cells_with_area v else if form == 2 then cells_alone v else None
+
+abbrev pub cells_after : ℕ → List ℕ → Option (List CellId)
+cells_after d v = cells_by (d % 16) v
+
+-- exactly one cell
+abbrev pub only_cell : Option (List CellId) → Result CellId ElementFault
+only_cell (Some (cell ∷ [])) = Ok cell
+only_cell _ = Err (Bad 0x05)
+
+-- at least one cell
+abbrev pub some_cells : Option (List CellId) → Result (List CellId) ElementFault
+some_cells (Some (cell ∷ cells)) = Ok (cell ∷ cells)
+some_cells _ = Err (Bad 0x1A)
+
+-- Cell Identifier (clause 3.2.2.17): the discriminator and one cell.
+abbrev pub cell_in : Option (List ℕ) → Result CellId ElementFault
+cell_in None = Err (Absent 0x05)
+cell_in (Some []) = Err (Bad 0x05)
+cell_in (Some (d ∷ v)) = only_cell (cells_after d v)
+
+-- Cell Identifier List (clause 3.2.2.27): the discriminator once, and cells.
+abbrev pub cells_in : Option (List ℕ) → Result (List CellId) ElementFault
+cells_in None = Err (Absent 0x1A)
+cells_in (Some []) = Err (Bad 0x1A)
+cells_in (Some (d ∷ v)) = some_cells (cells_after d v)
+
+-- A cell is written with discriminator 1, by location area code and cell identity. What stands for a cell
+-- without a location area code is read as another cell.
+abbrev pub cell_octets : CellId → List ℕ
+cell_octets cell = pair_octets (unwrap_or cell.lac 0) ++ pair_octets cell.ci
+
+abbrev pub cell_value : CellId → List ℕ
+cell_value cell = 1 ∷ cell_octets cell
+
+abbrev pub cells_value : List CellId → List ℕ
+cells_value cells = 1 ∷ flat_map cell_octets cells
+
+-- the element of a classmark
+abbrev pub classmark_element : {A : Type 0} → Classmark A → Element
+classmark_element (One octet) = (0x1D, octet ∷ [])
+classmark_element (Two v) = (0x12, v)
+
+-- an element that is written where there is an octet for it
+abbrev pub where_some : ℕ → Option ℕ → List Element
+where_some i None = []
+where_some i (Some octet) = (i, octet ∷ []) ∷ []
+
+-- an element alone, that is written where it is asked for
+abbrev pub where_true : ℕ → Bool → List Element
+where_true i true = (i, []) ∷ []
+where_true i false = []

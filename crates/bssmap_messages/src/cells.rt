@@ -1,0 +1,149 @@
+//! Cells in the value of an element.
+ghost use Rattle.std.specs.Prelude.{◌≡◌, ◌<◌, ◌↔◌, [], ◌∷◌, List, length, Some, Ok, Err, IsTrue, IsSome, IfSome, IfNone, IfOk, IfErr};
+ghost use Rattle.std.specs.Option.{option_map};
+ghost use Rattle.bssmap_messages.specs.declared.message.CellId.{CellId};
+ghost use Rattle.bssmap_messages.specs.Values.{seen, pair, cells_with_network, cells_with_area, cells_alone, cells_after, only_cell, some_cells, cell_in, cells_in};
+
+use crate::fault::ElementFault;
+use crate::lists::CellList;
+use crate::message::CellId;
+use crate::table::{CELL_IDENTIFIER, CELL_IDENTIFIER_LIST};
+use std::alloc::{AllocError, Allocator};
+
+/// A number of two octets, the high one first.
+fn pair(high: u8, low: u8) -> u16
+    ensures { result ≡ pair high low }
+{
+    256 * u16::from(high) + u16::from(low)
+}
+
+/// The cell that the octets begin with, behind network code and location area code, and the rest.
+fn cell_with_network(octets: &[u8]) -> Option<(CellId, &[u8])>
+    ensures found { IfSome result (λ f. cells_with_network octets.now ≡ option_map (λ cells. f.0 ∷ cells) (cells_with_network f.1.now)) }
+    ensures less { IfSome result (λ f. length f.1.now < length octets.now) }
+    ensures none { IfNone result (IfSome (cells_with_network octets.now) (λ cells. cells ≡ [])) }
+{
+    let [_, _, _, area_high, area_low, high, low, rest @ ..] = octets else {
+        return None;
+    };
+    let lac = Some(pair(*area_high, *area_low));
+    let ci = pair(*high, *low);
+    Some((CellId { lac, ci }, rest))
+}
+
+/// The cell that the octets begin with, behind a location area code, and the rest.
+fn cell_with_area(octets: &[u8]) -> Option<(CellId, &[u8])>
+    ensures found { IfSome result (λ f. cells_with_area octets.now ≡ option_map (λ cells. f.0 ∷ cells) (cells_with_area f.1.now)) }
+    ensures less { IfSome result (λ f. length f.1.now < length octets.now) }
+    ensures none { IfNone result (IfSome (cells_with_area octets.now) (λ cells. cells ≡ [])) }
+{
+    let [area_high, area_low, high, low, rest @ ..] = octets else {
+        return None;
+    };
+    let lac = Some(pair(*area_high, *area_low));
+    let ci = pair(*high, *low);
+    Some((CellId { lac, ci }, rest))
+}
+
+/// The cell that the octets begin with, a cell identity alone, and the rest.
+fn cell_alone(octets: &[u8]) -> Option<(CellId, &[u8])>
+    ensures found { IfSome result (λ f. cells_alone octets.now ≡ option_map (λ cells. f.0 ∷ cells) (cells_alone f.1.now)) }
+    ensures less { IfSome result (λ f. length f.1.now < length octets.now) }
+    ensures none { IfNone result (IfSome (cells_alone octets.now) (λ cells. cells ≡ [])) }
+{
+    let [high, low, rest @ ..] = octets else {
+        return None;
+    };
+    let ci = pair(*high, *low);
+    Some((CellId { lac: None, ci }, rest))
+}
+
+/// The cell that the octets after a discriminator begin with, and the rest.
+fn leading_cell(discriminator: u8, octets: &[u8]) -> Option<(CellId, &[u8])>
+    ensures found { IfSome result (λ f. cells_after discriminator octets.now ≡ option_map (λ cells. f.0 ∷ cells) (cells_after discriminator f.1.now)) }
+    ensures known { IsSome result → cells_after discriminator [] ≡ Some [] }
+    ensures less { IfSome result (λ f. length f.1.now < length octets.now) }
+    ensures none { IfNone result (IfSome (cells_after discriminator octets.now) (λ cells. cells ≡ [])) }
+{
+    match discriminator % 16 {
+        0 => cell_with_network(octets),
+        1 => cell_with_area(octets),
+        2 => cell_alone(octets),
+        _ => None,
+    }
+}
+
+/// The cell of a cell identifier.
+pub fn cell(value: Option<&[u8]>) -> Result<CellId, ElementFault>
+    ensures { result ≡ cell_in (seen value.entry) }
+{
+    match value {
+        None => Err(ElementFault::Absent(CELL_IDENTIFIER)),
+        Some([discriminator, octets @ ..]) => only_cell(*discriminator, octets),
+        Some([]) => Err(ElementFault::Bad(CELL_IDENTIFIER)),
+    }
+}
+
+/// The one cell after a discriminator.
+fn only_cell(discriminator: u8, octets: &[u8]) -> Result<CellId, ElementFault>
+    ensures { result ≡ only_cell (cells_after discriminator octets.now) }
+{
+    match leading_cell(discriminator, octets) {
+        Some((cell, [])) => Ok(cell),
+        _ => Err(ElementFault::Bad(CELL_IDENTIFIER)),
+    }
+}
+
+/// Whether the octets after a discriminator are whole cells.
+fn are_cells(discriminator: u8, octets: &[u8]) -> bool
+    ensures { IsTrue result ↔ IsSome (cells_after discriminator octets.now) }
+{
+    match discriminator % 16 {
+        0 => octets.len() % 7 == 0,
+        1 => octets.len() % 4 == 0,
+        2 => octets.len() % 2 == 0,
+        _ => false,
+    }
+}
+
+/// The discriminator of a cell identifier list and the octets of its cells, of which there is one.
+pub fn cells(value: Option<&[u8]>) -> Result<(u8, &[u8]), ElementFault>
+    ensures ok { IfOk result (λ c. (cells : List CellId) × (cells_after c.0 c.1.now ≡ Some cells) × (cells_in (seen value.entry) ≡ Ok cells)) }
+    ensures err { IfErr result (λ e. cells_in (seen value.entry) ≡ Err e) }
+{
+    match value {
+        None => Err(ElementFault::Absent(CELL_IDENTIFIER_LIST)),
+        Some([discriminator, octets @ ..]) => some_cells(*discriminator, octets),
+        Some([]) => Err(ElementFault::Bad(CELL_IDENTIFIER_LIST)),
+    }
+}
+
+/// At least one cell after a discriminator.
+fn some_cells(discriminator: u8, octets: &[u8]) -> Result<(u8, &[u8]), ElementFault>
+    ensures ok { IfOk result (λ c. (cells : List CellId) × (cells_after c.0 c.1.now ≡ Some cells) × (some_cells (cells_after discriminator octets.now) ≡ Ok cells)) }
+    ensures err { IfErr result (λ e. some_cells (cells_after discriminator octets.now) ≡ Err e) }
+{
+    if !octets.is_empty() && are_cells(discriminator, octets) {
+        Ok((discriminator, octets))
+    } else {
+        Err(ElementFault::Bad(CELL_IDENTIFIER_LIST))
+    }
+}
+
+/// The list of the cells after a discriminator.
+pub fn read_cells<A: Allocator + Copy>(
+    alloc: A,
+    discriminator: u8,
+    octets: &[u8],
+) -> Result<CellList<A>, AllocError>
+    requires { IsSome (cells_after discriminator octets.now) }
+    ensures { IfOk result (λ list. cells_after discriminator octets.now ≡ Some list) }
+{
+    let mut cells = Vec::with_capacity(alloc, octets.len() / 2)?;
+    let mut rest = octets;
+    while let Some((cell, after)) = leading_cell(discriminator, rest) {
+        cells.push(cell)?;
+        rest = after;
+    }
+    Ok(CellList::from_cells(cells))
+}

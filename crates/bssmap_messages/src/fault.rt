@@ -1,0 +1,67 @@
+//! Why octets are no message.
+use std::alloc::AllocError;
+use thiserror::Error;
+
+/// Why octets are no message. Faults are looked for in the order in which they stand here, but
+/// `Torn` comes before `Missing` and `BadElement`, and these two come element by element in the
+/// order in which the message is written; `NoMemory` is last.
+#[derive(Clone, Copy, PartialEq, Eq, Debug, Error)]
+pub enum BssmapFault {
+    /// There is no octet, or the first, the discriminator, is not 0.
+    #[error("not a BSSMAP message")]
+    NotBssmap,
+    /// There is no length octet, it does not count the octets that follow it, or it is 0 or above
+    /// 253.
+    #[error("wrong length octet")]
+    Length,
+    /// No message that is read here has this type.
+    #[error("unknown message type 0x{0:02x}")]
+    UnknownType(u8),
+    /// The mandatory element with this identifier is not there. Where there is no classmark it is
+    /// 0x12.
+    #[error("element 0x{0:02x} is missing")]
+    Missing(u8),
+    /// The element with this identifier has a value that can't be read.
+    #[error("element 0x{0:02x} is bad")]
+    BadElement(u8),
+    /// The element at this offset, counted from the message's first octet, runs past the end.
+    #[error("torn at offset {0}")]
+    Torn(usize),
+    /// Memory ran out.
+    #[error("out of memory")]
+    NoMemory,
+}
+
+impl From<AllocError> for BssmapFault {
+    ghost use Rattle.std.specs.Prelude.{◌≡◌};
+    ghost use Rattle.bssmap_messages.specs.declared.fault.BssmapFault.TheVariants.{NoMemory};
+
+    ghost from_gives = { λ _ e. e ≡ NoMemory };
+
+    fn from(_error: AllocError) -> BssmapFault {
+        BssmapFault::NoMemory
+    }
+}
+
+/// What is wrong with an element of a message whose elements are all whole.
+#[derive(Clone, Copy, PartialEq, Eq, Debug)]
+pub enum ElementFault {
+    /// The element with this identifier is not there.
+    Absent(u8),
+    /// The element with this identifier has a value that can't be read.
+    Bad(u8),
+}
+
+impl From<ElementFault> for BssmapFault {
+    ghost use Rattle.std.specs.Prelude.{◌≡◌};
+    ghost use Rattle.bssmap_messages.specs.Values.{fault_of};
+
+    ghost from_gives = { λ e f. f ≡ fault_of e };
+
+    fn from(fault: ElementFault) -> BssmapFault {
+        match fault {
+            ElementFault::Absent(identifier) => BssmapFault::Missing(identifier),
+            ElementFault::Bad(identifier) => BssmapFault::BadElement(identifier),
+        }
+    }
+}

@@ -1,0 +1,94 @@
+//! Discriminator, length and type.
+ghost use Rattle.std.specs.Prelude.{◌≡◌, ◌∷◌, IfOk, IfErr, IfSome, IfNone};
+ghost use Rattle.bssmap_messages.specs.Heads.{type_of, Carries, Begins, HasHeadFault};
+
+use crate::fault::BssmapFault;
+
+/// The greatest length octet.
+pub const LIMIT: usize = 253;
+
+/// Which message it is.
+#[derive(Clone, Copy, Debug, PartialEq, Eq)]
+pub enum MessageKind {
+    HandoverRequest,
+    HandoverRequired,
+    HandoverRequestAck,
+    HandoverCommand,
+    HandoverComplete,
+    HandoverFailure,
+    HandoverPerformed,
+    HandoverRequiredReject,
+    HandoverDetect,
+    ClearCommand,
+    ClearComplete,
+    ClearRequest,
+}
+
+/// Which message has this type.
+fn kind_for(message_type: u8) -> Option<MessageKind>
+    ensures found { IfSome result (λ kind. message_type ≡ type_of kind) }
+    ensures none { IfNone result ((kind : MessageKind) → message_type ≡ type_of kind → ⊥) }
+{
+    match message_type {
+        0x10 => Some(MessageKind::HandoverRequest),
+        0x11 => Some(MessageKind::HandoverRequired),
+        0x12 => Some(MessageKind::HandoverRequestAck),
+        0x13 => Some(MessageKind::HandoverCommand),
+        0x14 => Some(MessageKind::HandoverComplete),
+        0x16 => Some(MessageKind::HandoverFailure),
+        0x17 => Some(MessageKind::HandoverPerformed),
+        0x1A => Some(MessageKind::HandoverRequiredReject),
+        0x1B => Some(MessageKind::HandoverDetect),
+        0x20 => Some(MessageKind::ClearCommand),
+        0x21 => Some(MessageKind::ClearComplete),
+        0x22 => Some(MessageKind::ClearRequest),
+        _ => None,
+    }
+}
+
+/// What the discriminator and the length octet carry: a type and a body.
+fn carried(octets: &[u8]) -> Result<(u8, &[u8]), BssmapFault>
+    ensures carries { IfOk result (λ c. Carries octets.now (c.0 ∷ c.1.now)) }
+    ensures fault { IfErr result (HasHeadFault octets.now) }
+{
+    let [0, rest @ ..] = octets else {
+        return Err(BssmapFault::NotBssmap);
+    };
+    let [length, message_type, body @ ..] = rest else {
+        return Err(BssmapFault::Length);
+    };
+    if usize::from(*length) != 1 + body.len() || body.len() >= LIMIT {
+        return Err(BssmapFault::Length);
+    }
+    Ok((*message_type, body))
+}
+
+/// Which message the octets are, and the body after the head.
+pub fn read_head(octets: &[u8]) -> Result<(MessageKind, &[u8]), BssmapFault>
+    ensures found { IfOk result (λ h. Begins h.0 octets.now h.1.now) }
+    ensures fault { IfErr result (HasHeadFault octets.now) }
+{
+    let (message_type, body) = carried(octets)?;
+    let kind = kind_for(message_type).ok_or(BssmapFault::UnknownType(message_type))?;
+    Ok((kind, body))
+}
+
+/// The type of a message, as it is written.
+pub fn type_octet(kind: MessageKind) -> u8
+    ensures { result ≡ type_of kind }
+{
+    match kind {
+        MessageKind::HandoverRequest => 0x10,
+        MessageKind::HandoverRequired => 0x11,
+        MessageKind::HandoverRequestAck => 0x12,
+        MessageKind::HandoverCommand => 0x13,
+        MessageKind::HandoverComplete => 0x14,
+        MessageKind::HandoverFailure => 0x16,
+        MessageKind::HandoverPerformed => 0x17,
+        MessageKind::HandoverRequiredReject => 0x1A,
+        MessageKind::HandoverDetect => 0x1B,
+        MessageKind::ClearCommand => 0x20,
+        MessageKind::ClearComplete => 0x21,
+        MessageKind::ClearRequest => 0x22,
+    }
+}

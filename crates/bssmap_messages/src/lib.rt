@@ -1,0 +1,25 @@
+//! Messages between a base station controller and a switching centre, on A (BSSMAP, TS 48.008).
+//!
+//! A message is a discriminator, a length octet, a type and then elements. [`decode`] reads one,
+//! [`encode`] and [`encode_into`] write one, and [`fits`] says whether a value can be written.
+#![tactic(auto)]
+
+mod cells;
+mod fault;
+mod head;
+mod laws;
+mod lists;
+mod message;
+mod reading;
+mod table;
+#[cfg(test)]
+mod tests;
+mod values;
+mod writing;
+
+pub use fault::BssmapFault;
+pub use laws::{canonical_is_text, reading_is_unique};
+pub use lists::{CellList, Octets};
+pub use message::{Bssmap, CellId, Classmark};
+pub use reading::decode;
+pub use writing::{encode, encode_into, fits};

@@ -1,0 +1,78 @@
+//! Lists inside a message.
+ghost use Rattle.std.specs.Prelude.{◌≡◌, IfOk};
+
+use crate::message::CellId;
+use std::alloc::{AllocError, Allocator, Global};
+use std::marker::Model;
+
+/// An octet list inside a message, as a layer 3 message or a channel type.
+#[derive(Debug, Drop)]
+pub struct Octets<A: Allocator = Global> {
+    items: Vec<u8, A>,
+}
+
+impl<A: Allocator> Model for Octets<A> {
+    ghost use Rattle.std.specs.Prelude.{List, ℕ};
+
+    ghost Value = { List ℕ };
+
+    ghost view = { λ o. o.items.items };
+}
+
+impl<A: Allocator + Copy> Octets<A> {
+    /// A list of these octets.
+    pub fn new(alloc: A, octets: &[u8]) -> Result<Self, AllocError>
+        ensures { IfOk result (λ o. o ≡ octets.now) }
+    {
+        Ok(Octets {
+            items: Vec::from_slice(alloc, octets)?,
+        })
+    }
+
+    /// Its octets.
+    pub fn as_slice(&self) -> &[u8]
+        ensures { result.now ≡ self.now }
+    {
+        self.items.as_slice()
+    }
+}
+
+/// The cells of a cell identifier list (TS 48.008 clause 3.2.2.27), in its order.
+#[derive(Debug, Drop)]
+pub struct CellList<A: Allocator = Global> {
+    items: Vec<CellId, A>,
+}
+
+impl<A: Allocator> Model for CellList<A> {
+    ghost use Rattle.std.specs.Prelude.{List};
+    ghost use Rattle.bssmap_messages.specs.declared.message.CellId.{CellId};
+
+    ghost Value = { List CellId };
+
+    ghost view = { λ o. o.items.items };
+}
+
+impl<A: Allocator + Copy> CellList<A> {
+    /// A list of these cells.
+    pub fn new(alloc: A, cells: &[CellId]) -> Result<Self, AllocError>
+        ensures { IfOk result (λ o. o ≡ cells.now) }
+    {
+        Ok(CellList {
+            items: Vec::from_slice(alloc, cells)?,
+        })
+    }
+
+    /// The list of these cells, which takes no memory.
+    pub(crate) fn from_cells(cells: Vec<CellId, A>) -> Self
+        ensures { result ≡ cells.items }
+    {
+        CellList { items: cells }
+    }
+
+    /// Its cells.
+    pub fn as_slice(&self) -> &[CellId]
+        ensures { result.now ≡ self.now }
+    {
+        self.items.as_slice()
+    }
+}

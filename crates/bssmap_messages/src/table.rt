@@ -1,0 +1,57 @@
+//! The identifiers and forms of the elements on A (TS 48.008 clause 3.2.2).
+use octet_elements::{ElementTable, Form};
+
+pub const CAUSE: u8 = 0x04;
+
+pub const CELL_IDENTIFIER: u8 = 0x05;
+
+pub const ENCRYPTION_INFORMATION: u8 = 0x0A;
+
+pub const CHANNEL_TYPE: u8 = 0x0B;
+
+pub const CLASSMARK_2: u8 = 0x12;
+
+pub const RR_CAUSE: u8 = 0x15;
+
+pub const LAYER_3_INFORMATION: u8 = 0x17;
+
+pub const CELL_IDENTIFIER_LIST: u8 = 0x1A;
+
+pub const RESPONSE_REQUEST: u8 = 0x1B;
+
+pub const CLASSMARK_1: u8 = 0x1D;
+
+/// The forms of the elements on A.
+pub struct InterfaceA;
+
+impl ElementTable for InterfaceA {
+    ghost use Rattle.bssmap_messages.specs.Forms.{interface_a};
+
+    ghost form_of = { interface_a };
+
+    fn form_for(identifier: u8) -> Form {
+        match identifier {
+            0x1B | 0x35 | 0x8C | 0x8E | 0x8F => Form::Fixed(0),
+            0x14
+            | 0x15
+            | 0x19
+            | 0x1D
+            | 0x21
+            | 0x2C
+            | 0x2D
+            | 0x31
+            | 0x32
+            | 0x39
+            | 0x3F
+            | 0x40
+            | 0x8A
+            | 0x8B
+            | 0x8D => Form::Fixed(1),
+            0x01 => Form::Fixed(2),
+            0x95 => Form::Fixed(3),
+            0x7F => Form::Fixed(4),
+            0x83 => Form::Fixed(16),
+            _ => Form::Counted,
+        }
+    }
+}

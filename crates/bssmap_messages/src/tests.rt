@@ -1,0 +1,459 @@
+use crate::fault::BssmapFault;
+use crate::laws::{canonical_is_text, reading_is_unique};
+use crate::lists::{CellList, Octets};
+use crate::message::{Bssmap, CellId, Classmark};
+use crate::reading::decode;
+use crate::writing::{encode, encode_into, fits};
+use refusing_heap::RefusingHeap;
+use std::alloc::Global;
+use std::test::Fail;
+
+const REQUEST: &[u8] = &[
+    0, 0x19, 0x10, 0x0B, 3, 1, 8, 1, 0x0A, 1, 1, 0x1D, 0x33, 5, 5, 1, 0, 0x17, 0, 0x66, 5, 5, 1, 0,
+    0x17, 0, 0x65,
+];
+
+const REQUIRED: &[u8] = &[
+    0, 0x0C, 0x11, 4, 1, 0x0C, 0x1B, 0x1A, 5, 1, 0, 0x17, 0, 0x66,
+];
+
+const REQUEST_ACK: &[u8] = &[
+    0, 0x0C, 0x12, 0x17, 9, 6, 0x2B, 0xD5, 0x67, 0x0B, 0xA3, 0x6B, 0, 5,
+];
+
+const COMMAND: &[u8] = &[
+    0, 0x0C, 0x13, 0x17, 9, 6, 0x2B, 0xD5, 0x67, 0x0B, 0xA3, 0x6B, 0x2A, 5,
+];
+
+const COMPLETE: &[u8] = &[0, 3, 0x14, 0x15, 0];
+
+const FAILURE: &[u8] = &[0, 6, 0x16, 4, 1, 0x0A, 0x15, 0];
+
+const PERFORMED: &[u8] = &[0, 0x0B, 0x17, 4, 1, 0x0C, 5, 5, 1, 0, 0x17, 0, 0x65];
+
+const REQUIRED_REJECT: &[u8] = &[0, 4, 0x1A, 4, 1, 0x21];
+
+const DETECT: &[u8] = &[0, 1, 0x1B];
+
+const CLEAR_COMMAND: &[u8] = &[0, 4, 0x20, 4, 1, 9];
+
+const CLEAR_COMPLETE: &[u8] = &[0, 1, 0x21];
+
+const CLEAR_REQUEST: &[u8] = &[0, 4, 0x22, 4, 1, 0x20];
+
+/// A text of each message, as it is written.
+const TEXTS: [&[u8]; 12] = [
+    REQUEST,
+    REQUIRED,
+    REQUEST_ACK,
+    COMMAND,
+    COMPLETE,
+    FAILURE,
+    PERFORMED,
+    REQUIRED_REJECT,
+    DETECT,
+    CLEAR_COMMAND,
+    CLEAR_COMPLETE,
+    CLEAR_REQUEST,
+];
+
+/// The elements of each text: the offset where one begins, the identifier that is missing without
+/// it, and whether the message needs it.
+const ELEMENTS: [&[(usize, u8, bool)]; 12] = [
+    &[
+        (3, 0x0B, true),
+        (8, 0x0A, true),
+        (11, 0x12, true),
+        (13, 5, true),
+        (20, 5, true),
+    ],
+    &[(3, 4, true), (6, 0x1B, false), (7, 0x1A, true)],
+    &[(3, 0x17, true)],
+    &[(3, 0x17, true)],
+    &[(3, 0x15, false)],
+    &[(3, 4, true), (6, 0x15, false)],
+    &[(3, 4, true), (6, 5, true)],
+    &[(3, 4, true)],
+    &[],
+    &[(3, 4, true)],
+    &[],
+    &[(3, 4, true)],
+];
+
+fn cell(lac: u16, ci: u16) -> CellId {
+    CellId { lac: Some(lac), ci }
+}
+
+#[test]
+fn reads_back_what_it_writes(rt: HostRuntime) -> Result<(), Fail> {
+    for text in TEXTS {
+        let message = decode(rt.alloc(), text)?;
+        assert!(rt; fits(&message), "{message:?}");
+        let written = encode(rt.alloc(), &message)?;
+        assert_eq!(rt; written.as_slice(), text, "{message:?}");
+    }
+    reading_is_unique::<Global>();
+    canonical_is_text::<Global>();
+    Ok(())
+}
+
+#[test]
+fn reads_a_request(rt: HostRuntime) -> Result<(), Fail> {
+    let Bssmap::HandoverRequest {
+        channel,
+        encryption,
+        classmark,
+        serving,
+        target,
+    } = decode(rt.alloc(), REQUEST)?
+    else {
+        return Err("no HANDOVER REQUEST")?;
+    };
+    assert_eq!(rt; channel.as_slice(), [1, 8, 1].as_slice());
+    assert_eq!(rt; encryption.as_slice(), [1].as_slice());
+    let Classmark::One(octet) = classmark else {
+        return Err("no classmark 1")?;
+    };
+    assert_eq!(rt; octet, 0x33);
+    assert_eq!(rt; serving, cell(23, 102));
+    assert_eq!(rt; target, cell(23, 101));
+    Ok(())
+}
+
+#[test]
+fn reads_cells(rt: HostRuntime) -> Result<(), Fail> {
+    let lone = CellId {
+        lac: None,
+        ci: 0x0506,
+    };
+    let rows: [(&[u8], &[CellId]); 5] = [
+        (
+            &[0, 12, 0x11, 4, 1, 0x0C, 0x1B, 0x1A, 5, 1, 0, 0x17, 0, 0x66],
+            &[cell(23, 102)],
+        ),
+        (
+            &[
+                0, 15, 0x11, 4, 1, 0x0C, 0x1A, 9, 0xF1, 1, 2, 3, 4, 5, 6, 7, 8,
+            ],
+            &[cell(0x0102, 0x0304), cell(0x0506, 0x0708)],
+        ),
+        (
+            &[0, 14, 0x11, 4, 1, 0x0C, 0x1A, 8, 0, 9, 9, 9, 1, 2, 3, 4],
+            &[cell(0x0102, 0x0304)],
+        ),
+        (&[0, 9, 0x11, 4, 1, 0x0C, 0x1A, 3, 2, 5, 6], &[lone]),
+        (
+            &[0, 11, 0x11, 4, 1, 0x0C, 0x1A, 5, 0x12, 5, 6, 5, 6],
+            &[lone, lone],
+        ),
+    ];
+    for (text, wanted) in rows {
+        let Bssmap::HandoverRequired { cause, cells, .. } = decode(rt.alloc(), text)? else {
+            return Err("no HANDOVER REQUIRED")?;
+        };
+        assert_eq!(rt; cause, 0x0C);
+        assert_eq!(rt; cells.as_slice(), wanted);
+    }
+    Ok(())
+}
+
+#[test]
+fn reads_small_messages(rt: HostRuntime) -> Result<(), Fail> {
+    let Bssmap::HandoverRequestAck { layer3 } = decode(rt.alloc(), REQUEST_ACK)? else {
+        return Err("no HANDOVER REQUEST ACKNOWLEDGE")?;
+    };
+    assert_eq!(rt; layer3.as_slice(), &REQUEST_ACK[5..]);
+    let Bssmap::HandoverCommand { layer3 } = decode(rt.alloc(), COMMAND)? else {
+        return Err("no HANDOVER COMMAND")?;
+    };
+    assert_eq!(rt; layer3.as_slice(), &COMMAND[5..]);
+    let Bssmap::HandoverComplete { rr } = decode(rt.alloc(), COMPLETE)? else {
+        return Err("no HANDOVER COMPLETE")?;
+    };
+    assert_eq!(rt; rr, Some(0));
+    let Bssmap::HandoverFailure { cause, rr } = decode(rt.alloc(), FAILURE)? else {
+        return Err("no HANDOVER FAILURE")?;
+    };
+    assert_eq!(rt; (cause, rr), (0x0A, Some(0)));
+    let Bssmap::HandoverPerformed { cause, cell: now } = decode(rt.alloc(), PERFORMED)? else {
+        return Err("no HANDOVER PERFORMED")?;
+    };
+    assert_eq!(rt; (cause, now), (0x0C, cell(23, 101)));
+    let Bssmap::HandoverRequiredReject { cause } = decode(rt.alloc(), REQUIRED_REJECT)? else {
+        return Err("no HANDOVER REQUIRED REJECT")?;
+    };
+    assert_eq!(rt; cause, 0x21);
+    let Bssmap::ClearCommand { cause } = decode(rt.alloc(), CLEAR_COMMAND)? else {
+        return Err("no CLEAR COMMAND")?;
+    };
+    assert_eq!(rt; cause, 9);
+    let Bssmap::ClearRequest { cause } = decode(rt.alloc(), CLEAR_REQUEST)? else {
+        return Err("no CLEAR REQUEST")?;
+    };
+    assert_eq!(rt; cause, 0x20);
+    assert!(rt; matches!(decode(rt.alloc(), DETECT)?, Bssmap::HandoverDetect));
+    assert!(rt; matches!(decode(rt.alloc(), CLEAR_COMPLETE)?, Bssmap::ClearComplete));
+    Ok(())
+}
+
+/// Texts that are not written so, with the text that is written for what they say.
+#[test]
+fn reads_other_texts_of_a_message(rt: HostRuntime) -> Result<(), Fail> {
+    let rows: [(&[u8], &[u8]); 9] = [
+        // unknown elements before, between and after
+        (
+            &[0, 7, 0x16, 0x99, 1, 0, 4, 1, 0x21],
+            &[0, 4, 0x16, 4, 1, 0x21],
+        ),
+        (&[0, 5, 0x20, 4, 1, 9, 0x8F], CLEAR_COMMAND),
+        (&[0, 9, 0x16, 4, 1, 0x0A, 0x40, 7, 0x15, 0, 0x8C], FAILURE),
+        (&[0, 3, 0x21, 0x70, 0], CLEAR_COMPLETE),
+        (&[0, 6, 0x1B, 0x7F, 1, 2, 3, 4], DETECT),
+        // any order, and the first of a repeated element counts
+        (&[0, 6, 0x16, 0x15, 0, 4, 1, 0x0A], FAILURE),
+        (&[0, 6, 0x20, 4, 1, 9, 4, 0], CLEAR_COMMAND),
+        // of a cause the first octet counts
+        (&[0, 5, 0x22, 4, 2, 0x20, 7], CLEAR_REQUEST),
+        // no RR cause
+        (&[0, 1, 0x14], &[0, 1, 0x14]),
+    ];
+    for (text, written) in rows {
+        let message = decode(rt.alloc(), text)?;
+        assert!(rt; fits(&message));
+        assert_eq!(rt;
+            encode(rt.alloc(), &message)?.as_slice(),
+            written,
+            "{message:?}"
+        );
+    }
+    Ok(())
+}
+
+#[test]
+fn finds_the_first_fault(rt: HostRuntime) {
+    let rows: [(&[u8], BssmapFault); 33] = [
+        (&[], BssmapFault::NotBssmap),
+        (&[1], BssmapFault::NotBssmap),
+        (&[1, 1, 0x1B], BssmapFault::NotBssmap),
+        (&[0], BssmapFault::Length),
+        (&[0, 0], BssmapFault::Length),
+        (&[0, 5, 0x1B], BssmapFault::Length),
+        (&[0, 0, 0x1B], BssmapFault::Length),
+        (&[0, 2, 0x1B], BssmapFault::Length),
+        (&[0, 3, 0x1B], BssmapFault::Length),
+        (&[0, 1, 0], BssmapFault::UnknownType(0)),
+        (&[0, 1, 0x15], BssmapFault::UnknownType(0x15)),
+        // the type comes before a torn element, and this before a missing one
+        (&[0, 2, 0x15, 4], BssmapFault::UnknownType(0x15)),
+        (&[0, 3, 0x16, 4, 5], BssmapFault::Torn(3)),
+        (&[0, 6, 0x11, 0x1B, 0x1B, 4, 2, 9], BssmapFault::Torn(5)),
+        (&[0, 2, 0x1B, 0x15], BssmapFault::Torn(3)),
+        (&[0, 1, 0x16], BssmapFault::Missing(4)),
+        (&[0, 1, 0x10], BssmapFault::Missing(0x0B)),
+        (&[0, 5, 0x10, 0x0B, 2, 1, 8], BssmapFault::Missing(0x0A)),
+        (
+            &[0, 8, 0x10, 0x0B, 2, 1, 8, 0x0A, 1, 1],
+            BssmapFault::Missing(0x12),
+        ),
+        (
+            &[0, 10, 0x10, 0x0B, 2, 1, 8, 0x0A, 1, 1, 0x12, 0],
+            BssmapFault::Missing(5),
+        ),
+        (&[0, 4, 0x11, 4, 1, 0], BssmapFault::Missing(0x1A)),
+        (&[0, 1, 0x12], BssmapFault::Missing(0x17)),
+        (&[0, 4, 0x17, 4, 1, 0], BssmapFault::Missing(5)),
+        // a missing element comes before a later bad one
+        (&[0, 3, 0x10, 0x0A, 0], BssmapFault::Missing(0x0B)),
+        (&[0, 4, 0x10, 0x0B, 1, 1], BssmapFault::BadElement(0x0B)),
+        (
+            &[0, 7, 0x10, 0x0B, 2, 1, 8, 0x0A, 0],
+            BssmapFault::BadElement(0x0A),
+        ),
+        (&[0, 3, 0x22, 4, 0], BssmapFault::BadElement(4)),
+        (&[0, 3, 0x13, 0x17, 0], BssmapFault::BadElement(0x17)),
+        (
+            &[0, 7, 0x11, 4, 1, 0, 0x1A, 1, 1],
+            BssmapFault::BadElement(0x1A),
+        ),
+        (
+            &[0, 6, 0x11, 4, 1, 0, 0x1A, 0],
+            BssmapFault::BadElement(0x1A),
+        ),
+        (
+            &[0, 10, 0x11, 4, 1, 0, 0x1A, 4, 1, 1, 1, 1],
+            BssmapFault::BadElement(0x1A),
+        ),
+        (
+            &[0, 9, 0x17, 4, 1, 0, 5, 3, 3, 1, 1],
+            BssmapFault::BadElement(5),
+        ),
+        (
+            &[0, 11, 0x17, 4, 1, 0, 5, 5, 2, 1, 1, 1, 1],
+            BssmapFault::BadElement(5),
+        ),
+    ];
+    for (octets, fault) in rows {
+        assert_eq!(rt; decode(rt.alloc(), octets).err(), Some(fault), "{octets:?}");
+    }
+    // a request with one cell
+    let mut one_cell = [0; 20];
+    one_cell.copy_from_slice(&REQUEST[..20]);
+    one_cell[1] = 18;
+    assert_eq!(rt;
+        decode(rt.alloc(), &one_cell).err(),
+        Some(BssmapFault::Missing(5))
+    );
+}
+
+/// What is wrong with the first n octets of a text, once the length octet counts them.
+fn fault_of_front(elements: &[(usize, u8, bool)], n: usize) -> Option<BssmapFault> {
+    let whole = n == 3 || elements.iter().any(|element| element.0 == n);
+    let mut torn = None;
+    for (offset, identifier, needed) in elements {
+        if whole && n <= *offset && *needed {
+            return Some(BssmapFault::Missing(*identifier));
+        }
+        if !whole && *offset < n {
+            torn = Some(BssmapFault::Torn(*offset));
+        }
+    }
+    torn
+}
+
+#[test]
+fn finds_the_fault_of_each_front_of_a_text(rt: HostRuntime) {
+    for (text, elements) in TEXTS.iter().zip(ELEMENTS) {
+        for n in 1..text.len() {
+            let mut front = [0; 27];
+            front[..n].copy_from_slice(&text[..n]);
+            let fault = decode(rt.alloc(), &front[..n]).err();
+            assert_eq!(rt; fault, Some(BssmapFault::Length), "{n} of {text:?}");
+            if n > 2 {
+                front[1] = (n - 2) as u8;
+                let fault = decode(rt.alloc(), &front[..n]).err();
+                assert_eq!(rt; fault, fault_of_front(elements, n), "{n} of {text:?}");
+            }
+        }
+    }
+}
+
+#[test]
+fn counts_at_most_253_octets(rt: HostRuntime) -> Result<(), Fail> {
+    // each pair of zeros is an element that no message uses
+    let mut octets = [0; 256];
+    octets[2] = 0x21;
+    octets[1] = 253;
+    assert!(rt; decode(rt.alloc(), &octets[..255]).is_ok());
+    octets[1] = 254;
+    assert_eq!(rt;
+        decode(rt.alloc(), &octets).err(),
+        Some(BssmapFault::Length)
+    );
+    let longest = Bssmap::HandoverCommand {
+        layer3: Octets::new(rt.alloc(), &[6; 250])?,
+    };
+    assert!(rt; fits(&longest));
+    assert_eq!(rt; encode(rt.alloc(), &longest)?.len(), 255);
+    let longer = Bssmap::HandoverCommand {
+        layer3: Octets::new(rt.alloc(), &[6; 251])?,
+    };
+    assert!(rt; !fits(&longer));
+    for (response, count, wanted) in [(true, 61, true), (false, 61, true), (false, 62, false)] {
+        let cells = [cell(1, 2); 62];
+        let message = Bssmap::HandoverRequired {
+            cause: 0,
+            response,
+            cells: CellList::new(rt.alloc(), &cells[..count])?,
+        };
+        assert_eq!(rt; fits(&message), wanted, "{count} cells");
+    }
+    Ok(())
+}
+
+#[test]
+fn fits_wants_a_location_area_code(rt: HostRuntime) -> Result<(), Fail> {
+    let lone = CellId { lac: None, ci: 1 };
+    assert!(rt;
+        !fits(&Bssmap::<Global>::HandoverPerformed {
+            cause: 0,
+            cell: lone
+        })
+    );
+    assert!(rt;
+        fits(&Bssmap::<Global>::HandoverPerformed {
+            cause: 0,
+            cell: cell(0, 1)
+        })
+    );
+    let rows: [(&[CellId], bool); 4] = [
+        (&[], false),
+        (&[lone], false),
+        (&[cell(0, 1), lone], false),
+        (&[cell(0, 1), cell(0, 1)], true),
+    ];
+    for (cells, wanted) in rows {
+        let cells = CellList::new(rt.alloc(), cells)?;
+        let message = Bssmap::HandoverRequired {
+            cause: 0,
+            response: true,
+            cells,
+        };
+        assert_eq!(rt; fits(&message), wanted, "{message:?}");
+    }
+    Ok(())
+}
+
+#[test]
+fn appends_in_room(rt: HostRuntime) -> Result<(), Fail> {
+    let message = decode(rt.alloc(), REQUEST)?;
+    let mut out = Vec::with_capacity(rt.alloc(), 28)?;
+    out.push(7)?;
+    encode_into(&message, &mut out)?;
+    assert_eq!(rt; &out[1..], REQUEST);
+    assert_eq!(rt; out[0], 7);
+    Ok(())
+}
+
+#[test]
+fn answers_want_of_memory(rt: HostRuntime) -> Result<(), Fail> {
+    for text in TEXTS {
+        for n in 1..10 {
+            let heap = RefusingHeap::refusing_nth(rt.alloc(), n);
+            let read = decode(&heap, text);
+            assert_eq!(rt;
+                matches!(read, Err(BssmapFault::NoMemory)),
+                heap.was_refused(),
+                "request {n} of {text:?}"
+            );
+            if !heap.was_refused() {
+                break;
+            }
+        }
+        let heap = RefusingHeap::ample(rt.alloc());
+        let message = decode(&heap, text)?;
+        heap.refuse_from_now();
+        assert!(rt; encode(&heap, &message).is_err());
+        assert!(rt; heap.was_refused());
+    }
+    let heap = RefusingHeap::refusing_from(rt.alloc(), 1);
+    assert!(rt; Octets::new(&heap, &[1]).is_err());
+    assert!(rt; CellList::new(&heap, &[cell(1, 2)]).is_err());
+    Ok(())
+}
+
+#[test]
+fn prints_faults(rt: HostRuntime) -> Result<(), Fail> {
+    let rows = [
+        (BssmapFault::NotBssmap, "not a BSSMAP message"),
+        (BssmapFault::Length, "wrong length octet"),
+        (BssmapFault::UnknownType(0x0F), "unknown message type 0x0f"),
+        (BssmapFault::Missing(5), "element 0x05 is missing"),
+        (BssmapFault::BadElement(0x1A), "element 0x1a is bad"),
+        (BssmapFault::Torn(12), "torn at offset 12"),
+        (BssmapFault::NoMemory, "out of memory"),
+    ];
+    for (fault, text) in rows {
+        assert_eq!(rt; format!(in rt.alloc(); "{fault}")?.as_str(), text);
+    }
+    Ok(())
+}

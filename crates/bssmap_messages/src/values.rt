@@ -1,0 +1,100 @@
+//! What the value of an element says.
+ghost use Rattle.std.specs.Prelude.{◌≡◌, Ok, Err, IfOk, IfErr};
+ghost use Rattle.bssmap_messages.specs.Values.{seen, octet_in, optional_octet_in, octets_in, channel_type_in, classmark_in, stands, kept};
+
+use crate::fault::ElementFault;
+use crate::lists::Octets;
+use crate::message::Classmark;
+use crate::table::{CHANNEL_TYPE, CLASSMARK_1, CLASSMARK_2};
+use std::alloc::{AllocError, Allocator};
+
+/// The value's first octet.
+pub fn octet(identifier: u8, value: Option<&[u8]>) -> Result<u8, ElementFault>
+    ensures { result ≡ octet_in identifier (seen value.entry) }
+{
+    match value {
+        None => Err(ElementFault::Absent(identifier)),
+        Some([octet, ..]) => Ok(*octet),
+        Some(_) => Err(ElementFault::Bad(identifier)),
+    }
+}
+
+/// The value's first octet, where the element is there.
+pub fn optional_octet(identifier: u8, value: Option<&[u8]>) -> Result<Option<u8>, ElementFault>
+    ensures { result ≡ optional_octet_in identifier (seen value.entry) }
+{
+    match value {
+        None => Ok(None),
+        Some([octet, ..]) => Ok(Some(*octet)),
+        Some([]) => Err(ElementFault::Bad(identifier)),
+    }
+}
+
+/// The whole value, which has at least one octet.
+pub fn octets(identifier: u8, value: Option<&[u8]>) -> Result<&[u8], ElementFault>
+    ensures ok { IfOk result (λ v. octets_in identifier (seen value.entry) ≡ Ok v.now) }
+    ensures err { IfErr result (λ e. octets_in identifier (seen value.entry) ≡ Err e) }
+{
+    match value {
+        None => Err(ElementFault::Absent(identifier)),
+        Some([]) => Err(ElementFault::Bad(identifier)),
+        Some(value) => Ok(value),
+    }
+}
+
+/// The channel type, which has at least two octets.
+pub fn channel_type(value: Option<&[u8]>) -> Result<&[u8], ElementFault>
+    ensures ok { IfOk result (λ v. channel_type_in (seen value.entry) ≡ Ok v.now) }
+    ensures err { IfErr result (λ e. channel_type_in (seen value.entry) ≡ Err e) }
+{
+    match value {
+        None => Err(ElementFault::Absent(CHANNEL_TYPE)),
+        Some([] | [_]) => Err(ElementFault::Bad(CHANNEL_TYPE)),
+        Some(value) => Ok(value),
+    }
+}
+
+/// A classmark in the octets of a message.
+#[derive(Clone, Copy)]
+pub enum ClassmarkValue<'a> {
+    /// Classmark information type 1.
+    One(u8),
+    /// Classmark information type 2.
+    Two(&'a [u8]),
+}
+
+/// Classmark information type 1 where it is there, else type 2.
+pub fn classmark<'a, A: Allocator>(
+    one: Option<&[u8]>,
+    two: Option<&'a [u8]>,
+) -> Result<ClassmarkValue<'a>, ElementFault>
+    ensures ok { IfOk result (λ c. classmark_in {A = A} (seen one.entry) (seen two.entry) ≡ Ok (kept c)) }
+    ensures err { IfErr result (λ e. classmark_in {A = A} (seen one.entry) (seen two.entry) ≡ Err e) }
+{
+    match (one, two) {
+        (Some([octet, ..]), _) => Ok(ClassmarkValue::One(*octet)),
+        (Some([]), _) => Err(ElementFault::Bad(CLASSMARK_1)),
+        (None, Some(value)) => Ok(ClassmarkValue::Two(value)),
+        (None, None) => Err(ElementFault::Absent(CLASSMARK_2)),
+    }
+}
+
+/// The classmark with octets of its own.
+pub fn keep_classmark<A: Allocator + Copy>(
+    alloc: A,
+    classmark: ClassmarkValue<'_>,
+) -> Result<Classmark<A>, AllocError>
+    ensures { IfOk result (λ c. c ≡ kept classmark.entry) }
+{
+    match classmark {
+        ClassmarkValue::One(octet) => Ok(Classmark::One(octet)),
+        ClassmarkValue::Two(octets) => Ok(Classmark::Two(Octets::new(alloc, octets)?)),
+    }
+}
+
+/// Whether the element is there.
+pub fn stands(value: Option<&[u8]>) -> bool
+    ensures { result ≡ stands (seen value.entry) }
+{
+    value.is_some()
+}

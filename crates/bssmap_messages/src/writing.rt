@@ -1,0 +1,368 @@
+//! Writing a message.
+ghost use Rattle.std.specs.Prelude.{◌≡◌, ◌≤◌, ◌<◌, ◌+◌, ◌*◌, ◌++◌, ◌∷◌, ◌↔◌, [], IsTrue, length, flat_map, IsOk, IfOk, OnOk, OnErr, vec_len, vec_capacity};
+ghost use Rattle.octet_elements.specs.Elements.{all_spelled, spelled};
+ghost use Rattle.bssmap_messages.specs.Forms.{interface_a};
+ghost use Rattle.bssmap_messages.specs.Heads.{limit, type_of};
+ghost use Rattle.bssmap_messages.specs.Messages.{elements_of, kind_of};
+ghost use Rattle.bssmap_messages.specs.Values.{pair_octets, cell_octets, cell_value, classmark_element, where_some, where_true, cells_value};
+ghost use Rattle.bssmap_messages.specs.Texts.{HasCanonical, IsWritable, canonical, classmark_length, response_length, HasArea, have_areas};
+
+use crate::head::{LIMIT, MessageKind, type_octet};
+use crate::lists::Octets;
+use crate::message::{Bssmap, CellId, Classmark};
+use crate::table::{
+    CAUSE, CELL_IDENTIFIER, CELL_IDENTIFIER_LIST, CHANNEL_TYPE, CLASSMARK_1, CLASSMARK_2,
+    ENCRYPTION_INFORMATION, InterfaceA, LAYER_3_INFORMATION, RESPONSE_REQUEST, RR_CAUSE,
+};
+use octet_elements::{append_element, append_octets};
+use std::alloc::{AllocError, Allocator};
+
+/// Whether the message has a canonical text.
+#[tactic(auto, using(crate::proofs::Written::canonical_of, crate::proofs::Written::writable_of))]
+pub fn fits<A: Allocator + Copy>(message: &Bssmap<A>) -> bool
+    ensures { IsTrue result ↔ HasCanonical message.now }
+{
+    is_writable(message)
+}
+
+/// Whether the fields of the message can be written.
+fn is_writable<A: Allocator + Copy>(message: &Bssmap<A>) -> bool
+    ensures { IsTrue result ↔ IsWritable message.now }
+{
+    match message {
+        Bssmap::HandoverRequest {
+            channel,
+            encryption,
+            classmark,
+            serving,
+            target,
+        } => {
+            has_area(*serving)
+                && has_area(*target)
+                && request_fits(channel.as_slice(), encryption.as_slice(), classmark)
+        }
+        Bssmap::HandoverRequired {
+            response,
+            cells,
+            ..
+        } => required_fits(*response, cells.as_slice()),
+        Bssmap::HandoverRequestAck { layer3 } | Bssmap::HandoverCommand { layer3 } => {
+            layer3_fits(layer3.as_slice())
+        }
+        Bssmap::HandoverPerformed { cell, .. } => has_area(*cell),
+        _ => true,
+    }
+}
+
+/// Whether the cell has a location area code.
+fn has_area(cell: CellId) -> bool
+    ensures { IsTrue result ↔ HasArea cell }
+{
+    cell.lac.is_some()
+}
+
+fn have_areas(cells: &[CellId]) -> bool
+    ensures { result ≡ have_areas cells.now }
+{
+    cells.iter().all(|cell| cell.lac.is_some())
+}
+
+/// Whether the lists of a HANDOVER REQUEST are long enough, and together short enough.
+fn request_fits<A: Allocator + Copy>(
+    channel: &[u8],
+    encryption: &[u8],
+    classmark: &Classmark<A>,
+) -> bool
+    ensures { IsTrue result ↔ ((1 < length channel.now) × (0 < length encryption.now) × (19 + length channel.now + length encryption.now + classmark_length classmark.now ≤ limit)) }
+{
+    let classmark_len = classmark_len(classmark);
+    1 < channel.len()
+        && !encryption.is_empty()
+        && channel.len() <= LIMIT
+        && encryption.len() <= LIMIT
+        && classmark_len <= LIMIT
+        && 19 + channel.len() + encryption.len() + classmark_len <= LIMIT
+}
+
+/// Whether the cells of a HANDOVER REQUIRED can be written, and are some and not too many.
+fn required_fits(response: bool, cells: &[CellId]) -> bool
+    ensures { IsTrue result ↔ ((0 < length cells.now) × IsTrue (have_areas cells.now) × (7 + response_length response + 4 * length cells.now ≤ limit)) }
+{
+    !cells.is_empty()
+        && cells.len() <= LIMIT
+        && 7 + response_len(response) + 4 * cells.len() <= LIMIT
+        && have_areas(cells)
+}
+
+/// Whether a layer 3 message is some octets, and not too many.
+fn layer3_fits(layer3: &[u8]) -> bool
+    ensures { IsTrue result ↔ ((0 < length layer3.now) × (3 + length layer3.now ≤ limit)) }
+{
+    matches!(layer3.len(), 1..=250)
+}
+
+/// How many octets the element of a classmark has.
+fn classmark_len<A: Allocator + Copy>(classmark: &Classmark<A>) -> usize
+    ensures { result ≡ classmark_length classmark.now }
+{
+    match classmark {
+        Classmark::One(_) => 2,
+        Classmark::Two(octets) => 2 + octets.as_slice().len(),
+    }
+}
+
+/// How many octets a response request has.
+fn response_len(response: bool) -> usize
+    ensures { result ≡ response_length response }
+{
+    if response { 1 } else { 0 }
+}
+
+/// Which message it is.
+fn kind_of<A: Allocator>(message: &Bssmap<A>) -> MessageKind
+    ensures { result ≡ kind_of message.now }
+{
+    match message {
+        Bssmap::HandoverRequest { .. } => MessageKind::HandoverRequest,
+        Bssmap::HandoverRequired { .. } => MessageKind::HandoverRequired,
+        Bssmap::HandoverRequestAck { .. } => MessageKind::HandoverRequestAck,
+        Bssmap::HandoverCommand { .. } => MessageKind::HandoverCommand,
+        Bssmap::HandoverComplete { .. } => MessageKind::HandoverComplete,
+        Bssmap::HandoverFailure { .. } => MessageKind::HandoverFailure,
+        Bssmap::HandoverPerformed { .. } => MessageKind::HandoverPerformed,
+        Bssmap::HandoverRequiredReject { .. } => MessageKind::HandoverRequiredReject,
+        Bssmap::HandoverDetect => MessageKind::HandoverDetect,
+        Bssmap::ClearCommand { .. } => MessageKind::ClearCommand,
+        Bssmap::ClearComplete => MessageKind::ClearComplete,
+        Bssmap::ClearRequest { .. } => MessageKind::ClearRequest,
+    }
+}
+
+/// How many octets the elements of a message take.
+#[tactic(auto, using(crate::proofs::Lengths::request_length, crate::proofs::Lengths::required_length))]
+fn elements_len<A: Allocator + Copy>(message: &Bssmap<A>) -> usize
+    requires { IsWritable message.now }
+    ensures { result ≡ length (all_spelled interface_a (elements_of message.now)) }
+{
+    match message {
+        Bssmap::HandoverRequest {
+            channel,
+            encryption,
+            classmark,
+            ..
+        } => 18 + channel.as_slice().len() + encryption.as_slice().len() + classmark_len(classmark),
+        Bssmap::HandoverRequired {
+            response,
+            cells,
+            ..
+        } => 6 + response_len(*response) + 4 * cells.as_slice().len(),
+        Bssmap::HandoverRequestAck { layer3 } | Bssmap::HandoverCommand { layer3 } => {
+            2 + layer3.as_slice().len()
+        }
+        Bssmap::HandoverComplete { rr } => rr_len(*rr),
+        Bssmap::HandoverFailure { rr, .. } => 3 + rr_len(*rr),
+        Bssmap::HandoverPerformed { .. } => 10,
+        Bssmap::HandoverRequiredReject { .. }
+        | Bssmap::ClearCommand { .. }
+        | Bssmap::ClearRequest { .. } => 3,
+        Bssmap::HandoverDetect | Bssmap::ClearComplete => 0,
+    }
+}
+
+/// How many octets an RR cause has.
+fn rr_len(rr: Option<u8>) -> usize
+    ensures { result ≡ length (all_spelled interface_a (where_some 0x15 rr)) }
+{
+    if rr.is_some() { 2 } else { 0 }
+}
+
+/// A number as two octets, the high one first.
+fn pair_octets(number: u16) -> [u8; 2]
+    ensures { result ≡ pair_octets number }
+{
+    [(number / 256) as u8, (number % 256) as u8]
+}
+
+/// Location area code and cell identity.
+fn cell_octets(cell: CellId) -> [u8; 4]
+    ensures { result ≡ cell_octets cell }
+{
+    let [area_high, area_low] = pair_octets(cell.lac.unwrap_or(0));
+    let [high, low] = pair_octets(cell.ci);
+    [area_high, area_low, high, low]
+}
+
+/// The discriminator of location area code and cell identity.
+const AREA_AND_CELL: u8 = 1;
+
+/// Appends a cell identifier, for which the list has room.
+fn append_cell<A: Allocator>(out: &mut Vec<u8, A>, cell: CellId)
+    requires { vec_len out.old + 7 ≤ vec_capacity out.old }
+    ensures items { out.new.items ≡ out.old.items ++ spelled interface_a (0x05, cell_value cell) }
+    ensures len { vec_len out.new ≡ vec_len out.old + 7 }
+    ensures capacity { vec_capacity out.old ≤ vec_capacity out.new }
+{
+    let [area_high, area_low, high, low] = cell_octets(cell);
+    let value = [AREA_AND_CELL, area_high, area_low, high, low];
+    append_element::<InterfaceA, A>(out, CELL_IDENTIFIER, &value);
+}
+
+/// Appends a classmark, for which the list has room.
+fn append_classmark<A: Allocator + Copy>(out: &mut Vec<u8, A>, classmark: &Classmark<A>)
+    requires short { classmark_length classmark.now ≤ limit }
+    requires room { vec_len out.old + classmark_length classmark.now ≤ vec_capacity out.old }
+    ensures items { out.new.items ≡ out.old.items ++ spelled interface_a (classmark_element classmark.now) }
+    ensures len { vec_len out.new ≡ vec_len out.old + classmark_length classmark.now }
+    ensures capacity { vec_capacity out.old ≤ vec_capacity out.new }
+{
+    match classmark {
+        Classmark::One(octet) => append_element::<InterfaceA, A>(out, CLASSMARK_1, &[*octet]),
+        Classmark::Two(octets) => append_element::<InterfaceA, A>(
+            out,
+            CLASSMARK_2,
+            octets.as_slice(),
+        ),
+    }
+}
+
+/// Appends the elements of a HANDOVER REQUEST, for which the list has room.
+fn append_request<A: Allocator + Copy>(
+    out: &mut Vec<u8, A>,
+    channel: &[u8],
+    encryption: &[u8],
+    classmark: &Classmark<A>,
+    serving: CellId,
+    target: CellId,
+)
+    requires short { 19 + length channel.now + length encryption.now + classmark_length classmark.now ≤ limit }
+    requires room { vec_len out.old + (18 + length channel.now + length encryption.now + classmark_length classmark.now) ≤ vec_capacity out.old }
+    ensures { out.new.items ≡ out.old.items ++ all_spelled interface_a ((0x0B, channel.now) ∷ (0x0A, encryption.now) ∷ classmark_element classmark.now ∷ (0x05, cell_value serving) ∷ (0x05, cell_value target) ∷ []) }
+{
+    append_element::<InterfaceA, A>(out, CHANNEL_TYPE, channel);
+    append_element::<InterfaceA, A>(out, ENCRYPTION_INFORMATION, encryption);
+    append_classmark(out, classmark);
+    append_cell(out, serving);
+    append_cell(out, target);
+}
+
+/// Appends cells, for which the list has room.
+fn append_cells<A: Allocator>(out: &mut Vec<u8, A>, cells: &[CellId])
+    requires { vec_len out.old + 4 * length cells.now ≤ vec_capacity out.old }
+    ensures { out.new.items ≡ out.old.items ++ flat_map cell_octets cells.now }
+{
+    for cell in cells {
+        append_octets(out, &cell_octets(*cell));
+    }
+}
+
+/// Appends the elements of a HANDOVER REQUIRED, for which the list has room.
+fn append_required<A: Allocator>(out: &mut Vec<u8, A>, cause: u8, response: bool, cells: &[CellId])
+    requires short { 7 + response_length response + 4 * length cells.now ≤ limit }
+    requires room { vec_len out.old + (6 + response_length response + 4 * length cells.now) ≤ vec_capacity out.old }
+    ensures { out.new.items ≡ out.old.items ++ all_spelled interface_a ((0x04, cause ∷ []) ∷ where_true 0x1B response ++ (0x1A, cells_value cells.now) ∷ []) }
+{
+    append_element::<InterfaceA, A>(out, CAUSE, &[cause]);
+    append_response(out, response);
+    let len = 1 + 4 * cells.len();
+    append_octets(out, &[CELL_IDENTIFIER_LIST, len as u8, AREA_AND_CELL]);
+    append_cells(out, cells);
+}
+
+/// Appends a response request where it is asked for; the list has room for it.
+fn append_response<A: Allocator>(out: &mut Vec<u8, A>, response: bool)
+    requires { vec_len out.old + response_length response ≤ vec_capacity out.old }
+    ensures items { out.new.items ≡ out.old.items ++ all_spelled interface_a (where_true 0x1B response) }
+    ensures len { vec_len out.new ≡ vec_len out.old + response_length response }
+    ensures capacity { vec_capacity out.old ≤ vec_capacity out.new }
+{
+    if response {
+        append_element::<InterfaceA, A>(out, RESPONSE_REQUEST, &[]);
+    }
+}
+
+/// Appends an RR cause where there is one; the list has room for it.
+fn append_rr<A: Allocator>(out: &mut Vec<u8, A>, rr: Option<u8>)
+    requires { vec_len out.old + length (all_spelled interface_a (where_some 0x15 rr)) ≤ vec_capacity out.old }
+    ensures { out.new.items ≡ out.old.items ++ all_spelled interface_a (where_some 0x15 rr) }
+{
+    if let Some(rr) = rr {
+        append_element::<InterfaceA, A>(out, RR_CAUSE, &[rr]);
+    }
+}
+
+/// Appends the elements of a message, for which the list has room.
+#[tactic(auto, using(crate::proofs::Lengths::request_length, crate::proofs::Lengths::required_length))]
+fn append_elements<A: Allocator + Copy>(message: &Bssmap<A>, out: &mut Vec<u8, A>)
+    requires writable { IsWritable message.now }
+    requires room { vec_len out.old + length (all_spelled interface_a (elements_of message.now)) ≤ vec_capacity out.old }
+    ensures { out.new.items ≡ out.old.items ++ all_spelled interface_a (elements_of message.now) }
+{
+    match message {
+        Bssmap::HandoverRequest {
+            channel,
+            encryption,
+            classmark,
+            serving,
+            target,
+        } => append_request(
+            out,
+            channel.as_slice(),
+            encryption.as_slice(),
+            classmark,
+            *serving,
+            *target,
+        ),
+        Bssmap::HandoverRequired {
+            cause,
+            response,
+            cells,
+        } => append_required(out, *cause, *response, cells.as_slice()),
+        Bssmap::HandoverRequestAck { layer3 } | Bssmap::HandoverCommand { layer3 } => {
+            append_element::<InterfaceA, A>(out, LAYER_3_INFORMATION, layer3.as_slice());
+        }
+        Bssmap::HandoverComplete { rr } => append_rr(out, *rr),
+        Bssmap::HandoverFailure { cause, rr } => {
+            append_element::<InterfaceA, A>(out, CAUSE, &[*cause]);
+            append_rr(out, *rr);
+        }
+        Bssmap::HandoverPerformed { cause, cell } => {
+            append_element::<InterfaceA, A>(out, CAUSE, &[*cause]);
+            append_cell(out, *cell);
+        }
+        Bssmap::HandoverRequiredReject { cause }
+        | Bssmap::ClearCommand { cause }
+        | Bssmap::ClearRequest { cause } => {
+            append_element::<InterfaceA, A>(out, CAUSE, &[*cause]);
+        }
+        Bssmap::HandoverDetect | Bssmap::ClearComplete => {}
+    }
+}
+
+/// Appends the canonical text of a message. It takes no memory where the list has room for it.
+#[tactic(auto, using(crate::proofs::Written::writable_of))]
+pub fn encode_into<A: Allocator + Copy>(
+    message: &Bssmap<A>,
+    out: &mut Vec<u8, A>,
+) -> Result<(), AllocError>
+    requires { HasCanonical message.now }
+    ensures ok { OnOk result (out.new.items ≡ out.old.items ++ canonical message.now) }
+    ensures err { OnErr result (out.new.items ≡ out.old.items) }
+    ensures room { vec_len out.old + length (canonical message.now) ≤ vec_capacity out.old → IsOk result }
+    ensures full { OnErr result (vec_capacity out.old < vec_len out.old + length (canonical message.now)) }
+{
+    let len = 1 + elements_len(message);
+    out.reserve(2 + len)?;
+    append_octets(out, &[0, len as u8, type_octet(kind_of(message))]);
+    append_elements(message, out);
+    Ok(())
+}
+
+/// The canonical text of a message.
+pub fn encode<A: Allocator + Copy>(alloc: A, message: &Bssmap<A>) -> Result<Vec<u8, A>, AllocError>
+    requires { HasCanonical message.now }
+    ensures { IfOk result (λ text. text.items ≡ canonical message.now) }
+{
+    let mut text = Vec::new(alloc);
+    encode_into(message, &mut text)?;
+    Ok(text)
+}
