@@ -1,9 +1,11 @@
-//! A laboratory of a GSM base station controller: runs a script over a site and prints the trace.
+//! A laboratory of a GSM base station controller: runs a script over a site and prints the trace, or prints a message
+//! in words.
 //!
-//! Statuses: 0 done, 2 the words, a file, the site or a line of the script refused or the output not to be
+//! Statuses: 0 done, 2 the words, a file, the site, a line of the script or a message refused or the output not to be
 //! written, 3 memory refused.
 #![tactic(auto)]
 
+use lab::decoded::{Link, decode_run};
 use lab::run::{LabFault, Status, lab_run};
 use lab::words::{Job, WordsFault, read_words};
 use std::alloc::AllocError;
@@ -66,7 +68,21 @@ fn run<R: Files + Print + AllocGlobal>(rt: &R, site: &str, script: &str) -> Resu
     let status = lab_run(alloc, alloc, &site, &script, &mut out);
     // what was printed before a fault is shown
     out.flush()?;
-    match status? {
+    ended(status?)
+}
+
+/// Prints the message that a text writes in hexadecimal.
+fn decode<R: Print + AllocGlobal>(rt: &R, link: Link, text: &str) -> Result<(), Stop> {
+    let alloc = rt.alloc();
+    let mut out = BufWriter::new(alloc, io::writer(rt))?;
+    let status = decode_run(alloc, link, text, &mut out);
+    out.flush()?;
+    ended(status?)
+}
+
+/// How the program goes on after work that ended so.
+fn ended(status: Status) -> Result<(), Stop> {
+    match status {
         Status::Done => Ok(()),
         Status::Refused => Err(Stop::Refused),
     }
@@ -76,6 +92,7 @@ fn run<R: Files + Print + AllocGlobal>(rt: &R, site: &str, script: &str) -> Resu
 fn work<R: Files + Print + Eprint + AllocGlobal>(rt: &R, words: &[&str]) -> Result<(), Stop> {
     match read_words(rt.alloc(), words) {
         Ok(Job::Run { site, script }) => run(rt, site, script),
+        Ok(Job::Decode { link, text }) => decode(rt, link, text),
         Ok(Job::Show(text)) => {
             print!(rt; "{text}")?;
             Ok(())

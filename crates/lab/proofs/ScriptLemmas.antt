@@ -1,5 +1,5 @@
 -- Facts of the words, numbers and lines of a script.
-use Rattle.std.proofs.Common.{◌≡◌, ◌≢◌, ℕ, ◌+◌, ◌-◌, ◌*◌, ◌<◌, ◌≤◌, ◌^◌, ◌%◌, ◌∷◌, ◌++◌, List, [], Bool, true, false, Option, Some, None, Result, Ok, Err, refl, sym, ap, ◌∙◌, arith, rules, length, take, get_or, cond, is_some, option_map, map, slice_index, length-append, not, unwrap_or, suc, zero, ◌==◌, Bor, MatchOption}
+use Rattle.std.proofs.Common.{◌≡◌, ◌≢◌, ℕ, ◌+◌, ◌-◌, ◌<◌, ◌^◌, ◌%◌, ◌∷◌, ◌++◌, List, [], Bool, true, false, Option, Some, None, Result, Ok, Err, refl, sym, ap, ◌∙◌, arith, rules, length, take, get_or, is_some, option_map, map, length-append, not, unwrap_or, suc, zero, ◌==◌, Bor, MatchOption}
 use Rattle.std.specs.Char.{is_ascii_digit, is_ascii_hexdigit}
 use Rattle.std.specs.List.{list_all, filter_map, position_from, slice_split, cons_option}
 use Rattle.std.specs.Result.{result_ok}

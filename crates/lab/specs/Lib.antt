@@ -2,3 +2,4 @@ pub mod Plan
 pub mod Procedure
 pub mod Handling
 pub mod Script
+pub mod Decoded

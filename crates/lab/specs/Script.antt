@@ -1,5 +1,5 @@
 -- What a script says, line by line. A text is the list of its bytes.
-use Rattle.std.specs.Prelude.{ℕ, ◌==◌, ◌&&◌, ◌||◌, Bool, nat_lt, nat_eq, not, if◌then◌else◌, List, [], ◌∷◌, length, map, codes, Option, Some, None, is_some, option_map, option_and_then, bytes_eq}
+use Rattle.std.specs.Prelude.{ℕ, ◌==◌, ◌&&◌, ◌||◌, Bool, nat_lt, nat_eq, not, if◌then◌else◌, List, length, map, codes, Option, Some, None, is_some, option_map, option_and_then, bytes_eq}
 use Rattle.std.specs.List.{slice_split, filter_map, list_all, before_first, after_first, starts_with, position_from}
 use Rattle.std.specs.Char.{is_ascii_digit}
 use Rattle.std.specs.Option.{option_or}

@@ -3,6 +3,7 @@ ghost use Rattle.std.specs.Prelude.{◌≡◌, ◌⊎◌, Ok, None, IsSome};
 ghost use Rattle.radio_book.specs.SiteFile.{described_site};
 ghost use Rattle.lab.specs.Script.{first_unread};
 
+use crate::bad::Bad;
 use crate::exchange::{Inbound, PlainFault};
 use crate::procedure::handle_plain;
 use crate::script::{ScriptFault, read_script};
@@ -14,16 +15,16 @@ use std::io::{self, Write};
 use std::sync::Arc;
 use thiserror::Error;
 
-/// How a run ended.
+/// How the work ended.
 #[derive(Clone, Copy, Debug, PartialEq, Eq)]
 pub enum Status {
-    /// All inputs were handled.
+    /// All inputs were handled, or the message was printed.
     Done,
-    /// The site or a line of the script was refused, as the one line that was printed says.
+    /// The site, a line of the script or what was to be decoded was refused, as the one line that was printed says.
     Refused,
 }
 
-/// Why a run didn't come to its end.
+/// Why the work didn't come to its end.
 #[derive(Clone, Copy, Debug, PartialEq, Eq, Error)]
 pub enum LabFault {
     /// Memory was refused.
@@ -64,7 +65,7 @@ fn run_input<A: Allocator + Copy, W: Write>(
     print_input(out, &input)?;
     match handle_plain(alloc, book, input) {
         Ok(handled) => print_handled(out, &handled)?,
-        Err(PlainFault::Undecoded(fault)) => print_fault(out, fault)?,
+        Err(PlainFault::Undecoded(fault)) => print_fault(out, Bad::Rsl(fault))?,
         Err(PlainFault::NoMemory) => return Err(LabFault::NoMemory),
     }
     Ok(())

@@ -163,7 +163,7 @@ fn is_hex_digits(text: &str) -> bool
 }
 
 /// Whether the text is one octet or more, each in two hexadecimal digits.
-fn is_octets(text: &str) -> bool
+pub(crate) fn is_octets(text: &str) -> bool
     ensures { result ≡ is_some (said.octets_of text.now) }
 {
     !text.is_empty() && text.len() % 2 == 0 && is_hex_digits(text)

@@ -1,5 +1,7 @@
-//! What no clause says: the printed texts on the whole way from two files to a trace, what is refused, want of
-//! memory and failing writes.
+//! What no clause says: the printed texts on the whole way from two files to a trace and from octets to a message in
+//! words, what is refused, want of memory and failing writes.
+mod decoded;
+mod failing;
 mod refusals;
 mod traces;
 mod words;

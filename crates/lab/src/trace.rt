@@ -6,47 +6,22 @@
 //! | `event E -> R` | the event E was asked of the book, which replied R |
 //! | `none free CELL` | a channel of this cell was asked for, and none was free |
 //! | `out abis CELL TRX HEX` | a message was sent to a TRX of a cell |
-//! | `fault abis N` and the fault's arguments | the octets were no message of the Abis interface |
+//! | `fault LINK N` and the fault's arguments | the octets were no message of the link, which is `rr` or `abis` |
 //! | `end channels=N calls=N references=N timers=N` | at the end: what the book holds |
 //!
 //! A channel is `cell/trx/tn`, numbers are in decimal, octets are two small hexadecimal digits each, and what is
 //! absent is `-`.
+use crate::bad::Bad;
 use crate::exchange::{Handled, Inbound, Line, Outbound};
+use crate::text::{HexText, OrDash};
 use radio_book::book::Usage;
 use radio_book::channel::ChanState;
 use radio_book::event::{
     Attempt, AttemptKind, CallRecord, Event, Kind, Refusal, Reply, Stage, Timer, Why,
 };
-use rsl_messages::RslFault;
 use std::alloc::Allocator;
 use std::fmt;
 use std::io::{self, Write};
-
-/// Octets, each as two small hexadecimal digits.
-#[derive(Clone, Copy)]
-struct HexText<'a>(&'a [u8]);
-
-impl fmt::Display for HexText<'_> {
-    fn fmt<W: fmt::Write>(&self, f: &mut fmt::Formatter<W>) -> fmt::Result {
-        for octet in self.0 {
-            write!(f, "{octet:02x}")?;
-        }
-        Ok(())
-    }
-}
-
-/// A value, or `-` where there is none.
-#[derive(Drop)]
-struct OrDash<T>(Option<T>);
-
-impl<T: fmt::Display> fmt::Display for OrDash<T> {
-    fn fmt<W: fmt::Write>(&self, f: &mut fmt::Formatter<W>) -> fmt::Result {
-        match &self.0 {
-            Some(value) => write!(f, "{value}"),
-            None => write!(f, "-"),
-        }
-    }
-}
 
 /// The line of a script that asks for it.
 impl fmt::Display for Line {
@@ -235,24 +210,6 @@ impl fmt::Display for ReplyText {
     }
 }
 
-/// A fault of a message on Abis: its number, and its arguments.
-#[derive(Clone, Copy)]
-struct FaultText(RslFault);
-
-impl fmt::Display for FaultText {
-    fn fmt<W: fmt::Write>(&self, f: &mut fmt::Formatter<W>) -> fmt::Result {
-        match self.0 {
-            RslFault::NotRsl => write!(f, "1"),
-            RslFault::UnknownType(kind) => write!(f, "2 {kind}"),
-            RslFault::Missing(identifier) => write!(f, "3 {identifier}"),
-            RslFault::BadElement(identifier) => write!(f, "4 {identifier}"),
-            RslFault::Torn(offset) => write!(f, "5 {offset}"),
-            RslFault::TooLong => write!(f, "6"),
-            RslFault::NoMemory => write!(f, "7"),
-        }
-    }
-}
-
 /// Prints that an input is handled.
 pub fn print_input<A: Allocator, W: Write>(out: &mut W, input: &Inbound<A>) -> io::Result<()> {
     writeln!(out, "in {input}")
@@ -273,9 +230,9 @@ pub fn print_handled<A: Allocator, W: Write>(out: &mut W, handled: &Handled<A>) 
     Ok(())
 }
 
-/// Prints why octets on Abis are no message.
-pub fn print_fault<W: Write>(out: &mut W, fault: RslFault) -> io::Result<()> {
-    writeln!(out, "fault abis {}", FaultText(fault))
+/// Prints why octets are no message of their link.
+pub fn print_fault<W: Write>(out: &mut W, fault: Bad) -> io::Result<()> {
+    writeln!(out, "fault {fault}")
 }
 
 /// Prints what the book holds at the end.

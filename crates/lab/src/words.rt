@@ -1,6 +1,7 @@
 //! The words of the command line.
 ghost use Rattle.std.specs.Prelude.{◌≡◌};
 
+use crate::decoded::Link;
 use clap::error::ErrorKind;
 use clap::{Arg, ArgAction, ArgMatches, Command, Error};
 use std::alloc::{AllocError, Global};
@@ -10,6 +11,8 @@ use std::alloc::{AllocError, Global};
 pub enum Job<'a> {
     /// A script is run over a site: the paths of both files.
     Run { site: &'a str, script: &'a str },
+    /// A message, written in hexadecimal, is printed in words.
+    Decode { link: Link, text: &'a str },
     /// A text is shown: the help that was asked for, or the version.
     Show(String),
 }
@@ -33,8 +36,20 @@ impl From<AllocError> for WordsFault {
     }
 }
 
+/// The links by their names.
+const LINKS: &[&str] = &["rr", "abis"];
+
+/// The link of this name.
+fn link(name: &str) -> Option<Link> {
+    match name {
+        "rr" => Some(Link::Rr),
+        "abis" => Some(Link::Abis),
+        _ => None,
+    }
+}
+
 /// An argument that has to be given, by its place.
-fn path<'a>(alloc: Global, name: &'a str, help: &'a str) -> Arg<'a> {
+fn argument<'a>(alloc: Global, name: &'a str, help: &'a str) -> Arg<'a> {
     Arg::new(alloc, name)
         .required(true)
         .action(ArgAction::Set)
@@ -45,8 +60,30 @@ fn path<'a>(alloc: Global, name: &'a str, help: &'a str) -> Arg<'a> {
 fn run_command<'a>(alloc: Global) -> Result<Command<'a>, AllocError> {
     Command::new(alloc, "run")
         .about("Runs a script over a site and prints the trace")
-        .arg(path(alloc, "SITE", "The site file"))?
-        .arg(path(alloc, "SCRIPT", "The script file"))
+        .arg(argument(alloc, "SITE", "The site file"))?
+        .arg(argument(alloc, "SCRIPT", "The script file"))
+}
+
+/// `decode LINK HEX`
+fn decode_command<'a>(alloc: Global) -> Result<Command<'a>, AllocError> {
+    Command::new(alloc, "decode")
+        .about("Prints a message in words, as in: decode abis 082e010b")
+        .arg(link_argument(alloc))?
+        .arg(argument(
+            alloc,
+            "HEX",
+            "The message's octets in hexadecimal, without blanks",
+        ))
+}
+
+/// `LINK`
+fn link_argument<'a>(alloc: Global) -> Arg<'a> {
+    argument(
+        alloc,
+        "LINK",
+        "Where the message comes from: rr is the radio path (TS 44.018), abis the base station (TS 48.058)",
+    )
+    .value_parser(LINKS)
 }
 
 /// The whole command line.
@@ -57,7 +94,8 @@ fn lab_command<'a>(alloc: Global) -> Result<Command<'a>, AllocError> {
         .no_binary_name(true)
         .bin_name("bsc_lab")?
         .subcommand_required(true)
-        .subcommand(run_command(alloc)?)
+        .subcommand(run_command(alloc)?)?
+        .subcommand(decode_command(alloc)?)
 }
 
 /// The job of a command line that was read.
@@ -66,6 +104,10 @@ fn job_of<'a>(matches: &ArgMatches<'a>) -> Option<Job<'a>> {
         ("run", run) => Some(Job::Run {
             site: run.get_str("SITE")?,
             script: run.get_str("SCRIPT")?,
+        }),
+        ("decode", decode) => Some(Job::Decode {
+            link: link(decode.get_str("LINK")?)?,
+            text: decode.get_str("HEX")?,
         }),
         _ => None,
     }

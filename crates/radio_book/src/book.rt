@@ -139,7 +139,7 @@ impl<A: Allocator + Copy> Book<A> {
         Ok((event, reply))
     }
 
-    /// How many traffic channels of the cell are free. A cell that isn't the site's has none.
+    /// How many traffic channels of the cell are free: 0 for a cell that the site lacks.
     pub fn free_in(&self, cell: u8) -> u32
         ensures count { result ≡ free_count self.now cell }
     {

@@ -364,8 +364,8 @@ fn read_message<A: Allocator + Copy>(alloc: A, octets: &[u8]) -> Result<Rsl<A>, 
 
 /// Reads a message.
 ///
-/// Elements are read in any order; of a repeated one the first counts, and those that the message
-/// doesn't use are skipped.
+/// The elements may stand in any order. A repeated one is taken at its first place, and one that the
+/// message has no use for is passed over.
 pub fn decode<A: Allocator + Copy>(alloc: A, octets: &[u8]) -> Result<Rsl<A>, RslFault>
     ensures text { IfOk result (λ v. IsTextOf v octets.now) }
     ensures exact { (v : Rsl A) → IsTextOf v octets.now → result ≢ Err RslFault.NoMemory → result ≡ Ok v }

@@ -1,8 +1,8 @@
+use super::failing::Failing;
 use super::{ONE_CALL, SITE, printed};
 use crate::run::{LabFault, Status, lab_run};
 use refusing_heap::RefusingHeap;
 use std::alloc::Global;
-use std::io::{self, Write};
 use std::process::Abort;
 use std::test::Fail;
 
@@ -115,31 +115,6 @@ fn each_request_for_memory_is_refused(rt: HostRuntime) -> Result<(), Fail> {
     Ok(())
 }
 
-/// A writer one of whose writes fails.
-#[derive(Drop)]
-struct Failing {
-    /// How many writes come before that one.
-    before: u64,
-    failed: bool,
-    text: Vec<u8>,
-}
-
-impl Write for Failing {
-    fn write(&mut self, octets: &[u8]) -> io::Result<usize> {
-        if self.before == 0 && !self.failed {
-            self.failed = true;
-            return Err(io::Error::from(io::ErrorKind::Other));
-        }
-        self.before = self.before.saturating_sub(1);
-        self.text.extend_from_slice(octets)?;
-        Ok(octets.len())
-    }
-
-    fn flush(&mut self) -> io::Result<()> {
-        Ok(())
-    }
-}
-
 /// Whether a run met no failing write, where so many come before it.
 fn writes_all(
     rt: &impl Abort,
@@ -149,11 +124,7 @@ fn writes_all(
     wanted: &str,
     before: u64,
 ) -> Result<bool, Fail> {
-    let mut out = Failing {
-        before,
-        failed: false,
-        text: Vec::new(alloc),
-    };
+    let mut out = Failing::after(alloc, before);
     let status = lab_run(alloc, alloc, site, script, &mut out);
     let text = String::from_utf8(out.text)?;
     if out.failed {

@@ -1,4 +1,4 @@
-use Rattle.std.proofs.Common.{lit<, refl, sym, ap, ◌∙◌, ◌++◌, ◌≡◌, ℕ, List, length, map}
+use Rattle.std.proofs.Common.{lit<, refl, sym, ap, ◌∙◌, ℕ, List, length, map}
 use Rattle.std.specs.List.{filter_map}
 use Rattle.std.specs.Str.Lines.{strip_carriage_return}
 use Rattle.std.proofs.lemmas.Iterator.Consumers.{YieldsList-at, YieldsList-turn, YieldsList-end}

@@ -1,4 +1,4 @@
-use Rattle.std.proofs.Common.{rules, arith, ◌∙◌, ◌≡◌, ◌≢◌, ◌%◌, length}
+use Rattle.std.proofs.Common.{arith, ◌∙◌, ◌≡◌, ◌≢◌, ◌%◌, length}
 use Rattle.lab.proofs.ScriptLemmas.{octets_from_digits}
 use Rattle.lab.proofs.script.is_octets.Goals as goal
 

@@ -1,0 +1,115 @@
+//! One message in words: its name and its fields.
+//!
+//! A field is a blank and `field=value`. Numbers are in decimal, flags are 0 or 1, octets are two small hexadecimal
+//! digits each, what is absent is `-`, and a list without octets has nothing after `=`.
+ghost use Rattle.std.specs.Prelude.{◌≡◌, Ok, Err, IfOk, IfSome, IfNone, IsErr, is_some, true};
+ghost use Rattle.hex.specs.Hex.{decode_of};
+ghost use Rattle.lab.specs.Script.{octets_of};
+ghost use Rattle.lab.specs.Decoded.{IsRrMessage, IsAbisMessage, IsMessageText};
+
+use crate::bad::Bad;
+use crate::run::{LabFault, Status};
+use crate::script::is_octets;
+use crate::trace::print_fault;
+use rsl_messages::RslFault;
+use std::alloc::{AllocError, Allocator};
+use std::io::Write;
+
+mod abis;
+mod rr;
+
+use abis::AbisText;
+use rr::RrText;
+
+/// Where a message comes from.
+#[derive(Clone, Copy, Debug, PartialEq, Eq)]
+pub enum Link {
+    /// The radio path, between the network and a mobile (TS 44.018).
+    Rr,
+    /// Abis, between a base station controller and a base station (TS 48.058).
+    Abis,
+}
+
+/// The octets that a text writes in hexadecimal, in either case; `None` where it isn't hexadecimal.
+fn octets<A: Allocator + Copy>(alloc: A, text: &str) -> Result<Option<Vec<u8, A>>, AllocError>
+    ensures octets { IfOk result (λ found. IfSome found (λ octets. decode_of text.now ≡ Ok octets.items)) }
+    ensures none { IfOk result (λ found. IfNone found (IsErr (decode_of text.now))) }
+    ensures memory { IsErr result → is_some (octets_of text.now) ≡ true }
+{
+    if text.is_empty() {
+        return Ok(Some(Vec::new(alloc)));
+    }
+    if !is_octets(text) {
+        return Ok(None);
+    }
+    match hex::decode(alloc, text) {
+        Ok(octets) => Ok(Some(octets)),
+        Err(_) => Err(AllocError),
+    }
+}
+
+/// Prints a radio resource message, or why the octets are none.
+fn decode_rr<W: Write>(octets: &[u8], out: &mut W) -> Result<Status, LabFault>
+    ensures done { result ≡ Ok Status.Done → IsRrMessage octets.now }
+    ensures refused { result ≡ Ok Status.Refused → IsRrMessage octets.now → ⊥ }
+    ensures memory { result ≡ Err LabFault.NoMemory → ⊥ }
+{
+    match rr_messages::decode(octets) {
+        Ok(message) => {
+            writeln!(out, "{}", RrText(message))?;
+            Ok(Status::Done)
+        }
+        Err(fault) => {
+            print_fault(out, Bad::Rr(fault))?;
+            Ok(Status::Refused)
+        }
+    }
+}
+
+/// Prints a message on Abis, or why the octets are none.
+fn decode_abis<A: Allocator + Copy, W: Write>(
+    alloc: A,
+    octets: &[u8],
+    out: &mut W,
+) -> Result<Status, LabFault>
+    ensures done { result ≡ Ok Status.Done → IsAbisMessage A octets.now }
+    ensures refused { result ≡ Ok Status.Refused → IsAbisMessage A octets.now → ⊥ }
+    ensures memory { result ≡ Err LabFault.NoMemory → IsAbisMessage A octets.now }
+{
+    match rsl_messages::decode(alloc, octets) {
+        Ok(message) => {
+            writeln!(out, "{}", AbisText(&message))?;
+            Ok(Status::Done)
+        }
+        Err(RslFault::NoMemory) => Err(LabFault::NoMemory),
+        Err(fault) => {
+            print_fault(out, Bad::Rsl(fault))?;
+            Ok(Status::Refused)
+        }
+    }
+}
+
+/// Prints the message that a hexadecimal text writes, on one line.
+///
+/// Octets that are no message of the link print `fault`, the link, the number of the fault and its arguments, a text
+/// that isn't hexadecimal prints `hex`; then the answer is `Refused`. An empty text writes no octets. Once memory was
+/// refused nothing is printed.
+pub fn decode_run<A: Allocator + Copy, W: Write>(
+    alloc: A,
+    link: Link,
+    text: &str,
+    out: &mut W,
+) -> Result<Status, LabFault>
+    ensures done { result ≡ Ok Status.Done → IsMessageText A link text.now }
+    ensures refused { result ≡ Ok Status.Refused → IsMessageText A link text.now → ⊥ }
+    ensures memory { result ≡ Err LabFault.NoMemory → is_some (octets_of text.now) ≡ true }
+{
+    let Some(octets) = octets(alloc, text)? else {
+        writeln!(out, "hex")?;
+        return Ok(Status::Refused);
+    };
+    match link {
+        Link::Rr => decode_rr(&octets, out),
+        Link::Abis => decode_abis(alloc, &octets, out),
+    }
+}

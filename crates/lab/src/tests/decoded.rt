@@ -1,0 +1,305 @@
+use super::failing::Failing;
+use crate::bad::Bad;
+use crate::decoded::{Link, decode_run};
+use crate::run::{LabFault, Status};
+use crate::trace::print_fault;
+use refusing_heap::RefusingHeap;
+use rr_elements::ElementFault;
+use rr_messages::RrFault;
+use rsl_messages::RslFault;
+use std::alloc::{Allocator, Global};
+use std::process::Abort;
+use std::test::Fail;
+
+/// A message that keeps an octet list, and what it prints.
+const ACTIVATION: (&str, &str) = (
+    "0821010B0302060400010801092A",
+    "CHANNEL ACTIVATION tn=3 activation=2 mode=00010801 reference=42\n",
+);
+
+/// What a text printed, and how it ended.
+fn printed<A: Allocator + Copy>(
+    alloc: A,
+    scratch: Global,
+    link: Link,
+    text: &str,
+) -> Result<(Result<Status, LabFault>, String), Fail> {
+    let mut out = Vec::new(scratch);
+    let status = decode_run(alloc, link, text, &mut out);
+    Ok((status, String::from_utf8(out)?))
+}
+
+/// A text ends so and prints this one line.
+fn prints(
+    rt: &impl Abort,
+    alloc: Global,
+    link: Link,
+    ended: Status,
+    hex: &str,
+    wanted: &str,
+) -> Result<(), Fail> {
+    let (status, text) = printed(alloc, alloc, link, hex)?;
+    assert_eq!(rt; status, Ok(ended), "{hex}");
+    assert_eq!(rt; text.strip_suffix('\n').unwrap_or(""), wanted, "{hex}");
+    Ok(())
+}
+
+#[test]
+fn radio_resource_messages(rt: HostRuntime) -> Result<(), Fail> {
+    let rows = [
+        (
+            "062BD5670BA36B2A05",
+            "HANDOVER COMMAND arfcn=871 ncc=2 bcc=5 tn=3 tsc=5 carrier=875 reference=42 atc=0 power=5",
+        ),
+        // spare bits, and octets after the message
+        (
+            "062bd5670baf6bffe50909",
+            "HANDOVER COMMAND arfcn=871 ncc=2 bcc=5 tn=3 tsc=5 carrier=875 reference=255 atc=1 power=5",
+        ),
+        ("062c00", "HANDOVER COMPLETE cause=0"),
+        ("06280a", "HANDOVER FAILURE cause=10"),
+        ("060d01", "CHANNEL RELEASE cause=1"),
+        ("062d3f", "PHYSICAL INFORMATION ta=63"),
+    ];
+    for (hex, wanted) in rows {
+        prints(&rt, rt.alloc(), Link::Rr, Status::Done, hex, wanted)?;
+    }
+    Ok(())
+}
+
+#[test]
+fn measurement_reports(rt: HostRuntime) -> Result<(), Fail> {
+    let rows = [
+        (
+            "06151E1E006812A000000000000000000000",
+            "MEASUREMENT REPORT ba=0 dtx=0 full=30 ba3g=0 valid=1 sub=30 si23=0 qfull=0 qsub=0 count=1 n=40/2/21",
+        ),
+        // a count of 7, and no neighbour
+        (
+            "06151E1E01E812A000000000000000000000",
+            "MEASUREMENT REPORT ba=0 dtx=0 full=30 ba3g=0 valid=1 sub=30 si23=0 qfull=0 qsub=0 count=7",
+        ),
+        (
+            "06159145b8891d9978700000000000000000",
+            "MEASUREMENT REPORT ba=1 dtx=0 full=17 ba3g=0 valid=0 sub=5 si23=1 qfull=3 qsub=4 count=2 n=9/3/44 n=50/30/7",
+        ),
+        // all bits that a report has, and one octet after it
+        (
+            "0615ffffffbfffffffffffffffffffffffff00",
+            "MEASUREMENT REPORT ba=1 dtx=1 full=63 ba3g=1 valid=0 sub=63 si23=1 qfull=7 qsub=7 count=6 n=63/31/63 n=63/31/63 n=63/31/63 n=63/31/63 n=63/31/63 n=63/31/63",
+        ),
+    ];
+    for (hex, wanted) in rows {
+        prints(&rt, rt.alloc(), Link::Rr, Status::Done, hex, wanted)?;
+    }
+    Ok(())
+}
+
+#[test]
+fn messages_on_abis(rt: HostRuntime) -> Result<(), Fail> {
+    let rows = [
+        (
+            "0301010b02000b00020628",
+            "DATA REQUEST tn=3 link=0 layer3=0628",
+        ),
+        (
+            "0202010f02210b0001ff",
+            "DATA INDICATION tn=7 link=33 layer3=ff",
+        ),
+        (
+            "0821010B0302060400010801092A",
+            "CHANNEL ACTIVATION tn=3 activation=2 mode=00010801 reference=42",
+        ),
+        (
+            "0821010803000601AB",
+            "CHANNEL ACTIVATION tn=0 activation=0 mode=ab reference=-",
+        ),
+        ("0822010b081234", "CHANNEL ACTIVATION ACK tn=3 frame=4660"),
+        ("0823010a1a0120", "CHANNEL ACTIVATION NACK tn=2 cause=32"),
+        (
+            "082401091a020109",
+            "CONNECTION FAILURE INDICATION tn=1 cause=1",
+        ),
+        ("0827010b1102", "HANDOVER DETECTION tn=3 delay=2"),
+        ("0827010b", "HANDOVER DETECTION tn=3 delay=-"),
+        (
+            "0828010b1b001903001e0004000b001206151e1e006812a000000000000000000000",
+            "MEASUREMENT RESULT tn=3 number=0 uplink=001e00 power=0 layer3=06151e1e006812a000000000000000000000",
+        ),
+        (
+            "0828010b1b05190004ff",
+            "MEASUREMENT RESULT tn=3 number=5 uplink= power=255 layer3=-",
+        ),
+        ("082e010c", "RF CHANNEL RELEASE tn=4"),
+        ("0833010b", "RF CHANNEL RELEASE ACK tn=3"),
+    ];
+    for (hex, wanted) in rows {
+        prints(&rt, rt.alloc(), Link::Abis, Status::Done, hex, wanted)?;
+    }
+    Ok(())
+}
+
+#[test]
+fn faults_of_radio_resource_messages(rt: HostRuntime) -> Result<(), Fail> {
+    let rows = [
+        ("", "fault rr 1"),
+        ("05", "fault rr 1"),
+        ("06ff", "fault rr 2 255"),
+        ("06", "fault rr 3"),
+        // fifteen octets of measurement results
+        ("06151e1e006812a0000000000000000000", "fault rr 3"),
+        ("062BD56713A36B2A05", "fault rr 4 2"),
+        ("062BD5670BB36B2A05", "fault rr 4 3"),
+    ];
+    for (hex, wanted) in rows {
+        prints(&rt, rt.alloc(), Link::Rr, Status::Refused, hex, wanted)?;
+    }
+    Ok(())
+}
+
+#[test]
+fn faults_on_abis(rt: HostRuntime) -> Result<(), Fail> {
+    let rows = [
+        ("", "fault abis 1"),
+        ("04", "fault abis 1"),
+        ("08ff", "fault abis 2 255"),
+        ("0822010b", "fault abis 3 8"),
+        ("08330100", "fault abis 4 1"),
+        ("08", "fault abis 5 1"),
+        ("082201", "fault abis 5 2"),
+    ];
+    for (hex, wanted) in rows {
+        prints(&rt, rt.alloc(), Link::Abis, Status::Refused, hex, wanted)?;
+    }
+    // one octet more than a message has
+    let long = "08".repeat(rt.alloc(), 1025)?;
+    prints(
+        &rt,
+        rt.alloc(),
+        Link::Abis,
+        Status::Refused,
+        &long,
+        "fault abis 6",
+    )
+}
+
+#[test]
+fn faults_that_octets_never_have(rt: HostRuntime) -> Result<(), Fail> {
+    let rows = [
+        (
+            Bad::Rr(RrFault::Element(ElementFault::Length)),
+            "fault rr 4 1\n",
+        ),
+        (
+            Bad::Rr(RrFault::Element(ElementFault::BadRange)),
+            "fault rr 4 4\n",
+        ),
+        (Bad::Rr(RrFault::NoMemory), "fault rr 5\n"),
+        (Bad::Rsl(RslFault::NoMemory), "fault abis 7\n"),
+    ];
+    for (fault, wanted) in rows {
+        let mut out = Vec::new(rt.alloc());
+        assert!(rt; print_fault(&mut out, fault).is_ok(), "{wanted}");
+        assert_eq!(rt; String::from_utf8(out)?.as_str(), wanted);
+    }
+    Ok(())
+}
+
+#[test]
+fn text_that_is_not_hexadecimal(rt: HostRuntime) -> Result<(), Fail> {
+    let rows = ["0g", "0", "082", "06 2c00", "062c00 ", "0x062c", "-1", "é"];
+    for hex in rows {
+        prints(&rt, rt.alloc(), Link::Rr, Status::Refused, hex, "hex")?;
+        prints(&rt, rt.alloc(), Link::Abis, Status::Refused, hex, "hex")?;
+    }
+    Ok(())
+}
+
+/// Whether a message was printed over a heap that refuses this request, and met no refusal.
+fn prints_without(rt: &impl Abort, alloc: Global, n: u64) -> Result<bool, Fail> {
+    let heap = RefusingHeap::refusing_nth(alloc, n);
+    let (status, text) = printed(&heap, alloc, Link::Abis, ACTIVATION.0)?;
+    if heap.was_refused() {
+        assert_eq!(rt; status, Err(LabFault::NoMemory), "{n}");
+        assert_eq!(rt; text.as_str(), "", "{n}");
+        return Ok(false);
+    }
+    assert_eq!(rt; status, Ok(Status::Done), "{n}");
+    assert_eq!(rt; text.as_str(), ACTIVATION.1, "{n}");
+    Ok(true)
+}
+
+#[test]
+fn each_request_for_memory_is_refused(rt: HostRuntime) -> Result<(), Fail> {
+    let mut tried = 0u64;
+    for n in 1..100 {
+        if prints_without(&rt, rt.alloc(), n)? {
+            break;
+        }
+        tried = n;
+    }
+    // the octets of the text, and those that the message keeps
+    assert!(rt; 2 <= tried && tried < 99, "{tried} requests");
+    Ok(())
+}
+
+#[test]
+fn texts_that_take_no_memory(rt: HostRuntime) -> Result<(), Fail> {
+    let rows = [
+        (Link::Rr, "", "fault rr 1\n"),
+        (Link::Abis, "", "fault abis 1\n"),
+        (Link::Rr, "062c0g", "hex\n"),
+        (Link::Abis, "082e010b0", "hex\n"),
+    ];
+    for (link, hex, wanted) in rows {
+        let heap = RefusingHeap::refusing_from(rt.alloc(), 1);
+        let (status, text) = printed(&heap, rt.alloc(), link, hex)?;
+        assert_eq!(rt; status, Ok(Status::Refused), "{hex}");
+        assert_eq!(rt; text.as_str(), wanted, "{hex}");
+    }
+    Ok(())
+}
+
+/// Whether a text met no failing write, where so many come before it.
+fn writes_all(
+    rt: &impl Abort,
+    alloc: Global,
+    link: Link,
+    hex: &str,
+    wanted: &str,
+    before: u64,
+) -> Result<bool, Fail> {
+    let mut out = Failing::after(alloc, before);
+    let status = decode_run(alloc, link, hex, &mut out);
+    let text = String::from_utf8(out.text)?;
+    if out.failed {
+        assert_eq!(rt; status, Err(LabFault::Write), "{before}");
+        assert!(rt; wanted.starts_with(text.as_str()), "{before}: {text}");
+        return Ok(false);
+    }
+    assert!(rt; status.is_ok(), "{before}");
+    assert_eq!(rt; text.as_str(), wanted, "{before}");
+    Ok(true)
+}
+
+#[test]
+fn each_write_fails(rt: HostRuntime) -> Result<(), Fail> {
+    let rows = [
+        (Link::Abis, ACTIVATION.0, ACTIVATION.1),
+        (Link::Rr, "062c00", "HANDOVER COMPLETE cause=0\n"),
+        (Link::Abis, "082201", "fault abis 5 2\n"),
+        (Link::Rr, "06ff", "fault rr 2 255\n"),
+        (Link::Rr, "0g", "hex\n"),
+    ];
+    for (link, hex, wanted) in rows {
+        let mut tried = 0u64;
+        for before in 0..100 {
+            if writes_all(&rt, rt.alloc(), link, hex, wanted, before)? {
+                break;
+            }
+            tried = tried.saturating_add(1);
+        }
+        assert!(rt; 1 <= tried && tried < 100, "{hex}: {tried} writes");
+    }
+    Ok(())
+}
