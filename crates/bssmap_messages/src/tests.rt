@@ -321,20 +321,23 @@ fn fault_of_front(elements: &[(usize, u8, bool)], n: usize) -> Option<BssmapFaul
 }
 
 #[test]
-fn finds_the_fault_of_each_front_of_a_text(rt: HostRuntime) {
+fn finds_the_fault_of_each_front_of_a_text(rt: HostRuntime) -> Result<(), Fail> {
     for (text, elements) in TEXTS.iter().zip(ELEMENTS) {
         for n in 1..text.len() {
-            let mut front = [0; 27];
-            front[..n].copy_from_slice(&text[..n]);
-            let fault = decode(rt.alloc(), &front[..n]).err();
+            let fault = decode(rt.alloc(), &text[..n]).err();
             assert_eq!(rt; fault, Some(BssmapFault::Length), "{n} of {text:?}");
+            // with the length octet mended
+            let mut front = Vec::from_slice(rt.alloc(), &text[..n])?;
+            if let Some(length) = front.get_mut(1) {
+                *length = n.saturating_sub(2).min(255) as u8;
+            }
             if n > 2 {
-                front[1] = (n - 2) as u8;
-                let fault = decode(rt.alloc(), &front[..n]).err();
+                let fault = decode(rt.alloc(), &front).err();
                 assert_eq!(rt; fault, fault_of_front(elements, n), "{n} of {text:?}");
             }
         }
     }
+    Ok(())
 }
 
 #[test]
@@ -408,6 +411,7 @@ fn appends_in_room(rt: HostRuntime) -> Result<(), Fail> {
     let message = decode(rt.alloc(), REQUEST)?;
     let mut out = Vec::with_capacity(rt.alloc(), 28)?;
     out.push(7)?;
+    assert!(rt; fits(&message));
     encode_into(&message, &mut out)?;
     assert_eq!(rt; &out[1..], REQUEST);
     assert_eq!(rt; out[0], 7);
@@ -432,6 +436,7 @@ fn answers_want_of_memory(rt: HostRuntime) -> Result<(), Fail> {
         let heap = RefusingHeap::ample(rt.alloc());
         let message = decode(&heap, text)?;
         heap.refuse_from_now();
+        assert!(rt; fits(&message));
         assert!(rt; encode(&heap, &message).is_err());
         assert!(rt; heap.was_refused());
     }
