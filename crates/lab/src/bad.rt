@@ -1,4 +1,5 @@
 //! Why octets are no message, as it is printed.
+use bssmap_messages::BssmapFault;
 use rr_elements::ElementFault;
 use rr_messages::RrFault;
 use rsl_messages::RslFault;
@@ -10,6 +11,8 @@ use std::fmt;
 pub enum Bad {
     /// On the radio path (TS 44.018), printed as `rr`.
     Rr(RrFault),
+    /// On A (TS 48.008), printed as `a`.
+    Bssmap(BssmapFault),
     /// On Abis (TS 48.058), printed as `abis`.
     Rsl(RslFault),
 }
@@ -18,6 +21,7 @@ impl fmt::Display for Bad {
     fn fmt<W: fmt::Write>(&self, f: &mut fmt::Formatter<W>) -> fmt::Result {
         match self {
             Bad::Rr(fault) => write!(f, "rr {}", RrFaultText(*fault)),
+            Bad::Bssmap(fault) => write!(f, "a {}", BssmapFaultText(*fault)),
             Bad::Rsl(fault) => write!(f, "abis {}", RslFaultText(*fault)),
         }
     }
@@ -50,6 +54,24 @@ impl fmt::Display for RrFaultText {
             RrFault::Short => write!(f, "3"),
             RrFault::Element(fault) => write!(f, "4 {}", ElementFaultText(fault)),
             RrFault::NoMemory => write!(f, "5"),
+        }
+    }
+}
+
+/// A fault of a message on A: its number, and its arguments.
+#[derive(Clone, Copy)]
+struct BssmapFaultText(BssmapFault);
+
+impl fmt::Display for BssmapFaultText {
+    fn fmt<W: fmt::Write>(&self, f: &mut fmt::Formatter<W>) -> fmt::Result {
+        match self.0 {
+            BssmapFault::NotBssmap => write!(f, "1"),
+            BssmapFault::Length => write!(f, "2"),
+            BssmapFault::UnknownType(kind) => write!(f, "3 {kind}"),
+            BssmapFault::Missing(identifier) => write!(f, "4 {identifier}"),
+            BssmapFault::BadElement(identifier) => write!(f, "5 {identifier}"),
+            BssmapFault::Torn(offset) => write!(f, "6 {offset}"),
+            BssmapFault::NoMemory => write!(f, "7"),
         }
     }
 }

@@ -5,20 +5,23 @@
 ghost use Rattle.std.specs.Prelude.{◌≡◌, Ok, Err, IfOk, IfSome, IfNone, IsErr, is_some, true};
 ghost use Rattle.hex.specs.Hex.{decode_of};
 ghost use Rattle.lab.specs.Script.{octets_of};
-ghost use Rattle.lab.specs.Decoded.{IsRrMessage, IsAbisMessage, IsMessageText};
+ghost use Rattle.lab.specs.Decoded.{IsRrMessage, IsBssmapMessage, IsAbisMessage, IsMessageText};
 
 use crate::bad::Bad;
 use crate::run::{LabFault, Status};
 use crate::script::is_octets;
 use crate::trace::print_fault;
+use bssmap_messages::BssmapFault;
 use rsl_messages::RslFault;
 use std::alloc::{AllocError, Allocator};
 use std::io::Write;
 
 mod abis;
+mod bssmap;
 mod rr;
 
 use abis::AbisText;
+use bssmap::BssmapText;
 use rr::RrText;
 
 /// Where a message comes from.
@@ -26,6 +29,8 @@ use rr::RrText;
 pub enum Link {
     /// The radio path, between the network and a mobile (TS 44.018).
     Rr,
+    /// A, between a base station controller and a switching centre (TS 48.008).
+    A,
     /// Abis, between a base station controller and a base station (TS 48.058).
     Abis,
 }
@@ -61,6 +66,29 @@ fn decode_rr<W: Write>(octets: &[u8], out: &mut W) -> Result<Status, LabFault>
         }
         Err(fault) => {
             print_fault(out, Bad::Rr(fault))?;
+            Ok(Status::Refused)
+        }
+    }
+}
+
+/// Prints a message on A, or why the octets are none.
+fn decode_bssmap<A: Allocator + Copy, W: Write>(
+    alloc: A,
+    octets: &[u8],
+    out: &mut W,
+) -> Result<Status, LabFault>
+    ensures done { result ≡ Ok Status.Done → IsBssmapMessage A octets.now }
+    ensures refused { result ≡ Ok Status.Refused → IsBssmapMessage A octets.now → ⊥ }
+    ensures memory { result ≡ Err LabFault.NoMemory → IsBssmapMessage A octets.now }
+{
+    match bssmap_messages::decode(alloc, octets) {
+        Ok(message) => {
+            writeln!(out, "{}", BssmapText(&message))?;
+            Ok(Status::Done)
+        }
+        Err(BssmapFault::NoMemory) => Err(LabFault::NoMemory),
+        Err(fault) => {
+            print_fault(out, Bad::Bssmap(fault))?;
             Ok(Status::Refused)
         }
     }
@@ -110,6 +138,7 @@ pub fn decode_run<A: Allocator + Copy, W: Write>(
     };
     match link {
         Link::Rr => decode_rr(&octets, out),
+        Link::A => decode_bssmap(alloc, &octets, out),
         Link::Abis => decode_abis(alloc, &octets, out),
     }
 }

@@ -37,12 +37,13 @@ impl From<AllocError> for WordsFault {
 }
 
 /// The links by their names.
-const LINKS: &[&str] = &["rr", "abis"];
+const LINKS: &[&str] = &["rr", "a", "abis"];
 
 /// The link of this name.
 fn link(name: &str) -> Option<Link> {
     match name {
         "rr" => Some(Link::Rr),
+        "a" => Some(Link::A),
         "abis" => Some(Link::Abis),
         _ => None,
     }
@@ -81,7 +82,7 @@ fn link_argument<'a>(alloc: Global) -> Arg<'a> {
     argument(
         alloc,
         "LINK",
-        "Where the message comes from: rr is the radio path (TS 44.018), abis the base station (TS 48.058)",
+        "Where the message comes from: rr is the radio path (TS 44.018), a the switching centre (TS 48.008), abis the base station (TS 48.058)",
     )
     .value_parser(LINKS)
 }

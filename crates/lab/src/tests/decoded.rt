@@ -3,6 +3,7 @@ use crate::bad::Bad;
 use crate::decoded::{Link, decode_run};
 use crate::run::{LabFault, Status};
 use crate::trace::print_fault;
+use bssmap_messages::BssmapFault;
 use refusing_heap::RefusingHeap;
 use rr_elements::ElementFault;
 use rr_messages::RrFault;
@@ -15,6 +16,12 @@ use std::test::Fail;
 const ACTIVATION: (&str, &str) = (
     "0821010B0302060400010801092A",
     "CHANNEL ACTIVATION tn=3 activation=2 mode=00010801 reference=42\n",
+);
+
+/// A message on A that keeps a list of cells, and what it prints.
+const REQUIRED: (&str, &str) = (
+    "000c1104010c1b1a050100170066",
+    "HANDOVER REQUIRED cause=12 response=1 cells=23/102\n",
 );
 
 /// What a text printed, and how it ended.
@@ -140,6 +147,73 @@ fn messages_on_abis(rt: HostRuntime) -> Result<(), Fail> {
 }
 
 #[test]
+fn messages_on_a(rt: HostRuntime) -> Result<(), Fail> {
+    let rows = [
+        (
+            "0006121703062bd5",
+            "HANDOVER REQUEST ACKNOWLEDGE layer3=062bd5",
+        ),
+        ("000413170106", "HANDOVER COMMAND layer3=06"),
+        ("000114", "HANDOVER COMPLETE rr=-"),
+        ("0003141500", "HANDOVER COMPLETE rr=0"),
+        // an element that no message has comes first
+        ("000716990100040121", "HANDOVER FAILURE cause=33 rr=-"),
+        ("00061604010a156f", "HANDOVER FAILURE cause=10 rr=111"),
+        (
+            "000b1704010c05050100170066",
+            "HANDOVER PERFORMED cause=12 cell=23/102",
+        ),
+        (
+            "00091704010c0503020066",
+            "HANDOVER PERFORMED cause=12 cell=-/102",
+        ),
+        ("00041a040121", "HANDOVER REQUIRED REJECT cause=33"),
+        ("00011b", "HANDOVER DETECT"),
+        ("0005200401098F", "CLEAR COMMAND cause=9"),
+        ("000121", "CLEAR COMPLETE"),
+        ("000422040100", "CLEAR REQUEST cause=0"),
+    ];
+    for (hex, wanted) in rows {
+        prints(&rt, rt.alloc(), Link::A, Status::Done, hex, wanted)?;
+    }
+    Ok(())
+}
+
+#[test]
+fn messages_on_a_with_cells(rt: HostRuntime) -> Result<(), Fail> {
+    let rows = [
+        (
+            "0019100b030108010a01011d330505010017006605050100170065",
+            "HANDOVER REQUEST channel=010801 encryption=01 classmark=33 serving=23/102 target=23/101",
+        ),
+        // classmark 2; a cell by its identity alone, and one with its network
+        (
+            "001d100b0201080a0203ff1203331981050302006605080062f21000170065",
+            "HANDOVER REQUEST channel=0108 encryption=03ff classmark=331981 serving=-/102 target=23/101",
+        ),
+        // an empty classmark 2
+        (
+            "0018100b0201080a010112000505010017006605050100170065",
+            "HANDOVER REQUEST channel=0108 encryption=01 classmark= serving=23/102 target=23/101",
+        ),
+        REQUIRED,
+        (
+            "000f110401211a090100170066ffff0000",
+            "HANDOVER REQUIRED cause=33 response=0 cells=23/102,65535/0",
+        ),
+        (
+            "000d1104010c1a0702006600650063",
+            "HANDOVER REQUIRED cause=12 response=0 cells=-/102,-/101,-/99",
+        ),
+    ];
+    for (hex, wanted) in rows {
+        let wanted = wanted.strip_suffix('\n').unwrap_or(wanted);
+        prints(&rt, rt.alloc(), Link::A, Status::Done, hex, wanted)?;
+    }
+    Ok(())
+}
+
+#[test]
 fn faults_of_radio_resource_messages(rt: HostRuntime) -> Result<(), Fail> {
     let rows = [
         ("", "fault rr 1"),
@@ -153,6 +227,32 @@ fn faults_of_radio_resource_messages(rt: HostRuntime) -> Result<(), Fail> {
     ];
     for (hex, wanted) in rows {
         prints(&rt, rt.alloc(), Link::Rr, Status::Refused, hex, wanted)?;
+    }
+    Ok(())
+}
+
+#[test]
+fn faults_on_a(rt: HostRuntime) -> Result<(), Fail> {
+    let rows = [
+        ("", "fault a 1"),
+        ("01", "fault a 1"),
+        ("00", "fault a 2"),
+        ("0000", "fault a 2"),
+        ("00051b", "fault a 2"),
+        ("0001ff", "fault a 3 255"),
+        ("000116", "fault a 4 4"),
+        // one cell of two
+        ("0012100B030108010A01011D3305050100170066", "fault a 4 5"),
+        // no classmark
+        (
+            "0016100b0201080a01010505010017006605050100170065",
+            "fault a 4 18",
+        ),
+        ("0003160400", "fault a 5 4"),
+        ("0003160405", "fault a 6 3"),
+    ];
+    for (hex, wanted) in rows {
+        prints(&rt, rt.alloc(), Link::A, Status::Refused, hex, wanted)?;
     }
     Ok(())
 }
@@ -195,6 +295,7 @@ fn faults_that_octets_never_have(rt: HostRuntime) -> Result<(), Fail> {
             "fault rr 4 4\n",
         ),
         (Bad::Rr(RrFault::NoMemory), "fault rr 5\n"),
+        (Bad::Bssmap(BssmapFault::NoMemory), "fault a 7\n"),
         (Bad::Rsl(RslFault::NoMemory), "fault abis 7\n"),
     ];
     for (fault, wanted) in rows {
@@ -210,36 +311,50 @@ fn text_that_is_not_hexadecimal(rt: HostRuntime) -> Result<(), Fail> {
     let rows = ["0g", "0", "082", "06 2c00", "062c00 ", "0x062c", "-1", "é"];
     for hex in rows {
         prints(&rt, rt.alloc(), Link::Rr, Status::Refused, hex, "hex")?;
+        prints(&rt, rt.alloc(), Link::A, Status::Refused, hex, "hex")?;
         prints(&rt, rt.alloc(), Link::Abis, Status::Refused, hex, "hex")?;
     }
     Ok(())
 }
 
 /// Whether a message was printed over a heap that refuses this request, and met no refusal.
-fn prints_without(rt: &impl Abort, alloc: Global, n: u64) -> Result<bool, Fail> {
+fn prints_without(
+    rt: &impl Abort,
+    alloc: Global,
+    link: Link,
+    hex: &str,
+    wanted: &str,
+    n: u64,
+) -> Result<bool, Fail> {
     let heap = RefusingHeap::refusing_nth(alloc, n);
-    let (status, text) = printed(&heap, alloc, Link::Abis, ACTIVATION.0)?;
+    let (status, text) = printed(&heap, alloc, link, hex)?;
     if heap.was_refused() {
         assert_eq!(rt; status, Err(LabFault::NoMemory), "{n}");
         assert_eq!(rt; text.as_str(), "", "{n}");
         return Ok(false);
     }
     assert_eq!(rt; status, Ok(Status::Done), "{n}");
-    assert_eq!(rt; text.as_str(), ACTIVATION.1, "{n}");
+    assert_eq!(rt; text.as_str(), wanted, "{n}");
     Ok(true)
 }
 
 #[test]
 fn each_request_for_memory_is_refused(rt: HostRuntime) -> Result<(), Fail> {
-    let mut tried = 0u64;
-    for n in 1..100 {
-        if prints_without(&rt, rt.alloc(), n)? {
-            break;
+    let rows = [
+        (Link::A, REQUIRED.0, REQUIRED.1),
+        (Link::Abis, ACTIVATION.0, ACTIVATION.1),
+    ];
+    for (link, hex, wanted) in rows {
+        let mut tried = 0u64;
+        for n in 1..100 {
+            if prints_without(&rt, rt.alloc(), link, hex, wanted, n)? {
+                break;
+            }
+            tried = n;
         }
-        tried = n;
+        // the octets of the text, and what the message keeps
+        assert!(rt; 2 <= tried && tried < 99, "{hex}: {tried} requests");
     }
-    // the octets of the text, and those that the message keeps
-    assert!(rt; 2 <= tried && tried < 99, "{tried} requests");
     Ok(())
 }
 
@@ -247,6 +362,7 @@ fn each_request_for_memory_is_refused(rt: HostRuntime) -> Result<(), Fail> {
 fn texts_that_take_no_memory(rt: HostRuntime) -> Result<(), Fail> {
     let rows = [
         (Link::Rr, "", "fault rr 1\n"),
+        (Link::A, "", "fault a 1\n"),
         (Link::Abis, "", "fault abis 1\n"),
         (Link::Rr, "062c0g", "hex\n"),
         (Link::Abis, "082e010b0", "hex\n"),
@@ -287,6 +403,8 @@ fn each_write_fails(rt: HostRuntime) -> Result<(), Fail> {
     let rows = [
         (Link::Abis, ACTIVATION.0, ACTIVATION.1),
         (Link::Rr, "062c00", "HANDOVER COMPLETE cause=0\n"),
+        (Link::A, REQUIRED.0, REQUIRED.1),
+        (Link::A, "0003160405", "fault a 6 3\n"),
         (Link::Abis, "082201", "fault abis 5 2\n"),
         (Link::Rr, "06ff", "fault rr 2 255\n"),
         (Link::Rr, "0g", "hex\n"),

@@ -31,6 +31,7 @@ fn decodes<'a>(rt: &impl Abort, alloc: Global, words: &'a [&'a str], wanted: Lin
 fn decode_names_a_link_and_octets(rt: HostRuntime) {
     let alloc = rt.alloc();
     decodes(&rt, alloc, &["decode", "rr", "062c00"], Link::Rr, "062c00");
+    decodes(&rt, alloc, &["decode", "a", "00"], Link::A, "00");
     decodes(&rt, alloc, &["decode", "abis", "082E"], Link::Abis, "082E");
     // what isn't hexadecimal is found later
     decodes(&rt, alloc, &["decode", "rr", "0g"], Link::Rr, "0g");
@@ -55,8 +56,9 @@ fn help_and_version_are_shown(rt: HostRuntime) {
     shows(&rt, alloc, &["--help"], "decode abis 082e010b");
     shows(&rt, alloc, &["decode", "--help"], "decode abis 082e010b");
     shows(&rt, alloc, &["decode", "--help"], "rr is the radio path");
+    shows(&rt, alloc, &["decode", "--help"], "a the switching centre");
     shows(&rt, alloc, &["decode", "--help"], "in hexadecimal");
-    shows(&rt, alloc, &["help", "decode"], "rr, abis");
+    shows(&rt, alloc, &["help", "decode"], "rr, a, abis");
     shows(&rt, alloc, &["--version"], "bsc_lab 0.");
     shows(&rt, alloc, &["-V"], "bsc_lab 0.");
 }
@@ -86,7 +88,7 @@ fn other_words_are_refused(rt: HostRuntime) {
     );
     refuses(&rt, alloc, &["decode"], "<LINK>");
     refuses(&rt, alloc, &["decode", "rr"], "<HEX>");
-    refuses(&rt, alloc, &["decode", "a", "00"], "'a'");
+    refuses(&rt, alloc, &["decode", "A", "00"], "'A'");
     refuses(&rt, alloc, &["decode", "RR", "062c00"], "'RR'");
     refuses(&rt, alloc, &["decode", "", "062c00"], "<LINK>");
     refuses(&rt, alloc, &["decode", "rr", "06", "2c00"], "2c00");

@@ -1,21 +1,34 @@
 use Rattle.std.proofs.Common.{◌≡◌, ◌≢◌, ℕ, Ok, true, is_some, List, [], ◌∷◌, length, sym, ap, ◌∙◌, arith, rules}
 use Rattle.hex.specs.Hex.{decode_of, decode_pairs}
 use Rattle.lab.specs.Script.{octets_of}
-use Rattle.lab.specs.Decoded.{IsAbisMessage}
+use Rattle.lab.specs.Decoded.{IsBssmapMessage, IsAbisMessage}
 use Rattle.lab.proofs.decoded.decode_run.Goals as goal
 
 octets_of-some : (text octets : List ℕ) → length text ≢ 0 → decode_of text ≡ Ok octets → is_some (octets_of text) ≡ true
 octets_of-some text octets some written = rw written (search rules)
 
--- a message on Abis isn't written by the empty text
-octets_of-message : {A : Type 0} (text octets : List ℕ) → decode_of text ≡ Ok octets → IsAbisMessage A octets → is_some (octets_of text) ≡ true
+octets_of-written : (text octets : List ℕ) → decode_of text ≡ Ok octets → octets ≢ [] → is_some (octets_of text) ≡ true
 unfolding decode_pairs
-octets_of-message [] [] written message = cc message.1.head.2
-octets_of-message [] (octet ∷ rest) written message = cc written
-octets_of-message (digit ∷ rest) octets written message =
+octets_of-written [] [] written some = absurd (some (λ i. []))
+octets_of-written [] (octet ∷ rest) written some = cc written
+octets_of-written (digit ∷ rest) octets written some =
     octets_of-some (digit ∷ rest) octets (λ e. absurd (omega (arith, e))) written
+
+-- a message has octets
+bssmap-octets : {A : Type 0} (octets : List ℕ) → IsBssmapMessage A octets → octets ≢ []
+bssmap-octets octets message none = let framed = message.1.head.framed in absurd cc
+
+abis-octets : {A : Type 0} (octets : List ℕ) → IsAbisMessage A octets → octets ≢ []
+abis-octets octets message none = let head = message.1.head.2 in absurd cc
+
+pub returns-in-A-clause-memory : goal.returns-in-A-clause-memory
+returns-in-A-clause-memory g c =
+    let written : decode_of c.args.text.now ≡ Ok c.in-Some.octets.items = search rules in
+    let octets = c.deref-in-A.result.now in
+    λ wanted. octets_of-written c.args.text.now octets (written ∙ ap Ok (sym c.deref-in-A.ensures.value)) (bssmap-octets octets (c.decode_bssmap.ensures.memory wanted))
 
 pub returns-clause-memory : goal.returns-clause-memory
 returns-clause-memory g c =
     let written : decode_of c.args.text.now ≡ Ok c.in-Some.octets.items = search rules in
-    λ wanted. octets_of-message c.args.text.now c.deref-in-Abis.result.now (written ∙ ap Ok (sym c.deref-in-Abis.ensures.value)) (c.decode_abis.ensures.memory wanted)
+    let octets = c.deref-in-Abis.result.now in
+    λ wanted. octets_of-written c.args.text.now octets (written ∙ ap Ok (sym c.deref-in-Abis.ensures.value)) (abis-octets octets (c.decode_abis.ensures.memory wanted))
