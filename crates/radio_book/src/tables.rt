@@ -64,8 +64,9 @@ impl<A: Allocator + Copy> Channels<A> {
         requires { IsSome (map.get self.old x) }
         ensures { self.new ≡ map.insert self.old x state }
     {
-        if self.insert(x, state).is_err() {
-            unreachable!()
+        match self.states.get_mut(&x) {
+            Some(place) => *place = state,
+            None => unreachable!(),
         }
     }
 
@@ -145,8 +146,9 @@ impl<A: Allocator + Copy> Calls<A> {
         requires { IsSome (map.get self.old call) }
         ensures { self.new ≡ map.insert self.old call entry }
     {
-        if self.insert(call, entry).is_err() {
-            unreachable!()
+        match self.entries.get_mut(&call) {
+            Some(place) => *place = entry,
+            None => unreachable!(),
         }
     }
 

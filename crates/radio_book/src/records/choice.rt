@@ -1,6 +1,5 @@
 //! Channels and references are chosen: the lowest that are free.
 ghost use Rattle.std.specs.Prelude.{◌≡◌, IfSome, IfNone, find};
-ghost use Rattle.std.specs.FinMap as map;
 ghost use Rattle.radio_book.specs.Sound.{IsSound};
 ghost use Rattle.radio_book.specs.State.{record_of};
 ghost use Rattle.radio_book.specs.Choice.{IsFreeIn, NoneFree, IsNumberFree, MayReserve, taken_channel, is_free_traffic, channels_of, channel_at, free_count};

@@ -1,0 +1,22 @@
+use Rattle.std.proofs.Common.{Some, is_some, sym, ◌∙◌, ap}
+use Rattle.std.specs.FinMap as map
+use Rattle.std.specs.Option.{option_copied_mut}
+use Rattle.radio_book.specs.Maps.{put}
+use Rattle.radio_book.proofs.MapFacts.{get_listed, put_listed}
+use Rattle.radio_book.proofs.KeyFacts.{chan_total, chan_exact}
+use Rattle.radio_book.proofs.tables.Channels.replace.Goals as goal
+
+pub unreachable-requires : goal.unreachable-requires
+unreachable-requires g c =
+    let absent =
+    sym (ap option_copied_mut c.in-None.is) ∙ c.get_mut.ensures.value
+    ∙ sym (get_listed chan_total c.self.inside.states.entries c.args.x) ∙ ap (λ m. map.get m c.args.x) c.self.view_is in
+    let wanted = ap is_some absent ∙ c.requires in
+    cc
+
+pub returns : goal.returns
+returns g c =
+    let there = sym (ap is_some (sym (ap option_copied_mut c.in-Some.is) ∙ c.get_mut.ensures.value)) in
+    let written = c.get_mut.follows.holds c.args.state in
+    put_listed chan_total chan_exact c.self.inside.states.entries (c.get_mut.follows.lender c.args.state).entries c.args.x (Some c.args.state) (written.3 there).0
+    ∙ ap (λ m. put m c.args.x (Some c.args.state)) c.self.view_is
