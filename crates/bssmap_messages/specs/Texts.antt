@@ -4,8 +4,8 @@ use Rattle.std.specs.Prelude.{◌≡◌, ◌⊎◌, ℕ, ◌+◌, ◌*◌, ◌<�
 use Rattle.std.specs.List.{AllByRecursion, list_all}
 use Rattle.std.specs.Option.{is_some}
 use Rattle.octet_elements.specs.Elements.{Element, Fits, AreElements, IsTornAt, all_spelled}
-use Rattle.bssmap_messages.specs.declared.fault.ElementFault.{ElementFault}
-use Rattle.bssmap_messages.specs.declared.fault.ElementFault.TheVariants.{Absent, Bad}
+use Rattle.octet_elements.specs.declared.values.ElementFault.{ElementFault}
+use Rattle.octet_elements.specs.declared.values.ElementFault.TheVariants.{Absent, Bad}
 use Rattle.bssmap_messages.specs.declared.fault.BssmapFault.{BssmapFault}
 use Rattle.bssmap_messages.specs.declared.fault.BssmapFault.TheVariants as fault
 use Rattle.bssmap_messages.specs.declared.head.MessageKind.{MessageKind}

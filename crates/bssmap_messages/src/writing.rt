@@ -4,7 +4,8 @@ ghost use Rattle.octet_elements.specs.Elements.{all_spelled, spelled};
 ghost use Rattle.bssmap_messages.specs.Forms.{interface_a};
 ghost use Rattle.bssmap_messages.specs.Heads.{limit, type_of};
 ghost use Rattle.bssmap_messages.specs.Messages.{elements_of, kind_of};
-ghost use Rattle.bssmap_messages.specs.Values.{pair_octets, cell_octets, cell_value, classmark_element, where_some, where_true, cells_value};
+ghost use Rattle.octet_elements.specs.Values.{pair_octets, where_some};
+ghost use Rattle.bssmap_messages.specs.Values.{cell_octets, cell_value, classmark_element, where_true, cells_value};
 ghost use Rattle.bssmap_messages.specs.Texts.{HasCanonical, IsWritable, canonical, classmark_length, response_length, HasArea, have_areas};
 
 use crate::head::{LIMIT, MessageKind, type_octet};
@@ -14,6 +15,7 @@ use crate::table::{
     CAUSE, CELL_IDENTIFIER, CELL_IDENTIFIER_LIST, CHANNEL_TYPE, CLASSMARK_1, CLASSMARK_2,
     ENCRYPTION_INFORMATION, InterfaceA, LAYER_3_INFORMATION, RESPONSE_REQUEST, RR_CAUSE,
 };
+use octet_elements::values::pair_octets;
 use octet_elements::{append_element, append_octets};
 use std::alloc::{AllocError, Allocator};
 
@@ -174,13 +176,6 @@ fn rr_len(rr: Option<u8>) -> usize
     ensures { result ≡ length (all_spelled interface_a (where_some 0x15 rr)) }
 {
     if rr.is_some() { 2 } else { 0 }
-}
-
-/// A number as two octets, the high one first.
-fn pair_octets(number: u16) -> [u8; 2]
-    ensures { result ≡ pair_octets number }
-{
-    [(number / 256) as u8, (number % 256) as u8]
 }
 
 /// Location area code and cell identity.
