@@ -1,5 +1,12 @@
 use super::{Book, Usage};
 use crate::channel::{ChanId, ChanState};
+use crate::event::Event::{
+    Activate, Clear, Confirm, Look, Open, Refuse, Released, Reserve, Take, Undo,
+};
+use crate::event::Refusal::{
+    CallExists, ChannelBusy, NoCall, NoChannel, NotArmed, RefBusy, SameCell, Unexpected, WrongPhase,
+};
+use crate::event::Reply::{Done, Owned, Record, Refused};
 use crate::event::{
     Attempt, AttemptKind, CallRecord, Event, Kind, Refusal, Reply, Stage, Timer, Why,
 };
@@ -15,6 +22,11 @@ const THREE_CHANNELS: &str = "[[cell]]
 trx = [{ tch = [2, 3] }]
 [[cell]]
 trx = [{ tch = [] }, { tch = [3] }]
+";
+
+// Timeslots 5 and 3 of TRX 1, and 6 and 2 of TRX 2.
+const SCATTERED: &str = "[[cell]]
+trx = [{ tch = [] }, { tch = [5, 3] }, { tch = [6, 2] }]
 ";
 
 // Two cells of four TRX with seven traffic timeslots each.
@@ -48,11 +60,58 @@ const NO_TRAFFIC: ChanId = ChanId {
     tn: 3,
 };
 
-// Call 1 is on its channel.
-const STEADY: [(Event, Reply); 2] = [
-    (Event::Open(1, HOME), Reply::Done),
-    (Event::Confirm(HOME), Reply::Owned(1)),
-];
+// What is asked of a book.
+#[derive(Clone, Copy, Debug)]
+enum Ask {
+    Step(Event),
+    TakeAny(u16, Kind, u8),
+    ReserveAny(u16),
+    FreeIn(u8),
+    Usage,
+}
+
+use Ask::{FreeIn, ReserveAny, Step, TakeAny};
+
+// What a book answers.
+#[derive(Clone, Copy, Debug, PartialEq, Eq)]
+enum Answer {
+    Says(Reply),
+    Chose(Event, Reply),
+    NoneFree,
+    Free(u32),
+    Holds(Usage),
+}
+
+use Answer::{Chose, Free, Holds, NoneFree, Says};
+
+type Row = (Ask, Answer);
+
+const DONE: Answer = Says(Done);
+
+const fn holds(channels: usize, calls: usize, references: usize) -> Answer {
+    Holds(Usage {
+        channels,
+        calls,
+        references,
+        timers: 0,
+    })
+}
+
+fn put<A: Allocator + Copy>(book: &mut Book<A>, ask: Ask) -> Result<Answer, AllocError> {
+    match ask {
+        Step(event) => Ok(Says(book.step(event)?)),
+        TakeAny(call, kind, cell) => match book.take_any(call, kind, cell)? {
+            Some((event, reply)) => Ok(Chose(event, reply)),
+            None => Ok(NoneFree),
+        },
+        ReserveAny(call) => {
+            let (event, reply) = book.reserve_any(call)?;
+            Ok(Chose(event, reply))
+        }
+        FreeIn(cell) => Ok(Free(book.free_in(cell))),
+        Ask::Usage => Ok(Holds(book.usage())),
+    }
+}
 
 fn book_of<A: Allocator + Copy>(alloc: A, scratch: Global, text: &str) -> Result<Book<A>, Fail> {
     let site = Site::read(alloc, scratch, text)?;
@@ -60,20 +119,115 @@ fn book_of<A: Allocator + Copy>(alloc: A, scratch: Global, text: &str) -> Result
     Ok(Book::new(alloc, site)?)
 }
 
-fn play(rt: &impl Abort, book: &mut Book, steps: &[(Event, Reply)]) -> Result<(), Fail> {
-    for (event, reply) in steps {
-        assert_eq!(rt; book.step(*event)?, *reply, "{event:?}");
+fn play<A: Allocator + Copy>(
+    rt: &impl Abort,
+    book: &mut Book<A>,
+    rows: &[Row],
+) -> Result<(), Fail> {
+    for (ask, answer) in rows {
+        assert_eq!(rt; put(book, *ask)?, *answer, "{ask:?}");
     }
     Ok(())
 }
 
-fn usage(channels: usize, calls: usize, references: usize) -> Usage {
-    Usage {
-        channels,
-        calls,
-        references,
-        timers: 0,
+// What an empty book of the site answers.
+fn answers(rt: &(impl AllocGlobal + Abort), site: &str, rows: &[Row]) -> Result<(), Fail> {
+    let mut book = book_of(rt.alloc(), rt.alloc(), site)?;
+    play(rt, &mut book, rows)
+}
+
+// Call 1 rests on its channel.
+const RESTING: CallRecord = CallRecord {
+    serving: Some(HOME),
+    attempt: None,
+};
+
+#[test]
+fn a_call_begins_and_ends(rt: HostRuntime) -> Result<(), Fail> {
+    let rows = [
+        (Ask::Usage, holds(0, 0, 0)),
+        (Step(Open(1, HOME)), DONE),
+        (Step(Confirm(HOME)), Says(Owned(1))),
+        (Step(Look(1)), Says(Record(RESTING, Some(ChanState::On(1))))),
+        (Ask::Usage, holds(1, 1, 0)),
+        (Step(Clear(1)), DONE),
+        (Step(Open(2, HOME)), Says(Refused(ChannelBusy(HOME)))),
+        (Step(Released(HOME)), DONE),
+        (Step(Look(1)), Says(Refused(NoCall))),
+        (Ask::Usage, holds(0, 0, 0)),
+    ];
+    answers(&rt, THREE_CHANNELS, &rows)
+}
+
+#[test]
+fn a_refused_serving_channel_is_held_until_the_call_ends(rt: HostRuntime) -> Result<(), Fail> {
+    let found = CallRecord {
+        serving: Some(OTHER),
+        attempt: None,
+    };
+    let rows = [
+        (Step(Open(2, OTHER)), DONE),
+        (Step(Refuse(OTHER)), Says(Owned(2))),
+        (Step(Look(2)), Says(Record(found, Some(ChanState::Held(2))))),
+        (
+            Step(Take(2, Kind::Internal, TARGET)),
+            Says(Refused(WrongPhase)),
+        ),
+        (Step(Clear(2)), DONE),
+        (Step(Released(OTHER)), Says(Refused(Unexpected(OTHER)))),
+        (Ask::Usage, holds(0, 0, 0)),
+    ];
+    answers(&rt, THREE_CHANNELS, &rows)
+}
+
+// Call 1 comes to rest on its channel.
+const STEADY: [Row; 2] = [
+    (Step(Open(1, HOME)), DONE),
+    (Step(Confirm(HOME)), Says(Owned(1))),
+];
+
+// What a book in which call 1 rests answers.
+fn answers_beside_a_call(rt: &(impl AllocGlobal + Abort), rows: &[Row]) -> Result<(), Fail> {
+    let mut book = book_of(rt.alloc(), rt.alloc(), THREE_CHANNELS)?;
+    play(rt, &mut book, &STEADY)?;
+    play(rt, &mut book, rows)
+}
+
+// What a book with call 1 alone refuses, and why.
+const REFUSALS: [(Event, Refusal); 23] = [
+    (Open(1, NO_TRAFFIC), CallExists),
+    (Open(2, NO_TRAFFIC), NoChannel),
+    (Open(2, HOME), ChannelBusy(HOME)),
+    (Clear(2), NoCall),
+    (Look(2), NoCall),
+    (Take(2, Kind::Internal, NO_TRAFFIC), NoCall),
+    (Take(1, Kind::Internal, NO_TRAFFIC), NoChannel),
+    (Take(1, Kind::Internal, HOME), SameCell),
+    (Take(1, Kind::Internal, OTHER), SameCell),
+    (Take(1, Kind::Incoming, NO_TRAFFIC), CallExists),
+    (Take(2, Kind::Incoming, NO_TRAFFIC), NoChannel),
+    (Take(2, Kind::Incoming, HOME), ChannelBusy(HOME)),
+    (Reserve(2, 0), NoCall),
+    (Reserve(1, 0), WrongPhase),
+    (Activate(2), NoCall),
+    (Activate(1), WrongPhase),
+    (Undo(2, Why::Asked), NoCall),
+    (Undo(1, Why::Asked), WrongPhase),
+    (Undo(2, Why::Expired(Timer::T3103)), NoCall),
+    (Undo(1, Why::Expired(Timer::T7)), NotArmed),
+    (Confirm(HOME), Unexpected(HOME)),
+    (Refuse(TARGET), Unexpected(TARGET)),
+    (Released(HOME), Unexpected(HOME)),
+];
+
+#[test]
+fn the_first_refusal_is_answered(rt: HostRuntime) -> Result<(), Fail> {
+    let mut book = book_of(rt.alloc(), rt.alloc(), THREE_CHANNELS)?;
+    play(&rt, &mut book, &STEADY)?;
+    for (event, refusal) in REFUSALS {
+        play(&rt, &mut book, &[(Step(event), Says(Refused(refusal)))])?;
     }
+    play(&rt, &mut book, &[(Ask::Usage, holds(1, 1, 0))])
 }
 
 // What the book has of call 1 with an attempt at this stage.
@@ -102,348 +256,218 @@ fn coming(stage: Stage, reference: Option<u8>) -> CallRecord {
     }
 }
 
-#[test]
-fn a_call_begins_and_ends(rt: HostRuntime) -> Result<(), Fail> {
-    let mut book = book_of(rt.alloc(), rt.alloc(), THREE_CHANNELS)?;
-    assert_eq!(rt; book.usage(), usage(0, 0, 0));
-    let on = CallRecord {
-        serving: Some(HOME),
-        attempt: None,
-    };
-    play(&rt, &mut book, &STEADY)?;
-    assert_eq!(rt;
-        book.step(Event::Look(1))?,
-        Reply::Record(on, Some(ChanState::On(1)))
-    );
-    assert_eq!(rt; book.usage(), usage(1, 1, 0));
-    let ends = [
-        (Event::Clear(1), Reply::Done),
-        (
-            Event::Open(2, HOME),
-            Reply::Refused(Refusal::ChannelBusy(HOME)),
-        ),
-        (Event::Released(HOME), Reply::Done),
-        (Event::Look(1), Reply::Refused(Refusal::NoCall)),
-    ];
-    play(&rt, &mut book, &ends)?;
-    assert_eq!(rt; book.usage(), usage(0, 0, 0));
-    Ok(())
-}
-
-#[test]
-fn a_refused_serving_channel_is_held_until_the_call_ends(rt: HostRuntime) -> Result<(), Fail> {
-    let mut book = book_of(rt.alloc(), rt.alloc(), THREE_CHANNELS)?;
-    let held = CallRecord {
-        serving: Some(OTHER),
-        attempt: None,
-    };
-    let steps = [
-        (Event::Open(2, OTHER), Reply::Done),
-        (Event::Refuse(OTHER), Reply::Owned(2)),
-        (
-            Event::Look(2),
-            Reply::Record(held, Some(ChanState::Held(2))),
-        ),
-        (
-            Event::Take(2, Kind::Internal, TARGET),
-            Reply::Refused(Refusal::WrongPhase),
-        ),
-        (Event::Clear(2), Reply::Done),
-        (
-            Event::Released(OTHER),
-            Reply::Refused(Refusal::Unexpected(OTHER)),
-        ),
-    ];
-    play(&rt, &mut book, &steps)?;
-    assert_eq!(rt; book.usage(), usage(0, 0, 0));
-    Ok(())
-}
-
-// What a book with call 1 alone refuses, and why.
-const REFUSALS: [(Event, Refusal); 23] = [
-    (Event::Open(1, NO_TRAFFIC), Refusal::CallExists),
-    (Event::Open(2, NO_TRAFFIC), Refusal::NoChannel),
-    (Event::Open(2, HOME), Refusal::ChannelBusy(HOME)),
-    (Event::Clear(2), Refusal::NoCall),
-    (Event::Look(2), Refusal::NoCall),
-    (Event::Take(2, Kind::Internal, NO_TRAFFIC), Refusal::NoCall),
-    (
-        Event::Take(1, Kind::Internal, NO_TRAFFIC),
-        Refusal::NoChannel,
-    ),
-    (Event::Take(1, Kind::Internal, HOME), Refusal::SameCell),
-    (Event::Take(1, Kind::Internal, OTHER), Refusal::SameCell),
-    (
-        Event::Take(1, Kind::Incoming, NO_TRAFFIC),
-        Refusal::CallExists,
-    ),
-    (
-        Event::Take(2, Kind::Incoming, NO_TRAFFIC),
-        Refusal::NoChannel,
-    ),
-    (
-        Event::Take(2, Kind::Incoming, HOME),
-        Refusal::ChannelBusy(HOME),
-    ),
-    (Event::Reserve(2, 0), Refusal::NoCall),
-    (Event::Reserve(1, 0), Refusal::WrongPhase),
-    (Event::Activate(2), Refusal::NoCall),
-    (Event::Activate(1), Refusal::WrongPhase),
-    (Event::Undo(2, Why::Asked), Refusal::NoCall),
-    (Event::Undo(1, Why::Asked), Refusal::WrongPhase),
-    (Event::Undo(2, Why::Expired(Timer::T3103)), Refusal::NoCall),
-    (Event::Undo(1, Why::Expired(Timer::T7)), Refusal::NotArmed),
-    (Event::Confirm(HOME), Refusal::Unexpected(HOME)),
-    (Event::Refuse(TARGET), Refusal::Unexpected(TARGET)),
-    (Event::Released(HOME), Refusal::Unexpected(HOME)),
-];
-
-#[test]
-fn the_first_refusal_is_answered(rt: HostRuntime) -> Result<(), Fail> {
-    let mut book = book_of(rt.alloc(), rt.alloc(), THREE_CHANNELS)?;
-    play(&rt, &mut book, &STEADY)?;
-    for (event, refusal) in REFUSALS {
-        assert_eq!(rt; book.step(event)?, Reply::Refused(refusal), "{event:?}");
-    }
-    assert_eq!(rt; book.usage(), usage(1, 1, 0));
-    Ok(())
+// What an undo answers of an attempt of call 1 at this stage, while its serving channel is on.
+fn undone(stage: Stage, reference: Option<u8>) -> Answer {
+    Says(Record(moving(stage, reference), Some(ChanState::On(1))))
 }
 
 #[test]
 fn an_open_attempt_refuses(rt: HostRuntime) -> Result<(), Fail> {
-    let mut book = book_of(rt.alloc(), rt.alloc(), THREE_CHANNELS)?;
-    play(&rt, &mut book, &STEADY)?;
-    assert_eq!(rt;
-        book.step(Event::Take(1, Kind::Internal, TARGET))?,
-        Reply::Done
-    );
-    let refusals = [
-        (Event::Clear(1), Refusal::WrongPhase),
-        (Event::Take(1, Kind::Internal, TARGET), Refusal::WrongPhase),
-        (Event::Open(2, TARGET), Refusal::ChannelBusy(TARGET)),
-        (Event::Activate(1), Refusal::WrongPhase),
-        (Event::Undo(1, Why::Expired(Timer::T8)), Refusal::NotArmed),
-        (Event::Confirm(TARGET), Refusal::Unexpected(TARGET)),
+    let rows = [
+        (Step(Take(1, Kind::Internal, TARGET)), DONE),
+        (Step(Clear(1)), Says(Refused(WrongPhase))),
+        (
+            Step(Take(1, Kind::Internal, TARGET)),
+            Says(Refused(WrongPhase)),
+        ),
+        (Step(Open(2, TARGET)), Says(Refused(ChannelBusy(TARGET)))),
+        (Step(Activate(1)), Says(Refused(WrongPhase))),
+        (
+            Step(Undo(1, Why::Expired(Timer::T8))),
+            Says(Refused(NotArmed)),
+        ),
+        (Step(Confirm(TARGET)), Says(Refused(Unexpected(TARGET)))),
+        (Step(Undo(1, Why::Asked)), undone(Stage::Taken, None)),
+        (Ask::Usage, holds(1, 1, 0)),
     ];
-    for (event, refusal) in refusals {
-        assert_eq!(rt; book.step(event)?, Reply::Refused(refusal), "{event:?}");
-    }
-    let undone = Reply::Record(moving(Stage::Taken, None), Some(ChanState::On(1)));
-    assert_eq!(rt; book.step(Event::Undo(1, Why::Asked))?, undone);
-    assert_eq!(rt; book.usage(), usage(1, 1, 0));
-    Ok(())
+    answers_beside_a_call(&rt, &rows)
 }
 
 #[test]
 fn no_release_is_awaited_after_a_refused_activation(rt: HostRuntime) -> Result<(), Fail> {
-    let mut book = book_of(rt.alloc(), rt.alloc(), THREE_CHANNELS)?;
-    play(&rt, &mut book, &STEADY)?;
-    let refused = Reply::Record(moving(Stage::Refused, Some(0)), Some(ChanState::On(1)));
-    let steps = [
-        (Event::Take(1, Kind::Internal, TARGET), Reply::Done),
-        (Event::Reserve(1, 0), Reply::Done),
-        (Event::Activate(1), Reply::Done),
-        (Event::Refuse(TARGET), Reply::Owned(1)),
-        (Event::Undo(1, Why::Asked), refused),
-        (Event::Open(2, TARGET), Reply::Done),
+    let rows = [
+        (Step(Take(1, Kind::Internal, TARGET)), DONE),
+        (Step(Reserve(1, 0)), DONE),
+        (Step(Activate(1)), DONE),
+        (Step(Refuse(TARGET)), Says(Owned(1))),
+        (Step(Undo(1, Why::Asked)), undone(Stage::Refused, Some(0))),
+        (Step(Open(2, TARGET)), DONE),
+        (Ask::Usage, holds(2, 2, 0)),
     ];
-    play(&rt, &mut book, &steps)?;
-    assert_eq!(rt; book.usage(), usage(2, 2, 0));
-    Ok(())
+    answers_beside_a_call(&rt, &rows)
 }
 
 #[test]
 fn an_answer_after_the_undo_is_unexpected(rt: HostRuntime) -> Result<(), Fail> {
-    let mut book = book_of(rt.alloc(), rt.alloc(), THREE_CHANNELS)?;
-    play(&rt, &mut book, &STEADY)?;
-    let unexpected = Reply::Refused(Refusal::Unexpected(TARGET));
-    let steps = [
-        (Event::Take(1, Kind::Internal, TARGET), Reply::Done),
-        (Event::Reserve(1, 0), Reply::Done),
-        (Event::Activate(1), Reply::Done),
-        (
-            Event::Undo(1, Why::Asked),
-            Reply::Record(moving(Stage::Sent, Some(0)), Some(ChanState::On(1))),
-        ),
-        (Event::Confirm(TARGET), unexpected),
-        (Event::Released(TARGET), Reply::Done),
+    let rows = [
+        (Step(Take(1, Kind::Internal, TARGET)), DONE),
+        (Step(Reserve(1, 0)), DONE),
+        (Step(Activate(1)), DONE),
+        (Step(Undo(1, Why::Asked)), undone(Stage::Sent, Some(0))),
+        (Step(Confirm(TARGET)), Says(Refused(Unexpected(TARGET)))),
+        (Step(Released(TARGET)), DONE),
+        (FreeIn(1), Free(1)),
+        (Step(Released(TARGET)), Says(Refused(Unexpected(TARGET)))),
     ];
-    play(&rt, &mut book, &steps)?;
-    assert_eq!(rt; book.free_in(1), 1);
-    assert_eq!(rt; book.step(Event::Released(TARGET))?, unexpected);
-    Ok(())
+    answers_beside_a_call(&rt, &rows)
 }
 
 #[test]
 fn a_reference_of_a_cell_is_used_once(rt: HostRuntime) -> Result<(), Fail> {
-    let mut book = book_of(rt.alloc(), rt.alloc(), THREE_CHANNELS)?;
-    let steps = [
-        (Event::Take(8, Kind::Incoming, OTHER), Reply::Done),
-        (Event::Take(9, Kind::Incoming, HOME), Reply::Done),
-        (Event::Reserve(8, 5), Reply::Done),
-        (Event::Reserve(9, 5), Reply::Refused(Refusal::RefBusy(0, 5))),
+    let rows = [
+        (Step(Take(8, Kind::Incoming, OTHER)), DONE),
+        (Step(Take(9, Kind::Incoming, HOME)), DONE),
+        (Step(Reserve(8, 5)), DONE),
+        (Step(Reserve(9, 5)), Says(Refused(RefBusy(0, 5)))),
+        (ReserveAny(9), Chose(Reserve(9, 0), Done)),
+        (Ask::Usage, holds(2, 2, 2)),
     ];
-    play(&rt, &mut book, &steps)?;
-    assert_eq!(rt; book.reserve_any(9)?, (Event::Reserve(9, 0), Reply::Done));
-    assert_eq!(rt; book.usage(), usage(2, 2, 2));
-    Ok(())
+    answers(&rt, THREE_CHANNELS, &rows)
 }
 
-// From a book, the first events of an attempt and the last one, then its undo. A target that may be active
-// waits for its release, and any other is free.
-fn undone_after(
+// The steps of call 1 from its Take to a stage, the reference that its attempt has then, and whether
+// the undo leaves the target waiting for its release.
+type Way = (&'static [Row], Stage, Option<u8>, bool);
+
+const RESERVE: Row = (Step(Reserve(1, 7)), DONE);
+
+const ACTIVATE: Row = (Step(Activate(1)), DONE);
+
+const CONFIRM: Row = (Step(Confirm(TARGET)), Says(Owned(1)));
+
+const REFUSE: Row = (Step(Refuse(TARGET)), Says(Owned(1)));
+
+const WAYS: [Way; 5] = [
+    (&[], Stage::Taken, None, false),
+    (&[RESERVE], Stage::Reserved, Some(7), false),
+    (&[RESERVE, ACTIVATE], Stage::Sent, Some(7), true),
+    (&[RESERVE, ACTIVATE, REFUSE], Stage::Refused, Some(7), false),
+    (
+        &[RESERVE, ACTIVATE, CONFIRM],
+        Stage::Confirmed,
+        Some(7),
+        true,
+    ),
+];
+
+// A target that may be active waits for its release.
+const AWAITED: [Row; 2] = [
+    (Step(Open(7, TARGET)), Says(Refused(ChannelBusy(TARGET)))),
+    (Step(Released(TARGET)), DONE),
+];
+
+// Any other target is free.
+const FREE: [Row; 4] = [
+    (Step(Open(7, TARGET)), DONE),
+    (Step(Confirm(TARGET)), Says(Owned(7))),
+    (Step(Clear(7)), DONE),
+    (Step(Released(TARGET)), DONE),
+];
+
+// Call 1 opens an attempt, goes a way and comes back.
+fn comes_back(
     rt: &impl Abort,
     book: &mut Book,
     kind: Kind,
-    steps: &[(Event, Reply)],
-    undone: Reply,
-    awaited: bool,
+    way: Way,
+    answer: Answer,
 ) -> Result<(), Fail> {
-    let before = book.usage();
-    let taken = book.step(Event::Take(1, kind, TARGET))?;
-    assert_eq!(rt; taken, Reply::Done);
+    let (steps, _, _, awaited) = way;
+    let after: &[Row] = if awaited { &AWAITED } else { &FREE };
+    play(rt, book, &[(Step(Take(1, kind, TARGET)), DONE)])?;
     play(rt, book, steps)?;
-    assert_eq!(rt; book.step(Event::Undo(1, Why::Asked))?, undone);
-    let opened = book.step(Event::Open(7, TARGET))?;
-    if awaited {
-        assert_eq!(rt;
-            opened,
-            Reply::Refused(Refusal::ChannelBusy(TARGET)),
-            "{undone:?}"
-        );
-    } else {
-        assert_eq!(rt; opened, Reply::Done, "{undone:?}");
-        assert_eq!(rt; book.step(Event::Confirm(TARGET))?, Reply::Owned(7));
-        assert_eq!(rt; book.step(Event::Clear(7))?, Reply::Done);
+    play(rt, book, &[(Step(Undo(1, Why::Asked)), answer)])?;
+    play(rt, book, after)
+}
+
+#[test]
+fn each_stage_of_a_call_that_comes_is_undone(rt: HostRuntime) -> Result<(), Fail> {
+    for way in WAYS {
+        let mut book = book_of(rt.alloc(), rt.alloc(), THREE_CHANNELS)?;
+        let answer = Says(Record(coming(way.1, way.2), None));
+        comes_back(&rt, &mut book, Kind::Incoming, way, answer)?;
+        let ends = [
+            (Ask::Usage, holds(0, 0, 0)),
+            (Step(Look(1)), Says(Refused(NoCall))),
+        ];
+        play(&rt, &mut book, &ends)?;
     }
-    assert_eq!(rt; book.step(Event::Released(TARGET))?, Reply::Done);
-    assert_eq!(rt; book.usage(), before, "{undone:?}");
     Ok(())
 }
 
-const RESERVE: (Event, Reply) = (Event::Reserve(1, 7), Reply::Done);
-
-const ACTIVATE: (Event, Reply) = (Event::Activate(1), Reply::Done);
-
-const CONFIRM: (Event, Reply) = (Event::Confirm(TARGET), Reply::Owned(1));
-
-const REFUSE: (Event, Reply) = (Event::Refuse(TARGET), Reply::Owned(1));
-
 #[test]
-fn each_stage_is_undone(rt: HostRuntime) -> Result<(), Fail> {
-    let none: &[(Event, Reply)] = &[];
-    let rows = [
-        (none, Stage::Taken, None, false),
-        (&[RESERVE], Stage::Reserved, Some(7), false),
-        (&[RESERVE, ACTIVATE], Stage::Sent, Some(7), true),
-        (&[RESERVE, ACTIVATE, REFUSE], Stage::Refused, Some(7), false),
-        (
-            &[RESERVE, ACTIVATE, CONFIRM],
-            Stage::Confirmed,
-            Some(7),
-            true,
-        ),
-    ];
-    for (steps, stage, reference, awaited) in rows {
+fn each_stage_of_a_call_that_moves_is_undone(rt: HostRuntime) -> Result<(), Fail> {
+    for way in WAYS {
         let mut book = book_of(rt.alloc(), rt.alloc(), THREE_CHANNELS)?;
-        let undone = Reply::Record(coming(stage, reference), None);
-        undone_after(&rt, &mut book, Kind::Incoming, steps, undone, awaited)?;
-        assert_eq!(rt; book.step(Event::Look(1))?, Reply::Refused(Refusal::NoCall));
         play(&rt, &mut book, &STEADY)?;
-        let undone = Reply::Record(moving(stage, reference), Some(ChanState::On(1)));
-        undone_after(&rt, &mut book, Kind::Internal, steps, undone, awaited)?;
-        let resting = CallRecord {
-            serving: Some(HOME),
-            attempt: None,
-        };
-        let look = Reply::Record(resting, Some(ChanState::On(1)));
-        assert_eq!(rt; book.step(Event::Look(1))?, look);
+        comes_back(&rt, &mut book, Kind::Internal, way, undone(way.1, way.2))?;
+        let ends = [
+            (Ask::Usage, holds(1, 1, 0)),
+            (Step(Look(1)), Says(Record(RESTING, Some(ChanState::On(1))))),
+        ];
+        play(&rt, &mut book, &ends)?;
     }
     Ok(())
 }
 
 #[test]
 fn any_free_channel_is_taken(rt: HostRuntime) -> Result<(), Fail> {
-    let mut book = book_of(rt.alloc(), rt.alloc(), THREE_CHANNELS)?;
-    play(&rt, &mut book, &STEADY)?;
-    for (cell, free) in [(0, 1), (1, 1), (2, 0), (255, 0)] {
-        assert_eq!(rt; book.free_in(cell), free, "cell {cell}");
-    }
-    let same = (
-        Event::Take(1, Kind::Internal, OTHER),
-        Reply::Refused(Refusal::SameCell),
-    );
-    assert_eq!(rt; book.take_any(1, Kind::Internal, 0)?, Some(same));
-    assert_eq!(rt; book.take_any(1, Kind::Internal, 2)?, None);
-    let taken = (Event::Take(1, Kind::Internal, TARGET), Reply::Done);
-    assert_eq!(rt; book.take_any(1, Kind::Internal, 1)?, Some(taken));
-    assert_eq!(rt; book.free_in(1), 0);
-    assert_eq!(rt; book.take_any(1, Kind::Internal, 1)?, None);
-    assert_eq!(rt;
-        book.reserve_any(2)?,
-        (Event::Reserve(2, 0), Reply::Refused(Refusal::NoCall))
-    );
-    assert_eq!(rt; book.reserve_any(1)?, (Event::Reserve(1, 0), Reply::Done));
-    assert_eq!(rt;
-        book.reserve_any(1)?,
-        (Event::Reserve(1, 0), Reply::Refused(Refusal::WrongPhase))
-    );
-    Ok(())
+    let rows = [
+        (FreeIn(0), Free(1)),
+        (FreeIn(1), Free(1)),
+        (FreeIn(2), Free(0)),
+        (FreeIn(255), Free(0)),
+        (
+            TakeAny(1, Kind::Internal, 0),
+            Chose(Take(1, Kind::Internal, OTHER), Refused(SameCell)),
+        ),
+        (TakeAny(1, Kind::Internal, 2), NoneFree),
+        (
+            TakeAny(1, Kind::Internal, 1),
+            Chose(Take(1, Kind::Internal, TARGET), Done),
+        ),
+        (FreeIn(1), Free(0)),
+        (TakeAny(1, Kind::Internal, 1), NoneFree),
+        (ReserveAny(2), Chose(Reserve(2, 0), Refused(NoCall))),
+        (ReserveAny(1), Chose(Reserve(1, 0), Done)),
+        (ReserveAny(1), Chose(Reserve(1, 0), Refused(WrongPhase))),
+    ];
+    answers_beside_a_call(&rt, &rows)
 }
 
-// Timeslots 5 and 3 of TRX 1, and 6 and 2 of TRX 2.
-const SCATTERED: &str = "[[cell]]
-trx = [{ tch = [] }, { tch = [5, 3] }, { tch = [6, 2] }]
-";
+// The row of a call that comes to any channel, and gets this one.
+fn comes_to(call: u16, trx: u8, tn: u8) -> Row {
+    let x = ChanId { cell: 0, trx, tn };
+    (
+        TakeAny(call, Kind::Incoming, 0),
+        Chose(Take(call, Kind::Incoming, x), Done),
+    )
+}
 
 #[test]
 fn the_lowest_free_channel_is_taken(rt: HostRuntime) -> Result<(), Fail> {
-    let mut book = book_of(rt.alloc(), rt.alloc(), SCATTERED)?;
-    for (call, trx, tn) in [(1, 1, 3), (2, 1, 5), (3, 2, 2), (4, 2, 6)] {
-        let x = ChanId { cell: 0, trx, tn };
-        let taken = (Event::Take(call, Kind::Incoming, x), Reply::Done);
-        let chosen = book.take_any(call, Kind::Incoming, 0)?;
-        assert_eq!(rt; chosen, Some(taken), "call {call}");
-    }
-    assert_eq!(rt; book.take_any(5, Kind::Incoming, 0)?, None);
-    Ok(())
+    let rows = [
+        comes_to(1, 1, 3),
+        comes_to(2, 1, 5),
+        comes_to(3, 2, 2),
+        comes_to(4, 2, 6),
+        (TakeAny(5, Kind::Incoming, 0), NoneFree),
+    ];
+    answers(&rt, SCATTERED, &rows)
 }
 
 #[test]
 fn the_lowest_free_number_is_reserved(rt: HostRuntime) -> Result<(), Fail> {
     for (first, second, lowest) in [(0, 1, 2), (0, 2, 1), (2, 1, 0), (1, 0, 2), (255, 0, 1)] {
-        let mut book = book_of(rt.alloc(), rt.alloc(), SCATTERED)?;
-        book.take_any(1, Kind::Incoming, 0)?;
-        book.take_any(2, Kind::Incoming, 0)?;
-        book.take_any(3, Kind::Incoming, 0)?;
-        book.step(Event::Reserve(1, first))?;
-        book.step(Event::Reserve(2, second))?;
-        let reserved = (Event::Reserve(3, lowest), Reply::Done);
-        let chosen = book.reserve_any(3)?;
-        assert_eq!(rt; chosen, reserved, "{first} and {second} in use");
-    }
-    Ok(())
-}
-
-// What is asked of a book whose memory is refused.
-#[derive(Clone, Copy, Debug)]
-enum Ask {
-    Step(Event),
-    TakeAny(u16, Kind, u8),
-    ReserveAny(u16),
-}
-
-fn put<A: Allocator + Copy>(book: &mut Book<A>, what: Ask) -> Result<(), AllocError> {
-    match what {
-        Ask::Step(event) => {
-            book.step(event)?;
-        }
-        Ask::TakeAny(call, kind, cell) => {
-            book.take_any(call, kind, cell)?;
-        }
-        Ask::ReserveAny(call) => {
-            book.reserve_any(call)?;
-        }
+        let rows = [
+            comes_to(1, 1, 3),
+            comes_to(2, 1, 5),
+            comes_to(3, 2, 2),
+            (Step(Reserve(1, first)), DONE),
+            (Step(Reserve(2, second)), DONE),
+            (ReserveAny(3), Chose(Reserve(3, lowest), Done)),
+        ];
+        answers(&rt, SCATTERED, &rows)?;
     }
     Ok(())
 }
@@ -461,31 +485,40 @@ const CALLS: u16 = 24;
 // Calls begin in cell 0; two in three move to cell 1, by a named channel or any, and others come to it.
 fn asks_of(call: u16) -> [Ask; 5] {
     let home = channel(0, call);
-    if call % 3 == 0 {
-        [
-            Ask::Step(Event::Open(call, home)),
-            Ask::Step(Event::Confirm(home)),
-            Ask::Step(Event::Take(call, Kind::Internal, channel(1, call))),
-            Ask::Step(Event::Reserve(call, 40)),
-            Ask::Step(Event::Activate(call)),
-        ]
-    } else if call % 3 == 1 {
-        [
-            Ask::Step(Event::Open(call, home)),
-            Ask::Step(Event::Confirm(home)),
-            Ask::TakeAny(call, Kind::Internal, 1),
-            Ask::ReserveAny(call),
-            Ask::Step(Event::Activate(call)),
-        ]
-    } else {
-        [
-            Ask::Step(Event::Take(call, Kind::Incoming, channel(1, call))),
-            Ask::ReserveAny(call),
-            Ask::Step(Event::Undo(call, Why::Asked)),
-            Ask::TakeAny(call, Kind::Incoming, 1),
-            Ask::ReserveAny(call),
-        ]
+    let away = channel(1, call);
+    match call % 3 {
+        0 => [
+            Step(Open(call, home)),
+            Step(Confirm(home)),
+            Step(Take(call, Kind::Internal, away)),
+            Step(Reserve(call, 40)),
+            Step(Activate(call)),
+        ],
+        1 => [
+            Step(Open(call, home)),
+            Step(Confirm(home)),
+            TakeAny(call, Kind::Internal, 1),
+            ReserveAny(call),
+            Step(Activate(call)),
+        ],
+        _ => [
+            Step(Take(call, Kind::Incoming, away)),
+            ReserveAny(call),
+            Step(Undo(call, Why::Asked)),
+            TakeAny(call, Kind::Incoming, 1),
+            ReserveAny(call),
+        ],
     }
+}
+
+// What a book shows of itself and of a call, where no memory is wanted.
+fn shown(book: &mut Book<&RefusingHeap>, call: u16) -> Result<[Answer; 4], Fail> {
+    Ok([
+        put(book, Ask::Usage)?,
+        put(book, FreeIn(0))?,
+        put(book, FreeIn(1))?,
+        put(book, Step(Look(call)))?,
+    ])
 }
 
 // Asks, and where memory was refused, and only there, sees the book as it was and asks again.
@@ -494,23 +527,16 @@ fn ask_twice(
     book: &mut Book<&RefusingHeap>,
     heap: &RefusingHeap,
     call: u16,
-    what: Ask,
+    ask: Ask,
 ) -> Result<(), Fail> {
-    let (refused, used) = (heap.refused(), book.usage());
-    let (here, there) = (book.free_in(0), book.free_in(1));
-    let look = book.step(Event::Look(call))?;
-    match put(book, what) {
-        Ok(()) => assert_eq!(rt; heap.refused(), refused, "{what:?}"),
+    let before = shown(book, call)?;
+    let refused = heap.refused();
+    match put(book, ask) {
+        Ok(_) => assert_eq!(rt; heap.refused(), refused, "{ask:?}"),
         Err(AllocError) => {
-            assert!(rt; refused < heap.refused(), "{what:?}");
-            assert_eq!(rt; book.usage(), used, "{what:?}");
-            assert_eq!(rt;
-                (book.free_in(0), book.free_in(1)),
-                (here, there),
-                "{what:?}"
-            );
-            assert_eq!(rt; book.step(Event::Look(call))?, look, "{what:?}");
-            put(book, what)?;
+            assert!(rt; refused < heap.refused(), "{ask:?}");
+            assert_eq!(rt; shown(book, call)?, before, "{ask:?}");
+            put(book, ask)?;
         }
     }
     Ok(())
@@ -522,60 +548,77 @@ fn all_asked(
     heap: &RefusingHeap,
 ) -> Result<(), Fail> {
     for call in 0..CALLS {
-        for what in asks_of(call) {
-            ask_twice(rt, book, heap, call, what)?;
+        for ask in asks_of(call) {
+            ask_twice(rt, book, heap, call, ask)?;
         }
     }
     assert_eq!(rt; book.usage().calls, CALLS as usize);
     Ok(())
 }
 
+// Whether a run over a heap that refuses its n-th request met the refusal.
+fn meets_refusal(rt: &(impl AllocGlobal + Abort), n: u64) -> Result<bool, Fail> {
+    let heap = RefusingHeap::refusing_nth(rt.alloc(), n);
+    let mut book = book_of(&heap, rt.alloc(), MANY_CHANNELS)?;
+    all_asked(rt, &mut book, &heap)?;
+    Ok(heap.was_refused())
+}
+
+// How many requests it takes to make an empty book.
+fn requests_of_a_book(rt: &(impl AllocGlobal + Abort)) -> Result<u64, Fail> {
+    let heap = RefusingHeap::ample(rt.alloc());
+    let book = book_of(&heap, rt.alloc(), MANY_CHANNELS)?;
+    assert_eq!(rt; Holds(book.usage()), holds(0, 0, 0));
+    Ok(heap.requests())
+}
+
 #[test]
 fn each_refusal_of_memory_is_answered(rt: HostRuntime) -> Result<(), Fail> {
-    let ample = RefusingHeap::ample(rt.alloc());
-    let made = book_of(&ample, rt.alloc(), MANY_CHANNELS)?;
-    let first = ample.requests().saturating_add(1);
+    let first = requests_of_a_book(&rt)?.saturating_add(1);
     let mut tried = 0u64;
     for n in first..first.saturating_add(100) {
-        let heap = RefusingHeap::refusing_nth(rt.alloc(), n);
-        let mut book = book_of(&heap, rt.alloc(), MANY_CHANNELS)?;
-        all_asked(&rt, &mut book, &heap)?;
-        if !heap.was_refused() {
+        if !meets_refusal(&rt, n)? {
             break;
         }
         tried = tried.saturating_add(1);
     }
     assert!(rt; 6 < tried && tried < 100, "{tried} requests");
-    assert_eq!(rt; made.usage(), usage(0, 0, 0));
     Ok(())
 }
+
+// Call 1 has an attempt with a reference, and the channel of call 2 is asked for.
+const FULL: [Row; 5] = [
+    (Step(Open(1, HOME)), DONE),
+    (Step(Open(2, OTHER)), DONE),
+    (Step(Confirm(HOME)), Says(Owned(1))),
+    (Step(Take(1, Kind::Internal, TARGET)), DONE),
+    (Step(Reserve(1, 0)), DONE),
+];
 
 #[test]
 fn what_takes_no_memory_succeeds_without(rt: HostRuntime) -> Result<(), Fail> {
     let heap = RefusingHeap::ample(rt.alloc());
     let mut book = book_of(&heap, rt.alloc(), THREE_CHANNELS)?;
-    book.step(Event::Open(1, HOME))?;
-    book.step(Event::Open(2, OTHER))?;
-    book.step(Event::Confirm(HOME))?;
-    book.step(Event::Take(1, Kind::Internal, TARGET))?;
-    book.step(Event::Reserve(1, 0))?;
+    play(&rt, &mut book, &FULL)?;
     heap.refuse_from_now();
-    let events = [
-        Event::Activate(1),
-        Event::Confirm(TARGET),
-        Event::Refuse(OTHER),
-        Event::Look(2),
-        Event::Undo(1, Why::Asked),
-        Event::Released(TARGET),
-        Event::Clear(1),
-        Event::Clear(2),
-        Event::Open(3, NO_TRAFFIC),
+    let held = CallRecord {
+        serving: Some(OTHER),
+        attempt: None,
+    };
+    let rows = [
+        (Step(Activate(1)), DONE),
+        (Step(Confirm(TARGET)), Says(Owned(1))),
+        (Step(Refuse(OTHER)), Says(Owned(2))),
+        (Step(Look(2)), Says(Record(held, Some(ChanState::Held(2))))),
+        (Step(Undo(1, Why::Asked)), undone(Stage::Confirmed, Some(0))),
+        (Step(Released(TARGET)), DONE),
+        (Step(Clear(1)), DONE),
+        (Step(Clear(2)), DONE),
+        (Step(Open(3, NO_TRAFFIC)), Says(Refused(NoChannel))),
+        (TakeAny(3, Kind::Incoming, 9), NoneFree),
+        (ReserveAny(3), Chose(Reserve(3, 0), Refused(NoCall))),
     ];
-    for event in events {
-        assert!(rt; book.step(event).is_ok(), "{event:?}");
-    }
-    assert_eq!(rt; book.take_any(3, Kind::Incoming, 9)?, None);
-    assert!(rt; book.reserve_any(3).is_ok());
+    play(&rt, &mut book, &rows)?;
     assert_eq!(rt; heap.refused(), 0);
     Ok(())
 }
