@@ -68,6 +68,7 @@ fn leading_cell(discriminator: u8, octets: &[u8]) -> Option<(CellId, &[u8])>
 }
 
 /// The cell of a cell identifier.
+#[inline(always)]
 pub fn cell(value: Option<&[u8]>) -> Result<CellId, ElementFault>
     ensures { result ≡ cell_in (seen value.entry) }
 {

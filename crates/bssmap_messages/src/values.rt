@@ -47,6 +47,7 @@ pub fn classmark<'a, A: Allocator>(
 }
 
 /// The classmark with octets of its own.
+#[inline(always)]
 pub fn keep_classmark<A: Allocator + Copy>(
     alloc: A,
     classmark: ClassmarkValue<'_>,
