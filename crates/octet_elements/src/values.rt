@@ -14,6 +14,7 @@ pub enum ElementFault {
 }
 
 /// The value's first octet.
+#[inline]
 pub fn octet(identifier: u8, value: Option<&[u8]>) -> Result<u8, ElementFault>
     ensures { result ≡ octet_in identifier (seen value.entry) }
 {
@@ -25,6 +26,7 @@ pub fn octet(identifier: u8, value: Option<&[u8]>) -> Result<u8, ElementFault>
 }
 
 /// The value's first octet, where the element is there.
+#[inline]
 pub fn optional_octet(identifier: u8, value: Option<&[u8]>) -> Result<Option<u8>, ElementFault>
     ensures { result ≡ optional_octet_in identifier (seen value.entry) }
 {
@@ -35,6 +37,7 @@ pub fn optional_octet(identifier: u8, value: Option<&[u8]>) -> Result<Option<u8>
 }
 
 /// The number of two octets, the high one first.
+#[inline]
 pub fn pair_of(high: u8, low: u8) -> u16
     ensures { result ≡ pair high low }
 {
@@ -42,6 +45,7 @@ pub fn pair_of(high: u8, low: u8) -> u16
 }
 
 /// The value's first two octets, a number with the high one first.
+#[inline]
 pub fn pair(identifier: u8, value: Option<&[u8]>) -> Result<u16, ElementFault>
     ensures { result ≡ pair_in identifier (seen value.entry) }
 {
@@ -53,6 +57,7 @@ pub fn pair(identifier: u8, value: Option<&[u8]>) -> Result<u16, ElementFault>
 }
 
 /// A number as two octets, the high one first.
+#[inline]
 pub fn pair_octets(number: u16) -> [u8; 2]
     ensures { result ≡ pair_octets number }
 {
@@ -60,6 +65,7 @@ pub fn pair_octets(number: u16) -> [u8; 2]
 }
 
 /// The value, unless it is empty.
+#[inline]
 fn some_octets(identifier: u8, value: &[u8]) -> Result<&[u8], ElementFault>
     ensures ok { IfOk result (λ v. octets_in identifier (Some value.now) ≡ Ok v.now) }
     ensures err { IfErr result (λ e. octets_in identifier (Some value.now) ≡ Err e) }
@@ -71,6 +77,7 @@ fn some_octets(identifier: u8, value: &[u8]) -> Result<&[u8], ElementFault>
 }
 
 /// The whole value, which has at least one octet.
+#[inline]
 pub fn octets(identifier: u8, value: Option<&[u8]>) -> Result<&[u8], ElementFault>
     ensures ok { IfOk result (λ v. octets_in identifier (seen value.entry) ≡ Ok v.now) }
     ensures err { IfErr result (λ e. octets_in identifier (seen value.entry) ≡ Err e) }
@@ -82,6 +89,7 @@ pub fn octets(identifier: u8, value: Option<&[u8]>) -> Result<&[u8], ElementFaul
 }
 
 /// The whole value, which has at least one octet, where the element is there.
+#[inline]
 pub fn optional_octets(identifier: u8, value: Option<&[u8]>) -> Result<Option<&[u8]>, ElementFault>
     ensures ok { IfOk result (λ v. optional_octets_in identifier (seen value.entry) ≡ Ok (seen v)) }
     ensures err { IfErr result (λ e. optional_octets_in identifier (seen value.entry) ≡ Err e) }
@@ -93,6 +101,7 @@ pub fn optional_octets(identifier: u8, value: Option<&[u8]>) -> Result<Option<&[
 }
 
 /// The whole value, which may be empty.
+#[inline]
 pub fn any_octets(identifier: u8, value: Option<&[u8]>) -> Result<&[u8], ElementFault>
     ensures ok { IfOk result (λ v. any_octets_in identifier (seen value.entry) ≡ Ok v.now) }
     ensures err { IfErr result (λ e. any_octets_in identifier (seen value.entry) ≡ Err e) }
