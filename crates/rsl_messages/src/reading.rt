@@ -37,6 +37,7 @@ fn copied<A: Allocator + Copy>(
 }
 
 /// Reads the elements of a body, and puts the values that are wanted into `values`.
+#[inline(always)]
 fn read_wanted<'a>(
     body: &'a [u8],
     wanted: &[u8],
