@@ -1,5 +1,5 @@
 -- The messages (TS 48.008 clause 3.2.1): what their elements say, and how they are written.
-use Rattle.std.specs.Prelude.{ℕ, List, [], ◌∷◌, ◌++◌, Option, Result, Ok, Err}
+use Rattle.std.specs.Prelude.{ℕ, List, [], ◌∷◌, ◌++◌, Option, Result, Ok}
 use Rattle.octet_elements.specs.Elements.{Element, first_of, second_of}
 use Rattle.octet_elements.specs.Reading.{◌>>=◌}
 use Rattle.octet_elements.specs.declared.values.ElementFault.{ElementFault}
