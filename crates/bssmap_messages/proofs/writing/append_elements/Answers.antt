@@ -1,8 +1,8 @@
-use Rattle.std.proofs.Common.{◌≡◌, ◌+◌, ◌*◌, ◌∷◌, [], ◌++◌, length, ap, ◌∙◌, append_assoc, arith}
+use Rattle.std.proofs.Common.{◌≡◌, ◌∷◌, [], ◌++◌, length, ap, ◌∙◌, append_assoc, arith}
 use Rattle.octet_elements.specs.Elements.{all_spelled, spelled}
 use Rattle.bssmap_messages.specs.Forms.{interface_a}
 use Rattle.octet_elements.specs.Values.{where_some}
-use Rattle.bssmap_messages.specs.Values.{cell_value, classmark_element, where_true, cells_value}
+use Rattle.bssmap_messages.specs.Values.{cell_value, classmark_element}
 use Rattle.bssmap_messages.proofs.Lengths.{required_length}
 use Rattle.bssmap_messages.proofs.writing.append_elements.Goals as goal
 
