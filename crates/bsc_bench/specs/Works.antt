@@ -4,10 +4,12 @@ use Rattle.rsl_messages.specs.declared.fault.RslFault.{RslFault}
 use Rattle.rsl_messages.specs.declared.fault.RslFault.TheVariants as rsl
 use Rattle.rr_messages.specs.declared.fault.RrFault.{RrFault}
 use Rattle.rr_messages.specs.declared.fault.RrFault.TheVariants as rr
+use Rattle.bssmap_messages.specs.declared.fault.BssmapFault.{BssmapFault}
+use Rattle.bssmap_messages.specs.declared.fault.BssmapFault.TheVariants as bssmap
 use Rattle.lab.specs.declared.exchange.PlainFault.{PlainFault}
 use Rattle.lab.specs.declared.exchange.PlainFault.TheVariants as plain
 use Rattle.bsc_bench.specs.declared.work.Work.{Work}
-use Rattle.bsc_bench.specs.declared.work.Work.TheVariants.{DecodeActivation, EncodeActivation, CallByOctets, LiveByStep, DecodeMeasurement, EncodeMeasurement, DecodeCommand, EncodeCommand}
+use Rattle.bsc_bench.specs.declared.work.Work.TheVariants.{DecodeActivation, EncodeActivation, CallByOctets, LiveByStep, DecodeMeasurement, EncodeMeasurement, DecodeCommand, EncodeCommand, DecodeRequest, EncodeRequest, DecodeRequired, EncodeRequired}
 use Rattle.bsc_bench.specs.declared.fault.Fault.{Fault}
 use Rattle.bsc_bench.specs.declared.fault.Fault.TheVariants.{Words, NoMemory, Output, Setting}
 
@@ -21,6 +23,10 @@ name_of DecodeMeasurement = codes "meas_res.dec"
 name_of EncodeMeasurement = codes "meas_res.enc"
 name_of DecodeCommand = codes "ho_command.dec"
 name_of EncodeCommand = codes "ho_command.enc"
+name_of DecodeRequest = codes "ho_request.dec"
+name_of EncodeRequest = codes "ho_request.enc"
+name_of DecodeRequired = codes "ho_required.dec"
+name_of EncodeRequired = codes "ho_required.enc"
 
 -- the status that the program ends with
 abbrev pub status_of : Fault → ℕ
@@ -38,6 +44,11 @@ of_abis _ = Words
 abbrev pub of_radio : RrFault → Fault
 of_radio rr.NoMemory = NoMemory
 of_radio _ = Words
+
+-- the same of a fault of a message on A
+abbrev pub of_a : BssmapFault → Fault
+of_a bssmap.NoMemory = NoMemory
+of_a _ = Words
 
 -- the same of a fault of the procedure
 abbrev pub of_procedure : PlainFault → Fault

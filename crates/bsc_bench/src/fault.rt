@@ -2,6 +2,7 @@
 ghost use Rattle.std.specs.Prelude.{◌≡◌};
 ghost use Rattle.bsc_bench.specs.Works.{status_of};
 
+use bssmap_messages::BssmapFault;
 use lab::exchange::PlainFault;
 use radio_book::site::SiteFault;
 use rr_messages::RrFault;
@@ -69,6 +70,19 @@ impl From<RrFault> for Fault {
     fn from(cause: RrFault) -> Fault {
         match cause {
             RrFault::NoMemory => Fault::NoMemory,
+            _ => Fault::Words,
+        }
+    }
+}
+
+impl From<BssmapFault> for Fault {
+    ghost use Rattle.bsc_bench.specs.Works.{of_a};
+
+    ghost from_gives = { λ cause fault. fault ≡ of_a cause };
+
+    fn from(cause: BssmapFault) -> Fault {
+        match cause {
+            BssmapFault::NoMemory => Fault::NoMemory,
             _ => Fault::Words,
         }
     }

@@ -6,6 +6,7 @@
 #![tactic(auto)]
 
 mod abis;
+mod bssmap;
 mod call;
 mod fault;
 mod life;
@@ -17,6 +18,7 @@ mod turning;
 mod words;
 mod work;
 
+use crate::bssmap::Subject;
 use crate::fault::Fault;
 use crate::turning::Turning;
 use crate::words::{Job, read_words};
@@ -37,6 +39,30 @@ fn sum_of(alloc: Global, work: Work, count: u64, octets: &[u8]) -> Result<u64, F
         Work::EncodeMeasurement => measured::encode_measurements(alloc, &mut turning, count),
         Work::DecodeCommand => radio::decode_commands(&mut turning, count),
         Work::EncodeCommand => radio::encode_commands(alloc, &mut turning, count),
+        Work::DecodeRequest => bssmap::decode_messages(
+            alloc,
+            Subject::Request,
+            &mut turning,
+            count,
+        ),
+        Work::EncodeRequest => bssmap::encode_messages(
+            alloc,
+            Subject::Request,
+            &mut turning,
+            count,
+        ),
+        Work::DecodeRequired => bssmap::decode_messages(
+            alloc,
+            Subject::Required,
+            &mut turning,
+            count,
+        ),
+        Work::EncodeRequired => bssmap::encode_messages(
+            alloc,
+            Subject::Required,
+            &mut turning,
+            count,
+        ),
     }
 }
 

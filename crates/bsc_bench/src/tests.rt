@@ -14,7 +14,11 @@ use std::test::Fail;
 ///   547 and then 548: 916 + 917.
 /// - HANDOVER COMMAND read: 871 + 2 + 5, 3 + 5 + 875, reference 42 and then 43, level 5: 1,808 + 1,809. Written: the 9
 ///   octets, 693 and then 694.
-const SUMS: [(Work, u64); 8] = [
+/// - HANDOVER REQUEST read: channel type 1 + 8 + 1, encryption 1, classmark 51, cells 23 + 102 and 23 + 101, and then
+///   23 + 102: 311 + 312. Written: the 27 octets, 428 and then 429.
+/// - HANDOVER REQUIRED read: cause 12, response 1, cell 23 + 102 and then 23 + 103: 138 + 139. Written: the 14 octets,
+///   230 and then 231.
+const SUMS: [(Work, u64); 12] = [
     (Work::DecodeActivation, 115),
     (Work::EncodeActivation, 259),
     (Work::CallByOctets, 284),
@@ -23,6 +27,10 @@ const SUMS: [(Work, u64); 8] = [
     (Work::EncodeMeasurement, 1833),
     (Work::DecodeCommand, 3617),
     (Work::EncodeCommand, 1387),
+    (Work::DecodeRequest, 623),
+    (Work::EncodeRequest, 857),
+    (Work::DecodeRequired, 277),
+    (Work::EncodeRequired, 461),
 ];
 
 #[test]
@@ -56,6 +64,10 @@ fn octets_of_no_such_message(rt: HostRuntime) {
         Work::EncodeMeasurement,
         Work::DecodeCommand,
         Work::EncodeCommand,
+        Work::DecodeRequest,
+        Work::EncodeRequest,
+        Work::DecodeRequired,
+        Work::EncodeRequired,
     ] {
         assert_eq!(rt;
             sum_of(rt.alloc(), work, 1, &abis),
@@ -77,6 +89,22 @@ fn octets_of_no_such_message(rt: HostRuntime) {
         sum_of(rt.alloc(), Work::CallByOctets, 1, &[]),
         Err(Fault::Words)
     );
+}
+
+#[test]
+fn octets_of_the_other_message_on_a(rt: HostRuntime) {
+    for (work, other) in [
+        (Work::DecodeRequest, Work::DecodeRequired),
+        (Work::EncodeRequest, Work::EncodeRequired),
+        (Work::DecodeRequired, Work::DecodeRequest),
+        (Work::EncodeRequired, Work::EncodeRequest),
+    ] {
+        assert_eq!(rt;
+            sum_of(rt.alloc(), work, 1, other.octets()),
+            Err(Fault::Words),
+            "{work}"
+        );
+    }
 }
 
 #[test]

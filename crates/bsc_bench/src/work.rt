@@ -26,11 +26,19 @@ pub enum Work {
     DecodeCommand,
     /// Writes a HANDOVER COMMAND.
     EncodeCommand,
+    /// Reads a HANDOVER REQUEST (TS 48.008 clause 3.2.1.8).
+    DecodeRequest,
+    /// Writes a HANDOVER REQUEST.
+    EncodeRequest,
+    /// Reads a HANDOVER REQUIRED (TS 48.008 clause 3.2.1.9).
+    DecodeRequired,
+    /// Writes a HANDOVER REQUIRED.
+    EncodeRequired,
 }
 
 impl Work {
     /// Every work, in the order in which they are printed.
-    pub const ALL: [Work; 8] = [
+    pub const ALL: [Work; 12] = [
         Work::DecodeActivation,
         Work::EncodeActivation,
         Work::CallByOctets,
@@ -39,6 +47,10 @@ impl Work {
         Work::EncodeMeasurement,
         Work::DecodeCommand,
         Work::EncodeCommand,
+        Work::DecodeRequest,
+        Work::EncodeRequest,
+        Work::DecodeRequired,
+        Work::EncodeRequired,
     ];
 
     /// The name by which the command line calls it.
@@ -54,6 +66,10 @@ impl Work {
             Work::EncodeMeasurement => "meas_res.enc",
             Work::DecodeCommand => "ho_command.dec",
             Work::EncodeCommand => "ho_command.enc",
+            Work::DecodeRequest => "ho_request.dec",
+            Work::EncodeRequest => "ho_request.enc",
+            Work::DecodeRequired => "ho_required.dec",
+            Work::EncodeRequired => "ho_required.enc",
         }
     }
 
@@ -71,6 +87,10 @@ impl Work {
             "meas_res.enc" => Some(Work::EncodeMeasurement),
             "ho_command.dec" => Some(Work::DecodeCommand),
             "ho_command.enc" => Some(Work::EncodeCommand),
+            "ho_request.dec" => Some(Work::DecodeRequest),
+            "ho_request.enc" => Some(Work::EncodeRequest),
+            "ho_required.dec" => Some(Work::DecodeRequired),
+            "ho_required.enc" => Some(Work::EncodeRequired),
             _ => None,
         }
     }
@@ -83,6 +103,8 @@ impl Work {
             Work::LiveByStep => &[0],
             Work::DecodeMeasurement | Work::EncodeMeasurement => &MEASUREMENT,
             Work::DecodeCommand | Work::EncodeCommand => &COMMAND,
+            Work::DecodeRequest | Work::EncodeRequest => &REQUEST,
+            Work::DecodeRequired | Work::EncodeRequired => &REQUIRED,
         }
     }
 
@@ -94,6 +116,8 @@ impl Work {
             Work::LiveByStep => 0,
             Work::DecodeMeasurement | Work::EncodeMeasurement => 5,
             Work::DecodeCommand | Work::EncodeCommand => 7,
+            Work::DecodeRequest | Work::EncodeRequest => 26,
+            Work::DecodeRequired | Work::EncodeRequired => 13,
         }
     }
 }
@@ -122,3 +146,15 @@ const MEASUREMENT: [u8; 34] = [
 /// HANDOVER COMMAND to the cell of carrier 871 with colour codes 2 and 5: timeslot 3, training sequence 5 and carrier
 /// 875, reference 42, power level 5.
 const COMMAND: [u8; 9] = [0x06, 0x2B, 0xD5, 0x67, 0x0B, 0xA3, 0x6B, 0x2A, 0x05];
+
+/// HANDOVER REQUEST from the cell of area 23 and identity 102 to that of 23 and 101: speech, a full rate channel, no
+/// encryption, classmark 1.
+const REQUEST: [u8; 27] = [
+    0x00, 0x19, 0x10, 0x0B, 0x03, 0x01, 0x08, 0x01, 0x0A, 0x01, 0x01, 0x1D, 0x33, 0x05, 0x05, 0x01,
+    0x00, 0x17, 0x00, 0x66, 0x05, 0x05, 0x01, 0x00, 0x17, 0x00, 0x65,
+];
+
+/// HANDOVER REQUIRED for a better cell, that of area 23 and identity 102, with a response requested.
+const REQUIRED: [u8; 14] = [
+    0x00, 0x0C, 0x11, 0x04, 0x01, 0x0C, 0x1B, 0x1A, 0x05, 0x01, 0x00, 0x17, 0x00, 0x66,
+];

@@ -1,6 +1,6 @@
 -- How many octets elements have.
-use Rattle.std.proofs.Common.{◌≡◌, ℕ, ◌+◌, ◌*◌, List, [], ◌∷◌, ◌++◌, length, length-append, flat_map, Bool, true, false, refl, sym, ◌∙◌, ap, arith, append_assoc, append-nil}
-use Rattle.octet_elements.specs.Elements.{all_spelled, spelled}
+use Rattle.std.proofs.Common.{◌≡◌, ℕ, ◌+◌, ◌*◌, List, [], ◌∷◌, ◌++◌, length, length-append, flat_map, Bool, true, false, refl, ◌∙◌, ap, arith, append_assoc, append-nil}
+use Rattle.octet_elements.specs.Elements.{all_spelled}
 use Rattle.bssmap_messages.specs.declared.message.CellId.{CellId}
 use Rattle.bssmap_messages.specs.declared.message.Classmark.{Classmark}
 use Rattle.bssmap_messages.specs.declared.message.Classmark.TheVariants.{One, Two}

@@ -1,9 +1,10 @@
 -- What cells say of the octets that they are read from.
-use Rattle.std.proofs.Common.{◌==◌, ◌≡◌, ℕ, ◌+◌, ◌*◌, ◌<◌, ◌≤◌, ◌%◌, List, [], ◌∷◌, ◌++◌, length, Option, Some, None, Bool, true, false, refl, sym, ◌∙◌, ap, arith, get_or, take, drop, ◌-◌, IfSome, nat_eq, cond, Result, Ok, append_assoc, append-nil, eqb}
+use Rattle.std.proofs.Common.{◌==◌, ◌≡◌, ℕ, ◌<◌, ◌≤◌, ◌%◌, List, [], ◌∷◌, ◌++◌, length, Option, Some, None, Bool, true, false, refl, sym, ◌∙◌, ap, arith, get_or, take, drop, ◌-◌, IfSome, nat_eq, cond, Ok, append_assoc, append-nil, eqb}
 use Rattle.std.proofs.lemmas.List.{take_all}
 use Rattle.std.specs.Option.{option_map, is_some}
 use Rattle.bssmap_messages.specs.declared.message.CellId.{CellId}
-use Rattle.bssmap_messages.specs.Values.{pair, cells_with_network, cells_with_area, cells_alone, cells_by, cells_after, some_cells}
+use Rattle.octet_elements.specs.Values.{pair}
+use Rattle.bssmap_messages.specs.Values.{cells_with_network, cells_with_area, cells_alone, cells_by, cells_after, some_cells}
 
 -- the first cell, where there are octets enough
 pub network_leads : (v : List ℕ) (lac ci : ℕ) → 7 ≤ length v → lac ≡ pair (get_or v 3 0) (get_or v 4 0) → ci ≡ pair (get_or v 5 0) (get_or v 6 0) → cells_with_network v ≡ option_map (λ cells. record { lac = Some lac; ci = ci } ∷ cells) (cells_with_network (take (length v - 7) (drop 7 v)))

@@ -1,9 +1,9 @@
 -- A text has one value and no fault.
-use Rattle.std.proofs.Common.{IfOk, IfErr, ◌≢◌, ◌≡◌, ℕ, List, [], ◌∷◌, Option, Some, None, Result, Ok, Err, refl, sym, ◌∙◌, ap, arith, subst, cond, eqb, inl, inr, length}
-use Rattle.octet_elements.specs.Elements.{Element, AreElements, AreTorn, IsTornAt}
+use Rattle.std.proofs.Common.{IfOk, IfErr, ◌≢◌, ◌≡◌, ℕ, List, ◌∷◌, Option, Some, None, Result, Ok, Err, refl, sym, ◌∙◌, ap, subst, cond, eqb, inl, inr, length}
+use Rattle.octet_elements.specs.Elements.{AreElements, IsTornAt}
 use Rattle.octet_elements.proofs.Splits.{same_elements, whole_not_torn}
-use Rattle.bssmap_messages.specs.declared.fault.ElementFault.{ElementFault}
-use Rattle.bssmap_messages.specs.declared.fault.ElementFault.TheVariants.{Absent, Bad}
+use Rattle.octet_elements.specs.declared.values.ElementFault.{ElementFault}
+use Rattle.octet_elements.specs.declared.values.ElementFault.TheVariants.{Absent, Bad}
 use Rattle.bssmap_messages.specs.declared.fault.BssmapFault.{BssmapFault}
 use Rattle.bssmap_messages.specs.declared.fault.BssmapFault.TheVariants as fault
 use Rattle.bssmap_messages.specs.declared.head.MessageKind.{MessageKind}
@@ -12,7 +12,7 @@ use Rattle.bssmap_messages.specs.declared.message.Bssmap.{Bssmap}
 use Rattle.bssmap_messages.specs.Forms.{interface_a}
 use Rattle.bssmap_messages.specs.Heads.{Carries, Begins, type_of}
 use Rattle.bssmap_messages.specs.Messages.{Said, meaning_of}
-use Rattle.bssmap_messages.specs.Texts.{Says, IsTextOf, HasFaultInBody, HasFault}
+use Rattle.bssmap_messages.specs.Texts.{Says, IsTextOf, HasFault}
 
 -- octets carry one thing
 one_carried : (octets x y : List ℕ) → Carries octets x → Carries octets y → x ≡ y

@@ -1,19 +1,17 @@
 -- A message has a canonical text exactly where its fields can be written.
-use Rattle.std.proofs.Common.{◌≡◌, ℕ, ◌+◌, ◌*◌, ◌<◌, ◌≤◌, ◌/◌, ◌%◌, ◌&&◌, List, [], ◌∷◌, ◌++◌, length, length-append, flat_map, unwrap_or, Option, Some, None, Result, Ok, Err, IsTrue, refl, sym, ◌∙◌, ap, arith, Bool, true, false}
+use Rattle.std.proofs.Common.{◌≡◌, ℕ, ◌+◌, ◌*◌, ◌<◌, ◌/◌, ◌%◌, ◌&&◌, List, [], ◌∷◌, length, length-append, flat_map, unwrap_or, Option, Some, None, Result, Ok, Err, refl, sym, ◌∙◌, ap, arith, Bool, true, false}
 use Rattle.std.specs.Option.{option_map, is_some}
-use Rattle.std.specs.List.{AllByRecursion, list_all}
-use Rattle.octet_elements.specs.Elements.{Fits, all_spelled}
 use Rattle.octet_elements.specs.Reading.{◌>>=◌}
 use Rattle.bssmap_messages.specs.declared.message.CellId.{CellId}
 use Rattle.bssmap_messages.specs.declared.message.Classmark.{Classmark}
 use Rattle.bssmap_messages.specs.declared.message.Classmark.TheVariants.{One, Two}
 use Rattle.bssmap_messages.specs.declared.message.Bssmap.{Bssmap}
 use Rattle.bssmap_messages.specs.declared.message.Bssmap.TheVariants.{HandoverRequest, HandoverRequired, HandoverRequestAck, HandoverCommand, HandoverComplete, HandoverFailure, HandoverPerformed, HandoverRequiredReject, HandoverDetect, ClearCommand, ClearComplete, ClearRequest}
-use Rattle.bssmap_messages.specs.declared.fault.ElementFault.{ElementFault}
-use Rattle.bssmap_messages.specs.Forms.{interface_a}
-use Rattle.bssmap_messages.specs.Values.{pair, pair_octets, octet_in, octets_in, channel_type_in, classmark_in, cells_with_area, some_cells, cell_in, cells_in, cell_octets, cell_value, cells_value}
-use Rattle.bssmap_messages.specs.Messages.{Said, elements_of, meaning_of, kind_of, handover_request, handover_required, handover_request_ack, handover_command, handover_complete, handover_failure, handover_performed, handover_required_reject, clear_command, clear_request}
-use Rattle.bssmap_messages.specs.Texts.{HasCanonical, IsWritable, classmark_length, response_length, have_areas, HasArea}
+use Rattle.octet_elements.specs.declared.values.ElementFault.{ElementFault}
+use Rattle.octet_elements.specs.Values.{pair, octets_in}
+use Rattle.bssmap_messages.specs.Values.{channel_type_in, cells_with_area, some_cells, cell_in, cells_in, cell_octets, cell_value, cells_value}
+use Rattle.bssmap_messages.specs.Messages.{handover_request, handover_required, handover_request_ack, handover_command, handover_complete, handover_failure, handover_performed, handover_required_reject, clear_command, clear_request}
+use Rattle.bssmap_messages.specs.Texts.{HasCanonical, IsWritable, have_areas, HasArea}
 use Rattle.bssmap_messages.proofs.Lengths.{request_length, required_length}
 
 -- Each reader reads again what is written.

@@ -1,13 +1,14 @@
 -- The messages (TS 48.008 clause 3.2.1): what their elements say, and how they are written.
-use Rattle.std.specs.Prelude.{ℕ, List, [], ◌∷◌, ◌++◌, Option, Result, Ok, Err}
+use Rattle.std.specs.Prelude.{ℕ, List, [], ◌∷◌, ◌++◌, Option, Result, Ok}
 use Rattle.octet_elements.specs.Elements.{Element, first_of, second_of}
 use Rattle.octet_elements.specs.Reading.{◌>>=◌}
-use Rattle.bssmap_messages.specs.declared.fault.ElementFault.{ElementFault}
+use Rattle.octet_elements.specs.declared.values.ElementFault.{ElementFault}
 use Rattle.bssmap_messages.specs.declared.head.MessageKind.{MessageKind}
 use Rattle.bssmap_messages.specs.declared.head.MessageKind.TheVariants as kind
 use Rattle.bssmap_messages.specs.declared.message.Bssmap.{Bssmap}
 use Rattle.bssmap_messages.specs.declared.message.Bssmap.TheVariants.{HandoverRequest, HandoverRequired, HandoverRequestAck, HandoverCommand, HandoverComplete, HandoverFailure, HandoverPerformed, HandoverRequiredReject, HandoverDetect, ClearCommand, ClearComplete, ClearRequest}
-use Rattle.bssmap_messages.specs.Values.{octet_in, optional_octet_in, octets_in, channel_type_in, classmark_in, stands, cell_in, cells_in, cell_value, cells_value, classmark_element, where_some, where_true}
+use Rattle.octet_elements.specs.Values.{octet_in, optional_octet_in, octets_in, where_some}
+use Rattle.bssmap_messages.specs.Values.{channel_type_in, classmark_in, stands, cell_in, cells_in, cell_value, cells_value, classmark_element, where_true}
 
 -- what the values of its elements say, where they are there; else the first fault in the order of the message
 abbrev pub Said : Type 0 → Type 0

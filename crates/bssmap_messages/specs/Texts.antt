@@ -1,11 +1,11 @@
 -- Which octets are the text of a message, what is wrong with all others, and which text is written
 -- (TS 48.008 clause 3.2).
-use Rattle.std.specs.Prelude.{◌≡◌, ◌⊎◌, ℕ, ◌+◌, ◌*◌, ◌<◌, ◌≤◌, Bool, true, false, IsTrue, IsSome, List, [], ◌∷◌, ◌++◌, length, Result, Ok, Err}
+use Rattle.std.specs.Prelude.{◌≡◌, ◌⊎◌, ℕ, ◌+◌, ◌*◌, ◌<◌, ◌≤◌, Bool, true, false, IsTrue, IsSome, List, ◌∷◌, length, Result, Ok, Err}
 use Rattle.std.specs.List.{AllByRecursion, list_all}
 use Rattle.std.specs.Option.{is_some}
 use Rattle.octet_elements.specs.Elements.{Element, Fits, AreElements, IsTornAt, all_spelled}
-use Rattle.bssmap_messages.specs.declared.fault.ElementFault.{ElementFault}
-use Rattle.bssmap_messages.specs.declared.fault.ElementFault.TheVariants.{Absent, Bad}
+use Rattle.octet_elements.specs.declared.values.ElementFault.{ElementFault}
+use Rattle.octet_elements.specs.declared.values.ElementFault.TheVariants.{Absent, Bad}
 use Rattle.bssmap_messages.specs.declared.fault.BssmapFault.{BssmapFault}
 use Rattle.bssmap_messages.specs.declared.fault.BssmapFault.TheVariants as fault
 use Rattle.bssmap_messages.specs.declared.head.MessageKind.{MessageKind}

@@ -1,44 +1,22 @@
 -- What the value of an element says, and how it is written (TS 48.008 clause 3.2.2).
-use Rattle.std.specs.Prelude.{◌≡◌, ℕ, ◌+◌, ◌*◌, ◌/◌, ◌%◌, if◌then◌else◌, ◌==◌, Bool, true, false, List, [], ◌∷◌, ◌++◌, Option, Some, None, flat_map, unwrap_or, Result, Ok, Err}
-use Rattle.std.specs.Borrow.{Bor}
+use Rattle.std.specs.Prelude.{ℕ, ◌%◌, if◌then◌else◌, ◌==◌, Bool, true, false, List, [], ◌∷◌, ◌++◌, Option, Some, None, flat_map, unwrap_or, Result, Ok, Err}
 use Rattle.std.specs.Option.{option_map}
 use Rattle.octet_elements.specs.Elements.{Element}
+use Rattle.octet_elements.specs.Values.{pair, pair_octets}
+use Rattle.octet_elements.specs.declared.values.ElementFault.{ElementFault}
+use Rattle.octet_elements.specs.declared.values.ElementFault.TheVariants.{Absent, Bad}
 use Rattle.bssmap_messages.specs.declared.message.CellId.{CellId}
 use Rattle.bssmap_messages.specs.declared.message.Classmark.{Classmark}
 use Rattle.bssmap_messages.specs.declared.message.Classmark.TheVariants.{One, Two}
 use Rattle.bssmap_messages.specs.declared.values.ClassmarkValue.{ClassmarkValue}
 use Rattle.bssmap_messages.specs.declared.values.ClassmarkValue.TheVariants as in_octets
-use Rattle.bssmap_messages.specs.declared.fault.ElementFault.{ElementFault}
-use Rattle.bssmap_messages.specs.declared.fault.ElementFault.TheVariants.{Absent, Bad}
 use Rattle.bssmap_messages.specs.declared.fault.BssmapFault.{BssmapFault}
 use Rattle.bssmap_messages.specs.declared.fault.BssmapFault.TheVariants.{Missing, BadElement}
-
--- a value where it is there, seen without its reference
-abbrev pub seen : Option (Bor (List ℕ)) → Option (List ℕ)
-seen value = option_map (λ v. v.now) value
 
 -- the fault that a message has by its element
 abbrev pub fault_of : ElementFault → BssmapFault
 fault_of (Absent i) = Missing i
 fault_of (Bad i) = BadElement i
-
--- the value's first octet
-abbrev pub octet_in : ℕ → Option (List ℕ) → Result ℕ ElementFault
-octet_in i None = Err (Absent i)
-octet_in i (Some []) = Err (Bad i)
-octet_in i (Some (octet ∷ v)) = Ok octet
-
--- the value's first octet, where the element is there
-abbrev pub optional_octet_in : ℕ → Option (List ℕ) → Result (Option ℕ) ElementFault
-optional_octet_in i None = Ok None
-optional_octet_in i (Some []) = Err (Bad i)
-optional_octet_in i (Some (octet ∷ v)) = Ok (Some octet)
-
--- the whole value, which has at least one octet
-abbrev pub octets_in : ℕ → Option (List ℕ) → Result (List ℕ) ElementFault
-octets_in i None = Err (Absent i)
-octets_in i (Some []) = Err (Bad i)
-octets_in i (Some (octet ∷ v)) = Ok (octet ∷ v)
 
 -- Channel type (clause 3.2.2.11): at least two octets.
 abbrev pub channel_type_in : Option (List ℕ) → Result (List ℕ) ElementFault
@@ -64,13 +42,6 @@ kept (in_octets.Two v) = Two v.now
 abbrev pub stands : Option (List ℕ) → Bool
 stands None = false
 stands (Some v) = true
-
--- a number of two octets, the high one first
-abbrev pub pair : ℕ → ℕ → ℕ
-pair high low = 256 * high + low
-
-abbrev pub pair_octets : ℕ → List ℕ
-pair_octets n = n / 256 ∷ n % 256 ∷ []
 
 -- Cells after the discriminator (clauses 3.2.2.17 and 3.2.2.27) are one after the other:
 -- each has a mobile country and network code of three octets, which isn't kept, location area code and
@@ -136,11 +107,6 @@ cells_value cells = 1 ∷ flat_map cell_octets cells
 abbrev pub classmark_element : {A : Type 0} → Classmark A → Element
 classmark_element (One octet) = (0x1D, octet ∷ [])
 classmark_element (Two v) = (0x12, v)
-
--- an element that is written where there is an octet for it
-abbrev pub where_some : ℕ → Option ℕ → List Element
-where_some i None = []
-where_some i (Some octet) = (i, octet ∷ []) ∷ []
 
 -- an element alone, that is written where it is asked for
 abbrev pub where_true : ℕ → Bool → List Element

@@ -2,20 +2,14 @@
 ghost use Rattle.std.specs.Prelude.{◌≡◌, ◌<◌, ◌↔◌, [], ◌∷◌, List, length, Some, Ok, Err, IsTrue, IsSome, IfSome, IfNone, IfOk, IfErr};
 ghost use Rattle.std.specs.Option.{option_map};
 ghost use Rattle.bssmap_messages.specs.declared.message.CellId.{CellId};
-ghost use Rattle.bssmap_messages.specs.Values.{seen, pair, cells_with_network, cells_with_area, cells_alone, cells_after, only_cell, some_cells, cell_in, cells_in};
+ghost use Rattle.octet_elements.specs.Values.{seen};
+ghost use Rattle.bssmap_messages.specs.Values.{cells_with_network, cells_with_area, cells_alone, cells_after, only_cell, some_cells, cell_in, cells_in};
 
-use crate::fault::ElementFault;
 use crate::lists::CellList;
 use crate::message::CellId;
 use crate::table::{CELL_IDENTIFIER, CELL_IDENTIFIER_LIST};
+use octet_elements::values::{ElementFault, pair_of};
 use std::alloc::{AllocError, Allocator};
-
-/// A number of two octets, the high one first.
-fn pair(high: u8, low: u8) -> u16
-    ensures { result ≡ pair high low }
-{
-    256 * u16::from(high) + u16::from(low)
-}
 
 /// The cell that the octets begin with, behind network code and location area code, and the rest.
 fn cell_with_network(octets: &[u8]) -> Option<(CellId, &[u8])>
@@ -26,8 +20,8 @@ fn cell_with_network(octets: &[u8]) -> Option<(CellId, &[u8])>
     let [_, _, _, area_high, area_low, high, low, rest @ ..] = octets else {
         return None;
     };
-    let lac = Some(pair(*area_high, *area_low));
-    let ci = pair(*high, *low);
+    let lac = Some(pair_of(*area_high, *area_low));
+    let ci = pair_of(*high, *low);
     Some((CellId { lac, ci }, rest))
 }
 
@@ -40,8 +34,8 @@ fn cell_with_area(octets: &[u8]) -> Option<(CellId, &[u8])>
     let [area_high, area_low, high, low, rest @ ..] = octets else {
         return None;
     };
-    let lac = Some(pair(*area_high, *area_low));
-    let ci = pair(*high, *low);
+    let lac = Some(pair_of(*area_high, *area_low));
+    let ci = pair_of(*high, *low);
     Some((CellId { lac, ci }, rest))
 }
 
@@ -54,7 +48,7 @@ fn cell_alone(octets: &[u8]) -> Option<(CellId, &[u8])>
     let [high, low, rest @ ..] = octets else {
         return None;
     };
-    let ci = pair(*high, *low);
+    let ci = pair_of(*high, *low);
     Some((CellId { lac: None, ci }, rest))
 }
 
@@ -74,6 +68,7 @@ fn leading_cell(discriminator: u8, octets: &[u8]) -> Option<(CellId, &[u8])>
 }
 
 /// The cell of a cell identifier.
+#[inline(always)]
 pub fn cell(value: Option<&[u8]>) -> Result<CellId, ElementFault>
     ensures { result ≡ cell_in (seen value.entry) }
 {

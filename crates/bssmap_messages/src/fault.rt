@@ -1,4 +1,5 @@
 //! Why octets are no message.
+use octet_elements::values::ElementFault;
 use std::alloc::AllocError;
 use thiserror::Error;
 
@@ -41,15 +42,6 @@ impl From<AllocError> for BssmapFault {
     fn from(_error: AllocError) -> BssmapFault {
         BssmapFault::NoMemory
     }
-}
-
-/// What is wrong with an element of a message whose elements are all whole.
-#[derive(Clone, Copy, PartialEq, Eq, Debug)]
-pub enum ElementFault {
-    /// The element with this identifier is not there.
-    Absent(u8),
-    /// The element with this identifier has a value that can't be read.
-    Bad(u8),
 }
 
 impl From<ElementFault> for BssmapFault {

@@ -4,7 +4,7 @@ ghost use Rattle.std.specs.Option.{option_map};
 ghost use Rattle.octet_elements.specs.Elements.{Element, AreElements, wanted_of};
 ghost use Rattle.bssmap_messages.specs.Forms.{interface_a};
 ghost use Rattle.bssmap_messages.specs.Heads.{limit};
-ghost use Rattle.bssmap_messages.specs.Values.{seen};
+ghost use Rattle.octet_elements.specs.Values.{seen};
 ghost use Rattle.bssmap_messages.specs.Messages.{handover_request, handover_required, handover_request_ack, handover_command, handover_complete, handover_failure, handover_performed, handover_required_reject, clear_command, clear_request, HasList};
 ghost use Rattle.bssmap_messages.specs.Texts.{IsTextOf, HasFault, Answers, ReadsBody, IsTornBody};
 
@@ -17,10 +17,9 @@ use crate::table::{
     CAUSE, CELL_IDENTIFIER, CELL_IDENTIFIER_LIST, CHANNEL_TYPE, CLASSMARK_1, CLASSMARK_2,
     ENCRYPTION_INFORMATION, InterfaceA, LAYER_3_INFORMATION, RESPONSE_REQUEST, RR_CAUSE,
 };
-use crate::values::{
-    channel_type, classmark, keep_classmark, octet, octets, optional_octet, stands,
-};
+use crate::values::{channel_type, classmark, keep_classmark, stands};
 use octet_elements::read_values;
+use octet_elements::values::{octet, octets, optional_octet};
 use std::alloc::Allocator;
 
 /// Reads the elements of a body, and puts the values that are wanted into `values`.

@@ -1,4 +1,7 @@
 //! The identifiers and forms of the elements on A (TS 48.008 clause 3.2.2).
+ghost use Rattle.std.specs.Prelude.{◌≡◌};
+ghost use Rattle.bssmap_messages.specs.Forms.{interface_a};
+
 use octet_elements::{ElementTable, Form};
 
 pub const CAUSE: u8 = 0x04;
@@ -24,34 +27,47 @@ pub const CLASSMARK_1: u8 = 0x1D;
 /// The forms of the elements on A.
 pub struct InterfaceA;
 
-impl ElementTable for InterfaceA {
-    ghost use Rattle.bssmap_messages.specs.Forms.{interface_a};
+/// The form of the elements with this identifier, by the table.
+#[inline(never)]
+fn form_in_table(identifier: u8) -> Form
+    ensures { result ≡ interface_a identifier }
+{
+    match identifier {
+        0x1B | 0x35 | 0x8C | 0x8E | 0x8F => Form::Fixed(0),
+        0x14
+        | 0x15
+        | 0x19
+        | 0x1D
+        | 0x21
+        | 0x2C
+        | 0x2D
+        | 0x31
+        | 0x32
+        | 0x39
+        | 0x3F
+        | 0x40
+        | 0x8A
+        | 0x8B
+        | 0x8D => Form::Fixed(1),
+        0x01 => Form::Fixed(2),
+        0x95 => Form::Fixed(3),
+        0x7F => Form::Fixed(4),
+        0x83 => Form::Fixed(16),
+        _ => Form::Counted,
+    }
+}
 
+impl ElementTable for InterfaceA {
     ghost form_of = { interface_a };
 
+    /// Most elements of the messages have an identifier from 0x02 to 0x13. They are told here, so that reading them is
+    /// short.
+    #[inline(always)]
     fn form_for(identifier: u8) -> Form {
-        match identifier {
-            0x1B | 0x35 | 0x8C | 0x8E | 0x8F => Form::Fixed(0),
-            0x14
-            | 0x15
-            | 0x19
-            | 0x1D
-            | 0x21
-            | 0x2C
-            | 0x2D
-            | 0x31
-            | 0x32
-            | 0x39
-            | 0x3F
-            | 0x40
-            | 0x8A
-            | 0x8B
-            | 0x8D => Form::Fixed(1),
-            0x01 => Form::Fixed(2),
-            0x95 => Form::Fixed(3),
-            0x7F => Form::Fixed(4),
-            0x83 => Form::Fixed(16),
-            _ => Form::Counted,
+        if 0x01 < identifier && identifier < 0x14 {
+            Form::Counted
+        } else {
+            form_in_table(identifier)
         }
     }
 }

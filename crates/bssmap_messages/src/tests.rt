@@ -5,7 +5,7 @@ use crate::message::{Bssmap, CellId, Classmark};
 use crate::reading::decode;
 use crate::writing::{encode, encode_into, fits};
 use refusing_heap::RefusingHeap;
-use std::alloc::Global;
+use std::alloc::{AllocError, Global};
 use std::test::Fail;
 
 const REQUEST: &[u8] = &[
@@ -57,6 +57,19 @@ const TEXTS: [&[u8]; 12] = [
     CLEAR_REQUEST,
 ];
 
+/// More texts, as they are written: other causes, and a request without the mark of no encryption.
+const MORE_TEXTS: [&[u8]; 6] = [
+    &[0, 4, 0x16, 4, 1, 0x21],
+    &[0, 4, 0x16, 4, 1, 0x40],
+    &[0, 4, 0x16, 4, 1, 0x51],
+    &[0, 4, 0x20, 4, 1, 0x20],
+    &[0, 4, 0x22, 4, 1, 0],
+    &[
+        0, 0x19, 0x10, 0x0B, 3, 1, 8, 1, 0x0A, 1, 2, 0x1D, 0x33, 5, 5, 1, 0, 0x17, 0, 0x66, 5, 5,
+        1, 0, 0x17, 0, 0x63,
+    ],
+];
+
 /// The elements of each text: the offset where one begins, the identifier that is missing without
 /// it, and whether the message needs it.
 const ELEMENTS: [&[(usize, u8, bool)]; 12] = [
@@ -86,11 +99,13 @@ fn cell(lac: u16, ci: u16) -> CellId {
 
 #[test]
 fn reads_back_what_it_writes(rt: HostRuntime) -> Result<(), Fail> {
-    for text in TEXTS {
-        let message = decode(rt.alloc(), text)?;
-        assert!(rt; fits(&message), "{message:?}");
-        let written = encode(rt.alloc(), &message)?;
-        assert_eq!(rt; written.as_slice(), text, "{message:?}");
+    for texts in [TEXTS.as_slice(), MORE_TEXTS.as_slice()] {
+        for text in texts {
+            let message = decode(rt.alloc(), text)?;
+            assert!(rt; fits(&message), "{message:?}");
+            let written = encode(rt.alloc(), &message)?;
+            assert_eq!(rt; written.as_slice(), *text, "{message:?}");
+        }
     }
     reading_is_unique::<Global>();
     canonical_is_text::<Global>();
@@ -334,6 +349,43 @@ fn finds_the_fault_of_each_front_of_a_text(rt: HostRuntime) -> Result<(), Fail> 
             if n > 2 {
                 let fault = decode(rt.alloc(), &front).err();
                 assert_eq!(rt; fault, fault_of_front(elements, n), "{n} of {text:?}");
+            }
+        }
+    }
+    Ok(())
+}
+
+/// The text with the element at an offset made empty, and the length octet that counts the rest.
+fn with_empty_element(alloc: Global, text: &[u8], offset: usize) -> Result<Vec<u8>, AllocError> {
+    let count = text.get(offset.saturating_add(1)).copied().unwrap_or(0);
+    let mut octets = Vec::new(alloc);
+    for (at, octet) in text.iter().enumerate() {
+        let is_length = at == 1 || at == offset.saturating_add(1);
+        let is_value = offset.saturating_add(1) < at
+            && at <= offset.saturating_add(1).saturating_add(usize::from(count));
+        if !is_value {
+            octets.push(if is_length { 0 } else { *octet })?;
+        }
+    }
+    let length = octets.len().saturating_sub(2).min(255) as u8;
+    if let Some(counted) = octets.get_mut(1) {
+        *counted = length;
+    }
+    Ok(octets)
+}
+
+#[test]
+fn finds_each_element_bad_that_is_empty(rt: HostRuntime) -> Result<(), Fail> {
+    for (text, elements) in TEXTS.iter().zip(ELEMENTS) {
+        for (offset, identifier, needed) in elements {
+            // the classmark of the text has no length octet
+            if *needed && *identifier != 0x12 {
+                let octets = with_empty_element(rt.alloc(), text, *offset)?;
+                assert_eq!(rt;
+                    decode(rt.alloc(), &octets).err(),
+                    Some(BssmapFault::BadElement(*identifier)),
+                    "{octets:?}"
+                );
             }
         }
     }

@@ -1,46 +1,13 @@
 //! What the value of an element says.
 ghost use Rattle.std.specs.Prelude.{◌≡◌, Ok, Err, IfOk, IfErr};
-ghost use Rattle.bssmap_messages.specs.Values.{seen, octet_in, optional_octet_in, octets_in, channel_type_in, classmark_in, stands, kept};
+ghost use Rattle.octet_elements.specs.Values.{seen};
+ghost use Rattle.bssmap_messages.specs.Values.{channel_type_in, classmark_in, stands, kept};
 
-use crate::fault::ElementFault;
 use crate::lists::Octets;
 use crate::message::Classmark;
 use crate::table::{CHANNEL_TYPE, CLASSMARK_1, CLASSMARK_2};
+use octet_elements::values::ElementFault;
 use std::alloc::{AllocError, Allocator};
-
-/// The value's first octet.
-pub fn octet(identifier: u8, value: Option<&[u8]>) -> Result<u8, ElementFault>
-    ensures { result ≡ octet_in identifier (seen value.entry) }
-{
-    match value {
-        None => Err(ElementFault::Absent(identifier)),
-        Some([octet, ..]) => Ok(*octet),
-        Some(_) => Err(ElementFault::Bad(identifier)),
-    }
-}
-
-/// The value's first octet, where the element is there.
-pub fn optional_octet(identifier: u8, value: Option<&[u8]>) -> Result<Option<u8>, ElementFault>
-    ensures { result ≡ optional_octet_in identifier (seen value.entry) }
-{
-    match value {
-        None => Ok(None),
-        Some([octet, ..]) => Ok(Some(*octet)),
-        Some([]) => Err(ElementFault::Bad(identifier)),
-    }
-}
-
-/// The whole value, which has at least one octet.
-pub fn octets(identifier: u8, value: Option<&[u8]>) -> Result<&[u8], ElementFault>
-    ensures ok { IfOk result (λ v. octets_in identifier (seen value.entry) ≡ Ok v.now) }
-    ensures err { IfErr result (λ e. octets_in identifier (seen value.entry) ≡ Err e) }
-{
-    match value {
-        None => Err(ElementFault::Absent(identifier)),
-        Some([]) => Err(ElementFault::Bad(identifier)),
-        Some(value) => Ok(value),
-    }
-}
 
 /// The channel type, which has at least two octets.
 pub fn channel_type(value: Option<&[u8]>) -> Result<&[u8], ElementFault>
@@ -80,6 +47,7 @@ pub fn classmark<'a, A: Allocator>(
 }
 
 /// The classmark with octets of its own.
+#[inline(always)]
 pub fn keep_classmark<A: Allocator + Copy>(
     alloc: A,
     classmark: ClassmarkValue<'_>,

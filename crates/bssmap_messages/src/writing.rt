@@ -4,7 +4,8 @@ ghost use Rattle.octet_elements.specs.Elements.{all_spelled, spelled};
 ghost use Rattle.bssmap_messages.specs.Forms.{interface_a};
 ghost use Rattle.bssmap_messages.specs.Heads.{limit, type_of};
 ghost use Rattle.bssmap_messages.specs.Messages.{elements_of, kind_of};
-ghost use Rattle.bssmap_messages.specs.Values.{pair_octets, cell_octets, cell_value, classmark_element, where_some, where_true, cells_value};
+ghost use Rattle.octet_elements.specs.Values.{pair_octets, where_some};
+ghost use Rattle.bssmap_messages.specs.Values.{cell_octets, cell_value, classmark_element, where_true, cells_value};
 ghost use Rattle.bssmap_messages.specs.Texts.{HasCanonical, IsWritable, canonical, classmark_length, response_length, HasArea, have_areas};
 
 use crate::head::{LIMIT, MessageKind, type_octet};
@@ -14,6 +15,7 @@ use crate::table::{
     CAUSE, CELL_IDENTIFIER, CELL_IDENTIFIER_LIST, CHANNEL_TYPE, CLASSMARK_1, CLASSMARK_2,
     ENCRYPTION_INFORMATION, InterfaceA, LAYER_3_INFORMATION, RESPONSE_REQUEST, RR_CAUSE,
 };
+use octet_elements::values::pair_octets;
 use octet_elements::{append_element, append_octets};
 use std::alloc::{AllocError, Allocator};
 
@@ -176,13 +178,6 @@ fn rr_len(rr: Option<u8>) -> usize
     if rr.is_some() { 2 } else { 0 }
 }
 
-/// A number as two octets, the high one first.
-fn pair_octets(number: u16) -> [u8; 2]
-    ensures { result ≡ pair_octets number }
-{
-    [(number / 256) as u8, (number % 256) as u8]
-}
-
 /// Location area code and cell identity.
 fn cell_octets(cell: CellId) -> [u8; 4]
     ensures { result ≡ cell_octets cell }
@@ -195,6 +190,16 @@ fn cell_octets(cell: CellId) -> [u8; 4]
 /// The discriminator of location area code and cell identity.
 const AREA_AND_CELL: u8 = 1;
 
+/// Appends a cause, for which the list has room.
+fn append_cause<A: Allocator>(out: &mut Vec<u8, A>, cause: u8)
+    requires { vec_len out.old + 3 ≤ vec_capacity out.old }
+    ensures items { out.new.items ≡ out.old.items ++ spelled interface_a (0x04, cause ∷ []) }
+    ensures len { vec_len out.new ≡ vec_len out.old + 3 }
+    ensures capacity { vec_capacity out.old ≤ vec_capacity out.new }
+{
+    append_octets(out, &[CAUSE, 1, cause]);
+}
+
 /// Appends a cell identifier, for which the list has room.
 fn append_cell<A: Allocator>(out: &mut Vec<u8, A>, cell: CellId)
     requires { vec_len out.old + 7 ≤ vec_capacity out.old }
@@ -203,8 +208,18 @@ fn append_cell<A: Allocator>(out: &mut Vec<u8, A>, cell: CellId)
     ensures capacity { vec_capacity out.old ≤ vec_capacity out.new }
 {
     let [area_high, area_low, high, low] = cell_octets(cell);
-    let value = [AREA_AND_CELL, area_high, area_low, high, low];
-    append_element::<InterfaceA, A>(out, CELL_IDENTIFIER, &value);
+    append_octets(
+        out,
+        &[
+            CELL_IDENTIFIER,
+            5,
+            AREA_AND_CELL,
+            area_high,
+            area_low,
+            high,
+            low,
+        ],
+    );
 }
 
 /// Appends a classmark, for which the list has room.
@@ -216,7 +231,7 @@ fn append_classmark<A: Allocator + Copy>(out: &mut Vec<u8, A>, classmark: &Class
     ensures capacity { vec_capacity out.old ≤ vec_capacity out.new }
 {
     match classmark {
-        Classmark::One(octet) => append_element::<InterfaceA, A>(out, CLASSMARK_1, &[*octet]),
+        Classmark::One(octet) => append_octets(out, &[CLASSMARK_1, *octet]),
         Classmark::Two(octets) => append_element::<InterfaceA, A>(
             out,
             CLASSMARK_2,
@@ -261,7 +276,7 @@ fn append_required<A: Allocator>(out: &mut Vec<u8, A>, cause: u8, response: bool
     requires room { vec_len out.old + (6 + response_length response + 4 * length cells.now) ≤ vec_capacity out.old }
     ensures { out.new.items ≡ out.old.items ++ all_spelled interface_a ((0x04, cause ∷ []) ∷ where_true 0x1B response ++ (0x1A, cells_value cells.now) ∷ []) }
 {
-    append_element::<InterfaceA, A>(out, CAUSE, &[cause]);
+    append_cause(out, cause);
     append_response(out, response);
     let len = 1 + 4 * cells.len();
     append_octets(out, &[CELL_IDENTIFIER_LIST, len as u8, AREA_AND_CELL]);
@@ -276,7 +291,7 @@ fn append_response<A: Allocator>(out: &mut Vec<u8, A>, response: bool)
     ensures capacity { vec_capacity out.old ≤ vec_capacity out.new }
 {
     if response {
-        append_element::<InterfaceA, A>(out, RESPONSE_REQUEST, &[]);
+        append_octets(out, &[RESPONSE_REQUEST]);
     }
 }
 
@@ -286,7 +301,7 @@ fn append_rr<A: Allocator>(out: &mut Vec<u8, A>, rr: Option<u8>)
     ensures { out.new.items ≡ out.old.items ++ all_spelled interface_a (where_some 0x15 rr) }
 {
     if let Some(rr) = rr {
-        append_element::<InterfaceA, A>(out, RR_CAUSE, &[rr]);
+        append_octets(out, &[RR_CAUSE, rr]);
     }
 }
 
@@ -322,18 +337,16 @@ fn append_elements<A: Allocator + Copy>(message: &Bssmap<A>, out: &mut Vec<u8, A
         }
         Bssmap::HandoverComplete { rr } => append_rr(out, *rr),
         Bssmap::HandoverFailure { cause, rr } => {
-            append_element::<InterfaceA, A>(out, CAUSE, &[*cause]);
+            append_cause(out, *cause);
             append_rr(out, *rr);
         }
         Bssmap::HandoverPerformed { cause, cell } => {
-            append_element::<InterfaceA, A>(out, CAUSE, &[*cause]);
+            append_cause(out, *cause);
             append_cell(out, *cell);
         }
         Bssmap::HandoverRequiredReject { cause }
         | Bssmap::ClearCommand { cause }
-        | Bssmap::ClearRequest { cause } => {
-            append_element::<InterfaceA, A>(out, CAUSE, &[*cause]);
-        }
+        | Bssmap::ClearRequest { cause } => append_cause(out, *cause),
         Bssmap::HandoverDetect | Bssmap::ClearComplete => {}
     }
 }

@@ -1,5 +1,5 @@
 -- The procedure: for each input, what the controller asks of the book and what it sends, by the replies.
-use Rattle.std.specs.Prelude.{ℕ, Bool, true, false, if◌then◌else◌, nat_lt, List, [], ◌∷◌, length, Option, Some, None}
+use Rattle.std.specs.Prelude.{ℕ, Bool, true, false, if◌then◌else◌, not, nat_lt, List, [], ◌∷◌, length, Option, Some, None}
 use Rattle.radio_book.specs.declared.channel.ChanId.{ChanId}
 use Rattle.radio_book.specs.declared.channel.ChanState.{ChanState}
 use Rattle.radio_book.specs.declared.channel.ChanState.TheVariants.{Held}
@@ -100,12 +100,6 @@ sent_by Nothing = []
 sent_by (Channel x) = release x ∷ []
 sent_by Unknown = []
 
--- go on where the row can send the release later
-abbrev pub if_known : Release → Plan → Plan
-if_known Nothing next = next
-if_known (Channel x) next = next
-if_known Unknown next = Ends
-
 -- An operator opens a call: its channel is activated.
 abbrev pub opened : ChanId → Reply → Plan
 opened x Done = if_named x (Sends (activation x) Ends)
@@ -142,14 +136,6 @@ undo_answered reply = Ends
 abbrev pub undo_plan : ℕ → Plan
 undo_plan c = Asks (event.Undo c Asked) undo_answered
 
--- A call without an attempt is cleared, and its serving channel released.
-abbrev pub cleared : Release → Reply → Plan
-cleared serving Done = releases serving Ends
-cleared serving reply = Ends
-
-abbrev pub clear_rest : ℕ → Release → Plan
-clear_rest c serving = Asks (event.Clear c) (cleared serving)
-
 -- the record remains after an undo, but that of a call which comes from another controller
 abbrev pub remains_of : AttemptKind → Bool
 remains_of Internal = true
@@ -159,20 +145,33 @@ abbrev pub remains : Option Attempt → Bool
 remains None = true
 remains (Some a) = remains_of a.kind
 
-abbrev pub clear_remaining : ℕ → Bool → Release → Release → Plan
-clear_remaining c false target serving = releases target Ends
-clear_remaining c true target serving = if_known serving (releases target (clear_rest c serving))
+-- the record names every channel that is released when its call is cleared
+abbrev pub names_releases : CallRecord → Option ChanState → Bool
+names_releases r s = if is_unknown (target_release r.attempt) then false else if remains r.attempt then not (is_unknown (serving_release r s)) else true
+
+-- What remains of a call is cleared, and its serving channel released.
+abbrev pub cleared : Release → Reply → Plan
+cleared serving Done = releases serving Ends
+cleared serving reply = Ends
+
+abbrev pub clear_remaining : ℕ → Bool → Release → Plan
+clear_remaining c false serving = Ends
+clear_remaining c true serving = Asks (event.Clear c) (cleared serving)
+
+-- the target is released, where it was switched on, and then what remains is cleared
+abbrev pub clear_rest : ℕ → CallRecord → Option ChanState → Plan
+clear_rest c r s = releases (target_release r.attempt) (clear_remaining c (remains r.attempt) (serving_release r s))
 
 abbrev pub clear_undone : ℕ → Reply → Plan
-clear_undone c (Record r s) = clear_remaining c (remains r.attempt) (target_release r.attempt) (serving_release r s)
+clear_undone c (Record r s) = if names_releases r s then clear_rest c r s else Ends
 clear_undone c reply = Ends
 
-abbrev pub clear_attempt : ℕ → Release → Option Attempt → Plan
-clear_attempt c serving None = if_known serving (clear_rest c serving)
-clear_attempt c serving (Some a) = Asks (event.Undo c Asked) (clear_undone c)
+abbrev pub clear_named : ℕ → CallRecord → Option ChanState → Option Attempt → Plan
+clear_named c r s None = clear_rest c r s
+clear_named c r s (Some a) = Asks (event.Undo c Asked) (clear_undone c)
 
 abbrev pub clear_looked : ℕ → Reply → Plan
-clear_looked c (Record r s) = clear_attempt c (serving_release r s) r.attempt
+clear_looked c (Record r s) = if names_releases r s then clear_named c r s r.attempt else Ends
 clear_looked c reply = Ends
 
 -- An operator clears a call: an open attempt is taken back first, its target and the serving channel are released.

@@ -4,7 +4,7 @@
 //! elements. How many octets an element's value has is fixed for its identifier, or stands in a
 //! length of one octet or of two before the value. A codec gives its table of forms
 //! ([`ElementTable`]); [`read_values`] reads the octets once and gives the values that a message
-//! uses, and [`append_element`] writes.
+//! uses, [`values`] says what a value holds, and [`append_element`] writes.
 #![tactic(auto)]
 
 mod element;
@@ -12,6 +12,7 @@ mod form;
 mod laws;
 #[cfg(test)]
 mod tests;
+pub mod values;
 mod wanted;
 mod write;
 

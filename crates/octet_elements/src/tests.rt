@@ -1,5 +1,9 @@
 use crate::element::leading_element;
 use crate::form::{ElementTable, Form};
+use crate::values::{
+    ElementFault, any_octets, octet, octets, optional_octet, optional_octets, pair, pair_octets,
+    pair_of,
+};
 use crate::wanted::read_values;
 use crate::write::{append_element, append_octets};
 use std::alloc::Global;
@@ -86,4 +90,47 @@ fn writes_elements(rt: HostRuntime) -> Result<(), Fail> {
     assert_eq!(rt; &out[9..13], [3, 1, 2, 0].as_slice());
     assert_eq!(rt; out.len(), 270);
     Ok(())
+}
+
+/// The element 7 isn't there, is empty, has one octet, has two.
+const ABSENT: Option<&[u8]> = None;
+
+const EMPTY: Option<&[u8]> = Some(&[]);
+
+const SHORT: Option<&[u8]> = Some(&[3]);
+
+const LONG: Option<&[u8]> = Some(&[1, 2]);
+
+#[test]
+fn reads_the_first_octet(rt: HostRuntime) {
+    assert_eq!(rt; octet(7, ABSENT), Err(ElementFault::Absent(7)));
+    assert_eq!(rt; octet(7, EMPTY), Err(ElementFault::Bad(7)));
+    assert_eq!(rt; octet(7, LONG), Ok(1));
+    assert_eq!(rt; optional_octet(7, ABSENT), Ok(None));
+    assert_eq!(rt; optional_octet(7, EMPTY), Err(ElementFault::Bad(7)));
+    assert_eq!(rt; optional_octet(7, LONG), Ok(Some(1)));
+}
+
+#[test]
+fn reads_and_writes_pairs(rt: HostRuntime) {
+    assert_eq!(rt; pair(7, ABSENT), Err(ElementFault::Absent(7)));
+    assert_eq!(rt; pair(7, EMPTY), Err(ElementFault::Bad(7)));
+    assert_eq!(rt; pair(7, SHORT), Err(ElementFault::Bad(7)));
+    assert_eq!(rt; pair(7, LONG), Ok(258));
+    assert_eq!(rt; pair_of(255, 254), 65_534);
+    assert_eq!(rt; pair_octets(258), [1, 2]);
+    assert_eq!(rt; pair_octets(65_534), [255, 254]);
+}
+
+#[test]
+fn reads_whole_values(rt: HostRuntime) {
+    assert_eq!(rt; octets(7, ABSENT), Err(ElementFault::Absent(7)));
+    assert_eq!(rt; octets(7, EMPTY), Err(ElementFault::Bad(7)));
+    assert_eq!(rt; octets(7, LONG), Ok([1, 2].as_slice()));
+    assert_eq!(rt; optional_octets(7, ABSENT), Ok(None));
+    assert_eq!(rt; optional_octets(7, EMPTY), Err(ElementFault::Bad(7)));
+    assert_eq!(rt; optional_octets(7, SHORT), Ok(Some([3].as_slice())));
+    assert_eq!(rt; any_octets(7, ABSENT), Err(ElementFault::Absent(7)));
+    assert_eq!(rt; any_octets(7, EMPTY), Ok([].as_slice()));
+    assert_eq!(rt; any_octets(7, LONG), Ok([1, 2].as_slice()));
 }

@@ -1,7 +1,7 @@
 //! Octets as messages.
 ghost use Rattle.std.specs.Prelude.{◌≡◌, ◌≢◌, IfOk, Ok, Err};
-ghost use Rattle.rr_messages.specs.Rr.{kind_of, IsFramed, IsPart, IsRrText, part_said, command_said, rr_said};
-ghost use Rattle.rr_messages.specs.declared.kind.Kind.TheVariants.{HandoverCommand as CommandKind};
+ghost use Rattle.rr_messages.specs.Rr.{kind_of, IsFramed, IsPart, IsRrText, part_said, command_said, in_message, rr_said};
+ghost use Rattle.rr_messages.specs.declared.kind.Kind.TheVariants.{HandoverCommand as CommandKind, MeasurementReport as ReportKind};
 
 use crate::fault::RrFault;
 use crate::kind::Kind;
@@ -30,20 +30,32 @@ fn command(part: &[u8]) -> Result<Rr, ElementFault>
     })
 }
 
-fn message(kind: Kind, part: &[u8]) -> Result<Rr, ElementFault>
-    ensures said { result ≡ part_said kind part.now }
+// It isn't inlined: else the fields of each message are moved as if it had those of results too.
+#[inline(never)]
+fn report(part: &[u8]) -> Result<Rr, RrFault>
+    ensures said { result ≡ in_message (part_said ReportKind part.now) }
+    ensures part { IfOk result (λ v. IsPart v part.now) }
+    ensures kind { IfOk result (λ v. kind_of v ≡ ReportKind) }
+    ensures no_memory { result ≢ Err RrFault.NoMemory }
+{
+    Ok(Rr::MeasurementReport(MeasResults::decode(part)?))
+}
+
+fn message(kind: Kind, part: &[u8]) -> Result<Rr, RrFault>
+    ensures said { result ≡ in_message (part_said kind part.now) }
     ensures part { IfOk result (λ v. IsPart v part.now) }
     ensures kind { IfOk result (λ v. kind_of v ≡ kind) }
+    ensures no_memory { result ≢ Err RrFault.NoMemory }
 {
     match kind {
         Kind::ChannelRelease => Ok(Rr::ChannelRelease(RrCause::decode(part)?)),
-        Kind::MeasurementReport => Ok(Rr::MeasurementReport(MeasResults::decode(part)?)),
+        Kind::MeasurementReport => report(part),
         Kind::HandoverFailure => Ok(Rr::HandoverFailure(RrCause::decode(part)?)),
-        Kind::HandoverCommand => command(part),
+        Kind::HandoverCommand => Ok(command(part)?),
         Kind::HandoverComplete => Ok(Rr::HandoverComplete(RrCause::decode(part)?)),
         Kind::PhysicalInformation => {
             let [advance] = part else {
-                return Err(ElementFault::Length);
+                return Err(RrFault::Element(ElementFault::Length));
             };
             Ok(Rr::PhysicalInformation(*advance))
         }
@@ -82,5 +94,5 @@ pub fn decode(octets: &[u8]) -> Result<Rr, RrFault>
     ensures no_memory { result ≢ Err RrFault.NoMemory }
 {
     let (kind, part) = frame(octets)?;
-    Ok(message(kind, part)?)
+    message(kind, part)
 }

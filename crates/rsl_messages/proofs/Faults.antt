@@ -2,7 +2,7 @@
 use Rattle.std.proofs.Common.{◌≡◌, ◌⊎◌, ℕ, ◌+◌, ◌<◌, ◌≤◌, List, [], ◌∷◌, Ok, Err, refl, sym, ◌∙◌, ap, arith, subst, inl, inr, length}
 use Rattle.octet_elements.specs.Elements.{AreElements, AreTorn, IsTornAt}
 use Rattle.octet_elements.proofs.Splits.{same_tear, whole_not_torn}
-use Rattle.rsl_messages.specs.declared.fault.ElementFault.TheVariants.{Absent, Bad}
+use Rattle.octet_elements.specs.declared.values.ElementFault.TheVariants.{Absent, Bad}
 use Rattle.rsl_messages.specs.declared.fault.RslFault.{RslFault}
 use Rattle.rsl_messages.specs.declared.fault.RslFault.TheVariants as fault
 use Rattle.rsl_messages.specs.declared.head.MessageKind.{MessageKind}

@@ -2,7 +2,7 @@
 use Rattle.std.proofs.Common.{IfOk, IfErr, ◌≢◌, ◌≡◌, ℕ, ◌/◌, List, Option, Some, None, Result, Ok, Err, refl, sym, ◌∙◌, ap, arith, subst, cond, eqb, inl, inr}
 use Rattle.octet_elements.specs.Elements.{AreElements, IsTornAt}
 use Rattle.octet_elements.proofs.Splits.{same_elements, whole_not_torn}
-use Rattle.rsl_messages.specs.declared.fault.ElementFault.{ElementFault}
+use Rattle.octet_elements.specs.declared.values.ElementFault.{ElementFault}
 use Rattle.rsl_messages.specs.declared.fault.RslFault.{RslFault}
 use Rattle.rsl_messages.specs.declared.fault.RslFault.TheVariants as fault
 use Rattle.rsl_messages.specs.declared.head.MessageKind.{MessageKind}
@@ -92,9 +92,9 @@ no_fault v octets (fault.UnknownType t) h (within, inl (d, body, is, disc, none)
     absurd (none h.kind (subst (λ u. IsHead h.kind d u) same_t (subst (λ e. IsHead h.kind e head.1) same_d head.3)))
 no_fault v octets (fault.UnknownType t) h (within, inr g) = absurd g.fault
 no_fault v octets (fault.Missing i) h (within, inl bad) = absurd bad
-no_fault v octets (fault.Missing i) h (within, inr g) = absurd (no_bad_element v octets g.kind g.body (Rattle.rsl_messages.specs.declared.fault.ElementFault.TheVariants.Absent i) h g.head g.fault)
+no_fault v octets (fault.Missing i) h (within, inr g) = absurd (no_bad_element v octets g.kind g.body (Rattle.octet_elements.specs.declared.values.ElementFault.TheVariants.Absent i) h g.head g.fault)
 no_fault v octets (fault.BadElement i) h (within, inl bad) = absurd bad
-no_fault v octets (fault.BadElement i) h (within, inr g) = absurd (no_bad_element v octets g.kind g.body (Rattle.rsl_messages.specs.declared.fault.ElementFault.TheVariants.Bad i) h g.head g.fault)
+no_fault v octets (fault.BadElement i) h (within, inr g) = absurd (no_bad_element v octets g.kind g.body (Rattle.octet_elements.specs.declared.values.ElementFault.TheVariants.Bad i) h g.head g.fault)
 no_fault v octets fault.NoMemory h g = refl
 
 -- what is read of a text is its value, unless memory ran out

@@ -9,10 +9,11 @@ use Rattle.octet_elements.specs.Reading.{◌>>=◌}
 use Rattle.rsl_messages.specs.declared.message.ChanBits.{ChanBits}
 use Rattle.rsl_messages.specs.declared.message.Rsl.{Rsl}
 use Rattle.rsl_messages.specs.declared.message.Rsl.TheVariants.{DataRequest, DataIndication, ChannelActivation, ChannelActivationAck, ChannelActivationNack, ConnectionFailureIndication, HandoverDetection, MeasurementResult, RfChannelRelease, RfChannelReleaseAck}
-use Rattle.rsl_messages.specs.declared.fault.ElementFault.{ElementFault}
-use Rattle.rsl_messages.specs.declared.fault.ElementFault.TheVariants.{Bad}
+use Rattle.octet_elements.specs.declared.values.ElementFault.{ElementFault}
+use Rattle.octet_elements.specs.declared.values.ElementFault.TheVariants.{Bad}
 use Rattle.rsl_messages.specs.Forms.{abis}
-use Rattle.rsl_messages.specs.Values.{channel_in, channel_octet, optional_octet_in, pair_in, pair_octets, octets_in, optional_octets_in, where_some}
+use Rattle.octet_elements.specs.Values.{optional_octet_in, pair_in, pair_octets, octets_in, optional_octets_in, where_some}
+use Rattle.rsl_messages.specs.Values.{channel_in, channel_octet}
 use Rattle.rsl_messages.specs.Messages.{Said, data_request, data_indication, channel_activation, channel_activation_ack, channel_activation_nack, connection_failure, handover_detection, measurement_result, rf_channel_release, rf_channel_release_ack}
 use Rattle.rsl_messages.specs.Texts.{HasCanonical, IsWritable}
 

@@ -2,12 +2,13 @@
 use Rattle.std.specs.Prelude.{ℕ, List, [], ◌∷◌, Option, Result, Ok}
 use Rattle.octet_elements.specs.Elements.{Element, first_of}
 use Rattle.octet_elements.specs.Reading.{◌>>=◌}
-use Rattle.rsl_messages.specs.declared.fault.ElementFault.{ElementFault}
+use Rattle.octet_elements.specs.declared.values.ElementFault.{ElementFault}
 use Rattle.rsl_messages.specs.declared.head.MessageKind.{MessageKind}
 use Rattle.rsl_messages.specs.declared.head.MessageKind.TheVariants as kind
 use Rattle.rsl_messages.specs.declared.message.Rsl.{Rsl}
 use Rattle.rsl_messages.specs.declared.message.Rsl.TheVariants.{DataRequest, DataIndication, ChannelActivation, ChannelActivationAck, ChannelActivationNack, ConnectionFailureIndication, HandoverDetection, MeasurementResult, RfChannelRelease, RfChannelReleaseAck}
-use Rattle.rsl_messages.specs.Values.{channel_in, channel_octet, octet_in, optional_octet_in, pair_in, pair_octets, octets_in, optional_octets_in, any_octets_in, where_some, where_value}
+use Rattle.octet_elements.specs.Values.{octet_in, optional_octet_in, pair_in, pair_octets, octets_in, optional_octets_in, any_octets_in, where_some, where_value}
+use Rattle.rsl_messages.specs.Values.{channel_in, channel_octet}
 
 -- what the values of its elements say, where they are there; else the first fault in the order of the message
 abbrev pub Said : Type 0 → Type 0

@@ -1,4 +1,5 @@
 //! Why octets are no message.
+use octet_elements::values::ElementFault;
 use std::alloc::AllocError;
 use thiserror::Error;
 
@@ -40,15 +41,6 @@ impl From<AllocError> for RslFault {
     fn from(_error: AllocError) -> RslFault {
         RslFault::NoMemory
     }
-}
-
-/// What is wrong with an element of a message whose elements are all whole.
-#[derive(Clone, Copy, PartialEq, Eq, Debug)]
-pub enum ElementFault {
-    /// The element with this identifier is not there.
-    Absent(u8),
-    /// The element with this identifier has a value that can't be read.
-    Bad(u8),
 }
 
 impl From<ElementFault> for RslFault {

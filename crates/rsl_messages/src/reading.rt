@@ -3,7 +3,7 @@ ghost use Rattle.std.specs.Prelude.{◌≡◌, ◌≢◌, Ok, Err, ◌≤◌, �
 ghost use Rattle.std.specs.Option.{option_map};
 ghost use Rattle.octet_elements.specs.Elements.{Element, AreElements, wanted_of, IsTornAt};
 ghost use Rattle.rsl_messages.specs.Forms.{abis};
-ghost use Rattle.rsl_messages.specs.Values.{seen};
+ghost use Rattle.octet_elements.specs.Values.{seen};
 ghost use Rattle.rsl_messages.specs.Messages.{HasOctets, data_request, data_indication, channel_activation, channel_activation_ack, channel_activation_nack, connection_failure, handover_detection, measurement_result, rf_channel_release, rf_channel_release_ack};
 ghost use Rattle.rsl_messages.specs.Texts.{limit, IsTextOf, HasFault, HasBodyFault, Answers, ReadsBody, IsTornBody};
 
@@ -15,8 +15,9 @@ use crate::table::{
     ACCESS_DELAY, ACTIVATION_TYPE, Abis, CAUSE, CHANNEL_MODE, CHANNEL_NUMBER, FRAME_NUMBER,
     HANDOVER_REFERENCE, LAYER3, LINK_IDENTIFIER, POWER, RESULT_NUMBER, UPLINK_MEASUREMENTS,
 };
-use crate::values::{any_octets, channel, octet, octets, optional_octet, optional_octets, pair};
+use crate::values::channel;
 use octet_elements::read_values;
+use octet_elements::values::{any_octets, octet, octets, optional_octet, optional_octets, pair};
 use std::alloc::{AllocError, Allocator};
 
 /// A message has at most so many octets.
@@ -36,6 +37,7 @@ fn copied<A: Allocator + Copy>(
 }
 
 /// Reads the elements of a body, and puts the values that are wanted into `values`.
+#[inline(always)]
 fn read_wanted<'a>(
     body: &'a [u8],
     wanted: &[u8],

@@ -5,7 +5,8 @@ ghost use Rattle.octet_elements.specs.Elements.{all_spelled};
 ghost use Rattle.rsl_messages.specs.Forms.{abis};
 ghost use Rattle.rsl_messages.specs.Messages.{elements_of, kind_of};
 ghost use Rattle.rsl_messages.specs.Heads.{head_of};
-ghost use Rattle.rsl_messages.specs.Values.{channel_octet, pair_octets, where_value};
+ghost use Rattle.octet_elements.specs.Values.{pair_octets, where_value};
+ghost use Rattle.rsl_messages.specs.Values.{channel_octet};
 ghost use Rattle.rsl_messages.specs.Texts.{limit, HasCanonical, IsWritable, canonical};
 
 use crate::head::{MessageKind, head_octets};
@@ -16,6 +17,7 @@ use crate::table::{
     ACCESS_DELAY, ACTIVATION_TYPE, Abis, CAUSE, CHANNEL_MODE, CHANNEL_NUMBER, FRAME_NUMBER,
     HANDOVER_REFERENCE, LAYER3, LINK_IDENTIFIER, POWER, RESULT_NUMBER, UPLINK_MEASUREMENTS,
 };
+use octet_elements::values::pair_octets;
 use octet_elements::{append_element, append_octets};
 use std::alloc::{AllocError, Allocator};
 
@@ -193,11 +195,7 @@ fn append_ack<A: Allocator>(out: &mut Vec<u8, A>, channel: ChanBits, frame: u16)
     ensures items { out.new.items ≡ out.old.items ++ all_spelled abis (elements_of {A = A} (Rsl.ChannelActivationAck channel frame)) }
 {
     append_element::<Abis, A>(out, CHANNEL_NUMBER, &[channel_octet(channel)]);
-    append_element::<Abis, A>(
-        out,
-        FRAME_NUMBER,
-        &[(frame / 256) as u8, (frame % 256) as u8],
-    );
+    append_element::<Abis, A>(out, FRAME_NUMBER, &pair_octets(frame));
 }
 
 /// Appends the elements of a message with a cause.

@@ -2,15 +2,15 @@
 ghost use Rattle.std.specs.Prelude.{◌≡◌, ◌++◌, IsTrue, None, OnOk, OnErr};
 ghost use Rattle.radio_book.specs.Run.{Leads};
 ghost use Rattle.lab.specs.Plan.{Follows, Begins};
-ghost use Rattle.lab.specs.Procedure.{open_plan, clear_plan, remains, sent_by, can_name};
+ghost use Rattle.lab.specs.Procedure.{open_plan, clear_plan, remains, names_releases, sent_by, can_name};
 ghost use Rattle.lab.specs.Handling.{all_sent, AreChoices, IsFresh};
 
 use super::release::{Release, serving_release, target_release};
 use super::steps::{ask, send_activation, send_release};
 use crate::exchange::Handled;
 use radio_book::book::Book;
-use radio_book::channel::ChanId;
-use radio_book::event::{Attempt, AttemptKind, Event, Reply, Why};
+use radio_book::channel::{ChanId, ChanState};
+use radio_book::event::{Attempt, AttemptKind, CallRecord, Event, Reply, Why};
 use std::alloc::{AllocError, Allocator};
 
 /// A call begins on a channel: the station is asked to activate it.
@@ -61,6 +61,16 @@ fn remains(attempt: Option<Attempt>) -> bool
     }
 }
 
+/// The record names every channel that is released when its call is cleared.
+fn names_releases(shown: CallRecord, state: Option<ChanState>) -> bool
+    ensures { result ≡ names_releases shown state }
+{
+    if target_release(shown.attempt).is_unknown() {
+        return false;
+    }
+    !remains(shown.attempt) || !serving_release(shown, state).is_unknown()
+}
+
 /// A call ends: an attempt that is open is taken back first, and what stations have activated for the
 /// call is released.
 pub(super) fn clear<A: Allocator + Copy, B: Allocator + Copy>(
@@ -79,35 +89,27 @@ pub(super) fn clear<A: Allocator + Copy, B: Allocator + Copy>(
     let Reply::Record(shown, state) = ask(book, handled, Event::Look(call))? else {
         return Ok(());
     };
-    match shown.attempt {
-        None => {
-            let serving = serving_release(shown, state);
-            if serving.is_unknown() {
-                return Ok(());
-            }
-            match ask(book, handled, Event::Clear(call))? {
-                Reply::Done => release(alloc, handled, serving),
-                _ => Ok(()),
-            }
-        }
-        Some(_) => {
-            let Reply::Record(shown, state) = ask(book, handled, Event::Undo(call, Why::Asked))?
-            else {
-                return Ok(());
-            };
-            let target = target_release(shown.attempt);
-            if !remains(shown.attempt) {
-                return release(alloc, handled, target);
-            }
-            let serving = serving_release(shown, state);
-            if target.is_unknown() || serving.is_unknown() {
-                return Ok(());
-            }
-            release(alloc, handled, target)?;
-            match ask(book, handled, Event::Clear(call))? {
-                Reply::Done => release(alloc, handled, serving),
-                _ => Ok(()),
-            }
-        }
+    if !names_releases(shown, state) {
+        return Ok(());
+    }
+    if shown.attempt.is_none() {
+        return match ask(book, handled, Event::Clear(call))? {
+            Reply::Done => release(alloc, handled, serving_release(shown, state)),
+            _ => Ok(()),
+        };
+    }
+    let Reply::Record(shown, state) = ask(book, handled, Event::Undo(call, Why::Asked))? else {
+        return Ok(());
+    };
+    if !names_releases(shown, state) {
+        return Ok(());
+    }
+    release(alloc, handled, target_release(shown.attempt))?;
+    if !remains(shown.attempt) {
+        return Ok(());
+    }
+    match ask(book, handled, Event::Clear(call))? {
+        Reply::Done => release(alloc, handled, serving_release(shown, state)),
+        _ => Ok(()),
     }
 }

@@ -1,7 +1,4 @@
-use Rattle.std.proofs.Common.{◌≡◌, ◌+◌, ◌*◌, length, ap, arith}
-use Rattle.octet_elements.specs.Elements.{all_spelled}
-use Rattle.bssmap_messages.specs.Forms.{interface_a}
-use Rattle.bssmap_messages.specs.Messages.{elements_of}
+use Rattle.std.proofs.Common.{◌≡◌, length, ap, arith}
 use Rattle.bssmap_messages.proofs.Lengths.{required_length}
 use Rattle.bssmap_messages.proofs.writing.elements_len.Goals as goal
 

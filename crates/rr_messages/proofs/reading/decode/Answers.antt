@@ -1,5 +1,5 @@
-use Rattle.std.proofs.Common.{◌≡◌, ◌∙◌, sym, ap, refl, rules, Ok, Err}
-use Rattle.rr_messages.specs.Rr.{rr_said, in_message, part_said, IsFramed}
+use Rattle.std.proofs.Common.{◌≡◌, ◌∙◌, sym, refl, rules}
+use Rattle.rr_messages.specs.Rr.{rr_said, IsFramed}
 use Rattle.rr_messages.proofs.Texts.{text-said, framed-said}
 use Rattle.rr_messages.proofs.reading.decode.Goals as goal
 
@@ -9,28 +9,13 @@ returns-in_err-kind-clause-only c =
     let here : c.from_residual.result ≡ rr_said c.args.octets.now = search rules in
     λ v text. here ∙ text-said v c.args.octets.now text
 
-pub returns-in_err-message-clause-only : goal.returns-in_err-message-clause-only
-returns-in_err-message-clause-only c =
-    let framed : IsFramed c.in_ok-kind.kind c.in_ok-kind.part.now c.args.octets.now = search rules in
-    let same = framed-said _ _ _ framed in
-    let fault = ap in_message c.in_err-message.ensures.said in
-    let here : c.from_residual-in_err-message.result ≡ rr_said c.args.octets.now = search (rules, same, fault) in
-    λ v text. here ∙ text-said v c.args.octets.now text
-
-pub returns-in_err-message-clause-said : goal.returns-in_err-message-clause-said
-returns-in_err-message-clause-said c =
-    let framed : IsFramed c.in_ok-kind.kind c.in_ok-kind.part.now c.args.octets.now = search rules in
-    let same = framed-said _ _ _ framed in
-    let fault = ap in_message c.in_err-message.ensures.said in
-    search (rules, same, fault)
-
 pub returns-clause-only : goal.returns-clause-only
 returns-clause-only c =
     let framed : IsFramed c.in_ok-kind.kind c.in_ok-kind.part.now c.args.octets.now = search rules in
-    let here : Ok c.in_ok-message.field-0 ≡ rr_said c.args.octets.now = ap in_message c.in_ok-message.ensures.said ∙ sym (framed-said _ _ _ framed) in
+    let here : c.message.result ≡ rr_said c.args.octets.now = c.message.ensures.said ∙ sym (framed-said _ _ _ framed) in
     λ v text. here ∙ text-said v c.args.octets.now text
 
 pub returns-clause-said : goal.returns-clause-said
 returns-clause-said c =
     let framed : IsFramed c.in_ok-kind.kind c.in_ok-kind.part.now c.args.octets.now = search rules in
-    ap in_message c.in_ok-message.ensures.said ∙ sym (framed-said _ _ _ framed)
+    c.message.ensures.said ∙ sym (framed-said _ _ _ framed)

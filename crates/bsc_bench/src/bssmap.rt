@@ -1,0 +1,121 @@
+//! Works on messages of A (TS 48.008).
+ghost use Rattle.bssmap_messages.specs.Texts.{HasCanonical};
+
+use crate::fault::Fault;
+use crate::turning::{Turning, octets_sum};
+use bssmap_messages::{Bssmap, CellId, Classmark, decode, encode_into, fits};
+use std::alloc::Global;
+
+/// The message that a work is on.
+#[derive(Clone, Copy)]
+pub enum Subject {
+    /// HANDOVER REQUEST (clause 3.2.1.8).
+    Request,
+    /// HANDOVER REQUIRED (clause 3.2.1.9).
+    Required,
+}
+
+/// Location area code, where there is one, and cell identity, added up.
+fn cell_sum(cell: CellId) -> u64 {
+    u64::from(cell.lac.unwrap_or(0)) + u64::from(cell.ci)
+}
+
+fn cells_sum(cells: &[CellId]) -> u64 {
+    cells
+        .iter()
+        .fold(0u64, |sum, cell| sum.wrapping_add(cell_sum(*cell)))
+}
+
+fn classmark_sum(classmark: &Classmark) -> u64 {
+    match classmark {
+        Classmark::One(octet) => u64::from(*octet),
+        Classmark::Two(octets) => octets_sum(octets.as_slice()),
+    }
+}
+
+/// The fields of the message that the work is on, added up: each octet of an octet list, 1 where a response is
+/// requested, location area code and cell identity of each cell.
+fn fields_sum(subject: Subject, message: &Bssmap) -> Result<u64, Fault> {
+    match (subject, message) {
+        (
+            Subject::Request,
+            Bssmap::HandoverRequest {
+                channel,
+                encryption,
+                classmark,
+                serving,
+                target,
+            },
+        ) => Ok(
+            octets_sum(channel.as_slice())
+                .wrapping_add(octets_sum(encryption.as_slice()))
+                .wrapping_add(classmark_sum(classmark))
+                .wrapping_add(cell_sum(*serving))
+                .wrapping_add(cell_sum(*target)),
+        ),
+        (
+            Subject::Required,
+            Bssmap::HandoverRequired {
+                cause,
+                response,
+                cells,
+            },
+        ) => Ok(
+            cells_sum(cells.as_slice())
+                .wrapping_add(u64::from(*cause))
+                .wrapping_add(u64::from(*response)),
+        ),
+        _ => Err(Fault::Words),
+    }
+}
+
+/// Reads a message in each turn. The sum is that of the fields that were read.
+pub fn decode_messages(
+    alloc: Global,
+    subject: Subject,
+    octets: &mut Turning,
+    count: u64,
+) -> Result<u64, Fault> {
+    let mut sum = 0u64;
+    for turn in 0..count {
+        let message = decode(alloc, octets.at(turn))?;
+        sum = sum.wrapping_add(fields_sum(subject, &message)?);
+    }
+    Ok(sum)
+}
+
+/// Writes a message. The sum is that of the octets that were written.
+fn encode_once(message: &Bssmap, out: &mut Vec<u8>) -> Result<u64, Fault>
+    requires { HasCanonical message.now }
+{
+    out.clear();
+    encode_into(message, out)?;
+    Ok(octets_sum(out.as_slice()))
+}
+
+/// Writes a message in each turn: that of turn 0 and that of turn 1 alternately. The sum is that of the octets that
+/// were written.
+pub fn encode_messages(
+    alloc: Global,
+    subject: Subject,
+    octets: &mut Turning,
+    count: u64,
+) -> Result<u64, Fault> {
+    let even = decode(alloc, octets.at(0))?;
+    let odd = decode(alloc, octets.at(1))?;
+    fields_sum(subject, &even)?;
+    fields_sum(subject, &odd)?;
+    if !fits(&even) || !fits(&odd) {
+        return Err(Fault::Words);
+    }
+    let mut out = Vec::new(alloc);
+    let mut sum = 0u64;
+    for turn in 0..count {
+        let written = match turn % 2 {
+            0 => encode_once(&even, &mut out)?,
+            _ => encode_once(&odd, &mut out)?,
+        };
+        sum = sum.wrapping_add(written);
+    }
+    Ok(sum)
+}

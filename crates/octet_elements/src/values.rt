@@ -1,0 +1,110 @@
+//! What the value of an element says, alike on Abis and on A.
+//!
+//! A reader gets the value of the element with an identifier, or nothing where the element isn't there.
+ghost use Rattle.std.specs.Prelude.{◌≡◌, Some, Ok, Err, IfOk, IfErr};
+ghost use Rattle.octet_elements.specs.Values.{seen, octet_in, optional_octet_in, pair, pair_in, pair_octets, octets_in, optional_octets_in, any_octets_in};
+
+/// What is wrong with an element of a message whose elements are all whole.
+#[derive(Clone, Copy, PartialEq, Eq, Debug)]
+pub enum ElementFault {
+    /// The element with this identifier is not there.
+    Absent(u8),
+    /// The element with this identifier has a value that can't be read.
+    Bad(u8),
+}
+
+/// The value's first octet.
+#[inline]
+pub fn octet(identifier: u8, value: Option<&[u8]>) -> Result<u8, ElementFault>
+    ensures { result ≡ octet_in identifier (seen value.entry) }
+{
+    match value {
+        None => Err(ElementFault::Absent(identifier)),
+        Some([octet, ..]) => Ok(*octet),
+        Some([]) => Err(ElementFault::Bad(identifier)),
+    }
+}
+
+/// The value's first octet, where the element is there.
+#[inline]
+pub fn optional_octet(identifier: u8, value: Option<&[u8]>) -> Result<Option<u8>, ElementFault>
+    ensures { result ≡ optional_octet_in identifier (seen value.entry) }
+{
+    match value {
+        None => Ok(None),
+        Some(_) => Ok(Some(octet(identifier, value)?)),
+    }
+}
+
+/// The number of two octets, the high one first.
+#[inline]
+pub fn pair_of(high: u8, low: u8) -> u16
+    ensures { result ≡ pair high low }
+{
+    256 * u16::from(high) + u16::from(low)
+}
+
+/// The value's first two octets, a number with the high one first.
+#[inline]
+pub fn pair(identifier: u8, value: Option<&[u8]>) -> Result<u16, ElementFault>
+    ensures { result ≡ pair_in identifier (seen value.entry) }
+{
+    match value {
+        None => Err(ElementFault::Absent(identifier)),
+        Some([high, low, ..]) => Ok(pair_of(*high, *low)),
+        Some(_) => Err(ElementFault::Bad(identifier)),
+    }
+}
+
+/// A number as two octets, the high one first.
+#[inline]
+pub fn pair_octets(number: u16) -> [u8; 2]
+    ensures { result ≡ pair_octets number }
+{
+    [(number / 256) as u8, (number % 256) as u8]
+}
+
+/// The value, unless it is empty.
+#[inline]
+fn some_octets(identifier: u8, value: &[u8]) -> Result<&[u8], ElementFault>
+    ensures ok { IfOk result (λ v. octets_in identifier (Some value.now) ≡ Ok v.now) }
+    ensures err { IfErr result (λ e. octets_in identifier (Some value.now) ≡ Err e) }
+{
+    if value.is_empty() {
+        return Err(ElementFault::Bad(identifier));
+    }
+    Ok(value)
+}
+
+/// The whole value, which has at least one octet.
+#[inline]
+pub fn octets(identifier: u8, value: Option<&[u8]>) -> Result<&[u8], ElementFault>
+    ensures ok { IfOk result (λ v. octets_in identifier (seen value.entry) ≡ Ok v.now) }
+    ensures err { IfErr result (λ e. octets_in identifier (seen value.entry) ≡ Err e) }
+{
+    match value {
+        None => Err(ElementFault::Absent(identifier)),
+        Some(value) => some_octets(identifier, value),
+    }
+}
+
+/// The whole value, which has at least one octet, where the element is there.
+#[inline]
+pub fn optional_octets(identifier: u8, value: Option<&[u8]>) -> Result<Option<&[u8]>, ElementFault>
+    ensures ok { IfOk result (λ v. optional_octets_in identifier (seen value.entry) ≡ Ok (seen v)) }
+    ensures err { IfErr result (λ e. optional_octets_in identifier (seen value.entry) ≡ Err e) }
+{
+    match value {
+        None => Ok(None),
+        Some(value) => Ok(Some(some_octets(identifier, value)?)),
+    }
+}
+
+/// The whole value, which may be empty.
+#[inline]
+pub fn any_octets(identifier: u8, value: Option<&[u8]>) -> Result<&[u8], ElementFault>
+    ensures ok { IfOk result (λ v. any_octets_in identifier (seen value.entry) ≡ Ok v.now) }
+    ensures err { IfErr result (λ e. any_octets_in identifier (seen value.entry) ≡ Err e) }
+{
+    value.ok_or(ElementFault::Absent(identifier))
+}
