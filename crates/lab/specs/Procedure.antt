@@ -1,8 +1,8 @@
 -- The procedure: for each input, what the controller asks of the book and what it sends, by the replies.
 use Rattle.std.specs.Prelude.{ℕ, Bool, true, false, if◌then◌else◌, not, nat_lt, List, [], ◌∷◌, length, Option, Some, None}
-use Rattle.radio_book.specs.declared.channel.ChanId.{ChanId}
-use Rattle.radio_book.specs.declared.channel.ChanState.{ChanState}
-use Rattle.radio_book.specs.declared.channel.ChanState.TheVariants.{Held}
+use Rattle.radio_book.specs.ChanId.{ChanId}
+use Rattle.radio_book.specs.ChanState.{ChanState}
+use Rattle.radio_book.specs.ChanState.TheVariants.{Held}
 use Rattle.radio_book.specs.declared.event.Kind.TheVariants as kind
 use Rattle.radio_book.specs.declared.event.AttemptKind.{AttemptKind}
 use Rattle.radio_book.specs.declared.event.AttemptKind.TheVariants.{Internal, Incoming}

@@ -7,7 +7,7 @@ use Rattle.std.specs.Result.{result_ok}
 use Rattle.std.specs.Str.Parse.{digits_value}
 use Rattle.std.specs.Str.Lines.{strip_carriage_return}
 use Rattle.hex.specs.Hex.{decode_of}
-use Rattle.radio_book.specs.declared.channel.ChanId.{ChanId}
+use Rattle.radio_book.specs.ChanId.{ChanId}
 use Rattle.lab.specs.declared.exchange.Line.{Line}
 use Rattle.lab.specs.declared.exchange.Line.TheVariants.{Open, Handover, Undo, Clear}
 use Rattle.lab.specs.declared.exchange.Inbound.{Inbound}

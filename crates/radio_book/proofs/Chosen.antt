@@ -7,13 +7,13 @@ use Rattle.std.proofs.lemmas.List.Sums.{sum_by_more}
 use Rattle.std.proofs.lemmas.List.FromFn.{get_or-map-range_with_len}
 use Rattle.std.proofs.lemmas.Option.{slice_get_past}
 use Rattle.std.proofs.lemmas.Bool.{and_parts, and_from}
-use Rattle.radio_book.specs.declared.channel.ChanId.{ChanId}
-use Rattle.radio_book.specs.declared.channel.ChanState.{ChanState}
-use Rattle.radio_book.specs.declared.channel.ChanState.TheVariants.{Free, Held, Pending, On, Off}
-use Rattle.radio_book.specs.Site.{IsSite, is_traffic}
+use Rattle.channel_fsm.specs.declared.ChanId.{ChanId}
+use Rattle.channel_fsm.specs.declared.ChanState.{ChanState}
+use Rattle.channel_fsm.specs.declared.ChanState.TheVariants.{Free, Held, Pending, On, Off}
+use Rattle.cell_table.specs.Site.{IsSite, is_traffic}
 use Rattle.radio_book.specs.State.{State, state_of}
 use Rattle.radio_book.specs.Choice.{IsFreeIn, NoneFree, channels_of, channel_at, is_free, is_free_traffic, free_count}
-use Rattle.radio_book.proofs.SiteFacts.{traffic_limits}
+use Rattle.cell_table.proofs.SiteFacts.{traffic_limits}
 use Rattle.radio_book.proofs.Frame.{same_some}
 use Rattle.std.specs.List.{AllByRecursion}
 use Rattle.std.proofs.lemmas.List.Elements.{All-get_or, All-from_recursion}

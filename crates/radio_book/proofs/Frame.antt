@@ -4,9 +4,9 @@ use Rattle.std.specs.declared.cmp.Ordering.{Ordering}
 use Rattle.std.specs.Cmp.{IsTotalOrder, nat_cmp_total}
 use Rattle.std.specs.FinMap as map
 use Rattle.std.specs.FinMap.{FinMap, IsAntisymmetric, nat_cmp-IsAntisymmetric}
-use Rattle.radio_book.specs.declared.channel.ChanId.{ChanId}
-use Rattle.radio_book.specs.declared.channel.ChanState.{ChanState}
-use Rattle.radio_book.specs.declared.channel.ChanState.TheVariants.{Free}
+use Rattle.channel_fsm.specs.declared.ChanId.{ChanId}
+use Rattle.channel_fsm.specs.declared.ChanState.{ChanState}
+use Rattle.channel_fsm.specs.declared.ChanState.TheVariants.{Free}
 use Rattle.radio_book.specs.declared.event.AttemptKind.{AttemptKind}
 use Rattle.radio_book.specs.declared.event.AttemptKind.TheVariants.{Internal, Incoming}
 use Rattle.radio_book.specs.declared.event.Stage.{Stage}
@@ -14,7 +14,7 @@ use Rattle.radio_book.specs.declared.event.Stage.TheVariants.{Taken, Reserved, S
 use Rattle.radio_book.specs.declared.event.Attempt.{Attempt}
 use Rattle.radio_book.specs.declared.event.CallRecord.{CallRecord}
 use Rattle.radio_book.specs.declared.event.Reference.{Reference}
-use Rattle.radio_book.specs.Site.{is_traffic}
+use Rattle.cell_table.specs.Site.{is_traffic}
 use Rattle.radio_book.specs.Maps.{Entry, put, changed}
 use Rattle.radio_book.specs.State.{State, Change, apply, or_free, state_of, record_of}
 use Rattle.radio_book.specs.Table.{reference_at, reference_held}

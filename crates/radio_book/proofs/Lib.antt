@@ -1,7 +1,3 @@
-pub mod Told
-pub mod Judged
-pub mod SiteFacts
-pub mod Blank
 pub mod KeyFacts
 pub mod MapFacts
 pub mod TableFacts

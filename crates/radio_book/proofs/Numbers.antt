@@ -7,14 +7,14 @@ use Rattle.std.proofs.lemmas.Map.Keys.{IsDistinct-from_apart}
 use Rattle.std.proofs.lemmas.Map.Steps.{length-le_from_distinct_below}
 use Rattle.std.proofs.lemmas.Map.Views.{Contains-from_any}
 use Rattle.std.specs.FinMap as map
-use Rattle.radio_book.specs.declared.channel.ChanId.{ChanId}
+use Rattle.channel_fsm.specs.declared.ChanId.{ChanId}
 use Rattle.radio_book.specs.declared.event.CallRecord.{CallRecord}
 use Rattle.radio_book.specs.declared.event.Reference.{Reference}
-use Rattle.radio_book.specs.Site.{IsSite, IsWithinLimits}
+use Rattle.cell_table.specs.Site.{IsSite, IsWithinLimits}
 use Rattle.radio_book.specs.State.{State, state_of, record_of}
 use Rattle.radio_book.specs.Table.{reference_held}
 use Rattle.radio_book.specs.Sound.{IsSound, owner, target_in, reference_of}
-use Rattle.radio_book.proofs.SiteFacts.{traffic_limits}
+use Rattle.cell_table.proofs.SiteFacts.{traffic_limits}
 use Rattle.radio_book.proofs.Frame.{same_some, is_owned}
 use Rattle.radio_book.proofs.SoundSteps.{owned_traffic}
 

@@ -1,12 +1,12 @@
 -- Open, Clear and Look by another call agree, whatever is gone.
 use Rattle.std.proofs.Common.{◌≡◌, ℕ, Bool, true, false, Option, Some, None, refl, ap}
-use Rattle.radio_book.specs.declared.channel.ChanId.{ChanId}
+use Rattle.channel_fsm.specs.declared.ChanId.{ChanId}
 use Rattle.radio_book.specs.declared.event.Attempt.{Attempt}
 use Rattle.radio_book.specs.declared.event.CallRecord.{CallRecord}
 use Rattle.radio_book.specs.declared.event.Event.TheVariants as event
 use Rattle.radio_book.specs.declared.event.Refusal.TheVariants.{NoCall, CallExists, WrongPhase, NoChannel, ChannelBusy}
 use Rattle.radio_book.specs.declared.event.Reply.TheVariants.{Done, Record, Refused}
-use Rattle.radio_book.specs.Site.{is_traffic}
+use Rattle.cell_table.specs.Site.{is_traffic}
 use Rattle.radio_book.specs.State.{apply, state_of, record_of}
 use Rattle.radio_book.specs.Table.{Accepts, reply_of, no_change, open_row, clear_row, clear_at, cleared_state, look_row}
 use Rattle.radio_book.proofs.Changes.{Misses, option_apart, record_kept}

@@ -3,9 +3,9 @@ use Rattle.std.proofs.Common.{◌≡◌, ◌≢◌, inl, inr, ℕ, Option, Some,
 use Rattle.std.specs.Option.{option_map, option_and_then}
 use Rattle.std.specs.FinMap as map
 use Rattle.std.proofs.lemmas.Option.{same_Some}
-use Rattle.radio_book.specs.declared.channel.ChanId.{ChanId}
-use Rattle.radio_book.specs.declared.channel.ChanState.{ChanState}
-use Rattle.radio_book.specs.declared.channel.ChanState.TheVariants.{Free, Pending, On, Off}
+use Rattle.channel_fsm.specs.declared.ChanId.{ChanId}
+use Rattle.channel_fsm.specs.declared.ChanState.{ChanState}
+use Rattle.channel_fsm.specs.declared.ChanState.TheVariants.{Free, Pending, On, Off}
 use Rattle.radio_book.specs.declared.event.AttemptKind.{AttemptKind}
 use Rattle.radio_book.specs.declared.event.AttemptKind.TheVariants.{Internal, Incoming}
 use Rattle.radio_book.specs.declared.event.Attempt.{Attempt}

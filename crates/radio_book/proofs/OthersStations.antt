@@ -1,8 +1,8 @@
 -- Confirm, Refuse and Released on another channel agree, whatever is gone.
 use Rattle.std.proofs.Common.{◌≡◌, ℕ, Bool, true, false, if◌then◌else◌, Option, Some, None, refl, ap}
-use Rattle.radio_book.specs.declared.channel.ChanId.{ChanId}
-use Rattle.radio_book.specs.declared.channel.ChanState.{ChanState}
-use Rattle.radio_book.specs.declared.channel.ChanState.TheVariants.{Free, Held, Pending, On, Off}
+use Rattle.channel_fsm.specs.declared.ChanId.{ChanId}
+use Rattle.channel_fsm.specs.declared.ChanState.{ChanState}
+use Rattle.channel_fsm.specs.declared.ChanState.TheVariants.{Free, Held, Pending, On, Off}
 use Rattle.radio_book.specs.declared.event.Stage.{Stage}
 use Rattle.radio_book.specs.declared.event.Stage.TheVariants as stage
 use Rattle.radio_book.specs.declared.event.Attempt.{Attempt}

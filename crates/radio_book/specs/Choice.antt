@@ -1,9 +1,9 @@
 -- What a choice of a channel (TS 48.058 clause 4) or of a Handover Reference (TS 44.018 clause 10.5.2.15) allows.
 use Rattle.std.specs.Prelude.{◌≡◌, ℕ, ◌<◌, ◌/◌, ◌%◌, Bool, true, false, ◌&&◌, List, [], ◌∷◌, count_by, flat_map, map as map_list, Option, Some, None}
 use Rattle.std.specs.FinMap as map
-use Rattle.radio_book.specs.declared.channel.ChanId.{ChanId}
-use Rattle.radio_book.specs.declared.channel.ChanState.{ChanState}
-use Rattle.radio_book.specs.declared.channel.ChanState.TheVariants.{Free}
+use Rattle.channel_fsm.specs.declared.ChanId.{ChanId}
+use Rattle.channel_fsm.specs.declared.ChanState.{ChanState}
+use Rattle.channel_fsm.specs.declared.ChanState.TheVariants.{Free}
 use Rattle.radio_book.specs.declared.event.Kind.{Kind}
 use Rattle.radio_book.specs.declared.event.Stage.{Stage}
 use Rattle.radio_book.specs.declared.event.Stage.TheVariants.{Taken}
@@ -11,7 +11,7 @@ use Rattle.radio_book.specs.declared.event.Attempt.{Attempt}
 use Rattle.radio_book.specs.declared.event.CallRecord.{CallRecord}
 use Rattle.radio_book.specs.declared.event.Event.{Event}
 use Rattle.radio_book.specs.declared.event.Event.TheVariants as event
-use Rattle.radio_book.specs.Site.{is_traffic}
+use Rattle.cell_table.specs.Site.{is_traffic}
 use Rattle.radio_book.specs.State.{State, state_of, record_of}
 
 -- a traffic channel of the cell that is free

@@ -1,7 +1,8 @@
-pub mod Site
-pub mod SiteFile
+pub use Rattle.channel_fsm.specs.declared.ChanId
+pub use Rattle.channel_fsm.specs.declared.ChanState
+pub use Rattle.cell_table.specs.Site
+pub use Rattle.cell_table.specs.SiteFile
 pub mod Keys
-pub mod Text
 pub mod Maps
 pub mod State
 pub mod Table

@@ -2,9 +2,9 @@
 use Rattle.std.specs.Prelude.{◌≡◌, ◌≢◌, ◌⊎◌, ℕ, true, Option, Some, None, IsSome}
 use Rattle.std.specs.Option.{option_and_then}
 use Rattle.std.specs.FinMap as map
-use Rattle.radio_book.specs.declared.channel.ChanId.{ChanId}
-use Rattle.radio_book.specs.declared.channel.ChanState.{ChanState}
-use Rattle.radio_book.specs.declared.channel.ChanState.TheVariants.{Free, Held, Pending, On, Off}
+use Rattle.channel_fsm.specs.declared.ChanId.{ChanId}
+use Rattle.channel_fsm.specs.declared.ChanState.{ChanState}
+use Rattle.channel_fsm.specs.declared.ChanState.TheVariants.{Free, Held, Pending, On, Off}
 use Rattle.radio_book.specs.declared.event.AttemptKind.{AttemptKind}
 use Rattle.radio_book.specs.declared.event.AttemptKind.TheVariants.{Internal, Incoming}
 use Rattle.radio_book.specs.declared.event.Stage.{Stage}
@@ -12,7 +12,7 @@ use Rattle.radio_book.specs.declared.event.Stage.TheVariants.{Taken, Reserved, S
 use Rattle.radio_book.specs.declared.event.Attempt.{Attempt}
 use Rattle.radio_book.specs.declared.event.CallRecord.{CallRecord}
 use Rattle.radio_book.specs.declared.event.Reference.{Reference}
-use Rattle.radio_book.specs.Site.{is_traffic}
+use Rattle.cell_table.specs.Site.{is_traffic}
 use Rattle.radio_book.specs.State.{State, state_of, record_of}
 use Rattle.radio_book.specs.Table.{reference_held}
 

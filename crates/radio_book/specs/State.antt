@@ -4,16 +4,16 @@ use Rattle.std.specs.Prelude.{ℕ, Option, Some, None, refl}
 use Rattle.std.specs.Ordering.{nat_cmp}
 use Rattle.std.specs.Coded.{Coded, code_by, coded×, coded_ℕ, coded_list}
 use Rattle.std.specs.FinMap as map
-use Rattle.radio_book.specs.declared.channel.ChanId.{ChanId}
-use Rattle.radio_book.specs.declared.channel.ChanState.{ChanState}
-use Rattle.radio_book.specs.declared.channel.ChanState.TheVariants.{Free}
+use Rattle.channel_fsm.specs.declared.ChanId.{ChanId}
+use Rattle.channel_fsm.specs.declared.ChanState.{ChanState}
+use Rattle.channel_fsm.specs.declared.ChanState.TheVariants.{Free}
 use Rattle.radio_book.specs.declared.event.Reference.{Reference}
 use Rattle.radio_book.specs.declared.event.CallRecord.{CallRecord}
 use Rattle.radio_book.specs.declared.event.Timer.{Timer}
-use Rattle.radio_book.specs.contracts.channel.ChanState.{the_row as state_row}
+use Rattle.channel_fsm.specs.contracts.ChanState.{the_row as state_row}
 use Rattle.radio_book.specs.contracts.event.CallRecord.{the_row as record_row}
 use Rattle.radio_book.specs.contracts.event.Timer.{the_row as timer_row}
-use Rattle.radio_book.specs.Site.{SiteView}
+use Rattle.cell_table.specs.Site.{SiteView}
 use Rattle.radio_book.specs.Keys.{chan_cmp, reference_cmp, coded_chan, coded_reference}
 use Rattle.radio_book.specs.Maps.{Entry, changed}
 

@@ -1,6 +1,6 @@
 -- When the stage of an attempt may change by its target's answer.
 use Rattle.std.specs.Prelude.{◌≡◌, ℕ, Some}
-use Rattle.radio_book.specs.declared.channel.ChanId.{ChanId}
+use Rattle.channel_fsm.specs.declared.ChanId.{ChanId}
 use Rattle.radio_book.specs.declared.event.Stage.{Stage}
 use Rattle.radio_book.specs.declared.event.Attempt.{Attempt}
 use Rattle.radio_book.specs.declared.event.CallRecord.{CallRecord}

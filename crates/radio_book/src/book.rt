@@ -9,7 +9,7 @@ ghost use Rattle.radio_book.specs.Choice.{NoneFree, TakesFree, ReservesFree, fre
 
 use crate::event::{Event, Kind, Reply};
 use crate::records::Records;
-use crate::site::Site;
+use cell_table::Site;
 use std::alloc::{AllocError, Allocator, Global};
 use std::marker::Model;
 use std::sync::Arc;

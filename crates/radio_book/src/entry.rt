@@ -5,9 +5,9 @@ ghost use Rattle.radio_book.specs.declared.event.Stage.TheVariants as stage;
 ghost use Rattle.radio_book.specs.Table.{with_attempt, at_stage, taken_attempt};
 ghost use Rattle.radio_book.specs.Journal.{journal_of};
 
-use crate::channel::ChanId;
 use crate::event::{Attempt, AttemptKind, CallRecord, Stage};
 use crate::journal::{Inverse, Journal};
+use channel_fsm::ChanId;
 use std::marker::Model;
 
 /// The record of a call, with the inverses of its attempt's steps. Each step of the attempt pushes its own.

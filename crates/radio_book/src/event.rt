@@ -1,6 +1,6 @@
 //! What may happen to a radio book, and what it answers: the steps of calls and of handovers (TS 44.018 clause
 //! 3.4.4, TS 48.008 clause 3.1.5), and the answers of stations about channels (TS 48.058 clause 4).
-use crate::channel::{ChanId, ChanState};
+use channel_fsm::{ChanId, ChanState};
 
 /// Where the call of an attempt comes from.
 #[derive(Clone, Copy, Debug, PartialEq, Eq)]

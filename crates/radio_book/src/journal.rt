@@ -1,7 +1,7 @@
 //! The journal of an attempt: for each of its steps, what undoes it. Ours, of no standard.
 ghost use Rattle.std.specs.Prelude.{◌≡◌, ◌<◌, [], ◌∷◌, ◌++◌, length, option_to_list, IfNone};
 
-use crate::channel::ChanId;
+use channel_fsm::ChanId;
 use std::marker::Model;
 
 /// The inverse of a step.

@@ -3,12 +3,13 @@
 #![tactic(auto)]
 
 pub mod book;
-pub mod channel;
 mod entry;
 pub mod event;
 mod journal;
 pub mod laws;
 pub mod others;
 mod records;
-pub mod site;
 mod tables;
+
+pub use cell_table as site;
+pub use channel_fsm as channel;

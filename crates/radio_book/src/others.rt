@@ -14,7 +14,7 @@
 //! and then the taking out of the target leave is the book without the attempt.
 
 ghost use Rattle.std.specs.Prelude.{ℕ};
-ghost use Rattle.radio_book.specs.declared.channel.ChanId.{ChanId};
+ghost use Rattle.channel_fsm.specs.declared.ChanId.{ChanId};
 ghost use Rattle.radio_book.specs.declared.event.Kind.{Kind};
 ghost use Rattle.radio_book.specs.declared.event.Why.{Why};
 ghost use Rattle.radio_book.specs.declared.event.Event.{Event};

@@ -1,7 +1,7 @@
 //! The four tables over a site, and what each event does to them.
 ghost use Rattle.std.specs.Prelude.{◌≡◌, OnOk, OnErr, IfOk, Some, None};
 ghost use Rattle.std.specs.FinMap as map;
-ghost use Rattle.radio_book.specs.Site.{is_traffic};
+ghost use Rattle.cell_table.specs.Site.{is_traffic};
 ghost use Rattle.radio_book.specs.State.{empty_book, state_of};
 ghost use Rattle.radio_book.specs.Sound.{IsSound};
 ghost use Rattle.radio_book.specs.Table.{step, reply_to, row, NeedsRoom, shown};
@@ -12,10 +12,10 @@ mod choice;
 mod station;
 mod undo;
 
-use crate::channel::{ChanId, ChanState};
 use crate::event::{CallRecord, Event, Kind, Reply};
-use crate::site::Site;
 use crate::tables::{Calls, Channels, References, Timers};
+use cell_table::Site;
+use channel_fsm::{ChanId, ChanState};
 use std::alloc::{AllocError, Allocator, Global};
 use std::marker::Model;
 use std::sync::Arc;

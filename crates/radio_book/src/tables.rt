@@ -2,9 +2,9 @@
 ghost use Rattle.std.specs.Prelude.{◌≡◌, OnOk, OnErr, None, IsSome};
 ghost use Rattle.std.specs.FinMap as map;
 
-use crate::channel::{ChanId, ChanState};
 use crate::entry::CallEntry;
 use crate::event::{CallRecord, Reference, Timer};
+use channel_fsm::{ChanId, ChanState};
 use std::alloc::{AllocError, Allocator, Global};
 use std::collections::BTreeMap;
 use std::marker::Model;
@@ -18,8 +18,8 @@ pub struct Channels<A: Allocator = Global> {
 impl<A: Allocator> Model for Channels<A> {
     ghost use Rattle.std.specs.FinMap as map;
     ghost use Rattle.radio_book.specs.Keys.{chan_cmp, coded_chan};
-    ghost use Rattle.radio_book.specs.declared.channel.ChanState.{ChanState};
-    ghost use Rattle.radio_book.specs.contracts.channel.ChanState.{the_row};
+    ghost use Rattle.channel_fsm.specs.declared.ChanState.{ChanState};
+    ghost use Rattle.channel_fsm.specs.contracts.ChanState.{the_row};
 
     ghost Value = { map.FinMap chan_cmp ChanState };
 

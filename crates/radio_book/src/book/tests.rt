@@ -1,5 +1,4 @@
 use super::{Book, Usage};
-use crate::channel::{ChanId, ChanState};
 use crate::event::Event::{
     Activate, Clear, Confirm, Look, Open, Refuse, Released, Reserve, Take, Undo,
 };
@@ -10,7 +9,8 @@ use crate::event::Reply::{Done, Owned, Record, Refused};
 use crate::event::{
     Attempt, AttemptKind, CallRecord, Event, Kind, Refusal, Reply, Stage, Timer, Why,
 };
-use crate::site::Site;
+use cell_table::Site;
+use channel_fsm::{ChanId, ChanState};
 use refusing_heap::RefusingHeap;
 use std::alloc::{AllocError, Allocator, Global};
 use std::process::Abort;

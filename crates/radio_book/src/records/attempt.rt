@@ -5,10 +5,10 @@ ghost use Rattle.radio_book.specs.declared.event.Event.TheVariants as event;
 ghost use Rattle.radio_book.specs.Sound.{IsSound};
 ghost use Rattle.radio_book.specs.Table.{step, reply_to, row, NeedsRoom, reference_at};
 
-use crate::channel::{ChanId, ChanState};
 use crate::entry::CallEntry;
 use crate::event::{Reference, Refusal, Reply, Stage};
 use crate::records::Records;
+use channel_fsm::{ChanId, ChanState};
 use std::alloc::{AllocError, Allocator};
 
 impl<A: Allocator + Copy> Records<A> {

@@ -6,10 +6,10 @@ ghost use Rattle.radio_book.specs.State.{apply, state_of, record_of};
 ghost use Rattle.radio_book.specs.Sound.{IsSound};
 ghost use Rattle.radio_book.specs.Table.{step, reply_to, row, NeedsRoom, no_change, becomes, is_recorded, cleared_state};
 
-use crate::channel::{ChanId, ChanState};
 use crate::entry::CallEntry;
 use crate::event::{Refusal, Reply};
 use crate::records::Records;
+use channel_fsm::{ChanId, ChanState};
 use std::alloc::{AllocError, Allocator};
 
 impl<A: Allocator + Copy> Records<A> {

@@ -4,9 +4,9 @@ ghost use Rattle.radio_book.specs.Sound.{IsSound};
 ghost use Rattle.radio_book.specs.State.{record_of};
 ghost use Rattle.radio_book.specs.Choice.{IsFreeIn, NoneFree, IsNumberFree, MayReserve, taken_channel, is_free_traffic, channels_of, channel_at, free_count};
 
-use crate::channel::{ChanId, ChanState};
 use crate::event::{CallRecord, Reference, Stage};
 use crate::records::Records;
+use channel_fsm::{ChanId, ChanState};
 use std::alloc::Allocator;
 
 /// How many channels a cell can have: four TRX of eight timeslots.

@@ -6,9 +6,9 @@ ghost use Rattle.radio_book.specs.Sound.{IsSound};
 ghost use Rattle.radio_book.specs.Table.{step, reply_to, no_change, moved};
 ghost use Rattle.radio_book.specs.Waiting.{MayMove};
 
-use crate::channel::{ChanId, ChanState};
 use crate::event::{Refusal, Reply, Stage};
 use crate::records::Records;
+use channel_fsm::{ChanId, ChanState};
 use std::alloc::Allocator;
 
 impl<A: Allocator + Copy> Records<A> {

@@ -9,12 +9,12 @@ ghost use Rattle.radio_book.specs.State.{state_of, record_of};
 ghost use Rattle.radio_book.specs.Table.{step, reply_to, after, reply_of, undo_attempt, is_armed};
 ghost use Rattle.radio_book.specs.Journal.{run_inverse, run_back};
 
-use crate::channel::{ChanId, ChanState};
 use crate::entry::CallEntry;
 use crate::event::{Refusal, Reply, Timer, Why};
 use crate::journal::{Inverse, Journal};
 use crate::records::Records;
 use crate::records::attempt::reference_at;
+use channel_fsm::{ChanId, ChanState};
 use std::alloc::Allocator;
 
 impl<A: Allocator + Copy> Records<A> {

@@ -1,5 +1,5 @@
 use Rattle.std.proofs.Common.{◌∙◌, ap, subst}
-use Rattle.radio_book.specs.Site.{IsSite}
+use Rattle.cell_table.specs.Site.{IsSite}
 use Rattle.radio_book.proofs.Chosen.{if_found, if_none}
 use Rattle.radio_book.proofs.records.Records.choose_channel.Goals as goal
 

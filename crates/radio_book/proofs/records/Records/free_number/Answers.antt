@@ -1,6 +1,6 @@
 use Rattle.std.proofs.Common.{is_some, sym, ◌∙◌, ap, subst, arith}
 use Rattle.std.specs.FinMap as map
-use Rattle.radio_book.specs.Site.{IsSite}
+use Rattle.cell_table.specs.Site.{IsSite}
 use Rattle.radio_book.proofs.Numbers.{not_all_used}
 use Rattle.radio_book.proofs.records.Records.free_number.Goals as goal
 
