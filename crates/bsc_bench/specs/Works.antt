@@ -6,8 +6,8 @@ use Rattle.rr_messages.specs.declared.fault.RrFault.{RrFault}
 use Rattle.rr_messages.specs.declared.fault.RrFault.TheVariants as rr
 use Rattle.bssmap_messages.specs.declared.fault.BssmapFault.{BssmapFault}
 use Rattle.bssmap_messages.specs.declared.fault.BssmapFault.TheVariants as bssmap
-use Rattle.lab.specs.declared.exchange.PlainFault.{PlainFault}
-use Rattle.lab.specs.declared.exchange.PlainFault.TheVariants as plain
+use Rattle.ho_procedure.specs.declared.exchange.PlainFault.{PlainFault}
+use Rattle.ho_procedure.specs.declared.exchange.PlainFault.TheVariants as plain
 use Rattle.bsc_bench.specs.declared.work.Work.{Work}
 use Rattle.bsc_bench.specs.declared.work.Work.TheVariants.{DecodeActivation, EncodeActivation, CallByOctets, LiveByStep, DecodeMeasurement, EncodeMeasurement, DecodeCommand, EncodeCommand, DecodeRequest, EncodeRequest, DecodeRequired, EncodeRequired}
 use Rattle.bsc_bench.specs.declared.fault.Fault.{Fault}

@@ -2,8 +2,8 @@
 use crate::fault::Fault;
 use crate::life::book_of;
 use crate::turning::{Turning, octets_sum};
-use lab::exchange::{Inbound, Line, Outbound};
-use lab::procedure::handle_plain;
+use ho_procedure::exchange::{Inbound, Line, Outbound};
+use ho_procedure::procedure::handle_plain;
 use radio_book::book::Book;
 use radio_book::channel::ChanId;
 use rsl_messages::Octets;

@@ -3,7 +3,7 @@ ghost use Rattle.std.specs.Prelude.{◌≡◌};
 ghost use Rattle.bsc_bench.specs.Works.{status_of};
 
 use bssmap_messages::BssmapFault;
-use lab::exchange::PlainFault;
+use ho_procedure::exchange::PlainFault;
 use radio_book::site::SiteFault;
 use rr_messages::RrFault;
 use rsl_messages::RslFault;

@@ -1,5 +1,5 @@
-pub mod Plan
-pub mod Procedure
-pub mod Handling
-pub mod Script
 pub mod Decoded
+pub use Rattle.ho_procedure.specs.Plan
+pub use Rattle.ho_procedure.specs.Procedure
+pub use Rattle.ho_procedure.specs.Handling
+pub use Rattle.lab_script.specs.Script

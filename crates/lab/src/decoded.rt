@@ -4,25 +4,20 @@
 //! digits each, what is absent is `-`, and a list without octets has nothing after `=`.
 ghost use Rattle.std.specs.Prelude.{◌≡◌, Ok, Err, IfOk, IfSome, IfNone, IsErr, is_some, true};
 ghost use Rattle.hex.specs.Hex.{decode_of};
-ghost use Rattle.lab.specs.Script.{octets_of};
+ghost use Rattle.lab_script.specs.Script.{octets_of};
 ghost use Rattle.lab.specs.Decoded.{IsRrMessage, IsBssmapMessage, IsAbisMessage, IsMessageText};
 
-use crate::bad::Bad;
 use crate::run::{LabFault, Status};
-use crate::script::is_octets;
-use crate::trace::print_fault;
 use bssmap_messages::BssmapFault;
+use lab_script::script::is_octets;
+use lab_text::abis::AbisText;
+use lab_text::bad::Bad;
+use lab_text::bssmap::BssmapText;
+use lab_text::rr::RrText;
+use lab_text::trace::print_fault;
 use rsl_messages::RslFault;
 use std::alloc::{AllocError, Allocator};
 use std::io::Write;
-
-mod abis;
-mod bssmap;
-mod rr;
-
-use abis::AbisText;
-use bssmap::BssmapText;
-use rr::RrText;
 
 /// Where a message comes from.
 #[derive(Clone, Copy, Debug, PartialEq, Eq)]

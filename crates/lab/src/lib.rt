@@ -2,14 +2,12 @@
 //! that drive one, the trace of what it did, and messages in words.
 #![tactic(auto)]
 
-pub mod bad;
 pub mod decoded;
-pub mod exchange;
-pub mod procedure;
 pub mod run;
-pub mod script;
 #[cfg(test)]
 mod tests;
-mod text;
-pub mod trace;
 pub mod words;
+
+pub use ho_procedure::{exchange, procedure};
+pub use lab_script::script;
+pub use lab_text::{bad, trace};

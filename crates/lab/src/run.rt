@@ -1,13 +1,13 @@
 //! A controller that is driven by a script, on one thread.
 ghost use Rattle.std.specs.Prelude.{◌≡◌, ◌⊎◌, Ok, None, IsSome};
 ghost use Rattle.radio_book.specs.SiteFile.{described_site};
-ghost use Rattle.lab.specs.Script.{first_unread};
+ghost use Rattle.lab_script.specs.Script.{first_unread};
 
-use crate::bad::Bad;
-use crate::exchange::{Inbound, PlainFault};
-use crate::procedure::handle_plain;
-use crate::script::{ScriptFault, read_script};
-use crate::trace::{print_end, print_fault, print_handled, print_input};
+use ho_procedure::exchange::{Inbound, PlainFault};
+use ho_procedure::procedure::handle_plain;
+use lab_script::script::{ScriptFault, read_script};
+use lab_text::bad::Bad;
+use lab_text::trace::{print_end, print_fault, print_handled, print_input};
 use radio_book::book::Book;
 use radio_book::site::{Site, SiteFault};
 use std::alloc::{AllocError, Allocator, Global};

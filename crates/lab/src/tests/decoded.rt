@@ -1,13 +1,7 @@
 use super::failing::Failing;
-use crate::bad::Bad;
 use crate::decoded::{Link, decode_run};
 use crate::run::{LabFault, Status};
-use crate::trace::print_fault;
-use bssmap_messages::BssmapFault;
 use refusing_heap::RefusingHeap;
-use rr_elements::ElementFault;
-use rr_messages::RrFault;
-use rsl_messages::RslFault;
 use std::alloc::{Allocator, Global};
 use std::process::Abort;
 use std::test::Fail;
@@ -15,14 +9,226 @@ use std::test::Fail;
 /// A message that keeps an octet list, and what it prints.
 const ACTIVATION: (&str, &str) = (
     "0821010B0302060400010801092A",
-    "CHANNEL ACTIVATION tn=3 activation=2 mode=00010801 reference=42\n",
+    "CHANNEL ACTIVATION tn=3 activation=2 mode=00010801 reference=42",
 );
 
 /// A message on A that keeps a list of cells, and what it prints.
 const REQUIRED: (&str, &str) = (
     "000c1104010c1b1a050100170066",
-    "HANDOVER REQUIRED cause=12 response=1 cells=23/102\n",
+    "HANDOVER REQUIRED cause=12 response=1 cells=23/102",
 );
+
+/// Radio resource messages in words.
+const RADIO: &[(&str, &str)] = &[
+    (
+        "062BD5670BA36B2A05",
+        "HANDOVER COMMAND arfcn=871 ncc=2 bcc=5 tn=3 tsc=5 carrier=875 reference=42 atc=0 power=5",
+    ),
+    // spare bits, and octets after the message
+    (
+        "062bd5670baf6bffe50909",
+        "HANDOVER COMMAND arfcn=871 ncc=2 bcc=5 tn=3 tsc=5 carrier=875 reference=255 atc=1 power=5",
+    ),
+    ("062c00", "HANDOVER COMPLETE cause=0"),
+    ("06280a", "HANDOVER FAILURE cause=10"),
+    ("060d01", "CHANNEL RELEASE cause=1"),
+    ("062d3f", "PHYSICAL INFORMATION ta=63"),
+];
+
+/// Measurement reports in words.
+const REPORTS: &[(&str, &str)] = &[
+    (
+        "06151E1E006812A000000000000000000000",
+        "MEASUREMENT REPORT ba=0 dtx=0 full=30 ba3g=0 valid=1 sub=30 si23=0 qfull=0 qsub=0 count=1 n=40/2/21",
+    ),
+    // a count of 7, and no neighbour
+    (
+        "06151E1E01E812A000000000000000000000",
+        "MEASUREMENT REPORT ba=0 dtx=0 full=30 ba3g=0 valid=1 sub=30 si23=0 qfull=0 qsub=0 count=7",
+    ),
+    (
+        "06159145b8891d9978700000000000000000",
+        "MEASUREMENT REPORT ba=1 dtx=0 full=17 ba3g=0 valid=0 sub=5 si23=1 qfull=3 qsub=4 count=2 n=9/3/44 n=50/30/7",
+    ),
+    // all bits that a report has, and one octet after it
+    (
+        "0615ffffffbfffffffffffffffffffffffff00",
+        "MEASUREMENT REPORT ba=1 dtx=1 full=63 ba3g=1 valid=0 sub=63 si23=1 qfull=7 qsub=7 count=6 n=63/31/63 n=63/31/63 n=63/31/63 n=63/31/63 n=63/31/63 n=63/31/63",
+    ),
+];
+
+/// Messages on Abis in words.
+const ON_ABIS: &[(&str, &str)] = &[
+    (
+        "0301010b02000b00020628",
+        "DATA REQUEST tn=3 link=0 layer3=0628",
+    ),
+    (
+        "0202010f02210b0001ff",
+        "DATA INDICATION tn=7 link=33 layer3=ff",
+    ),
+    (
+        "0821010B0302060400010801092A",
+        "CHANNEL ACTIVATION tn=3 activation=2 mode=00010801 reference=42",
+    ),
+    (
+        "0821010803000601AB",
+        "CHANNEL ACTIVATION tn=0 activation=0 mode=ab reference=-",
+    ),
+    ("0822010b081234", "CHANNEL ACTIVATION ACK tn=3 frame=4660"),
+    ("0823010a1a0120", "CHANNEL ACTIVATION NACK tn=2 cause=32"),
+    (
+        "082401091a020109",
+        "CONNECTION FAILURE INDICATION tn=1 cause=1",
+    ),
+    ("0827010b1102", "HANDOVER DETECTION tn=3 delay=2"),
+    ("0827010b", "HANDOVER DETECTION tn=3 delay=-"),
+    (
+        "0828010b1b001903001e0004000b001206151e1e006812a000000000000000000000",
+        "MEASUREMENT RESULT tn=3 number=0 uplink=001e00 power=0 layer3=06151e1e006812a000000000000000000000",
+    ),
+    (
+        "0828010b1b05190004ff",
+        "MEASUREMENT RESULT tn=3 number=5 uplink= power=255 layer3=-",
+    ),
+    ("082e010c", "RF CHANNEL RELEASE tn=4"),
+    ("0833010b", "RF CHANNEL RELEASE ACK tn=3"),
+];
+
+/// Messages on A in words.
+const ON_A: &[(&str, &str)] = &[
+    (
+        "0006121703062bd5",
+        "HANDOVER REQUEST ACKNOWLEDGE layer3=062bd5",
+    ),
+    ("000413170106", "HANDOVER COMMAND layer3=06"),
+    ("000114", "HANDOVER COMPLETE rr=-"),
+    ("0003141500", "HANDOVER COMPLETE rr=0"),
+    // an element that no message has comes first
+    ("000716990100040121", "HANDOVER FAILURE cause=33 rr=-"),
+    ("00061604010a156f", "HANDOVER FAILURE cause=10 rr=111"),
+    (
+        "000b1704010c05050100170066",
+        "HANDOVER PERFORMED cause=12 cell=23/102",
+    ),
+    (
+        "00091704010c0503020066",
+        "HANDOVER PERFORMED cause=12 cell=-/102",
+    ),
+    ("00041a040121", "HANDOVER REQUIRED REJECT cause=33"),
+    ("00011b", "HANDOVER DETECT"),
+    ("0005200401098F", "CLEAR COMMAND cause=9"),
+    ("000121", "CLEAR COMPLETE"),
+    ("000422040100", "CLEAR REQUEST cause=0"),
+];
+
+/// Messages on A with a list of octets or of cells.
+const ON_A_WITH_CELLS: &[(&str, &str)] = &[
+    (
+        "0019100b030108010a01011d330505010017006605050100170065",
+        "HANDOVER REQUEST channel=010801 encryption=01 classmark=33 serving=23/102 target=23/101",
+    ),
+    // classmark 2; a cell by its identity alone, and one with its network
+    (
+        "001d100b0201080a0203ff1203331981050302006605080062f21000170065",
+        "HANDOVER REQUEST channel=0108 encryption=03ff classmark=331981 serving=-/102 target=23/101",
+    ),
+    // an empty classmark 2
+    (
+        "0018100b0201080a010112000505010017006605050100170065",
+        "HANDOVER REQUEST channel=0108 encryption=01 classmark= serving=23/102 target=23/101",
+    ),
+    REQUIRED,
+    (
+        "000f110401211a090100170066ffff0000",
+        "HANDOVER REQUIRED cause=33 response=0 cells=23/102,65535/0",
+    ),
+    (
+        "000d1104010c1a0702006600650063",
+        "HANDOVER REQUIRED cause=12 response=0 cells=-/102,-/101,-/99",
+    ),
+];
+
+/// Why octets are no radio resource message.
+const RADIO_FAULTS: &[(&str, &str)] = &[
+    ("", "fault rr 1"),
+    ("05", "fault rr 1"),
+    ("06ff", "fault rr 2 255"),
+    ("06", "fault rr 3"),
+    // fifteen octets of measurement results
+    ("06151e1e006812a0000000000000000000", "fault rr 3"),
+    ("062BD56713A36B2A05", "fault rr 4 2"),
+    ("062BD5670BB36B2A05", "fault rr 4 3"),
+];
+
+/// Why octets are no message on A.
+const FAULTS_ON_A: &[(&str, &str)] = &[
+    ("", "fault a 1"),
+    ("01", "fault a 1"),
+    ("00", "fault a 2"),
+    ("0000", "fault a 2"),
+    ("00051b", "fault a 2"),
+    ("0001ff", "fault a 3 255"),
+    ("000116", "fault a 4 4"),
+    // one cell of two
+    ("0012100B030108010A01011D3305050100170066", "fault a 4 5"),
+    // no classmark
+    (
+        "0016100b0201080a01010505010017006605050100170065",
+        "fault a 4 18",
+    ),
+    ("0003160400", "fault a 5 4"),
+    ("0003160405", "fault a 6 3"),
+];
+
+/// Why octets are no message on Abis.
+const FAULTS_ON_ABIS: &[(&str, &str)] = &[
+    ("", "fault abis 1"),
+    ("04", "fault abis 1"),
+    ("08ff", "fault abis 2 255"),
+    ("0822010b", "fault abis 3 8"),
+    ("08330100", "fault abis 4 1"),
+    ("08", "fault abis 5 1"),
+    ("082201", "fault abis 5 2"),
+];
+
+/// Texts that are not hexadecimal.
+const NO_HEX: &[(&str, &str)] = &[
+    ("0g", "hex"),
+    ("0", "hex"),
+    ("082", "hex"),
+    ("06 2c00", "hex"),
+    ("062c00 ", "hex"),
+    ("0x062c", "hex"),
+    ("-1", "hex"),
+    ("é", "hex"),
+];
+
+/// Texts that take memory.
+const WANTS: &[(Link, &str, &str)] = &[
+    (Link::A, REQUIRED.0, REQUIRED.1),
+    (Link::Abis, ACTIVATION.0, ACTIVATION.1),
+];
+
+/// Texts that take no memory.
+const WANTS_NOTHING: &[(Link, &str, &str)] = &[
+    (Link::Rr, "", "fault rr 1"),
+    (Link::A, "", "fault a 1"),
+    (Link::Abis, "", "fault abis 1"),
+    (Link::Rr, "062c0g", "hex"),
+    (Link::Abis, "082e010b0", "hex"),
+];
+
+/// Texts that are printed by different ways to a write.
+const WRITES: &[(Link, &str, &str)] = &[
+    (Link::Abis, ACTIVATION.0, ACTIVATION.1),
+    (Link::Rr, "062c00", "HANDOVER COMPLETE cause=0"),
+    (Link::A, REQUIRED.0, REQUIRED.1),
+    (Link::A, "0003160405", "fault a 6 3"),
+    (Link::Abis, "082201", "fault abis 5 2"),
+    (Link::Rr, "06ff", "fault rr 2 255"),
+    (Link::Rr, "0g", "hex"),
+];
 
 /// What a text printed, and how it ended.
 fn printed<A: Allocator + Copy>(
@@ -36,283 +242,78 @@ fn printed<A: Allocator + Copy>(
     Ok((status, String::from_utf8(out)?))
 }
 
-/// A text ends so and prints this one line.
-fn prints(
+/// Each text ends so and prints its one line.
+fn print(
     rt: &impl Abort,
     alloc: Global,
     link: Link,
     ended: Status,
-    hex: &str,
-    wanted: &str,
+    rows: &[(&str, &str)],
 ) -> Result<(), Fail> {
-    let (status, text) = printed(alloc, alloc, link, hex)?;
-    assert_eq!(rt; status, Ok(ended), "{hex}");
-    assert_eq!(rt; text.strip_suffix('\n').unwrap_or(""), wanted, "{hex}");
+    for (hex, wanted) in rows {
+        let (status, text) = printed(alloc, alloc, link, *hex)?;
+        assert_eq!(rt; status, Ok(ended), "{hex}");
+        assert_eq!(rt; text.strip_suffix('\n'), Some(*wanted), "{hex}");
+    }
     Ok(())
 }
 
 #[test]
 fn radio_resource_messages(rt: HostRuntime) -> Result<(), Fail> {
-    let rows = [
-        (
-            "062BD5670BA36B2A05",
-            "HANDOVER COMMAND arfcn=871 ncc=2 bcc=5 tn=3 tsc=5 carrier=875 reference=42 atc=0 power=5",
-        ),
-        // spare bits, and octets after the message
-        (
-            "062bd5670baf6bffe50909",
-            "HANDOVER COMMAND arfcn=871 ncc=2 bcc=5 tn=3 tsc=5 carrier=875 reference=255 atc=1 power=5",
-        ),
-        ("062c00", "HANDOVER COMPLETE cause=0"),
-        ("06280a", "HANDOVER FAILURE cause=10"),
-        ("060d01", "CHANNEL RELEASE cause=1"),
-        ("062d3f", "PHYSICAL INFORMATION ta=63"),
-    ];
-    for (hex, wanted) in rows {
-        prints(&rt, rt.alloc(), Link::Rr, Status::Done, hex, wanted)?;
-    }
-    Ok(())
+    print(&rt, rt.alloc(), Link::Rr, Status::Done, RADIO)
 }
 
 #[test]
 fn measurement_reports(rt: HostRuntime) -> Result<(), Fail> {
-    let rows = [
-        (
-            "06151E1E006812A000000000000000000000",
-            "MEASUREMENT REPORT ba=0 dtx=0 full=30 ba3g=0 valid=1 sub=30 si23=0 qfull=0 qsub=0 count=1 n=40/2/21",
-        ),
-        // a count of 7, and no neighbour
-        (
-            "06151E1E01E812A000000000000000000000",
-            "MEASUREMENT REPORT ba=0 dtx=0 full=30 ba3g=0 valid=1 sub=30 si23=0 qfull=0 qsub=0 count=7",
-        ),
-        (
-            "06159145b8891d9978700000000000000000",
-            "MEASUREMENT REPORT ba=1 dtx=0 full=17 ba3g=0 valid=0 sub=5 si23=1 qfull=3 qsub=4 count=2 n=9/3/44 n=50/30/7",
-        ),
-        // all bits that a report has, and one octet after it
-        (
-            "0615ffffffbfffffffffffffffffffffffff00",
-            "MEASUREMENT REPORT ba=1 dtx=1 full=63 ba3g=1 valid=0 sub=63 si23=1 qfull=7 qsub=7 count=6 n=63/31/63 n=63/31/63 n=63/31/63 n=63/31/63 n=63/31/63 n=63/31/63",
-        ),
-    ];
-    for (hex, wanted) in rows {
-        prints(&rt, rt.alloc(), Link::Rr, Status::Done, hex, wanted)?;
-    }
-    Ok(())
+    print(&rt, rt.alloc(), Link::Rr, Status::Done, REPORTS)
 }
 
 #[test]
 fn messages_on_abis(rt: HostRuntime) -> Result<(), Fail> {
-    let rows = [
-        (
-            "0301010b02000b00020628",
-            "DATA REQUEST tn=3 link=0 layer3=0628",
-        ),
-        (
-            "0202010f02210b0001ff",
-            "DATA INDICATION tn=7 link=33 layer3=ff",
-        ),
-        (
-            "0821010B0302060400010801092A",
-            "CHANNEL ACTIVATION tn=3 activation=2 mode=00010801 reference=42",
-        ),
-        (
-            "0821010803000601AB",
-            "CHANNEL ACTIVATION tn=0 activation=0 mode=ab reference=-",
-        ),
-        ("0822010b081234", "CHANNEL ACTIVATION ACK tn=3 frame=4660"),
-        ("0823010a1a0120", "CHANNEL ACTIVATION NACK tn=2 cause=32"),
-        (
-            "082401091a020109",
-            "CONNECTION FAILURE INDICATION tn=1 cause=1",
-        ),
-        ("0827010b1102", "HANDOVER DETECTION tn=3 delay=2"),
-        ("0827010b", "HANDOVER DETECTION tn=3 delay=-"),
-        (
-            "0828010b1b001903001e0004000b001206151e1e006812a000000000000000000000",
-            "MEASUREMENT RESULT tn=3 number=0 uplink=001e00 power=0 layer3=06151e1e006812a000000000000000000000",
-        ),
-        (
-            "0828010b1b05190004ff",
-            "MEASUREMENT RESULT tn=3 number=5 uplink= power=255 layer3=-",
-        ),
-        ("082e010c", "RF CHANNEL RELEASE tn=4"),
-        ("0833010b", "RF CHANNEL RELEASE ACK tn=3"),
-    ];
-    for (hex, wanted) in rows {
-        prints(&rt, rt.alloc(), Link::Abis, Status::Done, hex, wanted)?;
-    }
-    Ok(())
+    print(&rt, rt.alloc(), Link::Abis, Status::Done, ON_ABIS)
 }
 
 #[test]
 fn messages_on_a(rt: HostRuntime) -> Result<(), Fail> {
-    let rows = [
-        (
-            "0006121703062bd5",
-            "HANDOVER REQUEST ACKNOWLEDGE layer3=062bd5",
-        ),
-        ("000413170106", "HANDOVER COMMAND layer3=06"),
-        ("000114", "HANDOVER COMPLETE rr=-"),
-        ("0003141500", "HANDOVER COMPLETE rr=0"),
-        // an element that no message has comes first
-        ("000716990100040121", "HANDOVER FAILURE cause=33 rr=-"),
-        ("00061604010a156f", "HANDOVER FAILURE cause=10 rr=111"),
-        (
-            "000b1704010c05050100170066",
-            "HANDOVER PERFORMED cause=12 cell=23/102",
-        ),
-        (
-            "00091704010c0503020066",
-            "HANDOVER PERFORMED cause=12 cell=-/102",
-        ),
-        ("00041a040121", "HANDOVER REQUIRED REJECT cause=33"),
-        ("00011b", "HANDOVER DETECT"),
-        ("0005200401098F", "CLEAR COMMAND cause=9"),
-        ("000121", "CLEAR COMPLETE"),
-        ("000422040100", "CLEAR REQUEST cause=0"),
-    ];
-    for (hex, wanted) in rows {
-        prints(&rt, rt.alloc(), Link::A, Status::Done, hex, wanted)?;
-    }
-    Ok(())
+    print(&rt, rt.alloc(), Link::A, Status::Done, ON_A)
 }
 
 #[test]
 fn messages_on_a_with_cells(rt: HostRuntime) -> Result<(), Fail> {
-    let rows = [
-        (
-            "0019100b030108010a01011d330505010017006605050100170065",
-            "HANDOVER REQUEST channel=010801 encryption=01 classmark=33 serving=23/102 target=23/101",
-        ),
-        // classmark 2; a cell by its identity alone, and one with its network
-        (
-            "001d100b0201080a0203ff1203331981050302006605080062f21000170065",
-            "HANDOVER REQUEST channel=0108 encryption=03ff classmark=331981 serving=-/102 target=23/101",
-        ),
-        // an empty classmark 2
-        (
-            "0018100b0201080a010112000505010017006605050100170065",
-            "HANDOVER REQUEST channel=0108 encryption=01 classmark= serving=23/102 target=23/101",
-        ),
-        REQUIRED,
-        (
-            "000f110401211a090100170066ffff0000",
-            "HANDOVER REQUIRED cause=33 response=0 cells=23/102,65535/0",
-        ),
-        (
-            "000d1104010c1a0702006600650063",
-            "HANDOVER REQUIRED cause=12 response=0 cells=-/102,-/101,-/99",
-        ),
-    ];
-    for (hex, wanted) in rows {
-        let wanted = wanted.strip_suffix('\n').unwrap_or(wanted);
-        prints(&rt, rt.alloc(), Link::A, Status::Done, hex, wanted)?;
-    }
-    Ok(())
+    print(&rt, rt.alloc(), Link::A, Status::Done, ON_A_WITH_CELLS)
 }
 
 #[test]
 fn faults_of_radio_resource_messages(rt: HostRuntime) -> Result<(), Fail> {
-    let rows = [
-        ("", "fault rr 1"),
-        ("05", "fault rr 1"),
-        ("06ff", "fault rr 2 255"),
-        ("06", "fault rr 3"),
-        // fifteen octets of measurement results
-        ("06151e1e006812a0000000000000000000", "fault rr 3"),
-        ("062BD56713A36B2A05", "fault rr 4 2"),
-        ("062BD5670BB36B2A05", "fault rr 4 3"),
-    ];
-    for (hex, wanted) in rows {
-        prints(&rt, rt.alloc(), Link::Rr, Status::Refused, hex, wanted)?;
-    }
-    Ok(())
+    print(&rt, rt.alloc(), Link::Rr, Status::Refused, RADIO_FAULTS)
 }
 
 #[test]
 fn faults_on_a(rt: HostRuntime) -> Result<(), Fail> {
-    let rows = [
-        ("", "fault a 1"),
-        ("01", "fault a 1"),
-        ("00", "fault a 2"),
-        ("0000", "fault a 2"),
-        ("00051b", "fault a 2"),
-        ("0001ff", "fault a 3 255"),
-        ("000116", "fault a 4 4"),
-        // one cell of two
-        ("0012100B030108010A01011D3305050100170066", "fault a 4 5"),
-        // no classmark
-        (
-            "0016100b0201080a01010505010017006605050100170065",
-            "fault a 4 18",
-        ),
-        ("0003160400", "fault a 5 4"),
-        ("0003160405", "fault a 6 3"),
-    ];
-    for (hex, wanted) in rows {
-        prints(&rt, rt.alloc(), Link::A, Status::Refused, hex, wanted)?;
-    }
-    Ok(())
+    print(&rt, rt.alloc(), Link::A, Status::Refused, FAULTS_ON_A)
 }
 
 #[test]
 fn faults_on_abis(rt: HostRuntime) -> Result<(), Fail> {
-    let rows = [
-        ("", "fault abis 1"),
-        ("04", "fault abis 1"),
-        ("08ff", "fault abis 2 255"),
-        ("0822010b", "fault abis 3 8"),
-        ("08330100", "fault abis 4 1"),
-        ("08", "fault abis 5 1"),
-        ("082201", "fault abis 5 2"),
-    ];
-    for (hex, wanted) in rows {
-        prints(&rt, rt.alloc(), Link::Abis, Status::Refused, hex, wanted)?;
-    }
-    // one octet more than a message has
-    let long = "08".repeat(rt.alloc(), 1025)?;
-    prints(
-        &rt,
-        rt.alloc(),
-        Link::Abis,
-        Status::Refused,
-        &long,
-        "fault abis 6",
-    )
+    print(&rt, rt.alloc(), Link::Abis, Status::Refused, FAULTS_ON_ABIS)
 }
 
 #[test]
-fn faults_that_octets_never_have(rt: HostRuntime) -> Result<(), Fail> {
-    let rows = [
-        (
-            Bad::Rr(RrFault::Element(ElementFault::Length)),
-            "fault rr 4 1\n",
-        ),
-        (
-            Bad::Rr(RrFault::Element(ElementFault::BadRange)),
-            "fault rr 4 4\n",
-        ),
-        (Bad::Rr(RrFault::NoMemory), "fault rr 5\n"),
-        (Bad::Bssmap(BssmapFault::NoMemory), "fault a 7\n"),
-        (Bad::Rsl(RslFault::NoMemory), "fault abis 7\n"),
-    ];
-    for (fault, wanted) in rows {
-        let mut out = Vec::new(rt.alloc());
-        assert!(rt; print_fault(&mut out, fault).is_ok(), "{wanted}");
-        assert_eq!(rt; String::from_utf8(out)?.as_str(), wanted);
-    }
+fn octets_longer_than_a_message_on_abis(rt: HostRuntime) -> Result<(), Fail> {
+    // one octet more than a message has
+    let long = "08".repeat(rt.alloc(), 1025)?;
+    let (status, text) = printed(rt.alloc(), rt.alloc(), Link::Abis, &long)?;
+    assert_eq!(rt;
+        (status, text.as_str()),
+        (Ok(Status::Refused), "fault abis 6\n")
+    );
     Ok(())
 }
 
 #[test]
 fn text_that_is_not_hexadecimal(rt: HostRuntime) -> Result<(), Fail> {
-    let rows = ["0g", "0", "082", "06 2c00", "062c00 ", "0x062c", "-1", "é"];
-    for hex in rows {
-        prints(&rt, rt.alloc(), Link::Rr, Status::Refused, hex, "hex")?;
-        prints(&rt, rt.alloc(), Link::A, Status::Refused, hex, "hex")?;
-        prints(&rt, rt.alloc(), Link::Abis, Status::Refused, hex, "hex")?;
+    for link in [Link::Rr, Link::A, Link::Abis] {
+        print(&rt, rt.alloc(), link, Status::Refused, NO_HEX)?;
     }
     Ok(())
 }
@@ -329,25 +330,24 @@ fn prints_without(
     let heap = RefusingHeap::refusing_nth(alloc, n);
     let (status, text) = printed(&heap, alloc, link, hex)?;
     if heap.was_refused() {
-        assert_eq!(rt; status, Err(LabFault::NoMemory), "{n}");
-        assert_eq!(rt; text.as_str(), "", "{n}");
+        assert_eq!(rt;
+            (status, text.as_str()),
+            (Err(LabFault::NoMemory), ""),
+            "{n}"
+        );
         return Ok(false);
     }
     assert_eq!(rt; status, Ok(Status::Done), "{n}");
-    assert_eq!(rt; text.as_str(), wanted, "{n}");
+    assert_eq!(rt; text.strip_suffix('\n'), Some(wanted), "{n}");
     Ok(true)
 }
 
 #[test]
 fn each_request_for_memory_is_refused(rt: HostRuntime) -> Result<(), Fail> {
-    let rows = [
-        (Link::A, REQUIRED.0, REQUIRED.1),
-        (Link::Abis, ACTIVATION.0, ACTIVATION.1),
-    ];
-    for (link, hex, wanted) in rows {
+    for (link, hex, wanted) in WANTS {
         let mut tried = 0u64;
         for n in 1..100 {
-            if prints_without(&rt, rt.alloc(), link, hex, wanted, n)? {
+            if prints_without(&rt, rt.alloc(), *link, *hex, *wanted, n)? {
                 break;
             }
             tried = n;
@@ -360,18 +360,11 @@ fn each_request_for_memory_is_refused(rt: HostRuntime) -> Result<(), Fail> {
 
 #[test]
 fn texts_that_take_no_memory(rt: HostRuntime) -> Result<(), Fail> {
-    let rows = [
-        (Link::Rr, "", "fault rr 1\n"),
-        (Link::A, "", "fault a 1\n"),
-        (Link::Abis, "", "fault abis 1\n"),
-        (Link::Rr, "062c0g", "hex\n"),
-        (Link::Abis, "082e010b0", "hex\n"),
-    ];
-    for (link, hex, wanted) in rows {
+    for (link, hex, wanted) in WANTS_NOTHING {
         let heap = RefusingHeap::refusing_from(rt.alloc(), 1);
-        let (status, text) = printed(&heap, rt.alloc(), link, hex)?;
+        let (status, text) = printed(&heap, rt.alloc(), *link, *hex)?;
         assert_eq!(rt; status, Ok(Status::Refused), "{hex}");
-        assert_eq!(rt; text.as_str(), wanted, "{hex}");
+        assert_eq!(rt; text.strip_suffix('\n'), Some(*wanted), "{hex}");
     }
     Ok(())
 }
@@ -394,25 +387,16 @@ fn writes_all(
         return Ok(false);
     }
     assert!(rt; status.is_ok(), "{before}");
-    assert_eq!(rt; text.as_str(), wanted, "{before}");
+    assert_eq!(rt; text.strip_suffix('\n'), Some(wanted), "{before}");
     Ok(true)
 }
 
 #[test]
 fn each_write_fails(rt: HostRuntime) -> Result<(), Fail> {
-    let rows = [
-        (Link::Abis, ACTIVATION.0, ACTIVATION.1),
-        (Link::Rr, "062c00", "HANDOVER COMPLETE cause=0\n"),
-        (Link::A, REQUIRED.0, REQUIRED.1),
-        (Link::A, "0003160405", "fault a 6 3\n"),
-        (Link::Abis, "082201", "fault abis 5 2\n"),
-        (Link::Rr, "06ff", "fault rr 2 255\n"),
-        (Link::Rr, "0g", "hex\n"),
-    ];
-    for (link, hex, wanted) in rows {
+    for (link, hex, wanted) in WRITES {
         let mut tried = 0u64;
         for before in 0..100 {
-            if writes_all(&rt, rt.alloc(), link, hex, wanted, before)? {
+            if writes_all(&rt, rt.alloc(), *link, *hex, *wanted, before)? {
                 break;
             }
             tried = tried.saturating_add(1);

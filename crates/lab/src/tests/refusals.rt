@@ -6,86 +6,44 @@ use std::alloc::Global;
 use std::process::Abort;
 use std::test::Fail;
 
-/// Two texts are refused by this one line.
-fn refuses(
-    rt: &impl Abort,
-    alloc: Global,
-    site: &str,
-    script: &str,
-    wanted: &str,
-) -> Result<(), Fail> {
-    let (status, text) = printed(alloc, alloc, site, script)?;
-    assert_eq!(rt; status, Ok(Status::Refused), "{site} {script}");
-    assert_eq!(rt; text.as_str(), wanted, "{site} {script}");
-    Ok(())
-}
-
-#[test]
-fn a_text_without_a_site(rt: HostRuntime) -> Result<(), Fail> {
-    let sites = [
-        "",
-        "[",
-        "cell = 3",
-        "[[cell]]\n",
-        "[[cell]]\ntrx = [{ tch = [0] }]\n",
-    ];
-    for site in sites {
-        // the site is looked at before the script
-        refuses(&rt, rt.alloc(), site, "no line", "site 1\n")?;
-    }
-    Ok(())
-}
-
-#[test]
-fn a_line_that_is_none(rt: HostRuntime) -> Result<(), Fail> {
-    let lines = [
-        "opan 1 0 0 3",
-        "Open 1 0 0 3",
-        "open",
-        "open 1 0 0",
-        "open 1 0 0 3 4",
-        "open  1 0 0 3",
-        " open 1 0 0 3",
-        "open 1 0 0 3 ",
-        "open\t1 0 0 3",
-        "open 1 0 0 8",
-        "open 65536 0 0 3",
-        "open 1 256 0 3",
-        "open 1 0 256 3",
-        "open 1 0 0 ",
-        "open +1 0 0 3",
-        "open -1 0 0 3",
-        "open 0x1 0 0 3",
-        "handover 1",
-        "handover 1 256",
-        "handover 1 1 1",
-        "undo",
-        "undo ",
-        "undo 1\r\r",
-        "clear 1 1",
-        "abis 0 0",
-        "abis 0 0 ",
-        "abis 0 0 8",
-        "abis 0 0 0g",
-        "abis 0 0 08 33",
-        "abis 256 0 08",
-        "  # a comment",
-        "expire 1 T7",
-        "sim",
-        "2: undo 1",
-        "\u{a0}",
-    ];
-    for line in lines {
-        refuses(&rt, rt.alloc(), SITE, line, "line 1\n")?;
-    }
-    Ok(())
-}
-
-#[test]
-fn the_first_line_that_is_none(rt: HostRuntime) -> Result<(), Fail> {
+/// A site, a script, and the one line by which they are refused.
+const REFUSALS: &[(&str, &str, &str)] = &[
+    // the site is looked at before the script
+    ("", "no line", "site 1\n"),
+    ("[", "no line", "site 1\n"),
+    ("cell = 3", "no line", "site 1\n"),
+    ("[[cell]]\n", "no line", "site 1\n"),
+    ("[[cell]]\ntrx = [{ tch = [0] }]\n", "no line", "site 1\n"),
+    (SITE, "expire 1 T7", "line 1\n"),
     // nothing runs before all lines are read
-    let script = "open 1 0 0 3\n\n# a comment\nundo x\nundo y\n";
-    refuses(&rt, rt.alloc(), SITE, script, "line 4\n")
+    (
+        SITE,
+        "open 1 0 0 3\n\n# a comment\nundo x\nundo y\n",
+        "line 4\n",
+    ),
+];
+
+/// A site, a script, what they print, and in how many writes at least.
+const WRITES: &[(&str, &str, &str, u64)] = &[
+    (SITE, ONE_CALL.0, ONE_CALL.1, 13),
+    ("", "", "site 1\n", 1),
+    (SITE, "undo", "line 1\n", 1),
+    (
+        SITE,
+        "abis 0 0 04",
+        "in abis 0 0 04\nfault abis 1\nend channels=0 calls=0 references=0 timers=0\n",
+        3,
+    ),
+];
+
+#[test]
+fn refusals_are_one_line(rt: HostRuntime) -> Result<(), Fail> {
+    for (site, script, wanted) in REFUSALS {
+        let (status, text) = printed(rt.alloc(), rt.alloc(), *site, *script)?;
+        assert_eq!(rt; status, Ok(Status::Refused), "{site} {script}");
+        assert_eq!(rt; text.as_str(), *wanted, "{site} {script}");
+    }
+    Ok(())
 }
 
 /// Whether a run over a heap that refuses this request met no refusal.
@@ -139,26 +97,15 @@ fn writes_all(
 
 #[test]
 fn each_write_fails(rt: HostRuntime) -> Result<(), Fail> {
-    let runs = [
-        (SITE, ONE_CALL.0, ONE_CALL.1, 13),
-        ("", "", "site 1\n", 1),
-        (SITE, "undo", "line 1\n", 1),
-        (
-            SITE,
-            "abis 0 0 04",
-            "in abis 0 0 04\nfault abis 1\nend channels=0 calls=0 references=0 timers=0\n",
-            3,
-        ),
-    ];
-    for (site, script, wanted, at_least) in runs {
+    for (site, script, wanted, at_least) in WRITES {
         let mut tried = 0u64;
         for before in 0..1000 {
-            if writes_all(&rt, rt.alloc(), site, script, wanted, before)? {
+            if writes_all(&rt, rt.alloc(), *site, *script, *wanted, before)? {
                 break;
             }
             tried = tried.saturating_add(1);
         }
-        assert!(rt; at_least <= tried && tried < 1000, "{tried} writes");
+        assert!(rt; *at_least <= tried && tried < 1000, "{tried} writes");
     }
     Ok(())
 }

@@ -1,37 +1,14 @@
 use super::{ONE_CALL, SITE, printed};
 use crate::run::Status;
-use std::alloc::Global;
-use std::process::Abort;
 use std::test::Fail;
 
-/// A script prints just this, and is done.
-fn prints(rt: &impl Abort, alloc: Global, script: &str, wanted: &str) -> Result<(), Fail> {
-    let (status, text) = printed(alloc, alloc, SITE, script)?;
-    assert_eq!(rt; status, Ok(Status::Done), "{script}");
-    assert_eq!(rt; text.as_str(), wanted, "{script}");
-    Ok(())
-}
-
-#[test]
-fn one_call(rt: HostRuntime) -> Result<(), Fail> {
-    prints(&rt, rt.alloc(), ONE_CALL.0, ONE_CALL.1)
-}
-
-#[test]
-fn no_line_prints_the_end_alone(rt: HostRuntime) -> Result<(), Fail> {
-    prints(
-        &rt,
-        rt.alloc(),
-        "",
-        "end channels=0 calls=0 references=0 timers=0\n",
-    )
-}
-
-#[test]
-fn a_station_refuses_a_call(rt: HostRuntime) -> Result<(), Fail> {
-    prints(
-        &rt,
-        rt.alloc(),
+/// Scripts, and what each prints.
+const TRACES: &[(&str, &str)] = &[
+    ONE_CALL,
+    // no line prints the end alone
+    ("", "end channels=0 calls=0 references=0 timers=0\n"),
+    // a station refuses a call
+    (
         "open 2 0 0 2\nabis 0 0 0823010a1a0120\nclear 2\n",
         "in open 2 0 0 2
 event open 2 0/0/2 -> done
@@ -44,14 +21,9 @@ event look 2 -> record 0/0/2 held
 event clear 2 -> done
 end channels=0 calls=0 references=0 timers=0
 ",
-    )
-}
-
-#[test]
-fn a_handover_is_taken_back(rt: HostRuntime) -> Result<(), Fail> {
-    prints(
-        &rt,
-        rt.alloc(),
+    ),
+    // a handover is taken back
+    (
         "open 1 0 0 3\nabis 0 0 0822010b081234\nhandover 1 1\nundo 1\nabis 1 1 0833010b\n",
         "in open 1 0 0 3
 event open 1 0/0/3 -> done
@@ -71,14 +43,9 @@ in abis 1 1 0833010b
 event released 1/1/3 -> done
 end channels=1 calls=1 references=0 timers=0
 ",
-    )
-}
-
-#[test]
-fn no_channel_is_free(rt: HostRuntime) -> Result<(), Fail> {
-    prints(
-        &rt,
-        rt.alloc(),
+    ),
+    // no channel is free
+    (
         "open 1 0 0 3\nabis 0 0 0822010b081234\nopen 2 1 1 3\nhandover 1 1\nundo 1\nabis 1 1 0833010b\n",
         "in open 1 0 0 3
 event open 1 0/0/3 -> done
@@ -97,14 +64,9 @@ in abis 1 1 0833010b
 event released 1/1/3 -> refused 8 1/1/3
 end channels=2 calls=2 references=0 timers=0
 ",
-    )
-}
-
-#[test]
-fn refusals_are_printed_with_their_arguments(rt: HostRuntime) -> Result<(), Fail> {
-    prints(
-        &rt,
-        rt.alloc(),
+    ),
+    // refusals are printed with their arguments
+    (
         "open 1 0 0 3\nopen 1 0 0 2\nopen 2 0 0 3\nopen 2 0 0 5\nclear 9\nhandover 1 0\nabis 0 0 0822010b081234\nhandover 1 0\nhandover 1 2\n",
         "in open 1 0 0 3
 event open 1 0/0/3 -> done
@@ -127,14 +89,9 @@ event take 1 internal 0/0/2 -> refused 5
 in handover 1 2
 end channels=1 calls=1 references=0 timers=0
 ",
-    )
-}
-
-#[test]
-fn faults_are_printed_with_their_arguments(rt: HostRuntime) -> Result<(), Fail> {
-    prints(
-        &rt,
-        rt.alloc(),
+    ),
+    // faults are printed with their arguments
+    (
         "abis 0 0 04\nabis 0 0 08\nabis 0 0 08ff\nabis 0 0 082201\nabis 0 0 0822010b\nabis 0 0 0833010000\nabis 0 0 08330100\n",
         "in abis 0 0 04
 fault abis 1
@@ -152,14 +109,9 @@ in abis 0 0 08330100
 fault abis 4 1
 end channels=0 calls=0 references=0 timers=0
 ",
-    )
-}
-
-#[test]
-fn lines_are_printed_in_one_form(rt: HostRuntime) -> Result<(), Fail> {
-    prints(
-        &rt,
-        rt.alloc(),
+    ),
+    // lines are printed in one form
+    (
         "# a comment\r\n \t\n\nopen 0001 00 000 03\r\nabis 0 0 0822010B08AbCd\n#\nundo 65535",
         "in open 1 0 0 3
 event open 1 0/0/3 -> done
@@ -171,5 +123,15 @@ in undo 65535
 event undo 65535 asked -> refused 1
 end channels=1 calls=1 references=0 timers=0
 ",
-    )
+    ),
+];
+
+#[test]
+fn traces(rt: HostRuntime) -> Result<(), Fail> {
+    for (script, wanted) in TRACES {
+        let (status, text) = printed(rt.alloc(), rt.alloc(), SITE, *script)?;
+        assert_eq!(rt; status, Ok(Status::Done), "{script}");
+        assert_eq!(rt; text.as_str(), *wanted, "{script}");
+    }
+    Ok(())
 }

@@ -1,0 +1,19 @@
+use Rattle.std.proofs.Common.{ap, ◌∙◌, Err}
+use Rattle.rsl_messages.proofs.Unique.{no_fault}
+use Rattle.rsl_messages.proofs.Faults.{one_fault}
+use Rattle.ho_procedure.specs.declared.exchange.PlainFault.TheVariants.{Undecoded}
+use Rattle.ho_procedure.proofs.procedure.handle_octets.Goals as goal
+
+-- a text has no fault but want of memory
+pub returns-in_err-handle_message-in-Ok-clause-decoded : goal.returns-in_err-handle_message-in-Ok-clause-decoded
+returns-in_err-handle_message-in-Ok-clause-decoded g c = λ f other has. absurd (other (no_fault _ _ f c.in-Ok.ensures.text has))
+
+pub returns-in_ok-handle_message-in-Ok-clause-decoded : goal.returns-in_ok-handle_message-in-Ok-clause-decoded
+returns-in_ok-handle_message-in-Ok-clause-decoded g c = λ f other has. absurd (other (no_fault _ _ f c.in-Ok.ensures.text has))
+
+pub returns-in-Err-NoMemory-clause-decoded : goal.returns-in-Err-NoMemory-clause-decoded
+returns-in-Err-NoMemory-clause-decoded g c = λ f other has. absurd (other (one_fault _ _ f _ has c.in-Err-NoMemory.ensures.fault ∙ c.in-Err-NoMemory.field-0-is))
+
+-- octets have one fault
+pub returns-in-Err-clause-decoded : goal.returns-in-Err-clause-decoded
+returns-in-Err-clause-decoded g c = λ f other has. ap (λ k. Err (Undecoded k)) (one_fault _ _ c.in-Err.fault f c.in-Err.ensures.fault has)

@@ -1,0 +1,115 @@
+//! Rows that begin and end a call.
+ghost use Rattle.std.specs.Prelude.{◌≡◌, ◌++◌, IsTrue, None, OnOk, OnErr};
+ghost use Rattle.radio_book.specs.Run.{Leads};
+ghost use Rattle.ho_procedure.specs.Plan.{Follows, Begins};
+ghost use Rattle.ho_procedure.specs.Procedure.{open_plan, clear_plan, remains, names_releases, sent_by, can_name};
+ghost use Rattle.ho_procedure.specs.Handling.{all_sent, AreChoices, IsFresh};
+
+use super::release::{Release, serving_release, target_release};
+use super::steps::{ask, send_activation, send_release};
+use crate::exchange::Handled;
+use radio_book::book::Book;
+use radio_book::channel::{ChanId, ChanState};
+use radio_book::event::{Attempt, AttemptKind, CallRecord, Event, Reply, Why};
+use std::alloc::{AllocError, Allocator};
+
+/// A call begins on a channel: the station is asked to activate it.
+pub(super) fn open<A: Allocator + Copy, B: Allocator + Copy>(
+    alloc: A,
+    book: &mut Book<B>,
+    handled: &mut Handled<A>,
+    call: u16,
+    chan: ChanId,
+) -> Result<(), AllocError>
+    requires { IsFresh handled.old }
+    ensures row { OnOk result (Follows (open_plan call chan) handled.new.events.items handled.new.none_free (all_sent handled.new.out.items)) }
+    ensures begins { OnErr result (Begins (open_plan call chan) handled.new.events.items) }
+    ensures leads { Leads book.old handled.new.events.items book.new }
+    ensures choices { AreChoices book.old handled.new.events.items }
+    ensures none_free { handled.new.none_free ≡ None }
+{
+    match ask(book, handled, Event::Open(call, chan))? {
+        Reply::Done if chan.tn < 8 => send_activation(alloc, handled, chan),
+        _ => Ok(()),
+    }
+}
+
+/// Sends what a release asks for.
+pub(super) fn release<A: Allocator + Copy>(
+    alloc: A,
+    handled: &mut Handled<A>,
+    release: Release,
+) -> Result<(), AllocError>
+    requires { IsTrue (can_name release) }
+    ensures sent { OnOk result (all_sent handled.new.out.items ≡ all_sent handled.old.out.items ++ sent_by release) }
+    ensures events { handled.new.events ≡ handled.old.events }
+    ensures none_free { handled.new.none_free ≡ handled.old.none_free }
+{
+    match release {
+        Release::Channel(chan) => send_release(alloc, handled, chan),
+        _ => Ok(()),
+    }
+}
+
+/// The record of a call remains once its attempt was taken back.
+fn remains(attempt: Option<Attempt>) -> bool
+    ensures { result ≡ remains attempt }
+{
+    match attempt {
+        Some(attempt) => matches!(attempt.kind, AttemptKind::Internal),
+        None => true,
+    }
+}
+
+/// The record names every channel that is released when its call is cleared.
+fn names_releases(shown: CallRecord, state: Option<ChanState>) -> bool
+    ensures { result ≡ names_releases shown state }
+{
+    if target_release(shown.attempt).is_unknown() {
+        return false;
+    }
+    !remains(shown.attempt) || !serving_release(shown, state).is_unknown()
+}
+
+/// A call ends: an attempt that is open is taken back first, and what stations have activated for the
+/// call is released.
+pub(super) fn clear<A: Allocator + Copy, B: Allocator + Copy>(
+    alloc: A,
+    book: &mut Book<B>,
+    handled: &mut Handled<A>,
+    call: u16,
+) -> Result<(), AllocError>
+    requires { IsFresh handled.old }
+    ensures row { OnOk result (Follows (clear_plan call) handled.new.events.items handled.new.none_free (all_sent handled.new.out.items)) }
+    ensures begins { OnErr result (Begins (clear_plan call) handled.new.events.items) }
+    ensures leads { Leads book.old handled.new.events.items book.new }
+    ensures choices { AreChoices book.old handled.new.events.items }
+    ensures none_free { handled.new.none_free ≡ None }
+{
+    let Reply::Record(shown, state) = ask(book, handled, Event::Look(call))? else {
+        return Ok(());
+    };
+    if !names_releases(shown, state) {
+        return Ok(());
+    }
+    if shown.attempt.is_none() {
+        return match ask(book, handled, Event::Clear(call))? {
+            Reply::Done => release(alloc, handled, serving_release(shown, state)),
+            _ => Ok(()),
+        };
+    }
+    let Reply::Record(shown, state) = ask(book, handled, Event::Undo(call, Why::Asked))? else {
+        return Ok(());
+    };
+    if !names_releases(shown, state) {
+        return Ok(());
+    }
+    release(alloc, handled, target_release(shown.attempt))?;
+    if !remains(shown.attempt) {
+        return Ok(());
+    }
+    match ask(book, handled, Event::Clear(call))? {
+        Reply::Done => release(alloc, handled, serving_release(shown, state)),
+        _ => Ok(()),
+    }
+}

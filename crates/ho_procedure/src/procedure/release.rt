@@ -1,0 +1,66 @@
+//! Which channels a row releases.
+ghost use Rattle.std.specs.Prelude.{◌≡◌, IsTrue};
+ghost use Rattle.ho_procedure.specs.Procedure.{release_of, is_switched_on, target_release, serving_release, is_unknown, can_name};
+
+use radio_book::channel::{ChanId, ChanState};
+use radio_book::event::{Attempt, CallRecord, Stage};
+
+/// What a row releases, where a channel may be left behind.
+#[derive(Clone, Copy, Debug, PartialEq, Eq)]
+pub enum Release {
+    /// The station has nothing to release.
+    Nothing,
+    /// The station is asked to release this channel.
+    Channel(ChanId),
+    /// The station may have something to release, but the record doesn't say what, or no message
+    /// can name it: the row ends.
+    Unknown,
+}
+
+impl Release {
+    pub(super) fn is_unknown(self) -> bool
+        ensures { result ≡ is_unknown self }
+    {
+        matches!(self, Release::Unknown)
+    }
+}
+
+/// The release of a channel that the station knows of.
+fn release_of(chan: Option<ChanId>) -> Release
+    ensures value { result ≡ release_of chan }
+    ensures named { IsTrue (can_name result) }
+{
+    match chan {
+        Some(chan) if chan.tn < 8 => Release::Channel(chan),
+        _ => Release::Unknown,
+    }
+}
+
+/// The activation of the target was sent, and not refused.
+fn is_switched_on(stage: Stage) -> bool
+    ensures { result ≡ is_switched_on stage }
+{
+    matches!(stage, Stage::Sent | Stage::Confirmed)
+}
+
+/// The release of an attempt's target, where it was switched on.
+pub(super) fn target_release(attempt: Option<Attempt>) -> Release
+    ensures value { result ≡ target_release attempt }
+    ensures named { IsTrue (can_name result) }
+{
+    match attempt {
+        Some(attempt) if is_switched_on(attempt.stage) => release_of(attempt.target),
+        _ => Release::Nothing,
+    }
+}
+
+/// The release of the serving channel, unless it was held.
+pub(super) fn serving_release(shown: CallRecord, state: Option<ChanState>) -> Release
+    ensures value { result ≡ serving_release shown state }
+    ensures named { IsTrue (can_name result) }
+{
+    match state {
+        Some(ChanState::Held(_)) => Release::Nothing,
+        _ => release_of(shown.serving),
+    }
+}

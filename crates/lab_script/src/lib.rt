@@ -1,0 +1,4 @@
+//! The reader of scripts that drive a controller.
+#![tactic(auto)]
+
+pub mod script;

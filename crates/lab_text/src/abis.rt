@@ -1,0 +1,105 @@
+//! Messages on Abis in words (TS 48.058 clause 8).
+//!
+//! | Message | Fields |
+//! |---|---|
+//! | DATA REQUEST, DATA INDICATION | tn link layer3 |
+//! | CHANNEL ACTIVATION | tn activation mode reference |
+//! | CHANNEL ACTIVATION ACK | tn frame |
+//! | CHANNEL ACTIVATION NACK, CONNECTION FAILURE INDICATION | tn cause |
+//! | HANDOVER DETECTION | tn delay |
+//! | MEASUREMENT RESULT | tn number uplink power layer3 |
+//! | RF CHANNEL RELEASE, RF CHANNEL RELEASE ACK | tn |
+use crate::text::{HexText, OrDash};
+use rsl_messages::{ChanBits, Octets, Rsl};
+use std::alloc::Allocator;
+use std::fmt;
+
+/// A message: its name and its fields.
+#[derive(Drop)]
+pub struct AbisText<'a, A: Allocator>(pub &'a Rsl<A>);
+
+impl<A: Allocator> fmt::Display for AbisText<'_, A> {
+    fn fmt<W: fmt::Write>(&self, f: &mut fmt::Formatter<W>) -> fmt::Result {
+        let message = self.0;
+        let tn = channel(message).tn;
+        write!(f, "{} tn={tn}{}", name(message), FieldsText(message))
+    }
+}
+
+/// The name of a message.
+fn name<A: Allocator>(message: &Rsl<A>) -> &'static str {
+    match message {
+        Rsl::DataRequest { .. } => "DATA REQUEST",
+        Rsl::DataIndication { .. } => "DATA INDICATION",
+        Rsl::ChannelActivation { .. } => "CHANNEL ACTIVATION",
+        Rsl::ChannelActivationAck { .. } => "CHANNEL ACTIVATION ACK",
+        Rsl::ChannelActivationNack { .. } => "CHANNEL ACTIVATION NACK",
+        Rsl::ConnectionFailureIndication { .. } => "CONNECTION FAILURE INDICATION",
+        Rsl::HandoverDetection { .. } => "HANDOVER DETECTION",
+        Rsl::MeasurementResult { .. } => "MEASUREMENT RESULT",
+        Rsl::RfChannelRelease { .. } => "RF CHANNEL RELEASE",
+        Rsl::RfChannelReleaseAck { .. } => "RF CHANNEL RELEASE ACK",
+    }
+}
+
+/// The channel that a message is about.
+fn channel<A: Allocator>(message: &Rsl<A>) -> ChanBits {
+    match message {
+        Rsl::DataRequest { channel, .. } => *channel,
+        Rsl::DataIndication { channel, .. } => *channel,
+        Rsl::ChannelActivation { channel, .. } => *channel,
+        Rsl::ChannelActivationAck { channel, .. } => *channel,
+        Rsl::ChannelActivationNack { channel, .. } => *channel,
+        Rsl::ConnectionFailureIndication { channel, .. } => *channel,
+        Rsl::HandoverDetection { channel, .. } => *channel,
+        Rsl::MeasurementResult { channel, .. } => *channel,
+        Rsl::RfChannelRelease { channel } => *channel,
+        Rsl::RfChannelReleaseAck { channel } => *channel,
+    }
+}
+
+/// The fields of a message after its channel, each with a blank before it.
+#[derive(Drop)]
+struct FieldsText<'a, A: Allocator>(&'a Rsl<A>);
+
+impl<A: Allocator> fmt::Display for FieldsText<'_, A> {
+    fn fmt<W: fmt::Write>(&self, f: &mut fmt::Formatter<W>) -> fmt::Result {
+        match self.0 {
+            Rsl::DataRequest { link, layer3, .. } | Rsl::DataIndication { link, layer3, .. } => {
+                write!(f, " link={link} layer3={}", HexText(layer3.as_slice()))
+            }
+            Rsl::ChannelActivation {
+                activation,
+                mode,
+                reference,
+                ..
+            } => {
+                let mode = HexText(mode.as_slice());
+                let reference = OrDash(*reference);
+                write!(
+                    f,
+                    " activation={activation} mode={mode} reference={reference}"
+                )
+            }
+            Rsl::ChannelActivationAck { frame, .. } => write!(f, " frame={frame}"),
+            Rsl::ChannelActivationNack { cause, .. }
+            | Rsl::ConnectionFailureIndication { cause, .. } => write!(f, " cause={cause}"),
+            Rsl::HandoverDetection { delay, .. } => write!(f, " delay={}", OrDash(*delay)),
+            Rsl::MeasurementResult {
+                number,
+                uplink,
+                power,
+                layer3,
+                ..
+            } => {
+                let uplink = HexText(uplink.as_slice());
+                let layer3 = OrDash(layer3.as_ref().map(|octets| HexText(octets.as_slice())));
+                write!(
+                    f,
+                    " number={number} uplink={uplink} power={power} layer3={layer3}"
+                )
+            }
+            Rsl::RfChannelRelease { .. } | Rsl::RfChannelReleaseAck { .. } => Ok(()),
+        }
+    }
+}

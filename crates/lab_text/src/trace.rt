@@ -1,0 +1,254 @@
+//! The trace: what a controller was given, what it asked of its book, and what it sent, as lines of text.
+//!
+//! | Line | When |
+//! |---|---|
+//! | `in` and the input as a line of a script | an input is handled |
+//! | `event E -> R` | the event E was asked of the book, which replied R |
+//! | `none free CELL` | a channel of this cell was asked for, and none was free |
+//! | `out abis CELL TRX HEX` | a message was sent to a TRX of a cell |
+//! | `fault LINK N` and the fault's arguments | the octets were no message of the link, which is `rr` or `abis` |
+//! | `end channels=N calls=N references=N timers=N` | at the end: what the book holds |
+//!
+//! A channel is `cell/trx/tn`, numbers are in decimal, octets are two small hexadecimal digits each, and what is
+//! absent is `-`.
+use crate::bad::Bad;
+use crate::text::{HexText, OrDash};
+use ho_procedure::exchange::{Handled, Inbound, Line, Outbound};
+use radio_book::book::Usage;
+use radio_book::channel::ChanState;
+use radio_book::event::{
+    Attempt, AttemptKind, CallRecord, Event, Kind, Refusal, Reply, Stage, Timer, Why,
+};
+use std::alloc::Allocator;
+use std::fmt;
+use std::io::{self, Write};
+
+/// The line of a script that asks for something.
+#[derive(Clone, Copy)]
+struct LineText(Line);
+
+impl fmt::Display for LineText {
+    fn fmt<W: fmt::Write>(&self, f: &mut fmt::Formatter<W>) -> fmt::Result {
+        match self.0 {
+            Line::Open { call, chan } => {
+                write!(f, "open {call} {} {} {}", chan.cell, chan.trx, chan.tn)
+            }
+            Line::Handover { call, cell } => write!(f, "handover {call} {cell}"),
+            Line::Undo { call } => write!(f, "undo {call}"),
+            Line::Clear { call } => write!(f, "clear {call}"),
+        }
+    }
+}
+
+/// The line of a script that gives an input.
+#[derive(Drop)]
+struct InboundText<'a, A: Allocator>(&'a Inbound<A>);
+
+impl<A: Allocator> fmt::Display for InboundText<'_, A> {
+    fn fmt<W: fmt::Write>(&self, f: &mut fmt::Formatter<W>) -> fmt::Result {
+        match self.0 {
+            Inbound::Abis { cell, trx, bytes } => {
+                write!(f, "abis {cell} {trx} {}", HexText(bytes.as_slice()))
+            }
+            Inbound::Operator(line) => write!(f, "{}", LineText(*line)),
+        }
+    }
+}
+
+/// A message that is sent: `abis CELL TRX HEX`.
+#[derive(Drop)]
+struct OutboundText<'a, A: Allocator>(&'a Outbound<A>);
+
+impl<A: Allocator> fmt::Display for OutboundText<'_, A> {
+    fn fmt<W: fmt::Write>(&self, f: &mut fmt::Formatter<W>) -> fmt::Result {
+        match self.0 {
+            Outbound::Abis { cell, trx, bytes } => {
+                write!(f, "abis {cell} {trx} {}", HexText(bytes.as_slice()))
+            }
+        }
+    }
+}
+
+/// Where the call of an attempt comes from, in small letters.
+#[derive(Clone, Copy)]
+struct KindText(Kind);
+
+impl fmt::Display for KindText {
+    fn fmt<W: fmt::Write>(&self, f: &mut fmt::Formatter<W>) -> fmt::Result {
+        f.write_str(match self.0 {
+            Kind::Internal => "internal",
+            Kind::Incoming => "incoming",
+        })
+    }
+}
+
+/// Why an attempt is taken back: `asked`, or the timer that expired in small letters.
+#[derive(Clone, Copy)]
+struct WhyText(Why);
+
+impl fmt::Display for WhyText {
+    fn fmt<W: fmt::Write>(&self, f: &mut fmt::Formatter<W>) -> fmt::Result {
+        f.write_str(match self.0 {
+            Why::Asked => "asked",
+            Why::Expired(Timer::T3103) => "t3103",
+            Why::Expired(Timer::T7) => "t7",
+            Why::Expired(Timer::T8) => "t8",
+        })
+    }
+}
+
+/// An event: its kind in small letters, and its arguments.
+#[derive(Clone, Copy)]
+struct EventText(Event);
+
+impl fmt::Display for EventText {
+    fn fmt<W: fmt::Write>(&self, f: &mut fmt::Formatter<W>) -> fmt::Result {
+        match self.0 {
+            Event::Open(call, chan) => write!(f, "open {call} {chan}"),
+            Event::Clear(call) => write!(f, "clear {call}"),
+            Event::Look(call) => write!(f, "look {call}"),
+            Event::Take(call, kind, chan) => write!(f, "take {call} {} {chan}", KindText(kind)),
+            Event::Reserve(call, number) => write!(f, "reserve {call} {number}"),
+            Event::Activate(call) => write!(f, "activate {call}"),
+            Event::Undo(call, why) => write!(f, "undo {call} {}", WhyText(why)),
+            Event::Confirm(chan) => write!(f, "confirm {chan}"),
+            Event::Refuse(chan) => write!(f, "refuse {chan}"),
+            Event::Released(chan) => write!(f, "released {chan}"),
+        }
+    }
+}
+
+/// The state of a channel in small letters, without its call.
+#[derive(Clone, Copy)]
+struct StateText(ChanState);
+
+impl fmt::Display for StateText {
+    fn fmt<W: fmt::Write>(&self, f: &mut fmt::Formatter<W>) -> fmt::Result {
+        f.write_str(match self.0 {
+            ChanState::Free => "free",
+            ChanState::Held(_) => "held",
+            ChanState::Pending(_) => "pending",
+            ChanState::On(_) => "on",
+            ChanState::Off => "off",
+        })
+    }
+}
+
+/// How far an attempt has come, in small letters.
+#[derive(Clone, Copy)]
+struct StageText(Stage);
+
+impl fmt::Display for StageText {
+    fn fmt<W: fmt::Write>(&self, f: &mut fmt::Formatter<W>) -> fmt::Result {
+        f.write_str(match self.0 {
+            Stage::Taken => "taken",
+            Stage::Reserved => "reserved",
+            Stage::Sent => "sent",
+            Stage::Refused => "refused",
+            Stage::Confirmed => "confirmed",
+        })
+    }
+}
+
+/// An attempt that is open: its kind, its stage, its channel and its handover reference.
+#[derive(Clone, Copy)]
+struct AttemptText(Attempt);
+
+impl fmt::Display for AttemptText {
+    fn fmt<W: fmt::Write>(&self, f: &mut fmt::Formatter<W>) -> fmt::Result {
+        let attempt = self.0;
+        let kind = match attempt.kind {
+            AttemptKind::Internal => "internal",
+            AttemptKind::Incoming => "incoming",
+        };
+        let stage = StageText(attempt.stage);
+        let target = OrDash(attempt.target);
+        let reference = OrDash(attempt.reference);
+        write!(f, "{kind} {stage} {target} {reference}")
+    }
+}
+
+/// A refusal: its number in the order in which refusals are tried, and its arguments.
+#[derive(Clone, Copy)]
+struct RefusalText(Refusal);
+
+impl fmt::Display for RefusalText {
+    fn fmt<W: fmt::Write>(&self, f: &mut fmt::Formatter<W>) -> fmt::Result {
+        match self.0 {
+            Refusal::NoCall => write!(f, "1"),
+            Refusal::CallExists => write!(f, "2"),
+            Refusal::WrongPhase => write!(f, "3"),
+            Refusal::NoChannel => write!(f, "4"),
+            Refusal::SameCell => write!(f, "5"),
+            Refusal::ChannelBusy(chan) => write!(f, "6 {chan}"),
+            Refusal::RefBusy(cell, number) => write!(f, "7 {cell} {number}"),
+            Refusal::Unexpected(chan) => write!(f, "8 {chan}"),
+            Refusal::NotArmed => write!(f, "9"),
+        }
+    }
+}
+
+/// A call's serving channel and its state, and the attempt that is open.
+#[derive(Clone, Copy)]
+struct RecordText(CallRecord, Option<ChanState>);
+
+impl fmt::Display for RecordText {
+    fn fmt<W: fmt::Write>(&self, f: &mut fmt::Formatter<W>) -> fmt::Result {
+        let serving = OrDash(self.0.serving);
+        let state = OrDash(self.1.map(|state| StateText(state)));
+        write!(f, "record {serving} {state}")?;
+        match self.0.attempt {
+            Some(attempt) => write!(f, " {}", AttemptText(attempt)),
+            None => Ok(()),
+        }
+    }
+}
+
+/// What the book replied.
+#[derive(Clone, Copy)]
+struct ReplyText(Reply);
+
+impl fmt::Display for ReplyText {
+    fn fmt<W: fmt::Write>(&self, f: &mut fmt::Formatter<W>) -> fmt::Result {
+        match self.0 {
+            Reply::Done => write!(f, "done"),
+            Reply::Record(record, state) => write!(f, "{}", RecordText(record, state)),
+            Reply::Owned(call) => write!(f, "owned {call}"),
+            Reply::Refused(refusal) => write!(f, "refused {}", RefusalText(refusal)),
+        }
+    }
+}
+
+/// Prints that an input is handled.
+pub fn print_input<A: Allocator, W: Write>(out: &mut W, input: &Inbound<A>) -> io::Result<()> {
+    writeln!(out, "in {}", InboundText(input))
+}
+
+/// Prints what the handling of an input came to: the events in their order, a cell without a free channel, and the
+/// messages in their order.
+pub fn print_handled<A: Allocator, W: Write>(out: &mut W, handled: &Handled<A>) -> io::Result<()> {
+    for (event, reply) in &handled.events {
+        writeln!(out, "event {} -> {}", EventText(*event), ReplyText(*reply))?;
+    }
+    if let Some(cell) = handled.none_free {
+        writeln!(out, "none free {cell}")?;
+    }
+    for message in &handled.out {
+        writeln!(out, "out {}", OutboundText(message))?;
+    }
+    Ok(())
+}
+
+/// Prints why octets are no message of their link.
+pub fn print_fault<W: Write>(out: &mut W, fault: Bad) -> io::Result<()> {
+    writeln!(out, "fault {fault}")
+}
+
+/// Prints what the book holds at the end.
+pub fn print_end<W: Write>(out: &mut W, usage: Usage) -> io::Result<()> {
+    writeln!(
+        out,
+        "end channels={} calls={} references={} timers={}",
+        usage.channels, usage.calls, usage.references, usage.timers
+    )
+}
