@@ -1,8 +1,5 @@
-//! One message in words: its name and its fields.
-//!
-//! A field is a blank and `field=value`. Numbers are in decimal, flags are 0 or 1, octets are two small hexadecimal
-//! digits each, what is absent is `-`, and a list without octets has nothing after `=`.
-ghost use Rattle.std.specs.Prelude.{◌≡◌, Ok, Err, IfOk, IfSome, IfNone, IsErr, is_some, true};
+//! One message in words, its name and its fields, from its octets in hexadecimal.
+ghost use Rattle.std.specs.Prelude.{◌≡◌, ◌≢◌, Ok, Err, IfOk, IfErr, IfSome, IfNone, IsErr, is_some, true};
 ghost use Rattle.hex.specs.Hex.{decode_of};
 ghost use Rattle.lab_script.specs.Script.{octets_of};
 ghost use Rattle.lab.specs.Decoded.{IsRrMessage, IsBssmapMessage, IsAbisMessage, IsMessageText};
@@ -48,6 +45,40 @@ fn octets<A: Allocator + Copy>(alloc: A, text: &str) -> Result<Option<Vec<u8, A>
     }
 }
 
+/// Prints why a text is refused: its octets have this fault, or it isn't hexadecimal.
+fn refuse<W: Write>(out: &mut W, fault: Option<Bad>) -> Result<Status, LabFault>
+    ensures refused { IfOk result (λ status. status ≡ Status.Refused) }
+    ensures write { IfErr result (λ fault. fault ≡ LabFault.Write) }
+{
+    match fault {
+        Some(fault) => print_fault(out, fault)?,
+        None => writeln!(out, "hex")?,
+    }
+    Ok(Status::Refused)
+}
+
+/// Why octets are no message on A, unless memory was refused.
+fn bssmap_fault(fault: BssmapFault) -> Result<Bad, LabFault>
+    ensures fault { IfOk result (λ bad. (fault ≢ BssmapFault.NoMemory) × (bad ≡ Bad.Bssmap fault)) }
+    ensures memory { IfErr result (λ answer. (fault ≡ BssmapFault.NoMemory) × (answer ≡ LabFault.NoMemory)) }
+{
+    match fault {
+        BssmapFault::NoMemory => Err(LabFault::NoMemory),
+        _ => Ok(Bad::Bssmap(fault)),
+    }
+}
+
+/// Why octets are no message on Abis, unless memory was refused.
+fn abis_fault(fault: RslFault) -> Result<Bad, LabFault>
+    ensures fault { IfOk result (λ bad. (fault ≢ RslFault.NoMemory) × (bad ≡ Bad.Rsl fault)) }
+    ensures memory { IfErr result (λ answer. (fault ≡ RslFault.NoMemory) × (answer ≡ LabFault.NoMemory)) }
+{
+    match fault {
+        RslFault::NoMemory => Err(LabFault::NoMemory),
+        _ => Ok(Bad::Rsl(fault)),
+    }
+}
+
 /// Prints a radio resource message, or why the octets are none.
 fn decode_rr<W: Write>(octets: &[u8], out: &mut W) -> Result<Status, LabFault>
     ensures done { result ≡ Ok Status.Done → IsRrMessage octets.now }
@@ -59,10 +90,7 @@ fn decode_rr<W: Write>(octets: &[u8], out: &mut W) -> Result<Status, LabFault>
             writeln!(out, "{}", RrText(message))?;
             Ok(Status::Done)
         }
-        Err(fault) => {
-            print_fault(out, Bad::Rr(fault))?;
-            Ok(Status::Refused)
-        }
+        Err(fault) => refuse(out, Some(Bad::Rr(fault))),
     }
 }
 
@@ -81,11 +109,7 @@ fn decode_bssmap<A: Allocator + Copy, W: Write>(
             writeln!(out, "{}", BssmapText(&message))?;
             Ok(Status::Done)
         }
-        Err(BssmapFault::NoMemory) => Err(LabFault::NoMemory),
-        Err(fault) => {
-            print_fault(out, Bad::Bssmap(fault))?;
-            Ok(Status::Refused)
-        }
+        Err(fault) => refuse(out, Some(bssmap_fault(fault)?)),
     }
 }
 
@@ -104,11 +128,7 @@ fn decode_abis<A: Allocator + Copy, W: Write>(
             writeln!(out, "{}", AbisText(&message))?;
             Ok(Status::Done)
         }
-        Err(RslFault::NoMemory) => Err(LabFault::NoMemory),
-        Err(fault) => {
-            print_fault(out, Bad::Rsl(fault))?;
-            Ok(Status::Refused)
-        }
+        Err(fault) => refuse(out, Some(abis_fault(fault)?)),
     }
 }
 
@@ -128,8 +148,7 @@ pub fn decode_run<A: Allocator + Copy, W: Write>(
     ensures memory { result ≡ Err LabFault.NoMemory → is_some (octets_of text.now) ≡ true }
 {
     let Some(octets) = octets(alloc, text)? else {
-        writeln!(out, "hex")?;
-        return Ok(Status::Refused);
+        return refuse(out, None);
     };
     match link {
         Link::Rr => decode_rr(&octets, out),

@@ -87,6 +87,28 @@ fn run_inputs<A: Allocator + Copy, W: Write>(
     Ok(())
 }
 
+/// Runs a script over a site that was read.
+fn run_script<A: Allocator + Copy, W: Write>(
+    alloc: A,
+    site: Site<A>,
+    script: &str,
+    out: &mut W,
+) -> Result<Status, LabFault>
+    ensures done { result ≡ Ok Status.Done → first_unread script.now ≡ None }
+    ensures refused { result ≡ Ok Status.Refused → IsSome (first_unread script.now) }
+{
+    let inputs = match read_script(alloc, script) {
+        Ok(inputs) => inputs,
+        Err(ScriptFault::Line(number)) => {
+            writeln!(out, "line {number}")?;
+            return Ok(Status::Refused);
+        }
+        Err(ScriptFault::NoMemory) => return Err(LabFault::NoMemory),
+    };
+    run_inputs(alloc, site, inputs, out)?;
+    Ok(Status::Done)
+}
+
 /// Runs a script over a site, both given as texts, and prints the trace to `out`.
 ///
 /// The site is read first, then all lines of the script. A text that describes no site prints `site 1`, a script
@@ -103,22 +125,12 @@ pub fn lab_run<A: Allocator + Copy, W: Write>(
     ensures done { result ≡ Ok Status.Done → IsSome (described_site site.now) × (first_unread script.now ≡ None) }
     ensures refused { result ≡ Ok Status.Refused → (described_site site.now ≡ None) ⊎ IsSome (first_unread script.now) }
 {
-    let site = match Site::read(alloc, scratch, site) {
-        Ok(site) => site,
+    match Site::read(alloc, scratch, site) {
+        Ok(site) => run_script(alloc, site, script, out),
         Err(SiteFault::Toml) => {
             writeln!(out, "site 1")?;
-            return Ok(Status::Refused);
+            Ok(Status::Refused)
         }
-        Err(SiteFault::NoMemory) => return Err(LabFault::NoMemory),
-    };
-    let inputs = match read_script(alloc, script) {
-        Ok(inputs) => inputs,
-        Err(ScriptFault::Line(number)) => {
-            writeln!(out, "line {number}")?;
-            return Ok(Status::Refused);
-        }
-        Err(ScriptFault::NoMemory) => return Err(LabFault::NoMemory),
-    };
-    run_inputs(alloc, site, inputs, out)?;
-    Ok(Status::Done)
+        Err(SiteFault::NoMemory) => Err(LabFault::NoMemory),
+    }
 }

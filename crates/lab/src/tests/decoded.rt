@@ -205,29 +205,26 @@ const NO_HEX: &[(&str, &str)] = &[
 ];
 
 /// Texts that take memory.
-const WANTS: &[(Link, &str, &str)] = &[
-    (Link::A, REQUIRED.0, REQUIRED.1),
-    (Link::Abis, ACTIVATION.0, ACTIVATION.1),
-];
+const WANTS: &[(Link, (&str, &str))] = &[(Link::A, REQUIRED), (Link::Abis, ACTIVATION)];
 
 /// Texts that take no memory.
-const WANTS_NOTHING: &[(Link, &str, &str)] = &[
-    (Link::Rr, "", "fault rr 1"),
-    (Link::A, "", "fault a 1"),
-    (Link::Abis, "", "fault abis 1"),
-    (Link::Rr, "062c0g", "hex"),
-    (Link::Abis, "082e010b0", "hex"),
+const WANTS_NOTHING: &[(Link, (&str, &str))] = &[
+    (Link::Rr, ("", "fault rr 1")),
+    (Link::A, ("", "fault a 1")),
+    (Link::Abis, ("", "fault abis 1")),
+    (Link::Rr, ("062c0g", "hex")),
+    (Link::Abis, ("082e010b0", "hex")),
 ];
 
 /// Texts that are printed by different ways to a write.
-const WRITES: &[(Link, &str, &str)] = &[
-    (Link::Abis, ACTIVATION.0, ACTIVATION.1),
-    (Link::Rr, "062c00", "HANDOVER COMPLETE cause=0"),
-    (Link::A, REQUIRED.0, REQUIRED.1),
-    (Link::A, "0003160405", "fault a 6 3"),
-    (Link::Abis, "082201", "fault abis 5 2"),
-    (Link::Rr, "06ff", "fault rr 2 255"),
-    (Link::Rr, "0g", "hex"),
+const WRITES: &[(Link, (&str, &str))] = &[
+    (Link::Abis, ACTIVATION),
+    (Link::Rr, ("062c00", "HANDOVER COMPLETE cause=0")),
+    (Link::A, REQUIRED),
+    (Link::A, ("0003160405", "fault a 6 3")),
+    (Link::Abis, ("082201", "fault abis 5 2")),
+    (Link::Rr, ("06ff", "fault rr 2 255")),
+    (Link::Rr, ("0g", "hex")),
 ];
 
 /// What a text printed, and how it ended.
@@ -344,7 +341,7 @@ fn prints_without(
 
 #[test]
 fn each_request_for_memory_is_refused(rt: HostRuntime) -> Result<(), Fail> {
-    for (link, hex, wanted) in WANTS {
+    for (link, (hex, wanted)) in WANTS {
         let mut tried = 0u64;
         for n in 1..100 {
             if prints_without(&rt, rt.alloc(), *link, *hex, *wanted, n)? {
@@ -360,7 +357,7 @@ fn each_request_for_memory_is_refused(rt: HostRuntime) -> Result<(), Fail> {
 
 #[test]
 fn texts_that_take_no_memory(rt: HostRuntime) -> Result<(), Fail> {
-    for (link, hex, wanted) in WANTS_NOTHING {
+    for (link, (hex, wanted)) in WANTS_NOTHING {
         let heap = RefusingHeap::refusing_from(rt.alloc(), 1);
         let (status, text) = printed(&heap, rt.alloc(), *link, *hex)?;
         assert_eq!(rt; status, Ok(Status::Refused), "{hex}");
@@ -393,7 +390,7 @@ fn writes_all(
 
 #[test]
 fn each_write_fails(rt: HostRuntime) -> Result<(), Fail> {
-    for (link, hex, wanted) in WRITES {
+    for (link, (hex, wanted)) in WRITES {
         let mut tried = 0u64;
         for before in 0..100 {
             if writes_all(&rt, rt.alloc(), *link, *hex, *wanted, before)? {

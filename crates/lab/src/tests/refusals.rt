@@ -23,15 +23,17 @@ const REFUSALS: &[(&str, &str, &str)] = &[
     ),
 ];
 
-/// A site, a script, what they print, and in how many writes at least.
-const WRITES: &[(&str, &str, &str, u64)] = &[
-    (SITE, ONE_CALL.0, ONE_CALL.1, 13),
-    ("", "", "site 1\n", 1),
-    (SITE, "undo", "line 1\n", 1),
+/// A site, a script with what they print, and in how many writes at least.
+const WRITES: &[(&str, (&str, &str), u64)] = &[
+    (SITE, ONE_CALL, 13),
+    ("", ("", "site 1\n"), 1),
+    (SITE, ("undo", "line 1\n"), 1),
     (
         SITE,
-        "abis 0 0 04",
-        "in abis 0 0 04\nfault abis 1\nend channels=0 calls=0 references=0 timers=0\n",
+        (
+            "abis 0 0 04",
+            "in abis 0 0 04\nfault abis 1\nend channels=0 calls=0 references=0 timers=0\n",
+        ),
         3,
     ),
 ];
@@ -97,7 +99,7 @@ fn writes_all(
 
 #[test]
 fn each_write_fails(rt: HostRuntime) -> Result<(), Fail> {
-    for (site, script, wanted, at_least) in WRITES {
+    for (site, (script, wanted), at_least) in WRITES {
         let mut tried = 0u64;
         for before in 0..1000 {
             if writes_all(&rt, rt.alloc(), *site, *script, *wanted, before)? {

@@ -1,5 +1,7 @@
 use crate::decoded::Link;
 use crate::words::{Job, WordsFault, read_words};
+use std::alloc::Global;
+use std::process::Abort;
 use std::test::Fail;
 
 #[test]
@@ -51,13 +53,18 @@ const SHOWS: &[(&[&str], &str)] = &[
     (&["-V"], "bsc_lab 0."),
 ];
 
+/// These words ask for a text with this part.
+fn shows<'a>(rt: &impl Abort, alloc: Global, words: &'a [&'a str], part: &str) {
+    match read_words(alloc, words) {
+        Ok(Job::Show(text)) => assert!(rt; text.contains(part), "{part}: {text}"),
+        _ => assert!(rt; false, "{part}: a text"),
+    }
+}
+
 #[test]
 fn help_and_version_are_shown(rt: HostRuntime) {
     for (words, part) in SHOWS {
-        match read_words(rt.alloc(), *words) {
-            Ok(Job::Show(text)) => assert!(rt; text.contains(*part), "{part}: {text}"),
-            _ => assert!(rt; false, "{part}: a text"),
-        }
+        shows(&rt, rt.alloc(), *words, *part);
     }
 }
 
@@ -78,14 +85,17 @@ const REFUSALS: &[(&[&str], &str)] = &[
     (&["decode", "rr", "06", "2c00"], "2c00"),
 ];
 
+/// These words are refused by a text that names the mistake.
+fn refuses<'a>(rt: &impl Abort, alloc: Global, words: &'a [&'a str], mistake: &str) {
+    match read_words(alloc, words) {
+        Err(WordsFault::Refused(text)) => assert!(rt; text.contains(mistake), "{mistake}: {text}"),
+        _ => assert!(rt; false, "{mistake}: a refusal"),
+    }
+}
+
 #[test]
 fn other_words_are_refused(rt: HostRuntime) {
     for (words, mistake) in REFUSALS {
-        match read_words(rt.alloc(), *words) {
-            Err(WordsFault::Refused(text)) => {
-                assert!(rt; text.contains(*mistake), "{mistake}: {text}");
-            }
-            _ => assert!(rt; false, "{mistake}: a refusal"),
-        }
+        refuses(&rt, rt.alloc(), *words, *mistake);
     }
 }

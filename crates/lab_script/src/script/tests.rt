@@ -98,7 +98,7 @@ const READ: &[(&str, &[Gives<'static>])] = &[
     ),
 ];
 
-fn gives<'a>(input: &'a Inbound<Global>) -> Gives<'a> {
+fn given_by<'a>(input: &'a Inbound<Global>) -> Gives<'a> {
     match input {
         Inbound::Operator(line) => Operator(*line),
         Inbound::Abis { cell, trx, bytes } => Abis(*cell, *trx, bytes.as_slice()),
@@ -115,7 +115,7 @@ fn is_read(
     let inputs = read_script(alloc, script)?;
     assert_eq!(rt; inputs.len(), wanted.len(), "{script}");
     for (input, wanted) in inputs.iter().zip(wanted.iter()) {
-        assert_eq!(rt; gives(input), *wanted, "{script}");
+        assert_eq!(rt; given_by(input), *wanted, "{script}");
     }
     Ok(())
 }
