@@ -9,6 +9,10 @@ use std::alloc::{AllocError, Allocator, Global};
 use std::collections::BTreeMap;
 use std::marker::Model;
 
+mod key;
+
+use key::CallKey;
+
 /// Channels with their states; a free one has no entry.
 #[derive(Drop)]
 pub struct Channels<A: Allocator = Global> {
@@ -80,7 +84,7 @@ impl<A: Allocator + Copy> Channels<A> {
 /// What is kept of each call, seen as its record.
 #[derive(Drop)]
 pub struct Calls<A: Allocator = Global> {
-    entries: BTreeMap<u16, CallEntry, A>,
+    entries: BTreeMap<CallKey, CallEntry, A>,
 }
 
 impl<A: Allocator> Model for Calls<A> {
@@ -115,7 +119,7 @@ impl<A: Allocator + Copy> Calls<A> {
     pub fn get(&self, call: u16) -> Option<CallRecord>
         ensures { result ≡ map.get self.now call }
     {
-        match self.entries.get(&call) {
+        match self.entries.get(&CallKey { number: call }) {
             Some(entry) => Some(entry.record()),
             None => None,
         }
@@ -125,7 +129,7 @@ impl<A: Allocator + Copy> Calls<A> {
     pub fn entry(&self, call: u16) -> Option<CallEntry>
         ensures { result ≡ map.get self.now call }
     {
-        match self.entries.get(&call) {
+        match self.entries.get(&CallKey { number: call }) {
             Some(entry) => Some(entry.copy()),
             None => None,
         }
@@ -137,7 +141,7 @@ impl<A: Allocator + Copy> Calls<A> {
         ensures err { OnErr result (self.new ≡ self.old) }
         ensures new_key { OnErr result (map.get self.old call ≡ None) }
     {
-        self.entries.insert(call, entry)?;
+        self.entries.insert(CallKey { number: call }, entry)?;
         Ok(())
     }
 
@@ -146,7 +150,7 @@ impl<A: Allocator + Copy> Calls<A> {
         requires { IsSome (map.get self.old call) }
         ensures { self.new ≡ map.insert self.old call entry }
     {
-        match self.entries.get_mut(&call) {
+        match self.entries.get_mut(&CallKey { number: call }) {
             Some(place) => *place = entry,
             None => unreachable!(),
         }
@@ -155,7 +159,7 @@ impl<A: Allocator + Copy> Calls<A> {
     pub fn remove(&mut self, call: u16)
         ensures { self.new ≡ map.remove self.old call }
     {
-        let _ = self.entries.remove(&call);
+        let _ = self.entries.remove(&CallKey { number: call });
     }
 }
 

@@ -220,13 +220,26 @@ const REFUSALS: [(Event, Refusal); 23] = [
     (Released(HOME), Unexpected(HOME)),
 ];
 
+fn refuses<A: Allocator + Copy>(
+    rt: &impl Abort,
+    book: &mut Book<A>,
+    rows: &[(Event, Refusal)],
+) -> Result<(), Fail> {
+    for (event, refusal) in rows {
+        assert_eq!(rt;
+            put(book, Step(*event))?,
+            Says(Refused(*refusal)),
+            "{event:?}"
+        );
+    }
+    Ok(())
+}
+
 #[test]
 fn the_first_refusal_is_answered(rt: HostRuntime) -> Result<(), Fail> {
     let mut book = book_of(rt.alloc(), rt.alloc(), THREE_CHANNELS)?;
     play(&rt, &mut book, &STEADY)?;
-    for (event, refusal) in REFUSALS {
-        play(&rt, &mut book, &[(Step(event), Says(Refused(refusal)))])?;
-    }
+    refuses(&rt, &mut book, &REFUSALS)?;
     play(&rt, &mut book, &[(Ask::Usage, holds(1, 1, 0))])
 }
 
@@ -380,32 +393,40 @@ fn comes_back(
     play(rt, book, after)
 }
 
+fn comes_and_goes(rt: &(impl AllocGlobal + Abort), way: Way) -> Result<(), Fail> {
+    let mut book = book_of(rt.alloc(), rt.alloc(), THREE_CHANNELS)?;
+    let answer = Says(Record(coming(way.1, way.2), None));
+    comes_back(rt, &mut book, Kind::Incoming, way, answer)?;
+    let ends = [
+        (Ask::Usage, holds(0, 0, 0)),
+        (Step(Look(1)), Says(Refused(NoCall))),
+    ];
+    play(rt, &mut book, &ends)
+}
+
 #[test]
 fn each_stage_of_a_call_that_comes_is_undone(rt: HostRuntime) -> Result<(), Fail> {
-    for way in WAYS {
-        let mut book = book_of(rt.alloc(), rt.alloc(), THREE_CHANNELS)?;
-        let answer = Says(Record(coming(way.1, way.2), None));
-        comes_back(&rt, &mut book, Kind::Incoming, way, answer)?;
-        let ends = [
-            (Ask::Usage, holds(0, 0, 0)),
-            (Step(Look(1)), Says(Refused(NoCall))),
-        ];
-        play(&rt, &mut book, &ends)?;
+    for way in &WAYS {
+        comes_and_goes(&rt, *way)?;
     }
     Ok(())
 }
 
+fn moves_and_rests(rt: &(impl AllocGlobal + Abort), way: Way) -> Result<(), Fail> {
+    let mut book = book_of(rt.alloc(), rt.alloc(), THREE_CHANNELS)?;
+    play(rt, &mut book, &STEADY)?;
+    comes_back(rt, &mut book, Kind::Internal, way, undone(way.1, way.2))?;
+    let ends = [
+        (Ask::Usage, holds(1, 1, 0)),
+        (Step(Look(1)), Says(Record(RESTING, Some(ChanState::On(1))))),
+    ];
+    play(rt, &mut book, &ends)
+}
+
 #[test]
 fn each_stage_of_a_call_that_moves_is_undone(rt: HostRuntime) -> Result<(), Fail> {
-    for way in WAYS {
-        let mut book = book_of(rt.alloc(), rt.alloc(), THREE_CHANNELS)?;
-        play(&rt, &mut book, &STEADY)?;
-        comes_back(&rt, &mut book, Kind::Internal, way, undone(way.1, way.2))?;
-        let ends = [
-            (Ask::Usage, holds(1, 1, 0)),
-            (Step(Look(1)), Says(Record(RESTING, Some(ChanState::On(1))))),
-        ];
-        play(&rt, &mut book, &ends)?;
+    for way in &WAYS {
+        moves_and_rests(&rt, *way)?;
     }
     Ok(())
 }
@@ -595,12 +616,19 @@ const FULL: [Row; 5] = [
     (Step(Reserve(1, 0)), DONE),
 ];
 
-#[test]
-fn what_takes_no_memory_succeeds_without(rt: HostRuntime) -> Result<(), Fail> {
+// What a book answers that has no memory left.
+fn answers_without_memory(rt: &(impl AllocGlobal + Abort), rows: &[Row]) -> Result<(), Fail> {
     let heap = RefusingHeap::ample(rt.alloc());
     let mut book = book_of(&heap, rt.alloc(), THREE_CHANNELS)?;
-    play(&rt, &mut book, &FULL)?;
+    play(rt, &mut book, &FULL)?;
     heap.refuse_from_now();
+    play(rt, &mut book, rows)?;
+    assert_eq!(rt; heap.refused(), 0);
+    Ok(())
+}
+
+#[test]
+fn what_takes_no_memory_succeeds_without(rt: HostRuntime) -> Result<(), Fail> {
     let held = CallRecord {
         serving: Some(OTHER),
         attempt: None,
@@ -618,7 +646,5 @@ fn what_takes_no_memory_succeeds_without(rt: HostRuntime) -> Result<(), Fail> {
         (TakeAny(3, Kind::Incoming, 9), NoneFree),
         (ReserveAny(3), Chose(Reserve(3, 0), Refused(NoCall))),
     ];
-    play(&rt, &mut book, &rows)?;
-    assert_eq!(rt; heap.refused(), 0);
-    Ok(())
+    answers_without_memory(&rt, &rows)
 }
