@@ -6,6 +6,7 @@ use crate::reading::decode;
 use crate::writing::{encode, encode_into, fits};
 use refusing_heap::RefusingHeap;
 use std::alloc::{AllocError, Global};
+use std::process::Abort;
 use std::test::Fail;
 
 const REQUEST: &[u8] = &[
@@ -93,14 +94,23 @@ const ELEMENTS: [&[(usize, u8, bool)]; 12] = [
     &[(3, 4, true)],
 ];
 
+/// Reads a text, and writes what it says.
+fn is_written_as(rt: &(impl AllocGlobal + Abort), text: &[u8], written: &[u8]) -> Result<(), Fail> {
+    let message = decode(rt.alloc(), text)?;
+    assert!(rt; fits(&message), "{text:?}");
+    assert_eq!(rt;
+        encode(rt.alloc(), &message)?.as_slice(),
+        written,
+        "{text:?}"
+    );
+    Ok(())
+}
+
 #[test]
 fn reads_back_what_it_writes(rt: HostRuntime) -> Result<(), Fail> {
     for texts in [TEXTS.as_slice(), MORE_TEXTS.as_slice()] {
         for text in texts {
-            let message = decode(rt.alloc(), text)?;
-            assert!(rt; fits(&message), "{message:?}");
-            let written = encode(rt.alloc(), &message)?;
-            assert_eq!(rt; written.as_slice(), *text, "{message:?}");
+            is_written_as(&rt, text, text)?;
         }
     }
     reading_is_unique::<Global>();
@@ -349,13 +359,7 @@ const OTHER_TEXTS: [(&[u8], &[u8]); 9] = [
 #[test]
 fn reads_other_texts_of_a_message(rt: HostRuntime) -> Result<(), Fail> {
     for (text, written) in OTHER_TEXTS {
-        let message = decode(rt.alloc(), text)?;
-        assert!(rt; fits(&message));
-        assert_eq!(rt;
-            encode(rt.alloc(), &message)?.as_slice(),
-            written,
-            "{message:?}"
-        );
+        is_written_as(&rt, text, written)?;
     }
     Ok(())
 }
@@ -591,21 +595,37 @@ fn appends_in_room(rt: HostRuntime) -> Result<(), Fail> {
     Ok(())
 }
 
-#[test]
-fn answers_want_of_memory(rt: HostRuntime) -> Result<(), Fail> {
-    for text in TEXTS {
-        for n in 1..10 {
-            let heap = RefusingHeap::refusing_nth(rt.alloc(), n);
-            let read = decode(&heap, text);
-            assert_eq!(rt;
-                matches!(read, Err(BssmapFault::NoMemory)),
-                heap.was_refused(),
-                "request {n} of {text:?}"
-            );
-            if !heap.was_refused() {
-                break;
-            }
+/// Each request for memory of `decode` is refused in turn: how many there are.
+fn refused_readings(rt: &(impl AllocGlobal + Abort), text: &[u8]) -> Option<u64> {
+    for n in 1..10 {
+        let heap = RefusingHeap::refusing_nth(rt.alloc(), n);
+        let fault = decode(&heap, text).err();
+        if !heap.was_refused() {
+            assert_eq!(rt; fault, None, "request {n} of {text:?}");
+            return Some(n - 1);
         }
+        assert_eq!(rt;
+            fault,
+            Some(BssmapFault::NoMemory),
+            "request {n} of {text:?}"
+        );
+    }
+    None
+}
+
+/// How many lists the message of each text keeps.
+const LISTS: [u64; 12] = [2, 1, 1, 1, 0, 0, 0, 0, 0, 0, 0, 0];
+
+#[test]
+fn reading_answers_want_of_memory(rt: HostRuntime) {
+    for (text, lists) in TEXTS.iter().zip(LISTS) {
+        assert_eq!(rt; refused_readings(&rt, text), Some(lists), "{text:?}");
+    }
+}
+
+#[test]
+fn writing_answers_want_of_memory(rt: HostRuntime) -> Result<(), Fail> {
+    for text in TEXTS {
         let heap = RefusingHeap::ample(rt.alloc());
         let message = decode(&heap, text)?;
         heap.refuse_from_now();
@@ -613,10 +633,14 @@ fn answers_want_of_memory(rt: HostRuntime) -> Result<(), Fail> {
         assert!(rt; encode(&heap, &message).is_err());
         assert!(rt; heap.was_refused());
     }
+    Ok(())
+}
+
+#[test]
+fn lists_answer_want_of_memory(rt: HostRuntime) {
     let heap = RefusingHeap::refusing_from(rt.alloc(), 1);
     assert!(rt; Octets::new(&heap, &[1]).is_err());
     assert!(rt; CellList::new(&heap, &[AREA_1]).is_err());
-    Ok(())
 }
 
 #[test]
