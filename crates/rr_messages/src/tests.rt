@@ -88,17 +88,27 @@ const MESSAGES: [(Said, &[u8]); 10] = [
 fn reads_and_writes_each_message(rt: HostRuntime) -> Result<(), Fail> {
     for (said, octets) in MESSAGES {
         let message = message(said)?;
-        assert_eq!(rt; decode(octets)?, message);
+        assert_eq!(rt; decode(octets), Ok(message));
         assert_eq!(rt; encode(rt.alloc(), &message)?.as_slice(), octets);
+    }
+    Ok(())
+}
 
-        // What follows the mandatory part is ignored, and not written.
+#[test]
+fn ignores_what_follows_the_mandatory_part(rt: HostRuntime) -> Result<(), Fail> {
+    for (said, octets) in MESSAGES {
         let mut longer = Vec::from_slice(rt.alloc(), octets)?;
         longer.extend_from_slice(&[0x7D, 0x06, 0x00])?;
-        assert_eq!(rt; decode(&longer)?, message);
+        assert_eq!(rt; decode(&longer), Ok(message(said)?));
+    }
+    Ok(())
+}
 
-        // It is appended to what stands in a list.
+#[test]
+fn appends_to_what_stands_in_a_list(rt: HostRuntime) -> Result<(), Fail> {
+    for (said, octets) in MESSAGES {
         let mut out = Vec::from_slice(rt.alloc(), &[1, 2])?;
-        encode_into(&message, &mut out)?;
+        encode_into(&message(said)?, &mut out)?;
         assert_eq!(rt; &out[..2], [1, 2].as_slice());
         assert_eq!(rt; &out[2..], octets);
     }
