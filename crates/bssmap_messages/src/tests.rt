@@ -6,6 +6,7 @@ use crate::reading::decode;
 use crate::writing::{encode, encode_into, fits};
 use refusing_heap::RefusingHeap;
 use std::alloc::{AllocError, Global};
+use std::process::Abort;
 use std::test::Fail;
 
 const REQUEST: &[u8] = &[
@@ -93,18 +94,23 @@ const ELEMENTS: [&[(usize, u8, bool)]; 12] = [
     &[(3, 4, true)],
 ];
 
-fn cell(lac: u16, ci: u16) -> CellId {
-    CellId { lac: Some(lac), ci }
+/// Reads a text, and writes what it says.
+fn is_written_as(rt: &(impl AllocGlobal + Abort), text: &[u8], written: &[u8]) -> Result<(), Fail> {
+    let message = decode(rt.alloc(), text)?;
+    assert!(rt; fits(&message), "{text:?}");
+    assert_eq!(rt;
+        encode(rt.alloc(), &message)?.as_slice(),
+        written,
+        "{text:?}"
+    );
+    Ok(())
 }
 
 #[test]
 fn reads_back_what_it_writes(rt: HostRuntime) -> Result<(), Fail> {
     for texts in [TEXTS.as_slice(), MORE_TEXTS.as_slice()] {
         for text in texts {
-            let message = decode(rt.alloc(), text)?;
-            assert!(rt; fits(&message), "{message:?}");
-            let written = encode(rt.alloc(), &message)?;
-            assert_eq!(rt; written.as_slice(), *text, "{message:?}");
+            is_written_as(&rt, text, text)?;
         }
     }
     reading_is_unique::<Global>();
@@ -112,212 +118,327 @@ fn reads_back_what_it_writes(rt: HostRuntime) -> Result<(), Fail> {
     Ok(())
 }
 
-#[test]
-fn reads_a_request(rt: HostRuntime) -> Result<(), Fail> {
-    let Bssmap::HandoverRequest {
-        channel,
-        encryption,
-        classmark,
-        serving,
-        target,
-    } = decode(rt.alloc(), REQUEST)?
-    else {
-        return Err("no HANDOVER REQUEST")?;
-    };
-    assert_eq!(rt; channel.as_slice(), [1, 8, 1].as_slice());
-    assert_eq!(rt; encryption.as_slice(), [1].as_slice());
-    let Classmark::One(octet) = classmark else {
-        return Err("no classmark 1")?;
-    };
-    assert_eq!(rt; octet, 0x33);
-    assert_eq!(rt; serving, cell(23, 102));
-    assert_eq!(rt; target, cell(23, 101));
-    Ok(())
+/// What a message says, its lists borrowed.
+#[derive(Clone, Copy, Debug, PartialEq, Eq)]
+enum Said<'a> {
+    HandoverRequest {
+        channel: &'a [u8],
+        encryption: &'a [u8],
+        classmark: Mark<'a>,
+        serving: CellId,
+        target: CellId,
+    },
+    HandoverRequired {
+        cause: u8,
+        response: bool,
+        cells: &'a [CellId],
+    },
+    HandoverRequestAck {
+        layer3: &'a [u8],
+    },
+    HandoverCommand {
+        layer3: &'a [u8],
+    },
+    HandoverComplete {
+        rr: Option<u8>,
+    },
+    HandoverFailure {
+        cause: u8,
+        rr: Option<u8>,
+    },
+    HandoverPerformed {
+        cause: u8,
+        cell: CellId,
+    },
+    HandoverRequiredReject {
+        cause: u8,
+    },
+    HandoverDetect,
+    ClearCommand {
+        cause: u8,
+    },
+    ClearComplete,
+    ClearRequest {
+        cause: u8,
+    },
 }
 
+/// A classmark, borrowed.
+#[derive(Clone, Copy, Debug, PartialEq, Eq)]
+enum Mark<'a> {
+    One(u8),
+    Two(&'a [u8]),
+}
+
+fn borrowed_mark(classmark: &Classmark) -> Mark<'_> {
+    match classmark {
+        Classmark::One(octet) => Mark::One(*octet),
+        Classmark::Two(octets) => Mark::Two(octets.as_slice()),
+    }
+}
+
+fn borrowed(message: &Bssmap) -> Said<'_> {
+    match message {
+        Bssmap::HandoverRequest {
+            channel,
+            encryption,
+            classmark,
+            serving,
+            target,
+        } => Said::HandoverRequest {
+            channel: channel.as_slice(),
+            encryption: encryption.as_slice(),
+            classmark: borrowed_mark(classmark),
+            serving: *serving,
+            target: *target,
+        },
+        Bssmap::HandoverRequired {
+            cause,
+            response,
+            cells,
+        } => Said::HandoverRequired {
+            cause: *cause,
+            response: *response,
+            cells: cells.as_slice(),
+        },
+        Bssmap::HandoverRequestAck { layer3 } => Said::HandoverRequestAck {
+            layer3: layer3.as_slice(),
+        },
+        Bssmap::HandoverCommand { layer3 } => Said::HandoverCommand {
+            layer3: layer3.as_slice(),
+        },
+        Bssmap::HandoverComplete { rr } => Said::HandoverComplete { rr: *rr },
+        Bssmap::HandoverFailure { cause, rr } => Said::HandoverFailure {
+            cause: *cause,
+            rr: *rr,
+        },
+        Bssmap::HandoverPerformed { cause, cell } => Said::HandoverPerformed {
+            cause: *cause,
+            cell: *cell,
+        },
+        Bssmap::HandoverRequiredReject { cause } => Said::HandoverRequiredReject { cause: *cause },
+        Bssmap::HandoverDetect => Said::HandoverDetect,
+        Bssmap::ClearCommand { cause } => Said::ClearCommand { cause: *cause },
+        Bssmap::ClearComplete => Said::ClearComplete,
+        Bssmap::ClearRequest { cause } => Said::ClearRequest { cause: *cause },
+    }
+}
+
+/// The cells of the texts above.
+const SERVING: CellId = CellId {
+    lac: Some(23),
+    ci: 102,
+};
+
+const TARGET: CellId = CellId {
+    lac: Some(23),
+    ci: 101,
+};
+
+/// What each text says.
+const SAYINGS: [Said<'static>; 12] = [
+    Said::HandoverRequest {
+        channel: &[1, 8, 1],
+        encryption: &[1],
+        classmark: Mark::One(0x33),
+        serving: SERVING,
+        target: TARGET,
+    },
+    Said::HandoverRequired {
+        cause: 0x0C,
+        response: true,
+        cells: &[SERVING],
+    },
+    Said::HandoverRequestAck {
+        layer3: &[6, 0x2B, 0xD5, 0x67, 0x0B, 0xA3, 0x6B, 0, 5],
+    },
+    Said::HandoverCommand {
+        layer3: &[6, 0x2B, 0xD5, 0x67, 0x0B, 0xA3, 0x6B, 0x2A, 5],
+    },
+    Said::HandoverComplete { rr: Some(0) },
+    Said::HandoverFailure {
+        cause: 0x0A,
+        rr: Some(0),
+    },
+    Said::HandoverPerformed {
+        cause: 0x0C,
+        cell: TARGET,
+    },
+    Said::HandoverRequiredReject { cause: 0x21 },
+    Said::HandoverDetect,
+    Said::ClearCommand { cause: 9 },
+    Said::ClearComplete,
+    Said::ClearRequest { cause: 0x20 },
+];
+
 #[test]
-fn reads_cells(rt: HostRuntime) -> Result<(), Fail> {
-    let lone = CellId {
-        lac: None,
-        ci: 0x0506,
-    };
-    let rows: [(&[u8], &[CellId]); 5] = [
-        (
-            &[0, 12, 0x11, 4, 1, 0x0C, 0x1B, 0x1A, 5, 1, 0, 0x17, 0, 0x66],
-            &[cell(23, 102)],
-        ),
-        (
-            &[
-                0, 15, 0x11, 4, 1, 0x0C, 0x1A, 9, 0xF1, 1, 2, 3, 4, 5, 6, 7, 8,
-            ],
-            &[cell(0x0102, 0x0304), cell(0x0506, 0x0708)],
-        ),
-        (
-            &[0, 14, 0x11, 4, 1, 0x0C, 0x1A, 8, 0, 9, 9, 9, 1, 2, 3, 4],
-            &[cell(0x0102, 0x0304)],
-        ),
-        (&[0, 9, 0x11, 4, 1, 0x0C, 0x1A, 3, 2, 5, 6], &[lone]),
-        (
-            &[0, 11, 0x11, 4, 1, 0x0C, 0x1A, 5, 0x12, 5, 6, 5, 6],
-            &[lone, lone],
-        ),
-    ];
-    for (text, wanted) in rows {
-        let Bssmap::HandoverRequired { cause, cells, .. } = decode(rt.alloc(), text)? else {
-            return Err("no HANDOVER REQUIRED")?;
-        };
-        assert_eq!(rt; cause, 0x0C);
-        assert_eq!(rt; cells.as_slice(), wanted);
+fn reads_each_message(rt: HostRuntime) -> Result<(), Fail> {
+    for (text, saying) in TEXTS.iter().zip(SAYINGS) {
+        let message = decode(rt.alloc(), text)?;
+        assert_eq!(rt; borrowed(&message), saying);
     }
     Ok(())
 }
 
+const LONE: CellId = CellId {
+    lac: None,
+    ci: 0x0506,
+};
+
+const FIRST: CellId = CellId {
+    lac: Some(0x0102),
+    ci: 0x0304,
+};
+
+const SECOND: CellId = CellId {
+    lac: Some(0x0506),
+    ci: 0x0708,
+};
+
+/// Texts of HANDOVER REQUIRED with each kind of cell list, and their cells.
+const CELL_LISTS: [(&[u8], bool, &[CellId]); 5] = [
+    (
+        &[0, 12, 0x11, 4, 1, 0x0C, 0x1B, 0x1A, 5, 1, 0, 0x17, 0, 0x66],
+        true,
+        &[SERVING],
+    ),
+    (
+        &[
+            0, 15, 0x11, 4, 1, 0x0C, 0x1A, 9, 0xF1, 1, 2, 3, 4, 5, 6, 7, 8,
+        ],
+        false,
+        &[FIRST, SECOND],
+    ),
+    (
+        &[0, 14, 0x11, 4, 1, 0x0C, 0x1A, 8, 0, 9, 9, 9, 1, 2, 3, 4],
+        false,
+        &[FIRST],
+    ),
+    (&[0, 9, 0x11, 4, 1, 0x0C, 0x1A, 3, 2, 5, 6], false, &[LONE]),
+    (
+        &[0, 11, 0x11, 4, 1, 0x0C, 0x1A, 5, 0x12, 5, 6, 5, 6],
+        false,
+        &[LONE, LONE],
+    ),
+];
+
 #[test]
-fn reads_small_messages(rt: HostRuntime) -> Result<(), Fail> {
-    let Bssmap::HandoverRequestAck { layer3 } = decode(rt.alloc(), REQUEST_ACK)? else {
-        return Err("no HANDOVER REQUEST ACKNOWLEDGE")?;
-    };
-    assert_eq!(rt; layer3.as_slice(), &REQUEST_ACK[5..]);
-    let Bssmap::HandoverCommand { layer3 } = decode(rt.alloc(), COMMAND)? else {
-        return Err("no HANDOVER COMMAND")?;
-    };
-    assert_eq!(rt; layer3.as_slice(), &COMMAND[5..]);
-    let Bssmap::HandoverComplete { rr } = decode(rt.alloc(), COMPLETE)? else {
-        return Err("no HANDOVER COMPLETE")?;
-    };
-    assert_eq!(rt; rr, Some(0));
-    let Bssmap::HandoverFailure { cause, rr } = decode(rt.alloc(), FAILURE)? else {
-        return Err("no HANDOVER FAILURE")?;
-    };
-    assert_eq!(rt; (cause, rr), (0x0A, Some(0)));
-    let Bssmap::HandoverPerformed { cause, cell: now } = decode(rt.alloc(), PERFORMED)? else {
-        return Err("no HANDOVER PERFORMED")?;
-    };
-    assert_eq!(rt; (cause, now), (0x0C, cell(23, 101)));
-    let Bssmap::HandoverRequiredReject { cause } = decode(rt.alloc(), REQUIRED_REJECT)? else {
-        return Err("no HANDOVER REQUIRED REJECT")?;
-    };
-    assert_eq!(rt; cause, 0x21);
-    let Bssmap::ClearCommand { cause } = decode(rt.alloc(), CLEAR_COMMAND)? else {
-        return Err("no CLEAR COMMAND")?;
-    };
-    assert_eq!(rt; cause, 9);
-    let Bssmap::ClearRequest { cause } = decode(rt.alloc(), CLEAR_REQUEST)? else {
-        return Err("no CLEAR REQUEST")?;
-    };
-    assert_eq!(rt; cause, 0x20);
-    assert!(rt; matches!(decode(rt.alloc(), DETECT)?, Bssmap::HandoverDetect));
-    assert!(rt; matches!(decode(rt.alloc(), CLEAR_COMPLETE)?, Bssmap::ClearComplete));
+fn reads_cells(rt: HostRuntime) -> Result<(), Fail> {
+    for (text, response, cells) in CELL_LISTS {
+        let message = decode(rt.alloc(), text)?;
+        let saying = Said::HandoverRequired {
+            cause: 0x0C,
+            response,
+            cells,
+        };
+        assert_eq!(rt; borrowed(&message), saying);
+    }
     Ok(())
 }
 
 /// Texts that are not written so, with the text that is written for what they say.
+const OTHER_TEXTS: [(&[u8], &[u8]); 9] = [
+    // unknown elements before, between and after
+    (
+        &[0, 7, 0x16, 0x99, 1, 0, 4, 1, 0x21],
+        &[0, 4, 0x16, 4, 1, 0x21],
+    ),
+    (&[0, 5, 0x20, 4, 1, 9, 0x8F], CLEAR_COMMAND),
+    (&[0, 9, 0x16, 4, 1, 0x0A, 0x40, 7, 0x15, 0, 0x8C], FAILURE),
+    (&[0, 3, 0x21, 0x70, 0], CLEAR_COMPLETE),
+    (&[0, 6, 0x1B, 0x7F, 1, 2, 3, 4], DETECT),
+    // any order, and the first of a repeated element counts
+    (&[0, 6, 0x16, 0x15, 0, 4, 1, 0x0A], FAILURE),
+    (&[0, 6, 0x20, 4, 1, 9, 4, 0], CLEAR_COMMAND),
+    // of a cause the first octet counts
+    (&[0, 5, 0x22, 4, 2, 0x20, 7], CLEAR_REQUEST),
+    // no RR cause
+    (&[0, 1, 0x14], &[0, 1, 0x14]),
+];
+
 #[test]
 fn reads_other_texts_of_a_message(rt: HostRuntime) -> Result<(), Fail> {
-    let rows: [(&[u8], &[u8]); 9] = [
-        // unknown elements before, between and after
-        (
-            &[0, 7, 0x16, 0x99, 1, 0, 4, 1, 0x21],
-            &[0, 4, 0x16, 4, 1, 0x21],
-        ),
-        (&[0, 5, 0x20, 4, 1, 9, 0x8F], CLEAR_COMMAND),
-        (&[0, 9, 0x16, 4, 1, 0x0A, 0x40, 7, 0x15, 0, 0x8C], FAILURE),
-        (&[0, 3, 0x21, 0x70, 0], CLEAR_COMPLETE),
-        (&[0, 6, 0x1B, 0x7F, 1, 2, 3, 4], DETECT),
-        // any order, and the first of a repeated element counts
-        (&[0, 6, 0x16, 0x15, 0, 4, 1, 0x0A], FAILURE),
-        (&[0, 6, 0x20, 4, 1, 9, 4, 0], CLEAR_COMMAND),
-        // of a cause the first octet counts
-        (&[0, 5, 0x22, 4, 2, 0x20, 7], CLEAR_REQUEST),
-        // no RR cause
-        (&[0, 1, 0x14], &[0, 1, 0x14]),
-    ];
-    for (text, written) in rows {
-        let message = decode(rt.alloc(), text)?;
-        assert!(rt; fits(&message));
-        assert_eq!(rt;
-            encode(rt.alloc(), &message)?.as_slice(),
-            written,
-            "{message:?}"
-        );
+    for (text, written) in OTHER_TEXTS {
+        is_written_as(&rt, text, written)?;
     }
     Ok(())
 }
 
+/// Octets that are no text of a message, and their first fault.
+const FAULTS: [(&[u8], BssmapFault); 34] = [
+    (&[], BssmapFault::NotBssmap),
+    (&[1], BssmapFault::NotBssmap),
+    (&[1, 1, 0x1B], BssmapFault::NotBssmap),
+    (&[0], BssmapFault::Length),
+    (&[0, 0], BssmapFault::Length),
+    (&[0, 5, 0x1B], BssmapFault::Length),
+    (&[0, 0, 0x1B], BssmapFault::Length),
+    (&[0, 2, 0x1B], BssmapFault::Length),
+    (&[0, 3, 0x1B], BssmapFault::Length),
+    (&[0, 1, 0], BssmapFault::UnknownType(0)),
+    (&[0, 1, 0x15], BssmapFault::UnknownType(0x15)),
+    // the type comes before a torn element, and this before a missing one
+    (&[0, 2, 0x15, 4], BssmapFault::UnknownType(0x15)),
+    (&[0, 3, 0x16, 4, 5], BssmapFault::Torn(3)),
+    (&[0, 6, 0x11, 0x1B, 0x1B, 4, 2, 9], BssmapFault::Torn(5)),
+    (&[0, 2, 0x1B, 0x15], BssmapFault::Torn(3)),
+    (&[0, 1, 0x16], BssmapFault::Missing(4)),
+    (&[0, 1, 0x10], BssmapFault::Missing(0x0B)),
+    (&[0, 5, 0x10, 0x0B, 2, 1, 8], BssmapFault::Missing(0x0A)),
+    (
+        &[0, 8, 0x10, 0x0B, 2, 1, 8, 0x0A, 1, 1],
+        BssmapFault::Missing(0x12),
+    ),
+    (
+        &[0, 10, 0x10, 0x0B, 2, 1, 8, 0x0A, 1, 1, 0x12, 0],
+        BssmapFault::Missing(5),
+    ),
+    (&[0, 4, 0x11, 4, 1, 0], BssmapFault::Missing(0x1A)),
+    (&[0, 1, 0x12], BssmapFault::Missing(0x17)),
+    (&[0, 4, 0x17, 4, 1, 0], BssmapFault::Missing(5)),
+    // a missing element comes before a later bad one
+    (&[0, 3, 0x10, 0x0A, 0], BssmapFault::Missing(0x0B)),
+    (&[0, 4, 0x10, 0x0B, 1, 1], BssmapFault::BadElement(0x0B)),
+    (
+        &[0, 7, 0x10, 0x0B, 2, 1, 8, 0x0A, 0],
+        BssmapFault::BadElement(0x0A),
+    ),
+    (&[0, 3, 0x22, 4, 0], BssmapFault::BadElement(4)),
+    (&[0, 3, 0x13, 0x17, 0], BssmapFault::BadElement(0x17)),
+    (
+        &[0, 7, 0x11, 4, 1, 0, 0x1A, 1, 1],
+        BssmapFault::BadElement(0x1A),
+    ),
+    (
+        &[0, 6, 0x11, 4, 1, 0, 0x1A, 0],
+        BssmapFault::BadElement(0x1A),
+    ),
+    (
+        &[0, 10, 0x11, 4, 1, 0, 0x1A, 4, 1, 1, 1, 1],
+        BssmapFault::BadElement(0x1A),
+    ),
+    (
+        &[0, 9, 0x17, 4, 1, 0, 5, 3, 3, 1, 1],
+        BssmapFault::BadElement(5),
+    ),
+    (
+        &[0, 11, 0x17, 4, 1, 0, 5, 5, 2, 1, 1, 1, 1],
+        BssmapFault::BadElement(5),
+    ),
+    // a request with one cell
+    (
+        &[
+            0, 18, 0x10, 0x0B, 3, 1, 8, 1, 0x0A, 1, 1, 0x1D, 0x33, 5, 5, 1, 0, 0x17, 0, 0x66,
+        ],
+        BssmapFault::Missing(5),
+    ),
+];
+
 #[test]
 fn finds_the_first_fault(rt: HostRuntime) {
-    let rows: [(&[u8], BssmapFault); 33] = [
-        (&[], BssmapFault::NotBssmap),
-        (&[1], BssmapFault::NotBssmap),
-        (&[1, 1, 0x1B], BssmapFault::NotBssmap),
-        (&[0], BssmapFault::Length),
-        (&[0, 0], BssmapFault::Length),
-        (&[0, 5, 0x1B], BssmapFault::Length),
-        (&[0, 0, 0x1B], BssmapFault::Length),
-        (&[0, 2, 0x1B], BssmapFault::Length),
-        (&[0, 3, 0x1B], BssmapFault::Length),
-        (&[0, 1, 0], BssmapFault::UnknownType(0)),
-        (&[0, 1, 0x15], BssmapFault::UnknownType(0x15)),
-        // the type comes before a torn element, and this before a missing one
-        (&[0, 2, 0x15, 4], BssmapFault::UnknownType(0x15)),
-        (&[0, 3, 0x16, 4, 5], BssmapFault::Torn(3)),
-        (&[0, 6, 0x11, 0x1B, 0x1B, 4, 2, 9], BssmapFault::Torn(5)),
-        (&[0, 2, 0x1B, 0x15], BssmapFault::Torn(3)),
-        (&[0, 1, 0x16], BssmapFault::Missing(4)),
-        (&[0, 1, 0x10], BssmapFault::Missing(0x0B)),
-        (&[0, 5, 0x10, 0x0B, 2, 1, 8], BssmapFault::Missing(0x0A)),
-        (
-            &[0, 8, 0x10, 0x0B, 2, 1, 8, 0x0A, 1, 1],
-            BssmapFault::Missing(0x12),
-        ),
-        (
-            &[0, 10, 0x10, 0x0B, 2, 1, 8, 0x0A, 1, 1, 0x12, 0],
-            BssmapFault::Missing(5),
-        ),
-        (&[0, 4, 0x11, 4, 1, 0], BssmapFault::Missing(0x1A)),
-        (&[0, 1, 0x12], BssmapFault::Missing(0x17)),
-        (&[0, 4, 0x17, 4, 1, 0], BssmapFault::Missing(5)),
-        // a missing element comes before a later bad one
-        (&[0, 3, 0x10, 0x0A, 0], BssmapFault::Missing(0x0B)),
-        (&[0, 4, 0x10, 0x0B, 1, 1], BssmapFault::BadElement(0x0B)),
-        (
-            &[0, 7, 0x10, 0x0B, 2, 1, 8, 0x0A, 0],
-            BssmapFault::BadElement(0x0A),
-        ),
-        (&[0, 3, 0x22, 4, 0], BssmapFault::BadElement(4)),
-        (&[0, 3, 0x13, 0x17, 0], BssmapFault::BadElement(0x17)),
-        (
-            &[0, 7, 0x11, 4, 1, 0, 0x1A, 1, 1],
-            BssmapFault::BadElement(0x1A),
-        ),
-        (
-            &[0, 6, 0x11, 4, 1, 0, 0x1A, 0],
-            BssmapFault::BadElement(0x1A),
-        ),
-        (
-            &[0, 10, 0x11, 4, 1, 0, 0x1A, 4, 1, 1, 1, 1],
-            BssmapFault::BadElement(0x1A),
-        ),
-        (
-            &[0, 9, 0x17, 4, 1, 0, 5, 3, 3, 1, 1],
-            BssmapFault::BadElement(5),
-        ),
-        (
-            &[0, 11, 0x17, 4, 1, 0, 5, 5, 2, 1, 1, 1, 1],
-            BssmapFault::BadElement(5),
-        ),
-    ];
-    for (octets, fault) in rows {
+    for (octets, fault) in FAULTS {
         assert_eq!(rt; decode(rt.alloc(), octets).err(), Some(fault), "{octets:?}");
     }
-    // a request with one cell
-    let mut one_cell = [0; 20];
-    one_cell.copy_from_slice(&REQUEST[..20]);
-    one_cell[1] = 18;
-    assert_eq!(rt;
-        decode(rt.alloc(), &one_cell).err(),
-        Some(BssmapFault::Missing(5))
-    );
 }
 
 /// What is wrong with the first n octets of a text, once the length octet counts them.
@@ -393,69 +514,73 @@ fn finds_each_element_bad_that_is_empty(rt: HostRuntime) -> Result<(), Fail> {
 }
 
 #[test]
-fn counts_at_most_253_octets(rt: HostRuntime) -> Result<(), Fail> {
-    // each pair of zeros is an element that no message uses
-    let mut octets = [0; 256];
-    octets[2] = 0x21;
-    octets[1] = 253;
-    assert!(rt; decode(rt.alloc(), &octets[..255]).is_ok());
-    octets[1] = 254;
-    assert_eq!(rt;
-        decode(rt.alloc(), &octets).err(),
-        Some(BssmapFault::Length)
-    );
-    let longest = Bssmap::HandoverCommand {
-        layer3: Octets::new(rt.alloc(), &[6; 250])?,
-    };
-    assert!(rt; fits(&longest));
-    assert_eq!(rt; encode(rt.alloc(), &longest)?.len(), 255);
-    let longer = Bssmap::HandoverCommand {
-        layer3: Octets::new(rt.alloc(), &[6; 251])?,
-    };
-    assert!(rt; !fits(&longer));
-    for (response, count, wanted) in [(true, 61, true), (false, 61, true), (false, 62, false)] {
-        let cells = [cell(1, 2); 62];
+fn reads_at_most_253_octets(rt: HostRuntime) {
+    for (length, fault) in [(253, None), (254, Some(BssmapFault::Length))] {
+        // each pair of zeros is an element that no message uses
+        let mut octets = [0; 256];
+        octets[2] = 0x21;
+        octets[1] = length;
+        let octets = &octets[..2 + usize::from(length)];
+        assert_eq!(rt; decode(rt.alloc(), octets).err(), fault);
+    }
+}
+
+#[test]
+fn writes_at_most_253_octets(rt: HostRuntime) -> Result<(), Fail> {
+    for (count, wanted) in [(250, true), (251, false)] {
+        let message = Bssmap::HandoverCommand {
+            layer3: Octets::new(rt.alloc(), &[6; 251][..count])?,
+        };
+        assert_eq!(rt; fits(&message), wanted, "{count} octets");
+        if fits(&message) {
+            assert_eq!(rt; encode(rt.alloc(), &message)?.len(), 255);
+        }
+    }
+    Ok(())
+}
+
+const NO_AREA: CellId = CellId { lac: None, ci: 1 };
+
+const AREA_0: CellId = CellId {
+    lac: Some(0),
+    ci: 1,
+};
+
+const AREA_1: CellId = CellId {
+    lac: Some(1),
+    ci: 2,
+};
+
+/// Whether a response is asked for, the cells of a HANDOVER REQUIRED, and whether it can be written.
+const CELLS_THAT_FIT: [(bool, &[CellId], bool); 7] = [
+    (true, &[], false),
+    (true, &[NO_AREA], false),
+    (true, &[AREA_0, NO_AREA], false),
+    (true, &[AREA_0, AREA_0], true),
+    (true, &[AREA_1; 61], true),
+    (false, &[AREA_1; 61], true),
+    (false, &[AREA_1; 62], false),
+];
+
+#[test]
+fn fits_some_cells_with_area(rt: HostRuntime) -> Result<(), Fail> {
+    for (response, cells, wanted) in CELLS_THAT_FIT {
         let message = Bssmap::HandoverRequired {
             cause: 0,
             response,
-            cells: CellList::new(rt.alloc(), &cells[..count])?,
+            cells: CellList::new(rt.alloc(), cells)?,
         };
-        assert_eq!(rt; fits(&message), wanted, "{count} cells");
+        assert_eq!(rt; fits(&message), wanted, "{message:?}");
     }
     Ok(())
 }
 
 #[test]
-fn fits_wants_a_location_area_code(rt: HostRuntime) -> Result<(), Fail> {
-    let lone = CellId { lac: None, ci: 1 };
-    assert!(rt;
-        !fits(&Bssmap::<Global>::HandoverPerformed {
-            cause: 0,
-            cell: lone
-        })
-    );
-    assert!(rt;
-        fits(&Bssmap::<Global>::HandoverPerformed {
-            cause: 0,
-            cell: cell(0, 1)
-        })
-    );
-    let rows: [(&[CellId], bool); 4] = [
-        (&[], false),
-        (&[lone], false),
-        (&[cell(0, 1), lone], false),
-        (&[cell(0, 1), cell(0, 1)], true),
-    ];
-    for (cells, wanted) in rows {
-        let cells = CellList::new(rt.alloc(), cells)?;
-        let message = Bssmap::HandoverRequired {
-            cause: 0,
-            response: true,
-            cells,
-        };
+fn fits_wants_a_location_area_code(rt: HostRuntime) {
+    for (cell, wanted) in [(NO_AREA, false), (AREA_0, true)] {
+        let message: Bssmap = Bssmap::HandoverPerformed { cause: 0, cell };
         assert_eq!(rt; fits(&message), wanted, "{message:?}");
     }
-    Ok(())
 }
 
 #[test]
@@ -470,21 +595,37 @@ fn appends_in_room(rt: HostRuntime) -> Result<(), Fail> {
     Ok(())
 }
 
-#[test]
-fn answers_want_of_memory(rt: HostRuntime) -> Result<(), Fail> {
-    for text in TEXTS {
-        for n in 1..10 {
-            let heap = RefusingHeap::refusing_nth(rt.alloc(), n);
-            let read = decode(&heap, text);
-            assert_eq!(rt;
-                matches!(read, Err(BssmapFault::NoMemory)),
-                heap.was_refused(),
-                "request {n} of {text:?}"
-            );
-            if !heap.was_refused() {
-                break;
-            }
+/// Each request for memory of `decode` is refused in turn: how many there are.
+fn refused_readings(rt: &(impl AllocGlobal + Abort), text: &[u8]) -> Option<u64> {
+    for n in 1..10 {
+        let heap = RefusingHeap::refusing_nth(rt.alloc(), n);
+        let fault = decode(&heap, text).err();
+        if !heap.was_refused() {
+            assert_eq!(rt; fault, None, "request {n} of {text:?}");
+            return Some(n - 1);
         }
+        assert_eq!(rt;
+            fault,
+            Some(BssmapFault::NoMemory),
+            "request {n} of {text:?}"
+        );
+    }
+    None
+}
+
+/// How many lists the message of each text keeps.
+const LISTS: [u64; 12] = [2, 1, 1, 1, 0, 0, 0, 0, 0, 0, 0, 0];
+
+#[test]
+fn reading_answers_want_of_memory(rt: HostRuntime) {
+    for (text, lists) in TEXTS.iter().zip(LISTS) {
+        assert_eq!(rt; refused_readings(&rt, text), Some(lists), "{text:?}");
+    }
+}
+
+#[test]
+fn writing_answers_want_of_memory(rt: HostRuntime) -> Result<(), Fail> {
+    for text in TEXTS {
         let heap = RefusingHeap::ample(rt.alloc());
         let message = decode(&heap, text)?;
         heap.refuse_from_now();
@@ -492,10 +633,14 @@ fn answers_want_of_memory(rt: HostRuntime) -> Result<(), Fail> {
         assert!(rt; encode(&heap, &message).is_err());
         assert!(rt; heap.was_refused());
     }
+    Ok(())
+}
+
+#[test]
+fn lists_answer_want_of_memory(rt: HostRuntime) {
     let heap = RefusingHeap::refusing_from(rt.alloc(), 1);
     assert!(rt; Octets::new(&heap, &[1]).is_err());
-    assert!(rt; CellList::new(&heap, &[cell(1, 2)]).is_err());
-    Ok(())
+    assert!(rt; CellList::new(&heap, &[AREA_1]).is_err());
 }
 
 #[test]

@@ -1,6 +1,6 @@
 -- A text of a message is read as the message.
-use Rattle.std.proofs.Common.{◌≡◌, ◌∙◌, sym, ℕ, ◌+◌, ◌*◌, ◌<◌, ◌≤◌, nat_lt, false, List, [], ◌∷◌, ◌++◌, length, take, drop, Option, Some, Result, Ok, Err, OnOk, get_or, refl, ap, arith}
-use Rattle.std.proofs.lemmas.List.{take_at, length-append, append-nil, take-append-drop}
+use Rattle.std.proofs.Common.{◌≡◌, ◌∙◌, sym, ℕ, ◌+◌, ◌*◌, ◌≤◌, nat_lt, false, List, [], ◌∷◌, ◌++◌, length, take, Some, Result, Ok, Err, OnOk, get_or, refl, ap, arith}
+use Rattle.std.proofs.lemmas.List.{take_at, length-append, append-nil}
 use Rattle.std.proofs.lemmas.Bool.Decides.{nat_tests}
 use Rattle.rr_elements.specs.CellDescription.{cell_said, cell_text}
 use Rattle.rr_elements.specs.ChanDescription.{chan_said, chan_text}

@@ -1,5 +1,5 @@
 -- Radio resource messages (TS 44.018 sections 9.1 and 10): a discriminator, a type, a mandatory part, and any rest.
-use Rattle.std.specs.Prelude.{◌≡◌, ℕ, ◌+◌, ◌^◌, ◌<◌, ◌==◌, nat_lt, if◌then◌else◌, List, [], ◌∷◌, ◌++◌, length, take, drop, Option, Some, None, Result, Ok, Err}
+use Rattle.std.specs.Prelude.{◌≡◌, ℕ, ◌+◌, ◌^◌, ◌<◌, ◌==◌, nat_lt, if◌then◌else◌, List, [], ◌∷◌, ◌++◌, length, take, Option, Some, None, Result, Ok, Err}
 use Rattle.rr_elements.specs.CellDescription.{CellFits, IsCellText, cell_text, cell_said}
 use Rattle.rr_elements.specs.ChanDescription.{ChanFits, IsChanText, chan_text, chan_said}
 use Rattle.rr_elements.specs.Power.{PowerFits, IsPowerText, power_text, power_said}

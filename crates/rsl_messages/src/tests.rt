@@ -6,6 +6,7 @@ use crate::reading::decode;
 use crate::writing::{encode, encode_into, fits};
 use refusing_heap::RefusingHeap;
 use std::alloc::Global;
+use std::process::Abort;
 use std::test::Fail;
 
 const TN3: ChanBits = ChanBits { tn: 3 };
@@ -68,200 +69,288 @@ const ELEMENTS: [&[(usize, u8, bool)]; 10] = [
     &[(2, 1, true)],
 ];
 
+/// Reads a text, and writes what it says.
+fn is_written_as(rt: &(impl AllocGlobal + Abort), text: &[u8], written: &[u8]) -> Result<(), Fail> {
+    let message = decode(rt.alloc(), text)?;
+    assert!(rt; fits(&message), "{text:?}");
+    assert_eq!(rt;
+        encode(rt.alloc(), &message)?.as_slice(),
+        written,
+        "{text:?}"
+    );
+    Ok(())
+}
+
 #[test]
 fn reads_back_what_it_writes(rt: HostRuntime) -> Result<(), Fail> {
     for text in TEXTS {
-        let message = decode(rt.alloc(), text)?;
-        assert!(rt; fits(&message), "{message:?}");
-        let written = encode(rt.alloc(), &message)?;
-        assert_eq!(rt; written.as_slice(), text, "{message:?}");
+        is_written_as(&rt, text, text)?;
     }
     reading_is_unique::<Global>();
     canonical_is_text::<Global>();
     Ok(())
 }
 
-#[test]
-fn reads_radio_link_layer(rt: HostRuntime) -> Result<(), Fail> {
-    let Rsl::DataRequest {
-        channel,
-        link,
-        layer3,
-    } = decode(rt.alloc(), DATA_REQUEST)?
-    else {
-        return Err("no DATA REQUEST")?;
-    };
-    assert_eq!(rt; (channel, link), (TN3, 0));
-    assert_eq!(rt; layer3.as_slice(), [6, 0x0D, 0].as_slice());
-    let Rsl::DataIndication {
-        channel,
-        link,
-        layer3,
-    } = decode(rt.alloc(), DATA_INDICATION)?
-    else {
-        return Err("no DATA INDICATION")?;
-    };
-    assert_eq!(rt; (channel, link), (TN3, 0));
-    assert_eq!(rt; layer3.as_slice(), [6, 0x2C, 0].as_slice());
-    Ok(())
+/// What a message says, its lists borrowed.
+#[derive(Clone, Copy, Debug, PartialEq, Eq)]
+enum Said<'a> {
+    DataRequest {
+        channel: ChanBits,
+        link: u8,
+        layer3: &'a [u8],
+    },
+    DataIndication {
+        channel: ChanBits,
+        link: u8,
+        layer3: &'a [u8],
+    },
+    ChannelActivation {
+        channel: ChanBits,
+        activation: u8,
+        mode: &'a [u8],
+        reference: Option<u8>,
+    },
+    ChannelActivationAck {
+        channel: ChanBits,
+        frame: u16,
+    },
+    ChannelActivationNack {
+        channel: ChanBits,
+        cause: u8,
+    },
+    ConnectionFailureIndication {
+        channel: ChanBits,
+        cause: u8,
+    },
+    HandoverDetection {
+        channel: ChanBits,
+        delay: Option<u8>,
+    },
+    MeasurementResult {
+        channel: ChanBits,
+        number: u8,
+        uplink: &'a [u8],
+        power: u8,
+        layer3: Option<&'a [u8]>,
+    },
+    RfChannelRelease {
+        channel: ChanBits,
+    },
+    RfChannelReleaseAck {
+        channel: ChanBits,
+    },
 }
 
-#[test]
-fn reads_activations(rt: HostRuntime) -> Result<(), Fail> {
-    let Rsl::ChannelActivation {
-        channel,
-        activation,
-        mode,
-        reference,
-    } = decode(rt.alloc(), ACTIVATION)?
-    else {
-        return Err("no CHANNEL ACTIVATION")?;
-    };
-    assert_eq!(rt; (channel, activation, reference), (TN3, 2, Some(42)));
-    assert_eq!(rt; mode.as_slice(), [0, 1, 8, 1].as_slice());
-    let Rsl::ChannelActivationAck { channel, frame } = decode(rt.alloc(), ACTIVATION_ACK)? else {
-        return Err("no CHANNEL ACTIVATION ACKNOWLEDGE")?;
-    };
-    assert_eq!(rt; (channel, frame), (TN3, 0x1234));
-    let Rsl::ChannelActivationNack { channel, cause } = decode(rt.alloc(), ACTIVATION_NACK)? else {
-        return Err("no CHANNEL ACTIVATION NEGATIVE ACKNOWLEDGE")?;
-    };
-    assert_eq!(rt; (channel, cause), (ChanBits { tn: 2 }, 0x20));
-    Ok(())
+fn borrowed(message: &Rsl) -> Said<'_> {
+    match message {
+        Rsl::DataRequest {
+            channel,
+            link,
+            layer3,
+        } => Said::DataRequest {
+            channel: *channel,
+            link: *link,
+            layer3: layer3.as_slice(),
+        },
+        Rsl::DataIndication {
+            channel,
+            link,
+            layer3,
+        } => Said::DataIndication {
+            channel: *channel,
+            link: *link,
+            layer3: layer3.as_slice(),
+        },
+        Rsl::ChannelActivation {
+            channel,
+            activation,
+            mode,
+            reference,
+        } => Said::ChannelActivation {
+            channel: *channel,
+            activation: *activation,
+            mode: mode.as_slice(),
+            reference: *reference,
+        },
+        Rsl::ChannelActivationAck { channel, frame } => Said::ChannelActivationAck {
+            channel: *channel,
+            frame: *frame,
+        },
+        Rsl::ChannelActivationNack { channel, cause } => Said::ChannelActivationNack {
+            channel: *channel,
+            cause: *cause,
+        },
+        Rsl::ConnectionFailureIndication { channel, cause } => Said::ConnectionFailureIndication {
+            channel: *channel,
+            cause: *cause,
+        },
+        Rsl::HandoverDetection { channel, delay } => Said::HandoverDetection {
+            channel: *channel,
+            delay: *delay,
+        },
+        Rsl::MeasurementResult {
+            channel,
+            number,
+            uplink,
+            power,
+            layer3,
+        } => Said::MeasurementResult {
+            channel: *channel,
+            number: *number,
+            uplink: uplink.as_slice(),
+            power: *power,
+            layer3: match layer3 {
+                Some(octets) => Some(octets.as_slice()),
+                None => None,
+            },
+        },
+        Rsl::RfChannelRelease { channel } => Said::RfChannelRelease { channel: *channel },
+        Rsl::RfChannelReleaseAck { channel } => Said::RfChannelReleaseAck { channel: *channel },
+    }
 }
 
-#[test]
-fn reads_reports(rt: HostRuntime) -> Result<(), Fail> {
-    let Rsl::ConnectionFailureIndication { channel, cause } = decode(
-        rt.alloc(),
-        CONNECTION_FAILURE,
-    )?
-    else {
-        return Err("no CONNECTION FAILURE INDICATION")?;
-    };
-    assert_eq!(rt; (channel, cause), (TN3, 1));
-    let Rsl::HandoverDetection { channel, delay } = decode(rt.alloc(), DETECTION)? else {
-        return Err("no HANDOVER DETECTION")?;
-    };
-    assert_eq!(rt; (channel, delay), (TN3, Some(2)));
-    let Rsl::MeasurementResult {
-        channel,
-        number,
-        uplink,
-        power,
-        layer3,
-    } = decode(rt.alloc(), MEASUREMENT)?
-    else {
-        return Err("no MEASUREMENT RESULT")?;
-    };
-    assert_eq!(rt; (channel, number, power), (TN3, 0, 0));
-    assert_eq!(rt; uplink.as_slice(), [0, 0x1E, 0].as_slice());
-    assert_eq!(rt; layer3.map(|octets| octets.as_slice().len()), Some(18));
-    Ok(())
-}
+/// What each text says.
+const SAYINGS: [Said<'static>; 10] = [
+    Said::DataRequest {
+        channel: TN3,
+        link: 0,
+        layer3: &[6, 0x0D, 0],
+    },
+    Said::DataIndication {
+        channel: TN3,
+        link: 0,
+        layer3: &[6, 0x2C, 0],
+    },
+    Said::ChannelActivation {
+        channel: TN3,
+        activation: 2,
+        mode: &[0, 1, 8, 1],
+        reference: Some(42),
+    },
+    Said::ChannelActivationAck {
+        channel: TN3,
+        frame: 0x1234,
+    },
+    Said::ChannelActivationNack {
+        channel: ChanBits { tn: 2 },
+        cause: 0x20,
+    },
+    Said::ConnectionFailureIndication {
+        channel: TN3,
+        cause: 1,
+    },
+    Said::HandoverDetection {
+        channel: TN3,
+        delay: Some(2),
+    },
+    Said::MeasurementResult {
+        channel: TN3,
+        number: 0,
+        uplink: &[0, 0x1E, 0],
+        power: 0,
+        layer3: Some(&[
+            6, 0x15, 0x1E, 0x1E, 0, 0x68, 0x12, 0xA0, 0, 0, 0, 0, 0, 0, 0, 0, 0, 0,
+        ]),
+    },
+    Said::RfChannelRelease { channel: TN3 },
+    Said::RfChannelReleaseAck { channel: TN3 },
+];
 
 #[test]
-fn reads_releases(rt: HostRuntime) -> Result<(), Fail> {
-    let Rsl::RfChannelRelease { channel } = decode(rt.alloc(), RELEASE)? else {
-        return Err("no RF CHANNEL RELEASE")?;
-    };
-    assert_eq!(rt; channel, TN3);
-    let Rsl::RfChannelReleaseAck { channel } = decode(rt.alloc(), RELEASE_ACK)? else {
-        return Err("no RF CHANNEL RELEASE ACKNOWLEDGE")?;
-    };
-    assert_eq!(rt; channel, TN3);
-    Ok(())
-}
-
-/// Texts that are not written so, with the text that is written for what they say.
-#[test]
-fn reads_other_texts_of_a_message(rt: HostRuntime) -> Result<(), Fail> {
-    let rows: [(&[u8], &[u8]); 9] = [
-        // bit 1 of the discriminator
-        (&[9, 0x2E, 1, 0x0B], RELEASE),
-        (&[2, 1, 1, 0x0B, 2, 0, 0x0B, 0, 3, 6, 0x0D, 0], DATA_REQUEST),
-        // any order
-        (&[8, 0x22, 8, 0x12, 0x34, 1, 0x0B], ACTIVATION_ACK),
-        // the first of a repeated element counts, even where a later one is bad
-        (&[8, 0x2E, 1, 0x0B, 1, 0x0C], RELEASE),
-        (&[8, 0x2E, 1, 0x0B, 1, 0x1B], RELEASE),
-        // elements that the message doesn't use, one of each form
-        (
-            &[
-                8, 0x33, 0x18, 1, 0x0A, 1, 1, 0x0B, 0, 1, 1, 0x7F, 0, 1, 0x0B,
-            ],
-            RELEASE_ACK,
-        ),
-        // of a cause the first octet counts
-        (&[8, 0x24, 1, 0x0B, 0x1A, 3, 1, 7, 7], CONNECTION_FAILURE),
-        // optional elements
-        (&[8, 0x27, 1, 0x0B], &[8, 0x27, 1, 0x0B]),
-        (
-            &[8, 0x28, 4, 0x0F, 0x19, 0, 0x1B, 7, 1, 0x0F],
-            &[8, 0x28, 1, 0x0F, 0x1B, 7, 0x19, 0, 4, 0x0F],
-        ),
-    ];
-    for (text, written) in rows {
+fn reads_each_message(rt: HostRuntime) -> Result<(), Fail> {
+    for (text, saying) in TEXTS.iter().zip(SAYINGS) {
         let message = decode(rt.alloc(), text)?;
-        assert!(rt; fits(&message));
-        assert_eq!(rt;
-            encode(rt.alloc(), &message)?.as_slice(),
-            written,
-            "{message:?}"
-        );
+        assert_eq!(rt; borrowed(&message), saying);
     }
     Ok(())
 }
 
+/// Texts that are not written so, with the text that is written for what they say.
+const OTHER_TEXTS: [(&[u8], &[u8]); 9] = [
+    // bit 1 of the discriminator
+    (&[9, 0x2E, 1, 0x0B], RELEASE),
+    (&[2, 1, 1, 0x0B, 2, 0, 0x0B, 0, 3, 6, 0x0D, 0], DATA_REQUEST),
+    // any order
+    (&[8, 0x22, 8, 0x12, 0x34, 1, 0x0B], ACTIVATION_ACK),
+    // the first of a repeated element counts, even where a later one is bad
+    (&[8, 0x2E, 1, 0x0B, 1, 0x0C], RELEASE),
+    (&[8, 0x2E, 1, 0x0B, 1, 0x1B], RELEASE),
+    // elements that the message doesn't use, one of each form
+    (
+        &[
+            8, 0x33, 0x18, 1, 0x0A, 1, 1, 0x0B, 0, 1, 1, 0x7F, 0, 1, 0x0B,
+        ],
+        RELEASE_ACK,
+    ),
+    // of a cause the first octet counts
+    (&[8, 0x24, 1, 0x0B, 0x1A, 3, 1, 7, 7], CONNECTION_FAILURE),
+    // optional elements
+    (&[8, 0x27, 1, 0x0B], &[8, 0x27, 1, 0x0B]),
+    (
+        &[8, 0x28, 4, 0x0F, 0x19, 0, 0x1B, 7, 1, 0x0F],
+        &[8, 0x28, 1, 0x0F, 0x1B, 7, 0x19, 0, 4, 0x0F],
+    ),
+];
+
+#[test]
+fn reads_other_texts_of_a_message(rt: HostRuntime) -> Result<(), Fail> {
+    for (text, written) in OTHER_TEXTS {
+        is_written_as(&rt, text, written)?;
+    }
+    Ok(())
+}
+
+/// Octets that are no text of a message, and their first fault.
+const FAULTS: [(&[u8], RslFault); 38] = [
+    (&[], RslFault::NotRsl),
+    (&[4], RslFault::NotRsl),
+    (&[0], RslFault::NotRsl),
+    (&[0x0A, 0x21, 1, 0x0B], RslFault::NotRsl),
+    (&[0x0C], RslFault::NotRsl),
+    (&[8], RslFault::Torn(1)),
+    (&[9], RslFault::Torn(1)),
+    (&[2], RslFault::Torn(1)),
+    (&[8, 0x20], RslFault::UnknownType(0x20)),
+    (&[8, 0x20, 1], RslFault::UnknownType(0x20)),
+    (&[8, 1], RslFault::UnknownType(1)),
+    (&[3, 0x21], RslFault::UnknownType(0x21)),
+    (&[3, 3, 1, 0x0B], RslFault::UnknownType(3)),
+    (&[8, 0x22, 1], RslFault::Torn(2)),
+    (&[8, 0x22, 1, 0x0B, 8, 0], RslFault::Torn(4)),
+    (&[8, 0x2E, 1, 0x1B, 6], RslFault::Torn(4)),
+    (&[8, 0x2E, 1, 0x0B, 6, 2, 0], RslFault::Torn(4)),
+    (&[3, 1, 1, 0x0B, 2, 0, 0x0B, 0], RslFault::Torn(6)),
+    (&[3, 1, 1, 0x0B, 2, 0, 0x0B, 1, 0, 6], RslFault::Torn(6)),
+    (&[8, 0x2E], RslFault::Missing(1)),
+    (&[8, 0x22, 8, 0, 0], RslFault::Missing(1)),
+    (&[8, 0x22, 1, 0x0B], RslFault::Missing(8)),
+    (&[8, 0x21, 1, 0x0B, 6, 0], RslFault::Missing(3)),
+    (&[8, 0x21, 1, 0x0B, 3, 0], RslFault::Missing(6)),
+    (&[8, 0x23, 1, 0x0B], RslFault::Missing(0x1A)),
+    (&[3, 2, 1, 0x0B, 0x0B, 0, 1, 6], RslFault::Missing(2)),
+    (&[3, 2, 1, 0x0B, 2, 0], RslFault::Missing(0x0B)),
+    (&[8, 0x28, 1, 0x0B, 0x19, 0, 4, 0], RslFault::Missing(0x1B)),
+    (&[8, 0x28, 1, 0x0B, 0x1B, 0, 4, 0], RslFault::Missing(0x19)),
+    (&[8, 0x28, 1, 0x0B, 0x1B, 0, 0x19, 0], RslFault::Missing(4)),
+    (&[8, 0x2E, 1, 0x13], RslFault::BadElement(1)),
+    (&[8, 0x2E, 1, 0x1B, 1, 0x0B], RslFault::BadElement(1)),
+    (&[8, 0x21, 1, 0x03], RslFault::BadElement(1)),
+    (&[8, 0x21, 1, 0x0B, 3, 0, 6, 0], RslFault::BadElement(6)),
+    (&[8, 0x23, 1, 0x0B, 0x1A, 0], RslFault::BadElement(0x1A)),
+    (&[8, 0x24, 1, 0x0B, 0x1A, 0], RslFault::BadElement(0x1A)),
+    (
+        &[3, 1, 1, 0x0B, 2, 0, 0x0B, 0, 0],
+        RslFault::BadElement(0x0B),
+    ),
+    (
+        &[8, 0x28, 1, 0x0B, 0x1B, 0, 0x19, 0, 4, 0, 0x0B, 0, 0],
+        RslFault::BadElement(0x0B),
+    ),
+];
+
 #[test]
 fn finds_the_first_fault(rt: HostRuntime) {
-    let rows: [(&[u8], RslFault); 38] = [
-        (&[], RslFault::NotRsl),
-        (&[4], RslFault::NotRsl),
-        (&[0], RslFault::NotRsl),
-        (&[0x0A, 0x21, 1, 0x0B], RslFault::NotRsl),
-        (&[0x0C], RslFault::NotRsl),
-        (&[8], RslFault::Torn(1)),
-        (&[9], RslFault::Torn(1)),
-        (&[2], RslFault::Torn(1)),
-        (&[8, 0x20], RslFault::UnknownType(0x20)),
-        (&[8, 0x20, 1], RslFault::UnknownType(0x20)),
-        (&[8, 1], RslFault::UnknownType(1)),
-        (&[3, 0x21], RslFault::UnknownType(0x21)),
-        (&[3, 3, 1, 0x0B], RslFault::UnknownType(3)),
-        (&[8, 0x22, 1], RslFault::Torn(2)),
-        (&[8, 0x22, 1, 0x0B, 8, 0], RslFault::Torn(4)),
-        (&[8, 0x2E, 1, 0x1B, 6], RslFault::Torn(4)),
-        (&[8, 0x2E, 1, 0x0B, 6, 2, 0], RslFault::Torn(4)),
-        (&[3, 1, 1, 0x0B, 2, 0, 0x0B, 0], RslFault::Torn(6)),
-        (&[3, 1, 1, 0x0B, 2, 0, 0x0B, 1, 0, 6], RslFault::Torn(6)),
-        (&[8, 0x2E], RslFault::Missing(1)),
-        (&[8, 0x22, 8, 0, 0], RslFault::Missing(1)),
-        (&[8, 0x22, 1, 0x0B], RslFault::Missing(8)),
-        (&[8, 0x21, 1, 0x0B, 6, 0], RslFault::Missing(3)),
-        (&[8, 0x21, 1, 0x0B, 3, 0], RslFault::Missing(6)),
-        (&[8, 0x23, 1, 0x0B], RslFault::Missing(0x1A)),
-        (&[3, 2, 1, 0x0B, 0x0B, 0, 1, 6], RslFault::Missing(2)),
-        (&[3, 2, 1, 0x0B, 2, 0], RslFault::Missing(0x0B)),
-        (&[8, 0x28, 1, 0x0B, 0x19, 0, 4, 0], RslFault::Missing(0x1B)),
-        (&[8, 0x28, 1, 0x0B, 0x1B, 0, 4, 0], RslFault::Missing(0x19)),
-        (&[8, 0x28, 1, 0x0B, 0x1B, 0, 0x19, 0], RslFault::Missing(4)),
-        (&[8, 0x2E, 1, 0x13], RslFault::BadElement(1)),
-        (&[8, 0x2E, 1, 0x1B, 1, 0x0B], RslFault::BadElement(1)),
-        (&[8, 0x21, 1, 0x03], RslFault::BadElement(1)),
-        (&[8, 0x21, 1, 0x0B, 3, 0, 6, 0], RslFault::BadElement(6)),
-        (&[8, 0x23, 1, 0x0B, 0x1A, 0], RslFault::BadElement(0x1A)),
-        (&[8, 0x24, 1, 0x0B, 0x1A, 0], RslFault::BadElement(0x1A)),
-        (
-            &[3, 1, 1, 0x0B, 2, 0, 0x0B, 0, 0],
-            RslFault::BadElement(0x0B),
-        ),
-        (
-            &[8, 0x28, 1, 0x0B, 0x1B, 0, 0x19, 0, 4, 0, 0x0B, 0, 0],
-            RslFault::BadElement(0x0B),
-        ),
-    ];
-    for (octets, fault) in rows {
+    for (octets, fault) in FAULTS {
         assert_eq!(rt; decode(rt.alloc(), octets).err(), Some(fault), "{octets:?}");
     }
 }
@@ -337,136 +426,152 @@ fn prints_faults(rt: HostRuntime) -> Result<(), Fail> {
     Ok(())
 }
 
-fn data_request(alloc: Global, tn: u8, layer3: &[u8]) -> Result<Rsl, Fail> {
-    Ok(Rsl::DataRequest {
-        channel: ChanBits { tn },
-        link: 0,
-        layer3: Octets::new(alloc, layer3)?,
+/// A message, by its timeslot and by how many octets its lists have.
+#[derive(Clone, Copy, Debug)]
+enum Shape {
+    DataRequest(u8, usize),
+    DataIndication(u8, usize),
+    ChannelActivation(u8, usize),
+    MeasurementResult(usize, usize),
+    HandoverDetection(u8),
+    RfChannelRelease(u8),
+    RfChannelReleaseAck(u8),
+}
+
+fn zeros(alloc: Global, count: usize) -> Result<Octets, Fail> {
+    Ok(Octets::new(alloc, [0; 1016].get(..count).ok_or("too long")?)?)
+}
+
+fn shaped(alloc: Global, shape: Shape) -> Result<Rsl, Fail> {
+    Ok(match shape {
+        Shape::DataRequest(tn, count) => Rsl::DataRequest {
+            channel: ChanBits { tn },
+            link: 0,
+            layer3: zeros(alloc, count)?,
+        },
+        Shape::DataIndication(tn, count) => Rsl::DataIndication {
+            channel: ChanBits { tn },
+            link: 0,
+            layer3: zeros(alloc, count)?,
+        },
+        Shape::ChannelActivation(tn, count) => Rsl::ChannelActivation {
+            channel: ChanBits { tn },
+            activation: 0,
+            mode: zeros(alloc, count)?,
+            reference: Some(255),
+        },
+        Shape::MeasurementResult(uplink, layer3) => Rsl::MeasurementResult {
+            channel: TN3,
+            number: 255,
+            uplink: zeros(alloc, uplink)?,
+            power: 31,
+            layer3: Some(zeros(alloc, layer3)?),
+        },
+        Shape::HandoverDetection(tn) => Rsl::HandoverDetection {
+            channel: ChanBits { tn },
+            delay: None,
+        },
+        Shape::RfChannelRelease(tn) => Rsl::RfChannelRelease {
+            channel: ChanBits { tn },
+        },
+        Shape::RfChannelReleaseAck(tn) => Rsl::RfChannelReleaseAck {
+            channel: ChanBits { tn },
+        },
     })
 }
 
-fn data_indication(alloc: Global, tn: u8, layer3: &[u8]) -> Result<Rsl, Fail> {
-    Ok(Rsl::DataIndication {
-        channel: ChanBits { tn },
-        link: 0,
-        layer3: Octets::new(alloc, layer3)?,
-    })
-}
-
-fn activation(alloc: Global, tn: u8, mode: &[u8]) -> Result<Rsl, Fail> {
-    Ok(Rsl::ChannelActivation {
-        channel: ChanBits { tn },
-        activation: 0,
-        mode: Octets::new(alloc, mode)?,
-        reference: Some(255),
-    })
-}
-
-fn measurement(alloc: Global, uplink: &[u8], layer3: &[u8]) -> Result<Rsl, Fail> {
-    Ok(Rsl::MeasurementResult {
-        channel: TN3,
-        number: 255,
-        uplink: Octets::new(alloc, uplink)?,
-        power: 31,
-        layer3: Some(Octets::new(alloc, layer3)?),
-    })
-}
+/// Messages, and whether they have a canonical text.
+const SHAPES: [(Shape, bool); 24] = [
+    (Shape::DataRequest(7, 1), true),
+    (Shape::DataRequest(8, 1), false),
+    (Shape::DataRequest(255, 1), false),
+    (Shape::DataRequest(0, 0), false),
+    (Shape::DataRequest(0, 1015), true),
+    (Shape::DataRequest(0, 1016), false),
+    (Shape::DataIndication(0, 1015), true),
+    (Shape::DataIndication(0, 1016), false),
+    (Shape::ChannelActivation(7, 1), true),
+    (Shape::ChannelActivation(8, 1), false),
+    (Shape::ChannelActivation(0, 0), false),
+    (Shape::ChannelActivation(0, 255), true),
+    (Shape::ChannelActivation(0, 256), false),
+    (Shape::MeasurementResult(0, 1), true),
+    (Shape::MeasurementResult(0, 0), false),
+    (Shape::MeasurementResult(255, 1), true),
+    (Shape::MeasurementResult(256, 1), false),
+    (Shape::MeasurementResult(0, 1011), true),
+    (Shape::MeasurementResult(0, 1012), false),
+    (Shape::MeasurementResult(255, 756), true),
+    (Shape::MeasurementResult(255, 757), false),
+    (Shape::HandoverDetection(8), false),
+    (Shape::RfChannelRelease(8), false),
+    (Shape::RfChannelReleaseAck(7), true),
+];
 
 #[test]
 fn fits_what_has_a_canonical_text(rt: HostRuntime) -> Result<(), Fail> {
-    let zeros = [0; 1016];
-    let alloc = rt.alloc();
-    let rows = [
-        (data_request(alloc, 7, &[6])?, true),
-        (data_request(alloc, 8, &[6])?, false),
-        (data_request(alloc, 255, &[6])?, false),
-        (data_request(alloc, 0, &[])?, false),
-        (data_request(alloc, 0, &zeros[..1015])?, true),
-        (data_request(alloc, 0, &zeros)?, false),
-        (data_indication(alloc, 0, &zeros[..1015])?, true),
-        (data_indication(alloc, 0, &zeros)?, false),
-        (activation(alloc, 7, &[0])?, true),
-        (activation(alloc, 8, &[0])?, false),
-        (activation(alloc, 0, &[])?, false),
-        (activation(alloc, 0, &zeros[..255])?, true),
-        (activation(alloc, 0, &zeros[..256])?, false),
-        (measurement(alloc, &[], &[6])?, true),
-        (measurement(alloc, &[], &[])?, false),
-        (measurement(alloc, &zeros[..255], &[6])?, true),
-        (measurement(alloc, &zeros[..256], &[6])?, false),
-        (measurement(alloc, &[], &zeros[..1011])?, true),
-        (measurement(alloc, &[], &zeros[..1012])?, false),
-        (measurement(alloc, &zeros[..255], &zeros[..756])?, true),
-        (measurement(alloc, &zeros[..255], &zeros[..757])?, false),
-        (
-            Rsl::HandoverDetection {
-                channel: ChanBits { tn: 8 },
-                delay: None,
-            },
-            false,
-        ),
-        (
-            Rsl::RfChannelRelease {
-                channel: ChanBits { tn: 8 },
-            },
-            false,
-        ),
-        (
-            Rsl::RfChannelReleaseAck {
-                channel: ChanBits { tn: 7 },
-            },
-            true,
-        ),
-    ];
-    for (message, fit) in &rows {
-        assert_eq!(rt; fits(message), *fit);
+    for (shape, fit) in SHAPES {
+        assert_eq!(rt; fits(&shaped(rt.alloc(), shape)?), fit, "{shape:?}");
     }
     Ok(())
 }
 
-/// Each request for memory of `decode` and `encode` is refused in turn.
-#[test]
-fn refused_memory_is_the_only_want_of_memory(rt: HostRuntime) -> Result<(), Fail> {
-    for text in TEXTS {
-        let mut refusals = 0u32;
-        for n in 1..100 {
-            let heap = RefusingHeap::refusing_nth(rt.alloc(), n);
-            let answer = decode(&heap, text);
-            let refused = heap.was_refused();
-            assert_eq!(rt; answer.is_err(), refused, "request {n} of {text:?}");
-            if let Err(fault) = answer {
-                assert_eq!(rt; fault, RslFault::NoMemory);
-            }
-            if !refused {
-                break;
-            }
-            refusals = refusals.saturating_add(1);
+/// How many octet lists the message of each text keeps.
+const LISTS: [u64; 10] = [1, 1, 1, 0, 0, 0, 0, 2, 0, 0];
+
+/// Each request for memory of `decode` is refused in turn: how many there are.
+fn refused_readings(rt: &(impl AllocGlobal + Abort), text: &[u8]) -> Option<u64> {
+    for n in 1..100 {
+        let heap = RefusingHeap::refusing_nth(rt.alloc(), n);
+        let fault = decode(&heap, text).err();
+        if !heap.was_refused() {
+            assert_eq!(rt; fault, None, "request {n} of {text:?}");
+            return Some(n - 1);
         }
-        let lists = match text[1] {
-            1 | 2 | 0x21 => 1,
-            0x28 => 2,
-            _ => 0,
-        };
-        assert_eq!(rt; refusals, lists, "{text:?}");
+        assert_eq!(rt; fault, Some(RslFault::NoMemory), "request {n} of {text:?}");
     }
-    Ok(())
+    None
 }
+
+#[test]
+fn refused_memory_is_the_only_want_of_memory(rt: HostRuntime) {
+    for (text, lists) in TEXTS.iter().zip(LISTS) {
+        assert_eq!(rt; refused_readings(&rt, text), Some(lists), "{text:?}");
+    }
+}
+
+/// Octets with a fault behind an octet list that is whole.
+const FAULTY_TEXTS: [(&[u8], RslFault); 3] = [
+    (&[8, 0x21, 1, 0x0B, 3, 0, 6, 1, 0, 9], RslFault::Torn(9)),
+    (&[8, 0x21, 1, 0x0B, 6, 1, 0], RslFault::Missing(3)),
+    (
+        &[8, 0x28, 1, 0x0B, 0x1B, 0, 0x19, 1, 0, 4, 0, 0x0B, 0, 0],
+        RslFault::BadElement(0x0B),
+    ),
+];
 
 #[test]
 fn refused_memory_of_a_faulty_text_is_not_wanted(rt: HostRuntime) {
-    let rows: [(&[u8], RslFault); 3] = [
-        (&[8, 0x21, 1, 0x0B, 3, 0, 6, 1, 0, 9], RslFault::Torn(9)),
-        (&[8, 0x21, 1, 0x0B, 6, 1, 0], RslFault::Missing(3)),
-        (
-            &[8, 0x28, 1, 0x0B, 0x1B, 0, 0x19, 1, 0, 4, 0, 0x0B, 0, 0],
-            RslFault::BadElement(0x0B),
-        ),
-    ];
-    for (octets, fault) in rows {
+    for (octets, fault) in FAULTY_TEXTS {
         let heap = RefusingHeap::refusing_from(rt.alloc(), 1);
         assert_eq!(rt; decode(&heap, octets).err(), Some(fault));
         assert_eq!(rt; heap.requests(), 0);
     }
+}
+
+#[test]
+fn with_room_for_the_text_no_memory_is_taken(rt: HostRuntime) -> Result<(), Fail> {
+    for text in TEXTS {
+        let heap = RefusingHeap::ample(rt.alloc());
+        let message = decode(&heap, text)?;
+        assert!(rt; fits(&message));
+        let mut out = Vec::with_capacity(&heap, text.len())?;
+        heap.refuse_from_now();
+        encode_into(&message, &mut out)?;
+        assert_eq!(rt; out.as_slice(), text);
+        assert!(rt; !heap.was_refused());
+    }
+    Ok(())
 }
 
 #[test]
@@ -475,16 +580,8 @@ fn refused_memory_leaves_what_was_written(rt: HostRuntime) -> Result<(), Fail> {
         let heap = RefusingHeap::ample(rt.alloc());
         let message = decode(&heap, text)?;
         assert!(rt; fits(&message));
-        // with room for the text it takes no memory
-        let mut out = Vec::with_capacity(&heap, text.len())?;
-        let mut full = Vec::new(&heap);
-        full.push(7)?;
-        full.shrink_to_fit();
+        let mut full = Vec::from_slice(&heap, &[7])?;
         heap.refuse_from_now();
-        encode_into(&message, &mut out)?;
-        assert_eq!(rt; out.as_slice(), text);
-        assert!(rt; !heap.was_refused());
-        // without, it is refused, and the list stays
         assert!(rt; encode_into(&message, &mut full).is_err());
         assert!(rt; heap.was_refused());
         assert_eq!(rt; full.as_slice(), [7].as_slice());

@@ -1,4 +1,3 @@
-use Rattle.std.proofs.Common.{OnOk}
 use Rattle.rr_messages.proofs.Texts.{text-said, text-is, on_ok}
 use Rattle.rr_messages.proofs.writing.encode_into.Goals as goal
 
