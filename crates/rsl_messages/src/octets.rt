@@ -20,6 +20,7 @@ impl<A: Allocator> Model for Octets<A> {
 
 impl<A: Allocator + Copy> Octets<A> {
     /// A list of these octets.
+    #[inline(always)]
     pub fn new(alloc: A, octets: &[u8]) -> Result<Self, AllocError>
         ensures { IfOk result (λ o. o ≡ octets.now) }
     {
