@@ -45,15 +45,23 @@ fn octets<A: Allocator + Copy>(alloc: A, text: &str) -> Result<Option<Vec<u8, A>
     }
 }
 
-/// Prints why a text is refused: its octets have this fault, or it isn't hexadecimal.
-fn refuse<W: Write>(out: &mut W, fault: Option<Bad>) -> Result<Status, LabFault>
+/// Refuses a text that isn't hexadecimal, and prints so.
+fn refuse_text<W: Write>(out: &mut W) -> Result<Status, LabFault>
     ensures refused { IfOk result (λ status. status ≡ Status.Refused) }
     ensures write { IfErr result (λ fault. fault ≡ LabFault.Write) }
 {
-    match fault {
-        Some(fault) => print_fault(out, fault)?,
-        None => writeln!(out, "hex")?,
+    match writeln!(out, "hex") {
+        Ok(()) => Ok(Status::Refused),
+        Err(_) => Err(LabFault::Write),
     }
+}
+
+/// Refuses octets that are no message, and prints why.
+fn refuse_octets<W: Write>(out: &mut W, fault: Bad) -> Result<Status, LabFault>
+    ensures refused { IfOk result (λ status. status ≡ Status.Refused) }
+    ensures write { IfErr result (λ fault. fault ≡ LabFault.Write) }
+{
+    print_fault(out, fault)?;
     Ok(Status::Refused)
 }
 
@@ -90,7 +98,7 @@ fn decode_rr<W: Write>(octets: &[u8], out: &mut W) -> Result<Status, LabFault>
             writeln!(out, "{}", RrText(message))?;
             Ok(Status::Done)
         }
-        Err(fault) => refuse(out, Some(Bad::Rr(fault))),
+        Err(fault) => refuse_octets(out, Bad::Rr(fault)),
     }
 }
 
@@ -109,7 +117,7 @@ fn decode_bssmap<A: Allocator + Copy, W: Write>(
             writeln!(out, "{}", BssmapText(&message))?;
             Ok(Status::Done)
         }
-        Err(fault) => refuse(out, Some(bssmap_fault(fault)?)),
+        Err(fault) => refuse_octets(out, bssmap_fault(fault)?),
     }
 }
 
@@ -128,7 +136,7 @@ fn decode_abis<A: Allocator + Copy, W: Write>(
             writeln!(out, "{}", AbisText(&message))?;
             Ok(Status::Done)
         }
-        Err(fault) => refuse(out, Some(abis_fault(fault)?)),
+        Err(fault) => refuse_octets(out, abis_fault(fault)?),
     }
 }
 
@@ -148,7 +156,7 @@ pub fn decode_run<A: Allocator + Copy, W: Write>(
     ensures memory { result ≡ Err LabFault.NoMemory → is_some (octets_of text.now) ≡ true }
 {
     let Some(octets) = octets(alloc, text)? else {
-        return refuse(out, None);
+        return refuse_text(out);
     };
     match link {
         Link::Rr => decode_rr(&octets, out),

@@ -1,5 +1,6 @@
-//! The laboratory of the base station controller: what goes into a controller and comes out of it, scripts
-//! that drive one, the trace of what it did, and messages in words.
+//! The laboratory of the base station controller: runs of a script, messages in words, and the command line. The
+//! controller's inputs and outputs, its procedure, the reader of scripts and the trace have crates of their own, whose
+//! modules are exported here too.
 #![tactic(auto)]
 
 pub mod decoded;
