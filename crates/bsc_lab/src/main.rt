@@ -9,14 +9,18 @@ use lab::decoded::{Link, decode_run};
 use lab::run::{LabFault, Status, lab_run};
 use lab::words::{Job, WordsFault, read_words};
 use std::alloc::AllocError;
-use std::io::{self, BufWriter, Write};
+use std::env;
+use std::fs::File;
+use std::io::{self, BufWriter, Read, Write};
 use std::process::ExitCode;
 use std::rt::{Env, Files};
-use std::{env, fs};
 
 const REFUSED: u8 = 2;
 
 const NO_MEMORY: u8 = 3;
+
+/// The most octets that a file may have.
+const LONGEST_FILE: u64 = 64 << 20;
 
 /// Why the program ends early.
 #[derive(Drop)]
@@ -47,12 +51,18 @@ impl From<LabFault> for Stop {
     }
 }
 
+/// What a file holds, up to one octet more than it may have: a device without an end is not read for ever.
+fn beginning_of<R: Files + AllocGlobal>(rt: &R, path: &str) -> io::Result<String> {
+    let file = File::open(rt, path)?;
+    io::read_to_string(rt.alloc(), file.take(LONGEST_FILE + 1))
+}
+
 /// The text of a file. One that can't be read is named on standard output.
 fn text_of<R: Files + Print + AllocGlobal>(rt: &R, path: &str) -> Result<String, Stop> {
-    match fs::read_to_string(rt, path) {
-        Ok(text) => Ok(text),
+    match beginning_of(rt, path) {
+        Ok(text) if text.len() as u64 <= LONGEST_FILE => Ok(text),
         Err(error) if error.kind() == io::ErrorKind::OutOfMemory => Err(Stop::NoMemory),
-        Err(_) => {
+        _ => {
             println!(rt; "file {path}")?;
             Err(Stop::Refused)
         }
@@ -105,10 +115,22 @@ fn work<R: Files + Print + Eprint + AllocGlobal>(rt: &R, words: &[&str]) -> Resu
     }
 }
 
+/// The words of the command line. Where one isn't UTF-8, standard error says so.
+fn words_of<R: Eprint + Env + AllocGlobal>(rt: &R) -> Result<Vec<String>, Stop> {
+    match env::args(rt) {
+        Ok(words) => Ok(words.collect(rt.alloc())?),
+        Err(error) if error.kind() == io::ErrorKind::OutOfMemory => Err(Stop::NoMemory),
+        Err(_) => {
+            eprint!(rt; "error: a word of the command line isn't UTF-8\n")?;
+            Err(Stop::Refused)
+        }
+    }
+}
+
 /// Reads the words of the command line, and does what they ask for.
 fn start<R: Files + Print + Eprint + Env + AllocGlobal>(rt: &R) -> Result<(), Stop> {
     let alloc = rt.alloc();
-    let words: Vec<String> = env::args(rt)?.collect(alloc)?;
+    let words = words_of(rt)?;
     let words: Vec<&str> = words
         .iter()
         .skip(1)
