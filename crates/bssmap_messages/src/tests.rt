@@ -176,8 +176,8 @@ fn borrowed_mark(classmark: &Classmark) -> Mark<'_> {
         Classmark::Two(octets) => Mark::Two(octets.as_slice()),
     }
 }
-
-fn borrowed(message: &Bssmap) -> Said<'_> {
+/// What a message says that keeps octets or cells.
+fn said_with_lists(message: &Bssmap) -> Option<Said<'_>> {
     match message {
         Bssmap::HandoverRequest {
             channel,
@@ -185,43 +185,58 @@ fn borrowed(message: &Bssmap) -> Said<'_> {
             classmark,
             serving,
             target,
-        } => Said::HandoverRequest {
+        } => Some(Said::HandoverRequest {
             channel: channel.as_slice(),
             encryption: encryption.as_slice(),
             classmark: borrowed_mark(classmark),
             serving: *serving,
             target: *target,
-        },
+        }),
         Bssmap::HandoverRequired {
             cause,
             response,
             cells,
-        } => Said::HandoverRequired {
+        } => Some(Said::HandoverRequired {
             cause: *cause,
             response: *response,
             cells: cells.as_slice(),
-        },
-        Bssmap::HandoverRequestAck { layer3 } => Said::HandoverRequestAck {
+        }),
+        Bssmap::HandoverRequestAck { layer3 } => Some(Said::HandoverRequestAck {
             layer3: layer3.as_slice(),
-        },
-        Bssmap::HandoverCommand { layer3 } => Said::HandoverCommand {
+        }),
+        Bssmap::HandoverCommand { layer3 } => Some(Said::HandoverCommand {
             layer3: layer3.as_slice(),
-        },
-        Bssmap::HandoverComplete { rr } => Said::HandoverComplete { rr: *rr },
-        Bssmap::HandoverFailure { cause, rr } => Said::HandoverFailure {
+        }),
+        _ => None,
+    }
+}
+
+/// What a message says that keeps none.
+fn said_without_lists(message: &Bssmap) -> Option<Said<'_>> {
+    match message {
+        Bssmap::HandoverComplete { rr } => Some(Said::HandoverComplete { rr: *rr }),
+        Bssmap::HandoverFailure { cause, rr } => Some(Said::HandoverFailure {
             cause: *cause,
             rr: *rr,
-        },
-        Bssmap::HandoverPerformed { cause, cell } => Said::HandoverPerformed {
+        }),
+        Bssmap::HandoverPerformed { cause, cell } => Some(Said::HandoverPerformed {
             cause: *cause,
             cell: *cell,
-        },
-        Bssmap::HandoverRequiredReject { cause } => Said::HandoverRequiredReject { cause: *cause },
-        Bssmap::HandoverDetect => Said::HandoverDetect,
-        Bssmap::ClearCommand { cause } => Said::ClearCommand { cause: *cause },
-        Bssmap::ClearComplete => Said::ClearComplete,
-        Bssmap::ClearRequest { cause } => Said::ClearRequest { cause: *cause },
+        }),
+        Bssmap::HandoverRequiredReject { cause } => Some(Said::HandoverRequiredReject {
+            cause: *cause,
+        }),
+        Bssmap::HandoverDetect => Some(Said::HandoverDetect),
+        Bssmap::ClearCommand { cause } => Some(Said::ClearCommand { cause: *cause }),
+        Bssmap::ClearComplete => Some(Said::ClearComplete),
+        Bssmap::ClearRequest { cause } => Some(Said::ClearRequest { cause: *cause }),
+        _ => None,
     }
+}
+
+/// What a message says, without owning it.
+fn borrowed(message: &Bssmap) -> Option<Said<'_>> {
+    said_with_lists(message).or(said_without_lists(message))
 }
 
 /// The cells of the texts above.
@@ -275,7 +290,7 @@ const SAYINGS: [Said<'static>; 12] = [
 fn reads_each_message(rt: HostRuntime) -> Result<(), Fail> {
     for (text, saying) in TEXTS.iter().zip(SAYINGS) {
         let message = decode(rt.alloc(), text)?;
-        assert_eq!(rt; borrowed(&message), saying);
+        assert_eq!(rt; borrowed(&message), Some(saying));
     }
     Ok(())
 }
@@ -331,7 +346,7 @@ fn reads_cells(rt: HostRuntime) -> Result<(), Fail> {
             response,
             cells,
         };
-        assert_eq!(rt; borrowed(&message), saying);
+        assert_eq!(rt; borrowed(&message), Some(saying));
     }
     Ok(())
 }

@@ -248,7 +248,7 @@ fn no_memory_is_asked_for_a_text_without_a_site(rt: HostRuntime) {
 }
 
 #[test]
-fn names_are_printed(rt: HostRuntime) -> Result<(), Fail> {
+fn faults_are_printed(rt: HostRuntime) -> Result<(), Fail> {
     let rows = [
         (SiteFault::Toml, "the text describes no site"),
         (SiteFault::NoMemory, "out of memory"),

@@ -1,5 +1,5 @@
-//! Channels of a cell, and what is done with them: a station is asked to activate and to release them, and
-//! answers (TS 48.058 clause 4).
+//! Channels of a cell: their names, and the states that they take while a station is asked to activate and to
+//! release them, and answers (TS 48.058 clause 4).
 #![tactic(auto)]
 
 use std::fmt;

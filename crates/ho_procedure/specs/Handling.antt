@@ -1,6 +1,5 @@
 -- What the handling of an input comes to.
 use Rattle.std.specs.Prelude.{◌≡◌, ◌⊎◌, ℕ, List, [], ◌∷◌, map, Option, None}
-use Rattle.radio_book.specs.ChanId.{ChanId}
 use Rattle.radio_book.specs.declared.event.Event.{Event}
 use Rattle.radio_book.specs.declared.event.Event.TheVariants.{Open, Clear, Look, Take, Reserve, Activate, Undo, Confirm, Refuse, Released}
 use Rattle.radio_book.specs.declared.event.Reply.{Reply}
@@ -17,7 +16,7 @@ use Rattle.ho_procedure.specs.declared.exchange.Inbound.{Inbound}
 use Rattle.ho_procedure.specs.declared.exchange.Inbound.TheVariants as inbound
 use Rattle.ho_procedure.specs.declared.exchange.Outbound.{Outbound}
 use Rattle.ho_procedure.specs.declared.exchange.Outbound.TheVariants as outbound
-use Rattle.ho_procedure.specs.Plan.{Sent, OnAbis, Plan, Follows, Begins, HasStep}
+use Rattle.ho_procedure.specs.Plan.{Sent, OnAbis, Follows, Begins, HasStep}
 use Rattle.ho_procedure.specs.Procedure.{line_plan, message_plan}
 
 abbrev pub sent_of : {A : Type 0} → Outbound A → Sent

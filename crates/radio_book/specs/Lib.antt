@@ -1,3 +1,4 @@
+pub use Rattle.channel_fsm.specs.Text
 pub use Rattle.channel_fsm.specs.declared.ChanId
 pub use Rattle.channel_fsm.specs.declared.ChanState
 pub use Rattle.cell_table.specs.Site

@@ -140,61 +140,45 @@ enum Said<'a> {
         channel: ChanBits,
     },
 }
-
-fn borrowed(message: &Rsl) -> Said<'_> {
+/// What a message says that keeps octets or cells.
+fn said_with_lists(message: &Rsl) -> Option<Said<'_>> {
     match message {
         Rsl::DataRequest {
             channel,
             link,
             layer3,
-        } => Said::DataRequest {
+        } => Some(Said::DataRequest {
             channel: *channel,
             link: *link,
             layer3: layer3.as_slice(),
-        },
+        }),
         Rsl::DataIndication {
             channel,
             link,
             layer3,
-        } => Said::DataIndication {
+        } => Some(Said::DataIndication {
             channel: *channel,
             link: *link,
             layer3: layer3.as_slice(),
-        },
+        }),
         Rsl::ChannelActivation {
             channel,
             activation,
             mode,
             reference,
-        } => Said::ChannelActivation {
+        } => Some(Said::ChannelActivation {
             channel: *channel,
             activation: *activation,
             mode: mode.as_slice(),
             reference: *reference,
-        },
-        Rsl::ChannelActivationAck { channel, frame } => Said::ChannelActivationAck {
-            channel: *channel,
-            frame: *frame,
-        },
-        Rsl::ChannelActivationNack { channel, cause } => Said::ChannelActivationNack {
-            channel: *channel,
-            cause: *cause,
-        },
-        Rsl::ConnectionFailureIndication { channel, cause } => Said::ConnectionFailureIndication {
-            channel: *channel,
-            cause: *cause,
-        },
-        Rsl::HandoverDetection { channel, delay } => Said::HandoverDetection {
-            channel: *channel,
-            delay: *delay,
-        },
+        }),
         Rsl::MeasurementResult {
             channel,
             number,
             uplink,
             power,
             layer3,
-        } => Said::MeasurementResult {
+        } => Some(Said::MeasurementResult {
             channel: *channel,
             number: *number,
             uplink: uplink.as_slice(),
@@ -203,10 +187,43 @@ fn borrowed(message: &Rsl) -> Said<'_> {
                 Some(octets) => Some(octets.as_slice()),
                 None => None,
             },
-        },
-        Rsl::RfChannelRelease { channel } => Said::RfChannelRelease { channel: *channel },
-        Rsl::RfChannelReleaseAck { channel } => Said::RfChannelReleaseAck { channel: *channel },
+        }),
+        _ => None,
     }
+}
+
+/// What a message says that keeps none.
+fn said_without_lists(message: &Rsl) -> Option<Said<'_>> {
+    match message {
+        Rsl::ChannelActivationAck { channel, frame } => Some(Said::ChannelActivationAck {
+            channel: *channel,
+            frame: *frame,
+        }),
+        Rsl::ChannelActivationNack { channel, cause } => Some(Said::ChannelActivationNack {
+            channel: *channel,
+            cause: *cause,
+        }),
+        Rsl::ConnectionFailureIndication { channel, cause } => Some(
+            Said::ConnectionFailureIndication {
+                channel: *channel,
+                cause: *cause,
+            },
+        ),
+        Rsl::HandoverDetection { channel, delay } => Some(Said::HandoverDetection {
+            channel: *channel,
+            delay: *delay,
+        }),
+        Rsl::RfChannelRelease { channel } => Some(Said::RfChannelRelease { channel: *channel }),
+        Rsl::RfChannelReleaseAck { channel } => Some(Said::RfChannelReleaseAck {
+            channel: *channel,
+        }),
+        _ => None,
+    }
+}
+
+/// What a message says, without owning it.
+fn borrowed(message: &Rsl) -> Option<Said<'_>> {
+    said_with_lists(message).or(said_without_lists(message))
 }
 
 /// What each text says.
@@ -260,7 +277,7 @@ const SAYINGS: [Said<'static>; 10] = [
 fn reads_each_message(rt: HostRuntime) -> Result<(), Fail> {
     for (text, saying) in TEXTS.iter().zip(SAYINGS) {
         let message = decode(rt.alloc(), text)?;
-        assert_eq!(rt; borrowed(&message), saying);
+        assert_eq!(rt; borrowed(&message), Some(saying));
     }
     Ok(())
 }

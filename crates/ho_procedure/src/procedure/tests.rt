@@ -429,13 +429,16 @@ fn a_refused_target_is_taken_back(rt: HostRuntime) -> Result<(), Fail> {
 
 #[test]
 fn a_call_with_an_attempt_is_cleared(rt: HostRuntime) -> Result<(), Fail> {
-    usage_after(&rt, BEGINS, STARTS, ENDS_IN_HANDOVER)?;
+    let usage = usage_after(&rt, BEGINS, STARTS, ENDS_IN_HANDOVER)?;
+    // both channels await their releases
+    assert_eq!(rt; (usage.channels, usage.calls), (2, 0));
     Ok(())
 }
 
 #[test]
 fn an_input_that_finds_nothing_asks_nothing(rt: HostRuntime) -> Result<(), Fail> {
-    usage_after(&rt, FINDS_NOTHING, WITHOUT_A_ROW, &[])?;
+    let usage = usage_after(&rt, FINDS_NOTHING, WITHOUT_A_ROW, &[])?;
+    assert_eq!(rt; (usage.channels, usage.calls), (1, 1));
     Ok(())
 }
 

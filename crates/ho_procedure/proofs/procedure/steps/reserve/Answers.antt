@@ -1,4 +1,4 @@
-use Rattle.std.proofs.Common.{◌≡◌, ◌++◌, ◌∷◌, [], arith}
+use Rattle.std.proofs.Common.{◌≡◌, arith}
 use Rattle.std.proofs.lemmas.Grind.{common_steps}
 use Rattle.radio_book.specs.declared.event.Event.TheVariants.{Reserve}
 use Rattle.ho_procedure.proofs.procedure.steps.reserve.Goals as goal
