@@ -1,5 +1,5 @@
 -- What cells say of the octets that they are read from.
-use Rattle.std.proofs.Common.{◌==◌, ◌≡◌, ℕ, ◌<◌, ◌≤◌, ◌%◌, List, [], ◌∷◌, ◌++◌, length, Option, Some, None, Bool, true, false, refl, sym, ◌∙◌, ap, arith, get_or, take, drop, ◌-◌, IfSome, nat_eq, cond, Ok, append_assoc, append-nil, eqb}
+use Rattle.std.proofs.Common.{◌≡◌, ℕ, ◌<◌, ◌≤◌, ◌%◌, List, [], ◌∷◌, ◌++◌, length, Option, Some, None, Bool, true, false, refl, sym, ◌∙◌, ap, arith, get_or, take, drop, ◌-◌, IfSome, nat_eq, cond, Ok, append_assoc, append-nil, eqb}
 use Rattle.std.proofs.lemmas.List.{take_all}
 use Rattle.std.specs.Option.{option_map, is_some}
 use Rattle.bssmap_messages.specs.declared.message.CellId.{CellId}
@@ -97,17 +97,13 @@ after_some d v some h = by_form (eqb (d % 16) 0) (eqb (d % 16) 1) (eqb (d % 16) 
     by_form false false true h = alone_some v some h
     by_form false false false h = cc
 
-not_empty : (v : List ℕ) → (length v == 0) ≡ false → 0 < length v
-not_empty [] h = absurd cc
-not_empty (x ∷ v) h = omega arith
-
 -- octets that are whole cells are some cells
-pub some_are_read : (d : ℕ) (v : List ℕ) → (length v == 0) ≡ false → is_some (cells_after d v) ≡ true → (cells : List CellId) × (cells_after d v ≡ Some cells) × (some_cells (cells_after d v) ≡ Ok cells)
+pub some_are_read : (d : ℕ) (v : List ℕ) → 0 < length v → is_some (cells_after d v) ≡ true → (cells : List CellId) × (cells_after d v ≡ Some cells) × (some_cells (cells_after d v) ≡ Ok cells)
 some_are_read d v some whole = by_cells (cells_after d v) refl whole
   where
     by_cells : (o : Option (List CellId)) → cells_after d v ≡ o → is_some o ≡ true → (cells : List CellId) × (o ≡ Some cells) × (some_cells o ≡ Ok cells)
     by_cells None is whole = absurd cc
-    by_cells (Some []) is whole = absurd (after_some d v (not_empty v some) is)
+    by_cells (Some []) is whole = absurd (after_some d v some is)
     by_cells (Some (cell ∷ cells)) is whole = (cell ∷ cells, refl, refl)
 
 -- one more cell is read

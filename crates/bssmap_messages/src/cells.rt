@@ -118,10 +118,10 @@ fn some_cells(discriminator: u8, octets: &[u8]) -> Result<(u8, &[u8]), ElementFa
     ensures ok { IfOk result (λ c. (cells : List CellId) × (cells_after c.0 c.1.now ≡ Some cells) × (some_cells (cells_after discriminator octets.now) ≡ Ok cells)) }
     ensures err { IfErr result (λ e. some_cells (cells_after discriminator octets.now) ≡ Err e) }
 {
-    if !octets.is_empty() && are_cells(discriminator, octets) {
-        Ok((discriminator, octets))
-    } else {
-        Err(ElementFault::Bad(CELL_IDENTIFIER_LIST))
+    match octets {
+        [] => Err(ElementFault::Bad(CELL_IDENTIFIER_LIST)),
+        _ if are_cells(discriminator, octets) => Ok((discriminator, octets)),
+        _ => Err(ElementFault::Bad(CELL_IDENTIFIER_LIST)),
     }
 }
 

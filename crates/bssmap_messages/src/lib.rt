@@ -12,8 +12,6 @@ mod lists;
 mod message;
 mod reading;
 mod table;
-#[cfg(test)]
-mod tests;
 mod values;
 mod writing;
 

@@ -15,9 +15,6 @@ use thiserror::Error;
 use toml::Value;
 use toml::value::Array;
 
-#[cfg(test)]
-mod tests;
-
 /// Why `Site::read` gives no site.
 #[derive(Clone, Copy, Debug, PartialEq, Eq, Error)]
 pub enum SiteFault {

@@ -17,8 +17,6 @@ mod calls;
 mod release;
 mod stations;
 mod steps;
-#[cfg(test)]
-mod tests;
 
 use attempts::{start, undo};
 use calls::{clear, open};

@@ -5,8 +5,6 @@
 
 pub mod decoded;
 pub mod run;
-#[cfg(test)]
-mod tests;
 pub mod words;
 
 pub use ho_procedure::{exchange, procedure};

@@ -1,5 +1,5 @@
 //! A controller that is driven by a script, on one thread.
-ghost use Rattle.std.specs.Prelude.{◌≡◌, ◌⊎◌, Ok, None, IsSome};
+ghost use Rattle.std.specs.Prelude.{◌≡◌, ◌⊎◌, Ok, None, IsSome, IfOk};
 ghost use Rattle.radio_book.specs.SiteFile.{described_site};
 ghost use Rattle.lab_script.specs.Script.{first_unread};
 
@@ -87,6 +87,25 @@ fn run_inputs<A: Allocator + Copy, W: Write>(
     Ok(())
 }
 
+/// The inputs of a script; nothing where a line can't be read, whose number was printed.
+fn script_inputs<A: Allocator + Copy, W: Write>(
+    alloc: A,
+    script: &str,
+    out: &mut W,
+) -> Result<Option<Vec<Inbound<A>, A>>, LabFault>
+    ensures read { IfOk result (λ inputs. IsSome inputs → first_unread script.now ≡ None) }
+    ensures refused { IfOk result (λ inputs. inputs ≡ None → IsSome (first_unread script.now)) }
+{
+    match read_script(alloc, script) {
+        Ok(inputs) => Ok(Some(inputs)),
+        Err(ScriptFault::Line(number)) => {
+            writeln!(out, "line {number}")?;
+            Ok(None)
+        }
+        Err(ScriptFault::NoMemory) => Err(LabFault::NoMemory),
+    }
+}
+
 /// Runs a script over a site that was read.
 fn run_script<A: Allocator + Copy, W: Write>(
     alloc: A,
@@ -97,16 +116,13 @@ fn run_script<A: Allocator + Copy, W: Write>(
     ensures done { result ≡ Ok Status.Done → first_unread script.now ≡ None }
     ensures refused { result ≡ Ok Status.Refused → IsSome (first_unread script.now) }
 {
-    let inputs = match read_script(alloc, script) {
-        Ok(inputs) => inputs,
-        Err(ScriptFault::Line(number)) => {
-            writeln!(out, "line {number}")?;
-            return Ok(Status::Refused);
+    match script_inputs(alloc, script, out)? {
+        Some(inputs) => {
+            run_inputs(alloc, site, inputs, out)?;
+            Ok(Status::Done)
         }
-        Err(ScriptFault::NoMemory) => return Err(LabFault::NoMemory),
-    };
-    run_inputs(alloc, site, inputs, out)?;
-    Ok(Status::Done)
+        None => Ok(Status::Refused),
+    }
 }
 
 /// Runs a script over a site, both given as texts, and prints the trace to `out`.

@@ -26,9 +26,6 @@ use rsl_messages::Octets;
 use std::alloc::{AllocError, Allocator};
 use thiserror::Error;
 
-#[cfg(test)]
-mod tests;
-
 /// Why a script is not read.
 #[derive(Clone, Copy, Debug, PartialEq, Eq, Error)]
 pub enum ScriptFault {

@@ -8,7 +8,5 @@ pub mod abis;
 pub mod bad;
 pub mod bssmap;
 pub mod rr;
-#[cfg(test)]
-mod tests;
 mod text;
 pub mod trace;

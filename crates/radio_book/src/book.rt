@@ -14,9 +14,6 @@ use std::alloc::{AllocError, Allocator, Global};
 use std::marker::Model;
 use std::sync::Arc;
 
-#[cfg(test)]
-mod tests;
-
 /// How much a book holds.
 #[derive(Clone, Copy, Debug, PartialEq, Eq)]
 pub struct Usage {

@@ -10,8 +10,6 @@ pub mod laws;
 mod measurement;
 mod power;
 mod results;
-#[cfg(test)]
-mod tests;
 
 pub use cause::RrCause;
 pub use cell::CellDescription;

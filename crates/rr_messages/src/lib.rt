@@ -6,8 +6,6 @@ mod kind;
 pub mod laws;
 mod message;
 mod reading;
-#[cfg(test)]
-mod tests;
 mod writing;
 
 pub use fault::RrFault;

@@ -11,8 +11,6 @@ mod message;
 mod octets;
 mod reading;
 mod table;
-#[cfg(test)]
-mod tests;
 mod values;
 mod writing;
 

@@ -1,5 +1,5 @@
 use super::{ONE_CALL, SITE, printed};
-use crate::run::Status;
+use lab::run::Status;
 use std::test::Fail;
 
 /// Scripts, and what each prints.

@@ -1,5 +1,5 @@
-use super::{ScriptFault, read_script};
 use ho_procedure::exchange::{Inbound, Line};
+use lab_script::script::{ScriptFault, read_script};
 use radio_book::channel::ChanId;
 use refusing_heap::RefusingHeap;
 use std::alloc::Global;

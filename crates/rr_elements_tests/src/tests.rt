@@ -1,7 +1,7 @@
-use crate::{
+use refusing_heap::RefusingHeap;
+use rr_elements::{
     CellDescription, ChanDescription, ElementFault, MeasHead, MeasResults, Ncell, Power, RrCause,
 };
-use refusing_heap::RefusingHeap;
 use std::alloc::Global;
 use std::process::Abort;
 use std::test::Fail;

@@ -1,10 +1,8 @@
-use crate::fault::RslFault;
-use crate::laws::{canonical_is_text, reading_is_unique};
-use crate::message::{ChanBits, Rsl};
-use crate::octets::Octets;
-use crate::reading::decode;
-use crate::writing::{encode, encode_into, fits};
 use refusing_heap::RefusingHeap;
+use rsl_messages::{
+    ChanBits, Octets, Rsl, RslFault, canonical_is_text, decode, encode, encode_into, fits,
+    reading_is_unique,
+};
 use std::alloc::Global;
 use std::process::Abort;
 use std::test::Fail;
@@ -35,7 +33,7 @@ const RELEASE: &[u8] = &[8, 0x2E, 1, 0x0B];
 const RELEASE_ACK: &[u8] = &[8, 0x33, 1, 0x0B];
 
 /// A text of each message, as it is written.
-const TEXTS: [&[u8]; 10] = [
+const TEXTS: &[&[u8]] = &[
     DATA_REQUEST,
     DATA_INDICATION,
     ACTIVATION,
@@ -50,7 +48,7 @@ const TEXTS: [&[u8]; 10] = [
 
 /// The elements of each text: the offset where one begins, its identifier, and whether the message
 /// needs it.
-const ELEMENTS: [&[(usize, u8, bool)]; 10] = [
+const ELEMENTS: &[&[(usize, u8, bool)]] = &[
     &[(2, 1, true), (4, 2, true), (6, 0x0B, true)],
     &[(2, 1, true), (4, 2, true), (6, 0x0B, true)],
     &[(2, 1, true), (4, 3, true), (6, 6, true), (12, 9, false)],
@@ -227,7 +225,7 @@ fn borrowed(message: &Rsl) -> Option<Said<'_>> {
 }
 
 /// What each text says.
-const SAYINGS: [Said<'static>; 10] = [
+const SAYINGS: &[Said] = &[
     Said::DataRequest {
         channel: TN3,
         link: 0,
@@ -277,13 +275,13 @@ const SAYINGS: [Said<'static>; 10] = [
 fn reads_each_message(rt: HostRuntime) -> Result<(), Fail> {
     for (text, saying) in TEXTS.iter().zip(SAYINGS) {
         let message = decode(rt.alloc(), text)?;
-        assert_eq!(rt; borrowed(&message), Some(saying));
+        assert_eq!(rt; borrowed(&message), Some(*saying));
     }
     Ok(())
 }
 
 /// Texts that are not written so, with the text that is written for what they say.
-const OTHER_TEXTS: [(&[u8], &[u8]); 9] = [
+const OTHER_TEXTS: &[(&[u8], &[u8])] = &[
     // bit 1 of the discriminator
     (&[9, 0x2E, 1, 0x0B], RELEASE),
     (&[2, 1, 1, 0x0B, 2, 0, 0x0B, 0, 3, 6, 0x0D, 0], DATA_REQUEST),
@@ -318,7 +316,7 @@ fn reads_other_texts_of_a_message(rt: HostRuntime) -> Result<(), Fail> {
 }
 
 /// Octets that are no text of a message, and their first fault.
-const FAULTS: [(&[u8], RslFault); 38] = [
+const FAULTS: &[(&[u8], RslFault)] = &[
     (&[], RslFault::NotRsl),
     (&[4], RslFault::NotRsl),
     (&[0], RslFault::NotRsl),
@@ -368,7 +366,11 @@ const FAULTS: [(&[u8], RslFault); 38] = [
 #[test]
 fn finds_the_first_fault(rt: HostRuntime) {
     for (octets, fault) in FAULTS {
-        assert_eq!(rt; decode(rt.alloc(), octets).err(), Some(fault), "{octets:?}");
+        assert_eq!(rt;
+            decode(rt.alloc(), octets).err(),
+            Some(*fault),
+            "{octets:?}"
+        );
     }
 }
 
@@ -498,7 +500,7 @@ fn shaped(alloc: Global, shape: Shape) -> Result<Rsl, Fail> {
 }
 
 /// Messages, and whether they have a canonical text.
-const SHAPES: [(Shape, bool); 24] = [
+const SHAPES: &[(Shape, bool)] = &[
     (Shape::DataRequest(7, 1), true),
     (Shape::DataRequest(8, 1), false),
     (Shape::DataRequest(255, 1), false),
@@ -528,13 +530,13 @@ const SHAPES: [(Shape, bool); 24] = [
 #[test]
 fn fits_what_has_a_canonical_text(rt: HostRuntime) -> Result<(), Fail> {
     for (shape, fit) in SHAPES {
-        assert_eq!(rt; fits(&shaped(rt.alloc(), shape)?), fit, "{shape:?}");
+        assert_eq!(rt; fits(&shaped(rt.alloc(), *shape)?), *fit, "{shape:?}");
     }
     Ok(())
 }
 
 /// How many octet lists the message of each text keeps.
-const LISTS: [u64; 10] = [1, 1, 1, 0, 0, 0, 0, 2, 0, 0];
+const LISTS: &[u64] = &[1, 1, 1, 0, 0, 0, 0, 2, 0, 0];
 
 /// Each request for memory of `decode` is refused in turn: how many there are.
 fn refused_readings(rt: &(impl AllocGlobal + Abort), text: &[u8]) -> Option<u64> {
@@ -553,12 +555,12 @@ fn refused_readings(rt: &(impl AllocGlobal + Abort), text: &[u8]) -> Option<u64>
 #[test]
 fn refused_memory_is_the_only_want_of_memory(rt: HostRuntime) {
     for (text, lists) in TEXTS.iter().zip(LISTS) {
-        assert_eq!(rt; refused_readings(&rt, text), Some(lists), "{text:?}");
+        assert_eq!(rt; refused_readings(&rt, text), Some(*lists), "{text:?}");
     }
 }
 
 /// Octets with a fault behind an octet list that is whole.
-const FAULTY_TEXTS: [(&[u8], RslFault); 3] = [
+const FAULTY_TEXTS: &[(&[u8], RslFault)] = &[
     (&[8, 0x21, 1, 0x0B, 3, 0, 6, 1, 0, 9], RslFault::Torn(9)),
     (&[8, 0x21, 1, 0x0B, 6, 1, 0], RslFault::Missing(3)),
     (
@@ -571,7 +573,7 @@ const FAULTY_TEXTS: [(&[u8], RslFault); 3] = [
 fn refused_memory_of_a_faulty_text_is_not_wanted(rt: HostRuntime) {
     for (octets, fault) in FAULTY_TEXTS {
         let heap = RefusingHeap::refusing_from(rt.alloc(), 1);
-        assert_eq!(rt; decode(&heap, octets).err(), Some(fault));
+        assert_eq!(rt; decode(&heap, octets).err(), Some(*fault));
         assert_eq!(rt; heap.requests(), 0);
     }
 }
@@ -585,7 +587,7 @@ fn with_room_for_the_text_no_memory_is_taken(rt: HostRuntime) -> Result<(), Fail
         let mut out = Vec::with_capacity(&heap, text.len())?;
         heap.refuse_from_now();
         encode_into(&message, &mut out)?;
-        assert_eq!(rt; out.as_slice(), text);
+        assert_eq!(rt; out.as_slice(), *text);
         assert!(rt; !heap.was_refused());
     }
     Ok(())

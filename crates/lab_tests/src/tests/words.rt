@@ -1,5 +1,5 @@
-use crate::decoded::Link;
-use crate::words::{Job, WordsFault, read_words};
+use lab::decoded::Link;
+use lab::words::{Job, WordsFault, read_words};
 use std::alloc::Global;
 use std::process::Abort;
 use std::test::Fail;

@@ -1,9 +1,7 @@
-use crate::fault::BssmapFault;
-use crate::laws::{canonical_is_text, reading_is_unique};
-use crate::lists::{CellList, Octets};
-use crate::message::{Bssmap, CellId, Classmark};
-use crate::reading::decode;
-use crate::writing::{encode, encode_into, fits};
+use bssmap_messages::{
+    Bssmap, BssmapFault, CellId, CellList, Classmark, Octets, canonical_is_text, decode, encode,
+    encode_into, fits, reading_is_unique,
+};
 use refusing_heap::RefusingHeap;
 use std::alloc::{AllocError, Global};
 use std::process::Abort;

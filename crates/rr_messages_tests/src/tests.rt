@@ -1,8 +1,8 @@
-use crate::{Rr, RrFault, decode, encode, encode_into};
 use refusing_heap::RefusingHeap;
 use rr_elements::{
     CellDescription, ChanDescription, ElementFault, MeasHead, MeasResults, Ncell, Power, RrCause,
 };
+use rr_messages::{Rr, RrFault, decode, encode, encode_into};
 use std::test::Fail;
 
 const REPORT: [u8; 18] = [

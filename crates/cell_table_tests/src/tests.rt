@@ -1,4 +1,4 @@
-use super::{Site, SiteFault};
+use cell_table::{Site, SiteFault};
 use channel_fsm::ChanId;
 use refusing_heap::RefusingHeap;
 use std::process::Abort;

@@ -1,6 +1,6 @@
 use super::failing::Failing;
 use super::{ONE_CALL, SITE, printed};
-use crate::run::{LabFault, Status, lab_run};
+use lab::run::{LabFault, Status, lab_run};
 use refusing_heap::RefusingHeap;
 use std::alloc::Global;
 use std::process::Abort;

@@ -6,7 +6,7 @@ mod refusals;
 mod traces;
 mod words;
 
-use crate::run::{LabFault, Status, lab_run};
+use lab::run::{LabFault, Status, lab_run};
 use std::alloc::{Allocator, Global};
 use std::test::Fail;
 

@@ -1,6 +1,6 @@
 use super::failing::Failing;
-use crate::decoded::{Link, decode_run};
-use crate::run::{LabFault, Status};
+use lab::decoded::{Link, decode_run};
+use lab::run::{LabFault, Status};
 use refusing_heap::RefusingHeap;
 use std::alloc::{Allocator, Global};
 use std::process::Abort;

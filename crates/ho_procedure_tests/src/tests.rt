@@ -1,5 +1,5 @@
-use super::handle_plain;
-use crate::exchange::{Handled, Inbound, Line, Outbound, PlainFault};
+use ho_procedure::exchange::{Handled, Inbound, Line, Outbound, PlainFault};
+use ho_procedure::procedure::handle_plain;
 use radio_book::book::{Book, Usage};
 use radio_book::channel::{ChanId, ChanState};
 use radio_book::event::Event::{

@@ -1,16 +1,16 @@
-use super::{Book, Usage};
-use crate::event::Event::{
-    Activate, Clear, Confirm, Look, Open, Refuse, Released, Reserve, Take, Undo,
-};
-use crate::event::Refusal::{
-    CallExists, ChannelBusy, NoCall, NoChannel, NotArmed, RefBusy, SameCell, Unexpected, WrongPhase,
-};
-use crate::event::Reply::{Done, Owned, Record, Refused};
-use crate::event::{
-    Attempt, AttemptKind, CallRecord, Event, Kind, Refusal, Reply, Stage, Timer, Why,
-};
 use cell_table::Site;
 use channel_fsm::{ChanId, ChanState};
+use radio_book::book::{Book, Usage};
+use radio_book::event::Event::{
+    Activate, Clear, Confirm, Look, Open, Refuse, Released, Reserve, Take, Undo,
+};
+use radio_book::event::Refusal::{
+    CallExists, ChannelBusy, NoCall, NoChannel, NotArmed, RefBusy, SameCell, Unexpected, WrongPhase,
+};
+use radio_book::event::Reply::{Done, Owned, Record, Refused};
+use radio_book::event::{
+    Attempt, AttemptKind, CallRecord, Event, Kind, Refusal, Reply, Stage, Timer, Why,
+};
 use refusing_heap::RefusingHeap;
 use std::alloc::{AllocError, Allocator, Global};
 use std::process::Abort;
