@@ -5,66 +5,12 @@
 //! turn adds to the sum, so that no turn can be left out. `bsc_bench all N` does every work so, on its own octets.
 #![tactic(auto)]
 
-mod abis;
-mod bssmap;
-mod call;
-mod fault;
-mod life;
-mod measured;
-mod radio;
-#[cfg(test)]
-mod tests;
-mod turning;
-mod words;
-mod work;
-
-use crate::bssmap::Subject;
-use crate::fault::Fault;
-use crate::turning::Turning;
-use crate::words::{Job, read_words};
-use crate::work::Work;
-use std::alloc::Global;
+use bench_works::fault::Fault;
+use bench_works::sum_of;
+use bench_works::words::{Job, read_words};
+use bench_works::work::Work;
 use std::env::{self, Env};
 use std::process::ExitCode;
-
-/// The sum of so many turns of a work.
-fn sum_of(alloc: Global, work: Work, count: u64, octets: &[u8]) -> Result<u64, Fault> {
-    let mut turning = Turning::new(alloc, octets, work.place())?;
-    match work {
-        Work::DecodeActivation => abis::decode_activations(alloc, &mut turning, count),
-        Work::EncodeActivation => abis::encode_activations(alloc, &mut turning, count),
-        Work::CallByOctets => call::call_by_octets(alloc, &mut turning, count),
-        Work::LiveByStep => life::live_by_steps(alloc, &mut turning, count),
-        Work::DecodeMeasurement => measured::decode_measurements(alloc, &mut turning, count),
-        Work::EncodeMeasurement => measured::encode_measurements(alloc, &mut turning, count),
-        Work::DecodeCommand => radio::decode_commands(&mut turning, count),
-        Work::EncodeCommand => radio::encode_commands(alloc, &mut turning, count),
-        Work::DecodeRequest => bssmap::decode_messages(
-            alloc,
-            Subject::Request,
-            &mut turning,
-            count,
-        ),
-        Work::EncodeRequest => bssmap::encode_messages(
-            alloc,
-            Subject::Request,
-            &mut turning,
-            count,
-        ),
-        Work::DecodeRequired => bssmap::decode_messages(
-            alloc,
-            Subject::Required,
-            &mut turning,
-            count,
-        ),
-        Work::EncodeRequired => bssmap::encode_messages(
-            alloc,
-            Subject::Required,
-            &mut turning,
-            count,
-        ),
-    }
-}
 
 /// Does a work and prints its line.
 fn show<R: Print + AllocGlobal>(

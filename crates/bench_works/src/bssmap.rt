@@ -1,4 +1,5 @@
 //! Works on messages of A (TS 48.008).
+ghost use Rattle.std.specs.Prelude.{IfOk};
 ghost use Rattle.bssmap_messages.specs.Texts.{HasCanonical};
 
 use crate::fault::Fault;
@@ -69,6 +70,14 @@ fn fields_sum(subject: Subject, message: &Bssmap) -> Result<u64, Fault> {
     }
 }
 
+/// Reads a message. The sum is that of its fields.
+fn decode_once(alloc: Global, subject: Subject, octets: &[u8]) -> Result<u64, Fault> {
+    let message = decode(alloc, octets)?;
+    // past the `?` the compiler knows which message it drops
+    let sum = fields_sum(subject, &message)?;
+    Ok(sum)
+}
+
 /// Reads a message in each turn. The sum is that of the fields that were read.
 pub fn decode_messages(
     alloc: Global,
@@ -78,8 +87,7 @@ pub fn decode_messages(
 ) -> Result<u64, Fault> {
     let mut sum = 0u64;
     for turn in 0..count {
-        let message = decode(alloc, octets.at(turn))?;
-        sum = sum.wrapping_add(fields_sum(subject, &message)?);
+        sum = sum.wrapping_add(decode_once(alloc, subject, octets.at(turn))?);
     }
     Ok(sum)
 }
@@ -93,6 +101,44 @@ fn encode_once(message: &Bssmap, out: &mut Vec<u8>) -> Result<u64, Fault>
     Ok(octets_sum(out.as_slice()))
 }
 
+/// The message of a turn that the work is on, which has a text.
+fn message_at(
+    alloc: Global,
+    subject: Subject,
+    octets: &mut Turning,
+    turn: u64,
+) -> Result<Bssmap, Fault>
+    ensures { IfOk result (λ message. HasCanonical message) }
+{
+    let message = decode(alloc, octets.at(turn))?;
+    fields_sum(subject, &message)?;
+    if fits(&message) {
+        return Ok(message);
+    }
+    Err(Fault::Words)
+}
+
+/// Writes one message and the other alternately, so many in all. The sum is that of the octets that were written.
+fn encode_alternately(
+    even: &Bssmap,
+    odd: &Bssmap,
+    out: &mut Vec<u8>,
+    count: u64,
+) -> Result<u64, Fault>
+    requires even_has_text { HasCanonical even.now }
+    requires odd_has_text { HasCanonical odd.now }
+{
+    let mut sum = 0u64;
+    for turn in 0..count {
+        let written = match turn % 2 {
+            0 => encode_once(even, out)?,
+            _ => encode_once(odd, out)?,
+        };
+        sum = sum.wrapping_add(written);
+    }
+    Ok(sum)
+}
+
 /// Writes a message in each turn: that of turn 0 and that of turn 1 alternately. The sum is that of the octets that
 /// were written.
 pub fn encode_messages(
@@ -101,21 +147,8 @@ pub fn encode_messages(
     octets: &mut Turning,
     count: u64,
 ) -> Result<u64, Fault> {
-    let even = decode(alloc, octets.at(0))?;
-    let odd = decode(alloc, octets.at(1))?;
-    fields_sum(subject, &even)?;
-    fields_sum(subject, &odd)?;
-    if !fits(&even) || !fits(&odd) {
-        return Err(Fault::Words);
-    }
+    let even = message_at(alloc, subject, octets, 0)?;
+    let odd = message_at(alloc, subject, octets, 1)?;
     let mut out = Vec::new(alloc);
-    let mut sum = 0u64;
-    for turn in 0..count {
-        let written = match turn % 2 {
-            0 => encode_once(&even, &mut out)?,
-            _ => encode_once(&odd, &mut out)?,
-        };
-        sum = sum.wrapping_add(written);
-    }
-    Ok(sum)
+    encode_alternately(&even, &odd, &mut out, count)
 }

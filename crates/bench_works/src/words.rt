@@ -35,27 +35,34 @@ fn read_work(word: &str) -> Result<Work, Fault> {
     Work::from_name(word).ok_or(Fault::Words)
 }
 
+/// A work on its own octets.
+fn on_own_octets(alloc: Global, work: Work, count: u64) -> Result<Job, Fault> {
+    let octets = Vec::from_slice(alloc, work.octets())?;
+    Ok(Job::One {
+        work,
+        count,
+        octets,
+    })
+}
+
+/// A work on octets in hexadecimal.
+fn on_octets(alloc: Global, work: Work, count: u64, octets: &str) -> Result<Job, Fault> {
+    let octets = read_octets(alloc, octets)?;
+    Ok(Job::One {
+        work,
+        count,
+        octets,
+    })
+}
+
 /// Reads the words after the program's name: `all N`, `NAME N` or `NAME N OCTETS`.
 pub fn read_words(alloc: Global, words: &[&str]) -> Result<Job, Fault> {
     match words {
         ["all", count] => Ok(Job::All {
             count: read_count(count)?,
         }),
-        [name, count] => {
-            let work = read_work(name)?;
-            let count = read_count(count)?;
-            let octets = Vec::from_slice(alloc, work.octets())?;
-            Ok(Job::One {
-                work,
-                count,
-                octets,
-            })
-        }
-        [name, count, octets] => Ok(Job::One {
-            work: read_work(name)?,
-            count: read_count(count)?,
-            octets: read_octets(alloc, octets)?,
-        }),
+        [name, count] => on_own_octets(alloc, read_work(name)?, read_count(count)?),
+        [name, count, octets] => on_octets(alloc, read_work(name)?, read_count(count)?, octets),
         _ => Err(Fault::Words),
     }
 }

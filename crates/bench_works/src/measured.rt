@@ -7,16 +7,16 @@ use crate::fault::Fault;
 use crate::radio::{self, read_results, results_sum};
 use crate::turning::{Turning, octets_sum};
 use rr_messages::Rr;
-use rsl_messages::{Rsl, decode, fits};
+use rsl_messages::{Rsl, decode};
 use std::alloc::Global;
 
-/// The octets of the report in a MEASUREMENT RESULT.
-fn report_of(message: &Rsl) -> Result<&[u8], Fault> {
+/// The report in a MEASUREMENT RESULT.
+fn report_of(message: &Rsl) -> Result<Rr, Fault> {
     match message {
         Rsl::MeasurementResult {
             layer3: Some(layer3),
             ..
-        } => Ok(layer3.as_slice()),
+        } => Ok(Rr::MeasurementReport(read_results(layer3.as_slice())?)),
         _ => Err(Fault::Words),
     }
 }
@@ -44,12 +44,19 @@ fn result_sum(message: &Rsl) -> Result<u64, Fault> {
     }
 }
 
+/// Reads a MEASUREMENT RESULT and its report. The sum is that of their fields.
+fn decode_once(alloc: Global, octets: &[u8]) -> Result<u64, Fault> {
+    let message = decode(alloc, octets)?;
+    // past the `?` the compiler knows which message it drops
+    let sum = result_sum(&message)?;
+    Ok(sum)
+}
+
 /// Reads a MEASUREMENT RESULT and its report in each turn. The sum is that of the fields that were read.
 pub fn decode_measurements(alloc: Global, octets: &mut Turning, count: u64) -> Result<u64, Fault> {
     let mut sum = 0u64;
     for turn in 0..count {
-        let message = decode(alloc, octets.at(turn))?;
-        sum = sum.wrapping_add(result_sum(&message)?);
+        sum = sum.wrapping_add(decode_once(alloc, octets.at(turn))?);
     }
     Ok(sum)
 }
@@ -63,22 +70,34 @@ fn encode_both(report: &Rr, message: &Rsl, out: &mut Vec<u8>) -> Result<u64, Fau
     Ok(inner.wrapping_add(outer))
 }
 
-/// Writes a MEASUREMENT RESULT and its report in each turn: that of turn 0 and that of turn 1 alternately.
-pub fn encode_measurements(alloc: Global, octets: &mut Turning, count: u64) -> Result<u64, Fault> {
-    let even = decode(alloc, octets.at(0))?;
-    let odd = decode(alloc, octets.at(1))?;
-    if !fits(&even) || !fits(&odd) {
-        return Err(Fault::Words);
-    }
-    let report = Rr::MeasurementReport(read_results(report_of(&even)?)?);
-    let mut out = Vec::new(alloc);
+/// Writes the report with one message and with the other alternately, so many in all. The sum is that of the octets
+/// that were written.
+fn encode_alternately(
+    report: &Rr,
+    even: &Rsl,
+    odd: &Rsl,
+    out: &mut Vec<u8>,
+    count: u64,
+) -> Result<u64, Fault>
+    requires even_has_text { HasCanonical even.now }
+    requires odd_has_text { HasCanonical odd.now }
+{
     let mut sum = 0u64;
     for turn in 0..count {
         let written = match turn % 2 {
-            0 => encode_both(&report, &even, &mut out)?,
-            _ => encode_both(&report, &odd, &mut out)?,
+            0 => encode_both(report, even, out)?,
+            _ => encode_both(report, odd, out)?,
         };
         sum = sum.wrapping_add(written);
     }
     Ok(sum)
+}
+
+/// Writes a MEASUREMENT RESULT and its report in each turn: that of turn 0 and that of turn 1 alternately.
+pub fn encode_measurements(alloc: Global, octets: &mut Turning, count: u64) -> Result<u64, Fault> {
+    let even = abis::message_at(alloc, octets, 0)?;
+    let report = report_of(&even)?;
+    let odd = abis::message_at(alloc, octets, 1)?;
+    let mut out = Vec::new(alloc);
+    encode_alternately(&report, &even, &odd, &mut out, count)
 }

@@ -42,23 +42,33 @@ pub fn encode_once(message: &Rr, out: &mut Vec<u8>) -> Result<u64, Fault> {
     Ok(octets_sum(out.as_slice()))
 }
 
-/// Writes a HANDOVER COMMAND in each turn: that of turn 0 and that of turn 1 alternately. The sum is that of the
-/// octets that were written.
-pub fn encode_commands(alloc: Global, octets: &mut Turning, count: u64) -> Result<u64, Fault> {
-    let even = decode(octets.at(0))?;
-    let odd = decode(octets.at(1))?;
-    command_sum(&even)?;
-    command_sum(&odd)?;
-    let mut out = Vec::new(alloc);
+/// Writes one message and the other alternately, so many in all. The sum is that of the octets that were written.
+fn encode_alternately(even: &Rr, odd: &Rr, out: &mut Vec<u8>, count: u64) -> Result<u64, Fault> {
     let mut sum = 0u64;
     for turn in 0..count {
         let message = match turn % 2 {
-            0 => &even,
-            _ => &odd,
+            0 => even,
+            _ => odd,
         };
-        sum = sum.wrapping_add(encode_once(message, &mut out)?);
+        sum = sum.wrapping_add(encode_once(message, out)?);
     }
     Ok(sum)
+}
+
+/// The HANDOVER COMMAND of a turn.
+fn command_at(octets: &mut Turning, turn: u64) -> Result<Rr, Fault> {
+    let message = decode(octets.at(turn))?;
+    command_sum(&message)?;
+    Ok(message)
+}
+
+/// Writes a HANDOVER COMMAND in each turn: that of turn 0 and that of turn 1 alternately. The sum is that of the
+/// octets that were written.
+pub fn encode_commands(alloc: Global, octets: &mut Turning, count: u64) -> Result<u64, Fault> {
+    let even = command_at(octets, 0)?;
+    let odd = command_at(octets, 1)?;
+    let mut out = Vec::new(alloc);
+    encode_alternately(&even, &odd, &mut out, count)
 }
 
 /// The measurement results of the octets of a MEASUREMENT REPORT.

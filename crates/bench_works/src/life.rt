@@ -97,14 +97,18 @@ pub fn book_of(alloc: Global, text: &str) -> Result<Book, Fault> {
     Ok(Book::new(alloc, site)?)
 }
 
-/// A book in which 1,024 calls are steady on 64 cells.
-fn busy_book(alloc: Global) -> Result<Book, Fault> {
+/// The book of 64 cells in which nothing is in use.
+fn quiet_book(alloc: Global) -> Result<Book, Fault> {
     let text = site_text(alloc)?;
-    let mut book = book_of(alloc, text.as_str())?;
+    book_of(alloc, text.as_str())
+}
+
+/// Opens the other calls of every cell.
+fn settle_cells(book: &mut Book) -> Result<(), Fault> {
     for cell in 0..CELLS {
-        settle_cell(&mut book, cell)?;
+        settle_cell(book, cell)?;
     }
-    Ok(book)
+    Ok(())
 }
 
 /// A whole life of ten events. The sum is the number of those that the book accepts.
@@ -128,16 +132,23 @@ fn live(book: &mut Book, serving: ChanId, target: ChanId) -> Result<u64, Fault> 
     Ok(sum)
 }
 
-/// Lives a life in each turn: on a free channel of the cell that the first octet names, modulo 64, and towards the
-/// next cell. The sum is the number of events that the book accepts, ten for each life.
-pub fn live_by_steps(alloc: Global, octets: &mut Turning, count: u64) -> Result<u64, Fault> {
-    let mut book = busy_book(alloc)?;
+/// Lives a life in each turn, in a book.
+fn lives(book: &mut Book, octets: &mut Turning, count: u64) -> Result<u64, Fault> {
     let mut sum = 0u64;
     for turn in 0..count {
         let cell = octets.at(turn).first().copied().unwrap_or(0) % CELLS;
         let serving = chan_at(cell, OTHERS);
         let target = chan_at((cell + 1) % CELLS, OTHERS);
-        sum = sum.wrapping_add(live(&mut book, serving, target)?);
+        sum = sum.wrapping_add(live(book, serving, target)?);
     }
     Ok(sum)
+}
+
+/// Lives a life in each turn, in a book in which 1,024 calls are steady on 64 cells: on a free channel of the cell that
+/// the first octet names, modulo 64, and towards the next cell. The sum is the number of events that the book accepts,
+/// ten for each life.
+pub fn live_by_steps(alloc: Global, octets: &mut Turning, count: u64) -> Result<u64, Fault> {
+    let mut book = quiet_book(alloc)?;
+    settle_cells(&mut book)?;
+    lives(&mut book, octets, count)
 }

@@ -8,10 +8,10 @@ use Rattle.bssmap_messages.specs.declared.fault.BssmapFault.{BssmapFault}
 use Rattle.bssmap_messages.specs.declared.fault.BssmapFault.TheVariants as bssmap
 use Rattle.ho_procedure.specs.declared.exchange.PlainFault.{PlainFault}
 use Rattle.ho_procedure.specs.declared.exchange.PlainFault.TheVariants as plain
-use Rattle.bsc_bench.specs.declared.work.Work.{Work}
-use Rattle.bsc_bench.specs.declared.work.Work.TheVariants.{DecodeActivation, EncodeActivation, CallByOctets, LiveByStep, DecodeMeasurement, EncodeMeasurement, DecodeCommand, EncodeCommand, DecodeRequest, EncodeRequest, DecodeRequired, EncodeRequired}
-use Rattle.bsc_bench.specs.declared.fault.Fault.{Fault}
-use Rattle.bsc_bench.specs.declared.fault.Fault.TheVariants.{Words, NoMemory, Output, Setting}
+use Rattle.bench_works.specs.declared.work.Work.{Work}
+use Rattle.bench_works.specs.declared.work.Work.TheVariants.{DecodeActivation, EncodeActivation, CallByOctets, LiveByStep, DecodeMeasurement, EncodeMeasurement, DecodeCommand, EncodeCommand, DecodeRequest, EncodeRequest, DecodeRequired, EncodeRequired}
+use Rattle.bench_works.specs.declared.fault.Fault.{Fault}
+use Rattle.bench_works.specs.declared.fault.Fault.TheVariants.{Words, NoMemory, Output, Setting}
 
 -- the name of a work on the command line
 abbrev pub name_of : Work → List ℕ

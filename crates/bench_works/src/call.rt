@@ -74,13 +74,18 @@ fn call_once(alloc: Global, book: &mut Book, acknowledgement: &[u8]) -> Result<u
     )
 }
 
+/// Whole calls in a book, one in each turn.
+fn calls(alloc: Global, book: &mut Book, octets: &mut Turning, count: u64) -> Result<u64, Fault> {
+    let mut sum = 0u64;
+    for turn in 0..count {
+        sum = sum.wrapping_add(call_once(alloc, book, octets.at(turn))?);
+    }
+    Ok(sum)
+}
+
 /// A whole call in each turn. The sum is that of the octets of all messages that are sent: a CHANNEL ACTIVATION and an
 /// RF CHANNEL RELEASE for each call.
 pub fn call_by_octets(alloc: Global, octets: &mut Turning, count: u64) -> Result<u64, Fault> {
     let mut book = book_of(alloc, SITE)?;
-    let mut sum = 0u64;
-    for turn in 0..count {
-        sum = sum.wrapping_add(call_once(alloc, &mut book, octets.at(turn))?);
-    }
-    Ok(sum)
+    calls(alloc, &mut book, octets, count)
 }

@@ -1,6 +1,6 @@
 //! Why the program gives no sum.
 ghost use Rattle.std.specs.Prelude.{◌≡◌};
-ghost use Rattle.bsc_bench.specs.Works.{status_of};
+ghost use Rattle.bench_works.specs.Works.{status_of};
 
 use bssmap_messages::BssmapFault;
 use ho_procedure::exchange::PlainFault;
@@ -40,7 +40,7 @@ impl Fault {
 }
 
 impl From<AllocError> for Fault {
-    ghost use Rattle.bsc_bench.specs.declared.fault.Fault.TheVariants.{NoMemory};
+    ghost use Rattle.bench_works.specs.declared.fault.Fault.TheVariants.{NoMemory};
 
     ghost from_gives = { λ _ fault. fault ≡ NoMemory };
 
@@ -50,7 +50,7 @@ impl From<AllocError> for Fault {
 }
 
 impl From<RslFault> for Fault {
-    ghost use Rattle.bsc_bench.specs.Works.{of_abis};
+    ghost use Rattle.bench_works.specs.Works.{of_abis};
 
     ghost from_gives = { λ cause fault. fault ≡ of_abis cause };
 
@@ -63,7 +63,7 @@ impl From<RslFault> for Fault {
 }
 
 impl From<RrFault> for Fault {
-    ghost use Rattle.bsc_bench.specs.Works.{of_radio};
+    ghost use Rattle.bench_works.specs.Works.{of_radio};
 
     ghost from_gives = { λ cause fault. fault ≡ of_radio cause };
 
@@ -76,7 +76,7 @@ impl From<RrFault> for Fault {
 }
 
 impl From<BssmapFault> for Fault {
-    ghost use Rattle.bsc_bench.specs.Works.{of_a};
+    ghost use Rattle.bench_works.specs.Works.{of_a};
 
     ghost from_gives = { λ cause fault. fault ≡ of_a cause };
 
@@ -89,7 +89,7 @@ impl From<BssmapFault> for Fault {
 }
 
 impl From<PlainFault> for Fault {
-    ghost use Rattle.bsc_bench.specs.Works.{of_procedure};
+    ghost use Rattle.bench_works.specs.Works.{of_procedure};
 
     ghost from_gives = { λ cause fault. fault ≡ of_procedure cause };
 

@@ -1,5 +1,9 @@
 //! Each work once, and words that name none.
-use super::*;
+use bench_works::fault::Fault;
+use bench_works::sum_of;
+use bench_works::words::{Job, read_words};
+use bench_works::work::Work;
+use std::process::Abort;
 use std::test::Fail;
 
 /// The sum of two turns of each work on its own octets, worked out from the definitions of the sums:
@@ -53,58 +57,45 @@ fn other_octets_of_the_message(rt: HostRuntime) -> Result<(), Fail> {
     Ok(())
 }
 
-#[test]
-fn octets_of_no_such_message(rt: HostRuntime) {
-    let abis = [8, 0x2E, 1, 0x0B];
-    let radio = [6, 0x2C, 0];
-    for work in [
-        Work::DecodeActivation,
-        Work::EncodeActivation,
-        Work::DecodeMeasurement,
-        Work::EncodeMeasurement,
-        Work::DecodeCommand,
-        Work::EncodeCommand,
-        Work::DecodeRequest,
-        Work::EncodeRequest,
-        Work::DecodeRequired,
-        Work::EncodeRequired,
-    ] {
+/// The works that read their octets as one message, whether to read it again or to write it.
+const READERS: [Work; 10] = [
+    Work::DecodeActivation,
+    Work::EncodeActivation,
+    Work::DecodeMeasurement,
+    Work::EncodeMeasurement,
+    Work::DecodeCommand,
+    Work::EncodeCommand,
+    Work::DecodeRequest,
+    Work::EncodeRequest,
+    Work::DecodeRequired,
+    Work::EncodeRequired,
+];
+
+/// Each of these works refuses these octets.
+fn refuse<R: Abort + AllocGlobal>(rt: &R, works: &[Work], octets: &[u8]) {
+    for work in works {
         assert_eq!(rt;
-            sum_of(rt.alloc(), work, 1, &abis),
-            Err(Fault::Words),
-            "{work}"
-        );
-        assert_eq!(rt;
-            sum_of(rt.alloc(), work, 1, &radio),
-            Err(Fault::Words),
-            "{work}"
-        );
-        assert_eq!(rt;
-            sum_of(rt.alloc(), work, 1, &[]),
+            sum_of(rt.alloc(), *work, 1, octets),
             Err(Fault::Words),
             "{work}"
         );
     }
-    assert_eq!(rt;
-        sum_of(rt.alloc(), Work::CallByOctets, 1, &[]),
-        Err(Fault::Words)
-    );
+}
+
+#[test]
+fn octets_of_no_such_message(rt: HostRuntime) {
+    refuse(&rt, &READERS, &[8, 0x2E, 1, 0x0B]);
+    refuse(&rt, &READERS, &[6, 0x2C, 0]);
+    refuse(&rt, &READERS, &[]);
+    refuse(&rt, &[Work::CallByOctets], &[]);
 }
 
 #[test]
 fn octets_of_the_other_message_on_a(rt: HostRuntime) {
-    for (work, other) in [
-        (Work::DecodeRequest, Work::DecodeRequired),
-        (Work::EncodeRequest, Work::EncodeRequired),
-        (Work::DecodeRequired, Work::DecodeRequest),
-        (Work::EncodeRequired, Work::EncodeRequest),
-    ] {
-        assert_eq!(rt;
-            sum_of(rt.alloc(), work, 1, other.octets()),
-            Err(Fault::Words),
-            "{work}"
-        );
-    }
+    let request = [Work::DecodeRequest, Work::EncodeRequest];
+    let required = [Work::DecodeRequired, Work::EncodeRequired];
+    refuse(&rt, &request, Work::DecodeRequired.octets());
+    refuse(&rt, &required, Work::DecodeRequest.octets());
 }
 
 #[test]

@@ -1,0 +1,59 @@
+//! The works of `bsc_bench`: each does one piece of work many times on octets of which one changes with the turn, and
+//! gives a sum of what the turns gave, so that no turn can be left out. The words of the command line name them.
+#![tactic(auto)]
+
+mod abis;
+mod bssmap;
+mod call;
+pub mod fault;
+mod life;
+mod measured;
+mod radio;
+mod turning;
+pub mod words;
+pub mod work;
+
+use crate::bssmap::Subject;
+use crate::fault::Fault;
+use crate::turning::Turning;
+use crate::work::Work;
+use std::alloc::Global;
+
+/// The sum of so many turns of a work.
+pub fn sum_of(alloc: Global, work: Work, count: u64, octets: &[u8]) -> Result<u64, Fault> {
+    let mut turning = Turning::new(alloc, octets, work.place())?;
+    match work {
+        Work::DecodeActivation => abis::decode_activations(alloc, &mut turning, count),
+        Work::EncodeActivation => abis::encode_activations(alloc, &mut turning, count),
+        Work::CallByOctets => call::call_by_octets(alloc, &mut turning, count),
+        Work::LiveByStep => life::live_by_steps(alloc, &mut turning, count),
+        Work::DecodeMeasurement => measured::decode_measurements(alloc, &mut turning, count),
+        Work::EncodeMeasurement => measured::encode_measurements(alloc, &mut turning, count),
+        Work::DecodeCommand => radio::decode_commands(&mut turning, count),
+        Work::EncodeCommand => radio::encode_commands(alloc, &mut turning, count),
+        Work::DecodeRequest => bssmap::decode_messages(
+            alloc,
+            Subject::Request,
+            &mut turning,
+            count,
+        ),
+        Work::EncodeRequest => bssmap::encode_messages(
+            alloc,
+            Subject::Request,
+            &mut turning,
+            count,
+        ),
+        Work::DecodeRequired => bssmap::decode_messages(
+            alloc,
+            Subject::Required,
+            &mut turning,
+            count,
+        ),
+        Work::EncodeRequired => bssmap::encode_messages(
+            alloc,
+            Subject::Required,
+            &mut turning,
+            count,
+        ),
+    }
+}
