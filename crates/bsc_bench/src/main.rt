@@ -10,6 +10,7 @@ use bench_works::sum_of;
 use bench_works::words::{Job, read_words};
 use bench_works::work::Work;
 use std::env::{self, Env};
+use std::io;
 use std::process::ExitCode;
 
 /// Does a work and prints its line.
@@ -24,10 +25,19 @@ fn show<R: Print + AllocGlobal>(
     Ok(())
 }
 
+/// The words of the command line. One that isn't UTF-8 names nothing.
+fn words_of<R: Env + AllocGlobal>(rt: &R) -> Result<Vec<String>, Fault> {
+    match env::args(rt) {
+        Ok(words) => Ok(words.collect(rt.alloc())?),
+        Err(error) if error.kind() == io::ErrorKind::OutOfMemory => Err(Fault::NoMemory),
+        Err(_) => Err(Fault::Words),
+    }
+}
+
 /// Does what the words of the command line ask for.
 fn start<R: Print + Env + AllocGlobal>(rt: &R) -> Result<(), Fault> {
     let alloc = rt.alloc();
-    let words: Vec<String> = env::args(rt)?.collect(alloc)?;
+    let words = words_of(rt)?;
     let words: Vec<&str> = words
         .iter()
         .skip(1)

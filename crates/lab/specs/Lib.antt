@@ -1,4 +1,5 @@
 pub mod Decoded
+pub mod Statuses
 pub use Rattle.ho_procedure.specs.Plan
 pub use Rattle.ho_procedure.specs.Procedure
 pub use Rattle.ho_procedure.specs.Handling

@@ -4,6 +4,7 @@
 #![tactic(auto)]
 
 pub mod decoded;
+pub mod files;
 pub mod run;
 pub mod words;
 

@@ -2,6 +2,7 @@
 ghost use Rattle.std.specs.Prelude.{◌≡◌, ◌⊎◌, Ok, None, IsSome, IfOk};
 ghost use Rattle.radio_book.specs.SiteFile.{described_site};
 ghost use Rattle.lab_script.specs.Script.{first_unread};
+ghost use Rattle.lab.specs.Statuses.{status_of, status_after};
 
 use ho_procedure::exchange::{Inbound, PlainFault};
 use ho_procedure::procedure::handle_plain;
@@ -24,6 +25,18 @@ pub enum Status {
     Refused,
 }
 
+impl Status {
+    /// The status that a program ends with after such work: 0 or 2.
+    pub fn exit_status(self) -> u8
+        ensures { result ≡ status_of self }
+    {
+        match self {
+            Status::Done => 0,
+            Status::Refused => 2,
+        }
+    }
+}
+
 /// Why the work didn't come to its end.
 #[derive(Clone, Copy, Debug, PartialEq, Eq, Error)]
 pub enum LabFault {
@@ -33,6 +46,18 @@ pub enum LabFault {
     /// A write of the output failed.
     #[error("the output can't be written")]
     Write,
+}
+
+impl LabFault {
+    /// The status that a program ends with after such a fault: 2 or 3.
+    pub fn exit_status(self) -> u8
+        ensures { result ≡ status_after self }
+    {
+        match self {
+            LabFault::Write => 2,
+            LabFault::NoMemory => 3,
+        }
+    }
 }
 
 impl From<AllocError> for LabFault {

@@ -2,6 +2,7 @@
 //! words, what is refused, want of memory and failing writes.
 mod decoded;
 mod failing;
+mod files;
 mod refusals;
 mod traces;
 mod words;

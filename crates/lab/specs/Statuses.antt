@@ -1,0 +1,16 @@
+-- The statuses that the program ends with.
+use Rattle.std.specs.Prelude.{ℕ}
+use Rattle.lab.specs.declared.run.Status.{Status}
+use Rattle.lab.specs.declared.run.Status.TheVariants as ended
+use Rattle.lab.specs.declared.run.LabFault.{LabFault}
+use Rattle.lab.specs.declared.run.LabFault.TheVariants as stopped
+
+-- the status after work that came to its end
+abbrev pub status_of : Status → ℕ
+status_of ended.Done = 0
+status_of ended.Refused = 2
+
+-- the status after work that did not
+abbrev pub status_after : LabFault → ℕ
+status_after stopped.Write = 2
+status_after stopped.NoMemory = 3

@@ -1,0 +1,48 @@
+use lab::files::run_files;
+use lab::run::{LabFault, Status};
+use std::process::Abort;
+use std::rt::Files;
+use std::test::Fail;
+
+/// A site's file and a script's, and what is printed of them: one isn't there, is a folder, isn't UTF-8, has no end.
+const REFUSED: &[(&str, &str, &str)] = &[
+    ("no such file", "/dev/null", "file no such file\n"),
+    ("", "/dev/null", "file \n"),
+    ("/", "/dev/null", "file /\n"),
+    ("/proc/self/exe", "/dev/null", "file /proc/self/exe\n"),
+    ("/dev/zero", "/dev/null", "file /dev/zero\n"),
+    // the site's file is read first, and both before the site is looked at
+    ("no site", "no script", "file no site\n"),
+    ("/dev/null", "no such file", "file no such file\n"),
+    ("/dev/null", "/", "file /\n"),
+    ("/dev/null", "/proc/self/exe", "file /proc/self/exe\n"),
+    ("/dev/null", "/dev/null", "site 1\n"),
+];
+
+/// Asserts what two files print, and that they are refused.
+fn are_refused(
+    rt: &(impl Files + AllocGlobal + Abort),
+    (site, script, wanted): (&str, &str, &str),
+) -> Result<(), Fail> {
+    let mut out = Vec::new(rt.alloc());
+    let status = run_files(rt, site, script, &mut out)?;
+    assert_eq!(rt; status, Status::Refused, "{site} {script}");
+    assert_eq!(rt; String::from_utf8(out)?.as_str(), wanted);
+    Ok(())
+}
+
+#[test]
+fn files_that_cannot_be_read_are_named(rt: HostRuntime) -> Result<(), Fail> {
+    for row in REFUSED {
+        are_refused(&rt, *row)?;
+    }
+    Ok(())
+}
+
+#[test]
+fn statuses(rt: HostRuntime) {
+    assert_eq!(rt; Status::Done.exit_status(), 0);
+    assert_eq!(rt; Status::Refused.exit_status(), 2);
+    assert_eq!(rt; LabFault::Write.exit_status(), 2);
+    assert_eq!(rt; LabFault::NoMemory.exit_status(), 3);
+}
