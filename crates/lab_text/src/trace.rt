@@ -6,7 +6,7 @@
 //! | `event E -> R` | the event E was asked of the book, which replied R |
 //! | `none free CELL` | a channel of this cell was asked for, and none was free |
 //! | `out abis CELL TRX HEX` | a message was sent to a TRX of a cell |
-//! | `fault LINK N` and the fault's arguments | the octets were no message of the link, which is `rr` or `abis` |
+//! | `fault LINK N` and the fault's arguments | the octets were no message of the link, which is `rr`, `a` or `abis` |
 //! | `end channels=N calls=N references=N timers=N` | at the end: what the book holds |
 //!
 //! A channel is `cell/trx/tn`, numbers are in decimal, octets are two small hexadecimal digits each, and what is
