@@ -89,7 +89,7 @@ fn reads_and_writes_a_channel(rt: HostRuntime) -> Result<(), Fail> {
 }
 
 #[test]
-fn reads_and_writes_power_and_cause(rt: HostRuntime) -> Result<(), Fail> {
+fn reads_and_writes_power(rt: HostRuntime) -> Result<(), Fail> {
     for (octet, atc, level) in [(0x05, false, 5), (0x80, true, 0), (0x9F, true, 31)] {
         let power = Power::decode(&[octet])?;
         assert_eq!(rt; power, Power::new(atc, level)?);
@@ -100,6 +100,11 @@ fn reads_and_writes_power_and_cause(rt: HostRuntime) -> Result<(), Fail> {
     }
     // Bits 7 and 6 are ignored.
     assert_eq!(rt; Power::decode(&[0x65])?, Power::new(false, 5)?);
+    Ok(())
+}
+
+#[test]
+fn reads_and_writes_causes(rt: HostRuntime) -> Result<(), Fail> {
     for octet in [0, 1, 3, 8, 9, 10, 255] {
         let cause = RrCause::decode(&[octet])?;
         assert_eq!(rt; cause, RrCause::new(octet)?);
@@ -168,8 +173,13 @@ fn reads_each_field_of_results(rt: HostRuntime) -> Result<(), Fail> {
     let mut out = Vec::new(rt.alloc());
     results.encode_into(&mut out)?;
     assert_eq!(rt; out.as_slice(), SIX.as_slice());
+    Ok(())
+}
 
-    // With a count of five the sixth place is ignored and written 0.
+#[test]
+fn with_a_count_of_five_the_sixth_place_is_ignored_and_written_0(
+    rt: HostRuntime,
+) -> Result<(), Fail> {
     let mut five = SIX;
     five[3] = FIVE[3];
     let results = MeasResults::decode(&five)?;
@@ -181,7 +191,7 @@ fn reads_each_field_of_results(rt: HostRuntime) -> Result<(), Fail> {
 }
 
 #[test]
-fn refuses_octets(rt: HostRuntime) {
+fn refuses_octets_of_another_length(rt: HostRuntime) {
     let octets = [
         0x0B, 0xA3, 0x6B, 0, 0, 0, 0, 0, 0, 0, 0, 0, 0, 0, 0, 0, 0, 0,
     ];
@@ -206,6 +216,10 @@ fn refuses_octets(rt: HostRuntime) {
             "{len}"
         );
     }
+}
+
+#[test]
+fn refuses_other_channels(rt: HostRuntime) {
     // TCH/H, SDCCH/8, another type that hops too, and TCH/F that hops.
     let table = [
         ([0x13, 0xA3, 0x6B], ElementFault::BadType),
@@ -218,16 +232,25 @@ fn refuses_octets(rt: HostRuntime) {
     }
 }
 
+const BAD: Option<ElementFault> = Some(ElementFault::BadRange);
+
 #[test]
-fn refuses_fields_that_do_not_fit(rt: HostRuntime) {
-    let bad = Some(ElementFault::BadRange);
+fn refuses_cells_that_do_not_fit(rt: HostRuntime) {
     for (arfcn, ncc, bcc) in [(1024, 7, 7), (1023, 8, 7), (1023, 7, 8)] {
-        assert_eq!(rt; CellDescription::new(arfcn, ncc, bcc).err(), bad);
+        assert_eq!(rt; CellDescription::new(arfcn, ncc, bcc).err(), BAD);
     }
+}
+
+#[test]
+fn refuses_channels_that_do_not_fit(rt: HostRuntime) {
     for (tn, tsc, carrier) in [(8, 7, 1023), (7, 8, 1023), (7, 7, 1024)] {
-        assert_eq!(rt; ChanDescription::new(tn, tsc, carrier).err(), bad);
+        assert_eq!(rt; ChanDescription::new(tn, tsc, carrier).err(), BAD);
     }
-    assert_eq!(rt; Power::new(true, 32).err(), bad);
+    assert_eq!(rt; Power::new(true, 32).err(), BAD);
+}
+
+#[test]
+fn refuses_heads_that_do_not_fit(rt: HostRuntime) {
     let heads = [
         MeasHead { full: 64, ..HEAD },
         MeasHead { sub: 64, ..HEAD },
@@ -241,11 +264,15 @@ fn refuses_fields_that_do_not_fit(rt: HostRuntime) {
     for head in heads {
         assert_eq!(rt;
             MeasResults::new(head, &[NEIGHBOUR]).err(),
-            bad,
+            BAD,
             "{}",
             head.count
         );
     }
+}
+
+#[test]
+fn refuses_neighbours_that_do_not_fit(rt: HostRuntime) {
     let cells = [
         Ncell {
             level: 64,
@@ -261,12 +288,16 @@ fn refuses_fields_that_do_not_fit(rt: HostRuntime) {
         },
     ];
     for cell in cells {
-        assert_eq!(rt; MeasResults::new(HEAD, &[cell]).err(), bad);
+        assert_eq!(rt; MeasResults::new(HEAD, &[cell]).err(), BAD);
         assert!(rt; !cell.fits());
     }
+}
+
+#[test]
+fn results_have_as_many_neighbours_as_the_count_says(rt: HostRuntime) {
     assert_eq!(rt;
         MeasResults::new(MeasHead { count: 5, ..HEAD }, &[NEIGHBOUR; 6]).err(),
-        bad
+        BAD
     );
     assert!(rt; MeasResults::new(MeasHead { count: 6, ..HEAD }, &[NEIGHBOUR; 6]).is_ok());
     assert!(rt; MeasResults::new(MeasHead { count: 0, ..HEAD }, &[]).is_ok());

@@ -138,8 +138,9 @@ enum Said<'a> {
         channel: ChanBits,
     },
 }
-/// What a message says that keeps octets or cells.
-fn said_with_lists(message: &Rsl) -> Option<Said<'_>> {
+
+/// What a message says that carries one of the radio path.
+fn said_of_data(message: &Rsl) -> Option<Said<'_>> {
     match message {
         Rsl::DataRequest {
             channel,
@@ -159,6 +160,13 @@ fn said_with_lists(message: &Rsl) -> Option<Said<'_>> {
             link: *link,
             layer3: layer3.as_slice(),
         }),
+        _ => None,
+    }
+}
+
+/// What another message says that keeps octets.
+fn said_with_lists(message: &Rsl) -> Option<Said<'_>> {
+    match message {
         Rsl::ChannelActivation {
             channel,
             activation,
@@ -221,7 +229,9 @@ fn said_without_lists(message: &Rsl) -> Option<Said<'_>> {
 
 /// What a message says, without owning it.
 fn borrowed(message: &Rsl) -> Option<Said<'_>> {
-    said_with_lists(message).or(said_without_lists(message))
+    said_of_data(message)
+        .or(said_with_lists(message))
+        .or(said_without_lists(message))
 }
 
 /// What each text says.
