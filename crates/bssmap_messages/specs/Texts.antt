@@ -32,7 +32,7 @@ pub record IsTextOf {A : Type 0} (v : Bssmap A) (octets : List ℕ) : Type 0 whe
   pub head : Begins kind octets body
   pub says : Says kind body (Ok v)
 
--- an element of the body runs past the end; its offset counts the head too
+-- an element of the body is cut; its offset counts the head too
 abbrev pub IsTornBody : List ℕ → BssmapFault → Type 0
 IsTornBody body (fault.Torn at) = (offset : ℕ) × IsTornAt interface_a body offset × (at ≡ 3 + offset)
 IsTornBody body _ = ⊥

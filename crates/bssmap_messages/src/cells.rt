@@ -13,7 +13,8 @@ use std::alloc::{AllocError, Allocator};
 
 /// The cell that the octets begin with, behind network code and location area code, and the rest.
 fn cell_with_network(octets: &[u8]) -> Option<(CellId, &[u8])>
-    ensures found { IfSome result (λ f. cells_with_network octets.now ≡ option_map (λ cells. f.0 ∷ cells) (cells_with_network f.1.now)) }
+    ensures found { IfSome result (λ f. cells_with_network octets.now ≡ option_map
+        (λ cells. f.0 ∷ cells) (cells_with_network f.1.now)) }
     ensures less { IfSome result (λ f. length f.1.now < length octets.now) }
     ensures none { IfNone result (IfSome (cells_with_network octets.now) (λ cells. cells ≡ [])) }
 {
@@ -27,7 +28,8 @@ fn cell_with_network(octets: &[u8]) -> Option<(CellId, &[u8])>
 
 /// The cell that the octets begin with, behind a location area code, and the rest.
 fn cell_with_area(octets: &[u8]) -> Option<(CellId, &[u8])>
-    ensures found { IfSome result (λ f. cells_with_area octets.now ≡ option_map (λ cells. f.0 ∷ cells) (cells_with_area f.1.now)) }
+    ensures found { IfSome result (λ f. cells_with_area octets.now ≡ option_map
+        (λ cells. f.0 ∷ cells) (cells_with_area f.1.now)) }
     ensures less { IfSome result (λ f. length f.1.now < length octets.now) }
     ensures none { IfNone result (IfSome (cells_with_area octets.now) (λ cells. cells ≡ [])) }
 {
@@ -41,7 +43,8 @@ fn cell_with_area(octets: &[u8]) -> Option<(CellId, &[u8])>
 
 /// The cell that the octets begin with, a cell identity alone, and the rest.
 fn cell_alone(octets: &[u8]) -> Option<(CellId, &[u8])>
-    ensures found { IfSome result (λ f. cells_alone octets.now ≡ option_map (λ cells. f.0 ∷ cells) (cells_alone f.1.now)) }
+    ensures found { IfSome result (λ f. cells_alone octets.now ≡ option_map
+        (λ cells. f.0 ∷ cells) (cells_alone f.1.now)) }
     ensures less { IfSome result (λ f. length f.1.now < length octets.now) }
     ensures none { IfNone result (IfSome (cells_alone octets.now) (λ cells. cells ≡ [])) }
 {
@@ -54,10 +57,12 @@ fn cell_alone(octets: &[u8]) -> Option<(CellId, &[u8])>
 
 /// The cell that the octets after a discriminator begin with, and the rest.
 fn leading_cell(discriminator: u8, octets: &[u8]) -> Option<(CellId, &[u8])>
-    ensures found { IfSome result (λ f. cells_after discriminator octets.now ≡ option_map (λ cells. f.0 ∷ cells) (cells_after discriminator f.1.now)) }
+    ensures found { IfSome result (λ f. cells_after discriminator octets.now ≡ option_map
+        (λ cells. f.0 ∷ cells) (cells_after discriminator f.1.now)) }
     ensures known { IsSome result → cells_after discriminator [] ≡ Some [] }
     ensures less { IfSome result (λ f. length f.1.now < length octets.now) }
-    ensures none { IfNone result (IfSome (cells_after discriminator octets.now) (λ cells. cells ≡ [])) }
+    ensures none { IfNone result (IfSome (cells_after discriminator octets.now)
+        (λ cells. cells ≡ [])) }
 {
     match discriminator % 16 {
         0 => cell_with_network(octets),
@@ -103,7 +108,8 @@ fn are_cells(discriminator: u8, octets: &[u8]) -> bool
 
 /// The discriminator of a cell identifier list and the octets of its cells, of which there is one.
 pub fn cells(value: Option<&[u8]>) -> Result<(u8, &[u8]), ElementFault>
-    ensures ok { IfOk result (λ c. (cells : List CellId) × (cells_after c.0 c.1.now ≡ Some cells) × (cells_in (seen value.entry) ≡ Ok cells)) }
+    ensures ok { IfOk result (λ c. (cells : List CellId) ×
+        (cells_after c.0 c.1.now ≡ Some cells) × (cells_in (seen value.entry) ≡ Ok cells)) }
     ensures err { IfErr result (λ e. cells_in (seen value.entry) ≡ Err e) }
 {
     match value {
@@ -115,7 +121,9 @@ pub fn cells(value: Option<&[u8]>) -> Result<(u8, &[u8]), ElementFault>
 
 /// At least one cell after a discriminator.
 fn some_cells(discriminator: u8, octets: &[u8]) -> Result<(u8, &[u8]), ElementFault>
-    ensures ok { IfOk result (λ c. (cells : List CellId) × (cells_after c.0 c.1.now ≡ Some cells) × (some_cells (cells_after discriminator octets.now) ≡ Ok cells)) }
+    ensures ok { IfOk result (λ c. (cells : List CellId) ×
+        (cells_after c.0 c.1.now ≡ Some cells) ×
+        (some_cells (cells_after discriminator octets.now) ≡ Ok cells)) }
     ensures err { IfErr result (λ e. some_cells (cells_after discriminator octets.now) ≡ Err e) }
 {
     match octets {

@@ -25,7 +25,7 @@ pub enum BssmapFault {
     /// The element with this identifier has a value that can't be read.
     #[error("element 0x{0:02x} is bad")]
     BadElement(u8),
-    /// The element at this offset, counted from the message's first octet, runs past the end.
+    /// The element at this offset, counted from the message's first octet, is cut.
     #[error("torn at offset {0}")]
     Torn(usize),
     /// Memory ran out.

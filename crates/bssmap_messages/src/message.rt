@@ -11,7 +11,7 @@ pub struct CellId {
     pub ci: u16,
 }
 
-/// A mobile's classmark. It is written under the identifier that it was read with.
+/// A mobile's classmark. Its type says under which identifier it stands.
 #[derive(Debug, Drop)]
 pub enum Classmark<A: Allocator = Global> {
     /// Classmark information type 1, one octet (TS 48.008 clause 3.2.2.30).

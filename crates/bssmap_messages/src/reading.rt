@@ -30,7 +30,8 @@ fn read_wanted<'a>(
 ) -> Result<(), BssmapFault>
     requires short { length body.now ≤ limit }
     requires empty { map (option_map (λ v. v.now)) values.old ≡ wanted_of wanted.now [] }
-    ensures whole { OnOk result ((es : List Element) × AreElements interface_a es body.now × (map (option_map (λ v. v.now)) values.new ≡ wanted_of wanted.now es)) }
+    ensures whole { OnOk result ((es : List Element) × AreElements interface_a es body.now ×
+        (map (option_map (λ v. v.now)) values.new ≡ wanted_of wanted.now es)) }
     ensures torn { IfErr result (IsTornBody body.now) }
 {
     match read_values::<InterfaceA>(body, wanted, values) {
@@ -49,7 +50,9 @@ fn request_of<A: Allocator + Copy>(
     serving_value: Option<&[u8]>,
     target_value: Option<&[u8]>,
 ) -> Result<Bssmap<A>, BssmapFault>
-    ensures { Answers result (handover_request (seen channel_value.entry) (seen encryption_value.entry) (seen one_value.entry) (seen two_value.entry) (seen serving_value.entry) (seen target_value.entry)) }
+    ensures { Answers result (handover_request (seen channel_value.entry)
+        (seen encryption_value.entry) (seen one_value.entry) (seen two_value.entry)
+        (seen serving_value.entry) (seen target_value.entry)) }
 {
     let channel = channel_type(channel_value)?;
     let encryption = octets(ENCRYPTION_INFORMATION, encryption_value)?;
@@ -93,7 +96,8 @@ fn required_of<A: Allocator + Copy>(
     response_value: Option<&[u8]>,
     cells_value: Option<&[u8]>,
 ) -> Result<Bssmap<A>, BssmapFault>
-    ensures { Answers result (handover_required (seen cause_value.entry) (seen response_value.entry) (seen cells_value.entry)) }
+    ensures { Answers result (handover_required (seen cause_value.entry)
+        (seen response_value.entry) (seen cells_value.entry)) }
 {
     let cause = octet(CAUSE, cause_value)?;
     let (discriminator, octets) = cells(cells_value)?;
@@ -341,16 +345,18 @@ fn read_message<A: Allocator + Copy>(alloc: A, octets: &[u8]) -> Result<Bssmap<A
 
 /// Reads a message.
 ///
-/// Elements are read in any order. Of a repeated one the first counts, but the first and the second
-/// cell identifier of a HANDOVER REQUEST are the serving and the target cell. Elements that the
-/// message doesn't use are skipped.
+/// The order of the elements doesn't matter, nor do those that the message has no use for. Where one
+/// comes again the first is read; of the cell identifiers of a HANDOVER REQUEST the first is the serving
+/// cell and the second the target cell.
 pub fn decode<A: Allocator + Copy>(alloc: A, octets: &[u8]) -> Result<Bssmap<A>, BssmapFault>
     ensures text { IfOk result (λ v. IsTextOf v octets.now) }
-    ensures exact { (v : Bssmap A) → IsTextOf v octets.now → result ≢ Err BssmapFault.NoMemory → result ≡ Ok v }
+    ensures exact { (v : Bssmap A) → IsTextOf v octets.now → result ≢ Err BssmapFault.NoMemory →
+        result ≡ Ok v }
 
     // It is the first fault in the order that `BssmapFault` says.
     ensures fault { IfErr result (HasFault A octets.now) }
-    ensures memory { result ≡ Err BssmapFault.NoMemory → (v : Bssmap A) × IsTextOf v octets.now × HasList v }
+    ensures memory { result ≡ Err BssmapFault.NoMemory →
+        (v : Bssmap A) × IsTextOf v octets.now × HasList v }
 {
     read_message(alloc, octets)
 }

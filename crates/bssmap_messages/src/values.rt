@@ -35,8 +35,10 @@ pub fn classmark<'a, A: Allocator>(
     one: Option<&[u8]>,
     two: Option<&'a [u8]>,
 ) -> Result<ClassmarkValue<'a>, ElementFault>
-    ensures ok { IfOk result (λ c. classmark_in {A = A} (seen one.entry) (seen two.entry) ≡ Ok (kept c)) }
-    ensures err { IfErr result (λ e. classmark_in {A = A} (seen one.entry) (seen two.entry) ≡ Err e) }
+    ensures ok { IfOk result (λ c. classmark_in {A = A} (seen one.entry) (seen two.entry) ≡
+        Ok (kept c)) }
+    ensures err { IfErr result (λ e. classmark_in {A = A} (seen one.entry) (seen two.entry) ≡
+        Err e) }
 {
     match (one, two) {
         (Some([octet, ..]), _) => Ok(ClassmarkValue::One(*octet)),

@@ -75,7 +75,9 @@ fn request_fits<A: Allocator + Copy>(
     encryption: &[u8],
     classmark: &Classmark<A>,
 ) -> bool
-    ensures { IsTrue result ↔ ((1 < length channel.now) × (0 < length encryption.now) × (19 + length channel.now + length encryption.now + classmark_length classmark.now ≤ limit)) }
+    ensures { IsTrue result ↔ ((1 < length channel.now) × (0 < length encryption.now) ×
+        (19 + length channel.now + length encryption.now + classmark_length classmark.now ≤
+        limit)) }
 {
     let classmark_len = classmark_len(classmark);
     1 < channel.len()
@@ -88,7 +90,8 @@ fn request_fits<A: Allocator + Copy>(
 
 /// Whether the cells of a HANDOVER REQUIRED can be written, and are some and not too many.
 fn required_fits(response: bool, cells: &[CellId]) -> bool
-    ensures { IsTrue result ↔ ((0 < length cells.now) × IsTrue (have_areas cells.now) × (7 + response_length response + 4 * length cells.now ≤ limit)) }
+    ensures { IsTrue result ↔ ((0 < length cells.now) × IsTrue (have_areas cells.now) ×
+        (7 + response_length response + 4 * length cells.now ≤ limit)) }
 {
     !cells.is_empty()
         && cells.len() <= LIMIT
@@ -226,7 +229,8 @@ fn append_cell<A: Allocator>(out: &mut Vec<u8, A>, cell: CellId)
 fn append_classmark<A: Allocator + Copy>(out: &mut Vec<u8, A>, classmark: &Classmark<A>)
     requires short { classmark_length classmark.now ≤ limit }
     requires room { vec_len out.old + classmark_length classmark.now ≤ vec_capacity out.old }
-    ensures items { out.new.items ≡ out.old.items ++ spelled interface_a (classmark_element classmark.now) }
+    ensures items { out.new.items ≡ out.old.items ++
+        spelled interface_a (classmark_element classmark.now) }
     ensures len { vec_len out.new ≡ vec_len out.old + classmark_length classmark.now }
     ensures capacity { vec_capacity out.old ≤ vec_capacity out.new }
 {
@@ -243,18 +247,23 @@ fn append_classmark<A: Allocator + Copy>(out: &mut Vec<u8, A>, classmark: &Class
 /// Appends the elements of a HANDOVER REQUEST, for which the list has room.
 fn append_request<A: Allocator + Copy>(
     out: &mut Vec<u8, A>,
-    channel: &[u8],
-    encryption: &[u8],
+    channel: &Octets<A>,
+    encryption: &Octets<A>,
     classmark: &Classmark<A>,
     serving: CellId,
     target: CellId,
 )
-    requires short { 19 + length channel.now + length encryption.now + classmark_length classmark.now ≤ limit }
-    requires room { vec_len out.old + (18 + length channel.now + length encryption.now + classmark_length classmark.now) ≤ vec_capacity out.old }
-    ensures { out.new.items ≡ out.old.items ++ all_spelled interface_a ((0x0B, channel.now) ∷ (0x0A, encryption.now) ∷ classmark_element classmark.now ∷ (0x05, cell_value serving) ∷ (0x05, cell_value target) ∷ []) }
+    requires short { 19 + length channel.now + length encryption.now + classmark_length
+        classmark.now ≤ limit }
+    requires room { vec_len out.old + (18 + length channel.now + length encryption.now +
+        classmark_length classmark.now) ≤ vec_capacity out.old }
+    ensures { out.new.items ≡ out.old.items ++
+        all_spelled interface_a ((0x0B, channel.now) ∷ (0x0A, encryption.now) ∷
+        classmark_element classmark.now ∷ (0x05, cell_value serving) ∷
+        (0x05, cell_value target) ∷ []) }
 {
-    append_element::<InterfaceA, A>(out, CHANNEL_TYPE, channel);
-    append_element::<InterfaceA, A>(out, ENCRYPTION_INFORMATION, encryption);
+    append_element::<InterfaceA, A>(out, CHANNEL_TYPE, channel.as_slice());
+    append_element::<InterfaceA, A>(out, ENCRYPTION_INFORMATION, encryption.as_slice());
     append_classmark(out, classmark);
     append_cell(out, serving);
     append_cell(out, target);
@@ -273,8 +282,11 @@ fn append_cells<A: Allocator>(out: &mut Vec<u8, A>, cells: &[CellId])
 /// Appends the elements of a HANDOVER REQUIRED, for which the list has room.
 fn append_required<A: Allocator>(out: &mut Vec<u8, A>, cause: u8, response: bool, cells: &[CellId])
     requires short { 7 + response_length response + 4 * length cells.now ≤ limit }
-    requires room { vec_len out.old + (6 + response_length response + 4 * length cells.now) ≤ vec_capacity out.old }
-    ensures { out.new.items ≡ out.old.items ++ all_spelled interface_a ((0x04, cause ∷ []) ∷ where_true 0x1B response ++ (0x1A, cells_value cells.now) ∷ []) }
+    requires room { vec_len out.old + (6 + response_length response + 4 * length cells.now) ≤
+        vec_capacity out.old }
+    ensures { out.new.items ≡ out.old.items ++
+        all_spelled interface_a ((0x04, cause ∷ []) ∷ where_true 0x1B response ++
+        (0x1A, cells_value cells.now) ∷ []) }
 {
     append_cause(out, cause);
     append_response(out, response);
@@ -286,7 +298,8 @@ fn append_required<A: Allocator>(out: &mut Vec<u8, A>, cause: u8, response: bool
 /// Appends a response request where it is asked for; the list has room for it.
 fn append_response<A: Allocator>(out: &mut Vec<u8, A>, response: bool)
     requires { vec_len out.old + response_length response ≤ vec_capacity out.old }
-    ensures items { out.new.items ≡ out.old.items ++ all_spelled interface_a (where_true 0x1B response) }
+    ensures items { out.new.items ≡ out.old.items ++
+        all_spelled interface_a (where_true 0x1B response) }
     ensures len { vec_len out.new ≡ vec_len out.old + response_length response }
     ensures capacity { vec_capacity out.old ≤ vec_capacity out.new }
 {
@@ -297,7 +310,8 @@ fn append_response<A: Allocator>(out: &mut Vec<u8, A>, response: bool)
 
 /// Appends an RR cause where there is one; the list has room for it.
 fn append_rr<A: Allocator>(out: &mut Vec<u8, A>, rr: Option<u8>)
-    requires { vec_len out.old + length (all_spelled interface_a (where_some 0x15 rr)) ≤ vec_capacity out.old }
+    requires { vec_len out.old + length (all_spelled interface_a (where_some 0x15 rr)) ≤
+        vec_capacity out.old }
     ensures { out.new.items ≡ out.old.items ++ all_spelled interface_a (where_some 0x15 rr) }
 {
     if let Some(rr) = rr {
@@ -309,7 +323,8 @@ fn append_rr<A: Allocator>(out: &mut Vec<u8, A>, rr: Option<u8>)
 #[tactic(auto, using(crate::proofs::Lengths::request_length, crate::proofs::Lengths::required_length))]
 fn append_elements<A: Allocator + Copy>(message: &Bssmap<A>, out: &mut Vec<u8, A>)
     requires writable { IsWritable message.now }
-    requires room { vec_len out.old + length (all_spelled interface_a (elements_of message.now)) ≤ vec_capacity out.old }
+    requires room { vec_len out.old + length (all_spelled interface_a (elements_of message.now)) ≤
+        vec_capacity out.old }
     ensures { out.new.items ≡ out.old.items ++ all_spelled interface_a (elements_of message.now) }
 {
     match message {
@@ -319,14 +334,7 @@ fn append_elements<A: Allocator + Copy>(message: &Bssmap<A>, out: &mut Vec<u8, A
             classmark,
             serving,
             target,
-        } => append_request(
-            out,
-            channel.as_slice(),
-            encryption.as_slice(),
-            classmark,
-            *serving,
-            *target,
-        ),
+        } => append_request(out, channel, encryption, classmark, *serving, *target),
         Bssmap::HandoverRequired {
             cause,
             response,
@@ -360,8 +368,10 @@ pub fn encode_into<A: Allocator + Copy>(
     requires { HasCanonical message.now }
     ensures ok { OnOk result (out.new.items ≡ out.old.items ++ canonical message.now) }
     ensures err { OnErr result (out.new.items ≡ out.old.items) }
-    ensures room { vec_len out.old + length (canonical message.now) ≤ vec_capacity out.old → IsOk result }
-    ensures full { OnErr result (vec_capacity out.old < vec_len out.old + length (canonical message.now)) }
+    ensures room { vec_len out.old + length (canonical message.now) ≤ vec_capacity out.old →
+        IsOk result }
+    ensures full { OnErr result (vec_capacity out.old < vec_len out.old + length
+        (canonical message.now)) }
 {
     let len = 1 + elements_len(message);
     out.reserve(2 + len)?;

@@ -104,13 +104,17 @@ fn is_written_as(rt: &(impl AllocGlobal + Abort), text: &[u8], written: &[u8]) -
     Ok(())
 }
 
+fn are_read_back(rt: &(impl AllocGlobal + Abort), texts: &[&[u8]]) -> Result<(), Fail> {
+    for text in texts {
+        is_written_as(rt, text, text)?;
+    }
+    Ok(())
+}
+
 #[test]
 fn reads_back_what_it_writes(rt: HostRuntime) -> Result<(), Fail> {
-    for texts in [TEXTS.as_slice(), MORE_TEXTS.as_slice()] {
-        for text in texts {
-            is_written_as(&rt, text, text)?;
-        }
-    }
+    are_read_back(&rt, &TEXTS)?;
+    are_read_back(&rt, &MORE_TEXTS)?;
     reading_is_unique::<Global>();
     canonical_is_text::<Global>();
     Ok(())
@@ -469,22 +473,41 @@ fn fault_of_front(elements: &[(usize, u8, bool)], n: usize) -> Option<BssmapFaul
     torn
 }
 
+/// Reads the first n octets of a text as they are, and with the length octet mended.
+fn finds_the_fault_of_front(
+    rt: &(impl AllocGlobal + Abort),
+    text: &[u8],
+    elements: &[(usize, u8, bool)],
+    n: usize,
+) -> Result<(), Fail> {
+    let fault = decode(rt.alloc(), &text[..n]).err();
+    assert_eq!(rt; fault, Some(BssmapFault::Length), "{n} of {text:?}");
+    let mut front = Vec::from_slice(rt.alloc(), &text[..n])?;
+    if let Some(length) = front.get_mut(1) {
+        *length = n.saturating_sub(2).min(255) as u8;
+    }
+    if n > 2 {
+        let fault = decode(rt.alloc(), &front).err();
+        assert_eq!(rt; fault, fault_of_front(elements, n), "{n} of {text:?}");
+    }
+    Ok(())
+}
+
+fn finds_the_faults_of_fronts(
+    rt: &(impl AllocGlobal + Abort),
+    text: &[u8],
+    elements: &[(usize, u8, bool)],
+) -> Result<(), Fail> {
+    for n in 1..text.len() {
+        finds_the_fault_of_front(rt, text, elements, n)?;
+    }
+    Ok(())
+}
+
 #[test]
 fn finds_the_fault_of_each_front_of_a_text(rt: HostRuntime) -> Result<(), Fail> {
     for (text, elements) in TEXTS.iter().zip(ELEMENTS) {
-        for n in 1..text.len() {
-            let fault = decode(rt.alloc(), &text[..n]).err();
-            assert_eq!(rt; fault, Some(BssmapFault::Length), "{n} of {text:?}");
-            // with the length octet mended
-            let mut front = Vec::from_slice(rt.alloc(), &text[..n])?;
-            if let Some(length) = front.get_mut(1) {
-                *length = n.saturating_sub(2).min(255) as u8;
-            }
-            if n > 2 {
-                let fault = decode(rt.alloc(), &front).err();
-                assert_eq!(rt; fault, fault_of_front(elements, n), "{n} of {text:?}");
-            }
-        }
+        finds_the_faults_of_fronts(&rt, text, elements)?;
     }
     Ok(())
 }
@@ -508,20 +531,30 @@ fn with_empty_element(alloc: Global, text: &[u8], offset: usize) -> Result<Vec<u
     Ok(octets)
 }
 
+fn finds_the_elements_bad_that_are_empty(
+    rt: &(impl AllocGlobal + Abort),
+    text: &[u8],
+    elements: &[(usize, u8, bool)],
+) -> Result<(), Fail> {
+    for (offset, identifier, needed) in elements {
+        // the classmark of the text has no length octet
+        if *needed && *identifier != 0x12 {
+            let octets = with_empty_element(rt.alloc(), text, *offset)?;
+            let fault = decode(rt.alloc(), &octets).err();
+            assert_eq!(rt;
+                fault,
+                Some(BssmapFault::BadElement(*identifier)),
+                "{octets:?}"
+            );
+        }
+    }
+    Ok(())
+}
+
 #[test]
 fn finds_each_element_bad_that_is_empty(rt: HostRuntime) -> Result<(), Fail> {
     for (text, elements) in TEXTS.iter().zip(ELEMENTS) {
-        for (offset, identifier, needed) in elements {
-            // the classmark of the text has no length octet
-            if *needed && *identifier != 0x12 {
-                let octets = with_empty_element(rt.alloc(), text, *offset)?;
-                assert_eq!(rt;
-                    decode(rt.alloc(), &octets).err(),
-                    Some(BssmapFault::BadElement(*identifier)),
-                    "{octets:?}"
-                );
-            }
-        }
+        finds_the_elements_bad_that_are_empty(&rt, text, elements)?;
     }
     Ok(())
 }

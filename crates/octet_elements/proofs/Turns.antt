@@ -3,7 +3,7 @@ use Rattle.std.proofs.Common.{append-nil, ◌≡◌, ◌≢◌, ℕ, ◌+◌, �
 use Rattle.std.proofs.lemmas.Bool.Decides.{nat_tests}
 use Rattle.std.proofs.lemmas.Bool.{cases_lt}
 use borrow.Author.Tests.{eq-eqb}
-use Rattle.octet_elements.specs.Elements.{Element, values_of, nth, times, wanted_after, placed}
+use Rattle.octet_elements.specs.Elements.{Element, values_of, nth, times, wanted_after, with_value}
 
 pub eqb_no : (a b : ℕ) → a ≢ b → eqb a b ≡ false
 eqb_no a b differ = grind (arith, nat_tests)
@@ -80,55 +80,55 @@ wanted_past i v es before (j ∷ wanted) past =
     head (inl same) = subst (λ k. nth (times k before) (values_of k es) ≡ nth (times k before) (values_of k (es ++ (i, v) ∷ []))) (sym same) own
     head (inr differ) = ap (nth (times j before)) (sym (values_of-other j i es v (λ same. differ (sym same))))
 
-placed_other : (j i : ℕ) (v : List ℕ) (wanted : List ℕ) (o : Option (List ℕ)) (noted : List (Option (List ℕ))) → j ≢ i → placed (j ∷ wanted) i v (o ∷ noted) ≡ o ∷ placed wanted i v noted
-placed_other j i v wanted None noted differ = ap (λ b. cond b (Some v ∷ noted) (None ∷ placed wanted i v noted)) (eqb_no j i differ)
-placed_other j i v wanted (Some w) noted differ = refl
+with_value_other : (j i : ℕ) (v : List ℕ) (wanted : List ℕ) (o : Option (List ℕ)) (noted : List (Option (List ℕ))) → j ≢ i → with_value (j ∷ wanted) i v (o ∷ noted) ≡ o ∷ with_value wanted i v noted
+with_value_other j i v wanted None noted differ = ap (λ b. cond b (Some v ∷ noted) (None ∷ with_value wanted i v noted)) (eqb_no j i differ)
+with_value_other j i v wanted (Some w) noted differ = refl
 
-placed_free : (i : ℕ) (v : List ℕ) (wanted : List ℕ) (o : Option (List ℕ)) (noted : List (Option (List ℕ))) → o ≡ None → placed (i ∷ wanted) i v (o ∷ noted) ≡ Some v ∷ noted
-placed_free i v wanted None noted free = ap (λ b. cond b (Some v ∷ noted) (None ∷ placed wanted i v noted)) (eq-eqb i i refl)
-placed_free i v wanted (Some w) noted free = cc
+with_value_free : (i : ℕ) (v : List ℕ) (wanted : List ℕ) (o : Option (List ℕ)) (noted : List (Option (List ℕ))) → o ≡ None → with_value (i ∷ wanted) i v (o ∷ noted) ≡ Some v ∷ noted
+with_value_free i v wanted None noted free = ap (λ b. cond b (Some v ∷ noted) (None ∷ with_value wanted i v noted)) (eq-eqb i i refl)
+with_value_free i v wanted (Some w) noted free = cc
 
-placed_taken : (i : ℕ) (v w : List ℕ) (wanted : List ℕ) (o : Option (List ℕ)) (noted : List (Option (List ℕ))) → o ≡ Some w → placed (i ∷ wanted) i v (o ∷ noted) ≡ o ∷ placed wanted i v noted
-placed_taken i v w wanted None noted taken = cc
-placed_taken i v w wanted (Some x) noted taken = refl
+with_value_taken : (i : ℕ) (v w : List ℕ) (wanted : List ℕ) (o : Option (List ℕ)) (noted : List (Option (List ℕ))) → o ≡ Some w → with_value (i ∷ wanted) i v (o ∷ noted) ≡ o ∷ with_value wanted i v noted
+with_value_taken i v w wanted None noted taken = cc
+with_value_taken i v w wanted (Some x) noted taken = refl
 
 -- a place that wants another identifier
-at_other : (i j : ℕ) (v : List ℕ) (es : List Element) (before wanted : List ℕ) → j ≢ i → placed wanted i v (wanted_after (j ∷ before) wanted es) ≡ wanted_after (j ∷ before) wanted (es ++ (i, v) ∷ []) → placed (j ∷ wanted) i v (wanted_after before (j ∷ wanted) es) ≡ wanted_after before (j ∷ wanted) (es ++ (i, v) ∷ [])
+at_other : (i j : ℕ) (v : List ℕ) (es : List Element) (before wanted : List ℕ) → j ≢ i → with_value wanted i v (wanted_after (j ∷ before) wanted es) ≡ wanted_after (j ∷ before) wanted (es ++ (i, v) ∷ []) → with_value (j ∷ wanted) i v (wanted_after before (j ∷ wanted) es) ≡ wanted_after before (j ∷ wanted) (es ++ (i, v) ∷ [])
 at_other i j v es before wanted differ rest =
     let head : nth (times j before) (values_of j es) ≡ nth (times j before) (values_of j (es ++ (i, v) ∷ [])) = ap (nth (times j before)) (sym (values_of-other j i es v (λ same. differ (sym same)))) in
-    placed_other j i v wanted (nth (times j before) (values_of j es)) (wanted_after (j ∷ before) wanted es) differ ∙ (λ n. head n ∷ rest n)
+    with_value_other j i v wanted (nth (times j before) (values_of j es)) (wanted_after (j ∷ before) wanted es) differ ∙ (λ n. head n ∷ rest n)
 
 -- a place that wants the identifier and has its value
-at_taken : (i : ℕ) (v : List ℕ) (es : List Element) (before wanted : List ℕ) → times i before < length (values_of i es) → placed wanted i v (wanted_after (i ∷ before) wanted es) ≡ wanted_after (i ∷ before) wanted (es ++ (i, v) ∷ []) → placed (i ∷ wanted) i v (wanted_after before (i ∷ wanted) es) ≡ wanted_after before (i ∷ wanted) (es ++ (i, v) ∷ [])
+at_taken : (i : ℕ) (v : List ℕ) (es : List Element) (before wanted : List ℕ) → times i before < length (values_of i es) → with_value wanted i v (wanted_after (i ∷ before) wanted es) ≡ wanted_after (i ∷ before) wanted (es ++ (i, v) ∷ []) → with_value (i ∷ wanted) i v (wanted_after before (i ∷ wanted) es) ≡ wanted_after before (i ∷ wanted) (es ++ (i, v) ∷ [])
 at_taken i v es before wanted turn rest =
     let vs = values_of i es in
     let some = nth_some (times i before) vs turn in
     let head : nth (times i before) vs ≡ nth (times i before) (values_of i (es ++ (i, v) ∷ [])) = sym (ap (nth (times i before)) (values_of-same i es v) ∙ nth_before (times i before) vs v turn) in
-    placed_taken i v some.0 wanted (nth (times i before) vs) (wanted_after (i ∷ before) wanted es) some.1 ∙ (λ n. head n ∷ rest n)
+    with_value_taken i v some.0 wanted (nth (times i before) vs) (wanted_after (i ∷ before) wanted es) some.1 ∙ (λ n. head n ∷ rest n)
 
 -- the place whose turn it is
-at_turn : (i : ℕ) (v : List ℕ) (es : List Element) (before wanted : List ℕ) → times i before ≡ length (values_of i es) → placed (i ∷ wanted) i v (wanted_after before (i ∷ wanted) es) ≡ wanted_after before (i ∷ wanted) (es ++ (i, v) ∷ [])
+at_turn : (i : ℕ) (v : List ℕ) (es : List Element) (before wanted : List ℕ) → times i before ≡ length (values_of i es) → with_value (i ∷ wanted) i v (wanted_after before (i ∷ wanted) es) ≡ wanted_after before (i ∷ wanted) (es ++ (i, v) ∷ [])
 at_turn i v es before wanted turn =
     let vs = values_of i es in
     let once = times-same i before in
     let head : Some v ≡ nth (times i before) (values_of i (es ++ (i, v) ∷ [])) = sym (ap (nth (times i before)) (values_of-same i es v) ∙ nth_last (times i before) vs v turn) in
     let rest = wanted_past i v es (i ∷ before) wanted (omega arith) in
-    placed_free i v wanted (nth (times i before) vs) (wanted_after (i ∷ before) wanted es) (nth_past (times i before) vs (omega arith)) ∙ (λ n. head n ∷ rest n)
+    with_value_free i v wanted (nth (times i before) vs) (wanted_after (i ∷ before) wanted es) (nth_past (times i before) vs (omega arith)) ∙ (λ n. head n ∷ rest n)
 
-own_place : (i : ℕ) (v : List ℕ) (es : List Element) (before wanted : List ℕ) → times i before ≤ length (values_of i es) → (times i (i ∷ before) ≤ length (values_of i es) → placed wanted i v (wanted_after (i ∷ before) wanted es) ≡ wanted_after (i ∷ before) wanted (es ++ (i, v) ∷ [])) → placed (i ∷ wanted) i v (wanted_after before (i ∷ wanted) es) ≡ wanted_after before (i ∷ wanted) (es ++ (i, v) ∷ [])
+own_place : (i : ℕ) (v : List ℕ) (es : List Element) (before wanted : List ℕ) → times i before ≤ length (values_of i es) → (times i (i ∷ before) ≤ length (values_of i es) → with_value wanted i v (wanted_after (i ∷ before) wanted es) ≡ wanted_after (i ∷ before) wanted (es ++ (i, v) ∷ [])) → with_value (i ∷ wanted) i v (wanted_after before (i ∷ wanted) es) ≡ wanted_after before (i ∷ wanted) (es ++ (i, v) ∷ [])
 own_place i v es before wanted turn others = by_turn (cases_lt (times i before) (length (values_of i es)))
   where
-    by_turn : (times i before < length (values_of i es)) ⊎ (length (values_of i es) ≤ times i before) → placed (i ∷ wanted) i v (wanted_after before (i ∷ wanted) es) ≡ wanted_after before (i ∷ wanted) (es ++ (i, v) ∷ [])
+    by_turn : (times i before < length (values_of i es)) ⊎ (length (values_of i es) ≤ times i before) → with_value (i ∷ wanted) i v (wanted_after before (i ∷ wanted) es) ≡ wanted_after before (i ∷ wanted) (es ++ (i, v) ∷ [])
     by_turn (inl taken) = at_taken i v es before wanted taken (others (let once = times-same i before in omega arith))
     by_turn (inr free) = at_turn i v es before wanted (omega arith)
 
 -- one more element goes to the first place that wants it and has nothing
-pub wanted-add : (i : ℕ) (v : List ℕ) (es : List Element) (before wanted : List ℕ) → times i before ≤ length (values_of i es) → placed wanted i v (wanted_after before wanted es) ≡ wanted_after before wanted (es ++ (i, v) ∷ [])
+pub wanted-add : (i : ℕ) (v : List ℕ) (es : List Element) (before wanted : List ℕ) → times i before ≤ length (values_of i es) → with_value wanted i v (wanted_after before wanted es) ≡ wanted_after before wanted (es ++ (i, v) ∷ [])
 wanted-add i v es before [] turn = refl
 wanted-add i v es before (j ∷ wanted) turn = by_identifier (same_or_not j i) (λ t. wanted-add i v es (j ∷ before) wanted t)
   where
-    by_identifier : (j ≡ i) ⊎ (j ≢ i) → (times i (j ∷ before) ≤ length (values_of i es) → placed wanted i v (wanted_after (j ∷ before) wanted es) ≡ wanted_after (j ∷ before) wanted (es ++ (i, v) ∷ [])) → placed (j ∷ wanted) i v (wanted_after before (j ∷ wanted) es) ≡ wanted_after before (j ∷ wanted) (es ++ (i, v) ∷ [])
-    by_identifier (inl same) others = subst (λ k. (times i (k ∷ before) ≤ length (values_of i es) → placed wanted i v (wanted_after (k ∷ before) wanted es) ≡ wanted_after (k ∷ before) wanted (es ++ (i, v) ∷ [])) → placed (k ∷ wanted) i v (wanted_after before (k ∷ wanted) es) ≡ wanted_after before (k ∷ wanted) (es ++ (i, v) ∷ [])) (sym same) (own_place i v es before wanted turn) others
+    by_identifier : (j ≡ i) ⊎ (j ≢ i) → (times i (j ∷ before) ≤ length (values_of i es) → with_value wanted i v (wanted_after (j ∷ before) wanted es) ≡ wanted_after (j ∷ before) wanted (es ++ (i, v) ∷ [])) → with_value (j ∷ wanted) i v (wanted_after before (j ∷ wanted) es) ≡ wanted_after before (j ∷ wanted) (es ++ (i, v) ∷ [])
+    by_identifier (inl same) others = subst (λ k. (times i (k ∷ before) ≤ length (values_of i es) → with_value wanted i v (wanted_after (k ∷ before) wanted es) ≡ wanted_after (k ∷ before) wanted (es ++ (i, v) ∷ [])) → with_value (k ∷ wanted) i v (wanted_after before (k ∷ wanted) es) ≡ wanted_after before (k ∷ wanted) (es ++ (i, v) ∷ [])) (sym same) (own_place i v es before wanted turn) others
     by_identifier (inr differ) others = at_other i j v es before wanted differ (others (let same = times-other i j before differ in omega arith))
 
 -- as many places as are wanted

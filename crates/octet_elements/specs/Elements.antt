@@ -89,11 +89,11 @@ abbrev pub wanted_of : List ℕ → List Element → List (Option (List ℕ))
 wanted_of wanted es = wanted_after [] wanted es
 
 -- one more element goes to the first place that wants it and has nothing
-abbrev pub placed : List ℕ → ℕ → List ℕ → List (Option (List ℕ)) → List (Option (List ℕ))
-placed [] i v noted = noted
-placed (j ∷ wanted) i v [] = []
-placed (j ∷ wanted) i v (None ∷ noted) = if j == i then Some v ∷ noted else None ∷ placed wanted i v noted
-placed (j ∷ wanted) i v (Some w ∷ noted) = Some w ∷ placed wanted i v noted
+abbrev pub with_value : List ℕ → ℕ → List ℕ → List (Option (List ℕ)) → List (Option (List ℕ))
+with_value [] i v noted = noted
+with_value (j ∷ wanted) i v [] = []
+with_value (j ∷ wanted) i v (None ∷ noted) = if j == i then Some v ∷ noted else None ∷ with_value wanted i v noted
+with_value (j ∷ wanted) i v (Some w ∷ noted) = Some w ∷ with_value wanted i v noted
 
 -- octets are elements in one way only, torn or whole
 abbrev pub SplitIsUnique : Type 0

@@ -12,9 +12,10 @@ pub struct Leading<'a> {
     pub rest: &'a [u8],
 }
 
-/// The element that the octets begin with; `None` where they are empty or it runs past their end.
+/// The element that the octets begin with; `None` where they are empty or it is cut.
 pub fn leading_element<T: ElementTable>(octets: &[u8]) -> Option<Leading<'_>>
-    ensures found { IfSome result (λ f. Fits T.form_of (f.identifier, f.value.now) × (octets.now ≡ spelled T.form_of (f.identifier, f.value.now) ++ f.rest.now)) }
+    ensures found { IfSome result (λ f. Fits T.form_of (f.identifier, f.value.now) ×
+        (octets.now ≡ spelled T.form_of (f.identifier, f.value.now) ++ f.rest.now)) }
     ensures cut { IfNone result (IsCut T.form_of octets.now) }
 {
     let (identifier, after) = octets.split_first()?;

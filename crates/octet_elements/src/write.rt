@@ -24,9 +24,11 @@ pub fn append_element<T: ElementTable, A: Allocator>(
     value: &[u8],
 )
     requires fits { Fits T.form_of (identifier, value.now) }
-    requires room { vec_len out.old + length (spelled T.form_of (identifier, value.now)) ≤ vec_capacity out.old }
+    requires room { vec_len out.old + length (spelled T.form_of (identifier, value.now)) ≤
+        vec_capacity out.old }
     ensures items { out.new.items ≡ out.old.items ++ spelled T.form_of (identifier, value.now) }
-    ensures len { vec_len out.new ≡ vec_len out.old + length (spelled T.form_of (identifier, value.now)) }
+    ensures len { vec_len out.new ≡ vec_len out.old + length
+        (spelled T.form_of (identifier, value.now)) }
     ensures capacity { vec_capacity out.old ≤ vec_capacity out.new }
 {
     match T::form_for(identifier) {

@@ -32,8 +32,10 @@ impl CellDescription {
     /// A description of the cell with this carrier (0 to 1023), network colour code and base
     /// station colour code (0 to 7 each); `BadRange` where one of them is more.
     pub fn new(arfcn: u16, ncc: u8, bcc: u8) -> Result<Self, ElementFault>
-        ensures ok { CellFits (record { arfcn = arfcn; ncc = ncc; bcc = bcc }) → result ≡ Ok (record { arfcn = arfcn; ncc = ncc; bcc = bcc }) }
-        ensures bad_range { ¬ CellFits (record { arfcn = arfcn; ncc = ncc; bcc = bcc }) → result ≡ Err ElementFault.BadRange }
+        ensures ok { CellFits (record { arfcn = arfcn; ncc = ncc; bcc = bcc }) →
+            result ≡ Ok (record { arfcn = arfcn; ncc = ncc; bcc = bcc }) }
+        ensures bad_range { ¬ CellFits (record { arfcn = arfcn; ncc = ncc; bcc = bcc }) →
+            result ≡ Err ElementFault.BadRange }
     {
         if arfcn < 1024 && ncc < 8 && bcc < 8 {
             Ok(CellDescription { arfcn, ncc, bcc })

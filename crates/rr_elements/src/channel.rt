@@ -35,8 +35,10 @@ impl ChanDescription {
     /// The channel with this timeslot and training sequence code (0 to 7 each) and carrier (0 to
     /// 1023); `BadRange` where one of them is more.
     pub fn new(tn: u8, tsc: u8, carrier: u16) -> Result<Self, ElementFault>
-        ensures ok { ChanFits (record { tn = tn; tsc = tsc; carrier = carrier }) → result ≡ Ok (record { tn = tn; tsc = tsc; carrier = carrier }) }
-        ensures bad_range { ¬ ChanFits (record { tn = tn; tsc = tsc; carrier = carrier }) → result ≡ Err ElementFault.BadRange }
+        ensures ok { ChanFits (record { tn = tn; tsc = tsc; carrier = carrier }) →
+            result ≡ Ok (record { tn = tn; tsc = tsc; carrier = carrier }) }
+        ensures bad_range { ¬ ChanFits (record { tn = tn; tsc = tsc; carrier = carrier }) →
+            result ≡ Err ElementFault.BadRange }
     {
         if tn < 8 && tsc < 8 && carrier < 1024 {
             Ok(ChanDescription { tn, tsc, carrier })

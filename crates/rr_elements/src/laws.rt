@@ -18,9 +18,14 @@ pub fn has_text()
 
 /// No octets are a text of two values.
 pub fn one_value()
-    ensures cell { (v w : Cell) (octets : List ℕ) → IsCellText v octets → IsCellText w octets → v ≡ w }
-    ensures channel { (v w : Chan) (octets : List ℕ) → IsChanText v octets → IsChanText w octets → v ≡ w }
-    ensures power { (v w : PowerCommand) (octets : List ℕ) → IsPowerText v octets → IsPowerText w octets → v ≡ w }
-    ensures cause { (v w : RrCause) (octets : List ℕ) → IsCauseText v octets → IsCauseText w octets → v ≡ w }
-    ensures results { (v w : Results) (octets : List ℕ) → IsResultsText v octets → IsResultsText w octets → v ≡ w }
+    ensures cell { (v w : Cell) (octets : List ℕ) → IsCellText v octets → IsCellText w octets →
+        v ≡ w }
+    ensures channel { (v w : Chan) (octets : List ℕ) → IsChanText v octets → IsChanText w octets →
+        v ≡ w }
+    ensures power { (v w : PowerCommand) (octets : List ℕ) → IsPowerText v octets →
+        IsPowerText w octets → v ≡ w }
+    ensures cause { (v w : RrCause) (octets : List ℕ) → IsCauseText v octets →
+        IsCauseText w octets → v ≡ w }
+    ensures results { (v w : Results) (octets : List ℕ) → IsResultsText v octets →
+        IsResultsText w octets → v ≡ w }
 {}

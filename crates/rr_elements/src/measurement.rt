@@ -127,7 +127,8 @@ fn take_ncell(bits: &mut BitReader) -> Ncell
 pub(crate) fn take_ncells(bits: &mut BitReader, used: usize) -> [Ncell; 6]
     requires few { used ≤ 6 }
     requires enough { 17 * used ≤ length bits.old }
-    ensures numbers { flat_map ncell_numbers (take used result) ≡ cut (repeated used ncell_widths) bits.old }
+    ensures numbers { flat_map ncell_numbers (take used result) ≡
+        cut (repeated used ncell_widths) bits.old }
     ensures fits { All NcellFits (take used result) }
     ensures others { drop used result ≡ replicate (6 - used) no_ncell }
     ensures six { length result ≡ 6 }
@@ -171,7 +172,8 @@ fn put_ncell(bits: &mut BitWriter, ncell: &Ncell)
 pub(crate) fn put_ncells(bits: &mut BitWriter, places: &[Ncell])
     requires fits { All NcellFits places.now }
     requires room { length bits.old + 17 * length places.now ≤ 128 }
-    ensures bits { bits.new ≡ bits.old ++ flat_map (λ n. written ncell_widths (ncell_numbers n)) places.now }
+    ensures bits { bits.new ≡ bits.old ++ flat_map
+        (λ n. written ncell_widths (ncell_numbers n)) places.now }
     ensures len { length bits.new ≡ length bits.old + 17 * length places.now }
 {
     for place in places {

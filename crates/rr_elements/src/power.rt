@@ -32,8 +32,10 @@ impl Power {
     /// This access type (`true`: the handover access is optional) and power level (0 to 31);
     /// `BadRange` where the level is more.
     pub fn new(atc: bool, level: u8) -> Result<Self, ElementFault>
-        ensures ok { PowerFits (record { atc = atc; level = level }) → result ≡ Ok (record { atc = atc; level = level }) }
-        ensures bad_range { ¬ PowerFits (record { atc = atc; level = level }) → result ≡ Err ElementFault.BadRange }
+        ensures ok { PowerFits (record { atc = atc; level = level }) →
+            result ≡ Ok (record { atc = atc; level = level }) }
+        ensures bad_range { ¬ PowerFits (record { atc = atc; level = level }) →
+            result ≡ Err ElementFault.BadRange }
     {
         if level < 32 {
             Ok(Power { atc, level })

@@ -41,8 +41,10 @@ impl MeasResults {
     /// Results with these fields and neighbours. `BadRange` where a field does not fit its bits,
     /// or there are not as many neighbours as the count says (none where it is 7).
     pub fn new(head: MeasHead, neighbours: &[Ncell]) -> Result<Self, ElementFault>
-        ensures ok { ResultsFit (record { head = head; neighbours = neighbours.now }) → result ≡ Ok (record { head = head; neighbours = neighbours.now }) }
-        ensures bad_range { ¬ ResultsFit (record { head = head; neighbours = neighbours.now }) → result ≡ Err ElementFault.BadRange }
+        ensures ok { ResultsFit (record { head = head; neighbours = neighbours.now }) →
+            result ≡ Ok (record { head = head; neighbours = neighbours.now }) }
+        ensures bad_range { ¬ ResultsFit (record { head = head; neighbours = neighbours.now }) →
+            result ≡ Err ElementFault.BadRange }
     {
         let count = neighbours.len();
         if !head.fits() || count != head.used() || !all_fit(neighbours) {

@@ -3,6 +3,7 @@ use rr_elements::{
     CellDescription, ChanDescription, ElementFault, MeasHead, MeasResults, Ncell, Power, RrCause,
 };
 use rr_messages::{Rr, RrFault, decode, encode, encode_into};
+use std::process::Abort;
 use std::test::Fail;
 
 const REPORT: [u8; 18] = [
@@ -115,17 +116,21 @@ fn appends_to_what_stands_in_a_list(rt: HostRuntime) -> Result<(), Fail> {
     Ok(())
 }
 
+fn refuses_truncations(rt: &impl Abort, octets: &[u8]) {
+    for len in 0..octets.len() {
+        let fault = if len == 0 {
+            RrFault::NotRr
+        } else {
+            RrFault::Short
+        };
+        assert_eq!(rt; decode(&octets[..len]), Err(fault), "{len}");
+    }
+}
+
 #[test]
 fn refuses_each_truncation(rt: HostRuntime) {
     for (_said, octets) in MESSAGES {
-        for len in 0..octets.len() {
-            let fault = if len == 0 {
-                RrFault::NotRr
-            } else {
-                RrFault::Short
-            };
-            assert_eq!(rt; decode(&octets[..len]), Err(fault), "{len}");
-        }
+        refuses_truncations(&rt, octets);
     }
 }
 
@@ -190,21 +195,26 @@ fn reads_what_is_not_canonical(rt: HostRuntime) -> Result<(), Fail> {
     Ok(())
 }
 
+/// How many requests for memory were refused in turn before the message was written.
+fn refusals_of(rt: &(impl AllocGlobal + Abort), message: &Rr, octets: &[u8]) -> u64 {
+    let mut refused = 0u64;
+    for n in 1..100 {
+        let heap = RefusingHeap::refusing_nth(rt.alloc(), n);
+        let answer = encode(&heap, message);
+        assert_eq!(rt; answer.is_err(), heap.was_refused(), "request {n}");
+        if let Ok(written) = answer {
+            assert_eq!(rt; written.as_slice(), octets);
+            break;
+        }
+        refused = refused.saturating_add(1);
+    }
+    refused
+}
+
 #[test]
 fn answers_each_refusal(rt: HostRuntime) -> Result<(), Fail> {
     for (said, octets) in MESSAGES {
-        let message = message(said)?;
-        let mut refused = 0u64;
-        for n in 1..100 {
-            let heap = RefusingHeap::refusing_nth(rt.alloc(), n);
-            let answer = encode(&heap, &message);
-            assert_eq!(rt; answer.is_err(), heap.was_refused(), "request {n}");
-            if let Ok(written) = answer {
-                assert_eq!(rt; written.as_slice(), octets);
-                break;
-            }
-            refused = refused.saturating_add(1);
-        }
+        let refused = refusals_of(&rt, &message(said)?, octets);
         assert!(rt; 0 < refused && refused < 99, "{refused} requests");
     }
     Ok(())

@@ -22,7 +22,7 @@ channel_again : (channel : ChanBits) → channel.tn < 8 → channel_in (Some (ch
 channel_again channel h =
     let one : (8 + channel.tn) / 8 ≡ 1 = omega arith in
     let same : (8 + channel.tn) % 8 ≡ channel.tn = omega arith in
-    ap (λ b. cond b (Ok (record { tn = (8 + channel.tn) % 8 })) (Err (Bad 1))) (eq-eqb ((8 + channel.tn) / 8) 1 one) ∙ (λ i. Ok (record { tn = same i }))
+    ap (λ b. cond b (Ok (record { tn = (8 + channel.tn) % 8 })) (Err (Bad 0x01))) (eq-eqb ((8 + channel.tn) / 8) 1 one) ∙ (λ i. Ok (record { tn = same i }))
 
 octets_again : (i : ℕ) (v : List ℕ) → 0 < length v → octets_in i (Some v) ≡ Ok v
 octets_again i [] h = absurd (omega arith)
@@ -43,7 +43,7 @@ pair_again i n = let same : 256 * (n / 256) + n % 256 ≡ n = omega arith in ap 
 channel_fits : (channel read : ChanBits) → channel_in (Some (channel_octet channel ∷ [])) ≡ Ok read → channel.tn < 8
 channel_fits channel read h = by_test (eqb ((8 + channel.tn) / 8) 1) refl h
   where
-    by_test : (b : Bool) → eqb ((8 + channel.tn) / 8) 1 ≡ b → cond b (Ok (record { tn = (8 + channel.tn) % 8 })) (Err (Bad 1)) ≡ Ok read → channel.tn < 8
+    by_test : (b : Bool) → eqb ((8 + channel.tn) / 8) 1 ≡ b → cond b (Ok (record { tn = (8 + channel.tn) % 8 })) (Err (Bad 0x01)) ≡ Ok read → channel.tn < 8
     by_test true one h = let same : (8 + channel.tn) / 8 ≡ 1 = grind (arith, nat_tests) in omega arith
     by_test false one h = cc
 
@@ -69,11 +69,11 @@ octet_fits : (i : ℕ) (o : Option ℕ) → abis i ≡ Fixed 1 → AllByRecursio
 octet_fits i None form = tt
 octet_fits i (Some n) form = (subst (λ f. FitsAs f (n ∷ [])) (sym form) refl, tt)
 
-reference-length : (o : Option ℕ) → length (all_spelled abis (where_some 9 o)) ≤ 2
+reference-length : (o : Option ℕ) → length (all_spelled abis (where_some 0x09 o)) ≤ 2
 reference-length None = omega arith
 reference-length (Some n) = omega arith
 
-delay-length : (o : Option ℕ) → length (all_spelled abis (where_some 17 o)) ≤ 2
+delay-length : (o : Option ℕ) → length (all_spelled abis (where_some 0x11 o)) ≤ 2
 delay-length None = omega arith
 delay-length (Some n) = omega arith
 
@@ -83,7 +83,7 @@ unfolding channel_activation
 activation_canonical channel activation mode reference h = record {
   each = (refl, (refl, (h.2, octet_fits 9 reference refl)));
   says = λ i. channel_again channel h.0 i >>= λ channel. octets_again 6 mode h.1 i >>= λ mode. optional_again 9 reference i >>= λ reference. Ok (ChannelActivation channel activation mode reference);
-  within = let long = length-append mode (all_spelled abis (where_some 9 reference)) in let two = reference-length reference in omega arith;
+  within = let long = length-append mode (all_spelled abis (where_some 0x09 reference)) in let two = reference-length reference in omega arith;
 }
 
 pub canonical_of : {A : Type 0} (v : Rsl A) → IsWritable v → HasCanonical v
@@ -145,25 +145,25 @@ pub writable_of : {A : Type 0} (v : Rsl A) → HasCanonical v → IsWritable v
 unfolding data_request data_indication channel_activation channel_activation_ack channel_activation_nack connection_failure handover_detection measurement_result rf_channel_release rf_channel_release_ack
 writable_of {A} (DataRequest channel link layer3) h =
     let last : ChanBits → List ℕ → Said A = λ channel layer3. Ok (DataRequest channel link layer3) in
-    let by_channel = channel_read channel (λ channel. octets_in 11 (Some layer3) >>= last channel) (DataRequest channel link layer3) h.says in
+    let by_channel = channel_read channel (λ channel. octets_in 0x0B (Some layer3) >>= last channel) (DataRequest channel link layer3) h.says in
     let by_layer3 = octets_read 11 layer3 (last channel) (DataRequest channel link layer3) by_channel.1 in
     let within = h.within in
     let long = length-append layer3 [] in
     (by_channel.0, by_layer3.0, omega arith)
 writable_of {A} (DataIndication channel link layer3) h =
     let last : ChanBits → List ℕ → Said A = λ channel layer3. Ok (DataIndication channel link layer3) in
-    let by_channel = channel_read channel (λ channel. octets_in 11 (Some layer3) >>= last channel) (DataIndication channel link layer3) h.says in
+    let by_channel = channel_read channel (λ channel. octets_in 0x0B (Some layer3) >>= last channel) (DataIndication channel link layer3) h.says in
     let by_layer3 = octets_read 11 layer3 (last channel) (DataIndication channel link layer3) by_channel.1 in
     let within = h.within in
     let long = length-append layer3 [] in
     (by_channel.0, by_layer3.0, omega arith)
 writable_of {A} (ChannelActivation channel activation mode reference) h =
-    let last : ChanBits → List ℕ → Said A = λ channel mode. optional_octet_in 9 (first_of 9 (where_some 9 reference)) >>= λ reference. Ok (ChannelActivation channel activation mode reference) in
-    let by_channel = channel_read channel (λ channel. octets_in 6 (Some mode) >>= last channel) (ChannelActivation channel activation mode reference) h.says in
+    let last : ChanBits → List ℕ → Said A = λ channel mode. optional_octet_in 0x09 (first_of 0x09 (where_some 0x09 reference)) >>= λ reference. Ok (ChannelActivation channel activation mode reference) in
+    let by_channel = channel_read channel (λ channel. octets_in 0x06 (Some mode) >>= last channel) (ChannelActivation channel activation mode reference) h.says in
     let by_mode = octets_read 6 mode (last channel) (ChannelActivation channel activation mode reference) by_channel.1 in
     (by_channel.0, by_mode.0, h.each.1.1.0)
 writable_of {A} (ChannelActivationAck channel frame) h =
-    let go : ChanBits → Said A = λ channel. pair_in 8 (Some (pair_octets frame)) >>= λ frame. Ok (ChannelActivationAck channel frame) in
+    let go : ChanBits → Said A = λ channel. pair_in 0x08 (Some (pair_octets frame)) >>= λ frame. Ok (ChannelActivationAck channel frame) in
     (channel_read channel go (ChannelActivationAck channel frame) h.says).0
 writable_of {A} (ChannelActivationNack channel cause) h =
     let go : ChanBits → Said A = λ channel. Ok (ChannelActivationNack channel cause) in
@@ -172,14 +172,14 @@ writable_of {A} (ConnectionFailureIndication channel cause) h =
     let go : ChanBits → Said A = λ channel. Ok (ConnectionFailureIndication channel cause) in
     (channel_read channel go (ConnectionFailureIndication channel cause) h.says).0
 writable_of {A} (HandoverDetection channel delay) h =
-    let go : ChanBits → Said A = λ channel. optional_octet_in 17 (first_of 17 (where_some 17 delay)) >>= λ delay. Ok (HandoverDetection channel delay) in
+    let go : ChanBits → Said A = λ channel. optional_octet_in 0x11 (first_of 0x11 (where_some 0x11 delay)) >>= λ delay. Ok (HandoverDetection channel delay) in
     (channel_read channel go (HandoverDetection channel delay) h.says).0
 writable_of {A} (MeasurementResult channel number uplink power None) h =
     let go : ChanBits → Said A = λ channel. Ok (MeasurementResult channel number uplink power None) in
     ((channel_read channel go (MeasurementResult channel number uplink power None) h.says).0, h.each.1.1.0)
 writable_of {A} (MeasurementResult channel number uplink power (Some layer3)) h =
     let last : ChanBits → Option (List ℕ) → Said A = λ channel layer3. Ok (MeasurementResult channel number uplink power layer3) in
-    let by_channel = channel_read channel (λ channel. optional_octets_in 11 (Some layer3) >>= last channel) (MeasurementResult channel number uplink power (Some layer3)) h.says in
+    let by_channel = channel_read channel (λ channel. optional_octets_in 0x0B (Some layer3) >>= last channel) (MeasurementResult channel number uplink power (Some layer3)) h.says in
     let within = h.within in
     let long = length-append uplink (4 ∷ power ∷ 11 ∷ length layer3 / 256 ∷ length layer3 % 256 ∷ layer3 ++ []) in
     let last_long = length-append layer3 [] in

@@ -7,16 +7,16 @@ use Rattle.rsl_messages.specs.declared.head.MessageKind.TheVariants.{DataRequest
 
 -- discriminator and type as they are written
 abbrev pub head_of : MessageKind → ℕ × ℕ
-head_of DataRequest = (3, 1)
-head_of DataIndication = (3, 2)
-head_of ChannelActivation = (8, 33)
-head_of ChannelActivationAck = (8, 34)
-head_of ChannelActivationNack = (8, 35)
-head_of ConnectionFailureIndication = (8, 36)
-head_of HandoverDetection = (8, 39)
-head_of MeasurementResult = (8, 40)
-head_of RfChannelRelease = (8, 46)
-head_of RfChannelReleaseAck = (8, 51)
+head_of DataRequest = (0x03, 0x01)
+head_of DataIndication = (0x03, 0x02)
+head_of ChannelActivation = (0x08, 0x21)
+head_of ChannelActivationAck = (0x08, 0x22)
+head_of ChannelActivationNack = (0x08, 0x23)
+head_of ConnectionFailureIndication = (0x08, 0x24)
+head_of HandoverDetection = (0x08, 0x27)
+head_of MeasurementResult = (0x08, 0x28)
+head_of RfChannelRelease = (0x08, 0x2E)
+head_of RfChannelReleaseAck = (0x08, 0x33)
 
 -- Bit 1 of a discriminator, which says that a message passes through the base station, is ignored. What
 -- is left is 1 for radio link layer management and 4 for dedicated channel management.

@@ -18,16 +18,16 @@ Said A = Result (Rsl A) ElementFault
 unfoldable pub data_request : {A : Type 0} → Option (List ℕ) → Option (List ℕ) → Option (List ℕ) → Said A
 data_request channel link layer3 = do
   channel ← channel_in channel
-  link ← octet_in 2 link
-  layer3 ← octets_in 11 layer3
+  link ← octet_in 0x02 link
+  layer3 ← octets_in 0x0B layer3
   Ok (DataRequest channel link layer3)
 
 -- Clause 8.3.2: channel number, link identifier (9.3.2) and L3 information (9.3.11).
 unfoldable pub data_indication : {A : Type 0} → Option (List ℕ) → Option (List ℕ) → Option (List ℕ) → Said A
 data_indication channel link layer3 = do
   channel ← channel_in channel
-  link ← octet_in 2 link
-  layer3 ← octets_in 11 layer3
+  link ← octet_in 0x02 link
+  layer3 ← octets_in 0x0B layer3
   Ok (DataIndication channel link layer3)
 
 -- Clause 8.4.1: channel number, activation type (9.3.3), channel mode (9.3.6) and, for a handover,
@@ -35,37 +35,37 @@ data_indication channel link layer3 = do
 unfoldable pub channel_activation : {A : Type 0} → Option (List ℕ) → Option (List ℕ) → Option (List ℕ) → Option (List ℕ) → Said A
 channel_activation channel activation mode reference = do
   channel ← channel_in channel
-  activation ← octet_in 3 activation
-  mode ← octets_in 6 mode
-  reference ← optional_octet_in 9 reference
+  activation ← octet_in 0x03 activation
+  mode ← octets_in 0x06 mode
+  reference ← optional_octet_in 0x09 reference
   Ok (ChannelActivation channel activation mode reference)
 
 -- Clause 8.4.2: channel number and frame number (9.3.8).
 unfoldable pub channel_activation_ack : {A : Type 0} → Option (List ℕ) → Option (List ℕ) → Said A
 channel_activation_ack channel frame = do
   channel ← channel_in channel
-  frame ← pair_in 8 frame
+  frame ← pair_in 0x08 frame
   Ok (ChannelActivationAck channel frame)
 
 -- Clause 8.4.3: channel number and cause (9.3.26), of which the first octet counts.
 unfoldable pub channel_activation_nack : {A : Type 0} → Option (List ℕ) → Option (List ℕ) → Said A
 channel_activation_nack channel cause = do
   channel ← channel_in channel
-  cause ← octet_in 26 cause
+  cause ← octet_in 0x1A cause
   Ok (ChannelActivationNack channel cause)
 
 -- Clause 8.4.4: channel number and cause (9.3.26), of which the first octet counts.
 unfoldable pub connection_failure : {A : Type 0} → Option (List ℕ) → Option (List ℕ) → Said A
 connection_failure channel cause = do
   channel ← channel_in channel
-  cause ← octet_in 26 cause
+  cause ← octet_in 0x1A cause
   Ok (ConnectionFailureIndication channel cause)
 
 -- Clause 8.4.7: channel number and, where it is known, access delay (9.3.17).
 unfoldable pub handover_detection : {A : Type 0} → Option (List ℕ) → Option (List ℕ) → Said A
 handover_detection channel delay = do
   channel ← channel_in channel
-  delay ← optional_octet_in 17 delay
+  delay ← optional_octet_in 0x11 delay
   Ok (HandoverDetection channel delay)
 
 -- Clause 8.4.8: channel number, measurement result number (9.3.27), uplink measurements (9.3.25), base
@@ -73,10 +73,10 @@ handover_detection channel delay = do
 unfoldable pub measurement_result : {A : Type 0} → Option (List ℕ) → Option (List ℕ) → Option (List ℕ) → Option (List ℕ) → Option (List ℕ) → Said A
 measurement_result channel number uplink power layer3 = do
   channel ← channel_in channel
-  number ← octet_in 27 number
-  uplink ← any_octets_in 25 uplink
-  power ← octet_in 4 power
-  layer3 ← optional_octets_in 11 layer3
+  number ← octet_in 0x1B number
+  uplink ← any_octets_in 0x19 uplink
+  power ← octet_in 0x04 power
+  layer3 ← optional_octets_in 0x0B layer3
   Ok (MeasurementResult channel number uplink power layer3)
 
 -- Clause 8.4.14: channel number.
@@ -94,16 +94,16 @@ rf_channel_release_ack channel = do
 -- What the elements of a message say. Of a repeated element the first counts, and elements that the
 -- message doesn't use are skipped.
 abbrev pub meaning_of : {A : Type 0} → MessageKind → List Element → Said A
-meaning_of kind.DataRequest es = data_request (first_of 1 es) (first_of 2 es) (first_of 11 es)
-meaning_of kind.DataIndication es = data_indication (first_of 1 es) (first_of 2 es) (first_of 11 es)
-meaning_of kind.ChannelActivation es = channel_activation (first_of 1 es) (first_of 3 es) (first_of 6 es) (first_of 9 es)
-meaning_of kind.ChannelActivationAck es = channel_activation_ack (first_of 1 es) (first_of 8 es)
-meaning_of kind.ChannelActivationNack es = channel_activation_nack (first_of 1 es) (first_of 26 es)
-meaning_of kind.ConnectionFailureIndication es = connection_failure (first_of 1 es) (first_of 26 es)
-meaning_of kind.HandoverDetection es = handover_detection (first_of 1 es) (first_of 17 es)
-meaning_of kind.MeasurementResult es = measurement_result (first_of 1 es) (first_of 27 es) (first_of 25 es) (first_of 4 es) (first_of 11 es)
-meaning_of kind.RfChannelRelease es = rf_channel_release (first_of 1 es)
-meaning_of kind.RfChannelReleaseAck es = rf_channel_release_ack (first_of 1 es)
+meaning_of kind.DataRequest es = data_request (first_of 0x01 es) (first_of 0x02 es) (first_of 0x0B es)
+meaning_of kind.DataIndication es = data_indication (first_of 0x01 es) (first_of 0x02 es) (first_of 0x0B es)
+meaning_of kind.ChannelActivation es = channel_activation (first_of 0x01 es) (first_of 0x03 es) (first_of 0x06 es) (first_of 0x09 es)
+meaning_of kind.ChannelActivationAck es = channel_activation_ack (first_of 0x01 es) (first_of 0x08 es)
+meaning_of kind.ChannelActivationNack es = channel_activation_nack (first_of 0x01 es) (first_of 0x1A es)
+meaning_of kind.ConnectionFailureIndication es = connection_failure (first_of 0x01 es) (first_of 0x1A es)
+meaning_of kind.HandoverDetection es = handover_detection (first_of 0x01 es) (first_of 0x11 es)
+meaning_of kind.MeasurementResult es = measurement_result (first_of 0x01 es) (first_of 0x1B es) (first_of 0x19 es) (first_of 0x04 es) (first_of 0x0B es)
+meaning_of kind.RfChannelRelease es = rf_channel_release (first_of 0x01 es)
+meaning_of kind.RfChannelReleaseAck es = rf_channel_release_ack (first_of 0x01 es)
 
 abbrev pub kind_of : {A : Type 0} → Rsl A → MessageKind
 kind_of (DataRequest channel link layer3) = kind.DataRequest
@@ -119,16 +119,16 @@ kind_of (RfChannelReleaseAck channel) = kind.RfChannelReleaseAck
 
 -- the elements of a message in the order in which they are written
 abbrev pub elements_of : {A : Type 0} → Rsl A → List Element
-elements_of (DataRequest channel link layer3) = (1, channel_octet channel ∷ []) ∷ (2, link ∷ []) ∷ (11, layer3) ∷ []
-elements_of (DataIndication channel link layer3) = (1, channel_octet channel ∷ []) ∷ (2, link ∷ []) ∷ (11, layer3) ∷ []
-elements_of (ChannelActivation channel activation mode reference) = (1, channel_octet channel ∷ []) ∷ (3, activation ∷ []) ∷ (6, mode) ∷ where_some 9 reference
-elements_of (ChannelActivationAck channel frame) = (1, channel_octet channel ∷ []) ∷ (8, pair_octets frame) ∷ []
-elements_of (ChannelActivationNack channel cause) = (1, channel_octet channel ∷ []) ∷ (26, cause ∷ []) ∷ []
-elements_of (ConnectionFailureIndication channel cause) = (1, channel_octet channel ∷ []) ∷ (26, cause ∷ []) ∷ []
-elements_of (HandoverDetection channel delay) = (1, channel_octet channel ∷ []) ∷ where_some 17 delay
-elements_of (MeasurementResult channel number uplink power layer3) = (1, channel_octet channel ∷ []) ∷ (27, number ∷ []) ∷ (25, uplink) ∷ (4, power ∷ []) ∷ where_value 11 layer3
-elements_of (RfChannelRelease channel) = (1, channel_octet channel ∷ []) ∷ []
-elements_of (RfChannelReleaseAck channel) = (1, channel_octet channel ∷ []) ∷ []
+elements_of (DataRequest channel link layer3) = (0x01, channel_octet channel ∷ []) ∷ (0x02, link ∷ []) ∷ (0x0B, layer3) ∷ []
+elements_of (DataIndication channel link layer3) = (0x01, channel_octet channel ∷ []) ∷ (0x02, link ∷ []) ∷ (0x0B, layer3) ∷ []
+elements_of (ChannelActivation channel activation mode reference) = (0x01, channel_octet channel ∷ []) ∷ (0x03, activation ∷ []) ∷ (0x06, mode) ∷ where_some 0x09 reference
+elements_of (ChannelActivationAck channel frame) = (0x01, channel_octet channel ∷ []) ∷ (0x08, pair_octets frame) ∷ []
+elements_of (ChannelActivationNack channel cause) = (0x01, channel_octet channel ∷ []) ∷ (0x1A, cause ∷ []) ∷ []
+elements_of (ConnectionFailureIndication channel cause) = (0x01, channel_octet channel ∷ []) ∷ (0x1A, cause ∷ []) ∷ []
+elements_of (HandoverDetection channel delay) = (0x01, channel_octet channel ∷ []) ∷ where_some 0x11 delay
+elements_of (MeasurementResult channel number uplink power layer3) = (0x01, channel_octet channel ∷ []) ∷ (0x1B, number ∷ []) ∷ (0x19, uplink) ∷ (0x04, power ∷ []) ∷ where_value 0x0B layer3
+elements_of (RfChannelRelease channel) = (0x01, channel_octet channel ∷ []) ∷ []
+elements_of (RfChannelReleaseAck channel) = (0x01, channel_octet channel ∷ []) ∷ []
 
 -- the message keeps an octet list, so reading it takes memory
 abbrev pub HasOctets : {A : Type 0} → Rsl A → Type 0

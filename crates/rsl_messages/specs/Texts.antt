@@ -33,7 +33,7 @@ pub record IsTextOf {A : Type 0} (v : Rsl A) (octets : List ℕ) : Type 0 where
   pub head : Begins kind octets body
   pub says : Says kind body (Ok v)
 
--- an element of the body runs past the end; its offset counts the head too
+-- an element of the body is cut; its offset counts the head too
 abbrev pub IsTornBody : List ℕ → RslFault → Type 0
 IsTornBody body (fault.Torn at) = (offset : ℕ) × IsTornAt abis body offset × (at ≡ 2 + offset)
 IsTornBody body _ = ⊥

@@ -14,9 +14,9 @@ fault_of (Bad i) = BadElement i
 -- Channel number (clause 9.3.1): bits 8 to 4 are 00001, a full-rate traffic channel, and bits 3 to 1
 -- the timeslot.
 abbrev pub channel_in : Option (List ℕ) → Result ChanBits ElementFault
-channel_in None = Err (Absent 1)
-channel_in (Some []) = Err (Bad 1)
-channel_in (Some (octet ∷ v)) = if octet / 8 == 1 then Ok (record { tn = octet % 8 }) else Err (Bad 1)
+channel_in None = Err (Absent 0x01)
+channel_in (Some []) = Err (Bad 0x01)
+channel_in (Some (octet ∷ v)) = if octet / 8 == 1 then Ok (record { tn = octet % 8 }) else Err (Bad 0x01)
 
 abbrev pub channel_octet : ChanBits → ℕ
 channel_octet channel = 8 + channel.tn

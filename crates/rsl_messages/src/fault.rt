@@ -20,7 +20,7 @@ pub enum RslFault {
     /// The element with this identifier has a value that can't be read.
     #[error("element 0x{0:02x} is bad")]
     BadElement(u8),
-    /// The element at this offset, counted from the first octet, runs past the end. At offset 1 the
+    /// The element at this offset, counted from the first octet, is cut. At offset 1 the
     /// type is missing.
     #[error("torn at offset {0}")]
     Torn(usize),

@@ -22,7 +22,8 @@ pub enum MessageKind {
 /// Which message has this discriminator, whose bit 1 is ignored, and this type.
 fn kind_for(discriminator: u8, message_type: u8) -> Option<MessageKind>
     ensures found { IfSome result (λ kind. IsHead kind discriminator message_type) }
-    ensures none { IfNone result ((kind : MessageKind) → IsHead kind discriminator message_type → ⊥) }
+    ensures none { IfNone result ((kind : MessageKind) → IsHead kind discriminator message_type →
+        ⊥) }
 {
     match (discriminator / 2, message_type) {
         (1, 0x01) => Some(MessageKind::DataRequest),

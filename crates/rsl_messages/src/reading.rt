@@ -45,7 +45,8 @@ fn read_wanted<'a>(
 ) -> Result<(), RslFault>
     requires short { length body.now ≤ limit }
     requires empty { map (option_map (λ v. v.now)) values.old ≡ wanted_of wanted.now [] }
-    ensures whole { OnOk result ((es : List Element) × AreElements abis es body.now × (map (option_map (λ v. v.now)) values.new ≡ wanted_of wanted.now es)) }
+    ensures whole { OnOk result ((es : List Element) × AreElements abis es body.now ×
+        (map (option_map (λ v. v.now)) values.new ≡ wanted_of wanted.now es)) }
     ensures torn { IfErr result (IsTornBody body.now) }
 {
     match read_values::<Abis>(body, wanted, values) {
@@ -61,7 +62,8 @@ fn data_request_of<A: Allocator + Copy>(
     link_value: Option<&[u8]>,
     layer3_value: Option<&[u8]>,
 ) -> Result<Rsl<A>, RslFault>
-    ensures { Answers result (data_request (seen channel_value.entry) (seen link_value.entry) (seen layer3_value.entry)) }
+    ensures { Answers result (data_request (seen channel_value.entry) (seen link_value.entry)
+        (seen layer3_value.entry)) }
 {
     let channel = channel(channel_value)?;
     let link = octet(LINK_IDENTIFIER, link_value)?;
@@ -94,7 +96,8 @@ fn data_indication_of<A: Allocator + Copy>(
     link_value: Option<&[u8]>,
     layer3_value: Option<&[u8]>,
 ) -> Result<Rsl<A>, RslFault>
-    ensures { Answers result (data_indication (seen channel_value.entry) (seen link_value.entry) (seen layer3_value.entry)) }
+    ensures { Answers result (data_indication (seen channel_value.entry) (seen link_value.entry)
+        (seen layer3_value.entry)) }
 {
     let channel = channel(channel_value)?;
     let link = octet(LINK_IDENTIFIER, link_value)?;
@@ -128,7 +131,8 @@ fn activation_of<A: Allocator + Copy>(
     mode_value: Option<&[u8]>,
     reference_value: Option<&[u8]>,
 ) -> Result<Rsl<A>, RslFault>
-    ensures { Answers result (channel_activation (seen channel_value.entry) (seen activation_value.entry) (seen mode_value.entry) (seen reference_value.entry)) }
+    ensures { Answers result (channel_activation (seen channel_value.entry)
+        (seen activation_value.entry) (seen mode_value.entry) (seen reference_value.entry)) }
 {
     let channel = channel(channel_value)?;
     let activation = octet(ACTIVATION_TYPE, activation_value)?;
@@ -166,7 +170,8 @@ fn activation_ack_of<A: Allocator>(
     channel_value: Option<&[u8]>,
     frame_value: Option<&[u8]>,
 ) -> Result<Rsl<A>, RslFault>
-    ensures { Answers result (channel_activation_ack (seen channel_value.entry) (seen frame_value.entry)) }
+    ensures { Answers result (channel_activation_ack (seen channel_value.entry)
+        (seen frame_value.entry)) }
 {
     let channel = channel(channel_value)?;
     let frame = pair(FRAME_NUMBER, frame_value)?;
@@ -188,7 +193,8 @@ fn activation_nack_of<A: Allocator>(
     channel_value: Option<&[u8]>,
     cause_value: Option<&[u8]>,
 ) -> Result<Rsl<A>, RslFault>
-    ensures { Answers result (channel_activation_nack (seen channel_value.entry) (seen cause_value.entry)) }
+    ensures { Answers result (channel_activation_nack (seen channel_value.entry)
+        (seen cause_value.entry)) }
 {
     let channel = channel(channel_value)?;
     let cause = octet(CAUSE, cause_value)?;
@@ -210,7 +216,8 @@ fn connection_failure_of<A: Allocator>(
     channel_value: Option<&[u8]>,
     cause_value: Option<&[u8]>,
 ) -> Result<Rsl<A>, RslFault>
-    ensures { Answers result (connection_failure (seen channel_value.entry) (seen cause_value.entry)) }
+    ensures { Answers result (connection_failure (seen channel_value.entry)
+        (seen cause_value.entry)) }
 {
     let channel = channel(channel_value)?;
     let cause = octet(CAUSE, cause_value)?;
@@ -232,7 +239,8 @@ fn handover_detection_of<A: Allocator>(
     channel_value: Option<&[u8]>,
     delay_value: Option<&[u8]>,
 ) -> Result<Rsl<A>, RslFault>
-    ensures { Answers result (handover_detection (seen channel_value.entry) (seen delay_value.entry)) }
+    ensures { Answers result (handover_detection (seen channel_value.entry)
+        (seen delay_value.entry)) }
 {
     let channel = channel(channel_value)?;
     let delay = optional_octet(ACCESS_DELAY, delay_value)?;
@@ -258,7 +266,9 @@ fn measurement_result_of<A: Allocator + Copy>(
     power_value: Option<&[u8]>,
     layer3_value: Option<&[u8]>,
 ) -> Result<Rsl<A>, RslFault>
-    ensures { Answers result (measurement_result (seen channel_value.entry) (seen number_value.entry) (seen uplink_value.entry) (seen power_value.entry) (seen layer3_value.entry)) }
+    ensures { Answers result (measurement_result (seen channel_value.entry)
+        (seen number_value.entry) (seen uplink_value.entry) (seen power_value.entry)
+        (seen layer3_value.entry)) }
 {
     let channel = channel(channel_value)?;
     let number = octet(RESULT_NUMBER, number_value)?;
@@ -370,11 +380,13 @@ fn read_message<A: Allocator + Copy>(alloc: A, octets: &[u8]) -> Result<Rsl<A>, 
 /// message has no use for is passed over.
 pub fn decode<A: Allocator + Copy>(alloc: A, octets: &[u8]) -> Result<Rsl<A>, RslFault>
     ensures text { IfOk result (λ v. IsTextOf v octets.now) }
-    ensures exact { (v : Rsl A) → IsTextOf v octets.now → result ≢ Err RslFault.NoMemory → result ≡ Ok v }
+    ensures exact { (v : Rsl A) → IsTextOf v octets.now → result ≢ Err RslFault.NoMemory →
+        result ≡ Ok v }
 
     // It is the first fault in the order of `RslFault`.
     ensures fault { IfErr result (HasFault A octets.now) }
-    ensures memory { result ≡ Err RslFault.NoMemory → (v : Rsl A) × IsTextOf v octets.now × HasOctets v }
+    ensures memory { result ≡ Err RslFault.NoMemory →
+        (v : Rsl A) × IsTextOf v octets.now × HasOctets v }
 {
     read_message(alloc, octets)
 }

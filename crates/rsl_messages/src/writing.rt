@@ -42,26 +42,26 @@ fn is_writable<A: Allocator>(message: &Rsl<A>) -> bool
             channel,
             layer3,
             ..
-        } => is_full_rate(*channel) && is_layer3(layer3.as_slice(), LIMIT - 9),
+        } => has_timeslot(*channel) && is_layer3(layer3.as_slice(), LIMIT - 9),
         Rsl::ChannelActivation { channel, mode, .. } => {
-            is_full_rate(*channel) && matches!(mode.as_slice().len(), 1..=255)
+            has_timeslot(*channel) && matches!(mode.as_slice().len(), 1..=255)
         }
         Rsl::MeasurementResult {
             channel,
             uplink,
             layer3,
             ..
-        } => is_full_rate(*channel) && is_measured(uplink.as_slice(), layer3.as_ref()),
+        } => has_timeslot(*channel) && is_measured(uplink.as_slice(), layer3.as_ref()),
         Rsl::ChannelActivationAck { channel, .. }
         | Rsl::ChannelActivationNack { channel, .. }
         | Rsl::ConnectionFailureIndication { channel, .. }
         | Rsl::HandoverDetection { channel, .. }
         | Rsl::RfChannelRelease { channel }
-        | Rsl::RfChannelReleaseAck { channel } => is_full_rate(*channel),
+        | Rsl::RfChannelReleaseAck { channel } => has_timeslot(*channel),
     }
 }
 
-fn is_full_rate(channel: ChanBits) -> bool
+fn has_timeslot(channel: ChanBits) -> bool
     ensures { IsTrue result ↔ (channel.tn < 8) }
 {
     channel.tn < 8
@@ -83,7 +83,9 @@ fn is_uplink(uplink: &[u8]) -> bool
 /// Whether the lists of a MEASUREMENT RESULT can be written.
 fn is_measured<A: Allocator>(uplink: &[u8], layer3: Option<&Octets<A>>) -> bool
     ensures without { IsNone layer3.entry → IsTrue result ↔ (length uplink.now < 256) }
-    ensures with { IfSome layer3.entry (λ l. IsTrue result ↔ ((length uplink.now < 256) × (0 < length l.now) × (13 + length uplink.now + length l.now ≤ limit))) }
+    ensures with { IfSome layer3.entry (λ l. IsTrue result ↔
+        ((length uplink.now < 256) × (0 < length l.now) ×
+        (13 + length uplink.now + length l.now ≤ limit))) }
 {
     match layer3 {
         None => is_uplink(uplink),
@@ -114,7 +116,8 @@ fn kind_of<A: Allocator>(message: &Rsl<A>) -> MessageKind
 /// How many octets the layer 3 element of a MEASUREMENT RESULT takes.
 fn reported_len<A: Allocator>(layer3: Option<&Octets<A>>) -> usize
     requires { IfSome layer3 (λ l. length l.now ≤ limit) }
-    ensures { result ≡ length (all_spelled abis (where_value 11 (option_map (λ l. l.now) layer3.entry))) }
+    ensures { result ≡ length (all_spelled abis
+        (where_value 0x0B (option_map (λ l. l.now) layer3.entry))) }
 {
     match layer3 {
         None => 0,
@@ -159,8 +162,11 @@ fn channel_octet(channel: ChanBits) -> u8
 fn append_data<A: Allocator>(out: &mut Vec<u8, A>, channel: ChanBits, link: u8, layer3: &[u8])
     requires channel { channel.tn < 8 }
     requires layer3 { length layer3.now ≤ limit }
-    requires room { vec_len out.old + length (all_spelled abis (elements_of {A = A} (Rsl.DataRequest channel link layer3.now))) ≤ vec_capacity out.old }
-    ensures items { out.new.items ≡ out.old.items ++ all_spelled abis (elements_of {A = A} (Rsl.DataRequest channel link layer3.now)) }
+    requires room { vec_len out.old + length (all_spelled abis
+        (elements_of {A = A} (Rsl.DataRequest channel link layer3.now))) ≤
+        vec_capacity out.old }
+    ensures items { out.new.items ≡ out.old.items ++
+        all_spelled abis (elements_of {A = A} (Rsl.DataRequest channel link layer3.now)) }
 {
     append_element::<Abis, A>(out, CHANNEL_NUMBER, &[channel_octet(channel)]);
     append_element::<Abis, A>(out, LINK_IDENTIFIER, &[link]);
@@ -177,8 +183,12 @@ fn append_activation<A: Allocator>(
 )
     requires channel { channel.tn < 8 }
     requires mode { length mode.now < 256 }
-    requires room { vec_len out.old + length (all_spelled abis (elements_of {A = A} (Rsl.ChannelActivation channel activation mode.now reference))) ≤ vec_capacity out.old }
-    ensures items { out.new.items ≡ out.old.items ++ all_spelled abis (elements_of {A = A} (Rsl.ChannelActivation channel activation mode.now reference)) }
+    requires room { vec_len out.old + length (all_spelled abis
+        (elements_of {A = A} (Rsl.ChannelActivation channel activation mode.now reference))) ≤
+        vec_capacity out.old }
+    ensures items { out.new.items ≡ out.old.items ++
+        all_spelled abis (elements_of {A = A}
+        (Rsl.ChannelActivation channel activation mode.now reference)) }
 {
     append_element::<Abis, A>(out, CHANNEL_NUMBER, &[channel_octet(channel)]);
     append_element::<Abis, A>(out, ACTIVATION_TYPE, &[activation]);
@@ -191,8 +201,10 @@ fn append_activation<A: Allocator>(
 /// Appends the elements of a CHANNEL ACTIVATION ACKNOWLEDGE.
 fn append_ack<A: Allocator>(out: &mut Vec<u8, A>, channel: ChanBits, frame: u16)
     requires channel { channel.tn < 8 }
-    requires room { vec_len out.old + length (all_spelled abis (elements_of {A = A} (Rsl.ChannelActivationAck channel frame))) ≤ vec_capacity out.old }
-    ensures items { out.new.items ≡ out.old.items ++ all_spelled abis (elements_of {A = A} (Rsl.ChannelActivationAck channel frame)) }
+    requires room { vec_len out.old + length (all_spelled abis
+        (elements_of {A = A} (Rsl.ChannelActivationAck channel frame))) ≤ vec_capacity out.old }
+    ensures items { out.new.items ≡ out.old.items ++
+        all_spelled abis (elements_of {A = A} (Rsl.ChannelActivationAck channel frame)) }
 {
     append_element::<Abis, A>(out, CHANNEL_NUMBER, &[channel_octet(channel)]);
     append_element::<Abis, A>(out, FRAME_NUMBER, &pair_octets(frame));
@@ -201,8 +213,11 @@ fn append_ack<A: Allocator>(out: &mut Vec<u8, A>, channel: ChanBits, frame: u16)
 /// Appends the elements of a message with a cause.
 fn append_cause<A: Allocator>(out: &mut Vec<u8, A>, channel: ChanBits, cause: u8)
     requires channel { channel.tn < 8 }
-    requires room { vec_len out.old + length (all_spelled abis (elements_of {A = A} (Rsl.ChannelActivationNack channel cause))) ≤ vec_capacity out.old }
-    ensures items { out.new.items ≡ out.old.items ++ all_spelled abis (elements_of {A = A} (Rsl.ChannelActivationNack channel cause)) }
+    requires room { vec_len out.old + length (all_spelled abis
+        (elements_of {A = A} (Rsl.ChannelActivationNack channel cause))) ≤
+        vec_capacity out.old }
+    ensures items { out.new.items ≡ out.old.items ++
+        all_spelled abis (elements_of {A = A} (Rsl.ChannelActivationNack channel cause)) }
 {
     append_element::<Abis, A>(out, CHANNEL_NUMBER, &[channel_octet(channel)]);
     append_element::<Abis, A>(out, CAUSE, &[cause]);
@@ -211,8 +226,10 @@ fn append_cause<A: Allocator>(out: &mut Vec<u8, A>, channel: ChanBits, cause: u8
 /// Appends the elements of a HANDOVER DETECTION.
 fn append_detection<A: Allocator>(out: &mut Vec<u8, A>, channel: ChanBits, delay: Option<u8>)
     requires channel { channel.tn < 8 }
-    requires room { vec_len out.old + length (all_spelled abis (elements_of {A = A} (Rsl.HandoverDetection channel delay))) ≤ vec_capacity out.old }
-    ensures items { out.new.items ≡ out.old.items ++ all_spelled abis (elements_of {A = A} (Rsl.HandoverDetection channel delay)) }
+    requires room { vec_len out.old + length (all_spelled abis
+        (elements_of {A = A} (Rsl.HandoverDetection channel delay))) ≤ vec_capacity out.old }
+    ensures items { out.new.items ≡ out.old.items ++
+        all_spelled abis (elements_of {A = A} (Rsl.HandoverDetection channel delay)) }
 {
     append_element::<Abis, A>(out, CHANNEL_NUMBER, &[channel_octet(channel)]);
     if let Some(delay) = delay {
@@ -225,19 +242,24 @@ fn append_measurement<A: Allocator>(
     out: &mut Vec<u8, A>,
     channel: ChanBits,
     number: u8,
-    uplink: &[u8],
+    uplink: &Octets<A>,
     power: u8,
     layer3: Option<&Octets<A>>,
 )
     requires channel { channel.tn < 8 }
     requires uplink { length uplink.now < 256 }
     requires layer3 { IfSome layer3 (λ l. length l.now ≤ limit) }
-    requires room { vec_len out.old + length (all_spelled abis (elements_of {A = A} (Rsl.MeasurementResult channel number uplink.now power (option_map (λ l. l.now) layer3)))) ≤ vec_capacity out.old }
-    ensures items { out.new.items ≡ out.old.items ++ all_spelled abis (elements_of {A = A} (Rsl.MeasurementResult channel number uplink.now power (option_map (λ l. l.now) layer3.entry))) }
+    requires room { vec_len out.old + length (all_spelled abis
+        (elements_of {A = A} (Rsl.MeasurementResult channel number uplink.now power
+        (option_map (λ l. l.now) layer3)))) ≤ vec_capacity out.old }
+    ensures items { out.new.items ≡ out.old.items ++
+        all_spelled abis (elements_of {A = A}
+        (Rsl.MeasurementResult channel number uplink.now power (option_map
+        (λ l. l.now) layer3.entry))) }
 {
     append_element::<Abis, A>(out, CHANNEL_NUMBER, &[channel_octet(channel)]);
     append_element::<Abis, A>(out, RESULT_NUMBER, &[number]);
-    append_element::<Abis, A>(out, UPLINK_MEASUREMENTS, uplink);
+    append_element::<Abis, A>(out, UPLINK_MEASUREMENTS, uplink.as_slice());
     append_element::<Abis, A>(out, POWER, &[power]);
     if let Some(layer3) = layer3 {
         append_element::<Abis, A>(out, LAYER3, layer3.as_slice());
@@ -247,7 +269,8 @@ fn append_measurement<A: Allocator>(
 /// Appends the elements of a message, for which the list has room.
 fn append_elements<A: Allocator>(message: &Rsl<A>, out: &mut Vec<u8, A>)
     requires writable { IsWritable message.now }
-    requires room { vec_len out.old + length (all_spelled abis (elements_of message.now)) ≤ vec_capacity out.old }
+    requires room { vec_len out.old + length (all_spelled abis (elements_of message.now)) ≤
+        vec_capacity out.old }
     ensures items { out.new.items ≡ out.old.items ++ all_spelled abis (elements_of message.now) }
 {
     match message {
@@ -268,10 +291,8 @@ fn append_elements<A: Allocator>(message: &Rsl<A>, out: &mut Vec<u8, A>)
             reference,
         } => append_activation(out, *channel, *activation, mode.as_slice(), *reference),
         Rsl::ChannelActivationAck { channel, frame } => append_ack(out, *channel, *frame),
-        Rsl::ChannelActivationNack { channel, cause }
-        | Rsl::ConnectionFailureIndication { channel, cause } => {
-            append_cause(out, *channel, *cause);
-        }
+        Rsl::ConnectionFailureIndication { channel, cause }
+        | Rsl::ChannelActivationNack { channel, cause } => append_cause(out, *channel, *cause),
         Rsl::HandoverDetection { channel, delay } => append_detection(out, *channel, *delay),
         Rsl::MeasurementResult {
             channel,
@@ -279,14 +300,7 @@ fn append_elements<A: Allocator>(message: &Rsl<A>, out: &mut Vec<u8, A>)
             uplink,
             power,
             layer3,
-        } => append_measurement(
-            out,
-            *channel,
-            *number,
-            uplink.as_slice(),
-            *power,
-            layer3.as_ref(),
-        ),
+        } => append_measurement(out, *channel, *number, uplink, *power, layer3.as_ref()),
         Rsl::RfChannelRelease { channel } | Rsl::RfChannelReleaseAck { channel } => {
             append_element::<Abis, A>(out, CHANNEL_NUMBER, &[channel_octet(*channel)]);
         }
@@ -299,8 +313,10 @@ pub fn encode_into<A: Allocator>(message: &Rsl<A>, out: &mut Vec<u8, A>) -> Resu
     requires { HasCanonical message.now }
     ensures ok { OnOk result (out.new.items ≡ out.old.items ++ canonical message.now) }
     ensures err { OnErr result (out.new.items ≡ out.old.items) }
-    ensures room { vec_len out.old + length (canonical message.now) ≤ vec_capacity out.old → IsOk result }
-    ensures full { OnErr result (vec_capacity out.old < vec_len out.old + length (canonical message.now)) }
+    ensures room { vec_len out.old + length (canonical message.now) ≤ vec_capacity out.old →
+        IsOk result }
+    ensures full { OnErr result (vec_capacity out.old < vec_len out.old + length
+        (canonical message.now)) }
 {
     out.reserve(2 + elements_len(message))?;
     append_octets(out, &head_octets(kind_of(message)));

@@ -425,13 +425,21 @@ fn fault_of_front(elements: &[(usize, u8, bool)], n: usize) -> Option<RslFault> 
     torn
 }
 
+fn finds_the_faults_of_fronts(
+    rt: &(impl AllocGlobal + Abort),
+    text: &[u8],
+    elements: &[(usize, u8, bool)],
+) {
+    for n in 0..text.len() {
+        let fault = decode(rt.alloc(), &text[..n]).err();
+        assert_eq!(rt; fault, fault_of_front(elements, n), "{n} of {text:?}");
+    }
+}
+
 #[test]
 fn finds_the_fault_of_each_front_of_a_text(rt: HostRuntime) {
     for (text, elements) in TEXTS.iter().zip(ELEMENTS) {
-        for n in 0..text.len() {
-            let fault = decode(rt.alloc(), &text[..n]).err();
-            assert_eq!(rt; fault, fault_of_front(elements, n), "{n} of {text:?}");
-        }
+        finds_the_faults_of_fronts(&rt, text, elements);
     }
 }
 

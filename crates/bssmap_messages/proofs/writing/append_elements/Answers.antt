@@ -2,7 +2,7 @@ use Rattle.std.proofs.Common.{◌≡◌, ◌∷◌, [], ◌++◌, length, ap, �
 use Rattle.octet_elements.specs.Elements.{all_spelled, spelled}
 use Rattle.bssmap_messages.specs.Forms.{interface_a}
 use Rattle.octet_elements.specs.Values.{where_some}
-use Rattle.bssmap_messages.specs.Values.{cell_value, classmark_element}
+use Rattle.bssmap_messages.specs.Values.{cell_value}
 use Rattle.bssmap_messages.proofs.Lengths.{required_length}
 use Rattle.bssmap_messages.proofs.writing.append_elements.Goals as goal
 
@@ -10,14 +10,14 @@ pub append_required-requires-clause-room : goal.append_required-requires-clause-
 append_required-requires-clause-room g c =
     let arm = c.in-HandoverRequired in
     let long = required_length arm.cause arm.response arm.cells in
-    let cells : length c.as_slice-in-HandoverRequired.result.now ≡ length arm.cells = ap length c.as_slice-in-HandoverRequired.ensures in
+    let cells : length c.as_slice.result.now ≡ length arm.cells = ap length c.as_slice.ensures in
     let room = rw arm.is at c.requires.room in
     omega arith
 
 pub returns-in-HandoverRequest : goal.returns-in-HandoverRequest
 returns-in-HandoverRequest g c =
     let arm = c.in-HandoverRequest in
-    rw arm.is (c.append_request.ensures ∙ (λ i. c.args.out.now.items ++ all_spelled interface_a ((0x0B, c.as_slice.ensures i) ∷ (0x0A, c.as_slice-in-HandoverRequest.ensures i) ∷ classmark_element arm.classmark ∷ (0x05, cell_value arm.serving) ∷ (0x05, cell_value arm.target) ∷ [])))
+    rw arm.is c.append_request.ensures
 
 pub returns-in-HandoverFailure : goal.returns-in-HandoverFailure
 returns-in-HandoverFailure g c =

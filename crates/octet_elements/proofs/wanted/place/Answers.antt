@@ -2,8 +2,8 @@ use Rattle.std.proofs.Common.{◌≡◌, ℕ, None, Some, get_or, sym, ◌∙◌
 use Rattle.std.specs.Option.{option_map}
 use Rattle.std.proofs.lemmas.List.{map-set}
 use borrow.Author.Count.{below_more}
-use Rattle.octet_elements.specs.Elements.{placed}
-use Rattle.octet_elements.proofs.Places.{Passes, shown, shown-get, same_length, shown_free, shown_taken, placed_here, placed_nowhere}
+use Rattle.octet_elements.specs.Elements.{with_value}
+use Rattle.octet_elements.proofs.Places.{Passes, shown, shown-get, same_length, shown_free, shown_taken, with_value_here, with_value_nowhere}
 use Rattle.octet_elements.proofs.wanted.place.Goals as goal
 use Rattle.octet_elements.proofs.wanted.place.Goals.{else-wanted-at-via-then-wanted-at+else-is_none, else-wanted-at-via-else-wanted-at}
 
@@ -14,8 +14,8 @@ returns-then-is_none c =
     let free = shown-get values at ∙ shown_free (get_or values at None) c.if-is_none.ensures in
     let long : length c.args.wanted.now ≡ length (shown values) = same_length c.args.wanted.now values c.args.values.now c.loop-at.invariant.0 c.requires in
     map-set (option_map (λ v. v.now)) values at (Some c.args.value)
-    ∙ sym (placed_here at c.args.wanted.now c.args.identifier c.args.value.now (shown values) (omega arith) long c.if-wanted-at.true free c.loop-at.invariant.1)
-    ∙ ap (λ vs. placed c.args.wanted.now c.args.identifier c.args.value.now (shown vs)) c.loop-at.invariant.0
+    ∙ sym (with_value_here at c.args.wanted.now c.args.identifier c.args.value.now (shown values) (omega arith) long c.if-wanted-at.true free c.loop-at.invariant.1)
+    ∙ ap (λ vs. with_value c.args.wanted.now c.args.identifier c.args.value.now (shown vs)) c.loop-at.invariant.0
 
 pub loop-at-preserved : goal.loop-at-preserved
 loop-at-preserved c =
@@ -32,5 +32,5 @@ pub returns : goal.returns
 returns c =
     let values = c.loop-at.values in
     let long : length c.args.wanted.now ≡ length (shown values) = same_length c.args.wanted.now values c.args.values.now c.loop-at.invariant.0 c.requires in
-    sym (placed_nowhere c.args.wanted.now c.args.identifier c.args.value.now (shown values) long (λ k lt. c.loop-at.invariant.1 k (omega arith)))
-    ∙ ap (λ vs. placed c.args.wanted.now c.args.identifier c.args.value.now (shown vs)) c.loop-at.invariant.0
+    sym (with_value_nowhere c.args.wanted.now c.args.identifier c.args.value.now (shown values) long (λ k lt. c.loop-at.invariant.1 k (omega arith)))
+    ∙ ap (λ vs. with_value c.args.wanted.now c.args.identifier c.args.value.now (shown vs)) c.loop-at.invariant.0
