@@ -7,7 +7,7 @@ use Rattle.std.specs.FinMap.{FinMap, IsAntisymmetric, nat_cmp-IsAntisymmetric}
 use Rattle.std.specs.FinMap as map
 use Rattle.channel_fsm.specs.declared.ChanId.{ChanId}
 use Rattle.radio_book.specs.declared.event.Reference.{Reference}
-use Rattle.radio_book.specs.Maps.{Entry, put, changed}
+use Rattle.radio_book.specs.Maps.{Entry, put, with_change}
 use Rattle.radio_book.specs.State.{State, Change, apply, or_free, state_of, record_of}
 use Rattle.radio_book.proofs.Frame.{Touches, get_untouched}
 use Rattle.radio_book.proofs.MapFacts.{put_put_other, put_put_same}
@@ -38,15 +38,15 @@ option_apart f None q misses = tt
 option_apart f (Some v) q misses = misses v refl
 
 module _ {K X : Type 0} {R : K → K → Ordering} (o : IsTotalOrder R) (exact : IsAntisymmetric R) where
-  changed_swap : (m : FinMap R X) (p q : Option (Entry K X)) → AreApart p q → changed (changed m p) q ≡ changed (changed m q) p
-  changed_swap m None q apart = refl
-  changed_swap m (Some e) None apart = refl
-  changed_swap m (Some e) (Some f) apart = put_put_other o exact m e.0 f.0 e.1 f.1 apart
+  with_change_swap : (m : FinMap R X) (p q : Option (Entry K X)) → AreApart p q → with_change (with_change m p) q ≡ with_change (with_change m q) p
+  with_change_swap m None q apart = refl
+  with_change_swap m (Some e) None apart = refl
+  with_change_swap m (Some e) (Some f) apart = put_put_other o exact m e.0 f.0 e.1 f.1 apart
 
-  changed_cover : (m : FinMap R X) (p q : Option (Entry K X)) → IsCovered p q → changed (changed m p) q ≡ changed m q
-  changed_cover m None q covered = refl
-  changed_cover m (Some e) None covered = absurd covered
-  changed_cover m (Some e) (Some f) covered = ap (λ k. put (put m k e.1) f.0 f.1) covered ∙ put_put_same o exact m f.0 e.1 f.1
+  with_change_cover : (m : FinMap R X) (p q : Option (Entry K X)) → IsCovered p q → with_change (with_change m p) q ≡ with_change m q
+  with_change_cover m None q covered = refl
+  with_change_cover m (Some e) None covered = absurd covered
+  with_change_cover m (Some e) (Some f) covered = ap (λ k. put (put m k e.1) f.0 f.1) covered ∙ put_put_same o exact m f.0 e.1 f.1
 
 -- two changes of a book, apart in each of its maps
 pub record ChangesApart (p q : Change) : Type 0 where
@@ -66,20 +66,20 @@ pub record ChangesCovered (p q : Change) : Type 0 where
 pub apply_swap : (p q : Change) (b : State) → ChangesApart p q → apply q (apply p b) ≡ apply p (apply q b)
 apply_swap p q b apart = λ i. record {
   site = b.site;
-  channels = changed_swap chan_total chan_exact b.channels p.channel q.channel apart.channel i;
-  calls = changed_swap nat_cmp_total nat_cmp-IsAntisymmetric b.calls p.call q.call apart.call i;
-  references = changed_swap reference_total reference_exact b.references p.reference q.reference apart.reference i;
-  timers = changed_swap nat_cmp_total nat_cmp-IsAntisymmetric b.timers p.timer q.timer apart.timer i;
+  channels = with_change_swap chan_total chan_exact b.channels p.channel q.channel apart.channel i;
+  calls = with_change_swap nat_cmp_total nat_cmp-IsAntisymmetric b.calls p.call q.call apart.call i;
+  references = with_change_swap reference_total reference_exact b.references p.reference q.reference apart.reference i;
+  timers = with_change_swap nat_cmp_total nat_cmp-IsAntisymmetric b.timers p.timer q.timer apart.timer i;
 }
 
 -- of two changes of the same entries the later one counts
 pub apply_cover : (p q : Change) (b : State) → ChangesCovered p q → apply q (apply p b) ≡ apply q b
 apply_cover p q b covered = λ i. record {
   site = b.site;
-  channels = changed_cover chan_total chan_exact b.channels p.channel q.channel covered.channel i;
-  calls = changed_cover nat_cmp_total nat_cmp-IsAntisymmetric b.calls p.call q.call covered.call i;
-  references = changed_cover reference_total reference_exact b.references p.reference q.reference covered.reference i;
-  timers = changed_cover nat_cmp_total nat_cmp-IsAntisymmetric b.timers p.timer q.timer covered.timer i;
+  channels = with_change_cover chan_total chan_exact b.channels p.channel q.channel covered.channel i;
+  calls = with_change_cover nat_cmp_total nat_cmp-IsAntisymmetric b.calls p.call q.call covered.call i;
+  references = with_change_cover reference_total reference_exact b.references p.reference q.reference covered.reference i;
+  timers = with_change_cover nat_cmp_total nat_cmp-IsAntisymmetric b.timers p.timer q.timer covered.timer i;
 }
 
 -- what a change misses reads as before

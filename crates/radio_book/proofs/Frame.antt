@@ -15,7 +15,7 @@ use Rattle.radio_book.specs.declared.event.Attempt.{Attempt}
 use Rattle.radio_book.specs.declared.event.CallRecord.{CallRecord}
 use Rattle.radio_book.specs.declared.event.Reference.{Reference}
 use Rattle.cell_table.specs.Site.{is_traffic}
-use Rattle.radio_book.specs.Maps.{Entry, put, changed}
+use Rattle.radio_book.specs.Maps.{Entry, put, with_change}
 use Rattle.radio_book.specs.State.{State, Change, apply, or_free, state_of, record_of}
 use Rattle.radio_book.specs.Table.{reference_at, reference_held}
 use Rattle.radio_book.specs.Sound.{IsSound, owner, Uses, target_in, reference_of, target_state, HasServing, HasReference}
@@ -40,14 +40,14 @@ AtKey None P = Unit {0}
 AtKey (Some e) P = P e.0 e.1
 
 module _ {K X : Type 0} {R : K → K → Ordering} (o : IsTotalOrder R) (exact : IsAntisymmetric R) where
-  pub get_untouched : (m : FinMap R X) (e : Option (Entry K X)) (q : K) → (Touches e q → ⊥) → map.get (changed m e) q ≡ map.get m q
+  pub get_untouched : (m : FinMap R X) (e : Option (Entry K X)) (q : K) → (Touches e q → ⊥) → map.get (with_change m e) q ≡ map.get m q
   get_untouched m None q other = refl
   get_untouched m (Some e) q other = get_put_other o exact m e.0 e.1 q other
 
   -- at a key that is changed stands what it gets, at another what stood there
-  pub get_changed : (m : FinMap R X) (e : Option (Entry K X)) (P : K → Option X → Type 0) (q : K) → AtKey e P → (P q (map.get (changed m e) q) × Touches e q) ⊎ ((Touches e q → ⊥) × (map.get (changed m e) q ≡ map.get m q))
-  get_changed m None P q p = inr (λ t. t, refl)
-  get_changed m (Some e) P q p = elim (key_cases o exact q e.0) [
+  pub get-with_change : (m : FinMap R X) (e : Option (Entry K X)) (P : K → Option X → Type 0) (q : K) → AtKey e P → (P q (map.get (with_change m e) q) × Touches e q) ⊎ ((Touches e q → ⊥) × (map.get (with_change m e) q ≡ map.get m q))
+  get-with_change m None P q p = inr (λ t. t, refl)
+  get-with_change m (Some e) P q p = elim (key_cases o exact q e.0) [
     | inl same ↦ inl (subst (λ k. P k (map.get (put m e.0 e.1) k)) (sym same) (subst (P e.0) (sym (get_put_same o m e.0 e.1)) p), same)
     | inr other ↦ inr (other, get_put_other o exact m e.0 e.1 q other)
   ]
@@ -193,19 +193,19 @@ module _ (b : State) (sound : IsSound b) (change : Change) (c : ℕ) (was is : O
   b' = apply change b
 
   other_call : (d : ℕ) → d ≢ c → record_of b' d ≡ record_of b d
-  other_call d other = elim (get_changed nat_cmp_total nat_cmp-IsAntisymmetric b.calls change.call (λ e v. e ≡ c) d concerns.call) [
+  other_call d other = elim (get-with_change nat_cmp_total nat_cmp-IsAntisymmetric b.calls change.call (λ e v. e ≡ c) d concerns.call) [
     | inl (same, t) ↦ absurd (other same)
     | inr (t, same) ↦ same
   ]
 
   other_channel : (d : ℕ) → d ≢ c → (x : ChanId) → owner (state_of b x) ≡ Some d → state_of b' x ≡ state_of b x
-  other_channel d other x owned = elim (get_changed chan_total chan_exact b.channels change.channel (λ x v. (d : ℕ) → owner (state_of b x) ≡ Some d → d ≡ c) x concerns.channel_was) [
+  other_channel d other x owned = elim (get-with_change chan_total chan_exact b.channels change.channel (λ x v. (d : ℕ) → owner (state_of b x) ≡ Some d → d ≡ c) x concerns.channel_was) [
     | inl (was, t) ↦ absurd (other (was d owned))
     | inr (t, same) ↦ ap or_free same
   ]
 
   other_reference : (d : ℕ) → d ≢ c → (k : Reference) → map.get b.references k ≡ Some d → map.get b'.references k ≡ Some d
-  other_reference d other k used = elim (get_changed reference_total reference_exact b.references change.reference (λ k v. (d : ℕ) → map.get b.references k ≡ Some d → d ≡ c) k concerns.reference_was) [
+  other_reference d other k used = elim (get-with_change reference_total reference_exact b.references change.reference (λ k v. (d : ℕ) → map.get b.references k ≡ Some d → d ≡ c) k concerns.reference_was) [
     | inl (was, t) ↦ absurd (other (was d used))
     | inr (t, same) ↦ same ∙ used
   ]
@@ -227,7 +227,7 @@ module _ (b : State) (sound : IsSound b) (change : Change) (c : ℕ) (was is : O
   referrer_of (Some r) e d same k has = (r, ap (record_of b') same ∙ e, has)
 
   named : (x : ChanId) (d : ℕ) → owner (state_of b' x) ≡ Some d → (r : CallRecord) × (record_of b' d ≡ Some r) × Uses r x
-  named x d owned = elim (get_changed chan_total chan_exact b.channels change.channel (λ x v. (d : ℕ) → owner (or_free v) ≡ Some d → (d ≡ c) × UsedBy is x) x concerns.channel_is) [
+  named x d owned = elim (get-with_change chan_total chan_exact b.channels change.channel (λ x v. (d : ℕ) → owner (or_free v) ≡ Some d → (d ≡ c) × UsedBy is x) x concerns.channel_is) [
     | inl (now, t) ↦ let n = now d owned in user_of is concerns.after d n.0 x n.1
     | inr (t, same) ↦ let n = sound.named x d (sym (ap (λ o. owner (or_free o)) same) ∙ owned) in elim (call_cases d c) [
       | inl at ↦ user_of is concerns.after d at x (concerns.channels x t (subst (λ o. UsedBy o x) (sym n.1 ∙ ap (record_of b) at ∙ concerns.before) n.2))
@@ -236,7 +236,7 @@ module _ (b : State) (sound : IsSound b) (change : Change) (c : ℕ) (was is : O
   ]
 
   in_use : (k : Reference) (d : ℕ) → map.get b'.references k ≡ Some d → (r : CallRecord) × (record_of b' d ≡ Some r) × (reference_of r.attempt ≡ Some k)
-  in_use k d used = elim (get_changed reference_total reference_exact b.references change.reference (λ k v. (d : ℕ) → v ≡ Some d → (d ≡ c) × ReferredBy is k) k concerns.reference_is) [
+  in_use k d used = elim (get-with_change reference_total reference_exact b.references change.reference (λ k v. (d : ℕ) → v ≡ Some d → (d ≡ c) × ReferredBy is k) k concerns.reference_is) [
     | inl (now, t) ↦ let n = now d used in referrer_of is concerns.after d n.0 k n.1
     | inr (t, same) ↦ let n = sound.in_use k d (sym same ∙ used) in elim (call_cases d c) [
       | inl at ↦ referrer_of is concerns.after d at k (concerns.references k t (subst (λ o. ReferredBy o k) (sym n.1 ∙ ap (record_of b) at ∙ concerns.before) n.2))
@@ -245,7 +245,7 @@ module _ (b : State) (sound : IsSound b) (change : Change) (c : ℕ) (was is : O
   ]
 
   entries : (x : ChanId) (s : ChanState) → map.get b'.channels x ≡ Some s → (is_traffic b.site x ≡ true) × (s ≢ Free)
-  entries x s e = elim (get_changed chan_total chan_exact b.channels change.channel (λ x v. (s : ChanState) → v ≡ Some s → (is_traffic b.site x ≡ true) × (s ≢ Free)) x concerns.entry) [
+  entries x s e = elim (get-with_change chan_total chan_exact b.channels change.channel (λ x v. (s : ChanState) → v ≡ Some s → (is_traffic b.site x ≡ true) × (s ≢ Free)) x concerns.entry) [
     | inl (now, t) ↦ now s e
     | inr (t, same) ↦ (sound.traffic x s (sym same ∙ e), sound.not_free x s (sym same ∙ e))
   ]

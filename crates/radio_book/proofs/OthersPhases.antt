@@ -16,7 +16,7 @@ use Rattle.radio_book.specs.declared.event.Event.TheVariants as event
 use Rattle.radio_book.specs.declared.event.Refusal.TheVariants.{ChannelBusy, RefBusy}
 use Rattle.radio_book.specs.declared.event.Reply.{Reply}
 use Rattle.radio_book.specs.declared.event.Reply.TheVariants.{Refused}
-use Rattle.radio_book.specs.Maps.{put, changed}
+use Rattle.radio_book.specs.Maps.{put, with_change}
 use Rattle.radio_book.specs.State.{State, apply, state_of, record_of}
 use Rattle.radio_book.specs.Table.{reference_held, reply_to, left_state}
 use Rattle.radio_book.specs.Sound.{IsSound, owner, target_in, reference_of, HasServing}
@@ -136,7 +136,7 @@ pub undone_is_gone : UndoneIsGone
 undone_is_gone c r a t b aims =
     let gone = apply (attempt_gone c r a (map.get b.timers c)) b in
     let channels =
-    ap (λ o. put (changed b.channels (option_map (λ y. (y, left_state (state_of b y))) o)) t None) aims
+    ap (λ o. put (with_change b.channels (option_map (λ y. (y, left_state (state_of b y))) o)) t None) aims
     ∙ put_put_same chan_total chan_exact b.channels t (left_state (state_of b t)) None
-    ∙ sym (ap (λ o. changed b.channels (option_map (λ y. (y, None)) o)) aims) in
+    ∙ sym (ap (λ o. with_change b.channels (option_map (λ y. (y, None)) o)) aims) in
     (λ i. record { site = b.site; channels = channels i; calls = gone.calls; references = gone.references; timers = gone.timers })

@@ -11,30 +11,30 @@ use Rattle.radio_book.specs.declared.event.Event.TheVariants as event
 use Rattle.radio_book.specs.declared.event.Refusal.TheVariants.{Unexpected}
 use Rattle.radio_book.specs.declared.event.Reply.TheVariants.{Owned}
 use Rattle.radio_book.specs.State.{State, Change, apply, state_of, record_of}
-use Rattle.radio_book.specs.Table.{Accepts, becomes, is_recorded, at_stage, is_target, attempt_moved, moved, confirm_row, refuse_row, released_row}
+use Rattle.radio_book.specs.Table.{Accepts, becomes, with_record, at_stage, is_target, attempt_entry, moved_entry, confirm_row, refuse_row, released_row}
 use Rattle.radio_book.proofs.Changes.{Misses, AreApart, state_kept, record_kept}
 use Rattle.radio_book.proofs.Agreement.{Agrees, refused, as_read, AgreesWithOthers}
 
 module _ (gone : Change) (c : ℕ) (other : Misses gone.call c) (x : ChanId) (s : Stage) where
-  recorded_apart : (aimed : Bool) (r : CallRecord) → AreApart (if aimed then is_recorded c r else None) gone.call
-  recorded_apart true r = other
-  recorded_apart false r = tt
+  with_record_apart : (aimed : Bool) (r : CallRecord) → AreApart (if aimed then with_record c r else None) gone.call
+  with_record_apart true r = other
+  with_record_apart false r = tt
 
-  attempt_moved_apart : (r : CallRecord) (o : Option Attempt) → AreApart (attempt_moved x s c r o) gone.call
-  attempt_moved_apart r None = tt
-  attempt_moved_apart r (Some a) = recorded_apart (is_target x a.target) (at_stage r a s)
+  attempt_entry_apart : (r : CallRecord) (o : Option Attempt) → AreApart (attempt_entry x s c r o) gone.call
+  attempt_entry_apart r None = tt
+  attempt_entry_apart r (Some a) = with_record_apart (is_target x a.target) (at_stage r a s)
 
-  moved_apart : (o : Option CallRecord) → AreApart (moved x s c o) gone.call
-  moved_apart None = tt
-  moved_apart (Some r) = attempt_moved_apart r r.attempt
+  moved_entry_apart : (o : Option CallRecord) → AreApart (moved_entry x s c o) gone.call
+  moved_entry_apart None = tt
+  moved_entry_apart (Some r) = attempt_entry_apart r r.attempt
 
   -- the station's answer on a channel of another call
   answer_agrees : (b : State) (state : ChanState) → Misses gone.channel x →
-      Agrees gone (Accepts (record { channel = becomes x state; call = moved x s c (record_of b c); reference = None; timer = None }) (Owned c))
-      (Accepts (record { channel = becomes x state; call = moved x s c (record_of (apply gone b) c); reference = None; timer = None }) (Owned c))
+      Agrees gone (Accepts (record { channel = becomes x state; call = moved_entry x s c (record_of b c); reference = None; timer = None }) (Owned c))
+      (Accepts (record { channel = becomes x state; call = moved_entry x s c (record_of (apply gone b) c); reference = None; timer = None }) (Owned c))
   answer_agrees b state missed = record {
-    same = ap (λ o. Accepts (record { channel = becomes x state; call = moved x s c o; reference = None; timer = None }) (Owned c)) (record_kept gone b c other);
-    away = record { channel = missed; call = moved_apart (record_of b c); reference = tt; timer = tt };
+    same = ap (λ o. Accepts (record { channel = becomes x state; call = moved_entry x s c o; reference = None; timer = None }) (Owned c)) (record_kept gone b c other);
+    away = record { channel = missed; call = moved_entry_apart (record_of b c); reference = tt; timer = tt };
   }
 
 pub confirm_agrees : (y : ChanId) → AgreesWithOthers (event.Confirm y)

@@ -28,7 +28,7 @@ use Rattle.cell_table.specs.Site.{SiteView, is_traffic}
 use Rattle.radio_book.specs.Keys.{chan_cmp, reference_cmp}
 use Rattle.radio_book.specs.Maps.{Entry, put}
 use Rattle.radio_book.specs.State.{State, Change, apply, or_free, state_of, record_of, empty_book}
-use Rattle.radio_book.specs.Table.{step, after, becomes, is_freed, is_recorded, open_row, cleared_state, clear_row, clear_at, look_row, moved, confirm_row, refuse_row, released_row, takes, take_from, take_incoming, take_internal, take_row, reference_at, reference_held, reserve_number, reserve_at, reserve_by, reserve_row, activate_at, activate_by, activate_row, left_state, resting_record, undone, undo_attempt, undo_row}
+use Rattle.radio_book.specs.Table.{step, after, becomes, without_state, with_record, open_row, cleared_state, clear_row, clear_at, look_row, moved_entry, confirm_row, refuse_row, released_row, takes, take_from, take_incoming, take_internal, take_row, reference_at, reference_held, reserve_number, reserve_at, reserve_by, reserve_row, activate_at, activate_by, activate_row, left_state, resting_record, undo_change, undo_attempt, undo_row}
 use Rattle.radio_book.specs.Sound.{IsSound, owner, Uses, target_state, HasServing, HasReference}
 use Rattle.radio_book.specs.Run.{run_book, RunsAreSound}
 use Rattle.radio_book.proofs.KeyFacts.{same_chan_itself}
@@ -66,8 +66,8 @@ rests x = record { serving = Some x; attempt = None }
 
 -- Open
 
-opened : (b : State) → IsSound b → (c : ℕ) (x : ChanId) → record_of b c ≡ None → is_traffic b.site x ≡ true → state_of b x ≡ Free → IsSound (apply (changes (becomes x (Pending c)) (is_recorded c (rests x)) None) b)
-opened b sound c x new traffic free = concerned_sound b sound (changes (becomes x (Pending c)) (is_recorded c (rests x)) None) c None (Some (rests x)) (record {
+opened : (b : State) → IsSound b → (c : ℕ) (x : ChanId) → record_of b c ≡ None → is_traffic b.site x ≡ true → state_of b x ≡ Free → IsSound (apply (changes (becomes x (Pending c)) (with_record c (rests x)) None) b)
+opened b sound c x new traffic free = concerned_sound b sound (changes (becomes x (Pending c)) (with_record c (rests x)) None) c None (Some (rests x)) (record {
   before = new;
   after = record_same b.calls c (Some (rests x));
   call = refl;
@@ -154,11 +154,11 @@ serving_apart c t look seen same Internal (Some x) apart h = same x (λ e. apart
 serving_apart c t look seen same Incoming s apart h = h
 
 staged : (b : State) → IsSound b → (c : ℕ) (s : Option ChanId) (k : AttemptKind) (g : Stage) (t : ChanId) (n : Option ℕ) → record_of b c ≡ Some (attempting s k g t n) → (h : Stage) → HasReference h n →
-    IsSound (apply (changes (becomes t (target_state c h)) (is_recorded c (attempting s k h t n)) None) b)
+    IsSound (apply (changes (becomes t (target_state c h)) (with_record c (attempting s k h t n)) None) b)
 staged b sound c s k g t n e h reserved =
     let has = attempt_of _ _ c s k g t n (call_of b sound c _ e) in
     let owned : owner (state_of b t) ≡ Some c = ap owner has.state ∙ is_owned c g in
-    concerned_sound b sound (changes (becomes t (target_state c h)) (is_recorded c (attempting s k h t n)) None) c (Some (attempting s k g t n)) (Some (attempting s k h t n)) (record {
+    concerned_sound b sound (changes (becomes t (target_state c h)) (with_record c (attempting s k h t n)) None) c (Some (attempting s k g t n)) (Some (attempting s k h t n)) (record {
       before = e;
       after = record_same b.calls c (Some (attempting s k h t n));
       call = refl;
@@ -182,7 +182,7 @@ staged b sound c s k g t n e h reserved =
 -- Confirm and Refuse: a station answers an activation, and the channel is in the state of this stage
 
 abbrev answers : ChanId → Stage → ℕ → Option CallRecord → Change
-answers x g c o = changes (becomes x (target_state c g)) (moved x g c o) None
+answers x g c o = changes (becomes x (target_state c g)) (moved_entry x g c o) None
 
 -- the channel is the serving one of a call without an attempt
 serving_answered : (b : State) → IsSound b → (c : ℕ) (x : ChanId) (g : Stage) → record_of b c ≡ Some (rests x) →
@@ -223,7 +223,7 @@ target_answered : (b : State) → IsSound b → (c : ℕ) (x : ChanId) (g : Stag
 target_answered b sound c x g reserved p s k h n e =
     let has = attempt_of _ _ c s k h x n (call_of b sound c _ e) in
     let change = λ (v : Option (Entry ℕ CallRecord)). changes (becomes x (target_state c g)) v None in
-    subst (λ q. IsSound (apply (change (if q then is_recorded c (attempting s k g x n) else None)) b)) (sym (same_chan_itself x))
+    subst (λ q. IsSound (apply (change (if q then with_record c (attempting s k g x n) else None)) b)) (sym (same_chan_itself x))
     (staged b sound c s k h x n e g (reserved n (pending_reserved c h n (sym has.state ∙ p) has.reserved)))
 
 answer_sound : (b : State) → IsSound b → (c : ℕ) (x : ChanId) (g : Stage) → ((n : Option ℕ) → IsSome n → HasReference g n) → state_of b x ≡ Pending c →
@@ -262,8 +262,8 @@ sound_refuse b sound x = refuse_sound b sound x (state_of b x) refl
 
 -- Released: the channel is nobody's
 
-released : (b : State) → IsSound b → (x : ChanId) → state_of b x ≡ Off → IsSound (apply (changes (is_freed x) None None) b)
-released b sound x off = concerned_sound b sound (changes (is_freed x) None None) 0 (record_of b 0) (record_of b 0) (record {
+released : (b : State) → IsSound b → (x : ChanId) → state_of b x ≡ Off → IsSound (apply (changes (without_state x) None None) b)
+released b sound x off = concerned_sound b sound (changes (without_state x) None None) 0 (record_of b 0) (record_of b 0) (record {
   before = refl;
   after = refl;
   call = tt;
@@ -281,7 +281,7 @@ released b sound x off = concerned_sound b sound (changes (is_freed x) None None
     unowned : (d : ℕ) → owner (state_of b x) ≡ Some d → ⊥
     unowned d h = let bad : None ≡ Some d = sym (ap owner off) ∙ h in cc
 
-    stays : (o : Option CallRecord) → record_of b 0 ≡ o → SoundIfAny (state_of (apply (changes (is_freed x) None None) b)) (map.get b.references) 0 o
+    stays : (o : Option CallRecord) → record_of b 0 ≡ o → SoundIfAny (state_of (apply (changes (without_state x) None None) b)) (map.get b.references) 0 o
     stays None e = tt
     stays (Some r) e = call_stays (state_of b) _ (map.get b.references) _ 0 r (λ y owned. state_other b.channels x None y (λ same. unowned 0 (ap (λ z. owner (state_of b z)) (sym same) ∙ owned))) (λ k h. h) (call_of b sound 0 r e)
 
@@ -362,10 +362,10 @@ sound_take b sound c k x = take_sound b sound c k x (record_of b c) refl
 -- Reserve: an attempt gets a reference that was nobody's
 
 reserved : (b : State) → IsSound b → (c : ℕ) (s : Option ChanId) (k : AttemptKind) (t : ChanId) (n : Option ℕ) (m : ℕ) → record_of b c ≡ Some (attempting s k Taken t n) → map.get b.references (reference_at t m) ≡ None →
-    IsSound (apply (changes None (is_recorded c (attempting s k Reserved t (Some m))) (Some (reference_at t m, Some c))) b)
+    IsSound (apply (changes None (with_record c (attempting s k Reserved t (Some m))) (Some (reference_at t m, Some c))) b)
 reserved b sound c s k t n m e unused =
     let has = attempt_of _ _ c s k Taken t n (call_of b sound c _ e) in
-    concerned_sound b sound (changes None (is_recorded c (attempting s k Reserved t (Some m))) (Some (reference_at t m, Some c))) c (Some (attempting s k Taken t n)) (Some (attempting s k Reserved t (Some m))) (record {
+    concerned_sound b sound (changes None (with_record c (attempting s k Reserved t (Some m))) (Some (reference_at t m, Some c))) c (Some (attempting s k Taken t n)) (Some (attempting s k Reserved t (Some m))) (record {
       before = e;
       after = record_same b.calls c (Some (attempting s k Reserved t (Some m)));
       call = refl;
@@ -470,12 +470,12 @@ rest_sound c Internal None t g n look user during = absurd during
 rest_sound c Internal (Some x) t g n look user during = resting_call look user c x (ap owner during)
 rest_sound c Incoming s t g n look user during = tt
 
-undone_sound : (b : State) → IsSound b → (c : ℕ) (s : Option ChanId) (k : AttemptKind) (g : Stage) (t : ChanId) (n : Option ℕ) → record_of b c ≡ Some (attempting s k g t n) →
-    IsSound (apply (undone c (attempting s k g t n) (record { kind = k; stage = g; target = Some t; reference = n }) (state_of b) None) b)
-undone_sound b sound c s k g t n e =
+undo_change_sound : (b : State) → IsSound b → (c : ℕ) (s : Option ChanId) (k : AttemptKind) (g : Stage) (t : ChanId) (n : Option ℕ) → record_of b c ≡ Some (attempting s k g t n) →
+    IsSound (apply (undo_change c (attempting s k g t n) (record { kind = k; stage = g; target = Some t; reference = n }) (state_of b) None) b)
+undo_change_sound b sound c s k g t n e =
     let has = attempt_of _ _ c s k g t n (call_of b sound c _ e) in
     let owned : owner (state_of b t) ≡ Some c = ap owner has.state ∙ is_owned c g in
-    concerned_sound b sound (undone c (attempting s k g t n) (record { kind = k; stage = g; target = Some t; reference = n }) (state_of b) None) c (Some (attempting s k g t n)) (resting_record k (attempting s k g t n)) (record {
+    concerned_sound b sound (undo_change c (attempting s k g t n) (record { kind = k; stage = g; target = Some t; reference = n }) (state_of b) None) c (Some (attempting s k g t n)) (resting_record k (attempting s k g t n)) (record {
       before = e;
       after = record_same b.calls c (resting_record k (attempting s k g t n));
       call = refl;
@@ -496,7 +496,7 @@ undo_sound b sound c refusal s (Some a) e = targeted a.target e
   where
     targeted : (o : Option ChanId) → record_of b c ≡ Some (record { serving = s; attempt = Some (record a { target = o }) }) → IsSound (after (undo_attempt c refusal (record { serving = s; attempt = Some (record a { target = o }) }) (Some (record a { target = o })) (state_of b) None) b)
     targeted None h = let bad = sound.has_target c _ (record a { target = None }) h refl in cc
-    targeted (Some t) h = undone_sound b sound c s a.kind a.stage t a.reference h
+    targeted (Some t) h = undo_change_sound b sound c s a.kind a.stage t a.reference h
 
 undo_row_sound : (b : State) → IsSound b → (c : ℕ) (why : Why) (o : Option CallRecord) (armed : Option Timer) → record_of b c ≡ o → armed ≡ None → IsSound (after (undo_row c why o (state_of b) armed) b)
 undo_row_sound b sound c why None armed e unarmed = sound

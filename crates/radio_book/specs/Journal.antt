@@ -16,7 +16,7 @@ use Rattle.radio_book.specs.declared.journal.Inverse.{Inverse}
 use Rattle.radio_book.specs.declared.journal.Inverse.TheVariants.{FreeChannel, Settle, Forget, DropReference, SwitchOff}
 use Rattle.radio_book.specs.Maps.{Entry}
 use Rattle.radio_book.specs.State.{State, Change, apply, state_of, record_of}
-use Rattle.radio_book.specs.Table.{no_change, undone, reference_held}
+use Rattle.radio_book.specs.Table.{no_change, undo_change, reference_held}
 use Rattle.radio_book.specs.Sound.{IsSound}
 
 -- the inverse of the opening
@@ -88,4 +88,4 @@ run_back c (j ∷ js) b = run_inverse c j (run_back c js b)
 abbrev pub InversesUndo : Type 0
 InversesUndo =
     (c : ℕ) (r : CallRecord) (a : Attempt) (b : State) → IsSound b → record_of b c ≡ Some r → r.attempt ≡ Some a →
-    run_back c (journal_of r.attempt) b ≡ apply (undone c r a (state_of b) (map.get b.timers c)) b
+    run_back c (journal_of r.attempt) b ≡ apply (undo_change c r a (state_of b) (map.get b.timers c)) b

@@ -13,9 +13,9 @@ put m k None = map.remove m k
 put m k (Some v) = map.insert m k v
 
 -- the map after a change of at most one entry
-abbrev pub changed : {K X : Type 0} {R : K → K → Ordering} → map.FinMap R X → Option (Entry K X) → map.FinMap R X
-changed m None = m
-changed m (Some e) = put m e.0 e.1
+abbrev pub with_change : {K X : Type 0} {R : K → K → Ordering} → map.FinMap R X → Option (Entry K X) → map.FinMap R X
+with_change m None = m
+with_change m (Some e) = put m e.0 e.1
 
 -- the change puts a key that the map doesn't have
 abbrev pub AddsKey : {K X : Type 0} {R : K → K → Ordering} → map.FinMap R X → Option (Entry K X) → Type 0

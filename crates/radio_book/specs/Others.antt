@@ -15,7 +15,7 @@ use Rattle.radio_book.specs.declared.event.Reply.TheVariants.{Refused}
 use Rattle.radio_book.specs.declared.event.Timer.{Timer}
 use Rattle.radio_book.specs.State.{State, Change, apply, state_of, record_of}
 use Rattle.radio_book.specs.Sound.{IsSound}
-use Rattle.radio_book.specs.Table.{step, reply_to, undone, reference_held, no_change}
+use Rattle.radio_book.specs.Table.{step, reply_to, undo_change, reference_held, no_change}
 
 -- a station's event is on the channel that it names
 abbrev pub IsOn : ChanId → Event → Type 0
@@ -45,7 +45,7 @@ IsHeldReference (Some k) reply = reply ≡ Refused (RefBusy k.cell k.number)
 
 -- all that an open attempt has is gone: what its undo takes away, and its channel, whatever its state
 abbrev pub attempt_gone : ℕ → CallRecord → Attempt → Option Timer → Change
-attempt_gone c r a armed = record (undone c r a (λ x. Free) armed) { channel = option_map (λ t. (t, None)) a.target }
+attempt_gone c r a armed = record (undo_change c r a (λ x. Free) armed) { channel = option_map (λ t. (t, None)) a.target }
 
 -- a channel whose release is awaited is gone
 abbrev pub channel_gone : ChanId → Change
@@ -80,4 +80,4 @@ pub record CommutesWithUndone (e : Event) : Type 0 where
 abbrev pub UndoneIsGone : Type 0
 UndoneIsGone =
     (c : ℕ) (r : CallRecord) (a : Attempt) (t : ChanId) (b : State) → a.target ≡ Some t →
-    apply (channel_gone t) (apply (undone c r a (state_of b) (map.get b.timers c)) b) ≡ apply (attempt_gone c r a (map.get b.timers c)) b
+    apply (channel_gone t) (apply (undo_change c r a (state_of b) (map.get b.timers c)) b) ≡ apply (attempt_gone c r a (map.get b.timers c)) b

@@ -15,7 +15,7 @@ use Rattle.radio_book.specs.contracts.event.CallRecord.{the_row as record_row}
 use Rattle.radio_book.specs.contracts.event.Timer.{the_row as timer_row}
 use Rattle.cell_table.specs.Site.{SiteView}
 use Rattle.radio_book.specs.Keys.{chan_cmp, reference_cmp, coded_chan, coded_reference}
-use Rattle.radio_book.specs.Maps.{Entry, changed}
+use Rattle.radio_book.specs.Maps.{Entry, with_change}
 
 pub record State : Type 0 where
   pub site : SiteView
@@ -66,8 +66,8 @@ pub record Change : Type 0 where
 abbrev pub apply : Change → State → State
 apply ch b = record {
   site = b.site;
-  channels = changed b.channels ch.channel;
-  calls = changed b.calls ch.call;
-  references = changed b.references ch.reference;
-  timers = changed b.timers ch.timer;
+  channels = with_change b.channels ch.channel;
+  calls = with_change b.calls ch.call;
+  references = with_change b.references ch.reference;
+  timers = with_change b.timers ch.timer;
 }

@@ -46,11 +46,11 @@ no_change = record { channel = None; call = None; reference = None; timer = None
 abbrev pub becomes : ChanId → ChanState → Option (Entry ChanId ChanState)
 becomes x s = Some (x, Some s)
 
-abbrev pub is_freed : ChanId → Option (Entry ChanId ChanState)
-is_freed x = Some (x, None)
+abbrev pub without_state : ChanId → Option (Entry ChanId ChanState)
+without_state x = Some (x, None)
 
-abbrev pub is_recorded : ℕ → CallRecord → Option (Entry ℕ CallRecord)
-is_recorded c r = Some (c, Some r)
+abbrev pub with_record : ℕ → CallRecord → Option (Entry ℕ CallRecord)
+with_record c r = Some (c, Some r)
 
 abbrev pub with_attempt : CallRecord → Attempt → CallRecord
 with_attempt r a = record r { attempt = Some a }
@@ -60,15 +60,15 @@ abbrev pub at_stage : CallRecord → Attempt → Stage → CallRecord
 at_stage r a s = with_attempt r (record a { stage = s })
 
 -- the record, and the state of its serving channel
-abbrev pub shown : CallRecord → (ChanId → ChanState) → Reply
-shown r look = Record r (option_map look r.serving)
+abbrev pub record_reply : CallRecord → (ChanId → ChanState) → Reply
+record_reply r look = Record r (option_map look r.serving)
 
 -- Open: a call begins on a free channel, whose CHANNEL ACTIVATION is sent (TS 48.058 clause 8.4.1)
 abbrev pub open_row : ℕ → ChanId → Option CallRecord → Bool → ChanState → Outcome
 open_row c x (Some r) traffic state = Refuses CallExists
 open_row c x None false state = Refuses NoChannel
 open_row c x None true Free =
-    Accepts (record no_change { channel = becomes x (Pending c); call = is_recorded c (record { serving = Some x; attempt = None }) }) Done
+    Accepts (record no_change { channel = becomes x (Pending c); call = with_record c (record { serving = Some x; attempt = None }) }) Done
 open_row c x None true busy = Refuses (ChannelBusy x)
 
 -- what the end of a call leaves of its serving channel: a held one is free, to the others RF CHANNEL RELEASE is sent
@@ -90,14 +90,14 @@ clear_row c (Some r) look = clear_at c r r.attempt look
 -- Look: what the book has of a call
 abbrev pub look_row : Option CallRecord → (ChanId → ChanState) → Outcome
 look_row None look = Refuses NoCall
-look_row (Some r) look = Accepts no_change (shown r look)
+look_row (Some r) look = Accepts no_change (record_reply r look)
 
 abbrev pub taken_attempt : AttemptKind → ChanId → Attempt
 taken_attempt k x = record { kind = k; stage = stage.Taken; target = Some x; reference = None }
 
 -- the channel is held by the call, whose record is this from now on
 abbrev pub takes : ℕ → ChanId → CallRecord → Change
-takes c x r = record no_change { channel = becomes x (Held c); call = is_recorded c r }
+takes c x r = record no_change { channel = becomes x (Held c); call = with_record c r }
 
 -- an attempt of a call of this controller (TS 44.018 clause 3.4.4): by the state of the serving channel, whether the
 -- wanted one is a traffic channel, whether it lies in the same cell, and its state
@@ -137,7 +137,7 @@ reserved_record r a n = with_attempt r (record a { stage = stage.Reserved; refer
 abbrev pub reserve_number : ℕ → ℕ → CallRecord → Attempt → ChanId → Option ℕ → Outcome
 reserve_number c n r a t (Some d) = Refuses (RefBusy t.cell n)
 reserve_number c n r a t None =
-    Accepts (record no_change { call = is_recorded c (reserved_record r a n); reference = Some (reference_at t n, Some c) }) Done
+    Accepts (record no_change { call = with_record c (reserved_record r a n); reference = Some (reference_at t n, Some c) }) Done
 
 abbrev pub reserve_at : ℕ → ℕ → CallRecord → Attempt → Stage → Option ChanId → (Reference → Option ℕ) → Outcome
 reserve_at c n r a stage.Taken (Some t) user = reserve_number c n r a t (user (reference_at t n))
@@ -154,7 +154,7 @@ reserve_row c n (Some r) user = reserve_by c n r r.attempt user
 
 abbrev pub activate_at : ℕ → CallRecord → Attempt → Stage → Option ChanId → Outcome
 activate_at c r a stage.Reserved (Some t) =
-    Accepts (record no_change { channel = becomes t (Pending c); call = is_recorded c (at_stage r a stage.Sent) }) Done
+    Accepts (record no_change { channel = becomes t (Pending c); call = with_record c (at_stage r a stage.Sent) }) Done
 activate_at c r a s target = Refuses WrongPhase
 
 abbrev pub activate_by : ℕ → CallRecord → Option Attempt → Outcome
@@ -184,8 +184,8 @@ reference_held (Some t) (Some n) = Some (reference_at t n)
 reference_held target number = None
 
 -- the attempt is gone: nothing of it is left but a target whose release is awaited
-abbrev pub undone : ℕ → CallRecord → Attempt → (ChanId → ChanState) → Option Timer → Change
-undone c r a look armed = record {
+abbrev pub undo_change : ℕ → CallRecord → Attempt → (ChanId → ChanState) → Option Timer → Change
+undo_change c r a look armed = record {
   channel = option_map (λ t. (t, left_state (look t))) a.target;
   call = Some (c, resting_record a.kind r);
   reference = option_map (λ k. (k, None)) (reference_held a.target a.reference);
@@ -194,7 +194,7 @@ undone c r a look armed = record {
 
 abbrev pub undo_attempt : ℕ → Refusal → CallRecord → Option Attempt → (ChanId → ChanState) → Option Timer → Outcome
 undo_attempt c refusal r None look armed = Refuses refusal
-undo_attempt c refusal r (Some a) look armed = Accepts (undone c r a look armed) (shown r look)
+undo_attempt c refusal r (Some a) look armed = Accepts (undo_change c r a look armed) (record_reply r look)
 
 abbrev pub is_same_timer : Timer → Timer → Bool
 is_same_timer T3103 T3103 = true
@@ -220,30 +220,30 @@ abbrev pub is_target : ChanId → Option ChanId → Bool
 is_target x None = false
 is_target x (Some t) = same_chan t x
 
-abbrev pub attempt_moved : ChanId → Stage → ℕ → CallRecord → Option Attempt → Option (Entry ℕ CallRecord)
-attempt_moved x s c r None = None
-attempt_moved x s c r (Some a) = if is_target x a.target then is_recorded c (at_stage r a s) else None
+abbrev pub attempt_entry : ChanId → Stage → ℕ → CallRecord → Option Attempt → Option (Entry ℕ CallRecord)
+attempt_entry x s c r None = None
+attempt_entry x s c r (Some a) = if is_target x a.target then with_record c (at_stage r a s) else None
 
 -- the call's attempt comes to a stage where the channel is its target
-abbrev pub moved : ChanId → Stage → ℕ → Option CallRecord → Option (Entry ℕ CallRecord)
-moved x s c None = None
-moved x s c (Some r) = attempt_moved x s c r r.attempt
+abbrev pub moved_entry : ChanId → Stage → ℕ → Option CallRecord → Option (Entry ℕ CallRecord)
+moved_entry x s c None = None
+moved_entry x s c (Some r) = attempt_entry x s c r r.attempt
 
 -- Confirm: a station activated a channel, by CHANNEL ACTIVATION ACKNOWLEDGE (TS 48.058 clause 8.4.2)
 abbrev pub confirm_row : ChanId → ChanState → (ℕ → Option CallRecord) → Outcome
 confirm_row x (Pending c) find =
-    Accepts (record no_change { channel = becomes x (On c); call = moved x stage.Confirmed c (find c) }) (Owned c)
+    Accepts (record no_change { channel = becomes x (On c); call = moved_entry x stage.Confirmed c (find c) }) (Owned c)
 confirm_row x s find = Refuses (Unexpected x)
 
 -- Refuse: a station refused to activate a channel, by CHANNEL ACTIVATION NEGATIVE ACKNOWLEDGE (TS 48.058 clause 8.4.3)
 abbrev pub refuse_row : ChanId → ChanState → (ℕ → Option CallRecord) → Outcome
 refuse_row x (Pending c) find =
-    Accepts (record no_change { channel = becomes x (Held c); call = moved x stage.Refused c (find c) }) (Owned c)
+    Accepts (record no_change { channel = becomes x (Held c); call = moved_entry x stage.Refused c (find c) }) (Owned c)
 refuse_row x s find = Refuses (Unexpected x)
 
 -- Released: a station released a channel, by RF CHANNEL RELEASE ACKNOWLEDGE (TS 48.058 clause 8.4.19)
 abbrev pub released_row : ChanId → ChanState → Outcome
-released_row x Off = Accepts (record no_change { channel = is_freed x }) Done
+released_row x Off = Accepts (record no_change { channel = without_state x }) Done
 released_row x s = Refuses (Unexpected x)
 
 -- the row of each event
@@ -281,3 +281,10 @@ NeedsRoom b (Refuses refusal) = ⊥
 NeedsRoom b (Accepts change reply) =
     AddsKey b.channels change.channel ⊎ AddsKey b.calls change.call ⊎
     AddsKey b.references change.reference ⊎ AddsKey b.timers change.timer
+
+-- the kinds of event that may put a key: they begin a call or an attempt, or reserve a reference
+abbrev pub MayNeedRoom : Event → Type 0
+MayNeedRoom (event.Open c x) = Unit {0}
+MayNeedRoom (event.Take c k x) = Unit {0}
+MayNeedRoom (event.Reserve c n) = Unit {0}
+MayNeedRoom e = ⊥

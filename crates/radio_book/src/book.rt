@@ -4,7 +4,7 @@ ghost use Rattle.std.specs.FinMap as map;
 ghost use Rattle.radio_book.specs.State.{empty_book};
 ghost use Rattle.radio_book.specs.Sound.{IsSound};
 ghost use Rattle.radio_book.specs.declared.event.Event.{Event};
-ghost use Rattle.radio_book.specs.Table.{step, reply_to, row, NeedsRoom};
+ghost use Rattle.radio_book.specs.Table.{step, reply_to, row, NeedsRoom, MayNeedRoom};
 ghost use Rattle.radio_book.specs.Choice.{NoneFree, TakesFree, ReservesFree, free_count};
 
 use crate::event::{Event, Kind, Reply};
@@ -84,12 +84,14 @@ impl<A: Allocator + Copy> Book<A> {
     /// changes nothing.
     ///
     /// Memory is wanted only by an event that is accepted and brings a channel, a call or a reference
-    /// that the book doesn't have; where it isn't given, the book is as it was.
+    /// that the book doesn't have, so by none but `Open`, `Take` and `Reserve`; where it isn't given, the
+    /// book is as it was.
     pub fn step(&mut self, event: Event) -> Result<Reply, AllocError>
         ensures reply { IfOk result (λ reply. reply ≡ reply_to self.old event) }
         ensures book { OnOk result (self.new ≡ step self.old event) }
         ensures unchanged { OnErr result (self.new ≡ self.old) }
         ensures memory { OnErr result (NeedsRoom self.old (row self.old event)) }
+        ensures kinds { OnErr result (MayNeedRoom event) }
     {
         self.records.step(event)
     }
@@ -105,11 +107,15 @@ impl<A: Allocator + Copy> Book<A> {
     ) -> Result<Option<(Event, Reply)>, AllocError>
         ensures none { result ≡ Ok None ↔ NoneFree self.old cell }
         ensures kept { result ≡ Ok None → self.new ≡ self.old }
-        ensures event { IfOk result (λ chosen. IfSome chosen (λ taken. TakesFree self.old call kind cell taken.0)) }
-        ensures reply { IfOk result (λ chosen. IfSome chosen (λ taken. taken.1 ≡ reply_to self.old taken.0)) }
-        ensures book { IfOk result (λ chosen. IfSome chosen (λ taken. self.new ≡ step self.old taken.0)) }
+        ensures event { IfOk result (λ chosen. IfSome chosen
+            (λ taken. TakesFree self.old call kind cell taken.0)) }
+        ensures reply { IfOk result (λ chosen. IfSome chosen
+            (λ taken. taken.1 ≡ reply_to self.old taken.0)) }
+        ensures book { IfOk result (λ chosen. IfSome chosen
+            (λ taken. self.new ≡ step self.old taken.0)) }
         ensures unchanged { OnErr result (self.new ≡ self.old) }
-        ensures memory { OnErr result ((e : Event) × TakesFree self.old call kind cell e × NeedsRoom self.old (row self.old e)) }
+        ensures memory { OnErr result ((e : Event) × TakesFree self.old call kind cell e ×
+            NeedsRoom self.old (row self.old e)) }
     {
         let Some(x) = self.records.choose_channel(cell) else {
             return Ok(None);
@@ -128,7 +134,8 @@ impl<A: Allocator + Copy> Book<A> {
         ensures reply { IfOk result (λ chosen. chosen.1 ≡ reply_to self.old chosen.0) }
         ensures book { IfOk result (λ chosen. self.new ≡ step self.old chosen.0) }
         ensures unchanged { OnErr result (self.new ≡ self.old) }
-        ensures memory { OnErr result ((e : Event) × ReservesFree self.old call e × NeedsRoom self.old (row self.old e)) }
+        ensures memory { OnErr result ((e : Event) × ReservesFree self.old call e ×
+            NeedsRoom self.old (row self.old e)) }
     {
         let number = self.records.choose_number(call);
         let event = Event::Reserve(call, number);

@@ -99,7 +99,8 @@ impl CallEntry {
         requires attempt { self.old.attempt ≡ Some attempt }
         requires stage { attempt.stage ≡ stage.Taken }
         requires target { IsSome attempt.target }
-        ensures { self.new ≡ with_attempt self.old (record attempt { stage = stage.Reserved; reference = Some number }) }
+        ensures { self.new ≡ with_attempt self.old
+            (record attempt { stage = stage.Reserved; reference = Some number }) }
     {
         self.journal.push(Inverse::DropReference(number));
         self.record.attempt = Some(Attempt {
@@ -126,7 +127,8 @@ impl CallEntry {
     /// The attempt comes to a stage that has the same inverses.
     pub fn move_to(&mut self, attempt: Attempt, stage: Stage)
         requires attempt { self.old.attempt ≡ Some attempt }
-        requires inverses { journal_of (Some (record attempt { stage = stage })) ≡ journal_of (Some attempt) }
+        requires inverses { journal_of (Some (record attempt { stage = stage })) ≡
+            journal_of (Some attempt) }
         ensures { self.new ≡ at_stage self.old attempt stage }
     {
         self.record.attempt = Some(Attempt { stage, ..attempt });

@@ -38,7 +38,8 @@ pub fn look_commutes()
 
 /// An attempt that takes a channel.
 pub fn take_commutes()
-    ensures commutes { (c : ℕ) (kind : Kind) (x : ChanId) → CommutesWithUndone (event.Take c kind x) }
+    ensures commutes { (c : ℕ) (kind : Kind) (x : ChanId) →
+        CommutesWithUndone (event.Take c kind x) }
 {}
 
 /// An attempt that reserves a reference.

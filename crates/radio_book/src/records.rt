@@ -4,7 +4,7 @@ ghost use Rattle.std.specs.FinMap as map;
 ghost use Rattle.cell_table.specs.Site.{is_traffic};
 ghost use Rattle.radio_book.specs.State.{empty_book, state_of};
 ghost use Rattle.radio_book.specs.Sound.{IsSound};
-ghost use Rattle.radio_book.specs.Table.{step, reply_to, row, NeedsRoom, shown};
+ghost use Rattle.radio_book.specs.Table.{step, reply_to, row, NeedsRoom, MayNeedRoom, record_reply};
 
 mod attempt;
 mod calling;
@@ -96,6 +96,7 @@ impl<A: Allocator + Copy> Records<A> {
         ensures book { OnOk result (self.new ≡ step self.old event) }
         ensures unchanged { OnErr result (self.new ≡ self.old) }
         ensures memory { OnErr result (NeedsRoom self.old (row self.old event)) }
+        ensures kinds { OnErr result (MayNeedRoom event) }
     {
         match event {
             Event::Open(call, x) => self.open(call, x),
@@ -128,8 +129,8 @@ impl<A: Allocator + Copy> Records<A> {
     }
 
     /// The record, and the state of its serving channel.
-    fn shown(&self, found: CallRecord) -> Reply
-        ensures { result ≡ shown found (state_of self.now) }
+    fn record_reply(&self, found: CallRecord) -> Reply
+        ensures { result ≡ record_reply found (state_of self.now) }
     {
         match found.serving {
             Some(x) => Reply::Record(found, Some(self.state_of(x))),

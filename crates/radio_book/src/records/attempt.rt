@@ -14,10 +14,12 @@ use std::alloc::{AllocError, Allocator};
 impl<A: Allocator + Copy> Records<A> {
     pub(super) fn take_internal(&mut self, call: u16, x: ChanId) -> Result<Reply, AllocError>
         requires { IsSound self.old }
-        ensures reply { IfOk result (λ reply. reply ≡ reply_to self.old (event.Take call kind.Internal x)) }
+        ensures reply { IfOk result (λ reply. reply ≡
+            reply_to self.old (event.Take call kind.Internal x)) }
         ensures book { OnOk result (self.new ≡ step self.old (event.Take call kind.Internal x)) }
         ensures unchanged { OnErr result (self.new ≡ self.old) }
-        ensures memory { OnErr result (NeedsRoom self.old (row self.old (event.Take call kind.Internal x))) }
+        ensures memory { OnErr result (NeedsRoom self.old
+            (row self.old (event.Take call kind.Internal x))) }
     {
         let Some(mut entry) = self.calls.entry(call) else {
             return Ok(Reply::Refused(Refusal::NoCall));
@@ -49,10 +51,12 @@ impl<A: Allocator + Copy> Records<A> {
 
     pub(super) fn take_incoming(&mut self, call: u16, x: ChanId) -> Result<Reply, AllocError>
         requires { IsSound self.old }
-        ensures reply { IfOk result (λ reply. reply ≡ reply_to self.old (event.Take call kind.Incoming x)) }
+        ensures reply { IfOk result (λ reply. reply ≡
+            reply_to self.old (event.Take call kind.Incoming x)) }
         ensures book { OnOk result (self.new ≡ step self.old (event.Take call kind.Incoming x)) }
         ensures unchanged { OnErr result (self.new ≡ self.old) }
-        ensures memory { OnErr result (NeedsRoom self.old (row self.old (event.Take call kind.Incoming x))) }
+        ensures memory { OnErr result (NeedsRoom self.old
+            (row self.old (event.Take call kind.Incoming x))) }
     {
         if self.calls.get(call).is_some() {
             return Ok(Reply::Refused(Refusal::CallExists));
@@ -68,10 +72,12 @@ impl<A: Allocator + Copy> Records<A> {
     }
 
     pub(super) fn reserve(&mut self, call: u16, number: u8) -> Result<Reply, AllocError>
-        ensures reply { IfOk result (λ reply. reply ≡ reply_to self.old (event.Reserve call number)) }
+        ensures reply { IfOk result (λ reply. reply ≡
+            reply_to self.old (event.Reserve call number)) }
         ensures book { OnOk result (self.new ≡ step self.old (event.Reserve call number)) }
         ensures unchanged { OnErr result (self.new ≡ self.old) }
-        ensures memory { OnErr result (NeedsRoom self.old (row self.old (event.Reserve call number))) }
+        ensures memory { OnErr result (NeedsRoom self.old
+            (row self.old (event.Reserve call number))) }
     {
         let Some(mut entry) = self.calls.entry(call) else {
             return Ok(Reply::Refused(Refusal::NoCall));

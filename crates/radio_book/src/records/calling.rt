@@ -4,7 +4,7 @@ ghost use Rattle.std.specs.FinMap as map;
 ghost use Rattle.radio_book.specs.declared.event.Event.TheVariants as event;
 ghost use Rattle.radio_book.specs.State.{apply, state_of, record_of};
 ghost use Rattle.radio_book.specs.Sound.{IsSound};
-ghost use Rattle.radio_book.specs.Table.{step, reply_to, row, NeedsRoom, no_change, becomes, is_recorded, cleared_state};
+ghost use Rattle.radio_book.specs.Table.{step, reply_to, row, NeedsRoom, no_change, becomes, with_record, cleared_state};
 
 use crate::entry::CallEntry;
 use crate::event::{Refusal, Reply};
@@ -44,7 +44,9 @@ impl<A: Allocator + Copy> Records<A> {
     ) -> Result<(), AllocError>
         requires call { record_of self.old call ≡ None }
         requires channel { map.get self.old.channels x ≡ None }
-        ensures book { OnOk result (self.new ≡ apply (record no_change { channel = becomes x state; call = is_recorded call entry }) self.old) }
+        ensures book { OnOk result (self.new ≡ apply
+            (record no_change { channel = becomes x state; call = with_record call entry })
+            self.old) }
         ensures unchanged { OnErr result (self.new ≡ self.old) }
     {
         self.channels.insert(x, state)?;
@@ -76,7 +78,8 @@ impl<A: Allocator + Copy> Records<A> {
     /// A channel is no longer used by the call that it served.
     fn let_go(&mut self, x: ChanId)
         requires { IsSome (map.get self.old.channels x) }
-        ensures { self.new ≡ apply (record no_change { channel = Some (x, cleared_state (state_of self.old x)) }) self.old }
+        ensures { self.new ≡ apply (record no_change
+            { channel = Some (x, cleared_state (state_of self.old x)) }) self.old }
     {
         match self.state_of(x) {
             ChanState::Held(_) => self.channels.remove(x),
@@ -88,7 +91,7 @@ impl<A: Allocator + Copy> Records<A> {
         ensures { result ≡ reply_to self.now (event.Look call) }
     {
         match self.calls.get(call) {
-            Some(record) => self.shown(record),
+            Some(record) => self.record_reply(record),
             None => Reply::Refused(Refusal::NoCall),
         }
     }

@@ -3,7 +3,7 @@ ghost use Rattle.std.specs.Prelude.{◌≡◌};
 ghost use Rattle.radio_book.specs.declared.event.Event.TheVariants as event;
 ghost use Rattle.radio_book.specs.State.{apply, record_of};
 ghost use Rattle.radio_book.specs.Sound.{IsSound};
-ghost use Rattle.radio_book.specs.Table.{step, reply_to, no_change, moved};
+ghost use Rattle.radio_book.specs.Table.{step, reply_to, no_change, moved_entry};
 ghost use Rattle.radio_book.specs.Waiting.{MayMove};
 
 use crate::event::{Refusal, Reply, Stage};
@@ -41,7 +41,8 @@ impl<A: Allocator + Copy> Records<A> {
     /// The call's attempt comes to a stage, where the channel is its target.
     fn move_attempt(&mut self, call: u16, x: ChanId, stage: Stage)
         requires { MayMove call x stage self.old }
-        ensures { self.new ≡ apply (record no_change { call = moved x stage call (record_of self.old call) }) self.old }
+        ensures { self.new ≡ apply (record no_change
+            { call = moved_entry x stage call (record_of self.old call) }) self.old }
     {
         let Some(mut entry) = self.calls.entry(call) else {
             return;

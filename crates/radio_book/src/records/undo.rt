@@ -58,14 +58,16 @@ impl<A: Allocator + Copy> Records<A> {
     fn take_back(&mut self, call: u16, entry: CallEntry, refusal: Refusal) -> Reply
         requires sound { IsSound self.old }
         requires entry { record_of self.old call ≡ Some entry }
-        ensures reply { result ≡ reply_of (undo_attempt call refusal entry entry.attempt (state_of self.old) (map.get self.old.timers call)) }
-        ensures book { self.new ≡ after (undo_attempt call refusal entry entry.attempt (state_of self.old) (map.get self.old.timers call)) self.old }
+        ensures reply { result ≡ reply_of (undo_attempt call refusal entry entry.attempt
+            (state_of self.old) (map.get self.old.timers call)) }
+        ensures book { self.new ≡ after (undo_attempt call refusal entry entry.attempt
+            (state_of self.old) (map.get self.old.timers call)) self.old }
     {
         let found = entry.record();
         if found.attempt.is_none() {
             return Reply::Refused(refusal);
         }
-        let reply = self.shown(found);
+        let reply = self.record_reply(found);
         self.run_back(call, entry.into_journal());
         reply
     }
