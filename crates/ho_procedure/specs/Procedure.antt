@@ -53,15 +53,19 @@ target_activation x n = about x (λ channel. ChannelActivation channel 2 speech 
 abbrev pub release : ChanId → Sent
 release x = about x (λ channel. RfChannelRelease channel)
 
+-- a message can name the timeslot of the channel (clause 9.3.1)
+abbrev pub is_nameable : ChanId → Bool
+is_nameable x = nat_lt x.tn 8
+
 -- A row ends at a reply after which it would send a message about a channel that the reply lacks, or whose
 -- timeslot no message can name.
 abbrev pub if_named : ChanId → Plan → Plan
-if_named x next = if nat_lt x.tn 8 then next else Ends
+if_named x next = if is_nameable x then next else Ends
 
 -- The release of a channel of which the station may know.
 abbrev pub release_of : Option ChanId → Release
 release_of None = Unknown
-release_of (Some x) = if nat_lt x.tn 8 then Channel x else Unknown
+release_of (Some x) = if is_nameable x then Channel x else Unknown
 
 abbrev pub is_unknown : Release → Bool
 is_unknown Unknown = true
@@ -69,7 +73,7 @@ is_unknown release = false
 
 -- a message can name the timeslot of the channel that is released
 abbrev pub can_name : Release → Bool
-can_name (Channel x) = nat_lt x.tn 8
+can_name (Channel x) = is_nameable x
 can_name release = true
 
 -- a target is switched on from its activation on, until the station refused it
@@ -101,12 +105,12 @@ sent_by (Channel x) = release x ∷ []
 sent_by Unknown = []
 
 -- An operator opens a call: its channel is activated.
-abbrev pub opened : ChanId → Reply → Plan
-opened x Done = if_named x (Sends (activation x) Ends)
-opened x reply = Ends
+abbrev pub after_open : ChanId → Reply → Plan
+after_open x Done = if_named x (Sends (activation x) Ends)
+after_open x reply = Ends
 
 abbrev pub open_plan : ℕ → ChanId → Plan
-open_plan c x = Asks (event.Open c x) (opened x)
+open_plan c x = Asks (event.Open c x) (after_open x)
 
 -- A handover begins: a channel is taken, a reference reserved, the channel activated.
 abbrev pub start_activated : ChanId → ℕ → Reply → Plan
@@ -150,13 +154,13 @@ abbrev pub names_releases : CallRecord → Option ChanState → Bool
 names_releases r s = if is_unknown (target_release r.attempt) then false else if remains r.attempt then not (is_unknown (serving_release r s)) else true
 
 -- What remains of a call is cleared, and its serving channel released.
-abbrev pub cleared : Release → Reply → Plan
-cleared serving Done = releases serving Ends
-cleared serving reply = Ends
+abbrev pub after_clear : Release → Reply → Plan
+after_clear serving Done = releases serving Ends
+after_clear serving reply = Ends
 
 abbrev pub clear_remaining : ℕ → Bool → Release → Plan
 clear_remaining c false serving = Ends
-clear_remaining c true serving = Asks (event.Clear c) (cleared serving)
+clear_remaining c true serving = Asks (event.Clear c) (after_clear serving)
 
 -- the target is released, where it was switched on, and then what remains is cleared
 abbrev pub clear_rest : ℕ → CallRecord → Option ChanState → Plan
@@ -182,24 +186,24 @@ abbrev pub nothing_more : Reply → Plan
 nothing_more reply = Ends
 
 -- CHANNEL ACTIVATION ACKNOWLEDGE
-abbrev pub confirmed : Reply → Plan
-confirmed (Owned c) = Asks (event.Look c) nothing_more
-confirmed reply = Ends
+abbrev pub after_confirm : Reply → Plan
+after_confirm (Owned c) = Asks (event.Look c) nothing_more
+after_confirm reply = Ends
 
 abbrev pub confirm_plan : ChanId → Plan
-confirm_plan x = Asks (event.Confirm x) confirmed
+confirm_plan x = Asks (event.Confirm x) after_confirm
 
 -- CHANNEL ACTIVATION NEGATIVE ACKNOWLEDGE: where the channel is the target of an attempt, the attempt is taken back.
 abbrev pub refused_looked : ChanId → ℕ → Reply → Plan
 refused_looked x c (Record r s) = if is_target x (target_in r) then Asks (event.Undo c Asked) nothing_more else Ends
 refused_looked x c reply = Ends
 
-abbrev pub refused : ChanId → Reply → Plan
-refused x (Owned c) = Asks (event.Look c) (refused_looked x c)
-refused x reply = Ends
+abbrev pub after_refuse : ChanId → Reply → Plan
+after_refuse x (Owned c) = Asks (event.Look c) (refused_looked x c)
+after_refuse x reply = Ends
 
 abbrev pub refuse_plan : ChanId → Plan
-refuse_plan x = Asks (event.Refuse x) (refused x)
+refuse_plan x = Asks (event.Refuse x) (after_refuse x)
 
 -- RF CHANNEL RELEASE ACKNOWLEDGE
 abbrev pub released_plan : ChanId → Plan

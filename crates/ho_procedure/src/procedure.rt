@@ -28,15 +28,22 @@ pub fn handle_plain<A: Allocator + Copy, B: Allocator + Copy>(
     book: &mut Book<B>,
     input: Inbound<A>,
 ) -> Result<Handled<A>, PlainFault>
-    ensures follows { IfOk result (λ handled. FollowsRow {A = A} book.old.site (input) handled.events.items handled.none_free (all_sent handled.out.items)) }
+    ensures follows { IfOk result (λ handled. FollowsRow {A = A} book.old.site (input)
+        handled.events.items handled.none_free (all_sent handled.out.items)) }
     ensures leads { IfOk result (λ handled. Leads book.old handled.events.items book.new) }
     ensures choices { IfOk result (λ handled. AreChoices book.old handled.events.items) }
     ensures none_free { IfOk result (λ handled. IfSome handled.none_free (NoneFree book.old)) }
-    ensures undecoded { (f : RslFault) → result ≡ Err (PlainFault.Undecoded f) → HasFaultIn {A = A} (input) f }
-    ensures not_memory { (f : RslFault) → result ≡ Err (PlainFault.Undecoded f) → f ≢ RslFault.NoMemory }
-    ensures decoded { (f : RslFault) → f ≢ RslFault.NoMemory → HasFaultIn {A = A} (input) f → result ≡ Err (PlainFault.Undecoded f) }
-    ensures unchanged { (f : RslFault) → result ≡ Err (PlainFault.Undecoded f) → book.new ≡ book.old }
-    ensures memory { result ≡ Err PlainFault.NoMemory → (steps : List (Event × Reply)) × StopsInRow {A = A} book.old.site (input) steps × Leads book.old steps book.new × AreChoices book.old steps }
+    ensures undecoded { (f : RslFault) → result ≡ Err (PlainFault.Undecoded f) →
+        HasFaultIn {A = A} (input) f }
+    ensures not_memory { (f : RslFault) → result ≡ Err (PlainFault.Undecoded f) →
+        f ≢ RslFault.NoMemory }
+    ensures decoded { (f : RslFault) → f ≢ RslFault.NoMemory → HasFaultIn {A = A} (input) f →
+        result ≡ Err (PlainFault.Undecoded f) }
+    ensures unchanged { (f : RslFault) → result ≡ Err (PlainFault.Undecoded f) →
+        book.new ≡ book.old }
+    ensures memory { result ≡ Err PlainFault.NoMemory →
+        (steps : List (Event × Reply)) × StopsInRow {A = A} book.old.site (input) steps ×
+        Leads book.old steps book.new × AreChoices book.old steps }
 {
     match input {
         Inbound::Abis { cell, trx, bytes } => handle_octets(
@@ -58,15 +65,24 @@ fn handle_octets<A: Allocator + Copy, B: Allocator + Copy>(
     trx: u8,
     octets: &[u8],
 ) -> Result<Handled<A>, PlainFault>
-    ensures follows { IfOk result (λ handled. FollowsRow {A = A} book.old.site (Inbound.Abis cell trx octets.now) handled.events.items handled.none_free (all_sent handled.out.items)) }
+    ensures follows { IfOk result (λ handled. FollowsRow {A = A} book.old.site
+        (Inbound.Abis cell trx octets.now) handled.events.items handled.none_free
+        (all_sent handled.out.items)) }
     ensures leads { IfOk result (λ handled. Leads book.old handled.events.items book.new) }
     ensures choices { IfOk result (λ handled. AreChoices book.old handled.events.items) }
     ensures none_free { IfOk result (λ handled. IfSome handled.none_free (NoneFree book.old)) }
-    ensures undecoded { (f : RslFault) → result ≡ Err (PlainFault.Undecoded f) → HasFaultIn {A = A} (Inbound.Abis cell trx octets.now) f }
-    ensures not_memory { (f : RslFault) → result ≡ Err (PlainFault.Undecoded f) → f ≢ RslFault.NoMemory }
-    ensures decoded { (f : RslFault) → f ≢ RslFault.NoMemory → HasFault A octets.now f → result ≡ Err (PlainFault.Undecoded f) }
-    ensures unchanged { (f : RslFault) → result ≡ Err (PlainFault.Undecoded f) → book.new ≡ book.old }
-    ensures memory { result ≡ Err PlainFault.NoMemory → (steps : List (Event × Reply)) × StopsInRow {A = A} book.old.site (Inbound.Abis cell trx octets.now) steps × Leads book.old steps book.new × AreChoices book.old steps }
+    ensures undecoded { (f : RslFault) → result ≡ Err (PlainFault.Undecoded f) →
+        HasFaultIn {A = A} (Inbound.Abis cell trx octets.now) f }
+    ensures not_memory { (f : RslFault) → result ≡ Err (PlainFault.Undecoded f) →
+        f ≢ RslFault.NoMemory }
+    ensures decoded { (f : RslFault) → f ≢ RslFault.NoMemory → HasFault A octets.now f →
+        result ≡ Err (PlainFault.Undecoded f) }
+    ensures unchanged { (f : RslFault) → result ≡ Err (PlainFault.Undecoded f) →
+        book.new ≡ book.old }
+    ensures memory { result ≡ Err PlainFault.NoMemory →
+        (steps : List (Event × Reply)) ×
+        StopsInRow {A = A} book.old.site (Inbound.Abis cell trx octets.now) steps ×
+        Leads book.old steps book.new × AreChoices book.old steps }
 {
     match decode(alloc, octets) {
         Ok(message) => {
@@ -85,14 +101,22 @@ fn handle_line<A: Allocator + Copy, B: Allocator + Copy>(
     book: &mut Book<B>,
     line: Line,
 ) -> Result<Handled<A>, PlainFault>
-    ensures follows { IfOk result (λ handled. FollowsRow {A = A} book.old.site (Inbound.Operator line) handled.events.items handled.none_free (all_sent handled.out.items)) }
+    ensures follows { IfOk result (λ handled. FollowsRow {A = A} book.old.site
+        (Inbound.Operator line) handled.events.items handled.none_free
+        (all_sent handled.out.items)) }
     ensures leads { IfOk result (λ handled. Leads book.old handled.events.items book.new) }
     ensures choices { IfOk result (λ handled. AreChoices book.old handled.events.items) }
     ensures none_free { IfOk result (λ handled. IfSome handled.none_free (NoneFree book.old)) }
-    ensures undecoded { (f : RslFault) → result ≡ Err (PlainFault.Undecoded f) → HasFaultIn {A = A} (Inbound.Operator line) f }
-    ensures not_memory { (f : RslFault) → result ≡ Err (PlainFault.Undecoded f) → f ≢ RslFault.NoMemory }
-    ensures unchanged { (f : RslFault) → result ≡ Err (PlainFault.Undecoded f) → book.new ≡ book.old }
-    ensures memory { result ≡ Err PlainFault.NoMemory → (steps : List (Event × Reply)) × StopsInRow {A = A} book.old.site (Inbound.Operator line) steps × Leads book.old steps book.new × AreChoices book.old steps }
+    ensures undecoded { (f : RslFault) → result ≡ Err (PlainFault.Undecoded f) →
+        HasFaultIn {A = A} (Inbound.Operator line) f }
+    ensures not_memory { (f : RslFault) → result ≡ Err (PlainFault.Undecoded f) →
+        f ≢ RslFault.NoMemory }
+    ensures unchanged { (f : RslFault) → result ≡ Err (PlainFault.Undecoded f) →
+        book.new ≡ book.old }
+    ensures memory { result ≡ Err PlainFault.NoMemory →
+        (steps : List (Event × Reply)) ×
+        StopsInRow {A = A} book.old.site (Inbound.Operator line) steps ×
+        Leads book.old steps book.new × AreChoices book.old steps }
 {
     let mut handled = Handled::new(alloc);
     match line {

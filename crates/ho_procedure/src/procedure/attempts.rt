@@ -7,7 +7,7 @@ ghost use Rattle.ho_procedure.specs.Procedure.{handover_plan, undo_plan};
 ghost use Rattle.ho_procedure.specs.Handling.{all_sent, AreChoices, IsFresh};
 
 use super::calls::release;
-use super::release::target_release;
+use super::release::{is_nameable, target_release};
 use super::steps::{ask, reserve, send_target_activation, take};
 use crate::exchange::Handled;
 use radio_book::book::Book;
@@ -24,8 +24,10 @@ pub(super) fn start<A: Allocator + Copy, B: Allocator + Copy>(
     cell: u8,
 ) -> Result<(), AllocError>
     requires { IsFresh handled.old }
-    ensures row { OnOk result (Follows (handover_plan book.old.site call cell) handled.new.events.items handled.new.none_free (all_sent handled.new.out.items)) }
-    ensures begins { OnErr result (Begins (handover_plan book.old.site call cell) handled.new.events.items) }
+    ensures row { OnOk result (Follows (handover_plan book.old.site call cell)
+        handled.new.events.items handled.new.none_free (all_sent handled.new.out.items)) }
+    ensures begins { OnErr result (Begins (handover_plan book.old.site call cell)
+        handled.new.events.items) }
     ensures wanted { OnErr result (HasStep (handover_plan book.old.site call cell)) }
     ensures leads { Leads book.old handled.new.events.items book.new }
     ensures choices { AreChoices book.old handled.new.events.items }
@@ -37,7 +39,7 @@ pub(super) fn start<A: Allocator + Copy, B: Allocator + Copy>(
     let Some((target, Reply::Done)) = take(book, handled, call, cell)? else {
         return Ok(());
     };
-    if target.tn >= 8 {
+    if !is_nameable(target) {
         return Ok(());
     }
     let (number, Reply::Done) = reserve(book, handled, call)? else {
@@ -57,7 +59,8 @@ pub(super) fn undo<A: Allocator + Copy, B: Allocator + Copy>(
     call: u16,
 ) -> Result<(), AllocError>
     requires { IsFresh handled.old }
-    ensures row { OnOk result (Follows (undo_plan call) handled.new.events.items handled.new.none_free (all_sent handled.new.out.items)) }
+    ensures row { OnOk result (Follows (undo_plan call) handled.new.events.items
+        handled.new.none_free (all_sent handled.new.out.items)) }
     ensures begins { OnErr result (Begins (undo_plan call) handled.new.events.items) }
     ensures leads { Leads book.old handled.new.events.items book.new }
     ensures choices { AreChoices book.old handled.new.events.items }

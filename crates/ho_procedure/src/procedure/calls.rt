@@ -5,7 +5,7 @@ ghost use Rattle.ho_procedure.specs.Plan.{Follows, Begins};
 ghost use Rattle.ho_procedure.specs.Procedure.{open_plan, clear_plan, remains, names_releases, sent_by, can_name};
 ghost use Rattle.ho_procedure.specs.Handling.{all_sent, AreChoices, IsFresh};
 
-use super::release::{Release, serving_release, target_release};
+use super::release::{Release, is_nameable, serving_release, target_release};
 use super::steps::{ask, send_activation, send_release};
 use crate::exchange::Handled;
 use radio_book::book::Book;
@@ -22,14 +22,15 @@ pub(super) fn open<A: Allocator + Copy, B: Allocator + Copy>(
     chan: ChanId,
 ) -> Result<(), AllocError>
     requires { IsFresh handled.old }
-    ensures row { OnOk result (Follows (open_plan call chan) handled.new.events.items handled.new.none_free (all_sent handled.new.out.items)) }
+    ensures row { OnOk result (Follows (open_plan call chan) handled.new.events.items
+        handled.new.none_free (all_sent handled.new.out.items)) }
     ensures begins { OnErr result (Begins (open_plan call chan) handled.new.events.items) }
     ensures leads { Leads book.old handled.new.events.items book.new }
     ensures choices { AreChoices book.old handled.new.events.items }
     ensures none_free { handled.new.none_free ≡ None }
 {
     match ask(book, handled, Event::Open(call, chan))? {
-        Reply::Done if chan.tn < 8 => send_activation(alloc, handled, chan),
+        Reply::Done if is_nameable(chan) => send_activation(alloc, handled, chan),
         _ => Ok(()),
     }
 }
@@ -41,7 +42,8 @@ pub(super) fn release<A: Allocator + Copy>(
     release: Release,
 ) -> Result<(), AllocError>
     requires { IsTrue (can_name release) }
-    ensures sent { OnOk result (all_sent handled.new.out.items ≡ all_sent handled.old.out.items ++ sent_by release) }
+    ensures sent { OnOk result (all_sent handled.new.out.items ≡ all_sent handled.old.out.items ++
+        sent_by release) }
     ensures events { handled.new.events ≡ handled.old.events }
     ensures none_free { handled.new.none_free ≡ handled.old.none_free }
 {
@@ -80,7 +82,8 @@ pub(super) fn clear<A: Allocator + Copy, B: Allocator + Copy>(
     call: u16,
 ) -> Result<(), AllocError>
     requires { IsFresh handled.old }
-    ensures row { OnOk result (Follows (clear_plan call) handled.new.events.items handled.new.none_free (all_sent handled.new.out.items)) }
+    ensures row { OnOk result (Follows (clear_plan call) handled.new.events.items
+        handled.new.none_free (all_sent handled.new.out.items)) }
     ensures begins { OnErr result (Begins (clear_plan call) handled.new.events.items) }
     ensures leads { Leads book.old handled.new.events.items book.new }
     ensures choices { AreChoices book.old handled.new.events.items }

@@ -1,6 +1,6 @@
 //! Which channels a row releases.
 ghost use Rattle.std.specs.Prelude.{◌≡◌, IsTrue};
-ghost use Rattle.ho_procedure.specs.Procedure.{release_of, is_switched_on, target_release, serving_release, is_unknown, can_name};
+ghost use Rattle.ho_procedure.specs.Procedure.{is_nameable, release_of, is_switched_on, target_release, serving_release, is_unknown, can_name};
 
 use radio_book::channel::{ChanId, ChanState};
 use radio_book::event::{Attempt, CallRecord, Stage};
@@ -25,13 +25,20 @@ impl Release {
     }
 }
 
+/// A message can name the timeslot of the channel.
+pub(super) fn is_nameable(chan: ChanId) -> bool
+    ensures { result ≡ is_nameable chan }
+{
+    chan.tn < 8
+}
+
 /// The release of a channel that the station knows of.
 fn release_of(chan: Option<ChanId>) -> Release
     ensures value { result ≡ release_of chan }
     ensures named { IsTrue (can_name result) }
 {
     match chan {
-        Some(chan) if chan.tn < 8 => Release::Channel(chan),
+        Some(chan) if is_nameable(chan) => Release::Channel(chan),
         _ => Release::Unknown,
     }
 }

@@ -35,8 +35,10 @@ pub(super) fn handle_message<A: Allocator + Copy, B: Allocator + Copy>(
     message: &Rsl<A>,
 ) -> Result<(), AllocError>
     requires { IsFresh handled.old }
-    ensures row { OnOk result (Follows (message_plan cell trx message.now) handled.new.events.items handled.new.none_free (all_sent handled.new.out.items)) }
-    ensures begins { OnErr result (Begins (message_plan cell trx message.now) handled.new.events.items) }
+    ensures row { OnOk result (Follows (message_plan cell trx message.now)
+        handled.new.events.items handled.new.none_free (all_sent handled.new.out.items)) }
+    ensures begins { OnErr result (Begins (message_plan cell trx message.now)
+        handled.new.events.items) }
     ensures wanted { OnErr result (HasStep (message_plan cell trx message.now)) }
     ensures leads { Leads book.old handled.new.events.items book.new }
     ensures choices { AreChoices book.old handled.new.events.items }
@@ -69,7 +71,8 @@ fn confirm<A: Allocator + Copy, B: Allocator + Copy>(
     chan: ChanId,
 ) -> Result<(), AllocError>
     requires { IsFresh handled.old }
-    ensures row { OnOk result (Follows (confirm_plan chan) handled.new.events.items handled.new.none_free (all_sent handled.new.out.items)) }
+    ensures row { OnOk result (Follows (confirm_plan chan) handled.new.events.items
+        handled.new.none_free (all_sent handled.new.out.items)) }
     ensures begins { OnErr result (Begins (confirm_plan chan) handled.new.events.items) }
     ensures leads { Leads book.old handled.new.events.items book.new }
     ensures choices { AreChoices book.old handled.new.events.items }
@@ -98,7 +101,8 @@ fn refuse<A: Allocator + Copy, B: Allocator + Copy>(
     chan: ChanId,
 ) -> Result<(), AllocError>
     requires { IsFresh handled.old }
-    ensures row { OnOk result (Follows (refuse_plan chan) handled.new.events.items handled.new.none_free (all_sent handled.new.out.items)) }
+    ensures row { OnOk result (Follows (refuse_plan chan) handled.new.events.items
+        handled.new.none_free (all_sent handled.new.out.items)) }
     ensures begins { OnErr result (Begins (refuse_plan chan) handled.new.events.items) }
     ensures leads { Leads book.old handled.new.events.items book.new }
     ensures choices { AreChoices book.old handled.new.events.items }
@@ -123,7 +127,8 @@ fn released<A: Allocator + Copy, B: Allocator + Copy>(
     chan: ChanId,
 ) -> Result<(), AllocError>
     requires { IsFresh handled.old }
-    ensures row { OnOk result (Follows (released_plan chan) handled.new.events.items handled.new.none_free (all_sent handled.new.out.items)) }
+    ensures row { OnOk result (Follows (released_plan chan) handled.new.events.items
+        handled.new.none_free (all_sent handled.new.out.items)) }
     ensures begins { OnErr result (Begins (released_plan chan) handled.new.events.items) }
     ensures leads { Leads book.old handled.new.events.items book.new }
     ensures choices { AreChoices book.old handled.new.events.items }

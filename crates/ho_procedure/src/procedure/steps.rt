@@ -24,7 +24,8 @@ pub(super) fn ask<A: Allocator + Copy, B: Allocator + Copy>(
 ) -> Result<Reply, AllocError>
     ensures reply { IfOk result (λ reply. reply ≡ reply_to book.old event) }
     ensures book { OnOk result (book.new ≡ step book.old event) }
-    ensures noted { IfOk result (λ reply. handled.new.events.items ≡ handled.old.events.items ++ (event, reply) ∷ []) }
+    ensures noted { IfOk result (λ reply. handled.new.events.items ≡ handled.old.events.items ++
+        (event, reply) ∷ []) }
     ensures unchanged { OnErr result (book.new ≡ book.old) }
     ensures kept { OnErr result (handled.new.events.items ≡ handled.old.events.items) }
     ensures none_free { handled.new.none_free ≡ handled.old.none_free }
@@ -45,14 +46,20 @@ pub(super) fn take<A: Allocator + Copy, B: Allocator + Copy>(
     cell: u8,
 ) -> Result<Option<(ChanId, Reply)>, AllocError>
     ensures free { IfOk result (λ chosen. IfSome chosen (λ taken. IsFreeIn book.old cell taken.0)) }
-    ensures reply { IfOk result (λ chosen. IfSome chosen (λ taken. taken.1 ≡ reply_to book.old (Event.Take call Kind.Internal taken.0))) }
-    ensures book { IfOk result (λ chosen. IfSome chosen (λ taken. book.new ≡ step book.old (Event.Take call Kind.Internal taken.0))) }
-    ensures noted { IfOk result (λ chosen. IfSome chosen (λ taken. handled.new.events.items ≡ handled.old.events.items ++ (Event.Take call Kind.Internal taken.0, taken.1) ∷ [])) }
-    ensures taken { IfOk result (λ chosen. IfSome chosen (λ taken. handled.new.none_free ≡ handled.old.none_free)) }
+    ensures reply { IfOk result (λ chosen. IfSome chosen
+        (λ taken. taken.1 ≡ reply_to book.old (Event.Take call Kind.Internal taken.0))) }
+    ensures book { IfOk result (λ chosen. IfSome chosen
+        (λ taken. book.new ≡ step book.old (Event.Take call Kind.Internal taken.0))) }
+    ensures noted { IfOk result (λ chosen. IfSome chosen
+        (λ taken. handled.new.events.items ≡ handled.old.events.items ++
+        (Event.Take call Kind.Internal taken.0, taken.1) ∷ [])) }
+    ensures taken { IfOk result (λ chosen. IfSome chosen
+        (λ taken. handled.new.none_free ≡ handled.old.none_free)) }
     ensures refused { OnErr result (handled.new.none_free ≡ handled.old.none_free) }
     ensures none { result ≡ Ok None → NoneFree book.old cell }
     ensures none_noted { result ≡ Ok None → handled.new.none_free ≡ Some cell }
-    ensures none_kept { result ≡ Ok None → (book.new ≡ book.old) × (handled.new.events.items ≡ handled.old.events.items) }
+    ensures none_kept { result ≡ Ok None → (book.new ≡ book.old) ×
+        (handled.new.events.items ≡ handled.old.events.items) }
     ensures unchanged { OnErr result (book.new ≡ book.old) }
     ensures kept { OnErr result (handled.new.events.items ≡ handled.old.events.items) }
     ensures out { handled.new.out ≡ handled.old.out }
@@ -79,10 +86,13 @@ pub(super) fn reserve<A: Allocator + Copy, B: Allocator + Copy>(
     handled: &mut Handled<A>,
     call: u16,
 ) -> Result<(u8, Reply), AllocError>
-    ensures free { IfOk result (λ chosen. MayReserve book.old (taken_channel (record_of book.old call)) chosen.0) }
-    ensures reply { IfOk result (λ chosen. chosen.1 ≡ reply_to book.old (Event.Reserve call chosen.0)) }
+    ensures free { IfOk result (λ chosen. MayReserve book.old
+        (taken_channel (record_of book.old call)) chosen.0) }
+    ensures reply { IfOk result (λ chosen. chosen.1 ≡
+        reply_to book.old (Event.Reserve call chosen.0)) }
     ensures book { IfOk result (λ chosen. book.new ≡ step book.old (Event.Reserve call chosen.0)) }
-    ensures noted { IfOk result (λ chosen. handled.new.events.items ≡ handled.old.events.items ++ (Event.Reserve call chosen.0, chosen.1) ∷ []) }
+    ensures noted { IfOk result (λ chosen. handled.new.events.items ≡ handled.old.events.items ++
+        (Event.Reserve call chosen.0, chosen.1) ∷ []) }
     ensures unchanged { OnErr result (book.new ≡ book.old) }
     ensures kept { OnErr result (handled.new.events.items ≡ handled.old.events.items) }
     ensures none_free { handled.new.none_free ≡ handled.old.none_free }
@@ -105,7 +115,8 @@ fn send<A: Allocator + Copy>(
     message: &Rsl<A>,
 ) -> Result<(), AllocError>
     requires { HasCanonical message.now }
-    ensures sent { OnOk result (all_sent handled.new.out.items ≡ all_sent handled.old.out.items ++ OnAbis chan.cell chan.trx (canonical message.now) ∷ []) }
+    ensures sent { OnOk result (all_sent handled.new.out.items ≡ all_sent handled.old.out.items ++
+        OnAbis chan.cell chan.trx (canonical message.now) ∷ []) }
     ensures events { handled.new.events ≡ handled.old.events }
     ensures none_free { handled.new.none_free ≡ handled.old.none_free }
 {
@@ -130,7 +141,8 @@ pub(super) fn send_activation<A: Allocator + Copy>(
     chan: ChanId,
 ) -> Result<(), AllocError>
     requires { chan.tn < 8 }
-    ensures sent { OnOk result (all_sent handled.new.out.items ≡ all_sent handled.old.out.items ++ activation chan ∷ []) }
+    ensures sent { OnOk result (all_sent handled.new.out.items ≡ all_sent handled.old.out.items ++
+        activation chan ∷ []) }
     ensures events { handled.new.events ≡ handled.old.events }
     ensures none_free { handled.new.none_free ≡ handled.old.none_free }
 {
@@ -151,7 +163,8 @@ pub(super) fn send_target_activation<A: Allocator + Copy>(
     number: u8,
 ) -> Result<(), AllocError>
     requires { chan.tn < 8 }
-    ensures sent { OnOk result (all_sent handled.new.out.items ≡ all_sent handled.old.out.items ++ target_activation chan number ∷ []) }
+    ensures sent { OnOk result (all_sent handled.new.out.items ≡ all_sent handled.old.out.items ++
+        target_activation chan number ∷ []) }
     ensures events { handled.new.events ≡ handled.old.events }
     ensures none_free { handled.new.none_free ≡ handled.old.none_free }
 {
@@ -171,7 +184,8 @@ pub(super) fn send_release<A: Allocator + Copy>(
     chan: ChanId,
 ) -> Result<(), AllocError>
     requires { chan.tn < 8 }
-    ensures sent { OnOk result (all_sent handled.new.out.items ≡ all_sent handled.old.out.items ++ release chan ∷ []) }
+    ensures sent { OnOk result (all_sent handled.new.out.items ≡ all_sent handled.old.out.items ++
+        release chan ∷ []) }
     ensures events { handled.new.events ≡ handled.old.events }
     ensures none_free { handled.new.none_free ≡ handled.old.none_free }
 {
