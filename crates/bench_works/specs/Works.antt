@@ -8,6 +8,8 @@ use Rattle.bssmap_messages.specs.declared.fault.BssmapFault.{BssmapFault}
 use Rattle.bssmap_messages.specs.declared.fault.BssmapFault.TheVariants as bssmap
 use Rattle.ho_procedure.specs.declared.exchange.PlainFault.{PlainFault}
 use Rattle.ho_procedure.specs.declared.exchange.PlainFault.TheVariants as plain
+use Rattle.cell_table.specs.declared.SiteFault.{SiteFault}
+use Rattle.cell_table.specs.declared.SiteFault.TheVariants as site
 use Rattle.bench_works.specs.declared.work.Work.{Work}
 use Rattle.bench_works.specs.declared.work.Work.TheVariants.{DecodeActivation, EncodeActivation, CallByOctets, LiveByStep, DecodeMeasurement, EncodeMeasurement, DecodeCommand, EncodeCommand, DecodeRequest, EncodeRequest, DecodeRequired, EncodeRequired}
 use Rattle.bench_works.specs.declared.fault.Fault.{Fault}
@@ -54,3 +56,8 @@ of_a _ = Words
 abbrev pub of_procedure : PlainFault → Fault
 of_procedure plain.NoMemory = NoMemory
 of_procedure _ = Words
+
+-- what a refused site comes to: the setting is refused
+abbrev pub of_site : SiteFault → Fault
+of_site site.NoMemory = NoMemory
+of_site _ = Setting

@@ -3,8 +3,8 @@ ghost use Rattle.std.specs.Prelude.{◌≡◌};
 ghost use Rattle.bench_works.specs.Works.{status_of};
 
 use bssmap_messages::BssmapFault;
+use cell_table::SiteFault;
 use ho_procedure::exchange::PlainFault;
-use radio_book::site::SiteFault;
 use rr_messages::RrFault;
 use rsl_messages::RslFault;
 use std::alloc::AllocError;
@@ -102,6 +102,10 @@ impl From<PlainFault> for Fault {
 }
 
 impl From<SiteFault> for Fault {
+    ghost use Rattle.bench_works.specs.Works.{of_site};
+
+    ghost from_gives = { λ cause fault. fault ≡ of_site cause };
+
     fn from(cause: SiteFault) -> Fault {
         match cause {
             SiteFault::NoMemory => Fault::NoMemory,
@@ -111,11 +115,11 @@ impl From<SiteFault> for Fault {
 }
 
 impl From<io::Error> for Fault {
-    fn from(error: io::Error) -> Fault {
-        match error.kind() {
-            io::ErrorKind::OutOfMemory => Fault::NoMemory,
-            io::ErrorKind::InvalidData => Fault::Words,
-            _ => Fault::Output,
-        }
+    ghost use Rattle.bench_works.specs.declared.fault.Fault.TheVariants.{Output};
+
+    ghost from_gives = { λ _ fault. fault ≡ Output };
+
+    fn from(_: io::Error) -> Fault {
+        Fault::Output
     }
 }

@@ -3,10 +3,10 @@ ghost use Rattle.std.specs.Prelude.{◌<◌};
 
 use crate::fault::Fault;
 use crate::turning::Turning;
+use cell_table::Site;
 use radio_book::book::Book;
 use radio_book::channel::ChanId;
 use radio_book::event::{Event, Kind, Reply, Why};
-use radio_book::site::Site;
 use std::alloc::{AllocError, Global};
 use std::fmt::Write;
 use std::sync::Arc;

@@ -1,6 +1,7 @@
 -- What a site file says, read off the TOML document that it is: [[cell]] has trx, and each of them tch.
 use Rattle.std.specs.Prelude.{ℕ, ℤ, pos, negsuc, nat_lt, Bool, if◌then◌else◌, Option, Some, None, option_map, option_and_then, List, [], ◌∷◌, codes}
 use Rattle.toml.specs.Data.{Data, Items, no_items, item, table, get, as_array, as_integer}
+use Rattle.toml.specs.Errors.{IsBlank}
 use Rattle.toml.specs.Parse.{parse_document}
 use Rattle.cell_table.specs.Site.{SiteView, keeps_cell_rules, keeps_site_rules}
 
@@ -41,3 +42,7 @@ site_of d = only keeps_site_rules (option_and_then (each cell_of) (array_at (cod
 -- the site that a text describes, if it is TOML and describes one
 abbrev pub described_site : List ℕ → Option SiteView
 described_site text = option_and_then (λ document. site_of (table document)) (parse_document text)
+
+-- the text has only white space and comments: a document without keys
+abbrev pub IsBlankFile : List ℕ → Type 0
+IsBlankFile text = IsBlank text

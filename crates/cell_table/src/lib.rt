@@ -3,10 +3,9 @@
 
 ghost use Rattle.std.specs.Prelude.{◌≡◌, ◌==◌, ◌&&◌, Some, None, true, nat_le, IfOk, IfSome, is_some, option_map, option_and_then, length, slice_get};
 ghost use Rattle.std.specs.List.{list_any};
-ghost use Rattle.toml.specs.Errors.{IsBlank};
 ghost use Rattle.toml.specs.View.{view, array_view, items_view};
 ghost use Rattle.cell_table.specs.Site.{IsSite, IsWithinLimits, is_traffic};
-ghost use Rattle.cell_table.specs.SiteFile.{each, array_at, timeslot_of, trx_of, cell_of, site_of, described_site};
+ghost use Rattle.cell_table.specs.SiteFile.{each, array_at, timeslot_of, trx_of, cell_of, site_of, described_site, IsBlankFile};
 
 use channel_fsm::ChanId;
 use std::alloc::{AllocError, Allocator, Global};
@@ -101,7 +100,7 @@ impl<A: Allocator + Copy> Site<A> {
     pub fn read(alloc: A, scratch: Global, text: &str) -> Result<Site<A>, SiteFault>
         ensures described { IfOk result (λ site. described_site text.now ≡ Some site) }
         ensures refused { result ≡ Err SiteFault.Toml → described_site text.now ≡ None }
-        ensures memory { result ≡ Err SiteFault.NoMemory → ¬ IsBlank text.now }
+        ensures memory { result ≡ Err SiteFault.NoMemory → ¬ IsBlankFile text.now }
     {
         match toml::table_from_str(scratch, text) {
             Ok(document) => site_in(alloc, &Value::Table(document)),
@@ -131,7 +130,8 @@ impl<A: Allocator + Copy> Site<A> {
     /// The traffic timeslots of a TRX of a cell, in the site file's order; `None` where there is no
     /// such cell or TRX.
     pub fn timeslots(&self, cell: u8, trx: u8) -> Option<&[u8]>
-        ensures value { option_map (λ found. found.now) result ≡ option_and_then (λ found. slice_get found trx) (slice_get self.now cell) }
+        ensures value { option_map (λ found. found.now) result ≡ option_and_then
+            (λ found. slice_get found trx) (slice_get self.now cell) }
     {
         timeslots_in(self.cells.as_slice(), cell, trx)
     }
@@ -151,7 +151,8 @@ impl<A: Allocator + Copy> Site<A> {
 
 /// The traffic timeslots of a TRX of a cell.
 fn timeslots_in<A: Allocator + Copy>(cells: &[Cell<A>], cell: u8, trx: u8) -> Option<&[u8]>
-    ensures { option_map (λ found. found.now) result ≡ option_and_then (λ found. slice_get found trx) (slice_get cells.now cell) }
+    ensures { option_map (λ found. found.now) result ≡ option_and_then
+        (λ found. slice_get found trx) (slice_get cells.now cell) }
 {
     let found = cells.get(cell as usize)?;
     let found = found.trx.get(trx as usize)?;
@@ -162,7 +163,8 @@ fn timeslots_in<A: Allocator + Copy>(cells: &[Cell<A>], cell: u8, trx: u8) -> Op
 fn site_in<A: Allocator + Copy>(alloc: A, document: &Value) -> Result<Site<A>, SiteFault>
     ensures described { IfOk result (λ site. site_of (view document.now) ≡ Some site) }
     ensures refused { result ≡ Err SiteFault.Toml → site_of (view document.now) ≡ None }
-    ensures memory { result ≡ Err SiteFault.NoMemory → is_some (site_of (view document.now)) ≡ true }
+    ensures memory { result ≡ Err SiteFault.NoMemory →
+        is_some (site_of (view document.now)) ≡ true }
 {
     if !is_site(document) {
         return Err(SiteFault::Toml);
@@ -172,7 +174,8 @@ fn site_in<A: Allocator + Copy>(alloc: A, document: &Value) -> Result<Site<A>, S
 
 /// The array at a key, where the value is a table that has one there.
 fn array_at<'a>(value: &'a Value, key: &str) -> Option<&'a Array>
-    ensures { option_map (λ found. array_view found.now) result ≡ array_at key.now (view value.now) }
+    ensures { option_map (λ found. array_view found.now) result ≡
+        array_at key.now (view value.now) }
 {
     value.get(key)?.as_array()
 }

@@ -1,6 +1,7 @@
 use cell_table::{Site, SiteFault};
 use channel_fsm::ChanId;
 use refusing_heap::RefusingHeap;
+use std::alloc::{AllocError, Global};
 use std::process::Abort;
 use std::test::Fail;
 
@@ -50,6 +51,12 @@ fn two_cells_are_read(rt: HostRuntime) -> Result<(), Fail> {
     for (cell, count) in [(0, Some(1)), (1, Some(2)), (2, None), (255, None)] {
         assert_eq!(rt; site.trx(cell), count, "cell {cell}");
     }
+    Ok(())
+}
+
+#[test]
+fn a_trx_has_its_timeslots(rt: HostRuntime) -> Result<(), Fail> {
+    let site = Site::read(rt.alloc(), rt.alloc(), TWO_CELLS)?;
     assert!(rt; has_timeslots(&site, 0, 0, &[2, 3]));
     assert!(rt; has_timeslots(&site, 1, 0, &[]));
     assert!(rt; has_timeslots(&site, 1, 1, &[3]));
@@ -59,6 +66,12 @@ fn two_cells_are_read(rt: HostRuntime) -> Result<(), Fail> {
             "cell {cell}, TRX {trx}"
         );
     }
+    Ok(())
+}
+
+#[test]
+fn timeslots_of_the_site_carry_traffic(rt: HostRuntime) -> Result<(), Fail> {
+    let site = Site::read(rt.alloc(), rt.alloc(), TWO_CELLS)?;
     let rows = [
         (0, 0, 2, true),
         (0, 0, 3, true),
@@ -195,6 +208,15 @@ fn what_describes_a_site_is_read(rt: HostRuntime) -> Result<(), Fail> {
     Ok(())
 }
 
+/// A site of so many cells, each with one traffic channel.
+fn text_of_cells(alloc: Global, cells: u32) -> Result<String, AllocError> {
+    let mut text = String::new(alloc);
+    for _ in 0..cells {
+        text.push_str("[[cell]]\ntrx = [{ tch = [1] }]\n")?;
+    }
+    Ok(text)
+}
+
 #[test]
 fn a_site_has_at_most_64_cells(rt: HostRuntime) -> Result<(), Fail> {
     for (cells, read) in [
@@ -204,10 +226,7 @@ fn a_site_has_at_most_64_cells(rt: HostRuntime) -> Result<(), Fail> {
         (65, None),
         (321, None),
     ] {
-        let mut text = String::new(rt.alloc());
-        for _ in 0..cells {
-            text.push_str("[[cell]]\ntrx = [{ tch = [1] }]\n")?;
-        }
+        let text = text_of_cells(rt.alloc(), cells)?;
         let answer = Site::read(rt.alloc(), rt.alloc(), text.as_str());
         assert_eq!(rt; answer.map(|site| site.cells()).ok(), read, "{cells} cells");
     }

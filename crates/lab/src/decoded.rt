@@ -29,7 +29,8 @@ pub enum Link {
 
 /// The octets that a text writes in hexadecimal, in either case; `None` where it isn't hexadecimal.
 fn octets<A: Allocator + Copy>(alloc: A, text: &str) -> Result<Option<Vec<u8, A>>, AllocError>
-    ensures octets { IfOk result (λ found. IfSome found (λ octets. decode_of text.now ≡ Ok octets.items)) }
+    ensures octets { IfOk result (λ found. IfSome found
+        (λ octets. decode_of text.now ≡ Ok octets.items)) }
     ensures none { IfOk result (λ found. IfNone found (IsErr (decode_of text.now))) }
     ensures memory { IsErr result → is_some (octets_of text.now) ≡ true }
 {
@@ -68,7 +69,8 @@ fn refuse_octets<W: Write>(out: &mut W, fault: Bad) -> Result<Status, LabFault>
 /// Why octets are no message on A, unless memory was refused.
 fn bssmap_fault(fault: BssmapFault) -> Result<Bad, LabFault>
     ensures fault { IfOk result (λ bad. (fault ≢ BssmapFault.NoMemory) × (bad ≡ Bad.Bssmap fault)) }
-    ensures memory { IfErr result (λ answer. (fault ≡ BssmapFault.NoMemory) × (answer ≡ LabFault.NoMemory)) }
+    ensures memory { IfErr result (λ answer. (fault ≡ BssmapFault.NoMemory) ×
+        (answer ≡ LabFault.NoMemory)) }
 {
     match fault {
         BssmapFault::NoMemory => Err(LabFault::NoMemory),
@@ -79,7 +81,8 @@ fn bssmap_fault(fault: BssmapFault) -> Result<Bad, LabFault>
 /// Why octets are no message on Abis, unless memory was refused.
 fn abis_fault(fault: RslFault) -> Result<Bad, LabFault>
     ensures fault { IfOk result (λ bad. (fault ≢ RslFault.NoMemory) × (bad ≡ Bad.Rsl fault)) }
-    ensures memory { IfErr result (λ answer. (fault ≡ RslFault.NoMemory) × (answer ≡ LabFault.NoMemory)) }
+    ensures memory { IfErr result (λ answer. (fault ≡ RslFault.NoMemory) ×
+        (answer ≡ LabFault.NoMemory)) }
 {
     match fault {
         RslFault::NoMemory => Err(LabFault::NoMemory),

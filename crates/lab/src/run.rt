@@ -1,16 +1,16 @@
 //! A controller that is driven by a script, on one thread.
-ghost use Rattle.std.specs.Prelude.{◌≡◌, ◌⊎◌, Ok, None, IsSome, IfOk};
-ghost use Rattle.radio_book.specs.SiteFile.{described_site};
+ghost use Rattle.std.specs.Prelude.{◌≡◌, ◌≢◌, ◌⊎◌, Ok, Err, None, IsSome, IfOk};
+ghost use Rattle.cell_table.specs.SiteFile.{described_site, IsBlankFile};
 ghost use Rattle.lab_script.specs.Script.{first_unread};
 ghost use Rattle.lab.specs.Statuses.{status_of, status_after};
 
+use cell_table::{Site, SiteFault};
 use ho_procedure::exchange::{Inbound, PlainFault};
 use ho_procedure::procedure::handle_plain;
 use lab_script::script::{ScriptFault, read_script};
 use lab_text::bad::Bad;
 use lab_text::trace::{print_end, print_fault, print_handled, print_input};
 use radio_book::book::Book;
-use radio_book::site::{Site, SiteFault};
 use std::alloc::{AllocError, Allocator, Global};
 use std::io::{self, Write};
 use std::sync::Arc;
@@ -102,14 +102,16 @@ fn run_inputs<A: Allocator + Copy, W: Write>(
     site: Site<A>,
     inputs: Vec<Inbound<A>, A>,
     out: &mut W,
-) -> Result<(), LabFault> {
+) -> Result<Status, LabFault>
+    ensures { IfOk result (λ status. status ≡ Status.Done) }
+{
     let site = Arc::new(alloc, site).map_err(AllocError::from)?;
     let mut book = Book::new(alloc, site)?;
     for input in inputs {
         run_input(alloc, &mut book, input, out)?;
     }
     print_end(out, book.usage())?;
-    Ok(())
+    Ok(Status::Done)
 }
 
 /// The inputs of a script; nothing where a line can't be read, whose number was printed.
@@ -142,11 +144,23 @@ fn run_script<A: Allocator + Copy, W: Write>(
     ensures refused { result ≡ Ok Status.Refused → IsSome (first_unread script.now) }
 {
     match script_inputs(alloc, script, out)? {
-        Some(inputs) => {
-            run_inputs(alloc, site, inputs, out)?;
-            Ok(Status::Done)
-        }
+        Some(inputs) => run_inputs(alloc, site, inputs, out),
         None => Ok(Status::Refused),
+    }
+}
+
+/// Says that there is no site to run over.
+fn refuse_site<W: Write>(fault: SiteFault, out: &mut W) -> Result<Status, LabFault>
+    ensures done { result ≢ Ok Status.Done }
+    ensures refused { result ≡ Ok Status.Refused → fault ≡ SiteFault.Toml }
+    ensures memory { result ≡ Err LabFault.NoMemory → fault ≡ SiteFault.NoMemory }
+{
+    match fault {
+        SiteFault::Toml => {
+            writeln!(out, "site 1")?;
+            Ok(Status::Refused)
+        }
+        SiteFault::NoMemory => Err(LabFault::NoMemory),
     }
 }
 
@@ -155,7 +169,7 @@ fn run_script<A: Allocator + Copy, W: Write>(
 /// The site is read first, then all lines of the script. A text that describes no site prints `site 1`, a script
 /// prints `line` and the number of its first line that can't be read, counted from 1; then nothing else is printed
 /// and the answer is `Refused`. `scratch` serves while the site is read, `alloc` for all else. Once memory was
-/// refused nothing more is printed.
+/// refused nothing more is printed; a site of white space and comments alone is refused without any.
 pub fn lab_run<A: Allocator + Copy, W: Write>(
     alloc: A,
     scratch: Global,
@@ -163,15 +177,14 @@ pub fn lab_run<A: Allocator + Copy, W: Write>(
     script: &str,
     out: &mut W,
 ) -> Result<Status, LabFault>
-    ensures done { result ≡ Ok Status.Done → IsSome (described_site site.now) × (first_unread script.now ≡ None) }
-    ensures refused { result ≡ Ok Status.Refused → (described_site site.now ≡ None) ⊎ IsSome (first_unread script.now) }
+    ensures done { result ≡ Ok Status.Done → IsSome (described_site site.now) ×
+        (first_unread script.now ≡ None) }
+    ensures refused { result ≡ Ok Status.Refused →
+        (described_site site.now ≡ None) ⊎ IsSome (first_unread script.now) }
+    ensures memory { result ≡ Err LabFault.NoMemory → ¬ IsBlankFile site.now }
 {
     match Site::read(alloc, scratch, site) {
         Ok(site) => run_script(alloc, site, script, out),
-        Err(SiteFault::Toml) => {
-            writeln!(out, "site 1")?;
-            Ok(Status::Refused)
-        }
-        Err(SiteFault::NoMemory) => Err(LabFault::NoMemory),
+        Err(fault) => refuse_site(fault, out),
     }
 }

@@ -171,7 +171,9 @@ pub fn is_octets(text: &str) -> bool
 
 /// The cell, the TRX and the octets, still in hexadecimal, of `abis CELL TRX HEX`.
 fn abis_line(line: &str) -> Option<(u8, u8, &str)>
-    ensures message { option_and_then (λ m. option_map (λ octets. (m.0, m.1, octets)) (said.octets_of m.2.now)) result ≡ said.abis_line line.now }
+    ensures message { option_and_then (λ m. option_map
+        (λ octets. (m.0, m.1, octets)) (said.octets_of m.2.now)) result ≡
+        said.abis_line line.now }
     ensures octets { IfSome result (λ m. is_some (said.octets_of m.2.now) ≡ true) }
 {
     let (cell, text) = first_word(after_keyword(line, "abis")?);
@@ -259,8 +261,10 @@ fn add_input<A: Allocator + Copy>(
     inputs: &mut Vec<Inbound<A>, A>,
     line: &str,
 ) -> Result<(), AllocError>
-    ensures added { OnOk result (inputs.new.items ≡ inputs.old.items ++ filter_map said.input_of (strip_carriage_return line.now ∷ [])) }
-    ensures memory { IsErr result → is_some (said.input_of {A = A} (strip_carriage_return line.now)) ≡ true }
+    ensures added { OnOk result (inputs.new.items ≡ inputs.old.items ++
+        filter_map said.input_of (strip_carriage_return line.now ∷ [])) }
+    ensures memory { IsErr result → is_some (said.input_of {A = A}
+        (strip_carriage_return line.now)) ≡ true }
 {
     if let Some(input) = input(alloc, without_return(line))? {
         inputs.push(input)?;
@@ -287,7 +291,8 @@ pub fn read_script<A: Allocator + Copy>(
 ) -> Result<Vec<Inbound<A>, A>, ScriptFault>
     ensures inputs { IfOk result (λ inputs. inputs.items ≡ said.inputs_of text.now) }
     ensures readable { OnOk result (said.first_unread text.now ≡ None) }
-    ensures line { (number : ℕ) → (result ≡ Err (ScriptFault.Line number)) ↔ (said.first_unread text.now ≡ Some number) }
+    ensures line { (number : ℕ) → (result ≡ Err (ScriptFault.Line number)) ↔
+        (said.first_unread text.now ≡ Some number) }
     ensures memory { result ≡ Err ScriptFault.NoMemory → said.inputs_of {A = A} text.now ≢ [] }
 {
     if let Some(line) = first_unread(text) {

@@ -59,24 +59,19 @@ impl<A: Allocator + Copy> fmt::Display for FieldsText<'_, A> {
                 serving,
                 target,
             } => {
-                let channel = HexText(channel.as_slice());
-                let encryption = HexText(encryption.as_slice());
-                let classmark = ClassmarkText(classmark);
-                write!(f, " channel={channel} encryption={encryption}")?;
+                write!(f, " channel={}", HexText(channel.as_slice()))?;
+                write!(f, " encryption={}", HexText(encryption.as_slice()))?;
+                write!(f, " classmark={}", ClassmarkText(classmark))?;
                 let (serving, target) = (CellText(*serving), CellText(*target));
-                write!(
-                    f,
-                    " classmark={classmark} serving={serving} target={target}"
-                )
+                write!(f, " serving={serving} target={target}")
             }
             Bssmap::HandoverRequired {
                 cause,
                 response,
                 cells,
             } => {
-                let response = u8::from(*response);
-                let cells = CellsText(cells.as_slice());
-                write!(f, " cause={cause} response={response} cells={cells}")
+                write!(f, " cause={cause} response={}", u8::from(*response))?;
+                write!(f, " cells={}", CellsText(cells.as_slice()))
             }
             Bssmap::HandoverRequestAck { layer3 } | Bssmap::HandoverCommand { layer3 } => {
                 write!(f, " layer3={}", HexText(layer3.as_slice()))

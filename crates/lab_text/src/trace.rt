@@ -227,14 +227,19 @@ pub fn print_input<A: Allocator, W: Write>(out: &mut W, input: &Inbound<A>) -> i
 /// Prints what the handling of an input came to: the events in their order, a cell without a free channel, and the
 /// messages in their order.
 pub fn print_handled<A: Allocator, W: Write>(out: &mut W, handled: &Handled<A>) -> io::Result<()> {
-    for (event, reply) in &handled.events {
-        writeln!(out, "event {} -> {}", EventText(*event), ReplyText(*reply))?;
-    }
+    print_events(out, &handled.events)?;
     if let Some(cell) = handled.none_free {
         writeln!(out, "none free {cell}")?;
     }
     for message in &handled.out {
         writeln!(out, "out {}", OutboundText(message))?;
+    }
+    Ok(())
+}
+
+fn print_events<W: Write>(out: &mut W, events: &[(Event, Reply)]) -> io::Result<()> {
+    for (event, reply) in events {
+        writeln!(out, "event {} -> {}", EventText(*event), ReplyText(*reply))?;
     }
     Ok(())
 }

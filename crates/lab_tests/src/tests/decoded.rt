@@ -339,16 +339,27 @@ fn prints_without(
     Ok(true)
 }
 
+/// How many requests for memory were refused in turn before a text was read and printed.
+fn refusals_of(
+    rt: &(impl AllocGlobal + Abort),
+    link: Link,
+    hex: &str,
+    wanted: &str,
+) -> Result<u64, Fail> {
+    let mut tried = 0u64;
+    for n in 1..100 {
+        if prints_without(rt, rt.alloc(), link, hex, wanted, n)? {
+            break;
+        }
+        tried = n;
+    }
+    Ok(tried)
+}
+
 #[test]
 fn each_request_for_memory_is_refused(rt: HostRuntime) -> Result<(), Fail> {
     for (link, (hex, wanted)) in WANTS {
-        let mut tried = 0u64;
-        for n in 1..100 {
-            if prints_without(&rt, rt.alloc(), *link, *hex, *wanted, n)? {
-                break;
-            }
-            tried = n;
-        }
+        let tried = refusals_of(&rt, *link, *hex, *wanted)?;
         // the octets of the text, and what the message keeps
         assert!(rt; 2 <= tried && tried < 99, "{hex}: {tried} requests");
     }
@@ -388,16 +399,27 @@ fn writes_all(
     Ok(true)
 }
 
+/// How many writes failed in turn before a text was printed.
+fn failures_of(
+    rt: &(impl AllocGlobal + Abort),
+    link: Link,
+    hex: &str,
+    wanted: &str,
+) -> Result<u64, Fail> {
+    let mut tried = 0u64;
+    for before in 0..100 {
+        if writes_all(rt, rt.alloc(), link, hex, wanted, before)? {
+            break;
+        }
+        tried = tried.saturating_add(1);
+    }
+    Ok(tried)
+}
+
 #[test]
 fn each_write_fails(rt: HostRuntime) -> Result<(), Fail> {
     for (link, (hex, wanted)) in WRITES {
-        let mut tried = 0u64;
-        for before in 0..100 {
-            if writes_all(&rt, rt.alloc(), *link, *hex, *wanted, before)? {
-                break;
-            }
-            tried = tried.saturating_add(1);
-        }
+        let tried = failures_of(&rt, *link, *hex, *wanted)?;
         assert!(rt; 1 <= tried && tried < 100, "{hex}: {tried} writes");
     }
     Ok(())

@@ -97,16 +97,27 @@ fn writes_all(
     Ok(true)
 }
 
+/// How many writes failed in turn before a run was printed.
+fn failures_of(
+    rt: &(impl AllocGlobal + Abort),
+    site: &str,
+    script: &str,
+    wanted: &str,
+) -> Result<u64, Fail> {
+    let mut tried = 0u64;
+    for before in 0..1000 {
+        if writes_all(rt, rt.alloc(), site, script, wanted, before)? {
+            break;
+        }
+        tried = tried.saturating_add(1);
+    }
+    Ok(tried)
+}
+
 #[test]
 fn each_write_fails(rt: HostRuntime) -> Result<(), Fail> {
     for (site, (script, wanted), at_least) in WRITES {
-        let mut tried = 0u64;
-        for before in 0..1000 {
-            if writes_all(&rt, rt.alloc(), *site, *script, *wanted, before)? {
-                break;
-            }
-            tried = tried.saturating_add(1);
-        }
+        let tried = failures_of(&rt, *site, *script, *wanted)?;
         assert!(rt; *at_least <= tried && tried < 1000, "{tried} writes");
     }
     Ok(())
