@@ -473,22 +473,21 @@ fn fault_of_front(elements: &[(usize, u8, bool)], n: usize) -> Option<BssmapFaul
     torn
 }
 
-/// Reads the first n octets of a text as they are, and with the length octet mended.
+/// Reads a front of a text as it is, and with the length octet mended.
 fn finds_the_fault_of_front(
     rt: &(impl AllocGlobal + Abort),
-    text: &[u8],
+    front: &[u8],
     elements: &[(usize, u8, bool)],
-    n: usize,
 ) -> Result<(), Fail> {
-    let fault = decode(rt.alloc(), &text[..n]).err();
-    assert_eq!(rt; fault, Some(BssmapFault::Length), "{n} of {text:?}");
-    let mut front = Vec::from_slice(rt.alloc(), &text[..n])?;
-    if let Some(length) = front.get_mut(1) {
-        *length = n.saturating_sub(2).min(255) as u8;
+    let fault = decode(rt.alloc(), front).err();
+    assert_eq!(rt; fault, Some(BssmapFault::Length), "{front:?}");
+    let mut mended = Vec::from_slice(rt.alloc(), front)?;
+    if let Some(length) = mended.get_mut(1) {
+        *length = front.len().saturating_sub(2).min(255) as u8;
     }
-    if n > 2 {
-        let fault = decode(rt.alloc(), &front).err();
-        assert_eq!(rt; fault, fault_of_front(elements, n), "{n} of {text:?}");
+    if front.len() > 2 {
+        let fault = decode(rt.alloc(), &mended).err();
+        assert_eq!(rt; fault, fault_of_front(elements, front.len()), "{front:?}");
     }
     Ok(())
 }
@@ -499,7 +498,7 @@ fn finds_the_faults_of_fronts(
     elements: &[(usize, u8, bool)],
 ) -> Result<(), Fail> {
     for n in 1..text.len() {
-        finds_the_fault_of_front(rt, text, elements, n)?;
+        finds_the_fault_of_front(rt, &text[..n], elements)?;
     }
     Ok(())
 }

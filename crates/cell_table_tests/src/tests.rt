@@ -1,7 +1,7 @@
 use cell_table::{Site, SiteFault};
 use channel_fsm::ChanId;
 use refusing_heap::RefusingHeap;
-use std::alloc::{AllocError, Global};
+use std::alloc::{AllocError, Allocator, Global};
 use std::process::Abort;
 use std::test::Fail;
 
@@ -36,13 +36,16 @@ ncc = 3
 bcc = 0
 ";
 
-// Whether the site has the TRX, with these timeslots.
-fn has_timeslots(site: &Site, cell: u8, trx: u8, timeslots: &[u8]) -> bool {
-    match site.timeslots(cell, trx) {
-        Some(found) => found == timeslots,
-        None => false,
-    }
-}
+// Each TRX of the two cells with its timeslots, and some that they don't have.
+const TIMESLOTS: &[(u8, u8, Option<&[u8]>)] = &[
+    (0, 0, Some(&[2, 3])),
+    (1, 0, Some(&[])),
+    (1, 1, Some(&[3])),
+    (0, 1, None),
+    (1, 2, None),
+    (2, 0, None),
+    (255, 255, None),
+];
 
 #[test]
 fn two_cells_are_read(rt: HostRuntime) -> Result<(), Fail> {
@@ -54,18 +57,21 @@ fn two_cells_are_read(rt: HostRuntime) -> Result<(), Fail> {
     Ok(())
 }
 
-#[test]
-fn a_trx_has_its_timeslots(rt: HostRuntime) -> Result<(), Fail> {
-    let site = Site::read(rt.alloc(), rt.alloc(), TWO_CELLS)?;
-    assert!(rt; has_timeslots(&site, 0, 0, &[2, 3]));
-    assert!(rt; has_timeslots(&site, 1, 0, &[]));
-    assert!(rt; has_timeslots(&site, 1, 1, &[3]));
-    for (cell, trx) in [(0, 1), (1, 2), (2, 0), (255, 255)] {
-        assert!(rt;
-            site.timeslots(cell, trx).is_none(),
+// Each TRX of the site has its timeslots.
+fn has_timeslots<A: Allocator + Copy>(rt: &impl Abort, site: &Site<A>) {
+    for (cell, trx, timeslots) in TIMESLOTS {
+        assert_eq!(rt;
+            site.timeslots(*cell, *trx),
+            *timeslots,
             "cell {cell}, TRX {trx}"
         );
     }
+}
+
+#[test]
+fn a_trx_has_its_timeslots(rt: HostRuntime) -> Result<(), Fail> {
+    let site = Site::read(rt.alloc(), rt.alloc(), TWO_CELLS)?;
+    has_timeslots(&rt, &site);
     Ok(())
 }
 
@@ -233,12 +239,29 @@ fn a_site_has_at_most_64_cells(rt: HostRuntime) -> Result<(), Fail> {
     Ok(())
 }
 
+// A site says what the text of the two cells does.
+fn says_two_cells(rt: &impl Abort, site: &Site<&RefusingHeap>) {
+    assert_eq!(rt; site.cells(), 2);
+    assert_eq!(rt;
+        (site.trx(0), site.trx(1), site.trx(2)),
+        (Some(1), Some(2), None)
+    );
+    has_timeslots(rt, site);
+}
+
+// Reads the two cells over a heap.
+fn reads_two_cells(rt: &(impl AllocGlobal + Abort), heap: &RefusingHeap) -> Result<(), SiteFault> {
+    let site = Site::read(heap, rt.alloc(), TWO_CELLS)?;
+    says_two_cells(rt, &site);
+    Ok(())
+}
+
 #[test]
 fn each_refused_request_is_want_of_memory(rt: HostRuntime) {
     let mut refusals = 0;
     for n in 1..100 {
         let heap = RefusingHeap::refusing_nth(rt.alloc(), n);
-        let fault = Site::read(&heap, rt.alloc(), TWO_CELLS).err();
+        let fault = reads_two_cells(&rt, &heap).err();
         assert_eq!(rt;
             fault,
             heap.was_refused().then_some(SiteFault::NoMemory),

@@ -17,9 +17,9 @@ use std::process::Abort;
 use std::sync::Arc;
 use std::test::Fail;
 
-// Timeslots 2 and 3 of cell 0 carry traffic, and timeslot 3 of TRX 1 of cell 1.
+// Cell 0 has timeslots 2 and 3 of TRX 0 and fourteen channels more, cell 1 has timeslot 3 of TRX 1.
 const SITE: &str = "[[cell]]
-trx = [{ tch = [2, 3] }]
+trx = [{ tch = [2, 3] }, { tch = [1, 2, 3, 4, 5, 6, 7] }, { tch = [1, 2, 3, 4, 5, 6, 7] }]
 [[cell]]
 trx = [{ tch = [] }, { tch = [3] }]
 ";
@@ -116,6 +116,20 @@ const SENT: Reply = Record(
     Some(ChanState::On(1)),
 );
 
+/// The record of call 1 whose target was confirmed.
+const CONFIRMED: Reply = Record(
+    CallRecord {
+        serving: Some(SERVING),
+        attempt: Some(Attempt {
+            kind: AttemptKind::Internal,
+            stage: Stage::Confirmed,
+            target: Some(TARGET),
+            reference: Some(0),
+        }),
+    },
+    Some(ChanState::On(1)),
+);
+
 /// The record of call 1 whose target was refused.
 const TARGET_REFUSED: Reply = Record(
     CallRecord {
@@ -139,17 +153,20 @@ const HELD: Reply = Record(
     Some(ChanState::Held(2)),
 );
 
+/// Call 1 begins.
+const OPENS: Row = Row {
+    given: Operator(Line::Open {
+        call: 1,
+        chan: SERVING,
+    }),
+    events: &[(Open(1, SERVING), Done)],
+    none_free: None,
+    out: &[(0, 0, ACTIVATES_3)],
+};
+
 /// Call 1 begins, and its channel is confirmed.
 const BEGINS: &[Row] = &[
-    Row {
-        given: Operator(Line::Open {
-            call: 1,
-            chan: SERVING,
-        }),
-        events: &[(Open(1, SERVING), Done)],
-        none_free: None,
-        out: &[(0, 0, ACTIVATES_3)],
-    },
+    OPENS,
     Row {
         given: Abis(0, 0, ACTIVATED_3),
         events: &[(Confirm(SERVING), Owned(1)), (Look(1), STEADY)],
@@ -159,7 +176,7 @@ const BEGINS: &[Row] = &[
 ];
 
 /// The handover of call 1 to cell 1 begins.
-const STARTS: &[Row] = &[Row {
+const STARTS: Row = Row {
     given: Operator(Line::Handover { call: 1, cell: 1 }),
     events: &[
         (Take(1, Kind::Internal, TARGET), Done),
@@ -168,16 +185,19 @@ const STARTS: &[Row] = &[Row {
     ],
     none_free: None,
     out: &[(1, 1, ACTIVATES_TARGET)],
-}];
+};
 
 /// Call 1 ends.
+const CLEARS: Row = Row {
+    given: Operator(Line::Clear { call: 1 }),
+    events: &[(Look(1), STEADY), (Clear(1), Done)],
+    none_free: None,
+    out: &[(0, 0, RELEASES_3)],
+};
+
+/// Call 1 ends, and its channel is released.
 const ENDS: &[Row] = &[
-    Row {
-        given: Operator(Line::Clear { call: 1 }),
-        events: &[(Look(1), STEADY), (Clear(1), Done)],
-        none_free: None,
-        out: &[(0, 0, RELEASES_3)],
-    },
+    CLEARS,
     Row {
         given: Abis(0, 0, RELEASED_3),
         events: &[(Released(SERVING), Done)],
@@ -186,17 +206,20 @@ const ENDS: &[Row] = &[
     },
 ];
 
+/// Call 2 begins.
+const OPENS_2: Row = Row {
+    given: Operator(Line::Open {
+        call: 2,
+        chan: FIRST,
+    }),
+    events: &[(Open(2, FIRST), Done)],
+    none_free: None,
+    out: &[(0, 0, ACTIVATES_2)],
+};
+
 /// The channel of call 2 is refused: the call is cleared without a message.
 const REFUSED_AT_ONCE: &[Row] = &[
-    Row {
-        given: Operator(Line::Open {
-            call: 2,
-            chan: FIRST,
-        }),
-        events: &[(Open(2, FIRST), Done)],
-        none_free: None,
-        out: &[(0, 0, ACTIVATES_2)],
-    },
+    OPENS_2,
     Row {
         given: Abis(0, 0, REFUSES_2),
         events: &[(Refuse(FIRST), Owned(2)), (Look(2), HELD)],
@@ -212,13 +235,16 @@ const REFUSED_AT_ONCE: &[Row] = &[
 ];
 
 /// The handover of call 1 is taken back.
+const UNDOES: Row = Row {
+    given: Operator(Line::Undo { call: 1 }),
+    events: &[(Undo(1, Why::Asked), SENT)],
+    none_free: None,
+    out: &[(1, 1, RELEASES_3)],
+};
+
+/// The handover of call 1 is taken back, and its target is released.
 const TAKEN_BACK: &[Row] = &[
-    Row {
-        given: Operator(Line::Undo { call: 1 }),
-        events: &[(Undo(1, Why::Asked), SENT)],
-        none_free: None,
-        out: &[(1, 1, RELEASES_3)],
-    },
+    UNDOES,
     Row {
         given: Abis(1, 1, RELEASED_3),
         events: &[(Released(TARGET), Done)],
@@ -228,7 +254,7 @@ const TAKEN_BACK: &[Row] = &[
 ];
 
 /// The target of call 1 is refused, and taken back.
-const TARGET_TAKEN_BACK: &[Row] = &[Row {
+const TARGET_TAKEN_BACK: Row = Row {
     given: Abis(1, 1, REFUSES_3),
     events: &[
         (Refuse(TARGET), Owned(1)),
@@ -237,10 +263,26 @@ const TARGET_TAKEN_BACK: &[Row] = &[Row {
     ],
     none_free: None,
     out: &[],
-}];
+};
+
+/// The target of call 1 is confirmed.
+const TARGET_CONFIRMED: Row = Row {
+    given: Abis(1, 1, ACTIVATED_3),
+    events: &[(Confirm(TARGET), Owned(1)), (Look(1), CONFIRMED)],
+    none_free: None,
+    out: &[],
+};
+
+/// No release of the target of call 1 is awaited.
+const UNEXPECTED: Row = Row {
+    given: Abis(1, 1, RELEASED_3),
+    events: &[(Released(TARGET), Refused(Refusal::Unexpected(TARGET)))],
+    none_free: None,
+    out: &[],
+};
 
 /// Call 1 ends while its handover is on the way.
-const ENDS_IN_HANDOVER: &[Row] = &[Row {
+const ENDS_IN_HANDOVER: Row = Row {
     given: Operator(Line::Clear { call: 1 }),
     events: &[
         (Look(1), SENT),
@@ -249,7 +291,7 @@ const ENDS_IN_HANDOVER: &[Row] = &[Row {
     ],
     none_free: None,
     out: &[(1, 1, RELEASES_3), (0, 0, RELEASES_3)],
-}];
+};
 
 /// No channel is free in cell 1, no other cell is the site's, and there is no call 1.
 const FINDS_NOTHING: &[Row] = &[
@@ -288,6 +330,14 @@ const FINDS_NOTHING: &[Row] = &[
     },
 ];
 
+/// A message that no station sends, and that keeps octets.
+const ASKS_NOTHING: Row = Row {
+    given: Abis(0, 0, ACTIVATES_SHORT),
+    events: &[],
+    none_free: None,
+    out: &[],
+};
+
 /// Messages that no station sends.
 const WITHOUT_A_ROW: &[Row] = &[
     Row {
@@ -296,12 +346,7 @@ const WITHOUT_A_ROW: &[Row] = &[
         none_free: None,
         out: &[],
     },
-    Row {
-        given: Abis(0, 0, ACTIVATES_SHORT),
-        events: &[],
-        none_free: None,
-        out: &[],
-    },
+    ASKS_NOTHING,
 ];
 
 /// Octets that are no message, and why.
@@ -312,28 +357,6 @@ const NO_MESSAGES: &[(&[u8], RslFault)] = &[
     (&[0x08, 0x33, 0x01, 0x10], RslFault::BadElement(0x01)),
     (&[0x08, 0x22, 0x01], RslFault::Torn(2)),
     (&[0x08; 1025], RslFault::TooLong),
-];
-
-/// Inputs that want memory, and whether call 1 is in a handover before.
-const WANTS: &[(bool, Given)] = &[
-    (
-        false,
-        Operator(Line::Open {
-            call: 2,
-            chan: FIRST,
-        }),
-    ),
-    (false, Operator(Line::Handover { call: 1, cell: 1 })),
-    (false, Operator(Line::Clear { call: 1 })),
-    (true, Operator(Line::Undo { call: 1 })),
-    (true, Operator(Line::Clear { call: 1 })),
-    (
-        true,
-        Abis(1, 1, &[0x08, 0x22, 0x01, 0x0B, 0x08, 0x00, 0x00]),
-    ),
-    (true, Abis(1, 1, REFUSES_3)),
-    (true, Abis(1, 1, RELEASED_3)),
-    (true, Abis(1, 1, ACTIVATES_SHORT)),
 ];
 
 fn inbound<A: Allocator + Copy>(alloc: A, given: Given) -> Result<Inbound<A>, AllocError> {
@@ -347,13 +370,18 @@ fn inbound<A: Allocator + Copy>(alloc: A, given: Given) -> Result<Inbound<A>, Al
     }
 }
 
-fn opened(alloc: Global) -> Result<Book<Global>, Fail> {
-    let site = Site::read(alloc, alloc, SITE)?;
+fn opened<A: Allocator + Copy>(alloc: A, scratch: Global) -> Result<Book<A>, Fail> {
+    let site = Site::read(alloc, scratch, SITE)?;
     Ok(Book::new(alloc, Arc::new(alloc, site)?)?)
 }
 
 /// These messages are sent.
-fn sends(rt: &impl Abort, given: Given, out: &[Outbound<Global>], wanted: &[(u8, u8, &[u8])]) {
+fn sends<A: Allocator>(
+    rt: &impl Abort,
+    given: Given,
+    out: &[Outbound<A>],
+    wanted: &[(u8, u8, &[u8])],
+) {
     assert_eq!(rt; out.len(), wanted.len(), "{given:?}");
     for (sent, wanted) in out.iter().zip(wanted.iter()) {
         let Outbound::Abis { cell, trx, bytes } = sent;
@@ -362,7 +390,7 @@ fn sends(rt: &impl Abort, given: Given, out: &[Outbound<Global>], wanted: &[(u8,
 }
 
 /// An input comes to what its row says.
-fn comes_to(rt: &impl Abort, handled: &Handled<Global>, row: Row) {
+fn comes_to<A: Allocator>(rt: &impl Abort, handled: &Handled<A>, row: Row) {
     let given = row.given;
     assert_eq!(rt; handled.events.as_slice(), row.events, "{given:?}");
     assert_eq!(rt; handled.none_free, row.none_free, "{given:?}");
@@ -370,12 +398,32 @@ fn comes_to(rt: &impl Abort, handled: &Handled<Global>, row: Row) {
 }
 
 /// Plays rows over a book, one after another.
-fn play(rt: &impl Abort, alloc: Global, book: &mut Book<Global>, rows: &[Row]) -> Result<(), Fail> {
+fn play<A: Allocator + Copy>(
+    rt: &impl Abort,
+    alloc: A,
+    book: &mut Book<A>,
+    rows: &[Row],
+) -> Result<(), Fail> {
     for row in rows {
         let handled = handle_plain(alloc, book, inbound(alloc, row.given)?)?;
         comes_to(rt, &handled, *row);
     }
     Ok(())
+}
+
+/// What a book holds after these rows too.
+fn played(
+    rt: &impl Abort,
+    alloc: Global,
+    book: &mut Book<Global>,
+    begin: &[Row],
+    middle: &[Row],
+    end: &[Row],
+) -> Result<Usage, Fail> {
+    play(rt, alloc, book, begin)?;
+    play(rt, alloc, book, middle)?;
+    play(rt, alloc, book, end)?;
+    Ok(book.usage())
 }
 
 /// What a book holds after these rows.
@@ -386,11 +434,8 @@ fn usage_after(
     end: &[Row],
 ) -> Result<Usage, Fail> {
     let alloc = rt.alloc();
-    let mut book = opened(alloc)?;
-    play(rt, alloc, &mut book, begin)?;
-    play(rt, alloc, &mut book, middle)?;
-    play(rt, alloc, &mut book, end)?;
-    Ok(book.usage())
+    let mut book = opened(alloc, alloc)?;
+    played(rt, alloc, &mut book, begin, middle, end)
 }
 
 #[test]
@@ -409,7 +454,7 @@ fn a_refused_channel_is_cleared_without_a_message(rt: HostRuntime) -> Result<(),
 
 #[test]
 fn a_handover_is_taken_back(rt: HostRuntime) -> Result<(), Fail> {
-    let usage = usage_after(&rt, BEGINS, STARTS, TAKEN_BACK)?;
+    let usage = usage_after(&rt, BEGINS, &[STARTS], TAKEN_BACK)?;
     let wanted = Usage {
         channels: 1,
         calls: 1,
@@ -422,14 +467,14 @@ fn a_handover_is_taken_back(rt: HostRuntime) -> Result<(), Fail> {
 
 #[test]
 fn a_refused_target_is_taken_back(rt: HostRuntime) -> Result<(), Fail> {
-    let usage = usage_after(&rt, BEGINS, STARTS, TARGET_TAKEN_BACK)?;
+    let usage = usage_after(&rt, BEGINS, &[STARTS], &[TARGET_TAKEN_BACK])?;
     assert_eq!(rt; usage.channels, 1);
     Ok(())
 }
 
 #[test]
 fn a_call_with_an_attempt_is_cleared(rt: HostRuntime) -> Result<(), Fail> {
-    let usage = usage_after(&rt, BEGINS, STARTS, ENDS_IN_HANDOVER)?;
+    let usage = usage_after(&rt, BEGINS, &[STARTS], &[ENDS_IN_HANDOVER])?;
     // both channels await their releases
     assert_eq!(rt; (usage.channels, usage.calls), (2, 0));
     Ok(())
@@ -442,57 +487,255 @@ fn an_input_that_finds_nothing_asks_nothing(rt: HostRuntime) -> Result<(), Fail>
     Ok(())
 }
 
-#[test]
-fn octets_that_are_no_message_ask_nothing(rt: HostRuntime) -> Result<(), Fail> {
-    let alloc = rt.alloc();
-    let mut book = opened(alloc)?;
+fn are_no_messages(rt: &impl Abort, alloc: Global, book: &mut Book<Global>) -> Result<(), Fail> {
     for (octets, fault) in NO_MESSAGES {
         let input = inbound(alloc, Abis(0, 0, *octets))?;
-        let answer = handle_plain(alloc, &mut book, input).err();
+        let answer = handle_plain(alloc, book, input).err();
         assert_eq!(rt; answer, Some(PlainFault::Undecoded(*fault)), "{fault:?}");
     }
     Ok(())
 }
 
-/// Whether an input was handled over a heap that refuses this request, and met no refusal. Call 1 is steady before,
-/// or in a handover.
-fn handles_without(
+#[test]
+fn octets_that_are_no_message_ask_nothing(rt: HostRuntime) -> Result<(), Fail> {
+    let mut book = opened(rt.alloc(), rt.alloc())?;
+    are_no_messages(&rt, rt.alloc(), &mut book)
+}
+
+/// What was before an input.
+#[derive(Clone, Copy, Debug)]
+enum Before {
+    /// Nothing: the book is empty.
+    Nothing,
+    /// Call 1 is on its channel.
+    Steady,
+    /// Call 1 is in a handover.
+    InHandover,
+    /// Call 1 is on its channel, and so many others have begun that a table of the book takes memory for one more.
+    Crowded,
+}
+
+/// Inputs that want memory, and for how many things at least: for each first or sixteenth entry of a table of the book,
+/// for what the message keeps, for the list of events, and for that of messages with the octets of each.
+const WANTS: &[(Before, Row, u64)] = &[
+    (Before::Nothing, OPENS, 5),
+    (Before::Steady, OPENS_2, 3),
+    (Before::Steady, STARTS, 4),
+    (Before::Crowded, STARTS, 5),
+    (Before::Steady, CLEARS, 3),
+    (Before::InHandover, UNDOES, 3),
+    (Before::InHandover, ENDS_IN_HANDOVER, 4),
+    (Before::InHandover, TARGET_CONFIRMED, 1),
+    (Before::InHandover, TARGET_TAKEN_BACK, 1),
+    (Before::InHandover, UNEXPECTED, 1),
+    (Before::Nothing, ASKS_NOTHING, 1),
+];
+
+/// Calls begin on channels of TRX 1 and 2 of cell 0, none of them confirmed: fourteen, with the channel of call 1
+/// fifteen.
+fn crowd<A: Allocator + Copy>(rt: &impl Abort, book: &mut Book<A>) -> Result<(), AllocError> {
+    for k in 0..14u8 {
+        let chan = ChanId {
+            cell: 0,
+            trx: k / 7 + 1,
+            tn: k % 7 + 1,
+        };
+        assert_eq!(rt; book.step(Open(u16::from(k) + 100, chan))?, Done, "{chan}");
+    }
+    Ok(())
+}
+
+/// Makes an empty book the one before an input.
+fn prepare<A: Allocator + Copy>(
     rt: &impl Abort,
-    alloc: Global,
-    in_handover: bool,
+    alloc: A,
+    book: &mut Book<A>,
+    before: Before,
+) -> Result<(), Fail> {
+    match before {
+        Before::Nothing => Ok(()),
+        Before::Steady => play(rt, alloc, book, BEGINS),
+        Before::InHandover => {
+            play(rt, alloc, book, BEGINS)?;
+            play(rt, alloc, book, &[STARTS])
+        }
+        Before::Crowded => {
+            play(rt, alloc, book, BEGINS)?;
+            Ok(crowd(rt, book)?)
+        }
+    }
+}
+
+/// What a book says of its size, of call 1 and of call 2.
+type Shown = (Usage, Reply, Reply);
+
+fn shown<A: Allocator + Copy>(book: &mut Book<A>) -> Result<Shown, AllocError> {
+    Ok((book.usage(), book.step(Look(1))?, book.step(Look(2))?))
+}
+
+/// Asks events of a book, and then what it says.
+fn shown_then(book: &mut Book<Global>, events: &[(Event, Reply)]) -> Result<Shown, AllocError> {
+    for (event, _reply) in events {
+        book.step(*event)?;
+    }
+    shown(book)
+}
+
+/// What the book before an input says after these events.
+fn prepared_then(
+    rt: &(impl AllocGlobal + Abort),
+    book: &mut Book<Global>,
+    before: Before,
+    events: &[(Event, Reply)],
+) -> Result<Shown, Fail> {
+    prepare(rt, rt.alloc(), book, before)?;
+    Ok(shown_then(book, events)?)
+}
+
+/// What a fresh book shows after what was before and these events.
+fn shown_after(
+    rt: &(impl AllocGlobal + Abort),
+    before: Before,
+    events: &[(Event, Reply)],
+) -> Result<Shown, Fail> {
+    let mut book = opened(rt.alloc(), rt.alloc())?;
+    prepared_then(rt, &mut book, before, events)
+}
+
+/// Whether a beginning of the events, or all of them, comes to this.
+fn is_after_some(
+    rt: &(impl AllocGlobal + Abort),
+    before: Before,
+    events: &[(Event, Reply)],
+    wanted: Shown,
+) -> Result<bool, Fail> {
+    for count in 0..=events.len() {
+        if shown_after(rt, before, &events[..count])? == wanted {
+            return Ok(true);
+        }
+    }
+    Ok(false)
+}
+
+/// An input to the book before it.
+fn input_after<'a>(
+    rt: &impl Abort,
+    heap: &'a RefusingHeap,
+    book: &mut Book<&'a RefusingHeap>,
+    before: Before,
     given: Given,
+) -> Result<Inbound<&'a RefusingHeap>, Fail> {
+    prepare(rt, heap, book, before)?;
+    Ok(inbound(heap, given)?)
+}
+
+/// How many requests for memory a heap has had when an input comes.
+fn requests_after<'a>(
+    rt: &impl Abort,
+    heap: &'a RefusingHeap,
+    book: &mut Book<&'a RefusingHeap>,
+    before: Before,
+    given: Given,
+) -> Result<u64, Fail> {
+    input_after(rt, heap, book, before, given)?;
+    Ok(heap.requests())
+}
+
+fn requests_before(
+    rt: &(impl AllocGlobal + Abort),
+    before: Before,
+    given: Given,
+) -> Result<u64, Fail> {
+    let heap = RefusingHeap::ample(rt.alloc());
+    let mut book = opened(&heap, rt.alloc())?;
+    requests_after(rt, &heap, &mut book, before, given)
+}
+
+/// Handles an input: it comes to what its row says, unless there is a fault.
+fn fault_of<'a>(
+    rt: &impl Abort,
+    heap: &'a RefusingHeap,
+    book: &mut Book<&'a RefusingHeap>,
+    input: Inbound<&'a RefusingHeap>,
+    row: Row,
+) -> Option<PlainFault> {
+    match handle_plain(heap, book, input) {
+        Ok(handled) => {
+            comes_to(rt, &handled, row);
+            None
+        }
+        Err(fault) => Some(fault),
+    }
+}
+
+/// The fault of an input, and what the book says then.
+fn left_by<'a>(
+    rt: &impl Abort,
+    heap: &'a RefusingHeap,
+    book: &mut Book<&'a RefusingHeap>,
+    before: Before,
+    row: Row,
+) -> Result<(Option<PlainFault>, Shown), Fail> {
+    let input = input_after(rt, heap, book, before, row.given)?;
+    let fault = fault_of(rt, heap, book, input, row);
+    Ok((fault, shown(book)?))
+}
+
+/// What an input comes to over a heap, and what the book shows then.
+fn left_over(
+    rt: &(impl AllocGlobal + Abort),
+    heap: &RefusingHeap,
+    before: Before,
+    row: Row,
+) -> Result<(Option<PlainFault>, Shown), Fail> {
+    let mut book = opened(heap, rt.alloc())?;
+    left_by(rt, heap, &mut book, before, row)
+}
+
+/// Whether an input met the refusal of a request. The book is as after a beginning of the row's events, and without a
+/// refusal as after all of them.
+fn meets_refusal(
+    rt: &(impl AllocGlobal + Abort),
+    before: Before,
+    row: Row,
     request: u64,
 ) -> Result<bool, Fail> {
-    let mut book = opened(alloc)?;
-    play(rt, alloc, &mut book, BEGINS)?;
-    if in_handover {
-        play(rt, alloc, &mut book, STARTS)?;
-    }
-    let heap = RefusingHeap::refusing_nth(alloc, request);
-    let Ok(input) = inbound(&heap, given) else {
-        return Ok(false);
-    };
-    let fault = handle_plain(&heap, &mut book, input).err();
-    let wanted = if heap.was_refused() {
-        Some(PlainFault::NoMemory)
+    let heap = RefusingHeap::refusing_nth(rt.alloc(), request);
+    let (fault, left) = left_over(rt, &heap, before, row)?;
+    let given = row.given;
+    let stands = if heap.was_refused() {
+        assert_eq!(rt; fault, Some(PlainFault::NoMemory), "{given:?}");
+        is_after_some(rt, before, row.events, left)?
     } else {
-        None
+        assert_eq!(rt; fault, None, "{given:?}");
+        shown_after(rt, before, row.events)? == left
     };
-    assert_eq!(rt; fault, wanted, "{given:?}");
-    Ok(fault.is_none())
+    assert!(rt; stands, "{given:?}, request {request}");
+    Ok(heap.was_refused())
+}
+
+/// How many requests for memory were refused in turn before the input was handled.
+fn refusals_of(rt: &(impl AllocGlobal + Abort), before: Before, row: Row) -> Result<u64, Fail> {
+    let first = requests_before(rt, before, row.given)?;
+    let mut tried = 0u64;
+    for n in 1..100 {
+        if !meets_refusal(rt, before, row, first.saturating_add(n))? {
+            break;
+        }
+        tried = n;
+    }
+    Ok(tried)
 }
 
 #[test]
 fn refused_memory_is_answered(rt: HostRuntime) -> Result<(), Fail> {
-    for (in_handover, given) in WANTS {
-        let mut tried = 0u64;
-        for request in 1..1000 {
-            if handles_without(&rt, rt.alloc(), *in_handover, *given, request)? {
-                break;
-            }
-            tried = request;
-        }
-        assert!(rt; 1 <= tried && tried < 999, "{given:?}: {tried} requests");
+    for (before, row, at_least) in WANTS {
+        let tried = refusals_of(&rt, *before, *row)?;
+        assert!(rt;
+            *at_least <= tried && tried < 99,
+            "{before:?}, {:?}: {tried} requests",
+            row.given
+        );
     }
     Ok(())
 }

@@ -412,15 +412,19 @@ fn each_stage_of_a_call_that_comes_is_undone(rt: HostRuntime) -> Result<(), Fail
     Ok(())
 }
 
-fn moves_and_rests(rt: &(impl AllocGlobal + Abort), way: Way) -> Result<(), Fail> {
-    let mut book = book_of(rt.alloc(), rt.alloc(), THREE_CHANNELS)?;
-    play(rt, &mut book, &STEADY)?;
-    comes_back(rt, &mut book, Kind::Internal, way, undone(way.1, way.2))?;
+fn comes_back_and_rests(rt: &impl Abort, book: &mut Book<Global>, way: Way) -> Result<(), Fail> {
+    play(rt, book, &STEADY)?;
+    comes_back(rt, book, Kind::Internal, way, undone(way.1, way.2))?;
     let ends = [
         (Ask::Usage, holds(1, 1, 0)),
         (Step(Look(1)), Says(Record(RESTING, Some(ChanState::On(1))))),
     ];
-    play(rt, &mut book, &ends)
+    play(rt, book, &ends)
+}
+
+fn moves_and_rests(rt: &(impl AllocGlobal + Abort), way: Way) -> Result<(), Fail> {
+    let mut book = book_of(rt.alloc(), rt.alloc(), THREE_CHANNELS)?;
+    comes_back_and_rests(rt, &mut book, way)
 }
 
 #[test]
@@ -493,52 +497,145 @@ fn the_lowest_free_number_is_reserved(rt: HostRuntime) -> Result<(), Fail> {
     Ok(())
 }
 
-fn channel(cell: u8, call: u16) -> ChanId {
+// The channel of a call in cell 0 of the site of many channels. Calls 1 to 28 have one each.
+fn home_of(call: u16) -> ChanId {
     ChanId {
-        cell,
+        cell: 0,
         trx: (call / 7 % 4) as u8,
         tn: (call % 7 + 1) as u8,
     }
 }
 
-const CALLS: u16 = 24;
+// The channel of call 1 there.
+const HOME_OF_1: ChanId = ChanId {
+    cell: 0,
+    trx: 0,
+    tn: 2,
+};
 
-// Calls begin in cell 0; two in three move to cell 1, by a named channel or any, and others come to it.
-fn asks_of(call: u16) -> [Ask; 5] {
-    let home = channel(0, call);
-    let away = channel(1, call);
-    match call % 3 {
-        0 => [
-            Step(Open(call, home)),
-            Step(Confirm(home)),
-            Step(Take(call, Kind::Internal, away)),
-            Step(Reserve(call, 40)),
-            Step(Activate(call)),
-        ],
-        1 => [
-            Step(Open(call, home)),
-            Step(Confirm(home)),
-            TakeAny(call, Kind::Internal, 1),
-            ReserveAny(call),
-            Step(Activate(call)),
-        ],
-        _ => [
-            Step(Take(call, Kind::Incoming, away)),
-            ReserveAny(call),
-            Step(Undo(call, Why::Asked)),
-            TakeAny(call, Kind::Incoming, 1),
-            ReserveAny(call),
-        ],
-    }
+// That of call 16.
+const HOME_OF_16: ChanId = ChanId {
+    cell: 0,
+    trx: 2,
+    tn: 3,
+};
+
+// The lowest channel of cell 1 there, and its highest.
+const LOWEST: ChanId = ChanId {
+    cell: 1,
+    trx: 0,
+    tn: 1,
+};
+
+const HIGHEST: ChanId = ChanId {
+    cell: 1,
+    trx: 3,
+    tn: 7,
+};
+
+// An ask that may want memory, and its answer where calls 1, 2, .. up to `open` are open in cell 0 and these steps came
+// after.
+//
+// A table asks for memory with its first entry, and where the 15 entries of a node are full.
+struct Want {
+    open: u16,
+    steps: &'static [Row],
+    ask: Ask,
+    answer: Answer,
 }
 
-// What a book shows of itself and of a call, where no memory is wanted.
-fn shown(book: &mut Book<&RefusingHeap>, call: u16) -> Result<[Answer; 4], Fail> {
+const CONFIRMED: Row = (Step(Confirm(HOME_OF_1)), Says(Owned(1)));
+
+const MOVES: Row = (Step(Take(1, Kind::Internal, LOWEST)), DONE);
+
+const WANTS: &[Want] = &[
+    Want {
+        open: 0,
+        steps: &[],
+        ask: Step(Open(1, HOME_OF_1)),
+        answer: DONE,
+    },
+    Want {
+        open: 15,
+        steps: &[],
+        ask: Step(Open(16, HOME_OF_16)),
+        answer: DONE,
+    },
+    Want {
+        open: 0,
+        steps: &[],
+        ask: Step(Take(1, Kind::Incoming, HIGHEST)),
+        answer: DONE,
+    },
+    Want {
+        open: 0,
+        steps: &[],
+        ask: TakeAny(1, Kind::Incoming, 1),
+        answer: Chose(Take(1, Kind::Incoming, LOWEST), Done),
+    },
+    Want {
+        open: 15,
+        steps: &[],
+        ask: Step(Take(16, Kind::Incoming, HIGHEST)),
+        answer: DONE,
+    },
+    Want {
+        open: 15,
+        steps: &[],
+        ask: TakeAny(16, Kind::Incoming, 1),
+        answer: Chose(Take(16, Kind::Incoming, LOWEST), Done),
+    },
+    Want {
+        open: 15,
+        steps: &[CONFIRMED],
+        ask: Step(Take(1, Kind::Internal, HIGHEST)),
+        answer: DONE,
+    },
+    Want {
+        open: 15,
+        steps: &[CONFIRMED],
+        ask: TakeAny(1, Kind::Internal, 1),
+        answer: Chose(Take(1, Kind::Internal, LOWEST), Done),
+    },
+    Want {
+        open: 1,
+        steps: &[CONFIRMED, MOVES],
+        ask: Step(Reserve(1, 7)),
+        answer: DONE,
+    },
+    Want {
+        open: 1,
+        steps: &[CONFIRMED, MOVES],
+        ask: ReserveAny(1),
+        answer: Chose(Reserve(1, 0), Done),
+    },
+];
+
+// Makes an empty book the one before the ask.
+fn prepare(rt: &impl Abort, book: &mut Book<&RefusingHeap>, want: &Want) -> Result<(), Fail> {
+    for before in 0..want.open {
+        let call = before.saturating_add(1);
+        assert_eq!(rt; book.step(Open(call, home_of(call)))?, Done, "{call}");
+    }
+    play(rt, book, want.steps)
+}
+
+// How many requests come before the ask.
+fn requests_before(rt: &(impl AllocGlobal + Abort), want: &Want) -> Result<u64, Fail> {
+    let heap = RefusingHeap::ample(rt.alloc());
+    let mut book = book_of(&heap, rt.alloc(), MANY_CHANNELS)?;
+    prepare(rt, &mut book, want)?;
+    Ok(heap.requests())
+}
+
+// What a book shows of itself and of calls 1 and 2, where no memory is wanted.
+fn shown(book: &mut Book<&RefusingHeap>) -> Result<[Answer; 5], AllocError> {
     Ok([
         put(book, Ask::Usage)?,
         put(book, FreeIn(0))?,
         put(book, FreeIn(1))?,
-        put(book, Step(Look(call)))?,
+        put(book, Step(Look(1)))?,
+        put(book, Step(Look(2)))?,
     ])
 }
 
@@ -547,63 +644,61 @@ fn ask_twice(
     rt: &impl Abort,
     book: &mut Book<&RefusingHeap>,
     heap: &RefusingHeap,
-    call: u16,
     ask: Ask,
-) -> Result<(), Fail> {
-    let before = shown(book, call)?;
-    let refused = heap.refused();
-    match put(book, ask) {
-        Ok(_) => assert_eq!(rt; heap.refused(), refused, "{ask:?}"),
-        Err(AllocError) => {
-            assert!(rt; refused < heap.refused(), "{ask:?}");
-            assert_eq!(rt; shown(book, call)?, before, "{ask:?}");
-            put(book, ask)?;
-        }
+) -> Result<Answer, AllocError> {
+    let before = shown(book)?;
+    let answer = put(book, ask);
+    assert_eq!(rt; answer.is_err(), heap.was_refused(), "{ask:?}");
+    if answer.is_ok() {
+        return answer;
     }
-    Ok(())
+    assert_eq!(rt; shown(book)?, before, "{ask:?}");
+    put(book, ask)
 }
 
-fn all_asked(
+// Asks the book before the ask, which answers as is wanted: whether memory was refused.
+fn answers_want(
     rt: &impl Abort,
     book: &mut Book<&RefusingHeap>,
     heap: &RefusingHeap,
-) -> Result<(), Fail> {
-    for call in 0..CALLS {
-        for ask in asks_of(call) {
-            ask_twice(rt, book, heap, call, ask)?;
-        }
-    }
-    assert_eq!(rt; book.usage().calls, CALLS as usize);
-    Ok(())
-}
-
-// Whether a run over a heap that refuses its n-th request met the refusal.
-fn meets_refusal(rt: &(impl AllocGlobal + Abort), n: u64) -> Result<bool, Fail> {
-    let heap = RefusingHeap::refusing_nth(rt.alloc(), n);
-    let mut book = book_of(&heap, rt.alloc(), MANY_CHANNELS)?;
-    all_asked(rt, &mut book, &heap)?;
+    want: &Want,
+) -> Result<bool, Fail> {
+    prepare(rt, book, want)?;
+    let answer = ask_twice(rt, book, heap, want.ask)?;
+    assert_eq!(rt; answer, want.answer, "{:?}", want.ask);
     Ok(heap.was_refused())
 }
 
-// How many requests it takes to make an empty book.
-fn requests_of_a_book(rt: &(impl AllocGlobal + Abort)) -> Result<u64, Fail> {
-    let heap = RefusingHeap::ample(rt.alloc());
-    let book = book_of(&heap, rt.alloc(), MANY_CHANNELS)?;
-    assert_eq!(rt; Holds(book.usage()), holds(0, 0, 0));
-    Ok(heap.requests())
+// Whether an ask met the refusal of the n-th request.
+fn meets_refusal(rt: &(impl AllocGlobal + Abort), want: &Want, n: u64) -> Result<bool, Fail> {
+    let heap = RefusingHeap::refusing_nth(rt.alloc(), n);
+    let mut book = book_of(&heap, rt.alloc(), MANY_CHANNELS)?;
+    answers_want(rt, &mut book, &heap, want)
+}
+
+// How many requests of an ask were refused in turn before one met no refusal.
+fn refusals_of(rt: &(impl AllocGlobal + Abort), want: &Want) -> Result<u64, Fail> {
+    let before = requests_before(rt, want)?;
+    let mut tried = 0u64;
+    for n in 1..100 {
+        if !meets_refusal(rt, want, before.saturating_add(n))? {
+            break;
+        }
+        tried = n;
+    }
+    Ok(tried)
 }
 
 #[test]
 fn each_refusal_of_memory_is_answered(rt: HostRuntime) -> Result<(), Fail> {
-    let first = requests_of_a_book(&rt)?.saturating_add(1);
-    let mut tried = 0u64;
-    for n in first..first.saturating_add(100) {
-        if !meets_refusal(&rt, n)? {
-            break;
-        }
-        tried = tried.saturating_add(1);
+    for want in WANTS {
+        let tried = refusals_of(&rt, want)?;
+        assert!(rt;
+            1 <= tried && tried < 99,
+            "{:?}: {tried} requests",
+            want.ask
+        );
     }
-    assert!(rt; 6 < tried && tried < 100, "{tried} requests");
     Ok(())
 }
 
@@ -617,14 +712,23 @@ const FULL: [Row; 5] = [
 ];
 
 // What a book answers that has no memory left.
+fn answers_after_the_last(
+    rt: &impl Abort,
+    book: &mut Book<&RefusingHeap>,
+    heap: &RefusingHeap,
+    rows: &[Row],
+) -> Result<(), Fail> {
+    play(rt, book, &FULL)?;
+    heap.refuse_from_now();
+    play(rt, book, rows)?;
+    assert_eq!(rt; heap.refused(), 0);
+    Ok(())
+}
+
 fn answers_without_memory(rt: &(impl AllocGlobal + Abort), rows: &[Row]) -> Result<(), Fail> {
     let heap = RefusingHeap::ample(rt.alloc());
     let mut book = book_of(&heap, rt.alloc(), THREE_CHANNELS)?;
-    play(rt, &mut book, &FULL)?;
-    heap.refuse_from_now();
-    play(rt, &mut book, rows)?;
-    assert_eq!(rt; heap.refused(), 0);
-    Ok(())
+    answers_after_the_last(rt, &mut book, &heap, rows)
 }
 
 #[test]

@@ -577,6 +577,38 @@ fn refused_memory_is_the_only_want_of_memory(rt: HostRuntime) {
     }
 }
 
+/// Reads a canonical text over a heap, and writes what it says over the same: that text.
+fn reads_and_writes(rt: &impl Abort, heap: &RefusingHeap, text: &[u8]) -> Result<(), RslFault> {
+    let message = decode(heap, text)?;
+    assert!(rt; fits(&message), "{text:?}");
+    assert_eq!(rt; encode(heap, &message)?.as_slice(), text);
+    Ok(())
+}
+
+/// Each request for memory of `decode` and then of `encode` is refused in turn: how many there are.
+fn refused_requests(rt: &(impl AllocGlobal + Abort), text: &[u8]) -> Option<u64> {
+    for n in 1..100 {
+        let heap = RefusingHeap::refusing_nth(rt.alloc(), n);
+        let fault = reads_and_writes(rt, &heap, text).err();
+        if !heap.was_refused() {
+            assert_eq!(rt; fault, None, "request {n} of {text:?}");
+            return Some(n - 1);
+        }
+        assert_eq!(rt; fault, Some(RslFault::NoMemory), "request {n} of {text:?}");
+    }
+    None
+}
+
+#[test]
+fn refused_memory_is_the_only_want_of_memory_of_writing(rt: HostRuntime) -> Result<(), Fail> {
+    for (text, lists) in TEXTS.iter().zip(LISTS) {
+        let requests = refused_requests(&rt, text).ok_or("no run without a refusal")?;
+        // the requests of `encode` come after one for each list
+        assert!(rt; *lists < requests, "{requests} requests of {text:?}");
+    }
+    Ok(())
+}
+
 /// Octets with a fault behind an octet list that is whole.
 const FAULTY_TEXTS: &[(&[u8], RslFault)] = &[
     (&[8, 0x21, 1, 0x0B, 3, 0, 6, 1, 0, 9], RslFault::Torn(9)),
