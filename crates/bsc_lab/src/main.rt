@@ -20,7 +20,8 @@ fn run<R: Files + Print + AllocGlobal>(
     site: &str,
     script: &str,
 ) -> Result<Status, LabFault> {
-    let mut out = BufWriter::new(rt.alloc(), io::writer(rt))?;
+    // a buffer lacks nothing but memory
+    let mut out = BufWriter::new(rt.alloc(), io::writer(rt)).map_err(|_| LabFault::NoMemory)?;
     let ended = run_files(rt, site, script, &mut out);
     // what was printed before a fault is shown
     out.flush()?;
@@ -30,7 +31,7 @@ fn run<R: Files + Print + AllocGlobal>(
 /// Prints the message that a text writes in hexadecimal.
 fn decode<R: Print + AllocGlobal>(rt: &R, link: Link, text: &str) -> Result<Status, LabFault> {
     let alloc = rt.alloc();
-    let mut out = BufWriter::new(alloc, io::writer(rt))?;
+    let mut out = BufWriter::new(alloc, io::writer(rt)).map_err(|_| LabFault::NoMemory)?;
     let ended = decode_run(alloc, link, text, &mut out);
     out.flush()?;
     ended

@@ -122,6 +122,7 @@ fn script_inputs<A: Allocator + Copy, W: Write>(
 ) -> Result<Option<Vec<Inbound<A>, A>>, LabFault>
     ensures read { IfOk result (λ inputs. IsSome inputs → first_unread script.now ≡ None) }
     ensures refused { IfOk result (λ inputs. inputs ≡ None → IsSome (first_unread script.now)) }
+    ensures memory { result ≡ Err LabFault.NoMemory → first_unread script.now ≡ None }
 {
     match read_script(alloc, script) {
         Ok(inputs) => Ok(Some(inputs)),
@@ -142,6 +143,7 @@ fn run_script<A: Allocator + Copy, W: Write>(
 ) -> Result<Status, LabFault>
     ensures done { result ≡ Ok Status.Done → first_unread script.now ≡ None }
     ensures refused { result ≡ Ok Status.Refused → IsSome (first_unread script.now) }
+    ensures memory { result ≡ Err LabFault.NoMemory → first_unread script.now ≡ None }
 {
     match script_inputs(alloc, script, out)? {
         Some(inputs) => run_inputs(alloc, site, inputs, out),

@@ -98,7 +98,8 @@ impl<A: Allocator + Copy> Book<A> {
 
     /// A `Take` of a free channel of the cell, judged as by [`Book::step`], with its answer; `None` where no
     /// channel of the cell is free, which takes no memory and changes nothing. A cell that isn't the site's
-    /// has no channel. The channel is that of the lowest TRX, then timeslot.
+    /// has no channel. Any free one meets the contract; this
+    /// body takes that of the lowest TRX, then timeslot.
     pub fn take_any(
         &mut self,
         call: u16,
@@ -128,7 +129,7 @@ impl<A: Allocator + Copy> Book<A> {
     /// A `Reserve` of a number whose reference in the cell of the call's target isn't in use, judged as by
     /// [`Book::step`], with its answer. There is always one: a cell has no more than 32 channels. Where the
     /// call has no attempt that waits for a reference, it is `Reserve(call, 0)`, and the answer its refusal.
-    /// The number is the lowest.
+    /// Any such number meets the contract; this body takes the lowest.
     pub fn reserve_any(&mut self, call: u16) -> Result<(Event, Reply), AllocError>
         ensures event { IfOk result (λ chosen. ReservesFree self.old call chosen.0) }
         ensures reply { IfOk result (λ chosen. chosen.1 ≡ reply_to self.old chosen.0) }
