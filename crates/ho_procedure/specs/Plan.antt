@@ -1,10 +1,13 @@
 -- Plans: what a controller asks of the book and what it sends, each step by the replies before it.
 use Rattle.std.specs.Prelude.{◌≡◌, ℕ, List, [], ◌∷◌, Option, Some, None}
 use Rattle.radio_book.specs.ChanId.{ChanId}
+use Rattle.radio_book.specs.ChanState.{ChanState}
 use Rattle.radio_book.specs.declared.event.Kind.{Kind}
 use Rattle.radio_book.specs.declared.event.Event.{Event}
 use Rattle.radio_book.specs.declared.event.Event.TheVariants.{Take, Reserve}
+use Rattle.radio_book.specs.declared.event.CallRecord.{CallRecord}
 use Rattle.radio_book.specs.declared.event.Reply.{Reply}
+use Rattle.radio_book.specs.declared.event.Reply.TheVariants.{Done, Record, Owned}
 
 -- a message to the station behind a TRX of a cell, in octets
 pub data Sent : Type 0 where
@@ -18,6 +21,28 @@ pub data Plan : Type 0 where
   Takes : ℕ → Kind → ℕ → (ChanId → Reply → Plan) → Plan
   Reserves : ℕ → (ℕ → Reply → Plan) → Plan
   Sends : Sent → Plan → Plan
+
+-- send some messages and go on
+abbrev pub sends : List Sent → Plan → Plan
+sends [] next = next
+sends (m ∷ ms) next = Sends m (sends ms next)
+
+-- A plan goes on at one reply, and ends at any other.
+abbrev pub if_done : Plan → Reply → Plan
+if_done next Done = next
+if_done next reply = Ends
+
+abbrev pub if_owned : (ℕ → Plan) → Reply → Plan
+if_owned next (Owned c) = next c
+if_owned next reply = Ends
+
+abbrev pub if_record : (CallRecord → Option ChanState → Plan) → Reply → Plan
+if_record next (Record r s) = next r s
+if_record next reply = Ends
+
+-- it ends at every reply
+abbrev pub nothing_more : Reply → Plan
+nothing_more reply = Ends
 
 -- Events with their replies, the cell in which no channel was free, and messages follow a plan from its
 -- beginning to its end. Where no channel of a cell is free there is no event, and the plan ends.

@@ -1,5 +1,5 @@
 -- The procedure: for each input, what the controller asks of the book and what it sends, by the replies.
-use Rattle.std.specs.Prelude.{ℕ, Bool, true, false, if◌then◌else◌, not, nat_lt, List, [], ◌∷◌, length, Option, Some, None}
+use Rattle.std.specs.Prelude.{ℕ, Bool, true, false, if◌then◌else◌, not, ◌&&◌, ◌||◌, nat_lt, List, [], ◌∷◌, length, Option, Some, None, is_some}
 use Rattle.radio_book.specs.ChanId.{ChanId}
 use Rattle.radio_book.specs.ChanState.{ChanState}
 use Rattle.radio_book.specs.ChanState.TheVariants.{Held}
@@ -12,8 +12,6 @@ use Rattle.radio_book.specs.declared.event.Why.TheVariants.{Asked}
 use Rattle.radio_book.specs.declared.event.Attempt.{Attempt}
 use Rattle.radio_book.specs.declared.event.CallRecord.{CallRecord}
 use Rattle.radio_book.specs.declared.event.Event.TheVariants as event
-use Rattle.radio_book.specs.declared.event.Reply.{Reply}
-use Rattle.radio_book.specs.declared.event.Reply.TheVariants.{Done, Record, Owned}
 use Rattle.radio_book.specs.Site.{SiteView}
 use Rattle.radio_book.specs.Sound.{target_in}
 use Rattle.radio_book.specs.Table.{is_target}
@@ -25,7 +23,7 @@ use Rattle.ho_procedure.specs.declared.exchange.Line.{Line}
 use Rattle.ho_procedure.specs.declared.exchange.Line.TheVariants as line
 use Rattle.ho_procedure.specs.declared.procedure.release.Release.{Release}
 use Rattle.ho_procedure.specs.declared.procedure.release.Release.TheVariants.{Nothing, Channel, Unknown}
-use Rattle.ho_procedure.specs.Plan.{Sent, OnAbis, Plan, Ends, Asks, Takes, Reserves, Sends}
+use Rattle.ho_procedure.specs.Plan.{Sent, OnAbis, Plan, Ends, Asks, Takes, Reserves, Sends, sends, if_done, if_owned, if_record, nothing_more}
 
 -- Messages on Abis (TS 48.058).
 
@@ -57,24 +55,26 @@ release x = about x (λ channel. RfChannelRelease channel)
 abbrev pub is_nameable : ChanId → Bool
 is_nameable x = nat_lt x.tn 8
 
--- A row ends at a reply after which it would send a message about a channel that the reply lacks, or whose
--- timeslot no message can name.
-abbrev pub if_named : ChanId → Plan → Plan
-if_named x next = if is_nameable x then next else Ends
+-- A row ends at a reply after which it would send a message about a channel whose timeslot no message can name.
+abbrev pub if_nameable : ChanId → Plan → Plan
+if_nameable x next = if is_nameable x then next else Ends
 
--- The release of a channel of which the station may know.
+-- the release of a channel of which the station may know
 abbrev pub release_of : Option ChanId → Release
 release_of None = Unknown
-release_of (Some x) = if is_nameable x then Channel x else Unknown
+release_of (Some x) = Channel x
 
-abbrev pub is_unknown : Release → Bool
-is_unknown Unknown = true
-is_unknown release = false
+-- what is released is known, and a message can name it
+abbrev pub is_named : Release → Bool
+is_named Nothing = true
+is_named (Channel x) = is_nameable x
+is_named Unknown = false
 
--- a message can name the timeslot of the channel that is released
-abbrev pub can_name : Release → Bool
-can_name (Channel x) = is_nameable x
-can_name release = true
+-- the messages of a release: one, where there is a channel that a message can name
+abbrev pub release_messages : Release → List Sent
+release_messages Nothing = []
+release_messages (Channel x) = if is_nameable x then release x ∷ [] else []
+release_messages Unknown = []
 
 -- a target is switched on from its activation on, until the station refused it
 abbrev pub is_switched_on : Stage → Bool
@@ -92,53 +92,27 @@ abbrev pub serving_release : CallRecord → Option ChanState → Release
 serving_release r (Some (Held c)) = Nothing
 serving_release r s = release_of r.serving
 
--- send the release and go on
-abbrev pub releases : Release → Plan → Plan
-releases Nothing next = next
-releases (Channel x) next = Sends (release x) next
-releases Unknown next = Ends
-
--- what is sent for a release
-abbrev pub sent_by : Release → List Sent
-sent_by Nothing = []
-sent_by (Channel x) = release x ∷ []
-sent_by Unknown = []
-
 -- An operator opens a call: its channel is activated.
-abbrev pub after_open : ChanId → Reply → Plan
-after_open x Done = if_named x (Sends (activation x) Ends)
-after_open x reply = Ends
-
 abbrev pub open_plan : ℕ → ChanId → Plan
-open_plan c x = Asks (event.Open c x) (after_open x)
+open_plan c x = Asks (event.Open c x) (if_done (if_nameable x (Sends (activation x) Ends)))
 
 -- A handover begins: a channel is taken, a reference reserved, the channel activated.
-abbrev pub start_activated : ChanId → ℕ → Reply → Plan
-start_activated x n Done = Sends (target_activation x n) Ends
-start_activated x n reply = Ends
+abbrev pub start_reserved : ℕ → ChanId → ℕ → Plan
+start_reserved c x n = Asks (event.Activate c) (if_done (Sends (target_activation x n) Ends))
 
-abbrev pub start_reserved : ℕ → ChanId → ℕ → Reply → Plan
-start_reserved c x n Done = Asks (event.Activate c) (start_activated x n)
-start_reserved c x n reply = Ends
-
-abbrev pub start_taken : ℕ → ChanId → Reply → Plan
-start_taken c x Done = if_named x (Reserves c (start_reserved c x))
-start_taken c x reply = Ends
+abbrev pub start_taken : ℕ → ChanId → Plan
+start_taken c x = if_nameable x (Reserves c (λ n. if_done (start_reserved c x n)))
 
 abbrev pub start_plan : ℕ → ℕ → Plan
-start_plan c cell = Takes c kind.Internal cell (start_taken c)
+start_plan c cell = Takes c kind.Internal cell (λ x. if_done (start_taken c x))
 
 -- An operator asks for a handover; a cell that isn't the site's gives nothing.
 abbrev pub handover_plan : SiteView → ℕ → ℕ → Plan
 handover_plan site c cell = if nat_lt cell (length site) then start_plan c cell else Ends
 
 -- An operator takes an attempt back: its target is released where it was switched on.
-abbrev pub undo_answered : Reply → Plan
-undo_answered (Record r s) = releases (target_release r.attempt) Ends
-undo_answered reply = Ends
-
 abbrev pub undo_plan : ℕ → Plan
-undo_plan c = Asks (event.Undo c Asked) undo_answered
+undo_plan c = Asks (event.Undo c Asked) (if_record (λ r s. sends (release_messages (target_release r.attempt)) Ends))
 
 -- the record remains after an undo, but that of a call which comes from another controller
 abbrev pub remains_of : AttemptKind → Bool
@@ -151,59 +125,39 @@ remains (Some a) = remains_of a.kind
 
 -- the record names every channel that is released when its call is cleared
 abbrev pub names_releases : CallRecord → Option ChanState → Bool
-names_releases r s = if is_unknown (target_release r.attempt) then false else if remains r.attempt then not (is_unknown (serving_release r s)) else true
+names_releases r s = is_named (target_release r.attempt) && (not (remains r.attempt) || is_named (serving_release r s))
+
+-- A row ends at a record that doesn't name every channel which the rest of the row releases.
+abbrev pub if_names_releases : (CallRecord → Option ChanState → Plan) → CallRecord → Option ChanState → Plan
+if_names_releases next r s = if names_releases r s then next r s else Ends
 
 -- What remains of a call is cleared, and its serving channel released.
-abbrev pub after_clear : Release → Reply → Plan
-after_clear serving Done = releases serving Ends
-after_clear serving reply = Ends
+abbrev pub clear_serving : ℕ → CallRecord → Option ChanState → Plan
+clear_serving c r s = Asks (event.Clear c) (if_done (sends (release_messages (serving_release r s)) Ends))
 
-abbrev pub clear_remaining : ℕ → Bool → Release → Plan
-clear_remaining c false serving = Ends
-clear_remaining c true serving = Asks (event.Clear c) (after_clear serving)
-
--- the target is released, where it was switched on, and then what remains is cleared
+-- The target is released, where it was switched on, and then what remains is cleared.
 abbrev pub clear_rest : ℕ → CallRecord → Option ChanState → Plan
-clear_rest c r s = releases (target_release r.attempt) (clear_remaining c (remains r.attempt) (serving_release r s))
+clear_rest c r s = sends (release_messages (target_release r.attempt)) (if remains r.attempt then clear_serving c r s else Ends)
 
-abbrev pub clear_undone : ℕ → Reply → Plan
-clear_undone c (Record r s) = if names_releases r s then clear_rest c r s else Ends
-clear_undone c reply = Ends
-
-abbrev pub clear_named : ℕ → CallRecord → Option ChanState → Option Attempt → Plan
-clear_named c r s None = clear_rest c r s
-clear_named c r s (Some a) = Asks (event.Undo c Asked) (clear_undone c)
-
-abbrev pub clear_looked : ℕ → Reply → Plan
-clear_looked c (Record r s) = if names_releases r s then clear_named c r s r.attempt else Ends
-clear_looked c reply = Ends
+-- An attempt that is open is taken back first.
+abbrev pub clear_looked : ℕ → CallRecord → Option ChanState → Plan
+clear_looked c r s = if is_some r.attempt then Asks (event.Undo c Asked) (if_record (if_names_releases (clear_rest c))) else clear_rest c r s
 
 -- An operator clears a call: an open attempt is taken back first, its target and the serving channel are released.
 abbrev pub clear_plan : ℕ → Plan
-clear_plan c = Asks (event.Look c) (clear_looked c)
-
-abbrev pub nothing_more : Reply → Plan
-nothing_more reply = Ends
+clear_plan c = Asks (event.Look c) (if_record (if_names_releases (clear_looked c)))
 
 -- CHANNEL ACTIVATION ACKNOWLEDGE
-abbrev pub after_confirm : Reply → Plan
-after_confirm (Owned c) = Asks (event.Look c) nothing_more
-after_confirm reply = Ends
-
 abbrev pub confirm_plan : ChanId → Plan
-confirm_plan x = Asks (event.Confirm x) after_confirm
+confirm_plan x = Asks (event.Confirm x) (if_owned (λ c. Asks (event.Look c) nothing_more))
 
--- CHANNEL ACTIVATION NEGATIVE ACKNOWLEDGE: where the channel is the target of an attempt, the attempt is taken back.
-abbrev pub refused_looked : ChanId → ℕ → Reply → Plan
-refused_looked x c (Record r s) = if is_target x (target_in r) then Asks (event.Undo c Asked) nothing_more else Ends
-refused_looked x c reply = Ends
+-- where the channel is the target of the call's attempt, the attempt is taken back
+abbrev pub refuse_looked : ChanId → ℕ → CallRecord → Option ChanState → Plan
+refuse_looked x c r s = if is_target x (target_in r) then Asks (event.Undo c Asked) nothing_more else Ends
 
-abbrev pub after_refuse : ChanId → Reply → Plan
-after_refuse x (Owned c) = Asks (event.Look c) (refused_looked x c)
-after_refuse x reply = Ends
-
+-- CHANNEL ACTIVATION NEGATIVE ACKNOWLEDGE
 abbrev pub refuse_plan : ChanId → Plan
-refuse_plan x = Asks (event.Refuse x) (after_refuse x)
+refuse_plan x = Asks (event.Refuse x) (if_owned (λ c. Asks (event.Look c) (if_record (refuse_looked x c))))
 
 -- RF CHANNEL RELEASE ACKNOWLEDGE
 abbrev pub released_plan : ChanId → Plan

@@ -1,8 +1,8 @@
 //! Rows that begin and end a call.
-ghost use Rattle.std.specs.Prelude.{◌≡◌, ◌++◌, IsTrue, None, OnOk, OnErr};
+ghost use Rattle.std.specs.Prelude.{◌≡◌, ◌++◌, None, OnOk, OnErr};
 ghost use Rattle.radio_book.specs.Run.{Leads};
 ghost use Rattle.ho_procedure.specs.Plan.{Follows, Begins};
-ghost use Rattle.ho_procedure.specs.Procedure.{open_plan, clear_plan, remains, names_releases, sent_by, can_name};
+ghost use Rattle.ho_procedure.specs.Procedure.{open_plan, clear_plan, remains, names_releases, release_messages};
 ghost use Rattle.ho_procedure.specs.Handling.{all_sent, AreChoices, IsFresh};
 
 use super::release::{Release, is_nameable, serving_release, target_release};
@@ -35,20 +35,19 @@ pub(super) fn open<A: Allocator + Copy, B: Allocator + Copy>(
     }
 }
 
-/// Sends what a release asks for.
+/// Sends the message of a release.
 pub(super) fn release<A: Allocator + Copy>(
     alloc: A,
     handled: &mut Handled<A>,
     release: Release,
 ) -> Result<(), AllocError>
-    requires { IsTrue (can_name release) }
     ensures sent { OnOk result (all_sent handled.new.out.items ≡ all_sent handled.old.out.items ++
-        sent_by release) }
+        release_messages release) }
     ensures events { handled.new.events ≡ handled.old.events }
     ensures none_free { handled.new.none_free ≡ handled.old.none_free }
 {
     match release {
-        Release::Channel(chan) => send_release(alloc, handled, chan),
+        Release::Channel(chan) if is_nameable(chan) => send_release(alloc, handled, chan),
         _ => Ok(()),
     }
 }
@@ -67,10 +66,8 @@ fn remains(attempt: Option<Attempt>) -> bool
 fn names_releases(shown: CallRecord, state: Option<ChanState>) -> bool
     ensures { result ≡ names_releases shown state }
 {
-    if target_release(shown.attempt).is_unknown() {
-        return false;
-    }
-    !remains(shown.attempt) || !serving_release(shown, state).is_unknown()
+    let serving_is_named = !remains(shown.attempt) || serving_release(shown, state).is_named();
+    target_release(shown.attempt).is_named() && serving_is_named
 }
 
 /// A call ends: an attempt that is open is taken back first, and what stations have activated for the
@@ -89,23 +86,22 @@ pub(super) fn clear<A: Allocator + Copy, B: Allocator + Copy>(
     ensures choices { AreChoices book.old handled.new.events.items }
     ensures none_free { handled.new.none_free ≡ None }
 {
-    let Reply::Record(shown, state) = ask(book, handled, Event::Look(call))? else {
+    let Reply::Record(mut shown, mut state) = ask(book, handled, Event::Look(call))? else {
         return Ok(());
     };
     if !names_releases(shown, state) {
         return Ok(());
     }
-    if shown.attempt.is_none() {
-        return match ask(book, handled, Event::Clear(call))? {
-            Reply::Done => release(alloc, handled, serving_release(shown, state)),
-            _ => Ok(()),
+    if shown.attempt.is_some() {
+        let Reply::Record(before, serving) = ask(book, handled, Event::Undo(call, Why::Asked))?
+        else {
+            return Ok(());
         };
-    }
-    let Reply::Record(shown, state) = ask(book, handled, Event::Undo(call, Why::Asked))? else {
-        return Ok(());
-    };
-    if !names_releases(shown, state) {
-        return Ok(());
+        if !names_releases(before, serving) {
+            return Ok(());
+        }
+        shown = before;
+        state = serving;
     }
     release(alloc, handled, target_release(shown.attempt))?;
     if !remains(shown.attempt) {

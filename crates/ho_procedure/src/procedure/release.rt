@@ -1,6 +1,6 @@
 //! Which channels a row releases.
-ghost use Rattle.std.specs.Prelude.{◌≡◌, IsTrue};
-ghost use Rattle.ho_procedure.specs.Procedure.{is_nameable, release_of, is_switched_on, target_release, serving_release, is_unknown, can_name};
+ghost use Rattle.std.specs.Prelude.{◌≡◌};
+ghost use Rattle.ho_procedure.specs.Procedure.{is_nameable, release_of, is_named, is_switched_on, target_release, serving_release};
 
 use radio_book::channel::{ChanId, ChanState};
 use radio_book::event::{Attempt, CallRecord, Stage};
@@ -12,16 +12,20 @@ pub enum Release {
     Nothing,
     /// The station is asked to release this channel.
     Channel(ChanId),
-    /// The station may have something to release, but the record doesn't say what, or no message
-    /// can name it: the row ends.
+    /// The station may have something to release, but the record doesn't say what.
     Unknown,
 }
 
 impl Release {
-    pub(super) fn is_unknown(self) -> bool
-        ensures { result ≡ is_unknown self }
+    /// What is released is known, and a message can name it.
+    pub(super) fn is_named(self) -> bool
+        ensures { result ≡ is_named self }
     {
-        matches!(self, Release::Unknown)
+        match self {
+            Release::Nothing => true,
+            Release::Channel(chan) => is_nameable(chan),
+            Release::Unknown => false,
+        }
     }
 }
 
@@ -34,12 +38,11 @@ pub(super) fn is_nameable(chan: ChanId) -> bool
 
 /// The release of a channel that the station knows of.
 fn release_of(chan: Option<ChanId>) -> Release
-    ensures value { result ≡ release_of chan }
-    ensures named { IsTrue (can_name result) }
+    ensures { result ≡ release_of chan }
 {
     match chan {
-        Some(chan) if is_nameable(chan) => Release::Channel(chan),
-        _ => Release::Unknown,
+        Some(chan) => Release::Channel(chan),
+        None => Release::Unknown,
     }
 }
 
@@ -52,8 +55,7 @@ fn is_switched_on(stage: Stage) -> bool
 
 /// The release of an attempt's target, where it was switched on.
 pub(super) fn target_release(attempt: Option<Attempt>) -> Release
-    ensures value { result ≡ target_release attempt }
-    ensures named { IsTrue (can_name result) }
+    ensures { result ≡ target_release attempt }
 {
     match attempt {
         Some(attempt) if is_switched_on(attempt.stage) => release_of(attempt.target),
@@ -63,8 +65,7 @@ pub(super) fn target_release(attempt: Option<Attempt>) -> Release
 
 /// The release of the serving channel, unless it was held.
 pub(super) fn serving_release(shown: CallRecord, state: Option<ChanState>) -> Release
-    ensures value { result ≡ serving_release shown state }
-    ensures named { IsTrue (can_name result) }
+    ensures { result ≡ serving_release shown state }
 {
     match state {
         Some(ChanState::Held(_)) => Release::Nothing,
