@@ -1,5 +1,5 @@
 -- The statuses that the program ends with.
-use Rattle.std.specs.Prelude.{ℕ}
+use Rattle.std.specs.Prelude.{ℕ, Result, Ok, Err}
 use Rattle.lab.specs.declared.run.Status.{Status}
 use Rattle.lab.specs.declared.run.Status.TheVariants as ended
 use Rattle.lab.specs.declared.run.LabFault.{LabFault}
@@ -14,3 +14,8 @@ status_of ended.Refused = 2
 abbrev pub status_after : LabFault → ℕ
 status_after stopped.Write = 2
 status_after stopped.NoMemory = 3
+
+-- the status that the program ends with
+abbrev pub exit_status_of : Result Status LabFault → ℕ
+exit_status_of (Ok status) = status_of status
+exit_status_of (Err fault) = status_after fault

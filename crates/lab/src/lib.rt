@@ -5,6 +5,7 @@
 
 pub mod decoded;
 pub mod files;
+pub mod program;
 pub mod run;
 pub mod words;
 

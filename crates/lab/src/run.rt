@@ -2,7 +2,7 @@
 ghost use Rattle.std.specs.Prelude.{◌≡◌, ◌≢◌, ◌⊎◌, Ok, Err, None, IsSome, IfOk};
 ghost use Rattle.cell_table.specs.SiteFile.{described_site, IsBlankFile};
 ghost use Rattle.lab_script.specs.Script.{first_unread};
-ghost use Rattle.lab.specs.Statuses.{status_of, status_after};
+ghost use Rattle.lab.specs.Statuses.{status_of, status_after, exit_status_of};
 
 use cell_table::{Site, SiteFault};
 use ho_procedure::exchange::{Inbound, PlainFault};
@@ -25,18 +25,6 @@ pub enum Status {
     Refused,
 }
 
-impl Status {
-    /// The status that a program ends with after such work: 0 or 2.
-    pub fn exit_status(self) -> u8
-        ensures { result ≡ status_of self }
-    {
-        match self {
-            Status::Done => 0,
-            Status::Refused => 2,
-        }
-    }
-}
-
 /// Why the work didn't come to its end.
 #[derive(Clone, Copy, Debug, PartialEq, Eq, Error)]
 pub enum LabFault {
@@ -46,18 +34,6 @@ pub enum LabFault {
     /// A write of the output failed.
     #[error("the output can't be written")]
     Write,
-}
-
-impl LabFault {
-    /// The status that a program ends with after such a fault: 2 or 3.
-    pub fn exit_status(self) -> u8
-        ensures { result ≡ status_after self }
-    {
-        match self {
-            LabFault::Write => 2,
-            LabFault::NoMemory => 3,
-        }
-    }
 }
 
 impl From<AllocError> for LabFault {
@@ -77,6 +53,37 @@ impl From<io::Error> for LabFault {
 
     fn from(_: io::Error) -> LabFault {
         LabFault::Write
+    }
+}
+
+/// The status after work that came to its end.
+fn status_of(status: Status) -> u8
+    ensures { result ≡ status_of status }
+{
+    match status {
+        Status::Done => 0,
+        Status::Refused => 2,
+    }
+}
+
+/// The status after work that didn't.
+fn status_after(fault: LabFault) -> u8
+    ensures { result ≡ status_after fault }
+{
+    match fault {
+        LabFault::Write => 2,
+        LabFault::NoMemory => 3,
+    }
+}
+
+/// The status that a program ends with: 0 where the work is done, 2 where something was refused or the output couldn't
+/// be written, 3 where memory was refused.
+pub fn exit_status(ended: Result<Status, LabFault>) -> u8
+    ensures { result ≡ exit_status_of ended }
+{
+    match ended {
+        Ok(status) => status_of(status),
+        Err(fault) => status_after(fault),
     }
 }
 

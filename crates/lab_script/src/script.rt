@@ -1,18 +1,5 @@
 //! Scripts: texts that say, line by line, what a controller is given.
-//!
-//! | Line | What it gives |
-//! |---|---|
-//! | `open CALL CELL TRX TN` | an operator opens a call on a channel |
-//! | `handover CALL CELL` | an operator asks for a handover of a call to a cell |
-//! | `undo CALL` | an operator takes the handover of a call back |
-//! | `clear CALL` | an operator ends a call |
-//! | `abis CELL TRX HEX` | a message on Abis comes from a TRX of a cell |
-//! | blanks and tabs alone, or nothing | nothing |
-//! | `#` and anything | nothing: a comment |
-//!
-//! One space stands between two words. CALL is a number from 0 to 65535, CELL and TRX from 0 to 255, TN from 0 to
-//! 7, each in decimal digits alone; leading zeros are read. HEX is at least one octet in hexadecimal, in either
-//! case. A carriage return before the end of a line is no part of it. No other line can be read.
+//! `docs/PROGRAM.md` lists the lines with the ranges of their numbers; [`Line`] and [`Inbound`] say what each is read as.
 
 ghost use Rattle.std.specs.Prelude.{◌≡◌, ◌≢◌, ◌↔◌, ℕ, Some, None, Err, true, [], ◌∷◌, ◌++◌, IsErr, IfOk, OnOk, IfSome, not, is_some, option_map, option_and_then};
 ghost use Rattle.std.specs.Char.{is_ascii_digit, is_ascii_hexdigit};

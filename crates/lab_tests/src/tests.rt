@@ -3,6 +3,7 @@
 mod decoded;
 mod failing;
 mod files;
+mod program;
 mod refusals;
 mod traces;
 mod words;

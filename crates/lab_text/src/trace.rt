@@ -1,16 +1,5 @@
 //! The trace: what a controller was given, what it asked of its book, and what it sent, as lines of text.
-//!
-//! | Line | When |
-//! |---|---|
-//! | `in` and the input as a line of a script | an input is handled |
-//! | `event E -> R` | the event E was asked of the book, which replied R |
-//! | `none free CELL` | a channel of this cell was asked for, and none was free |
-//! | `out abis CELL TRX HEX` | a message was sent to a TRX of a cell |
-//! | `fault LINK N` and the fault's arguments | the octets were no message of the link, which is `rr`, `a` or `abis` |
-//! | `end channels=N calls=N references=N timers=N` | at the end: what the book holds |
-//!
-//! A channel is `cell/trx/tn`, numbers are in decimal, octets are two small hexadecimal digits each, and what is
-//! absent is `-`.
+//! `docs/PROGRAM.md` lists the lines and their words.
 use crate::bad::Bad;
 use crate::text::{HexText, OrDash};
 use ho_procedure::exchange::{Handled, Inbound, Line, Outbound};

@@ -1,5 +1,5 @@
 use lab::files::run_files;
-use lab::run::{LabFault, Status};
+use lab::run::Status;
 use std::process::Abort;
 use std::rt::Files;
 use std::test::Fail;
@@ -37,12 +37,4 @@ fn files_that_cannot_be_read_are_named(rt: HostRuntime) -> Result<(), Fail> {
         are_refused(&rt, *row)?;
     }
     Ok(())
-}
-
-#[test]
-fn statuses(rt: HostRuntime) {
-    assert_eq!(rt; Status::Done.exit_status(), 0);
-    assert_eq!(rt; Status::Refused.exit_status(), 2);
-    assert_eq!(rt; LabFault::Write.exit_status(), 2);
-    assert_eq!(rt; LabFault::NoMemory.exit_status(), 3);
 }

@@ -1,0 +1,68 @@
+use super::failing::Failing;
+use lab::program::perform;
+use lab::run::{LabFault, Status, exit_status};
+use std::process::Abort;
+use std::rt::Files;
+use std::test::Fail;
+
+/// The words of a command line, the status that it ends with, what it prints, and a part of what it says of an error.
+const LINES: &[(&[&str], u8, &str, &str)] = &[
+    (
+        &["decode", "rr", "062c00"],
+        0,
+        "HANDOVER COMPLETE cause=0\n",
+        "",
+    ),
+    (&["decode", "rr", "06ff"], 2, "fault rr 2 255\n", ""),
+    (&["decode", "abis", "0g"], 2, "hex\n", ""),
+    (&["run", "no site", "no script"], 2, "file no site\n", ""),
+    (&["run", "/dev/null", "/dev/null"], 2, "site 1\n", ""),
+    (&["--version"], 0, "bsc_lab 0.1\n", ""),
+    (&["runn"], 2, "", "runn"),
+    (&[], 2, "", "subcommand"),
+];
+
+/// Asserts how a command line ends, and what it prints and says.
+fn ends(
+    rt: &(impl Files + AllocGlobal + Abort),
+    words: &[&str],
+    wanted: u8,
+    text: &str,
+    part: &str,
+) -> Result<(), Fail> {
+    let mut out = Vec::new(rt.alloc());
+    let mut errors = Vec::new(rt.alloc());
+    let status = exit_status(perform(rt, words, &mut out, &mut errors));
+    let (out, errors) = (String::from_utf8(out)?, String::from_utf8(errors)?);
+    assert_eq!(rt; status, wanted, "{text}{part}");
+    assert_eq!(rt; out.as_str(), text);
+    assert_eq!(rt; errors.is_empty(), part.is_empty(), "{errors}");
+    assert!(rt; errors.contains(part), "{errors}");
+    Ok(())
+}
+
+#[test]
+fn command_lines_end_with_their_status(rt: HostRuntime) -> Result<(), Fail> {
+    for (words, status, text, part) in LINES {
+        ends(&rt, *words, *status, *text, *part)?;
+    }
+    Ok(())
+}
+
+#[test]
+fn a_text_that_is_not_written_is_a_fault(rt: HostRuntime) {
+    for words in [&["--version"], &["runn"]] {
+        let mut out = Failing::after(rt.alloc(), 0);
+        let mut errors = Failing::after(rt.alloc(), 0);
+        let ended = perform(&rt, words, &mut out, &mut errors);
+        assert_eq!(rt; ended, Err(LabFault::Write));
+    }
+}
+
+#[test]
+fn statuses(rt: HostRuntime) {
+    assert_eq!(rt; exit_status(Ok(Status::Done)), 0);
+    assert_eq!(rt; exit_status(Ok(Status::Refused)), 2);
+    assert_eq!(rt; exit_status(Err(LabFault::Write)), 2);
+    assert_eq!(rt; exit_status(Err(LabFault::NoMemory)), 3);
+}
