@@ -32,9 +32,9 @@ name_of EncodeRequired = codes "ho_required.enc"
 
 -- the status that the program ends with
 abbrev pub status_of : Fault → ℕ
-status_of Output = 1
 status_of Setting = 1
 status_of Words = 2
+status_of Output = 2
 status_of NoMemory = 3
 
 -- what a fault of a message on Abis comes to: want of memory stays so, and other octets are wrong words

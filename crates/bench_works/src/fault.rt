@@ -32,8 +32,8 @@ impl Fault {
         ensures { result ≡ status_of self }
     {
         match self {
-            Fault::Output | Fault::Setting => 1,
-            Fault::Words => 2,
+            Fault::Setting => 1,
+            Fault::Words | Fault::Output => 2,
             Fault::NoMemory => 3,
         }
     }
@@ -44,8 +44,8 @@ impl From<AllocError> for Fault {
 
     ghost from_gives = { λ _ fault. fault ≡ NoMemory };
 
-    fn from(_: AllocError) -> Fault {
-        Fault::NoMemory
+    fn from(_: AllocError) -> Self {
+        Self::NoMemory
     }
 }
 
@@ -119,7 +119,7 @@ impl From<io::Error> for Fault {
 
     ghost from_gives = { λ _ fault. fault ≡ Output };
 
-    fn from(_: io::Error) -> Fault {
-        Fault::Output
+    fn from(_: io::Error) -> Self {
+        Self::Output
     }
 }

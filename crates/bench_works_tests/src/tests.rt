@@ -150,7 +150,7 @@ fn statuses(rt: HostRuntime) {
     for (fault, status) in [
         (Fault::Words, 2),
         (Fault::NoMemory, 3),
-        (Fault::Output, 1),
+        (Fault::Output, 2),
         (Fault::Setting, 1),
     ] {
         assert_eq!(rt; fault.status(), status, "{fault}");

@@ -41,8 +41,8 @@ impl From<AllocError> for LabFault {
 
     ghost from_gives = { λ _ fault. fault ≡ NoMemory };
 
-    fn from(_: AllocError) -> LabFault {
-        LabFault::NoMemory
+    fn from(_: AllocError) -> Self {
+        Self::NoMemory
     }
 }
 
@@ -51,8 +51,8 @@ impl From<io::Error> for LabFault {
 
     ghost from_gives = { λ _ fault. fault ≡ Write };
 
-    fn from(_: io::Error) -> LabFault {
-        LabFault::Write
+    fn from(_: io::Error) -> Self {
+        Self::Write
     }
 }
 

@@ -1,5 +1,7 @@
+use super::{ONE_CALL, SITE};
 use lab::files::run_files;
 use lab::run::Status;
+use std::fs;
 use std::process::Abort;
 use std::rt::Files;
 use std::test::Fail;
@@ -36,5 +38,35 @@ fn files_that_cannot_be_read_are_named(rt: HostRuntime) -> Result<(), Fail> {
     for row in REFUSED {
         are_refused(&rt, *row)?;
     }
+    Ok(())
+}
+
+/// Where a site and a script are written for a run.
+const SITE_FILE: &str = "/tmp/gofnild_lab_tests.toml";
+
+const SCRIPT_FILE: &str = "/tmp/gofnild_lab_tests.txt";
+
+/// How a run over the files of a site and of this script ends, and what it prints.
+fn run_over(
+    rt: &(impl Files + AllocGlobal + Abort),
+    script: &str,
+    wanted: Status,
+    text: &str,
+) -> Result<(), Fail> {
+    fs::write(rt, SCRIPT_FILE, script)?;
+    let mut out = Vec::new(rt.alloc());
+    let status = run_files(rt, SITE_FILE, SCRIPT_FILE, &mut out)?;
+    assert_eq!(rt; status, wanted);
+    assert_eq!(rt; String::from_utf8(out)?.as_str(), text);
+    Ok(())
+}
+
+#[test]
+fn files_are_run(rt: HostRuntime) -> Result<(), Fail> {
+    fs::write(&rt, SITE_FILE, SITE)?;
+    run_over(&rt, ONE_CALL.0, Status::Done, ONE_CALL.1)?;
+    run_over(&rt, "clear 1\nundo\n", Status::Refused, "line 2\n")?;
+    fs::remove_file(&rt, SITE_FILE)?;
+    fs::remove_file(&rt, SCRIPT_FILE)?;
     Ok(())
 }
