@@ -268,12 +268,12 @@ fn each_refused_request_is_want_of_memory(rt: HostRuntime) {
             "request {n}"
         );
         if !heap.was_refused() {
-            refusals = n;
             break;
         }
+        refusals = n;
     }
     // A list of cells, two of TRX, and two of timeslots: an empty list takes no memory.
-    assert_eq!(rt; refusals, 6);
+    assert_eq!(rt; refusals, 5);
 }
 
 #[test]

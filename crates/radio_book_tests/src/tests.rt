@@ -628,14 +628,15 @@ fn requests_before(rt: &(impl AllocGlobal + Abort), want: &Want) -> Result<u64, 
     Ok(heap.requests())
 }
 
-// What a book shows of itself and of calls 1 and 2, where no memory is wanted.
-fn shown(book: &mut Book<&RefusingHeap>) -> Result<[Answer; 5], AllocError> {
+// What a book shows of itself and of the calls that ask in the rows, where no memory is wanted.
+fn shown(book: &mut Book<&RefusingHeap>) -> Result<[Answer; 6], AllocError> {
     Ok([
         put(book, Ask::Usage)?,
         put(book, FreeIn(0))?,
         put(book, FreeIn(1))?,
         put(book, Step(Look(1)))?,
         put(book, Step(Look(2)))?,
+        put(book, Step(Look(16)))?,
     ])
 }
 
