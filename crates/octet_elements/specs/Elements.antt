@@ -88,13 +88,6 @@ wanted_after before (i ∷ wanted) es = nth (times i before) (values_of i es) �
 abbrev pub wanted_of : List ℕ → List Element → List (Option (List ℕ))
 wanted_of wanted es = wanted_after [] wanted es
 
--- one more element goes to the first place that wants it and has nothing
-abbrev pub with_value : List ℕ → ℕ → List ℕ → List (Option (List ℕ)) → List (Option (List ℕ))
-with_value [] i v noted = noted
-with_value (j ∷ wanted) i v [] = []
-with_value (j ∷ wanted) i v (None ∷ noted) = if j == i then Some v ∷ noted else None ∷ with_value wanted i v noted
-with_value (j ∷ wanted) i v (Some w ∷ noted) = Some w ∷ with_value wanted i v noted
-
 -- octets are elements in one way only, torn or whole
 abbrev pub SplitIsUnique : Type 0
 SplitIsUnique = (forms : Forms) (es fs : List Element) (x y : List ℕ) → AllByRecursion (Fits forms) es → AllByRecursion (Fits forms) fs → IsCut forms x → IsCut forms y → all_spelled forms es ++ x ≡ all_spelled forms fs ++ y → (es ≡ fs) × (x ≡ y)
