@@ -1,7 +1,7 @@
 use Rattle.std.proofs.Common.{[], ◌∷◌, ◌++◌, length, sym, ◌∙◌, ap}
 use Rattle.std.proofs.lemmas.List.{length-map}
 use Rattle.std.specs.Option.{option_map}
-use Rattle.octet_elements.proofs.Splits.{each_and_one, spelled_and_one}
+use Rattle.octet_elements.proofs.Splits.{each_and_one, octets_and_one}
 use Rattle.octet_elements.proofs.Turns.{wanted_after-length}
 use Rattle.octet_elements.proofs.wanted.read_values.Goals as goal
 
@@ -18,6 +18,6 @@ loop-rest-preserved g c =
     let is = c.in-Some.ensures.found in (
       had.0 ++ (found.identifier, found.value.now) ∷ [],
       each_and_one forms had.0 (found.identifier, found.value.now) had.1 is.0,
-      spelled_and_one forms had.0 (found.identifier, found.value.now) c.args.octets.now c.loop-rest.rest.now found.rest.now had.2 is.1,
+      octets_and_one forms had.0 (found.identifier, found.value.now) c.args.octets.now c.loop-rest.rest.now found.rest.now had.2 is.1,
       c.place.ensures had.0 had.3,
     )
