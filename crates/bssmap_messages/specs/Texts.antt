@@ -3,7 +3,7 @@
 use Rattle.std.specs.Prelude.{◌≡◌, ◌⊎◌, ℕ, ◌+◌, ◌*◌, ◌<◌, ◌≤◌, Bool, true, false, IsTrue, IsSome, List, ◌∷◌, length, Result, Ok, Err}
 use Rattle.std.specs.List.{AllByRecursion, list_all}
 use Rattle.std.specs.Option.{is_some}
-use Rattle.octet_elements.specs.Elements.{Element, Fits, AreElements, IsTornAt, all_spelled}
+use Rattle.octet_elements.specs.Elements.{Element, Fits, AreElements, IsTornAt, all_octets}
 use Rattle.octet_elements.specs.declared.values.ElementFault.{ElementFault}
 use Rattle.octet_elements.specs.declared.values.ElementFault.TheVariants.{Absent, Bad}
 use Rattle.bssmap_messages.specs.declared.fault.BssmapFault.{BssmapFault}
@@ -59,7 +59,7 @@ HasFault A octets f = HasHeadFault octets f ⊎ HasFaultInBody A octets f
 
 -- type and elements as they are written
 abbrev pub written : {A : Type 0} → Bssmap A → List ℕ
-written v = type_of (kind_of v) ∷ all_spelled interface_a (elements_of v)
+written v = type_of (kind_of v) ∷ all_octets interface_a (elements_of v)
 
 -- The canonical text: discriminator 0, the length octet, type and elements as they are written.
 abbrev pub canonical : {A : Type 0} → Bssmap A → List ℕ

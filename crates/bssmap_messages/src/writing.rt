@@ -1,6 +1,6 @@
 //! Writing a message.
 ghost use Rattle.std.specs.Prelude.{◌≡◌, ◌≤◌, ◌<◌, ◌+◌, ◌*◌, ◌++◌, ◌∷◌, ◌↔◌, [], IsTrue, length, flat_map, IsOk, IfOk, OnOk, OnErr, vec_len, vec_capacity};
-ghost use Rattle.octet_elements.specs.Elements.{all_spelled, spelled};
+ghost use Rattle.octet_elements.specs.Elements.{all_octets, element_octets};
 ghost use Rattle.bssmap_messages.specs.Forms.{interface_a};
 ghost use Rattle.bssmap_messages.specs.Heads.{limit, type_of};
 ghost use Rattle.bssmap_messages.specs.Messages.{elements_of, kind_of};
@@ -147,7 +147,7 @@ fn kind_of<A: Allocator>(message: &Bssmap<A>) -> MessageKind
 #[tactic(auto, using(crate::proofs::Lengths::request_length, crate::proofs::Lengths::required_length))]
 fn elements_len<A: Allocator + Copy>(message: &Bssmap<A>) -> usize
     requires { IsWritable message.now }
-    ensures { result ≡ length (all_spelled interface_a (elements_of message.now)) }
+    ensures { result ≡ length (all_octets interface_a (elements_of message.now)) }
 {
     match message {
         Bssmap::HandoverRequest {
@@ -176,7 +176,7 @@ fn elements_len<A: Allocator + Copy>(message: &Bssmap<A>) -> usize
 
 /// How many octets an RR cause has.
 fn rr_len(rr: Option<u8>) -> usize
-    ensures { result ≡ length (all_spelled interface_a (where_some 0x15 rr)) }
+    ensures { result ≡ length (all_octets interface_a (where_some 0x15 rr)) }
 {
     if rr.is_some() { 2 } else { 0 }
 }
@@ -196,7 +196,7 @@ const AREA_AND_CELL: u8 = 1;
 /// Appends a cause, for which the list has room.
 fn append_cause<A: Allocator>(out: &mut Vec<u8, A>, cause: u8)
     requires { vec_len out.old + 3 ≤ vec_capacity out.old }
-    ensures items { out.new.items ≡ out.old.items ++ spelled interface_a (0x04, cause ∷ []) }
+    ensures items { out.new.items ≡ out.old.items ++ element_octets interface_a (0x04, cause ∷ []) }
     ensures len { vec_len out.new ≡ vec_len out.old + 3 }
     ensures capacity { vec_capacity out.old ≤ vec_capacity out.new }
 {
@@ -206,7 +206,8 @@ fn append_cause<A: Allocator>(out: &mut Vec<u8, A>, cause: u8)
 /// Appends a cell identifier, for which the list has room.
 fn append_cell<A: Allocator>(out: &mut Vec<u8, A>, cell: CellId)
     requires { vec_len out.old + 7 ≤ vec_capacity out.old }
-    ensures items { out.new.items ≡ out.old.items ++ spelled interface_a (0x05, cell_value cell) }
+    ensures items { out.new.items ≡ out.old.items ++
+        element_octets interface_a (0x05, cell_value cell) }
     ensures len { vec_len out.new ≡ vec_len out.old + 7 }
     ensures capacity { vec_capacity out.old ≤ vec_capacity out.new }
 {
@@ -230,7 +231,7 @@ fn append_classmark<A: Allocator + Copy>(out: &mut Vec<u8, A>, classmark: &Class
     requires short { classmark_length classmark.now ≤ limit }
     requires room { vec_len out.old + classmark_length classmark.now ≤ vec_capacity out.old }
     ensures items { out.new.items ≡ out.old.items ++
-        spelled interface_a (classmark_element classmark.now) }
+        element_octets interface_a (classmark_element classmark.now) }
     ensures len { vec_len out.new ≡ vec_len out.old + classmark_length classmark.now }
     ensures capacity { vec_capacity out.old ≤ vec_capacity out.new }
 {
@@ -258,7 +259,7 @@ fn append_request<A: Allocator + Copy>(
     requires room { vec_len out.old + (18 + length channel.now + length encryption.now +
         classmark_length classmark.now) ≤ vec_capacity out.old }
     ensures { out.new.items ≡ out.old.items ++
-        all_spelled interface_a ((0x0B, channel.now) ∷ (0x0A, encryption.now) ∷
+        all_octets interface_a ((0x0B, channel.now) ∷ (0x0A, encryption.now) ∷
         classmark_element classmark.now ∷ (0x05, cell_value serving) ∷
         (0x05, cell_value target) ∷ []) }
 {
@@ -285,7 +286,7 @@ fn append_required<A: Allocator>(out: &mut Vec<u8, A>, cause: u8, response: bool
     requires room { vec_len out.old + (6 + response_length response + 4 * length cells.now) ≤
         vec_capacity out.old }
     ensures { out.new.items ≡ out.old.items ++
-        all_spelled interface_a ((0x04, cause ∷ []) ∷ where_true 0x1B response ++
+        all_octets interface_a ((0x04, cause ∷ []) ∷ where_true 0x1B response ++
         (0x1A, cells_value cells.now) ∷ []) }
 {
     append_cause(out, cause);
@@ -299,7 +300,7 @@ fn append_required<A: Allocator>(out: &mut Vec<u8, A>, cause: u8, response: bool
 fn append_response<A: Allocator>(out: &mut Vec<u8, A>, response: bool)
     requires { vec_len out.old + response_length response ≤ vec_capacity out.old }
     ensures items { out.new.items ≡ out.old.items ++
-        all_spelled interface_a (where_true 0x1B response) }
+        all_octets interface_a (where_true 0x1B response) }
     ensures len { vec_len out.new ≡ vec_len out.old + response_length response }
     ensures capacity { vec_capacity out.old ≤ vec_capacity out.new }
 {
@@ -310,9 +311,9 @@ fn append_response<A: Allocator>(out: &mut Vec<u8, A>, response: bool)
 
 /// Appends an RR cause where there is one; the list has room for it.
 fn append_rr<A: Allocator>(out: &mut Vec<u8, A>, rr: Option<u8>)
-    requires { vec_len out.old + length (all_spelled interface_a (where_some 0x15 rr)) ≤
+    requires { vec_len out.old + length (all_octets interface_a (where_some 0x15 rr)) ≤
         vec_capacity out.old }
-    ensures { out.new.items ≡ out.old.items ++ all_spelled interface_a (where_some 0x15 rr) }
+    ensures { out.new.items ≡ out.old.items ++ all_octets interface_a (where_some 0x15 rr) }
 {
     if let Some(rr) = rr {
         append_octets(out, &[RR_CAUSE, rr]);
@@ -323,9 +324,9 @@ fn append_rr<A: Allocator>(out: &mut Vec<u8, A>, rr: Option<u8>)
 #[tactic(auto, using(crate::proofs::Lengths::request_length, crate::proofs::Lengths::required_length))]
 fn append_elements<A: Allocator + Copy>(message: &Bssmap<A>, out: &mut Vec<u8, A>)
     requires writable { IsWritable message.now }
-    requires room { vec_len out.old + length (all_spelled interface_a (elements_of message.now)) ≤
+    requires room { vec_len out.old + length (all_octets interface_a (elements_of message.now)) ≤
         vec_capacity out.old }
-    ensures { out.new.items ≡ out.old.items ++ all_spelled interface_a (elements_of message.now) }
+    ensures { out.new.items ≡ out.old.items ++ all_octets interface_a (elements_of message.now) }
 {
     match message {
         Bssmap::HandoverRequest {

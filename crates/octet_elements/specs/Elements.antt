@@ -14,17 +14,17 @@ abbrev pub Forms : Type 0
 Forms = ℕ → Form
 
 -- the octets of an element: identifier, length where the form has one, value
-abbrev pub spelled_as : Form → ℕ → List ℕ → List ℕ
-spelled_as (Fixed n) i v = i ∷ v
-spelled_as Counted i v = i ∷ length v ∷ v
-spelled_as LongCounted i v = i ∷ length v / 256 ∷ length v % 256 ∷ v
+abbrev pub octets_by_form : Form → ℕ → List ℕ → List ℕ
+octets_by_form (Fixed n) i v = i ∷ v
+octets_by_form Counted i v = i ∷ length v ∷ v
+octets_by_form LongCounted i v = i ∷ length v / 256 ∷ length v % 256 ∷ v
 
-abbrev pub spelled : Forms → Element → List ℕ
-spelled forms e = spelled_as (forms e.0) e.0 e.1
+abbrev pub element_octets : Forms → Element → List ℕ
+element_octets forms e = octets_by_form (forms e.0) e.0 e.1
 
 -- the octets of elements, one after the other
-abbrev pub all_spelled : Forms → List Element → List ℕ
-all_spelled forms es = flat_map (spelled forms) es
+abbrev pub all_octets : Forms → List Element → List ℕ
+all_octets forms es = flat_map (element_octets forms) es
 
 -- the values that the form can delimit
 abbrev pub FitsAs : Form → List ℕ → Type 0
@@ -37,23 +37,23 @@ Fits forms e = FitsAs (forms e.0) e.1
 
 -- no element begins the octets
 abbrev pub IsCut : Forms → List ℕ → Type 0
-IsCut forms octets = (e : Element) (rest : List ℕ) → Fits forms e → octets ≡ spelled forms e ++ rest → ⊥
+IsCut forms octets = (e : Element) (rest : List ℕ) → Fits forms e → octets ≡ element_octets forms e ++ rest → ⊥
 
 -- the octets are these elements, each whole, and nothing else
 pub record AreElements (forms : Forms) (es : List Element) (octets : List ℕ) : Type 0 where
   pub each : AllByRecursion (Fits forms) es
-  pub spelling : octets ≡ all_spelled forms es
+  pub spelling : octets ≡ all_octets forms es
 
 -- the octets are these elements, each whole, and then some octets that no element begins
 pub record AreTorn (forms : Forms) (es : List Element) (rest octets : List ℕ) : Type 0 where
   pub each : AllByRecursion (Fits forms) es
-  pub spelling : octets ≡ all_spelled forms es ++ rest
+  pub spelling : octets ≡ all_octets forms es ++ rest
   pub some : 0 < length rest
   pub cut : IsCut forms rest
 
 -- the octets are torn at this offset: where the first element that isn't whole begins
 abbrev pub IsTornAt : Forms → List ℕ → ℕ → Type 0
-IsTornAt forms octets at = (es : List Element) × (rest : List ℕ) × AreTorn forms es rest octets × (at ≡ length (all_spelled forms es))
+IsTornAt forms octets at = (es : List Element) × (rest : List ℕ) × AreTorn forms es rest octets × (at ≡ length (all_octets forms es))
 
 -- the values of the elements with the identifier, in order
 abbrev pub values_of : ℕ → List Element → List (List ℕ)
@@ -88,17 +88,10 @@ wanted_after before (i ∷ wanted) es = nth (times i before) (values_of i es) �
 abbrev pub wanted_of : List ℕ → List Element → List (Option (List ℕ))
 wanted_of wanted es = wanted_after [] wanted es
 
--- one more element goes to the first place that wants it and has nothing
-abbrev pub with_value : List ℕ → ℕ → List ℕ → List (Option (List ℕ)) → List (Option (List ℕ))
-with_value [] i v noted = noted
-with_value (j ∷ wanted) i v [] = []
-with_value (j ∷ wanted) i v (None ∷ noted) = if j == i then Some v ∷ noted else None ∷ with_value wanted i v noted
-with_value (j ∷ wanted) i v (Some w ∷ noted) = Some w ∷ with_value wanted i v noted
-
 -- octets are elements in one way only, torn or whole
 abbrev pub SplitIsUnique : Type 0
-SplitIsUnique = (forms : Forms) (es fs : List Element) (x y : List ℕ) → AllByRecursion (Fits forms) es → AllByRecursion (Fits forms) fs → IsCut forms x → IsCut forms y → all_spelled forms es ++ x ≡ all_spelled forms fs ++ y → (es ≡ fs) × (x ≡ y)
+SplitIsUnique = (forms : Forms) (es fs : List Element) (x y : List ℕ) → AllByRecursion (Fits forms) es → AllByRecursion (Fits forms) fs → IsCut forms x → IsCut forms y → all_octets forms es ++ x ≡ all_octets forms fs ++ y → (es ≡ fs) × (x ≡ y)
 
 -- octets that begin with an element begin with no other
 abbrev pub SpellingIsUnique : Type 0
-SpellingIsUnique = (forms : Forms) (e f : Element) (x y : List ℕ) → Fits forms e → Fits forms f → spelled forms e ++ x ≡ spelled forms f ++ y → (e ≡ f) × (x ≡ y)
+SpellingIsUnique = (forms : Forms) (e f : Element) (x y : List ℕ) → Fits forms e → Fits forms f → element_octets forms e ++ x ≡ element_octets forms f ++ y → (e ≡ f) × (x ≡ y)

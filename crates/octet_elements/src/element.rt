@@ -1,6 +1,6 @@
 //! The element that octets begin with.
 ghost use Rattle.std.specs.Prelude.{◌≡◌, ◌++◌, IfSome, IfNone};
-ghost use Rattle.octet_elements.specs.Elements.{spelled, Fits, IsCut};
+ghost use Rattle.octet_elements.specs.Elements.{element_octets, Fits, IsCut};
 
 use crate::form::{ElementTable, Form};
 
@@ -15,7 +15,7 @@ pub struct Leading<'a> {
 /// The element that the octets begin with; `None` where they are empty or it is cut.
 pub fn leading_element<T: ElementTable>(octets: &[u8]) -> Option<Leading<'_>>
     ensures found { IfSome result (λ f. Fits T.form_of (f.identifier, f.value.now) ×
-        (octets.now ≡ spelled T.form_of (f.identifier, f.value.now) ++ f.rest.now)) }
+        (octets.now ≡ element_octets T.form_of (f.identifier, f.value.now) ++ f.rest.now)) }
     ensures cut { IfNone result (IsCut T.form_of octets.now) }
 {
     let (identifier, after) = octets.split_first()?;

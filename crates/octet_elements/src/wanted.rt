@@ -1,7 +1,7 @@
 //! One pass over elements for the values that a message uses.
-ghost use Rattle.std.specs.Prelude.{◌≡◌, ◌<◌, List, [], length, map, OnOk, IfErr};
+ghost use Rattle.std.specs.Prelude.{◌≡◌, ◌<◌, List, [], ◌∷◌, ◌++◌, length, map, OnOk, IfErr};
 ghost use Rattle.std.specs.Option.{option_map};
-ghost use Rattle.octet_elements.specs.Elements.{Element, AreElements, IsTornAt, wanted_of, with_value};
+ghost use Rattle.octet_elements.specs.Elements.{Element, AreElements, IsTornAt, wanted_of};
 
 use crate::element::leading_element;
 use crate::form::ElementTable;
@@ -34,11 +34,13 @@ pub fn read_values<'a, T: ElementTable>(
     Ok(())
 }
 
-/// Puts a value at the first place that wants it and has none.
+/// Puts a value at the first place that wants it and has none, as one more element does.
 fn place<'a>(wanted: &[u8], values: &mut [Option<&'a [u8]>], identifier: u8, value: &'a [u8])
     requires { length wanted.now ≡ length values.old }
-    ensures { map (option_map (λ v. v.now)) values.new ≡
-        with_value wanted.now identifier value.now (map (option_map (λ v. v.now)) values.old) }
+    ensures { (es : List Element) →
+        map (option_map (λ v. v.now)) values.old ≡ wanted_of wanted.now es →
+        map (option_map (λ v. v.now)) values.new ≡
+        wanted_of wanted.now (es ++ (identifier, value.now) ∷ []) }
 {
     for at in 0..wanted.len() {
         if wanted[at] == identifier && values[at].is_none() {

@@ -1,6 +1,6 @@
 //! Writing into a list that has room.
 ghost use Rattle.std.specs.Prelude.{◌≡◌, ◌+◌, ◌≤◌, ◌++◌, length, vec_len, vec_capacity};
-ghost use Rattle.octet_elements.specs.Elements.{spelled, Fits};
+ghost use Rattle.octet_elements.specs.Elements.{element_octets, Fits};
 
 use crate::form::{ElementTable, Form};
 use std::alloc::Allocator;
@@ -24,11 +24,12 @@ pub fn append_element<T: ElementTable, A: Allocator>(
     value: &[u8],
 )
     requires fits { Fits T.form_of (identifier, value.now) }
-    requires room { vec_len out.old + length (spelled T.form_of (identifier, value.now)) ≤
+    requires room { vec_len out.old + length (element_octets T.form_of (identifier, value.now)) ≤
         vec_capacity out.old }
-    ensures items { out.new.items ≡ out.old.items ++ spelled T.form_of (identifier, value.now) }
+    ensures items { out.new.items ≡ out.old.items ++
+        element_octets T.form_of (identifier, value.now) }
     ensures len { vec_len out.new ≡ vec_len out.old + length
-        (spelled T.form_of (identifier, value.now)) }
+        (element_octets T.form_of (identifier, value.now)) }
     ensures capacity { vec_capacity out.old ≤ vec_capacity out.new }
 {
     match T::form_for(identifier) {

@@ -6,7 +6,7 @@ use Rattle.rr_elements.specs.ChanDescription.{Chan, ChanFits, IsChanText, chan_w
 use Rattle.rr_elements.specs.Power.{PowerCommand, PowerFits, IsPowerText, power_widths, power_numbers, power_text, power_of, power_said}
 use Rattle.rr_elements.specs.RrCause.{IsCauseText, cause_widths, cause_numbers, cause_text, cause_of, cause_said}
 use Rattle.rr_elements.specs.declared.cause.RrCause.{RrCause}
-use Rattle.rr_elements.proofs.FieldLemmas.{spelled-fields}
+use Rattle.rr_elements.proofs.FieldLemmas.{AreFields-field_octets}
 
 pub flag-one : (b : Bool) → (flag b == 1) ≡ b
 flag-one true = refl
@@ -25,7 +25,7 @@ cell-said v octets text =
 
 pub cell-text : (v : Cell) → CellFits v → IsCellText v (cell_text v)
 cell-text v fits =
-    spelled-fields cell_widths (cell_numbers v) (omega (arith, fits.arfcn), (fits.ncc, (fits.bcc, (omega arith, tt)))) refl
+    AreFields-field_octets cell_widths (cell_numbers v) (omega (arith, fits.arfcn), (fits.ncc, (fits.bcc, (omega arith, tt)))) refl
 
 pub chan-said : (v : Chan) (octets : List ℕ) → IsChanText v octets → chan_said octets ≡ Ok v
 chan-said v octets text =
@@ -36,7 +36,7 @@ chan-said v octets text =
 
 pub chan-text : (v : Chan) → ChanFits v → IsChanText v (chan_text v)
 chan-text v fits =
-    (0, spelled-fields chan_widths (chan_numbers 0 v) (omega arith, (fits.tn, (fits.tsc, (omega arith, (omega arith, (omega (arith, fits.carrier), (omega arith, tt))))))) refl)
+    (0, AreFields-field_octets chan_widths (chan_numbers 0 v) (omega arith, (fits.tn, (fits.tsc, (omega arith, (omega arith, (omega (arith, fits.carrier), (omega arith, tt))))))) refl)
 
 pub power-said : (v : PowerCommand) (octets : List ℕ) → IsPowerText v octets → power_said octets ≡ Ok v
 power-said v octets text =
@@ -46,7 +46,7 @@ power-said v octets text =
 
 pub power-text : (v : PowerCommand) → PowerFits v → IsPowerText v (power_text v)
 power-text v fits =
-    (0, spelled-fields power_widths (power_numbers 0 v) (flag_below v.atc, (omega arith, (fits, tt))) refl)
+    (0, AreFields-field_octets power_widths (power_numbers 0 v) (flag_below v.atc, (omega arith, (fits, tt))) refl)
 
 pub cause-said : (v : RrCause) (octets : List ℕ) → IsCauseText v octets → cause_said octets ≡ Ok v
 cause-said v octets text =
@@ -55,7 +55,7 @@ cause-said v octets text =
     rw one (ap cause_of text.pieces)
 
 pub cause-text : (v : RrCause) → v.0 < 2 ^ 8 → IsCauseText v (cause_text v)
-cause-text v fits = spelled-fields cause_widths (cause_numbers v) (fits, tt) refl
+cause-text v fits = AreFields-field_octets cause_widths (cause_numbers v) (fits, tt) refl
 
 pub cell-again : (v : Cell) → CellFits v → cell_said (cell_text v) ≡ Ok v
 cell-again v fits = cell-said v _ (cell-text v fits)

@@ -5,7 +5,7 @@ use Rattle.std.proofs.lemmas.List.Concat.{flat_map-cons}
 use Rattle.std.proofs.lemmas.Nat.{mod_below, pow_pos}
 use Rattle.std.proofs.Math.Nat.{mod-eq_of_lt}
 use Rattle.rr_elements.specs.Bits.{bits, bits_of, number_of, total, cut, written}
-use Rattle.rr_elements.specs.Fields.{AreFields, spelled}
+use Rattle.rr_elements.specs.Fields.{AreFields, field_octets}
 use Rattle.rr_elements.proofs.BitLemmas.{length-bits, number_of-bits, bits-add, bits-same, bits-put, put_below, drop-bits, number_of-take-bits, length-octets_of}
 
 -- each number fits its width
@@ -65,16 +65,16 @@ bits_of-cut (suc k) n =
     rw step (ap bits_of pieces ∙ bits_of-cons octet _ ∙ ap (λ bs. bits 8 octet ++ bs) (bits_of-cut k n) ∙ ap (λ bs. bs ++ bits (k * 8) n) (bits-same 8 octet (n / 2 ^ (k * 8)) low) ∙ sym (bits-add 8 (k * 8) n))
 
 -- what is written with widths that make whole octets is fields of the octets
-pub spelled-fields : (ws ns : List ℕ) → FieldsFit ws ns → total ws % 8 ≡ 0 → AreFields ws ns (spelled ws ns)
-spelled-fields ws ns fit whole =
+pub AreFields-field_octets : (ws ns : List ℕ) → FieldsFit ws ns → total ws % 8 ≡ 0 → AreFields ws ns (field_octets ws ns)
+AreFields-field_octets ws ns fit whole =
     let m = written-bits ws ns fit in
     let k = total ws / 8 in
     let eights : total ws ≡ k * 8 = omega arith in
     let is : written ws ns ≡ bits (k * 8) m.0 = m.2 ∙ ap (λ j. bits j m.0) eights in
     let count : length (written ws ns) / 8 ≡ k = ap (λ bs. length bs / 8) m.2 ∙ ap (λ j. j / 8) (length-bits (total ws) m.0) in
-    let octets : spelled ws ns ≡ cut (replicate k 8) (bits (k * 8) m.0) = ap (λ j. cut (replicate j 8) (written ws ns)) count ∙ ap (cut (replicate k 8)) is in
-    let again : bits_of (spelled ws ns) ≡ written ws ns = ap bits_of octets ∙ bits_of-cut k m.0 ∙ sym is in
-    let long : length (spelled ws ns) ≡ k = length-octets_of (written ws ns) ∙ count in
+    let octets : field_octets ws ns ≡ cut (replicate k 8) (bits (k * 8) m.0) = ap (λ j. cut (replicate j 8) (written ws ns)) count ∙ ap (cut (replicate k 8)) is in
+    let again : bits_of (field_octets ws ns) ≡ written ws ns = ap bits_of octets ∙ bits_of-cut k m.0 ∙ sym is in
+    let long : length (field_octets ws ns) ≡ k = length-octets_of (written ws ns) ∙ count in
     record {
       len = omega arith;
       pieces = ap (cut ws) again ∙ cut-written ws ns fit;

@@ -6,7 +6,7 @@ use Rattle.rr_elements.specs.declared.measurement.Ncell.{Ncell}
 use Rattle.rr_elements.specs.Bits.{repeated}
 use Rattle.rr_elements.specs.MeasResults.{Results, ResultsFit, NcellFits, IsResultsText, head_widths, head_numbers, ncell_widths, ncell_numbers, results_widths, results_numbers, results_text, results_said, no_ncell}
 use Rattle.rr_elements.proofs.ElementLemmas.{flag_below}
-use Rattle.rr_elements.proofs.FieldLemmas.{FieldsFit, fit-append, spelled-fields}
+use Rattle.rr_elements.proofs.FieldLemmas.{FieldsFit, fit-append, AreFields-field_octets}
 use Rattle.rr_elements.proofs.ResultsLemmas.{text-said}
 use Rattle.rr_elements.proofs.KeptLemmas.{used_le, no_ncell_fits}
 
@@ -31,7 +31,7 @@ results-text v fits =
       others = others;
       count = fits.count;
       six = six;
-      fields = spelled-fields results_widths (results_numbers v others) (fit-append head_widths (repeated 6 ncell_widths) (head_numbers h) (flat_map ncell_numbers cells) head places) refl;
+      fields = AreFields-field_octets results_widths (results_numbers v others) (fit-append head_widths (repeated 6 ncell_widths) (head_numbers h) (flat_map ncell_numbers cells) head places) refl;
     }
 
 pub results-again : (v : Results) → ResultsFit v → results_said (results_text v) ≡ Ok v

@@ -1,7 +1,7 @@
 -- Cell Description (TS 44.018 section 10.5.2.2), without an identifier.
 use Rattle.std.specs.Prelude.{ℕ, ◌+◌, ◌*◌, ◌/◌, ◌%◌, ◌^◌, ◌<◌, ◌==◌, if◌then◌else◌, List, [], ◌∷◌, length, Result, Ok, Err}
 use Rattle.rr_elements.specs.Bits.{bits_of, cut}
-use Rattle.rr_elements.specs.Fields.{AreFields, spelled}
+use Rattle.rr_elements.specs.Fields.{AreFields, field_octets}
 use Rattle.rr_elements.specs.declared.fault.ElementFault.{ElementFault}
 use Rattle.rr_elements.specs.declared.fault.ElementFault.TheVariants.{Length}
 
@@ -30,7 +30,7 @@ IsCellText v octets = AreFields cell_widths (cell_numbers v) octets
 
 -- the text that is written
 abbrev pub cell_text : Cell → List ℕ
-cell_text v = spelled cell_widths (cell_numbers v)
+cell_text v = field_octets cell_widths (cell_numbers v)
 
 -- what fields say
 abbrev pub cell_of : List ℕ → Result Cell ElementFault

@@ -1,7 +1,7 @@
 -- Channel Description 2 (TS 44.018 section 10.5.2.5a), without an identifier: a full rate traffic channel that does not hop.
 use Rattle.std.specs.Prelude.{ℕ, ◌+◌, ◌*◌, ◌/◌, ◌%◌, ◌^◌, ◌<◌, ◌==◌, if◌then◌else◌, List, [], ◌∷◌, length, Result, Ok, Err}
 use Rattle.rr_elements.specs.Bits.{bits_of, cut}
-use Rattle.rr_elements.specs.Fields.{AreFields, spelled}
+use Rattle.rr_elements.specs.Fields.{AreFields, field_octets}
 use Rattle.rr_elements.specs.declared.fault.ElementFault.{ElementFault}
 use Rattle.rr_elements.specs.declared.fault.ElementFault.TheVariants.{Length, BadType, Hopping}
 
@@ -31,7 +31,7 @@ IsChanText v octets = (spare : ℕ) × AreFields chan_widths (chan_numbers spare
 
 -- the text that is written
 abbrev pub chan_text : Chan → List ℕ
-chan_text v = spelled chan_widths (chan_numbers 0 v)
+chan_text v = field_octets chan_widths (chan_numbers 0 v)
 
 -- what fields say, or the first fault
 abbrev pub chan_of : List ℕ → Result Chan ElementFault

@@ -8,8 +8,8 @@ pub record AreFields (widths numbers octets : List ℕ) : Type 0 where
   pub pieces : cut widths (bits_of octets) ≡ numbers
 
 -- the octets of fields of these widths
-abbrev pub spelled : List ℕ → List ℕ → List ℕ
-spelled widths numbers = octets_of (written widths numbers)
+abbrev pub field_octets : List ℕ → List ℕ → List ℕ
+field_octets widths numbers = octets_of (written widths numbers)
 
 -- a field of one bit
 abbrev pub flag : Bool → ℕ

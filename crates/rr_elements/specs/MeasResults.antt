@@ -1,7 +1,7 @@
 -- Measurement Results (TS 44.018 section 10.5.2.20), without an identifier: 128 bits.
 use Rattle.std.specs.Prelude.{◌≡◌, ℕ, ◌+◌, ◌-◌, ◌^◌, ◌<◌, ◌==◌, if◌then◌else◌, not, List, [], ◌∷◌, ◌++◌, length, take, drop, replicate, flat_map, All, Result, Ok, Err}
 use Rattle.rr_elements.specs.Bits.{bits_of, cut, repeated}
-use Rattle.rr_elements.specs.Fields.{AreFields, spelled, flag}
+use Rattle.rr_elements.specs.Fields.{AreFields, field_octets, flag}
 use Rattle.rr_elements.specs.declared.fault.ElementFault.{ElementFault}
 use Rattle.rr_elements.specs.declared.fault.ElementFault.TheVariants.{Length}
 use Rattle.rr_elements.specs.declared.measurement.MeasHead.{MeasHead}
@@ -72,7 +72,7 @@ no_ncell = record { level = 0; position = 0; bsic = 0 }
 
 -- the text that is written
 abbrev pub results_text : Results → List ℕ
-results_text v = spelled results_widths (results_numbers v (replicate (6 - length v.neighbours) no_ncell))
+results_text v = field_octets results_widths (results_numbers v (replicate (6 - length v.neighbours) no_ncell))
 
 -- what the fields of neighbours say
 abbrev pub ncells_of : List ℕ → List Ncell

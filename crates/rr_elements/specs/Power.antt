@@ -1,7 +1,7 @@
 -- Power Command and access type (TS 44.018 section 10.5.2.28a), without an identifier.
 use Rattle.std.specs.Prelude.{ℕ, ◌^◌, ◌<◌, ◌==◌, if◌then◌else◌, Bool, List, [], ◌∷◌, length, Result, Ok, Err}
 use Rattle.rr_elements.specs.Bits.{bits_of, cut}
-use Rattle.rr_elements.specs.Fields.{AreFields, spelled, flag}
+use Rattle.rr_elements.specs.Fields.{AreFields, field_octets, flag}
 use Rattle.rr_elements.specs.declared.fault.ElementFault.{ElementFault}
 use Rattle.rr_elements.specs.declared.fault.ElementFault.TheVariants.{Length}
 
@@ -27,7 +27,7 @@ IsPowerText v octets = (spare : ℕ) × AreFields power_widths (power_numbers sp
 
 -- the text that is written
 abbrev pub power_text : PowerCommand → List ℕ
-power_text v = spelled power_widths (power_numbers 0 v)
+power_text v = field_octets power_widths (power_numbers 0 v)
 
 -- what fields say
 abbrev pub power_of : List ℕ → Result PowerCommand ElementFault

@@ -3,7 +3,7 @@ use Rattle.std.proofs.Common.{◌≡◌, ℕ, ◌+◌, ◌*◌, ◌<◌, ◌≤�
 use Rattle.std.proofs.lemmas.Bool.Decides.{nat_tests}
 use borrow.Author.Tests.{eq-eqb}
 use Rattle.std.specs.List.{AllByRecursion}
-use Rattle.octet_elements.specs.Elements.{Fits, FitsAs, first_of, all_spelled}
+use Rattle.octet_elements.specs.Elements.{Fits, FitsAs, first_of, all_octets}
 use Rattle.octet_elements.specs.declared.form.Form.TheVariants.{Fixed}
 use Rattle.octet_elements.specs.Reading.{◌>>=◌}
 use Rattle.rsl_messages.specs.declared.message.ChanBits.{ChanBits}
@@ -69,11 +69,11 @@ octet_fits : (i : ℕ) (o : Option ℕ) → abis i ≡ Fixed 1 → AllByRecursio
 octet_fits i None form = tt
 octet_fits i (Some n) form = (subst (λ f. FitsAs f (n ∷ [])) (sym form) refl, tt)
 
-reference-length : (o : Option ℕ) → length (all_spelled abis (where_some 0x09 o)) ≤ 2
+reference-length : (o : Option ℕ) → length (all_octets abis (where_some 0x09 o)) ≤ 2
 reference-length None = omega arith
 reference-length (Some n) = omega arith
 
-delay-length : (o : Option ℕ) → length (all_spelled abis (where_some 0x11 o)) ≤ 2
+delay-length : (o : Option ℕ) → length (all_octets abis (where_some 0x11 o)) ≤ 2
 delay-length None = omega arith
 delay-length (Some n) = omega arith
 
@@ -83,7 +83,7 @@ unfolding channel_activation
 activation_canonical channel activation mode reference h = record {
   each = (refl, (refl, (h.2, octet_fits 9 reference refl)));
   says = λ i. channel_again channel h.0 i >>= λ channel. octets_again 6 mode h.1 i >>= λ mode. optional_again 9 reference i >>= λ reference. Ok (ChannelActivation channel activation mode reference);
-  within = let long = length-append mode (all_spelled abis (where_some 0x09 reference)) in let two = reference-length reference in omega arith;
+  within = let long = length-append mode (all_octets abis (where_some 0x09 reference)) in let two = reference-length reference in omega arith;
 }
 
 pub canonical_of : {A : Type 0} (v : Rsl A) → IsWritable v → HasCanonical v

@@ -2,7 +2,7 @@
 -- (TS 48.058 clause 9).
 use Rattle.std.specs.Prelude.{◌≡◌, ◌⊎◌, ℕ, ◌+◌, ◌<◌, ◌≤◌, List, ◌∷◌, length, Some, None, Result, Ok, Err}
 use Rattle.std.specs.List.{AllByRecursion}
-use Rattle.octet_elements.specs.Elements.{Element, Fits, AreElements, IsTornAt, all_spelled}
+use Rattle.octet_elements.specs.Elements.{Element, Fits, AreElements, IsTornAt, all_octets}
 use Rattle.octet_elements.specs.declared.values.ElementFault.{ElementFault}
 use Rattle.octet_elements.specs.declared.values.ElementFault.TheVariants.{Absent, Bad}
 use Rattle.rsl_messages.specs.declared.fault.RslFault.{RslFault}
@@ -61,7 +61,7 @@ HasFault A octets f = (length octets ≤ limit) × (HasHeadFault octets f ⊎ Ha
 
 -- The canonical text: the head and the elements as they are written.
 abbrev pub canonical : {A : Type 0} → Rsl A → List ℕ
-canonical v = (head_of (kind_of v)).0 ∷ (head_of (kind_of v)).1 ∷ all_spelled abis (elements_of v)
+canonical v = (head_of (kind_of v)).0 ∷ (head_of (kind_of v)).1 ∷ all_octets abis (elements_of v)
 
 -- The message has a canonical text: its elements as written can be spelled, they say the message, and
 -- the text isn't too long.

@@ -1,7 +1,7 @@
 //! Writing a message.
 ghost use Rattle.std.specs.Prelude.{◌≡◌, ◌≤◌, ◌<◌, ◌+◌, ◌++◌, ◌↔◌, [], IsTrue, IsNone, IfSome, length, IsOk, IfOk, OnOk, OnErr, vec_len, vec_capacity};
 ghost use Rattle.std.specs.Option.{option_map};
-ghost use Rattle.octet_elements.specs.Elements.{all_spelled};
+ghost use Rattle.octet_elements.specs.Elements.{all_octets};
 ghost use Rattle.rsl_messages.specs.Forms.{abis};
 ghost use Rattle.rsl_messages.specs.Messages.{elements_of, kind_of};
 ghost use Rattle.rsl_messages.specs.Heads.{head_of};
@@ -116,7 +116,7 @@ fn kind_of<A: Allocator>(message: &Rsl<A>) -> MessageKind
 /// How many octets the layer 3 element of a MEASUREMENT RESULT takes.
 fn reported_len<A: Allocator>(layer3: Option<&Octets<A>>) -> usize
     requires { IfSome layer3 (λ l. length l.now ≤ limit) }
-    ensures { result ≡ length (all_spelled abis
+    ensures { result ≡ length (all_octets abis
         (where_value 0x0B (option_map (λ l. l.now) layer3.entry))) }
 {
     match layer3 {
@@ -128,7 +128,7 @@ fn reported_len<A: Allocator>(layer3: Option<&Octets<A>>) -> usize
 /// How many octets the elements of a message take.
 fn elements_len<A: Allocator>(message: &Rsl<A>) -> usize
     requires { IsWritable message.now }
-    ensures { result ≡ length (all_spelled abis (elements_of message.now)) }
+    ensures { result ≡ length (all_octets abis (elements_of message.now)) }
 {
     match message {
         Rsl::DataRequest { layer3, .. } | Rsl::DataIndication { layer3, .. } => {
@@ -162,11 +162,11 @@ fn channel_octet(channel: ChanBits) -> u8
 fn append_data<A: Allocator>(out: &mut Vec<u8, A>, channel: ChanBits, link: u8, layer3: &[u8])
     requires channel { channel.tn < 8 }
     requires layer3 { length layer3.now ≤ limit }
-    requires room { vec_len out.old + length (all_spelled abis
+    requires room { vec_len out.old + length (all_octets abis
         (elements_of {A = A} (Rsl.DataRequest channel link layer3.now))) ≤
         vec_capacity out.old }
     ensures items { out.new.items ≡ out.old.items ++
-        all_spelled abis (elements_of {A = A} (Rsl.DataRequest channel link layer3.now)) }
+        all_octets abis (elements_of {A = A} (Rsl.DataRequest channel link layer3.now)) }
 {
     append_element::<Abis, A>(out, CHANNEL_NUMBER, &[channel_octet(channel)]);
     append_element::<Abis, A>(out, LINK_IDENTIFIER, &[link]);
@@ -183,11 +183,11 @@ fn append_activation<A: Allocator>(
 )
     requires channel { channel.tn < 8 }
     requires mode { length mode.now < 256 }
-    requires room { vec_len out.old + length (all_spelled abis
+    requires room { vec_len out.old + length (all_octets abis
         (elements_of {A = A} (Rsl.ChannelActivation channel activation mode.now reference))) ≤
         vec_capacity out.old }
     ensures items { out.new.items ≡ out.old.items ++
-        all_spelled abis (elements_of {A = A}
+        all_octets abis (elements_of {A = A}
         (Rsl.ChannelActivation channel activation mode.now reference)) }
 {
     append_element::<Abis, A>(out, CHANNEL_NUMBER, &[channel_octet(channel)]);
@@ -201,10 +201,10 @@ fn append_activation<A: Allocator>(
 /// Appends the elements of a CHANNEL ACTIVATION ACKNOWLEDGE.
 fn append_ack<A: Allocator>(out: &mut Vec<u8, A>, channel: ChanBits, frame: u16)
     requires channel { channel.tn < 8 }
-    requires room { vec_len out.old + length (all_spelled abis
+    requires room { vec_len out.old + length (all_octets abis
         (elements_of {A = A} (Rsl.ChannelActivationAck channel frame))) ≤ vec_capacity out.old }
     ensures items { out.new.items ≡ out.old.items ++
-        all_spelled abis (elements_of {A = A} (Rsl.ChannelActivationAck channel frame)) }
+        all_octets abis (elements_of {A = A} (Rsl.ChannelActivationAck channel frame)) }
 {
     append_element::<Abis, A>(out, CHANNEL_NUMBER, &[channel_octet(channel)]);
     append_element::<Abis, A>(out, FRAME_NUMBER, &pair_octets(frame));
@@ -213,11 +213,11 @@ fn append_ack<A: Allocator>(out: &mut Vec<u8, A>, channel: ChanBits, frame: u16)
 /// Appends the elements of a message with a cause.
 fn append_cause<A: Allocator>(out: &mut Vec<u8, A>, channel: ChanBits, cause: u8)
     requires channel { channel.tn < 8 }
-    requires room { vec_len out.old + length (all_spelled abis
+    requires room { vec_len out.old + length (all_octets abis
         (elements_of {A = A} (Rsl.ChannelActivationNack channel cause))) ≤
         vec_capacity out.old }
     ensures items { out.new.items ≡ out.old.items ++
-        all_spelled abis (elements_of {A = A} (Rsl.ChannelActivationNack channel cause)) }
+        all_octets abis (elements_of {A = A} (Rsl.ChannelActivationNack channel cause)) }
 {
     append_element::<Abis, A>(out, CHANNEL_NUMBER, &[channel_octet(channel)]);
     append_element::<Abis, A>(out, CAUSE, &[cause]);
@@ -226,10 +226,10 @@ fn append_cause<A: Allocator>(out: &mut Vec<u8, A>, channel: ChanBits, cause: u8
 /// Appends the elements of a HANDOVER DETECTION.
 fn append_detection<A: Allocator>(out: &mut Vec<u8, A>, channel: ChanBits, delay: Option<u8>)
     requires channel { channel.tn < 8 }
-    requires room { vec_len out.old + length (all_spelled abis
+    requires room { vec_len out.old + length (all_octets abis
         (elements_of {A = A} (Rsl.HandoverDetection channel delay))) ≤ vec_capacity out.old }
     ensures items { out.new.items ≡ out.old.items ++
-        all_spelled abis (elements_of {A = A} (Rsl.HandoverDetection channel delay)) }
+        all_octets abis (elements_of {A = A} (Rsl.HandoverDetection channel delay)) }
 {
     append_element::<Abis, A>(out, CHANNEL_NUMBER, &[channel_octet(channel)]);
     if let Some(delay) = delay {
@@ -249,11 +249,11 @@ fn append_measurement<A: Allocator>(
     requires channel { channel.tn < 8 }
     requires uplink { length uplink.now < 256 }
     requires layer3 { IfSome layer3 (λ l. length l.now ≤ limit) }
-    requires room { vec_len out.old + length (all_spelled abis
+    requires room { vec_len out.old + length (all_octets abis
         (elements_of {A = A} (Rsl.MeasurementResult channel number uplink.now power
         (option_map (λ l. l.now) layer3)))) ≤ vec_capacity out.old }
     ensures items { out.new.items ≡ out.old.items ++
-        all_spelled abis (elements_of {A = A}
+        all_octets abis (elements_of {A = A}
         (Rsl.MeasurementResult channel number uplink.now power (option_map
         (λ l. l.now) layer3.entry))) }
 {
@@ -269,9 +269,9 @@ fn append_measurement<A: Allocator>(
 /// Appends the elements of a message, for which the list has room.
 fn append_elements<A: Allocator>(message: &Rsl<A>, out: &mut Vec<u8, A>)
     requires writable { IsWritable message.now }
-    requires room { vec_len out.old + length (all_spelled abis (elements_of message.now)) ≤
+    requires room { vec_len out.old + length (all_octets abis (elements_of message.now)) ≤
         vec_capacity out.old }
-    ensures items { out.new.items ≡ out.old.items ++ all_spelled abis (elements_of message.now) }
+    ensures items { out.new.items ≡ out.old.items ++ all_octets abis (elements_of message.now) }
 {
     match message {
         Rsl::DataRequest {

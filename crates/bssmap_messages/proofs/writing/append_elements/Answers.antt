@@ -1,5 +1,5 @@
 use Rattle.std.proofs.Common.{◌≡◌, ◌∷◌, [], ◌++◌, length, ap, ◌∙◌, append_assoc, arith}
-use Rattle.octet_elements.specs.Elements.{all_spelled, spelled}
+use Rattle.octet_elements.specs.Elements.{all_octets, element_octets}
 use Rattle.bssmap_messages.specs.Forms.{interface_a}
 use Rattle.octet_elements.specs.Values.{where_some}
 use Rattle.bssmap_messages.specs.Values.{cell_value}
@@ -22,9 +22,9 @@ returns-in-HandoverRequest g c =
 pub returns-in-HandoverFailure : goal.returns-in-HandoverFailure
 returns-in-HandoverFailure g c =
     let arm = c.in-HandoverFailure in
-    rw arm.is (c.append_rr-in-HandoverFailure.ensures ∙ ap (λ x. x ++ all_spelled interface_a (where_some 0x15 arm.rr)) c.append_cause.ensures.items ∙ append_assoc c.args.out.now.items (4 ∷ 1 ∷ arm.cause ∷ []) (all_spelled interface_a (where_some 0x15 arm.rr)))
+    rw arm.is (c.append_rr-in-HandoverFailure.ensures ∙ ap (λ x. x ++ all_octets interface_a (where_some 0x15 arm.rr)) c.append_cause.ensures.items ∙ append_assoc c.args.out.now.items (4 ∷ 1 ∷ arm.cause ∷ []) (all_octets interface_a (where_some 0x15 arm.rr)))
 
 pub returns-in-HandoverPerformed : goal.returns-in-HandoverPerformed
 returns-in-HandoverPerformed g c =
     let arm = c.in-HandoverPerformed in
-    rw arm.is (c.append_cell.ensures.items ∙ ap (λ x. x ++ spelled interface_a (0x05, cell_value arm.cell)) c.append_cause-in-HandoverPerformed.ensures.items ∙ append_assoc c.args.out.now.items (4 ∷ 1 ∷ arm.cause ∷ []) (spelled interface_a (0x05, cell_value arm.cell)))
+    rw arm.is (c.append_cell.ensures.items ∙ ap (λ x. x ++ element_octets interface_a (0x05, cell_value arm.cell)) c.append_cause-in-HandoverPerformed.ensures.items ∙ append_assoc c.args.out.now.items (4 ∷ 1 ∷ arm.cause ∷ []) (element_octets interface_a (0x05, cell_value arm.cell)))

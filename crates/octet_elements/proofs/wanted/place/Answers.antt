@@ -1,21 +1,22 @@
-use Rattle.std.proofs.Common.{◌≡◌, ℕ, None, Some, get_or, sym, ◌∙◌, ap, arith, length}
+use Rattle.std.proofs.Common.{ℕ, [], None, Some, get_or, sym, ◌∙◌, ap, arith}
 use Rattle.std.specs.Option.{option_map}
+use Rattle.std.proofs.Math.ListN.{set}
 use Rattle.std.proofs.lemmas.List.{map-set}
 use borrow.Author.Count.{below_more}
-use Rattle.octet_elements.specs.Elements.{with_value}
-use Rattle.octet_elements.proofs.Places.{Passes, shown, shown-get, same_length, shown_free, shown_taken, with_value_here, with_value_nowhere}
+use Rattle.octet_elements.proofs.Turns.{Passes, wanted-add, wanted_passed}
+use Rattle.octet_elements.proofs.Places.{shown, shown-get, shown_free, shown_taken}
 use Rattle.octet_elements.proofs.wanted.place.Goals as goal
 use Rattle.octet_elements.proofs.wanted.place.Goals.{else-wanted-at-via-then-wanted-at+else-is_none, else-wanted-at-via-else-wanted-at}
 
 pub returns-then-is_none : goal.returns-then-is_none
-returns-then-is_none c =
+returns-then-is_none c = λ es so_far.
     let values = c.loop-at.values in
     let at = c.loop-at.at in
+    let noted = ap shown c.loop-at.invariant.0 ∙ so_far in
     let free = shown-get values at ∙ shown_free (get_or values at None) c.if-is_none.ensures in
-    let long : length c.args.wanted.now ≡ length (shown values) = same_length c.args.wanted.now values c.args.values.now c.loop-at.invariant.0 c.requires in
     map-set (option_map (λ v. v.now)) values at (Some c.args.value)
-    ∙ sym (with_value_here at c.args.wanted.now c.args.identifier c.args.value.now (shown values) (omega arith) long c.if-wanted-at.true free c.loop-at.invariant.1)
-    ∙ ap (λ vs. with_value c.args.wanted.now c.args.identifier c.args.value.now (shown vs)) c.loop-at.invariant.0
+    ∙ ap (λ vs. set vs at (Some c.args.value.now)) noted
+    ∙ wanted-add at c.args.identifier c.args.value.now es [] c.args.wanted.now (omega arith) (omega arith) c.if-wanted-at.true (rw noted at free) (rw noted at c.loop-at.invariant.1)
 
 pub loop-at-preserved : goal.loop-at-preserved
 loop-at-preserved c =
@@ -29,8 +30,7 @@ loop-at-preserved c =
     (c.loop-at.invariant.0, below_more P at c.loop-at.invariant.1 here)
 
 pub returns : goal.returns
-returns c =
-    let values = c.loop-at.values in
-    let long : length c.args.wanted.now ≡ length (shown values) = same_length c.args.wanted.now values c.args.values.now c.loop-at.invariant.0 c.requires in
-    sym (with_value_nowhere c.args.wanted.now c.args.identifier c.args.value.now (shown values) long (λ k lt. c.loop-at.invariant.1 k (omega arith)))
-    ∙ ap (λ vs. with_value c.args.wanted.now c.args.identifier c.args.value.now (shown vs)) c.loop-at.invariant.0
+returns c = λ es so_far.
+    let noted = ap shown c.loop-at.invariant.0 ∙ so_far in
+    let all = rw noted at c.loop-at.invariant.1 in
+    noted ∙ wanted_passed c.args.identifier c.args.value.now es [] c.args.wanted.now (omega arith) (λ k below. all k (omega arith))

@@ -1,6 +1,6 @@
 use Rattle.std.proofs.Common.{◌≡◌, ℕ, ◌<◌, None, map, get_or}
 use Rattle.std.specs.Option.{option_map}
-use Rattle.octet_elements.proofs.Places.{Passes}
+use Rattle.octet_elements.proofs.Turns.{Passes}
 use Rattle.octet_elements.proofs.wanted.place.Given as goal
 
 -- no place before this one takes the value

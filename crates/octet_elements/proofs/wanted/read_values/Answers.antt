@@ -1,9 +1,8 @@
-use Rattle.std.proofs.Common.{[], ◌∷◌, ◌++◌, length, sym, ◌∙◌, ap, arith}
+use Rattle.std.proofs.Common.{[], ◌∷◌, ◌++◌, length, sym, ◌∙◌, ap}
 use Rattle.std.proofs.lemmas.List.{length-map}
 use Rattle.std.specs.Option.{option_map}
-use Rattle.octet_elements.specs.Elements.{with_value}
-use Rattle.octet_elements.proofs.Splits.{each_and_one, spelled_and_one}
-use Rattle.octet_elements.proofs.Turns.{wanted-add, wanted_after-length}
+use Rattle.octet_elements.proofs.Splits.{each_and_one, octets_and_one}
+use Rattle.octet_elements.proofs.Turns.{wanted_after-length}
 use Rattle.octet_elements.proofs.wanted.read_values.Goals as goal
 
 pub place-requires : goal.place-requires
@@ -19,6 +18,6 @@ loop-rest-preserved g c =
     let is = c.in-Some.ensures.found in (
       had.0 ++ (found.identifier, found.value.now) ∷ [],
       each_and_one forms had.0 (found.identifier, found.value.now) had.1 is.0,
-      spelled_and_one forms had.0 (found.identifier, found.value.now) c.args.octets.now c.loop-rest.rest.now found.rest.now had.2 is.1,
-      c.place.ensures ∙ ap (with_value c.args.wanted.now found.identifier found.value.now) had.3 ∙ wanted-add found.identifier found.value.now had.0 [] c.args.wanted.now (omega arith),
+      octets_and_one forms had.0 (found.identifier, found.value.now) c.args.octets.now c.loop-rest.rest.now found.rest.now had.2 is.1,
+      c.place.ensures had.0 had.3,
     )
