@@ -5,6 +5,7 @@ use Rattle.std.specs.FinMap as map
 use Rattle.channel_fsm.specs.declared.ChanId.{ChanId}
 use Rattle.channel_fsm.specs.declared.ChanState.{ChanState}
 use Rattle.channel_fsm.specs.declared.ChanState.TheVariants.{Free, Held, Pending, On, Off}
+use Rattle.radio_book.specs.declared.event.AttemptKind.TheVariants.{Incoming}
 use Rattle.radio_book.specs.declared.event.Kind.{Kind}
 use Rattle.radio_book.specs.declared.event.Kind.TheVariants as kind
 use Rattle.radio_book.specs.declared.event.Timer.{Timer}
@@ -17,14 +18,15 @@ use Rattle.radio_book.specs.declared.event.CallRecord.{CallRecord}
 use Rattle.radio_book.specs.declared.event.Reference.{Reference}
 use Rattle.radio_book.specs.declared.event.Event.TheVariants as event
 use Rattle.radio_book.specs.declared.event.Refusal.{Refusal}
-use Rattle.radio_book.specs.declared.event.Refusal.TheVariants.{NoCall, CallExists, WrongPhase, NoChannel, SameCell, ChannelBusy, RefBusy, NotArmed}
+use Rattle.radio_book.specs.declared.event.Refusal.TheVariants.{NoCall, WrongPhase, NoChannel, SameCell, ChannelBusy, RefBusy, NotArmed}
 use Rattle.radio_book.specs.declared.event.Reply.TheVariants.{Record, Refused}
 use Rattle.cell_table.specs.Site.{is_traffic}
 use Rattle.radio_book.specs.State.{State, Change, apply, state_of, record_of}
-use Rattle.radio_book.specs.Table.{Accepts, Refuses, reply_of, undo_row, undo_attempt, is_armed, left_state, resting_record, reference_held, take_row, take_internal, take_from, take_incoming, reserve_row, reserve_by, reserve_at, reserve_number, reference_at, activate_row, activate_by, activate_at}
+use Rattle.radio_book.specs.Table.{Accepts, Refuses, reply_of, undo_row, undo_attempt, is_armed, left_state, resting_record, reference_held, taken_attempt, take_row, take_internal, take_from, reserve_row, reserve_by, reserve_at, reserve_number, reference_at, activate_row, activate_by, activate_at}
 use Rattle.radio_book.specs.Sound.{IsSound, reference_of}
 use Rattle.radio_book.proofs.Changes.{Misses, option_apart, record_kept, state_kept, user_kept, timer_kept}
 use Rattle.radio_book.proofs.Agreement.{Agrees, refused, as_read, Hides, AgreesWithOthers, wants_free, states_kept, serving_missed, target_missed}
+use Rattle.radio_book.proofs.OthersCalls.{begin_agrees}
 
 -- Take
 module _ (gone : Change) (b : State) (hides : Hides gone b) (d : ℕ) (y : ChanId) (other : Misses gone.call d) where
@@ -39,13 +41,6 @@ module _ (gone : Change) (b : State) (hides : Hides gone b) (d : ℕ) (y : ChanI
   from_agrees r (On c) true true h = refused gone SameCell
   from_agrees r (On c) true false h =
       wants_free gone b hides y (take_from d y r (On c) true false) (λ c. refl) (λ c. refl) (λ c. refl) refl
-      (λ missed. record { channel = missed; call = other; reference = tt; timer = tt }) h
-
-  incoming_agrees : (traffic : Bool) → (reply_of (take_incoming d y traffic (state_of b y)) ≡ Refused (ChannelBusy y) → Misses gone.channel y) →
-      Agrees gone (take_incoming d y traffic (state_of b y)) (take_incoming d y traffic (state_of (apply gone b) y))
-  incoming_agrees false h = refused gone NoChannel
-  incoming_agrees true h =
-      wants_free gone b hides y (take_incoming d y true) (λ c. refl) (λ c. refl) (λ c. refl) refl
       (λ missed. record { channel = missed; call = other; reference = tt; timer = tt }) h
 
   internal_agrees : (r : CallRecord) (o : Option Attempt) (serving : Option ChanId) (traffic : Bool) → ((s : ChanId) → serving ≡ Some s → Misses gone.channel s) →
@@ -67,8 +62,7 @@ take_agrees d k y gone b sound hides other not_held =
         Agrees gone (take_row d k y o (state_of b) (is_traffic b.site y)) (take_row d k y o (state_of (apply gone b)) (is_traffic b.site y))
     by kind.Internal None is h = refused gone NoCall
     by kind.Internal (Some r) is h = internal_agrees gone b hides d y other r r.attempt r.serving (is_traffic b.site y) (serving_missed gone b sound hides d other r is) h
-    by kind.Incoming (Some r) is h = refused gone CallExists
-    by kind.Incoming None is h = incoming_agrees gone b hides d y other (is_traffic b.site y) h
+    by kind.Incoming o is h = begin_agrees gone b hides d y other (record { serving = None; attempt = Some (taken_attempt Incoming y) }) (Held d) o (is_traffic b.site y) h
 
 -- Reserve
 module _ (gone : Change) (b : State) (hides : Hides gone b) (d n : ℕ) (other : Misses gone.call d) (r : CallRecord) where

@@ -1,29 +1,33 @@
 -- Open, Clear and Look by another call agree, whatever is gone.
 use Rattle.std.proofs.Common.{◌≡◌, ℕ, Bool, true, false, Option, Some, None, refl, ap}
 use Rattle.channel_fsm.specs.declared.ChanId.{ChanId}
+use Rattle.channel_fsm.specs.declared.ChanState.{ChanState}
+use Rattle.channel_fsm.specs.declared.ChanState.TheVariants.{Pending}
 use Rattle.radio_book.specs.declared.event.Attempt.{Attempt}
 use Rattle.radio_book.specs.declared.event.CallRecord.{CallRecord}
 use Rattle.radio_book.specs.declared.event.Event.TheVariants as event
 use Rattle.radio_book.specs.declared.event.Refusal.TheVariants.{NoCall, CallExists, WrongPhase, NoChannel, ChannelBusy}
 use Rattle.radio_book.specs.declared.event.Reply.TheVariants.{Done, Record, Refused}
 use Rattle.cell_table.specs.Site.{is_traffic}
-use Rattle.radio_book.specs.State.{apply, state_of, record_of}
-use Rattle.radio_book.specs.Table.{Accepts, reply_of, no_change, open_row, clear_row, clear_at, cleared_state, look_row}
+use Rattle.radio_book.specs.State.{State, Change, apply, state_of, record_of}
+use Rattle.radio_book.specs.Table.{Accepts, reply_of, no_change, begin_row, open_row, clear_row, clear_at, cleared_state, look_row}
 use Rattle.radio_book.proofs.Changes.{Misses, option_apart, record_kept}
-use Rattle.radio_book.proofs.Agreement.{Agrees, refused, as_read, AgreesWithOthers, wants_free, states_kept, serving_missed}
+use Rattle.radio_book.proofs.Agreement.{Agrees, refused, as_read, Hides, AgreesWithOthers, wants_free, states_kept, serving_missed}
+
+-- another call begins, by whichever event
+pub begin_agrees : (gone : Change) (b : State) (hides : Hides gone b) (d : ℕ) (y : ChanId) (other : Misses gone.call d) (r : CallRecord) (v : ChanState) (o : Option CallRecord) (traffic : Bool) →
+    (reply_of (begin_row d y r v o traffic (state_of b y)) ≡ Refused (ChannelBusy y) → Misses gone.channel y) →
+    Agrees gone (begin_row d y r v o traffic (state_of b y)) (begin_row d y r v o traffic (state_of (apply gone b) y))
+begin_agrees gone b hides d y other r v (Some old) traffic h = refused gone CallExists
+begin_agrees gone b hides d y other r v None false h = refused gone NoChannel
+begin_agrees gone b hides d y other r v None true h =
+    wants_free gone b hides y (begin_row d y r v None true) (λ c. refl) (λ c. refl) (λ c. refl) refl
+    (λ missed. record { channel = missed; call = other; reference = tt; timer = tt }) h
 
 pub open_agrees : (d : ℕ) (y : ChanId) → AgreesWithOthers (event.Open d y)
 open_agrees d y gone b sound hides other not_held =
     as_read (ap (λ o. open_row d y o (is_traffic b.site y) (state_of (apply gone b) y)) (record_kept gone b d other))
-    (by (record_of b d) (is_traffic b.site y) (not_held.channel y))
-  where
-    by : (o : Option CallRecord) (traffic : Bool) → (reply_of (open_row d y o traffic (state_of b y)) ≡ Refused (ChannelBusy y) → Misses gone.channel y) →
-        Agrees gone (open_row d y o traffic (state_of b y)) (open_row d y o traffic (state_of (apply gone b) y))
-    by (Some r) traffic h = refused gone CallExists
-    by None false h = refused gone NoChannel
-    by None true h =
-        wants_free gone b hides y (open_row d y None true) (λ c. refl) (λ c. refl) (λ c. refl) refl
-        (λ missed. record { channel = missed; call = other; reference = tt; timer = tt }) h
+    (begin_agrees gone b hides d y other (record { serving = Some y; attempt = None }) (Pending d) (record_of b d) (is_traffic b.site y) (not_held.channel y))
 
 pub clear_agrees : (d : ℕ) → AgreesWithOthers (event.Clear d)
 clear_agrees d gone b sound hides other not_held =

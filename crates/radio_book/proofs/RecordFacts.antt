@@ -9,13 +9,12 @@ use Rattle.radio_book.specs.declared.event.Stage.TheVariants.{Taken, Reserved, S
 use Rattle.radio_book.specs.declared.event.Attempt.{Attempt}
 use Rattle.radio_book.specs.declared.event.CallRecord.{CallRecord}
 use Rattle.radio_book.specs.declared.event.Event.{Event}
-use Rattle.radio_book.specs.declared.event.Event.TheVariants as event
 use Rattle.radio_book.specs.declared.event.Refusal.TheVariants.{ChannelBusy}
 use Rattle.radio_book.specs.declared.journal.Inverse.{Inverse}
 use Rattle.cell_table.specs.Site.{is_traffic}
 use Rattle.radio_book.specs.State.{State, or_free, state_of, record_of}
 use Rattle.radio_book.specs.Sound.{IsSound, owner, target_state}
-use Rattle.radio_book.specs.Table.{Refuses, row, step, open_row, take_incoming, take_from}
+use Rattle.radio_book.specs.Table.{Refuses, step, begin_row, begin_call}
 use Rattle.radio_book.specs.Journal.{inverses_at, stage_inverses, opening_inverse, or_zero}
 use Rattle.radio_book.specs.Waiting.{MayMove}
 use Rattle.radio_book.proofs.SoundSteps.{sound_step}
@@ -47,35 +46,21 @@ not_free b x sound there =
       | Some s ↦ λ is h free. sound.not_free x s is free
     ] refl there
 
-open_busy : (c : ℕ) (x : ChanId) (s : ChanState) → s ≢ Free → open_row c x None true s ≡ Refuses (ChannelBusy x)
-open_busy c x Free apart = absurd (apart refl)
-open_busy c x (Held d) apart = refl
-open_busy c x (Pending d) apart = refl
-open_busy c x (On d) apart = refl
-open_busy c x Off apart = refl
-
-incoming_busy : (c : ℕ) (x : ChanId) (s : ChanState) → s ≢ Free → take_incoming c x true s ≡ Refuses (ChannelBusy x)
-incoming_busy c x Free apart = absurd (apart refl)
-incoming_busy c x (Held d) apart = refl
-incoming_busy c x (Pending d) apart = refl
-incoming_busy c x (On d) apart = refl
-incoming_busy c x Off apart = refl
-
-internal_busy : (c : ℕ) (x : ChanId) (r : CallRecord) (d : ℕ) (s : ChanState) → s ≢ Free → take_from c x r (On d) true false s ≡ Refuses (ChannelBusy x)
-internal_busy c x r d Free apart = absurd (apart refl)
-internal_busy c x r d (Held e) apart = refl
-internal_busy c x r d (Pending e) apart = refl
-internal_busy c x r d (On e) apart = refl
-internal_busy c x r d Off apart = refl
+begin_busy : (c : ℕ) (x : ChanId) (r : CallRecord) (v s : ChanState) → s ≢ Free → begin_row c x r v None true s ≡ Refuses (ChannelBusy x)
+begin_busy c x r v Free apart = absurd (apart refl)
+begin_busy c x r v (Held d) apart = refl
+begin_busy c x r v (Pending d) apart = refl
+begin_busy c x r v (On d) apart = refl
+begin_busy c x r v Off apart = refl
 
 no_record : (o : Option CallRecord) → is_some o ≡ false → o ≡ None
 no_record None h = refl
 no_record (Some r) h = cc
 
-pub open_is_busy : (b : State) (c : ℕ) (x : ChanId) → IsSound b → is_some (record_of b c) ≡ false → is_traffic b.site x ≡ true → is_some (map.get b.channels x) ≡ true → row b (event.Open c x) ≡ Refuses (ChannelBusy x)
-open_is_busy b c x sound new traffic there =
-    ap (λ o. open_row c x o (is_traffic b.site x) (state_of b x)) (no_record (record_of b c) new)
-    ∙ ap (λ t. open_row c x None t (state_of b x)) traffic ∙ open_busy c x (state_of b x) (not_free b x sound there)
+pub begin_is_busy : (b : State) (c : ℕ) (x : ChanId) (r : CallRecord) (v : ChanState) → IsSound b → is_some (record_of b c) ≡ false → is_traffic b.site x ≡ true → is_some (map.get b.channels x) ≡ true → begin_call b c x r v ≡ Refuses (ChannelBusy x)
+begin_is_busy b c x r v sound new traffic there =
+    ap (λ o. begin_row c x r v o (is_traffic b.site x) (state_of b x)) (no_record (record_of b c) new)
+    ∙ ap (λ t. begin_row c x r v None t (state_of b x)) traffic ∙ begin_busy c x r v (state_of b x) (not_free b x sound there)
 
 target_of_sent : (c : ℕ) (s : Stage) → target_state c s ≡ Pending c → s ≡ Sent
 target_of_sent c Taken e = cc

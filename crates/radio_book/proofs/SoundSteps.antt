@@ -28,7 +28,7 @@ use Rattle.cell_table.specs.Site.{SiteView, is_traffic}
 use Rattle.radio_book.specs.Keys.{chan_cmp, reference_cmp}
 use Rattle.radio_book.specs.Maps.{Entry, put}
 use Rattle.radio_book.specs.State.{State, Change, apply, or_free, state_of, record_of, empty_book}
-use Rattle.radio_book.specs.Table.{step, after, becomes, without_state, with_record, open_row, cleared_state, clear_row, clear_at, look_row, moved_entry, confirm_row, refuse_row, released_row, takes, take_from, take_incoming, take_internal, take_row, reference_at, reference_held, reserve_number, reserve_at, reserve_by, reserve_row, activate_at, activate_by, activate_row, left_state, resting_record, undo_change, undo_attempt, undo_row}
+use Rattle.radio_book.specs.Table.{step, after, becomes, without_state, with_record, begin_row, cleared_state, clear_row, clear_at, look_row, moved_entry, confirm_row, refuse_row, released_row, takes, take_from, take_internal, take_row, reference_at, reference_held, reserve_number, reserve_at, reserve_by, reserve_row, activate_at, activate_by, activate_row, left_state, resting_record, undo_change, undo_attempt, undo_row}
 use Rattle.radio_book.specs.Sound.{IsSound, owner, Uses, target_state, HasServing, HasReference}
 use Rattle.radio_book.specs.Run.{run_book, RunsAreSound}
 use Rattle.radio_book.proofs.KeyFacts.{same_chan_itself}
@@ -64,6 +64,19 @@ changes channel call reference = record { channel = channel; call = call; refere
 abbrev rests : ChanId → CallRecord
 rests x = record { serving = Some x; attempt = None }
 
+-- a call begins: what it makes of a free traffic channel is sound
+
+begin_sound : (b : State) → IsSound b → (c : ℕ) (x : ChanId) (r : CallRecord) (v : ChanState) →
+    (record_of b c ≡ None → is_traffic b.site x ≡ true → state_of b x ≡ Free → IsSound (apply (changes (becomes x v) (with_record c r) None) b)) →
+    (o : Option CallRecord) (t : Bool) (s : ChanState) → record_of b c ≡ o → is_traffic b.site x ≡ t → state_of b x ≡ s → IsSound (after (begin_row c x r v o t s) b)
+begin_sound b sound c x r v begun (Some old) t s e f g = sound
+begin_sound b sound c x r v begun None false s e f g = sound
+begin_sound b sound c x r v begun None true Free e f g = begun e f g
+begin_sound b sound c x r v begun None true (Held d) e f g = sound
+begin_sound b sound c x r v begun None true (Pending d) e f g = sound
+begin_sound b sound c x r v begun None true (On d) e f g = sound
+begin_sound b sound c x r v begun None true Off e f g = sound
+
 -- Open
 
 opened : (b : State) → IsSound b → (c : ℕ) (x : ChanId) → record_of b c ≡ None → is_traffic b.site x ≡ true → state_of b x ≡ Free → IsSound (apply (changes (becomes x (Pending c)) (with_record c (rests x)) None) b)
@@ -82,17 +95,8 @@ opened b sound c x new traffic free = concerned_sound b sound (changes (becomes 
   timers = sound.timers;
 })
 
-open_sound : (b : State) → IsSound b → (c : ℕ) (x : ChanId) (o : Option CallRecord) (t : Bool) (s : ChanState) → record_of b c ≡ o → is_traffic b.site x ≡ t → state_of b x ≡ s → IsSound (after (open_row c x o t s) b)
-open_sound b sound c x (Some r) t s e f g = sound
-open_sound b sound c x None false s e f g = sound
-open_sound b sound c x None true Free e f g = opened b sound c x e f g
-open_sound b sound c x None true (Held d) e f g = sound
-open_sound b sound c x None true (Pending d) e f g = sound
-open_sound b sound c x None true (On d) e f g = sound
-open_sound b sound c x None true Off e f g = sound
-
 pub sound_open : (b : State) → IsSound b → (c : ℕ) (x : ChanId) → IsSound (step b (event.Open c x))
-sound_open b sound c x = open_sound b sound c x (record_of b c) (is_traffic b.site x) (state_of b x) refl refl refl
+sound_open b sound c x = begin_sound b sound c x (rests x) (Pending c) (opened b sound c x) (record_of b c) (is_traffic b.site x) (state_of b x) refl refl refl
 
 -- Clear
 
@@ -320,14 +324,6 @@ taken b sound c x was s k e traffic free uses refers apart during = concerned_so
   timers = sound.timers;
 })
 
-incoming_sound : (b : State) → IsSound b → (c : ℕ) (x : ChanId) (t : Bool) (s : ChanState) → record_of b c ≡ None → is_traffic b.site x ≡ t → state_of b x ≡ s → IsSound (after (take_incoming c x t s) b)
-incoming_sound b sound c x false s e f g = sound
-incoming_sound b sound c x true Free e f g = taken b sound c x None None Incoming e f g (λ y u. absurd u) (λ j u. u) (λ y h. cc) refl
-incoming_sound b sound c x true (Held d) e f g = sound
-incoming_sound b sound c x true (Pending d) e f g = sound
-incoming_sound b sound c x true (On d) e f g = sound
-incoming_sound b sound c x true Off e f g = sound
-
 internal_sound : (b : State) → IsSound b → (c : ℕ) (x y : ChanId) (now : ChanState) (t same : Bool) (s : ChanState) → record_of b c ≡ Some (rests y) → state_of b y ≡ now → is_traffic b.site x ≡ t → y.cell == x.cell ≡ same → state_of b x ≡ s →
     IsSound (after (take_from c x (rests y) now t same s) b)
 internal_sound b sound c x y Free t same s e n f h g = sound
@@ -353,8 +349,10 @@ take_internal_sound b sound c x (Some y) None e = internal_sound b sound c x y (
 take_sound : (b : State) → IsSound b → (c : ℕ) (k : Kind) (x : ChanId) (o : Option CallRecord) → record_of b c ≡ o → IsSound (after (take_row c k x o (state_of b) (is_traffic b.site x)) b)
 take_sound b sound c kind.Internal x None e = sound
 take_sound b sound c kind.Internal x (Some r) e = take_internal_sound b sound c x r.serving r.attempt e
-take_sound b sound c kind.Incoming x (Some r) e = sound
-take_sound b sound c kind.Incoming x None e = incoming_sound b sound c x (is_traffic b.site x) (state_of b x) e refl refl
+take_sound b sound c kind.Incoming x o e =
+    begin_sound b sound c x (attempting None Incoming Taken x None) (Held c)
+    (λ new f g. taken b sound c x None None Incoming new f g (λ y u. absurd u) (λ j u. u) (λ y h. cc) refl)
+    o (is_traffic b.site x) (state_of b x) e refl refl
 
 pub sound_take : (b : State) → IsSound b → (c : ℕ) (k : Kind) (x : ChanId) → IsSound (step b (event.Take c k x))
 sound_take b sound c k x = take_sound b sound c k x (record_of b c) refl

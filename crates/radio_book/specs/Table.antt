@@ -63,13 +63,20 @@ at_stage r a s = with_attempt r (record a { stage = s })
 abbrev pub record_reply : CallRecord → (ChanId → ChanState) → Reply
 record_reply r look = Record r (option_map look r.serving)
 
--- Open: a call begins on a free channel, whose CHANNEL ACTIVATION is sent (TS 48.058 clause 8.4.1)
+-- a call begins with this record on a free traffic channel, which comes to this state
+abbrev pub begin_row : ℕ → ChanId → CallRecord → ChanState → Option CallRecord → Bool → ChanState → Outcome
+begin_row c x r s (Some old) traffic state = Refuses CallExists
+begin_row c x r s None false state = Refuses NoChannel
+begin_row c x r s None true Free = Accepts (record no_change { channel = becomes x s; call = with_record c r }) Done
+begin_row c x r s None true busy = Refuses (ChannelBusy x)
+
+-- and so by what the book has of the call and of the channel
+abbrev pub begin_call : State → ℕ → ChanId → CallRecord → ChanState → Outcome
+begin_call b c x r s = begin_row c x r s (record_of b c) (is_traffic b.site x) (state_of b x)
+
+-- Open: a call begins on its serving channel, whose CHANNEL ACTIVATION is sent (TS 48.058 clause 8.4.1)
 abbrev pub open_row : ℕ → ChanId → Option CallRecord → Bool → ChanState → Outcome
-open_row c x (Some r) traffic state = Refuses CallExists
-open_row c x None false state = Refuses NoChannel
-open_row c x None true Free =
-    Accepts (record no_change { channel = becomes x (Pending c); call = with_record c (record { serving = Some x; attempt = None }) }) Done
-open_row c x None true busy = Refuses (ChannelBusy x)
+open_row c x found traffic state = begin_row c x (record { serving = Some x; attempt = None }) (Pending c) found traffic state
 
 -- what the end of a call leaves of its serving channel: a held one is free, to the others RF CHANNEL RELEASE is sent
 -- (TS 48.058 clause 8.4.14)
@@ -113,18 +120,16 @@ take_internal c x r (Some a) serving look traffic = Refuses WrongPhase
 take_internal c x r None None look traffic = Refuses WrongPhase
 take_internal c x r None (Some s) look traffic = take_from c x r (look s) traffic (s.cell == x.cell) (look x)
 
--- an attempt of a call that comes from another controller (TS 48.008 clause 3.1.5)
-abbrev pub take_incoming : ℕ → ChanId → Bool → ChanState → Outcome
-take_incoming c x false wanted = Refuses NoChannel
-take_incoming c x true Free = Accepts (takes c x (record { serving = None; attempt = Some (taken_attempt Incoming x) })) Done
-take_incoming c x true busy = Refuses (ChannelBusy x)
+-- a call comes from another controller (TS 48.008 clause 3.1.5): it begins with its attempt
+abbrev pub take_incoming : ℕ → ChanId → Option CallRecord → Bool → ChanState → Outcome
+take_incoming c x found traffic wanted =
+    begin_row c x (record { serving = None; attempt = Some (taken_attempt Incoming x) }) (Held c) found traffic wanted
 
 -- Take: an attempt is opened, and takes a free channel
 abbrev pub take_row : ℕ → Kind → ChanId → Option CallRecord → (ChanId → ChanState) → Bool → Outcome
 take_row c kind.Internal x None look traffic = Refuses NoCall
 take_row c kind.Internal x (Some r) look traffic = take_internal c x r r.attempt r.serving look traffic
-take_row c kind.Incoming x (Some r) look traffic = Refuses CallExists
-take_row c kind.Incoming x None look traffic = take_incoming c x traffic (look x)
+take_row c kind.Incoming x found look traffic = take_incoming c x found traffic (look x)
 
 -- the Handover Reference (TS 44.018 clause 10.5.2.15) with a number in the cell of a channel
 abbrev pub reference_at : ChanId → ℕ → Reference

@@ -12,6 +12,7 @@ mod choice;
 mod station;
 mod undo;
 
+use crate::entry::CallEntry;
 use crate::event::{CallRecord, Event, Kind, Reply};
 use crate::tables::{Calls, Channels, References, Timers};
 use cell_table::Site;
@@ -99,11 +100,13 @@ impl<A: Allocator + Copy> Records<A> {
         ensures kinds { OnErr result (MayNeedRoom event) }
     {
         match event {
-            Event::Open(call, x) => self.open(call, x),
+            Event::Open(call, x) => self.begin(call, x, CallEntry::on(x), ChanState::Pending(call)),
             Event::Clear(call) => Ok(self.clear(call)),
             Event::Look(call) => Ok(self.look(call)),
             Event::Take(call, Kind::Internal, x) => self.take_internal(call, x),
-            Event::Take(call, Kind::Incoming, x) => self.take_incoming(call, x),
+            Event::Take(call, Kind::Incoming, x) => {
+                self.begin(call, x, CallEntry::coming_to(x), ChanState::Held(call))
+            }
             Event::Reserve(call, number) => self.reserve(call, number),
             Event::Activate(call) => Ok(self.activate(call)),
             Event::Undo(call, why) => Ok(self.undo(call, why)),

@@ -5,7 +5,6 @@ ghost use Rattle.radio_book.specs.declared.event.Event.TheVariants as event;
 ghost use Rattle.radio_book.specs.Sound.{IsSound};
 ghost use Rattle.radio_book.specs.Table.{step, reply_to, row, NeedsRoom, reference_at};
 
-use crate::entry::CallEntry;
 use crate::event::{Reference, Refusal, Reply, Stage};
 use crate::records::Records;
 use channel_fsm::{ChanId, ChanState};
@@ -46,28 +45,6 @@ impl<A: Allocator + Copy> Records<A> {
         self.channels.insert(x, ChanState::Held(call))?;
         entry.take(x);
         self.calls.replace(call, entry);
-        Ok(Reply::Done)
-    }
-
-    pub(super) fn take_incoming(&mut self, call: u16, x: ChanId) -> Result<Reply, AllocError>
-        requires { IsSound self.old }
-        ensures reply { IfOk result (λ reply. reply ≡
-            reply_to self.old (event.Take call kind.Incoming x)) }
-        ensures book { OnOk result (self.new ≡ step self.old (event.Take call kind.Incoming x)) }
-        ensures unchanged { OnErr result (self.new ≡ self.old) }
-        ensures memory { OnErr result (NeedsRoom self.old
-            (row self.old (event.Take call kind.Incoming x))) }
-    {
-        if self.calls.get(call).is_some() {
-            return Ok(Reply::Refused(Refusal::CallExists));
-        }
-        if !self.is_traffic(x) {
-            return Ok(Reply::Refused(Refusal::NoChannel));
-        }
-        if self.channels.get(x).is_some() {
-            return Ok(Reply::Refused(Refusal::ChannelBusy(x)));
-        }
-        self.add_call(call, CallEntry::coming_to(x), x, ChanState::Held(call))?;
         Ok(Reply::Done)
     }
 

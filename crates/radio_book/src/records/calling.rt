@@ -4,7 +4,7 @@ ghost use Rattle.std.specs.FinMap as map;
 ghost use Rattle.radio_book.specs.declared.event.Event.TheVariants as event;
 ghost use Rattle.radio_book.specs.State.{apply, state_of, record_of};
 ghost use Rattle.radio_book.specs.Sound.{IsSound};
-ghost use Rattle.radio_book.specs.Table.{step, reply_to, row, NeedsRoom, no_change, becomes, with_record, cleared_state};
+ghost use Rattle.radio_book.specs.Table.{step, reply_to, reply_of, after, begin_call, NeedsRoom, no_change, becomes, with_record, cleared_state};
 
 use crate::entry::CallEntry;
 use crate::event::{Refusal, Reply};
@@ -13,13 +13,23 @@ use channel_fsm::{ChanId, ChanState};
 use std::alloc::{AllocError, Allocator};
 
 impl<A: Allocator + Copy> Records<A> {
-    #[tactic(auto, using(crate::proofs::RecordFacts::open_is_busy))]
-    pub(super) fn open(&mut self, call: u16, x: ChanId) -> Result<Reply, AllocError>
+    /// A call begins with this record on a free traffic channel, which comes to this state.
+    #[tactic(auto, using(crate::proofs::RecordFacts::begin_is_busy))]
+    pub(super) fn begin(
+        &mut self,
+        call: u16,
+        x: ChanId,
+        entry: CallEntry,
+        state: ChanState,
+    ) -> Result<Reply, AllocError>
         requires { IsSound self.old }
-        ensures reply { IfOk result (λ reply. reply ≡ reply_to self.old (event.Open call x)) }
-        ensures book { OnOk result (self.new ≡ step self.old (event.Open call x)) }
+        ensures reply { IfOk result (λ reply. reply ≡
+            reply_of (begin_call self.old call x entry state)) }
+        ensures book { OnOk result (self.new ≡
+            after (begin_call self.old call x entry state) self.old) }
         ensures unchanged { OnErr result (self.new ≡ self.old) }
-        ensures memory { OnErr result (NeedsRoom self.old (row self.old (event.Open call x))) }
+        ensures memory { OnErr result (NeedsRoom self.old
+            (begin_call self.old call x entry state)) }
     {
         if self.calls.get(call).is_some() {
             return Ok(Reply::Refused(Refusal::CallExists));
@@ -30,16 +40,16 @@ impl<A: Allocator + Copy> Records<A> {
         if self.channels.get(x).is_some() {
             return Ok(Reply::Refused(Refusal::ChannelBusy(x)));
         }
-        self.add_call(call, CallEntry::on(x), x, ChanState::Pending(call))?;
+        self.add_call(call, x, entry, state)?;
         Ok(Reply::Done)
     }
 
     /// A new call, and its channel: both, or none where memory is wanted and not given.
-    pub(super) fn add_call(
+    fn add_call(
         &mut self,
         call: u16,
-        entry: CallEntry,
         x: ChanId,
+        entry: CallEntry,
         state: ChanState,
     ) -> Result<(), AllocError>
         requires call { record_of self.old call ≡ None }
