@@ -108,9 +108,12 @@ IsWritable (HandoverCommand layer3) = (0 < length layer3) × (3 + length layer3 
 IsWritable (HandoverPerformed cause cell) = HasArea cell
 IsWritable v = Unit {0}
 
--- a text has one value and no fault, and what is no text has one fault
-abbrev pub ReadingIsUnique : (A : Type 0) → Type 0
-ReadingIsUnique A = ((v w : Bssmap A) (octets : List ℕ) → IsTextOf v octets → IsTextOf w octets → v ≡ w) × ((v : Bssmap A) (octets : List ℕ) (f : BssmapFault) → IsTextOf v octets → HasFault A octets f → f ≡ fault.NoMemory)
+-- Octets have one reading: a text has one value, and no fault but want of memory; what is no text has one
+-- fault.
+pub record ReadingIsUnique (A : Type 0) : Type 0 where
+  pub value : (v w : Bssmap A) (octets : List ℕ) → IsTextOf v octets → IsTextOf w octets → v ≡ w
+  pub text : (v : Bssmap A) (octets : List ℕ) (f : BssmapFault) → IsTextOf v octets → HasFault A octets f → f ≡ fault.NoMemory
+  pub fault : (octets : List ℕ) (f g : BssmapFault) → HasFault A octets f → HasFault A octets g → f ≡ g
 
 -- the canonical text is a text of its message
 abbrev pub CanonicalIsText : (A : Type 0) → Type 0

@@ -8,7 +8,7 @@ use std::marker::Model;
 /// An octet list inside a message, as a layer 3 message or a channel type.
 #[derive(Debug, Drop)]
 pub struct Octets<A: Allocator = Global> {
-    items: Vec<u8, A>,
+    octets: Vec<u8, A>,
 }
 
 impl<A: Allocator> Model for Octets<A> {
@@ -16,7 +16,7 @@ impl<A: Allocator> Model for Octets<A> {
 
     ghost Value = { List ℕ };
 
-    ghost view = { λ o. o.items.items };
+    ghost view = { λ o. o.octets.items };
 }
 
 impl<A: Allocator + Copy> Octets<A> {
@@ -26,7 +26,7 @@ impl<A: Allocator + Copy> Octets<A> {
         ensures { IfOk result (λ o. o ≡ octets.now) }
     {
         Ok(Octets {
-            items: Vec::from_slice(alloc, octets)?,
+            octets: Vec::from_slice(alloc, octets)?,
         })
     }
 
@@ -34,14 +34,14 @@ impl<A: Allocator + Copy> Octets<A> {
     pub fn as_slice(&self) -> &[u8]
         ensures { result.now ≡ self.now }
     {
-        self.items.as_slice()
+        self.octets.as_slice()
     }
 }
 
 /// The cells of a cell identifier list (TS 48.008 clause 3.2.2.27), in its order.
 #[derive(Debug, Drop)]
 pub struct CellList<A: Allocator = Global> {
-    items: Vec<CellId, A>,
+    cells: Vec<CellId, A>,
 }
 
 impl<A: Allocator> Model for CellList<A> {
@@ -50,7 +50,7 @@ impl<A: Allocator> Model for CellList<A> {
 
     ghost Value = { List CellId };
 
-    ghost view = { λ o. o.items.items };
+    ghost view = { λ o. o.cells.items };
 }
 
 impl<A: Allocator + Copy> CellList<A> {
@@ -59,7 +59,7 @@ impl<A: Allocator + Copy> CellList<A> {
         ensures { IfOk result (λ o. o ≡ cells.now) }
     {
         Ok(CellList {
-            items: Vec::from_slice(alloc, cells)?,
+            cells: Vec::from_slice(alloc, cells)?,
         })
     }
 
@@ -67,13 +67,13 @@ impl<A: Allocator + Copy> CellList<A> {
     pub(crate) fn from_cells(cells: Vec<CellId, A>) -> Self
         ensures { result ≡ cells.items }
     {
-        CellList { items: cells }
+        CellList { cells }
     }
 
     /// Its cells.
     pub fn as_slice(&self) -> &[CellId]
         ensures { result.now ≡ self.now }
     {
-        self.items.as_slice()
+        self.cells.as_slice()
     }
 }

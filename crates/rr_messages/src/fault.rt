@@ -11,7 +11,7 @@ pub enum RrFault {
     #[error("not a radio resource message")]
     NotRr,
     /// No message has this type.
-    #[error("unknown message type {0}")]
+    #[error("unknown message type 0x{0:02x}")]
     UnknownType(u8),
     /// The type is missing, or the mandatory part is cut.
     #[error("the message is cut")]

@@ -242,7 +242,7 @@ fn takes_no_memory_where_there_is_room(rt: HostRuntime) -> Result<(), Fail> {
 fn faults_have_texts(rt: HostRuntime) -> Result<(), Fail> {
     let table = [
         (RrFault::NotRr, "not a radio resource message"),
-        (RrFault::UnknownType(41), "unknown message type 41"),
+        (RrFault::UnknownType(41), "unknown message type 0x29"),
         (RrFault::Short, "the message is cut"),
         (RrFault::Element(ElementFault::Hopping), "the channel hops"),
         (RrFault::NoMemory, "out of memory"),

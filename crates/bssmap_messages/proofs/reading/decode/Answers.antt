@@ -1,4 +1,4 @@
-use Rattle.bssmap_messages.proofs.Unique.{exact}
+use Rattle.bssmap_messages.proofs.Faults.{exact}
 use Rattle.bssmap_messages.proofs.reading.decode.Goals as goal
 
 pub returns-clause-exact : goal.returns-clause-exact
