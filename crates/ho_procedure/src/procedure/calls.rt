@@ -100,8 +100,7 @@ pub(super) fn clear<A: Allocator + Copy, B: Allocator + Copy>(
         if !names_releases(before, serving) {
             return Ok(());
         }
-        shown = before;
-        state = serving;
+        (shown, state) = (before, serving);
     }
     release(alloc, handled, target_release(shown.attempt))?;
     if !remains(shown.attempt) {

@@ -65,18 +65,14 @@ pub(super) fn take<A: Allocator + Copy, B: Allocator + Copy>(
     ensures out { handled.new.out ≡ handled.old.out }
 {
     handled.events.reserve(1)?;
-    match book.take_any(call, Kind::Internal, cell)? {
-        Some((event, reply)) => {
-            handled.events.push_reserved((event, reply));
-            match event {
-                Event::Take(_, _, chan) => Ok(Some((chan, reply))),
-                _ => unreachable!(),
-            }
-        }
-        None => {
-            handled.none_free = Some(cell);
-            Ok(None)
-        }
+    let Some((event, reply)) = book.take_any(call, Kind::Internal, cell)? else {
+        handled.none_free = Some(cell);
+        return Ok(None);
+    };
+    handled.events.push_reserved((event, reply));
+    match event {
+        Event::Take(_, _, chan) => Ok(Some((chan, reply))),
+        _ => unreachable!(),
     }
 }
 
