@@ -3,7 +3,7 @@ use Rattle.std.proofs.Common.{◌≡◌, ◌==◌, IfSome, IfNone, ℕ, ◌+◌,
 use Rattle.std.specs.List.{find, list_any, range_with_len}
 use Rattle.std.specs.Int.{from_bool}
 use Rattle.std.proofs.lemmas.List.{at_drop_more, drop_all, take_all}
-use Rattle.std.proofs.lemmas.List.Sums.{sum_by_more}
+use Rattle.std.proofs.lemmas.List.Sums.{sum_by_more, sum_by-cons}
 use Rattle.std.proofs.lemmas.List.FromFn.{get_or-map-range_with_len}
 use Rattle.std.proofs.lemmas.Option.{slice_get_past}
 use Rattle.std.proofs.lemmas.Bool.{and_parts, and_from}
@@ -142,3 +142,30 @@ if_found b cell (Some x) e = found_free b cell x (sym e)
 pub if_none : (b : State) (cell : ℕ) → IsSite b.site → (o : Option ChanId) → o ≡ find (is_free_traffic b) (channels_of cell) → IfNone o (NoneFree b cell)
 if_none b cell site None e = none_free b cell site (sym e)
 if_none b cell site (Some x) e = tt
+
+-- a count is 0 exactly where a search finds nothing
+none_found : (p : ChanId → Bool) (xs : List ChanId) → count_by p xs ≡ 0 → find p xs ≡ None
+none_found p [] e = refl
+none_found p (x ∷ xs) e =
+    elim (p x) as (λ t. count_by p (x ∷ xs) ≡ cond t 1 0 + count_by p xs → cond t (Some x) (find p xs) ≡ None) [
+      | true ↦ λ step. absurd (omega arith)
+      | false ↦ λ step. none_found p xs (omega arith)
+    ] (sum_by-cons (λ y. cond (p y) 1 0) x xs)
+
+none_counted : (p : ChanId → Bool) (xs : List ChanId) → find p xs ≡ None → count_by p xs ≡ 0
+none_counted p [] e = refl
+none_counted p (x ∷ xs) e =
+    elim (p x) as (λ t. count_by p (x ∷ xs) ≡ cond t 1 0 + count_by p xs → cond t (Some x) (find p xs) ≡ None → count_by p (x ∷ xs) ≡ 0) [
+      | true ↦ λ step none. cc
+      | false ↦ λ step none. let rest = none_counted p xs none in omega arith
+    ] (sum_by-cons (λ y. cond (p y) 1 0) x xs) e
+
+pub count_from_none : (b : State) (cell : ℕ) → NoneFree b cell → free_count b cell ≡ 0
+count_from_none b cell none = by_found (find (is_free_traffic b) (channels_of cell)) refl
+  where
+    by_found : (o : Option ChanId) → find (is_free_traffic b) (channels_of cell) ≡ o → free_count b cell ≡ 0
+    by_found None e = none_counted (is_free_traffic b) (channels_of cell) e
+    by_found (Some x) e = absurd (none x (found_free b cell x e))
+
+pub none_from_count : (b : State) (cell : ℕ) → IsSite b.site → free_count b cell ≡ 0 → NoneFree b cell
+none_from_count b cell site e = none_free b cell site (none_found (is_free_traffic b) (channels_of cell) e)

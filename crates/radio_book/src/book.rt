@@ -98,8 +98,7 @@ impl<A: Allocator + Copy> Book<A> {
 
     /// A `Take` of a free channel of the cell, judged as by [`Book::step`], with its answer; `None` where no
     /// channel of the cell is free, which takes no memory and changes nothing. A cell that isn't the site's
-    /// has no channel. Any free one meets the contract; this
-    /// body takes that of the lowest TRX, then timeslot.
+    /// has no channel. Any free one meets the contract; this body takes that of the lowest TRX, then timeslot.
     pub fn take_any(
         &mut self,
         call: u16,
@@ -144,9 +143,11 @@ impl<A: Allocator + Copy> Book<A> {
         Ok((event, reply))
     }
 
-    /// How many traffic channels of the cell are free: 0 for a cell that the site lacks.
+    /// How many traffic channels of the cell are free: 0 for a cell that the site lacks, and exactly where
+    /// [`Book::take_any`] finds none.
     pub fn free_in(&self, cell: u8) -> u32
         ensures count { result ≡ free_count self.now cell }
+        ensures none { result ≡ 0 ↔ NoneFree self.now cell }
     {
         self.records.free_in(cell)
     }

@@ -1,5 +1,5 @@
 //! Channels and references are chosen: the lowest that are free.
-ghost use Rattle.std.specs.Prelude.{◌≡◌, IfSome, IfNone, find};
+ghost use Rattle.std.specs.Prelude.{◌≡◌, ◌↔◌, IfSome, IfNone, find};
 ghost use Rattle.radio_book.specs.Sound.{IsSound};
 ghost use Rattle.radio_book.specs.State.{record_of};
 ghost use Rattle.radio_book.specs.Choice.{IsFreeIn, NoneFree, IsNumberFree, MayReserve, taken_channel, is_free_traffic, channels_of, channel_at, free_count};
@@ -36,7 +36,18 @@ impl<A: Allocator + Copy> Records<A> {
         None
     }
 
+    /// How many traffic channels of the cell are free.
     pub fn free_in(&self, cell: u8) -> u32
+        ensures count { result ≡ free_count self.now cell }
+        ensures none { result ≡ 0 ↔ NoneFree self.now cell }
+    {
+        if cell >= self.site.cells() {
+            return 0;
+        }
+        self.count_free(cell)
+    }
+
+    fn count_free(&self, cell: u8) -> u32
         ensures { result ≡ free_count self.now cell }
     {
         let mut count: u32 = 0;

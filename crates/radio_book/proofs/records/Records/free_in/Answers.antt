@@ -1,18 +1,24 @@
-use Rattle.std.proofs.Common.{◌∙◌, ap, arith}
-use Rattle.std.specs.Int.{from_bool}
-use Rattle.radio_book.specs.Choice.{is_free_traffic}
-use Rattle.radio_book.proofs.Chosen.{counted_at, counted_all, one_at_most}
+use Rattle.std.proofs.Common.{◌≤◌, length, ◌∙◌, ap, sym, subst, arith}
+use Rattle.cell_table.specs.Site.{IsSite}
+use Rattle.radio_book.proofs.Chosen.{no_cell, count_from_none, none_from_count}
 use Rattle.radio_book.proofs.records.Records.free_in.Goals as goal
 
-pub loop-place-preserved : goal.loop-place-preserved
-loop-place-preserved g c =
+pub returns-then-cell-cells-clause-count : goal.returns-then-cell-cells-clause-count
+returns-then-cell-cells-clause-count g c =
     let b = c.args.self.now in
-    let place = c.loop-place.place in
-    let one = c.from-count.ensures ∙ ap from_bool (c.is_free_traffic.ensures ∙ ap (is_free_traffic b) c.channel_at.ensures) in
-    record {
-      counted = omega (arith, c.loop-place.invariant.counted, one, counted_at b c.args.cell place c.loop-place-test.true);
-      bound = omega (arith, c.loop-place.invariant.bound, c.from-count.ensures, one_at_most c.is_free_traffic.result);
-    }
+    let cells = ap length (c.deref.ensures ∙ ap (λ b. b.site) c.self.view_is) in
+    let absent : length b.site ≤ c.args.cell = omega (arith, c.cells.ensures.value, c.if-cell-cells.true, cells) in
+    sym (count_from_none b c.args.cell (no_cell b c.args.cell absent))
 
-pub returns : goal.returns
-returns g c = c.loop-place.invariant.counted ∙ counted_all c.args.self.now c.args.cell c.loop-place.place c.loop-place-test.false
+pub returns-then-cell-cells-clause-none : goal.returns-then-cell-cells-clause-none
+returns-then-cell-cells-clause-none g c =
+    let b = c.args.self.now in
+    let cells = ap length (c.deref.ensures ∙ ap (λ b. b.site) c.self.view_is) in
+    let absent : length b.site ≤ c.args.cell = omega (arith, c.cells.ensures.value, c.if-cell-cells.true, cells) in
+    (λ e. no_cell b c.args.cell absent, λ none. omega arith)
+
+pub returns-clause-none : goal.returns-clause-none
+returns-clause-none g c =
+    let b = c.args.self.now in
+    let site = subst IsSite (c.deref.ensures ∙ ap (λ b. b.site) c.self.view_is) c.cells.ensures.limits in
+    (λ e. none_from_count b c.args.cell site (sym c.count_free.ensures ∙ e), λ none. c.count_free.ensures ∙ count_from_none b c.args.cell none)

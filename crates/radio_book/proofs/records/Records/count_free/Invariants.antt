@@ -1,6 +1,6 @@
 use Rattle.std.proofs.Common.{◌≡◌, ◌≤◌, take, count_by}
 use Rattle.radio_book.specs.Choice.{is_free_traffic, channels_of}
-use Rattle.radio_book.proofs.records.Records.free_in.Given as goal
+use Rattle.radio_book.proofs.records.Records.count_free.Given as goal
 
 -- the count is of the places so far
 abbrev pub invariant-loop-place : goal.invariant-loop-place
