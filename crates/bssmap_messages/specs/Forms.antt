@@ -6,8 +6,8 @@ use Rattle.octet_elements.specs.Elements.{Forms}
 
 -- The elements of a fixed length: identifier, and how many octets they have with it. The messages here
 -- use 0x15, 0x1B and 0x1D alone.
-abbrev pub fixed : List (ℕ × ℕ)
-fixed = (0x01, 3) ∷ (0x14, 2) ∷ (0x15, 2) ∷ (0x19, 2) ∷ (0x1B, 1) ∷ (0x1D, 2) ∷ (0x21, 2) ∷ (0x2C, 2) ∷ (0x2D, 2) ∷ (0x31, 2) ∷ (0x32, 2) ∷ (0x35, 1) ∷ (0x39, 2) ∷ (0x3F, 2) ∷ (0x40, 2) ∷ (0x7F, 5) ∷ (0x83, 17) ∷ (0x8A, 2) ∷ (0x8B, 2) ∷ (0x8C, 1) ∷ (0x8D, 2) ∷ (0x8E, 1) ∷ (0x8F, 1) ∷ (0x95, 4) ∷ []
+abbrev pub fixed_lengths : List (ℕ × ℕ)
+fixed_lengths = (0x01, 3) ∷ (0x14, 2) ∷ (0x15, 2) ∷ (0x19, 2) ∷ (0x1B, 1) ∷ (0x1D, 2) ∷ (0x21, 2) ∷ (0x2C, 2) ∷ (0x2D, 2) ∷ (0x31, 2) ∷ (0x32, 2) ∷ (0x35, 1) ∷ (0x39, 2) ∷ (0x3F, 2) ∷ (0x40, 2) ∷ (0x7F, 5) ∷ (0x83, 17) ∷ (0x8A, 2) ∷ (0x8B, 2) ∷ (0x8C, 1) ∷ (0x8D, 2) ∷ (0x8E, 1) ∷ (0x8F, 1) ∷ (0x95, 4) ∷ []
 
 -- an element of the table has its fixed length, every other one a length octet
 abbrev pub form_in : List (ℕ × ℕ) → ℕ → Form
@@ -15,4 +15,4 @@ form_in [] i = Counted
 form_in (entry ∷ table) i = if i == entry.0 then Fixed (entry.1 - 1) else form_in table i
 
 abbrev pub interface_a : Forms
-interface_a i = form_in fixed i
+interface_a i = form_in fixed_lengths i

@@ -58,19 +58,19 @@ abbrev pub HasFault : (A : Type 0) → List ℕ → BssmapFault → Type 0
 HasFault A octets f = HasHeadFault octets f ⊎ HasFaultInBody A octets f
 
 -- type and elements as they are written
-abbrev pub written : {A : Type 0} → Bssmap A → List ℕ
-written v = type_of (kind_of v) ∷ all_octets interface_a (elements_of v)
+abbrev pub written_octets : {A : Type 0} → Bssmap A → List ℕ
+written_octets v = type_of (kind_of v) ∷ all_octets interface_a (elements_of v)
 
 -- The canonical text: discriminator 0, the length octet, type and elements as they are written.
-abbrev pub canonical : {A : Type 0} → Bssmap A → List ℕ
-canonical v = 0 ∷ length (written v) ∷ written v
+abbrev pub canonical_text : {A : Type 0} → Bssmap A → List ℕ
+canonical_text v = 0 ∷ length (written_octets v) ∷ written_octets v
 
 -- The message has a canonical text: its elements as written can be spelled, they say the message, and
 -- the length octet can count them.
 pub record HasCanonical {A : Type 0} (v : Bssmap A) : Type 0 where
   pub each : AllByRecursion (Fits interface_a) (elements_of v)
   pub says : meaning_of (kind_of v) (elements_of v) ≡ Ok v
-  pub within : length (written v) ≤ limit
+  pub within : length (written_octets v) ≤ limit
 
 -- What a reader of values answers: what they say, or their fault; memory runs out only for a message
 -- that keeps a list.
@@ -117,4 +117,4 @@ pub record ReadingIsUnique (A : Type 0) : Type 0 where
 
 -- the canonical text is a text of its message
 abbrev pub CanonicalIsText : (A : Type 0) → Type 0
-CanonicalIsText A = (v : Bssmap A) → HasCanonical v → IsTextOf v (canonical v)
+CanonicalIsText A = (v : Bssmap A) → HasCanonical v → IsTextOf v (canonical_text v)

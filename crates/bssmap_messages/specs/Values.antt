@@ -34,9 +34,9 @@ classmark_in None (Some v) = Ok (Two v)
 classmark_in None None = Err (Absent 0x12)
 
 -- a classmark in the octets of a message, with octets of its own
-abbrev pub kept : {A : Type 0} → ClassmarkValue → Classmark A
-kept (in_octets.One octet) = One octet
-kept (in_octets.Two v) = Two v.now
+abbrev pub kept_classmark : {A : Type 0} → ClassmarkValue → Classmark A
+kept_classmark (in_octets.One octet) = One octet
+kept_classmark (in_octets.Two v) = Two v.now
 
 -- an element that stands alone says that it is there
 abbrev pub stands : Option (List ℕ) → Bool

@@ -2,7 +2,7 @@
 ghost use Rattle.std.specs.Prelude.{◌≡◌, ◌<◌, ◌↔◌, [], ◌∷◌, List, length, Some, Ok, Err, IsTrue, IsSome, IfSome, IfNone, IfOk, IfErr};
 ghost use Rattle.std.specs.Option.{option_map};
 ghost use Rattle.bssmap_messages.specs.declared.message.CellId.{CellId};
-ghost use Rattle.octet_elements.specs.Values.{seen};
+ghost use Rattle.octet_elements.specs.Values.{value_seen};
 ghost use Rattle.bssmap_messages.specs.Values.{cells_with_network, cells_with_area, cells_alone, cells_after, only_cell, some_cells, cell_in, cells_in};
 
 use crate::lists::CellList;
@@ -75,7 +75,7 @@ fn leading_cell(discriminator: u8, octets: &[u8]) -> Option<(CellId, &[u8])>
 /// The cell of a cell identifier.
 #[inline(always)]
 pub fn cell(value: Option<&[u8]>) -> Result<CellId, ElementFault>
-    ensures { result ≡ cell_in (seen value.entry) }
+    ensures { result ≡ cell_in (value_seen value.entry) }
 {
     match value {
         None => Err(ElementFault::Absent(CELL_IDENTIFIER)),
@@ -109,8 +109,8 @@ fn are_cells(discriminator: u8, octets: &[u8]) -> bool
 /// The discriminator of a cell identifier list and the octets of its cells, of which there is one.
 pub fn cells(value: Option<&[u8]>) -> Result<(u8, &[u8]), ElementFault>
     ensures ok { IfOk result (λ c. (cells : List CellId) ×
-        (cells_after c.0 c.1.now ≡ Some cells) × (cells_in (seen value.entry) ≡ Ok cells)) }
-    ensures err { IfErr result (λ e. cells_in (seen value.entry) ≡ Err e) }
+        (cells_after c.0 c.1.now ≡ Some cells) × (cells_in (value_seen value.entry) ≡ Ok cells)) }
+    ensures err { IfErr result (λ e. cells_in (value_seen value.entry) ≡ Err e) }
 {
     match value {
         None => Err(ElementFault::Absent(CELL_IDENTIFIER_LIST)),

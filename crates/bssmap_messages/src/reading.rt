@@ -4,7 +4,7 @@ ghost use Rattle.std.specs.Option.{option_map};
 ghost use Rattle.octet_elements.specs.Elements.{Element, AreElements, wanted_of};
 ghost use Rattle.bssmap_messages.specs.Forms.{interface_a};
 ghost use Rattle.bssmap_messages.specs.Heads.{limit};
-ghost use Rattle.octet_elements.specs.Values.{seen};
+ghost use Rattle.octet_elements.specs.Values.{value_seen};
 ghost use Rattle.bssmap_messages.specs.Messages.{handover_request, handover_required, handover_request_ack, handover_command, handover_complete, handover_failure, handover_performed, handover_required_reject, clear_command, clear_request, HasList};
 ghost use Rattle.bssmap_messages.specs.Texts.{IsTextOf, HasFault, Answers, ReadsBody, IsTornBody};
 
@@ -50,9 +50,10 @@ fn request_of<A: Allocator + Copy>(
     serving_value: Option<&[u8]>,
     target_value: Option<&[u8]>,
 ) -> Result<Bssmap<A>, BssmapFault>
-    ensures { Answers result (handover_request (seen channel_value.entry)
-        (seen encryption_value.entry) (seen one_value.entry) (seen two_value.entry)
-        (seen serving_value.entry) (seen target_value.entry)) }
+    ensures { Answers result (handover_request (value_seen channel_value.entry)
+        (value_seen encryption_value.entry) (value_seen one_value.entry)
+        (value_seen two_value.entry) (value_seen serving_value.entry)
+        (value_seen target_value.entry)) }
 {
     let channel = channel_type(channel_value)?;
     let encryption = octets(ENCRYPTION_INFORMATION, encryption_value)?;
@@ -96,8 +97,8 @@ fn required_of<A: Allocator + Copy>(
     response_value: Option<&[u8]>,
     cells_value: Option<&[u8]>,
 ) -> Result<Bssmap<A>, BssmapFault>
-    ensures { Answers result (handover_required (seen cause_value.entry)
-        (seen response_value.entry) (seen cells_value.entry)) }
+    ensures { Answers result (handover_required (value_seen cause_value.entry)
+        (value_seen response_value.entry) (value_seen cells_value.entry)) }
 {
     let cause = octet(CAUSE, cause_value)?;
     let (discriminator, octets) = cells(cells_value)?;
@@ -127,7 +128,7 @@ fn request_ack_of<A: Allocator + Copy>(
     alloc: A,
     layer3_value: Option<&[u8]>,
 ) -> Result<Bssmap<A>, BssmapFault>
-    ensures { Answers result (handover_request_ack (seen layer3_value.entry)) }
+    ensures { Answers result (handover_request_ack (value_seen layer3_value.entry)) }
 {
     let layer3 = octets(LAYER_3_INFORMATION, layer3_value)?;
     Ok(Bssmap::HandoverRequestAck {
@@ -150,7 +151,7 @@ fn command_of<A: Allocator + Copy>(
     alloc: A,
     layer3_value: Option<&[u8]>,
 ) -> Result<Bssmap<A>, BssmapFault>
-    ensures { Answers result (handover_command (seen layer3_value.entry)) }
+    ensures { Answers result (handover_command (value_seen layer3_value.entry)) }
 {
     let layer3 = octets(LAYER_3_INFORMATION, layer3_value)?;
     Ok(Bssmap::HandoverCommand {
@@ -170,7 +171,7 @@ fn read_command<A: Allocator + Copy>(alloc: A, body: &[u8]) -> Result<Bssmap<A>,
 
 #[tactic(auto, unfolding(crate::specs::Messages::handover_complete))]
 fn complete_of<A: Allocator>(rr_value: Option<&[u8]>) -> Result<Bssmap<A>, BssmapFault>
-    ensures { Answers result (handover_complete (seen rr_value.entry)) }
+    ensures { Answers result (handover_complete (value_seen rr_value.entry)) }
 {
     let rr = optional_octet(RR_CAUSE, rr_value)?;
     Ok(Bssmap::HandoverComplete { rr })
@@ -191,7 +192,8 @@ fn failure_of<A: Allocator>(
     cause_value: Option<&[u8]>,
     rr_value: Option<&[u8]>,
 ) -> Result<Bssmap<A>, BssmapFault>
-    ensures { Answers result (handover_failure (seen cause_value.entry) (seen rr_value.entry)) }
+    ensures { Answers result (handover_failure (value_seen cause_value.entry)
+        (value_seen rr_value.entry)) }
 {
     let cause = octet(CAUSE, cause_value)?;
     let rr = optional_octet(RR_CAUSE, rr_value)?;
@@ -213,7 +215,8 @@ fn performed_of<A: Allocator>(
     cause_value: Option<&[u8]>,
     cell_value: Option<&[u8]>,
 ) -> Result<Bssmap<A>, BssmapFault>
-    ensures { Answers result (handover_performed (seen cause_value.entry) (seen cell_value.entry)) }
+    ensures { Answers result (handover_performed (value_seen cause_value.entry)
+        (value_seen cell_value.entry)) }
 {
     let cause = octet(CAUSE, cause_value)?;
     let cell = cell(cell_value)?;
@@ -232,7 +235,7 @@ fn read_performed<A: Allocator>(body: &[u8]) -> Result<Bssmap<A>, BssmapFault>
 
 #[tactic(auto, unfolding(crate::specs::Messages::handover_required_reject))]
 fn required_reject_of<A: Allocator>(cause_value: Option<&[u8]>) -> Result<Bssmap<A>, BssmapFault>
-    ensures { Answers result (handover_required_reject (seen cause_value.entry)) }
+    ensures { Answers result (handover_required_reject (value_seen cause_value.entry)) }
 {
     let cause = octet(CAUSE, cause_value)?;
     Ok(Bssmap::HandoverRequiredReject { cause })
@@ -250,7 +253,7 @@ fn read_required_reject<A: Allocator>(body: &[u8]) -> Result<Bssmap<A>, BssmapFa
 
 #[tactic(auto, unfolding(crate::specs::Messages::clear_command))]
 fn clear_command_of<A: Allocator>(cause_value: Option<&[u8]>) -> Result<Bssmap<A>, BssmapFault>
-    ensures { Answers result (clear_command (seen cause_value.entry)) }
+    ensures { Answers result (clear_command (value_seen cause_value.entry)) }
 {
     let cause = octet(CAUSE, cause_value)?;
     Ok(Bssmap::ClearCommand { cause })
@@ -268,7 +271,7 @@ fn read_clear_command<A: Allocator>(body: &[u8]) -> Result<Bssmap<A>, BssmapFaul
 
 #[tactic(auto, unfolding(crate::specs::Messages::clear_request))]
 fn clear_request_of<A: Allocator>(cause_value: Option<&[u8]>) -> Result<Bssmap<A>, BssmapFault>
-    ensures { Answers result (clear_request (seen cause_value.entry)) }
+    ensures { Answers result (clear_request (value_seen cause_value.entry)) }
 {
     let cause = octet(CAUSE, cause_value)?;
     Ok(Bssmap::ClearRequest { cause })

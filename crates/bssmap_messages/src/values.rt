@@ -1,7 +1,7 @@
 //! What the value of an element says.
 ghost use Rattle.std.specs.Prelude.{◌≡◌, Ok, Err, IfOk, IfErr};
-ghost use Rattle.octet_elements.specs.Values.{seen};
-ghost use Rattle.bssmap_messages.specs.Values.{channel_type_in, classmark_in, stands, kept};
+ghost use Rattle.octet_elements.specs.Values.{value_seen};
+ghost use Rattle.bssmap_messages.specs.Values.{channel_type_in, classmark_in, stands, kept_classmark};
 
 use crate::lists::Octets;
 use crate::message::Classmark;
@@ -11,8 +11,8 @@ use std::alloc::{AllocError, Allocator};
 
 /// The channel type, which has at least two octets.
 pub fn channel_type(value: Option<&[u8]>) -> Result<&[u8], ElementFault>
-    ensures ok { IfOk result (λ v. channel_type_in (seen value.entry) ≡ Ok v.now) }
-    ensures err { IfErr result (λ e. channel_type_in (seen value.entry) ≡ Err e) }
+    ensures ok { IfOk result (λ v. channel_type_in (value_seen value.entry) ≡ Ok v.now) }
+    ensures err { IfErr result (λ e. channel_type_in (value_seen value.entry) ≡ Err e) }
 {
     match value {
         None => Err(ElementFault::Absent(CHANNEL_TYPE)),
@@ -35,10 +35,10 @@ pub fn classmark<'a, A: Allocator>(
     one: Option<&[u8]>,
     two: Option<&'a [u8]>,
 ) -> Result<ClassmarkValue<'a>, ElementFault>
-    ensures ok { IfOk result (λ c. classmark_in {A = A} (seen one.entry) (seen two.entry) ≡
-        Ok (kept c)) }
-    ensures err { IfErr result (λ e. classmark_in {A = A} (seen one.entry) (seen two.entry) ≡
-        Err e) }
+    ensures ok { IfOk result (λ c. classmark_in {A = A} (value_seen one.entry)
+        (value_seen two.entry) ≡ Ok (kept_classmark c)) }
+    ensures err { IfErr result (λ e. classmark_in {A = A} (value_seen one.entry)
+        (value_seen two.entry) ≡ Err e) }
 {
     match (one, two) {
         (Some([octet, ..]), _) => Ok(ClassmarkValue::One(*octet)),
@@ -54,7 +54,7 @@ pub fn keep_classmark<A: Allocator + Copy>(
     alloc: A,
     classmark: ClassmarkValue<'_>,
 ) -> Result<Classmark<A>, AllocError>
-    ensures { IfOk result (λ c. c ≡ kept classmark.entry) }
+    ensures { IfOk result (λ c. c ≡ kept_classmark classmark.entry) }
 {
     match classmark {
         ClassmarkValue::One(octet) => Ok(Classmark::One(octet)),
@@ -64,7 +64,7 @@ pub fn keep_classmark<A: Allocator + Copy>(
 
 /// Whether the element is there.
 pub fn stands(value: Option<&[u8]>) -> bool
-    ensures { result ≡ stands (seen value.entry) }
+    ensures { result ≡ stands (value_seen value.entry) }
 {
     value.is_some()
 }

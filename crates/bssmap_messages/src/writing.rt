@@ -6,7 +6,7 @@ ghost use Rattle.bssmap_messages.specs.Heads.{limit, type_of};
 ghost use Rattle.bssmap_messages.specs.Messages.{elements_of, kind_of};
 ghost use Rattle.octet_elements.specs.Values.{pair_octets, where_some};
 ghost use Rattle.bssmap_messages.specs.Values.{cell_octets, cell_value, classmark_element, where_true, cells_value};
-ghost use Rattle.bssmap_messages.specs.Texts.{HasCanonical, IsWritable, canonical, classmark_length, response_length, HasArea, have_areas};
+ghost use Rattle.bssmap_messages.specs.Texts.{HasCanonical, IsWritable, canonical_text, classmark_length, response_length, HasArea, have_areas};
 
 use crate::head::{LIMIT, MessageKind, type_octet};
 use crate::lists::Octets;
@@ -367,12 +367,12 @@ pub fn encode_into<A: Allocator + Copy>(
     out: &mut Vec<u8, A>,
 ) -> Result<(), AllocError>
     requires { HasCanonical message.now }
-    ensures ok { OnOk result (out.new.items ≡ out.old.items ++ canonical message.now) }
+    ensures ok { OnOk result (out.new.items ≡ out.old.items ++ canonical_text message.now) }
     ensures err { OnErr result (out.new.items ≡ out.old.items) }
-    ensures room { vec_len out.old + length (canonical message.now) ≤ vec_capacity out.old →
+    ensures room { vec_len out.old + length (canonical_text message.now) ≤ vec_capacity out.old →
         IsOk result }
     ensures full { OnErr result (vec_capacity out.old < vec_len out.old + length
-        (canonical message.now)) }
+        (canonical_text message.now)) }
 {
     let len = 1 + elements_len(message);
     out.reserve(2 + len)?;
@@ -384,7 +384,7 @@ pub fn encode_into<A: Allocator + Copy>(
 /// The canonical text of a message.
 pub fn encode<A: Allocator + Copy>(alloc: A, message: &Bssmap<A>) -> Result<Vec<u8, A>, AllocError>
     requires { HasCanonical message.now }
-    ensures { IfOk result (λ text. text.items ≡ canonical message.now) }
+    ensures { IfOk result (λ text. text.items ≡ canonical_text message.now) }
 {
     let mut text = Vec::new(alloc);
     encode_into(message, &mut text)?;

@@ -18,7 +18,7 @@ use Rattle.radio_book.specs.Table.{is_target}
 use Rattle.rsl_messages.specs.declared.message.ChanBits.{ChanBits}
 use Rattle.rsl_messages.specs.declared.message.Rsl.{Rsl}
 use Rattle.rsl_messages.specs.declared.message.Rsl.TheVariants.{ChannelActivation, ChannelActivationAck, ChannelActivationNack, RfChannelRelease, RfChannelReleaseAck}
-use Rattle.rsl_messages.specs.Texts.{canonical}
+use Rattle.rsl_messages.specs.Texts.{canonical_text}
 use Rattle.ho_procedure.specs.declared.exchange.Line.{Line}
 use Rattle.ho_procedure.specs.declared.exchange.Line.TheVariants as line
 use Rattle.ho_procedure.specs.declared.procedure.release.Release.{Release}
@@ -33,7 +33,7 @@ chan_of cell trx channel = record { cell = cell; trx = trx; tn = channel.tn }
 
 -- a message about a channel: it goes to the channel's TRX, names its timeslot, and is written in its canonical text
 abbrev pub about : ChanId → (ChanBits → Rsl Unit) → Sent
-about x message = OnAbis x.cell x.trx (canonical (message (record { tn = x.tn })))
+about x message = OnAbis x.cell x.trx (canonical_text (message (record { tn = x.tn })))
 
 -- full-rate speech, version 1, without discontinuous transmission (clause 9.3.6)
 abbrev pub speech : List ℕ

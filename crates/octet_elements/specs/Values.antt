@@ -8,8 +8,8 @@ use Rattle.octet_elements.specs.declared.values.ElementFault.{ElementFault}
 use Rattle.octet_elements.specs.declared.values.ElementFault.TheVariants.{Absent, Bad}
 
 -- a value that is passed by reference
-abbrev pub seen : Option (Bor (List ℕ)) → Option (List ℕ)
-seen value = option_map (λ v. v.now) value
+abbrev pub value_seen : Option (Bor (List ℕ)) → Option (List ℕ)
+value_seen value = option_map (λ v. v.now) value
 
 -- the value's first octet
 abbrev pub octet_in : ℕ → Option (List ℕ) → Result ℕ ElementFault

@@ -2,7 +2,7 @@
 //!
 //! A reader gets the value of the element with an identifier, or nothing where the element isn't there.
 ghost use Rattle.std.specs.Prelude.{◌≡◌, Some, Ok, Err, IfOk, IfErr};
-ghost use Rattle.octet_elements.specs.Values.{seen, octet_in, optional_octet_in, pair, pair_in, pair_octets, octets_in, optional_octets_in, any_octets_in};
+ghost use Rattle.octet_elements.specs.Values.{value_seen, octet_in, optional_octet_in, pair, pair_in, pair_octets, octets_in, optional_octets_in, any_octets_in};
 
 /// What is wrong with an element of a message whose elements are all whole.
 #[derive(Clone, Copy, PartialEq, Eq, Debug)]
@@ -16,7 +16,7 @@ pub enum ElementFault {
 /// The value's first octet.
 #[inline]
 pub fn octet(identifier: u8, value: Option<&[u8]>) -> Result<u8, ElementFault>
-    ensures { result ≡ octet_in identifier (seen value.entry) }
+    ensures { result ≡ octet_in identifier (value_seen value.entry) }
 {
     match value {
         None => Err(ElementFault::Absent(identifier)),
@@ -28,7 +28,7 @@ pub fn octet(identifier: u8, value: Option<&[u8]>) -> Result<u8, ElementFault>
 /// The value's first octet, where the element is there.
 #[inline]
 pub fn optional_octet(identifier: u8, value: Option<&[u8]>) -> Result<Option<u8>, ElementFault>
-    ensures { result ≡ optional_octet_in identifier (seen value.entry) }
+    ensures { result ≡ optional_octet_in identifier (value_seen value.entry) }
 {
     match value {
         None => Ok(None),
@@ -47,7 +47,7 @@ pub fn pair_of(high: u8, low: u8) -> u16
 /// The value's first two octets, a number with the high one first.
 #[inline]
 pub fn pair(identifier: u8, value: Option<&[u8]>) -> Result<u16, ElementFault>
-    ensures { result ≡ pair_in identifier (seen value.entry) }
+    ensures { result ≡ pair_in identifier (value_seen value.entry) }
 {
     match value {
         None => Err(ElementFault::Absent(identifier)),
@@ -79,8 +79,8 @@ fn some_octets(identifier: u8, value: &[u8]) -> Result<&[u8], ElementFault>
 /// The whole value, which has at least one octet.
 #[inline]
 pub fn octets(identifier: u8, value: Option<&[u8]>) -> Result<&[u8], ElementFault>
-    ensures ok { IfOk result (λ v. octets_in identifier (seen value.entry) ≡ Ok v.now) }
-    ensures err { IfErr result (λ e. octets_in identifier (seen value.entry) ≡ Err e) }
+    ensures ok { IfOk result (λ v. octets_in identifier (value_seen value.entry) ≡ Ok v.now) }
+    ensures err { IfErr result (λ e. octets_in identifier (value_seen value.entry) ≡ Err e) }
 {
     match value {
         None => Err(ElementFault::Absent(identifier)),
@@ -91,8 +91,10 @@ pub fn octets(identifier: u8, value: Option<&[u8]>) -> Result<&[u8], ElementFaul
 /// The whole value, which has at least one octet, where the element is there.
 #[inline]
 pub fn optional_octets(identifier: u8, value: Option<&[u8]>) -> Result<Option<&[u8]>, ElementFault>
-    ensures ok { IfOk result (λ v. optional_octets_in identifier (seen value.entry) ≡ Ok (seen v)) }
-    ensures err { IfErr result (λ e. optional_octets_in identifier (seen value.entry) ≡ Err e) }
+    ensures ok { IfOk result (λ v. optional_octets_in identifier (value_seen value.entry) ≡
+        Ok (value_seen v)) }
+    ensures err { IfErr result (λ e. optional_octets_in identifier (value_seen value.entry) ≡
+        Err e) }
 {
     match value {
         None => Ok(None),
@@ -103,8 +105,8 @@ pub fn optional_octets(identifier: u8, value: Option<&[u8]>) -> Result<Option<&[
 /// The whole value, which may be empty.
 #[inline]
 pub fn any_octets(identifier: u8, value: Option<&[u8]>) -> Result<&[u8], ElementFault>
-    ensures ok { IfOk result (λ v. any_octets_in identifier (seen value.entry) ≡ Ok v.now) }
-    ensures err { IfErr result (λ e. any_octets_in identifier (seen value.entry) ≡ Err e) }
+    ensures ok { IfOk result (λ v. any_octets_in identifier (value_seen value.entry) ≡ Ok v.now) }
+    ensures err { IfErr result (λ e. any_octets_in identifier (value_seen value.entry) ≡ Err e) }
 {
     value.ok_or(ElementFault::Absent(identifier))
 }

@@ -4,7 +4,7 @@ use Rattle.std.proofs.lemmas.List.{take_at, drop_at}
 use Rattle.std.proofs.lemmas.List.Concat.{flat_map-cons}
 use Rattle.std.proofs.lemmas.Nat.{mod_below, pow_pos}
 use Rattle.std.proofs.Math.Nat.{mod-eq_of_lt}
-use Rattle.rr_elements.specs.Bits.{bits, bits_of, number_of, total, cut, written}
+use Rattle.rr_elements.specs.Bits.{bits, bits_of, number_of, total, cut, bits_written}
 use Rattle.rr_elements.specs.Fields.{AreFields, field_octets}
 use Rattle.rr_elements.proofs.BitLemmas.{length-bits, number_of-bits, bits-add, bits-same, bits-put, put_below, drop-bits, number_of-take-bits, length-octets_of}
 
@@ -22,28 +22,28 @@ fit-append (w ∷ ws) vs [] ms p q = absurd p
 fit-append (w ∷ ws) vs (n ∷ ns) ms p q = (p.0, fit-append ws vs ns ms p.1 q)
 
 -- what is written is the bits of one number
-written-bits : (ws ns : List ℕ) → FieldsFit ws ns → (m : ℕ) × (m < 2 ^ total ws) × (written ws ns ≡ bits (total ws) m)
+bits_written-bits : (ws ns : List ℕ) → FieldsFit ws ns → (m : ℕ) × (m < 2 ^ total ws) × (bits_written ws ns ≡ bits (total ws) m)
 unfolding bits
-written-bits [] [] fit = (0, omega arith, refl)
-written-bits [] (n ∷ ns) fit = absurd fit
-written-bits (w ∷ ws) [] fit = absurd fit
-written-bits (w ∷ ws) (n ∷ ns) fit =
-    let rest = written-bits ws ns fit.1 in
+bits_written-bits [] [] fit = (0, omega arith, refl)
+bits_written-bits [] (n ∷ ns) fit = absurd fit
+bits_written-bits (w ∷ ws) [] fit = absurd fit
+bits_written-bits (w ∷ ws) (n ∷ ns) fit =
+    let rest = bits_written-bits ws ns fit.1 in
     let m = n * 2 ^ total ws + rest.0 in
     let below : m < 2 ^ (w + total ws) = put_below n w rest.0 (total ws) fit.0 rest.1 in
-    let same : written (w ∷ ws) (n ∷ ns) ≡ bits (w + total ws) m = ap (λ bs. bits w n ++ bs) rest.2 ∙ sym (bits-put w (total ws) n rest.0 rest.1) in
+    let same : bits_written (w ∷ ws) (n ∷ ns) ≡ bits (w + total ws) m = ap (λ bs. bits w n ++ bs) rest.2 ∙ sym (bits-put w (total ws) n rest.0 rest.1) in
     (m, below, same)
 
 -- what is written is cut again
-pub cut-written : (ws ns : List ℕ) → FieldsFit ws ns → cut ws (written ws ns) ≡ ns
-cut-written [] [] fit = refl
-cut-written [] (n ∷ ns) fit = absurd fit
-cut-written (w ∷ ws) [] fit = absurd fit
-cut-written (w ∷ ws) (n ∷ ns) fit =
-    let here : take w (bits w n ++ written ws ns) ≡ bits w n = take_at _ _ w (length-bits w n) in
-    let rest : drop w (bits w n ++ written ws ns) ≡ written ws ns = drop_at _ _ w (length-bits w n) in
+pub cut-bits_written : (ws ns : List ℕ) → FieldsFit ws ns → cut ws (bits_written ws ns) ≡ ns
+cut-bits_written [] [] fit = refl
+cut-bits_written [] (n ∷ ns) fit = absurd fit
+cut-bits_written (w ∷ ws) [] fit = absurd fit
+cut-bits_written (w ∷ ws) (n ∷ ns) fit =
+    let here : take w (bits w n ++ bits_written ws ns) ≡ bits w n = take_at _ _ w (length-bits w n) in
+    let rest : drop w (bits w n ++ bits_written ws ns) ≡ bits_written ws ns = drop_at _ _ w (length-bits w n) in
     let number : number_of (bits w n) ≡ n = number_of-bits w n ∙ mod-eq_of_lt fit.0 in
-    rw (here, rest, number, cut-written ws ns fit.1) refl
+    rw (here, rest, number, cut-bits_written ws ns fit.1) refl
 
 bits_of-cons : (x : ℕ) (xs : List ℕ) → bits_of (x ∷ xs) ≡ bits 8 x ++ bits_of xs
 bits_of-cons x xs = flat_map-cons (bits 8) x xs
@@ -67,15 +67,15 @@ bits_of-cut (suc k) n =
 -- what is written with widths that make whole octets is fields of the octets
 pub AreFields-field_octets : (ws ns : List ℕ) → FieldsFit ws ns → total ws % 8 ≡ 0 → AreFields ws ns (field_octets ws ns)
 AreFields-field_octets ws ns fit whole =
-    let m = written-bits ws ns fit in
+    let m = bits_written-bits ws ns fit in
     let k = total ws / 8 in
     let eights : total ws ≡ k * 8 = omega arith in
-    let is : written ws ns ≡ bits (k * 8) m.0 = m.2 ∙ ap (λ j. bits j m.0) eights in
-    let count : length (written ws ns) / 8 ≡ k = ap (λ bs. length bs / 8) m.2 ∙ ap (λ j. j / 8) (length-bits (total ws) m.0) in
-    let octets : field_octets ws ns ≡ cut (replicate k 8) (bits (k * 8) m.0) = ap (λ j. cut (replicate j 8) (written ws ns)) count ∙ ap (cut (replicate k 8)) is in
-    let again : bits_of (field_octets ws ns) ≡ written ws ns = ap bits_of octets ∙ bits_of-cut k m.0 ∙ sym is in
-    let long : length (field_octets ws ns) ≡ k = length-octets_of (written ws ns) ∙ count in
+    let is : bits_written ws ns ≡ bits (k * 8) m.0 = m.2 ∙ ap (λ j. bits j m.0) eights in
+    let count : length (bits_written ws ns) / 8 ≡ k = ap (λ bs. length bs / 8) m.2 ∙ ap (λ j. j / 8) (length-bits (total ws) m.0) in
+    let octets : field_octets ws ns ≡ cut (replicate k 8) (bits (k * 8) m.0) = ap (λ j. cut (replicate j 8) (bits_written ws ns)) count ∙ ap (cut (replicate k 8)) is in
+    let again : bits_of (field_octets ws ns) ≡ bits_written ws ns = ap bits_of octets ∙ bits_of-cut k m.0 ∙ sym is in
+    let long : length (field_octets ws ns) ≡ k = length-octets_of (bits_written ws ns) ∙ count in
     record {
       len = omega arith;
-      pieces = ap (cut ws) again ∙ cut-written ws ns fit;
+      pieces = ap (cut ws) again ∙ cut-bits_written ws ns fit;
     }

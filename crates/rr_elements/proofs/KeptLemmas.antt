@@ -6,10 +6,10 @@ use Rattle.std.proofs.lemmas.List.Elements.{All-append, All-same, All-replicate}
 use Rattle.rr_elements.specs.declared.measurement.MeasHead.{MeasHead}
 use Rattle.rr_elements.specs.declared.measurement.Ncell.{Ncell}
 use Rattle.rr_elements.specs.ResultsKept.{kept_again}
-use Rattle.rr_elements.specs.MeasResults.{HeadFits, NcellFits, IsKept, used, no_ncell}
+use Rattle.rr_elements.specs.MeasResults.{HeadFits, NcellFits, IsKept, used_count, no_ncell}
 
-pub used_le : (count : ℕ) → count < 8 → used count ≤ 6
-used_le count h = grind (arith, nat_tests)
+pub used_count_le : (count : ℕ) → count < 8 → used_count count ≤ 6
+used_count_le count h = grind (arith, nat_tests)
 
 pub no_ncell_fits : NcellFits no_ncell
 no_ncell_fits = record { level = omega arith; position = omega arith; bsic = omega arith }
@@ -19,23 +19,23 @@ kept_fits head places kept =
     All-same NcellFits _ _ (sym (kept_again head places kept)) (All-append NcellFits _ _ kept.fits.each (All-replicate NcellFits _ no_ncell no_ncell_fits))
 
 -- neighbours that are put into empty places
-pub kept_new : (head : MeasHead) (cells : List Ncell) → HeadFits head → All NcellFits cells → length cells ≡ used head.count → IsKept head (cells ++ drop (length cells) (replicate 6 no_ncell))
+pub kept_new : (head : MeasHead) (cells : List Ncell) → HeadFits head → All NcellFits cells → length cells ≡ used_count head.count → IsKept head (cells ++ drop (length cells) (replicate 6 no_ncell))
 kept_new head cells fits each count =
-    let few = used_le head.count fits.count in
+    let few = used_count_le head.count fits.count in
     let rest : drop (length cells) (replicate 6 no_ncell) ≡ replicate (6 - length cells) no_ncell = drop-replicate (length cells) 6 no_ncell in
-    let front : take (used head.count) (cells ++ drop (length cells) (replicate 6 no_ncell)) ≡ cells = take_at cells _ (used head.count) count in
+    let front : take (used_count head.count) (cells ++ drop (length cells) (replicate 6 no_ncell)) ≡ cells = take_at cells _ (used_count head.count) count in
     record {
       fits = rw front (record { head = fits; each = each; count = count });
       six = length-append cells _ ∙ ap (λ k. length cells + k) (ap length rest ∙ length-replicate (6 - length cells) no_ncell) ∙ omega arith;
-      others = drop_at cells _ (used head.count) count ∙ rest ∙ ap (λ k. replicate (6 - k) no_ncell) count;
+      others = drop_at cells _ (used_count head.count) count ∙ rest ∙ ap (λ k. replicate (6 - k) no_ncell) count;
     }
 
 -- what was read is kept so
-pub kept_read : (head : MeasHead) (places : List Ncell) → HeadFits head → length places ≡ 6 → All NcellFits (take (used head.count) places) → drop (used head.count) places ≡ replicate (6 - used head.count) no_ncell → IsKept head places
+pub kept_read : (head : MeasHead) (places : List Ncell) → HeadFits head → length places ≡ 6 → All NcellFits (take (used_count head.count) places) → drop (used_count head.count) places ≡ replicate (6 - used_count head.count) no_ncell → IsKept head places
 kept_read head places fits six each others =
-    let few = used_le head.count fits.count in
+    let few = used_count_le head.count fits.count in
     record {
-      fits = record { head = fits; each = each; count = length-take-le (used head.count) places (omega arith) };
+      fits = record { head = fits; each = each; count = length-take-le (used_count head.count) places (omega arith) };
       six = six;
       others = others;
     }

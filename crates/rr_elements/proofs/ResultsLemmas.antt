@@ -5,10 +5,10 @@ use Rattle.std.proofs.lemmas.List.{take_at}
 use Rattle.std.proofs.lemmas.List.{length-take-le}
 use Rattle.rr_elements.specs.declared.measurement.MeasHead.{MeasHead}
 use Rattle.rr_elements.specs.declared.measurement.Ncell.{Ncell}
-use Rattle.rr_elements.specs.Bits.{bits_of, cut, after, repeated, written}
+use Rattle.rr_elements.specs.Bits.{bits_of, cut, after, repeated_widths, bits_written}
 use Rattle.rr_elements.specs.Fields.{flag}
-use Rattle.rr_elements.specs.MeasResults.{Results, IsKept, IsResultsText, used, head_widths, head_numbers, ncell_widths, ncell_numbers, results_widths, results_numbers, ncells_of, results_of, results_said, no_ncell}
-use Rattle.rr_elements.proofs.CutLemmas.{cut-append, repeated-add, written-append}
+use Rattle.rr_elements.specs.MeasResults.{Results, IsKept, IsResultsText, used_count, head_widths, head_numbers, ncell_widths, ncell_numbers, results_widths, results_numbers, ncells_of, results_of, results_said, no_ncell}
+use Rattle.rr_elements.proofs.CutLemmas.{cut-append, repeated_widths-add, bits_written-append}
 use Rattle.rr_elements.specs.ResultsKept.{kept_again}
 use Rattle.rr_elements.proofs.ElementLemmas.{flag-one}
 
@@ -20,16 +20,16 @@ ncells_of-numbers : (cells : List Ncell) → ncells_of (flat_map ncell_numbers c
 ncells_of-numbers [] = refl
 ncells_of-numbers (c ∷ cs) = ap (λ rest. c ∷ rest) (ncells_of-numbers cs)
 
-results_of-numbers : (h : MeasHead) (cells : List Ncell) → results_of (head_numbers h ++ flat_map ncell_numbers cells) ≡ Ok (record { head = h; neighbours = take (used h.count) cells })
+results_of-numbers : (h : MeasHead) (cells : List Ncell) → results_of (head_numbers h ++ flat_map ncell_numbers cells) ≡ Ok (record { head = h; neighbours = take (used_count h.count) cells })
 results_of-numbers h cells =
     rw (flag-one h.ba, flag-one h.dtx, flag-one h.ba3g, flag-none h.valid, flag-one h.si23, ncells_of-numbers cells) refl
 
 -- any bits are fields of places
-cells_there : (k : ℕ) (bs : List ℕ) → flat_map ncell_numbers (ncells_of (cut (repeated k ncell_widths) bs)) ≡ cut (repeated k ncell_widths) bs
+cells_there : (k : ℕ) (bs : List ℕ) → flat_map ncell_numbers (ncells_of (cut (repeated_widths k ncell_widths) bs)) ≡ cut (repeated_widths k ncell_widths) bs
 cells_there zero bs = refl
 cells_there (suc k) bs = ap (λ ns. cut ncell_widths bs ++ ns) (cells_there k (after ncell_widths bs))
 
-length-cells : (k : ℕ) (bs : List ℕ) → length (ncells_of (cut (repeated k ncell_widths) bs)) ≡ k
+length-cells : (k : ℕ) (bs : List ℕ) → length (ncells_of (cut (repeated_widths k ncell_widths) bs)) ≡ k
 length-cells zero bs = refl
 length-cells (suc k) bs = ap suc (length-cells k (after ncell_widths bs))
 
@@ -38,27 +38,27 @@ pub text-said : (v : Results) (octets : List ℕ) → IsResultsText v octets →
 unfolding results_said
 text-said v octets text =
     let cells = v.neighbours ++ text.others in
-    let said : results_of (cut results_widths (bits_of octets)) ≡ Ok (record { head = v.head; neighbours = take (used v.head.count) cells }) = ap results_of text.fields.pieces ∙ results_of-numbers v.head cells in
-    let front : take (used v.head.count) cells ≡ v.neighbours = take_at v.neighbours text.others (used v.head.count) text.count in
+    let said : results_of (cut results_widths (bits_of octets)) ≡ Ok (record { head = v.head; neighbours = take (used_count v.head.count) cells }) = ap results_of text.fields.pieces ∙ results_of-numbers v.head cells in
+    let front : take (used_count v.head.count) cells ≡ v.neighbours = take_at v.neighbours text.others (used_count v.head.count) text.count in
     let bits : 8 * length octets ≡ 128 = text.fields.len in
     let sixteen : length octets ≡ 16 = omega arith in
     rw sixteen (said ∙ ap (λ ns. Ok (record { head = v.head; neighbours = ns })) front)
 
 -- what was read of octets: they are a text of it
-pub read-text : (octets : List ℕ) (h : MeasHead) (places : List Ncell) → length octets ≡ 16 → length places ≡ 6 → used h.count ≤ 6 → head_numbers h ≡ cut head_widths (bits_of octets) → flat_map ncell_numbers (take (used h.count) places) ≡ cut (repeated (used h.count) ncell_widths) (after head_widths (bits_of octets)) → IsResultsText (record { head = h; neighbours = take (used h.count) places }) octets
+pub read-text : (octets : List ℕ) (h : MeasHead) (places : List Ncell) → length octets ≡ 16 → length places ≡ 6 → used_count h.count ≤ 6 → head_numbers h ≡ cut head_widths (bits_of octets) → flat_map ncell_numbers (take (used_count h.count) places) ≡ cut (repeated_widths (used_count h.count) ncell_widths) (after head_widths (bits_of octets)) → IsResultsText (record { head = h; neighbours = take (used_count h.count) places }) octets
 read-text octets h places sixteen six few head front =
-    let n = used h.count in
+    let n = used_count h.count in
     let rest = after head_widths (bits_of octets) in
-    let bs = after (repeated n ncell_widths) rest in
-    let others = ncells_of (cut (repeated (6 - n) ncell_widths) bs) in
+    let bs = after (repeated_widths n ncell_widths) rest in
+    let others = ncells_of (cut (repeated_widths (6 - n) ncell_widths) bs) in
     let count : length (take n places) ≡ n = length-take-le n places (omega arith) in
     let whole : 6 ≡ n + (6 - n) = omega arith in
-    let split : cut (repeated 6 ncell_widths) rest ≡ cut (repeated n ncell_widths) rest ++ cut (repeated (6 - n) ncell_widths) bs =
-    ap (λ k. cut (repeated k ncell_widths) rest) whole ∙ ap (λ ws. cut ws rest) (repeated-add n (6 - n) ncell_widths) ∙ cut-append (repeated n ncell_widths) (repeated (6 - n) ncell_widths) rest in
-    let cells : flat_map ncell_numbers (take n places ++ others) ≡ cut (repeated 6 ncell_widths) rest =
-    flat_map-append ncell_numbers (take n places) others ∙ ap (λ ns. ns ++ flat_map ncell_numbers others) front ∙ ap (λ ns. cut (repeated n ncell_widths) rest ++ ns) (cells_there (6 - n) bs) ∙ sym split in
+    let split : cut (repeated_widths 6 ncell_widths) rest ≡ cut (repeated_widths n ncell_widths) rest ++ cut (repeated_widths (6 - n) ncell_widths) bs =
+    ap (λ k. cut (repeated_widths k ncell_widths) rest) whole ∙ ap (λ ws. cut ws rest) (repeated_widths-add n (6 - n) ncell_widths) ∙ cut-append (repeated_widths n ncell_widths) (repeated_widths (6 - n) ncell_widths) rest in
+    let cells : flat_map ncell_numbers (take n places ++ others) ≡ cut (repeated_widths 6 ncell_widths) rest =
+    flat_map-append ncell_numbers (take n places) others ∙ ap (λ ns. ns ++ flat_map ncell_numbers others) front ∙ ap (λ ns. cut (repeated_widths n ncell_widths) rest ++ ns) (cells_there (6 - n) bs) ∙ sym split in
     let all : cut results_widths (bits_of octets) ≡ head_numbers h ++ flat_map ncell_numbers (take n places ++ others) =
-    cut-append head_widths (repeated 6 ncell_widths) (bits_of octets) ∙ ap (λ ns. ns ++ cut (repeated 6 ncell_widths) rest) (sym head) ∙ ap (λ ns. head_numbers h ++ ns) (sym cells) in
+    cut-append head_widths (repeated_widths 6 ncell_widths) (bits_of octets) ∙ ap (λ ns. ns ++ cut (repeated_widths 6 ncell_widths) rest) (sym head) ∙ ap (λ ns. head_numbers h ++ ns) (sym cells) in
     record {
       others = others;
       count = count;
@@ -66,15 +66,15 @@ read-text octets h places sixteen six few head front =
       fields = record { len = ap (λ k. 8 * k) sixteen; pieces = all };
     }
 
-written-cells : (cells : List Ncell) → written (repeated (length cells) ncell_widths) (flat_map ncell_numbers cells) ≡ flat_map (λ n. written ncell_widths (ncell_numbers n)) cells
-written-cells [] = refl
-written-cells (c ∷ cs) =
-    written-append ncell_widths (repeated (length cs) ncell_widths) (ncell_numbers c) (flat_map ncell_numbers cs) refl ∙ ap (λ bs. written ncell_widths (ncell_numbers c) ++ bs) (written-cells cs)
+bits_written-cells : (cells : List Ncell) → bits_written (repeated_widths (length cells) ncell_widths) (flat_map ncell_numbers cells) ≡ flat_map (λ n. bits_written ncell_widths (ncell_numbers n)) cells
+bits_written-cells [] = refl
+bits_written-cells (c ∷ cs) =
+    bits_written-append ncell_widths (repeated_widths (length cs) ncell_widths) (ncell_numbers c) (flat_map ncell_numbers cs) refl ∙ ap (λ bs. bits_written ncell_widths (ncell_numbers c) ++ bs) (bits_written-cells cs)
 
 -- what is kept, written
-pub written-kept : (h : MeasHead) (places : List Ncell) → IsKept h places → written head_widths (head_numbers h) ++ flat_map (λ n. written ncell_widths (ncell_numbers n)) places ≡ written results_widths (results_numbers (record { head = h; neighbours = take (used h.count) places }) (replicate (6 - length (take (used h.count) places)) no_ncell))
-written-kept h places kept =
-    let again : flat_map ncell_numbers (take (used h.count) places ++ replicate (6 - length (take (used h.count) places)) no_ncell) ≡ flat_map ncell_numbers places = ap (flat_map ncell_numbers) (kept_again h places kept) in
-    let cells : flat_map (λ n. written ncell_widths (ncell_numbers n)) places ≡ written (repeated 6 ncell_widths) (flat_map ncell_numbers places) =
-    sym (written-cells places) ∙ ap (λ k. written (repeated k ncell_widths) (flat_map ncell_numbers places)) kept.six in
-    rw (again, cells) (sym (written-append head_widths (repeated 6 ncell_widths) (head_numbers h) (flat_map ncell_numbers places) refl))
+pub bits_written-kept : (h : MeasHead) (places : List Ncell) → IsKept h places → bits_written head_widths (head_numbers h) ++ flat_map (λ n. bits_written ncell_widths (ncell_numbers n)) places ≡ bits_written results_widths (results_numbers (record { head = h; neighbours = take (used_count h.count) places }) (replicate (6 - length (take (used_count h.count) places)) no_ncell))
+bits_written-kept h places kept =
+    let again : flat_map ncell_numbers (take (used_count h.count) places ++ replicate (6 - length (take (used_count h.count) places)) no_ncell) ≡ flat_map ncell_numbers places = ap (flat_map ncell_numbers) (kept_again h places kept) in
+    let cells : flat_map (λ n. bits_written ncell_widths (ncell_numbers n)) places ≡ bits_written (repeated_widths 6 ncell_widths) (flat_map ncell_numbers places) =
+    sym (bits_written-cells places) ∙ ap (λ k. bits_written (repeated_widths k ncell_widths) (flat_map ncell_numbers places)) kept.six in
+    rw (again, cells) (sym (bits_written-append head_widths (repeated_widths 6 ncell_widths) (head_numbers h) (flat_map ncell_numbers places) refl))

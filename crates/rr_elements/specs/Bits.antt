@@ -31,15 +31,15 @@ after [] bs = bs
 after (width ∷ widths) bs = after widths (drop width bs)
 
 -- widths so many times over
-abbrev pub repeated : ℕ → List ℕ → List ℕ
-repeated zero widths = []
-repeated (suc k) widths = widths ++ repeated k widths
+abbrev pub repeated_widths : ℕ → List ℕ → List ℕ
+repeated_widths zero widths = []
+repeated_widths (suc k) widths = widths ++ repeated_widths k widths
 
 -- numbers written with these widths, one after the other
-abbrev pub written : List ℕ → List ℕ → List ℕ
-written [] ns = []
-written (width ∷ widths) [] = []
-written (width ∷ widths) (n ∷ ns) = bits width n ++ written widths ns
+abbrev pub bits_written : List ℕ → List ℕ → List ℕ
+bits_written [] ns = []
+bits_written (width ∷ widths) [] = []
+bits_written (width ∷ widths) (n ∷ ns) = bits width n ++ bits_written widths ns
 
 -- the octets of a bit string: it is cut by eights
 abbrev pub octets_of : List ℕ → List ℕ

@@ -1,6 +1,6 @@
 -- Octets as fields: a table of widths, and the numbers of the fields.
 use Rattle.std.specs.Prelude.{◌≡◌, ℕ, ◌*◌, Bool, true, false, List, length}
-use Rattle.rr_elements.specs.Bits.{bits_of, total, cut, written, octets_of}
+use Rattle.rr_elements.specs.Bits.{bits_of, total, cut, bits_written, octets_of}
 
 -- the octets are fields of these widths, and the fields are these numbers
 pub record AreFields (widths numbers octets : List ℕ) : Type 0 where
@@ -9,7 +9,7 @@ pub record AreFields (widths numbers octets : List ℕ) : Type 0 where
 
 -- the octets of fields of these widths
 abbrev pub field_octets : List ℕ → List ℕ → List ℕ
-field_octets widths numbers = octets_of (written widths numbers)
+field_octets widths numbers = octets_of (bits_written widths numbers)
 
 -- a field of one bit
 abbrev pub flag : Bool → ℕ

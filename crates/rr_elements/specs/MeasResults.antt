@@ -1,6 +1,6 @@
 -- Measurement Results (TS 44.018 section 10.5.2.20), without an identifier: 128 bits.
 use Rattle.std.specs.Prelude.{◌≡◌, ℕ, ◌+◌, ◌-◌, ◌^◌, ◌<◌, ◌==◌, if◌then◌else◌, not, List, [], ◌∷◌, ◌++◌, length, take, drop, replicate, flat_map, All, Result, Ok, Err}
-use Rattle.rr_elements.specs.Bits.{bits_of, cut, repeated}
+use Rattle.rr_elements.specs.Bits.{bits_of, cut, repeated_widths}
 use Rattle.rr_elements.specs.Fields.{AreFields, field_octets, flag}
 use Rattle.rr_elements.specs.declared.fault.ElementFault.{ElementFault}
 use Rattle.rr_elements.specs.declared.fault.ElementFault.TheVariants.{Length}
@@ -13,8 +13,8 @@ pub record Results : Type 0 where
   pub neighbours : List Ncell
 
 -- how many neighbours stand there: 7 says that there is no neighbour information
-abbrev pub used : ℕ → ℕ
-used count = if count == 7 then 0 else count
+abbrev pub used_count : ℕ → ℕ
+used_count count = if count == 7 then 0 else count
 
 -- each field has its bits
 pub record HeadFits (h : MeasHead) : Type 0 where
@@ -33,7 +33,7 @@ pub record NcellFits (n : Ncell) : Type 0 where
 pub record ResultsFit (v : Results) : Type 0 where
   pub head : HeadFits v.head
   pub each : All NcellFits v.neighbours
-  pub count : length v.neighbours ≡ used v.head.count
+  pub count : length v.neighbours ≡ used_count v.head.count
 
 -- BA-USED, DTX-USED, RXLEV-FULL, 3G-BA-USED, MEAS-VALID, RXLEV-SUB, SI23-BA-USED, RXQUAL-FULL, RXQUAL-SUB, NO-NCELL-M
 abbrev pub head_widths : List ℕ
@@ -45,7 +45,7 @@ ncell_widths = 6 ∷ 5 ∷ 6 ∷ []
 
 -- six neighbours follow the head
 abbrev pub results_widths : List ℕ
-results_widths = head_widths ++ repeated 6 ncell_widths
+results_widths = head_widths ++ repeated_widths 6 ncell_widths
 
 -- MEAS-VALID is 0 where the results are valid
 abbrev pub head_numbers : MeasHead → List ℕ
@@ -62,7 +62,7 @@ results_numbers v others = head_numbers v.head ++ flat_map ncell_numbers (v.neig
 -- the octets are a text of the value, whatever stands in the places that are not in use
 pub record IsResultsText (v : Results) (octets : List ℕ) : Type 0 where
   pub others : List Ncell
-  pub count : length v.neighbours ≡ used v.head.count
+  pub count : length v.neighbours ≡ used_count v.head.count
   pub six : length v.neighbours + length others ≡ 6
   pub fields : AreFields results_widths (results_numbers v others) octets
 
@@ -83,7 +83,7 @@ ncells_of _ = []
 abbrev pub results_of : List ℕ → Result Results ElementFault
 results_of (ba ∷ dtx ∷ full ∷ ba3g ∷ invalid ∷ sub ∷ si23 ∷ qfull ∷ qsub ∷ count ∷ ns) =
     let head : MeasHead = record { ba = ba == 1; dtx = dtx == 1; full = full; ba3g = ba3g == 1; valid = invalid == 0; sub = sub; si23 = si23 == 1; qfull = qfull; qsub = qsub; count = count } in
-    Ok (record { head = head; neighbours = take (used count) (ncells_of ns) })
+    Ok (record { head = head; neighbours = take (used_count count) (ncells_of ns) })
 results_of _ = Err Length
 
 -- what octets say
@@ -92,6 +92,6 @@ results_said octets = if length octets == 16 then results_of (cut results_widths
 
 -- how the value is kept: six places, of which those that are not in use are 0
 pub record IsKept (head : MeasHead) (places : List Ncell) : Type 0 where
-  pub fits : ResultsFit (record { head = head; neighbours = take (used head.count) places })
+  pub fits : ResultsFit (record { head = head; neighbours = take (used_count head.count) places })
   pub six : length places ≡ 6
-  pub others : drop (used head.count) places ≡ replicate (6 - used head.count) no_ncell
+  pub others : drop (used_count head.count) places ≡ replicate (6 - used_count head.count) no_ncell

@@ -1,7 +1,7 @@
 //! The parts of Measurement Results: the head and the neighbours.
 ghost use Rattle.std.specs.Prelude.{◌≡◌, ◌↔◌, ◌≢◌, ◌+◌, ◌*◌, ◌-◌, ◌<◌, ◌≤◌, ◌++◌, IsTrue, OnOk, OnErr, IsOk, IfOk, Ok, Err, All, length, take, drop, replicate, flat_map, vec_len, vec_capacity};
-ghost use Rattle.rr_elements.specs.Bits.{cut, after, repeated, written};
-ghost use Rattle.rr_elements.specs.MeasResults.{HeadFits, NcellFits, used, head_widths, head_numbers, ncell_widths, ncell_numbers, no_ncell};
+ghost use Rattle.rr_elements.specs.Bits.{cut, after, repeated_widths, bits_written};
+ghost use Rattle.rr_elements.specs.MeasResults.{HeadFits, NcellFits, used_count, head_widths, head_numbers, ncell_widths, ncell_numbers, no_ncell};
 
 use crate::bits::{BitReader, BitWriter};
 
@@ -67,7 +67,7 @@ impl MeasHead {
 
     /// How many neighbours stand in the results.
     pub(crate) fn used(&self) -> usize
-        ensures { result ≡ used self.now.count }
+        ensures { result ≡ used_count self.now.count }
     {
         match self.count {
             7 => 0,
@@ -128,7 +128,7 @@ pub(crate) fn take_ncells(bits: &mut BitReader, used: usize) -> [Ncell; 6]
     requires few { used ≤ 6 }
     requires enough { 17 * used ≤ length bits.old }
     ensures numbers { flat_map ncell_numbers (take used result) ≡
-        cut (repeated used ncell_widths) bits.old }
+        cut (repeated_widths used ncell_widths) bits.old }
     ensures fits { All NcellFits (take used result) }
     ensures others { drop used result ≡ replicate (6 - used) no_ncell }
     ensures six { length result ≡ 6 }
@@ -143,7 +143,7 @@ pub(crate) fn take_ncells(bits: &mut BitReader, used: usize) -> [Ncell; 6]
 pub(crate) fn put_head(bits: &mut BitWriter, head: &MeasHead)
     requires fits { HeadFits head.now }
     requires room { length bits.old + 26 ≤ 128 }
-    ensures bits { bits.new ≡ bits.old ++ written head_widths (head_numbers head.now) }
+    ensures bits { bits.new ≡ bits.old ++ bits_written head_widths (head_numbers head.now) }
     ensures len { length bits.new ≡ length bits.old + 26 }
 {
     bits.put(1, u8::from(head.ba));
@@ -161,7 +161,7 @@ pub(crate) fn put_head(bits: &mut BitWriter, head: &MeasHead)
 fn put_ncell(bits: &mut BitWriter, ncell: &Ncell)
     requires fits { NcellFits ncell.now }
     requires room { length bits.old + 17 ≤ 128 }
-    ensures bits { bits.new ≡ bits.old ++ written ncell_widths (ncell_numbers ncell.now) }
+    ensures bits { bits.new ≡ bits.old ++ bits_written ncell_widths (ncell_numbers ncell.now) }
     ensures len { length bits.new ≡ length bits.old + 17 }
 {
     bits.put(6, ncell.level);
@@ -173,7 +173,7 @@ pub(crate) fn put_ncells(bits: &mut BitWriter, places: &[Ncell])
     requires fits { All NcellFits places.now }
     requires room { length bits.old + 17 * length places.now ≤ 128 }
     ensures bits { bits.new ≡ bits.old ++ flat_map
-        (λ n. written ncell_widths (ncell_numbers n)) places.now }
+        (λ n. bits_written ncell_widths (ncell_numbers n)) places.now }
     ensures len { length bits.new ≡ length bits.old + 17 * length places.now }
 {
     for place in places {

@@ -19,11 +19,14 @@ pub struct MeasResults {
 
 impl Model for MeasResults {
     ghost use Rattle.std.specs.Prelude.{◌++◌, ◌-◌, length, take, replicate};
-    ghost use Rattle.rr_elements.specs.MeasResults.{Results, IsKept, used, no_ncell};
+    ghost use Rattle.rr_elements.specs.MeasResults.{Results, IsKept, used_count, no_ncell};
 
     ghost Value = { Results };
 
-    ghost view = { λ a. record { head = a.head; neighbours = take (used a.head.count) a.places } };
+    ghost view = { λ a. record {
+      head = a.head;
+      neighbours = take (used_count a.head.count) a.places;
+    } };
 
     ghost invariant = { λ a. IsKept a.head a.places };
 
@@ -36,7 +39,7 @@ impl Model for MeasResults {
 }
 
 impl MeasResults {
-    ghost use Rattle.rr_elements.specs.MeasResults.{Results, ResultsFit, HeadFits, NcellFits, used, IsResultsText, results_text, results_said};
+    ghost use Rattle.rr_elements.specs.MeasResults.{Results, ResultsFit, HeadFits, NcellFits, used_count, IsResultsText, results_text, results_said};
 
     /// Results with these fields and neighbours. `BadRange` where a field does not fit its bits,
     /// or there are not as many neighbours as the count says (none where it is 7).
@@ -143,7 +146,7 @@ impl MeasResults {
     pub fn neighbours(&self) -> &[Ncell]
         ensures value { result.now ≡ self.now.neighbours }
         ensures fits { All NcellFits result.now }
-        ensures count { length result.now ≡ used self.now.head.count }
+        ensures count { length result.now ≡ used_count self.now.head.count }
     {
         &self.places[..self.head.used()]
     }

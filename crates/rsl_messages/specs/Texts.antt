@@ -60,15 +60,15 @@ HasFault A octets fault.TooLong = limit < length octets
 HasFault A octets f = (length octets ≤ limit) × (HasHeadFault octets f ⊎ HasFaultInBody A octets f)
 
 -- The canonical text: the head and the elements as they are written.
-abbrev pub canonical : {A : Type 0} → Rsl A → List ℕ
-canonical v = (head_of (kind_of v)).0 ∷ (head_of (kind_of v)).1 ∷ all_octets abis (elements_of v)
+abbrev pub canonical_text : {A : Type 0} → Rsl A → List ℕ
+canonical_text v = (head_of (kind_of v)).0 ∷ (head_of (kind_of v)).1 ∷ all_octets abis (elements_of v)
 
 -- The message has a canonical text: its elements as written can be spelled, they say the message, and
 -- the text isn't too long.
 pub record HasCanonical {A : Type 0} (v : Rsl A) : Type 0 where
   pub each : AllByRecursion (Fits abis) (elements_of v)
   pub says : meaning_of (kind_of v) (elements_of v) ≡ Ok v
-  pub within : length (canonical v) ≤ limit
+  pub within : length (canonical_text v) ≤ limit
 
 -- the same, by the fields of the message: what is tested before it is written
 abbrev pub IsWritable : {A : Type 0} → Rsl A → Type 0
@@ -104,4 +104,4 @@ pub record ReadingIsUnique (A : Type 0) : Type 0 where
 
 -- the canonical text is a text of its message
 abbrev pub CanonicalIsText : (A : Type 0) → Type 0
-CanonicalIsText A = (v : Rsl A) → HasCanonical v → IsTextOf v (canonical v)
+CanonicalIsText A = (v : Rsl A) → HasCanonical v → IsTextOf v (canonical_text v)

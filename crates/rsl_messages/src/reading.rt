@@ -3,7 +3,7 @@ ghost use Rattle.std.specs.Prelude.{◌≡◌, ◌≢◌, Ok, Err, ◌≤◌, �
 ghost use Rattle.std.specs.Option.{option_map};
 ghost use Rattle.octet_elements.specs.Elements.{Element, AreElements, wanted_of, IsTornAt};
 ghost use Rattle.rsl_messages.specs.Forms.{abis};
-ghost use Rattle.octet_elements.specs.Values.{seen};
+ghost use Rattle.octet_elements.specs.Values.{value_seen};
 ghost use Rattle.rsl_messages.specs.Messages.{HasOctets, data_request, data_indication, channel_activation, channel_activation_ack, channel_activation_nack, connection_failure, handover_detection, measurement_result, rf_channel_release, rf_channel_release_ack};
 ghost use Rattle.rsl_messages.specs.Texts.{limit, IsTextOf, HasFault, HasBodyFault, Answers, ReadsBody, IsTornBody};
 
@@ -28,7 +28,7 @@ fn copied<A: Allocator + Copy>(
     alloc: A,
     octets: Option<&[u8]>,
 ) -> Result<Option<Octets<A>>, AllocError>
-    ensures { IfOk result (λ o. o ≡ seen octets.entry) }
+    ensures { IfOk result (λ o. o ≡ value_seen octets.entry) }
 {
     match octets {
         None => Ok(None),
@@ -62,8 +62,8 @@ fn data_request_of<A: Allocator + Copy>(
     link_value: Option<&[u8]>,
     layer3_value: Option<&[u8]>,
 ) -> Result<Rsl<A>, RslFault>
-    ensures { Answers result (data_request (seen channel_value.entry) (seen link_value.entry)
-        (seen layer3_value.entry)) }
+    ensures { Answers result (data_request (value_seen channel_value.entry)
+        (value_seen link_value.entry) (value_seen layer3_value.entry)) }
 {
     let channel = channel(channel_value)?;
     let link = octet(LINK_IDENTIFIER, link_value)?;
@@ -96,8 +96,8 @@ fn data_indication_of<A: Allocator + Copy>(
     link_value: Option<&[u8]>,
     layer3_value: Option<&[u8]>,
 ) -> Result<Rsl<A>, RslFault>
-    ensures { Answers result (data_indication (seen channel_value.entry) (seen link_value.entry)
-        (seen layer3_value.entry)) }
+    ensures { Answers result (data_indication (value_seen channel_value.entry)
+        (value_seen link_value.entry) (value_seen layer3_value.entry)) }
 {
     let channel = channel(channel_value)?;
     let link = octet(LINK_IDENTIFIER, link_value)?;
@@ -131,8 +131,9 @@ fn activation_of<A: Allocator + Copy>(
     mode_value: Option<&[u8]>,
     reference_value: Option<&[u8]>,
 ) -> Result<Rsl<A>, RslFault>
-    ensures { Answers result (channel_activation (seen channel_value.entry)
-        (seen activation_value.entry) (seen mode_value.entry) (seen reference_value.entry)) }
+    ensures { Answers result (channel_activation (value_seen channel_value.entry)
+        (value_seen activation_value.entry) (value_seen mode_value.entry)
+        (value_seen reference_value.entry)) }
 {
     let channel = channel(channel_value)?;
     let activation = octet(ACTIVATION_TYPE, activation_value)?;
@@ -170,8 +171,8 @@ fn activation_ack_of<A: Allocator>(
     channel_value: Option<&[u8]>,
     frame_value: Option<&[u8]>,
 ) -> Result<Rsl<A>, RslFault>
-    ensures { Answers result (channel_activation_ack (seen channel_value.entry)
-        (seen frame_value.entry)) }
+    ensures { Answers result (channel_activation_ack (value_seen channel_value.entry)
+        (value_seen frame_value.entry)) }
 {
     let channel = channel(channel_value)?;
     let frame = pair(FRAME_NUMBER, frame_value)?;
@@ -193,8 +194,8 @@ fn activation_nack_of<A: Allocator>(
     channel_value: Option<&[u8]>,
     cause_value: Option<&[u8]>,
 ) -> Result<Rsl<A>, RslFault>
-    ensures { Answers result (channel_activation_nack (seen channel_value.entry)
-        (seen cause_value.entry)) }
+    ensures { Answers result (channel_activation_nack (value_seen channel_value.entry)
+        (value_seen cause_value.entry)) }
 {
     let channel = channel(channel_value)?;
     let cause = octet(CAUSE, cause_value)?;
@@ -216,8 +217,8 @@ fn connection_failure_of<A: Allocator>(
     channel_value: Option<&[u8]>,
     cause_value: Option<&[u8]>,
 ) -> Result<Rsl<A>, RslFault>
-    ensures { Answers result (connection_failure (seen channel_value.entry)
-        (seen cause_value.entry)) }
+    ensures { Answers result (connection_failure (value_seen channel_value.entry)
+        (value_seen cause_value.entry)) }
 {
     let channel = channel(channel_value)?;
     let cause = octet(CAUSE, cause_value)?;
@@ -239,8 +240,8 @@ fn handover_detection_of<A: Allocator>(
     channel_value: Option<&[u8]>,
     delay_value: Option<&[u8]>,
 ) -> Result<Rsl<A>, RslFault>
-    ensures { Answers result (handover_detection (seen channel_value.entry)
-        (seen delay_value.entry)) }
+    ensures { Answers result (handover_detection (value_seen channel_value.entry)
+        (value_seen delay_value.entry)) }
 {
     let channel = channel(channel_value)?;
     let delay = optional_octet(ACCESS_DELAY, delay_value)?;
@@ -266,9 +267,9 @@ fn measurement_result_of<A: Allocator + Copy>(
     power_value: Option<&[u8]>,
     layer3_value: Option<&[u8]>,
 ) -> Result<Rsl<A>, RslFault>
-    ensures { Answers result (measurement_result (seen channel_value.entry)
-        (seen number_value.entry) (seen uplink_value.entry) (seen power_value.entry)
-        (seen layer3_value.entry)) }
+    ensures { Answers result (measurement_result (value_seen channel_value.entry)
+        (value_seen number_value.entry) (value_seen uplink_value.entry)
+        (value_seen power_value.entry) (value_seen layer3_value.entry)) }
 {
     let channel = channel(channel_value)?;
     let number = octet(RESULT_NUMBER, number_value)?;
@@ -306,7 +307,7 @@ fn read_measurement_result<A: Allocator + Copy>(alloc: A, body: &[u8]) -> Result
 
 #[tactic(auto, unfolding(crate::specs::Messages::rf_channel_release))]
 fn release_of<A: Allocator>(channel_value: Option<&[u8]>) -> Result<Rsl<A>, RslFault>
-    ensures { Answers result (rf_channel_release (seen channel_value.entry)) }
+    ensures { Answers result (rf_channel_release (value_seen channel_value.entry)) }
 {
     let channel = channel(channel_value)?;
     Ok(Rsl::RfChannelRelease { channel })
@@ -324,7 +325,7 @@ fn read_release<A: Allocator>(body: &[u8]) -> Result<Rsl<A>, RslFault>
 
 #[tactic(auto, unfolding(crate::specs::Messages::rf_channel_release_ack))]
 fn release_ack_of<A: Allocator>(channel_value: Option<&[u8]>) -> Result<Rsl<A>, RslFault>
-    ensures { Answers result (rf_channel_release_ack (seen channel_value.entry)) }
+    ensures { Answers result (rf_channel_release_ack (value_seen channel_value.entry)) }
 {
     let channel = channel(channel_value)?;
     Ok(Rsl::RfChannelReleaseAck { channel })

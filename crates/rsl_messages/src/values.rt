@@ -1,6 +1,6 @@
 //! What the value of a channel number says.
 ghost use Rattle.std.specs.Prelude.{◌≡◌};
-ghost use Rattle.octet_elements.specs.Values.{seen};
+ghost use Rattle.octet_elements.specs.Values.{value_seen};
 ghost use Rattle.rsl_messages.specs.Values.{channel_in};
 
 use crate::message::ChanBits;
@@ -9,7 +9,7 @@ use octet_elements::values::ElementFault;
 
 /// The channel number.
 pub fn channel(value: Option<&[u8]>) -> Result<ChanBits, ElementFault>
-    ensures { result ≡ channel_in (seen value.entry) }
+    ensures { result ≡ channel_in (value_seen value.entry) }
 {
     match value {
         None => Err(ElementFault::Absent(CHANNEL_NUMBER)),

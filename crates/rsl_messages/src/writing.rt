@@ -7,7 +7,7 @@ ghost use Rattle.rsl_messages.specs.Messages.{elements_of, kind_of};
 ghost use Rattle.rsl_messages.specs.Heads.{head_of};
 ghost use Rattle.octet_elements.specs.Values.{pair_octets, where_value};
 ghost use Rattle.rsl_messages.specs.Values.{channel_octet};
-ghost use Rattle.rsl_messages.specs.Texts.{limit, HasCanonical, IsWritable, canonical};
+ghost use Rattle.rsl_messages.specs.Texts.{limit, HasCanonical, IsWritable, canonical_text};
 
 use crate::head::{MessageKind, head_octets};
 use crate::message::{ChanBits, Rsl};
@@ -311,12 +311,12 @@ fn append_elements<A: Allocator>(message: &Rsl<A>, out: &mut Vec<u8, A>)
 #[tactic(auto, using(crate::proofs::Written::writable_of))]
 pub fn encode_into<A: Allocator>(message: &Rsl<A>, out: &mut Vec<u8, A>) -> Result<(), AllocError>
     requires { HasCanonical message.now }
-    ensures ok { OnOk result (out.new.items ≡ out.old.items ++ canonical message.now) }
+    ensures ok { OnOk result (out.new.items ≡ out.old.items ++ canonical_text message.now) }
     ensures err { OnErr result (out.new.items ≡ out.old.items) }
-    ensures room { vec_len out.old + length (canonical message.now) ≤ vec_capacity out.old →
+    ensures room { vec_len out.old + length (canonical_text message.now) ≤ vec_capacity out.old →
         IsOk result }
     ensures full { OnErr result (vec_capacity out.old < vec_len out.old + length
-        (canonical message.now)) }
+        (canonical_text message.now)) }
 {
     out.reserve(2 + elements_len(message))?;
     append_octets(out, &head_octets(kind_of(message)));
@@ -327,7 +327,7 @@ pub fn encode_into<A: Allocator>(message: &Rsl<A>, out: &mut Vec<u8, A>) -> Resu
 /// The canonical text of a message.
 pub fn encode<A: Allocator + Copy>(alloc: A, message: &Rsl<A>) -> Result<Vec<u8, A>, AllocError>
     requires { HasCanonical message.now }
-    ensures { IfOk result (λ text. text.items ≡ canonical message.now) }
+    ensures { IfOk result (λ text. text.items ≡ canonical_text message.now) }
 {
     let mut text = Vec::new(alloc);
     encode_into(message, &mut text)?;

@@ -3,7 +3,7 @@ ghost use Rattle.std.specs.Prelude.{◌≡◌, ◌++◌, ◌<◌, [], ◌∷◌,
 ghost use Rattle.radio_book.specs.Table.{step, reply_to};
 ghost use Rattle.radio_book.specs.Choice.{NoneFree, IsFreeIn, MayReserve, taken_channel};
 ghost use Rattle.radio_book.specs.State.{record_of};
-ghost use Rattle.rsl_messages.specs.Texts.{HasCanonical, canonical};
+ghost use Rattle.rsl_messages.specs.Texts.{HasCanonical, canonical_text};
 ghost use Rattle.ho_procedure.specs.Plan.{OnAbis};
 ghost use Rattle.ho_procedure.specs.Procedure.{activation, target_activation, release};
 ghost use Rattle.ho_procedure.specs.Handling.{all_sent};
@@ -112,7 +112,7 @@ fn send<A: Allocator + Copy>(
 ) -> Result<(), AllocError>
     requires { HasCanonical message.now }
     ensures sent { OnOk result (all_sent handled.new.out.items ≡ all_sent handled.old.out.items ++
-        OnAbis chan.cell chan.trx (canonical message.now) ∷ []) }
+        OnAbis chan.cell chan.trx (canonical_text message.now) ∷ []) }
     ensures events { handled.new.events ≡ handled.old.events }
     ensures none_free { handled.new.none_free ≡ handled.old.none_free }
 {

@@ -1,10 +1,10 @@
 use Rattle.std.proofs.Common.{◌≡◌, ◌+◌, ◌*◌, ◌++◌, length, take, flat_map}
-use Rattle.rr_elements.specs.Bits.{written}
+use Rattle.rr_elements.specs.Bits.{bits_written}
 use Rattle.rr_elements.specs.MeasResults.{ncell_widths, ncell_numbers}
 use Rattle.rr_elements.proofs.measurement.put_ncells.Given as goal
 
 abbrev pub invariant-loop-place : goal.invariant-loop-place
 invariant-loop-place l = record {
-  bits : l.bits ≡ l.fn.bits ++ flat_map (λ n. written ncell_widths (ncell_numbers n)) (take l.place-index l.places);
+  bits : l.bits ≡ l.fn.bits ++ flat_map (λ n. bits_written ncell_widths (ncell_numbers n)) (take l.place-index l.places);
   len : length l.bits ≡ length l.fn.bits + 17 * l.place-index;
 }

@@ -1,5 +1,5 @@
 use Rattle.rr_elements.proofs.KeptLemmas.{kept_fits}
-use Rattle.rr_elements.proofs.ResultsLemmas.{written-kept}
+use Rattle.rr_elements.proofs.ResultsLemmas.{bits_written-kept}
 use Rattle.rr_elements.proofs.ResultsTexts.{results-again, results-text}
 use Rattle.rr_elements.proofs.results.MeasResults.encode_into.Goals as goal
 
@@ -8,7 +8,7 @@ put_ncells-requires-clause-fits g c = kept_fits c.self.inside.head c.self.inside
 
 pub returns-clause-ok : goal.returns-clause-ok
 returns-clause-ok g c =
-    let all = written-kept c.self.inside.head c.self.inside.places c.self.invariant in
+    let all = bits_written-kept c.self.inside.head c.self.inside.places c.self.invariant in
     let text = rw (c.put_ncells.ensures.bits, c.put_head.ensures.bits, c.new-bits.ensures, all) at c.append_to.ensures.ok in
     rw (← c.self.view_is) text
 
