@@ -1,4 +1,5 @@
 //! The trace: what a controller was given, what it asked of its book, and what it sent, as lines of text.
+//!
 //! `docs/PROGRAM.md` lists the lines and their words.
 use crate::bad::Bad;
 use crate::text::{HexText, OrDash};
