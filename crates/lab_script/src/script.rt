@@ -1,6 +1,6 @@
 //! Scripts: texts that say, line by line, what a controller is given.
 //!
-//! `docs/PROGRAM.md` lists the lines and the ranges of their numbers; [`Line`] and [`Inbound`] are what they are read as.
+//! `docs/PROGRAM.md` lists the lines and the ranges of their numbers; [`Line`] and [`Inbound`] are what they give.
 
 ghost use Rattle.std.specs.Prelude.{◌≡◌, ◌≢◌, ◌↔◌, ℕ, Some, None, Err, true, [], ◌∷◌, ◌++◌, IsErr, IfOk, OnOk, IfSome, not, is_some, option_map, option_and_then};
 ghost use Rattle.std.specs.Char.{is_ascii_digit, is_ascii_hexdigit};
