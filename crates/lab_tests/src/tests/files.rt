@@ -41,10 +41,10 @@ fn files_that_cannot_be_read_are_named(rt: HostRuntime) -> Result<(), Fail> {
     Ok(())
 }
 
-/// Where a site and a script are written for a run.
-const SITE_FILE: &str = "/tmp/gofnild_lab_tests.toml";
+/// Where a site and a script are written for a run, in the folder that the test runs in.
+const SITE_FILE: &str = "site.toml";
 
-const SCRIPT_FILE: &str = "/tmp/gofnild_lab_tests.txt";
+const SCRIPT_FILE: &str = "script.txt";
 
 /// How a run over the files of a site and of this script ends, and what it prints.
 fn run_over(
