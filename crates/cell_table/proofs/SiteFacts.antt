@@ -11,7 +11,7 @@ use Rattle.toml.specs.declared.value.Value.{Value}
 use Rattle.cell_table.specs.Site.{SiteView, IsCell, IsSite, IsWithinLimits, keeps_cell_rules, keeps_site_rules, names_broadcast, is_traffic}
 use Rattle.channel_fsm.specs.declared.ChanId.{ChanId}
 use Rattle.std.specs.List.{list_any}
-use Rattle.cell_table.specs.SiteFile.{each, only, array_at, natural, timeslot_of, trx_of, cell_of, site_of}
+use Rattle.cell_table.specs.SiteFile.{each, only, array_at, natural_number, timeslot_of, trx_of, cell_of, site_of}
 use Rattle.cell_table.proofs.Told.{All-each, IsTold}
 
 if_kept : {A : Type 0} (b : Bool) (x y : A) → (if b then Some x else None) ≡ Some y → (x ≡ y) × (b ≡ true)
@@ -25,7 +25,7 @@ only_parts rule (Some y) x e = let (same, kept) = if_kept (rule y) y x e in rw (
 
 timeslot_range : (d : Data) (tn : ℕ) → timeslot_of d ≡ Some tn → tn < 8
 timeslot_range d tn e =
-    let (read, kept) = only_parts (λ n. nat_lt n 8) (option_and_then natural (as_integer d)) tn e in grind (arith, nat_tests)
+    let (read, kept) = only_parts (λ n. nat_lt n 8) (option_and_then natural_number (as_integer d)) tn e in grind (arith, nat_tests)
 
 trx_range : (d : Data) (trx : List ℕ) → trx_of d ≡ Some trx → All (λ tn. tn < 8) trx
 trx_range d trx e =

@@ -19,13 +19,13 @@ abbrev pub array_at : List ℕ → Data → Option Items
 array_at key d = option_and_then as_array (get key d)
 
 -- a natural number
-abbrev pub natural : ℤ → Option ℕ
-natural (pos n) = Some n
-natural (negsuc n) = None
+abbrev pub natural_number : ℤ → Option ℕ
+natural_number (pos n) = Some n
+natural_number (negsuc n) = None
 
 -- a timeslot is an integer from 0 to 7
 abbrev pub timeslot_of : Data → Option ℕ
-timeslot_of d = only (λ tn. nat_lt tn 8) (option_and_then natural (as_integer d))
+timeslot_of d = only (λ tn. nat_lt tn 8) (option_and_then natural_number (as_integer d))
 
 -- a TRX has `tch`, an array of timeslots
 abbrev pub trx_of : Data → Option (List ℕ)
