@@ -54,10 +54,10 @@ impl From<RslFault> for Fault {
 
     ghost from_gives = { λ cause fault. fault ≡ of_abis cause };
 
-    fn from(cause: RslFault) -> Fault {
+    fn from(cause: RslFault) -> Self {
         match cause {
-            RslFault::NoMemory => Fault::NoMemory,
-            _ => Fault::Words,
+            RslFault::NoMemory => Self::NoMemory,
+            _ => Self::Words,
         }
     }
 }
@@ -67,10 +67,10 @@ impl From<RrFault> for Fault {
 
     ghost from_gives = { λ cause fault. fault ≡ of_radio cause };
 
-    fn from(cause: RrFault) -> Fault {
+    fn from(cause: RrFault) -> Self {
         match cause {
-            RrFault::NoMemory => Fault::NoMemory,
-            _ => Fault::Words,
+            RrFault::NoMemory => Self::NoMemory,
+            _ => Self::Words,
         }
     }
 }
@@ -80,10 +80,10 @@ impl From<BssmapFault> for Fault {
 
     ghost from_gives = { λ cause fault. fault ≡ of_a cause };
 
-    fn from(cause: BssmapFault) -> Fault {
+    fn from(cause: BssmapFault) -> Self {
         match cause {
-            BssmapFault::NoMemory => Fault::NoMemory,
-            _ => Fault::Words,
+            BssmapFault::NoMemory => Self::NoMemory,
+            _ => Self::Words,
         }
     }
 }
@@ -93,10 +93,10 @@ impl From<PlainFault> for Fault {
 
     ghost from_gives = { λ cause fault. fault ≡ of_procedure cause };
 
-    fn from(cause: PlainFault) -> Fault {
+    fn from(cause: PlainFault) -> Self {
         match cause {
-            PlainFault::NoMemory => Fault::NoMemory,
-            PlainFault::Undecoded(_) => Fault::Words,
+            PlainFault::NoMemory => Self::NoMemory,
+            PlainFault::Undecoded(_) => Self::Words,
         }
     }
 }
@@ -106,10 +106,10 @@ impl From<SiteFault> for Fault {
 
     ghost from_gives = { λ cause fault. fault ≡ of_site cause };
 
-    fn from(cause: SiteFault) -> Fault {
+    fn from(cause: SiteFault) -> Self {
         match cause {
-            SiteFault::NoMemory => Fault::NoMemory,
-            SiteFault::Toml => Fault::Setting,
+            SiteFault::NoMemory => Self::NoMemory,
+            SiteFault::Toml => Self::Setting,
         }
     }
 }

@@ -44,8 +44,10 @@ fn start<R: Files + Print + Env + AllocGlobal, E: Write>(
     let mut out = BufWriter::new(rt.alloc(), io::writer(rt)).map_err(|_| LabFault::NoMemory)?;
     let ended = perform(rt, &words, &mut out, errors);
     // what was printed before a fault is shown
-    out.flush()?;
-    ended
+    let flushed = out.flush();
+    let status = ended?;
+    flushed?;
+    Ok(status)
 }
 
 fn main(rt: HostRuntime) -> ExitCode {

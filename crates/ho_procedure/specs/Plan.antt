@@ -22,10 +22,10 @@ pub data Plan : Type 0 where
   Reserves : ℕ → (ℕ → Reply → Plan) → Plan
   Sends : Sent → Plan → Plan
 
--- send some messages and go on
-abbrev pub sends : List Sent → Plan → Plan
-sends [] next = next
-sends (m ∷ ms) next = Sends m (sends ms next)
+-- some messages are sent, and a plan goes on
+abbrev pub messages_then : List Sent → Plan → Plan
+messages_then [] next = next
+messages_then (m ∷ ms) next = Sends m (messages_then ms next)
 
 -- A plan goes on at one reply, and ends at any other.
 abbrev pub if_done : Plan → Reply → Plan
@@ -40,7 +40,7 @@ abbrev pub if_record : (CallRecord → Option ChanState → Plan) → Reply → 
 if_record next (Record r s) = next r s
 if_record next reply = Ends
 
--- it ends at every reply
+-- a plan that ends at every reply
 abbrev pub nothing_more : Reply → Plan
 nothing_more reply = Ends
 

@@ -23,7 +23,7 @@ use Rattle.ho_procedure.specs.declared.exchange.Line.{Line}
 use Rattle.ho_procedure.specs.declared.exchange.Line.TheVariants as line
 use Rattle.ho_procedure.specs.declared.procedure.release.Release.{Release}
 use Rattle.ho_procedure.specs.declared.procedure.release.Release.TheVariants.{Nothing, Channel, Unknown}
-use Rattle.ho_procedure.specs.Plan.{Sent, OnAbis, Plan, Ends, Asks, Takes, Reserves, Sends, sends, if_done, if_owned, if_record, nothing_more}
+use Rattle.ho_procedure.specs.Plan.{Sent, OnAbis, Plan, Ends, Asks, Takes, Reserves, Sends, messages_then, if_done, if_owned, if_record, nothing_more}
 
 -- Messages on Abis (TS 48.058).
 
@@ -112,7 +112,7 @@ handover_plan site c cell = if nat_lt cell (length site) then start_plan c cell 
 
 -- An operator takes an attempt back: its target is released where it was switched on.
 abbrev pub undo_plan : ℕ → Plan
-undo_plan c = Asks (event.Undo c Asked) (if_record (λ r s. sends (release_messages (target_release r.attempt)) Ends))
+undo_plan c = Asks (event.Undo c Asked) (if_record (λ r s. messages_then (release_messages (target_release r.attempt)) Ends))
 
 -- the record remains after an undo, but that of a call which comes from another controller
 abbrev pub remains_of : AttemptKind → Bool
@@ -133,11 +133,11 @@ if_names_releases next r s = if names_releases r s then next r s else Ends
 
 -- What remains of a call is cleared, and its serving channel released.
 abbrev pub clear_serving : ℕ → CallRecord → Option ChanState → Plan
-clear_serving c r s = Asks (event.Clear c) (if_done (sends (release_messages (serving_release r s)) Ends))
+clear_serving c r s = Asks (event.Clear c) (if_done (messages_then (release_messages (serving_release r s)) Ends))
 
 -- The target is released, where it was switched on, and then what remains is cleared.
 abbrev pub clear_rest : ℕ → CallRecord → Option ChanState → Plan
-clear_rest c r s = sends (release_messages (target_release r.attempt)) (if remains r.attempt then clear_serving c r s else Ends)
+clear_rest c r s = messages_then (release_messages (target_release r.attempt)) (if remains r.attempt then clear_serving c r s else Ends)
 
 -- An attempt that is open is taken back first.
 abbrev pub clear_looked : ℕ → CallRecord → Option ChanState → Plan

@@ -19,9 +19,9 @@ use thiserror::Error;
 /// How the work ended.
 #[derive(Clone, Copy, Debug, PartialEq, Eq)]
 pub enum Status {
-    /// All inputs were handled, or the message was printed.
+    /// All inputs were handled, or the message, help or the version was printed.
     Done,
-    /// The site, a line of the script or what was to be decoded was refused, as the one line that was printed says.
+    /// The words, a file, the site, a line of the script or what was to be decoded was refused, as what was printed says.
     Refused,
 }
 

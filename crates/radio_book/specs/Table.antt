@@ -70,7 +70,7 @@ begin_row c x r s None false state = Refuses NoChannel
 begin_row c x r s None true Free = Accepts (record no_change { channel = becomes x s; call = with_record c r }) Done
 begin_row c x r s None true busy = Refuses (ChannelBusy x)
 
--- and so by what the book has of the call and of the channel
+-- the same, by what a book has of the call and of the channel
 abbrev pub begin_call : State → ℕ → ChanId → CallRecord → ChanState → Outcome
 begin_call b c x r s = begin_row c x r s (record_of b c) (is_traffic b.site x) (state_of b x)
 

@@ -105,7 +105,7 @@ impl<A: Allocator + Copy> Book<A> {
         kind: Kind,
         cell: u8,
     ) -> Result<Option<(Event, Reply)>, AllocError>
-        ensures none { result ≡ Ok None ↔ NoneFree self.old cell }
+        ensures none { (result ≡ Ok None) ↔ NoneFree self.old cell }
         ensures kept { result ≡ Ok None → self.new ≡ self.old }
         ensures event { IfOk result (λ chosen. IfSome chosen
             (λ taken. TakesFree self.old call kind cell taken.0)) }
@@ -147,7 +147,7 @@ impl<A: Allocator + Copy> Book<A> {
     /// [`Book::take_any`] finds none.
     pub fn free_in(&self, cell: u8) -> u32
         ensures count { result ≡ free_count self.now cell }
-        ensures none { result ≡ 0 ↔ NoneFree self.now cell }
+        ensures none { (result ≡ 0) ↔ NoneFree self.now cell }
     {
         self.records.free_in(cell)
     }

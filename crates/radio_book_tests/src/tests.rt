@@ -628,7 +628,7 @@ fn requests_before(rt: &(impl AllocGlobal + Abort), want: &Want) -> Result<u64, 
     Ok(heap.requests())
 }
 
-// What a book shows of itself and of the calls that ask in the rows, where no memory is wanted.
+// What a book shows of itself and of calls 1, 2 and 16, where no memory is wanted.
 fn shown(book: &mut Book<&RefusingHeap>) -> Result<[Answer; 6], AllocError> {
     Ok([
         put(book, Ask::Usage)?,

@@ -13,6 +13,18 @@ const LINES: &[(&[&str], u8, &str, &str)] = &[
         "HANDOVER COMPLETE cause=0\n",
         "",
     ),
+    (
+        &["decode", "abis", "082e010b"],
+        0,
+        "RF CHANNEL RELEASE tn=3\n",
+        "",
+    ),
+    (
+        &["decode", "a", "0005200401098f"],
+        0,
+        "CLEAR COMMAND cause=9\n",
+        "",
+    ),
     (&["decode", "rr", "06ff"], 2, "fault rr 2 255\n", ""),
     (&["decode", "abis", "0g"], 2, "hex\n", ""),
     (&["run", "no site", "no script"], 2, "file no site\n", ""),

@@ -39,8 +39,9 @@ impl<A: Allocator + Copy> Records<A> {
     /// How many traffic channels of the cell are free.
     pub fn free_in(&self, cell: u8) -> u32
         ensures count { result ≡ free_count self.now cell }
-        ensures none { result ≡ 0 ↔ NoneFree self.now cell }
+        ensures none { (result ≡ 0) ↔ NoneFree self.now cell }
     {
+        // The site keeps its limits: no channel of the cell lies beyond those that are counted.
         if cell >= self.site.cells() {
             return 0;
         }
