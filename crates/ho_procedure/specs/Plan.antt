@@ -13,8 +13,8 @@ use Rattle.radio_book.specs.declared.event.Reply.TheVariants.{Done, Record, Owne
 pub data Sent : Type 0 where
   OnAbis : ℕ → ℕ → List ℕ → Sent
 
--- A plan: ask the book an event and go on by its reply; take some channel of a cell, or reserve some number,
--- and go on by what was chosen and its reply; send a message and go on; or end.
+-- What is done with one input, step by step. A step is an event for the book, a Take of whatever channel of a cell is
+-- free, or a Reserve of whatever number is, and the reply (with what was chosen) decides the next; or it is a message.
 pub data Plan : Type 0 where
   Ends : Plan
   Asks : Event → (Reply → Plan) → Plan

@@ -92,13 +92,16 @@ fn writes_elements(rt: HostRuntime) -> Result<(), Fail> {
     Ok(())
 }
 
-/// The element 7 isn't there, is empty, has one octet, has two.
+/// The element isn't there.
 const ABSENT: Option<&[u8]> = None;
 
+/// Its value is empty.
 const EMPTY: Option<&[u8]> = Some(&[]);
 
+/// Its value has one octet.
 const SHORT: Option<&[u8]> = Some(&[3]);
 
+/// Its value has two.
 const LONG: Option<&[u8]> = Some(&[1, 2]);
 
 #[test]

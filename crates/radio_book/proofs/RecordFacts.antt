@@ -17,6 +17,7 @@ use Rattle.radio_book.specs.Sound.{IsSound, owner, target_state}
 use Rattle.radio_book.specs.Table.{Refuses, step, begin_row, begin_call}
 use Rattle.radio_book.specs.Journal.{inverses_at, stage_inverses, opening_inverse, or_zero}
 use Rattle.radio_book.specs.Waiting.{MayMove}
+use Rattle.radio_book.proofs.Frame.{is_owned}
 use Rattle.radio_book.proofs.SoundSteps.{sound_step}
 
 -- a state that names a call is an entry
@@ -24,19 +25,12 @@ owned_there : (o : Option ChanState) (c : ℕ) → owner (or_free o) ≡ Some c 
 owned_there None c e = cc
 owned_there (Some s) c e = refl
 
-owner_target : (c : ℕ) (s : Stage) → owner (target_state c s) ≡ Some c
-owner_target c Taken = refl
-owner_target c Reserved = refl
-owner_target c Sent = refl
-owner_target c Refused = refl
-owner_target c Confirmed = refl
-
 pub serving_there : (b : State) (c : ℕ) (r : CallRecord) (x : ChanId) → IsSound b → record_of b c ≡ Some r → r.serving ≡ Some x → IsSome (map.get b.channels x)
 serving_there b c r x sound known serving = owned_there (map.get b.channels x) c (sound.serving c r x known serving)
 
 pub target_there : (b : State) (c : ℕ) (r : CallRecord) (a : Attempt) (x : ChanId) → IsSound b → record_of b c ≡ Some r → r.attempt ≡ Some a → a.target ≡ Some x → IsSome (map.get b.channels x)
 target_there b c r a x sound known opened target =
-    owned_there (map.get b.channels x) c (ap owner (sound.target c r a x known opened target) ∙ owner_target c a.stage)
+    owned_there (map.get b.channels x) c (ap owner (sound.target c r a x known opened target) ∙ is_owned c a.stage)
 
 -- an entry is of a channel that isn't free
 not_free : (b : State) (x : ChanId) → IsSound b → is_some (map.get b.channels x) ≡ true → state_of b x ≢ Free
