@@ -31,11 +31,11 @@ timeslot_of d = only (λ tn. nat_lt tn 8) (option_and_then natural_number (as_in
 abbrev pub trx_of : Data → Option (List ℕ)
 trx_of d = option_and_then (each timeslot_of) (array_at (codes "tch") d)
 
--- a cell has `trx`, an array of as many TRX as a cell may have
+-- a cell has `trx`, an array of TRX that keeps the rules of a cell
 abbrev pub cell_of : Data → Option (List (List ℕ))
 cell_of d = only keeps_cell_rules (option_and_then (each trx_of) (array_at (codes "trx") d))
 
--- a document has `cell`, an array of as many cells as a site may have
+-- a document has `cell`, an array of cells that keeps the rules of a site
 abbrev pub site_of : Data → Option SiteView
 site_of d = only keeps_site_rules (option_and_then (each cell_of) (array_at (codes "cell") d))
 

@@ -94,9 +94,9 @@ impl<A: Allocator + Copy> Site<A> {
     /// are integers from 0 to 7; the first TRX of a cell doesn't name timeslot 0. Any other key is
     /// ignored. A cell may have no traffic timeslot, and a timeslot may be named twice.
     ///
-    /// Every text that isn't so is `Toml`. `NoMemory` is never answered to a blank text (white
-    /// space and comments alone): reading any other wants memory of `scratch`. Memory of `alloc` is
-    /// wanted only once the text is known to describe a site.
+    /// Every text that isn't so is `Toml`, unless memory of `scratch` is refused before that is
+    /// known, which can't be while a blank text (white space and comments alone) is read. This body
+    /// asks for memory of `alloc` only once the text is known to describe a site.
     pub fn read(alloc: A, scratch: Global, text: &str) -> Result<Site<A>, SiteFault>
         ensures described { IfOk result (λ site. described_site text.now ≡ Some site) }
         ensures refused { result ≡ Err SiteFault.Toml → described_site text.now ≡ None }

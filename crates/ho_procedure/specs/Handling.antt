@@ -49,8 +49,8 @@ abbrev pub FollowsRow : {A : Type 0} → SiteView → Inbound A → List (Event 
 FollowsRow site (inbound.Operator line) steps none_free out = Follows (line_plan site line) steps none_free out
 FollowsRow {A} site (inbound.Abis cell trx octets) steps none_free out = (v : Rsl A) × IsTextOf v octets × Follows (message_plan cell trx v) steps none_free out
 
--- The events are a beginning of that row's, and memory was wanted: for a step of the row, or for what the
--- message keeps.
+-- The events are a beginning of that row's, and memory may have been wanted: the row has a step, or the
+-- message keeps octets.
 abbrev pub StopsInRow : {A : Type 0} → SiteView → Inbound A → List (Event × Reply) → Type 0
 StopsInRow site (inbound.Operator line) steps = HasStep (line_plan site line) × Begins (line_plan site line) steps
 StopsInRow {A} site (inbound.Abis cell trx octets) steps = (v : Rsl A) × IsTextOf v octets × (HasOctets v ⊎ HasStep (message_plan cell trx v)) × Begins (message_plan cell trx v) steps

@@ -61,7 +61,8 @@ is_free s = false
 abbrev pub is_free_traffic : State → ChanId → Bool
 is_free_traffic b x = is_traffic b.site x && is_free (state_of b x)
 
--- every channel that a cell can have: four TRX of eight timeslots (TS 45.002 clause 4.3.2), by TRX, then timeslot
+-- every channel that a cell can have: at most four TRX, of eight timeslots each (TS 45.002 clause 4.3.2), by TRX, then
+-- timeslot
 unfoldable pub channels_of : ℕ → List ChanId
 channels_of cell =
     flat_map (λ trx. map_list (λ tn. record { cell = cell; trx = trx; tn = tn }) (0 ∷ 1 ∷ 2 ∷ 3 ∷ 4 ∷ 5 ∷ 6 ∷ 7 ∷ []))

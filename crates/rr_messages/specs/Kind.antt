@@ -1,5 +1,5 @@
 -- Message types (TS 44.018 section 10.4), and how long the mandatory part of each is.
-use Rattle.std.specs.Prelude.{ℕ, ◌==◌, if◌then◌else◌, Option, Some, None}
+use Rattle.std.specs.Prelude.{ℕ, ◌==◌, List, [], ◌∷◌, find, Option}
 use Rattle.rr_messages.specs.declared.kind.Kind.{Kind}
 use Rattle.rr_messages.specs.declared.kind.Kind.TheVariants.{ChannelRelease, MeasurementReport, HandoverFailure, HandoverCommand, HandoverComplete, PhysicalInformation}
 
@@ -12,16 +12,13 @@ type_of HandoverCommand = 0x2B
 type_of HandoverComplete = 0x2C
 type_of PhysicalInformation = 0x2D
 
+-- the message types
+abbrev pub kinds : List Kind
+kinds = ChannelRelease ∷ MeasurementReport ∷ HandoverFailure ∷ HandoverCommand ∷ HandoverComplete ∷ PhysicalInformation ∷ []
+
 -- the message type of an octet
 abbrev pub kind_at : ℕ → Option Kind
-kind_at octet =
-    if octet == 0x0D then Some ChannelRelease
-    else if octet == 0x15 then Some MeasurementReport
-    else if octet == 0x28 then Some HandoverFailure
-    else if octet == 0x2B then Some HandoverCommand
-    else if octet == 0x2C then Some HandoverComplete
-    else if octet == 0x2D then Some PhysicalInformation
-    else None
+kind_at octet = find (λ kind. octet == type_of kind) kinds
 
 -- how many octets the mandatory part has
 abbrev pub part_len : Kind → ℕ
