@@ -93,7 +93,7 @@ fn encode_alternately(
     Ok(sum)
 }
 
-/// Writes a MEASUREMENT RESULT and its report in each turn: that of turn 0 and that of turn 1 alternately.
+/// Writes a report, that of turn 0, and a MEASUREMENT RESULT in each turn: that of turn 0 and that of turn 1 by turns.
 pub fn encode_measurements(alloc: Global, octets: &mut Turning, count: u64) -> Result<u64, Fault> {
     let even = abis::message_at(alloc, octets, 0)?;
     let report = report_of(&even)?;

@@ -452,23 +452,25 @@ fn a_refused_channel_is_cleared_without_a_message(rt: HostRuntime) -> Result<(),
     Ok(())
 }
 
+/// What a book holds of a call without an attempt.
+const ONE_STEADY_CALL: Usage = Usage {
+    channels: 1,
+    calls: 1,
+    references: 0,
+    timers: 0,
+};
+
 #[test]
 fn a_handover_is_taken_back(rt: HostRuntime) -> Result<(), Fail> {
     let usage = usage_after(&rt, BEGINS, &[STARTS], TAKEN_BACK)?;
-    let wanted = Usage {
-        channels: 1,
-        calls: 1,
-        references: 0,
-        timers: 0,
-    };
-    assert_eq!(rt; usage, wanted);
+    assert_eq!(rt; usage, ONE_STEADY_CALL);
     Ok(())
 }
 
 #[test]
 fn a_refused_target_is_taken_back(rt: HostRuntime) -> Result<(), Fail> {
     let usage = usage_after(&rt, BEGINS, &[STARTS], &[TARGET_TAKEN_BACK])?;
-    assert_eq!(rt; usage.channels, 1);
+    assert_eq!(rt; usage, ONE_STEADY_CALL);
     Ok(())
 }
 
@@ -573,10 +575,14 @@ fn shown<A: Allocator + Copy>(book: &mut Book<A>) -> Result<Shown, AllocError> {
     Ok((book.usage(), book.step(Look(1))?, book.step(Look(2))?))
 }
 
-/// Asks events of a book, and then what it says.
-fn shown_then(book: &mut Book<Global>, events: &[(Event, Reply)]) -> Result<Shown, AllocError> {
-    for (event, _reply) in events {
-        book.step(*event)?;
+/// Asks events of a book, which gives the same replies, and then what it says.
+fn shown_then(
+    rt: &impl Abort,
+    book: &mut Book<Global>,
+    events: &[(Event, Reply)],
+) -> Result<Shown, AllocError> {
+    for (event, reply) in events {
+        assert_eq!(rt; book.step(*event)?, *reply, "{event:?}");
     }
     shown(book)
 }
@@ -589,7 +595,7 @@ fn prepared_then(
     events: &[(Event, Reply)],
 ) -> Result<Shown, Fail> {
     prepare(rt, rt.alloc(), book, before)?;
-    Ok(shown_then(book, events)?)
+    Ok(shown_then(rt, book, events)?)
 }
 
 /// What a fresh book shows after what was before and these events.

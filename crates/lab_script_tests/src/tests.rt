@@ -40,7 +40,13 @@ const NO_LINES: &[&str] = &[
     "abis 256 0 08",
     "  # a comment",
     "expire 1 T7",
+    "a 1 00",
     "sim",
+    "refuse 0 0 3",
+    "hold 0 0 3",
+    "let 0 0 3",
+    "mobile 0 0 3 arrive",
+    "hangup 1",
     "2: undo 1",
     "\u{a0}",
 ];

@@ -12,7 +12,7 @@ pub record Results : Type 0 where
   pub head : MeasHead
   pub neighbours : List Ncell
 
--- how many neighbours stand there: 7 says that there is no neighbour information
+-- how many neighbours stand there: 7 means that nothing is said of them
 abbrev pub used_count : ℕ → ℕ
 used_count count = if count == 7 then 0 else count
 

@@ -36,8 +36,8 @@ fn append_part<A: Allocator + Copy>(message: &Rr, out: &mut Vec<u8, A>) -> Resul
     }
 }
 
-/// Appends a message. It takes no memory where the list has room, and leaves the list as it was
-/// where memory is refused.
+/// Appends a message. A list with room for it is not moved: no memory is asked for. Where memory is
+/// refused the list is as it was.
 pub fn encode_into<A: Allocator + Copy>(
     message: &Rr,
     out: &mut Vec<u8, A>,

@@ -307,7 +307,7 @@ fn append_elements<A: Allocator>(message: &Rsl<A>, out: &mut Vec<u8, A>)
     }
 }
 
-/// Appends the canonical text of a message. It takes no memory where the list has room for it.
+/// Appends the canonical text of a message. A list with room for it is not moved: no memory is asked for.
 #[tactic(auto, using(crate::proofs::Written::writable_of))]
 pub fn encode_into<A: Allocator>(message: &Rsl<A>, out: &mut Vec<u8, A>) -> Result<(), AllocError>
     requires { HasCanonical message.now }
