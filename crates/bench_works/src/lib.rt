@@ -1,5 +1,5 @@
-//! The works of `bsc_bench`: each does one piece of work many times on octets of which one changes with the turn, and
-//! gives a sum of what the turns gave, so that no turn can be left out. The words of the command line name them.
+//! The works of `bsc_bench`, each repeated as often as the command line asks. One octet of a work's input counts the
+//! turns, and the results are added up: neither a compiler nor a processor can take one turn for another, or drop it.
 #![tactic(auto)]
 
 mod abis;

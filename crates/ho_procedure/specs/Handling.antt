@@ -16,7 +16,7 @@ use Rattle.ho_procedure.specs.declared.exchange.Inbound.{Inbound}
 use Rattle.ho_procedure.specs.declared.exchange.Inbound.TheVariants as inbound
 use Rattle.ho_procedure.specs.declared.exchange.Outbound.{Outbound}
 use Rattle.ho_procedure.specs.declared.exchange.Outbound.TheVariants as outbound
-use Rattle.ho_procedure.specs.Plan.{Sent, OnAbis, Follows, Begins, HasStep}
+use Rattle.ho_procedure.specs.Plan.{Sent, OnAbis, Follows, StopsIn}
 use Rattle.ho_procedure.specs.Procedure.{line_plan, message_plan}
 
 abbrev pub sent_of : {A : Type 0} → Outbound A → Sent
@@ -49,11 +49,11 @@ abbrev pub FollowsRow : {A : Type 0} → SiteView → Inbound A → List (Event 
 FollowsRow site (inbound.Operator line) steps none_free out = Follows (line_plan site line) steps none_free out
 FollowsRow {A} site (inbound.Abis cell trx octets) steps none_free out = (v : Rsl A) × IsTextOf v octets × Follows (message_plan cell trx v) steps none_free out
 
--- The events are a beginning of that row's, and memory may have been wanted: the row has a step, or the
--- message keeps octets.
+-- The events are a beginning of that row's, of which a step is left, for which memory may be wanted; or none
+-- was asked of the book yet, and the message keeps octets.
 abbrev pub StopsInRow : {A : Type 0} → SiteView → Inbound A → List (Event × Reply) → Type 0
-StopsInRow site (inbound.Operator line) steps = HasStep (line_plan site line) × Begins (line_plan site line) steps
-StopsInRow {A} site (inbound.Abis cell trx octets) steps = (v : Rsl A) × IsTextOf v octets × (HasOctets v ⊎ HasStep (message_plan cell trx v)) × Begins (message_plan cell trx v) steps
+StopsInRow site (inbound.Operator line) steps = StopsIn (line_plan site line) steps
+StopsInRow {A} site (inbound.Abis cell trx octets) steps = (v : Rsl A) × IsTextOf v octets × (((steps ≡ []) × HasOctets v) ⊎ StopsIn (message_plan cell trx v) steps)
 
 -- the input is octets with this fault
 abbrev pub HasFaultIn : {A : Type 0} → Inbound A → RslFault → Type 0

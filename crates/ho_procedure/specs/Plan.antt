@@ -60,19 +60,14 @@ Follows (Reserves c next) (s ∷ steps) none_free out = (n : ℕ) × (s.0 ≡ Re
 Follows (Sends m next) steps none_free [] = ⊥
 Follows (Sends m next) steps none_free (o ∷ out) = (o ≡ m) × Follows next steps none_free out
 
--- Events with their replies are a beginning of a plan's.
-abbrev pub Begins : Plan → List (Event × Reply) → Type 0
-Begins p [] = Unit {0}
-Begins Ends (s ∷ steps) = ⊥
-Begins (Asks e next) (s ∷ steps) = (s.0 ≡ e) × Begins (next s.1) steps
-Begins (Takes c k cell next) (s ∷ steps) = (x : ChanId) × (s.0 ≡ Take c k x) × (x.cell ≡ cell) × Begins (next x s.1) steps
-Begins (Reserves c next) (s ∷ steps) = (n : ℕ) × (s.0 ≡ Reserve c n) × Begins (next n s.1) steps
-Begins (Sends m next) (s ∷ steps) = Begins next (s ∷ steps)
-
--- the plan has a step
-abbrev pub HasStep : Plan → Type 0
-HasStep Ends = ⊥
-HasStep (Asks e next) = Unit {0}
-HasStep (Takes c k cell next) = Unit {0}
-HasStep (Reserves c next) = Unit {0}
-HasStep (Sends m next) = Unit {0}
+-- Events with their replies are a beginning of a plan's, and not the whole of it: a step is left.
+abbrev pub StopsIn : Plan → List (Event × Reply) → Type 0
+StopsIn Ends steps = ⊥
+StopsIn (Asks e next) [] = Unit {0}
+StopsIn (Asks e next) (s ∷ steps) = (s.0 ≡ e) × StopsIn (next s.1) steps
+StopsIn (Takes c k cell next) [] = Unit {0}
+StopsIn (Takes c k cell next) (s ∷ steps) = (x : ChanId) × (s.0 ≡ Take c k x) × (x.cell ≡ cell) × StopsIn (next x s.1) steps
+StopsIn (Reserves c next) [] = Unit {0}
+StopsIn (Reserves c next) (s ∷ steps) = (n : ℕ) × (s.0 ≡ Reserve c n) × StopsIn (next n s.1) steps
+StopsIn (Sends m next) [] = Unit {0}
+StopsIn (Sends m next) (s ∷ steps) = StopsIn next (s ∷ steps)

@@ -114,30 +114,30 @@ handover_plan site c cell = if nat_lt cell (length site) then start_plan c cell 
 abbrev pub undo_plan : ℕ → Plan
 undo_plan c = Asks (event.Undo c Asked) (if_record (λ r s. messages_then (release_messages (target_release r.attempt)) Ends))
 
--- the record remains after an undo, but that of a call which comes from another controller
-abbrev pub remains_of : AttemptKind → Bool
-remains_of Internal = true
-remains_of Incoming = false
+-- A call of this controller keeps its record after an undo; one that comes from another controller has none then.
+abbrev pub is_own_kind : AttemptKind → Bool
+is_own_kind Internal = true
+is_own_kind Incoming = false
 
-abbrev pub remains : Option Attempt → Bool
-remains None = true
-remains (Some a) = remains_of a.kind
+abbrev pub is_own : Option Attempt → Bool
+is_own None = true
+is_own (Some a) = is_own_kind a.kind
 
 -- the record names every channel that is released when its call is cleared
 abbrev pub names_releases : CallRecord → Option ChanState → Bool
-names_releases r s = is_named (target_release r.attempt) && (not (remains r.attempt) || is_named (serving_release r s))
+names_releases r s = is_named (target_release r.attempt) && (not (is_own r.attempt) || is_named (serving_release r s))
 
 -- A row ends at a record that doesn't name every channel which the rest of the row releases.
 abbrev pub if_names_releases : (CallRecord → Option ChanState → Plan) → CallRecord → Option ChanState → Plan
 if_names_releases next r s = if names_releases r s then next r s else Ends
 
--- What remains of a call is cleared, and its serving channel released.
+-- The call is cleared, and its serving channel released.
 abbrev pub clear_serving : ℕ → CallRecord → Option ChanState → Plan
 clear_serving c r s = Asks (event.Clear c) (if_done (messages_then (release_messages (serving_release r s)) Ends))
 
--- The target is released, where it was switched on, and then what remains is cleared.
+-- The target is released, where it was switched on, and then a call of this controller is cleared.
 abbrev pub clear_rest : ℕ → CallRecord → Option ChanState → Plan
-clear_rest c r s = messages_then (release_messages (target_release r.attempt)) (if remains r.attempt then clear_serving c r s else Ends)
+clear_rest c r s = messages_then (release_messages (target_release r.attempt)) (if is_own r.attempt then clear_serving c r s else Ends)
 
 -- An attempt that is open is taken back first.
 abbrev pub clear_looked : ℕ → CallRecord → Option ChanState → Plan

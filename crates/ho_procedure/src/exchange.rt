@@ -51,7 +51,7 @@ pub struct Handled<A: Allocator = Global> {
 impl<A: Allocator + Copy> Handled<A> {
     /// Nothing was asked and nothing is sent.
     pub fn new(alloc: A) -> Handled<A>
-        ensures { IsFresh result }
+        ensures fresh { IsFresh result }
     {
         Handled {
             events: Vec::new(alloc),

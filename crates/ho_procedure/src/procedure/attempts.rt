@@ -2,7 +2,7 @@
 ghost use Rattle.std.specs.Prelude.{◌≡◌, None, OnOk, OnErr, IfSome};
 ghost use Rattle.radio_book.specs.Run.{Leads};
 ghost use Rattle.radio_book.specs.Choice.{NoneFree};
-ghost use Rattle.ho_procedure.specs.Plan.{Follows, Begins, HasStep};
+ghost use Rattle.ho_procedure.specs.Plan.{Follows, StopsIn};
 ghost use Rattle.ho_procedure.specs.Procedure.{handover_plan, undo_plan};
 ghost use Rattle.ho_procedure.specs.Handling.{all_sent, AreChoices, IsFresh};
 
@@ -26,9 +26,8 @@ pub(super) fn start<A: Allocator + Copy, B: Allocator + Copy>(
     requires { IsFresh handled.old }
     ensures row { OnOk result (Follows (handover_plan book.old.site call cell)
         handled.new.events.items handled.new.none_free (all_sent handled.new.out.items)) }
-    ensures begins { OnErr result (Begins (handover_plan book.old.site call cell)
+    ensures stops { OnErr result (StopsIn (handover_plan book.old.site call cell)
         handled.new.events.items) }
-    ensures wanted { OnErr result (HasStep (handover_plan book.old.site call cell)) }
     ensures leads { Leads book.old handled.new.events.items book.new }
     ensures choices { AreChoices book.old handled.new.events.items }
     ensures none_free { IfSome handled.new.none_free (NoneFree book.old) }
@@ -61,7 +60,7 @@ pub(super) fn undo<A: Allocator + Copy, B: Allocator + Copy>(
     requires { IsFresh handled.old }
     ensures row { OnOk result (Follows (undo_plan call) handled.new.events.items
         handled.new.none_free (all_sent handled.new.out.items)) }
-    ensures begins { OnErr result (Begins (undo_plan call) handled.new.events.items) }
+    ensures stops { OnErr result (StopsIn (undo_plan call) handled.new.events.items) }
     ensures leads { Leads book.old handled.new.events.items book.new }
     ensures choices { AreChoices book.old handled.new.events.items }
     ensures none_free { handled.new.none_free ≡ None }

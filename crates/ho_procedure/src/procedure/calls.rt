@@ -1,8 +1,8 @@
 //! Rows that begin and end a call.
-ghost use Rattle.std.specs.Prelude.{◌≡◌, ◌++◌, None, OnOk, OnErr};
+ghost use Rattle.std.specs.Prelude.{◌≡◌, ◌++◌, [], None, OnOk, OnErr};
 ghost use Rattle.radio_book.specs.Run.{Leads};
-ghost use Rattle.ho_procedure.specs.Plan.{Follows, Begins};
-ghost use Rattle.ho_procedure.specs.Procedure.{open_plan, clear_plan, remains, names_releases, release_messages};
+ghost use Rattle.ho_procedure.specs.Plan.{Plan, Follows, StopsIn, messages_then};
+ghost use Rattle.ho_procedure.specs.Procedure.{open_plan, clear_plan, is_own, names_releases, release_messages};
 ghost use Rattle.ho_procedure.specs.Handling.{all_sent, AreChoices, IsFresh};
 
 use super::release::{Release, is_nameable, serving_release, target_release};
@@ -24,7 +24,7 @@ pub(super) fn open<A: Allocator + Copy, B: Allocator + Copy>(
     requires { IsFresh handled.old }
     ensures row { OnOk result (Follows (open_plan call chan) handled.new.events.items
         handled.new.none_free (all_sent handled.new.out.items)) }
-    ensures begins { OnErr result (Begins (open_plan call chan) handled.new.events.items) }
+    ensures stops { OnErr result (StopsIn (open_plan call chan) handled.new.events.items) }
     ensures leads { Leads book.old handled.new.events.items book.new }
     ensures choices { AreChoices book.old handled.new.events.items }
     ensures none_free { handled.new.none_free ≡ None }
@@ -43,6 +43,8 @@ pub(super) fn release<A: Allocator + Copy>(
 ) -> Result<(), AllocError>
     ensures sent { OnOk result (all_sent handled.new.out.items ≡ all_sent handled.old.out.items ++
         release_messages release) }
+    ensures stops { OnErr result ((next : Plan) → StopsIn (messages_then (release_messages release)
+        next) []) }
     ensures events { handled.new.events ≡ handled.old.events }
     ensures none_free { handled.new.none_free ≡ handled.old.none_free }
 {
@@ -52,9 +54,9 @@ pub(super) fn release<A: Allocator + Copy>(
     }
 }
 
-/// The record of a call remains once its attempt was taken back.
-fn remains(attempt: Option<Attempt>) -> bool
-    ensures { result ≡ remains attempt }
+/// The call is one of this controller, which keeps its record once an attempt was taken back.
+fn is_own(attempt: Option<Attempt>) -> bool
+    ensures { result ≡ is_own attempt }
 {
     match attempt {
         Some(attempt) => matches!(attempt.kind, AttemptKind::Internal),
@@ -66,7 +68,7 @@ fn remains(attempt: Option<Attempt>) -> bool
 fn names_releases(shown: CallRecord, state: Option<ChanState>) -> bool
     ensures { result ≡ names_releases shown state }
 {
-    let serving_is_named = !remains(shown.attempt) || serving_release(shown, state).is_named();
+    let serving_is_named = !is_own(shown.attempt) || serving_release(shown, state).is_named();
     target_release(shown.attempt).is_named() && serving_is_named
 }
 
@@ -81,7 +83,7 @@ pub(super) fn clear<A: Allocator + Copy, B: Allocator + Copy>(
     requires { IsFresh handled.old }
     ensures row { OnOk result (Follows (clear_plan call) handled.new.events.items
         handled.new.none_free (all_sent handled.new.out.items)) }
-    ensures begins { OnErr result (Begins (clear_plan call) handled.new.events.items) }
+    ensures stops { OnErr result (StopsIn (clear_plan call) handled.new.events.items) }
     ensures leads { Leads book.old handled.new.events.items book.new }
     ensures choices { AreChoices book.old handled.new.events.items }
     ensures none_free { handled.new.none_free ≡ None }
@@ -103,7 +105,7 @@ pub(super) fn clear<A: Allocator + Copy, B: Allocator + Copy>(
         (shown, state) = (before, serving);
     }
     release(alloc, handled, target_release(shown.attempt))?;
-    if !remains(shown.attempt) {
+    if !is_own(shown.attempt) {
         return Ok(());
     }
     match ask(book, handled, Event::Clear(call))? {

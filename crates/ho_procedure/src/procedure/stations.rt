@@ -1,7 +1,7 @@
 //! Rows of the messages of stations.
 ghost use Rattle.std.specs.Prelude.{◌≡◌, None, OnOk, OnErr};
 ghost use Rattle.radio_book.specs.Run.{Leads};
-ghost use Rattle.ho_procedure.specs.Plan.{Follows, Begins, HasStep};
+ghost use Rattle.ho_procedure.specs.Plan.{Follows, StopsIn};
 ghost use Rattle.radio_book.specs.Sound.{target_in};
 ghost use Rattle.radio_book.specs.Table.{is_target};
 ghost use Rattle.ho_procedure.specs.Procedure.{chan_of, message_plan, confirm_plan, refuse_plan, released_plan};
@@ -37,9 +37,8 @@ pub(super) fn handle_message<A: Allocator + Copy, B: Allocator + Copy>(
     requires { IsFresh handled.old }
     ensures row { OnOk result (Follows (message_plan cell trx message.now)
         handled.new.events.items handled.new.none_free (all_sent handled.new.out.items)) }
-    ensures begins { OnErr result (Begins (message_plan cell trx message.now)
+    ensures stops { OnErr result (StopsIn (message_plan cell trx message.now)
         handled.new.events.items) }
-    ensures wanted { OnErr result (HasStep (message_plan cell trx message.now)) }
     ensures leads { Leads book.old handled.new.events.items book.new }
     ensures choices { AreChoices book.old handled.new.events.items }
     ensures none_free { handled.new.none_free ≡ None }
@@ -73,7 +72,7 @@ fn confirm<A: Allocator + Copy, B: Allocator + Copy>(
     requires { IsFresh handled.old }
     ensures row { OnOk result (Follows (confirm_plan chan) handled.new.events.items
         handled.new.none_free (all_sent handled.new.out.items)) }
-    ensures begins { OnErr result (Begins (confirm_plan chan) handled.new.events.items) }
+    ensures stops { OnErr result (StopsIn (confirm_plan chan) handled.new.events.items) }
     ensures leads { Leads book.old handled.new.events.items book.new }
     ensures choices { AreChoices book.old handled.new.events.items }
     ensures none_free { handled.new.none_free ≡ None }
@@ -103,7 +102,7 @@ fn refuse<A: Allocator + Copy, B: Allocator + Copy>(
     requires { IsFresh handled.old }
     ensures row { OnOk result (Follows (refuse_plan chan) handled.new.events.items
         handled.new.none_free (all_sent handled.new.out.items)) }
-    ensures begins { OnErr result (Begins (refuse_plan chan) handled.new.events.items) }
+    ensures stops { OnErr result (StopsIn (refuse_plan chan) handled.new.events.items) }
     ensures leads { Leads book.old handled.new.events.items book.new }
     ensures choices { AreChoices book.old handled.new.events.items }
     ensures none_free { handled.new.none_free ≡ None }
@@ -129,7 +128,7 @@ fn released<A: Allocator + Copy, B: Allocator + Copy>(
     requires { IsFresh handled.old }
     ensures row { OnOk result (Follows (released_plan chan) handled.new.events.items
         handled.new.none_free (all_sent handled.new.out.items)) }
-    ensures begins { OnErr result (Begins (released_plan chan) handled.new.events.items) }
+    ensures stops { OnErr result (StopsIn (released_plan chan) handled.new.events.items) }
     ensures leads { Leads book.old handled.new.events.items book.new }
     ensures choices { AreChoices book.old handled.new.events.items }
     ensures none_free { handled.new.none_free ≡ None }
