@@ -11,61 +11,61 @@ use Rattle.toml.specs.declared.value.Value.{Value}
 use Rattle.cell_table.specs.Site.{SiteView, IsCell, IsSite, IsWithinLimits, keeps_cell_rules, keeps_site_rules, names_broadcast, is_traffic}
 use Rattle.channel_fsm.specs.declared.ChanId.{ChanId}
 use Rattle.std.specs.List.{list_any}
-use Rattle.cell_table.specs.SiteFile.{each, only, array_at, natural_number, timeslot_of, trx_of, cell_of, site_of}
-use Rattle.cell_table.proofs.Told.{All-each, IsTold}
+use Rattle.cell_table.specs.SiteFile.{all_read, value_within, array_at, natural_number, timeslot_of, trx_of, cell_of, site_of}
+use Rattle.cell_table.proofs.Told.{All-all_read, IsTold}
 
 if_kept : {A : Type 0} (b : Bool) (x y : A) → (if b then Some x else None) ≡ Some y → (x ≡ y) × (b ≡ true)
 if_kept true x y e = (same_Some x y e, refl)
 if_kept false x y e = absurd (none-some y e)
 
 -- what was read and kept keeps its rule
-only_parts : {A : Type 0} (rule : A → Bool) (told : Option A) (x : A) → only rule told ≡ Some x → (told ≡ Some x) × (rule x ≡ true)
-only_parts rule None x e = absurd (none-some x e)
-only_parts rule (Some y) x e = let (same, kept) = if_kept (rule y) y x e in rw (← same) (refl, kept)
+value_within_parts : {A : Type 0} (rule : A → Bool) (told : Option A) (x : A) → value_within rule told ≡ Some x → (told ≡ Some x) × (rule x ≡ true)
+value_within_parts rule None x e = absurd (none-some x e)
+value_within_parts rule (Some y) x e = let (same, kept) = if_kept (rule y) y x e in rw (← same) (refl, kept)
 
 timeslot_range : (d : Data) (tn : ℕ) → timeslot_of d ≡ Some tn → tn < 8
 timeslot_range d tn e =
-    let (read, kept) = only_parts (λ n. nat_lt n 8) (option_and_then natural_number (as_integer d)) tn e in grind (arith, nat_tests)
+    let (read, kept) = value_within_parts (λ n. nat_lt n 8) (option_and_then natural_number (as_integer d)) tn e in grind (arith, nat_tests)
 
 trx_range : (d : Data) (trx : List ℕ) → trx_of d ≡ Some trx → All (λ tn. tn < 8) trx
 trx_range d trx e =
-    option_and_then_some (each timeslot_of) (array_at (codes "tch") d) trx e
-    (λ ds found told. All-each timeslot_of (λ tn. tn < 8) timeslot_range ds trx told)
+    option_and_then_some (all_read timeslot_of) (array_at (codes "tch") d) trx e
+    (λ ds found told. All-all_read timeslot_of (λ tn. tn < 8) timeslot_range ds trx told)
 
 cell_limits : (d : Data) (cell : List (List ℕ)) → cell_of d ≡ Some cell → IsCell cell
 cell_limits d cell e =
-    let (read, kept) = only_parts keeps_cell_rules (option_and_then (each trx_of) (array_at (codes "trx") d)) cell e in
+    let (read, kept) = value_within_parts keeps_cell_rules (option_and_then (all_read trx_of) (array_at (codes "trx") d)) cell e in
     record {
       rules = kept;
-      timeslot_range = option_and_then_some (each trx_of) (array_at (codes "trx") d) cell read
-          (λ ds found told. All-each trx_of (λ trx. All (λ tn. tn < 8) trx) trx_range ds cell told);
+      timeslot_range = option_and_then_some (all_read trx_of) (array_at (codes "trx") d) cell read
+          (λ ds found told. All-all_read trx_of (λ trx. All (λ tn. tn < 8) trx) trx_range ds cell told);
     }
 
 -- a document tells of no site beyond the limits
 pub site_limits : (d : Data) (site : SiteView) → site_of d ≡ Some site → IsSite site
 site_limits d site e =
-    let (read, kept) = only_parts keeps_site_rules (option_and_then (each cell_of) (array_at (codes "cell") d)) site e in
+    let (read, kept) = value_within_parts keeps_site_rules (option_and_then (all_read cell_of) (array_at (codes "cell") d)) site e in
     record {
       rules = kept;
-      each_cell = option_and_then_some (each cell_of) (array_at (codes "cell") d) site read
-          (λ ds found told. All-each cell_of IsCell cell_limits ds site told);
+      each_cell = option_and_then_some (all_read cell_of) (array_at (codes "cell") d) site read
+          (λ ds found told. All-all_read cell_of IsCell cell_limits ds site told);
     }
 
 if_some : {A : Type 0} (b : Bool) (x : A) → is_some (if b then Some x else None) ≡ true → (if b then Some x else None) ≡ Some x
 if_some true x e = refl
 if_some false x e = absurd (false≢true e)
 
-whole_kept : (told : Option SiteView) (kept : SiteView) → IsTold told kept → is_some (only keeps_site_rules told) ≡ true → only keeps_site_rules told ≡ Some kept
+whole_kept : (told : Option SiteView) (kept : SiteView) → IsTold told kept → is_some (value_within keeps_site_rules told) ≡ true → value_within keeps_site_rules told ≡ Some kept
 whole_kept None kept same e = absurd (false≢true e)
 whole_kept (Some site) kept same e = rw same (if_some (keeps_site_rules site) site e)
 
 -- where a document tells of a site, a loop over its cells has kept that
 pub site_kept : (found : Option Items) (vs : List Value) (i : ℕ) (kept : SiteView) → IfSome found (λ ds. items_view vs ≡ ds) → length vs ≤ i
-    → IsTold (each cell_of (items_view (take i vs))) kept → is_some (only keeps_site_rules (option_and_then (each cell_of) found)) ≡ true
-    → only keeps_site_rules (option_and_then (each cell_of) found) ≡ Some kept
+    → IsTold (all_read cell_of (items_view (take i vs))) kept → is_some (value_within keeps_site_rules (option_and_then (all_read cell_of) found)) ≡ true
+    → value_within keeps_site_rules (option_and_then (all_read cell_of) found) ≡ Some kept
 site_kept None vs i kept same end told e = absurd (false≢true e)
 site_kept (Some ds) vs i kept same end told e =
-    whole_kept (each cell_of ds) kept (rw (← same, ← take_all i vs end) told) e
+    whole_kept (all_read cell_of ds) kept (rw (← same, ← take_all i vs end) told) e
 
 within_any : (slots : List ℕ) (tn : ℕ) → All (λ n. n < 8) slots → list_any (λ n. n == tn) slots ≡ true → tn < 8
 within_any [] tn limits named = absurd (false≢true named)

@@ -8,7 +8,7 @@ use Rattle.std.specs.Option.{option_map_or}
 use Rattle.toml.specs.Data.{Data, Items, no_items, item}
 use Rattle.toml.specs.View.{view, items_view}
 use Rattle.toml.specs.declared.value.Value.{Value}
-use Rattle.cell_table.specs.SiteFile.{each}
+use Rattle.cell_table.specs.SiteFile.{all_read}
 
 -- what is read of a value before the others
 abbrev pub before : {A : Type 0} → Option A → Option (List A) → Option (List A)
@@ -20,9 +20,9 @@ is_some-before (Some x) None = refl
 is_some-before (Some x) (Some xs) = refl
 
 -- all can be read where each can
-pub is_some-each : {A : Type 0} (read : Data → Option A) (vs : List Value) → is_some (each read (items_view vs)) ≡ list_all (λ v. is_some (read (view v))) vs
-is_some-each read [] = refl
-is_some-each read (v ∷ vs) = is_some-before (read (view v)) (each read (items_view vs)) ∙ ap (λ b. is_some (read (view v)) && b) (is_some-each read vs)
+pub is_some-all_read : {A : Type 0} (read : Data → Option A) (vs : List Value) → is_some (all_read read (items_view vs)) ≡ list_all (λ v. is_some (read (view v))) vs
+is_some-all_read read [] = refl
+is_some-all_read read (v ∷ vs) = is_some-before (read (view v)) (all_read read (items_view vs)) ∙ ap (λ b. is_some (read (view v)) && b) (is_some-all_read read vs)
 
 -- what is read of one more value, after the others
 abbrev pub after : {A : Type 0} → Option (List A) → Option A → Option (List A)
@@ -38,9 +38,9 @@ one : {A : Type 0} (last : Option A) → before last (Some []) ≡ after (Some [
 one None = refl
 one (Some x) = refl
 
-pub each-push : {A : Type 0} (read : Data → Option A) (vs : List Value) (v : Value) → each read (items_view (vs ++ v ∷ [])) ≡ after (each read (items_view vs)) (read (view v))
-each-push read [] v = one (read (view v))
-each-push read (w ∷ vs) v = ap (before (read (view w))) (each-push read vs v) ∙ before-after (read (view w)) (each read (items_view vs)) (read (view v))
+pub all_read-push : {A : Type 0} (read : Data → Option A) (vs : List Value) (v : Value) → all_read read (items_view (vs ++ v ∷ [])) ≡ after (all_read read (items_view vs)) (read (view v))
+all_read-push read [] v = one (read (view v))
+all_read-push read (w ∷ vs) v = ap (before (read (view w))) (all_read-push read vs v) ∙ before-after (read (view w)) (all_read read (items_view vs)) (read (view v))
 
 -- a list of what was kept is what is told, if anything is
 abbrev pub IsTold : {A : Type 0} → Option A → A → Type 0
@@ -53,9 +53,9 @@ IsTold-after (Some ys) (Some y) xs x a b = rw (a, b) refl
 
 -- a loop's step that keeps what is told by one more value
 pub IsTold-push : {A : Type 0} (read : Data → Option A) (vs : List Value) (i : ℕ) (v : Value) (xs : List A) (x : A) → i < length vs → v ≡ get_or vs i v
-    → IsTold (each read (items_view (take i vs))) xs → IsTold (read (view v)) x → IsTold (each read (items_view (take (i + 1) vs))) (xs ++ x ∷ [])
+    → IsTold (all_read read (items_view (take i vs))) xs → IsTold (read (view v)) x → IsTold (all_read read (items_view (take (i + 1) vs))) (xs ++ x ∷ [])
 IsTold-push read vs i v xs x within at a b =
-    rw (take_more vs i v within, ← at, each-push read (take i vs) v) (IsTold-after (each read (items_view (take i vs))) (read (view v)) xs x a b)
+    rw (take_more vs i v within, ← at, all_read-push read (take i vs) v) (IsTold-after (all_read read (items_view (take i vs))) (read (view v)) xs x a b)
 
 IsTold-never : {A : Type 0} (others : Option (List A)) (last : Option A) (xs : List A) → last ≡ None → IsTold (after others last) xs
 IsTold-never None last xs no_last = tt
@@ -63,9 +63,9 @@ IsTold-never (Some ys) last xs no_last = rw no_last tt
 
 -- a loop's step over a value that tells nothing
 pub IsTold-skip : {A : Type 0} (read : Data → Option A) (vs : List Value) (i : ℕ) (v : Value) (xs : List A) → i < length vs → v ≡ get_or vs i v
-    → read (view v) ≡ None → IsTold (each read (items_view (take (i + 1) vs))) xs
+    → read (view v) ≡ None → IsTold (all_read read (items_view (take (i + 1) vs))) xs
 IsTold-skip read vs i v xs within at nothing =
-    rw (take_more vs i v within, ← at, each-push read (take i vs) v) (IsTold-never (each read (items_view (take i vs))) (read (view v)) xs nothing)
+    rw (take_more vs i v within, ← at, all_read-push read (take i vs) v) (IsTold-never (all_read read (items_view (take i vs))) (read (view v)) xs nothing)
 
 -- what was read begins with what the first value tells
 before_parts : {A P : Type 0} (first : Option A) (rest : Option (List A)) (xs : List A) → before first rest ≡ Some xs
@@ -74,30 +74,30 @@ before_parts None rest xs told go = absurd (none-some xs told)
 before_parts (Some y) None xs told go = absurd (none-some xs told)
 before_parts (Some y) (Some ys) xs told go = go y ys refl refl (sym (same_Some _ _ told))
 
-pub length-each : {A : Type 0} (read : Data → Option A) (vs : List Value) (xs : List A) → each read (items_view vs) ≡ Some xs → length xs ≡ length vs
-length-each read [] xs told = rw (← same_Some _ _ told) refl
-length-each read (v ∷ vs) xs told =
-    before_parts (read (view v)) (each read (items_view vs)) xs told (λ y ys first rest e. rw e (ap (λ n. suc n) (length-each read vs ys rest)))
+pub length-all_read : {A : Type 0} (read : Data → Option A) (vs : List Value) (xs : List A) → all_read read (items_view vs) ≡ Some xs → length xs ≡ length vs
+length-all_read read [] xs told = rw (← same_Some _ _ told) refl
+length-all_read read (v ∷ vs) xs told =
+    before_parts (read (view v)) (all_read read (items_view vs)) xs told (λ y ys first rest e. rw e (ap (λ n. suc n) (length-all_read read vs ys rest)))
 
 -- the first of what was read is what the first value tells
-pub first-each : {A : Type 0} (read : Data → Option A) (vs : List Value) (d : Value) (xs : List A) → 0 < length vs → each read (items_view vs) ≡ Some xs
+pub first-all_read : {A : Type 0} (read : Data → Option A) (vs : List Value) (d : Value) (xs : List A) → 0 < length vs → all_read read (items_view vs) ≡ Some xs
     → read (view (get_or vs 0 d)) ≡ slice_get xs 0
-first-each read [] d xs some told = absurd (omega arith)
-first-each read (v ∷ vs) d xs some told =
-    before_parts (read (view v)) (each read (items_view vs)) xs told (λ y ys first rest e. rw e first)
+first-all_read read [] d xs some told = absurd (omega arith)
+first-all_read read (v ∷ vs) d xs some told =
+    before_parts (read (view v)) (all_read read (items_view vs)) xs told (λ y ys first rest e. rw e first)
 
 -- a test of what each value tells, where each tells something
-pub list_any-each : {A : Type 0} (read : Data → Option A) (test : A → Bool) (vs : List Value) (xs : List A) → each read (items_view vs) ≡ Some xs
+pub list_any-all_read : {A : Type 0} (read : Data → Option A) (test : A → Bool) (vs : List Value) (xs : List A) → all_read read (items_view vs) ≡ Some xs
     → list_any (λ v. option_map_or test (read (view v)) false) vs ≡ list_any test xs
-list_any-each read test [] xs told = rw (← same_Some _ _ told) refl
-list_any-each read test (v ∷ vs) xs told =
-    before_parts (read (view v)) (each read (items_view vs)) xs told
-    (λ y ys first rest e. rw (e, first, list_any-each read test vs ys rest) refl)
+list_any-all_read read test [] xs told = rw (← same_Some _ _ told) refl
+list_any-all_read read test (v ∷ vs) xs told =
+    before_parts (read (view v)) (all_read read (items_view vs)) xs told
+    (λ y ys first rest e. rw (e, first, list_any-all_read read test vs ys rest) refl)
 
 -- what holds of each thing that can be read holds of each that was
-pub All-each : {A : Type 0} (read : Data → Option A) (P : A → Type 0) → ((d : Data) (x : A) → read d ≡ Some x → P x)
-    → (ds : Items) (xs : List A) → each read ds ≡ Some xs → All P xs
-All-each read P holds no_items xs told = rw (← same_Some _ _ told) (All-nil P)
-All-each read P holds (item d ds) xs told =
-    before_parts (read d) (each read ds) xs told
-    (λ y ys first rest e. rw e (All-cons P y ys (holds d y first) (All-each read P holds ds ys rest)))
+pub All-all_read : {A : Type 0} (read : Data → Option A) (P : A → Type 0) → ((d : Data) (x : A) → read d ≡ Some x → P x)
+    → (ds : Items) (xs : List A) → all_read read ds ≡ Some xs → All P xs
+All-all_read read P holds no_items xs told = rw (← same_Some _ _ told) (All-nil P)
+All-all_read read P holds (item d ds) xs told =
+    before_parts (read d) (all_read read ds) xs told
+    (λ y ys first rest e. rw e (All-cons P y ys (holds d y first) (All-all_read read P holds ds ys rest)))

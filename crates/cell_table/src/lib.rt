@@ -5,7 +5,7 @@ ghost use Rattle.std.specs.Prelude.{◌≡◌, ◌==◌, ◌&&◌, Some, None, t
 ghost use Rattle.std.specs.List.{list_any};
 ghost use Rattle.toml.specs.View.{view, array_view, items_view};
 ghost use Rattle.cell_table.specs.Site.{IsSite, IsWithinLimits, is_traffic};
-ghost use Rattle.cell_table.specs.SiteFile.{each, array_at, timeslot_of, trx_of, cell_of, site_of, described_site, IsBlankFile};
+ghost use Rattle.cell_table.specs.SiteFile.{all_read, array_at, timeslot_of, trx_of, cell_of, site_of, described_site, IsBlankFile};
 
 use channel_fsm::ChanId;
 use std::alloc::{AllocError, Allocator, Global};
@@ -202,7 +202,7 @@ fn is_trx(value: &Value) -> bool
 
 /// Whether each value describes a TRX.
 fn are_trx(values: &[Value]) -> bool
-    ensures { result ≡ is_some (each trx_of (items_view values.now)) }
+    ensures { result ≡ is_some (all_read trx_of (items_view values.now)) }
 {
     values.iter().all(is_trx)
 }
@@ -235,7 +235,7 @@ fn is_cell(value: &Value) -> bool
 
 /// Whether each value describes a cell.
 fn are_cells(values: &[Value]) -> bool
-    ensures { result ≡ is_some (each cell_of (items_view values.now)) }
+    ensures { result ≡ is_some (all_read cell_of (items_view values.now)) }
 {
     values.iter().all(is_cell)
 }

@@ -227,6 +227,7 @@ pub fn print_handled<A: Allocator, W: Write>(out: &mut W, handled: &Handled<A>) 
     Ok(())
 }
 
+/// Prints the events in their order, each with its reply.
 fn print_events<W: Write>(out: &mut W, events: &[(Event, Reply)]) -> io::Result<()> {
     for (event, reply) in events {
         writeln!(out, "event {} -> {}", EventText(*event), ReplyText(*reply))?;
