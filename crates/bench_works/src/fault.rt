@@ -29,7 +29,7 @@ pub enum Fault {
 impl Fault {
     /// The status that the program ends with.
     pub fn status(self) -> u8
-        ensures { result ≡ status_of self }
+        ensures status { result ≡ status_of self }
     {
         match self {
             Fault::Setting => 1,

@@ -55,7 +55,7 @@ impl Work {
 
     /// The name by which the command line calls it.
     pub fn name(self) -> &'static str
-        ensures { result.now ≡ name_of self }
+        ensures name { result.now ≡ name_of self }
     {
         match self {
             Work::DecodeActivation => "chan_act.dec",

@@ -6,10 +6,10 @@ use std::alloc::Allocator;
 /// Octets have one reading: a text has one value and no fault but want of memory; what is no text
 /// has one fault.
 pub fn reading_is_unique<A: Allocator>()
-    ensures { ReadingIsUnique A }
+    ensures unique { ReadingIsUnique A }
 {}
 
 /// The canonical text of a message is a text of it, so what is written is read back as its value.
 pub fn canonical_is_text<A: Allocator>()
-    ensures { CanonicalIsText A }
+    ensures text { CanonicalIsText A }
 {}

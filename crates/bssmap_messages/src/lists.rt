@@ -23,7 +23,7 @@ impl<A: Allocator + Copy> Octets<A> {
     /// A list of these octets.
     #[inline(always)]
     pub fn new(alloc: A, octets: &[u8]) -> Result<Self, AllocError>
-        ensures { IfOk result (λ o. o ≡ octets.now) }
+        ensures octets { IfOk result (λ o. o ≡ octets.now) }
     {
         Ok(Octets {
             octets: Vec::from_slice(alloc, octets)?,
@@ -32,7 +32,7 @@ impl<A: Allocator + Copy> Octets<A> {
 
     /// Its octets.
     pub fn as_slice(&self) -> &[u8]
-        ensures { result.now ≡ self.now }
+        ensures octets { result.now ≡ self.now }
     {
         self.octets.as_slice()
     }
@@ -56,7 +56,7 @@ impl<A: Allocator> Model for CellList<A> {
 impl<A: Allocator + Copy> CellList<A> {
     /// A list of these cells.
     pub fn new(alloc: A, cells: &[CellId]) -> Result<Self, AllocError>
-        ensures { IfOk result (λ o. o ≡ cells.now) }
+        ensures cells { IfOk result (λ o. o ≡ cells.now) }
     {
         Ok(CellList {
             cells: Vec::from_slice(alloc, cells)?,
@@ -72,7 +72,7 @@ impl<A: Allocator + Copy> CellList<A> {
 
     /// Its cells.
     pub fn as_slice(&self) -> &[CellId]
-        ensures { result.now ≡ self.now }
+        ensures cells { result.now ≡ self.now }
     {
         self.cells.as_slice()
     }

@@ -22,7 +22,7 @@ use std::alloc::{AllocError, Allocator};
 /// Whether the message has a canonical text.
 #[tactic(auto, using(crate::proofs::Written::canonical_of, crate::proofs::Written::writable_of))]
 pub fn fits<A: Allocator + Copy>(message: &Bssmap<A>) -> bool
-    ensures { IsTrue result ↔ HasCanonical message.now }
+    ensures canonical { IsTrue result ↔ HasCanonical message.now }
 {
     is_writable(message)
 }
@@ -384,7 +384,7 @@ pub fn encode_into<A: Allocator + Copy>(
 /// The canonical text of a message.
 pub fn encode<A: Allocator + Copy>(alloc: A, message: &Bssmap<A>) -> Result<Vec<u8, A>, AllocError>
     requires { HasCanonical message.now }
-    ensures { IfOk result (λ text. text.items ≡ canonical_text message.now) }
+    ensures text { IfOk result (λ text. text.items ≡ canonical_text message.now) }
 {
     let mut text = Vec::new(alloc);
     encode_into(message, &mut text)?;

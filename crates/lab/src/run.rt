@@ -79,7 +79,7 @@ fn status_after(fault: LabFault) -> u8
 /// The status that a program ends with: 0 where the work is done, 2 where something was refused or the output couldn't
 /// be written, 3 where memory was refused.
 pub fn exit_status(ended: Result<Status, LabFault>) -> u8
-    ensures { result ≡ exit_status_of ended }
+    ensures status { result ≡ exit_status_of ended }
 {
     match ended {
         Ok(status) => status_of(status),

@@ -152,7 +152,7 @@ fn is_hex_digits(text: &str) -> bool
 
 /// Whether the text is one octet or more, each in two hexadecimal digits.
 pub fn is_octets(text: &str) -> bool
-    ensures { result ≡ is_some (said.octets_of text.now) }
+    ensures read { result ≡ is_some (said.octets_of text.now) }
 {
     !text.is_empty() && text.len() % 2 == 0 && is_hex_digits(text)
 }
@@ -237,7 +237,7 @@ fn input<A: Allocator + Copy>(alloc: A, line: &str) -> Result<Option<Inbound<A>>
 
 /// The number of the first line that can't be read, counted from 1.
 pub fn first_unread(text: &str) -> Option<usize>
-    ensures { result ≡ said.first_unread text.now }
+    ensures line { result ≡ said.first_unread text.now }
 {
     let index = text.split('\n').position(|line| is_unread(line))?;
     Some(index + 1)

@@ -16,7 +16,7 @@ pub enum ElementFault {
 /// The value's first octet.
 #[inline]
 pub fn octet(identifier: u8, value: Option<&[u8]>) -> Result<u8, ElementFault>
-    ensures { result ≡ octet_in identifier (value_seen value.entry) }
+    ensures said { result ≡ octet_in identifier (value_seen value.entry) }
 {
     match value {
         None => Err(ElementFault::Absent(identifier)),
@@ -28,7 +28,7 @@ pub fn octet(identifier: u8, value: Option<&[u8]>) -> Result<u8, ElementFault>
 /// The value's first octet, where the element is there.
 #[inline]
 pub fn optional_octet(identifier: u8, value: Option<&[u8]>) -> Result<Option<u8>, ElementFault>
-    ensures { result ≡ optional_octet_in identifier (value_seen value.entry) }
+    ensures said { result ≡ optional_octet_in identifier (value_seen value.entry) }
 {
     match value {
         None => Ok(None),
@@ -39,7 +39,7 @@ pub fn optional_octet(identifier: u8, value: Option<&[u8]>) -> Result<Option<u8>
 /// The number of two octets, the high one first.
 #[inline]
 pub fn pair_of(high: u8, low: u8) -> u16
-    ensures { result ≡ pair high low }
+    ensures value { result ≡ pair high low }
 {
     256 * u16::from(high) + u16::from(low)
 }
@@ -47,7 +47,7 @@ pub fn pair_of(high: u8, low: u8) -> u16
 /// The value's first two octets, a number with the high one first.
 #[inline]
 pub fn pair(identifier: u8, value: Option<&[u8]>) -> Result<u16, ElementFault>
-    ensures { result ≡ pair_in identifier (value_seen value.entry) }
+    ensures said { result ≡ pair_in identifier (value_seen value.entry) }
 {
     match value {
         None => Err(ElementFault::Absent(identifier)),
@@ -59,7 +59,7 @@ pub fn pair(identifier: u8, value: Option<&[u8]>) -> Result<u16, ElementFault>
 /// A number as two octets, the high one first.
 #[inline]
 pub fn pair_octets(number: u16) -> [u8; 2]
-    ensures { result ≡ pair_octets number }
+    ensures octets { result ≡ pair_octets number }
 {
     [(number / 256) as u8, (number % 256) as u8]
 }

@@ -55,7 +55,7 @@ pub enum Refusals {
 impl Refusals {
     /// Whether the request of this number is one of them.
     pub fn refuses(self, number: u64) -> bool
-        ensures { IsTrue result ↔ IsRefused self number }
+        ensures refused { IsTrue result ↔ IsRefused self number }
     {
         match self {
             Refusals::Never => false,
@@ -123,7 +123,7 @@ impl<A: Allocator> RefusingHeap<A> {
 
     /// A heap that passes its requests on to `heap`, but for these refusals.
     pub fn new(heap: A, refusals: Refusals) -> Self
-        ensures { refusals_of result ≡ refusals }
+        ensures refusals { refusals_of result ≡ refusals }
     {
         RefusingHeap {
             heap,
@@ -133,28 +133,28 @@ impl<A: Allocator> RefusingHeap<A> {
 
     /// A heap that refuses no request, until [`RefusingHeap::refuse_from_now`].
     pub fn ample(heap: A) -> Self
-        ensures { refusals_of result ≡ Never }
+        ensures refusals { refusals_of result ≡ Never }
     {
         RefusingHeap::new(heap, Refusals::Never)
     }
 
     /// A heap that refuses the n-th request alone, counted from 1.
     pub fn refusing_nth(heap: A, n: u64) -> Self
-        ensures { refusals_of result ≡ Nth n }
+        ensures refusals { refusals_of result ≡ Nth n }
     {
         RefusingHeap::new(heap, Refusals::Nth(n))
     }
 
     /// A heap that refuses the n-th request, counted from 1, and each later one.
     pub fn refusing_from(heap: A, n: u64) -> Self
-        ensures { refusals_of result ≡ From n }
+        ensures refusals { refusals_of result ≡ From n }
     {
         RefusingHeap::new(heap, Refusals::From(n))
     }
 
     /// The refusals that this heap was made with.
     pub fn refusals(&self) -> Refusals
-        ensures { result ≡ refusals_of self.now }
+        ensures refusals { result ≡ refusals_of self.now }
     {
         self.ration.refusals
     }

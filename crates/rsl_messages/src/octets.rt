@@ -22,7 +22,7 @@ impl<A: Allocator + Copy> Octets<A> {
     /// A list of these octets.
     #[inline(always)]
     pub fn new(alloc: A, octets: &[u8]) -> Result<Self, AllocError>
-        ensures { IfOk result (λ o. o ≡ octets.now) }
+        ensures octets { IfOk result (λ o. o ≡ octets.now) }
     {
         Ok(Octets {
             items: Vec::from_slice(alloc, octets)?,
@@ -33,7 +33,7 @@ impl<A: Allocator + Copy> Octets<A> {
 impl<A: Allocator> Octets<A> {
     /// Its octets.
     pub fn as_slice(&self) -> &[u8]
-        ensures { result.now ≡ self.now }
+        ensures octets { result.now ≡ self.now }
     {
         self.items.as_slice()
     }

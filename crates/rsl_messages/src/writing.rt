@@ -24,7 +24,7 @@ use std::alloc::{AllocError, Allocator};
 /// Whether the fields of the message can be written.
 #[tactic(auto, using(crate::proofs::Written::canonical_of, crate::proofs::Written::writable_of))]
 pub fn fits<A: Allocator>(message: &Rsl<A>) -> bool
-    ensures { IsTrue result ↔ HasCanonical message.now }
+    ensures canonical { IsTrue result ↔ HasCanonical message.now }
 {
     is_writable(message)
 }
@@ -327,7 +327,7 @@ pub fn encode_into<A: Allocator>(message: &Rsl<A>, out: &mut Vec<u8, A>) -> Resu
 /// The canonical text of a message.
 pub fn encode<A: Allocator + Copy>(alloc: A, message: &Rsl<A>) -> Result<Vec<u8, A>, AllocError>
     requires { HasCanonical message.now }
-    ensures { IfOk result (λ text. text.items ≡ canonical_text message.now) }
+    ensures text { IfOk result (λ text. text.items ≡ canonical_text message.now) }
 {
     let mut text = Vec::new(alloc);
     encode_into(message, &mut text)?;

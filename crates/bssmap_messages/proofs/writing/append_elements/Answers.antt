@@ -10,7 +10,7 @@ pub append_required-requires-clause-room : goal.append_required-requires-clause-
 append_required-requires-clause-room g c =
     let arm = c.in-HandoverRequired in
     let long = required_length arm.cause arm.response arm.cells in
-    let cells : length c.as_slice.result.now ≡ length arm.cells = ap length c.as_slice.ensures in
+    let cells : length c.as_slice.result.now ≡ length arm.cells = ap length c.as_slice.ensures.cells in
     let room = rw arm.is at c.requires.room in
     omega arith
 

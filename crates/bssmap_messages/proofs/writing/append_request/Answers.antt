@@ -7,4 +7,4 @@ use Rattle.bssmap_messages.proofs.writing.append_request.Goals as goal
 
 pub returns : goal.returns
 returns g c = five_appended _ _ _ _ _ _ _ _ _ _ _ c.append_element.ensures.items c.append_element-2.ensures.items c.append_classmark.ensures.items c.append_cell.ensures.items c.append_cell-2.ensures.items ∙
-    (λ i. c.args.out.now.items ++ all_octets interface_a ((0x0B, c.as_slice.ensures i) ∷ (0x0A, c.as_slice-2.ensures i) ∷ classmark_element c.args.classmark.now ∷ (0x05, cell_value c.args.serving) ∷ (0x05, cell_value c.args.target) ∷ []))
+    (λ i. c.args.out.now.items ++ all_octets interface_a ((0x0B, c.as_slice.ensures.octets i) ∷ (0x0A, c.as_slice-2.ensures.octets i) ∷ classmark_element c.args.classmark.now ∷ (0x05, cell_value c.args.serving) ∷ (0x05, cell_value c.args.target) ∷ []))

@@ -2,4 +2,4 @@ use Rattle.octet_elements.proofs.Splits.{one_split}
 use Rattle.octet_elements.proofs.laws.split_is_unique.Goals as goal
 
 pub returns : goal.returns
-returns c = one_split
+returns c = record { unique = one_split }
