@@ -96,7 +96,7 @@ serving_release r s = release_of r.serving
 abbrev pub open_plan : ℕ → ChanId → Plan
 open_plan c x = Asks (event.Open c x) (if_done (if_nameable x (Sends (activation x) Ends)))
 
--- A handover begins: a channel is taken, a reference reserved, the channel activated.
+-- A handover begins (TS 44.018 clause 3.4.4): a channel is taken, a reference reserved, the channel activated.
 abbrev pub start_reserved : ℕ → ChanId → ℕ → Plan
 start_reserved c x n = Asks (event.Activate c) (if_done (Sends (target_activation x n) Ends))
 
@@ -147,7 +147,7 @@ clear_looked c r s = if is_some r.attempt then Asks (event.Undo c Asked) (if_rec
 abbrev pub clear_plan : ℕ → Plan
 clear_plan c = Asks (event.Look c) (if_record (if_names_releases (clear_looked c)))
 
--- CHANNEL ACTIVATION ACKNOWLEDGE
+-- CHANNEL ACTIVATION ACKNOWLEDGE (clause 8.4.2)
 abbrev pub confirm_plan : ChanId → Plan
 confirm_plan x = Asks (event.Confirm x) (if_owned (λ c. Asks (event.Look c) nothing_more))
 
@@ -155,11 +155,11 @@ confirm_plan x = Asks (event.Confirm x) (if_owned (λ c. Asks (event.Look c) not
 abbrev pub refuse_looked : ChanId → ℕ → CallRecord → Option ChanState → Plan
 refuse_looked x c r s = if is_target x (target_in r) then Asks (event.Undo c Asked) nothing_more else Ends
 
--- CHANNEL ACTIVATION NEGATIVE ACKNOWLEDGE
+-- CHANNEL ACTIVATION NEGATIVE ACKNOWLEDGE (clause 8.4.3)
 abbrev pub refuse_plan : ChanId → Plan
 refuse_plan x = Asks (event.Refuse x) (if_owned (λ c. Asks (event.Look c) (if_record (refuse_looked x c))))
 
--- RF CHANNEL RELEASE ACKNOWLEDGE
+-- RF CHANNEL RELEASE ACKNOWLEDGE (clause 8.4.19)
 abbrev pub released_plan : ChanId → Plan
 released_plan x = Asks (event.Released x) nothing_more
 

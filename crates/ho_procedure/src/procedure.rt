@@ -1,5 +1,5 @@
 //! The procedure: what the controller asks of the book for each input, and what it sends.
-ghost use Rattle.std.specs.Prelude.{◌≡◌, ◌≢◌, List, Err, IfOk, IfSome};
+ghost use Rattle.std.specs.Prelude.{◌≡◌, ◌≢◌, ◌↔◌, List, Err, IfOk, IfSome};
 ghost use Rattle.radio_book.specs.declared.event.Event.{Event};
 ghost use Rattle.radio_book.specs.declared.event.Reply.{Reply};
 ghost use Rattle.radio_book.specs.Run.{Leads};
@@ -33,12 +33,8 @@ pub fn handle_plain<A: Allocator + Copy, B: Allocator + Copy>(
     ensures leads { IfOk result (λ handled. Leads book.old handled.events.items book.new) }
     ensures choices { IfOk result (λ handled. AreChoices book.old handled.events.items) }
     ensures none_free { IfOk result (λ handled. IfSome handled.none_free (NoneFree book.old)) }
-    ensures undecoded { (f : RslFault) → result ≡ Err (PlainFault.Undecoded f) →
-        HasFaultIn {A = A} (input) f }
-    ensures not_memory { (f : RslFault) → result ≡ Err (PlainFault.Undecoded f) →
-        f ≢ RslFault.NoMemory }
-    ensures decoded { (f : RslFault) → f ≢ RslFault.NoMemory → HasFaultIn {A = A} (input) f →
-        result ≡ Err (PlainFault.Undecoded f) }
+    ensures undecoded { (f : RslFault) → (result ≡ Err (PlainFault.Undecoded f)) ↔
+        ((f ≢ RslFault.NoMemory) × HasFaultIn {A = A} (input) f) }
     ensures unchanged { (f : RslFault) → result ≡ Err (PlainFault.Undecoded f) →
         book.new ≡ book.old }
     ensures memory { result ≡ Err PlainFault.NoMemory →
