@@ -1,11 +1,12 @@
 //! Laws of the elements' texts.
 ghost use Rattle.std.specs.Prelude.{◌≡◌, ℕ, List, ◌<◌, ◌^◌};
-ghost use Rattle.rr_elements.specs.CellDescription.{Cell, CellFits, IsCellText, cell_text};
-ghost use Rattle.rr_elements.specs.ChanDescription.{Chan, ChanFits, IsChanText, chan_text};
-ghost use Rattle.rr_elements.specs.Power.{PowerCommand, PowerFits, IsPowerText, power_text};
-ghost use Rattle.rr_elements.specs.RrCause.{IsCauseText, cause_text};
+ghost use Rattle.rr_elements.specs.Faults.{HasOtherLength, FaultIsUnique};
+ghost use Rattle.rr_elements.specs.CellDescription.{Cell, CellFits, IsCellText, cell_text, cell_widths};
+ghost use Rattle.rr_elements.specs.ChanDescription.{Chan, ChanFits, IsChanText, chan_text, HasChanFault};
+ghost use Rattle.rr_elements.specs.Power.{PowerCommand, PowerFits, IsPowerText, power_text, power_widths};
+ghost use Rattle.rr_elements.specs.RrCause.{IsCauseText, cause_text, cause_widths};
 ghost use Rattle.rr_elements.specs.declared.cause.RrCause.{RrCause};
-ghost use Rattle.rr_elements.specs.MeasResults.{Results, ResultsFit, IsResultsText, results_text};
+ghost use Rattle.rr_elements.specs.MeasResults.{Results, ResultsFit, IsResultsText, results_text, results_widths};
 
 /// What is written of a value is a text of it.
 pub fn has_text()
@@ -28,4 +29,13 @@ pub fn one_value()
         IsCauseText w octets → v ≡ w }
     ensures results { (v w : Results) (octets : List ℕ) → IsResultsText v octets →
         IsResultsText w octets → v ≡ w }
+{}
+
+/// A text has no fault, and no octets have two.
+pub fn one_fault()
+    ensures cell { FaultIsUnique IsCellText (HasOtherLength cell_widths) }
+    ensures channel { FaultIsUnique IsChanText HasChanFault }
+    ensures power { FaultIsUnique IsPowerText (HasOtherLength power_widths) }
+    ensures cause { FaultIsUnique IsCauseText (HasOtherLength cause_widths) }
+    ensures results { FaultIsUnique IsResultsText (HasOtherLength results_widths) }
 {}
