@@ -13,7 +13,7 @@ use rr_elements::{CellDescription, ChanDescription, ElementFault, MeasResults, P
 pub(crate) const RADIO_RESOURCES: u8 = 6;
 
 fn command(part: &[u8]) -> Result<Rr, ElementFault>
-    requires { length part.now ≡ 7 }
+    requires { length part.now ≡ part_len CommandKind }
     ensures part { IfOk result (λ v. IsPart v part.now) }
     ensures kind { IfOk result (λ v. kind_of v ≡ CommandKind) }
     ensures fault { IfErr result (HasPartFault CommandKind part.now) }
@@ -35,7 +35,7 @@ fn command(part: &[u8]) -> Result<Rr, ElementFault>
 // It isn't inlined: else the fields of each message are moved as if it had those of results too.
 #[inline(never)]
 fn report(part: &[u8]) -> Result<Rr, RrFault>
-    requires { length part.now ≡ 16 }
+    requires { length part.now ≡ part_len ReportKind }
     ensures part { IfOk result (λ v. IsPart v part.now) }
     ensures kind { IfOk result (λ v. kind_of v ≡ ReportKind) }
     ensures ok { IsOk result }
