@@ -1,7 +1,7 @@
 -- What is wrong with octets: a text has no fault, and no octets have two.
-use Rattle.std.proofs.Common.{◌≡◌, ◌≢◌, ◌∙◌, sym, ℕ, ◌*◌, ◌==◌, false, List, length, take, drop, refl, arith, Err}
+use Rattle.std.proofs.Common.{◌≡◌, ◌≢◌, ◌∙◌, sym, ℕ, ◌*◌, ◌==◌, false, List, [], ◌∷◌, length, take, drop, refl, ap, arith, Err}
 use Rattle.std.proofs.lemmas.Bool.Decides.{nat_tests}
-use Rattle.rr_elements.specs.Bits.{bits_of, number_of}
+use Rattle.rr_elements.specs.Bits.{bits_of, number_of, total}
 use Rattle.rr_elements.specs.Faults.{HasOtherLength}
 use Rattle.rr_elements.specs.Fields.{AreFields}
 use Rattle.rr_elements.specs.ChanDescription.{Chan, IsChanText, HasChanFault}
@@ -10,20 +10,20 @@ use Rattle.rr_elements.specs.declared.fault.ElementFault.TheVariants.{Length, Ba
 use Rattle.rr_elements.proofs.ElementLemmas.{chan-said}
 use Rattle.rr_elements.proofs.Readers.{chan_said}
 
-is_length : (widths octets : List ℕ) (fault : ElementFault) → HasOtherLength widths octets fault → fault ≡ Length
-is_length widths octets Length h = refl
-is_length widths octets BadType h = absurd h
-is_length widths octets Hopping h = absurd h
-is_length widths octets BadRange h = absurd h
+is_length : (count : ℕ) (octets : List ℕ) (fault : ElementFault) → HasOtherLength count octets fault → fault ≡ Length
+is_length count octets Length h = refl
+is_length count octets BadType h = absurd h
+is_length count octets Hopping h = absurd h
+is_length count octets BadRange h = absurd h
 
-pub one_length : (widths octets : List ℕ) (f g : ElementFault) → HasOtherLength widths octets f → HasOtherLength widths octets g → f ≡ g
-one_length widths octets f g p q = is_length widths octets f p ∙ sym (is_length widths octets g q)
+pub one_length : (count : ℕ) (octets : List ℕ) (f g : ElementFault) → HasOtherLength count octets f → HasOtherLength count octets g → f ≡ g
+one_length count octets f g p q = is_length count octets f p ∙ sym (is_length count octets g q)
 
-pub fields_have_length : (widths numbers octets : List ℕ) (fault : ElementFault) → AreFields widths numbers octets → HasOtherLength widths octets fault → ⊥
-fields_have_length widths numbers octets Length fields other = other fields.len
-fields_have_length widths numbers octets BadType fields h = h
-fields_have_length widths numbers octets Hopping fields h = h
-fields_have_length widths numbers octets BadRange fields h = h
+pub fields_have_length : (count : ℕ) (widths numbers octets : List ℕ) (fault : ElementFault) → total widths ≡ 8 * count → AreFields widths numbers octets → HasOtherLength count octets fault → ⊥
+fields_have_length count widths numbers octets Length whole fields other = let len = fields.len in other (omega arith)
+fields_have_length count widths numbers octets BadType whole fields h = h
+fields_have_length count widths numbers octets Hopping whole fields h = h
+fields_have_length count widths numbers octets BadRange whole fields h = h
 
 pub differs : (a b : ℕ) → a ≢ b → (a == b) ≡ false
 differs a b h = grind (arith, nat_tests)
@@ -31,17 +31,14 @@ differs a b h = grind (arith, nat_tests)
 three_octets : (n : ℕ) → 8 * n ≡ 24 → n ≡ 3
 three_octets n e = omega arith
 
-other_octets : (n : ℕ) → 8 * n ≢ 24 → n ≢ 3
-other_octets n h = omega arith
-
 -- octets with a fault are read as it
 pub chan-fault : (octets : List ℕ) (fault : ElementFault) → HasChanFault octets fault → chan_said octets ≡ Err fault
-chan-fault octets Length other = rw (differs (length octets) 3 (other_octets (length octets) other)) refl
-chan-fault octets BadType (kind, rest, fields, not) =
-    let pieces = fields.pieces in
-    let here : number_of (take 5 (bits_of octets)) ≡ kind = cc in
-    rw (three_octets (length octets) fields.len, here, differs kind 1 not) refl
-chan-fault octets Hopping (tn, tsc, rest, fields) =
+chan-fault octets Length other = rw (differs (length octets) 3 other) refl
+chan-fault octets BadType (three, not) =
+    let kind = number_of (take 5 (bits_of octets)) in
+    let other : kind ≢ 1 = λ is. not (record { len = omega arith; pieces = ap (λ n. n ∷ []) is }) in
+    rw (three, differs kind 1 other) refl
+chan-fault octets Hopping (tn, tsc, fields) =
     let pieces = fields.pieces in
     let bits = bits_of octets in
     let kind : number_of (take 5 bits) ≡ 1 = cc in

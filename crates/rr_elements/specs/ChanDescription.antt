@@ -1,7 +1,7 @@
 -- Channel Description 2 (TS 44.018 section 10.5.2.5a), without an identifier: a full rate traffic channel that does not hop.
-use Rattle.std.specs.Prelude.{◌≢◌, ℕ, ◌/◌, ◌%◌, ◌^◌, ◌<◌, List, [], ◌∷◌}
+use Rattle.std.specs.Prelude.{◌≡◌, ℕ, ◌/◌, ◌%◌, ◌^◌, ◌<◌, List, [], ◌∷◌, length}
 use Rattle.rr_elements.specs.Faults.{HasOtherLength}
-use Rattle.rr_elements.specs.Fields.{AreFields, field_octets}
+use Rattle.rr_elements.specs.Fields.{AreFields, AreFirstFields, field_octets}
 use Rattle.rr_elements.specs.declared.fault.ElementFault.{ElementFault}
 use Rattle.rr_elements.specs.declared.fault.ElementFault.TheVariants.{Length, BadType, Hopping}
 
@@ -33,9 +33,9 @@ IsChanText v octets = (spare : ℕ) × AreFields chan_widths (chan_numbers spare
 abbrev pub chan_text : Chan → List ℕ
 chan_text v = field_octets chan_widths (chan_numbers 0 v)
 
--- The first fault of octets: they are not three; another type stands there; the type is TCH/F, and H is 1.
+-- The first fault of octets: they are not three; their type is another; it is TCH/F, and H is 1.
 abbrev pub HasChanFault : List ℕ → ElementFault → Type 0
-HasChanFault octets Length = HasOtherLength chan_widths octets Length
-HasChanFault octets BadType = (kind : ℕ) × (rest : List ℕ) × AreFields chan_widths (kind ∷ rest) octets × (kind ≢ 1)
-HasChanFault octets Hopping = (tn tsc : ℕ) × (rest : List ℕ) × AreFields chan_widths (1 ∷ tn ∷ tsc ∷ 1 ∷ rest) octets
+HasChanFault octets Length = HasOtherLength 3 octets Length
+HasChanFault octets BadType = (length octets ≡ 3) × (AreFirstFields chan_widths (1 ∷ []) octets → ⊥)
+HasChanFault octets Hopping = (tn tsc : ℕ) × AreFirstFields chan_widths (1 ∷ tn ∷ tsc ∷ 1 ∷ []) octets
 HasChanFault octets _ = ⊥

@@ -10,7 +10,7 @@ use std::alloc::{AllocError, Allocator};
 pub struct RrCause(pub u8);
 
 impl RrCause {
-    ghost use Rattle.rr_elements.specs.RrCause.{IsCauseText, cause_text, cause_widths};
+    ghost use Rattle.rr_elements.specs.RrCause.{IsCauseText, cause_text};
     ghost use Rattle.rr_elements.specs.Faults.{HasOtherLength};
 
     /// The cause with this value; each octet is one, so no fault comes.
@@ -52,7 +52,7 @@ impl RrCause {
 
         // What is no text has this fault.
         ensures length { (result ≡ Err ElementFault.Length) ↔ (length octets.now ≢ 1) }
-        ensures fault { IfErr result (HasOtherLength cause_widths octets.now) }
+        ensures fault { IfErr result (HasOtherLength 1 octets.now) }
     {
         if octets.len() != 1 {
             return Err(ElementFault::Length);

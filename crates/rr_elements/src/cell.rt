@@ -27,7 +27,7 @@ impl Model for CellDescription {
 }
 
 impl CellDescription {
-    ghost use Rattle.rr_elements.specs.CellDescription.{Cell, CellFits, IsCellText, cell_text, cell_widths};
+    ghost use Rattle.rr_elements.specs.CellDescription.{Cell, CellFits, IsCellText, cell_text};
     ghost use Rattle.rr_elements.specs.Faults.{HasOtherLength};
 
     /// A description of the cell with this carrier (0 to 1023), network colour code and base
@@ -98,7 +98,7 @@ impl CellDescription {
 
         // What is no text has this fault.
         ensures length { (result ≡ Err ElementFault.Length) ↔ (length octets.now ≢ 2) }
-        ensures fault { IfErr result (HasOtherLength cell_widths octets.now) }
+        ensures fault { IfErr result (HasOtherLength 2 octets.now) }
     {
         if octets.len() != 2 {
             return Err(ElementFault::Length);

@@ -1,12 +1,12 @@
 //! Laws of the elements' texts.
 ghost use Rattle.std.specs.Prelude.{◌≡◌, ℕ, List, ◌<◌, ◌^◌};
 ghost use Rattle.rr_elements.specs.Faults.{HasOtherLength, FaultIsUnique};
-ghost use Rattle.rr_elements.specs.CellDescription.{Cell, CellFits, IsCellText, cell_text, cell_widths};
+ghost use Rattle.rr_elements.specs.CellDescription.{Cell, CellFits, IsCellText, cell_text};
 ghost use Rattle.rr_elements.specs.ChanDescription.{Chan, ChanFits, IsChanText, chan_text, HasChanFault};
-ghost use Rattle.rr_elements.specs.Power.{PowerCommand, PowerFits, IsPowerText, power_text, power_widths};
-ghost use Rattle.rr_elements.specs.RrCause.{IsCauseText, cause_text, cause_widths};
+ghost use Rattle.rr_elements.specs.Power.{PowerCommand, PowerFits, IsPowerText, power_text};
+ghost use Rattle.rr_elements.specs.RrCause.{IsCauseText, cause_text};
 ghost use Rattle.rr_elements.specs.declared.cause.RrCause.{RrCause};
-ghost use Rattle.rr_elements.specs.MeasResults.{Results, ResultsFit, IsResultsText, results_text, results_widths};
+ghost use Rattle.rr_elements.specs.MeasResults.{Results, ResultsFit, IsResultsText, results_text};
 
 /// What is written of a value is a text of it.
 pub fn has_text()
@@ -33,9 +33,9 @@ pub fn one_value()
 
 /// A text has no fault, and no octets have two.
 pub fn one_fault()
-    ensures cell { FaultIsUnique IsCellText (HasOtherLength cell_widths) }
+    ensures cell { FaultIsUnique IsCellText (HasOtherLength 2) }
     ensures channel { FaultIsUnique IsChanText HasChanFault }
-    ensures power { FaultIsUnique IsPowerText (HasOtherLength power_widths) }
-    ensures cause { FaultIsUnique IsCauseText (HasOtherLength cause_widths) }
-    ensures results { FaultIsUnique IsResultsText (HasOtherLength results_widths) }
+    ensures power { FaultIsUnique IsPowerText (HasOtherLength 1) }
+    ensures cause { FaultIsUnique IsCauseText (HasOtherLength 1) }
+    ensures results { FaultIsUnique IsResultsText (HasOtherLength 16) }
 {}

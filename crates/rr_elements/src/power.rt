@@ -27,7 +27,7 @@ impl Model for Power {
 }
 
 impl Power {
-    ghost use Rattle.rr_elements.specs.Power.{PowerCommand, PowerFits, IsPowerText, power_text, power_widths};
+    ghost use Rattle.rr_elements.specs.Power.{PowerCommand, PowerFits, IsPowerText, power_text};
     ghost use Rattle.rr_elements.specs.Faults.{HasOtherLength};
 
     /// This access type (`true`: the handover access is optional) and power level (0 to 31);
@@ -88,7 +88,7 @@ impl Power {
 
         // What is no text has this fault.
         ensures length { (result ≡ Err ElementFault.Length) ↔ (length octets.now ≢ 1) }
-        ensures fault { IfErr result (HasOtherLength power_widths octets.now) }
+        ensures fault { IfErr result (HasOtherLength 1 octets.now) }
     {
         if octets.len() != 1 {
             return Err(ElementFault::Length);

@@ -39,7 +39,7 @@ impl Model for MeasResults {
 }
 
 impl MeasResults {
-    ghost use Rattle.rr_elements.specs.MeasResults.{Results, ResultsFit, HeadFits, NcellFits, used_count, IsResultsText, results_text, results_widths};
+    ghost use Rattle.rr_elements.specs.MeasResults.{Results, ResultsFit, HeadFits, NcellFits, used_count, IsResultsText, results_text};
     ghost use Rattle.rr_elements.specs.Faults.{HasOtherLength};
 
     /// Results with these fields and neighbours. `BadRange` where a field does not fit its bits,
@@ -178,7 +178,7 @@ impl MeasResults {
 
         // What is no text has this fault.
         ensures length { (result ≡ Err ElementFault.Length) ↔ (length octets.now ≢ 16) }
-        ensures fault { IfErr result (HasOtherLength results_widths octets.now) }
+        ensures fault { IfErr result (HasOtherLength 16 octets.now) }
     {
         if octets.len() != 16 {
             return Err(ElementFault::Length);
