@@ -1,11 +1,12 @@
 -- Texts of the short elements: each is read as its value, and what is written is a text.
 use Rattle.std.proofs.Common.{◌≡◌, ◌∙◌, ℕ, ◌+◌, ◌*◌, ◌/◌, ◌%◌, ◌^◌, ◌<◌, ◌==◌, Bool, true, false, List, length, refl, ap, arith, Ok}
 use Rattle.rr_elements.specs.Fields.{flag}
-use Rattle.rr_elements.specs.CellDescription.{Cell, CellFits, IsCellText, cell_widths, cell_numbers, cell_text, cell_of, cell_said}
-use Rattle.rr_elements.specs.ChanDescription.{Chan, ChanFits, IsChanText, chan_widths, chan_numbers, chan_text, chan_of, chan_said}
-use Rattle.rr_elements.specs.Power.{PowerCommand, PowerFits, IsPowerText, power_widths, power_numbers, power_text, power_of, power_said}
-use Rattle.rr_elements.specs.RrCause.{IsCauseText, cause_widths, cause_numbers, cause_text, cause_of, cause_said}
+use Rattle.rr_elements.specs.CellDescription.{Cell, CellFits, IsCellText, cell_widths, cell_numbers, cell_text}
+use Rattle.rr_elements.specs.ChanDescription.{Chan, ChanFits, IsChanText, chan_widths, chan_numbers, chan_text}
+use Rattle.rr_elements.specs.Power.{PowerCommand, PowerFits, IsPowerText, power_widths, power_numbers, power_text}
+use Rattle.rr_elements.specs.RrCause.{IsCauseText, cause_widths, cause_numbers, cause_text}
 use Rattle.rr_elements.specs.declared.cause.RrCause.{RrCause}
+use Rattle.rr_elements.proofs.Readers.{cell_of, cell_said, chan_of, chan_said, power_of, power_said, cause_of, cause_said}
 use Rattle.rr_elements.proofs.FieldLemmas.{AreFields-field_octets}
 
 pub flag-one : (b : Bool) → (flag b == 1) ≡ b
@@ -56,15 +57,3 @@ cause-said v octets text =
 
 pub cause-text : (v : RrCause) → v.0 < 2 ^ 8 → IsCauseText v (cause_text v)
 cause-text v fits = AreFields-field_octets cause_widths (cause_numbers v) (fits, tt) refl
-
-pub cell-again : (v : Cell) → CellFits v → cell_said (cell_text v) ≡ Ok v
-cell-again v fits = cell-said v _ (cell-text v fits)
-
-pub chan-again : (v : Chan) → ChanFits v → chan_said (chan_text v) ≡ Ok v
-chan-again v fits = chan-said v _ (chan-text v fits)
-
-pub power-again : (v : PowerCommand) → PowerFits v → power_said (power_text v) ≡ Ok v
-power-again v fits = power-said v _ (power-text v fits)
-
-pub cause-again : (v : RrCause) → v.0 < 2 ^ 8 → cause_said (cause_text v) ≡ Ok v
-cause-again v fits = cause-said v _ (cause-text v fits)

@@ -7,10 +7,11 @@ use Rattle.rr_elements.specs.declared.measurement.MeasHead.{MeasHead}
 use Rattle.rr_elements.specs.declared.measurement.Ncell.{Ncell}
 use Rattle.rr_elements.specs.Bits.{bits_of, cut, after, repeated_widths, bits_written}
 use Rattle.rr_elements.specs.Fields.{flag}
-use Rattle.rr_elements.specs.MeasResults.{Results, IsKept, IsResultsText, used_count, head_widths, head_numbers, ncell_widths, ncell_numbers, results_widths, results_numbers, ncells_of, results_of, results_said, no_ncell}
+use Rattle.rr_elements.specs.MeasResults.{Results, IsKept, IsResultsText, used_count, head_widths, head_numbers, ncell_widths, ncell_numbers, results_widths, results_numbers, no_ncell}
 use Rattle.rr_elements.proofs.CutLemmas.{cut-append, repeated_widths-add, bits_written-append}
 use Rattle.rr_elements.specs.ResultsKept.{kept_again}
 use Rattle.rr_elements.proofs.ElementLemmas.{flag-one}
+use Rattle.rr_elements.proofs.Readers.{ncells_of, results_of, results_said}
 
 flag-none : (b : Bool) → (flag (not b) == 0) ≡ b
 flag-none true = refl

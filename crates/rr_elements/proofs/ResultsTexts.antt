@@ -1,13 +1,12 @@
 -- What is written of measurement results is a text of them.
-use Rattle.std.proofs.Common.{◌≡◌, ◌∙◌, ◌+◌, ◌-◌, List, [], ◌∷◌, ◌++◌, length, replicate, flat_map, refl, ap, arith, All, not, Ok}
+use Rattle.std.proofs.Common.{◌≡◌, ◌∙◌, ◌+◌, ◌-◌, List, [], ◌∷◌, ◌++◌, length, replicate, flat_map, refl, ap, arith, All, not}
 use Rattle.std.proofs.lemmas.List.{length-replicate, length-append}
 use Rattle.std.proofs.lemmas.List.Elements.{All-append, All-replicate, All-head, All-tail}
 use Rattle.rr_elements.specs.declared.measurement.Ncell.{Ncell}
 use Rattle.rr_elements.specs.Bits.{repeated_widths}
-use Rattle.rr_elements.specs.MeasResults.{Results, ResultsFit, NcellFits, IsResultsText, head_widths, head_numbers, ncell_widths, ncell_numbers, results_widths, results_numbers, results_text, results_said, no_ncell}
+use Rattle.rr_elements.specs.MeasResults.{Results, ResultsFit, NcellFits, IsResultsText, head_widths, head_numbers, ncell_widths, ncell_numbers, results_widths, results_numbers, results_text, no_ncell}
 use Rattle.rr_elements.proofs.ElementLemmas.{flag_below}
 use Rattle.rr_elements.proofs.FieldLemmas.{FieldsFit, fit-append, AreFields-field_octets}
-use Rattle.rr_elements.proofs.ResultsLemmas.{text-said}
 use Rattle.rr_elements.proofs.KeptLemmas.{used_count_le, no_ncell_fits}
 
 cells_fit : (cells : List Ncell) → All NcellFits cells → FieldsFit (repeated_widths (length cells) ncell_widths) (flat_map ncell_numbers cells)
@@ -33,6 +32,3 @@ results-text v fits =
       six = six;
       fields = AreFields-field_octets results_widths (results_numbers v others) (fit-append head_widths (repeated_widths 6 ncell_widths) (head_numbers h) (flat_map ncell_numbers cells) head places) refl;
     }
-
-pub results-again : (v : Results) → ResultsFit v → results_said (results_text v) ≡ Ok v
-results-again v fits = text-said v _ (results-text v fits)

@@ -1,9 +1,6 @@
 -- Cell Description (TS 44.018 section 10.5.2.2), without an identifier.
-use Rattle.std.specs.Prelude.{ℕ, ◌+◌, ◌*◌, ◌/◌, ◌%◌, ◌^◌, ◌<◌, ◌==◌, if◌then◌else◌, List, [], ◌∷◌, length, Result, Ok, Err}
-use Rattle.rr_elements.specs.Bits.{bits_of, cut}
+use Rattle.std.specs.Prelude.{ℕ, ◌/◌, ◌%◌, ◌^◌, ◌<◌, List, [], ◌∷◌}
 use Rattle.rr_elements.specs.Fields.{AreFields, field_octets}
-use Rattle.rr_elements.specs.declared.fault.ElementFault.{ElementFault}
-use Rattle.rr_elements.specs.declared.fault.ElementFault.TheVariants.{Length}
 
 -- the carrier of the cell's BCCH, and the two halves of its colour
 pub record Cell : Type 0 where
@@ -31,12 +28,3 @@ IsCellText v octets = AreFields cell_widths (cell_numbers v) octets
 -- the text that is written
 abbrev pub cell_text : Cell → List ℕ
 cell_text v = field_octets cell_widths (cell_numbers v)
-
--- what fields say
-abbrev pub cell_of : List ℕ → Result Cell ElementFault
-cell_of (high ∷ ncc ∷ bcc ∷ low ∷ []) = Ok (record { arfcn = 256 * high + low; ncc = ncc; bcc = bcc })
-cell_of _ = Err Length
-
--- what octets say
-abbrev pub cell_said : List ℕ → Result Cell ElementFault
-cell_said octets = if length octets == 2 then cell_of (cut cell_widths (bits_of octets)) else Err Length

@@ -1,7 +1,7 @@
 -- Channel Description 2 (TS 44.018 section 10.5.2.5a), without an identifier: a full rate traffic channel that does not hop.
-use Rattle.std.specs.Prelude.{ℕ, ◌+◌, ◌*◌, ◌/◌, ◌%◌, ◌^◌, ◌<◌, ◌==◌, if◌then◌else◌, List, [], ◌∷◌, length, Result, Ok, Err}
-use Rattle.rr_elements.specs.Bits.{bits_of, cut}
-use Rattle.rr_elements.specs.Fields.{AreFields, field_octets}
+use Rattle.std.specs.Prelude.{◌≡◌, ℕ, ◌/◌, ◌%◌, ◌^◌, ◌<◌, List, [], ◌∷◌, length}
+use Rattle.rr_elements.specs.Faults.{HasOtherLength}
+use Rattle.rr_elements.specs.Fields.{AreFields, AreFirstFields, field_octets}
 use Rattle.rr_elements.specs.declared.fault.ElementFault.{ElementFault}
 use Rattle.rr_elements.specs.declared.fault.ElementFault.TheVariants.{Length, BadType, Hopping}
 
@@ -33,12 +33,9 @@ IsChanText v octets = (spare : ℕ) × AreFields chan_widths (chan_numbers spare
 abbrev pub chan_text : Chan → List ℕ
 chan_text v = field_octets chan_widths (chan_numbers 0 v)
 
--- what fields say, or the first fault
-abbrev pub chan_of : List ℕ → Result Chan ElementFault
-chan_of (kind ∷ tn ∷ tsc ∷ hopping ∷ spare ∷ high ∷ low ∷ []) =
-    if kind == 1 then (if hopping == 0 then Ok (record { tn = tn; tsc = tsc; carrier = 256 * high + low }) else Err Hopping) else Err BadType
-chan_of _ = Err Length
-
--- what octets say, or the first fault
-abbrev pub chan_said : List ℕ → Result Chan ElementFault
-chan_said octets = if length octets == 3 then chan_of (cut chan_widths (bits_of octets)) else Err Length
+-- The first fault of octets: they are not three; their type is another; it is TCH/F, and H is 1.
+abbrev pub HasChanFault : List ℕ → ElementFault → Type 0
+HasChanFault octets Length = HasOtherLength 3 octets Length
+HasChanFault octets BadType = (length octets ≡ 3) × (AreFirstFields chan_widths (1 ∷ []) octets → ⊥)
+HasChanFault octets Hopping = (tn tsc : ℕ) × AreFirstFields chan_widths (1 ∷ tn ∷ tsc ∷ 1 ∷ []) octets
+HasChanFault octets _ = ⊥

@@ -1,5 +1,6 @@
 pub mod Bits
 pub mod Fields
+pub mod Faults
 pub mod CellDescription
 pub mod ChanDescription
 pub mod Power

@@ -1,9 +1,7 @@
 -- Measurement Results (TS 44.018 section 10.5.2.20), without an identifier: 128 bits.
-use Rattle.std.specs.Prelude.{◌≡◌, ℕ, ◌+◌, ◌-◌, ◌^◌, ◌<◌, ◌==◌, if◌then◌else◌, not, List, [], ◌∷◌, ◌++◌, length, take, drop, replicate, flat_map, All, Result, Ok, Err}
-use Rattle.rr_elements.specs.Bits.{bits_of, cut, repeated_widths}
+use Rattle.std.specs.Prelude.{◌≡◌, ℕ, ◌+◌, ◌-◌, ◌^◌, ◌<◌, ◌==◌, if◌then◌else◌, not, List, [], ◌∷◌, ◌++◌, length, take, drop, replicate, flat_map, All}
+use Rattle.rr_elements.specs.Bits.{repeated_widths}
 use Rattle.rr_elements.specs.Fields.{AreFields, field_octets, flag}
-use Rattle.rr_elements.specs.declared.fault.ElementFault.{ElementFault}
-use Rattle.rr_elements.specs.declared.fault.ElementFault.TheVariants.{Length}
 use Rattle.rr_elements.specs.declared.measurement.MeasHead.{MeasHead}
 use Rattle.rr_elements.specs.declared.measurement.Ncell.{Ncell}
 
@@ -73,22 +71,6 @@ no_ncell = record { level = 0; position = 0; bsic = 0 }
 -- the text that is written
 abbrev pub results_text : Results → List ℕ
 results_text v = field_octets results_widths (results_numbers v (replicate (6 - length v.neighbours) no_ncell))
-
--- what the fields of neighbours say
-abbrev pub ncells_of : List ℕ → List Ncell
-ncells_of (level ∷ position ∷ bsic ∷ ns) = record { level = level; position = position; bsic = bsic } ∷ ncells_of ns
-ncells_of _ = []
-
--- what fields say
-abbrev pub results_of : List ℕ → Result Results ElementFault
-results_of (ba ∷ dtx ∷ full ∷ ba3g ∷ invalid ∷ sub ∷ si23 ∷ qfull ∷ qsub ∷ count ∷ ns) =
-    let head : MeasHead = record { ba = ba == 1; dtx = dtx == 1; full = full; ba3g = ba3g == 1; valid = invalid == 0; sub = sub; si23 = si23 == 1; qfull = qfull; qsub = qsub; count = count } in
-    Ok (record { head = head; neighbours = take (used_count count) (ncells_of ns) })
-results_of _ = Err Length
-
--- what octets say
-unfoldable pub results_said : List ℕ → Result Results ElementFault
-results_said octets = if length octets == 16 then results_of (cut results_widths (bits_of octets)) else Err Length
 
 -- how the value is kept: six places, of which those that are not in use are 0
 pub record IsKept (head : MeasHead) (places : List Ncell) : Type 0 where

@@ -1,9 +1,6 @@
 -- Power Command and access type (TS 44.018 section 10.5.2.28a), without an identifier.
-use Rattle.std.specs.Prelude.{ℕ, ◌^◌, ◌<◌, ◌==◌, if◌then◌else◌, Bool, List, [], ◌∷◌, length, Result, Ok, Err}
-use Rattle.rr_elements.specs.Bits.{bits_of, cut}
+use Rattle.std.specs.Prelude.{ℕ, ◌^◌, ◌<◌, Bool, List, [], ◌∷◌}
 use Rattle.rr_elements.specs.Fields.{AreFields, field_octets, flag}
-use Rattle.rr_elements.specs.declared.fault.ElementFault.{ElementFault}
-use Rattle.rr_elements.specs.declared.fault.ElementFault.TheVariants.{Length}
 
 -- whether the handover access may be left out, and the power level
 pub record PowerCommand : Type 0 where
@@ -28,12 +25,3 @@ IsPowerText v octets = (spare : ℕ) × AreFields power_widths (power_numbers sp
 -- the text that is written
 abbrev pub power_text : PowerCommand → List ℕ
 power_text v = field_octets power_widths (power_numbers 0 v)
-
--- what fields say
-abbrev pub power_of : List ℕ → Result PowerCommand ElementFault
-power_of (atc ∷ spare ∷ level ∷ []) = Ok (record { atc = atc == 1; level = level })
-power_of _ = Err Length
-
--- what octets say
-abbrev pub power_said : List ℕ → Result PowerCommand ElementFault
-power_said octets = if length octets == 1 then power_of (cut power_widths (bits_of octets)) else Err Length

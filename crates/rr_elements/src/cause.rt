@@ -1,5 +1,5 @@
 //! RR Cause.
-ghost use Rattle.std.specs.Prelude.{◌≡◌, ◌+◌, ◌<◌, ◌≤◌, ◌++◌, OnOk, OnErr, IsOk, Ok, vec_len, vec_capacity, ◌↔◌, ◌≢◌, IfOk, length, Err};
+ghost use Rattle.std.specs.Prelude.{◌≡◌, ◌+◌, ◌<◌, ◌≤◌, ◌++◌, OnOk, OnErr, IsOk, Ok, vec_len, vec_capacity, ◌↔◌, ◌≢◌, IfOk, IfErr, length, Err};
 
 use crate::bits::{BitReader, BitWriter};
 use crate::fault::ElementFault;
@@ -10,7 +10,8 @@ use std::alloc::{AllocError, Allocator};
 pub struct RrCause(pub u8);
 
 impl RrCause {
-    ghost use Rattle.rr_elements.specs.RrCause.{IsCauseText, cause_text, cause_said};
+    ghost use Rattle.rr_elements.specs.RrCause.{IsCauseText, cause_text};
+    ghost use Rattle.rr_elements.specs.Faults.{HasOtherLength};
 
     /// The cause with this value; each octet is one, so no fault comes.
     pub fn new(value: u8) -> Result<Self, ElementFault>
@@ -35,9 +36,8 @@ impl RrCause {
         ensures len { OnOk result (vec_len out.new ≡ vec_len out.old + 1) }
         ensures capacity { vec_capacity out.old ≤ vec_capacity out.new }
 
-        // What is written is a text of the value, and is read as it.
+        // What is written is a text of the value, so `decode` reads it as the value.
         ensures text { IsCauseText self.now (cause_text self.now) }
-        ensures again { cause_said (cause_text self.now) ≡ Ok self.now }
     {
         let mut bits = BitWriter::new();
         bits.put(8, self.value());
@@ -50,9 +50,9 @@ impl RrCause {
         ensures text { IfOk result (λ v. IsCauseText v octets.now) }
         ensures only { (v : RrCause) → IsCauseText v octets.now → result ≡ Ok v }
 
-        // The first fault.
+        // What is no text has this fault.
         ensures length { (result ≡ Err ElementFault.Length) ↔ (length octets.now ≢ 1) }
-        ensures said { result ≡ cause_said octets.now }
+        ensures fault { IfErr result (HasOtherLength 1 octets.now) }
     {
         if octets.len() != 1 {
             return Err(ElementFault::Length);

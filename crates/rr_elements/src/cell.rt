@@ -1,5 +1,5 @@
 //! Cell Description.
-ghost use Rattle.std.specs.Prelude.{◌≡◌, ◌↔◌, ◌+◌, ◌<◌, ◌≤◌, ◌++◌, OnOk, OnErr, IsOk, Ok, Err, length, vec_len, vec_capacity, ◌≢◌, IfOk};
+ghost use Rattle.std.specs.Prelude.{◌≡◌, ◌↔◌, ◌+◌, ◌<◌, ◌≤◌, ◌++◌, OnOk, OnErr, IsOk, Ok, Err, length, vec_len, vec_capacity, ◌≢◌, IfOk, IfErr};
 
 use crate::bits::{BitReader, BitWriter};
 use crate::fault::ElementFault;
@@ -27,7 +27,8 @@ impl Model for CellDescription {
 }
 
 impl CellDescription {
-    ghost use Rattle.rr_elements.specs.CellDescription.{Cell, CellFits, IsCellText, cell_text, cell_said};
+    ghost use Rattle.rr_elements.specs.CellDescription.{Cell, CellFits, IsCellText, cell_text};
+    ghost use Rattle.rr_elements.specs.Faults.{HasOtherLength};
 
     /// A description of the cell with this carrier (0 to 1023), network colour code and base
     /// station colour code (0 to 7 each); `BadRange` where one of them is more.
@@ -77,9 +78,8 @@ impl CellDescription {
         ensures len { OnOk result (vec_len out.new ≡ vec_len out.old + 2) }
         ensures capacity { vec_capacity out.old ≤ vec_capacity out.new }
 
-        // What is written is a text of the value, and is read as it.
+        // What is written is a text of the value, so `decode` reads it as the value.
         ensures text { IsCellText self.now (cell_text self.now) }
-        ensures again { cell_said (cell_text self.now) ≡ Ok self.now }
     {
         let CellDescription { arfcn, ncc, bcc } = *self;
         let mut bits = BitWriter::new();
@@ -96,9 +96,9 @@ impl CellDescription {
         ensures text { IfOk result (λ v. IsCellText v octets.now) }
         ensures only { (v : Cell) → IsCellText v octets.now → result ≡ Ok v }
 
-        // The first fault.
+        // What is no text has this fault.
         ensures length { (result ≡ Err ElementFault.Length) ↔ (length octets.now ≢ 2) }
-        ensures said { result ≡ cell_said octets.now }
+        ensures fault { IfErr result (HasOtherLength 2 octets.now) }
     {
         if octets.len() != 2 {
             return Err(ElementFault::Length);

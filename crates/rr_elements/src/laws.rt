@@ -1,7 +1,8 @@
 //! Laws of the elements' texts.
 ghost use Rattle.std.specs.Prelude.{◌≡◌, ℕ, List, ◌<◌, ◌^◌};
+ghost use Rattle.rr_elements.specs.Faults.{HasOtherLength, FaultIsUnique};
 ghost use Rattle.rr_elements.specs.CellDescription.{Cell, CellFits, IsCellText, cell_text};
-ghost use Rattle.rr_elements.specs.ChanDescription.{Chan, ChanFits, IsChanText, chan_text};
+ghost use Rattle.rr_elements.specs.ChanDescription.{Chan, ChanFits, IsChanText, chan_text, HasChanFault};
 ghost use Rattle.rr_elements.specs.Power.{PowerCommand, PowerFits, IsPowerText, power_text};
 ghost use Rattle.rr_elements.specs.RrCause.{IsCauseText, cause_text};
 ghost use Rattle.rr_elements.specs.declared.cause.RrCause.{RrCause};
@@ -28,4 +29,13 @@ pub fn one_value()
         IsCauseText w octets → v ≡ w }
     ensures results { (v w : Results) (octets : List ℕ) → IsResultsText v octets →
         IsResultsText w octets → v ≡ w }
+{}
+
+/// A text has no fault, and no octets have two.
+pub fn one_fault()
+    ensures cell { FaultIsUnique IsCellText (HasOtherLength 2) }
+    ensures channel { FaultIsUnique IsChanText HasChanFault }
+    ensures power { FaultIsUnique IsPowerText (HasOtherLength 1) }
+    ensures cause { FaultIsUnique IsCauseText (HasOtherLength 1) }
+    ensures results { FaultIsUnique IsResultsText (HasOtherLength 16) }
 {}

@@ -1,5 +1,5 @@
 //! Power Command and access type.
-ghost use Rattle.std.specs.Prelude.{◌≡◌, ◌+◌, ◌<◌, ◌≤◌, ◌++◌, OnOk, OnErr, IsOk, Ok, Err, vec_len, vec_capacity, ◌↔◌, ◌≢◌, IfOk, length};
+ghost use Rattle.std.specs.Prelude.{◌≡◌, ◌+◌, ◌<◌, ◌≤◌, ◌++◌, OnOk, OnErr, IsOk, Ok, Err, vec_len, vec_capacity, ◌↔◌, ◌≢◌, IfOk, IfErr, length};
 
 use crate::bits::{BitReader, BitWriter};
 use crate::fault::ElementFault;
@@ -27,7 +27,8 @@ impl Model for Power {
 }
 
 impl Power {
-    ghost use Rattle.rr_elements.specs.Power.{PowerCommand, PowerFits, IsPowerText, power_text, power_said};
+    ghost use Rattle.rr_elements.specs.Power.{PowerCommand, PowerFits, IsPowerText, power_text};
+    ghost use Rattle.rr_elements.specs.Faults.{HasOtherLength};
 
     /// This access type (`true`: the handover access is optional) and power level (0 to 31);
     /// `BadRange` where the level is more.
@@ -68,9 +69,8 @@ impl Power {
         ensures len { OnOk result (vec_len out.new ≡ vec_len out.old + 1) }
         ensures capacity { vec_capacity out.old ≤ vec_capacity out.new }
 
-        // What is written is a text of the value, and is read as it.
+        // What is written is a text of the value, so `decode` reads it as the value.
         ensures text { IsPowerText self.now (power_text self.now) }
-        ensures again { power_said (power_text self.now) ≡ Ok self.now }
     {
         let Power { atc, level } = *self;
         let mut bits = BitWriter::new();
@@ -86,9 +86,9 @@ impl Power {
         ensures text { IfOk result (λ v. IsPowerText v octets.now) }
         ensures only { (v : PowerCommand) → IsPowerText v octets.now → result ≡ Ok v }
 
-        // The first fault.
+        // What is no text has this fault.
         ensures length { (result ≡ Err ElementFault.Length) ↔ (length octets.now ≢ 1) }
-        ensures said { result ≡ power_said octets.now }
+        ensures fault { IfErr result (HasOtherLength 1 octets.now) }
     {
         if octets.len() != 1 {
             return Err(ElementFault::Length);

@@ -1,5 +1,5 @@
 //! Measurement Results.
-ghost use Rattle.std.specs.Prelude.{◌≡◌, ◌↔◌, ◌≢◌, ◌+◌, ◌<◌, ◌≤◌, ◌^◌, ◌++◌, OnOk, OnErr, IsOk, IsErr, IfOk, Ok, Err, All, length, vec_len, vec_capacity};
+ghost use Rattle.std.specs.Prelude.{◌≡◌, ◌↔◌, ◌≢◌, ◌+◌, ◌<◌, ◌≤◌, ◌^◌, ◌++◌, OnOk, OnErr, IsOk, IsErr, IfOk, IfErr, Ok, Err, All, length, vec_len, vec_capacity};
 
 use crate::bits::{BitReader, BitWriter};
 use crate::fault::ElementFault;
@@ -39,7 +39,8 @@ impl Model for MeasResults {
 }
 
 impl MeasResults {
-    ghost use Rattle.rr_elements.specs.MeasResults.{Results, ResultsFit, HeadFits, NcellFits, used_count, IsResultsText, results_text, results_said};
+    ghost use Rattle.rr_elements.specs.MeasResults.{Results, ResultsFit, HeadFits, NcellFits, used_count, IsResultsText, results_text};
+    ghost use Rattle.rr_elements.specs.Faults.{HasOtherLength};
 
     /// Results with these fields and neighbours. `BadRange` where a field does not fit its bits,
     /// or there are not as many neighbours as the count says (none where it is 7).
@@ -160,9 +161,8 @@ impl MeasResults {
         ensures len { OnOk result (vec_len out.new ≡ vec_len out.old + 16) }
         ensures capacity { vec_capacity out.old ≤ vec_capacity out.new }
 
-        // What is written is a text of the value, and is read as it.
+        // What is written is a text of the value, so `decode` reads it as the value.
         ensures text { IsResultsText self.now (results_text self.now) }
-        ensures again { results_said (results_text self.now) ≡ Ok self.now }
     {
         let mut bits = BitWriter::new();
         put_head(&mut bits, &self.head);
@@ -176,9 +176,9 @@ impl MeasResults {
         ensures text { IfOk result (λ v. IsResultsText v octets.now) }
         ensures only { (v : Results) → IsResultsText v octets.now → result ≡ Ok v }
 
-        // The first fault.
+        // What is no text has this fault.
         ensures length { (result ≡ Err ElementFault.Length) ↔ (length octets.now ≢ 16) }
-        ensures said { result ≡ results_said octets.now }
+        ensures fault { IfErr result (HasOtherLength 16 octets.now) }
     {
         if octets.len() != 16 {
             return Err(ElementFault::Length);

@@ -1,10 +1,11 @@
 -- A text of a message is read as the message.
-use Rattle.std.proofs.Common.{◌≡◌, ◌∙◌, sym, ℕ, ◌+◌, ◌*◌, ◌≤◌, nat_lt, false, List, [], ◌∷◌, ◌++◌, length, take, Some, Result, Ok, Err, OnOk, get_or, refl, ap, arith}
+use Rattle.std.proofs.Common.{◌≡◌, ◌∙◌, sym, ℕ, ◌+◌, ◌*◌, ◌≤◌, nat_lt, false, List, [], ◌∷◌, ◌++◌, length, take, Some, Ok, get_or, refl, ap, arith}
 use Rattle.std.proofs.lemmas.List.{take_at, length-append, append-nil}
 use Rattle.std.proofs.lemmas.Bool.Decides.{nat_tests}
-use Rattle.rr_elements.specs.CellDescription.{cell_said, cell_text}
-use Rattle.rr_elements.specs.ChanDescription.{chan_said, chan_text}
-use Rattle.rr_elements.specs.Power.{power_said, power_text}
+use Rattle.rr_elements.specs.CellDescription.{cell_text}
+use Rattle.rr_elements.specs.ChanDescription.{chan_text}
+use Rattle.rr_elements.specs.Power.{power_text}
+use Rattle.rr_elements.proofs.Readers.{cell_said, chan_said, power_said}
 use Rattle.rr_elements.proofs.ElementLemmas.{cell-said, chan-said, power-said, cause-said, cell-text, chan-text, power-text, cause-text}
 use Rattle.rr_elements.proofs.ResultsLemmas.{text-said as results-said}
 use Rattle.rr_elements.proofs.ResultsTexts.{results-text}
@@ -12,11 +13,12 @@ use Rattle.rr_messages.specs.declared.kind.Kind.{Kind}
 use Rattle.rr_messages.specs.declared.kind.Kind.TheVariants as kind
 use Rattle.rr_messages.specs.declared.message.Rr.{Rr}
 use Rattle.rr_messages.specs.declared.message.Rr.TheVariants.{HandoverCommand, HandoverComplete, HandoverFailure, ChannelRelease, PhysicalInformation, MeasurementReport}
-use Rattle.rr_messages.specs.Kind.{type_of, kind_at, part_len}
-use Rattle.rr_messages.specs.Rr.{kind_of, Fits, IsFramed, IsPart, IsRrText, part_text, rr_text, ◌>>=◌, command_said, advance_said, part_said, body_said, in_message, rr_said}
+use Rattle.rr_messages.specs.Kind.{type_of, part_len}
+use Rattle.rr_messages.specs.Rr.{kind_of, Fits, IsFramed, IsPart, IsRrText, part_text, rr_text}
+use Rattle.rr_messages.proofs.Readers.{kind_at, ◌>>=◌, command_said, advance_said, part_said, body_said, in_message, rr_said}
 
 -- a handover command's part is cut into its elements
-command-cut : (first second last : List ℕ) (reference : ℕ) → length first ≡ 2 → length second ≡ 3 → length last ≡ 1 → command_said (first ++ second ++ reference ∷ last) ≡ cell_said first >>= λ cell. chan_said second >>= λ channel. power_said last >>= λ power. Ok (HandoverCommand cell channel reference power)
+pub command-cut : (first second last : List ℕ) (reference : ℕ) → length first ≡ 2 → length second ≡ 3 → length last ≡ 1 → command_said (first ++ second ++ reference ∷ last) ≡ cell_said first >>= λ cell. chan_said second >>= λ channel. power_said last >>= λ power. Ok (HandoverCommand cell channel reference power)
 command-cut (a ∷ b ∷ []) (c ∷ d ∷ e ∷ []) (f ∷ []) reference p q r = refl
 command-cut (a ∷ b ∷ []) (c ∷ d ∷ e ∷ []) [] reference p q r = absurd (omega arith)
 command-cut (a ∷ b ∷ []) (c ∷ d ∷ e ∷ []) (f ∷ g ∷ xs) reference p q r = absurd (omega arith)
@@ -86,6 +88,12 @@ text-said v octets text =
     let framed : IsFramed (kind_of v) text.0 octets = record { rest = text.1; len = part-len v text.0 text.2; octets_are = text.3 } in
     framed-said (kind_of v) text.0 octets framed ∙ ap in_message (part-said v text.0 text.2)
 
+pub one_value : (v w : Rr) (octets : List ℕ) → IsRrText v octets → IsRrText w octets → v ≡ w
+one_value v w octets p q =
+    let first = text-said v octets p in
+    let second = text-said w octets q in
+    cc
+
 -- what is written is a text
 pub text-is : (v : Rr) → IsPart v (part_text v) → IsRrText v (rr_text v)
 text-is v part = (part_text v, [], part, ap (λ octets. 6 ∷ type_of (kind_of v) ∷ octets) (sym (append-nil (part_text v))))
@@ -115,7 +123,3 @@ seven_octets (a ∷ b ∷ c ∷ d ∷ e ∷ []) h = absurd (omega arith)
 seven_octets (a ∷ b ∷ c ∷ d ∷ e ∷ f ∷ []) h = absurd (omega arith)
 seven_octets (a ∷ b ∷ c ∷ d ∷ e ∷ f ∷ g ∷ []) h = refl
 seven_octets (a ∷ b ∷ c ∷ d ∷ e ∷ f ∷ g ∷ i ∷ rest) h = absurd (omega arith)
-
-pub on_ok : {A E : Type 0} (P : Type 0) (r : Result A E) → P → OnOk r P
-on_ok P (Ok x) p = p
-on_ok P (Err e) p = tt

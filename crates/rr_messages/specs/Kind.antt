@@ -1,5 +1,5 @@
 -- Message types (TS 44.018 section 10.4), and how long the mandatory part of each is.
-use Rattle.std.specs.Prelude.{ℕ, ◌==◌, List, [], ◌∷◌, find, Option}
+use Rattle.std.specs.Prelude.{ℕ}
 use Rattle.rr_messages.specs.declared.kind.Kind.{Kind}
 use Rattle.rr_messages.specs.declared.kind.Kind.TheVariants.{ChannelRelease, MeasurementReport, HandoverFailure, HandoverCommand, HandoverComplete, PhysicalInformation}
 
@@ -11,14 +11,6 @@ type_of HandoverFailure = 0x28
 type_of HandoverCommand = 0x2B
 type_of HandoverComplete = 0x2C
 type_of PhysicalInformation = 0x2D
-
--- the message types
-abbrev pub kinds : List Kind
-kinds = ChannelRelease ∷ MeasurementReport ∷ HandoverFailure ∷ HandoverCommand ∷ HandoverComplete ∷ PhysicalInformation ∷ []
-
--- the message type of an octet
-abbrev pub kind_at : ℕ → Option Kind
-kind_at octet = find (λ kind. octet == type_of kind) kinds
 
 -- how many octets the mandatory part has
 abbrev pub part_len : Kind → ℕ

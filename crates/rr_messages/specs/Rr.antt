@@ -1,19 +1,18 @@
 -- Radio resource messages (TS 44.018 sections 9.1 and 10): a discriminator, a type, a mandatory part, and any rest.
-use Rattle.std.specs.Prelude.{◌≡◌, ℕ, ◌+◌, ◌^◌, ◌<◌, ◌==◌, nat_lt, if◌then◌else◌, List, [], ◌∷◌, ◌++◌, length, take, Option, Some, None, Result, Ok, Err}
-use Rattle.rr_elements.specs.CellDescription.{CellFits, IsCellText, cell_text, cell_said}
-use Rattle.rr_elements.specs.ChanDescription.{ChanFits, IsChanText, chan_text, chan_said}
-use Rattle.rr_elements.specs.Power.{PowerFits, IsPowerText, power_text, power_said}
-use Rattle.rr_elements.specs.RrCause.{IsCauseText, cause_text, cause_said}
-use Rattle.rr_elements.specs.MeasResults.{ResultsFit, IsResultsText, results_text, results_said}
+use Rattle.std.specs.Prelude.{◌≡◌, ◌≢◌, ◌⊎◌, ℕ, ◌+◌, ◌^◌, ◌<◌, List, [], ◌∷◌, ◌++◌, length}
+use Rattle.rr_elements.specs.CellDescription.{CellFits, IsCellText, cell_text}
+use Rattle.rr_elements.specs.ChanDescription.{ChanFits, IsChanText, chan_text, HasChanFault}
+use Rattle.rr_elements.specs.Power.{PowerFits, IsPowerText, power_text}
+use Rattle.rr_elements.specs.RrCause.{IsCauseText, cause_text}
+use Rattle.rr_elements.specs.MeasResults.{ResultsFit, IsResultsText, results_text}
 use Rattle.rr_elements.specs.declared.fault.ElementFault.{ElementFault}
-use Rattle.rr_elements.specs.declared.fault.ElementFault.TheVariants.{Length}
 use Rattle.rr_messages.specs.declared.kind.Kind.{Kind}
 use Rattle.rr_messages.specs.declared.kind.Kind.TheVariants as kind
 use Rattle.rr_messages.specs.declared.fault.RrFault.{RrFault}
-use Rattle.rr_messages.specs.declared.fault.RrFault.TheVariants.{NotRr, UnknownType, Short, Element}
+use Rattle.rr_messages.specs.declared.fault.RrFault.TheVariants.{NotRr, UnknownType, Short, Element, NoMemory}
 use Rattle.rr_messages.specs.declared.message.Rr.{Rr}
 use Rattle.rr_messages.specs.declared.message.Rr.TheVariants.{HandoverCommand, HandoverComplete, HandoverFailure, ChannelRelease, PhysicalInformation, MeasurementReport}
-use Rattle.rr_messages.specs.Kind.{type_of, kind_at, part_len}
+use Rattle.rr_messages.specs.Kind.{type_of, part_len}
 
 -- the message type of a value
 abbrev pub kind_of : Rr → Kind
@@ -70,46 +69,23 @@ Fits (ChannelRelease cause) = cause.0 < 2 ^ 8
 Fits (PhysicalInformation advance) = advance < 2 ^ 8
 Fits (MeasurementReport results) = ResultsFit results
 
-infixl 10 ◌>>=◌
-abbrev pub ◌>>=◌ : {A B F : Type 0} → Result A F → (A → Result B F) → Result B F
-(Ok x) >>= f = f x
-(Err e) >>= f = Err e
+-- The part has a bad element. No element of a part of its length is bad but the channel, the second
+-- element of a handover command, which comes after the two octets of the cell.
+abbrev pub HasPartFault : Kind → List ℕ → ElementFault → Type 0
+HasPartFault kind.HandoverCommand part fault =
+    (first second rest : List ℕ) × (length first ≡ 2) × (length second ≡ 3) × (part ≡ first ++ second ++ rest) × HasChanFault second fault
+HasPartFault _ part fault = ⊥
 
--- what the octets of a handover command's part say, cut into its elements
-abbrev pub command_said : List ℕ → Result Rr ElementFault
-command_said (a ∷ b ∷ c ∷ d ∷ e ∷ reference ∷ f ∷ []) =
-    cell_said (a ∷ b ∷ []) >>= λ cell. chan_said (c ∷ d ∷ e ∷ []) >>= λ channel. power_said (f ∷ []) >>= λ power. Ok (HandoverCommand cell channel reference power)
-command_said _ = Err Length
+-- the same as a fault of the message
+abbrev pub HasElementFault : Kind → List ℕ → RrFault → Type 0
+HasElementFault k part (Element fault) = HasPartFault k part fault
+HasElementFault k part _ = ⊥
 
--- any octet
-abbrev pub advance_said : List ℕ → Result Rr ElementFault
-advance_said (advance ∷ []) = Ok (PhysicalInformation advance)
-advance_said _ = Err Length
-
--- what a mandatory part says, or the first fault of its elements
-abbrev pub part_said : Kind → List ℕ → Result Rr ElementFault
-part_said kind.ChannelRelease part = cause_said part >>= λ cause. Ok (ChannelRelease cause)
-part_said kind.MeasurementReport part = results_said part >>= λ results. Ok (MeasurementReport results)
-part_said kind.HandoverFailure part = cause_said part >>= λ cause. Ok (HandoverFailure cause)
-part_said kind.HandoverCommand part = command_said part
-part_said kind.HandoverComplete part = cause_said part >>= λ cause. Ok (HandoverComplete cause)
-part_said kind.PhysicalInformation part = advance_said part
-
-abbrev pub in_message : Result Rr ElementFault → Result Rr RrFault
-in_message (Ok v) = Ok v
-in_message (Err fault) = Err (Element fault)
-
--- what follows a type says: a part that is cut is Short
-abbrev pub body_said : ℕ → Option Kind → List ℕ → Result Rr RrFault
-body_said octet None body = Err (UnknownType octet)
-body_said octet (Some k) body =
-    if nat_lt (length body) (part_len k) then Err Short else in_message (part_said k (take (part_len k) body))
-
-abbrev pub typed_said : List ℕ → Result Rr RrFault
-typed_said [] = Err Short
-typed_said (octet ∷ body) = body_said octet (kind_at octet) body
-
--- what octets say, or the first fault
-abbrev pub rr_said : List ℕ → Result Rr RrFault
-rr_said [] = Err NotRr
-rr_said (discriminator ∷ octets) = if discriminator == 6 then typed_said octets else Err NotRr
+-- The octets have this fault: no octet, or another discriminator; no type, or a part that is cut; a type
+-- that no message has; a bad element in the part. Memory is never wanted.
+abbrev pub HasRrFault : List ℕ → RrFault → Type 0
+HasRrFault octets NotRr = (octets ≡ []) ⊎ ((d : ℕ) × (rest : List ℕ) × (octets ≡ d ∷ rest) × (d ≢ 6))
+HasRrFault octets Short = (octets ≡ 6 ∷ []) ⊎ ((k : Kind) × (body : List ℕ) × (octets ≡ 6 ∷ type_of k ∷ body) × (length body < part_len k))
+HasRrFault octets (UnknownType t) = (body : List ℕ) × (octets ≡ 6 ∷ t ∷ body) × ((k : Kind) → t ≢ type_of k)
+HasRrFault octets (Element fault) = (k : Kind) × (part : List ℕ) × IsFramed k part octets × HasPartFault k part fault
+HasRrFault octets NoMemory = ⊥

@@ -1,6 +1,6 @@
 //! Message types.
-ghost use Rattle.std.specs.Prelude.{◌≡◌, IfSome};
-ghost use Rattle.rr_messages.specs.Kind.{type_of, kind_at, part_len};
+ghost use Rattle.std.specs.Prelude.{◌≡◌, ◌≢◌, IfSome, IfNone};
+ghost use Rattle.rr_messages.specs.Kind.{type_of, part_len};
 
 /// The type of a message.
 #[derive(Clone, Copy, Debug, PartialEq, Eq)]
@@ -16,8 +16,8 @@ pub(crate) enum Kind {
 impl Kind {
     /// The type with this octet, if there is one.
     pub(crate) fn at(octet: u8) -> Option<Kind>
-        ensures kind { result ≡ kind_at octet }
-        ensures octet { IfSome result (λ kind. type_of kind ≡ octet) }
+        ensures some { IfSome result (λ kind. type_of kind ≡ octet) }
+        ensures none { IfNone result ((kind : Kind) → octet ≢ type_of kind) }
     {
         match octet {
             0x0D => Some(Kind::ChannelRelease),

@@ -1,6 +1,7 @@
 //! Octets as messages.
-ghost use Rattle.std.specs.Prelude.{◌≡◌, ◌≢◌, IfOk, Ok, Err};
-ghost use Rattle.rr_messages.specs.Rr.{kind_of, IsFramed, IsPart, IsRrText, part_said, command_said, in_message, rr_said};
+ghost use Rattle.std.specs.Prelude.{◌≡◌, ◌≢◌, IsOk, IfOk, IfErr, Ok, Err, length};
+ghost use Rattle.rr_messages.specs.Kind.{part_len};
+ghost use Rattle.rr_messages.specs.Rr.{kind_of, IsFramed, IsPart, IsRrText, HasPartFault, HasElementFault, HasRrFault};
 ghost use Rattle.rr_messages.specs.declared.kind.Kind.TheVariants.{HandoverCommand as CommandKind, MeasurementReport as ReportKind};
 
 use crate::fault::RrFault;
@@ -12,9 +13,10 @@ use rr_elements::{CellDescription, ChanDescription, ElementFault, MeasResults, P
 pub(crate) const RADIO_RESOURCES: u8 = 6;
 
 fn command(part: &[u8]) -> Result<Rr, ElementFault>
-    ensures said { result ≡ command_said part.now }
+    requires { length part.now ≡ part_len CommandKind }
     ensures part { IfOk result (λ v. IsPart v part.now) }
     ensures kind { IfOk result (λ v. kind_of v ≡ CommandKind) }
+    ensures fault { IfErr result (HasPartFault CommandKind part.now) }
 {
     let [cell1, cell2, chan1, chan2, chan3, reference, power] = part else {
         return Err(ElementFault::Length);
@@ -33,19 +35,19 @@ fn command(part: &[u8]) -> Result<Rr, ElementFault>
 // It isn't inlined: else the fields of each message are moved as if it had those of results too.
 #[inline(never)]
 fn report(part: &[u8]) -> Result<Rr, RrFault>
-    ensures said { result ≡ in_message (part_said ReportKind part.now) }
+    requires { length part.now ≡ part_len ReportKind }
     ensures part { IfOk result (λ v. IsPart v part.now) }
     ensures kind { IfOk result (λ v. kind_of v ≡ ReportKind) }
-    ensures no_memory { result ≢ Err RrFault.NoMemory }
+    ensures ok { IsOk result }
 {
     Ok(Rr::MeasurementReport(MeasResults::decode(part)?))
 }
 
 fn message(kind: Kind, part: &[u8]) -> Result<Rr, RrFault>
-    ensures said { result ≡ in_message (part_said kind part.now) }
+    requires { length part.now ≡ part_len kind }
     ensures part { IfOk result (λ v. IsPart v part.now) }
     ensures kind { IfOk result (λ v. kind_of v ≡ kind) }
-    ensures no_memory { result ≢ Err RrFault.NoMemory }
+    ensures fault { IfErr result (HasElementFault kind part.now) }
 {
     match kind {
         Kind::ChannelRelease => Ok(Rr::ChannelRelease(RrCause::decode(part)?)),
@@ -65,8 +67,7 @@ fn message(kind: Kind, part: &[u8]) -> Result<Rr, RrFault>
 // The type of a message and its mandatory part.
 fn frame(octets: &[u8]) -> Result<(Kind, &[u8]), RrFault>
     ensures ok { IfOk result (λ x. IsFramed x.0 x.1.now octets.now) }
-    ensures err { (fault : RrFault) → result ≡ Err fault → rr_said octets.now ≡ Err fault }
-    ensures no_memory { result ≢ Err RrFault.NoMemory }
+    ensures fault { IfErr result (HasRrFault octets.now) }
 {
     let (discriminator, octets) = octets.split_first().ok_or(RrFault::NotRr)?;
     if *discriminator != RADIO_RESOURCES {
@@ -90,7 +91,7 @@ pub fn decode(octets: &[u8]) -> Result<Rr, RrFault>
     ensures only { (v : Rr) → IsRrText v octets.now → result ≡ Ok v }
 
     // The first fault; want of memory is none of them.
-    ensures said { result ≡ rr_said octets.now }
+    ensures fault { IfErr result (HasRrFault octets.now) }
     ensures no_memory { result ≢ Err RrFault.NoMemory }
 {
     let (kind, part) = frame(octets)?;

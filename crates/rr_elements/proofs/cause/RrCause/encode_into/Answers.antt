@@ -1,9 +1,6 @@
 use Rattle.std.proofs.Common.{rules}
-use Rattle.rr_elements.proofs.ElementLemmas.{cause-again, cause-text}
+use Rattle.rr_elements.proofs.ElementLemmas.{cause-text}
 use Rattle.rr_elements.proofs.cause.RrCause.encode_into.Goals as goal
-
-pub returns-clause-again : goal.returns-clause-again
-returns-clause-again g c = cause-again c.args.self.now (search rules)
 
 pub returns-clause-text : goal.returns-clause-text
 returns-clause-text g c = cause-text c.args.self.now (search rules)

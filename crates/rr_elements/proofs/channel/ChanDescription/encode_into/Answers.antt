@@ -1,8 +1,5 @@
-use Rattle.rr_elements.proofs.ElementLemmas.{chan-again, chan-text}
+use Rattle.rr_elements.proofs.ElementLemmas.{chan-text}
 use Rattle.rr_elements.proofs.channel.ChanDescription.encode_into.Goals as goal
-
-pub returns-clause-again : goal.returns-clause-again
-returns-clause-again g c = rw (← c.self.view_is) (chan-again _ c.self.invariant)
 
 pub returns-clause-text : goal.returns-clause-text
 returns-clause-text g c = rw (← c.self.view_is) (chan-text _ c.self.invariant)

@@ -1,6 +1,6 @@
 use Rattle.std.proofs.Common.{◌≡◌, ◌∙◌, sym, ap, arith, rules, length, flat_map, take, ◌*◌, List, ℕ}
 use Rattle.rr_elements.specs.Bits.{bits_of, cut, after, repeated_widths}
-use Rattle.rr_elements.specs.MeasResults.{Results, IsResultsText, results_said, used_count, head_numbers, head_widths, ncell_numbers, ncell_widths}
+use Rattle.rr_elements.specs.MeasResults.{Results, IsResultsText, used_count, head_numbers, head_widths, ncell_numbers, ncell_widths}
 use Rattle.rr_elements.proofs.ResultsLemmas.{text-said, read-text}
 use Rattle.rr_elements.proofs.KeptLemmas.{used_count_le}
 use Rattle.rr_elements.proofs.results.MeasResults.decode.Goals as goal
@@ -9,12 +9,11 @@ sixteen : (v : Results) (octets : List ℕ) → IsResultsText v octets → lengt
 sixteen v octets text = let bits : 8 * length octets ≡ 128 = text.fields.len in omega arith
 
 pub returns-then-octets-ne16 : goal.returns-then-octets-ne16
-unfolding results_said
 returns-then-octets-ne16 c = record {
   text = search rules;
   only = λ v text. absurd (omega (arith, sixteen v c.args.octets.now text));
   length = search rules;
-  said = search rules;
+  fault = search rules;
 }
 
 pub returns : goal.returns
@@ -32,5 +31,5 @@ returns c =
       text = text;
       only = λ v other. sym said ∙ text-said v octets other;
       length = search rules;
-      said = sym said;
+      fault = search rules;
     }

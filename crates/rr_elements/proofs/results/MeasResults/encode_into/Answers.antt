@@ -1,6 +1,6 @@
 use Rattle.rr_elements.proofs.KeptLemmas.{kept_fits}
 use Rattle.rr_elements.proofs.ResultsLemmas.{bits_written-kept}
-use Rattle.rr_elements.proofs.ResultsTexts.{results-again, results-text}
+use Rattle.rr_elements.proofs.ResultsTexts.{results-text}
 use Rattle.rr_elements.proofs.results.MeasResults.encode_into.Goals as goal
 
 pub put_ncells-requires-clause-fits : goal.put_ncells-requires-clause-fits
@@ -11,9 +11,6 @@ returns-clause-ok g c =
     let all = bits_written-kept c.self.inside.head c.self.inside.places c.self.invariant in
     let text = rw (c.put_ncells.ensures.bits, c.put_head.ensures.bits, c.new-bits.ensures, all) at c.append_to.ensures.ok in
     rw (← c.self.view_is) text
-
-pub returns-clause-again : goal.returns-clause-again
-returns-clause-again g c = rw (← c.self.view_is) (results-again _ c.self.invariant.fits)
 
 pub returns-clause-text : goal.returns-clause-text
 returns-clause-text g c = rw (← c.self.view_is) (results-text _ c.self.invariant.fits)
