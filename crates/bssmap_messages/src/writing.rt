@@ -3,10 +3,10 @@ ghost use Rattle.std.specs.Prelude.{◌≡◌, ◌≤◌, ◌<◌, ◌+◌, ◌*
 ghost use Rattle.std.specs.List.{list_all};
 ghost use Rattle.octet_elements.specs.Elements.{Fits, all_octets, element_octets};
 ghost use Rattle.bssmap_messages.specs.Forms.{interface_a};
-ghost use Rattle.bssmap_messages.specs.Heads.{limit, type_of};
+ghost use Rattle.bssmap_messages.specs.Heads.{limit};
 ghost use Rattle.bssmap_messages.specs.Messages.{elements_of, kind_of};
 ghost use Rattle.octet_elements.specs.Values.{pair_octets, where_some};
-ghost use Rattle.bssmap_messages.specs.Values.{cell_octets, cell_value, classmark_element, where_true, cells_value};
+ghost use Rattle.bssmap_messages.specs.Values.{cell_octets, cell_value, classmark_element, where_true};
 ghost use Rattle.bssmap_messages.specs.Texts.{HasCanonical, canonical_text};
 
 use crate::head::{LIMIT, MessageKind, type_octet};
@@ -252,6 +252,7 @@ fn append_classmark<A: Allocator + Copy>(out: &mut Vec<u8, A>, classmark: &Class
 }
 
 /// Appends the elements of a HANDOVER REQUEST, for which the list has room.
+#[tactic(auto, using(crate::proofs::Lengths::request_length))]
 fn append_request<A: Allocator + Copy>(
     out: &mut Vec<u8, A>,
     channel: &Octets<A>,
@@ -263,13 +264,11 @@ fn append_request<A: Allocator + Copy>(
     requires channel { length channel.now < 256 }
     requires encryption { length encryption.now < 256 }
     requires classmark { Fits interface_a (classmark_element classmark.now) }
-    requires room { vec_len out.old + (18 + length channel.now + length encryption.now +
-        length (element_octets interface_a (classmark_element classmark.now))) ≤
+    requires room { vec_len out.old + length (all_octets interface_a (elements_of
+        (Bssmap.HandoverRequest channel.now encryption.now classmark.now serving target))) ≤
         vec_capacity out.old }
-    ensures { out.new.items ≡ out.old.items ++
-        all_octets interface_a ((0x0B, channel.now) ∷ (0x0A, encryption.now) ∷
-        classmark_element classmark.now ∷ (0x05, cell_value serving) ∷
-        (0x05, cell_value target) ∷ []) }
+    ensures { out.new.items ≡ out.old.items ++ all_octets interface_a (elements_of
+        (Bssmap.HandoverRequest channel.now encryption.now classmark.now serving target)) }
 {
     append_element::<InterfaceA, A>(out, CHANNEL_TYPE, channel.as_slice());
     append_element::<InterfaceA, A>(out, ENCRYPTION_INFORMATION, encryption.as_slice());
@@ -289,14 +288,14 @@ fn append_cells<A: Allocator>(out: &mut Vec<u8, A>, cells: &[CellId])
 }
 
 /// Appends the elements of a HANDOVER REQUIRED, for which the list has room.
+#[tactic(auto, using(crate::proofs::Lengths::required_length))]
 fn append_required<A: Allocator>(out: &mut Vec<u8, A>, cause: u8, response: bool, cells: &[CellId])
     requires cells { 1 + 4 * length cells.now < 256 }
-    requires room { vec_len out.old + (6 +
-        length (all_octets interface_a (where_true 0x1B response)) + 4 * length cells.now) ≤
+    requires room { vec_len out.old + length (all_octets interface_a
+        (elements_of {A = A} (Bssmap.HandoverRequired cause response cells.now))) ≤
         vec_capacity out.old }
-    ensures { out.new.items ≡ out.old.items ++
-        all_octets interface_a ((0x04, cause ∷ []) ∷ where_true 0x1B response ++
-        (0x1A, cells_value cells.now) ∷ []) }
+    ensures { out.new.items ≡ out.old.items ++ all_octets interface_a
+        (elements_of {A = A} (Bssmap.HandoverRequired cause response cells.now)) }
 {
     append_cause(out, cause);
     append_response(out, response);
@@ -332,7 +331,6 @@ fn append_rr<A: Allocator>(out: &mut Vec<u8, A>, rr: Option<u8>)
 }
 
 /// Appends the elements of a message, for which the list has room.
-#[tactic(auto, using(crate::proofs::Lengths::request_length, crate::proofs::Lengths::required_length))]
 fn append_elements<A: Allocator + Copy>(message: &Bssmap<A>, out: &mut Vec<u8, A>)
     requires canonical { HasCanonical message.now }
     requires room { vec_len out.old + length (all_octets interface_a (elements_of message.now)) ≤

@@ -1,10 +1,9 @@
 //! Writing a message.
-ghost use Rattle.std.specs.Prelude.{◌≡◌, ◌≤◌, ◌<◌, ◌+◌, ◌++◌, ◌↔◌, [], IsTrue, IsNone, IfSome, length, IsOk, IfOk, OnOk, OnErr, vec_len, vec_capacity};
+ghost use Rattle.std.specs.Prelude.{◌≡◌, ◌≤◌, ◌<◌, ◌+◌, ◌++◌, ◌↔◌, IsTrue, IsNone, IfSome, length, IsOk, IfOk, OnOk, OnErr, vec_len, vec_capacity};
 ghost use Rattle.std.specs.Option.{option_map};
 ghost use Rattle.octet_elements.specs.Elements.{all_octets};
 ghost use Rattle.rsl_messages.specs.Forms.{abis};
 ghost use Rattle.rsl_messages.specs.Messages.{elements_of, kind_of};
-ghost use Rattle.rsl_messages.specs.Heads.{head_of};
 ghost use Rattle.octet_elements.specs.Values.{pair_octets, where_value};
 ghost use Rattle.rsl_messages.specs.Values.{channel_octet};
 ghost use Rattle.rsl_messages.specs.Texts.{limit, HasCanonical, canonical_text};

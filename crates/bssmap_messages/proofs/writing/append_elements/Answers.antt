@@ -15,14 +15,6 @@ append_required-requires-clause-cells g c =
     let within = canonical.within in
     omega arith
 
-pub append_required-requires-clause-room : goal.append_required-requires-clause-room
-append_required-requires-clause-room g c =
-    let arm = c.in-HandoverRequired in
-    let long = required_length arm.cause arm.response arm.cells in
-    let cells : length c.as_slice.result.now ≡ length arm.cells = ap length c.as_slice.ensures in
-    let room = rw arm.is at c.requires.room in
-    omega arith
-
 pub returns-in-HandoverRequest : goal.returns-in-HandoverRequest
 returns-in-HandoverRequest g c =
     let arm = c.in-HandoverRequest in
