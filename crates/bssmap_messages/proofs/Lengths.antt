@@ -1,22 +1,21 @@
 -- How many octets elements have.
 use Rattle.std.proofs.Common.{◌≡◌, ℕ, ◌+◌, ◌*◌, List, [], ◌∷◌, ◌++◌, length, length-append, flat_map, Bool, true, false, refl, ◌∙◌, ap, arith, append_assoc, append-nil}
-use Rattle.octet_elements.specs.Elements.{all_octets}
+use Rattle.octet_elements.specs.Elements.{all_octets, element_octets}
 use Rattle.bssmap_messages.specs.declared.message.CellId.{CellId}
 use Rattle.bssmap_messages.specs.declared.message.Classmark.{Classmark}
 use Rattle.bssmap_messages.specs.declared.message.Classmark.TheVariants.{One, Two}
 use Rattle.bssmap_messages.specs.Forms.{interface_a}
 use Rattle.bssmap_messages.specs.Values.{cell_octets, cell_value, cells_value, classmark_element, where_true}
-use Rattle.bssmap_messages.specs.Texts.{classmark_length, response_length}
 
 pub cells_length : (cells : List CellId) → length (flat_map cell_octets cells) ≡ 4 * length cells
 cells_length [] = refl
 cells_length (cell ∷ cells) = let rest = cells_length cells in omega arith
 
-pub request_length : {A : Type 0} (channel encryption : List ℕ) (classmark : Classmark A) (serving target : CellId) → length (all_octets interface_a ((0x0B, channel) ∷ (0x0A, encryption) ∷ classmark_element classmark ∷ (0x05, cell_value serving) ∷ (0x05, cell_value target) ∷ [])) ≡ 18 + length channel + length encryption + classmark_length classmark
+pub request_length : {A : Type 0} (channel encryption : List ℕ) (classmark : Classmark A) (serving target : CellId) → length (all_octets interface_a ((0x0B, channel) ∷ (0x0A, encryption) ∷ classmark_element classmark ∷ (0x05, cell_value serving) ∷ (0x05, cell_value target) ∷ [])) ≡ 18 + length channel + length encryption + length (element_octets interface_a (classmark_element classmark))
 request_length channel encryption (One octet) serving target = simp length-append (omega arith)
 request_length channel encryption (Two v) serving target = simp length-append (omega arith)
 
-pub required_length : (cause : ℕ) (response : Bool) (cells : List CellId) → length (all_octets interface_a ((0x04, cause ∷ []) ∷ where_true 0x1B response ++ (0x1A, cells_value cells) ∷ [])) ≡ 6 + response_length response + 4 * length cells
+pub required_length : (cause : ℕ) (response : Bool) (cells : List CellId) → length (all_octets interface_a ((0x04, cause ∷ []) ∷ where_true 0x1B response ++ (0x1A, cells_value cells) ∷ [])) ≡ 6 + length (all_octets interface_a (where_true 0x1B response)) + 4 * length cells
 required_length cause true cells = let all = cells_length cells in simp length-append (omega arith)
 required_length cause false cells = let all = cells_length cells in simp length-append (omega arith)
 

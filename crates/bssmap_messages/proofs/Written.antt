@@ -1,5 +1,6 @@
 -- A message has a canonical text exactly where its fields can be written.
-use Rattle.std.proofs.Common.{◌≡◌, ℕ, ◌+◌, ◌*◌, ◌<◌, ◌/◌, ◌%◌, ◌&&◌, List, [], ◌∷◌, length, length-append, flat_map, unwrap_or, Option, Some, None, Result, Ok, Err, refl, sym, ◌∙◌, ap, arith, Bool, true, false}
+use Rattle.std.proofs.Common.{◌≡◌, ℕ, ◌+◌, ◌*◌, ◌<◌, ◌≤◌, ◌/◌, ◌%◌, ◌&&◌, List, [], ◌∷◌, length, length-append, flat_map, unwrap_or, Option, Some, None, Result, Ok, Err, refl, sym, ◌∙◌, ap, arith, Bool, true, false, IsTrue, IsSome}
+use Rattle.std.specs.List.{list_all}
 use Rattle.std.specs.Option.{option_map, is_some}
 use Rattle.octet_elements.specs.Reading.{◌>>=◌}
 use Rattle.bssmap_messages.specs.declared.message.CellId.{CellId}
@@ -9,10 +10,30 @@ use Rattle.bssmap_messages.specs.declared.message.Bssmap.{Bssmap}
 use Rattle.bssmap_messages.specs.declared.message.Bssmap.TheVariants.{HandoverRequest, HandoverRequired, HandoverRequestAck, HandoverCommand, HandoverComplete, HandoverFailure, HandoverPerformed, HandoverRequiredReject, HandoverDetect, ClearCommand, ClearComplete, ClearRequest}
 use Rattle.octet_elements.specs.declared.values.ElementFault.{ElementFault}
 use Rattle.octet_elements.specs.Values.{pair, octets_in}
-use Rattle.bssmap_messages.specs.Values.{channel_type_in, cells_with_area, some_cells, cell_in, cells_in, cell_octets, cell_value, cells_value}
+use Rattle.bssmap_messages.specs.Values.{channel_type_in, cells_with_area, some_cells, cell_in, cells_in, cell_octets, cell_value, cells_value, classmark_element, where_true}
 use Rattle.bssmap_messages.specs.Messages.{handover_request, handover_required, handover_request_ack, handover_command, handover_complete, handover_failure, handover_performed, handover_required_reject, clear_command, clear_request}
-use Rattle.bssmap_messages.specs.Texts.{HasCanonical, IsWritable, have_areas, HasArea}
+use Rattle.bssmap_messages.specs.Heads.{limit}
+use Rattle.bssmap_messages.specs.Texts.{HasCanonical}
+use Rattle.bssmap_messages.specs.Forms.{interface_a}
+use Rattle.octet_elements.specs.Elements.{all_octets, element_octets}
 use Rattle.bssmap_messages.proofs.Lengths.{request_length, required_length}
+
+-- the cell has a location area code
+abbrev HasArea : CellId → Type 0
+HasArea cell = IsSome cell.lac
+
+-- each cell has one
+abbrev have_areas : List CellId → Bool
+have_areas cells = list_all (λ cell. is_some cell.lac) cells
+
+-- what of the fields of a message decides whether it can be written
+abbrev pub IsWritable : {A : Type 0} → Bssmap A → Type 0
+IsWritable (HandoverRequest channel encryption classmark serving target) = (1 < length channel) × (0 < length encryption) × HasArea serving × HasArea target × (19 + length channel + length encryption + length (element_octets interface_a (classmark_element classmark)) ≤ limit)
+IsWritable (HandoverRequired cause response cells) = (0 < length cells) × IsTrue (have_areas cells) × (7 + length (all_octets interface_a (where_true 0x1B response)) + 4 * length cells ≤ limit)
+IsWritable (HandoverRequestAck layer3) = (0 < length layer3) × (3 + length layer3 ≤ limit)
+IsWritable (HandoverCommand layer3) = (0 < length layer3) × (3 + length layer3 ≤ limit)
+IsWritable (HandoverPerformed cause cell) = HasArea cell
+IsWritable v = Unit {0}
 
 -- Each reader reads again what is written.
 channel_again : (v : List ℕ) → 1 < length v → channel_type_in (Some v) ≡ Ok v

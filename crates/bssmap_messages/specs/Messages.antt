@@ -8,7 +8,7 @@ use Rattle.bssmap_messages.specs.declared.head.MessageKind.TheVariants as kind
 use Rattle.bssmap_messages.specs.declared.message.Bssmap.{Bssmap}
 use Rattle.bssmap_messages.specs.declared.message.Bssmap.TheVariants.{HandoverRequest, HandoverRequired, HandoverRequestAck, HandoverCommand, HandoverComplete, HandoverFailure, HandoverPerformed, HandoverRequiredReject, HandoverDetect, ClearCommand, ClearComplete, ClearRequest}
 use Rattle.octet_elements.specs.Values.{octet_in, optional_octet_in, octets_in, where_some}
-use Rattle.bssmap_messages.specs.Values.{channel_type_in, classmark_in, stands, cell_in, cells_in, cell_value, cells_value, classmark_element, where_true}
+use Rattle.bssmap_messages.specs.Values.{channel_type_in, classmark_in, is_there, cell_in, cells_in, cell_value, cells_value, classmark_element, where_true}
 
 -- what the values of its elements say, where they are there; else the first fault in the order of the message
 abbrev pub Said : Type 0 → Type 0
@@ -30,7 +30,7 @@ unfoldable pub handover_required : {A : Type 0} → Option (List ℕ) → Option
 handover_required cause response cells = do
   cause ← octet_in 0x04 cause
   cells ← cells_in cells
-  Ok (HandoverRequired cause (stands response) cells)
+  Ok (HandoverRequired cause (is_there response) cells)
 
 -- Clause 3.2.1.10: layer 3 information (3.2.2.24).
 unfoldable pub handover_request_ack : {A : Type 0} → Option (List ℕ) → Said A

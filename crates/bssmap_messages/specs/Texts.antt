@@ -1,8 +1,7 @@
 -- Which octets are the text of a message, what is wrong with all others, and which text is written
 -- (TS 48.008 clause 3.2).
-use Rattle.std.specs.Prelude.{◌≡◌, ◌⊎◌, ℕ, ◌+◌, ◌*◌, ◌<◌, ◌≤◌, Bool, true, false, IsTrue, IsSome, List, ◌∷◌, length, Result, Ok, Err}
-use Rattle.std.specs.List.{AllByRecursion, list_all}
-use Rattle.std.specs.Option.{is_some}
+use Rattle.std.specs.Prelude.{◌≡◌, ◌⊎◌, ℕ, ◌+◌, ◌≤◌, List, ◌∷◌, length, Result, Ok, Err}
+use Rattle.std.specs.List.{AllByRecursion}
 use Rattle.octet_elements.specs.Elements.{Element, Fits, AreElements, IsTornAt, all_octets}
 use Rattle.octet_elements.specs.declared.values.ElementFault.{ElementFault}
 use Rattle.octet_elements.specs.declared.values.ElementFault.TheVariants.{Absent, Bad}
@@ -10,10 +9,6 @@ use Rattle.bssmap_messages.specs.declared.fault.BssmapFault.{BssmapFault}
 use Rattle.bssmap_messages.specs.declared.fault.BssmapFault.TheVariants as fault
 use Rattle.bssmap_messages.specs.declared.head.MessageKind.{MessageKind}
 use Rattle.bssmap_messages.specs.declared.message.Bssmap.{Bssmap}
-use Rattle.bssmap_messages.specs.declared.message.Bssmap.TheVariants.{HandoverRequest, HandoverRequired, HandoverRequestAck, HandoverCommand, HandoverPerformed}
-use Rattle.bssmap_messages.specs.declared.message.CellId.{CellId}
-use Rattle.bssmap_messages.specs.declared.message.Classmark.{Classmark}
-use Rattle.bssmap_messages.specs.declared.message.Classmark.TheVariants.{One, Two}
 use Rattle.bssmap_messages.specs.Forms.{interface_a}
 use Rattle.bssmap_messages.specs.Heads.{Begins, HasHeadFault, limit, type_of}
 use Rattle.bssmap_messages.specs.Values.{fault_of}
@@ -32,15 +27,14 @@ pub record IsTextOf {A : Type 0} (v : Bssmap A) (octets : List ℕ) : Type 0 whe
   pub head : Begins kind octets body
   pub says : Says kind body (Ok v)
 
--- an element of the body is cut; its offset counts the head too
-abbrev pub IsTornBody : List ℕ → BssmapFault → Type 0
-IsTornBody body (fault.Torn at) = (offset : ℕ) × IsTornAt interface_a body offset × (at ≡ 3 + offset)
-IsTornBody body _ = ⊥
+-- the body is torn at this offset, which counts the head too
+abbrev pub IsTornBody : List ℕ → ℕ → Type 0
+IsTornBody body at = (offset : ℕ) × IsTornAt interface_a body offset × (at ≡ 3 + offset)
 
 -- The body has this fault: it is torn, or an element is missing or bad. Memory runs out only for a
 -- message that keeps an octet list or a cell list.
 abbrev pub HasBodyFault : (A : Type 0) → MessageKind → List ℕ → BssmapFault → Type 0
-HasBodyFault A kind body (fault.Torn at) = IsTornBody body (fault.Torn at)
+HasBodyFault A kind body (fault.Torn at) = IsTornBody body at
 HasBodyFault A kind body (fault.Missing i) = Says {A = A} kind body (Err (Absent i))
 HasBodyFault A kind body (fault.BadElement i) = Says {A = A} kind body (Err (Bad i))
 HasBodyFault A kind body fault.NoMemory = (v : Bssmap A) × Says kind body (Ok v) × HasList v
@@ -77,36 +71,6 @@ pub record HasCanonical {A : Type 0} (v : Bssmap A) : Type 0 where
 abbrev pub Answers : {A : Type 0} → Result (Bssmap A) BssmapFault → Said A → Type 0
 Answers (Ok v) said = said ≡ Ok v
 Answers {A} (Err f) said = ((e : ElementFault) × (said ≡ Err e) × (f ≡ fault_of e)) ⊎ ((f ≡ fault.NoMemory) × (v : Bssmap A) × (said ≡ Ok v) × HasList v)
-
--- what reading the body of a message gives
-abbrev pub ReadsBody : {A : Type 0} → MessageKind → List ℕ → Result (Bssmap A) BssmapFault → Type 0
-ReadsBody kind body (Ok v) = Says kind body (Ok v)
-ReadsBody {A} kind body (Err f) = HasBodyFault A kind body f
-
--- how many octets the element of a classmark has
-abbrev pub classmark_length : {A : Type 0} → Classmark A → ℕ
-classmark_length (One octet) = 2
-classmark_length (Two v) = 2 + length v
-
--- how many octets a response request has
-abbrev pub response_length : Bool → ℕ
-response_length true = 1
-response_length false = 0
-
-abbrev pub HasArea : CellId → Type 0
-HasArea cell = IsSome cell.lac
-
-abbrev pub have_areas : List CellId → Bool
-have_areas cells = list_all (λ cell. is_some cell.lac) cells
-
--- the same, by the fields of the message: what is tested before it is written
-abbrev pub IsWritable : {A : Type 0} → Bssmap A → Type 0
-IsWritable (HandoverRequest channel encryption classmark serving target) = (1 < length channel) × (0 < length encryption) × HasArea serving × HasArea target × (19 + length channel + length encryption + classmark_length classmark ≤ limit)
-IsWritable (HandoverRequired cause response cells) = (0 < length cells) × IsTrue (have_areas cells) × (7 + response_length response + 4 * length cells ≤ limit)
-IsWritable (HandoverRequestAck layer3) = (0 < length layer3) × (3 + length layer3 ≤ limit)
-IsWritable (HandoverCommand layer3) = (0 < length layer3) × (3 + length layer3 ≤ limit)
-IsWritable (HandoverPerformed cause cell) = HasArea cell
-IsWritable v = Unit {0}
 
 -- Octets have one reading: a text has one value, and no fault but want of memory; what is no text has one
 -- fault.

@@ -38,10 +38,10 @@ abbrev pub kept_classmark : {A : Type 0} → ClassmarkValue → Classmark A
 kept_classmark (in_octets.One octet) = One octet
 kept_classmark (in_octets.Two v) = Two v.now
 
--- an element that stands alone says that it is there
-abbrev pub stands : Option (List ℕ) → Bool
-stands None = false
-stands (Some v) = true
+-- an element without a value says that it is there
+abbrev pub is_there : Option (List ℕ) → Bool
+is_there None = false
+is_there (Some v) = true
 
 -- Cells after the discriminator (clauses 3.2.2.17 and 3.2.2.27) are one after the other:
 -- each has a mobile country and network code of three octets, which isn't kept, location area code and

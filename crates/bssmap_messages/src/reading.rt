@@ -1,12 +1,12 @@
 //! Reading a message.
-ghost use Rattle.std.specs.Prelude.{◌≡◌, ◌≢◌, ◌≤◌, ◌+◌, List, [], length, map, Ok, Err, IfOk, IfErr, OnOk};
+ghost use Rattle.std.specs.Prelude.{ℕ, ◌≡◌, ◌≢◌, ◌≤◌, ◌+◌, List, [], length, map, Ok, Err, IfOk, IfErr, OnOk};
 ghost use Rattle.std.specs.Option.{option_map};
 ghost use Rattle.octet_elements.specs.Elements.{Element, AreElements, wanted_of};
 ghost use Rattle.bssmap_messages.specs.Forms.{interface_a};
 ghost use Rattle.bssmap_messages.specs.Heads.{limit};
 ghost use Rattle.octet_elements.specs.Values.{value_seen};
 ghost use Rattle.bssmap_messages.specs.Messages.{handover_request, handover_required, handover_request_ack, handover_command, handover_complete, handover_failure, handover_performed, handover_required_reject, clear_command, clear_request, HasList};
-ghost use Rattle.bssmap_messages.specs.Texts.{IsTextOf, HasFault, Answers, ReadsBody, IsTornBody};
+ghost use Rattle.bssmap_messages.specs.Texts.{IsTextOf, HasFault, HasBodyFault, Says, Answers, IsTornBody};
 
 use crate::cells::{cell, cells, read_cells};
 use crate::fault::BssmapFault;
@@ -17,7 +17,7 @@ use crate::table::{
     CAUSE, CELL_IDENTIFIER, CELL_IDENTIFIER_LIST, CHANNEL_TYPE, CLASSMARK_1, CLASSMARK_2,
     ENCRYPTION_INFORMATION, InterfaceA, LAYER_3_INFORMATION, RESPONSE_REQUEST, RR_CAUSE,
 };
-use crate::values::{channel_type, classmark, keep_classmark, stands};
+use crate::values::{channel_type, classmark, is_there, keep_classmark};
 use octet_elements::read_values;
 use octet_elements::values::{octet, octets, optional_octet};
 use std::alloc::Allocator;
@@ -32,7 +32,8 @@ fn read_wanted<'a>(
     requires empty { map (option_map (λ v. v.now)) values.old ≡ wanted_of wanted.now [] }
     ensures whole { OnOk result ((es : List Element) × AreElements interface_a es body.now ×
         (map (option_map (λ v. v.now)) values.new ≡ wanted_of wanted.now es)) }
-    ensures torn { IfErr result (IsTornBody body.now) }
+    ensures torn { IfErr result (λ f. (at : ℕ) × (f ≡ BssmapFault.Torn at) ×
+        IsTornBody body.now at) }
 {
     match read_values::<InterfaceA>(body, wanted, values) {
         Ok(()) => Ok(()),
@@ -71,7 +72,8 @@ fn request_of<A: Allocator + Copy>(
 
 fn read_request<A: Allocator + Copy>(alloc: A, body: &[u8]) -> Result<Bssmap<A>, BssmapFault>
     requires { length body.now ≤ limit }
-    ensures { ReadsBody MessageKind.HandoverRequest body.now result }
+    ensures text { IfOk result (λ v. Says MessageKind.HandoverRequest body.now (Ok v)) }
+    ensures fault { IfErr result (HasBodyFault A MessageKind.HandoverRequest body.now) }
 {
     let mut values = [None; 6];
     read_wanted(
@@ -104,14 +106,15 @@ fn required_of<A: Allocator + Copy>(
     let (discriminator, octets) = cells(cells_value)?;
     Ok(Bssmap::HandoverRequired {
         cause,
-        response: stands(response_value),
+        response: is_there(response_value),
         cells: read_cells(alloc, discriminator, octets)?,
     })
 }
 
 fn read_required<A: Allocator + Copy>(alloc: A, body: &[u8]) -> Result<Bssmap<A>, BssmapFault>
     requires { length body.now ≤ limit }
-    ensures { ReadsBody MessageKind.HandoverRequired body.now result }
+    ensures text { IfOk result (λ v. Says MessageKind.HandoverRequired body.now (Ok v)) }
+    ensures fault { IfErr result (HasBodyFault A MessageKind.HandoverRequired body.now) }
 {
     let mut values = [None; 3];
     read_wanted(
@@ -138,7 +141,8 @@ fn request_ack_of<A: Allocator + Copy>(
 
 fn read_request_ack<A: Allocator + Copy>(alloc: A, body: &[u8]) -> Result<Bssmap<A>, BssmapFault>
     requires { length body.now ≤ limit }
-    ensures { ReadsBody MessageKind.HandoverRequestAck body.now result }
+    ensures text { IfOk result (λ v. Says MessageKind.HandoverRequestAck body.now (Ok v)) }
+    ensures fault { IfErr result (HasBodyFault A MessageKind.HandoverRequestAck body.now) }
 {
     let mut values = [None; 1];
     read_wanted(body, &[LAYER_3_INFORMATION], &mut values)?;
@@ -161,7 +165,8 @@ fn command_of<A: Allocator + Copy>(
 
 fn read_command<A: Allocator + Copy>(alloc: A, body: &[u8]) -> Result<Bssmap<A>, BssmapFault>
     requires { length body.now ≤ limit }
-    ensures { ReadsBody MessageKind.HandoverCommand body.now result }
+    ensures text { IfOk result (λ v. Says MessageKind.HandoverCommand body.now (Ok v)) }
+    ensures fault { IfErr result (HasBodyFault A MessageKind.HandoverCommand body.now) }
 {
     let mut values = [None; 1];
     read_wanted(body, &[LAYER_3_INFORMATION], &mut values)?;
@@ -179,7 +184,8 @@ fn complete_of<A: Allocator>(rr_value: Option<&[u8]>) -> Result<Bssmap<A>, Bssma
 
 fn read_complete<A: Allocator>(body: &[u8]) -> Result<Bssmap<A>, BssmapFault>
     requires { length body.now ≤ limit }
-    ensures { ReadsBody MessageKind.HandoverComplete body.now result }
+    ensures text { IfOk result (λ v. Says MessageKind.HandoverComplete body.now (Ok v)) }
+    ensures fault { IfErr result (HasBodyFault A MessageKind.HandoverComplete body.now) }
 {
     let mut values = [None; 1];
     read_wanted(body, &[RR_CAUSE], &mut values)?;
@@ -202,7 +208,8 @@ fn failure_of<A: Allocator>(
 
 fn read_failure<A: Allocator>(body: &[u8]) -> Result<Bssmap<A>, BssmapFault>
     requires { length body.now ≤ limit }
-    ensures { ReadsBody MessageKind.HandoverFailure body.now result }
+    ensures text { IfOk result (λ v. Says MessageKind.HandoverFailure body.now (Ok v)) }
+    ensures fault { IfErr result (HasBodyFault A MessageKind.HandoverFailure body.now) }
 {
     let mut values = [None; 2];
     read_wanted(body, &[CAUSE, RR_CAUSE], &mut values)?;
@@ -225,7 +232,8 @@ fn performed_of<A: Allocator>(
 
 fn read_performed<A: Allocator>(body: &[u8]) -> Result<Bssmap<A>, BssmapFault>
     requires { length body.now ≤ limit }
-    ensures { ReadsBody MessageKind.HandoverPerformed body.now result }
+    ensures text { IfOk result (λ v. Says MessageKind.HandoverPerformed body.now (Ok v)) }
+    ensures fault { IfErr result (HasBodyFault A MessageKind.HandoverPerformed body.now) }
 {
     let mut values = [None; 2];
     read_wanted(body, &[CAUSE, CELL_IDENTIFIER], &mut values)?;
@@ -243,7 +251,8 @@ fn required_reject_of<A: Allocator>(cause_value: Option<&[u8]>) -> Result<Bssmap
 
 fn read_required_reject<A: Allocator>(body: &[u8]) -> Result<Bssmap<A>, BssmapFault>
     requires { length body.now ≤ limit }
-    ensures { ReadsBody MessageKind.HandoverRequiredReject body.now result }
+    ensures text { IfOk result (λ v. Says MessageKind.HandoverRequiredReject body.now (Ok v)) }
+    ensures fault { IfErr result (HasBodyFault A MessageKind.HandoverRequiredReject body.now) }
 {
     let mut values = [None; 1];
     read_wanted(body, &[CAUSE], &mut values)?;
@@ -261,7 +270,8 @@ fn clear_command_of<A: Allocator>(cause_value: Option<&[u8]>) -> Result<Bssmap<A
 
 fn read_clear_command<A: Allocator>(body: &[u8]) -> Result<Bssmap<A>, BssmapFault>
     requires { length body.now ≤ limit }
-    ensures { ReadsBody MessageKind.ClearCommand body.now result }
+    ensures text { IfOk result (λ v. Says MessageKind.ClearCommand body.now (Ok v)) }
+    ensures fault { IfErr result (HasBodyFault A MessageKind.ClearCommand body.now) }
 {
     let mut values = [None; 1];
     read_wanted(body, &[CAUSE], &mut values)?;
@@ -279,7 +289,8 @@ fn clear_request_of<A: Allocator>(cause_value: Option<&[u8]>) -> Result<Bssmap<A
 
 fn read_clear_request<A: Allocator>(body: &[u8]) -> Result<Bssmap<A>, BssmapFault>
     requires { length body.now ≤ limit }
-    ensures { ReadsBody MessageKind.ClearRequest body.now result }
+    ensures text { IfOk result (λ v. Says MessageKind.ClearRequest body.now (Ok v)) }
+    ensures fault { IfErr result (HasBodyFault A MessageKind.ClearRequest body.now) }
 {
     let mut values = [None; 1];
     read_wanted(body, &[CAUSE], &mut values)?;
@@ -291,14 +302,16 @@ fn read_clear_request<A: Allocator>(body: &[u8]) -> Result<Bssmap<A>, BssmapFaul
 fn read_skipped(body: &[u8]) -> Result<(), BssmapFault>
     requires { length body.now ≤ limit }
     ensures whole { OnOk result ((es : List Element) × AreElements interface_a es body.now) }
-    ensures torn { IfErr result (IsTornBody body.now) }
+    ensures torn { IfErr result (λ f. (at : ℕ) × (f ≡ BssmapFault.Torn at) ×
+        IsTornBody body.now at) }
 {
     read_wanted(body, &[], &mut [])
 }
 
 fn read_detect<A: Allocator>(body: &[u8]) -> Result<Bssmap<A>, BssmapFault>
     requires { length body.now ≤ limit }
-    ensures { ReadsBody MessageKind.HandoverDetect body.now result }
+    ensures text { IfOk result (λ v. Says MessageKind.HandoverDetect body.now (Ok v)) }
+    ensures fault { IfErr result (HasBodyFault A MessageKind.HandoverDetect body.now) }
 {
     read_skipped(body)?;
     Ok(Bssmap::HandoverDetect)
@@ -306,7 +319,8 @@ fn read_detect<A: Allocator>(body: &[u8]) -> Result<Bssmap<A>, BssmapFault>
 
 fn read_clear_complete<A: Allocator>(body: &[u8]) -> Result<Bssmap<A>, BssmapFault>
     requires { length body.now ≤ limit }
-    ensures { ReadsBody MessageKind.ClearComplete body.now result }
+    ensures text { IfOk result (λ v. Says MessageKind.ClearComplete body.now (Ok v)) }
+    ensures fault { IfErr result (HasBodyFault A MessageKind.ClearComplete body.now) }
 {
     read_skipped(body)?;
     Ok(Bssmap::ClearComplete)
@@ -319,7 +333,8 @@ fn read_body<A: Allocator + Copy>(
     body: &[u8],
 ) -> Result<Bssmap<A>, BssmapFault>
     requires { length body.now ≤ limit }
-    ensures { ReadsBody kind body.now result }
+    ensures text { IfOk result (λ v. Says kind body.now (Ok v)) }
+    ensures fault { IfErr result (HasBodyFault A kind body.now) }
 {
     match kind {
         MessageKind::HandoverRequest => read_request(alloc, body),

@@ -1,7 +1,7 @@
 //! What the value of an element says.
 ghost use Rattle.std.specs.Prelude.{◌≡◌, Ok, Err, IfOk, IfErr};
 ghost use Rattle.octet_elements.specs.Values.{value_seen};
-ghost use Rattle.bssmap_messages.specs.Values.{channel_type_in, classmark_in, stands, kept_classmark};
+ghost use Rattle.bssmap_messages.specs.Values.{channel_type_in, classmark_in, is_there, kept_classmark};
 
 use crate::lists::Octets;
 use crate::message::Classmark;
@@ -63,8 +63,8 @@ pub fn keep_classmark<A: Allocator + Copy>(
 }
 
 /// Whether the element is there.
-pub fn stands(value: Option<&[u8]>) -> bool
-    ensures { result ≡ stands (value_seen value.entry) }
+pub fn is_there(value: Option<&[u8]>) -> bool
+    ensures { result ≡ is_there (value_seen value.entry) }
 {
     value.is_some()
 }

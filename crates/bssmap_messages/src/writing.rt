@@ -1,12 +1,13 @@
 //! Writing a message.
-ghost use Rattle.std.specs.Prelude.{◌≡◌, ◌≤◌, ◌<◌, ◌+◌, ◌*◌, ◌++◌, ◌∷◌, ◌↔◌, [], IsTrue, length, flat_map, IsOk, IfOk, OnOk, OnErr, vec_len, vec_capacity};
-ghost use Rattle.octet_elements.specs.Elements.{all_octets, element_octets};
+ghost use Rattle.std.specs.Prelude.{◌≡◌, ◌≤◌, ◌<◌, ◌+◌, ◌*◌, ◌++◌, ◌∷◌, ◌↔◌, [], IsTrue, IsSome, is_some, length, flat_map, IsOk, IfOk, OnOk, OnErr, vec_len, vec_capacity};
+ghost use Rattle.std.specs.List.{list_all};
+ghost use Rattle.octet_elements.specs.Elements.{Fits, all_octets, element_octets};
 ghost use Rattle.bssmap_messages.specs.Forms.{interface_a};
-ghost use Rattle.bssmap_messages.specs.Heads.{limit, type_of};
+ghost use Rattle.bssmap_messages.specs.Heads.{limit};
 ghost use Rattle.bssmap_messages.specs.Messages.{elements_of, kind_of};
 ghost use Rattle.octet_elements.specs.Values.{pair_octets, where_some};
-ghost use Rattle.bssmap_messages.specs.Values.{cell_octets, cell_value, classmark_element, where_true, cells_value};
-ghost use Rattle.bssmap_messages.specs.Texts.{HasCanonical, IsWritable, canonical_text, classmark_length, response_length, HasArea, have_areas};
+ghost use Rattle.bssmap_messages.specs.Values.{cell_octets, cell_value, classmark_element, where_true};
+ghost use Rattle.bssmap_messages.specs.Texts.{HasCanonical, canonical_text};
 
 use crate::head::{LIMIT, MessageKind, type_octet};
 use crate::lists::Octets;
@@ -20,16 +21,16 @@ use octet_elements::{append_element, append_octets};
 use std::alloc::{AllocError, Allocator};
 
 /// Whether the message has a canonical text.
-#[tactic(auto, using(crate::proofs::Written::canonical_of, crate::proofs::Written::writable_of))]
 pub fn fits<A: Allocator + Copy>(message: &Bssmap<A>) -> bool
     ensures canonical { IsTrue result ↔ HasCanonical message.now }
 {
     is_writable(message)
 }
 
-/// Whether the fields of the message can be written.
+/// The same, tested by the fields of the message.
+#[tactic(auto, using(crate::proofs::Written::canonical_of, crate::proofs::Written::writable_of))]
 fn is_writable<A: Allocator + Copy>(message: &Bssmap<A>) -> bool
-    ensures { IsTrue result ↔ IsWritable message.now }
+    ensures { IsTrue result ↔ HasCanonical message.now }
 {
     match message {
         Bssmap::HandoverRequest {
@@ -58,13 +59,13 @@ fn is_writable<A: Allocator + Copy>(message: &Bssmap<A>) -> bool
 
 /// Whether the cell has a location area code.
 fn has_area(cell: CellId) -> bool
-    ensures { IsTrue result ↔ HasArea cell }
+    ensures { IsTrue result ↔ IsSome cell.lac }
 {
     cell.lac.is_some()
 }
 
 fn have_areas(cells: &[CellId]) -> bool
-    ensures { result ≡ have_areas cells.now }
+    ensures { result ≡ list_all (λ cell. is_some cell.lac) cells.now }
 {
     cells.iter().all(|cell| cell.lac.is_some())
 }
@@ -76,8 +77,8 @@ fn request_fits<A: Allocator + Copy>(
     classmark: &Classmark<A>,
 ) -> bool
     ensures { IsTrue result ↔ ((1 < length channel.now) × (0 < length encryption.now) ×
-        (19 + length channel.now + length encryption.now + classmark_length classmark.now ≤
-        limit)) }
+        (19 + length channel.now + length encryption.now +
+        length (element_octets interface_a (classmark_element classmark.now)) ≤ limit)) }
 {
     let classmark_len = classmark_len(classmark);
     1 < channel.len()
@@ -90,8 +91,10 @@ fn request_fits<A: Allocator + Copy>(
 
 /// Whether the cells of a HANDOVER REQUIRED can be written, and are some and not too many.
 fn required_fits(response: bool, cells: &[CellId]) -> bool
-    ensures { IsTrue result ↔ ((0 < length cells.now) × IsTrue (have_areas cells.now) ×
-        (7 + response_length response + 4 * length cells.now ≤ limit)) }
+    ensures { IsTrue result ↔ ((0 < length cells.now) ×
+        IsTrue (list_all (λ cell. is_some cell.lac) cells.now) ×
+        (7 + length (all_octets interface_a (where_true 0x1B response)) + 4 * length cells.now ≤
+        limit)) }
 {
     !cells.is_empty()
         && cells.len() <= LIMIT
@@ -108,7 +111,7 @@ fn layer3_fits(layer3: &[u8]) -> bool
 
 /// How many octets the element of a classmark has.
 fn classmark_len<A: Allocator + Copy>(classmark: &Classmark<A>) -> usize
-    ensures { result ≡ classmark_length classmark.now }
+    ensures { result ≡ length (element_octets interface_a (classmark_element classmark.now)) }
 {
     match classmark {
         Classmark::One(_) => 2,
@@ -118,7 +121,7 @@ fn classmark_len<A: Allocator + Copy>(classmark: &Classmark<A>) -> usize
 
 /// How many octets a response request has.
 fn response_len(response: bool) -> usize
-    ensures { result ≡ response_length response }
+    ensures { result ≡ length (all_octets interface_a (where_true 0x1B response)) }
 {
     if response { 1 } else { 0 }
 }
@@ -146,7 +149,7 @@ fn kind_of<A: Allocator>(message: &Bssmap<A>) -> MessageKind
 /// How many octets the elements of a message take.
 #[tactic(auto, using(crate::proofs::Lengths::request_length, crate::proofs::Lengths::required_length))]
 fn elements_len<A: Allocator + Copy>(message: &Bssmap<A>) -> usize
-    requires { IsWritable message.now }
+    requires { length (all_octets interface_a (elements_of message.now)) < limit }
     ensures { result ≡ length (all_octets interface_a (elements_of message.now)) }
 {
     match message {
@@ -228,11 +231,14 @@ fn append_cell<A: Allocator>(out: &mut Vec<u8, A>, cell: CellId)
 
 /// Appends a classmark, for which the list has room.
 fn append_classmark<A: Allocator + Copy>(out: &mut Vec<u8, A>, classmark: &Classmark<A>)
-    requires short { classmark_length classmark.now ≤ limit }
-    requires room { vec_len out.old + classmark_length classmark.now ≤ vec_capacity out.old }
+    requires short { Fits interface_a (classmark_element classmark.now) }
+    requires room { vec_len out.old +
+        length (element_octets interface_a (classmark_element classmark.now)) ≤
+        vec_capacity out.old }
     ensures items { out.new.items ≡ out.old.items ++
         element_octets interface_a (classmark_element classmark.now) }
-    ensures len { vec_len out.new ≡ vec_len out.old + classmark_length classmark.now }
+    ensures len { vec_len out.new ≡ vec_len out.old +
+        length (element_octets interface_a (classmark_element classmark.now)) }
     ensures capacity { vec_capacity out.old ≤ vec_capacity out.new }
 {
     match classmark {
@@ -246,6 +252,7 @@ fn append_classmark<A: Allocator + Copy>(out: &mut Vec<u8, A>, classmark: &Class
 }
 
 /// Appends the elements of a HANDOVER REQUEST, for which the list has room.
+#[tactic(auto, using(crate::proofs::Lengths::request_length))]
 fn append_request<A: Allocator + Copy>(
     out: &mut Vec<u8, A>,
     channel: &Octets<A>,
@@ -254,14 +261,14 @@ fn append_request<A: Allocator + Copy>(
     serving: CellId,
     target: CellId,
 )
-    requires short { 19 + length channel.now + length encryption.now + classmark_length
-        classmark.now ≤ limit }
-    requires room { vec_len out.old + (18 + length channel.now + length encryption.now +
-        classmark_length classmark.now) ≤ vec_capacity out.old }
-    ensures { out.new.items ≡ out.old.items ++
-        all_octets interface_a ((0x0B, channel.now) ∷ (0x0A, encryption.now) ∷
-        classmark_element classmark.now ∷ (0x05, cell_value serving) ∷
-        (0x05, cell_value target) ∷ []) }
+    requires channel { length channel.now < 256 }
+    requires encryption { length encryption.now < 256 }
+    requires classmark { Fits interface_a (classmark_element classmark.now) }
+    requires room { vec_len out.old + length (all_octets interface_a (elements_of
+        (Bssmap.HandoverRequest channel.now encryption.now classmark.now serving target))) ≤
+        vec_capacity out.old }
+    ensures { out.new.items ≡ out.old.items ++ all_octets interface_a (elements_of
+        (Bssmap.HandoverRequest channel.now encryption.now classmark.now serving target)) }
 {
     append_element::<InterfaceA, A>(out, CHANNEL_TYPE, channel.as_slice());
     append_element::<InterfaceA, A>(out, ENCRYPTION_INFORMATION, encryption.as_slice());
@@ -281,13 +288,14 @@ fn append_cells<A: Allocator>(out: &mut Vec<u8, A>, cells: &[CellId])
 }
 
 /// Appends the elements of a HANDOVER REQUIRED, for which the list has room.
+#[tactic(auto, using(crate::proofs::Lengths::required_length))]
 fn append_required<A: Allocator>(out: &mut Vec<u8, A>, cause: u8, response: bool, cells: &[CellId])
-    requires short { 7 + response_length response + 4 * length cells.now ≤ limit }
-    requires room { vec_len out.old + (6 + response_length response + 4 * length cells.now) ≤
+    requires cells { 1 + 4 * length cells.now < 256 }
+    requires room { vec_len out.old + length (all_octets interface_a
+        (elements_of {A = A} (Bssmap.HandoverRequired cause response cells.now))) ≤
         vec_capacity out.old }
-    ensures { out.new.items ≡ out.old.items ++
-        all_octets interface_a ((0x04, cause ∷ []) ∷ where_true 0x1B response ++
-        (0x1A, cells_value cells.now) ∷ []) }
+    ensures { out.new.items ≡ out.old.items ++ all_octets interface_a
+        (elements_of {A = A} (Bssmap.HandoverRequired cause response cells.now)) }
 {
     append_cause(out, cause);
     append_response(out, response);
@@ -298,10 +306,12 @@ fn append_required<A: Allocator>(out: &mut Vec<u8, A>, cause: u8, response: bool
 
 /// Appends a response request where it is asked for; the list has room for it.
 fn append_response<A: Allocator>(out: &mut Vec<u8, A>, response: bool)
-    requires { vec_len out.old + response_length response ≤ vec_capacity out.old }
+    requires { vec_len out.old + length (all_octets interface_a (where_true 0x1B response)) ≤
+        vec_capacity out.old }
     ensures items { out.new.items ≡ out.old.items ++
         all_octets interface_a (where_true 0x1B response) }
-    ensures len { vec_len out.new ≡ vec_len out.old + response_length response }
+    ensures len { vec_len out.new ≡ vec_len out.old +
+        length (all_octets interface_a (where_true 0x1B response)) }
     ensures capacity { vec_capacity out.old ≤ vec_capacity out.new }
 {
     if response {
@@ -321,9 +331,8 @@ fn append_rr<A: Allocator>(out: &mut Vec<u8, A>, rr: Option<u8>)
 }
 
 /// Appends the elements of a message, for which the list has room.
-#[tactic(auto, using(crate::proofs::Lengths::request_length, crate::proofs::Lengths::required_length))]
 fn append_elements<A: Allocator + Copy>(message: &Bssmap<A>, out: &mut Vec<u8, A>)
-    requires writable { IsWritable message.now }
+    requires canonical { HasCanonical message.now }
     requires room { vec_len out.old + length (all_octets interface_a (elements_of message.now)) ≤
         vec_capacity out.old }
     ensures { out.new.items ≡ out.old.items ++ all_octets interface_a (elements_of message.now) }
@@ -361,7 +370,6 @@ fn append_elements<A: Allocator + Copy>(message: &Bssmap<A>, out: &mut Vec<u8, A
 }
 
 /// Appends the canonical text of a message. A list with room for it is not moved: no memory is asked for.
-#[tactic(auto, using(crate::proofs::Written::writable_of))]
 pub fn encode_into<A: Allocator + Copy>(
     message: &Bssmap<A>,
     out: &mut Vec<u8, A>,

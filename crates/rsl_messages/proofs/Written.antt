@@ -15,7 +15,21 @@ use Rattle.rsl_messages.specs.Forms.{abis}
 use Rattle.octet_elements.specs.Values.{optional_octet_in, pair_in, pair_octets, octets_in, optional_octets_in, where_some}
 use Rattle.rsl_messages.specs.Values.{channel_in, channel_octet}
 use Rattle.rsl_messages.specs.Messages.{Said, data_request, data_indication, channel_activation, channel_activation_ack, channel_activation_nack, connection_failure, handover_detection, measurement_result, rf_channel_release, rf_channel_release_ack}
-use Rattle.rsl_messages.specs.Texts.{HasCanonical, IsWritable}
+use Rattle.rsl_messages.specs.Texts.{HasCanonical, limit}
+
+-- what of the fields of a message decides whether it can be written
+abbrev pub IsWritable : {A : Type 0} → Rsl A → Type 0
+IsWritable (DataRequest channel link layer3) = (channel.tn < 8) × (0 < length layer3) × (9 + length layer3 ≤ limit)
+IsWritable (DataIndication channel link layer3) = (channel.tn < 8) × (0 < length layer3) × (9 + length layer3 ≤ limit)
+IsWritable (ChannelActivation channel activation mode reference) = (channel.tn < 8) × (0 < length mode) × (length mode < 256)
+IsWritable (ChannelActivationAck channel frame) = channel.tn < 8
+IsWritable (ChannelActivationNack channel cause) = channel.tn < 8
+IsWritable (ConnectionFailureIndication channel cause) = channel.tn < 8
+IsWritable (HandoverDetection channel delay) = channel.tn < 8
+IsWritable (MeasurementResult channel number uplink power None) = (channel.tn < 8) × (length uplink < 256)
+IsWritable (MeasurementResult channel number uplink power (Some layer3)) = (channel.tn < 8) × (length uplink < 256) × (0 < length layer3) × (13 + length uplink + length layer3 ≤ limit)
+IsWritable (RfChannelRelease channel) = channel.tn < 8
+IsWritable (RfChannelReleaseAck channel) = channel.tn < 8
 
 -- Each reader reads again what is written.
 channel_again : (channel : ChanBits) → channel.tn < 8 → channel_in (Some (channel_octet channel ∷ [])) ≡ Ok channel

@@ -1,6 +1,6 @@
 -- Which octets are the text of a message, what is wrong with all others, and which text is written
 -- (TS 48.058 clause 9).
-use Rattle.std.specs.Prelude.{◌≡◌, ◌⊎◌, ℕ, ◌+◌, ◌<◌, ◌≤◌, List, ◌∷◌, length, Some, None, Result, Ok, Err}
+use Rattle.std.specs.Prelude.{◌≡◌, ◌⊎◌, ℕ, ◌+◌, ◌<◌, ◌≤◌, List, ◌∷◌, length, Result, Ok, Err}
 use Rattle.std.specs.List.{AllByRecursion}
 use Rattle.octet_elements.specs.Elements.{Element, Fits, AreElements, IsTornAt, all_octets}
 use Rattle.octet_elements.specs.declared.values.ElementFault.{ElementFault}
@@ -9,7 +9,6 @@ use Rattle.rsl_messages.specs.declared.fault.RslFault.{RslFault}
 use Rattle.rsl_messages.specs.declared.fault.RslFault.TheVariants as fault
 use Rattle.rsl_messages.specs.declared.head.MessageKind.{MessageKind}
 use Rattle.rsl_messages.specs.declared.message.Rsl.{Rsl}
-use Rattle.rsl_messages.specs.declared.message.Rsl.TheVariants.{DataRequest, DataIndication, ChannelActivation, ChannelActivationAck, ChannelActivationNack, ConnectionFailureIndication, HandoverDetection, MeasurementResult, RfChannelRelease, RfChannelReleaseAck}
 use Rattle.rsl_messages.specs.Forms.{abis}
 use Rattle.rsl_messages.specs.Heads.{Begins, HasHeadFault, head_of}
 use Rattle.rsl_messages.specs.Values.{fault_of}
@@ -33,15 +32,14 @@ pub record IsTextOf {A : Type 0} (v : Rsl A) (octets : List ℕ) : Type 0 where
   pub head : Begins kind octets body
   pub says : Says kind body (Ok v)
 
--- an element of the body is cut; its offset counts the head too
-abbrev pub IsTornBody : List ℕ → RslFault → Type 0
-IsTornBody body (fault.Torn at) = (offset : ℕ) × IsTornAt abis body offset × (at ≡ 2 + offset)
-IsTornBody body _ = ⊥
+-- the body is torn at this offset, which counts the head too
+abbrev pub IsTornBody : List ℕ → ℕ → Type 0
+IsTornBody body at = (offset : ℕ) × IsTornAt abis body offset × (at ≡ 2 + offset)
 
 -- The body has this fault: it is torn, or an element is missing or bad. Memory runs out only for a
 -- message that keeps an octet list.
 abbrev pub HasBodyFault : (A : Type 0) → MessageKind → List ℕ → RslFault → Type 0
-HasBodyFault A kind body (fault.Torn at) = IsTornBody body (fault.Torn at)
+HasBodyFault A kind body (fault.Torn at) = IsTornBody body at
 HasBodyFault A kind body (fault.Missing i) = Says {A = A} kind body (Err (Absent i))
 HasBodyFault A kind body (fault.BadElement i) = Says {A = A} kind body (Err (Bad i))
 HasBodyFault A kind body fault.NoMemory = (v : Rsl A) × Says kind body (Ok v) × HasOctets v
@@ -70,30 +68,11 @@ pub record HasCanonical {A : Type 0} (v : Rsl A) : Type 0 where
   pub says : meaning_of (kind_of v) (elements_of v) ≡ Ok v
   pub within : length (canonical_text v) ≤ limit
 
--- the same, by the fields of the message: what is tested before it is written
-abbrev pub IsWritable : {A : Type 0} → Rsl A → Type 0
-IsWritable (DataRequest channel link layer3) = (channel.tn < 8) × (0 < length layer3) × (9 + length layer3 ≤ limit)
-IsWritable (DataIndication channel link layer3) = (channel.tn < 8) × (0 < length layer3) × (9 + length layer3 ≤ limit)
-IsWritable (ChannelActivation channel activation mode reference) = (channel.tn < 8) × (0 < length mode) × (length mode < 256)
-IsWritable (ChannelActivationAck channel frame) = channel.tn < 8
-IsWritable (ChannelActivationNack channel cause) = channel.tn < 8
-IsWritable (ConnectionFailureIndication channel cause) = channel.tn < 8
-IsWritable (HandoverDetection channel delay) = channel.tn < 8
-IsWritable (MeasurementResult channel number uplink power None) = (channel.tn < 8) × (length uplink < 256)
-IsWritable (MeasurementResult channel number uplink power (Some layer3)) = (channel.tn < 8) × (length uplink < 256) × (0 < length layer3) × (13 + length uplink + length layer3 ≤ limit)
-IsWritable (RfChannelRelease channel) = channel.tn < 8
-IsWritable (RfChannelReleaseAck channel) = channel.tn < 8
-
 -- What a reader of values answers: what they say, or their fault; memory runs out only for a message
 -- that keeps an octet list.
 abbrev pub Answers : {A : Type 0} → Result (Rsl A) RslFault → Said A → Type 0
 Answers (Ok v) said = said ≡ Ok v
 Answers {A} (Err f) said = ((e : ElementFault) × (said ≡ Err e) × (f ≡ fault_of e)) ⊎ ((f ≡ fault.NoMemory) × (v : Rsl A) × (said ≡ Ok v) × HasOctets v)
-
--- what reading the body of a message gives
-abbrev pub ReadsBody : {A : Type 0} → MessageKind → List ℕ → Result (Rsl A) RslFault → Type 0
-ReadsBody kind body (Ok v) = Says kind body (Ok v)
-ReadsBody {A} kind body (Err f) = HasBodyFault A kind body f
 
 -- Octets have one reading: a text has one value, and no fault but want of memory; what is no text has one
 -- fault.

@@ -1,11 +1,11 @@
 //! Reading a message.
-ghost use Rattle.std.specs.Prelude.{◌≡◌, ◌≢◌, Ok, Err, ◌≤◌, ◌+◌, List, [], length, map, IfOk, IfErr, OnOk};
+ghost use Rattle.std.specs.Prelude.{ℕ, ◌≡◌, ◌≢◌, Ok, Err, ◌≤◌, ◌+◌, List, [], length, map, IfOk, IfErr, OnOk};
 ghost use Rattle.std.specs.Option.{option_map};
-ghost use Rattle.octet_elements.specs.Elements.{Element, AreElements, wanted_of, IsTornAt};
+ghost use Rattle.octet_elements.specs.Elements.{Element, AreElements, wanted_of};
 ghost use Rattle.rsl_messages.specs.Forms.{abis};
 ghost use Rattle.octet_elements.specs.Values.{value_seen};
 ghost use Rattle.rsl_messages.specs.Messages.{HasOctets, data_request, data_indication, channel_activation, channel_activation_ack, channel_activation_nack, connection_failure, handover_detection, measurement_result, rf_channel_release, rf_channel_release_ack};
-ghost use Rattle.rsl_messages.specs.Texts.{limit, IsTextOf, HasFault, HasBodyFault, Answers, ReadsBody, IsTornBody};
+ghost use Rattle.rsl_messages.specs.Texts.{limit, IsTextOf, HasFault, HasBodyFault, Says, Answers, IsTornBody};
 
 use crate::fault::RslFault;
 use crate::head::{MessageKind, read_head};
@@ -47,7 +47,7 @@ fn read_wanted<'a>(
     requires empty { map (option_map (λ v. v.now)) values.old ≡ wanted_of wanted.now [] }
     ensures whole { OnOk result ((es : List Element) × AreElements abis es body.now ×
         (map (option_map (λ v. v.now)) values.new ≡ wanted_of wanted.now es)) }
-    ensures torn { IfErr result (IsTornBody body.now) }
+    ensures torn { IfErr result (λ f. (at : ℕ) × (f ≡ RslFault.Torn at) × IsTornBody body.now at) }
 {
     match read_values::<Abis>(body, wanted, values) {
         Ok(()) => Ok(()),
@@ -77,7 +77,8 @@ fn data_request_of<A: Allocator + Copy>(
 
 fn read_data_request<A: Allocator + Copy>(alloc: A, body: &[u8]) -> Result<Rsl<A>, RslFault>
     requires { length body.now ≤ limit }
-    ensures { ReadsBody MessageKind.DataRequest body.now result }
+    ensures text { IfOk result (λ v. Says MessageKind.DataRequest body.now (Ok v)) }
+    ensures fault { IfErr result (HasBodyFault A MessageKind.DataRequest body.now) }
 {
     let mut values = [None; 3];
     read_wanted(
@@ -111,7 +112,8 @@ fn data_indication_of<A: Allocator + Copy>(
 
 fn read_data_indication<A: Allocator + Copy>(alloc: A, body: &[u8]) -> Result<Rsl<A>, RslFault>
     requires { length body.now ≤ limit }
-    ensures { ReadsBody MessageKind.DataIndication body.now result }
+    ensures text { IfOk result (λ v. Says MessageKind.DataIndication body.now (Ok v)) }
+    ensures fault { IfErr result (HasBodyFault A MessageKind.DataIndication body.now) }
 {
     let mut values = [None; 3];
     read_wanted(
@@ -149,7 +151,8 @@ fn activation_of<A: Allocator + Copy>(
 
 fn read_activation<A: Allocator + Copy>(alloc: A, body: &[u8]) -> Result<Rsl<A>, RslFault>
     requires { length body.now ≤ limit }
-    ensures { ReadsBody MessageKind.ChannelActivation body.now result }
+    ensures text { IfOk result (λ v. Says MessageKind.ChannelActivation body.now (Ok v)) }
+    ensures fault { IfErr result (HasBodyFault A MessageKind.ChannelActivation body.now) }
 {
     let mut values = [None; 4];
     read_wanted(
@@ -181,7 +184,8 @@ fn activation_ack_of<A: Allocator>(
 
 fn read_activation_ack<A: Allocator>(body: &[u8]) -> Result<Rsl<A>, RslFault>
     requires { length body.now ≤ limit }
-    ensures { ReadsBody MessageKind.ChannelActivationAck body.now result }
+    ensures text { IfOk result (λ v. Says MessageKind.ChannelActivationAck body.now (Ok v)) }
+    ensures fault { IfErr result (HasBodyFault A MessageKind.ChannelActivationAck body.now) }
 {
     let mut values = [None; 2];
     read_wanted(body, &[CHANNEL_NUMBER, FRAME_NUMBER], &mut values)?;
@@ -204,7 +208,8 @@ fn activation_nack_of<A: Allocator>(
 
 fn read_activation_nack<A: Allocator>(body: &[u8]) -> Result<Rsl<A>, RslFault>
     requires { length body.now ≤ limit }
-    ensures { ReadsBody MessageKind.ChannelActivationNack body.now result }
+    ensures text { IfOk result (λ v. Says MessageKind.ChannelActivationNack body.now (Ok v)) }
+    ensures fault { IfErr result (HasBodyFault A MessageKind.ChannelActivationNack body.now) }
 {
     let mut values = [None; 2];
     read_wanted(body, &[CHANNEL_NUMBER, CAUSE], &mut values)?;
@@ -227,7 +232,8 @@ fn connection_failure_of<A: Allocator>(
 
 fn read_connection_failure<A: Allocator>(body: &[u8]) -> Result<Rsl<A>, RslFault>
     requires { length body.now ≤ limit }
-    ensures { ReadsBody MessageKind.ConnectionFailureIndication body.now result }
+    ensures text { IfOk result (λ v. Says MessageKind.ConnectionFailureIndication body.now (Ok v)) }
+    ensures fault { IfErr result (HasBodyFault A MessageKind.ConnectionFailureIndication body.now) }
 {
     let mut values = [None; 2];
     read_wanted(body, &[CHANNEL_NUMBER, CAUSE], &mut values)?;
@@ -250,7 +256,8 @@ fn handover_detection_of<A: Allocator>(
 
 fn read_handover_detection<A: Allocator>(body: &[u8]) -> Result<Rsl<A>, RslFault>
     requires { length body.now ≤ limit }
-    ensures { ReadsBody MessageKind.HandoverDetection body.now result }
+    ensures text { IfOk result (λ v. Says MessageKind.HandoverDetection body.now (Ok v)) }
+    ensures fault { IfErr result (HasBodyFault A MessageKind.HandoverDetection body.now) }
 {
     let mut values = [None; 2];
     read_wanted(body, &[CHANNEL_NUMBER, ACCESS_DELAY], &mut values)?;
@@ -287,7 +294,8 @@ fn measurement_result_of<A: Allocator + Copy>(
 
 fn read_measurement_result<A: Allocator + Copy>(alloc: A, body: &[u8]) -> Result<Rsl<A>, RslFault>
     requires { length body.now ≤ limit }
-    ensures { ReadsBody MessageKind.MeasurementResult body.now result }
+    ensures text { IfOk result (λ v. Says MessageKind.MeasurementResult body.now (Ok v)) }
+    ensures fault { IfErr result (HasBodyFault A MessageKind.MeasurementResult body.now) }
 {
     let mut values = [None; 5];
     read_wanted(
@@ -315,7 +323,8 @@ fn release_of<A: Allocator>(channel_value: Option<&[u8]>) -> Result<Rsl<A>, RslF
 
 fn read_release<A: Allocator>(body: &[u8]) -> Result<Rsl<A>, RslFault>
     requires { length body.now ≤ limit }
-    ensures { ReadsBody MessageKind.RfChannelRelease body.now result }
+    ensures text { IfOk result (λ v. Says MessageKind.RfChannelRelease body.now (Ok v)) }
+    ensures fault { IfErr result (HasBodyFault A MessageKind.RfChannelRelease body.now) }
 {
     let mut values = [None; 1];
     read_wanted(body, &[CHANNEL_NUMBER], &mut values)?;
@@ -333,7 +342,8 @@ fn release_ack_of<A: Allocator>(channel_value: Option<&[u8]>) -> Result<Rsl<A>, 
 
 fn read_release_ack<A: Allocator>(body: &[u8]) -> Result<Rsl<A>, RslFault>
     requires { length body.now ≤ limit }
-    ensures { ReadsBody MessageKind.RfChannelReleaseAck body.now result }
+    ensures text { IfOk result (λ v. Says MessageKind.RfChannelReleaseAck body.now (Ok v)) }
+    ensures fault { IfErr result (HasBodyFault A MessageKind.RfChannelReleaseAck body.now) }
 {
     let mut values = [None; 1];
     read_wanted(body, &[CHANNEL_NUMBER], &mut values)?;
@@ -348,7 +358,8 @@ fn read_body<A: Allocator + Copy>(
     body: &[u8],
 ) -> Result<Rsl<A>, RslFault>
     requires { length body.now ≤ limit }
-    ensures { ReadsBody kind body.now result }
+    ensures text { IfOk result (λ v. Says kind body.now (Ok v)) }
+    ensures fault { IfErr result (HasBodyFault A kind body.now) }
 {
     match kind {
         MessageKind::DataRequest => read_data_request(alloc, body),

@@ -1,13 +1,12 @@
 //! Writing a message.
-ghost use Rattle.std.specs.Prelude.{◌≡◌, ◌≤◌, ◌<◌, ◌+◌, ◌++◌, ◌↔◌, [], IsTrue, IsNone, IfSome, length, IsOk, IfOk, OnOk, OnErr, vec_len, vec_capacity};
+ghost use Rattle.std.specs.Prelude.{◌≡◌, ◌≤◌, ◌<◌, ◌+◌, ◌++◌, ◌↔◌, IsTrue, IsNone, IfSome, length, IsOk, IfOk, OnOk, OnErr, vec_len, vec_capacity};
 ghost use Rattle.std.specs.Option.{option_map};
 ghost use Rattle.octet_elements.specs.Elements.{all_octets};
 ghost use Rattle.rsl_messages.specs.Forms.{abis};
 ghost use Rattle.rsl_messages.specs.Messages.{elements_of, kind_of};
-ghost use Rattle.rsl_messages.specs.Heads.{head_of};
 ghost use Rattle.octet_elements.specs.Values.{pair_octets, where_value};
 ghost use Rattle.rsl_messages.specs.Values.{channel_octet};
-ghost use Rattle.rsl_messages.specs.Texts.{limit, HasCanonical, IsWritable, canonical_text};
+ghost use Rattle.rsl_messages.specs.Texts.{limit, HasCanonical, canonical_text};
 
 use crate::head::{MessageKind, head_octets};
 use crate::message::{ChanBits, Rsl};
@@ -21,16 +20,17 @@ use octet_elements::values::pair_octets;
 use octet_elements::{append_element, append_octets};
 use std::alloc::{AllocError, Allocator};
 
-/// Whether the fields of the message can be written.
-#[tactic(auto, using(crate::proofs::Written::canonical_of, crate::proofs::Written::writable_of))]
+/// Whether the message has a canonical text.
 pub fn fits<A: Allocator>(message: &Rsl<A>) -> bool
     ensures canonical { IsTrue result ↔ HasCanonical message.now }
 {
     is_writable(message)
 }
 
+/// The same, tested by the fields of the message.
+#[tactic(auto, using(crate::proofs::Written::canonical_of, crate::proofs::Written::writable_of))]
 fn is_writable<A: Allocator>(message: &Rsl<A>) -> bool
-    ensures { IsTrue result ↔ IsWritable message.now }
+    ensures { IsTrue result ↔ HasCanonical message.now }
 {
     match message {
         Rsl::DataRequest {
@@ -127,7 +127,7 @@ fn reported_len<A: Allocator>(layer3: Option<&Octets<A>>) -> usize
 
 /// How many octets the elements of a message take.
 fn elements_len<A: Allocator>(message: &Rsl<A>) -> usize
-    requires { IsWritable message.now }
+    requires { length (all_octets abis (elements_of message.now)) ≤ limit }
     ensures { result ≡ length (all_octets abis (elements_of message.now)) }
 {
     match message {
@@ -268,7 +268,7 @@ fn append_measurement<A: Allocator>(
 
 /// Appends the elements of a message, for which the list has room.
 fn append_elements<A: Allocator>(message: &Rsl<A>, out: &mut Vec<u8, A>)
-    requires writable { IsWritable message.now }
+    requires canonical { HasCanonical message.now }
     requires room { vec_len out.old + length (all_octets abis (elements_of message.now)) ≤
         vec_capacity out.old }
     ensures items { out.new.items ≡ out.old.items ++ all_octets abis (elements_of message.now) }
@@ -308,7 +308,6 @@ fn append_elements<A: Allocator>(message: &Rsl<A>, out: &mut Vec<u8, A>)
 }
 
 /// Appends the canonical text of a message. A list with room for it is not moved: no memory is asked for.
-#[tactic(auto, using(crate::proofs::Written::writable_of))]
 pub fn encode_into<A: Allocator>(message: &Rsl<A>, out: &mut Vec<u8, A>) -> Result<(), AllocError>
     requires { HasCanonical message.now }
     ensures ok { OnOk result (out.new.items ≡ out.old.items ++ canonical_text message.now) }

@@ -6,12 +6,13 @@ use Rattle.bssmap_messages.specs.Values.{cell_value}
 use Rattle.bssmap_messages.proofs.Lengths.{required_length}
 use Rattle.bssmap_messages.proofs.writing.append_elements.Goals as goal
 
-pub append_required-requires-clause-room : goal.append_required-requires-clause-room
-append_required-requires-clause-room g c =
+pub append_required-requires-clause-cells : goal.append_required-requires-clause-cells
+append_required-requires-clause-cells g c =
     let arm = c.in-HandoverRequired in
     let long = required_length arm.cause arm.response arm.cells in
     let cells : length c.as_slice.result.now ≡ length arm.cells = ap length c.as_slice.ensures.cells in
-    let room = rw arm.is at c.requires.room in
+    let canonical = rw arm.is at c.requires.canonical in
+    let within = canonical.within in
     omega arith
 
 pub returns-in-HandoverRequest : goal.returns-in-HandoverRequest
