@@ -15,7 +15,7 @@ use Rattle.radio_book.specs.declared.event.Refusal.TheVariants.{ChannelBusy, Ref
 use Rattle.radio_book.specs.declared.event.Reply.{Reply}
 use Rattle.radio_book.specs.declared.event.Reply.TheVariants.{Refused}
 use Rattle.radio_book.specs.State.{State, Change, apply, state_of, record_of}
-use Rattle.radio_book.specs.Table.{Outcome, Refuses, Accepts, row, after, reply_of, reply_to}
+use Rattle.radio_book.specs.Table.{Outcome, Refuses, Accepts, row, book_after, reply_of, reply_to}
 use Rattle.radio_book.specs.Sound.{IsSound, owner}
 use Rattle.radio_book.specs.Others.{Commutes}
 use Rattle.radio_book.proofs.Frame.{is_owned}
@@ -36,11 +36,11 @@ AgreesAt gone b e = Agrees gone (row b e) (row (apply gone b) e)
 
 pub agrees_commute : (gone : Change) (b : State) (e : Event) → AgreesAt gone b e → Commutes gone b e
 agrees_commute gone b e agrees = record {
-  book = over (row b e) agrees.away ∙ ap (λ o. after o (apply gone b)) (sym agrees.same);
+  book = over (row b e) agrees.away ∙ ap (λ o. book_after o (apply gone b)) (sym agrees.same);
   reply = ap reply_of agrees.same;
 }
   where
-    over : (o : Outcome) → Avoids o gone → apply gone (after o b) ≡ after o (apply gone b)
+    over : (o : Outcome) → Avoids o gone → apply gone (book_after o b) ≡ book_after o (apply gone b)
     over (Refuses refusal) away = refl
     over (Accepts change reply) away = apply_swap change gone b away
 
