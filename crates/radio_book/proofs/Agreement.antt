@@ -114,7 +114,7 @@ states_kept gone b f (Some x) misses = ap (λ s. Some (f x s)) (state_kept gone 
 module _ (gone : Change) (b : State) (sound : IsSound b) (hides : Hides gone b) (d : ℕ) (other : Misses gone.call d) (r : CallRecord) (is : record_of b d ≡ Some r) where
   -- the channels of another call aren't gone
   pub serving_missed : (x : ChanId) → r.serving ≡ Some x → Misses gone.channel x
-  serving_missed x serves = hides.others_channel x d (sound.serving d r x is serves) other
+  serving_missed x serves = hides.others_channel x d (sound.serving_is_owned d r x is serves) other
 
   pub target_missed : (a : Attempt) → r.attempt ≡ Some a → (x : ChanId) → a.target ≡ Some x → Misses gone.channel x
-  target_missed a has x aims = hides.others_channel x d (ap owner (sound.target d r a x is has aims) ∙ is_owned d a.stage) other
+  target_missed a has x aims = hides.others_channel x d (ap owner (sound.target_by_stage d r a x is has aims) ∙ is_owned d a.stage) other

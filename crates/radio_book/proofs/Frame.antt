@@ -54,9 +54,9 @@ module _ {K X : Type 0} {R : K → K → Ordering} (o : IsTotalOrder R) (exact :
 
 -- what a sound book says of one call
 pub record IsCallSound (look : ChanId → ChanState) (user : Reference → Option ℕ) (c : ℕ) (r : CallRecord) : Type 0 where
-  pub serving : (x : ChanId) → r.serving ≡ Some x → owner (look x) ≡ Some c
+  pub serving_is_owned : (x : ChanId) → r.serving ≡ Some x → owner (look x) ≡ Some c
   pub has_target : (a : Attempt) → r.attempt ≡ Some a → IsSome a.target
-  pub target : (a : Attempt) (x : ChanId) → r.attempt ≡ Some a → a.target ≡ Some x → look x ≡ target_state c a.stage
+  pub target_by_stage : (a : Attempt) (x : ChanId) → r.attempt ≡ Some a → a.target ≡ Some x → look x ≡ target_state c a.stage
   pub cells_differ : (x y : ChanId) → r.serving ≡ Some x → target_in r ≡ Some y → x.cell ≢ y.cell
   pub serving_while_open : (a : Attempt) → r.attempt ≡ Some a → HasServing c a.kind r.serving look
   pub serving_at_rest : r.attempt ≡ None → IsSome r.serving
@@ -65,9 +65,9 @@ pub record IsCallSound (look : ChanId → ChanState) (user : Reference → Optio
 
 pub call_of : (b : State) → IsSound b → (c : ℕ) (r : CallRecord) → record_of b c ≡ Some r → IsCallSound (state_of b) (map.get b.references) c r
 call_of b sound c r e = record {
-  serving = λ x h. sound.serving c r x e h;
+  serving_is_owned = λ x h. sound.serving_is_owned c r x e h;
   has_target = λ a h. sound.has_target c r a e h;
-  target = λ a x h g. sound.target c r a x e h g;
+  target_by_stage = λ a x h g. sound.target_by_stage c r a x e h g;
   cells_differ = λ x y h g. sound.cells_differ c r x y e h g;
   serving_while_open = λ a h. sound.serving_while_open c r a e h;
   serving_at_rest = λ h. sound.serving_at_rest c r e h;
@@ -90,9 +90,9 @@ serving_stays c look seen same Incoming s h = h
 -- a call whose channels and references stay, stays sound
 pub call_stays : (look seen : ChanId → ChanState) (user used : Reference → Option ℕ) (c : ℕ) (r : CallRecord) → ((x : ChanId) → owner (look x) ≡ Some c → seen x ≡ look x) → ((k : Reference) → user k ≡ Some c → used k ≡ Some c) → IsCallSound look user c r → IsCallSound seen used c r
 call_stays look seen user used c r same kept is = record {
-  serving = λ x h. ap owner (same x (is.serving x h)) ∙ is.serving x h;
+  serving_is_owned = λ x h. ap owner (same x (is.serving_is_owned x h)) ∙ is.serving_is_owned x h;
   has_target = is.has_target;
-  target = λ a x h g. same x (ap owner (is.target a x h g) ∙ is_owned c a.stage) ∙ is.target a x h g;
+  target_by_stage = λ a x h g. same x (ap owner (is.target_by_stage a x h g) ∙ is_owned c a.stage) ∙ is.target_by_stage a x h g;
   cells_differ = is.cells_differ;
   serving_while_open = λ a h. serving_stays c look seen same a.kind r.serving (is.serving_while_open a h);
   serving_at_rest = is.serving_at_rest;
@@ -104,9 +104,9 @@ call_stays look seen user used c r same kept is = record {
 
 pub resting_call : (look : ChanId → ChanState) (user : Reference → Option ℕ) (c : ℕ) (x : ChanId) → owner (look x) ≡ Some c → IsCallSound look user c (record { serving = Some x; attempt = None })
 resting_call look user c x owned = record {
-  serving = λ y h. at_some (λ z. owner (look z) ≡ Some c) x y owned h;
+  serving_is_owned = λ y h. at_some (λ z. owner (look z) ≡ Some c) x y owned h;
   has_target = λ a h. cc;
-  target = λ a y h g. cc;
+  target_by_stage = λ a y h g. cc;
   cells_differ = λ y z h g. cc;
   serving_while_open = λ a h. cc;
   serving_at_rest = λ h. refl;
@@ -126,7 +126,7 @@ pub record HasAttempt (look : ChanId → ChanState) (user : Reference → Option
 
 pub attempt_of : (look : ChanId → ChanState) (user : Reference → Option ℕ) (c : ℕ) (s : Option ChanId) (k : AttemptKind) (g : Stage) (t : ChanId) (n : Option ℕ) → IsCallSound look user c (attempting s k g t n) → HasAttempt look user c s k g t n
 attempt_of look user c s k g t n is = record {
-  state = is.target _ t refl refl;
+  state = is.target_by_stage _ t refl refl;
   cells_differ = λ x h. is.cells_differ x t h refl;
   serving_while_open = is.serving_while_open _ refl;
   reference_is_used = λ m h. is.reference_is_used (reference_at t m) (ap (reference_held (Some t)) h);
@@ -144,9 +144,9 @@ reference_kept user c t (Some m) h k e = at_some (λ j. user j ≡ Some c) _ k (
 
 pub attempting_call : (look : ChanId → ChanState) (user : Reference → Option ℕ) (c : ℕ) (s : Option ChanId) (k : AttemptKind) (g : Stage) (t : ChanId) (n : Option ℕ) → HasAttempt look user c s k g t n → IsCallSound look user c (attempting s k g t n)
 attempting_call look user c s k g t n has = record {
-  serving = λ x h. serving_owned c look k s has.serving_while_open x h;
+  serving_is_owned = λ x h. serving_owned c look k s has.serving_while_open x h;
   has_target = λ a h. at_some (λ (a : Attempt). IsSome a.target) (record { kind = k; stage = g; target = Some t; reference = n }) a refl h;
-  target = λ a x h e. at_some (λ (a : Attempt). a.target ≡ Some x → look x ≡ target_state c a.stage) _ a (λ e. at_some (λ y. look y ≡ target_state c g) t x has.state e) h e;
+  target_by_stage = λ a x h e. at_some (λ (a : Attempt). a.target ≡ Some x → look x ≡ target_state c a.stage) _ a (λ e. at_some (λ y. look y ≡ target_state c g) t x has.state e) h e;
   cells_differ = λ x y h e. at_some (λ z. x.cell ≢ z.cell) t y (has.cells_differ x h) e;
   serving_while_open = λ a h. at_some (λ (a : Attempt). HasServing c a.kind s look) _ a has.serving_while_open h;
   serving_at_rest = λ h. cc;
@@ -255,9 +255,9 @@ module _ (b : State) (sound : IsSound b) (change : Change) (c : ℕ) (was is : O
     is_traffic = λ x s e. (entries x s e).0;
     not_free = λ x s e. (entries x s e).1;
     owner_uses = owner_uses;
-    serving = λ d r x e h. (calls d r e).serving x h;
+    serving_is_owned = λ d r x e h. (calls d r e).serving_is_owned x h;
     has_target = λ d r a e h. (calls d r e).has_target a h;
-    target = λ d r a x e h g. (calls d r e).target a x h g;
+    target_by_stage = λ d r a x e h g. (calls d r e).target_by_stage a x h g;
     cells_differ = λ d r x y e h g. (calls d r e).cells_differ x y h g;
     serving_while_open = λ d r a e h. (calls d r e).serving_while_open a h;
     serving_at_rest = λ d r e h. (calls d r e).serving_at_rest h;

@@ -47,7 +47,7 @@ used_by b sound site cell n c r user recorded reference =
       | Some a ↦ λ is h.
           let held = held_by a.target a.reference (numbered cell n) h in
           let t = held.0 in
-          let owned = ap owner (sound.target c r a t recorded is held.1) ∙ is_owned c a.stage in
+          let owned = ap owner (sound.target_by_stage c r a t recorded is held.1) ∙ is_owned c a.stage in
           record {
             call = c;
             known = r;

@@ -30,7 +30,7 @@ use Rattle.radio_book.proofs.Agreement.{Hides, IsOfOther, IsNotHeld, AgreesWithO
 -- while an attempt is open
 module _ (c : ℕ) (r : CallRecord) (a : Attempt) (b : State) (sound : IsSound b) (is : record_of b c ≡ Some r) (has : r.attempt ≡ Some a) where
   target_is_owned : (x : ChanId) → a.target ≡ Some x → owner (state_of b x) ≡ Some c
-  target_is_owned x aims = ap owner (sound.target c r a x is has aims) ∙ is_owned c a.stage
+  target_is_owned x aims = ap owner (sound.target_by_stage c r a x is has aims) ∙ is_owned c a.stage
 
   reference_is_used : (k : Reference) → reference_held a.target a.reference ≡ Some k → map.get b.references k ≡ Some c
   reference_is_used k held = sound.reference_is_used c r k is (ap reference_of has ∙ held)

@@ -25,11 +25,11 @@ owned_there None c e = cc
 owned_there (Some s) c e = refl
 
 pub serving_there : (b : State) (c : ℕ) (r : CallRecord) (x : ChanId) → IsSound b → record_of b c ≡ Some r → r.serving ≡ Some x → IsSome (map.get b.channels x)
-serving_there b c r x sound known serving = owned_there (map.get b.channels x) c (sound.serving c r x known serving)
+serving_there b c r x sound known serving = owned_there (map.get b.channels x) c (sound.serving_is_owned c r x known serving)
 
 pub target_there : (b : State) (c : ℕ) (r : CallRecord) (a : Attempt) (x : ChanId) → IsSound b → record_of b c ≡ Some r → r.attempt ≡ Some a → a.target ≡ Some x → IsSome (map.get b.channels x)
 target_there b c r a x sound known opened target =
-    owned_there (map.get b.channels x) c (ap owner (sound.target c r a x known opened target) ∙ is_owned c a.stage)
+    owned_there (map.get b.channels x) c (ap owner (sound.target_by_stage c r a x known opened target) ∙ is_owned c a.stage)
 
 -- an entry is of a channel that isn't free
 not_free : (b : State) (x : ChanId) → IsSound b → is_some (map.get b.channels x) ≡ true → state_of b x ≢ Free
@@ -72,7 +72,7 @@ MayMove c x s b =
 pub pending_moves : (b : State) (c : ℕ) (x : ChanId) (s : Stage) → IsSound b → map.get b.channels x ≡ Some (Pending c) →
     ((o : Inverse) (t : ChanId) (n : ℕ) → stage_inverses o t n s ≡ stage_inverses o t n Sent) → MayMove c x s b
 pending_moves b c x s sound pending same r a known opened target =
-    let sent = target_of_sent c a.stage (sym (sound.target c r a x known opened target) ∙ ap or_free pending) in
+    let sent = target_of_sent c a.stage (sym (sound.target_by_stage c r a x known opened target) ∙ ap or_free pending) in
     ap (inverses_at (record a { stage = s })) target
     ∙ same (opening_inverse a.kind) x (or_zero a.reference)
     ∙ ap (stage_inverses (opening_inverse a.kind) x (or_zero a.reference)) (sym sent)

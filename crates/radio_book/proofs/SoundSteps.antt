@@ -118,7 +118,7 @@ clear_sound : (b : State) → IsSound b → (c : ℕ) (s : Option ChanId) (o : O
 clear_sound b sound c s (Some a) e = sound
 clear_sound b sound c None None e = let bad = sound.serving_at_rest c (record { serving = None; attempt = None }) e refl in cc
 clear_sound b sound c (Some x) None e =
-    let owned : owner (state_of b x) ≡ Some c = sound.serving c _ x e refl in
+    let owned : owner (state_of b x) ≡ Some c = sound.serving_is_owned c _ x e refl in
     concerned_sound b sound (changes (Some (x, cleared_state (state_of b x))) (Some (c, None)) None) c (Some (rests x)) None (record {
       before = e;
       after = record_same b.calls c None;
@@ -192,7 +192,7 @@ answers x g c o = changes (with_state x (target_state c g)) (moved_entry x g c o
 serving_answered : (b : State) → IsSound b → (c : ℕ) (x : ChanId) (g : Stage) → record_of b c ≡ Some (rests x) →
     IsSound (apply (changes (with_state x (target_state c g)) None None) b)
 serving_answered b sound c x g e =
-    let owned : owner (state_of b x) ≡ Some c = sound.serving c _ x e refl in
+    let owned : owner (state_of b x) ≡ Some c = sound.serving_is_owned c _ x e refl in
     concerned_sound b sound (changes (with_state x (target_state c g)) None None) c (Some (rests x)) (Some (rests x)) (record {
       before = e;
       after = e;
@@ -337,7 +337,7 @@ internal_sound b sound c x y (On d) true false (Pending m) e n f h g = sound
 internal_sound b sound c x y (On d) true false (On m) e n f h g = sound
 internal_sound b sound c x y (On d) true false Off e n f h g = sound
 internal_sound b sound c x y (On d) true false Free e n f h g =
-    let own : d ≡ c = one_owner (On d) c d (sym (ap owner n) ∙ sound.serving c (rests y) y e refl) refl in
+    let own : d ≡ c = one_owner (On d) c d (sym (ap owner n) ∙ sound.serving_is_owned c (rests y) y e refl) refl in
     taken b sound c x (Some (rests y)) (Some y) Internal e f g
     (λ z u. elim u [ inl i ↦ i | inr i ↦ cc ]) (λ j u. cc) (λ z i. at_some (λ z. z.cell ≢ x.cell) y z (eqb-false y.cell x.cell h) i) (n ∙ ap On own)
 
@@ -524,9 +524,9 @@ sound_empty site = record {
   is_traffic = λ x s e. absurd (no_entry chan_cmp x s e);
   not_free = λ x s e. absurd (no_entry chan_cmp x s e);
   owner_uses = λ x c h. let bad : None ≡ Some c = sym (ap (λ o. owner (or_free o)) (map.get-empty chan_cmp x)) ∙ h in cc;
-  serving = λ c r x e h. absurd (no_entry nat_cmp c r e);
+  serving_is_owned = λ c r x e h. absurd (no_entry nat_cmp c r e);
   has_target = λ c r a e h. absurd (no_entry nat_cmp c r e);
-  target = λ c r a x e h g. absurd (no_entry nat_cmp c r e);
+  target_by_stage = λ c r a x e h g. absurd (no_entry nat_cmp c r e);
   cells_differ = λ c r x y e h g. absurd (no_entry nat_cmp c r e);
   serving_while_open = λ c r a e h. absurd (no_entry nat_cmp c r e);
   serving_at_rest = λ c r e h. absurd (no_entry nat_cmp c r e);

@@ -64,10 +64,10 @@ pub record IsSound (b : State) : Type 0 where
   -- the owner of a channel is a call in the book, whose record names the channel
   pub owner_uses : (x : ChanId) (c : ℕ) → owner (state_of b x) ≡ Some c → (r : CallRecord) × (record_of b c ≡ Some r) × Uses r x
   -- who is served on a channel owns it
-  pub serving : (c : ℕ) (r : CallRecord) (x : ChanId) → record_of b c ≡ Some r → r.serving ≡ Some x → owner (state_of b x) ≡ Some c
+  pub serving_is_owned : (c : ℕ) (r : CallRecord) (x : ChanId) → record_of b c ≡ Some r → r.serving ≡ Some x → owner (state_of b x) ≡ Some c
   -- every attempt aims at some channel, and its stage says in which state that is
   pub has_target : (c : ℕ) (r : CallRecord) (a : Attempt) → record_of b c ≡ Some r → r.attempt ≡ Some a → IsSome a.target
-  pub target :
+  pub target_by_stage :
       (c : ℕ) (r : CallRecord) (a : Attempt) (x : ChanId) →
       record_of b c ≡ Some r → r.attempt ≡ Some a → a.target ≡ Some x → state_of b x ≡ target_state c a.stage
   -- an attempt never moves its call within a cell

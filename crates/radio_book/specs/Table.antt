@@ -209,7 +209,7 @@ is_armed m (Some n) = is_same_timer m n
 
 abbrev pub undo_by : ℕ → Why → CallRecord → (ChanId → ChanState) → Option Timer → Outcome
 undo_by c Asked r look armed = undo_attempt c WrongPhase r r.attempt look armed
--- without an attempt no timer guards one: refused like any that isn't armed
+-- a timer with no attempt to guard is refused like one that isn't armed
 undo_by c (Expired m) r look armed = if is_armed m armed then undo_attempt c NotArmed r r.attempt look armed else Refuses NotArmed
 
 -- Undo: an attempt is taken back, because it was asked or because a timer of it expired (T3103 by TS 44.018 clause 11.1.2,
