@@ -1,4 +1,5 @@
--- The table of the book: for each event, by what the book has, the first refusal that holds or the change and the reply.
+-- The table of the book: how each event is judged by what stands in the book. It is refused, by what comes first in Refusal
+-- where several would do, or it is accepted with a change and an answer.
 -- Its rows are the steps of calls and handovers (TS 44.018 clause 3.4.4, TS 48.008 clause 3.1.5), and of the activation and
 -- release of channels (TS 48.058 clause 4).
 use Rattle.std.specs.Prelude.{ℕ, Bool, true, false, ◌&&◌, if◌then◌else◌, ◌==◌, ◌⊎◌, Option, Some, None}
