@@ -15,7 +15,7 @@ use Rattle.radio_book.specs.declared.event.Refusal.TheVariants.{ChannelBusy, Ref
 use Rattle.radio_book.specs.declared.event.Reply.{Reply}
 use Rattle.radio_book.specs.declared.event.Reply.TheVariants.{Refused}
 use Rattle.radio_book.specs.State.{State, Change, apply, state_of, record_of}
-use Rattle.radio_book.specs.Table.{Outcome, Refuses, Accepts, row, after, reply_of, reply_to}
+use Rattle.radio_book.specs.Table.{Outcome, Refuses, Accepts, row, book_after, reply_of, reply_to}
 use Rattle.radio_book.specs.Sound.{IsSound, owner}
 use Rattle.radio_book.specs.Others.{Commutes}
 use Rattle.radio_book.proofs.Frame.{is_owned}
@@ -36,11 +36,11 @@ AgreesAt gone b e = Agrees gone (row b e) (row (apply gone b) e)
 
 pub agrees_commute : (gone : Change) (b : State) (e : Event) → AgreesAt gone b e → Commutes gone b e
 agrees_commute gone b e agrees = record {
-  book = over (row b e) agrees.away ∙ ap (λ o. after o (apply gone b)) (sym agrees.same);
+  book = over (row b e) agrees.away ∙ ap (λ o. book_after o (apply gone b)) (sym agrees.same);
   reply = ap reply_of agrees.same;
 }
   where
-    over : (o : Outcome) → Avoids o gone → apply gone (after o b) ≡ after o (apply gone b)
+    over : (o : Outcome) → Avoids o gone → apply gone (book_after o b) ≡ book_after o (apply gone b)
     over (Refuses refusal) away = refl
     over (Accepts change reply) away = apply_swap change gone b away
 
@@ -114,7 +114,7 @@ states_kept gone b f (Some x) misses = ap (λ s. Some (f x s)) (state_kept gone 
 module _ (gone : Change) (b : State) (sound : IsSound b) (hides : Hides gone b) (d : ℕ) (other : Misses gone.call d) (r : CallRecord) (is : record_of b d ≡ Some r) where
   -- the channels of another call aren't gone
   pub serving_missed : (x : ChanId) → r.serving ≡ Some x → Misses gone.channel x
-  serving_missed x serves = hides.others_channel x d (sound.serving d r x is serves) other
+  serving_missed x serves = hides.others_channel x d (sound.serving_is_owned d r x is serves) other
 
   pub target_missed : (a : Attempt) → r.attempt ≡ Some a → (x : ChanId) → a.target ≡ Some x → Misses gone.channel x
-  target_missed a has x aims = hides.others_channel x d (ap owner (sound.target d r a x is has aims) ∙ is_owned d a.stage) other
+  target_missed a has x aims = hides.others_channel x d (ap owner (sound.target_by_stage d r a x is has aims) ∙ is_owned d a.stage) other

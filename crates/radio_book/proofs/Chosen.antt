@@ -12,11 +12,15 @@ use Rattle.channel_fsm.specs.declared.ChanState.{ChanState}
 use Rattle.channel_fsm.specs.declared.ChanState.TheVariants.{Free, Held, Pending, On, Off}
 use Rattle.cell_table.specs.Site.{IsSite, is_traffic}
 use Rattle.radio_book.specs.State.{State, state_of}
-use Rattle.radio_book.specs.Choice.{IsFreeIn, NoneFree, channels_of, channel_at, is_free, is_free_traffic, free_count}
+use Rattle.radio_book.specs.Choice.{IsFreeIn, NoneFree, channels_of, is_free, is_free_traffic, free_count}
 use Rattle.cell_table.proofs.SiteFacts.{traffic_limits}
 use Rattle.radio_book.proofs.Frame.{same_some}
 use Rattle.std.specs.List.{AllByRecursion}
 use Rattle.std.proofs.lemmas.List.Elements.{All-get_or, All-from_recursion}
+
+-- the channel at a place among those that a cell can have
+abbrev pub channel_at : ℕ → ℕ → ChanId
+channel_at cell place = record { cell = cell; trx = place / 8; tn = place % 8 }
 
 -- the channels of a cell are those at its 32 places
 by_places : (cell : ℕ) → channels_of cell ≡ map_list (channel_at cell) (range_with_len 0 32)
@@ -93,7 +97,7 @@ pub found_free : (b : State) (cell : ℕ) (x : ChanId) → find (is_free_traffic
 found_free b cell x e =
     let m = mapped (is_free_traffic b) cell (range_with_len 0 32) x (ap (find (is_free_traffic b)) (sym (by_places cell)) ∙ e) in
     let parts = and_parts (is_traffic b.site x) _ m.1 in
-    record { in_cell = m.0; traffic = parts.0; free = free_from (state_of b x) parts.1 }
+    record { in_cell = m.0; is_traffic = parts.0; is_free = free_from (state_of b x) parts.1 }
 
 -- what a search passes, fails
 failed : (p : ChanId → Bool) (xs : List ChanId) → find p xs ≡ None → AllByRecursion (λ x. p x ≡ false) xs
@@ -112,14 +116,14 @@ by_place x h =
 
 pub none_free : (b : State) (cell : ℕ) → IsSite b.site → find (is_free_traffic b) (channels_of cell) ≡ None → NoneFree b cell
 none_free b cell site e x free =
-    let limits = traffic_limits b.site x site free.traffic in
+    let limits = traffic_limits b.site x site free.is_traffic in
     let place = 8 * x.trx + x.tn in
     let small : place < 32 = omega (arith, limits.trx, limits.timeslot) in
     let here : get_or (channels_of cell) place x ≡ x =
     place_at cell place x small ∙ ap (λ k. channel_at k place) (sym free.in_cell) ∙ by_place x limits.timeslot in
     let busy = All-get_or (λ y. is_free_traffic b y ≡ false) (channels_of cell) place x (within cell place small)
     (All-from_recursion (λ y. is_free_traffic b y ≡ false) (channels_of cell) (failed (is_free_traffic b) (channels_of cell) e)) in
-    let passes : is_free_traffic b x ≡ true = and_from _ _ free.traffic (ap is_free free.free) in
+    let passes : is_free_traffic b x ≡ true = and_from _ _ free.is_traffic (ap is_free free.is_free) in
     let fails : is_free_traffic b x ≡ false = ap (is_free_traffic b) (sym here) ∙ busy in
     cc
 
@@ -128,7 +132,7 @@ pub no_cell : (b : State) (cell : ℕ) → length b.site ≤ cell → NoneFree b
 no_cell b cell h x free =
     let absent = slice_get_past b.site x.cell (subst (λ k. length b.site ≤ k) (sym free.in_cell) h) in
     let none : is_traffic b.site x ≡ false = ap (λ o. list_any (λ tn. tn == x.tn) (unwrap_or (option_and_then (λ found. slice_get found x.trx) o) [])) absent in
-    let traffic = free.traffic in
+    let traffic = free.is_traffic in
     cc
 
 pub counted_all : (b : State) (cell place : ℕ) → 32 ≤ place → count_by (is_free_traffic b) (take place (channels_of cell)) ≡ free_count b cell

@@ -54,25 +54,25 @@ module _ {K X : Type 0} {R : K → K → Ordering} (o : IsTotalOrder R) (exact :
 
 -- what a sound book says of one call
 pub record IsCallSound (look : ChanId → ChanState) (user : Reference → Option ℕ) (c : ℕ) (r : CallRecord) : Type 0 where
-  pub serving : (x : ChanId) → r.serving ≡ Some x → owner (look x) ≡ Some c
+  pub serving_is_owned : (x : ChanId) → r.serving ≡ Some x → owner (look x) ≡ Some c
   pub has_target : (a : Attempt) → r.attempt ≡ Some a → IsSome a.target
-  pub target : (a : Attempt) (x : ChanId) → r.attempt ≡ Some a → a.target ≡ Some x → look x ≡ target_state c a.stage
-  pub apart : (x y : ChanId) → r.serving ≡ Some x → target_in r ≡ Some y → x.cell ≢ y.cell
-  pub during : (a : Attempt) → r.attempt ≡ Some a → HasServing c a.kind r.serving look
-  pub resting : r.attempt ≡ None → IsSome r.serving
-  pub referred : (k : Reference) → reference_of r.attempt ≡ Some k → user k ≡ Some c
-  pub reserved : (a : Attempt) → r.attempt ≡ Some a → HasReference a.stage a.reference
+  pub target_by_stage : (a : Attempt) (x : ChanId) → r.attempt ≡ Some a → a.target ≡ Some x → look x ≡ target_state c a.stage
+  pub cells_differ : (x y : ChanId) → r.serving ≡ Some x → target_in r ≡ Some y → x.cell ≢ y.cell
+  pub serving_while_open : (a : Attempt) → r.attempt ≡ Some a → HasServing c a.kind r.serving look
+  pub serving_at_rest : r.attempt ≡ None → IsSome r.serving
+  pub reference_is_used : (k : Reference) → reference_of r.attempt ≡ Some k → user k ≡ Some c
+  pub reference_by_stage : (a : Attempt) → r.attempt ≡ Some a → HasReference a.stage a.reference
 
 pub call_of : (b : State) → IsSound b → (c : ℕ) (r : CallRecord) → record_of b c ≡ Some r → IsCallSound (state_of b) (map.get b.references) c r
 call_of b sound c r e = record {
-  serving = λ x h. sound.serving c r x e h;
+  serving_is_owned = λ x h. sound.serving_is_owned c r x e h;
   has_target = λ a h. sound.has_target c r a e h;
-  target = λ a x h g. sound.target c r a x e h g;
-  apart = λ x y h g. sound.apart c r x y e h g;
-  during = λ a h. sound.during c r a e h;
-  resting = λ h. sound.resting c r e h;
-  referred = λ k h. sound.referred c r k e h;
-  reserved = λ a h. sound.reserved c r a e h;
+  target_by_stage = λ a x h g. sound.target_by_stage c r a x e h g;
+  cells_differ = λ x y h g. sound.cells_differ c r x y e h g;
+  serving_while_open = λ a h. sound.serving_while_open c r a e h;
+  serving_at_rest = λ h. sound.serving_at_rest c r e h;
+  reference_is_used = λ k h. sound.reference_is_used c r k e h;
+  reference_by_stage = λ a h. sound.reference_by_stage c r a e h;
 }
 
 pub is_owned : (c : ℕ) (s : Stage) → owner (target_state c s) ≡ Some c
@@ -90,28 +90,28 @@ serving_stays c look seen same Incoming s h = h
 -- a call whose channels and references stay, stays sound
 pub call_stays : (look seen : ChanId → ChanState) (user used : Reference → Option ℕ) (c : ℕ) (r : CallRecord) → ((x : ChanId) → owner (look x) ≡ Some c → seen x ≡ look x) → ((k : Reference) → user k ≡ Some c → used k ≡ Some c) → IsCallSound look user c r → IsCallSound seen used c r
 call_stays look seen user used c r same kept is = record {
-  serving = λ x h. ap owner (same x (is.serving x h)) ∙ is.serving x h;
+  serving_is_owned = λ x h. ap owner (same x (is.serving_is_owned x h)) ∙ is.serving_is_owned x h;
   has_target = is.has_target;
-  target = λ a x h g. same x (ap owner (is.target a x h g) ∙ is_owned c a.stage) ∙ is.target a x h g;
-  apart = is.apart;
-  during = λ a h. serving_stays c look seen same a.kind r.serving (is.during a h);
-  resting = is.resting;
-  referred = λ k h. kept k (is.referred k h);
-  reserved = is.reserved;
+  target_by_stage = λ a x h g. same x (ap owner (is.target_by_stage a x h g) ∙ is_owned c a.stage) ∙ is.target_by_stage a x h g;
+  cells_differ = is.cells_differ;
+  serving_while_open = λ a h. serving_stays c look seen same a.kind r.serving (is.serving_while_open a h);
+  serving_at_rest = is.serving_at_rest;
+  reference_is_used = λ k h. kept k (is.reference_is_used k h);
+  reference_by_stage = is.reference_by_stage;
 }
 
 -- a call without an attempt, and one with an attempt, by their parts
 
 pub resting_call : (look : ChanId → ChanState) (user : Reference → Option ℕ) (c : ℕ) (x : ChanId) → owner (look x) ≡ Some c → IsCallSound look user c (record { serving = Some x; attempt = None })
 resting_call look user c x owned = record {
-  serving = λ y h. at_some (λ z. owner (look z) ≡ Some c) x y owned h;
+  serving_is_owned = λ y h. at_some (λ z. owner (look z) ≡ Some c) x y owned h;
   has_target = λ a h. cc;
-  target = λ a y h g. cc;
-  apart = λ y z h g. cc;
-  during = λ a h. cc;
-  resting = λ h. refl;
-  referred = λ k h. cc;
-  reserved = λ a h. cc;
+  target_by_stage = λ a y h g. cc;
+  cells_differ = λ y z h g. cc;
+  serving_while_open = λ a h. cc;
+  serving_at_rest = λ h. refl;
+  reference_is_used = λ k h. cc;
+  reference_by_stage = λ a h. cc;
 }
 
 abbrev pub attempting : Option ChanId → AttemptKind → Stage → ChanId → Option ℕ → CallRecord
@@ -119,18 +119,18 @@ attempting s k g t n = record { serving = s; attempt = Some (record { kind = k; 
 
 pub record HasAttempt (look : ChanId → ChanState) (user : Reference → Option ℕ) (c : ℕ) (s : Option ChanId) (k : AttemptKind) (g : Stage) (t : ChanId) (n : Option ℕ) : Type 0 where
   pub state : look t ≡ target_state c g
-  pub apart : (x : ChanId) → s ≡ Some x → x.cell ≢ t.cell
-  pub during : HasServing c k s look
-  pub referred : (m : ℕ) → n ≡ Some m → user (reference_at t m) ≡ Some c
-  pub reserved : HasReference g n
+  pub cells_differ : (x : ChanId) → s ≡ Some x → x.cell ≢ t.cell
+  pub serving_while_open : HasServing c k s look
+  pub reference_is_used : (m : ℕ) → n ≡ Some m → user (reference_at t m) ≡ Some c
+  pub reference_by_stage : HasReference g n
 
 pub attempt_of : (look : ChanId → ChanState) (user : Reference → Option ℕ) (c : ℕ) (s : Option ChanId) (k : AttemptKind) (g : Stage) (t : ChanId) (n : Option ℕ) → IsCallSound look user c (attempting s k g t n) → HasAttempt look user c s k g t n
 attempt_of look user c s k g t n is = record {
-  state = is.target _ t refl refl;
-  apart = λ x h. is.apart x t h refl;
-  during = is.during _ refl;
-  referred = λ m h. is.referred (reference_at t m) (ap (reference_held (Some t)) h);
-  reserved = is.reserved _ refl;
+  state = is.target_by_stage _ t refl refl;
+  cells_differ = λ x h. is.cells_differ x t h refl;
+  serving_while_open = is.serving_while_open _ refl;
+  reference_is_used = λ m h. is.reference_is_used (reference_at t m) (ap (reference_held (Some t)) h);
+  reference_by_stage = is.reference_by_stage _ refl;
 }
 
 serving_owned : (c : ℕ) (look : ChanId → ChanState) (k : AttemptKind) (s : Option ChanId) → HasServing c k s look → (x : ChanId) → s ≡ Some x → owner (look x) ≡ Some c
@@ -144,14 +144,14 @@ reference_kept user c t (Some m) h k e = at_some (λ j. user j ≡ Some c) _ k (
 
 pub attempting_call : (look : ChanId → ChanState) (user : Reference → Option ℕ) (c : ℕ) (s : Option ChanId) (k : AttemptKind) (g : Stage) (t : ChanId) (n : Option ℕ) → HasAttempt look user c s k g t n → IsCallSound look user c (attempting s k g t n)
 attempting_call look user c s k g t n has = record {
-  serving = λ x h. serving_owned c look k s has.during x h;
+  serving_is_owned = λ x h. serving_owned c look k s has.serving_while_open x h;
   has_target = λ a h. at_some (λ (a : Attempt). IsSome a.target) (record { kind = k; stage = g; target = Some t; reference = n }) a refl h;
-  target = λ a x h e. at_some (λ (a : Attempt). a.target ≡ Some x → look x ≡ target_state c a.stage) _ a (λ e. at_some (λ y. look y ≡ target_state c g) t x has.state e) h e;
-  apart = λ x y h e. at_some (λ z. x.cell ≢ z.cell) t y (has.apart x h) e;
-  during = λ a h. at_some (λ (a : Attempt). HasServing c a.kind s look) _ a has.during h;
-  resting = λ h. cc;
-  referred = λ k h. reference_kept user c t n has.referred k h;
-  reserved = λ a h. at_some (λ (a : Attempt). HasReference a.stage a.reference) _ a has.reserved h;
+  target_by_stage = λ a x h e. at_some (λ (a : Attempt). a.target ≡ Some x → look x ≡ target_state c a.stage) _ a (λ e. at_some (λ y. look y ≡ target_state c g) t x has.state e) h e;
+  cells_differ = λ x y h e. at_some (λ z. x.cell ≢ z.cell) t y (has.cells_differ x h) e;
+  serving_while_open = λ a h. at_some (λ (a : Attempt). HasServing c a.kind s look) _ a has.serving_while_open h;
+  serving_at_rest = λ h. cc;
+  reference_is_used = λ k h. reference_kept user c t n has.reference_is_used k h;
+  reference_by_stage = λ a h. at_some (λ (a : Attempt). HasReference a.stage a.reference) _ a has.reference_by_stage h;
 }
 
 -- a call's record, if it has one, uses the channel; has the reference; is sound
@@ -226,19 +226,19 @@ module _ (b : State) (sound : IsSound b) (change : Change) (c : ℕ) (was is : O
   referrer_of None e d same k has = absurd has
   referrer_of (Some r) e d same k has = (r, ap (record_of b') same ∙ e, has)
 
-  named : (x : ChanId) (d : ℕ) → owner (state_of b' x) ≡ Some d → (r : CallRecord) × (record_of b' d ≡ Some r) × Uses r x
-  named x d owned = elim (get-with_change chan_total chan_exact b.channels change.channel (λ x v. (d : ℕ) → owner (or_free v) ≡ Some d → (d ≡ c) × UsedBy is x) x concerns.channel_is) [
+  owner_uses : (x : ChanId) (d : ℕ) → owner (state_of b' x) ≡ Some d → (r : CallRecord) × (record_of b' d ≡ Some r) × Uses r x
+  owner_uses x d owned = elim (get-with_change chan_total chan_exact b.channels change.channel (λ x v. (d : ℕ) → owner (or_free v) ≡ Some d → (d ≡ c) × UsedBy is x) x concerns.channel_is) [
     | inl (now, t) ↦ let n = now d owned in user_of is concerns.after d n.0 x n.1
-    | inr (t, same) ↦ let n = sound.named x d (sym (ap (λ o. owner (or_free o)) same) ∙ owned) in elim (call_cases d c) [
+    | inr (t, same) ↦ let n = sound.owner_uses x d (sym (ap (λ o. owner (or_free o)) same) ∙ owned) in elim (call_cases d c) [
       | inl at ↦ user_of is concerns.after d at x (concerns.channels x t (subst (λ o. UsedBy o x) (sym n.1 ∙ ap (record_of b) at ∙ concerns.before) n.2))
       | inr other ↦ (n.0, other_call d other ∙ n.1, n.2)
     ]
   ]
 
-  in_use : (k : Reference) (d : ℕ) → map.get b'.references k ≡ Some d → (r : CallRecord) × (record_of b' d ≡ Some r) × (reference_of r.attempt ≡ Some k)
-  in_use k d used = elim (get-with_change reference_total reference_exact b.references change.reference (λ k v. (d : ℕ) → v ≡ Some d → (d ≡ c) × ReferredBy is k) k concerns.reference_is) [
+  user_has_reference : (k : Reference) (d : ℕ) → map.get b'.references k ≡ Some d → (r : CallRecord) × (record_of b' d ≡ Some r) × (reference_of r.attempt ≡ Some k)
+  user_has_reference k d used = elim (get-with_change reference_total reference_exact b.references change.reference (λ k v. (d : ℕ) → v ≡ Some d → (d ≡ c) × ReferredBy is k) k concerns.reference_is) [
     | inl (now, t) ↦ let n = now d used in referrer_of is concerns.after d n.0 k n.1
-    | inr (t, same) ↦ let n = sound.in_use k d (sym same ∙ used) in elim (call_cases d c) [
+    | inr (t, same) ↦ let n = sound.user_has_reference k d (sym same ∙ used) in elim (call_cases d c) [
       | inl at ↦ referrer_of is concerns.after d at k (concerns.references k t (subst (λ o. ReferredBy o k) (sym n.1 ∙ ap (record_of b) at ∙ concerns.before) n.2))
       | inr other ↦ (n.0, other_call d other ∙ n.1, n.2)
     ]
@@ -247,22 +247,22 @@ module _ (b : State) (sound : IsSound b) (change : Change) (c : ℕ) (was is : O
   entries : (x : ChanId) (s : ChanState) → map.get b'.channels x ≡ Some s → (is_traffic b.site x ≡ true) × (s ≢ Free)
   entries x s e = elim (get-with_change chan_total chan_exact b.channels change.channel (λ x v. (s : ChanState) → v ≡ Some s → (is_traffic b.site x ≡ true) × (s ≢ Free)) x concerns.entry) [
     | inl (now, t) ↦ now s e
-    | inr (t, same) ↦ (sound.traffic x s (sym same ∙ e), sound.not_free x s (sym same ∙ e))
+    | inr (t, same) ↦ (sound.is_traffic x s (sym same ∙ e), sound.not_free x s (sym same ∙ e))
   ]
 
   pub concerned_sound : IsSound (apply change b)
   concerned_sound = record {
-    traffic = λ x s e. (entries x s e).0;
+    is_traffic = λ x s e. (entries x s e).0;
     not_free = λ x s e. (entries x s e).1;
-    named = named;
-    serving = λ d r x e h. (calls d r e).serving x h;
+    owner_uses = owner_uses;
+    serving_is_owned = λ d r x e h. (calls d r e).serving_is_owned x h;
     has_target = λ d r a e h. (calls d r e).has_target a h;
-    target = λ d r a x e h g. (calls d r e).target a x h g;
-    apart = λ d r x y e h g. (calls d r e).apart x y h g;
-    during = λ d r a e h. (calls d r e).during a h;
-    resting = λ d r e h. (calls d r e).resting h;
-    referred = λ d r k e h. (calls d r e).referred k h;
-    in_use = in_use;
-    reserved = λ d r a e h. (calls d r e).reserved a h;
+    target_by_stage = λ d r a x e h g. (calls d r e).target_by_stage a x h g;
+    cells_differ = λ d r x y e h g. (calls d r e).cells_differ x y h g;
+    serving_while_open = λ d r a e h. (calls d r e).serving_while_open a h;
+    serving_at_rest = λ d r e h. (calls d r e).serving_at_rest h;
+    reference_is_used = λ d r k e h. (calls d r e).reference_is_used k h;
+    user_has_reference = user_has_reference;
+    reference_by_stage = λ d r a e h. (calls d r e).reference_by_stage a h;
     timers = concerns.timers;
   }

@@ -86,7 +86,7 @@ by_parts : (b : State) → IsSound b → (c : ℕ) (s : Option ChanId) (k : Atte
 by_parts b sound c s k g None n e = let bad = sound.has_target c _ (record { kind = k; stage = g; target = None; reference = n }) e refl in cc
 by_parts b sound c s k g (Some t) n e =
     let has = attempt_of _ _ c s k g t n (call_of b sound c _ e) in
-    by_stage b sound c s k t g n e has.state has.reserved
+    by_stage b sound c s k t g n e has.state has.reference_by_stage
     ∙ sym (ap (λ m. apply (undo_change c (attempting s k g t n) (record { kind = k; stage = g; target = Some t; reference = n }) (state_of b) m) b) (sound.timers c))
 
 pub inverses_undo : InversesUndo

@@ -47,7 +47,7 @@ used_by b sound site cell n c r user recorded reference =
       | Some a ↦ λ is h.
           let held = held_by a.target a.reference (numbered cell n) h in
           let t = held.0 in
-          let owned = ap owner (sound.target c r a t recorded is held.1) ∙ is_owned c a.stage in
+          let owned = ap owner (sound.target_by_stage c r a t recorded is held.1) ∙ is_owned c a.stage in
           record {
             call = c;
             known = r;
@@ -67,7 +67,7 @@ used b sound site cell n there =
     elim (map.get b.references (numbered cell n)) as (λ o. map.get b.references (numbered cell n) ≡ o → is_some o ≡ true → IsUsed b cell n) [
       | None ↦ λ is h. cc
       | Some c ↦ λ is h.
-          let found = sound.in_use (numbered cell n) c is in
+          let found = sound.user_has_reference (numbered cell n) c is in
           used_by b sound site cell n c found.0 is found.1 found.2
     ] refl there
 

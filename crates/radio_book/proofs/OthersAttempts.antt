@@ -145,7 +145,7 @@ module _ (gone : Change) (b : State) (sound : IsSound b) (hides : Hides gone b) 
           channel = option_apart (λ x. (x, left_state (state_of b x))) a.target gone.channel target;
           call = other;
           reference = option_apart (λ k. (k, None)) (reference_held a.target a.reference) gone.reference
-              (λ k held. hides.others_reference k d (sound.referred d r k is (ap reference_of has ∙ held)) other);
+              (λ k held. hides.others_reference k d (sound.reference_is_used d r k is (ap reference_of has ∙ held)) other);
           timer = option_apart (λ m. (d, None)) armed gone.timer (λ m e. hides.others_timer d other);
         };
       }

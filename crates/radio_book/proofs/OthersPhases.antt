@@ -30,10 +30,10 @@ use Rattle.radio_book.proofs.Agreement.{Hides, IsOfOther, IsNotHeld, AgreesWithO
 -- while an attempt is open
 module _ (c : ℕ) (r : CallRecord) (a : Attempt) (b : State) (sound : IsSound b) (is : record_of b c ≡ Some r) (has : r.attempt ≡ Some a) where
   target_is_owned : (x : ChanId) → a.target ≡ Some x → owner (state_of b x) ≡ Some c
-  target_is_owned x aims = ap owner (sound.target c r a x is has aims) ∙ is_owned c a.stage
+  target_is_owned x aims = ap owner (sound.target_by_stage c r a x is has aims) ∙ is_owned c a.stage
 
   reference_is_used : (k : Reference) → reference_held a.target a.reference ≡ Some k → map.get b.references k ≡ Some c
-  reference_is_used k held = sound.referred c r k is (ap reference_of has ∙ held)
+  reference_is_used k held = sound.reference_is_used c r k is (ap reference_of has ∙ held)
 
   serving_is_on : (kind : AttemptKind) (serving : Option ChanId) (x : ChanId) → HasServing c kind serving (state_of b) → serving ≡ Some x → state_of b x ≡ On c
   serving_is_on Internal None x on serves = absurd on
@@ -43,11 +43,11 @@ module _ (c : ℕ) (r : CallRecord) (a : Attempt) (b : State) (sound : IsSound b
   -- of the call's channels only the target waits for its station
   waits_for_other : (x : ChanId) (d : ℕ) → state_of b x ≡ Pending d → (a.target ≡ Some x → ⊥) → d ≢ c
   waits_for_other x d pending other here =
-      let user = sound.named x d (ap owner pending) in
+      let user = sound.owner_uses x d (ap owner pending) in
       let one : user.0 ≡ r = same_Some _ _ (sym user.1 ∙ ap (record_of b) here ∙ is) in
       elim user.2 [
         | inl serves ↦
-            let on = serving_is_on a.kind r.serving x (sound.during c r a is has) (ap (λ q. q.serving) (sym one) ∙ serves) in
+            let on = serving_is_on a.kind r.serving x (sound.serving_while_open c r a is has) (ap (λ q. q.serving) (sym one) ∙ serves) in
             let bad : Pending d ≡ On c = sym pending ∙ on in cc
         | inr aims ↦ other (sym (ap target_in one ∙ ap (option_and_then (λ w. w.target)) has) ∙ aims)
       ]

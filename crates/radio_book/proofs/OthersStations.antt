@@ -11,7 +11,7 @@ use Rattle.radio_book.specs.declared.event.Event.TheVariants as event
 use Rattle.radio_book.specs.declared.event.Refusal.TheVariants.{Unexpected}
 use Rattle.radio_book.specs.declared.event.Reply.TheVariants.{Owned}
 use Rattle.radio_book.specs.State.{State, Change, apply, state_of, record_of}
-use Rattle.radio_book.specs.Table.{Accepts, becomes, with_record, at_stage, is_target, attempt_entry, moved_entry, confirm_row, refuse_row, released_row}
+use Rattle.radio_book.specs.Table.{Accepts, with_state, with_record, at_stage, is_target, attempt_entry, moved_entry, confirm_row, refuse_row, released_row}
 use Rattle.radio_book.proofs.Changes.{Misses, AreApart, state_kept, record_kept}
 use Rattle.radio_book.proofs.Agreement.{Agrees, refused, as_read, AgreesWithOthers}
 
@@ -30,10 +30,10 @@ module _ (gone : Change) (c : ℕ) (other : Misses gone.call c) (x : ChanId) (s 
 
   -- the station's answer on a channel of another call
   answer_agrees : (b : State) (state : ChanState) → Misses gone.channel x →
-      Agrees gone (Accepts (record { channel = becomes x state; call = moved_entry x s c (record_of b c); reference = None; timer = None }) (Owned c))
-      (Accepts (record { channel = becomes x state; call = moved_entry x s c (record_of (apply gone b) c); reference = None; timer = None }) (Owned c))
+      Agrees gone (Accepts (record { channel = with_state x state; call = moved_entry x s c (record_of b c); reference = None; timer = None }) (Owned c))
+      (Accepts (record { channel = with_state x state; call = moved_entry x s c (record_of (apply gone b) c); reference = None; timer = None }) (Owned c))
   answer_agrees b state missed = record {
-    same = ap (λ o. Accepts (record { channel = becomes x state; call = moved_entry x s c o; reference = None; timer = None }) (Owned c)) (record_kept gone b c other);
+    same = ap (λ o. Accepts (record { channel = with_state x state; call = moved_entry x s c o; reference = None; timer = None }) (Owned c)) (record_kept gone b c other);
     away = record { channel = missed; call = moved_entry_apart (record_of b c); reference = tt; timer = tt };
   }
 

@@ -14,9 +14,8 @@ use Rattle.radio_book.specs.declared.journal.Inverse.{Inverse}
 use Rattle.cell_table.specs.Site.{is_traffic}
 use Rattle.radio_book.specs.State.{State, or_free, state_of, record_of}
 use Rattle.radio_book.specs.Sound.{IsSound, owner, target_state}
-use Rattle.radio_book.specs.Table.{Refuses, step, begin_row, begin_call}
-use Rattle.radio_book.specs.Journal.{inverses_at, stage_inverses, opening_inverse, or_zero}
-use Rattle.radio_book.specs.Waiting.{MayMove}
+use Rattle.radio_book.specs.Table.{Refuses, step, begin_row}
+use Rattle.radio_book.specs.Journal.{journal_of, inverses_at, stage_inverses, opening_inverse, or_zero}
 use Rattle.radio_book.proofs.Frame.{is_owned}
 use Rattle.radio_book.proofs.SoundSteps.{sound_step}
 
@@ -26,11 +25,11 @@ owned_there None c e = cc
 owned_there (Some s) c e = refl
 
 pub serving_there : (b : State) (c : ℕ) (r : CallRecord) (x : ChanId) → IsSound b → record_of b c ≡ Some r → r.serving ≡ Some x → IsSome (map.get b.channels x)
-serving_there b c r x sound known serving = owned_there (map.get b.channels x) c (sound.serving c r x known serving)
+serving_there b c r x sound known serving = owned_there (map.get b.channels x) c (sound.serving_is_owned c r x known serving)
 
 pub target_there : (b : State) (c : ℕ) (r : CallRecord) (a : Attempt) (x : ChanId) → IsSound b → record_of b c ≡ Some r → r.attempt ≡ Some a → a.target ≡ Some x → IsSome (map.get b.channels x)
 target_there b c r a x sound known opened target =
-    owned_there (map.get b.channels x) c (ap owner (sound.target c r a x known opened target) ∙ is_owned c a.stage)
+    owned_there (map.get b.channels x) c (ap owner (sound.target_by_stage c r a x known opened target) ∙ is_owned c a.stage)
 
 -- an entry is of a channel that isn't free
 not_free : (b : State) (x : ChanId) → IsSound b → is_some (map.get b.channels x) ≡ true → state_of b x ≢ Free
@@ -51,7 +50,7 @@ no_record : (o : Option CallRecord) → is_some o ≡ false → o ≡ None
 no_record None h = refl
 no_record (Some r) h = cc
 
-pub begin_is_busy : (b : State) (c : ℕ) (x : ChanId) (r : CallRecord) (v : ChanState) → IsSound b → is_some (record_of b c) ≡ false → is_traffic b.site x ≡ true → is_some (map.get b.channels x) ≡ true → begin_call b c x r v ≡ Refuses (ChannelBusy x)
+pub begin_is_busy : (b : State) (c : ℕ) (x : ChanId) (r : CallRecord) (v : ChanState) → IsSound b → is_some (record_of b c) ≡ false → is_traffic b.site x ≡ true → is_some (map.get b.channels x) ≡ true → begin_row c x r v (record_of b c) (is_traffic b.site x) (state_of b x) ≡ Refuses (ChannelBusy x)
 begin_is_busy b c x r v sound new traffic there =
     ap (λ o. begin_row c x r v o (is_traffic b.site x) (state_of b x)) (no_record (record_of b c) new)
     ∙ ap (λ t. begin_row c x r v None t (state_of b x)) traffic ∙ begin_busy c x r v (state_of b x) (not_free b x sound there)
@@ -63,11 +62,17 @@ target_of_sent c Sent e = refl
 target_of_sent c Refused e = cc
 target_of_sent c Confirmed e = cc
 
+-- an attempt of the call that has the channel as its target keeps its inverses at the stage
+abbrev pub MayMove : ℕ → ChanId → Stage → State → Type 0
+MayMove c x s b =
+    (r : CallRecord) (a : Attempt) → record_of b c ≡ Some r → r.attempt ≡ Some a → a.target ≡ Some x →
+    journal_of (Some (record a { stage = s })) ≡ journal_of (Some a)
+
 -- the inverses stay where a target that was asked for is answered
 pub pending_moves : (b : State) (c : ℕ) (x : ChanId) (s : Stage) → IsSound b → map.get b.channels x ≡ Some (Pending c) →
     ((o : Inverse) (t : ChanId) (n : ℕ) → stage_inverses o t n s ≡ stage_inverses o t n Sent) → MayMove c x s b
 pending_moves b c x s sound pending same r a known opened target =
-    let sent = target_of_sent c a.stage (sym (sound.target c r a x known opened target) ∙ ap or_free pending) in
+    let sent = target_of_sent c a.stage (sym (sound.target_by_stage c r a x known opened target) ∙ ap or_free pending) in
     ap (inverses_at (record a { stage = s })) target
     ∙ same (opening_inverse a.kind) x (or_zero a.reference)
     ∙ ap (stage_inverses (opening_inverse a.kind) x (or_zero a.reference)) (sym sent)

@@ -28,7 +28,7 @@ use Rattle.cell_table.specs.Site.{SiteView, is_traffic}
 use Rattle.radio_book.specs.Keys.{chan_cmp, reference_cmp}
 use Rattle.radio_book.specs.Maps.{Entry, put}
 use Rattle.radio_book.specs.State.{State, Change, apply, or_free, state_of, record_of, empty_book}
-use Rattle.radio_book.specs.Table.{step, after, becomes, without_state, with_record, begin_row, cleared_state, clear_row, clear_at, look_row, moved_entry, confirm_row, refuse_row, released_row, takes, take_from, take_internal, take_row, reference_at, reference_held, reserve_number, reserve_at, reserve_by, reserve_row, activate_at, activate_by, activate_row, left_state, resting_record, undo_change, undo_attempt, undo_row}
+use Rattle.radio_book.specs.Table.{step, book_after, with_state, without_state, with_record, begin_row, cleared_state, clear_row, clear_at, look_row, moved_entry, confirm_row, refuse_row, released_row, taking_change, take_from, take_internal, take_row, reference_at, reference_held, reserve_number, reserve_at, reserve_by, reserve_row, activate_at, activate_by, activate_row, left_state, resting_record, undo_change, undo_attempt, undo_row}
 use Rattle.radio_book.specs.Sound.{IsSound, owner, Uses, target_state, HasServing, HasReference}
 use Rattle.radio_book.specs.Run.{run_book, RunsAreSound}
 use Rattle.radio_book.proofs.KeyFacts.{same_chan_itself}
@@ -47,14 +47,14 @@ owned_not_free s c h f = let bad : None ≡ Some c = sym (ap owner f) ∙ h in c
 -- a channel that isn't free has an entry
 listed : (b : State) → IsSound b → (x : ChanId) (o : Option ChanState) → map.get b.channels x ≡ o → or_free o ≢ Free → is_traffic b.site x ≡ true
 listed b sound x None e used = absurd (used refl)
-listed b sound x (Some s) e used = sound.traffic x s e
+listed b sound x (Some s) e used = sound.is_traffic x s e
 
 pub owned_traffic : (b : State) → IsSound b → (x : ChanId) (c : ℕ) → owner (state_of b x) ≡ Some c → is_traffic b.site x ≡ true
 owned_traffic b sound x c h = listed b sound x (map.get b.channels x) refl (owned_not_free (state_of b x) c h)
 
 -- what a channel becomes, when that isn't free
-becomes_fits : (b : State) (x : ChanId) (v : ChanState) → is_traffic b.site x ≡ true → v ≢ Free → (s : ChanState) → Some v ≡ Some s → (is_traffic b.site x ≡ true) × (s ≢ Free)
-becomes_fits b x v traffic used s h = (traffic, at_some (λ z. z ≢ Free) v s used h)
+state_fits : (b : State) (x : ChanId) (v : ChanState) → is_traffic b.site x ≡ true → v ≢ Free → (s : ChanState) → Some v ≡ Some s → (is_traffic b.site x ≡ true) × (s ≢ Free)
+state_fits b x v traffic used s h = (traffic, at_some (λ z. z ≢ Free) v s used h)
 
 -- a change that arms no timer
 abbrev changes : Option (Entry ChanId ChanState) → Option (Entry ℕ CallRecord) → Option (Entry Reference ℕ) → Change
@@ -67,8 +67,8 @@ rests x = record { serving = Some x; attempt = None }
 -- a call begins: what it makes of a free traffic channel is sound
 
 begin_sound : (b : State) → IsSound b → (c : ℕ) (x : ChanId) (r : CallRecord) (v : ChanState) →
-    (record_of b c ≡ None → is_traffic b.site x ≡ true → state_of b x ≡ Free → IsSound (apply (changes (becomes x v) (with_record c r) None) b)) →
-    (o : Option CallRecord) (t : Bool) (s : ChanState) → record_of b c ≡ o → is_traffic b.site x ≡ t → state_of b x ≡ s → IsSound (after (begin_row c x r v o t s) b)
+    (record_of b c ≡ None → is_traffic b.site x ≡ true → state_of b x ≡ Free → IsSound (apply (changes (with_state x v) (with_record c r) None) b)) →
+    (o : Option CallRecord) (t : Bool) (s : ChanState) → record_of b c ≡ o → is_traffic b.site x ≡ t → state_of b x ≡ s → IsSound (book_after (begin_row c x r v o t s) b)
 begin_sound b sound c x r v begun (Some old) t s e f g = sound
 begin_sound b sound c x r v begun None false s e f g = sound
 begin_sound b sound c x r v begun None true Free e f g = begun e f g
@@ -79,14 +79,14 @@ begin_sound b sound c x r v begun None true Off e f g = sound
 
 -- Open
 
-opened : (b : State) → IsSound b → (c : ℕ) (x : ChanId) → record_of b c ≡ None → is_traffic b.site x ≡ true → state_of b x ≡ Free → IsSound (apply (changes (becomes x (Pending c)) (with_record c (rests x)) None) b)
-opened b sound c x new traffic free = concerned_sound b sound (changes (becomes x (Pending c)) (with_record c (rests x)) None) c None (Some (rests x)) (record {
+opened : (b : State) → IsSound b → (c : ℕ) (x : ChanId) → record_of b c ≡ None → is_traffic b.site x ≡ true → state_of b x ≡ Free → IsSound (apply (changes (with_state x (Pending c)) (with_record c (rests x)) None) b)
+opened b sound c x new traffic free = concerned_sound b sound (changes (with_state x (Pending c)) (with_record c (rests x)) None) c None (Some (rests x)) (record {
   before = new;
   after = record_same b.calls c (Some (rests x));
   call = refl;
   channel_was = λ d h. let bad : None ≡ Some d = sym (ap owner free) ∙ h in cc;
   channel_is = λ d h. (one_owner (Pending c) c d refl h, inl refl);
-  entry = becomes_fits b x (Pending c) traffic (λ h. cc);
+  entry = state_fits b x (Pending c) traffic (λ h. cc);
   channels = λ y t u. absurd u;
   reference_was = tt;
   reference_is = tt;
@@ -114,11 +114,11 @@ cleared_not_free (Pending c) z h f = cc
 cleared_not_free (On c) z h f = cc
 cleared_not_free Off z h f = cc
 
-clear_sound : (b : State) → IsSound b → (c : ℕ) (s : Option ChanId) (o : Option Attempt) → record_of b c ≡ Some (record { serving = s; attempt = o }) → IsSound (after (clear_at c (record { serving = s; attempt = o }) o (state_of b)) b)
+clear_sound : (b : State) → IsSound b → (c : ℕ) (s : Option ChanId) (o : Option Attempt) → record_of b c ≡ Some (record { serving = s; attempt = o }) → IsSound (book_after (clear_at c (record { serving = s; attempt = o }) o (state_of b)) b)
 clear_sound b sound c s (Some a) e = sound
-clear_sound b sound c None None e = let bad = sound.resting c (record { serving = None; attempt = None }) e refl in cc
+clear_sound b sound c None None e = let bad = sound.serving_at_rest c (record { serving = None; attempt = None }) e refl in cc
 clear_sound b sound c (Some x) None e =
-    let owned : owner (state_of b x) ≡ Some c = sound.serving c _ x e refl in
+    let owned : owner (state_of b x) ≡ Some c = sound.serving_is_owned c _ x e refl in
     concerned_sound b sound (changes (Some (x, cleared_state (state_of b x))) (Some (c, None)) None) c (Some (rests x)) None (record {
       before = e;
       after = record_same b.calls c None;
@@ -134,7 +134,7 @@ clear_sound b sound c (Some x) None e =
       timers = sound.timers;
     })
 
-clear_row_sound : (b : State) → IsSound b → (c : ℕ) (o : Option CallRecord) → record_of b c ≡ o → IsSound (after (clear_row c o (state_of b)) b)
+clear_row_sound : (b : State) → IsSound b → (c : ℕ) (o : Option CallRecord) → record_of b c ≡ o → IsSound (book_after (clear_row c o (state_of b)) b)
 clear_row_sound b sound c None e = sound
 clear_row_sound b sound c (Some r) e = clear_sound b sound c r.serving r.attempt e
 
@@ -143,7 +143,7 @@ sound_clear b sound c = clear_row_sound b sound c (record_of b c) refl
 
 -- Look
 
-look_sound : (b : State) → IsSound b → (o : Option CallRecord) → IsSound (after (look_row o (state_of b)) b)
+look_sound : (b : State) → IsSound b → (o : Option CallRecord) → IsSound (book_after (look_row o (state_of b)) b)
 look_sound b sound None = sound
 look_sound b sound (Some r) = sound
 
@@ -158,27 +158,27 @@ serving_apart c t look seen same Internal (Some x) apart h = same x (λ e. apart
 serving_apart c t look seen same Incoming s apart h = h
 
 staged : (b : State) → IsSound b → (c : ℕ) (s : Option ChanId) (k : AttemptKind) (g : Stage) (t : ChanId) (n : Option ℕ) → record_of b c ≡ Some (attempting s k g t n) → (h : Stage) → HasReference h n →
-    IsSound (apply (changes (becomes t (target_state c h)) (with_record c (attempting s k h t n)) None) b)
+    IsSound (apply (changes (with_state t (target_state c h)) (with_record c (attempting s k h t n)) None) b)
 staged b sound c s k g t n e h reserved =
     let has = attempt_of _ _ c s k g t n (call_of b sound c _ e) in
     let owned : owner (state_of b t) ≡ Some c = ap owner has.state ∙ is_owned c g in
-    concerned_sound b sound (changes (becomes t (target_state c h)) (with_record c (attempting s k h t n)) None) c (Some (attempting s k g t n)) (Some (attempting s k h t n)) (record {
+    concerned_sound b sound (changes (with_state t (target_state c h)) (with_record c (attempting s k h t n)) None) c (Some (attempting s k g t n)) (Some (attempting s k h t n)) (record {
       before = e;
       after = record_same b.calls c (Some (attempting s k h t n));
       call = refl;
       channel_was = λ d u. one_owner (state_of b t) c d owned u;
       channel_is = λ d u. (one_owner (target_state c h) c d (is_owned c h) u, inr refl);
-      entry = becomes_fits b t (target_state c h) (owned_traffic b sound t c owned) (owned_not_free (target_state c h) c (is_owned c h));
+      entry = state_fits b t (target_state c h) (owned_traffic b sound t c owned) (owned_not_free (target_state c h) c (is_owned c h));
       channels = λ y t u. u;
       reference_was = tt;
       reference_is = tt;
       references = λ j t u. u;
       sound = attempting_call _ _ c s k h t n (record {
         state = state_same b.channels t (Some (target_state c h));
-        apart = has.apart;
-        during = serving_apart c t (state_of b) _ (λ x other. state_other b.channels t (Some (target_state c h)) x other) k s has.apart has.during;
-        referred = has.referred;
-        reserved = reserved;
+        cells_differ = has.cells_differ;
+        serving_while_open = serving_apart c t (state_of b) _ (λ x other. state_other b.channels t (Some (target_state c h)) x other) k s has.cells_differ has.serving_while_open;
+        reference_is_used = has.reference_is_used;
+        reference_by_stage = reserved;
       });
       timers = sound.timers;
     })
@@ -186,20 +186,20 @@ staged b sound c s k g t n e h reserved =
 -- Confirm and Refuse: a station answers an activation, and the channel is in the state of this stage
 
 abbrev answers : ChanId → Stage → ℕ → Option CallRecord → Change
-answers x g c o = changes (becomes x (target_state c g)) (moved_entry x g c o) None
+answers x g c o = changes (with_state x (target_state c g)) (moved_entry x g c o) None
 
 -- the channel is the serving one of a call without an attempt
 serving_answered : (b : State) → IsSound b → (c : ℕ) (x : ChanId) (g : Stage) → record_of b c ≡ Some (rests x) →
-    IsSound (apply (changes (becomes x (target_state c g)) None None) b)
+    IsSound (apply (changes (with_state x (target_state c g)) None None) b)
 serving_answered b sound c x g e =
-    let owned : owner (state_of b x) ≡ Some c = sound.serving c _ x e refl in
-    concerned_sound b sound (changes (becomes x (target_state c g)) None None) c (Some (rests x)) (Some (rests x)) (record {
+    let owned : owner (state_of b x) ≡ Some c = sound.serving_is_owned c _ x e refl in
+    concerned_sound b sound (changes (with_state x (target_state c g)) None None) c (Some (rests x)) (Some (rests x)) (record {
       before = e;
       after = e;
       call = tt;
       channel_was = λ d h. one_owner (state_of b x) c d owned h;
       channel_is = λ d h. (one_owner (target_state c g) c d (is_owned c g) h, inl refl);
-      entry = becomes_fits b x (target_state c g) (owned_traffic b sound x c owned) (owned_not_free (target_state c g) c (is_owned c g));
+      entry = state_fits b x (target_state c g) (owned_traffic b sound x c owned) (owned_not_free (target_state c g) c (is_owned c g));
       channels = λ y t u. u;
       reference_was = tt;
       reference_is = tt;
@@ -226,25 +226,25 @@ target_answered : (b : State) → IsSound b → (c : ℕ) (x : ChanId) (g : Stag
     (s : Option ChanId) (k : AttemptKind) (h : Stage) (n : Option ℕ) → record_of b c ≡ Some (attempting s k h x n) → IsSound (apply (answers x g c (Some (attempting s k h x n))) b)
 target_answered b sound c x g reserved p s k h n e =
     let has = attempt_of _ _ c s k h x n (call_of b sound c _ e) in
-    let change = λ (v : Option (Entry ℕ CallRecord)). changes (becomes x (target_state c g)) v None in
+    let change = λ (v : Option (Entry ℕ CallRecord)). changes (with_state x (target_state c g)) v None in
     subst (λ q. IsSound (apply (change (if q then with_record c (attempting s k g x n) else None)) b)) (sym (same_chan_itself x))
-    (staged b sound c s k h x n e g (reserved n (pending_reserved c h n (sym has.state ∙ p) has.reserved)))
+    (staged b sound c s k h x n e g (reserved n (pending_reserved c h n (sym has.state ∙ p) has.reference_by_stage)))
 
 answer_sound : (b : State) → IsSound b → (c : ℕ) (x : ChanId) (g : Stage) → ((n : Option ℕ) → IsSome n → HasReference g n) → state_of b x ≡ Pending c →
     (s : Option ChanId) (o : Option Attempt) → record_of b c ≡ Some (record { serving = s; attempt = o }) → Uses (record { serving = s; attempt = o }) x → IsSound (apply (answers x g c (Some (record { serving = s; attempt = o }))) b)
 answer_sound b sound c x g reserved p s None e (inl h) = serving_answered b sound c x g (e ∙ ap (λ z. Some (record { serving = z; attempt = None })) h)
 answer_sound b sound c x g reserved p s None e (inr h) = cc
-answer_sound b sound c x g reserved p s (Some a) e (inl h) = absurd (serving_settled c (state_of b) a.kind s x (sound.during c _ a e refl) h p)
+answer_sound b sound c x g reserved p s (Some a) e (inl h) = absurd (serving_settled c (state_of b) a.kind s x (sound.serving_while_open c _ a e refl) h p)
 answer_sound b sound c x g reserved p s (Some a) e (inr h) =
     subst (λ z. IsSound (apply (answers x g c (Some (record { serving = s; attempt = Some (record a { target = z }) }))) b)) (sym h)
     (target_answered b sound c x g reserved p s a.kind a.stage a.reference (e ∙ ap (λ z. Some (record { serving = s; attempt = Some (record a { target = z }) })) h))
 
 answered : (b : State) → IsSound b → (c : ℕ) (x : ChanId) (g : Stage) → ((n : Option ℕ) → IsSome n → HasReference g n) → state_of b x ≡ Pending c → IsSound (apply (answers x g c (record_of b c)) b)
 answered b sound c x g reserved p =
-    let n = sound.named x c (ap owner p) in
+    let n = sound.owner_uses x c (ap owner p) in
     subst (λ o. IsSound (apply (answers x g c o) b)) (sym n.1) (answer_sound b sound c x g reserved p n.0.serving n.0.attempt n.1 n.2)
 
-confirm_sound : (b : State) → IsSound b → (x : ChanId) (s : ChanState) → state_of b x ≡ s → IsSound (after (confirm_row x s (record_of b)) b)
+confirm_sound : (b : State) → IsSound b → (x : ChanId) (s : ChanState) → state_of b x ≡ s → IsSound (book_after (confirm_row x s (record_of b)) b)
 confirm_sound b sound x Free e = sound
 confirm_sound b sound x (Held c) e = sound
 confirm_sound b sound x (Pending c) e = answered b sound c x Confirmed (λ n h. h) e
@@ -254,7 +254,7 @@ confirm_sound b sound x Off e = sound
 pub sound_confirm : (b : State) → IsSound b → (x : ChanId) → IsSound (step b (event.Confirm x))
 sound_confirm b sound x = confirm_sound b sound x (state_of b x) refl
 
-refuse_sound : (b : State) → IsSound b → (x : ChanId) (s : ChanState) → state_of b x ≡ s → IsSound (after (refuse_row x s (record_of b)) b)
+refuse_sound : (b : State) → IsSound b → (x : ChanId) (s : ChanState) → state_of b x ≡ s → IsSound (book_after (refuse_row x s (record_of b)) b)
 refuse_sound b sound x Free e = sound
 refuse_sound b sound x (Held c) e = sound
 refuse_sound b sound x (Pending c) e = answered b sound c x Refused (λ n h. h) e
@@ -289,7 +289,7 @@ released b sound x off = concerned_sound b sound (changes (without_state x) None
     stays None e = tt
     stays (Some r) e = call_stays (state_of b) _ (map.get b.references) _ 0 r (λ y owned. state_other b.channels x None y (λ same. unowned 0 (ap (λ z. owner (state_of b z)) (sym same) ∙ owned))) (λ k h. h) (call_of b sound 0 r e)
 
-released_sound : (b : State) → IsSound b → (x : ChanId) (s : ChanState) → state_of b x ≡ s → IsSound (after (released_row x s) b)
+released_sound : (b : State) → IsSound b → (x : ChanId) (s : ChanState) → state_of b x ≡ s → IsSound (book_after (released_row x s) b)
 released_sound b sound x Free e = sound
 released_sound b sound x (Held c) e = sound
 released_sound b sound x (Pending c) e = sound
@@ -302,30 +302,30 @@ sound_released b sound x = released_sound b sound x (state_of b x) refl
 -- Take: an attempt on a free channel
 
 taken : (b : State) → IsSound b → (c : ℕ) (x : ChanId) (was : Option CallRecord) (s : Option ChanId) (k : AttemptKind) → record_of b c ≡ was → is_traffic b.site x ≡ true → state_of b x ≡ Free →
-    ((y : ChanId) → UsedBy was y → s ≡ Some y) → ((j : Reference) → ReferredBy was j → ⊥) → ((y : ChanId) → s ≡ Some y → y.cell ≢ x.cell) → HasServing c k s (state_of b) → IsSound (apply (takes c x (attempting s k Taken x None)) b)
-taken b sound c x was s k e traffic free uses refers apart during = concerned_sound b sound (takes c x (attempting s k Taken x None)) c was (Some (attempting s k Taken x None)) (record {
+    ((y : ChanId) → UsedBy was y → s ≡ Some y) → ((j : Reference) → ReferredBy was j → ⊥) → ((y : ChanId) → s ≡ Some y → y.cell ≢ x.cell) → HasServing c k s (state_of b) → IsSound (apply (taking_change c x (attempting s k Taken x None)) b)
+taken b sound c x was s k e traffic free uses refers apart during = concerned_sound b sound (taking_change c x (attempting s k Taken x None)) c was (Some (attempting s k Taken x None)) (record {
   before = e;
   after = record_same b.calls c (Some (attempting s k Taken x None));
   call = refl;
   channel_was = λ d h. let bad : None ≡ Some d = sym (ap owner free) ∙ h in cc;
   channel_is = λ d h. (one_owner (Held c) c d refl h, inr refl);
-  entry = becomes_fits b x (Held c) traffic (λ h. cc);
+  entry = state_fits b x (Held c) traffic (λ h. cc);
   channels = λ y t u. inl (uses y u);
   reference_was = tt;
   reference_is = tt;
   references = λ j t u. absurd (refers j u);
   sound = attempting_call _ _ c s k Taken x None (record {
     state = state_same b.channels x (Some (Held c));
-    apart = apart;
-    during = serving_apart c x (state_of b) _ (λ y other. state_other b.channels x (Some (Held c)) y other) k s apart during;
-    referred = λ m h. cc;
-    reserved = refl;
+    cells_differ = apart;
+    serving_while_open = serving_apart c x (state_of b) _ (λ y other. state_other b.channels x (Some (Held c)) y other) k s apart during;
+    reference_is_used = λ m h. cc;
+    reference_by_stage = refl;
   });
   timers = sound.timers;
 })
 
 internal_sound : (b : State) → IsSound b → (c : ℕ) (x y : ChanId) (now : ChanState) (t same : Bool) (s : ChanState) → record_of b c ≡ Some (rests y) → state_of b y ≡ now → is_traffic b.site x ≡ t → y.cell == x.cell ≡ same → state_of b x ≡ s →
-    IsSound (after (take_from c x (rests y) now t same s) b)
+    IsSound (book_after (take_from c x (rests y) now t same s) b)
 internal_sound b sound c x y Free t same s e n f h g = sound
 internal_sound b sound c x y (Held d) t same s e n f h g = sound
 internal_sound b sound c x y (Pending d) t same s e n f h g = sound
@@ -337,16 +337,16 @@ internal_sound b sound c x y (On d) true false (Pending m) e n f h g = sound
 internal_sound b sound c x y (On d) true false (On m) e n f h g = sound
 internal_sound b sound c x y (On d) true false Off e n f h g = sound
 internal_sound b sound c x y (On d) true false Free e n f h g =
-    let own : d ≡ c = one_owner (On d) c d (sym (ap owner n) ∙ sound.serving c (rests y) y e refl) refl in
+    let own : d ≡ c = one_owner (On d) c d (sym (ap owner n) ∙ sound.serving_is_owned c (rests y) y e refl) refl in
     taken b sound c x (Some (rests y)) (Some y) Internal e f g
     (λ z u. elim u [ inl i ↦ i | inr i ↦ cc ]) (λ j u. cc) (λ z i. at_some (λ z. z.cell ≢ x.cell) y z (eqb-false y.cell x.cell h) i) (n ∙ ap On own)
 
-take_internal_sound : (b : State) → IsSound b → (c : ℕ) (x : ChanId) (s : Option ChanId) (o : Option Attempt) → record_of b c ≡ Some (record { serving = s; attempt = o }) → IsSound (after (take_internal c x (record { serving = s; attempt = o }) o s (state_of b) (is_traffic b.site x)) b)
+take_internal_sound : (b : State) → IsSound b → (c : ℕ) (x : ChanId) (s : Option ChanId) (o : Option Attempt) → record_of b c ≡ Some (record { serving = s; attempt = o }) → IsSound (book_after (take_internal c x (record { serving = s; attempt = o }) o s (state_of b) (is_traffic b.site x)) b)
 take_internal_sound b sound c x s (Some a) e = sound
 take_internal_sound b sound c x None None e = sound
 take_internal_sound b sound c x (Some y) None e = internal_sound b sound c x y (state_of b y) (is_traffic b.site x) (y.cell == x.cell) (state_of b x) e refl refl refl refl
 
-take_sound : (b : State) → IsSound b → (c : ℕ) (k : Kind) (x : ChanId) (o : Option CallRecord) → record_of b c ≡ o → IsSound (after (take_row c k x o (state_of b) (is_traffic b.site x)) b)
+take_sound : (b : State) → IsSound b → (c : ℕ) (k : Kind) (x : ChanId) (o : Option CallRecord) → record_of b c ≡ o → IsSound (book_after (take_row c k x o (state_of b) (is_traffic b.site x)) b)
 take_sound b sound c kind.Internal x None e = sound
 take_sound b sound c kind.Internal x (Some r) e = take_internal_sound b sound c x r.serving r.attempt e
 take_sound b sound c kind.Incoming x o e =
@@ -373,24 +373,24 @@ reserved b sound c s k t n m e unused =
       channels = λ y u h. h;
       reference_was = λ d h. let bad : None ≡ Some d = sym unused ∙ h in cc;
       reference_is = λ d h. (sym (same_some c d h), refl);
-      references = λ j u h. let bad : None ≡ Some j = ap (reference_held (Some t)) (sym has.reserved) ∙ h in cc;
+      references = λ j u h. let bad : None ≡ Some j = ap (reference_held (Some t)) (sym has.reference_by_stage) ∙ h in cc;
       sound = attempting_call _ _ c s k Reserved t (Some m) (record {
         state = has.state;
-        apart = has.apart;
-        during = has.during;
-        referred = λ i h. at_some (λ i. map.get (put b.references (reference_at t m) (Some c)) (reference_at t i) ≡ Some c) m i (reference_same b.references (reference_at t m) (Some c)) h;
-        reserved = refl;
+        cells_differ = has.cells_differ;
+        serving_while_open = has.serving_while_open;
+        reference_is_used = λ i h. at_some (λ i. map.get (put b.references (reference_at t m) (Some c)) (reference_at t i) ≡ Some c) m i (reference_same b.references (reference_at t m) (Some c)) h;
+        reference_by_stage = refl;
       });
       timers = sound.timers;
     })
 
 reserve_number_sound : (b : State) → IsSound b → (c m : ℕ) (s : Option ChanId) (k : AttemptKind) (t : ChanId) (n : Option ℕ) (user : Option ℕ) → record_of b c ≡ Some (attempting s k Taken t n) → map.get b.references (reference_at t m) ≡ user →
-    IsSound (after (reserve_number c m (attempting s k Taken t n) (record { kind = k; stage = Taken; target = Some t; reference = n }) t user) b)
+    IsSound (book_after (reserve_number c m (attempting s k Taken t n) (record { kind = k; stage = Taken; target = Some t; reference = n }) t user) b)
 reserve_number_sound b sound c m s k t n (Some d) e h = sound
 reserve_number_sound b sound c m s k t n None e h = reserved b sound c s k t n m e h
 
 reserve_sound : (b : State) → IsSound b → (c m : ℕ) (s : Option ChanId) (k : AttemptKind) (g : Stage) (o : Option ChanId) (n : Option ℕ) → record_of b c ≡ Some (record { serving = s; attempt = Some (record { kind = k; stage = g; target = o; reference = n }) }) →
-    IsSound (after (reserve_at c m (record { serving = s; attempt = Some (record { kind = k; stage = g; target = o; reference = n }) }) (record { kind = k; stage = g; target = o; reference = n }) g o (map.get b.references)) b)
+    IsSound (book_after (reserve_at c m (record { serving = s; attempt = Some (record { kind = k; stage = g; target = o; reference = n }) }) (record { kind = k; stage = g; target = o; reference = n }) g o (map.get b.references)) b)
 reserve_sound b sound c m s k Taken None n e = sound
 reserve_sound b sound c m s k Taken (Some t) n e = reserve_number_sound b sound c m s k t n (map.get b.references (reference_at t m)) e refl
 reserve_sound b sound c m s k Reserved o n e = sound
@@ -398,11 +398,11 @@ reserve_sound b sound c m s k Sent o n e = sound
 reserve_sound b sound c m s k Refused o n e = sound
 reserve_sound b sound c m s k Confirmed o n e = sound
 
-reserve_by_sound : (b : State) → IsSound b → (c m : ℕ) (s : Option ChanId) (o : Option Attempt) → record_of b c ≡ Some (record { serving = s; attempt = o }) → IsSound (after (reserve_by c m (record { serving = s; attempt = o }) o (map.get b.references)) b)
+reserve_by_sound : (b : State) → IsSound b → (c m : ℕ) (s : Option ChanId) (o : Option Attempt) → record_of b c ≡ Some (record { serving = s; attempt = o }) → IsSound (book_after (reserve_by c m (record { serving = s; attempt = o }) o (map.get b.references)) b)
 reserve_by_sound b sound c m s None e = sound
 reserve_by_sound b sound c m s (Some a) e = reserve_sound b sound c m s a.kind a.stage a.target a.reference e
 
-reserve_row_sound : (b : State) → IsSound b → (c m : ℕ) (o : Option CallRecord) → record_of b c ≡ o → IsSound (after (reserve_row c m o (map.get b.references)) b)
+reserve_row_sound : (b : State) → IsSound b → (c m : ℕ) (o : Option CallRecord) → record_of b c ≡ o → IsSound (book_after (reserve_row c m o (map.get b.references)) b)
 reserve_row_sound b sound c m None e = sound
 reserve_row_sound b sound c m (Some r) e = reserve_by_sound b sound c m r.serving r.attempt e
 
@@ -412,19 +412,19 @@ sound_reserve b sound c n = reserve_row_sound b sound c n (record_of b c) refl
 -- Activate
 
 activate_sound : (b : State) → IsSound b → (c : ℕ) (s : Option ChanId) (k : AttemptKind) (g : Stage) (o : Option ChanId) (n : Option ℕ) → record_of b c ≡ Some (record { serving = s; attempt = Some (record { kind = k; stage = g; target = o; reference = n }) }) →
-    IsSound (after (activate_at c (record { serving = s; attempt = Some (record { kind = k; stage = g; target = o; reference = n }) }) (record { kind = k; stage = g; target = o; reference = n }) g o) b)
+    IsSound (book_after (activate_at c (record { serving = s; attempt = Some (record { kind = k; stage = g; target = o; reference = n }) }) (record { kind = k; stage = g; target = o; reference = n }) g o) b)
 activate_sound b sound c s k Taken o n e = sound
 activate_sound b sound c s k Reserved None n e = sound
-activate_sound b sound c s k Reserved (Some t) n e = staged b sound c s k Reserved t n e Sent (sound.reserved c _ _ e refl)
+activate_sound b sound c s k Reserved (Some t) n e = staged b sound c s k Reserved t n e Sent (sound.reference_by_stage c _ _ e refl)
 activate_sound b sound c s k Sent o n e = sound
 activate_sound b sound c s k Refused o n e = sound
 activate_sound b sound c s k Confirmed o n e = sound
 
-activate_by_sound : (b : State) → IsSound b → (c : ℕ) (s : Option ChanId) (o : Option Attempt) → record_of b c ≡ Some (record { serving = s; attempt = o }) → IsSound (after (activate_by c (record { serving = s; attempt = o }) o) b)
+activate_by_sound : (b : State) → IsSound b → (c : ℕ) (s : Option ChanId) (o : Option Attempt) → record_of b c ≡ Some (record { serving = s; attempt = o }) → IsSound (book_after (activate_by c (record { serving = s; attempt = o }) o) b)
 activate_by_sound b sound c s None e = sound
 activate_by_sound b sound c s (Some a) e = activate_sound b sound c s a.kind a.stage a.target a.reference e
 
-activate_row_sound : (b : State) → IsSound b → (c : ℕ) (o : Option CallRecord) → record_of b c ≡ o → IsSound (after (activate_row c o) b)
+activate_row_sound : (b : State) → IsSound b → (c : ℕ) (o : Option CallRecord) → record_of b c ≡ o → IsSound (book_after (activate_row c o) b)
 activate_row_sound b sound c None e = sound
 activate_row_sound b sound c (Some r) e = activate_by_sound b sound c r.serving r.attempt e
 
@@ -480,23 +480,23 @@ undo_change_sound b sound c s k g t n e =
       channel_was = λ d h. one_owner (state_of b t) c d owned h;
       channel_is = λ d h. absurd (left_unowned (state_of b t) d h);
       entry = λ z h. (owned_traffic b sound t c owned, left_not_free (state_of b t) z h);
-      channels = λ y u h. elim h [ inl i ↦ rests_on c k s (state_of b) t g n has.during y i | inr i ↦ absurd (u (sym (same_some t y i))) ];
-      reference_was = at_drop t n _ (λ m h d i. sym (same_some c d (sym (has.referred m h) ∙ i)));
+      channels = λ y u h. elim h [ inl i ↦ rests_on c k s (state_of b) t g n has.serving_while_open y i | inr i ↦ absurd (u (sym (same_some t y i))) ];
+      reference_was = at_drop t n _ (λ m h d i. sym (same_some c d (sym (has.reference_is_used m h) ∙ i)));
       reference_is = at_drop t n _ (λ m h d i. cc);
       references = λ j u h. absurd (not_dropped t n j u h);
-      sound = rest_sound c k s t g n _ _ (serving_apart c t (state_of b) _ (λ y other. state_other b.channels t (left_state (state_of b t)) y other) k s has.apart has.during);
+      sound = rest_sound c k s t g n _ _ (serving_apart c t (state_of b) _ (λ y other. state_other b.channels t (left_state (state_of b t)) y other) k s has.cells_differ has.serving_while_open);
       timers = sound.timers;
     })
 
-undo_sound : (b : State) → IsSound b → (c : ℕ) (refusal : Refusal) (s : Option ChanId) (o : Option Attempt) → record_of b c ≡ Some (record { serving = s; attempt = o }) → IsSound (after (undo_attempt c refusal (record { serving = s; attempt = o }) o (state_of b) None) b)
+undo_sound : (b : State) → IsSound b → (c : ℕ) (refusal : Refusal) (s : Option ChanId) (o : Option Attempt) → record_of b c ≡ Some (record { serving = s; attempt = o }) → IsSound (book_after (undo_attempt c refusal (record { serving = s; attempt = o }) o (state_of b) None) b)
 undo_sound b sound c refusal s None e = sound
 undo_sound b sound c refusal s (Some a) e = targeted a.target e
   where
-    targeted : (o : Option ChanId) → record_of b c ≡ Some (record { serving = s; attempt = Some (record a { target = o }) }) → IsSound (after (undo_attempt c refusal (record { serving = s; attempt = Some (record a { target = o }) }) (Some (record a { target = o })) (state_of b) None) b)
+    targeted : (o : Option ChanId) → record_of b c ≡ Some (record { serving = s; attempt = Some (record a { target = o }) }) → IsSound (book_after (undo_attempt c refusal (record { serving = s; attempt = Some (record a { target = o }) }) (Some (record a { target = o })) (state_of b) None) b)
     targeted None h = let bad = sound.has_target c _ (record a { target = None }) h refl in cc
     targeted (Some t) h = undo_change_sound b sound c s a.kind a.stage t a.reference h
 
-undo_row_sound : (b : State) → IsSound b → (c : ℕ) (why : Why) (o : Option CallRecord) (armed : Option Timer) → record_of b c ≡ o → armed ≡ None → IsSound (after (undo_row c why o (state_of b) armed) b)
+undo_row_sound : (b : State) → IsSound b → (c : ℕ) (why : Why) (o : Option CallRecord) (armed : Option Timer) → record_of b c ≡ o → armed ≡ None → IsSound (book_after (undo_row c why o (state_of b) armed) b)
 undo_row_sound b sound c why None armed e unarmed = sound
 undo_row_sound b sound c why (Some r) (Some m) e unarmed = cc
 undo_row_sound b sound c Asked (Some r) None e unarmed = undo_sound b sound c WrongPhase r.serving r.attempt e
@@ -521,18 +521,18 @@ sound_step b (event.Released x) sound = sound_released b sound x
 
 pub sound_empty : (site : SiteView) → IsSound (empty_book site)
 sound_empty site = record {
-  traffic = λ x s e. absurd (no_entry chan_cmp x s e);
+  is_traffic = λ x s e. absurd (no_entry chan_cmp x s e);
   not_free = λ x s e. absurd (no_entry chan_cmp x s e);
-  named = λ x c h. let bad : None ≡ Some c = sym (ap (λ o. owner (or_free o)) (map.get-empty chan_cmp x)) ∙ h in cc;
-  serving = λ c r x e h. absurd (no_entry nat_cmp c r e);
+  owner_uses = λ x c h. let bad : None ≡ Some c = sym (ap (λ o. owner (or_free o)) (map.get-empty chan_cmp x)) ∙ h in cc;
+  serving_is_owned = λ c r x e h. absurd (no_entry nat_cmp c r e);
   has_target = λ c r a e h. absurd (no_entry nat_cmp c r e);
-  target = λ c r a x e h g. absurd (no_entry nat_cmp c r e);
-  apart = λ c r x y e h g. absurd (no_entry nat_cmp c r e);
-  during = λ c r a e h. absurd (no_entry nat_cmp c r e);
-  resting = λ c r e h. absurd (no_entry nat_cmp c r e);
-  referred = λ c r k e h. absurd (no_entry nat_cmp c r e);
-  in_use = λ k c e. absurd (no_entry reference_cmp k c e);
-  reserved = λ c r a e h. absurd (no_entry nat_cmp c r e);
+  target_by_stage = λ c r a x e h g. absurd (no_entry nat_cmp c r e);
+  cells_differ = λ c r x y e h g. absurd (no_entry nat_cmp c r e);
+  serving_while_open = λ c r a e h. absurd (no_entry nat_cmp c r e);
+  serving_at_rest = λ c r e h. absurd (no_entry nat_cmp c r e);
+  reference_is_used = λ c r k e h. absurd (no_entry nat_cmp c r e);
+  user_has_reference = λ k c e. absurd (no_entry reference_cmp k c e);
+  reference_by_stage = λ c r a e h. absurd (no_entry nat_cmp c r e);
   timers = λ c. map.get-empty nat_cmp c;
 }
   where

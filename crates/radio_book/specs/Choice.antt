@@ -1,5 +1,5 @@
 -- What a choice of a channel (TS 48.058 clause 4) or of a Handover Reference (TS 44.018 clause 10.5.2.15) allows.
-use Rattle.std.specs.Prelude.{◌≡◌, ℕ, ◌<◌, ◌/◌, ◌%◌, Bool, true, false, ◌&&◌, List, [], ◌∷◌, count_by, flat_map, map as map_list, Option, Some, None}
+use Rattle.std.specs.Prelude.{◌≡◌, ℕ, ◌<◌, Bool, true, false, ◌&&◌, List, [], ◌∷◌, count_by, flat_map, map as map_list, Option, Some, None}
 use Rattle.std.specs.FinMap as map
 use Rattle.channel_fsm.specs.declared.ChanId.{ChanId}
 use Rattle.channel_fsm.specs.declared.ChanState.{ChanState}
@@ -14,23 +14,23 @@ use Rattle.radio_book.specs.declared.event.Event.TheVariants as event
 use Rattle.cell_table.specs.Site.{is_traffic}
 use Rattle.radio_book.specs.State.{State, state_of, record_of}
 
--- a traffic channel of the cell that is free
+-- what can be chosen in a cell: a channel in the state Free which the site names for traffic there
 pub record IsFreeIn (b : State) (cell : ℕ) (x : ChanId) : Type 0 where
   pub in_cell : x.cell ≡ cell
-  pub traffic : is_traffic b.site x ≡ true
-  pub free : state_of b x ≡ Free
+  pub is_traffic : is_traffic b.site x ≡ true
+  pub is_free : state_of b x ≡ Free
 
 abbrev pub NoneFree : State → ℕ → Type 0
 NoneFree b cell = (x : ChanId) → IsFreeIn b cell x → ⊥
 
--- the event takes a free channel of the cell for the call
+-- the event is the call's Take of such a channel
 abbrev pub TakesFree : State → ℕ → Kind → ℕ → Event → Type 0
 TakesFree b c kind cell e = (x : ChanId) × IsFreeIn b cell x × (e ≡ event.Take c kind x)
 
--- a number, 0 to 255, whose reference in the cell is not in use
+-- a number of one octet that, with the cell, is the reference of no call
 pub record IsNumberFree (b : State) (cell number : ℕ) : Type 0 where
   pub range : number < 256
-  pub unused : map.get b.references (record { cell = cell; number = number }) ≡ None
+  pub not_in_use : map.get b.references (record { cell = cell; number = number }) ≡ None
 
 -- the channel of an attempt that has taken it and reserved no reference
 abbrev pub taken_at : Stage → Option ChanId → Option ChanId
@@ -50,7 +50,7 @@ abbrev pub MayReserve : State → Option ChanId → ℕ → Type 0
 MayReserve b None number = number ≡ 0
 MayReserve b (Some t) number = IsNumberFree b t.cell number
 
--- the event reserves such a number for the call
+-- the event is the call's Reserve of such a number
 abbrev pub ReservesFree : State → ℕ → Event → Type 0
 ReservesFree b c e = (number : ℕ) × MayReserve b (taken_channel (record_of b c)) number × (e ≡ event.Reserve c number)
 
@@ -68,10 +68,6 @@ channels_of cell =
     flat_map (λ trx. map_list (λ tn. record { cell = cell; trx = trx; tn = tn }) (0 ∷ 1 ∷ 2 ∷ 3 ∷ 4 ∷ 5 ∷ 6 ∷ 7 ∷ []))
     (0 ∷ 1 ∷ 2 ∷ 3 ∷ [])
 
--- how many traffic channels of the cell are free
+-- how many channels can be chosen in a cell
 abbrev pub free_count : State → ℕ → ℕ
 free_count b cell = count_by (is_free_traffic b) (channels_of cell)
-
--- the channel at a place among those
-abbrev pub channel_at : ℕ → ℕ → ChanId
-channel_at cell place = record { cell = cell; trx = place / 8; tn = place % 8 }

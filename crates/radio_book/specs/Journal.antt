@@ -24,7 +24,7 @@ abbrev pub opening_inverse : AttemptKind → Inverse
 opening_inverse Internal = Settle
 opening_inverse Incoming = Forget
 
--- the inverses of an attempt at a stage with this target and reference, first pushed first
+-- the inverses of an attempt at a stage with this target and reference, in the order of pushing
 abbrev pub stage_inverses : Inverse → ChanId → ℕ → Stage → List Inverse
 stage_inverses opening t n Taken = opening ∷ FreeChannel t ∷ []
 stage_inverses opening t n Reserved = opening ∷ FreeChannel t ∷ DropReference n ∷ []

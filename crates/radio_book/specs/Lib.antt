@@ -9,7 +9,6 @@ pub mod State
 pub mod Table
 pub mod Sound
 pub mod Journal
-pub mod Waiting
 pub mod Run
 pub mod Choice
 pub mod Others

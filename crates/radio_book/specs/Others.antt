@@ -17,14 +17,14 @@ use Rattle.radio_book.specs.State.{State, Change, apply, state_of, record_of}
 use Rattle.radio_book.specs.Sound.{IsSound}
 use Rattle.radio_book.specs.Table.{step, reply_to, undo_change, reference_held, no_change}
 
--- a station's event is on the channel that it names
+-- the event is a station's answer about this channel
 abbrev pub IsOn : ChanId → Event → Type 0
 IsOn x (event.Confirm y) = y ≡ x
 IsOn x (event.Refuse y) = y ≡ x
 IsOn x (event.Released y) = y ≡ x
 IsOn x e = ⊥
 
--- an event that names a call, and no channel of a station's answer, is by that call
+-- the event is asked for this call
 abbrev pub IsBy : ℕ → Event → Type 0
 IsBy c (event.Open d y) = d ≡ c
 IsBy c (event.Clear d) = d ≡ c
@@ -76,7 +76,7 @@ pub record CommutesWithUndone (e : Event) : Type 0 where
   pub while_open : CommutesWhileOpen e
   pub while_off : CommutesWhileOff e
 
--- an attempt is undone, and its channel is gone then: what is left is the book without the attempt
+-- an undo, and then its channel gone: the same as if all that the attempt had were gone at once
 abbrev pub UndoneIsGone : Type 0
 UndoneIsGone =
     (c : ℕ) (r : CallRecord) (a : Attempt) (t : ChanId) (b : State) → a.target ≡ Some t →

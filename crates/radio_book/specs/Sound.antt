@@ -31,7 +31,7 @@ abbrev pub reference_of : Option Attempt → Option Reference
 reference_of None = None
 reference_of (Some a) = reference_held a.target a.reference
 
--- the channel is the serving or the target channel of the record
+-- the record names the channel: to be served on, or to move to
 abbrev pub Uses : CallRecord → ChanId → Type 0
 Uses r x = (r.serving ≡ Some x) ⊎ (target_in r ≡ Some x)
 
@@ -43,13 +43,13 @@ target_state c Sent = Pending c
 target_state c Refused = Held c
 target_state c Confirmed = On c
 
--- a call that moves within this controller is on its serving channel, one that comes has none
+-- whoever moves within this controller is on a channel of it, whoever comes to it on none
 abbrev pub HasServing : ℕ → AttemptKind → Option ChanId → (ChanId → ChanState) → Type 0
 HasServing c Internal None look = ⊥
 HasServing c Internal (Some s) look = look s ≡ On c
 HasServing c Incoming serving look = serving ≡ None
 
--- an attempt has a reference in every stage but the first
+-- only the first stage is without a reference
 abbrev pub HasReference : Stage → Option ℕ → Type 0
 HasReference Taken number = number ≡ None
 HasReference Reserved number = IsSome number
@@ -59,33 +59,33 @@ HasReference Confirmed number = IsSome number
 
 pub record IsSound (b : State) : Type 0 where
   -- only traffic channels have an entry, and none of the entries says Free
-  pub traffic : (x : ChanId) (s : ChanState) → map.get b.channels x ≡ Some s → is_traffic b.site x ≡ true
+  pub is_traffic : (x : ChanId) (s : ChanState) → map.get b.channels x ≡ Some s → is_traffic b.site x ≡ true
   pub not_free : (x : ChanId) (s : ChanState) → map.get b.channels x ≡ Some s → s ≢ Free
-  -- a state that names a call stands on a channel which that call uses
-  pub named : (x : ChanId) (c : ℕ) → owner (state_of b x) ≡ Some c → (r : CallRecord) × (record_of b c ≡ Some r) × Uses r x
-  -- a serving channel has a state that names its call
-  pub serving : (c : ℕ) (r : CallRecord) (x : ChanId) → record_of b c ≡ Some r → r.serving ≡ Some x → owner (state_of b x) ≡ Some c
-  -- an attempt has a target, in the state of its stage
+  -- the owner of a channel is a call in the book, whose record names the channel
+  pub owner_uses : (x : ChanId) (c : ℕ) → owner (state_of b x) ≡ Some c → (r : CallRecord) × (record_of b c ≡ Some r) × Uses r x
+  -- who is served on a channel owns it
+  pub serving_is_owned : (c : ℕ) (r : CallRecord) (x : ChanId) → record_of b c ≡ Some r → r.serving ≡ Some x → owner (state_of b x) ≡ Some c
+  -- every attempt aims at some channel, and its stage says in which state that is
   pub has_target : (c : ℕ) (r : CallRecord) (a : Attempt) → record_of b c ≡ Some r → r.attempt ≡ Some a → IsSome a.target
-  pub target :
+  pub target_by_stage :
       (c : ℕ) (r : CallRecord) (a : Attempt) (x : ChanId) →
       record_of b c ≡ Some r → r.attempt ≡ Some a → a.target ≡ Some x → state_of b x ≡ target_state c a.stage
   -- an attempt never moves its call within a cell
-  pub apart :
+  pub cells_differ :
       (c : ℕ) (r : CallRecord) (x y : ChanId) →
       record_of b c ≡ Some r → r.serving ≡ Some x → target_in r ≡ Some y → x.cell ≢ y.cell
-  -- the serving channel while an attempt is open, and while none is
-  pub during :
+  -- a call with an attempt is served as its kind says, and one without is served somewhere
+  pub serving_while_open :
       (c : ℕ) (r : CallRecord) (a : Attempt) →
       record_of b c ≡ Some r → r.attempt ≡ Some a → HasServing c a.kind r.serving (state_of b)
-  pub resting : (c : ℕ) (r : CallRecord) → record_of b c ≡ Some r → r.attempt ≡ None → IsSome r.serving
-  -- the references in use are those that attempts have
-  pub referred :
+  pub serving_at_rest : (c : ℕ) (r : CallRecord) → record_of b c ≡ Some r → r.attempt ≡ None → IsSome r.serving
+  -- attempts and the map of references agree, read from either side
+  pub reference_is_used :
       (c : ℕ) (r : CallRecord) (k : Reference) →
       record_of b c ≡ Some r → reference_of r.attempt ≡ Some k → map.get b.references k ≡ Some c
-  pub in_use :
+  pub user_has_reference :
       (k : Reference) (c : ℕ) →
       map.get b.references k ≡ Some c → (r : CallRecord) × (record_of b c ≡ Some r) × (reference_of r.attempt ≡ Some k)
-  pub reserved : (c : ℕ) (r : CallRecord) (a : Attempt) → record_of b c ≡ Some r → r.attempt ≡ Some a → HasReference a.stage a.reference
+  pub reference_by_stage : (c : ℕ) (r : CallRecord) (a : Attempt) → record_of b c ≡ Some r → r.attempt ≡ Some a → HasReference a.stage a.reference
   -- no stage arms a timer yet
   pub timers : (c : ℕ) → map.get b.timers c ≡ None

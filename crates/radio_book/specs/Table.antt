@@ -1,4 +1,5 @@
--- The table of the book: for each event, by what the book has, the first refusal that holds or the change and the reply.
+-- The table of the book: how each event is judged by what stands in the book. It is refused, by what comes first in Refusal
+-- where several would do, or it is accepted with a change and an answer.
 -- Its rows are the steps of calls and handovers (TS 44.018 clause 3.4.4, TS 48.008 clause 3.1.5), and of the activation and
 -- release of channels (TS 48.058 clause 4).
 use Rattle.std.specs.Prelude.{ℕ, Bool, true, false, ◌&&◌, if◌then◌else◌, ◌==◌, ◌⊎◌, Option, Some, None}
@@ -43,8 +44,8 @@ same_chan a b = a.cell == b.cell && (a.trx == b.trx && a.tn == b.tn)
 abbrev pub no_change : Change
 no_change = record { channel = None; call = None; reference = None; timer = None }
 
-abbrev pub becomes : ChanId → ChanState → Option (Entry ChanId ChanState)
-becomes x s = Some (x, Some s)
+abbrev pub with_state : ChanId → ChanState → Option (Entry ChanId ChanState)
+with_state x s = Some (x, Some s)
 
 abbrev pub without_state : ChanId → Option (Entry ChanId ChanState)
 without_state x = Some (x, None)
@@ -67,12 +68,8 @@ record_reply r look = Record r (option_map look r.serving)
 abbrev pub begin_row : ℕ → ChanId → CallRecord → ChanState → Option CallRecord → Bool → ChanState → Outcome
 begin_row c x r s (Some old) traffic state = Refuses CallExists
 begin_row c x r s None false state = Refuses NoChannel
-begin_row c x r s None true Free = Accepts (record no_change { channel = becomes x s; call = with_record c r }) Done
+begin_row c x r s None true Free = Accepts (record no_change { channel = with_state x s; call = with_record c r }) Done
 begin_row c x r s None true busy = Refuses (ChannelBusy x)
-
--- the same, by what a book has of the call and of the channel
-abbrev pub begin_call : State → ℕ → ChanId → CallRecord → ChanState → Outcome
-begin_call b c x r s = begin_row c x r s (record_of b c) (is_traffic b.site x) (state_of b x)
 
 -- Open: a call begins on its serving channel, whose CHANNEL ACTIVATION is sent (TS 48.058 clause 8.4.1)
 abbrev pub open_row : ℕ → ChanId → Option CallRecord → Bool → ChanState → Outcome
@@ -103,15 +100,15 @@ abbrev pub taken_attempt : AttemptKind → ChanId → Attempt
 taken_attempt k x = record { kind = k; stage = stage.Taken; target = Some x; reference = None }
 
 -- the channel is held by the call, whose record is this from now on
-abbrev pub takes : ℕ → ChanId → CallRecord → Change
-takes c x r = record no_change { channel = becomes x (Held c); call = with_record c r }
+abbrev pub taking_change : ℕ → ChanId → CallRecord → Change
+taking_change c x r = record no_change { channel = with_state x (Held c); call = with_record c r }
 
 -- an attempt of a call of this controller (TS 44.018 clause 3.4.4): by the state of the serving channel, whether the
 -- wanted one is a traffic channel, whether it lies in the same cell, and its state
 abbrev pub take_from : ℕ → ChanId → CallRecord → ChanState → Bool → Bool → ChanState → Outcome
 take_from c x r (On d) false same wanted = Refuses NoChannel
 take_from c x r (On d) true true wanted = Refuses SameCell
-take_from c x r (On d) true false Free = Accepts (takes c x (with_attempt r (taken_attempt Internal x))) Done
+take_from c x r (On d) true false Free = Accepts (taking_change c x (with_attempt r (taken_attempt Internal x))) Done
 take_from c x r (On d) true false busy = Refuses (ChannelBusy x)
 take_from c x r serving traffic same wanted = Refuses WrongPhase
 
@@ -159,7 +156,7 @@ reserve_row c n (Some r) user = reserve_by c n r r.attempt user
 
 abbrev pub activate_at : ℕ → CallRecord → Attempt → Stage → Option ChanId → Outcome
 activate_at c r a stage.Reserved (Some t) =
-    Accepts (record no_change { channel = becomes t (Pending c); call = with_record c (at_stage r a stage.Sent) }) Done
+    Accepts (record no_change { channel = with_state t (Pending c); call = with_record c (at_stage r a stage.Sent) }) Done
 activate_at c r a s target = Refuses WrongPhase
 
 abbrev pub activate_by : ℕ → CallRecord → Option Attempt → Outcome
@@ -213,6 +210,7 @@ is_armed m (Some n) = is_same_timer m n
 
 abbrev pub undo_by : ℕ → Why → CallRecord → (ChanId → ChanState) → Option Timer → Outcome
 undo_by c Asked r look armed = undo_attempt c WrongPhase r r.attempt look armed
+-- a timer with no attempt to guard is refused like one that isn't armed
 undo_by c (Expired m) r look armed = if is_armed m armed then undo_attempt c NotArmed r r.attempt look armed else Refuses NotArmed
 
 -- Undo: an attempt is taken back, because it was asked or because a timer of it expired (T3103 by TS 44.018 clause 11.1.2,
@@ -237,13 +235,13 @@ moved_entry x s c (Some r) = attempt_entry x s c r r.attempt
 -- Confirm: a station activated a channel, by CHANNEL ACTIVATION ACKNOWLEDGE (TS 48.058 clause 8.4.2)
 abbrev pub confirm_row : ChanId → ChanState → (ℕ → Option CallRecord) → Outcome
 confirm_row x (Pending c) find =
-    Accepts (record no_change { channel = becomes x (On c); call = moved_entry x stage.Confirmed c (find c) }) (Owned c)
+    Accepts (record no_change { channel = with_state x (On c); call = moved_entry x stage.Confirmed c (find c) }) (Owned c)
 confirm_row x s find = Refuses (Unexpected x)
 
 -- Refuse: a station refused to activate a channel, by CHANNEL ACTIVATION NEGATIVE ACKNOWLEDGE (TS 48.058 clause 8.4.3)
 abbrev pub refuse_row : ChanId → ChanState → (ℕ → Option CallRecord) → Outcome
 refuse_row x (Pending c) find =
-    Accepts (record no_change { channel = becomes x (Held c); call = moved_entry x stage.Refused c (find c) }) (Owned c)
+    Accepts (record no_change { channel = with_state x (Held c); call = moved_entry x stage.Refused c (find c) }) (Owned c)
 refuse_row x s find = Refuses (Unexpected x)
 
 -- Released: a station released a channel, by RF CHANNEL RELEASE ACKNOWLEDGE (TS 48.058 clause 8.4.19)
@@ -264,9 +262,10 @@ row b (event.Confirm x) = confirm_row x (state_of b x) (record_of b)
 row b (event.Refuse x) = refuse_row x (state_of b x) (record_of b)
 row b (event.Released x) = released_row x (state_of b x)
 
-abbrev pub after : Outcome → State → State
-after (Refuses refusal) b = b
-after (Accepts change reply) b = apply change b
+-- the book after an event, by its outcome
+abbrev pub book_after : Outcome → State → State
+book_after (Refuses refusal) b = b
+book_after (Accepts change reply) b = apply change b
 
 abbrev pub reply_of : Outcome → Reply
 reply_of (Refuses refusal) = Refused refusal
@@ -274,7 +273,7 @@ reply_of (Accepts change reply) = reply
 
 -- what an event makes of a book; a refused one leaves it as it is
 abbrev pub step : State → Event → State
-step b e = after (row b e) b
+step b e = book_after (row b e) b
 
 -- the reply to an event
 abbrev pub reply_to : State → Event → Reply

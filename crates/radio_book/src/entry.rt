@@ -77,7 +77,7 @@ impl CallEntry {
         self.record
     }
 
-    /// The inverses, first pushed first.
+    /// The inverses, in the order of pushing.
     pub fn into_journal(self) -> Journal
         ensures { result ≡ journal_of self.attempt }
     {

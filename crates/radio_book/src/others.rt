@@ -10,8 +10,8 @@
 //! that is not a station's on the target, and is not refused for it, commutes with that in the same way, be it
 //! by the attempt's call or by another.
 //!
-//! There is one law for each kind of event, one for them all, and one that ties the two phases: what an undo
-//! and then the taking out of the target leave is the book without the attempt.
+//! There is one law for each kind of event, one for them all, and one that ties the two phases: an undo and
+//! then the taking out of the target leave what the taking away of the whole attempt leaves.
 
 ghost use Rattle.std.specs.Prelude.{ℕ};
 ghost use Rattle.channel_fsm.specs.declared.ChanId.{ChanId};

@@ -2,9 +2,10 @@
 ghost use Rattle.std.specs.Prelude.{◌≡◌, OnOk, OnErr, IfOk, IsSome, Some, None};
 ghost use Rattle.std.specs.FinMap as map;
 ghost use Rattle.radio_book.specs.declared.event.Event.TheVariants as event;
+ghost use Rattle.cell_table.specs.Site.{is_traffic};
 ghost use Rattle.radio_book.specs.State.{apply, state_of, record_of};
 ghost use Rattle.radio_book.specs.Sound.{IsSound};
-ghost use Rattle.radio_book.specs.Table.{step, reply_to, reply_of, after, begin_call, NeedsRoom, no_change, becomes, with_record, cleared_state};
+ghost use Rattle.radio_book.specs.Table.{step, reply_to, reply_of, book_after, begin_row, NeedsRoom, no_change, with_state, with_record, cleared_state};
 
 use crate::entry::CallEntry;
 use crate::event::{Refusal, Reply};
@@ -24,12 +25,15 @@ impl<A: Allocator + Copy> Records<A> {
     ) -> Result<Reply, AllocError>
         requires { IsSound self.old }
         ensures reply { IfOk result (λ reply. reply ≡
-            reply_of (begin_call self.old call x entry state)) }
+            reply_of (begin_row call x entry state (record_of self.old call)
+            (is_traffic self.old.site x) (state_of self.old x))) }
         ensures book { OnOk result (self.new ≡
-            after (begin_call self.old call x entry state) self.old) }
+            book_after (begin_row call x entry state (record_of self.old call)
+            (is_traffic self.old.site x) (state_of self.old x)) self.old) }
         ensures unchanged { OnErr result (self.new ≡ self.old) }
         ensures memory { OnErr result (NeedsRoom self.old
-            (begin_call self.old call x entry state)) }
+            (begin_row call x entry state (record_of self.old call)
+            (is_traffic self.old.site x) (state_of self.old x))) }
     {
         if self.calls.get(call).is_some() {
             return Ok(Reply::Refused(Refusal::CallExists));
@@ -55,7 +59,7 @@ impl<A: Allocator + Copy> Records<A> {
         requires call { record_of self.old call ≡ None }
         requires channel { map.get self.old.channels x ≡ None }
         ensures book { OnOk result (self.new ≡ apply
-            (record no_change { channel = becomes x state; call = with_record call entry })
+            (record no_change { channel = with_state x state; call = with_record call entry })
             self.old) }
         ensures unchanged { OnErr result (self.new ≡ self.old) }
     {

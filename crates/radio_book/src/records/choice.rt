@@ -1,8 +1,8 @@
 //! Channels and references are chosen: the lowest that are free.
-ghost use Rattle.std.specs.Prelude.{◌≡◌, ◌↔◌, IfSome, IfNone, find};
+ghost use Rattle.std.specs.Prelude.{◌≡◌, ◌↔◌, ◌/◌, ◌%◌, IfSome, IfNone, find};
 ghost use Rattle.radio_book.specs.Sound.{IsSound};
 ghost use Rattle.radio_book.specs.State.{record_of};
-ghost use Rattle.radio_book.specs.Choice.{IsFreeIn, NoneFree, IsNumberFree, MayReserve, taken_channel, is_free_traffic, channels_of, channel_at, free_count};
+ghost use Rattle.radio_book.specs.Choice.{IsFreeIn, NoneFree, IsNumberFree, MayReserve, taken_channel, is_free_traffic, channels_of, free_count};
 
 use crate::event::{CallRecord, Reference, Stage};
 use crate::records::Records;
@@ -82,7 +82,8 @@ impl<A: Allocator + Copy> Records<A> {
         requires { IsSound self.now }
         ensures { IsNumberFree self.now cell result }
     {
-        // The site keeps its limits, which bound the channels of a cell.
+        // Called for its clause alone: a cell has no more than 32 channels by the limits of every site, and those
+        // only a call of a reader hands out.
         let _cells = self.site.cells();
         for number in 0..PLACES + 1 {
             if self.references.get(Reference { cell, number }).is_none() {
@@ -95,7 +96,7 @@ impl<A: Allocator + Copy> Records<A> {
 
 /// The channel at a place among those that a cell can have.
 fn channel_at(cell: u8, place: u8) -> ChanId
-    ensures { result ≡ channel_at cell place }
+    ensures { result ≡ record { cell = cell; trx = place / 8; tn = place % 8 } }
 {
     ChanId {
         cell,

@@ -1,10 +1,12 @@
 //! A station answers.
-ghost use Rattle.std.specs.Prelude.{◌≡◌};
+ghost use Rattle.std.specs.Prelude.{◌≡◌, Some};
+ghost use Rattle.radio_book.specs.declared.event.Attempt.{Attempt};
+ghost use Rattle.radio_book.specs.declared.event.CallRecord.{CallRecord};
 ghost use Rattle.radio_book.specs.declared.event.Event.TheVariants as event;
 ghost use Rattle.radio_book.specs.State.{apply, record_of};
 ghost use Rattle.radio_book.specs.Sound.{IsSound};
 ghost use Rattle.radio_book.specs.Table.{step, reply_to, no_change, moved_entry};
-ghost use Rattle.radio_book.specs.Waiting.{MayMove};
+ghost use Rattle.radio_book.specs.Journal.{journal_of};
 
 use crate::event::{Refusal, Reply, Stage};
 use crate::records::Records;
@@ -38,9 +40,11 @@ impl<A: Allocator + Copy> Records<A> {
         Reply::Owned(call)
     }
 
-    /// The call's attempt comes to a stage, where the channel is its target.
+    /// The call's attempt comes to a stage that has the same inverses, where the channel is its target.
     fn move_attempt(&mut self, call: u16, x: ChanId, stage: Stage)
-        requires { MayMove call x stage self.old }
+        requires { (r : CallRecord) (a : Attempt) →
+            record_of self.old call ≡ Some r → r.attempt ≡ Some a → a.target ≡ Some x →
+            journal_of (Some (record a { stage = stage })) ≡ journal_of (Some a) }
         ensures { self.new ≡ apply (record no_change
             { call = moved_entry x stage call (record_of self.old call) }) self.old }
     {

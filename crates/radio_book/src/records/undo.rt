@@ -6,7 +6,7 @@ ghost use Rattle.radio_book.specs.declared.event.Event.TheVariants as event;
 ghost use Rattle.radio_book.specs.declared.journal.Inverse.TheVariants as inverse;
 ghost use Rattle.radio_book.specs.Sound.{IsSound};
 ghost use Rattle.radio_book.specs.State.{state_of, record_of};
-ghost use Rattle.radio_book.specs.Table.{step, reply_to, after, reply_of, undo_attempt, is_armed};
+ghost use Rattle.radio_book.specs.Table.{step, reply_to, book_after, reply_of, undo_attempt, is_armed};
 ghost use Rattle.radio_book.specs.Journal.{run_inverse, run_back};
 
 use crate::entry::CallEntry;
@@ -60,7 +60,7 @@ impl<A: Allocator + Copy> Records<A> {
         requires entry { record_of self.old call ≡ Some entry }
         ensures reply { result ≡ reply_of (undo_attempt call refusal entry entry.attempt
             (state_of self.old) (map.get self.old.timers call)) }
-        ensures book { self.new ≡ after (undo_attempt call refusal entry entry.attempt
+        ensures book { self.new ≡ book_after (undo_attempt call refusal entry entry.attempt
             (state_of self.old) (map.get self.old.timers call)) self.old }
     {
         let found = entry.record();
