@@ -16,7 +16,7 @@ use Rattle.radio_book.specs.Maps.{put, with_change}
 use Rattle.radio_book.specs.State.{State, apply, or_free, state_of, record_of}
 use Rattle.radio_book.specs.Table.{left_state, resting_record, reference_at, undo_change}
 use Rattle.radio_book.specs.Sound.{IsSound, target_state, HasReference}
-use Rattle.radio_book.specs.Journal.{InversesUndo, opening_inverse, journal_of, freed_if_held, off_if_active, reference_dropped, run_inverse, run_back}
+use Rattle.radio_book.specs.Journal.{InversesUndo, opening_inverse, journal_of, freed_if_held, off_if_active, reference_removal_of_call, run_inverse, run_back}
 use Rattle.radio_book.proofs.MapFacts.{state_same}
 use Rattle.radio_book.proofs.Frame.{attempting, attempt_of, call_of}
 
@@ -58,7 +58,7 @@ module _ (b : State) (sound : IsSound b) (c : ℕ) (s : Option ChanId) (k : Atte
       run_inverse c (opening_inverse k) (run_inverse c (FreeChannel t) (run_inverse c (DropReference m) (parts chs b.references)))
       ≡ apply (undo_change c (attempting s k g t (Some m)) (record { kind = k; stage = g; target = Some t; reference = Some m }) (state_of b) None) b
   closed g m e chs left =
-      ap (λ o. run_inverse c (opening_inverse k) (parts (freed t chs) (with_change b.references (reference_dropped m o)))) e
+      ap (λ o. run_inverse c (opening_inverse k) (parts (freed t chs) (with_change b.references (reference_removal_of_call m o)))) e
       ∙ ended g (Some m) e (freed t chs) (put b.references (reference_at t m) None)
       ∙ (λ i. record { site = b.site; channels = left i; calls = put b.calls c (resting_record k (attempting s k g t (Some m))); references = put b.references (reference_at t m) None; timers = b.timers })
 

@@ -59,20 +59,20 @@ off_if_active x (On c) = Some (x, Some Off)
 off_if_active x s = None
 
 -- the reference with this number in the cell of the attempt's target is in use no more
-abbrev pub dropped_reference : ℕ → Option Attempt → Option (Entry Reference ℕ)
-dropped_reference n None = None
-dropped_reference n (Some a) = option_map (λ k. (k, None)) (reference_held a.target (Some n))
+abbrev pub reference_removal_of_attempt : ℕ → Option Attempt → Option (Entry Reference ℕ)
+reference_removal_of_attempt n None = None
+reference_removal_of_attempt n (Some a) = option_map (λ k. (k, None)) (reference_held a.target (Some n))
 
 -- and so of the call's attempt
-abbrev pub reference_dropped : ℕ → Option CallRecord → Option (Entry Reference ℕ)
-reference_dropped n None = None
-reference_dropped n (Some r) = dropped_reference n r.attempt
+abbrev pub reference_removal_of_call : ℕ → Option CallRecord → Option (Entry Reference ℕ)
+reference_removal_of_call n None = None
+reference_removal_of_call n (Some r) = reference_removal_of_attempt n r.attempt
 
 -- what one inverse of a call changes
 abbrev pub inverse_change : ℕ → Inverse → State → Change
 inverse_change c (FreeChannel x) b = record no_change { channel = freed_if_held x (state_of b x) }
 inverse_change c (SwitchOff x) b = record no_change { channel = off_if_active x (state_of b x) }
-inverse_change c (DropReference n) b = record no_change { reference = reference_dropped n (record_of b c) }
+inverse_change c (DropReference n) b = record no_change { reference = reference_removal_of_call n (record_of b c) }
 inverse_change c Settle b = record no_change { call = option_map (λ r. (c, Some (record r { attempt = None }))) (record_of b c) }
 inverse_change c Forget b = record no_change { call = Some (c, None) }
 

@@ -45,9 +45,9 @@ target_state c Confirmed = On c
 
 -- whoever moves within this controller is on a channel of it, whoever comes to it on none
 abbrev pub HasServing : ℕ → AttemptKind → Option ChanId → (ChanId → ChanState) → Type 0
-HasServing c Internal None look = ⊥
-HasServing c Internal (Some s) look = look s ≡ On c
-HasServing c Incoming serving look = serving ≡ None
+HasServing c Internal None states = ⊥
+HasServing c Internal (Some s) states = states s ≡ On c
+HasServing c Incoming serving states = serving ≡ None
 
 -- only the first stage is without a reference
 abbrev pub HasReference : Stage → Option ℕ → Type 0

@@ -62,7 +62,7 @@ at_stage r a s = with_attempt r (record a { stage = s })
 
 -- the record, and the state of its serving channel
 abbrev pub record_reply : CallRecord → (ChanId → ChanState) → Reply
-record_reply r look = Record r (option_map look r.serving)
+record_reply r states = Record r (option_map states r.serving)
 
 -- a call begins with this record on a free traffic channel, which comes to this state
 abbrev pub begin_row : ℕ → ChanId → CallRecord → ChanState → Option CallRecord → Bool → ChanState → Outcome
@@ -82,19 +82,19 @@ cleared_state (Held c) = None
 cleared_state s = Some Off
 
 abbrev pub clear_at : ℕ → CallRecord → Option Attempt → (ChanId → ChanState) → Outcome
-clear_at c r (Some a) look = Refuses WrongPhase
-clear_at c r None look =
-    Accepts (record no_change { channel = option_map (λ x. (x, cleared_state (look x))) r.serving; call = Some (c, None) }) Done
+clear_at c r (Some a) states = Refuses WrongPhase
+clear_at c r None states =
+    Accepts (record no_change { channel = option_map (λ x. (x, cleared_state (states x))) r.serving; call = Some (c, None) }) Done
 
 -- Clear: a call without an attempt ends
 abbrev pub clear_row : ℕ → Option CallRecord → (ChanId → ChanState) → Outcome
-clear_row c None look = Refuses NoCall
-clear_row c (Some r) look = clear_at c r r.attempt look
+clear_row c None states = Refuses NoCall
+clear_row c (Some r) states = clear_at c r r.attempt states
 
 -- Look: what the book has of a call
 abbrev pub look_row : Option CallRecord → (ChanId → ChanState) → Outcome
-look_row None look = Refuses NoCall
-look_row (Some r) look = Accepts no_change (record_reply r look)
+look_row None states = Refuses NoCall
+look_row (Some r) states = Accepts no_change (record_reply r states)
 
 abbrev pub taken_attempt : AttemptKind → ChanId → Attempt
 taken_attempt k x = record { kind = k; stage = stage.Taken; target = Some x; reference = None }
@@ -113,9 +113,9 @@ take_from c x r (On d) true false busy = Refuses (ChannelBusy x)
 take_from c x r serving traffic same wanted = Refuses WrongPhase
 
 abbrev pub take_internal : ℕ → ChanId → CallRecord → Option Attempt → Option ChanId → (ChanId → ChanState) → Bool → Outcome
-take_internal c x r (Some a) serving look traffic = Refuses WrongPhase
-take_internal c x r None None look traffic = Refuses WrongPhase
-take_internal c x r None (Some s) look traffic = take_from c x r (look s) traffic (s.cell == x.cell) (look x)
+take_internal c x r (Some a) serving states traffic = Refuses WrongPhase
+take_internal c x r None None states traffic = Refuses WrongPhase
+take_internal c x r None (Some s) states traffic = take_from c x r (states s) traffic (s.cell == x.cell) (states x)
 
 -- a call comes from another controller (TS 48.008 clause 3.1.5): it begins with its attempt
 abbrev pub take_incoming : ℕ → ChanId → Option CallRecord → Bool → ChanState → Outcome
@@ -124,9 +124,9 @@ take_incoming c x found traffic wanted =
 
 -- Take: an attempt is opened, and takes a free channel
 abbrev pub take_row : ℕ → Kind → ChanId → Option CallRecord → (ChanId → ChanState) → Bool → Outcome
-take_row c kind.Internal x None look traffic = Refuses NoCall
-take_row c kind.Internal x (Some r) look traffic = take_internal c x r r.attempt r.serving look traffic
-take_row c kind.Incoming x found look traffic = take_incoming c x found traffic (look x)
+take_row c kind.Internal x None states traffic = Refuses NoCall
+take_row c kind.Internal x (Some r) states traffic = take_internal c x r r.attempt r.serving states traffic
+take_row c kind.Incoming x found states traffic = take_incoming c x found traffic (states x)
 
 -- the Handover Reference (TS 44.018 clause 10.5.2.15) with a number in the cell of a channel
 abbrev pub reference_at : ChanId → ℕ → Reference
@@ -187,16 +187,16 @@ reference_held target number = None
 
 -- the attempt is gone: nothing of it is left but a target whose release is awaited
 abbrev pub undo_change : ℕ → CallRecord → Attempt → (ChanId → ChanState) → Option Timer → Change
-undo_change c r a look armed = record {
-  channel = option_map (λ t. (t, left_state (look t))) a.target;
+undo_change c r a states armed = record {
+  channel = option_map (λ t. (t, left_state (states t))) a.target;
   call = Some (c, resting_record a.kind r);
   reference = option_map (λ k. (k, None)) (reference_held a.target a.reference);
   timer = option_map (λ m. (c, None)) armed;
 }
 
 abbrev pub undo_attempt : ℕ → Refusal → CallRecord → Option Attempt → (ChanId → ChanState) → Option Timer → Outcome
-undo_attempt c refusal r None look armed = Refuses refusal
-undo_attempt c refusal r (Some a) look armed = Accepts (undo_change c r a look armed) (record_reply r look)
+undo_attempt c refusal r None states armed = Refuses refusal
+undo_attempt c refusal r (Some a) states armed = Accepts (undo_change c r a states armed) (record_reply r states)
 
 abbrev pub is_same_timer : Timer → Timer → Bool
 is_same_timer T3103 T3103 = true
@@ -209,15 +209,15 @@ is_armed m None = false
 is_armed m (Some n) = is_same_timer m n
 
 abbrev pub undo_by : ℕ → Why → CallRecord → (ChanId → ChanState) → Option Timer → Outcome
-undo_by c Asked r look armed = undo_attempt c WrongPhase r r.attempt look armed
+undo_by c Asked r states armed = undo_attempt c WrongPhase r r.attempt states armed
 -- a timer with no attempt to guard is refused like one that isn't armed
-undo_by c (Expired m) r look armed = if is_armed m armed then undo_attempt c NotArmed r r.attempt look armed else Refuses NotArmed
+undo_by c (Expired m) r states armed = if is_armed m armed then undo_attempt c NotArmed r r.attempt states armed else Refuses NotArmed
 
 -- Undo: an attempt is taken back, because it was asked or because a timer of it expired (T3103 by TS 44.018 clause 11.1.2,
 -- T7 and T8 by TS 48.008 clause 3.1.5)
 abbrev pub undo_row : ℕ → Why → Option CallRecord → (ChanId → ChanState) → Option Timer → Outcome
-undo_row c why None look armed = Refuses NoCall
-undo_row c why (Some r) look armed = undo_by c why r look armed
+undo_row c why None states armed = Refuses NoCall
+undo_row c why (Some r) states armed = undo_by c why r states armed
 
 abbrev pub is_target : ChanId → Option ChanId → Bool
 is_target x None = false

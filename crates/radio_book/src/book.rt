@@ -1,9 +1,13 @@
 //! The radio book.
-ghost use Rattle.std.specs.Prelude.{◌≡◌, ◌↔◌, Ok, None, OnOk, OnErr, IfOk, IfSome, IsOk};
+ghost use Rattle.std.specs.Prelude.{◌≡◌, ◌↔◌, ℕ, Option, Ok, None, OnOk, OnErr, IfOk, IfSome, IsOk};
 ghost use Rattle.std.specs.FinMap as map;
 ghost use Rattle.radio_book.specs.State.{empty_book};
 ghost use Rattle.radio_book.specs.Sound.{IsSound};
+ghost use Rattle.channel_fsm.specs.declared.ChanState.{ChanState};
+ghost use Rattle.radio_book.specs.declared.event.CallRecord.{CallRecord};
 ghost use Rattle.radio_book.specs.declared.event.Event.{Event};
+ghost use Rattle.radio_book.specs.declared.event.Why.{Why};
+ghost use Rattle.radio_book.specs.Journal.{journal_of, run_back};
 ghost use Rattle.radio_book.specs.Table.{step, reply_to, row, NeedsRoom, MayNeedRoom};
 ghost use Rattle.radio_book.specs.Choice.{NoneFree, TakesFree, ReservesFree, free_count};
 
@@ -92,6 +96,11 @@ impl<A: Allocator + Copy> Book<A> {
         ensures unchanged { OnErr result (self.new ≡ self.old) }
         ensures memory { OnErr result (NeedsRoom self.old (row self.old event)) }
         ensures kinds { OnErr result (MayNeedRoom event) }
+
+        // An undo leads where the inverses that the record stored lead, last first.
+        ensures inverses { (c : ℕ) (why : Why) (shown : CallRecord) (state : Option ChanState) →
+            event ≡ Event.Undo c why → result ≡ Ok (Reply.Record shown state) →
+            self.new ≡ run_back c (journal_of shown.attempt) self.old }
     {
         self.records.step(event)
     }

@@ -58,12 +58,6 @@ impl Journal {
         }
     }
 
-    pub fn len(&self) -> usize
-        ensures { result ≡ length self.now }
-    {
-        self.pushed
-    }
-
     pub fn push(&mut self, inverse: Inverse)
         requires { length self.old < 7 }
         ensures { self.new ≡ self.old ++ inverse ∷ [] }
