@@ -93,7 +93,7 @@ abbrev pub is_blank : List ℕ → Bool
 is_blank line = list_all (λ b. b == 32 || b == 9) line
 
 abbrev pub is_readable : List ℕ → Bool
-is_readable line = (is_comment line || is_blank line) || (is_some (operator_line line) || is_some (abis_line line))
+is_readable line = (is_comment line || is_blank line) || is_some (input_of {A = Unit} line)
 
 -- the lines of a text, each without the one carriage return that may end it
 abbrev pub lines_of : List ℕ → List (List ℕ)

@@ -25,6 +25,16 @@ pub enum ScriptFault {
     NoMemory,
 }
 
+impl From<AllocError> for ScriptFault {
+    ghost use Rattle.lab_script.specs.declared.script.ScriptFault.TheVariants.{NoMemory};
+
+    ghost from_gives = { λ _ fault. fault ≡ NoMemory };
+
+    fn from(_: AllocError) -> ScriptFault {
+        ScriptFault::NoMemory
+    }
+}
+
 /// The text up to its first blank, and the text after that. With no blank, all of it and nothing.
 fn first_word(text: &str) -> (&str, &str)
     ensures word { result.0.now ≡ said.word_of text.now }
@@ -286,8 +296,5 @@ pub fn read_script<A: Allocator + Copy>(
     if let Some(line) = first_unread(text) {
         return Err(ScriptFault::Line(line));
     }
-    match inputs(alloc, text) {
-        Ok(inputs) => Ok(inputs),
-        Err(_) => Err(ScriptFault::NoMemory),
-    }
+    Ok(inputs(alloc, text)?)
 }
