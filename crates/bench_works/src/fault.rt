@@ -17,8 +17,10 @@ pub enum Fault {
     /// The words name no work and count, or the octets are no message of the work.
     #[error("usage: bsc_bench NAME N [OCTETS] | bsc_bench all N")]
     Words,
+    /// Memory was refused.
     #[error("out of memory")]
     NoMemory,
+    /// The standard output took no more.
     #[error("the sum can't be printed")]
     Output,
     /// What a work starts from is refused, as the site or a call that should be steady.

@@ -19,7 +19,8 @@ use crate::turning::Turning;
 use crate::work::Work;
 use std::alloc::Global;
 
-/// The sum of so many turns of a work.
+/// What so many turns of a work add up to, modulo 2^64. Refused are octets that the work has no use for (`Words`), a
+/// setting that can't be made (`Setting`), and memory (`NoMemory`).
 pub fn sum_of(alloc: Global, work: Work, count: u64, octets: &[u8]) -> Result<u64, Fault> {
     let mut turning = Turning::new(alloc, octets, work.place())?;
     match work {

@@ -82,9 +82,10 @@ pub fn read_results(octets: &[u8]) -> Result<MeasResults, Fault> {
 /// Measurement results, added up: the serving cell's two levels and two qualities, the number of neighbours, and
 /// the level, position and code of each. Flags are left out.
 pub fn results_sum(results: &MeasResults) -> u64 {
-    let levels = u64::from(results.full()) + u64::from(results.sub());
-    let qualities = u64::from(results.qfull()) + u64::from(results.qsub());
-    let serving = levels + qualities + u64::from(results.count());
+    let head = results.head();
+    let levels = u64::from(head.full) + u64::from(head.sub);
+    let qualities = u64::from(head.qfull) + u64::from(head.qsub);
+    let serving = levels + qualities + u64::from(head.count);
     results.neighbours().iter().fold(serving, |sum, neighbour| {
         sum.wrapping_add(u64::from(neighbour.level))
             .wrapping_add(u64::from(neighbour.position))

@@ -4,8 +4,8 @@ use Rattle.octet_elements.specs.declared.form.Form.{Form}
 use Rattle.octet_elements.specs.declared.form.Form.TheVariants.{Fixed, Counted}
 use Rattle.octet_elements.specs.Elements.{Forms}
 
--- The elements of a fixed length: identifier, and how many octets they have with it. The messages here
--- use 0x15, 0x1B and 0x1D alone.
+-- The elements of a fixed length: identifier, and how many octets they have with it. Three of them stand
+-- in messages that are read here: RR cause, response request and classmark 1.
 abbrev pub fixed_lengths : List (ℕ × ℕ)
 fixed_lengths = (0x01, 3) ∷ (0x14, 2) ∷ (0x15, 2) ∷ (0x19, 2) ∷ (0x1B, 1) ∷ (0x1D, 2) ∷ (0x21, 2) ∷ (0x2C, 2) ∷ (0x2D, 2) ∷ (0x31, 2) ∷ (0x32, 2) ∷ (0x35, 1) ∷ (0x39, 2) ∷ (0x3F, 2) ∷ (0x40, 2) ∷ (0x7F, 5) ∷ (0x83, 17) ∷ (0x8A, 2) ∷ (0x8B, 2) ∷ (0x8C, 1) ∷ (0x8D, 2) ∷ (0x8E, 1) ∷ (0x8F, 1) ∷ (0x95, 4) ∷ []
 

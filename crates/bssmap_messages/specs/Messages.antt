@@ -82,9 +82,9 @@ clear_request cause = do
   cause ← octet_in 0x04 cause
   Ok (ClearRequest cause)
 
--- What the elements of a message say. Of a repeated element the first counts, but the first and the
--- second cell identifier of HANDOVER REQUEST are the serving and the target cell; elements that the
--- message doesn't use are skipped.
+-- What the elements of a message say. An element that stands twice is read where it stands first, and one
+-- that the message has no use for isn't read. HANDOVER REQUEST reads two cell identifiers: the serving
+-- cell's, and behind it the target's.
 abbrev pub meaning_of : {A : Type 0} → MessageKind → List Element → Said A
 meaning_of kind.HandoverRequest es = handover_request (first_of 0x0B es) (first_of 0x0A es) (first_of 0x1D es) (first_of 0x12 es) (first_of 0x05 es) (second_of 0x05 es)
 meaning_of kind.HandoverRequired es = handover_required (first_of 0x04 es) (first_of 0x1B es) (first_of 0x1A es)
@@ -128,7 +128,7 @@ elements_of (ClearCommand cause) = (0x04, cause ∷ []) ∷ []
 elements_of ClearComplete = []
 elements_of (ClearRequest cause) = (0x04, cause ∷ []) ∷ []
 
--- the message keeps an octet list or a cell list, so reading it takes memory
+-- the message keeps an octet list or a cell list, for which reading it may want memory
 abbrev pub HasList : {A : Type 0} → Bssmap A → Type 0
 HasList (HandoverRequest channel encryption classmark serving target) = Unit {0}
 HasList (HandoverRequired cause response cells) = Unit {0}

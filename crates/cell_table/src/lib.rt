@@ -127,8 +127,8 @@ impl<A: Allocator + Copy> Site<A> {
         }
     }
 
-    /// The traffic timeslots of a TRX of a cell, in the site file's order; `None` where there is no
-    /// such cell or TRX.
+    /// The traffic timeslots of a TRX of a cell, in the site file's order; `None` for a cell or a TRX
+    /// that the site lacks.
     pub fn timeslots(&self, cell: u8, trx: u8) -> Option<&[u8]>
         ensures value { option_map (λ found. found.now) result ≡ option_and_then
             (λ found. slice_get found trx) (slice_get self.now cell) }

@@ -10,9 +10,9 @@ mod tests;
 /// A channel: one timeslot of one TRX of one cell (TS 45.002 clause 5).
 #[derive(Clone, Copy, Debug, PartialEq, Eq, PartialOrd, Ord, Hash)]
 pub struct ChanId {
-    /// The cell, counted from 0 in the order of the site file.
+    /// The cell, counted from 0 in the order of the site file; a site has at most 64.
     pub cell: u8,
-    /// The TRX of the cell, counted from 0.
+    /// The TRX of the cell, counted from 0; a cell has at most four.
     pub trx: u8,
     /// The timeslot, 0 to 7.
     pub tn: u8,

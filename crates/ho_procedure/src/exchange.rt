@@ -64,10 +64,10 @@ impl<A: Allocator + Copy> Handled<A> {
 /// Why an input was not handled to its end.
 #[derive(Clone, Copy, Debug, PartialEq, Eq, Error)]
 pub enum PlainFault {
-    /// The octets are no message: nothing was asked of the book.
+    /// The octets are no message. The book is as it was.
     #[error("the octets are no message: {0}")]
     Undecoded(RslFault),
-    /// Memory was refused: the events that were judged stand.
+    /// Memory was refused. The book is where the first events of the row lead.
     #[error("out of memory")]
     NoMemory,
 }

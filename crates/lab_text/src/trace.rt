@@ -87,7 +87,7 @@ impl fmt::Display for WhyText {
     }
 }
 
-/// An event: its kind in small letters, and its arguments.
+/// What was asked of the book: a word for the kind of event, and what it names.
 #[derive(Clone, Copy)]
 struct EventText(Event);
 

@@ -55,7 +55,7 @@ state_of b x = or_free (map.get b.channels x)
 abbrev pub record_of : State → ℕ → Option CallRecord
 record_of b c = map.get b.calls c
 
--- what one event may change: at most one entry of each map
+-- what an event changes: in each map one entry, or none
 pub record Change : Type 0 where
   pub channel : Option (Entry ChanId ChanState)
   pub call : Option (Entry ℕ CallRecord)

@@ -14,7 +14,7 @@ pub record CellFits (v : Cell) : Type 0 where
   pub ncc : v.ncc < 2 ^ 3
   pub bcc : v.bcc < 2 ^ 3
 
--- octet 1: the carrier's two high bits, NCC, BCC; octet 2: its low eight bits
+-- The first octet has the two high bits of the carrier, NCC and BCC; the second has the carrier's other bits.
 abbrev pub cell_widths : List ℕ
 cell_widths = 2 ∷ 3 ∷ 3 ∷ 8 ∷ []
 

@@ -17,7 +17,8 @@ pub record ChanFits (v : Chan) : Type 0 where
   pub tsc : v.tsc < 2 ^ 3
   pub carrier : v.carrier < 2 ^ 10
 
--- octet 1: the type, TN; octet 2: TSC, H, two spare bits, the carrier's two high bits; octet 3: its low eight bits
+-- The first octet has the channel type and TN; the second TSC, H, two spare bits and the two high bits of the carrier;
+-- the third has the carrier's other bits.
 abbrev pub chan_widths : List ℕ
 chan_widths = 5 ∷ 3 ∷ 3 ∷ 1 ∷ 2 ∷ 2 ∷ 8 ∷ []
 

@@ -15,14 +15,14 @@ impl RrCause {
 
     /// The cause with this value; each octet is one, so no fault comes.
     pub fn new(value: u8) -> Result<Self, ElementFault>
-        ensures { result ≡ Ok (record { 0 = value }) }
+        ensures ok { result ≡ Ok (record { 0 = value }) }
     {
         Ok(RrCause(value))
     }
 
     /// The value of the cause.
     pub fn value(&self) -> u8
-        ensures { result ≡ self.now.0 }
+        ensures value { result ≡ self.now.0 }
     {
         self.0
     }

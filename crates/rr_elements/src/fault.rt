@@ -5,7 +5,7 @@ use thiserror::Error;
 /// Why octets or fields are no element, in the order in which they are looked for.
 #[derive(Clone, Copy, Debug, PartialEq, Eq, Error)]
 pub enum ElementFault {
-    /// The octets are not as many as the element has.
+    /// There are fewer octets than the element has, or more.
     #[error("the element has another length")]
     Length,
     /// The channel is not a full rate traffic channel.
@@ -14,7 +14,7 @@ pub enum ElementFault {
     /// The channel hops: H is 1.
     #[error("the channel hops")]
     Hopping,
-    /// A field does not fit its bits; `new` alone answers this.
+    /// A value is wider than its field. Only `new` answers it.
     #[error("a field does not fit its bits")]
     BadRange,
 }

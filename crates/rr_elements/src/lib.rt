@@ -1,4 +1,4 @@
-//! Elements of radio resource messages.
+//! Elements of radio resource messages (TS 44.018 section 10.5.2).
 #![tactic(auto)]
 
 mod bits;

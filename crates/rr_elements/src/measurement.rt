@@ -8,11 +8,11 @@ use crate::bits::{BitReader, BitWriter};
 /// What was measured of a neighbour cell.
 #[derive(Clone, Copy, Debug, PartialEq, Eq)]
 pub struct Ncell {
-    /// the received level, 0 to 63
+    /// RXLEV-NCELL: the received level in steps of 1 dB, 0 (below -110 dBm) to 63 (TS 45.008 clause 8.1.4).
     pub level: u8,
-    /// the carrier's position in the neighbour list, 0 to 31
+    /// BCCH-FREQ-NCELL: the carrier's position in the neighbour list, 0 to 31.
     pub position: u8,
-    /// the base station identity code, 0 to 63
+    /// BSIC-NCELL: the base station identity code, 0 to 63.
     pub bsic: u8,
 }
 
@@ -26,7 +26,7 @@ pub(crate) const NO_NCELL: Ncell = Ncell {
 impl Ncell {
     /// Whether each field is within its range.
     pub fn fits(&self) -> bool
-        ensures { IsTrue result ↔ NcellFits self.now }
+        ensures ranges { IsTrue result ↔ NcellFits self.now }
     {
         self.level < 64 && self.position < 32 && self.bsic < 64
     }
@@ -35,32 +35,32 @@ impl Ncell {
 /// The fields of measurement results before the neighbours.
 #[derive(Clone, Copy, Debug, PartialEq, Eq)]
 pub struct MeasHead {
-    /// BA-USED: which neighbour list was used
+    /// BA-USED: which neighbour list was used.
     pub ba: bool,
-    /// DTX-USED: whether discontinuous transmission was used
+    /// DTX-USED: whether discontinuous transmission was used.
     pub dtx: bool,
-    /// RXLEV-FULL: the serving cell's level over all frames, 0 to 63
+    /// RXLEV-FULL: the serving cell's level over all frames, 0 to 63, in the same steps.
     pub full: u8,
-    /// 3G-BA-USED: which list of other radio systems was used
+    /// 3G-BA-USED: which list of other radio systems was used.
     pub ba3g: bool,
-    /// whether the results are valid (MEAS-VALID is 0)
+    /// Whether the results are valid (MEAS-VALID is 0).
     pub valid: bool,
-    /// RXLEV-SUB: the serving cell's level over a subset of frames, 0 to 63
+    /// RXLEV-SUB: the serving cell's level over a subset of frames, 0 to 63, in the same steps.
     pub sub: u8,
-    /// SI23-BA-USED: whether the list came from system information 23
+    /// SI23-BA-USED: whether the list came from system information 23.
     pub si23: bool,
-    /// RXQUAL-FULL: the serving cell's quality over all frames, 0 to 7
+    /// RXQUAL-FULL: the serving cell's quality over all frames, 0 (fewest bit errors) to 7.
     pub qfull: u8,
-    /// RXQUAL-SUB: the serving cell's quality over a subset of frames, 0 to 7
+    /// RXQUAL-SUB: the serving cell's quality over a subset of frames, 0 to 7.
     pub qsub: u8,
-    /// NO-NCELL-M: how many neighbours follow, 0 to 6, or 7: there is no neighbour information
+    /// NO-NCELL-M: how many neighbours follow, 0 to 6, or 7: there is no neighbour information.
     pub count: u8,
 }
 
 impl MeasHead {
     /// Whether each field is within its range.
     pub fn fits(&self) -> bool
-        ensures { IsTrue result ↔ HeadFits self.now }
+        ensures ranges { IsTrue result ↔ HeadFits self.now }
     {
         self.full < 64 && self.sub < 64 && self.qfull < 8 && self.qsub < 8 && self.count < 8
     }

@@ -47,12 +47,12 @@ impl Power {
 
     /// Whether the handover access is optional.
     pub fn atc(&self) -> bool
-        ensures { result ≡ self.now.atc }
+        ensures value { result ≡ self.now.atc }
     {
         self.atc
     }
 
-    /// The power level, 0 to 31.
+    /// The power control level, 0 to 31; how many dBm it is depends on the band (TS 45.005 clause 4.1.1).
     pub fn level(&self) -> u8
         ensures value { result ≡ self.now.level }
         ensures range { result < 32 }

@@ -59,88 +59,13 @@ impl MeasResults {
         Ok(MeasResults { head, places })
     }
 
-    /// The fields before the neighbours.
+    /// The fields before the neighbours, each in its range.
     pub fn head(&self) -> MeasHead
         ensures value { result ≡ self.now.head }
         ensures fits { HeadFits result }
     {
         let MeasResults { head, .. } = *self;
         head
-    }
-
-    /// BA-USED: which neighbour list was used.
-    pub fn ba(&self) -> bool
-        ensures { result ≡ self.now.head.ba }
-    {
-        self.head().ba
-    }
-
-    /// DTX-USED: whether discontinuous transmission was used.
-    pub fn dtx(&self) -> bool
-        ensures { result ≡ self.now.head.dtx }
-    {
-        self.head.dtx
-    }
-
-    /// RXLEV-FULL: the serving cell's level over all frames, 0 to 63.
-    pub fn full(&self) -> u8
-        ensures value { result ≡ self.now.head.full }
-        ensures range { result < 64 }
-    {
-        self.head.full
-    }
-
-    /// 3G-BA-USED: which list of other radio systems was used.
-    pub fn ba3g(&self) -> bool
-        ensures { result ≡ self.now.head.ba3g }
-    {
-        self.head.ba3g
-    }
-
-    /// Whether the results are valid (MEAS-VALID is 0).
-    pub fn valid(&self) -> bool
-        ensures { result ≡ self.now.head.valid }
-    {
-        self.head.valid
-    }
-
-    /// RXLEV-SUB: the serving cell's level over a subset of frames, 0 to 63.
-    pub fn sub(&self) -> u8
-        ensures value { result ≡ self.now.head.sub }
-        ensures range { result < 64 }
-    {
-        self.head.sub
-    }
-
-    /// SI23-BA-USED: whether the list came from system information 23.
-    pub fn si23(&self) -> bool
-        ensures { result ≡ self.now.head.si23 }
-    {
-        self.head.si23
-    }
-
-    /// RXQUAL-FULL: the serving cell's quality over all frames, 0 to 7.
-    pub fn qfull(&self) -> u8
-        ensures value { result ≡ self.now.head.qfull }
-        ensures range { result < 8 }
-    {
-        self.head.qfull
-    }
-
-    /// RXQUAL-SUB: the serving cell's quality over a subset of frames, 0 to 7.
-    pub fn qsub(&self) -> u8
-        ensures value { result ≡ self.now.head.qsub }
-        ensures range { result < 8 }
-    {
-        self.head.qsub
-    }
-
-    /// NO-NCELL-M: how many neighbours there are, 0 to 6, or 7: there is no neighbour information.
-    pub fn count(&self) -> u8
-        ensures value { result ≡ self.now.head.count }
-        ensures range { result < 8 }
-    {
-        self.head.count
     }
 
     /// The neighbours, at most six.

@@ -132,7 +132,7 @@ fn reads_and_writes_results(rt: HostRuntime) -> Result<(), Fail> {
     none[2] = 0x01;
     none[3] = 0xE8;
     let results = MeasResults::decode(&none)?;
-    assert_eq!(rt; (results.count(), results.neighbours().len()), (7, 0));
+    assert_eq!(rt; (results.head().count, results.neighbours().len()), (7, 0));
     let mut out = Vec::new(rt.alloc());
     results.encode_into(&mut out)?;
     none[3] = 0xC0;
@@ -145,14 +145,19 @@ fn reads_and_writes_results(rt: HostRuntime) -> Result<(), Fail> {
 #[test]
 fn reads_each_field_of_results(rt: HostRuntime) -> Result<(), Fail> {
     let results = MeasResults::decode(&SIX)?;
-    assert!(rt;
-        results.ba() && !results.dtx() && results.ba3g() && results.valid() && results.si23()
-    );
-    assert_eq!(rt; (results.full(), results.sub()), (23, 22));
-    assert_eq!(rt;
-        (results.qfull(), results.qsub(), results.count()),
-        (5, 3, 6)
-    );
+    let head = MeasHead {
+        ba: true,
+        dtx: false,
+        full: 23,
+        ba3g: true,
+        valid: true,
+        sub: 22,
+        si23: true,
+        qfull: 5,
+        qsub: 3,
+        count: 6,
+    };
+    assert_eq!(rt; results.head(), head);
     let neighbours = [
         (1, 3, 8),
         (11, 2, 35),

@@ -18,5 +18,5 @@ pub fn one_value()
 
 /// A text has no fault, and no octets have two.
 pub fn one_fault()
-    ensures { FaultIsUnique IsRrText HasRrFault }
+    ensures unique { FaultIsUnique IsRrText HasRrFault }
 {}

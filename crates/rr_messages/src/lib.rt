@@ -1,4 +1,4 @@
-//! Radio resource messages.
+//! Radio resource messages (TS 44.018 sections 9.1 and 10).
 #![tactic(auto)]
 
 mod fault;

@@ -21,7 +21,7 @@ pub enum Rr {
     HandoverFailure(RrCause),
     /// CHANNEL RELEASE (section 9.1.7)
     ChannelRelease(RrCause),
-    /// PHYSICAL INFORMATION (section 9.1.28), by the timing advance, any octet
+    /// PHYSICAL INFORMATION (section 9.1.28), by the timing advance in bit periods, any octet
     PhysicalInformation(u8),
     /// MEASUREMENT REPORT (section 9.1.21)
     MeasurementReport(MeasResults),

@@ -190,7 +190,7 @@ fn reads_what_is_not_canonical(rt: HostRuntime) -> Result<(), Fail> {
     let Rr::MeasurementReport(results) = decode(&octets)? else {
         return Err("another message".into());
     };
-    assert_eq!(rt; results.count(), 7);
+    assert_eq!(rt; results.head().count, 7);
     assert!(rt; results.neighbours().is_empty());
     Ok(())
 }

@@ -91,8 +91,8 @@ rf_channel_release_ack channel = do
   channel ← channel_in channel
   Ok (RfChannelReleaseAck channel)
 
--- What the elements of a message say. Of a repeated element the first counts, and elements that the
--- message doesn't use are skipped.
+-- What the elements of a message say. An element that stands twice is read where it stands first, and one
+-- that the message has no use for isn't read.
 abbrev pub meaning_of : {A : Type 0} → MessageKind → List Element → Said A
 meaning_of kind.DataRequest es = data_request (first_of 0x01 es) (first_of 0x02 es) (first_of 0x0B es)
 meaning_of kind.DataIndication es = data_indication (first_of 0x01 es) (first_of 0x02 es) (first_of 0x0B es)
@@ -130,7 +130,7 @@ elements_of (MeasurementResult channel number uplink power layer3) = (0x01, chan
 elements_of (RfChannelRelease channel) = (0x01, channel_octet channel ∷ []) ∷ []
 elements_of (RfChannelReleaseAck channel) = (0x01, channel_octet channel ∷ []) ∷ []
 
--- the message keeps an octet list, so reading it takes memory
+-- the message keeps an octet list, for which reading it may want memory
 abbrev pub HasOctets : {A : Type 0} → Rsl A → Type 0
 HasOctets (DataRequest channel link layer3) = Unit {0}
 HasOctets (DataIndication channel link layer3) = Unit {0}

@@ -74,8 +74,8 @@ abbrev pub Answers : {A : Type 0} → Result (Rsl A) RslFault → Said A → Typ
 Answers (Ok v) said = said ≡ Ok v
 Answers {A} (Err f) said = ((e : ElementFault) × (said ≡ Err e) × (f ≡ fault_of e)) ⊎ ((f ≡ fault.NoMemory) × (v : Rsl A) × (said ≡ Ok v) × HasOctets v)
 
--- Octets have one reading: a text has one value, and no fault but want of memory; what is no text has one
--- fault.
+-- Octets have one reading: a text has one value, and no fault but want of memory; no octets have two
+-- faults.
 pub record ReadingIsUnique (A : Type 0) : Type 0 where
   pub value : (v w : Rsl A) (octets : List ℕ) → IsTextOf v octets → IsTextOf w octets → v ≡ w
   pub text : (v : Rsl A) (octets : List ℕ) (f : RslFault) → IsTextOf v octets → HasFault A octets f → f ≡ fault.NoMemory

@@ -15,59 +15,61 @@ pub enum Rsl<A: Allocator = Global> {
     /// DATA REQUEST, TS 48.058 clause 8.3.1.
     DataRequest {
         channel: ChanBits,
-        /// The link identifier; 0 is the main channel with SAPI 0.
+        /// The link identifier, any octet (clause 9.3.2); 0 is the main channel with SAPI 0.
         link: u8,
-        /// A layer 3 message, from 1 to 1,015 octets.
+        /// A layer 3 message, from 1 to 1,015 octets (clause 9.3.11).
         layer3: Octets<A>,
     },
     /// DATA INDICATION, TS 48.058 clause 8.3.2.
     DataIndication {
         channel: ChanBits,
-        /// The link identifier; 0 is the main channel with SAPI 0.
+        /// The link identifier, any octet (clause 9.3.2); 0 is the main channel with SAPI 0.
         link: u8,
-        /// A layer 3 message, from 1 to 1,015 octets.
+        /// A layer 3 message, from 1 to 1,015 octets (clause 9.3.11).
         layer3: Octets<A>,
     },
     /// CHANNEL ACTIVATION, TS 48.058 clause 8.4.1.
     ChannelActivation {
         channel: ChanBits,
-        /// 0 for an immediate assignment, 2 for an asynchronous handover.
+        /// The activation type, any octet (clause 9.3.3): 0 for an immediate assignment, 2 for an asynchronous handover.
         activation: u8,
-        /// The channel mode, from 1 to 255 octets.
+        /// The channel mode, from 1 to 255 octets (clause 9.3.6).
         mode: Octets<A>,
-        /// The handover reference.
+        /// The handover reference, any octet, for a handover (clause 9.3.9).
         reference: Option<u8>,
     },
     /// CHANNEL ACTIVATION ACKNOWLEDGE, TS 48.058 clause 8.4.2.
     ChannelActivationAck {
         channel: ChanBits,
-        /// The frame number.
+        /// The frame number, any 16 bits (clause 9.3.8).
         frame: u16,
     },
     /// CHANNEL ACTIVATION NEGATIVE ACKNOWLEDGE, TS 48.058 clause 8.4.3.
     ChannelActivationNack {
         channel: ChanBits,
+        /// The first octet of the cause (clause 9.3.26).
         cause: u8,
     },
     /// CONNECTION FAILURE INDICATION, TS 48.058 clause 8.4.4.
     ConnectionFailureIndication {
         channel: ChanBits,
+        /// The first octet of the cause (clause 9.3.26).
         cause: u8,
     },
     /// HANDOVER DETECTION, TS 48.058 clause 8.4.7.
     HandoverDetection {
         channel: ChanBits,
-        /// The access delay.
+        /// The access delay of the handover access, any octet, where it is known (clause 9.3.17).
         delay: Option<u8>,
     },
     /// MEASUREMENT RESULT, TS 48.058 clause 8.4.8.
     MeasurementResult {
         channel: ChanBits,
-        /// The measurement result number.
+        /// The measurement result number, any octet (clause 9.3.27).
         number: u8,
-        /// The uplink measurements, at most 255 octets.
+        /// The uplink measurements, at most 255 octets (clause 9.3.25).
         uplink: Octets<A>,
-        /// The power of the base station.
+        /// The power level of the base station, any octet (clause 9.3.4).
         power: u8,
         /// The layer 3 message with the mobile's measurement report, at least one octet. The whole
         /// message has at most 1,024 octets.
