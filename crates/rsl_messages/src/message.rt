@@ -31,7 +31,7 @@ pub enum Rsl<A: Allocator = Global> {
     /// CHANNEL ACTIVATION, TS 48.058 clause 8.4.1.
     ChannelActivation {
         channel: ChanBits,
-        /// The activation type, any octet (clause 9.3.3): 0 for an immediate assignment, 2 for an asynchronous handover.
+        /// The activation type, any octet (clause 9.3.3): 0 at an immediate assignment, 2 at an asynchronous handover.
         activation: u8,
         /// The channel mode, from 1 to 255 octets (clause 9.3.6).
         mode: Octets<A>,
