@@ -14,7 +14,7 @@ use thiserror::Error;
 /// Why the program gives no sum.
 #[derive(Clone, Copy, Debug, PartialEq, Eq, Error)]
 pub enum Fault {
-    /// The words name no work and count, or the octets are no message of the work.
+    /// The words name no work and count, or the octets are no message that the work can read.
     #[error("usage: bsc_bench NAME N [OCTETS] | bsc_bench all N")]
     Words,
     /// Memory was refused.
