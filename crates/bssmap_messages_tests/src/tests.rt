@@ -382,7 +382,7 @@ fn reads_other_texts_of_a_message(rt: HostRuntime) -> Result<(), Fail> {
 }
 
 /// Octets that are no text of a message, and their first fault.
-const FAULTS: [(&[u8], BssmapFault); 34] = [
+const FAULTS: [(&[u8], BssmapFault); 35] = [
     (&[], BssmapFault::NotBssmap),
     (&[1], BssmapFault::NotBssmap),
     (&[1, 1, 0x1B], BssmapFault::NotBssmap),
@@ -448,6 +448,13 @@ const FAULTS: [(&[u8], BssmapFault); 34] = [
             0, 18, 0x10, 0x0B, 3, 1, 8, 1, 0x0A, 1, 1, 0x1D, 0x33, 5, 5, 1, 0, 0x17, 0, 0x66,
         ],
         BssmapFault::Missing(5),
+    ),
+    // a bad serving cell comes before a missing target cell
+    (
+        &[
+            0, 18, 0x10, 0x0B, 3, 1, 8, 1, 0x0A, 1, 1, 0x1D, 0x33, 5, 5, 3, 0, 0x17, 0, 0x66,
+        ],
+        BssmapFault::BadElement(5),
     ),
 ];
 
@@ -628,15 +635,55 @@ fn fits_wants_a_location_area_code(rt: HostRuntime) {
     }
 }
 
-#[test]
-fn appends_in_room(rt: HostRuntime) -> Result<(), Fail> {
-    let message = decode(rt.alloc(), REQUEST)?;
-    let mut out = Vec::with_capacity(rt.alloc(), 28)?;
+/// Appends a message to a list that has room for its text, where no memory is left.
+fn appends_in_room<'a>(
+    rt: &impl Abort,
+    heap: &'a RefusingHeap,
+    message: &Bssmap<&'a RefusingHeap>,
+    text: &[u8],
+) -> Result<(), Fail> {
+    let mut out = Vec::with_capacity(heap, text.len().saturating_add(1))?;
     out.push(7)?;
-    assert!(rt; fits(&message));
-    encode_into(&message, &mut out)?;
-    assert_eq!(rt; &out[1..], REQUEST);
-    assert_eq!(rt; out[0], 7);
+    heap.refuse_from_now();
+    assert!(rt; fits(message), "{text:?}");
+    encode_into(message, &mut out)?;
+    assert!(rt; !heap.was_refused(), "{text:?}");
+    assert_eq!(rt; (out[0], &out[1..]), (7, text));
+    Ok(())
+}
+
+/// Appends a message to a list without room, where no memory is left: the list stays as it was.
+fn leaves_what_was_written<'a>(
+    rt: &impl Abort,
+    heap: &'a RefusingHeap,
+    message: &Bssmap<&'a RefusingHeap>,
+) -> Result<(), Fail> {
+    let mut full = Vec::from_slice(heap, &[7])?;
+    heap.refuse_from_now();
+    assert!(rt; fits(message));
+    assert!(rt; encode_into(message, &mut full).is_err());
+    assert!(rt; heap.was_refused());
+    assert_eq!(rt; full.as_slice(), [7].as_slice());
+    Ok(())
+}
+
+#[test]
+fn with_room_for_the_text_no_memory_is_taken(rt: HostRuntime) -> Result<(), Fail> {
+    for text in TEXTS {
+        let heap = RefusingHeap::ample(rt.alloc());
+        let message = decode(&heap, text)?;
+        appends_in_room(&rt, &heap, &message, text)?;
+    }
+    Ok(())
+}
+
+#[test]
+fn refused_memory_leaves_what_was_written(rt: HostRuntime) -> Result<(), Fail> {
+    for text in TEXTS {
+        let heap = RefusingHeap::ample(rt.alloc());
+        let message = decode(&heap, text)?;
+        leaves_what_was_written(&rt, &heap, &message)?;
+    }
     Ok(())
 }
 

@@ -144,7 +144,58 @@ const TARGET_REFUSED: Reply = Record(
     Some(ChanState::On(1)),
 );
 
-/// The record of call 2 on a channel that was not confirmed.
+/// The record of call 1 whose serving channel was not confirmed.
+const PENDING: Reply = Record(
+    CallRecord {
+        serving: Some(SERVING),
+        attempt: None,
+    },
+    Some(ChanState::Pending(1)),
+);
+
+/// The record of call 1 that comes from another controller, with a reference and no activation.
+const COMING_RESERVED: Reply = Record(
+    CallRecord {
+        serving: None,
+        attempt: Some(Attempt {
+            kind: AttemptKind::Incoming,
+            stage: Stage::Reserved,
+            target: Some(TARGET),
+            reference: Some(0),
+        }),
+    },
+    None,
+);
+
+/// The same, once the activation was sent.
+const COMING_SENT: Reply = Record(
+    CallRecord {
+        serving: None,
+        attempt: Some(Attempt {
+            kind: AttemptKind::Incoming,
+            stage: Stage::Sent,
+            target: Some(TARGET),
+            reference: Some(0),
+        }),
+    },
+    None,
+);
+
+/// The same, once it was refused.
+const COMING_REFUSED: Reply = Record(
+    CallRecord {
+        serving: None,
+        attempt: Some(Attempt {
+            kind: AttemptKind::Incoming,
+            stage: Stage::Refused,
+            target: Some(TARGET),
+            reference: Some(0),
+        }),
+    },
+    None,
+);
+
+/// The record of call 2 on a channel that was refused.
 const HELD: Reply = Record(
     CallRecord {
         serving: Some(FIRST),
@@ -292,6 +343,153 @@ const ENDS_IN_HANDOVER: Row = Row {
     none_free: None,
     out: &[(1, 1, RELEASES_3), (0, 0, RELEASES_3)],
 };
+
+/// No confirmation of call 1's channel is awaited.
+const CONFIRM_UNEXPECTED: Row = Row {
+    given: Abis(0, 0, ACTIVATED_3),
+    events: &[(Confirm(SERVING), Refused(Refusal::Unexpected(SERVING)))],
+    none_free: None,
+    out: &[],
+};
+
+/// No refusal of it is awaited.
+const REFUSE_UNEXPECTED: Row = Row {
+    given: Abis(0, 0, REFUSES_3),
+    events: &[(Refuse(SERVING), Refused(Refusal::Unexpected(SERVING)))],
+    none_free: None,
+    out: &[],
+};
+
+/// No confirmation of the target of call 1 is awaited.
+const TARGET_CONFIRM_UNEXPECTED: Row = Row {
+    given: Abis(1, 1, ACTIVATED_3),
+    events: &[(Confirm(TARGET), Refused(Refusal::Unexpected(TARGET)))],
+    none_free: None,
+    out: &[],
+};
+
+/// No refusal of it is awaited.
+const TARGET_REFUSE_UNEXPECTED: Row = Row {
+    given: Abis(1, 1, REFUSES_3),
+    events: &[(Refuse(TARGET), Refused(Refusal::Unexpected(TARGET)))],
+    none_free: None,
+    out: &[],
+};
+
+/// The handover of call 1 is taken back once its target was confirmed.
+const UNDOES_CONFIRMED: Row = Row {
+    given: Operator(Line::Undo { call: 1 }),
+    events: &[(Undo(1, Why::Asked), CONFIRMED)],
+    none_free: None,
+    out: &[(1, 1, RELEASES_3)],
+};
+
+/// Call 1 ends once the target of its handover was confirmed.
+const ENDS_CONFIRMED: Row = Row {
+    given: Operator(Line::Clear { call: 1 }),
+    events: &[
+        (Look(1), CONFIRMED),
+        (Undo(1, Why::Asked), CONFIRMED),
+        (Clear(1), Done),
+    ],
+    none_free: None,
+    out: &[(1, 1, RELEASES_3), (0, 0, RELEASES_3)],
+};
+
+/// Call 1 ends before its channel is confirmed.
+const ENDS_PENDING: Row = Row {
+    given: Operator(Line::Clear { call: 1 }),
+    events: &[(Look(1), PENDING), (Clear(1), Done)],
+    none_free: None,
+    out: &[(0, 0, RELEASES_3)],
+};
+
+/// Rows that come before, rows that follow, and how many channels and calls the book has then.
+const FOLLOWED: &[(&[Row], &[Row], (usize, usize))] = &[
+    (BEGINS, &[CONFIRM_UNEXPECTED], (1, 1)),
+    (BEGINS, &[REFUSE_UNEXPECTED], (1, 1)),
+    (BEGINS, &[STARTS, UNDOES, TARGET_CONFIRM_UNEXPECTED], (2, 1)),
+    (BEGINS, &[STARTS, UNDOES, TARGET_REFUSE_UNEXPECTED], (2, 1)),
+    (
+        BEGINS,
+        &[
+            STARTS,
+            TARGET_CONFIRMED,
+            TARGET_CONFIRM_UNEXPECTED,
+            UNDOES_CONFIRMED,
+        ],
+        (2, 1),
+    ),
+    (BEGINS, &[STARTS, TARGET_CONFIRMED, ENDS_CONFIRMED], (2, 0)),
+    (&[OPENS], &[ENDS_PENDING], (1, 0)),
+];
+
+/// Call 1 comes from another controller to a channel, and reserves a reference.
+const COMES: &[(Event, Reply)] = &[
+    (Take(1, Kind::Incoming, TARGET), Done),
+    (Reserve(1, 0), Done),
+];
+
+/// The same, and the activation of the channel was sent.
+const COMES_SENT: &[(Event, Reply)] = &[
+    (Take(1, Kind::Incoming, TARGET), Done),
+    (Reserve(1, 0), Done),
+    (Activate(1), Done),
+];
+
+/// The undo of a target that was switched on, and of one that was not.
+const COMING_UNDONE: Row = Row {
+    given: Operator(Line::Undo { call: 1 }),
+    events: &[(Undo(1, Why::Asked), COMING_SENT)],
+    none_free: None,
+    out: &[(1, 1, RELEASES_3)],
+};
+
+const RESERVED_UNDONE: Row = Row {
+    given: Operator(Line::Undo { call: 1 }),
+    events: &[(Undo(1, Why::Asked), COMING_RESERVED)],
+    none_free: None,
+    out: &[],
+};
+
+/// The same of a call that ends: no Clear is asked, since the undo leaves no record.
+const COMING_ENDS: Row = Row {
+    given: Operator(Line::Clear { call: 1 }),
+    events: &[(Look(1), COMING_SENT), (Undo(1, Why::Asked), COMING_SENT)],
+    none_free: None,
+    out: &[(1, 1, RELEASES_3)],
+};
+
+const RESERVED_ENDS: Row = Row {
+    given: Operator(Line::Clear { call: 1 }),
+    events: &[
+        (Look(1), COMING_RESERVED),
+        (Undo(1, Why::Asked), COMING_RESERVED),
+    ],
+    none_free: None,
+    out: &[],
+};
+
+/// The target of a call that comes is refused, and taken back.
+const COMING_TARGET_TAKEN_BACK: Row = Row {
+    given: Abis(1, 1, REFUSES_3),
+    events: &[
+        (Refuse(TARGET), Owned(1)),
+        (Look(1), COMING_REFUSED),
+        (Undo(1, Why::Asked), COMING_REFUSED),
+    ],
+    none_free: None,
+    out: &[],
+};
+
+/// What is asked of an empty book, the rows that follow, and how many channels the book has then. It has no call.
+const COMING: &[(&[(Event, Reply)], &[Row], usize)] = &[
+    (COMES_SENT, &[COMING_UNDONE], 1),
+    (COMES, &[RESERVED_UNDONE], 0),
+    (COMES_SENT, &[COMING_ENDS], 1),
+    (COMES, &[RESERVED_ENDS], 0),
+    (COMES_SENT, &[COMING_TARGET_TAKEN_BACK], 0),
+];
 
 /// No channel is free in cell 1, no other cell is the site's, and there is no call 1.
 const FINDS_NOTHING: &[Row] = &[
@@ -452,6 +650,16 @@ fn a_refused_channel_is_cleared_without_a_message(rt: HostRuntime) -> Result<(),
     Ok(())
 }
 
+/// So many channels and calls, and nothing of an attempt.
+const fn holds(channels: usize, calls: usize) -> Usage {
+    Usage {
+        channels,
+        calls,
+        references: 0,
+        timers: 0,
+    }
+}
+
 /// What a book holds of a call without an attempt.
 const ONE_STEADY_CALL: Usage = Usage {
     channels: 1,
@@ -479,6 +687,59 @@ fn a_call_with_an_attempt_is_cleared(rt: HostRuntime) -> Result<(), Fail> {
     let usage = usage_after(&rt, BEGINS, &[STARTS], &[ENDS_IN_HANDOVER])?;
     // both channels await their releases
     assert_eq!(rt; (usage.channels, usage.calls), (2, 0));
+    Ok(())
+}
+
+#[test]
+fn rows_follow_others(rt: HostRuntime) -> Result<(), Fail> {
+    for (before, rows, (channels, calls)) in FOLLOWED {
+        let usage = usage_after(&rt, *before, *rows, &[])?;
+        assert_eq!(rt; usage, holds(*channels, *calls));
+    }
+    Ok(())
+}
+
+/// Asks events of a book, which gives these replies.
+fn step(
+    rt: &impl Abort,
+    book: &mut Book<Global>,
+    events: &[(Event, Reply)],
+) -> Result<(), AllocError> {
+    for (event, reply) in events {
+        assert_eq!(rt; book.step(*event)?, *reply, "{event:?}");
+    }
+    Ok(())
+}
+
+/// What a book holds once these events were asked of it, and these rows played.
+fn stepped(
+    rt: &impl Abort,
+    alloc: Global,
+    book: &mut Book<Global>,
+    events: &[(Event, Reply)],
+    rows: &[Row],
+) -> Result<Usage, Fail> {
+    step(rt, book, events)?;
+    play(rt, alloc, book, rows)?;
+    Ok(book.usage())
+}
+
+/// What an empty book holds after these events and rows.
+fn usage_after_events(
+    rt: &(impl AllocGlobal + Abort),
+    events: &[(Event, Reply)],
+    rows: &[Row],
+) -> Result<Usage, Fail> {
+    let mut book = opened(rt.alloc(), rt.alloc())?;
+    stepped(rt, rt.alloc(), &mut book, events, rows)
+}
+
+#[test]
+fn a_call_that_comes_is_taken_back(rt: HostRuntime) -> Result<(), Fail> {
+    for (events, rows, channels) in COMING {
+        let usage = usage_after_events(&rt, *events, *rows)?;
+        assert_eq!(rt; usage, holds(*channels, 0));
+    }
     Ok(())
 }
 
@@ -581,9 +842,7 @@ fn shown_then(
     book: &mut Book<Global>,
     events: &[(Event, Reply)],
 ) -> Result<Shown, AllocError> {
-    for (event, reply) in events {
-        assert_eq!(rt; book.step(*event)?, *reply, "{event:?}");
-    }
+    step(rt, book, events)?;
     shown(book)
 }
 

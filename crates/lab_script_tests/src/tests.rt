@@ -1,5 +1,5 @@
 use ho_procedure::exchange::{Inbound, Line};
-use lab_script::script::{ScriptFault, read_script};
+use lab_script::script::{ScriptFault, first_unread, is_octets, read_script};
 use radio_book::channel::ChanId;
 use refusing_heap::RefusingHeap;
 use std::alloc::Global;
@@ -27,17 +27,21 @@ const NO_LINES: &[&str] = &[
     "open 0x1 0 0 3",
     "handover 1",
     "handover 1 256",
+    "handover 65536 1",
     "handover 1 1 1",
     "undo",
     "undo ",
     "undo 1\r\r",
+    "undo 65536",
     "clear 1 1",
+    "clear 65536",
     "abis 0 0",
     "abis 0 0 ",
     "abis 0 0 8",
     "abis 0 0 0g",
     "abis 0 0 08 33",
     "abis 256 0 08",
+    "abis 0 256 08",
     "  # a comment",
     "expire 1 T7",
     "a 1 00",
@@ -118,6 +122,7 @@ fn is_read(
     script: &str,
     wanted: &[Gives<'static>],
 ) -> Result<(), Fail> {
+    assert_eq!(rt; first_unread(script), None, "{script}");
     let inputs = read_script(alloc, script)?;
     assert_eq!(rt; inputs.len(), wanted.len(), "{script}");
     for (input, wanted) in inputs.iter().zip(wanted.iter()) {
@@ -145,8 +150,33 @@ fn a_line_that_is_none(rt: HostRuntime) {
 #[test]
 fn the_first_line_that_is_none(rt: HostRuntime) {
     for (script, number) in UNREAD {
+        assert_eq!(rt; first_unread(*script), Some(*number), "{script}");
         let answer = read_script(rt.alloc(), *script).err();
         assert_eq!(rt; answer, Some(ScriptFault::Line(*number)), "{script}");
+    }
+}
+
+/// Texts, and whether they are octets in hexadecimal.
+const OCTETS: &[(&str, bool)] = &[
+    ("00", true),
+    ("0833010B", true),
+    ("abcdefABCDEF", true),
+    ("", false),
+    ("0", false),
+    ("083", false),
+    ("0g", false),
+    ("g0", false),
+    ("08 33", false),
+    ("08 ", false),
+    ("0x08", false),
+    ("+1", false),
+    ("é", false),
+];
+
+#[test]
+fn octets_are_pairs_of_hexadecimal_digits(rt: HostRuntime) {
+    for (text, wanted) in OCTETS {
+        assert_eq!(rt; is_octets(*text), *wanted, "{text}");
     }
 }
 

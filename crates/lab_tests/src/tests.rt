@@ -10,6 +10,7 @@ mod words;
 
 use lab::run::{LabFault, Status, lab_run};
 use std::alloc::{Allocator, Global};
+use std::process::Abort;
 use std::test::Fail;
 
 /// In cell 0 timeslots 2 and 3 of TRX 0 carry traffic, in cell 1 timeslot 3 of TRX 1.
@@ -48,4 +49,22 @@ fn printed<A: Allocator + Copy>(
     let mut out = Vec::new(scratch);
     let status = lab_run(alloc, scratch, site, script, &mut out);
     Ok((status, String::from_utf8(out)?))
+}
+
+/// A run ends so and prints this.
+fn prints(
+    rt: &impl Abort,
+    alloc: Global,
+    site: &str,
+    script: &str,
+    ended: Status,
+    wanted: &str,
+) -> Result<(), Fail> {
+    let (status, text) = printed(alloc, alloc, site, script)?;
+    assert_eq!(rt;
+        (status, text.as_str()),
+        (Ok(ended), wanted),
+        "{site} {script}"
+    );
+    Ok(())
 }

@@ -136,6 +136,29 @@ fn answers(rt: &(impl AllocGlobal + Abort), site: &str, rows: &[Row]) -> Result<
     play(rt, &mut book, rows)
 }
 
+// Channels, and whether they carry traffic on the site of three channels.
+const TRAFFIC: [(ChanId, bool); 4] = [
+    (OTHER, true),
+    (HOME, true),
+    (TARGET, true),
+    (NO_TRAFFIC, false),
+];
+
+fn is_of_three_channels(rt: &impl Abort, book: &Book<Global>) {
+    let site = book.site();
+    assert_eq!(rt; site.cells(), 2);
+    for (chan, wanted) in &TRAFFIC {
+        assert_eq!(rt; site.is_traffic(*chan), *wanted, "{chan}");
+    }
+}
+
+#[test]
+fn the_site_of_a_book_is_the_one_given(rt: HostRuntime) -> Result<(), Fail> {
+    let book = book_of(rt.alloc(), rt.alloc(), THREE_CHANNELS)?;
+    is_of_three_channels(&rt, &book);
+    Ok(())
+}
+
 // Call 1 rests on its channel.
 const RESTING: CallRecord = CallRecord {
     serving: Some(HOME),
@@ -180,6 +203,33 @@ fn a_refused_serving_channel_is_held_until_the_call_ends(rt: HostRuntime) -> Res
     answers(&rt, THREE_CHANNELS, &rows)
 }
 
+#[test]
+fn a_channel_that_was_not_confirmed_awaits_its_release(rt: HostRuntime) -> Result<(), Fail> {
+    let found = CallRecord {
+        serving: Some(OTHER),
+        attempt: None,
+    };
+    let rows = [
+        (Step(Open(2, OTHER)), DONE),
+        (
+            Step(Look(2)),
+            Says(Record(found, Some(ChanState::Pending(2)))),
+        ),
+        (
+            Step(Take(2, Kind::Internal, TARGET)),
+            Says(Refused(WrongPhase)),
+        ),
+        (Step(Clear(2)), DONE),
+        (Step(Look(2)), Says(Refused(NoCall))),
+        (Ask::Usage, holds(1, 0, 0)),
+        (Step(Confirm(OTHER)), Says(Refused(Unexpected(OTHER)))),
+        (Step(Open(3, OTHER)), Says(Refused(ChannelBusy(OTHER)))),
+        (Step(Released(OTHER)), DONE),
+        (Step(Open(3, OTHER)), DONE),
+    ];
+    answers(&rt, THREE_CHANNELS, &rows)
+}
+
 // Call 1 comes to rest on its channel.
 const STEADY: [Row; 2] = [
     (Step(Open(1, HOME)), DONE),
@@ -193,17 +243,19 @@ fn answers_beside_a_call(rt: &(impl AllocGlobal + Abort), rows: &[Row]) -> Resul
     play(rt, &mut book, rows)
 }
 
-// What a book with call 1 alone refuses, and why.
-const REFUSALS: [(Event, Refusal); 23] = [
+// What a book refuses in which call 1 rests and call 3 has begun on the channel of cell 1, and why.
+const REFUSALS: [(Event, Refusal); 25] = [
     (Open(1, NO_TRAFFIC), CallExists),
     (Open(2, NO_TRAFFIC), NoChannel),
     (Open(2, HOME), ChannelBusy(HOME)),
     (Clear(2), NoCall),
     (Look(2), NoCall),
     (Take(2, Kind::Internal, NO_TRAFFIC), NoCall),
+    (Take(3, Kind::Internal, NO_TRAFFIC), WrongPhase),
     (Take(1, Kind::Internal, NO_TRAFFIC), NoChannel),
     (Take(1, Kind::Internal, HOME), SameCell),
     (Take(1, Kind::Internal, OTHER), SameCell),
+    (Take(1, Kind::Internal, TARGET), ChannelBusy(TARGET)),
     (Take(1, Kind::Incoming, NO_TRAFFIC), CallExists),
     (Take(2, Kind::Incoming, NO_TRAFFIC), NoChannel),
     (Take(2, Kind::Incoming, HOME), ChannelBusy(HOME)),
@@ -216,7 +268,7 @@ const REFUSALS: [(Event, Refusal); 23] = [
     (Undo(2, Why::Expired(Timer::T3103)), NoCall),
     (Undo(1, Why::Expired(Timer::T7)), NotArmed),
     (Confirm(HOME), Unexpected(HOME)),
-    (Refuse(TARGET), Unexpected(TARGET)),
+    (Refuse(OTHER), Unexpected(OTHER)),
     (Released(HOME), Unexpected(HOME)),
 ];
 
@@ -239,8 +291,9 @@ fn refuses<A: Allocator + Copy>(
 fn the_first_refusal_is_answered(rt: HostRuntime) -> Result<(), Fail> {
     let mut book = book_of(rt.alloc(), rt.alloc(), THREE_CHANNELS)?;
     play(&rt, &mut book, &STEADY)?;
+    play(&rt, &mut book, &[(Step(Open(3, TARGET)), DONE)])?;
     refuses(&rt, &mut book, &REFUSALS)?;
-    play(&rt, &mut book, &[(Ask::Usage, holds(1, 1, 0))])
+    play(&rt, &mut book, &[(Ask::Usage, holds(2, 2, 0))])
 }
 
 // What the book has of call 1 with an attempt at this stage.

@@ -1,10 +1,10 @@
 use super::{ONE_CALL, SITE};
 use lab::files::run_files;
 use lab::run::Status;
-use std::fs;
 use std::process::Abort;
 use std::rt::Files;
 use std::test::Fail;
+use std::{fs, str};
 
 /// A site's file and a script's, and what is printed of them: one isn't there, is a folder, isn't UTF-8, has no end.
 const REFUSED: &[(&str, &str, &str)] = &[
@@ -21,22 +21,25 @@ const REFUSED: &[(&str, &str, &str)] = &[
     ("/dev/null", "/dev/null", "site 1\n"),
 ];
 
-/// Asserts what two files print, and that they are refused.
-fn are_refused(
+/// Asserts how a run over two files ends, and what it prints.
+fn run_ends(
     rt: &(impl Files + AllocGlobal + Abort),
-    (site, script, wanted): (&str, &str, &str),
+    site: &str,
+    script: &str,
+    wanted: Status,
+    text: &str,
 ) -> Result<(), Fail> {
     let mut out = Vec::new(rt.alloc());
-    let status = run_files(rt, site, script, &mut out)?;
-    assert_eq!(rt; status, Status::Refused, "{site} {script}");
-    assert_eq!(rt; String::from_utf8(out)?.as_str(), wanted);
+    let ended = run_files(rt, site, script, &mut out);
+    assert_eq!(rt; ended, Ok(wanted), "{site} {script}");
+    assert_eq!(rt; str::from_utf8(&out)?, text);
     Ok(())
 }
 
 #[test]
 fn files_that_cannot_be_read_are_named(rt: HostRuntime) -> Result<(), Fail> {
-    for row in REFUSED {
-        are_refused(&rt, *row)?;
+    for (site, script, text) in REFUSED {
+        run_ends(&rt, *site, *script, Status::Refused, *text)?;
     }
     Ok(())
 }
@@ -54,11 +57,7 @@ fn run_over(
     text: &str,
 ) -> Result<(), Fail> {
     fs::write(rt, SCRIPT_FILE, script)?;
-    let mut out = Vec::new(rt.alloc());
-    let status = run_files(rt, SITE_FILE, SCRIPT_FILE, &mut out)?;
-    assert_eq!(rt; status, wanted);
-    assert_eq!(rt; String::from_utf8(out)?.as_str(), text);
-    Ok(())
+    run_ends(rt, SITE_FILE, SCRIPT_FILE, wanted, text)
 }
 
 #[test]

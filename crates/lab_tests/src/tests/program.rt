@@ -3,6 +3,7 @@ use lab::program::perform;
 use lab::run::{LabFault, Status, exit_status};
 use std::process::Abort;
 use std::rt::Files;
+use std::str;
 use std::test::Fail;
 
 /// The words of a command line, the status that it ends with, what it prints, and a part of what it says of an error.
@@ -34,6 +35,13 @@ const LINES: &[(&[&str], u8, &str, &str)] = &[
     (&[], 2, "", "subcommand"),
 ];
 
+/// Asserts what a command line printed and said: this text, and an error with this part where there is one.
+fn says(rt: &impl Abort, out: &str, errors: &str, text: &str, part: &str) {
+    assert_eq!(rt; out, text);
+    assert_eq!(rt; errors.is_empty(), part.is_empty(), "{errors}");
+    assert!(rt; errors.contains(part), "{errors}");
+}
+
 /// Asserts how a command line ends, and what it prints and says.
 fn ends(
     rt: &(impl Files + AllocGlobal + Abort),
@@ -45,11 +53,14 @@ fn ends(
     let mut out = Vec::new(rt.alloc());
     let mut errors = Vec::new(rt.alloc());
     let status = exit_status(perform(rt, words, &mut out, &mut errors));
-    let (out, errors) = (String::from_utf8(out)?, String::from_utf8(errors)?);
     assert_eq!(rt; status, wanted, "{text}{part}");
-    assert_eq!(rt; out.as_str(), text);
-    assert_eq!(rt; errors.is_empty(), part.is_empty(), "{errors}");
-    assert!(rt; errors.contains(part), "{errors}");
+    says(
+        rt,
+        str::from_utf8(&out)?,
+        str::from_utf8(&errors)?,
+        text,
+        part,
+    );
     Ok(())
 }
 

@@ -1,9 +1,10 @@
 use super::failing::Failing;
-use super::{ONE_CALL, SITE, printed};
+use super::{ONE_CALL, SITE, printed, prints};
 use lab::run::{LabFault, Status, lab_run};
 use refusing_heap::RefusingHeap;
 use std::alloc::Global;
 use std::process::Abort;
+use std::str;
 use std::test::Fail;
 
 /// A site, a script, and the one line by which they are refused.
@@ -41,25 +42,43 @@ const WRITES: &[(&str, (&str, &str), u64)] = &[
 #[test]
 fn refusals_are_one_line(rt: HostRuntime) -> Result<(), Fail> {
     for (site, script, wanted) in REFUSALS {
-        let (status, text) = printed(rt.alloc(), rt.alloc(), *site, *script)?;
-        assert_eq!(rt; status, Ok(Status::Refused), "{site} {script}");
-        assert_eq!(rt; text.as_str(), *wanted, "{site} {script}");
+        prints(&rt, rt.alloc(), *site, *script, Status::Refused, *wanted)?;
     }
     Ok(())
+}
+
+/// A run ended with this fault and printed a front of the wanted text, or with none and printed it all.
+fn prints_unless(
+    rt: &impl Abort,
+    fault: Option<LabFault>,
+    status: Result<Status, LabFault>,
+    text: &str,
+    wanted: &str,
+) {
+    assert_eq!(rt; status.err(), fault, "{text}");
+    match fault {
+        Some(_) => assert!(rt; wanted.starts_with(text), "{text}"),
+        None => assert_eq!(rt; text, wanted),
+    }
+}
+
+/// Whether a run over a heap met no refusal.
+fn runs_over(rt: &impl Abort, alloc: Global, heap: &RefusingHeap) -> Result<bool, Fail> {
+    let (status, text) = printed(heap, alloc, SITE, ONE_CALL.0)?;
+    let fault = if heap.was_refused() {
+        Some(LabFault::NoMemory)
+    } else {
+        None
+    };
+    assert!(rt; status != Ok(Status::Refused), "{text}");
+    prints_unless(rt, fault, status, &text, ONE_CALL.1);
+    Ok(fault.is_none())
 }
 
 /// Whether a run over a heap that refuses this request met no refusal.
 fn runs_without(rt: &impl Abort, alloc: Global, n: u64) -> Result<bool, Fail> {
     let heap = RefusingHeap::refusing_nth(alloc, n);
-    let (status, text) = printed(&heap, alloc, SITE, ONE_CALL.0)?;
-    if heap.was_refused() {
-        assert_eq!(rt; status, Err(LabFault::NoMemory), "{n}");
-        assert!(rt; ONE_CALL.1.starts_with(text.as_str()), "{n}: {text}");
-        return Ok(false);
-    }
-    assert_eq!(rt; status, Ok(Status::Done), "{n}");
-    assert_eq!(rt; text.as_str(), ONE_CALL.1, "{n}");
-    Ok(true)
+    runs_over(rt, alloc, &heap)
 }
 
 #[test]
@@ -86,15 +105,13 @@ fn writes_all(
 ) -> Result<bool, Fail> {
     let mut out = Failing::after(alloc, before);
     let status = lab_run(alloc, alloc, site, script, &mut out);
-    let text = String::from_utf8(out.text)?;
-    if out.failed {
-        assert_eq!(rt; status, Err(LabFault::Write), "{before}");
-        assert!(rt; wanted.starts_with(text.as_str()), "{before}: {text}");
-        return Ok(false);
-    }
-    assert!(rt; status.is_ok(), "{before}");
-    assert_eq!(rt; text.as_str(), wanted, "{before}");
-    Ok(true)
+    let fault = if out.failed {
+        Some(LabFault::Write)
+    } else {
+        None
+    };
+    prints_unless(rt, fault, status, str::from_utf8(&out.text)?, wanted);
+    Ok(fault.is_none())
 }
 
 /// How many writes failed in turn before a run was printed.

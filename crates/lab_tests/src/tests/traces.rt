@@ -1,4 +1,4 @@
-use super::{ONE_CALL, SITE, printed};
+use super::{ONE_CALL, SITE, prints};
 use lab::run::Status;
 use std::test::Fail;
 
@@ -19,6 +19,49 @@ event look 2 -> record 0/0/2 held
 in clear 2
 event look 2 -> record 0/0/2 held
 event clear 2 -> done
+end channels=0 calls=0 references=0 timers=0
+",
+    ),
+    // a channel is confirmed twice
+    (
+        "open 1 0 0 3\nabis 0 0 0822010b081234\nabis 0 0 0822010b081234\n",
+        "in open 1 0 0 3
+event open 1 0/0/3 -> done
+out abis 0 0 0821010b0300060400010801
+in abis 0 0 0822010b081234
+event confirm 0/0/3 -> owned 1
+event look 1 -> record 0/0/3 on
+in abis 0 0 0822010b081234
+event confirm 0/0/3 -> refused 8 0/0/3
+end channels=1 calls=1 references=0 timers=0
+",
+    ),
+    // a channel is refused once it was confirmed
+    (
+        "open 1 0 0 3\nabis 0 0 0822010b081234\nabis 0 0 0823010b1a0120\n",
+        "in open 1 0 0 3
+event open 1 0/0/3 -> done
+out abis 0 0 0821010b0300060400010801
+in abis 0 0 0822010b081234
+event confirm 0/0/3 -> owned 1
+event look 1 -> record 0/0/3 on
+in abis 0 0 0823010b1a0120
+event refuse 0/0/3 -> refused 8 0/0/3
+end channels=1 calls=1 references=0 timers=0
+",
+    ),
+    // a call ends before its channel is confirmed
+    (
+        "open 1 0 0 3\nclear 1\nabis 0 0 0833010b\n",
+        "in open 1 0 0 3
+event open 1 0/0/3 -> done
+out abis 0 0 0821010b0300060400010801
+in clear 1
+event look 1 -> record 0/0/3 pending
+event clear 1 -> done
+out abis 0 0 082e010b
+in abis 0 0 0833010b
+event released 0/0/3 -> done
 end channels=0 calls=0 references=0 timers=0
 ",
     ),
@@ -129,9 +172,7 @@ end channels=1 calls=1 references=0 timers=0
 #[test]
 fn traces(rt: HostRuntime) -> Result<(), Fail> {
     for (script, wanted) in TRACES {
-        let (status, text) = printed(rt.alloc(), rt.alloc(), SITE, *script)?;
-        assert_eq!(rt; status, Ok(Status::Done), "{script}");
-        assert_eq!(rt; text.as_str(), *wanted, "{script}");
+        prints(&rt, rt.alloc(), SITE, *script, Status::Done, *wanted)?;
     }
     Ok(())
 }

@@ -71,17 +71,17 @@ fn help_and_version_are_shown(rt: HostRuntime) {
 /// Words that are refused, and what names the mistake.
 const REFUSALS: &[(&[&str], &str)] = &[
     (&[], "subcommand"),
-    (&["run"], "<SITE>"),
-    (&["run", "a.toml"], "<SCRIPT>"),
+    (&["run"], "were not provided:\n  <SITE>\n  <SCRIPT>\n"),
+    (&["run", "a.toml"], "were not provided:\n  <SCRIPT>\n"),
     (&["run", "a.toml", "b.txt", "c.txt"], "c.txt"),
     (&["runn", "a.toml", "b.txt"], "runn"),
     (&["--verbose"], "--verbose"),
     (&["run", "--peer", "c.toml", "a.toml", "b.txt"], "--peer"),
-    (&["decode"], "<LINK>"),
-    (&["decode", "rr"], "<HEX>"),
+    (&["decode"], "were not provided:\n  <LINK>\n  <HEX>\n"),
+    (&["decode", "rr"], "were not provided:\n  <HEX>\n"),
     (&["decode", "A", "00"], "'A'"),
     (&["decode", "RR", "062c00"], "'RR'"),
-    (&["decode", "", "062c00"], "<LINK>"),
+    (&["decode", "", "062c00"], "'<LINK>' but none was supplied"),
     (&["decode", "rr", "06", "2c00"], "2c00"),
 ];
 
