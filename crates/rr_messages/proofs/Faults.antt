@@ -11,7 +11,7 @@ use Rattle.rr_messages.specs.declared.kind.Kind.{Kind}
 use Rattle.rr_messages.specs.declared.kind.Kind.TheVariants as kind
 use Rattle.rr_messages.specs.declared.message.Rr.{Rr}
 use Rattle.rr_messages.specs.Kind.{type_of, part_len}
-use Rattle.rr_messages.specs.Rr.{kind_of, IsFramed, IsPart, IsRrText, HasPartFault, HasElementFault, HasRrFault}
+use Rattle.rr_messages.specs.Rr.{kind_of, IsFramed, IsPart, IsRrText, HasPartFault, HasRrFault}
 use Rattle.rr_messages.proofs.Readers.{kind_at, command_said, part_said, body_said, in_message, rr_said}
 use Rattle.rr_messages.proofs.Texts.{command-cut, kind_at-type_of, framed-said, framed-text, text-said, one_value}
 
@@ -66,14 +66,10 @@ exact (Ok w) octets v text fault h = ap Ok (one_value w v octets text h)
 exact (Err f) octets v text fault h = absurd (no_fault v octets f h fault)
 
 -- a bad element of a framed part is the message's fault
-framed-fault : (k : Kind) (part octets : List ℕ) (fault : RrFault) → IsFramed k part octets → HasElementFault k part fault → HasRrFault octets fault
-framed-fault k part octets (Element fault) framed bad = (k, part, framed, bad)
-framed-fault k part octets NotRr framed bad = absurd bad
-framed-fault k part octets (UnknownType t) framed bad = absurd bad
-framed-fault k part octets Short framed bad = absurd bad
-framed-fault k part octets NoMemory framed bad = absurd bad
+framed-fault : (k : Kind) (part octets : List ℕ) (f : RrFault) → IsFramed k part octets → (e : ElementFault) × (f ≡ Element e) × HasPartFault k part e → HasRrFault octets f
+framed-fault k part octets f framed (e, is, bad) = rw is (k, part, framed, bad)
 
 -- what is read of a framed part is what is read of the octets
-pub exact-framed : (r : Result Rr RrFault) (k : Kind) (part octets : List ℕ) (v : Rr) → IsFramed k part octets → IfOk r (λ w. IsPart w part) → IfOk r (λ w. kind_of w ≡ k) → IfErr r (HasElementFault k part) → IsRrText v octets → r ≡ Ok v
+pub exact-framed : (r : Result Rr RrFault) (k : Kind) (part octets : List ℕ) (v : Rr) → IsFramed k part octets → IfOk r (λ w. IsPart w part) → IfOk r (λ w. kind_of w ≡ k) → IfErr r (λ f. (e : ElementFault) × (f ≡ Element e) × HasPartFault k part e) → IsRrText v octets → r ≡ Ok v
 exact-framed (Ok w) k part octets v framed is same fault text = exact (Ok w) octets v (framed-text w k part octets framed same is) tt text
 exact-framed (Err f) k part octets v framed is same fault text = exact (Err f) octets v tt (framed-fault k part octets f framed fault) text

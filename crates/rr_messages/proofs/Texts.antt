@@ -1,5 +1,5 @@
 -- A text of a message is read as the message.
-use Rattle.std.proofs.Common.{◌≡◌, ◌∙◌, sym, ℕ, ◌+◌, ◌*◌, ◌≤◌, nat_lt, false, List, [], ◌∷◌, ◌++◌, length, take, Some, Ok, get_or, refl, ap, arith}
+use Rattle.std.proofs.Common.{◌≡◌, ◌∙◌, sym, ℕ, ◌+◌, ◌*◌, ◌≤◌, nat_lt, false, List, [], ◌∷◌, ◌++◌, length, take, Some, Result, Ok, Err, OnOk, get_or, refl, ap, arith}
 use Rattle.std.proofs.lemmas.List.{take_at, length-append, append-nil}
 use Rattle.std.proofs.lemmas.Bool.Decides.{nat_tests}
 use Rattle.rr_elements.specs.CellDescription.{cell_text}
@@ -85,8 +85,7 @@ framed-said k part octets framed =
 -- a text is read as its value
 pub text-said : (v : Rr) (octets : List ℕ) → IsRrText v octets → rr_said octets ≡ Ok v
 text-said v octets text =
-    let framed : IsFramed (kind_of v) text.0 octets = record { rest = text.1; len = part-len v text.0 text.2; octets_are = text.3 } in
-    framed-said (kind_of v) text.0 octets framed ∙ ap in_message (part-said v text.0 text.2)
+    framed-said (kind_of v) text.0 octets text.1 ∙ ap in_message (part-said v text.0 text.2)
 
 pub one_value : (v w : Rr) (octets : List ℕ) → IsRrText v octets → IsRrText w octets → v ≡ w
 one_value v w octets p q =
@@ -96,11 +95,14 @@ one_value v w octets p q =
 
 -- what is written is a text
 pub text-is : (v : Rr) → IsPart v (part_text v) → IsRrText v (rr_text v)
-text-is v part = (part_text v, [], part, ap (λ octets. 6 ∷ type_of (kind_of v) ∷ octets) (sym (append-nil (part_text v))))
+text-is v part =
+    let long = part-len v (part_text v) part in
+    let same = ap (λ octets. 6 ∷ type_of (kind_of v) ∷ octets) (sym (append-nil (part_text v))) in
+    (part_text v, record { rest = []; len = long; octets_are = same }, part)
 
 -- a framed part that is the value's
 pub framed-text : (v : Rr) (k : Kind) (part octets : List ℕ) → IsFramed k part octets → kind_of v ≡ k → IsPart v part → IsRrText v octets
-framed-text v k part octets framed same is = (part, framed.rest, is, rw same framed.octets_are)
+framed-text v k part octets framed same is = (part, rw same framed, is)
 
 -- each value that fits has a text
 pub fitting-part : (v : Rr) → Fits v → IsPart v (part_text v)
@@ -123,3 +125,8 @@ seven_octets (a ∷ b ∷ c ∷ d ∷ e ∷ []) h = absurd (omega arith)
 seven_octets (a ∷ b ∷ c ∷ d ∷ e ∷ f ∷ []) h = absurd (omega arith)
 seven_octets (a ∷ b ∷ c ∷ d ∷ e ∷ f ∷ g ∷ []) h = refl
 seven_octets (a ∷ b ∷ c ∷ d ∷ e ∷ f ∷ g ∷ i ∷ rest) h = absurd (omega arith)
+
+-- what holds anyway holds where a result is Ok
+pub on_ok : {A E : Type 0} (P : Type 0) (r : Result A E) → P → OnOk r P
+on_ok P (Ok x) p = p
+on_ok P (Err e) p = tt

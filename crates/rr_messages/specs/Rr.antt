@@ -33,15 +33,19 @@ IsPart (ChannelRelease cause) octets = IsCauseText cause octets
 IsPart (PhysicalInformation advance) octets = octets ≡ advance ∷ []
 IsPart (MeasurementReport results) octets = IsResultsText results octets
 
--- the octets are discriminator 6, a type, a mandatory part of its length, and any rest
+-- the protocol discriminator of radio resource management (section 10.2)
+abbrev pub radio_resources : ℕ
+radio_resources = 6
+
+-- the octets are the discriminator, a type, a mandatory part of its length, and any rest
 pub record IsFramed (k : Kind) (part octets : List ℕ) : Type 0 where
   pub rest : List ℕ
   pub len : length part ≡ part_len k
-  pub octets_are : octets ≡ 6 ∷ type_of k ∷ part ++ rest
+  pub octets_are : octets ≡ radio_resources ∷ type_of k ∷ part ++ rest
 
--- the octets are a text of the value: discriminator 6, the type, a mandatory part, and any rest
+-- the octets are a text of the value: they are framed with its type, and with a part of it
 abbrev pub IsRrText : Rr → List ℕ → Type 0
-IsRrText v octets = (part rest : List ℕ) × IsPart v part × (octets ≡ 6 ∷ type_of (kind_of v) ∷ part ++ rest)
+IsRrText v octets = (part : List ℕ) × IsFramed (kind_of v) part octets × IsPart v part
 
 -- the mandatory part that is written
 abbrev pub part_text : Rr → List ℕ
@@ -54,7 +58,7 @@ part_text (MeasurementReport results) = results_text results
 
 -- the text that is written: no rest
 abbrev pub rr_text : Rr → List ℕ
-rr_text v = 6 ∷ type_of (kind_of v) ∷ part_text v
+rr_text v = radio_resources ∷ type_of (kind_of v) ∷ part_text v
 
 -- how many octets are written
 abbrev pub text_len : Rr → ℕ
@@ -76,16 +80,11 @@ HasPartFault kind.HandoverCommand part fault =
     (first second rest : List ℕ) × (length first ≡ 2) × (length second ≡ 3) × (part ≡ first ++ second ++ rest) × HasChanFault second fault
 HasPartFault _ part fault = ⊥
 
--- the same as a fault of the message
-abbrev pub HasElementFault : Kind → List ℕ → RrFault → Type 0
-HasElementFault k part (Element fault) = HasPartFault k part fault
-HasElementFault k part _ = ⊥
-
 -- The octets have this fault: no octet, or another discriminator; no type, or a part that is cut; a type
 -- that no message has; a bad element in the part. Memory is never wanted.
 abbrev pub HasRrFault : List ℕ → RrFault → Type 0
-HasRrFault octets NotRr = (octets ≡ []) ⊎ ((d : ℕ) × (rest : List ℕ) × (octets ≡ d ∷ rest) × (d ≢ 6))
-HasRrFault octets Short = (octets ≡ 6 ∷ []) ⊎ ((k : Kind) × (body : List ℕ) × (octets ≡ 6 ∷ type_of k ∷ body) × (length body < part_len k))
-HasRrFault octets (UnknownType t) = (body : List ℕ) × (octets ≡ 6 ∷ t ∷ body) × ((k : Kind) → t ≢ type_of k)
+HasRrFault octets NotRr = (octets ≡ []) ⊎ ((d : ℕ) × (rest : List ℕ) × (octets ≡ d ∷ rest) × (d ≢ radio_resources))
+HasRrFault octets Short = (octets ≡ radio_resources ∷ []) ⊎ ((k : Kind) × (body : List ℕ) × (octets ≡ radio_resources ∷ type_of k ∷ body) × (length body < part_len k))
+HasRrFault octets (UnknownType t) = (body : List ℕ) × (octets ≡ radio_resources ∷ t ∷ body) × ((k : Kind) → t ≢ type_of k)
 HasRrFault octets (Element fault) = (k : Kind) × (part : List ℕ) × IsFramed k part octets × HasPartFault k part fault
 HasRrFault octets NoMemory = ⊥

@@ -1,7 +1,8 @@
 //! Octets as messages.
 ghost use Rattle.std.specs.Prelude.{◌≡◌, ◌≢◌, IsOk, IfOk, IfErr, Ok, Err, length};
 ghost use Rattle.rr_messages.specs.Kind.{part_len};
-ghost use Rattle.rr_messages.specs.Rr.{kind_of, IsFramed, IsPart, IsRrText, HasPartFault, HasElementFault, HasRrFault};
+ghost use Rattle.rr_messages.specs.Rr.{kind_of, IsFramed, IsPart, IsRrText, HasPartFault, HasRrFault};
+ghost use Rattle.rr_elements.specs.declared.fault.ElementFault.{ElementFault};
 ghost use Rattle.rr_messages.specs.declared.kind.Kind.TheVariants.{HandoverCommand as CommandKind, MeasurementReport as ReportKind};
 
 use crate::fault::RrFault;
@@ -47,7 +48,8 @@ fn message(kind: Kind, part: &[u8]) -> Result<Rr, RrFault>
     requires { length part.now ≡ part_len kind }
     ensures part { IfOk result (λ v. IsPart v part.now) }
     ensures kind { IfOk result (λ v. kind_of v ≡ kind) }
-    ensures fault { IfErr result (HasElementFault kind part.now) }
+    ensures fault { IfErr result (λ f. (e : ElementFault) × (f ≡ RrFault.Element e) ×
+        HasPartFault kind part.now e) }
 {
     match kind {
         Kind::ChannelRelease => Ok(Rr::ChannelRelease(RrCause::decode(part)?)),
@@ -83,8 +85,8 @@ fn frame(octets: &[u8]) -> Result<(Kind, &[u8]), RrFault>
     Ok((kind, part))
 }
 
-/// Reads a message. The faults are tried in this order: `NotRr`, `Short` (no type), `UnknownType`,
-/// `Short` (the mandatory part is cut), `Element`. Octets after the mandatory part are ignored.
+/// Reads a message, whatever stands behind its mandatory part. What is no message gets the first of these faults:
+/// `NotRr`; `Short`, where the type is missing; `UnknownType`; `Short`, where the part is cut; `Element`.
 pub fn decode(octets: &[u8]) -> Result<Rr, RrFault>
     // What is read has the octets as a text, and each text is read.
     ensures text { IfOk result (λ v. IsRrText v octets.now) }
