@@ -1,8 +1,7 @@
-//! Octets of which one changes with the turn.
+//! The input of a work, in which one octet counts the turns.
 use std::alloc::{AllocError, Global};
 
-/// Octets of which one changes with the turn: the turn's number is added to it, modulo 256. Where there is no such
-/// octet, none changes.
+/// The octets of a work. To one of them, where it is there, the number of the turn is added, modulo 256.
 #[derive(Drop)]
 pub struct Turning {
     octets: Vec<u8>,

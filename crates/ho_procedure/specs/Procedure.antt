@@ -106,7 +106,7 @@ start_taken c x = if_nameable x (Reserves c (λ n. if_done (start_reserved c x n
 abbrev pub start_plan : ℕ → ℕ → Plan
 start_plan c cell = Takes c kind.Internal cell (λ x. if_done (start_taken c x))
 
--- An operator asks for a handover; a cell that isn't the site's gives nothing.
+-- An operator asks for a handover. Nothing is done about a cell that the site lacks.
 abbrev pub handover_plan : SiteView → ℕ → ℕ → Plan
 handover_plan site c cell = if nat_lt cell (length site) then start_plan c cell else Ends
 

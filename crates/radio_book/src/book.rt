@@ -97,7 +97,7 @@ impl<A: Allocator + Copy> Book<A> {
         ensures memory { OnErr result (NeedsRoom self.old (row self.old event)) }
         ensures kinds { OnErr result (MayNeedRoom event) }
 
-        // An undo leads where the inverses that the record stored lead, last first.
+        // An undo leads where the inverses of the attempt that is shown lead, run last first.
         ensures inverses { (c : ℕ) (why : Why) (shown : CallRecord) (state : Option ChanState) →
             event ≡ Event.Undo c why → result ≡ Ok (Reply.Record shown state) →
             self.new ≡ run_back c (journal_of shown.attempt) self.old }
@@ -105,9 +105,9 @@ impl<A: Allocator + Copy> Book<A> {
         self.records.step(event)
     }
 
-    /// A `Take` of a free channel of the cell, judged as by [`Book::step`], with its answer; `None` where no
-    /// channel of the cell is free, which takes no memory and changes nothing. A cell that isn't the site's
-    /// has no channel. Any free one meets the contract; this body takes that of the lowest TRX, then timeslot.
+    /// A `Take` of some free channel of the cell, judged as by [`Book::step`], with its answer. `None` says that there is
+    /// none, as in a cell that the site lacks; then no memory was asked for. Any free channel meets the contract; this
+    /// body takes that of the lowest TRX, then timeslot.
     pub fn take_any(
         &mut self,
         call: u16,

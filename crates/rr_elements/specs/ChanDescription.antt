@@ -22,9 +22,13 @@ pub record ChanFits (v : Chan) : Type 0 where
 abbrev pub chan_widths : List ℕ
 chan_widths = 5 ∷ 3 ∷ 3 ∷ 1 ∷ 2 ∷ 2 ∷ 8 ∷ []
 
--- type 00001 is TCH/F with its associated channels, H is 0
+-- the channel type TCH/F with its associated channels
+abbrev pub full_rate : ℕ
+full_rate = 1
+
+-- a full rate channel, H 0
 abbrev pub chan_numbers : ℕ → Chan → List ℕ
-chan_numbers spare v = 1 ∷ v.tn ∷ v.tsc ∷ 0 ∷ spare ∷ v.carrier / 256 ∷ v.carrier % 256 ∷ []
+chan_numbers spare v = full_rate ∷ v.tn ∷ v.tsc ∷ 0 ∷ spare ∷ v.carrier / 256 ∷ v.carrier % 256 ∷ []
 
 -- the octets are a text of the value, whatever the spare bits are
 abbrev pub IsChanText : Chan → List ℕ → Type 0
@@ -37,6 +41,6 @@ chan_text v = field_octets chan_widths (chan_numbers 0 v)
 -- The first fault of octets: they are not three; their type is another; it is TCH/F, and H is 1.
 abbrev pub HasChanFault : List ℕ → ElementFault → Type 0
 HasChanFault octets Length = HasOtherLength 3 octets Length
-HasChanFault octets BadType = (length octets ≡ 3) × (AreFirstFields chan_widths (1 ∷ []) octets → ⊥)
-HasChanFault octets Hopping = (tn tsc : ℕ) × AreFirstFields chan_widths (1 ∷ tn ∷ tsc ∷ 1 ∷ []) octets
+HasChanFault octets BadType = (length octets ≡ 3) × (AreFirstFields chan_widths (full_rate ∷ []) octets → ⊥)
+HasChanFault octets Hopping = (tn tsc : ℕ) × AreFirstFields chan_widths (full_rate ∷ tn ∷ tsc ∷ 1 ∷ []) octets
 HasChanFault octets _ = ⊥
