@@ -190,6 +190,8 @@ fn what_describes_a_site_is_read(rt: HostRuntime) -> Result<(), Fail> {
             1,
             1,
         ),
+        ("\u{feff}[[cell]]\ntrx = [{ tch = [5] }]", 1, 1),
+        ("[[cell]]\ntrx = [{\n  arfcn = 60,\n  tch = [5],\n}]", 1, 1),
         (
             "other = 1\n[[cell]]\nlac = \"x\"\ntrx = [{ tch = [7], colour = \"red\" }]",
             1,
@@ -221,6 +223,27 @@ fn text_of_cells(alloc: Global, cells: u32) -> Result<String, AllocError> {
         text.push_str("[[cell]]\ntrx = [{ tch = [1] }]\n")?;
     }
     Ok(text)
+}
+
+/// A site of one cell, behind arrays that stand one in another.
+fn text_of_arrays(alloc: Global, arrays: u32) -> Result<String, AllocError> {
+    let (mut text, mut ends) = (String::new(alloc), String::new(alloc));
+    text.push_str("unused = ")?;
+    for _ in 0..arrays {
+        text.push_str("[")?;
+        ends.push_str("]")?;
+    }
+    text.push_str(&ends)?;
+    text.push_str("\n[[cell]]\ntrx = [{ tch = [5] }]")?;
+    Ok(text)
+}
+
+#[test]
+fn what_is_nested_more_than_80_deep_is_refused(rt: HostRuntime) -> Result<(), Fail> {
+    let text = text_of_arrays(rt.alloc(), 80)?;
+    assert!(rt; Site::read(rt.alloc(), rt.alloc(), &text).is_ok());
+    refuses(&rt, &text_of_arrays(rt.alloc(), 81)?);
+    Ok(())
 }
 
 #[test]

@@ -14,6 +14,7 @@ const NO_LINES: &[&str] = &[
     "open 1 0 0",
     "open 1 0 0 3 4",
     "open  1 0 0 3",
+    "\u{feff}open 1 0 0 3",
     " open 1 0 0 3",
     "open 1 0 0 3 ",
     "open\t1 0 0 3",

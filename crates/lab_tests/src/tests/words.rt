@@ -23,6 +23,8 @@ const DECODES: &[(&[&str], Link, &str)] = &[
     // what isn't hexadecimal is found later
     (&["decode", "rr", "0g"], Link::Rr, "0g"),
     (&["decode", "abis", ""], Link::Abis, ""),
+    (&["decode", "rr", "-"], Link::Rr, "-"),
+    (&["decode", "rr", "--", "-0"], Link::Rr, "-0"),
 ];
 
 #[test]
@@ -83,6 +85,7 @@ const REFUSALS: &[(&[&str], &str)] = &[
     (&["decode", "RR", "062c00"], "'RR'"),
     (&["decode", "", "062c00"], "'<LINK>' but none was supplied"),
     (&["decode", "rr", "06", "2c00"], "2c00"),
+    (&["decode", "rr", "-0"], "'-0'"),
 ];
 
 /// These words are refused by a text that names the mistake.
