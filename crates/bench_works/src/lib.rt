@@ -1,5 +1,5 @@
-//! The works of `bsc_bench`, each repeated as often as the command line asks. One octet of a work's input counts the
-//! turns, and the results are added up: neither a compiler nor a processor can take one turn for another, or drop it.
+//! The works of `bsc_bench`, each repeated as often as the command line asks. What is read gets another octet in each
+//! turn, what is written is one of two messages by turns, and the results are added up: none can be left out.
 #![tactic(auto)]
 
 mod abis;

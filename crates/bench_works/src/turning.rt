@@ -1,4 +1,4 @@
-//! The input of a work, in which one octet counts the turns.
+//! The input of a work, in which one octet is another in each turn.
 use std::alloc::{AllocError, Global};
 
 /// The octets of a work. To one of them, where it is there, the number of the turn is added, modulo 256.

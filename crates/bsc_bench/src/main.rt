@@ -1,8 +1,8 @@
 //! `bsc_bench` repeats a work, so that its instructions can be counted.
 //!
 //! `bsc_bench NAME N [OCTETS]` does the work `NAME` `N` times on octets in hexadecimal, or on the work's own, and
-//! prints the name, the count and what the results add up to. One of the octets counts the turns. `bsc_bench all N`
-//! does every work so, on its own octets.
+//! prints the name, the count and what the results add up to. What is read gets another octet in each turn,
+//! what is written is one of two messages by turns. `bsc_bench all N` does every work so, on its own octets.
 #![tactic(auto)]
 
 use bench_works::fault::Fault;

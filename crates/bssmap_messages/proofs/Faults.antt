@@ -1,4 +1,4 @@
--- What is no text has one fault, and a text none but want of memory.
+-- No octets have two faults, and a text has none but want of memory.
 use Rattle.std.proofs.Common.{IfOk, IfErr, ◌≢◌, ◌≡◌, ◌⊎◌, ℕ, ◌+◌, List, ◌∷◌, Result, Ok, Err, refl, sym, ◌∙◌, ap, subst, subst₂, inl, inr}
 use Rattle.octet_elements.specs.Elements.{IsTornAt}
 use Rattle.octet_elements.proofs.Splits.{same_tear, whole_not_torn}

@@ -39,13 +39,13 @@ pub struct MeasHead {
     pub ba: bool,
     /// DTX-USED: whether discontinuous transmission was used.
     pub dtx: bool,
-    /// RXLEV-FULL: the serving cell's level over all frames, 0 to 63, in the same steps.
+    /// RXLEV-FULL: the serving cell's level over all frames, 0 to 63, in the steps of [`Ncell::level`].
     pub full: u8,
     /// 3G-BA-USED: which list of other radio systems was used.
     pub ba3g: bool,
     /// Whether the results are valid (MEAS-VALID is 0).
     pub valid: bool,
-    /// RXLEV-SUB: the serving cell's level over a subset of frames, 0 to 63, in the same steps.
+    /// RXLEV-SUB: the serving cell's level over a subset of frames, 0 to 63, in the steps of [`Ncell::level`].
     pub sub: u8,
     /// SI23-BA-USED: whether the list came from system information 23.
     pub si23: bool,

@@ -1,4 +1,4 @@
--- What is no text has one first fault.
+-- No octets have two faults.
 use Rattle.std.proofs.Common.{◌≡◌, ◌⊎◌, ℕ, ◌+◌, ◌<◌, ◌≤◌, List, [], ◌∷◌, Ok, Err, refl, sym, ◌∙◌, ap, arith, subst, inl, inr, length}
 use Rattle.octet_elements.specs.Elements.{AreElements, AreTorn, IsTornAt}
 use Rattle.octet_elements.proofs.Splits.{same_tear, whole_not_torn}

@@ -9,7 +9,7 @@ pub fn reading_is_unique<A: Allocator>()
     ensures unique { ReadingIsUnique A }
 {}
 
-/// The canonical text of a message is a text of it, so what is written is read back as its value.
+/// The canonical text of a message is a text of it, so reading what was written gives the message.
 pub fn canonical_is_text<A: Allocator>()
     ensures text { CanonicalIsText A }
 {}

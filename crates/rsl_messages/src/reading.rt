@@ -395,7 +395,7 @@ pub fn decode<A: Allocator + Copy>(alloc: A, octets: &[u8]) -> Result<Rsl<A>, Rs
     ensures exact { (v : Rsl A) → IsTextOf v octets.now → result ≢ Err RslFault.NoMemory →
         result ≡ Ok v }
 
-    // It is the first fault in the order of `RslFault`.
+    // It is the first fault in the order that `docs/CODECS.md` has: `TooLong`, the head's, the body's.
     ensures fault { IfErr result (HasFault A octets.now) }
     ensures memory { result ≡ Err RslFault.NoMemory →
         (v : Rsl A) × IsTextOf v octets.now × HasOctets v }
