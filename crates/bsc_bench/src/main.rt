@@ -5,10 +5,10 @@
 //! what is written is one of two messages by turns. `bsc_bench all N` does every work so, on its own octets.
 #![tactic(auto)]
 
-use bench_works::fault::Fault;
-use bench_works::sum_of;
-use bench_works::words::{Job, read_words};
-use bench_works::work::Work;
+use bench_cases::fault::Fault;
+use bench_cases::sum_of;
+use bench_cases::words::{Job, read_words};
+use bench_cases::work::Work;
 use std::env::{self, Env};
 use std::io;
 use std::process::ExitCode;

@@ -7,11 +7,11 @@ ghost use Rattle.lab.specs.Decoded.{IsRrMessage, IsBssmapMessage, IsAbisMessage,
 use crate::run::{LabFault, Status};
 use bssmap_messages::BssmapFault;
 use lab_script::script::is_octets;
-use lab_text::abis::AbisText;
-use lab_text::bad::Bad;
-use lab_text::bssmap::BssmapText;
-use lab_text::rr::RrText;
-use lab_text::trace::print_fault;
+use trace_text::abis::AbisText;
+use trace_text::bad::Bad;
+use trace_text::bssmap::BssmapText;
+use trace_text::rr::RrText;
+use trace_text::trace::print_fault;
 use rsl_messages::RslFault;
 use std::alloc::{AllocError, Allocator};
 use std::io::Write;

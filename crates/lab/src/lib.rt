@@ -11,4 +11,4 @@ pub mod words;
 
 pub use ho_procedure::{exchange, procedure};
 pub use lab_script::script;
-pub use lab_text::{bad, trace};
+pub use trace_text::{bad, trace};

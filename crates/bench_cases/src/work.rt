@@ -1,7 +1,7 @@
 //! The pieces of work.
 ghost use Rattle.std.specs.Prelude.{◌≡◌, ◌≢◌, IfSome, IfNone};
-ghost use Rattle.bench_works.specs.Works.{name_of};
-ghost use Rattle.bench_works.specs.declared.work.Work.{Work};
+ghost use Rattle.bench_cases.specs.Works.{name_of};
+ghost use Rattle.bench_cases.specs.declared.work.Work.{Work};
 
 use std::fmt;
 

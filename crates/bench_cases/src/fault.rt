@@ -1,6 +1,6 @@
 //! Why the program gives no sum.
 ghost use Rattle.std.specs.Prelude.{◌≡◌};
-ghost use Rattle.bench_works.specs.Works.{status_of};
+ghost use Rattle.bench_cases.specs.Works.{status_of};
 
 use bssmap_messages::BssmapFault;
 use cell_table::SiteFault;
@@ -42,7 +42,7 @@ impl Fault {
 }
 
 impl From<AllocError> for Fault {
-    ghost use Rattle.bench_works.specs.declared.fault.Fault.TheVariants.{NoMemory};
+    ghost use Rattle.bench_cases.specs.declared.fault.Fault.TheVariants.{NoMemory};
 
     ghost from_gives = { λ _ fault. fault ≡ NoMemory };
 
@@ -52,7 +52,7 @@ impl From<AllocError> for Fault {
 }
 
 impl From<RslFault> for Fault {
-    ghost use Rattle.bench_works.specs.Works.{of_abis};
+    ghost use Rattle.bench_cases.specs.Works.{of_abis};
 
     ghost from_gives = { λ cause fault. fault ≡ of_abis cause };
 
@@ -65,7 +65,7 @@ impl From<RslFault> for Fault {
 }
 
 impl From<RrFault> for Fault {
-    ghost use Rattle.bench_works.specs.Works.{of_radio};
+    ghost use Rattle.bench_cases.specs.Works.{of_radio};
 
     ghost from_gives = { λ cause fault. fault ≡ of_radio cause };
 
@@ -78,7 +78,7 @@ impl From<RrFault> for Fault {
 }
 
 impl From<BssmapFault> for Fault {
-    ghost use Rattle.bench_works.specs.Works.{of_a};
+    ghost use Rattle.bench_cases.specs.Works.{of_a};
 
     ghost from_gives = { λ cause fault. fault ≡ of_a cause };
 
@@ -91,7 +91,7 @@ impl From<BssmapFault> for Fault {
 }
 
 impl From<PlainFault> for Fault {
-    ghost use Rattle.bench_works.specs.Works.{of_procedure};
+    ghost use Rattle.bench_cases.specs.Works.{of_procedure};
 
     ghost from_gives = { λ cause fault. fault ≡ of_procedure cause };
 
@@ -104,7 +104,7 @@ impl From<PlainFault> for Fault {
 }
 
 impl From<SiteFault> for Fault {
-    ghost use Rattle.bench_works.specs.Works.{of_site};
+    ghost use Rattle.bench_cases.specs.Works.{of_site};
 
     ghost from_gives = { λ cause fault. fault ≡ of_site cause };
 
@@ -117,7 +117,7 @@ impl From<SiteFault> for Fault {
 }
 
 impl From<io::Error> for Fault {
-    ghost use Rattle.bench_works.specs.declared.fault.Fault.TheVariants.{Output};
+    ghost use Rattle.bench_cases.specs.declared.fault.Fault.TheVariants.{Output};
 
     ghost from_gives = { λ _ fault. fault ≡ Output };
 

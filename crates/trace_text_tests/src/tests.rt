@@ -1,8 +1,8 @@
 //! Printed texts, which no clause says.
 use bssmap_messages::BssmapFault;
 use ho_procedure::exchange::{Handled, Inbound, Line};
-use lab_text::bad::Bad;
-use lab_text::trace::{print_end, print_fault, print_handled, print_input};
+use trace_text::bad::Bad;
+use trace_text::trace::{print_end, print_fault, print_handled, print_input};
 use radio_book::book::Usage;
 use radio_book::channel::{ChanId, ChanState};
 use radio_book::event::{

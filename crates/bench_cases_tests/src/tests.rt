@@ -1,8 +1,8 @@
 //! Each work once, and words that name none.
-use bench_works::fault::Fault;
-use bench_works::sum_of;
-use bench_works::words::{Job, read_words};
-use bench_works::work::Work;
+use bench_cases::fault::Fault;
+use bench_cases::sum_of;
+use bench_cases::words::{Job, read_words};
+use bench_cases::work::Work;
 use std::process::Abort;
 use std::test::Fail;
 

@@ -10,10 +10,10 @@ use Rattle.ho_procedure.specs.declared.exchange.PlainFault.{PlainFault}
 use Rattle.ho_procedure.specs.declared.exchange.PlainFault.TheVariants as plain
 use Rattle.cell_table.specs.declared.SiteFault.{SiteFault}
 use Rattle.cell_table.specs.declared.SiteFault.TheVariants as site
-use Rattle.bench_works.specs.declared.work.Work.{Work}
-use Rattle.bench_works.specs.declared.work.Work.TheVariants.{DecodeActivation, EncodeActivation, CallByOctets, LiveByStep, DecodeMeasurement, EncodeMeasurement, DecodeCommand, EncodeCommand, DecodeRequest, EncodeRequest, DecodeRequired, EncodeRequired}
-use Rattle.bench_works.specs.declared.fault.Fault.{Fault}
-use Rattle.bench_works.specs.declared.fault.Fault.TheVariants.{Words, NoMemory, Output, Setting}
+use Rattle.bench_cases.specs.declared.work.Work.{Work}
+use Rattle.bench_cases.specs.declared.work.Work.TheVariants.{DecodeActivation, EncodeActivation, CallByOctets, LiveByStep, DecodeMeasurement, EncodeMeasurement, DecodeCommand, EncodeCommand, DecodeRequest, EncodeRequest, DecodeRequired, EncodeRequired}
+use Rattle.bench_cases.specs.declared.fault.Fault.{Fault}
+use Rattle.bench_cases.specs.declared.fault.Fault.TheVariants.{Words, NoMemory, Output, Setting}
 
 -- the name of a work on the command line
 abbrev pub name_of : Work → List ℕ
