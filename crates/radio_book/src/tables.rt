@@ -53,7 +53,7 @@ impl<A: Allocator + Copy> Channels<A> {
         self.states.get(&x).copied()
     }
 
-    /// Memory is wanted for a new key alone.
+    /// Memory is asked for where the key is new, and only there.
     pub fn insert(&mut self, x: ChanId, state: ChanState) -> Result<(), AllocError>
         ensures ok { OnOk result (self.new ≡ map.insert self.old x state) }
         ensures err { OnErr result (self.new ≡ self.old) }
@@ -63,7 +63,7 @@ impl<A: Allocator + Copy> Channels<A> {
         Ok(())
     }
 
-    /// Another value at a key that is there, so no memory is wanted.
+    /// Another value at a key that is there, so no memory is asked for.
     pub fn replace(&mut self, x: ChanId, state: ChanState)
         requires { IsSome (map.get self.old x) }
         ensures { self.new ≡ map.insert self.old x state }
@@ -135,7 +135,7 @@ impl<A: Allocator + Copy> Calls<A> {
         }
     }
 
-    /// Memory is wanted for a new key alone.
+    /// Memory is asked for where the key is new, and only there.
     pub fn insert(&mut self, call: u16, entry: CallEntry) -> Result<(), AllocError>
         ensures ok { OnOk result (self.new ≡ map.insert self.old call entry) }
         ensures err { OnErr result (self.new ≡ self.old) }
@@ -145,7 +145,7 @@ impl<A: Allocator + Copy> Calls<A> {
         Ok(())
     }
 
-    /// Another value at a key that is there, so no memory is wanted.
+    /// Another value at a key that is there, so no memory is asked for.
     pub fn replace(&mut self, call: u16, entry: CallEntry)
         requires { IsSome (map.get self.old call) }
         ensures { self.new ≡ map.insert self.old call entry }
@@ -203,7 +203,7 @@ impl<A: Allocator + Copy> References<A> {
         self.users.get(&reference).copied()
     }
 
-    /// Memory is wanted for a new key alone.
+    /// Memory is asked for where the key is new, and only there.
     pub fn insert(&mut self, reference: Reference, call: u16) -> Result<(), AllocError>
         ensures ok { OnOk result (self.new ≡ map.insert self.old reference call) }
         ensures err { OnErr result (self.new ≡ self.old) }

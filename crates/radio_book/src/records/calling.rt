@@ -48,7 +48,7 @@ impl<A: Allocator + Copy> Records<A> {
         Ok(Reply::Done)
     }
 
-    /// A new call, and its channel: both, or none where memory is wanted and not given.
+    /// A new call, and its channel: both, or none where memory is refused.
     fn add_call(
         &mut self,
         call: u16,
@@ -83,14 +83,14 @@ impl<A: Allocator + Copy> Records<A> {
             return Reply::Refused(Refusal::WrongPhase);
         }
         if let Some(serving) = record.serving {
-            self.let_go(serving);
+            self.release_serving(serving);
         }
         self.calls.remove(call);
         Reply::Done
     }
 
     /// A channel is no longer used by the call that it served.
-    fn let_go(&mut self, x: ChanId)
+    fn release_serving(&mut self, x: ChanId)
         requires { IsSome (map.get self.old.channels x) }
         ensures { self.new ≡ apply (record no_change
             { channel = Some (x, cleared_state (state_of self.old x)) }) self.old }
