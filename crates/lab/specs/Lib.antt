@@ -1,4 +1,5 @@
 pub mod Decoded
+pub mod Files
 pub mod Statuses
 pub use Rattle.ho_procedure.specs.Plan
 pub use Rattle.ho_procedure.specs.Procedure

@@ -1,16 +1,37 @@
 //! Runs over files.
+ghost use Rattle.std.specs.Prelude.{◌≡◌, ◌<◌, ◌≤◌, length, string_bytes, None, IfOk, IfSome, IsSomeAnd};
+ghost use Rattle.lab.specs.Files.{longest_file};
+
 use crate::run::{LabFault, Status, lab_run};
+use std::alloc::Allocator;
 use std::fs::File;
 use std::io::{self, Read, Write};
 use std::rt::Files;
 
-/// The most octets that a file may have.
-const LONGEST_FILE: u64 = 64 << 20;
+/// The most octets that a file may have: 64 MiB.
+pub const LONGEST_FILE: u64 = 64 << 20;
 
-/// What a file holds, up to one octet more than it may have: a device without an end is not read for ever.
-fn beginning_of<R: Files + AllocGlobal>(rt: &R, path: &str) -> io::Result<String> {
-    let file = File::open(rt, path)?;
-    io::read_to_string(rt.alloc(), file.take(LONGEST_FILE + 1))
+/// The whole text that a reader gives; nothing where it has more octets than a file may have. A device without an end
+/// is read up to one octet more.
+fn whole_text<A: Allocator, R: Read>(alloc: A, reader: R) -> io::Result<Option<String<A>>>
+where
+    R: Drop,
+    ensures whole { IfOk result (λ found. IfSome (R.remaining reader) (λ octets.
+        length octets ≤ longest_file → IsSomeAnd found (λ text. string_bytes text ≡ octets))) }
+    ensures longer { IfOk result (λ found. IfSome (R.remaining reader) (λ octets.
+        longest_file < length octets → found ≡ None)) }
+{
+    let text = io::read_to_string(alloc, reader.take(LONGEST_FILE + 1))?;
+    if text.len() as u64 <= LONGEST_FILE {
+        Ok(Some(text))
+    } else {
+        Ok(None)
+    }
+}
+
+/// The whole text of a file; nothing where it has more octets than it may have.
+fn file_text<R: Files + AllocGlobal>(rt: &R, path: &str) -> io::Result<Option<String>> {
+    whole_text(rt.alloc(), File::open(rt, path)?)
 }
 
 /// The text of a file; nothing where it can't be read, and then its path was printed.
@@ -19,10 +40,10 @@ fn text_of<R: Files + AllocGlobal, W: Write>(
     path: &str,
     out: &mut W,
 ) -> Result<Option<String>, LabFault> {
-    match beginning_of(rt, path) {
-        Ok(text) if text.len() as u64 <= LONGEST_FILE => Ok(Some(text)),
+    match file_text(rt, path) {
+        Ok(Some(text)) => Ok(Some(text)),
         Err(error) if error.kind() == io::ErrorKind::OutOfMemory => Err(LabFault::NoMemory),
-        _ => {
+        Ok(None) | Err(_) => {
             writeln!(out, "file {path}")?;
             Ok(None)
         }

@@ -45,16 +45,16 @@ fn name<A: Allocator>(message: &Rsl<A>) -> &'static str {
 /// The channel that a message is about.
 fn channel<A: Allocator>(message: &Rsl<A>) -> ChanBits {
     match message {
-        Rsl::DataRequest { channel, .. } => *channel,
-        Rsl::DataIndication { channel, .. } => *channel,
-        Rsl::ChannelActivation { channel, .. } => *channel,
-        Rsl::ChannelActivationAck { channel, .. } => *channel,
-        Rsl::ChannelActivationNack { channel, .. } => *channel,
-        Rsl::ConnectionFailureIndication { channel, .. } => *channel,
-        Rsl::HandoverDetection { channel, .. } => *channel,
-        Rsl::MeasurementResult { channel, .. } => *channel,
-        Rsl::RfChannelRelease { channel } => *channel,
-        Rsl::RfChannelReleaseAck { channel } => *channel,
+        Rsl::DataRequest { channel, .. }
+        | Rsl::DataIndication { channel, .. }
+        | Rsl::ChannelActivation { channel, .. }
+        | Rsl::ChannelActivationAck { channel, .. }
+        | Rsl::ChannelActivationNack { channel, .. }
+        | Rsl::ConnectionFailureIndication { channel, .. }
+        | Rsl::HandoverDetection { channel, .. }
+        | Rsl::MeasurementResult { channel, .. }
+        | Rsl::RfChannelRelease { channel }
+        | Rsl::RfChannelReleaseAck { channel } => *channel,
     }
 }
 
@@ -93,11 +93,11 @@ impl<A: Allocator> fmt::Display for FieldsText<'_, A> {
                 ..
             } => {
                 let uplink = HexText(uplink.as_slice());
-                let layer3 = OrDash(layer3.as_ref().map(|octets| HexText(octets.as_slice())));
-                write!(
-                    f,
-                    " number={number} uplink={uplink} power={power} layer3={layer3}"
-                )
+                write!(f, " number={number} uplink={uplink} power={power}")?;
+                match layer3 {
+                    Some(layer3) => write!(f, " layer3={}", HexText(layer3.as_slice())),
+                    None => write!(f, " layer3=-"),
+                }
             }
             Rsl::RfChannelRelease { .. } | Rsl::RfChannelReleaseAck { .. } => Ok(()),
         }

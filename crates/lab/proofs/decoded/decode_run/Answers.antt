@@ -25,10 +25,10 @@ pub returns-in-A-clause-memory : goal.returns-in-A-clause-memory
 returns-in-A-clause-memory g c =
     let written : decode_of c.args.text.now ≡ Ok c.in-Some.octets.items = search rules in
     let octets = c.deref-in-A.result.now in
-    λ wanted. octets_of-written c.args.text.now octets (written ∙ ap Ok (sym c.deref-in-A.ensures.value)) (bssmap-octets octets (c.decode_bssmap.ensures.memory wanted))
+    λ refused. octets_of-written c.args.text.now octets (written ∙ ap Ok (sym c.deref-in-A.ensures.value)) (bssmap-octets octets (c.decode_bssmap.ensures.memory refused))
 
 pub returns-clause-memory : goal.returns-clause-memory
 returns-clause-memory g c =
     let written : decode_of c.args.text.now ≡ Ok c.in-Some.octets.items = search rules in
     let octets = c.deref-in-Abis.result.now in
-    λ wanted. octets_of-written c.args.text.now octets (written ∙ ap Ok (sym c.deref-in-Abis.ensures.value)) (abis-octets octets (c.decode_abis.ensures.memory wanted))
+    λ refused. octets_of-written c.args.text.now octets (written ∙ ap Ok (sym c.deref-in-Abis.ensures.value)) (abis-octets octets (c.decode_abis.ensures.memory refused))
