@@ -43,32 +43,37 @@ abbrev pub is_there : Option (List ℕ) → Bool
 is_there None = false
 is_there (Some v) = true
 
--- Cells after the discriminator (clauses 3.2.2.17 and 3.2.2.27) are one after the other:
--- each has a mobile country and network code of three octets, which isn't kept, location area code and
--- cell identity;
-abbrev pub cells_with_network : List ℕ → Option (List CellId)
-cells_with_network [] = Some []
-cells_with_network (a ∷ b ∷ c ∷ d ∷ e ∷ f ∷ g ∷ v) = option_map (λ cells. record { lac = Some (pair d e); ci = pair f g } ∷ cells) (cells_with_network v)
-cells_with_network _ = None
+-- The octets of one cell (clause 3.2.2.17), by the low four bits of the discriminator: 0 is a mobile country
+-- and network code of three octets, which isn't kept, location area code and cell identity; 1 the last two;
+-- 2 the cell identity alone.
+abbrev pub area_and_cell : List ℕ → Option CellId
+area_and_cell (a ∷ b ∷ c ∷ d ∷ []) = Some (record { lac = Some (pair a b); ci = pair c d })
+area_and_cell _ = None
 
--- or location area code and cell identity;
-abbrev pub cells_with_area : List ℕ → Option (List CellId)
-cells_with_area [] = Some []
-cells_with_area (a ∷ b ∷ c ∷ d ∷ v) = option_map (λ cells. record { lac = Some (pair a b); ci = pair c d } ∷ cells) (cells_with_area v)
-cells_with_area _ = None
+abbrev pub network_and_cell : List ℕ → Option CellId
+network_and_cell (a ∷ b ∷ c ∷ v) = area_and_cell v
+network_and_cell _ = None
 
--- or the cell identity alone.
-abbrev pub cells_alone : List ℕ → Option (List CellId)
-cells_alone [] = Some []
-cells_alone (a ∷ b ∷ v) = option_map (λ cells. record { lac = None; ci = pair a b } ∷ cells) (cells_alone v)
-cells_alone _ = None
+abbrev pub cell_alone : List ℕ → Option CellId
+cell_alone (a ∷ b ∷ []) = Some (record { lac = None; ci = pair a b })
+cell_alone _ = None
 
--- The low four bits of the discriminator say which: 0, 1 or 2.
-abbrev pub cells_by : ℕ → List ℕ → Option (List CellId)
-cells_by form v = if form == 0 then cells_with_network v else if form == 1 then cells_with_area v else if form == 2 then cells_alone v else None
+abbrev pub cell_of : ℕ → List ℕ → Option CellId
+cell_of form v = if form == 0 then network_and_cell v else if form == 1 then area_and_cell v else if form == 2 then cell_alone v else None
+
+-- Cells one after the other: as soon as the octets behind the last cell are a cell, it is the next one. `begun`
+-- are those that are none yet.
+abbrev pub or_next : Option CellId → Option (List CellId) → Option (List CellId) → Option (List CellId)
+or_next None more rest = more
+or_next (Some cell) more rest = option_map (λ cells. cell ∷ cells) rest
+
+abbrev pub cells_from : ℕ → List ℕ → List ℕ → Option (List CellId)
+cells_from form [] [] = Some []
+cells_from form [] (octet ∷ begun) = None
+cells_from form (octet ∷ v) begun = or_next (cell_of form (begun ++ octet ∷ [])) (cells_from form v (begun ++ octet ∷ [])) (cells_from form v [])
 
 abbrev pub cells_after : ℕ → List ℕ → Option (List CellId)
-cells_after d v = cells_by (d % 16) v
+cells_after d v = cells_from (d % 16) v []
 
 -- exactly one cell
 abbrev pub only_cell : Option (List CellId) → Result CellId ElementFault
