@@ -1,7 +1,8 @@
--- What the value of an element says, and how it is written (TS 48.008 clause 3.2.2).
+-- What the value of an element says, how it is written, and its row in a message (TS 48.008 clause 3.2.2).
 use Rattle.std.specs.Prelude.{ℕ, ◌%◌, if◌then◌else◌, ◌==◌, Bool, true, false, List, [], ◌∷◌, ◌++◌, Option, Some, None, flat_map, unwrap_or, Result, Ok, Err}
-use Rattle.std.specs.Option.{option_map}
+use Rattle.std.specs.Option.{option_map, is_some}
 use Rattle.octet_elements.specs.Elements.{Element}
+use Rattle.octet_elements.specs.Rows.{Row}
 use Rattle.octet_elements.specs.Values.{pair, pair_octets}
 use Rattle.octet_elements.specs.declared.values.ElementFault.{ElementFault}
 use Rattle.octet_elements.specs.declared.values.ElementFault.TheVariants.{Absent, Bad}
@@ -12,6 +13,7 @@ use Rattle.bssmap_messages.specs.declared.values.ClassmarkValue.{ClassmarkValue}
 use Rattle.bssmap_messages.specs.declared.values.ClassmarkValue.TheVariants as in_octets
 use Rattle.bssmap_messages.specs.declared.fault.BssmapFault.{BssmapFault}
 use Rattle.bssmap_messages.specs.declared.fault.BssmapFault.TheVariants.{Missing, BadElement}
+use Rattle.bssmap_messages.specs.declared.table.TheConstants.{CELL_IDENTIFIER, CHANNEL_TYPE, CLASSMARK_2, CELL_IDENTIFIER_LIST, CLASSMARK_1}
 
 -- the fault that a message has by its element
 abbrev pub fault_of : ElementFault → BssmapFault
@@ -20,28 +22,23 @@ fault_of (Bad i) = BadElement i
 
 -- Channel type (clause 3.2.2.11): at least two octets.
 abbrev pub channel_type_in : Option (List ℕ) → Result (List ℕ) ElementFault
-channel_type_in None = Err (Absent 0x0B)
-channel_type_in (Some []) = Err (Bad 0x0B)
-channel_type_in (Some (octet ∷ [])) = Err (Bad 0x0B)
+channel_type_in None = Err (Absent CHANNEL_TYPE)
+channel_type_in (Some []) = Err (Bad CHANNEL_TYPE)
+channel_type_in (Some (octet ∷ [])) = Err (Bad CHANNEL_TYPE)
 channel_type_in (Some (first ∷ second ∷ v)) = Ok (first ∷ second ∷ v)
 
 -- Classmark information type 1 (clause 3.2.2.30) counts where it is there; else type 2 (clause
 -- 3.2.2.19), which may be empty. It is type 2 that is missing where there is neither.
 abbrev pub classmark_in : {A : Type 0} → Option (List ℕ) → Option (List ℕ) → Result (Classmark A) ElementFault
 classmark_in (Some (octet ∷ v)) two = Ok (One octet)
-classmark_in (Some []) two = Err (Bad 0x1D)
+classmark_in (Some []) two = Err (Bad CLASSMARK_1)
 classmark_in None (Some v) = Ok (Two v)
-classmark_in None None = Err (Absent 0x12)
+classmark_in None None = Err (Absent CLASSMARK_2)
 
 -- a classmark in the octets of a message, with octets of its own
 abbrev pub kept_classmark : {A : Type 0} → ClassmarkValue → Classmark A
 kept_classmark (in_octets.One octet) = One octet
 kept_classmark (in_octets.Two v) = Two v.now
-
--- an element without a value says that it is there
-abbrev pub is_there : Option (List ℕ) → Bool
-is_there None = false
-is_there (Some v) = true
 
 -- The octets of one cell (clause 3.2.2.17), by the low four bits of the discriminator: 0 is a mobile country
 -- and network code of three octets, which isn't kept, location area code and cell identity; 1 the last two;
@@ -78,23 +75,23 @@ cells_after d v = cells_from (d % 16) v []
 -- exactly one cell
 abbrev pub only_cell : Option (List CellId) → Result CellId ElementFault
 only_cell (Some (cell ∷ [])) = Ok cell
-only_cell _ = Err (Bad 0x05)
+only_cell _ = Err (Bad CELL_IDENTIFIER)
 
 -- at least one cell
 abbrev pub some_cells : Option (List CellId) → Result (List CellId) ElementFault
 some_cells (Some (cell ∷ cells)) = Ok (cell ∷ cells)
-some_cells _ = Err (Bad 0x1A)
+some_cells _ = Err (Bad CELL_IDENTIFIER_LIST)
 
 -- Cell Identifier (clause 3.2.2.17): the discriminator and one cell.
 abbrev pub cell_in : Option (List ℕ) → Result CellId ElementFault
-cell_in None = Err (Absent 0x05)
-cell_in (Some []) = Err (Bad 0x05)
+cell_in None = Err (Absent CELL_IDENTIFIER)
+cell_in (Some []) = Err (Bad CELL_IDENTIFIER)
 cell_in (Some (d ∷ v)) = only_cell (cells_after d v)
 
 -- Cell Identifier List (clause 3.2.2.27): the discriminator once, and cells.
 abbrev pub cells_in : Option (List ℕ) → Result (List CellId) ElementFault
-cells_in None = Err (Absent 0x1A)
-cells_in (Some []) = Err (Bad 0x1A)
+cells_in None = Err (Absent CELL_IDENTIFIER_LIST)
+cells_in (Some []) = Err (Bad CELL_IDENTIFIER_LIST)
 cells_in (Some (d ∷ v)) = some_cells (cells_after d v)
 
 -- A cell is written with discriminator 1, by location area code and cell identity. What stands for a cell
@@ -110,10 +107,34 @@ cells_value cells = 1 ∷ flat_map cell_octets cells
 
 -- the element of a classmark
 abbrev pub classmark_element : {A : Type 0} → Classmark A → Element
-classmark_element (One octet) = (0x1D, octet ∷ [])
-classmark_element (Two v) = (0x12, v)
+classmark_element (One octet) = (CLASSMARK_1, octet ∷ [])
+classmark_element (Two v) = (CLASSMARK_2, v)
 
 -- an element alone, that is written where it is asked for
 abbrev pub where_true : ℕ → Bool → List Element
 where_true i true = (i, []) ∷ []
 where_true i false = []
+
+-- mandatory: the channel type
+abbrev pub channel_type : Row (List ℕ)
+channel_type = record { read = λ found. channel_type_in (found.first CHANNEL_TYPE); written = λ channel. (CHANNEL_TYPE, channel) ∷ [] }
+
+-- mandatory: classmark information 1 or 2
+abbrev pub classmark : {A : Type 0} → Row (Classmark A)
+classmark = record { read = λ found. classmark_in (found.first CLASSMARK_1) (found.first CLASSMARK_2); written = λ classmark. classmark_element classmark ∷ [] }
+
+-- mandatory: the first cell identifier
+abbrev pub cell : Row CellId
+cell = record { read = λ found. cell_in (found.first CELL_IDENTIFIER); written = λ cell. (CELL_IDENTIFIER, cell_value cell) ∷ [] }
+
+-- mandatory: the second cell identifier
+abbrev pub second_cell : Row CellId
+second_cell = record { read = λ found. cell_in (found.second CELL_IDENTIFIER); written = λ cell. (CELL_IDENTIFIER, cell_value cell) ∷ [] }
+
+-- mandatory: the cell identifier list
+abbrev pub cell_list : Row (List CellId)
+cell_list = record { read = λ found. cells_in (found.first CELL_IDENTIFIER_LIST); written = λ cells. (CELL_IDENTIFIER_LIST, cells_value cells) ∷ [] }
+
+-- optional: an identifier alone, which says that it is there
+abbrev pub presence : ℕ → Row Bool
+presence i = record { read = λ found. Ok (is_some (found.first i)); written = λ there. where_true i there }
