@@ -4,7 +4,7 @@ use Rattle.std.proofs.lemmas.Bool.Decides.{nat_tests}
 use Rattle.std.specs.Option.{option_map, is_some}
 use Rattle.bssmap_messages.specs.declared.message.CellId.{CellId}
 use Rattle.bssmap_messages.specs.Values.{network_and_cell, area_and_cell, cell_alone, cell_of, or_next, cells_from, cells_after, only_cell, some_cells}
-use Rattle.octet_elements.specs.declared.values.ElementFault.TheVariants.{Bad}
+use Rattle.octet_elements.specs.declared.values.ValueFault.TheVariants.{Bad}
 
 -- a cell of the form has so many octets
 pub record HasSize (form n : ℕ) : Type 0 where

@@ -1,10 +1,11 @@
 -- The messages (TS 48.008 clause 3.2.1): of each its type, and row by row its elements, as they are read and
 -- as they are written.
-use Rattle.std.specs.Prelude.{ℕ, ◌+◌, ◌<◌, Bool, List, [], length, Option, Result, Ok, Err}
+use Rattle.std.specs.Prelude.{ℕ, ◌+◌, ◌<◌, Bool, List, [], length, Option, Result, Ok, Err, IsTrue, IsSome, is_some}
+use Rattle.std.specs.List.{list_all}
 use Rattle.octet_elements.specs.Elements.{Element}
 use Rattle.octet_elements.specs.Lookup.{Lookup}
 use Rattle.octet_elements.specs.Rows.{Row, octet, optional_octet, octets, ◌▸◌}
-use Rattle.octet_elements.specs.declared.values.ElementFault.{ElementFault}
+use Rattle.octet_elements.specs.declared.values.ValueFault.{ValueFault}
 use Rattle.bssmap_messages.specs.declared.head.MessageKind.{MessageKind}
 use Rattle.bssmap_messages.specs.declared.head.MessageKind.TheVariants as kind
 use Rattle.bssmap_messages.specs.declared.message.CellId.{CellId}
@@ -12,7 +13,7 @@ use Rattle.bssmap_messages.specs.declared.message.Classmark.{Classmark}
 use Rattle.bssmap_messages.specs.declared.message.Bssmap.{Bssmap}
 use Rattle.bssmap_messages.specs.declared.message.Bssmap.TheVariants.{HandoverRequest, HandoverRequired, HandoverRequestAck, HandoverCommand, HandoverComplete, HandoverFailure, HandoverPerformed, HandoverRequiredReject, HandoverDetect, ClearCommand, ClearComplete, ClearRequest}
 use Rattle.bssmap_messages.specs.declared.table.TheConstants.{CAUSE, ENCRYPTION_INFORMATION, RR_CAUSE, LAYER_3_INFORMATION, RESPONSE_REQUEST}
-use Rattle.bssmap_messages.specs.Values.{channel_type, classmark, cell, second_cell, cell_list, presence}
+use Rattle.bssmap_messages.specs.Values.{channel_type, classmark, cell, second_cell, cell_list, presence, classmark_length}
 
 -- the message type (clause 3.2.2.1)
 abbrev pub type_of : MessageKind → ℕ
@@ -31,11 +32,11 @@ type_of kind.ClearRequest = 0x22
 
 -- HANDOVER REQUEST (clause 3.2.1.8): channel type, encryption information (3.2.2.10), classmark
 -- information, the cell identifier of the serving cell and that of the target cell.
-unfoldable pub handover_request : {A : Type 0} → Row (List ℕ × List ℕ × Classmark A × CellId × CellId)
+unfoldable pub handover_request : {A : Type 0} → Row (List ℕ × (List ℕ × (Classmark A × (CellId × CellId))))
 handover_request = channel_type ▸ octets ENCRYPTION_INFORMATION ▸ classmark ▸ cell ▸ second_cell
 
 -- HANDOVER REQUIRED (clause 3.2.1.9): cause (3.2.2.5), [response request (3.2.2.28)], cell identifier list.
-unfoldable pub handover_required : Row (ℕ × Bool × List CellId)
+unfoldable pub handover_required : Row (ℕ × (Bool × List CellId))
 handover_required = octet CAUSE ▸ presence RESPONSE_REQUEST ▸ cell_list
 
 -- HANDOVER REQUEST ACKNOWLEDGE (clause 3.2.1.10): layer 3 information (3.2.2.24).
@@ -74,16 +75,16 @@ clear_request = octet CAUSE
 
 -- what the elements of a message say, or the first fault in the order of its rows
 abbrev pub Said : Type 0 → Type 0
-Said A = Result (Bssmap A) ElementFault
+Said A = Result (Bssmap A) ValueFault
 
 -- the message of these fields
-abbrev pub value_of : {X V : Type 0} → (X → V) → Result X ElementFault → Result V ElementFault
+abbrev pub value_of : {X V : Type 0} → (X → V) → Result X ValueFault → Result V ValueFault
 value_of message (Ok fields) = Ok (message fields)
 value_of message (Err fault) = Err fault
 
 abbrev pub said : {A : Type 0} → MessageKind → Lookup → Said A
-said kind.HandoverRequest found = value_of (λ (channel, encryption, classmark, serving, target). HandoverRequest channel encryption classmark serving target) (handover_request.read found)
-said kind.HandoverRequired found = value_of (λ (cause, response, cells). HandoverRequired cause response cells) (handover_required.read found)
+said kind.HandoverRequest found = value_of (λ (channel, (encryption, (classmark, (serving, target)))). HandoverRequest channel encryption classmark serving target) (handover_request.read found)
+said kind.HandoverRequired found = value_of (λ (cause, (response, cells)). HandoverRequired cause response cells) (handover_required.read found)
 said kind.HandoverRequestAck found = value_of HandoverRequestAck (handover_request_ack.read found)
 said kind.HandoverCommand found = value_of HandoverCommand (handover_command.read found)
 said kind.HandoverComplete found = value_of HandoverComplete (handover_complete.read found)
@@ -97,8 +98,8 @@ said kind.ClearRequest found = value_of ClearRequest (clear_request.read found)
 
 -- the elements of a message in the order in which they are written
 abbrev pub elements_of : {A : Type 0} → Bssmap A → List Element
-elements_of (HandoverRequest channel encryption classmark serving target) = handover_request.written (channel, encryption, classmark, serving, target)
-elements_of (HandoverRequired cause response cells) = handover_required.written (cause, response, cells)
+elements_of (HandoverRequest channel encryption classmark serving target) = handover_request.written (channel, (encryption, (classmark, (serving, target))))
+elements_of (HandoverRequired cause response cells) = handover_required.written (cause, (response, cells))
 elements_of (HandoverRequestAck layer3) = handover_request_ack.written layer3
 elements_of (HandoverCommand layer3) = handover_command.written layer3
 elements_of (HandoverComplete rr) = handover_complete.written rr
@@ -138,3 +139,19 @@ KeepsList HandoverDetect = ⊥
 KeepsList (ClearCommand cause) = ⊥
 KeepsList ClearComplete = ⊥
 KeepsList (ClearRequest cause) = ⊥
+
+-- The message is what its elements say once they are written: octets are long enough, there is a cell, and each
+-- cell has a location area code.
+abbrev pub CanBeSaid : {A : Type 0} → Bssmap A → Type 0
+CanBeSaid (HandoverRequest channel encryption classmark serving target) = (1 < length channel) × (0 < length encryption) × IsSome serving.lac × IsSome target.lac
+CanBeSaid (HandoverRequired cause response cells) = (0 < length cells) × IsTrue (list_all (λ cell. is_some cell.lac) cells)
+CanBeSaid (HandoverRequestAck layer3) = 0 < length layer3
+CanBeSaid (HandoverCommand layer3) = 0 < length layer3
+CanBeSaid (HandoverComplete rr) = Unit {0}
+CanBeSaid (HandoverFailure cause rr) = Unit {0}
+CanBeSaid (HandoverPerformed cause cell) = IsSome cell.lac
+CanBeSaid (HandoverRequiredReject cause) = Unit {0}
+CanBeSaid HandoverDetect = Unit {0}
+CanBeSaid (ClearCommand cause) = Unit {0}
+CanBeSaid ClearComplete = Unit {0}
+CanBeSaid (ClearRequest cause) = Unit {0}

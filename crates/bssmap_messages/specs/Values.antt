@@ -1,11 +1,11 @@
 -- What the value of an element says, how it is written, and its row in a message (TS 48.008 clause 3.2.2).
-use Rattle.std.specs.Prelude.{ℕ, ◌%◌, if◌then◌else◌, ◌==◌, Bool, true, false, List, [], ◌∷◌, ◌++◌, Option, Some, None, flat_map, unwrap_or, Result, Ok, Err}
+use Rattle.std.specs.Prelude.{ℕ, ◌%◌, if◌then◌else◌, ◌==◌, Bool, true, false, List, [], ◌∷◌, ◌++◌, Option, Some, None, flat_map, length, unwrap_or, Result, Ok, Err}
 use Rattle.std.specs.Option.{option_map, is_some}
 use Rattle.octet_elements.specs.Elements.{Element}
 use Rattle.octet_elements.specs.Rows.{Row}
 use Rattle.octet_elements.specs.Values.{pair, pair_octets}
-use Rattle.octet_elements.specs.declared.values.ElementFault.{ElementFault}
-use Rattle.octet_elements.specs.declared.values.ElementFault.TheVariants.{Absent, Bad}
+use Rattle.octet_elements.specs.declared.values.ValueFault.{ValueFault}
+use Rattle.octet_elements.specs.declared.values.ValueFault.TheVariants.{Absent, Bad}
 use Rattle.bssmap_messages.specs.declared.message.CellId.{CellId}
 use Rattle.bssmap_messages.specs.declared.message.Classmark.{Classmark}
 use Rattle.bssmap_messages.specs.declared.message.Classmark.TheVariants.{One, Two}
@@ -16,12 +16,12 @@ use Rattle.bssmap_messages.specs.declared.fault.BssmapFault.TheVariants.{Missing
 use Rattle.bssmap_messages.specs.declared.table.TheConstants.{CELL_IDENTIFIER, CHANNEL_TYPE, CLASSMARK_2, CELL_IDENTIFIER_LIST, CLASSMARK_1}
 
 -- the fault that a message has by its element
-abbrev pub fault_of : ElementFault → BssmapFault
+abbrev pub fault_of : ValueFault → BssmapFault
 fault_of (Absent i) = Missing i
 fault_of (Bad i) = BadElement i
 
 -- Channel type (clause 3.2.2.11): at least two octets.
-abbrev pub channel_type_in : Option (List ℕ) → Result (List ℕ) ElementFault
+abbrev pub channel_type_in : Option (List ℕ) → Result (List ℕ) ValueFault
 channel_type_in None = Err (Absent CHANNEL_TYPE)
 channel_type_in (Some []) = Err (Bad CHANNEL_TYPE)
 channel_type_in (Some (octet ∷ [])) = Err (Bad CHANNEL_TYPE)
@@ -29,7 +29,7 @@ channel_type_in (Some (first ∷ second ∷ v)) = Ok (first ∷ second ∷ v)
 
 -- Classmark information type 1 (clause 3.2.2.30) counts where it is there; else type 2 (clause
 -- 3.2.2.19), which may be empty. It is type 2 that is missing where there is neither.
-abbrev pub classmark_in : {A : Type 0} → Option (List ℕ) → Option (List ℕ) → Result (Classmark A) ElementFault
+abbrev pub classmark_in : {A : Type 0} → Option (List ℕ) → Option (List ℕ) → Result (Classmark A) ValueFault
 classmark_in (Some (octet ∷ v)) two = Ok (One octet)
 classmark_in (Some []) two = Err (Bad CLASSMARK_1)
 classmark_in None (Some v) = Ok (Two v)
@@ -73,23 +73,23 @@ abbrev pub cells_after : ℕ → List ℕ → Option (List CellId)
 cells_after d v = cells_from (d % 16) v []
 
 -- exactly one cell
-abbrev pub only_cell : Option (List CellId) → Result CellId ElementFault
+abbrev pub only_cell : Option (List CellId) → Result CellId ValueFault
 only_cell (Some (cell ∷ [])) = Ok cell
 only_cell _ = Err (Bad CELL_IDENTIFIER)
 
 -- at least one cell
-abbrev pub some_cells : Option (List CellId) → Result (List CellId) ElementFault
+abbrev pub some_cells : Option (List CellId) → Result (List CellId) ValueFault
 some_cells (Some (cell ∷ cells)) = Ok (cell ∷ cells)
 some_cells _ = Err (Bad CELL_IDENTIFIER_LIST)
 
 -- Cell Identifier (clause 3.2.2.17): the discriminator and one cell.
-abbrev pub cell_in : Option (List ℕ) → Result CellId ElementFault
+abbrev pub cell_in : Option (List ℕ) → Result CellId ValueFault
 cell_in None = Err (Absent CELL_IDENTIFIER)
 cell_in (Some []) = Err (Bad CELL_IDENTIFIER)
 cell_in (Some (d ∷ v)) = only_cell (cells_after d v)
 
 -- Cell Identifier List (clause 3.2.2.27): the discriminator once, and cells.
-abbrev pub cells_in : Option (List ℕ) → Result (List CellId) ElementFault
+abbrev pub cells_in : Option (List ℕ) → Result (List CellId) ValueFault
 cells_in None = Err (Absent CELL_IDENTIFIER_LIST)
 cells_in (Some []) = Err (Bad CELL_IDENTIFIER_LIST)
 cells_in (Some (d ∷ v)) = some_cells (cells_after d v)
@@ -109,6 +109,11 @@ cells_value cells = 1 ∷ flat_map cell_octets cells
 abbrev pub classmark_element : {A : Type 0} → Classmark A → Element
 classmark_element (One octet) = (CLASSMARK_1, octet ∷ [])
 classmark_element (Two v) = (CLASSMARK_2, v)
+
+-- how many octets are kept of it in a list
+abbrev pub classmark_length : {A : Type 0} → Classmark A → ℕ
+classmark_length (One octet) = 0
+classmark_length (Two v) = length v
 
 -- an element alone, that is written where it is asked for
 abbrev pub where_true : ℕ → Bool → List Element

@@ -5,10 +5,11 @@ ghost use Rattle.bssmap_messages.specs.declared.message.CellId.{CellId};
 ghost use Rattle.octet_elements.specs.Values.{value_seen, pair};
 ghost use Rattle.bssmap_messages.specs.Values.{cells_after, only_cell, some_cells, cell_in, cells_in};
 
-use crate::lists::CellList;
+use crate::cell_list::CellList;
 use crate::message::CellId;
 use crate::table::{CELL_IDENTIFIER, CELL_IDENTIFIER_LIST};
-use octet_elements::values::{ElementFault, pair_of};
+use octet_elements::ValueFault;
+use octet_elements::values::pair_of;
 use std::alloc::{AllocError, Allocator};
 
 /// The cell of a location area code and a cell identity.
@@ -54,27 +55,27 @@ fn leading_cell(discriminator: u8, octets: &[u8]) -> Option<(CellId, &[u8])>
 
 /// The cell of a cell identifier.
 #[inline(always)]
-pub fn cell(value: Option<&[u8]>) -> Result<CellId, ElementFault>
+pub fn cell(value: Option<&[u8]>) -> Result<CellId, ValueFault>
     ensures { result ≡ cell_in (value_seen value.entry) }
 {
     match value {
-        None => Err(ElementFault::Absent(CELL_IDENTIFIER)),
+        None => Err(ValueFault::Absent(CELL_IDENTIFIER)),
         Some([discriminator, octets @ ..]) => only_cell(*discriminator, octets),
-        Some([]) => Err(ElementFault::Bad(CELL_IDENTIFIER)),
+        Some([]) => Err(ValueFault::Bad(CELL_IDENTIFIER)),
     }
 }
 
 /// The one cell after a discriminator.
-fn only_cell(discriminator: u8, octets: &[u8]) -> Result<CellId, ElementFault>
+fn only_cell(discriminator: u8, octets: &[u8]) -> Result<CellId, ValueFault>
     ensures { result ≡ only_cell (cells_after discriminator octets.now) }
 {
     let Some((cell, rest)) = leading_cell(discriminator, octets) else {
-        return Err(ElementFault::Bad(CELL_IDENTIFIER));
+        return Err(ValueFault::Bad(CELL_IDENTIFIER));
     };
     if rest.is_empty() {
         Ok(cell)
     } else {
-        Err(ElementFault::Bad(CELL_IDENTIFIER))
+        Err(ValueFault::Bad(CELL_IDENTIFIER))
     }
 }
 
@@ -92,29 +93,29 @@ fn are_cells(discriminator: u8, octets: &[u8]) -> bool
 }
 
 /// The discriminator of a cell identifier list and the octets of its cells, of which there is one.
-pub fn cells(value: Option<&[u8]>) -> Result<(u8, &[u8]), ElementFault>
+pub fn cells(value: Option<&[u8]>) -> Result<(u8, &[u8]), ValueFault>
     ensures ok { IfOk result (λ c. (cells : List CellId) ×
         (cells_after c.0 c.1.now ≡ Some cells) × (cells_in (value_seen value.entry) ≡ Ok cells)) }
     ensures err { IfErr result (λ e. cells_in (value_seen value.entry) ≡ Err e) }
 {
     match value {
-        None => Err(ElementFault::Absent(CELL_IDENTIFIER_LIST)),
+        None => Err(ValueFault::Absent(CELL_IDENTIFIER_LIST)),
         Some([discriminator, octets @ ..]) => some_cells(*discriminator, octets),
-        Some([]) => Err(ElementFault::Bad(CELL_IDENTIFIER_LIST)),
+        Some([]) => Err(ValueFault::Bad(CELL_IDENTIFIER_LIST)),
     }
 }
 
 /// At least one cell after a discriminator.
-fn some_cells(discriminator: u8, octets: &[u8]) -> Result<(u8, &[u8]), ElementFault>
+fn some_cells(discriminator: u8, octets: &[u8]) -> Result<(u8, &[u8]), ValueFault>
     ensures ok { IfOk result (λ c. (cells : List CellId) ×
         (cells_after c.0 c.1.now ≡ Some cells) ×
         (some_cells (cells_after discriminator octets.now) ≡ Ok cells)) }
     ensures err { IfErr result (λ e. some_cells (cells_after discriminator octets.now) ≡ Err e) }
 {
     match octets {
-        [] => Err(ElementFault::Bad(CELL_IDENTIFIER_LIST)),
+        [] => Err(ValueFault::Bad(CELL_IDENTIFIER_LIST)),
         _ if are_cells(discriminator, octets) => Ok((discriminator, octets)),
-        _ => Err(ElementFault::Bad(CELL_IDENTIFIER_LIST)),
+        _ => Err(ValueFault::Bad(CELL_IDENTIFIER_LIST)),
     }
 }
 

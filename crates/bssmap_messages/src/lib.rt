@@ -4,11 +4,12 @@
 //! [`encode`] and [`encode_into`] write one, and [`fits`] says whether a value can be written.
 #![tactic(auto)]
 
-mod cells;
 mod fault;
 mod head;
 mod laws;
-mod lists;
+mod cell_list;
+mod cells;
+mod elements;
 mod message;
 mod reading;
 mod table;
@@ -17,7 +18,8 @@ mod writing;
 
 pub use fault::BssmapFault;
 pub use laws::{canonical_is_text, reading_is_unique};
-pub use lists::{CellList, Octets};
+pub use cell_list::CellList;
 pub use message::{Bssmap, CellId, Classmark};
+pub use octet_elements::Octets;
 pub use reading::decode;
 pub use writing::{encode, encode_into, fits};

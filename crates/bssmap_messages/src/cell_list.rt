@@ -1,42 +1,9 @@
-//! Lists inside a message.
+//! The list of cells inside a message.
 ghost use Rattle.std.specs.Prelude.{◌≡◌, IfOk};
 
 use crate::message::CellId;
 use std::alloc::{AllocError, Allocator, Global};
 use std::marker::Model;
-
-/// An octet list inside a message, as a layer 3 message or a channel type.
-#[derive(Debug, Drop)]
-pub struct Octets<A: Allocator = Global> {
-    octets: Vec<u8, A>,
-}
-
-impl<A: Allocator> Model for Octets<A> {
-    ghost use Rattle.std.specs.Prelude.{List, ℕ};
-
-    ghost Value = { List ℕ };
-
-    ghost view = { λ o. o.octets.items };
-}
-
-impl<A: Allocator + Copy> Octets<A> {
-    /// A list of these octets.
-    #[inline(always)]
-    pub fn new(alloc: A, octets: &[u8]) -> Result<Self, AllocError>
-        ensures octets { IfOk result (λ o. o ≡ octets.now) }
-    {
-        Ok(Octets {
-            octets: Vec::from_slice(alloc, octets)?,
-        })
-    }
-
-    /// Its octets.
-    pub fn as_slice(&self) -> &[u8]
-        ensures octets { result.now ≡ self.now }
-    {
-        self.octets.as_slice()
-    }
-}
 
 /// The cells of a cell identifier list (TS 48.008 clause 3.2.2.27), in its order.
 #[derive(Debug, Drop)]
@@ -69,7 +36,9 @@ impl<A: Allocator + Copy> CellList<A> {
     {
         CellList { cells }
     }
+}
 
+impl<A: Allocator> CellList<A> {
     /// Its cells.
     pub fn as_slice(&self) -> &[CellId]
         ensures cells { result.now ≡ self.now }
