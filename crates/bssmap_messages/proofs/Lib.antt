@@ -1,2 +1,5 @@
 pub mod ReadCells
 pub mod Lengths
+pub mod Noted
+pub mod Unique
+pub mod Written

@@ -8,7 +8,7 @@ ghost use Rattle.octet_elements.specs.Values.{where_some};
 ghost use Rattle.bssmap_messages.specs.Forms.{interface_a, known};
 ghost use Rattle.bssmap_messages.specs.Heads.{limit};
 ghost use Rattle.bssmap_messages.specs.Messages.{said, elements_of, CanBeSaid};
-ghost use Rattle.bssmap_messages.specs.Texts.{HasCanonical, codec};
+ghost use Rattle.bssmap_messages.specs.Texts.{codec};
 ghost use Rattle.bssmap_messages.specs.Values.{cell_octets, cell_value, classmark_element, where_true};
 
 use crate::cells::{cell, cells, read_cells};
@@ -168,6 +168,7 @@ fn counted_len(value_len: usize) -> usize
 const CELL_LEN: usize = 4;
 
 /// How many octets the elements of a message take; the greatest number, where that is too great.
+#[tactic(auto, unfolding(crate::specs::Messages::handover_request_ack, crate::specs::Messages::handover_command, crate::specs::Messages::handover_complete, crate::specs::Messages::handover_failure, crate::specs::Messages::handover_performed, crate::specs::Messages::handover_required_reject, crate::specs::Messages::clear_command, crate::specs::Messages::clear_request))]
 pub fn elements_len<A: Allocator>(message: &Bssmap<A>) -> usize
     ensures { result ≡ min (length (all_octets interface_a (elements_of message.now))) (2 ^ 64 - 1) }
 {
@@ -294,7 +295,7 @@ fn append_classmark<A: Allocator>(out: &mut Vec<u8, A>, classmark: &Classmark<A>
 }
 
 /// Appends the elements of a HANDOVER REQUEST, for which the list has room.
-#[tactic(auto, using(crate::proofs::Lengths::request_length))]
+#[tactic(auto, using(crate::proofs::Lengths::request_length, crate::proofs::Lengths::classmark_fits), unfolding(crate::specs::Messages::handover_request))]
 fn append_request<A: Allocator + Copy>(
     out: &mut Vec<u8, A>,
     channel: &Octets<A>,
@@ -303,14 +304,14 @@ fn append_request<A: Allocator + Copy>(
     serving: CellId,
     target: CellId,
 )
-    requires channel { length channel.now < 256 }
-    requires encryption { length encryption.now < 256 }
-    requires classmark { Fits interface_a (classmark_element classmark.now) }
+    requires short { length (all_octets interface_a (elements_of
+        (Bssmap.HandoverRequest channel.now encryption.now classmark.now serving target))) < limit }
     requires room { vec_len out.old + length (all_octets interface_a (elements_of
         (Bssmap.HandoverRequest channel.now encryption.now classmark.now serving target))) ≤
         vec_capacity out.old }
-    ensures { out.new.items ≡ out.old.items ++ all_octets interface_a (elements_of
+    ensures items { out.new.items ≡ out.old.items ++ all_octets interface_a (elements_of
         (Bssmap.HandoverRequest channel.now encryption.now classmark.now serving target)) }
+    ensures capacity { vec_capacity out.old ≤ vec_capacity out.new }
 {
     append_element::<InterfaceA, A>(out, CHANNEL_TYPE, channel.as_slice());
     append_element::<InterfaceA, A>(out, ENCRYPTION_INFORMATION, encryption.as_slice());
@@ -322,7 +323,8 @@ fn append_request<A: Allocator + Copy>(
 /// Appends cells, for which the list has room.
 fn append_cells<A: Allocator>(out: &mut Vec<u8, A>, cells: &[CellId])
     requires { vec_len out.old + 4 * length cells.now ≤ vec_capacity out.old }
-    ensures { out.new.items ≡ out.old.items ++ flat_map cell_octets cells.now }
+    ensures items { out.new.items ≡ out.old.items ++ flat_map cell_octets cells.now }
+    ensures capacity { vec_capacity out.old ≤ vec_capacity out.new }
 {
     for cell in cells {
         append_octets(out, &cell_octets(*cell));
@@ -330,14 +332,16 @@ fn append_cells<A: Allocator>(out: &mut Vec<u8, A>, cells: &[CellId])
 }
 
 /// Appends the elements of a HANDOVER REQUIRED, for which the list has room.
-#[tactic(auto, using(crate::proofs::Lengths::required_length))]
+#[tactic(auto, using(crate::proofs::Lengths::required_length), unfolding(crate::specs::Messages::handover_required))]
 fn append_required<A: Allocator>(out: &mut Vec<u8, A>, cause: u8, response: bool, cells: &[CellId])
-    requires cells { 1 + 4 * length cells.now < 256 }
+    requires short { length (all_octets interface_a
+        (elements_of {A = A} (Bssmap.HandoverRequired cause response cells.now))) < limit }
     requires room { vec_len out.old + length (all_octets interface_a
         (elements_of {A = A} (Bssmap.HandoverRequired cause response cells.now))) ≤
         vec_capacity out.old }
-    ensures { out.new.items ≡ out.old.items ++ all_octets interface_a
+    ensures items { out.new.items ≡ out.old.items ++ all_octets interface_a
         (elements_of {A = A} (Bssmap.HandoverRequired cause response cells.now)) }
+    ensures capacity { vec_capacity out.old ≤ vec_capacity out.new }
 {
     append_cause(out, cause);
     append_response(out, response);
@@ -365,7 +369,9 @@ fn append_response<A: Allocator>(out: &mut Vec<u8, A>, response: bool)
 fn append_rr<A: Allocator>(out: &mut Vec<u8, A>, rr: Option<u8>)
     requires { vec_len out.old + length (all_octets interface_a (where_some RR_CAUSE rr)) ≤
         vec_capacity out.old }
-    ensures { out.new.items ≡ out.old.items ++ all_octets interface_a (where_some RR_CAUSE rr) }
+    ensures items { out.new.items ≡ out.old.items ++
+        all_octets interface_a (where_some RR_CAUSE rr) }
+    ensures capacity { vec_capacity out.old ≤ vec_capacity out.new }
 {
     if let Some(rr) = rr {
         append_octets(out, &[RR_CAUSE, rr]);
@@ -373,11 +379,14 @@ fn append_rr<A: Allocator>(out: &mut Vec<u8, A>, rr: Option<u8>)
 }
 
 /// Appends the elements of a message, for which the list has room.
+#[tactic(auto, unfolding(crate::specs::Messages::handover_request_ack, crate::specs::Messages::handover_command, crate::specs::Messages::handover_complete, crate::specs::Messages::handover_failure, crate::specs::Messages::handover_performed, crate::specs::Messages::handover_required_reject, crate::specs::Messages::clear_command, crate::specs::Messages::clear_request))]
 pub fn append_elements<A: Allocator + Copy>(message: &Bssmap<A>, out: &mut Vec<u8, A>)
-    requires canonical { HasCanonical message.now }
+    requires short { length (all_octets interface_a (elements_of message.now)) < limit }
     requires room { vec_len out.old + length (all_octets interface_a (elements_of message.now)) ≤
         vec_capacity out.old }
-    ensures { out.new.items ≡ out.old.items ++ all_octets interface_a (elements_of message.now) }
+    ensures items { out.new.items ≡ out.old.items ++
+        all_octets interface_a (elements_of message.now) }
+    ensures capacity { vec_capacity out.old ≤ vec_capacity out.new }
 {
     match message {
         Bssmap::HandoverRequest {

@@ -1,7 +1,8 @@
 //! Reading a message.
-ghost use Rattle.std.specs.Prelude.{◌≡◌, ◌≢◌, ◌≤◌, length, Ok, Err, IfOk, IfErr};
+ghost use Rattle.std.specs.Prelude.{◌≡◌, ◌≢◌, ◌≤◌, List, length, Ok, Err, IfOk, IfErr};
 ghost use Rattle.octet_elements.specs.Texts.{Says, HasBodyFault};
 ghost use Rattle.bssmap_messages.specs.Heads.{limit};
+ghost use Rattle.bssmap_messages.specs.Messages.{KeepsList};
 ghost use Rattle.bssmap_messages.specs.Texts.{IsTextOf, HasFault, codec};
 
 use crate::elements::read_elements;
@@ -47,9 +48,10 @@ pub fn decode<A: Allocator + Copy>(alloc: A, octets: &[u8]) -> Result<Bssmap<A>,
     ensures exact { (v : Bssmap A) → IsTextOf v octets.now → result ≢ Err BssmapFault.NoMemory →
         result ≡ Ok v }
 
-    // It is the first fault in the order that `BssmapFault` says. Memory is refused only for a message
-    // that keeps a list which isn't empty.
+    // It is the first fault in the order that `BssmapFault` says.
     ensures fault { IfErr result (HasFault A octets.now) }
+    ensures memory { result ≡ Err BssmapFault.NoMemory →
+        (v : Bssmap A) × IsTextOf v octets.now × KeepsList v }
 {
     read_message(alloc, octets)
 }

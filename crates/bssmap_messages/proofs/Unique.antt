@@ -1,0 +1,103 @@
+-- Octets begin with one head, or have one fault in it.
+use Rattle.std.proofs.Common.{◌≡◌, ◌⊎◌, ℕ, List, ◌∷◌, Option, Some, None, Result, Err, IfErr, refl, sym, ◌∙◌, ap, subst, cond, eqb, length, inl, inr}
+use Rattle.octet_elements.specs.Texts.{HeadsAreUnique}
+use Rattle.octet_elements.specs.declared.values.ValueFault.{ValueFault}
+use Rattle.octet_elements.specs.declared.values.ValueFault.TheVariants.{Absent, Bad}
+use Rattle.octet_elements.proofs.Texts.{refused}
+use Rattle.bssmap_messages.specs.declared.fault.BssmapFault.{BssmapFault}
+use Rattle.bssmap_messages.specs.declared.fault.BssmapFault.TheVariants as fault
+use Rattle.bssmap_messages.specs.declared.head.MessageKind.{MessageKind}
+use Rattle.bssmap_messages.specs.declared.head.MessageKind.TheVariants as kind
+use Rattle.bssmap_messages.specs.declared.message.Bssmap.{Bssmap}
+use Rattle.bssmap_messages.specs.Heads.{Carries, Begins, HasHeadFault}
+use Rattle.bssmap_messages.specs.Messages.{type_of, KeepsList}
+use Rattle.bssmap_messages.specs.Texts.{codec, IsTextOf, HasFault}
+use Rattle.bssmap_messages.specs.Values.{fault_of}
+
+-- octets carry one thing
+pub one_carried : (octets x y : List ℕ) → Carries octets x → Carries octets y → x ≡ y
+one_carried octets x y p q =
+    let same : 0 ∷ length x ∷ x ≡ 0 ∷ length y ∷ y = sym p.framed ∙ q.framed in cc
+
+-- which message has the type
+kind_at : ℕ → Option MessageKind
+kind_at t = cond (eqb t 0x10) (Some kind.HandoverRequest) (cond (eqb t 0x11) (Some kind.HandoverRequired) (cond (eqb t 0x12) (Some kind.HandoverRequestAck) (cond (eqb t 0x13) (Some kind.HandoverCommand) (cond (eqb t 0x14) (Some kind.HandoverComplete) (cond (eqb t 0x16) (Some kind.HandoverFailure) (cond (eqb t 0x17) (Some kind.HandoverPerformed) (cond (eqb t 0x1A) (Some kind.HandoverRequiredReject) (cond (eqb t 0x1B) (Some kind.HandoverDetect) (cond (eqb t 0x20) (Some kind.ClearCommand) (cond (eqb t 0x21) (Some kind.ClearComplete) (cond (eqb t 0x22) (Some kind.ClearRequest) None)))))))))))
+
+found_at : (k : MessageKind) → kind_at (type_of k) ≡ Some k
+unfolding kind_at
+found_at kind.HandoverRequest = refl
+found_at kind.HandoverRequired = refl
+found_at kind.HandoverRequestAck = refl
+found_at kind.HandoverCommand = refl
+found_at kind.HandoverComplete = refl
+found_at kind.HandoverFailure = refl
+found_at kind.HandoverPerformed = refl
+found_at kind.HandoverRequiredReject = refl
+found_at kind.HandoverDetect = refl
+found_at kind.ClearCommand = refl
+found_at kind.ClearComplete = refl
+found_at kind.ClearRequest = refl
+
+-- octets begin with the head of one message
+pub one_head : (j k : MessageKind) (octets x y : List ℕ) → Begins j octets x → Begins k octets y → (j ≡ k) × (x ≡ y)
+one_head j k octets x y p q =
+    let same = one_carried octets (type_of j ∷ x) (type_of k ∷ y) p q in
+    let types : type_of j ≡ type_of k = cc in
+    let kinds : Some j ≡ Some k = sym (found_at j) ∙ ap kind_at types ∙ found_at k in
+    (cc, cc)
+
+not_zero : (octets rest : List ℕ) → HasHeadFault octets fault.NotBssmap → octets ≡ 0 ∷ rest → ⊥
+not_zero octets rest (inl none) is = cc
+not_zero octets rest (inr (d, more, was, not)) is = let same : d ≡ 0 = cc in not same
+
+-- a fault of the head is one of three
+HeadIs : List ℕ → BssmapFault → Type 0
+HeadIs octets f = ((f ≡ fault.NotBssmap) × HasHeadFault octets fault.NotBssmap) ⊎ (((f ≡ fault.Length) × HasHeadFault octets fault.Length) ⊎ ((t : ℕ) × (f ≡ fault.UnknownType t) × HasHeadFault octets (fault.UnknownType t)))
+
+head_is : (octets : List ℕ) (f : BssmapFault) → HasHeadFault octets f → HeadIs octets f
+unfolding HeadIs
+head_is octets fault.NotBssmap h = inl (refl, h)
+head_is octets fault.Length h = inr (inl (refl, h))
+head_is octets (fault.UnknownType t) h = inr (inr (t, refl, h))
+head_is octets (fault.Torn at) h = absurd h
+head_is octets (fault.Missing i) h = absurd h
+head_is octets (fault.BadElement i) h = absurd h
+head_is octets fault.NoMemory h = absurd h
+
+one_head_fault : (octets : List ℕ) (f g : BssmapFault) → HeadIs octets f → HeadIs octets g → f ≡ g
+unfolding HeadIs
+one_head_fault octets f g (inl (p, a)) (inl (q, b)) = p ∙ sym q
+one_head_fault octets f g (inl (p, a)) (inr (inl (q, (rest, is, not)))) = absurd (not_zero octets rest a is)
+one_head_fault octets f g (inl (p, a)) (inr (inr (u, q, (y, b, none)))) = absurd (not_zero octets _ a b.framed)
+one_head_fault octets f g (inr (inl (p, (rest, is, not)))) (inl (q, b)) = absurd (not_zero octets rest b is)
+one_head_fault octets f g (inr (inl (p, a))) (inr (inl (q, b))) = p ∙ sym q
+one_head_fault octets f g (inr (inl (p, (rest, is, not)))) (inr (inr (u, q, (y, b, none)))) = absurd (not (u ∷ y) b)
+one_head_fault octets f g (inr (inr (t, p, (x, a, none)))) (inl (q, b)) = absurd (not_zero octets _ b a.framed)
+one_head_fault octets f g (inr (inr (t, p, (x, a, none)))) (inr (inl (q, (rest, is, not)))) = absurd (not (t ∷ x) a)
+one_head_fault octets f g (inr (inr (t, p, (x, a, never)))) (inr (inr (u, q, (y, b, nor)))) =
+    let same = one_carried octets (t ∷ x) (u ∷ y) a b in
+    let types : t ≡ u = cc in p ∙ ap fault.UnknownType types ∙ sym q
+
+-- a head that has a fault is no head of a message
+bad_head : (octets : List ℕ) (f : BssmapFault) (k : MessageKind) (body : List ℕ) → HeadIs octets f → Begins k octets body → ⊥
+unfolding HeadIs
+bad_head octets f k body (inl (p, a)) head = not_zero octets _ a head.framed
+bad_head octets f k body (inr (inl (p, (rest, is, not)))) head = not (type_of k ∷ body) head
+bad_head octets f k body (inr (inr (t, p, (x, a, none)))) head =
+    let same = one_carried octets (t ∷ x) (type_of k ∷ body) a head in
+    let types : t ≡ type_of k = cc in none k types
+
+pub heads : (A : Type 0) → HeadsAreUnique (codec A)
+heads A = record {
+  head = one_head;
+  fault = λ octets f g p q. one_head_fault octets f g (head_is octets f p) (head_is octets g q);
+  either = λ octets f k body p q. bad_head octets f k body (head_is octets f p) q;
+}
+
+no_value_fault : (e : ValueFault) → fault.NoMemory ≡ fault_of e → ⊥
+no_value_fault (Absent i) same = cc
+no_value_fault (Bad i) same = cc
+
+-- memory is refused only for a text whose message keeps a list
+pub memory_refused : (A : Type 0) (octets : List ℕ) (r : Result (Bssmap A) BssmapFault) → r ≡ Err fault.NoMemory → IfErr r (HasFault A octets) → (v : Bssmap A) × IsTextOf v octets × KeepsList v
+memory_refused A octets r memory h = refused (codec A) octets (λ early. early) (λ at same. cc) no_value_fault (subst (λ r. IfErr r (HasFault A octets)) memory h)
