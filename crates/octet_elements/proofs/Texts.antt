@@ -1,10 +1,11 @@
 -- Octets have one reading.
-use Rattle.std.proofs.Common.{◌≡◌, ℕ, List, Result, Ok, Err, sym, ◌∙◌, ap, subst, inl, inr}
-use Rattle.octet_elements.specs.Elements.{Element, Forms, AreElements, AreTorn, IsTornAt}
+use Rattle.std.proofs.Common.{IfOk, IfErr, ◌≢◌, ◌≡◌, ℕ, List, Result, Ok, Err, refl, sym, ◌∙◌, ap, subst, inl, inr}
+use Rattle.octet_elements.specs.Elements.{Element, Forms, AreElements, AreTorn, IsTornAt, Fits, all_octets}
+use Rattle.std.specs.List.{AllByRecursion}
 use Rattle.octet_elements.specs.Lookup.{values_in}
-use Rattle.octet_elements.specs.Texts.{Codec, Says, IsTextOf, GoesWith, HasBodyFault, HasFault, ReadingIsUnique, HeadsAreUnique}
+use Rattle.octet_elements.specs.Texts.{Codec, Says, IsTextOf, Answers, GoesWith, HasBodyFault, HasFault, ReadingIsUnique, HeadsAreUnique}
 use Rattle.octet_elements.specs.declared.values.ValueFault.{ValueFault}
-use Rattle.octet_elements.proofs.Splits.{same_elements, whole_not_torn, same_tear}
+use Rattle.octet_elements.proofs.Splits.{same_elements, whole_not_torn, same_tear, AreFixed, same_written}
 
 -- a body says one thing
 one_saying : {Kind V F : Type 0} (c : Codec Kind V F) (j k : Kind) (x y : List ℕ) (a b : Result V ValueFault) → j ≡ k → x ≡ y → Says c j x a → Says c k y b → a ≡ b
@@ -59,3 +60,30 @@ one_fault c heads octets f g (inr (j, x, head, fault)) (inr (k, y, other, also))
 
 pub reading_is_unique : {Kind V F : Type 0} (c : Codec Kind V F) → HeadsAreUnique c → ReadingIsUnique c
 reading_is_unique c heads = record { value = one_value c heads; text = no_fault c heads; fault = one_fault c heads }
+
+-- A decoder that answers a text's value or the octets' fault reads each text, unless memory was refused.
+pub exactly : {Kind V F : Type 0} (c : Codec Kind V F) → HeadsAreUnique c → (r : Result V F) (octets : List ℕ) (v : V) → IfOk r (λ w. IsTextOf c w octets) → IfErr r (HasFault c octets) → IsTextOf c v octets → r ≢ Err c.no_memory → r ≡ Ok v
+exactly c heads (Ok w) octets v text fault h memory = ap Ok (one_value c heads w v octets text h)
+exactly c heads (Err f) octets v text fault h memory = absurd (memory (ap Err (no_fault c heads v octets f h fault)))
+
+-- what answers to whole elements answers to the body
+pub text_answered : {Kind V F : Type 0} (c : Codec Kind V F) (kind : Kind) (body : List ℕ) (es : List Element) (r : Result V F) → AreElements c.forms es body → Answers c r (c.said kind (values_in es)) → IfOk r (λ v. Says c kind body (Ok v))
+text_answered c kind body es (Ok v) split h = record { elements = es; split = split; says = h }
+text_answered c kind body es (Err f) split h = tt
+
+pub fault_answered : {Kind V F : Type 0} (c : Codec Kind V F) (kind : Kind) (body : List ℕ) (es : List Element) (r : Result V F) → AreElements c.forms es body → Answers c r (c.said kind (values_in es)) → IfErr r (HasBodyFault c kind body)
+fault_answered c kind body es (Ok v) split h = tt
+fault_answered c kind body es (Err f) split h = inr (c.said kind (values_in es), record { elements = es; split = split; says = refl }, h)
+
+-- The body that was written for some elements says a value only if they fit and say it.
+pub written_says : {Kind V F : Type 0} (c : Codec Kind V F) (j k : Kind) (body : List ℕ) (es : List Element) (v : V) → j ≡ k → body ≡ all_octets c.forms es → AreFixed c.forms es → Says c j body (Ok v) → AllByRecursion (Fits c.forms) es × (c.said k (values_in es) ≡ Ok v)
+written_says c j k body es v kinds bodies fixed h =
+    let same = same_written c.forms es h.elements fixed h.split.each (sym bodies ∙ h.split.spelling) in
+    (subst (AllByRecursion (Fits c.forms)) (sym same) h.split.each, (λ i. c.said (sym kinds i) (values_in (same i))) ∙ h.says)
+
+-- memory is refused only for a text whose value keeps a list
+pub refused : {Kind V F : Type 0} (c : Codec Kind V F) (octets : List ℕ) → (c.HasHeadFault octets c.no_memory → ⊥) → ((at : ℕ) → c.no_memory ≢ c.torn at) → ((e : ValueFault) → c.no_memory ≢ c.fault_of e) → HasFault c octets c.no_memory → (v : V) × IsTextOf c v octets × c.KeepsList v
+refused c octets early torn fault (inl bad) = absurd (early bad)
+refused c octets early torn fault (inr (kind, body, head, inl (at, is, same))) = absurd (torn at same)
+refused c octets early torn fault (inr (kind, body, head, inr (Ok v, says, by))) = (v, record { kind = kind; body = body; head = head; says = says }, by.1)
+refused c octets early torn fault (inr (kind, body, head, inr (Err e, says, by))) = absurd (fault e by)

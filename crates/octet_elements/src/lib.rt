@@ -23,4 +23,4 @@ pub use found::Found;
 pub use laws::{spelling_is_unique, split_is_unique};
 pub use octets::Octets;
 pub use values::ValueFault;
-pub use write::{append_element, append_octets};
+pub use write::{append_element, append_octets, element_len};

@@ -6,7 +6,7 @@ use crate::values::{
     ValueFault, any_octets, octet, octets, optional_octet, optional_octets, pair, pair_octets,
     pair_of,
 };
-use crate::write::{append_element, append_octets};
+use crate::write::{append_element, append_octets, element_len};
 use std::alloc::Global;
 use std::test::Fail;
 
@@ -122,6 +122,14 @@ fn writes_elements(rt: HostRuntime) -> Result<(), Fail> {
     assert_eq!(rt; &out[9..13], [3, 1, 2, 0].as_slice());
     assert_eq!(rt; out.len(), 270);
     Ok(())
+}
+
+#[test]
+fn counts_octets(rt: HostRuntime) {
+    assert_eq!(rt; element_len::<Sample>(1, &[10, 11]), 3);
+    assert_eq!(rt; element_len::<Sample>(2, &[]), 1);
+    assert_eq!(rt; element_len::<Sample>(3, &[7]), 4);
+    assert_eq!(rt; element_len::<Sample>(5, &[]), 2);
 }
 
 /// The element isn't there.
