@@ -19,12 +19,11 @@ use Rattle.bssmap_messages.specs.declared.message.Classmark.TheVariants.{One, Tw
 use Rattle.bssmap_messages.specs.declared.message.Bssmap.{Bssmap}
 use Rattle.bssmap_messages.specs.declared.message.Bssmap.TheVariants.{HandoverRequest, HandoverRequired, HandoverRequestAck, HandoverCommand, HandoverComplete, HandoverFailure, HandoverPerformed, HandoverRequiredReject, HandoverDetect, ClearCommand, ClearComplete, ClearRequest}
 use Rattle.bssmap_messages.specs.declared.table.TheConstants.{CAUSE, CELL_IDENTIFIER, CELL_IDENTIFIER_LIST, ENCRYPTION_INFORMATION, LAYER_3_INFORMATION, RESPONSE_REQUEST}
-use Rattle.octet_elements.specs.Rows.{octet, octets, ◌▸◌}
 use Rattle.bssmap_messages.specs.Forms.{interface_a}
 use Rattle.bssmap_messages.specs.Heads.{limit, Carries}
 use Rattle.bssmap_messages.specs.Messages.{said, value_of, type_of, kind_of, elements_of, CanBeSaid, handover_request, handover_required, handover_request_ack, handover_command, handover_complete, handover_failure, handover_performed, handover_required_reject, clear_command, clear_request}
 use Rattle.bssmap_messages.specs.Texts.{codec, HasCanonical, canonical_text, written_octets}
-use Rattle.bssmap_messages.specs.Values.{channel_type_in, cells_after, some_cells, cell_in, cells_in, cells_from, cell_octets, cell_value, cells_value, channel_type, classmark, cell, second_cell, cell_list, presence}
+use Rattle.bssmap_messages.specs.Values.{channel_type_in, cells_after, some_cells, cell_in, cells_in, cells_from, cell_octets, cell_value, cells_value, channel_type}
 use Rattle.bssmap_messages.proofs.Lengths.{request_length, required_length, cells_length, classmark_fits}
 use Rattle.bssmap_messages.proofs.Unique.{one_head, one_carried}
 

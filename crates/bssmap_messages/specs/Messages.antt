@@ -13,7 +13,7 @@ use Rattle.bssmap_messages.specs.declared.message.Classmark.{Classmark}
 use Rattle.bssmap_messages.specs.declared.message.Bssmap.{Bssmap}
 use Rattle.bssmap_messages.specs.declared.message.Bssmap.TheVariants.{HandoverRequest, HandoverRequired, HandoverRequestAck, HandoverCommand, HandoverComplete, HandoverFailure, HandoverPerformed, HandoverRequiredReject, HandoverDetect, ClearCommand, ClearComplete, ClearRequest}
 use Rattle.bssmap_messages.specs.declared.table.TheConstants.{CAUSE, ENCRYPTION_INFORMATION, RR_CAUSE, LAYER_3_INFORMATION, RESPONSE_REQUEST}
-use Rattle.bssmap_messages.specs.Values.{channel_type, classmark, cell, second_cell, cell_list, presence, classmark_length}
+use Rattle.bssmap_messages.specs.Values.{channel_type, classmark_information, cell_identifier, second_cell_identifier, cell_identifier_list, presence, classmark_length}
 
 -- the message type (clause 3.2.2.1)
 abbrev pub type_of : MessageKind → ℕ
@@ -33,11 +33,11 @@ type_of kind.ClearRequest = 0x22
 -- HANDOVER REQUEST (clause 3.2.1.8): channel type, encryption information (3.2.2.10), classmark
 -- information, the cell identifier of the serving cell and that of the target cell.
 unfoldable pub handover_request : {A : Type 0} → Row (List ℕ × (List ℕ × (Classmark A × (CellId × CellId))))
-handover_request = channel_type ▸ octets ENCRYPTION_INFORMATION ▸ classmark ▸ cell ▸ second_cell
+handover_request = channel_type ▸ octets ENCRYPTION_INFORMATION ▸ classmark_information ▸ cell_identifier ▸ second_cell_identifier
 
 -- HANDOVER REQUIRED (clause 3.2.1.9): cause (3.2.2.5), [response request (3.2.2.28)], cell identifier list.
 unfoldable pub handover_required : Row (ℕ × (Bool × List CellId))
-handover_required = octet CAUSE ▸ presence RESPONSE_REQUEST ▸ cell_list
+handover_required = octet CAUSE ▸ presence RESPONSE_REQUEST ▸ cell_identifier_list
 
 -- HANDOVER REQUEST ACKNOWLEDGE (clause 3.2.1.10): layer 3 information (3.2.2.24).
 unfoldable pub handover_request_ack : Row (List ℕ)
@@ -57,7 +57,7 @@ handover_failure = octet CAUSE ▸ optional_octet RR_CAUSE
 
 -- HANDOVER PERFORMED (clause 3.2.1.25): cause, the cell identifier of the new cell.
 unfoldable pub handover_performed : Row (ℕ × CellId)
-handover_performed = octet CAUSE ▸ cell
+handover_performed = octet CAUSE ▸ cell_identifier
 
 -- HANDOVER REQUIRED REJECT (clause 3.2.1.37): cause.
 unfoldable pub handover_required_reject : Row ℕ

@@ -125,20 +125,20 @@ abbrev pub channel_type : Row (List ℕ)
 channel_type = record { read = λ found. channel_type_in (found.first CHANNEL_TYPE); written = λ channel. (CHANNEL_TYPE, channel) ∷ [] }
 
 -- mandatory: classmark information 1 or 2
-abbrev pub classmark : {A : Type 0} → Row (Classmark A)
-classmark = record { read = λ found. classmark_in (found.first CLASSMARK_1) (found.first CLASSMARK_2); written = λ classmark. classmark_element classmark ∷ [] }
+abbrev pub classmark_information : {A : Type 0} → Row (Classmark A)
+classmark_information = record { read = λ found. classmark_in (found.first CLASSMARK_1) (found.first CLASSMARK_2); written = λ classmark. classmark_element classmark ∷ [] }
 
 -- mandatory: the first cell identifier
-abbrev pub cell : Row CellId
-cell = record { read = λ found. cell_in (found.first CELL_IDENTIFIER); written = λ cell. (CELL_IDENTIFIER, cell_value cell) ∷ [] }
+abbrev pub cell_identifier : Row CellId
+cell_identifier = record { read = λ found. cell_in (found.first CELL_IDENTIFIER); written = λ cell. (CELL_IDENTIFIER, cell_value cell) ∷ [] }
 
 -- mandatory: the second cell identifier
-abbrev pub second_cell : Row CellId
-second_cell = record { read = λ found. cell_in (found.second CELL_IDENTIFIER); written = λ cell. (CELL_IDENTIFIER, cell_value cell) ∷ [] }
+abbrev pub second_cell_identifier : Row CellId
+second_cell_identifier = record { read = λ found. cell_in (found.second CELL_IDENTIFIER); written = λ cell. (CELL_IDENTIFIER, cell_value cell) ∷ [] }
 
 -- mandatory: the cell identifier list
-abbrev pub cell_list : Row (List CellId)
-cell_list = record { read = λ found. cells_in (found.first CELL_IDENTIFIER_LIST); written = λ cells. (CELL_IDENTIFIER_LIST, cells_value cells) ∷ [] }
+abbrev pub cell_identifier_list : Row (List CellId)
+cell_identifier_list = record { read = λ found. cells_in (found.first CELL_IDENTIFIER_LIST); written = λ cells. (CELL_IDENTIFIER_LIST, cells_value cells) ∷ [] }
 
 -- optional: an identifier alone, which says that it is there
 abbrev pub presence : ℕ → Row Bool

@@ -186,9 +186,15 @@ pub fn elements_len<A: Allocator>(message: &Bssmap<A>) -> usize
             response,
             cells,
             ..
-        } => counted_len(cells.as_slice().len().saturating_mul(CELL_LEN).saturating_add(1))
-            .saturating_add(response_len(*response))
-            .saturating_add(counted_len(1)),
+        } => counted_len(
+            cells
+                .as_slice()
+                .len()
+                .saturating_mul(CELL_LEN)
+                .saturating_add(1),
+        )
+        .saturating_add(response_len(*response))
+        .saturating_add(counted_len(1)),
         Bssmap::HandoverRequestAck { layer3 } | Bssmap::HandoverCommand { layer3 } => {
             counted_len(layer3.as_slice().len())
         }
@@ -286,11 +292,9 @@ fn append_classmark<A: Allocator>(out: &mut Vec<u8, A>, classmark: &Classmark<A>
 {
     match classmark {
         Classmark::One(octet) => append_octets(out, &[CLASSMARK_1, *octet]),
-        Classmark::Two(octets) => append_element::<InterfaceA, A>(
-            out,
-            CLASSMARK_2,
-            octets.as_slice(),
-        ),
+        Classmark::Two(octets) => {
+            append_element::<InterfaceA, A>(out, CLASSMARK_2, octets.as_slice());
+        }
     }
 }
 
