@@ -1,5 +1,5 @@
 pub mod ReadCells
 pub mod Lengths
-pub mod Written
+pub mod Noted
 pub mod Unique
-pub mod Faults
+pub mod Written

@@ -1,14 +1,18 @@
--- A text has one value.
-use Rattle.std.proofs.Common.{◌≡◌, ℕ, List, ◌∷◌, Option, Some, None, Ok, refl, sym, ◌∙◌, ap, subst, cond, eqb, length}
-use Rattle.octet_elements.specs.Elements.{AreElements}
-use Rattle.octet_elements.proofs.Splits.{same_elements}
+-- Octets begin with one head, or have one fault in it.
+use Rattle.std.proofs.Common.{◌≡◌, ◌⊎◌, ℕ, List, ◌∷◌, Option, Some, None, Result, Err, IfErr, refl, sym, ◌∙◌, ap, subst, cond, eqb, length, inl, inr}
+use Rattle.octet_elements.specs.Texts.{HeadsAreUnique}
+use Rattle.octet_elements.specs.declared.values.ValueFault.{ValueFault}
+use Rattle.octet_elements.specs.declared.values.ValueFault.TheVariants.{Absent, Bad}
+use Rattle.octet_elements.proofs.Texts.{refused}
+use Rattle.bssmap_messages.specs.declared.fault.BssmapFault.{BssmapFault}
+use Rattle.bssmap_messages.specs.declared.fault.BssmapFault.TheVariants as fault
 use Rattle.bssmap_messages.specs.declared.head.MessageKind.{MessageKind}
 use Rattle.bssmap_messages.specs.declared.head.MessageKind.TheVariants as kind
 use Rattle.bssmap_messages.specs.declared.message.Bssmap.{Bssmap}
-use Rattle.bssmap_messages.specs.Forms.{interface_a}
-use Rattle.bssmap_messages.specs.Heads.{Carries, Begins, type_of}
-use Rattle.bssmap_messages.specs.Messages.{Said, meaning_of}
-use Rattle.bssmap_messages.specs.Texts.{Says, IsTextOf}
+use Rattle.bssmap_messages.specs.Heads.{Carries, Begins, HasHeadFault}
+use Rattle.bssmap_messages.specs.Messages.{type_of, KeepsList}
+use Rattle.bssmap_messages.specs.Texts.{codec, IsTextOf, HasFault}
+use Rattle.bssmap_messages.specs.Values.{fault_of}
 
 -- octets carry one thing
 pub one_carried : (octets x y : List ℕ) → Carries octets x → Carries octets y → x ≡ y
@@ -42,14 +46,58 @@ one_head j k octets x y p q =
     let kinds : Some j ≡ Some k = sym (found_at j) ∙ ap kind_at types ∙ found_at k in
     (cc, cc)
 
--- a body says one thing
-pub one_saying : {A : Type 0} (j k : MessageKind) (octets x y : List ℕ) (a b : Said A) → Begins j octets x → Begins k octets y → Says j x a → Says k y b → a ≡ b
-one_saying j k octets x y a b p q h g =
-    let same = one_head j k octets x y p q in
-    let split : AreElements interface_a g.elements x = subst (λ z. AreElements interface_a g.elements z) (sym same.1) g.split in
-    let elements = same_elements interface_a h.elements g.elements x h.split split in
-    sym h.says ∙ (λ i. meaning_of (same.0 i) (elements i)) ∙ g.says
+not_zero : (octets rest : List ℕ) → HasHeadFault octets fault.NotBssmap → octets ≡ 0 ∷ rest → ⊥
+not_zero octets rest (inl none) is = cc
+not_zero octets rest (inr (d, more, was, not)) is = let same : d ≡ 0 = cc in not same
 
-pub one_value : {A : Type 0} (v w : Bssmap A) (octets : List ℕ) → IsTextOf v octets → IsTextOf w octets → v ≡ w
-one_value v w octets h g =
-    let same = one_saying h.kind g.kind octets h.body g.body (Ok v) (Ok w) h.head g.head h.says g.says in cc
+-- a fault of the head is one of three
+HeadIs : List ℕ → BssmapFault → Type 0
+HeadIs octets f = ((f ≡ fault.NotBssmap) × HasHeadFault octets fault.NotBssmap) ⊎ (((f ≡ fault.Length) × HasHeadFault octets fault.Length) ⊎ ((t : ℕ) × (f ≡ fault.UnknownType t) × HasHeadFault octets (fault.UnknownType t)))
+
+head_is : (octets : List ℕ) (f : BssmapFault) → HasHeadFault octets f → HeadIs octets f
+unfolding HeadIs
+head_is octets fault.NotBssmap h = inl (refl, h)
+head_is octets fault.Length h = inr (inl (refl, h))
+head_is octets (fault.UnknownType t) h = inr (inr (t, refl, h))
+head_is octets (fault.Torn at) h = absurd h
+head_is octets (fault.Missing i) h = absurd h
+head_is octets (fault.BadElement i) h = absurd h
+head_is octets fault.NoMemory h = absurd h
+
+one_head_fault : (octets : List ℕ) (f g : BssmapFault) → HeadIs octets f → HeadIs octets g → f ≡ g
+unfolding HeadIs
+one_head_fault octets f g (inl (p, a)) (inl (q, b)) = p ∙ sym q
+one_head_fault octets f g (inl (p, a)) (inr (inl (q, (rest, is, not)))) = absurd (not_zero octets rest a is)
+one_head_fault octets f g (inl (p, a)) (inr (inr (u, q, (y, b, none)))) = absurd (not_zero octets _ a b.framed)
+one_head_fault octets f g (inr (inl (p, (rest, is, not)))) (inl (q, b)) = absurd (not_zero octets rest b is)
+one_head_fault octets f g (inr (inl (p, a))) (inr (inl (q, b))) = p ∙ sym q
+one_head_fault octets f g (inr (inl (p, (rest, is, not)))) (inr (inr (u, q, (y, b, none)))) = absurd (not (u ∷ y) b)
+one_head_fault octets f g (inr (inr (t, p, (x, a, none)))) (inl (q, b)) = absurd (not_zero octets _ b a.framed)
+one_head_fault octets f g (inr (inr (t, p, (x, a, none)))) (inr (inl (q, (rest, is, not)))) = absurd (not (t ∷ x) a)
+one_head_fault octets f g (inr (inr (t, p, (x, a, never)))) (inr (inr (u, q, (y, b, nor)))) =
+    let same = one_carried octets (t ∷ x) (u ∷ y) a b in
+    let types : t ≡ u = cc in p ∙ ap fault.UnknownType types ∙ sym q
+
+-- a head that has a fault is no head of a message
+bad_head : (octets : List ℕ) (f : BssmapFault) (k : MessageKind) (body : List ℕ) → HeadIs octets f → Begins k octets body → ⊥
+unfolding HeadIs
+bad_head octets f k body (inl (p, a)) head = not_zero octets _ a head.framed
+bad_head octets f k body (inr (inl (p, (rest, is, not)))) head = not (type_of k ∷ body) head
+bad_head octets f k body (inr (inr (t, p, (x, a, none)))) head =
+    let same = one_carried octets (t ∷ x) (type_of k ∷ body) a head in
+    let types : t ≡ type_of k = cc in none k types
+
+pub heads : (A : Type 0) → HeadsAreUnique (codec A)
+heads A = record {
+  head = one_head;
+  fault = λ octets f g p q. one_head_fault octets f g (head_is octets f p) (head_is octets g q);
+  either = λ octets f k body p q. bad_head octets f k body (head_is octets f p) q;
+}
+
+no_value_fault : (e : ValueFault) → fault.NoMemory ≡ fault_of e → ⊥
+no_value_fault (Absent i) same = cc
+no_value_fault (Bad i) same = cc
+
+-- memory is refused only for a text whose message keeps a list
+pub memory_refused : (A : Type 0) (octets : List ℕ) (r : Result (Bssmap A) BssmapFault) → r ≡ Err fault.NoMemory → IfErr r (HasFault A octets) → (v : Bssmap A) × IsTextOf v octets × KeepsList v
+memory_refused A octets r memory h = refused (codec A) octets (λ early. early) (λ at same. cc) no_value_fault (subst (λ r. IfErr r (HasFault A octets)) memory h)

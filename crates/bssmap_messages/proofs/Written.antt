@@ -1,39 +1,35 @@
--- A message has a canonical text exactly where its fields can be written.
-use Rattle.std.proofs.Common.{◌≡◌, ℕ, ◌+◌, ◌*◌, ◌<◌, ◌≤◌, ◌/◌, ◌%◌, ◌&&◌, List, [], ◌∷◌, length, length-append, flat_map, unwrap_or, Option, Some, None, Result, Ok, Err, refl, sym, ◌∙◌, ap, arith, Bool, true, false, IsTrue, IsSome}
-use Rattle.std.specs.List.{list_all}
+-- A message has a canonical text exactly where its fields can be said and the length octet can count them.
+use Rattle.std.proofs.Common.{◌≡◌, ℕ, ◌+◌, ◌*◌, ◌<◌, ◌≤◌, ◌/◌, ◌%◌, ◌&&◌, List, [], ◌∷◌, ◌++◌, length, length-append, flat_map, unwrap_or, Option, Some, None, Result, Ok, Err, refl, sym, ◌∙◌, ap, arith, Bool, true, false, IsSome}
+use Rattle.std.specs.List.{list_all, AllByRecursion}
 use Rattle.std.specs.Option.{option_map, is_some}
+use Rattle.octet_elements.specs.declared.form.Form.{Form}
+use Rattle.octet_elements.specs.declared.form.Form.TheVariants.{Fixed, Counted, LongCounted}
+use Rattle.octet_elements.specs.Elements.{Element, Fits, FitsAs, all_octets, element_octets, octets_by_form}
+use Rattle.octet_elements.proofs.Spelling.{IsFixedAs}
+use Rattle.octet_elements.specs.Lookup.{Lookup, values_in}
 use Rattle.octet_elements.specs.Reading.{◌>>=◌}
+use Rattle.octet_elements.specs.Values.{pair, octets_in}
+use Rattle.octet_elements.specs.declared.values.ValueFault.{ValueFault}
+use Rattle.octet_elements.proofs.Rows.{both_read, each_read}
+use Rattle.octet_elements.proofs.Splits.{AreFixed}
+use Rattle.octet_elements.proofs.Texts.{written_says}
 use Rattle.bssmap_messages.specs.declared.message.CellId.{CellId}
 use Rattle.bssmap_messages.specs.declared.message.Classmark.{Classmark}
 use Rattle.bssmap_messages.specs.declared.message.Classmark.TheVariants.{One, Two}
 use Rattle.bssmap_messages.specs.declared.message.Bssmap.{Bssmap}
 use Rattle.bssmap_messages.specs.declared.message.Bssmap.TheVariants.{HandoverRequest, HandoverRequired, HandoverRequestAck, HandoverCommand, HandoverComplete, HandoverFailure, HandoverPerformed, HandoverRequiredReject, HandoverDetect, ClearCommand, ClearComplete, ClearRequest}
-use Rattle.octet_elements.specs.declared.values.ElementFault.{ElementFault}
-use Rattle.octet_elements.specs.Values.{pair, octets_in}
-use Rattle.bssmap_messages.specs.Values.{channel_type_in, cells_with_area, some_cells, cell_in, cells_in, cell_octets, cell_value, cells_value, classmark_element, where_true}
-use Rattle.bssmap_messages.specs.Messages.{handover_request, handover_required, handover_request_ack, handover_command, handover_complete, handover_failure, handover_performed, handover_required_reject, clear_command, clear_request}
-use Rattle.bssmap_messages.specs.Heads.{limit}
-use Rattle.bssmap_messages.specs.Texts.{HasCanonical}
+use Rattle.bssmap_messages.specs.declared.table.TheConstants.{CAUSE, CELL_IDENTIFIER, CELL_IDENTIFIER_LIST, ENCRYPTION_INFORMATION, LAYER_3_INFORMATION, RESPONSE_REQUEST}
 use Rattle.bssmap_messages.specs.Forms.{interface_a}
-use Rattle.octet_elements.specs.Elements.{all_octets, element_octets}
-use Rattle.bssmap_messages.proofs.Lengths.{request_length, required_length}
+use Rattle.bssmap_messages.specs.Heads.{limit, Carries}
+use Rattle.bssmap_messages.specs.Messages.{said, value_of, type_of, kind_of, elements_of, CanBeSaid, handover_request, handover_required, handover_request_ack, handover_command, handover_complete, handover_failure, handover_performed, handover_required_reject, clear_command, clear_request}
+use Rattle.bssmap_messages.specs.Texts.{codec, HasCanonical, canonical_text, written_octets}
+use Rattle.bssmap_messages.specs.Values.{channel_type_in, cells_after, some_cells, cell_in, cells_in, cells_from, cell_octets, cell_value, cells_value, channel_type}
+use Rattle.bssmap_messages.proofs.Lengths.{request_length, required_length, cells_length, classmark_fits}
+use Rattle.bssmap_messages.proofs.Unique.{one_head, one_carried}
 
--- the cell has a location area code
-abbrev HasArea : CellId → Type 0
-HasArea cell = IsSome cell.lac
-
--- each cell has one
+-- each cell has a location area code
 abbrev have_areas : List CellId → Bool
 have_areas cells = list_all (λ cell. is_some cell.lac) cells
-
--- what of the fields of a message decides whether it can be written
-abbrev pub IsWritable : {A : Type 0} → Bssmap A → Type 0
-IsWritable (HandoverRequest channel encryption classmark serving target) = (1 < length channel) × (0 < length encryption) × HasArea serving × HasArea target × (19 + length channel + length encryption + length (element_octets interface_a (classmark_element classmark)) ≤ limit)
-IsWritable (HandoverRequired cause response cells) = (0 < length cells) × IsTrue (have_areas cells) × (7 + length (all_octets interface_a (where_true 0x1B response)) + 4 * length cells ≤ limit)
-IsWritable (HandoverRequestAck layer3) = (0 < length layer3) × (3 + length layer3 ≤ limit)
-IsWritable (HandoverCommand layer3) = (0 < length layer3) × (3 + length layer3 ≤ limit)
-IsWritable (HandoverPerformed cause cell) = HasArea cell
-IsWritable v = Unit {0}
 
 -- Each reader reads again what is written.
 channel_again : (v : List ℕ) → 1 < length v → channel_type_in (Some v) ≡ Ok v
@@ -56,14 +52,14 @@ same_cell (Some lac) ci h =
     let cell : 256 * (ci / 256) + ci % 256 ≡ ci = omega arith in
     λ i. record { lac = Some (area i); ci = cell i }
 
-cell_again : (cell : CellId) → HasArea cell → cell_in (Some (cell_value cell)) ≡ Ok cell
+cell_again : (cell : CellId) → IsSome cell.lac → cell_in (Some (cell_value cell)) ≡ Ok cell
 cell_again cell h = ap Ok (same_cell cell.lac cell.ci h)
 
 and_true : (a b : Bool) → (a && b) ≡ true → (a ≡ true) × (b ≡ true)
 and_true true b h = (refl, h)
 and_true false b h = absurd cc
 
-areas_again : (cells : List CellId) → have_areas cells ≡ true → cells_with_area (flat_map cell_octets cells) ≡ Some cells
+areas_again : (cells : List CellId) → have_areas cells ≡ true → cells_from 1 (flat_map cell_octets cells) [] ≡ Some cells
 areas_again [] h = refl
 areas_again (cell ∷ cells) h =
     let each = and_true (is_some cell.lac) (have_areas cells) h in
@@ -86,12 +82,12 @@ octets_fit : (i : ℕ) (v w : List ℕ) → octets_in i (Some v) ≡ Ok w → 0 
 octets_fit i [] w h = absurd cc
 octets_fit i (octet ∷ v) w h = omega arith
 
-cell_fits : (cell read : CellId) → cell_in (Some (cell_value cell)) ≡ Ok read → read ≡ cell → HasArea cell
+cell_fits : (cell read : CellId) → cell_in (Some (cell_value cell)) ≡ Ok read → read ≡ cell → IsSome cell.lac
 cell_fits cell read h same =
     let again : area_again cell ≡ read = cc in
     ap (λ c. is_some c.lac) (sym (again ∙ same))
 
-areas_read : (cells : List CellId) → (read : List CellId) × (cells_with_area (flat_map cell_octets cells) ≡ Some read) × (have_areas read ≡ true)
+areas_read : (cells : List CellId) → (read : List CellId) × (cells_from 1 (flat_map cell_octets cells) [] ≡ Some read) × (have_areas read ≡ true)
 areas_read [] = ([], refl, refl)
 areas_read (cell ∷ cells) =
     let rest = areas_read cells in
@@ -109,137 +105,141 @@ cells_fit cells read h same =
         let long : length (cell ∷ more) ≡ length cells = ap length same in
         (omega arith, ap have_areas (sym same) ∙ areas)
 
--- a chain that comes to its end has gone through each step
-one_step : {X Y : Type 0} (p : Result X ElementFault) (make : X → Y) (y : Y) → p >>= (λ x. Ok (make x)) ≡ Ok y → (x : X) × (p ≡ Ok x) × (make x ≡ y)
-one_step (Ok x) make y h = (x, refl, cc)
-one_step (Err e) make y h = absurd cc
+-- what is read is made of what its rows read
+made : {X V : Type 0} (make : X → V) (r : Result X ValueFault) (v : V) → value_of make r ≡ Ok v → (x : X) × (r ≡ Ok x) × (make x ≡ v)
+made make (Ok x) v h = (x, refl, cc)
+made make (Err e) v h = absurd cc
 
-two_steps : {W X Y : Type 0} (p : Result W ElementFault) (q : Result X ElementFault) (make : W → X → Y) (y : Y) → p >>= (λ w. q >>= λ x. Ok (make w x)) ≡ Ok y → (w : W) × (x : X) × (p ≡ Ok w) × (q ≡ Ok x) × (make w x ≡ y)
-two_steps (Ok w) (Ok x) make y h = (w, x, refl, refl, cc)
-two_steps (Ok w) (Err e) make y h = absurd cc
-two_steps (Err e) q make y h = absurd cc
+-- one row and others: each reads what both read
+also : {X Y : Type 0} → X → Result Y ValueFault → Result (X × Y) ValueFault
+also {X} {Y} x q = ◌>>=◌ {B = X × Y} q (λ y. Ok (x, y))
 
-request_steps : {A : Type 0} (p q : Result (List ℕ) ElementFault) (r : Result (Classmark A) ElementFault) (s t : Result CellId ElementFault) (y : Bssmap A) → p >>= (λ channel. q >>= λ encryption. r >>= λ classmark. s >>= λ serving. t >>= λ target. Ok (HandoverRequest channel encryption classmark serving target)) ≡ Ok y → (channel : List ℕ) × (encryption : List ℕ) × (classmark : Classmark A) × (serving : CellId) × (target : CellId) × (p ≡ Ok channel) × (q ≡ Ok encryption) × (s ≡ Ok serving) × (t ≡ Ok target) × (HandoverRequest channel encryption classmark serving target ≡ y)
-request_steps (Ok a) (Ok b) (Ok c) (Ok d) (Ok e) y h = (a, b, c, d, e, refl, refl, refl, refl, cc)
-request_steps (Ok a) (Ok b) (Ok c) (Ok d) (Err f) y h = absurd cc
-request_steps (Ok a) (Ok b) (Ok c) (Err f) t y h = absurd cc
-request_steps (Ok a) (Ok b) (Err f) s t y h = absurd cc
-request_steps (Ok a) (Err f) r s t y h = absurd cc
-request_steps (Err f) q r s t y h = absurd cc
+both : {X Y : Type 0} (p : Result X ValueFault) (q : Result Y ValueFault) (x : X) (y : Y) → p ≡ Ok x → q ≡ Ok y → p >>= (λ x. also x q) ≡ Ok (x, y)
+unfolding also
+both p q x y h k = λ i. h i >>= λ x. also x (k i)
 
--- What can be written has a canonical text.
-request_canonical : {A : Type 0} (channel encryption : List ℕ) (classmark : Classmark A) (serving target : CellId) → IsWritable (HandoverRequest channel encryption classmark serving target) → HasCanonical (HandoverRequest channel encryption classmark serving target)
-unfolding handover_request
-request_canonical {A} channel encryption (One octet) serving target h = record {
-  each = (omega arith, (omega arith, (refl, (omega arith, (omega arith, tt)))));
-  says = λ i. channel_again channel h.0 i >>= λ channel. octets_again 0x0A encryption h.1 i >>= λ encryption. cell_again serving h.2 i >>= λ serving. cell_again target h.3 i >>= λ target. Ok (HandoverRequest channel encryption (One octet) serving target);
-  within = let long = request_length {A = A} channel encryption (One octet) serving target in omega arith;
+each : {X Y : Type 0} (p : Result X ValueFault) (q : Result Y ValueFault) (z : X × Y) → p >>= (λ x. also x q) ≡ Ok z → (p ≡ Ok z.0) × (q ≡ Ok z.1)
+unfolding also
+each (Ok x) (Ok y) z h = let same : (x, y) ≡ z = cc in (ap (λ w. Ok w.0) same, ap (λ w. Ok w.1) same)
+each (Ok x) (Err e) z h = absurd cc
+each (Err e) q z h = absurd cc
+
+-- What can be said is said by the elements that are written.
+pub said_again : {A : Type 0} (v : Bssmap A) → CanBeSaid v → said (kind_of v) (values_in (elements_of v)) ≡ Ok v
+unfolding also handover_request handover_required handover_request_ack handover_command handover_complete handover_failure handover_performed handover_required_reject clear_command clear_request
+said_again (HandoverRequest channel encryption (One octet) serving target) h = ap (value_of (λ (channel, (encryption, (classmark, (serving, target)))). HandoverRequest channel encryption classmark serving target)) (both _ _ _ _ (channel_again channel h.0) (both _ _ _ _ (octets_again ENCRYPTION_INFORMATION encryption h.1) (both _ _ _ _ refl (both _ _ _ _ (cell_again serving h.2) (cell_again target h.3)))))
+said_again (HandoverRequest channel encryption (Two v) serving target) h = ap (value_of (λ (channel, (encryption, (classmark, (serving, target)))). HandoverRequest channel encryption classmark serving target)) (both _ _ _ _ (channel_again channel h.0) (both _ _ _ _ (octets_again ENCRYPTION_INFORMATION encryption h.1) (both _ _ _ _ refl (both _ _ _ _ (cell_again serving h.2) (cell_again target h.3)))))
+said_again (HandoverRequired cause true cells) h = ap (value_of (λ (cause, (response, cells)). HandoverRequired cause response cells)) (both _ _ _ _ refl (both _ _ _ _ refl (cells_again cells h.0 h.1)))
+said_again (HandoverRequired cause false cells) h = ap (value_of (λ (cause, (response, cells)). HandoverRequired cause response cells)) (both _ _ _ _ refl (both _ _ _ _ refl (cells_again cells h.0 h.1)))
+said_again (HandoverRequestAck layer3) h = ap (value_of HandoverRequestAck) (octets_again LAYER_3_INFORMATION layer3 h)
+said_again (HandoverCommand layer3) h = ap (value_of HandoverCommand) (octets_again LAYER_3_INFORMATION layer3 h)
+said_again (HandoverComplete None) h = refl
+said_again (HandoverComplete (Some rr)) h = refl
+said_again (HandoverFailure cause None) h = refl
+said_again (HandoverFailure cause (Some rr)) h = refl
+said_again (HandoverPerformed cause cell) h = ap (value_of (λ (cause, cell). HandoverPerformed cause cell)) (both _ _ _ _ refl (cell_again cell h))
+said_again (HandoverRequiredReject cause) h = refl
+said_again HandoverDetect h = refl
+said_again (ClearCommand cause) h = refl
+said_again ClearComplete h = refl
+said_again (ClearRequest cause) h = refl
+
+-- the elements of a message have the lengths that their forms fix
+fixed : {A : Type 0} (v : Bssmap A) → AreFixed interface_a (elements_of v)
+unfolding handover_request handover_required handover_request_ack handover_command handover_complete handover_failure handover_performed handover_required_reject clear_command clear_request
+fixed (HandoverRequest channel encryption (One octet) serving target) = (tt, (tt, (refl, (tt, (tt, tt)))))
+fixed (HandoverRequest channel encryption (Two v) serving target) = (tt, (tt, (tt, (tt, (tt, tt)))))
+fixed (HandoverRequired cause true cells) = (tt, (refl, (tt, tt)))
+fixed (HandoverRequired cause false cells) = (tt, (tt, tt))
+fixed (HandoverRequestAck layer3) = (tt, tt)
+fixed (HandoverCommand layer3) = (tt, tt)
+fixed (HandoverComplete None) = tt
+fixed (HandoverComplete (Some rr)) = (refl, tt)
+fixed (HandoverFailure cause None) = (tt, tt)
+fixed (HandoverFailure cause (Some rr)) = (tt, (refl, tt))
+fixed (HandoverPerformed cause cell) = (tt, (tt, tt))
+fixed (HandoverRequiredReject cause) = (tt, tt)
+fixed HandoverDetect = tt
+fixed (ClearCommand cause) = (tt, tt)
+fixed ClearComplete = tt
+fixed (ClearRequest cause) = (tt, tt)
+
+fits_as : (f : Form) (i : ℕ) (v : List ℕ) → IsFixedAs f v → length (octets_by_form f i v) < 256 → FitsAs f v
+fits_as (Fixed n) i v is short = is
+fits_as Counted i v is short = omega arith
+fits_as LongCounted i v is short = omega arith
+
+-- what is short enough for the length octet can be spelled
+fit_in : (es : List Element) → AreFixed interface_a es → length (all_octets interface_a es) < 256 → AllByRecursion (Fits interface_a) es
+fit_in [] fixed short = tt
+fit_in (e ∷ es) fixed short =
+    let long = length-append (element_octets interface_a e) (all_octets interface_a es) in
+    (fits_as (interface_a e.0) e.0 e.1 fixed.0 (omega arith), fit_in es fixed.1 (omega arith))
+
+-- What can be said and is short enough has a canonical text.
+pub canonical_of : {A : Type 0} (v : Bssmap A) → CanBeSaid v → length (all_octets interface_a (elements_of v)) < limit → HasCanonical v
+canonical_of v h short = record {
+  kind = kind_of v;
+  body = all_octets interface_a (elements_of v);
+  head = record { framed = refl; some = omega arith; within = omega arith };
+  says = record { elements = elements_of v; split = record { each = fit_in (elements_of v) (fixed v) (omega arith); spelling = refl }; says = said_again v h };
 }
-request_canonical {A} channel encryption (Two v) serving target h = record {
-  each = (omega arith, (omega arith, (omega arith, (omega arith, (omega arith, tt)))));
-  says = λ i. channel_again channel h.0 i >>= λ channel. octets_again 0x0A encryption h.1 i >>= λ encryption. cell_again serving h.2 i >>= λ serving. cell_again target h.3 i >>= λ target. Ok (HandoverRequest channel encryption (Two v) serving target);
-  within = let long = request_length {A = A} channel encryption (Two v) serving target in omega arith;
-}
 
-required_canonical : {A : Type 0} (cause : ℕ) (response : Bool) (cells : List CellId) → IsWritable {A = A} (HandoverRequired cause response cells) → HasCanonical {A = A} (HandoverRequired cause response cells)
-unfolding handover_required
-required_canonical cause true cells h =
-    let all = Rattle.bssmap_messages.proofs.Lengths.cells_length cells in
-    let long = required_length cause true cells in record {
-      each = (omega arith, (refl, (omega arith, tt)));
-      says = λ i. cells_again cells h.0 h.1 i >>= λ cells. Ok (HandoverRequired cause true cells);
-      within = omega arith;
-    }
-required_canonical cause false cells h =
-    let all = Rattle.bssmap_messages.proofs.Lengths.cells_length cells in
-    let long = required_length cause false cells in record {
-      each = (omega arith, (omega arith, tt));
-      says = λ i. cells_again cells h.0 h.1 i >>= λ cells. Ok (HandoverRequired cause false cells);
-      within = omega arith;
-    }
+-- What has a canonical text is short enough, and said by its elements.
+own_head : {A : Type 0} (v : Bssmap A) (h : HasCanonical v) → (h.kind ≡ kind_of v) × (h.body ≡ all_octets interface_a (elements_of v)) × (length (all_octets interface_a (elements_of v)) < limit)
+own_head v h =
+    let carried : written_octets v ≡ type_of h.kind ∷ h.body = let framed = h.head.framed in cc in
+    let long : length (written_octets v) ≡ length (type_of h.kind ∷ h.body) = ap length carried in
+    let within = h.head.within in
+    let own : Carries (canonical_text v) (written_octets v) = record { framed = refl; some = omega arith; within = omega arith } in
+    let same = one_head h.kind (kind_of v) (canonical_text v) h.body (all_octets interface_a (elements_of v)) h.head own in
+    (same.0, same.1, omega arith)
 
-pub canonical_of : {A : Type 0} (v : Bssmap A) → IsWritable v → HasCanonical v
-unfolding handover_request_ack handover_command handover_complete handover_failure handover_performed handover_required_reject clear_command clear_request
-canonical_of (HandoverRequest channel encryption classmark serving target) h = request_canonical channel encryption classmark serving target h
-canonical_of (HandoverRequired cause response cells) h = required_canonical cause response cells h
-canonical_of (HandoverRequestAck layer3) h = record {
-  each = (omega arith, tt);
-  says = λ i. octets_again 0x17 layer3 h.0 i >>= λ layer3. Ok (HandoverRequestAck layer3);
-  within = simp length-append (omega arith);
-}
-canonical_of (HandoverCommand layer3) h = record {
-  each = (omega arith, tt);
-  says = λ i. octets_again 0x17 layer3 h.0 i >>= λ layer3. Ok (HandoverCommand layer3);
-  within = simp length-append (omega arith);
-}
-canonical_of (HandoverComplete None) h = record { each = tt; says = refl; within = omega arith }
-canonical_of (HandoverComplete (Some rr)) h = record { each = (refl, tt); says = refl; within = omega arith }
-canonical_of (HandoverFailure cause None) h = record { each = (omega arith, tt); says = refl; within = omega arith }
-canonical_of (HandoverFailure cause (Some rr)) h = record { each = (omega arith, (refl, tt)); says = refl; within = omega arith }
-canonical_of (HandoverPerformed cause cell) h = record {
-  each = (omega arith, (omega arith, tt));
-  says = λ i. cell_again cell h i >>= λ cell. Ok (HandoverPerformed cause cell);
-  within = omega arith;
-}
-canonical_of (HandoverRequiredReject cause) h = record { each = (omega arith, tt); says = refl; within = omega arith }
-canonical_of HandoverDetect h = record { each = tt; says = refl; within = omega arith }
-canonical_of (ClearCommand cause) h = record { each = (omega arith, tt); says = refl; within = omega arith }
-canonical_of ClearComplete h = record { each = tt; says = refl; within = omega arith }
-canonical_of (ClearRequest cause) h = record { each = (omega arith, tt); says = refl; within = omega arith }
+pub short_of : {A : Type 0} (v : Bssmap A) → HasCanonical v → length (all_octets interface_a (elements_of v)) < limit
+short_of v h = (own_head v h).2
 
--- What has a canonical text can be written.
-request_writable : {A : Type 0} (channel encryption : List ℕ) (classmark : Classmark A) (serving target : CellId) → HasCanonical (HandoverRequest channel encryption classmark serving target) → IsWritable (HandoverRequest channel encryption classmark serving target)
-unfolding handover_request
-request_writable {A} channel encryption (One octet) serving target h =
-    let long = request_length {A = A} channel encryption (One octet) serving target in
-    let read = request_steps (channel_type_in (Some channel)) (octets_in 0x0A (Some encryption)) (Ok (One octet)) (cell_in (Some (cell_value serving))) (cell_in (Some (cell_value target))) (HandoverRequest channel encryption (One octet) serving target) h.says in
-    let within = h.within in
-    (channel_fits channel read.0 read.5, octets_fit 0x0A encryption read.1 read.6, cell_fits serving read.3 read.7 cc, cell_fits target read.4 read.8 cc, omega arith)
-request_writable {A} channel encryption (Two v) serving target h =
-    let long = request_length {A = A} channel encryption (Two v) serving target in
-    let read = request_steps (channel_type_in (Some channel)) (octets_in 0x0A (Some encryption)) (Ok (Two v)) (cell_in (Some (cell_value serving))) (cell_in (Some (cell_value target))) (HandoverRequest channel encryption (Two v) serving target) h.says in
-    let within = h.within in
-    (channel_fits channel read.0 read.5, octets_fit 0x0A encryption read.1 read.6, cell_fits serving read.3 read.7 cc, cell_fits target read.4 read.8 cc, omega arith)
+own_said : {A : Type 0} (v : Bssmap A) → HasCanonical v → said (kind_of v) (values_in (elements_of v)) ≡ Ok v
+own_said {A} v h = let own = own_head v h in (written_says (codec A) h.kind (kind_of v) h.body (elements_of v) v own.0 own.1 (fixed v) h.says).1
 
-required_writable : {A : Type 0} (cause : ℕ) (response : Bool) (cells : List CellId) → HasCanonical {A = A} (HandoverRequired cause response cells) → IsWritable {A = A} (HandoverRequired cause response cells)
-unfolding handover_required
-required_writable {A} cause true cells h =
-    let make : List CellId → Bssmap A = λ cells. HandoverRequired cause true cells in
-    let read = one_step (cells_in (Some (cells_value cells))) make (HandoverRequired cause true cells) h.says in
-    let fit = cells_fit cells read.0 read.1 cc in
-    let long = required_length cause true cells in
-    let within = h.within in
-    (fit.0, fit.1, omega arith)
-required_writable {A} cause false cells h =
-    let make : List CellId → Bssmap A = λ cells. HandoverRequired cause false cells in
-    let read = one_step (cells_in (Some (cells_value cells))) make (HandoverRequired cause false cells) h.says in
-    let fit = cells_fit cells read.0 read.1 cc in
-    let long = required_length cause false cells in
-    let within = h.within in
-    (fit.0, fit.1, omega arith)
+request_said : {A : Type 0} (channel encryption : List ℕ) (classmark : Classmark A) (serving target : CellId) (p q : Result (List ℕ) ValueFault) (r : Result (Classmark A) ValueFault) (s t : Result CellId ValueFault) → value_of (λ (channel, (encryption, (classmark, (serving, target)))). HandoverRequest channel encryption classmark serving target) (p >>= λ x. also x (q >>= λ x. also x (r >>= λ x. also x (s >>= λ x. also x t)))) ≡ Ok (HandoverRequest channel encryption classmark serving target) → (p ≡ Ok channel) × (q ≡ Ok encryption) × (s ≡ Ok serving) × (t ≡ Ok target)
+unfolding also
+request_said channel encryption classmark serving target (Ok a) (Ok b) (Ok c) (Ok d) (Ok e) h = (cc, cc, cc, cc)
+request_said channel encryption classmark serving target (Ok a) (Ok b) (Ok c) (Ok d) (Err f) h = absurd cc
+request_said channel encryption classmark serving target (Ok a) (Ok b) (Ok c) (Err f) t h = absurd cc
+request_said channel encryption classmark serving target (Ok a) (Ok b) (Err f) s t h = absurd cc
+request_said channel encryption classmark serving target (Ok a) (Err f) r s t h = absurd cc
+request_said channel encryption classmark serving target (Err f) q r s t h = absurd cc
 
-pub writable_of : {A : Type 0} (v : Bssmap A) → HasCanonical v → IsWritable v
-unfolding handover_request_ack handover_command handover_performed
-writable_of (HandoverRequest channel encryption classmark serving target) h = request_writable channel encryption classmark serving target h
-writable_of (HandoverRequired cause response cells) h = required_writable cause response cells h
-writable_of {A} (HandoverRequestAck layer3) h =
-    let make : List ℕ → Bssmap A = λ layer3. HandoverRequestAck layer3 in
-    let read = one_step (octets_in 0x17 (Some layer3)) make (HandoverRequestAck layer3) h.says in
-    let long = simp length-append at h.within in
-    (octets_fit 0x17 layer3 read.0 read.1, omega arith)
-writable_of {A} (HandoverCommand layer3) h =
-    let make : List ℕ → Bssmap A = λ layer3. HandoverCommand layer3 in
-    let read = one_step (octets_in 0x17 (Some layer3)) make (HandoverCommand layer3) h.says in
-    let long = simp length-append at h.within in
-    (octets_fit 0x17 layer3 read.0 read.1, omega arith)
-writable_of (HandoverComplete rr) h = tt
-writable_of (HandoverFailure cause rr) h = tt
-writable_of {A} (HandoverPerformed cause cell) h =
-    let make : CellId → Bssmap A = λ cell. HandoverPerformed cause cell in
-    let read = one_step (cell_in (Some (cell_value cell))) make (HandoverPerformed cause cell) h.says in
-    cell_fits cell read.0 read.1 cc
-writable_of (HandoverRequiredReject cause) h = tt
-writable_of HandoverDetect h = tt
-writable_of (ClearCommand cause) h = tt
-writable_of ClearComplete h = tt
-writable_of (ClearRequest cause) h = tt
+required_said : {A : Type 0} (cause : ℕ) (response : Bool) (cells : List CellId) (r : Result (List CellId) ValueFault) → r ≡ cells_in (Some (cells_value cells)) → value_of {V = Bssmap A} (λ (cause, (response, cells)). HandoverRequired cause response cells) (also cause (also response r)) ≡ Ok (HandoverRequired cause response cells) → CanBeSaid {A = A} (HandoverRequired cause response cells)
+unfolding also
+required_said cause response cells (Ok read) is h = cells_fit cells read (sym is) cc
+required_said cause response cells (Err e) is h = absurd cc
+
+performed_said : {A : Type 0} (cause : ℕ) (cell : CellId) (r : Result CellId ValueFault) → r ≡ cell_in (Some (cell_value cell)) → value_of {V = Bssmap A} (λ (cause, cell). HandoverPerformed cause cell) (also cause r) ≡ Ok (HandoverPerformed cause cell) → IsSome cell.lac
+unfolding also
+performed_said cause cell (Ok read) is h = cell_fits cell read (sym is) cc
+performed_said cause cell (Err e) is h = absurd cc
+
+pub can_be_said : {A : Type 0} (v : Bssmap A) → said (kind_of v) (values_in (elements_of v)) ≡ Ok v → CanBeSaid v
+unfolding also handover_request handover_required handover_request_ack handover_command handover_complete handover_failure handover_performed handover_required_reject clear_command clear_request
+can_be_said (HandoverRequest channel encryption (One octet) serving target) h =
+    let each = request_said channel encryption (One octet) serving target (channel_type_in (Some channel)) (octets_in ENCRYPTION_INFORMATION (Some encryption)) (Ok (One octet)) (cell_in (Some (cell_value serving))) (cell_in (Some (cell_value target))) h in
+    (channel_fits channel channel each.0, octets_fit ENCRYPTION_INFORMATION encryption encryption each.1, cell_fits serving serving each.2 refl, cell_fits target target each.3 refl)
+can_be_said (HandoverRequest channel encryption (Two v) serving target) h =
+    let each = request_said channel encryption (Two v) serving target (channel_type_in (Some channel)) (octets_in ENCRYPTION_INFORMATION (Some encryption)) (Ok (Two v)) (cell_in (Some (cell_value serving))) (cell_in (Some (cell_value target))) h in
+    (channel_fits channel channel each.0, octets_fit ENCRYPTION_INFORMATION encryption encryption each.1, cell_fits serving serving each.2 refl, cell_fits target target each.3 refl)
+can_be_said (HandoverRequired cause true cells) h = required_said cause true cells (cells_in (Some (cells_value cells))) refl h
+can_be_said (HandoverRequired cause false cells) h = required_said cause false cells (cells_in (Some (cells_value cells))) refl h
+can_be_said (HandoverRequestAck layer3) h = let read = made HandoverRequestAck (octets_in LAYER_3_INFORMATION (Some layer3)) (HandoverRequestAck layer3) h in octets_fit LAYER_3_INFORMATION layer3 read.0 read.1
+can_be_said (HandoverCommand layer3) h = let read = made HandoverCommand (octets_in LAYER_3_INFORMATION (Some layer3)) (HandoverCommand layer3) h in octets_fit LAYER_3_INFORMATION layer3 read.0 read.1
+can_be_said (HandoverComplete rr) h = tt
+can_be_said (HandoverFailure cause rr) h = tt
+can_be_said {A} (HandoverPerformed cause cell) h = performed_said cause cell (cell_in (Some (cell_value cell))) refl h
+can_be_said (HandoverRequiredReject cause) h = tt
+can_be_said HandoverDetect h = tt
+can_be_said (ClearCommand cause) h = tt
+can_be_said ClearComplete h = tt
+can_be_said (ClearRequest cause) h = tt
+
+pub said_of : {A : Type 0} (v : Bssmap A) → HasCanonical v → CanBeSaid v
+said_of v h = can_be_said v (own_said v h)

@@ -3,6 +3,7 @@ use Rattle.std.specs.Prelude.{ℕ, ◌-◌, if◌then◌else◌, ◌==◌, List,
 use Rattle.octet_elements.specs.declared.form.Form.{Form}
 use Rattle.octet_elements.specs.declared.form.Form.TheVariants.{Fixed, Counted}
 use Rattle.octet_elements.specs.Elements.{Forms}
+use Rattle.bssmap_messages.specs.declared.table.TheConstants.{CAUSE, CELL_IDENTIFIER, ENCRYPTION_INFORMATION, CHANNEL_TYPE, CLASSMARK_2, RR_CAUSE, LAYER_3_INFORMATION, CELL_IDENTIFIER_LIST, RESPONSE_REQUEST, CLASSMARK_1}
 
 -- The elements of a fixed length: identifier, and how many octets they have with it. Three of them stand
 -- in messages that are read here: RR cause, response request and classmark 1.
@@ -16,3 +17,7 @@ form_in (entry ∷ table) i = if i == entry.0 then Fixed (entry.1 - 1) else form
 
 abbrev pub interface_a : Forms
 interface_a i = form_in fixed_lengths i
+
+-- The elements that messages use. Of the first, the cell identifier, the second element counts too.
+abbrev pub known : List ℕ
+known = CELL_IDENTIFIER ∷ CAUSE ∷ ENCRYPTION_INFORMATION ∷ CHANNEL_TYPE ∷ CLASSMARK_2 ∷ RR_CAUSE ∷ LAYER_3_INFORMATION ∷ CELL_IDENTIFIER_LIST ∷ RESPONSE_REQUEST ∷ CLASSMARK_1 ∷ []

@@ -4,22 +4,7 @@ use Rattle.std.specs.Prelude.{◌≡◌, ◌≢◌, ◌⊎◌, ℕ, ◌<◌, ◌
 use Rattle.bssmap_messages.specs.declared.fault.BssmapFault.{BssmapFault}
 use Rattle.bssmap_messages.specs.declared.fault.BssmapFault.TheVariants.{NotBssmap, Length, UnknownType}
 use Rattle.bssmap_messages.specs.declared.head.MessageKind.{MessageKind}
-use Rattle.bssmap_messages.specs.declared.head.MessageKind.TheVariants.{HandoverRequest, HandoverRequired, HandoverRequestAck, HandoverCommand, HandoverComplete, HandoverFailure, HandoverPerformed, HandoverRequiredReject, HandoverDetect, ClearCommand, ClearComplete, ClearRequest}
-
--- the message type (clause 3.2.2.1)
-abbrev pub type_of : MessageKind → ℕ
-type_of HandoverRequest = 0x10
-type_of HandoverRequired = 0x11
-type_of HandoverRequestAck = 0x12
-type_of HandoverCommand = 0x13
-type_of HandoverComplete = 0x14
-type_of HandoverFailure = 0x16
-type_of HandoverPerformed = 0x17
-type_of HandoverRequiredReject = 0x1A
-type_of HandoverDetect = 0x1B
-type_of ClearCommand = 0x20
-type_of ClearComplete = 0x21
-type_of ClearRequest = 0x22
+use Rattle.bssmap_messages.specs.Messages.{type_of}
 
 -- the greatest length octet
 abbrev pub limit : ℕ

@@ -1,103 +1,115 @@
--- The messages (TS 48.008 clause 3.2.1): what their elements say, and how they are written.
-use Rattle.std.specs.Prelude.{ℕ, List, [], ◌∷◌, ◌++◌, Option, Result, Ok}
-use Rattle.octet_elements.specs.Elements.{Element, first_of, second_of}
-use Rattle.octet_elements.specs.Reading.{◌>>=◌}
-use Rattle.octet_elements.specs.declared.values.ElementFault.{ElementFault}
+-- The messages (TS 48.008 clause 3.2.1): of each its type, and row by row its elements, as they are read and
+-- as they are written.
+use Rattle.std.specs.Prelude.{ℕ, ◌+◌, ◌<◌, Bool, List, [], length, Option, Result, Ok, Err, IsTrue, IsSome, is_some}
+use Rattle.std.specs.List.{list_all}
+use Rattle.octet_elements.specs.Elements.{Element}
+use Rattle.octet_elements.specs.Lookup.{Lookup}
+use Rattle.octet_elements.specs.Rows.{Row, octet, optional_octet, octets, ◌▸◌}
+use Rattle.octet_elements.specs.declared.values.ValueFault.{ValueFault}
 use Rattle.bssmap_messages.specs.declared.head.MessageKind.{MessageKind}
 use Rattle.bssmap_messages.specs.declared.head.MessageKind.TheVariants as kind
+use Rattle.bssmap_messages.specs.declared.message.CellId.{CellId}
+use Rattle.bssmap_messages.specs.declared.message.Classmark.{Classmark}
 use Rattle.bssmap_messages.specs.declared.message.Bssmap.{Bssmap}
 use Rattle.bssmap_messages.specs.declared.message.Bssmap.TheVariants.{HandoverRequest, HandoverRequired, HandoverRequestAck, HandoverCommand, HandoverComplete, HandoverFailure, HandoverPerformed, HandoverRequiredReject, HandoverDetect, ClearCommand, ClearComplete, ClearRequest}
-use Rattle.octet_elements.specs.Values.{octet_in, optional_octet_in, octets_in, where_some}
-use Rattle.bssmap_messages.specs.Values.{channel_type_in, classmark_in, is_there, cell_in, cells_in, cell_value, cells_value, classmark_element, where_true}
+use Rattle.bssmap_messages.specs.declared.table.TheConstants.{CAUSE, ENCRYPTION_INFORMATION, RR_CAUSE, LAYER_3_INFORMATION, RESPONSE_REQUEST}
+use Rattle.bssmap_messages.specs.Values.{channel_type, classmark_information, cell_identifier, second_cell_identifier, cell_identifier_list, presence, classmark_length}
 
--- what the values of its elements say, where they are there; else the first fault in the order of the message
+-- the message type (clause 3.2.2.1)
+abbrev pub type_of : MessageKind → ℕ
+type_of kind.HandoverRequest = 0x10
+type_of kind.HandoverRequired = 0x11
+type_of kind.HandoverRequestAck = 0x12
+type_of kind.HandoverCommand = 0x13
+type_of kind.HandoverComplete = 0x14
+type_of kind.HandoverFailure = 0x16
+type_of kind.HandoverPerformed = 0x17
+type_of kind.HandoverRequiredReject = 0x1A
+type_of kind.HandoverDetect = 0x1B
+type_of kind.ClearCommand = 0x20
+type_of kind.ClearComplete = 0x21
+type_of kind.ClearRequest = 0x22
+
+-- HANDOVER REQUEST (clause 3.2.1.8): channel type, encryption information (3.2.2.10), classmark
+-- information, the cell identifier of the serving cell and that of the target cell.
+unfoldable pub handover_request : {A : Type 0} → Row (List ℕ × (List ℕ × (Classmark A × (CellId × CellId))))
+handover_request = channel_type ▸ octets ENCRYPTION_INFORMATION ▸ classmark_information ▸ cell_identifier ▸ second_cell_identifier
+
+-- HANDOVER REQUIRED (clause 3.2.1.9): cause (3.2.2.5), [response request (3.2.2.28)], cell identifier list.
+unfoldable pub handover_required : Row (ℕ × (Bool × List CellId))
+handover_required = octet CAUSE ▸ presence RESPONSE_REQUEST ▸ cell_identifier_list
+
+-- HANDOVER REQUEST ACKNOWLEDGE (clause 3.2.1.10): layer 3 information (3.2.2.24).
+unfoldable pub handover_request_ack : Row (List ℕ)
+handover_request_ack = octets LAYER_3_INFORMATION
+
+-- HANDOVER COMMAND (clause 3.2.1.11): layer 3 information.
+unfoldable pub handover_command : Row (List ℕ)
+handover_command = octets LAYER_3_INFORMATION
+
+-- HANDOVER COMPLETE (clause 3.2.1.12): [RR cause (3.2.2.22)].
+unfoldable pub handover_complete : Row (Option ℕ)
+handover_complete = optional_octet RR_CAUSE
+
+-- HANDOVER FAILURE (clause 3.2.1.16): cause, [RR cause].
+unfoldable pub handover_failure : Row (ℕ × Option ℕ)
+handover_failure = octet CAUSE ▸ optional_octet RR_CAUSE
+
+-- HANDOVER PERFORMED (clause 3.2.1.25): cause, the cell identifier of the new cell.
+unfoldable pub handover_performed : Row (ℕ × CellId)
+handover_performed = octet CAUSE ▸ cell_identifier
+
+-- HANDOVER REQUIRED REJECT (clause 3.2.1.37): cause.
+unfoldable pub handover_required_reject : Row ℕ
+handover_required_reject = octet CAUSE
+
+-- HANDOVER DETECT (clause 3.2.1.40) and CLEAR COMPLETE (clause 3.2.1.22) have no elements.
+
+-- CLEAR COMMAND (clause 3.2.1.21): cause.
+unfoldable pub clear_command : Row ℕ
+clear_command = octet CAUSE
+
+-- CLEAR REQUEST (clause 3.2.1.20): cause.
+unfoldable pub clear_request : Row ℕ
+clear_request = octet CAUSE
+
+-- what the elements of a message say, or the first fault in the order of its rows
 abbrev pub Said : Type 0 → Type 0
-Said A = Result (Bssmap A) ElementFault
+Said A = Result (Bssmap A) ValueFault
 
--- Clause 3.2.1.8: channel type, encryption information (3.2.2.10), classmark information, the cell
--- identifier of the serving cell and that of the target cell.
-unfoldable pub handover_request : {A : Type 0} → Option (List ℕ) → Option (List ℕ) → Option (List ℕ) → Option (List ℕ) → Option (List ℕ) → Option (List ℕ) → Said A
-handover_request channel encryption one two serving target = do
-  channel ← channel_type_in channel
-  encryption ← octets_in 0x0A encryption
-  classmark ← classmark_in one two
-  serving ← cell_in serving
-  target ← cell_in target
-  Ok (HandoverRequest channel encryption classmark serving target)
+-- the message of these fields
+abbrev pub value_of : {X V : Type 0} → (X → V) → Result X ValueFault → Result V ValueFault
+value_of message (Ok fields) = Ok (message fields)
+value_of message (Err fault) = Err fault
 
--- Clause 3.2.1.9: cause (3.2.2.5), response request (3.2.2.28) and the cell identifier list.
-unfoldable pub handover_required : {A : Type 0} → Option (List ℕ) → Option (List ℕ) → Option (List ℕ) → Said A
-handover_required cause response cells = do
-  cause ← octet_in 0x04 cause
-  cells ← cells_in cells
-  Ok (HandoverRequired cause (is_there response) cells)
+abbrev pub said : {A : Type 0} → MessageKind → Lookup → Said A
+said kind.HandoverRequest found = value_of (λ (channel, (encryption, (classmark, (serving, target)))). HandoverRequest channel encryption classmark serving target) (handover_request.read found)
+said kind.HandoverRequired found = value_of (λ (cause, (response, cells)). HandoverRequired cause response cells) (handover_required.read found)
+said kind.HandoverRequestAck found = value_of HandoverRequestAck (handover_request_ack.read found)
+said kind.HandoverCommand found = value_of HandoverCommand (handover_command.read found)
+said kind.HandoverComplete found = value_of HandoverComplete (handover_complete.read found)
+said kind.HandoverFailure found = value_of (λ (cause, rr). HandoverFailure cause rr) (handover_failure.read found)
+said kind.HandoverPerformed found = value_of (λ (cause, cell). HandoverPerformed cause cell) (handover_performed.read found)
+said kind.HandoverRequiredReject found = value_of HandoverRequiredReject (handover_required_reject.read found)
+said kind.HandoverDetect found = Ok HandoverDetect
+said kind.ClearCommand found = value_of ClearCommand (clear_command.read found)
+said kind.ClearComplete found = Ok ClearComplete
+said kind.ClearRequest found = value_of ClearRequest (clear_request.read found)
 
--- Clause 3.2.1.10: layer 3 information (3.2.2.24).
-unfoldable pub handover_request_ack : {A : Type 0} → Option (List ℕ) → Said A
-handover_request_ack layer3 = do
-  layer3 ← octets_in 0x17 layer3
-  Ok (HandoverRequestAck layer3)
-
--- Clause 3.2.1.11: layer 3 information.
-unfoldable pub handover_command : {A : Type 0} → Option (List ℕ) → Said A
-handover_command layer3 = do
-  layer3 ← octets_in 0x17 layer3
-  Ok (HandoverCommand layer3)
-
--- Clause 3.2.1.12: RR cause (3.2.2.22).
-unfoldable pub handover_complete : {A : Type 0} → Option (List ℕ) → Said A
-handover_complete rr = do
-  rr ← optional_octet_in 0x15 rr
-  Ok (HandoverComplete rr)
-
--- Clause 3.2.1.16: cause and RR cause.
-unfoldable pub handover_failure : {A : Type 0} → Option (List ℕ) → Option (List ℕ) → Said A
-handover_failure cause rr = do
-  cause ← octet_in 0x04 cause
-  rr ← optional_octet_in 0x15 rr
-  Ok (HandoverFailure cause rr)
-
--- Clause 3.2.1.25: cause and the cell identifier of the new cell.
-unfoldable pub handover_performed : {A : Type 0} → Option (List ℕ) → Option (List ℕ) → Said A
-handover_performed cause cell = do
-  cause ← octet_in 0x04 cause
-  cell ← cell_in cell
-  Ok (HandoverPerformed cause cell)
-
--- Clause 3.2.1.37: cause.
-unfoldable pub handover_required_reject : {A : Type 0} → Option (List ℕ) → Said A
-handover_required_reject cause = do
-  cause ← octet_in 0x04 cause
-  Ok (HandoverRequiredReject cause)
-
--- Clause 3.2.1.21: cause.
-unfoldable pub clear_command : {A : Type 0} → Option (List ℕ) → Said A
-clear_command cause = do
-  cause ← octet_in 0x04 cause
-  Ok (ClearCommand cause)
-
--- Clause 3.2.1.20: cause.
-unfoldable pub clear_request : {A : Type 0} → Option (List ℕ) → Said A
-clear_request cause = do
-  cause ← octet_in 0x04 cause
-  Ok (ClearRequest cause)
-
--- What the elements of a message say. An element that stands twice is read where it stands first, and one
--- that the message has no use for isn't read. HANDOVER REQUEST reads two cell identifiers: the serving
--- cell's, and behind it the target's.
-abbrev pub meaning_of : {A : Type 0} → MessageKind → List Element → Said A
-meaning_of kind.HandoverRequest es = handover_request (first_of 0x0B es) (first_of 0x0A es) (first_of 0x1D es) (first_of 0x12 es) (first_of 0x05 es) (second_of 0x05 es)
-meaning_of kind.HandoverRequired es = handover_required (first_of 0x04 es) (first_of 0x1B es) (first_of 0x1A es)
-meaning_of kind.HandoverRequestAck es = handover_request_ack (first_of 0x17 es)
-meaning_of kind.HandoverCommand es = handover_command (first_of 0x17 es)
-meaning_of kind.HandoverComplete es = handover_complete (first_of 0x15 es)
-meaning_of kind.HandoverFailure es = handover_failure (first_of 0x04 es) (first_of 0x15 es)
-meaning_of kind.HandoverPerformed es = handover_performed (first_of 0x04 es) (first_of 0x05 es)
-meaning_of kind.HandoverRequiredReject es = handover_required_reject (first_of 0x04 es)
-meaning_of kind.HandoverDetect es = Ok HandoverDetect
-meaning_of kind.ClearCommand es = clear_command (first_of 0x04 es)
-meaning_of kind.ClearComplete es = Ok ClearComplete
-meaning_of kind.ClearRequest es = clear_request (first_of 0x04 es)
+-- the elements of a message in the order in which they are written
+abbrev pub elements_of : {A : Type 0} → Bssmap A → List Element
+elements_of (HandoverRequest channel encryption classmark serving target) = handover_request.written (channel, (encryption, (classmark, (serving, target))))
+elements_of (HandoverRequired cause response cells) = handover_required.written (cause, (response, cells))
+elements_of (HandoverRequestAck layer3) = handover_request_ack.written layer3
+elements_of (HandoverCommand layer3) = handover_command.written layer3
+elements_of (HandoverComplete rr) = handover_complete.written rr
+elements_of (HandoverFailure cause rr) = handover_failure.written (cause, rr)
+elements_of (HandoverPerformed cause cell) = handover_performed.written (cause, cell)
+elements_of (HandoverRequiredReject cause) = handover_required_reject.written cause
+elements_of HandoverDetect = []
+elements_of (ClearCommand cause) = clear_command.written cause
+elements_of ClearComplete = []
+elements_of (ClearRequest cause) = clear_request.written cause
 
 abbrev pub kind_of : {A : Type 0} → Bssmap A → MessageKind
 kind_of (HandoverRequest channel encryption classmark serving target) = kind.HandoverRequest
@@ -113,32 +125,33 @@ kind_of (ClearCommand cause) = kind.ClearCommand
 kind_of ClearComplete = kind.ClearComplete
 kind_of (ClearRequest cause) = kind.ClearRequest
 
--- the elements of a message in the order in which they are written
-abbrev pub elements_of : {A : Type 0} → Bssmap A → List Element
-elements_of (HandoverRequest channel encryption classmark serving target) = (0x0B, channel) ∷ (0x0A, encryption) ∷ classmark_element classmark ∷ (0x05, cell_value serving) ∷ (0x05, cell_value target) ∷ []
-elements_of (HandoverRequired cause response cells) = (0x04, cause ∷ []) ∷ where_true 0x1B response ++ (0x1A, cells_value cells) ∷ []
-elements_of (HandoverRequestAck layer3) = (0x17, layer3) ∷ []
-elements_of (HandoverCommand layer3) = (0x17, layer3) ∷ []
-elements_of (HandoverComplete rr) = where_some 0x15 rr
-elements_of (HandoverFailure cause rr) = (0x04, cause ∷ []) ∷ where_some 0x15 rr
-elements_of (HandoverPerformed cause cell) = (0x04, cause ∷ []) ∷ (0x05, cell_value cell) ∷ []
-elements_of (HandoverRequiredReject cause) = (0x04, cause ∷ []) ∷ []
-elements_of HandoverDetect = []
-elements_of (ClearCommand cause) = (0x04, cause ∷ []) ∷ []
-elements_of ClearComplete = []
-elements_of (ClearRequest cause) = (0x04, cause ∷ []) ∷ []
+-- The message keeps a list that isn't empty, for which reading it may ask for memory.
+abbrev pub KeepsList : {A : Type 0} → Bssmap A → Type 0
+KeepsList (HandoverRequest channel encryption classmark serving target) = 0 < length channel + length encryption + classmark_length classmark
+KeepsList (HandoverRequired cause response cells) = 0 < length cells
+KeepsList (HandoverRequestAck layer3) = 0 < length layer3
+KeepsList (HandoverCommand layer3) = 0 < length layer3
+KeepsList (HandoverComplete rr) = ⊥
+KeepsList (HandoverFailure cause rr) = ⊥
+KeepsList (HandoverPerformed cause cell) = ⊥
+KeepsList (HandoverRequiredReject cause) = ⊥
+KeepsList HandoverDetect = ⊥
+KeepsList (ClearCommand cause) = ⊥
+KeepsList ClearComplete = ⊥
+KeepsList (ClearRequest cause) = ⊥
 
--- the message keeps an octet list or a cell list, for which reading it may want memory
-abbrev pub HasList : {A : Type 0} → Bssmap A → Type 0
-HasList (HandoverRequest channel encryption classmark serving target) = Unit {0}
-HasList (HandoverRequired cause response cells) = Unit {0}
-HasList (HandoverRequestAck layer3) = Unit {0}
-HasList (HandoverCommand layer3) = Unit {0}
-HasList (HandoverComplete rr) = ⊥
-HasList (HandoverFailure cause rr) = ⊥
-HasList (HandoverPerformed cause cell) = ⊥
-HasList (HandoverRequiredReject cause) = ⊥
-HasList HandoverDetect = ⊥
-HasList (ClearCommand cause) = ⊥
-HasList ClearComplete = ⊥
-HasList (ClearRequest cause) = ⊥
+-- The message is what its elements say once they are written: octets are long enough, there is a cell, and each
+-- cell has a location area code.
+abbrev pub CanBeSaid : {A : Type 0} → Bssmap A → Type 0
+CanBeSaid (HandoverRequest channel encryption classmark serving target) = (1 < length channel) × (0 < length encryption) × IsSome serving.lac × IsSome target.lac
+CanBeSaid (HandoverRequired cause response cells) = (0 < length cells) × IsTrue (list_all (λ cell. is_some cell.lac) cells)
+CanBeSaid (HandoverRequestAck layer3) = 0 < length layer3
+CanBeSaid (HandoverCommand layer3) = 0 < length layer3
+CanBeSaid (HandoverComplete rr) = Unit {0}
+CanBeSaid (HandoverFailure cause rr) = Unit {0}
+CanBeSaid (HandoverPerformed cause cell) = IsSome cell.lac
+CanBeSaid (HandoverRequiredReject cause) = Unit {0}
+CanBeSaid HandoverDetect = Unit {0}
+CanBeSaid (ClearCommand cause) = Unit {0}
+CanBeSaid ClearComplete = Unit {0}
+CanBeSaid (ClearRequest cause) = Unit {0}

@@ -1,10 +1,11 @@
--- What the value of an element says, and how it is written (TS 48.008 clause 3.2.2).
-use Rattle.std.specs.Prelude.{ℕ, ◌%◌, if◌then◌else◌, ◌==◌, Bool, true, false, List, [], ◌∷◌, ◌++◌, Option, Some, None, flat_map, unwrap_or, Result, Ok, Err}
-use Rattle.std.specs.Option.{option_map}
+-- What the value of an element says, how it is written, and its row in a message (TS 48.008 clause 3.2.2).
+use Rattle.std.specs.Prelude.{ℕ, ◌%◌, if◌then◌else◌, ◌==◌, Bool, true, false, List, [], ◌∷◌, ◌++◌, Option, Some, None, flat_map, length, unwrap_or, Result, Ok, Err}
+use Rattle.std.specs.Option.{option_map, is_some}
 use Rattle.octet_elements.specs.Elements.{Element}
+use Rattle.octet_elements.specs.Rows.{Row}
 use Rattle.octet_elements.specs.Values.{pair, pair_octets}
-use Rattle.octet_elements.specs.declared.values.ElementFault.{ElementFault}
-use Rattle.octet_elements.specs.declared.values.ElementFault.TheVariants.{Absent, Bad}
+use Rattle.octet_elements.specs.declared.values.ValueFault.{ValueFault}
+use Rattle.octet_elements.specs.declared.values.ValueFault.TheVariants.{Absent, Bad}
 use Rattle.bssmap_messages.specs.declared.message.CellId.{CellId}
 use Rattle.bssmap_messages.specs.declared.message.Classmark.{Classmark}
 use Rattle.bssmap_messages.specs.declared.message.Classmark.TheVariants.{One, Two}
@@ -12,84 +13,85 @@ use Rattle.bssmap_messages.specs.declared.values.ClassmarkValue.{ClassmarkValue}
 use Rattle.bssmap_messages.specs.declared.values.ClassmarkValue.TheVariants as in_octets
 use Rattle.bssmap_messages.specs.declared.fault.BssmapFault.{BssmapFault}
 use Rattle.bssmap_messages.specs.declared.fault.BssmapFault.TheVariants.{Missing, BadElement}
+use Rattle.bssmap_messages.specs.declared.table.TheConstants.{CELL_IDENTIFIER, CHANNEL_TYPE, CLASSMARK_2, CELL_IDENTIFIER_LIST, CLASSMARK_1}
 
 -- the fault that a message has by its element
-abbrev pub fault_of : ElementFault → BssmapFault
+abbrev pub fault_of : ValueFault → BssmapFault
 fault_of (Absent i) = Missing i
 fault_of (Bad i) = BadElement i
 
 -- Channel type (clause 3.2.2.11): at least two octets.
-abbrev pub channel_type_in : Option (List ℕ) → Result (List ℕ) ElementFault
-channel_type_in None = Err (Absent 0x0B)
-channel_type_in (Some []) = Err (Bad 0x0B)
-channel_type_in (Some (octet ∷ [])) = Err (Bad 0x0B)
+abbrev pub channel_type_in : Option (List ℕ) → Result (List ℕ) ValueFault
+channel_type_in None = Err (Absent CHANNEL_TYPE)
+channel_type_in (Some []) = Err (Bad CHANNEL_TYPE)
+channel_type_in (Some (octet ∷ [])) = Err (Bad CHANNEL_TYPE)
 channel_type_in (Some (first ∷ second ∷ v)) = Ok (first ∷ second ∷ v)
 
 -- Classmark information type 1 (clause 3.2.2.30) counts where it is there; else type 2 (clause
 -- 3.2.2.19), which may be empty. It is type 2 that is missing where there is neither.
-abbrev pub classmark_in : {A : Type 0} → Option (List ℕ) → Option (List ℕ) → Result (Classmark A) ElementFault
+abbrev pub classmark_in : {A : Type 0} → Option (List ℕ) → Option (List ℕ) → Result (Classmark A) ValueFault
 classmark_in (Some (octet ∷ v)) two = Ok (One octet)
-classmark_in (Some []) two = Err (Bad 0x1D)
+classmark_in (Some []) two = Err (Bad CLASSMARK_1)
 classmark_in None (Some v) = Ok (Two v)
-classmark_in None None = Err (Absent 0x12)
+classmark_in None None = Err (Absent CLASSMARK_2)
 
 -- a classmark in the octets of a message, with octets of its own
 abbrev pub kept_classmark : {A : Type 0} → ClassmarkValue → Classmark A
 kept_classmark (in_octets.One octet) = One octet
 kept_classmark (in_octets.Two v) = Two v.now
 
--- an element without a value says that it is there
-abbrev pub is_there : Option (List ℕ) → Bool
-is_there None = false
-is_there (Some v) = true
+-- The octets of one cell (clause 3.2.2.17), by the low four bits of the discriminator: 0 is a mobile country
+-- and network code of three octets, which isn't kept, location area code and cell identity; 1 the last two;
+-- 2 the cell identity alone.
+abbrev pub area_and_cell : List ℕ → Option CellId
+area_and_cell (a ∷ b ∷ c ∷ d ∷ []) = Some (record { lac = Some (pair a b); ci = pair c d })
+area_and_cell _ = None
 
--- Cells after the discriminator (clauses 3.2.2.17 and 3.2.2.27) are one after the other:
--- each has a mobile country and network code of three octets, which isn't kept, location area code and
--- cell identity;
-abbrev pub cells_with_network : List ℕ → Option (List CellId)
-cells_with_network [] = Some []
-cells_with_network (a ∷ b ∷ c ∷ d ∷ e ∷ f ∷ g ∷ v) = option_map (λ cells. record { lac = Some (pair d e); ci = pair f g } ∷ cells) (cells_with_network v)
-cells_with_network _ = None
+abbrev pub network_and_cell : List ℕ → Option CellId
+network_and_cell (a ∷ b ∷ c ∷ v) = area_and_cell v
+network_and_cell _ = None
 
--- or location area code and cell identity;
-abbrev pub cells_with_area : List ℕ → Option (List CellId)
-cells_with_area [] = Some []
-cells_with_area (a ∷ b ∷ c ∷ d ∷ v) = option_map (λ cells. record { lac = Some (pair a b); ci = pair c d } ∷ cells) (cells_with_area v)
-cells_with_area _ = None
+abbrev pub cell_alone : List ℕ → Option CellId
+cell_alone (a ∷ b ∷ []) = Some (record { lac = None; ci = pair a b })
+cell_alone _ = None
 
--- or the cell identity alone.
-abbrev pub cells_alone : List ℕ → Option (List CellId)
-cells_alone [] = Some []
-cells_alone (a ∷ b ∷ v) = option_map (λ cells. record { lac = None; ci = pair a b } ∷ cells) (cells_alone v)
-cells_alone _ = None
+abbrev pub cell_of : ℕ → List ℕ → Option CellId
+cell_of form v = if form == 0 then network_and_cell v else if form == 1 then area_and_cell v else if form == 2 then cell_alone v else None
 
--- The low four bits of the discriminator say which: 0, 1 or 2.
-abbrev pub cells_by : ℕ → List ℕ → Option (List CellId)
-cells_by form v = if form == 0 then cells_with_network v else if form == 1 then cells_with_area v else if form == 2 then cells_alone v else None
+-- Cells one after the other: as soon as the octets behind the last cell are a cell, it is the next one. `begun`
+-- are those that are none yet.
+abbrev pub or_next : Option CellId → Option (List CellId) → Option (List CellId) → Option (List CellId)
+or_next None more rest = more
+or_next (Some cell) more rest = option_map (λ cells. cell ∷ cells) rest
+
+abbrev pub cells_from : ℕ → List ℕ → List ℕ → Option (List CellId)
+cells_from form [] [] = Some []
+cells_from form [] (octet ∷ begun) = None
+cells_from form (octet ∷ v) begun = or_next (cell_of form (begun ++ octet ∷ [])) (cells_from form v (begun ++ octet ∷ [])) (cells_from form v [])
 
 abbrev pub cells_after : ℕ → List ℕ → Option (List CellId)
-cells_after d v = cells_by (d % 16) v
+cells_after d v = cells_from (d % 16) v []
 
 -- exactly one cell
-abbrev pub only_cell : Option (List CellId) → Result CellId ElementFault
+abbrev pub only_cell : Option (List CellId) → Result CellId ValueFault
 only_cell (Some (cell ∷ [])) = Ok cell
-only_cell _ = Err (Bad 0x05)
+only_cell _ = Err (Bad CELL_IDENTIFIER)
 
 -- at least one cell
-abbrev pub some_cells : Option (List CellId) → Result (List CellId) ElementFault
+abbrev pub some_cells : Option (List CellId) → Result (List CellId) ValueFault
 some_cells (Some (cell ∷ cells)) = Ok (cell ∷ cells)
-some_cells _ = Err (Bad 0x1A)
+some_cells _ = Err (Bad CELL_IDENTIFIER_LIST)
 
 -- Cell Identifier (clause 3.2.2.17): the discriminator and one cell.
-abbrev pub cell_in : Option (List ℕ) → Result CellId ElementFault
-cell_in None = Err (Absent 0x05)
-cell_in (Some []) = Err (Bad 0x05)
+abbrev pub cell_in : Option (List ℕ) → Result CellId ValueFault
+cell_in None = Err (Absent CELL_IDENTIFIER)
+cell_in (Some []) = Err (Bad CELL_IDENTIFIER)
 cell_in (Some (d ∷ v)) = only_cell (cells_after d v)
 
 -- Cell Identifier List (clause 3.2.2.27): the discriminator once, and cells.
-abbrev pub cells_in : Option (List ℕ) → Result (List CellId) ElementFault
-cells_in None = Err (Absent 0x1A)
-cells_in (Some []) = Err (Bad 0x1A)
+abbrev pub cells_in : Option (List ℕ) → Result (List CellId) ValueFault
+cells_in None = Err (Absent CELL_IDENTIFIER_LIST)
+cells_in (Some []) = Err (Bad CELL_IDENTIFIER_LIST)
 cells_in (Some (d ∷ v)) = some_cells (cells_after d v)
 
 -- A cell is written with discriminator 1, by location area code and cell identity. What stands for a cell
@@ -105,10 +107,39 @@ cells_value cells = 1 ∷ flat_map cell_octets cells
 
 -- the element of a classmark
 abbrev pub classmark_element : {A : Type 0} → Classmark A → Element
-classmark_element (One octet) = (0x1D, octet ∷ [])
-classmark_element (Two v) = (0x12, v)
+classmark_element (One octet) = (CLASSMARK_1, octet ∷ [])
+classmark_element (Two v) = (CLASSMARK_2, v)
+
+-- how many octets are kept of it in a list
+abbrev pub classmark_length : {A : Type 0} → Classmark A → ℕ
+classmark_length (One octet) = 0
+classmark_length (Two v) = length v
 
 -- an element alone, that is written where it is asked for
 abbrev pub where_true : ℕ → Bool → List Element
 where_true i true = (i, []) ∷ []
 where_true i false = []
+
+-- mandatory: the channel type
+abbrev pub channel_type : Row (List ℕ)
+channel_type = record { read = λ found. channel_type_in (found.first CHANNEL_TYPE); written = λ channel. (CHANNEL_TYPE, channel) ∷ [] }
+
+-- mandatory: classmark information 1 or 2
+abbrev pub classmark_information : {A : Type 0} → Row (Classmark A)
+classmark_information = record { read = λ found. classmark_in (found.first CLASSMARK_1) (found.first CLASSMARK_2); written = λ classmark. classmark_element classmark ∷ [] }
+
+-- mandatory: the first cell identifier
+abbrev pub cell_identifier : Row CellId
+cell_identifier = record { read = λ found. cell_in (found.first CELL_IDENTIFIER); written = λ cell. (CELL_IDENTIFIER, cell_value cell) ∷ [] }
+
+-- mandatory: the second cell identifier
+abbrev pub second_cell_identifier : Row CellId
+second_cell_identifier = record { read = λ found. cell_in (found.second CELL_IDENTIFIER); written = λ cell. (CELL_IDENTIFIER, cell_value cell) ∷ [] }
+
+-- mandatory: the cell identifier list
+abbrev pub cell_identifier_list : Row (List CellId)
+cell_identifier_list = record { read = λ found. cells_in (found.first CELL_IDENTIFIER_LIST); written = λ cells. (CELL_IDENTIFIER_LIST, cells_value cells) ∷ [] }
+
+-- optional: an identifier alone, which says that it is there
+abbrev pub presence : ℕ → Row Bool
+presence i = record { read = λ found. Ok (is_some (found.first i)); written = λ there. where_true i there }

@@ -2,100 +2,86 @@
 ghost use Rattle.std.specs.Prelude.{◌≡◌, ◌<◌, ◌↔◌, [], ◌∷◌, List, length, Some, Ok, Err, IsTrue, IsSome, IfSome, IfNone, IfOk, IfErr};
 ghost use Rattle.std.specs.Option.{option_map};
 ghost use Rattle.bssmap_messages.specs.declared.message.CellId.{CellId};
-ghost use Rattle.octet_elements.specs.Values.{value_seen};
-ghost use Rattle.bssmap_messages.specs.Values.{cells_with_network, cells_with_area, cells_alone, cells_after, only_cell, some_cells, cell_in, cells_in};
+ghost use Rattle.octet_elements.specs.Values.{value_seen, pair};
+ghost use Rattle.bssmap_messages.specs.Values.{cells_after, only_cell, some_cells, cell_in, cells_in};
 
-use crate::lists::CellList;
+use crate::cell_list::CellList;
 use crate::message::CellId;
 use crate::table::{CELL_IDENTIFIER, CELL_IDENTIFIER_LIST};
-use octet_elements::values::{ElementFault, pair_of};
+use octet_elements::ValueFault;
+use octet_elements::values::pair_of;
 use std::alloc::{AllocError, Allocator};
 
-/// The cell that the octets begin with, behind network code and location area code, and the rest.
-fn cell_with_network(octets: &[u8]) -> Option<(CellId, &[u8])>
-    ensures found { IfSome result (λ f. cells_with_network octets.now ≡ option_map
-        (λ cells. f.0 ∷ cells) (cells_with_network f.1.now)) }
-    ensures less { IfSome result (λ f. length f.1.now < length octets.now) }
-    ensures none { IfNone result (IfSome (cells_with_network octets.now) (λ cells. cells ≡ [])) }
+/// The cell of a location area code and a cell identity.
+fn cell_in_area(area_high: u8, area_low: u8, high: u8, low: u8) -> CellId
+    ensures { result ≡ record { lac = Some (pair area_high area_low); ci = pair high low } }
 {
-    let [_, _, _, area_high, area_low, high, low, rest @ ..] = octets else {
-        return None;
-    };
-    let lac = Some(pair_of(*area_high, *area_low));
-    let ci = pair_of(*high, *low);
-    Some((CellId { lac, ci }, rest))
-}
-
-/// The cell that the octets begin with, behind a location area code, and the rest.
-fn cell_with_area(octets: &[u8]) -> Option<(CellId, &[u8])>
-    ensures found { IfSome result (λ f. cells_with_area octets.now ≡ option_map
-        (λ cells. f.0 ∷ cells) (cells_with_area f.1.now)) }
-    ensures less { IfSome result (λ f. length f.1.now < length octets.now) }
-    ensures none { IfNone result (IfSome (cells_with_area octets.now) (λ cells. cells ≡ [])) }
-{
-    let [area_high, area_low, high, low, rest @ ..] = octets else {
-        return None;
-    };
-    let lac = Some(pair_of(*area_high, *area_low));
-    let ci = pair_of(*high, *low);
-    Some((CellId { lac, ci }, rest))
-}
-
-/// The cell that the octets begin with, a cell identity alone, and the rest.
-fn cell_alone(octets: &[u8]) -> Option<(CellId, &[u8])>
-    ensures found { IfSome result (λ f. cells_alone octets.now ≡ option_map
-        (λ cells. f.0 ∷ cells) (cells_alone f.1.now)) }
-    ensures less { IfSome result (λ f. length f.1.now < length octets.now) }
-    ensures none { IfNone result (IfSome (cells_alone octets.now) (λ cells. cells ≡ [])) }
-{
-    let [high, low, rest @ ..] = octets else {
-        return None;
-    };
-    let ci = pair_of(*high, *low);
-    Some((CellId { lac: None, ci }, rest))
+    let lac = Some(pair_of(area_high, area_low));
+    let ci = pair_of(high, low);
+    CellId { lac, ci }
 }
 
 /// The cell that the octets after a discriminator begin with, and the rest.
 fn leading_cell(discriminator: u8, octets: &[u8]) -> Option<(CellId, &[u8])>
     ensures found { IfSome result (λ f. cells_after discriminator octets.now ≡ option_map
         (λ cells. f.0 ∷ cells) (cells_after discriminator f.1.now)) }
-    ensures known { IsSome result → cells_after discriminator [] ≡ Some [] }
     ensures less { IfSome result (λ f. length f.1.now < length octets.now) }
     ensures none { IfNone result (IfSome (cells_after discriminator octets.now)
         (λ cells. cells ≡ [])) }
 {
     match discriminator % 16 {
-        0 => cell_with_network(octets),
-        1 => cell_with_area(octets),
-        2 => cell_alone(octets),
+        0 => {
+            let [_, _, _, area_high, area_low, high, low, rest @ ..] = octets else {
+                return None;
+            };
+            Some((cell_in_area(*area_high, *area_low, *high, *low), rest))
+        }
+        1 => {
+            let [area_high, area_low, high, low, rest @ ..] = octets else {
+                return None;
+            };
+            Some((cell_in_area(*area_high, *area_low, *high, *low), rest))
+        }
+        2 => {
+            let [high, low, rest @ ..] = octets else {
+                return None;
+            };
+            let ci = pair_of(*high, *low);
+            Some((CellId { lac: None, ci }, rest))
+        }
         _ => None,
     }
 }
 
 /// The cell of a cell identifier.
 #[inline(always)]
-pub fn cell(value: Option<&[u8]>) -> Result<CellId, ElementFault>
+pub fn cell(value: Option<&[u8]>) -> Result<CellId, ValueFault>
     ensures { result ≡ cell_in (value_seen value.entry) }
 {
     match value {
-        None => Err(ElementFault::Absent(CELL_IDENTIFIER)),
+        None => Err(ValueFault::Absent(CELL_IDENTIFIER)),
         Some([discriminator, octets @ ..]) => only_cell(*discriminator, octets),
-        Some([]) => Err(ElementFault::Bad(CELL_IDENTIFIER)),
+        Some([]) => Err(ValueFault::Bad(CELL_IDENTIFIER)),
     }
 }
 
 /// The one cell after a discriminator.
-fn only_cell(discriminator: u8, octets: &[u8]) -> Result<CellId, ElementFault>
+fn only_cell(discriminator: u8, octets: &[u8]) -> Result<CellId, ValueFault>
     ensures { result ≡ only_cell (cells_after discriminator octets.now) }
 {
-    match leading_cell(discriminator, octets) {
-        Some((cell, [])) => Ok(cell),
-        _ => Err(ElementFault::Bad(CELL_IDENTIFIER)),
+    let Some((cell, rest)) = leading_cell(discriminator, octets) else {
+        return Err(ValueFault::Bad(CELL_IDENTIFIER));
+    };
+    if rest.is_empty() {
+        Ok(cell)
+    } else {
+        Err(ValueFault::Bad(CELL_IDENTIFIER))
     }
 }
 
-/// Whether the octets after a discriminator are whole cells.
+/// Whether the octets after a discriminator, of which there is one, are whole cells.
 fn are_cells(discriminator: u8, octets: &[u8]) -> bool
+    requires { 0 < length octets.now }
     ensures { IsTrue result ↔ IsSome (cells_after discriminator octets.now) }
 {
     match discriminator % 16 {
@@ -107,29 +93,29 @@ fn are_cells(discriminator: u8, octets: &[u8]) -> bool
 }
 
 /// The discriminator of a cell identifier list and the octets of its cells, of which there is one.
-pub fn cells(value: Option<&[u8]>) -> Result<(u8, &[u8]), ElementFault>
+pub fn cells(value: Option<&[u8]>) -> Result<(u8, &[u8]), ValueFault>
     ensures ok { IfOk result (λ c. (cells : List CellId) ×
         (cells_after c.0 c.1.now ≡ Some cells) × (cells_in (value_seen value.entry) ≡ Ok cells)) }
     ensures err { IfErr result (λ e. cells_in (value_seen value.entry) ≡ Err e) }
 {
     match value {
-        None => Err(ElementFault::Absent(CELL_IDENTIFIER_LIST)),
+        None => Err(ValueFault::Absent(CELL_IDENTIFIER_LIST)),
         Some([discriminator, octets @ ..]) => some_cells(*discriminator, octets),
-        Some([]) => Err(ElementFault::Bad(CELL_IDENTIFIER_LIST)),
+        Some([]) => Err(ValueFault::Bad(CELL_IDENTIFIER_LIST)),
     }
 }
 
 /// At least one cell after a discriminator.
-fn some_cells(discriminator: u8, octets: &[u8]) -> Result<(u8, &[u8]), ElementFault>
+fn some_cells(discriminator: u8, octets: &[u8]) -> Result<(u8, &[u8]), ValueFault>
     ensures ok { IfOk result (λ c. (cells : List CellId) ×
         (cells_after c.0 c.1.now ≡ Some cells) ×
         (some_cells (cells_after discriminator octets.now) ≡ Ok cells)) }
     ensures err { IfErr result (λ e. some_cells (cells_after discriminator octets.now) ≡ Err e) }
 {
     match octets {
-        [] => Err(ElementFault::Bad(CELL_IDENTIFIER_LIST)),
+        [] => Err(ValueFault::Bad(CELL_IDENTIFIER_LIST)),
         _ if are_cells(discriminator, octets) => Ok((discriminator, octets)),
-        _ => Err(ElementFault::Bad(CELL_IDENTIFIER_LIST)),
+        _ => Err(ValueFault::Bad(CELL_IDENTIFIER_LIST)),
     }
 }
 

@@ -1,5 +1,5 @@
 //! Why octets are no message.
-use octet_elements::values::ElementFault;
+use octet_elements::ValueFault;
 use std::alloc::AllocError;
 use thiserror::Error;
 
@@ -44,16 +44,16 @@ impl From<AllocError> for BssmapFault {
     }
 }
 
-impl From<ElementFault> for BssmapFault {
+impl From<ValueFault> for BssmapFault {
     ghost use Rattle.std.specs.Prelude.{◌≡◌};
     ghost use Rattle.bssmap_messages.specs.Values.{fault_of};
 
     ghost from_gives = { λ e f. f ≡ fault_of e };
 
-    fn from(fault: ElementFault) -> BssmapFault {
+    fn from(fault: ValueFault) -> BssmapFault {
         match fault {
-            ElementFault::Absent(identifier) => BssmapFault::Missing(identifier),
-            ElementFault::Bad(identifier) => BssmapFault::BadElement(identifier),
+            ValueFault::Absent(identifier) => BssmapFault::Missing(identifier),
+            ValueFault::Bad(identifier) => BssmapFault::BadElement(identifier),
         }
     }
 }

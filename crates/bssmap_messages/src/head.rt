@@ -1,6 +1,7 @@
 //! Discriminator, length and type.
 ghost use Rattle.std.specs.Prelude.{◌≡◌, ◌∷◌, IfOk, IfErr, IfSome, IfNone};
-ghost use Rattle.bssmap_messages.specs.Heads.{type_of, Carries, Begins, HasHeadFault};
+ghost use Rattle.bssmap_messages.specs.Heads.{Carries, Begins, HasHeadFault};
+ghost use Rattle.bssmap_messages.specs.Messages.{type_of};
 
 use crate::fault::BssmapFault;
 

@@ -4,20 +4,22 @@
 //! [`encode`] and [`encode_into`] write one, and [`fits`] says whether a value can be written.
 #![tactic(auto)]
 
+mod cell_list;
 mod cells;
+mod elements;
 mod fault;
 mod head;
 mod laws;
-mod lists;
 mod message;
 mod reading;
 mod table;
 mod values;
 mod writing;
 
+pub use cell_list::CellList;
 pub use fault::BssmapFault;
 pub use laws::{canonical_is_text, reading_is_unique};
-pub use lists::{CellList, Octets};
 pub use message::{Bssmap, CellId, Classmark};
+pub use octet_elements::Octets;
 pub use reading::decode;
 pub use writing::{encode, encode_into, fits};

@@ -1,5 +1,6 @@
 //! The messages.
-use crate::lists::{CellList, Octets};
+use crate::cell_list::CellList;
+use octet_elements::Octets;
 use std::alloc::{Allocator, Global};
 
 /// A cell, as an element identifies it (TS 48.008 clause 3.2.2.17).

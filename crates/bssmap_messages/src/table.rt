@@ -1,8 +1,8 @@
 //! The identifiers and forms of the elements on A (TS 48.008 clause 3.2.2).
 ghost use Rattle.std.specs.Prelude.{◌≡◌};
-ghost use Rattle.bssmap_messages.specs.Forms.{interface_a};
+ghost use Rattle.bssmap_messages.specs.Forms.{interface_a, known};
 
-use octet_elements::{ElementTable, Form};
+use octet_elements::{ElementTable, Form, PLACES};
 
 pub const CAUSE: u8 = 0x04;
 
@@ -60,6 +60,8 @@ fn form_in_table(identifier: u8) -> Form
 impl ElementTable for InterfaceA {
     ghost form_of = { interface_a };
 
+    ghost known = { known };
+
     /// Most elements of the messages have an identifier from 0x02 to 0x13. They are told here, so that reading them is
     /// short.
     #[inline(always)]
@@ -68,6 +70,23 @@ impl ElementTable for InterfaceA {
             Form::Counted
         } else {
             form_in_table(identifier)
+        }
+    }
+
+    #[inline(always)]
+    fn place_for(identifier: u8) -> usize {
+        match identifier {
+            CELL_IDENTIFIER => 0,
+            CAUSE => 1,
+            ENCRYPTION_INFORMATION => 2,
+            CHANNEL_TYPE => 3,
+            CLASSMARK_2 => 4,
+            RR_CAUSE => 5,
+            LAYER_3_INFORMATION => 6,
+            CELL_IDENTIFIER_LIST => 7,
+            RESPONSE_REQUEST => 8,
+            CLASSMARK_1 => 9,
+            _ => PLACES,
         }
     }
 }

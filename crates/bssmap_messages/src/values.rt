@@ -1,22 +1,21 @@
 //! What the value of an element says.
-ghost use Rattle.std.specs.Prelude.{◌≡◌, Ok, Err, IfOk, IfErr};
+ghost use Rattle.std.specs.Prelude.{◌≡◌, ◌<◌, Ok, Err, IfOk, IfErr, OnErr};
 ghost use Rattle.octet_elements.specs.Values.{value_seen};
-ghost use Rattle.bssmap_messages.specs.Values.{channel_type_in, classmark_in, is_there, kept_classmark};
+ghost use Rattle.bssmap_messages.specs.Values.{channel_type_in, classmark_in, classmark_length, kept_classmark};
 
-use crate::lists::Octets;
 use crate::message::Classmark;
 use crate::table::{CHANNEL_TYPE, CLASSMARK_1, CLASSMARK_2};
-use octet_elements::values::ElementFault;
+use octet_elements::{Octets, ValueFault};
 use std::alloc::{AllocError, Allocator};
 
 /// The channel type, which has at least two octets.
-pub fn channel_type(value: Option<&[u8]>) -> Result<&[u8], ElementFault>
+pub fn channel_type(value: Option<&[u8]>) -> Result<&[u8], ValueFault>
     ensures ok { IfOk result (λ v. channel_type_in (value_seen value.entry) ≡ Ok v.now) }
     ensures err { IfErr result (λ e. channel_type_in (value_seen value.entry) ≡ Err e) }
 {
     match value {
-        None => Err(ElementFault::Absent(CHANNEL_TYPE)),
-        Some([] | [_]) => Err(ElementFault::Bad(CHANNEL_TYPE)),
+        None => Err(ValueFault::Absent(CHANNEL_TYPE)),
+        Some([] | [_]) => Err(ValueFault::Bad(CHANNEL_TYPE)),
         Some(value) => Ok(value),
     }
 }
@@ -34,7 +33,7 @@ pub enum ClassmarkValue<'a> {
 pub fn classmark<'a, A: Allocator>(
     one: Option<&[u8]>,
     two: Option<&'a [u8]>,
-) -> Result<ClassmarkValue<'a>, ElementFault>
+) -> Result<ClassmarkValue<'a>, ValueFault>
     ensures ok { IfOk result (λ c. classmark_in {A = A} (value_seen one.entry)
         (value_seen two.entry) ≡ Ok (kept_classmark c)) }
     ensures err { IfErr result (λ e. classmark_in {A = A} (value_seen one.entry)
@@ -42,9 +41,9 @@ pub fn classmark<'a, A: Allocator>(
 {
     match (one, two) {
         (Some([octet, ..]), _) => Ok(ClassmarkValue::One(*octet)),
-        (Some([]), _) => Err(ElementFault::Bad(CLASSMARK_1)),
+        (Some([]), _) => Err(ValueFault::Bad(CLASSMARK_1)),
         (None, Some(value)) => Ok(ClassmarkValue::Two(value)),
-        (None, None) => Err(ElementFault::Absent(CLASSMARK_2)),
+        (None, None) => Err(ValueFault::Absent(CLASSMARK_2)),
     }
 }
 
@@ -54,17 +53,11 @@ pub fn keep_classmark<A: Allocator + Copy>(
     alloc: A,
     classmark: ClassmarkValue<'_>,
 ) -> Result<Classmark<A>, AllocError>
-    ensures { IfOk result (λ c. c ≡ kept_classmark classmark.entry) }
+    ensures ok { IfOk result (λ c. c ≡ kept_classmark classmark.entry) }
+    ensures some { OnErr result (0 < classmark_length (kept_classmark {A = A} classmark.entry)) }
 {
     match classmark {
         ClassmarkValue::One(octet) => Ok(Classmark::One(octet)),
         ClassmarkValue::Two(octets) => Ok(Classmark::Two(Octets::new(alloc, octets)?)),
     }
-}
-
-/// Whether the element is there.
-pub fn is_there(value: Option<&[u8]>) -> bool
-    ensures { result ≡ is_there (value_seen value.entry) }
-{
-    value.is_some()
 }

@@ -1,9 +1,9 @@
 use bssmap_messages::{
-    Bssmap, BssmapFault, CellId, CellList, Classmark, Octets, canonical_is_text, decode, encode,
-    encode_into, fits, reading_is_unique,
+    Bssmap, BssmapFault, CellId, CellList, Octets, canonical_is_text, decode, encode, encode_into,
+    fits, reading_is_unique,
 };
 use refusing_heap::RefusingHeap;
-use std::alloc::{AllocError, Global};
+use std::alloc::Global;
 use std::process::Abort;
 use std::test::Fail;
 
@@ -40,321 +40,51 @@ const CLEAR_COMPLETE: &[u8] = &[0, 1, 0x21];
 
 const CLEAR_REQUEST: &[u8] = &[0, 4, 0x22, 4, 1, 0x20];
 
-/// A text of each message, as it is written.
-const TEXTS: [&[u8]; 12] = [
-    REQUEST,
-    REQUIRED,
-    REQUEST_ACK,
-    COMMAND,
-    COMPLETE,
-    FAILURE,
-    PERFORMED,
-    REQUIRED_REJECT,
-    DETECT,
-    CLEAR_COMMAND,
-    CLEAR_COMPLETE,
-    CLEAR_REQUEST,
+/// HANDOVER REQUEST with classmark information type 2.
+const REQUEST_2: &[u8] = &[
+    0, 0x1C, 0x10, 0x0B, 3, 1, 8, 1, 0x0A, 1, 1, 0x12, 3, 0x33, 0x19, 0x81, 5, 5, 1, 0, 0x17, 0,
+    0x66, 5, 5, 1, 0, 0x17, 0, 0x65,
 ];
 
-/// More texts, as they are written: other causes, and a request without the mark of no encryption.
-const MORE_TEXTS: [&[u8]; 6] = [
-    &[0, 4, 0x16, 4, 1, 0x21],
-    &[0, 4, 0x16, 4, 1, 0x40],
-    &[0, 4, 0x16, 4, 1, 0x51],
-    &[0, 4, 0x20, 4, 1, 0x20],
-    &[0, 4, 0x22, 4, 1, 0],
-    &[
-        0, 0x19, 0x10, 0x0B, 3, 1, 8, 1, 0x0A, 1, 2, 0x1D, 0x33, 5, 5, 1, 0, 0x17, 0, 0x66, 5, 5,
-        1, 0, 0x17, 0, 0x63,
-    ],
+/// HANDOVER REQUEST with an empty one.
+const REQUEST_EMPTY_2: &[u8] = &[
+    0, 0x19, 0x10, 0x0B, 3, 1, 8, 1, 0x0A, 1, 1, 0x12, 0, 5, 5, 1, 0, 0x17, 0, 0x66, 5, 5, 1, 0,
+    0x17, 0, 0x65,
 ];
 
-/// The elements of each text: the offset where one begins, the identifier that is missing without
-/// it, and whether the message needs it.
-const ELEMENTS: [&[(usize, u8, bool)]; 12] = [
-    &[
-        (3, 0x0B, true),
-        (8, 0x0A, true),
-        (11, 0x12, true),
-        (13, 5, true),
-        (20, 5, true),
-    ],
-    &[(3, 4, true), (6, 0x1B, false), (7, 0x1A, true)],
-    &[(3, 0x17, true)],
-    &[(3, 0x17, true)],
-    &[(3, 0x15, false)],
-    &[(3, 4, true), (6, 0x15, false)],
-    &[(3, 4, true), (6, 5, true)],
-    &[(3, 4, true)],
-    &[],
-    &[(3, 4, true)],
-    &[],
-    &[(3, 4, true)],
+/// A text of each message, as it is written, and how many lists with an item the message keeps.
+const TEXTS: [(&[u8], u64); 14] = [
+    (REQUEST, 2),
+    (REQUEST_2, 3),
+    (REQUEST_EMPTY_2, 2),
+    (REQUIRED, 1),
+    (REQUEST_ACK, 1),
+    (COMMAND, 1),
+    (COMPLETE, 0),
+    (FAILURE, 0),
+    (PERFORMED, 0),
+    (REQUIRED_REJECT, 0),
+    (DETECT, 0),
+    (CLEAR_COMMAND, 0),
+    (CLEAR_COMPLETE, 0),
+    (CLEAR_REQUEST, 0),
 ];
 
-/// Reads a text, and writes what it says.
+/// A message is written as this text.
+fn is_written(rt: &(impl AllocGlobal + Abort), message: &Bssmap, text: &[u8]) -> Result<(), Fail> {
+    assert!(rt; fits(message), "{text:?}");
+    let written = encode(rt.alloc(), message)?;
+    assert_eq!(rt; written.as_slice(), text);
+    Ok(())
+}
+
+/// What a text says is written so.
 fn is_written_as(rt: &(impl AllocGlobal + Abort), text: &[u8], written: &[u8]) -> Result<(), Fail> {
-    let message = decode(rt.alloc(), text)?;
-    assert!(rt; fits(&message), "{text:?}");
-    assert_eq!(rt;
-        encode(rt.alloc(), &message)?.as_slice(),
-        written,
-        "{text:?}"
-    );
-    Ok(())
+    is_written(rt, &decode(rt.alloc(), text)?, written)
 }
 
-fn are_read_back(rt: &(impl AllocGlobal + Abort), texts: &[&[u8]]) -> Result<(), Fail> {
-    for text in texts {
-        is_written_as(rt, text, text)?;
-    }
-    Ok(())
-}
-
-#[test]
-fn reads_back_what_it_writes(rt: HostRuntime) -> Result<(), Fail> {
-    are_read_back(&rt, &TEXTS)?;
-    are_read_back(&rt, &MORE_TEXTS)?;
-    reading_is_unique::<Global>();
-    canonical_is_text::<Global>();
-    Ok(())
-}
-
-/// What a message says, its lists borrowed.
-#[derive(Clone, Copy, Debug, PartialEq, Eq)]
-enum Said<'a> {
-    HandoverRequest {
-        channel: &'a [u8],
-        encryption: &'a [u8],
-        classmark: Mark<'a>,
-        serving: CellId,
-        target: CellId,
-    },
-    HandoverRequired {
-        cause: u8,
-        response: bool,
-        cells: &'a [CellId],
-    },
-    HandoverRequestAck {
-        layer3: &'a [u8],
-    },
-    HandoverCommand {
-        layer3: &'a [u8],
-    },
-    HandoverComplete {
-        rr: Option<u8>,
-    },
-    HandoverFailure {
-        cause: u8,
-        rr: Option<u8>,
-    },
-    HandoverPerformed {
-        cause: u8,
-        cell: CellId,
-    },
-    HandoverRequiredReject {
-        cause: u8,
-    },
-    HandoverDetect,
-    ClearCommand {
-        cause: u8,
-    },
-    ClearComplete,
-    ClearRequest {
-        cause: u8,
-    },
-}
-
-/// A classmark, borrowed.
-#[derive(Clone, Copy, Debug, PartialEq, Eq)]
-enum Mark<'a> {
-    One(u8),
-    Two(&'a [u8]),
-}
-
-fn borrowed_mark(classmark: &Classmark) -> Mark<'_> {
-    match classmark {
-        Classmark::One(octet) => Mark::One(*octet),
-        Classmark::Two(octets) => Mark::Two(octets.as_slice()),
-    }
-}
-/// What a message says that keeps octets or cells.
-fn said_with_lists(message: &Bssmap) -> Option<Said<'_>> {
-    match message {
-        Bssmap::HandoverRequest {
-            channel,
-            encryption,
-            classmark,
-            serving,
-            target,
-        } => Some(Said::HandoverRequest {
-            channel: channel.as_slice(),
-            encryption: encryption.as_slice(),
-            classmark: borrowed_mark(classmark),
-            serving: *serving,
-            target: *target,
-        }),
-        Bssmap::HandoverRequired {
-            cause,
-            response,
-            cells,
-        } => Some(Said::HandoverRequired {
-            cause: *cause,
-            response: *response,
-            cells: cells.as_slice(),
-        }),
-        Bssmap::HandoverRequestAck { layer3 } => Some(Said::HandoverRequestAck {
-            layer3: layer3.as_slice(),
-        }),
-        Bssmap::HandoverCommand { layer3 } => Some(Said::HandoverCommand {
-            layer3: layer3.as_slice(),
-        }),
-        _ => None,
-    }
-}
-
-/// What a message says that keeps none.
-fn said_without_lists(message: &Bssmap) -> Option<Said<'_>> {
-    match message {
-        Bssmap::HandoverComplete { rr } => Some(Said::HandoverComplete { rr: *rr }),
-        Bssmap::HandoverFailure { cause, rr } => Some(Said::HandoverFailure {
-            cause: *cause,
-            rr: *rr,
-        }),
-        Bssmap::HandoverPerformed { cause, cell } => Some(Said::HandoverPerformed {
-            cause: *cause,
-            cell: *cell,
-        }),
-        Bssmap::HandoverRequiredReject { cause } => Some(Said::HandoverRequiredReject {
-            cause: *cause,
-        }),
-        Bssmap::HandoverDetect => Some(Said::HandoverDetect),
-        Bssmap::ClearCommand { cause } => Some(Said::ClearCommand { cause: *cause }),
-        Bssmap::ClearComplete => Some(Said::ClearComplete),
-        Bssmap::ClearRequest { cause } => Some(Said::ClearRequest { cause: *cause }),
-        _ => None,
-    }
-}
-
-/// What a message says, without owning it.
-fn borrowed(message: &Bssmap) -> Option<Said<'_>> {
-    said_with_lists(message).or(said_without_lists(message))
-}
-
-/// The cells of the texts above.
-const SERVING: CellId = CellId {
-    lac: Some(23),
-    ci: 102,
-};
-
-const TARGET: CellId = CellId {
-    lac: Some(23),
-    ci: 101,
-};
-
-/// What each text says.
-const SAYINGS: [Said<'static>; 12] = [
-    Said::HandoverRequest {
-        channel: &[1, 8, 1],
-        encryption: &[1],
-        classmark: Mark::One(0x33),
-        serving: SERVING,
-        target: TARGET,
-    },
-    Said::HandoverRequired {
-        cause: 0x0C,
-        response: true,
-        cells: &[SERVING],
-    },
-    Said::HandoverRequestAck {
-        layer3: &[6, 0x2B, 0xD5, 0x67, 0x0B, 0xA3, 0x6B, 0, 5],
-    },
-    Said::HandoverCommand {
-        layer3: &[6, 0x2B, 0xD5, 0x67, 0x0B, 0xA3, 0x6B, 0x2A, 5],
-    },
-    Said::HandoverComplete { rr: Some(0) },
-    Said::HandoverFailure {
-        cause: 0x0A,
-        rr: Some(0),
-    },
-    Said::HandoverPerformed {
-        cause: 0x0C,
-        cell: TARGET,
-    },
-    Said::HandoverRequiredReject { cause: 0x21 },
-    Said::HandoverDetect,
-    Said::ClearCommand { cause: 9 },
-    Said::ClearComplete,
-    Said::ClearRequest { cause: 0x20 },
-];
-
-#[test]
-fn reads_each_message(rt: HostRuntime) -> Result<(), Fail> {
-    for (text, saying) in TEXTS.iter().zip(SAYINGS) {
-        let message = decode(rt.alloc(), text)?;
-        assert_eq!(rt; borrowed(&message), Some(saying));
-    }
-    Ok(())
-}
-
-const LONE: CellId = CellId {
-    lac: None,
-    ci: 0x0506,
-};
-
-const FIRST: CellId = CellId {
-    lac: Some(0x0102),
-    ci: 0x0304,
-};
-
-const SECOND: CellId = CellId {
-    lac: Some(0x0506),
-    ci: 0x0708,
-};
-
-/// Texts of HANDOVER REQUIRED with each kind of cell list, and their cells.
-const CELL_LISTS: [(&[u8], bool, &[CellId]); 5] = [
-    (
-        &[0, 12, 0x11, 4, 1, 0x0C, 0x1B, 0x1A, 5, 1, 0, 0x17, 0, 0x66],
-        true,
-        &[SERVING],
-    ),
-    (
-        &[
-            0, 15, 0x11, 4, 1, 0x0C, 0x1A, 9, 0xF1, 1, 2, 3, 4, 5, 6, 7, 8,
-        ],
-        false,
-        &[FIRST, SECOND],
-    ),
-    (
-        &[0, 14, 0x11, 4, 1, 0x0C, 0x1A, 8, 0, 9, 9, 9, 1, 2, 3, 4],
-        false,
-        &[FIRST],
-    ),
-    (&[0, 9, 0x11, 4, 1, 0x0C, 0x1A, 3, 2, 5, 6], false, &[LONE]),
-    (
-        &[0, 11, 0x11, 4, 1, 0x0C, 0x1A, 5, 0x12, 5, 6, 5, 6],
-        false,
-        &[LONE, LONE],
-    ),
-];
-
-#[test]
-fn reads_cells(rt: HostRuntime) -> Result<(), Fail> {
-    for (text, response, cells) in CELL_LISTS {
-        let message = decode(rt.alloc(), text)?;
-        let saying = Said::HandoverRequired {
-            cause: 0x0C,
-            response,
-            cells,
-        };
-        assert_eq!(rt; borrowed(&message), Some(saying));
-    }
-    Ok(())
-}
-
-/// Texts that are not written so, with the text that is written for what they say.
-const OTHER_TEXTS: [(&[u8], &[u8]); 9] = [
+/// Texts, with the text that is written for what they say.
+const OTHER_TEXTS: [(&[u8], &[u8]); 15] = [
     // unknown elements before, between and after
     (
         &[0, 7, 0x16, 0x99, 1, 0, 4, 1, 0x21],
@@ -371,18 +101,116 @@ const OTHER_TEXTS: [(&[u8], &[u8]); 9] = [
     (&[0, 5, 0x22, 4, 2, 0x20, 7], CLEAR_REQUEST),
     // no RR cause
     (&[0, 1, 0x14], &[0, 1, 0x14]),
+    // other causes
+    (&[0, 4, 0x16, 4, 1, 0x21], &[0, 4, 0x16, 4, 1, 0x21]),
+    (&[0, 4, 0x16, 4, 1, 0x40], &[0, 4, 0x16, 4, 1, 0x40]),
+    (&[0, 4, 0x16, 4, 1, 0x51], &[0, 4, 0x16, 4, 1, 0x51]),
+    (&[0, 4, 0x20, 4, 1, 0x20], &[0, 4, 0x20, 4, 1, 0x20]),
+    (&[0, 4, 0x22, 4, 1, 0], &[0, 4, 0x22, 4, 1, 0]),
+    // both classmarks: type 1 counts
+    (
+        &[
+            0, 0x1C, 0x10, 0x12, 1, 9, 0x0B, 3, 1, 8, 1, 0x0A, 1, 1, 0x1D, 0x33, 5, 5, 1, 0, 0x17,
+            0, 0x66, 5, 5, 1, 0, 0x17, 0, 0x65,
+        ],
+        REQUEST,
+    ),
 ];
 
-#[test]
-fn reads_other_texts_of_a_message(rt: HostRuntime) -> Result<(), Fail> {
-    for (text, written) in OTHER_TEXTS {
-        is_written_as(&rt, text, written)?;
+fn are_written_as(rt: &(impl AllocGlobal + Abort), rows: &[(&[u8], &[u8])]) -> Result<(), Fail> {
+    for (text, written) in rows {
+        is_written_as(rt, text, written)?;
     }
     Ok(())
 }
 
+#[test]
+fn reads_other_texts_of_a_message(rt: HostRuntime) -> Result<(), Fail> {
+    are_written_as(&rt, &OTHER_TEXTS)
+}
+
+/// What texts say, as it is shown for debugging: each message, and each kind of cell list.
+const SAYINGS: [(&[u8], &str); 18] = [
+    (
+        REQUEST,
+        "HandoverRequest { channel: Octets { octets: [1, 8, 1] }, encryption: Octets { octets: [1] }, classmark: One(51), serving: CellId { lac: Some(23), ci: 102 }, target: CellId { lac: Some(23), ci: 101 } }",
+    ),
+    (
+        REQUEST_2,
+        "HandoverRequest { channel: Octets { octets: [1, 8, 1] }, encryption: Octets { octets: [1] }, classmark: Two(Octets { octets: [51, 25, 129] }), serving: CellId { lac: Some(23), ci: 102 }, target: CellId { lac: Some(23), ci: 101 } }",
+    ),
+    (
+        REQUIRED,
+        "HandoverRequired { cause: 12, response: true, cells: CellList { cells: [CellId { lac: Some(23), ci: 102 }] } }",
+    ),
+    (
+        REQUEST_ACK,
+        "HandoverRequestAck { layer3: Octets { octets: [6, 43, 213, 103, 11, 163, 107, 0, 5] } }",
+    ),
+    (
+        COMMAND,
+        "HandoverCommand { layer3: Octets { octets: [6, 43, 213, 103, 11, 163, 107, 42, 5] } }",
+    ),
+    (COMPLETE, "HandoverComplete { rr: Some(0) }"),
+    (&[0, 1, 0x14], "HandoverComplete { rr: None }"),
+    (FAILURE, "HandoverFailure { cause: 10, rr: Some(0) }"),
+    (
+        PERFORMED,
+        "HandoverPerformed { cause: 12, cell: CellId { lac: Some(23), ci: 101 } }",
+    ),
+    (REQUIRED_REJECT, "HandoverRequiredReject { cause: 33 }"),
+    (DETECT, "HandoverDetect"),
+    (CLEAR_COMMAND, "ClearCommand { cause: 9 }"),
+    (CLEAR_COMPLETE, "ClearComplete"),
+    (CLEAR_REQUEST, "ClearRequest { cause: 32 }"),
+    (
+        &[
+            0, 15, 0x11, 4, 1, 0x0C, 0x1A, 9, 0xF1, 1, 2, 3, 4, 5, 6, 7, 8,
+        ],
+        "HandoverRequired { cause: 12, response: false, cells: CellList { cells: [CellId { lac: Some(258), ci: 772 }, CellId { lac: Some(1286), ci: 1800 }] } }",
+    ),
+    (
+        &[0, 14, 0x11, 4, 1, 0x0C, 0x1A, 8, 0, 9, 9, 9, 1, 2, 3, 4],
+        "HandoverRequired { cause: 12, response: false, cells: CellList { cells: [CellId { lac: Some(258), ci: 772 }] } }",
+    ),
+    (
+        &[0, 9, 0x11, 4, 1, 0x0C, 0x1A, 3, 2, 5, 6],
+        "HandoverRequired { cause: 12, response: false, cells: CellList { cells: [CellId { lac: None, ci: 1286 }] } }",
+    ),
+    (
+        &[0, 11, 0x11, 4, 1, 0x0C, 0x1A, 5, 0x12, 5, 6, 5, 6],
+        "HandoverRequired { cause: 12, response: false, cells: CellList { cells: [CellId { lac: None, ci: 1286 }, CellId { lac: None, ci: 1286 }] } }",
+    ),
+];
+
+fn is_shown_as(
+    rt: &(impl AllocGlobal + Abort),
+    message: &Bssmap,
+    saying: &str,
+) -> Result<(), Fail> {
+    let shown = format!(in rt.alloc(); "{message:?}")?;
+    assert_eq!(rt; shown.as_str(), saying);
+    Ok(())
+}
+
+fn is_read_as(rt: &(impl AllocGlobal + Abort), text: &[u8], saying: &str) -> Result<(), Fail> {
+    is_shown_as(rt, &decode(rt.alloc(), text)?, saying)
+}
+
+fn are_read_as(rt: &(impl AllocGlobal + Abort), rows: &[(&[u8], &str)]) -> Result<(), Fail> {
+    for (text, saying) in rows {
+        is_read_as(rt, text, saying)?;
+    }
+    Ok(())
+}
+
+#[test]
+fn reads_each_message(rt: HostRuntime) -> Result<(), Fail> {
+    are_read_as(&rt, &SAYINGS)
+}
+
 /// Octets that are no text of a message, and their first fault.
-const FAULTS: [(&[u8], BssmapFault); 35] = [
+const FAULTS: [(&[u8], BssmapFault); 47] = [
     (&[], BssmapFault::NotBssmap),
     (&[1], BssmapFault::NotBssmap),
     (&[1, 1, 0x1B], BssmapFault::NotBssmap),
@@ -456,14 +284,95 @@ const FAULTS: [(&[u8], BssmapFault); 35] = [
         ],
         BssmapFault::BadElement(5),
     ),
+    // each mandatory element of a text, made empty
+    (
+        &[
+            0, 0x16, 0x10, 0x0B, 0, 0x0A, 1, 1, 0x1D, 0x33, 5, 5, 1, 0, 0x17, 0, 0x66, 5, 5, 1, 0,
+            0x17, 0, 0x65,
+        ],
+        BssmapFault::BadElement(0x0B),
+    ),
+    (
+        &[
+            0, 0x18, 0x10, 0x0B, 3, 1, 8, 1, 0x0A, 0, 0x1D, 0x33, 5, 5, 1, 0, 0x17, 0, 0x66, 5, 5,
+            1, 0, 0x17, 0, 0x65,
+        ],
+        BssmapFault::BadElement(0x0A),
+    ),
+    (
+        &[
+            0, 0x14, 0x10, 0x0B, 3, 1, 8, 1, 0x0A, 1, 1, 0x1D, 0x33, 5, 0, 5, 5, 1, 0, 0x17, 0,
+            0x65,
+        ],
+        BssmapFault::BadElement(5),
+    ),
+    (
+        &[
+            0, 0x14, 0x10, 0x0B, 3, 1, 8, 1, 0x0A, 1, 1, 0x1D, 0x33, 5, 5, 1, 0, 0x17, 0, 0x66, 5,
+            0,
+        ],
+        BssmapFault::BadElement(5),
+    ),
+    (
+        &[0, 0x0B, 0x11, 4, 0, 0x1B, 0x1A, 5, 1, 0, 0x17, 0, 0x66],
+        BssmapFault::BadElement(4),
+    ),
+    (
+        &[0, 7, 0x11, 4, 1, 0x0C, 0x1B, 0x1A, 0],
+        BssmapFault::BadElement(0x1A),
+    ),
+    (&[0, 3, 0x12, 0x17, 0], BssmapFault::BadElement(0x17)),
+    (&[0, 5, 0x16, 4, 0, 0x15, 0], BssmapFault::BadElement(4)),
+    (
+        &[0, 0x0A, 0x17, 4, 0, 5, 5, 1, 0, 0x17, 0, 0x65],
+        BssmapFault::BadElement(4),
+    ),
+    (&[0, 6, 0x17, 4, 1, 0x0C, 5, 0], BssmapFault::BadElement(5)),
+    (&[0, 3, 0x1A, 4, 0], BssmapFault::BadElement(4)),
+    (&[0, 3, 0x20, 4, 0], BssmapFault::BadElement(4)),
 ];
+
+fn has_fault(rt: &(impl AllocGlobal + Abort), octets: &[u8], fault: Option<BssmapFault>) {
+    let found = decode(rt.alloc(), octets).err();
+    assert_eq!(rt; found, fault, "{octets:?}");
+}
+
+fn have_faults(rt: &(impl AllocGlobal + Abort), rows: &[(&[u8], BssmapFault)]) {
+    for (octets, fault) in rows {
+        has_fault(rt, octets, Some(*fault));
+    }
+}
 
 #[test]
 fn finds_the_first_fault(rt: HostRuntime) {
-    for (octets, fault) in FAULTS {
-        assert_eq!(rt; decode(rt.alloc(), octets).err(), Some(fault), "{octets:?}");
-    }
+    have_faults(&rt, &FAULTS);
 }
+
+/// The elements of a text: the offset where one begins, the identifier that is missing without it, and
+/// whether the message needs it.
+const FRONTS: [(&[u8], &[(usize, u8, bool)]); 12] = [
+    (
+        REQUEST,
+        &[
+            (3, 0x0B, true),
+            (8, 0x0A, true),
+            (11, 0x12, true),
+            (13, 5, true),
+            (20, 5, true),
+        ],
+    ),
+    (REQUIRED, &[(3, 4, true), (6, 0x1B, false), (7, 0x1A, true)]),
+    (REQUEST_ACK, &[(3, 0x17, true)]),
+    (COMMAND, &[(3, 0x17, true)]),
+    (COMPLETE, &[(3, 0x15, false)]),
+    (FAILURE, &[(3, 4, true), (6, 0x15, false)]),
+    (PERFORMED, &[(3, 4, true), (6, 5, true)]),
+    (REQUIRED_REJECT, &[(3, 4, true)]),
+    (DETECT, &[]),
+    (CLEAR_COMMAND, &[(3, 4, true)]),
+    (CLEAR_COMPLETE, &[]),
+    (CLEAR_REQUEST, &[(3, 4, true)]),
+];
 
 /// What is wrong with the first n octets of a text, once the length octet counts them.
 fn fault_of_front(elements: &[(usize, u8, bool)], n: usize) -> Option<BssmapFault> {
@@ -486,15 +395,13 @@ fn finds_the_fault_of_front(
     front: &[u8],
     elements: &[(usize, u8, bool)],
 ) -> Result<(), Fail> {
-    let fault = decode(rt.alloc(), front).err();
-    assert_eq!(rt; fault, Some(BssmapFault::Length), "{front:?}");
+    has_fault(rt, front, Some(BssmapFault::Length));
     let mut mended = Vec::from_slice(rt.alloc(), front)?;
     if let Some(length) = mended.get_mut(1) {
         *length = front.len().saturating_sub(2).min(255) as u8;
     }
     if front.len() > 2 {
-        let fault = decode(rt.alloc(), &mended).err();
-        assert_eq!(rt; fault, fault_of_front(elements, front.len()), "{front:?}");
+        has_fault(rt, &mended, fault_of_front(elements, front.len()));
     }
     Ok(())
 }
@@ -510,85 +417,60 @@ fn finds_the_faults_of_fronts(
     Ok(())
 }
 
+fn have_faults_in_fronts(
+    rt: &(impl AllocGlobal + Abort),
+    rows: &[(&[u8], &[(usize, u8, bool)])],
+) -> Result<(), Fail> {
+    for (text, elements) in rows {
+        finds_the_faults_of_fronts(rt, text, elements)?;
+    }
+    Ok(())
+}
+
 #[test]
 fn finds_the_fault_of_each_front_of_a_text(rt: HostRuntime) -> Result<(), Fail> {
-    for (text, elements) in TEXTS.iter().zip(ELEMENTS) {
-        finds_the_faults_of_fronts(&rt, text, elements)?;
-    }
-    Ok(())
-}
-
-/// The text with the element at an offset made empty, and the length octet that counts the rest.
-fn with_empty_element(alloc: Global, text: &[u8], offset: usize) -> Result<Vec<u8>, AllocError> {
-    let count = text.get(offset.saturating_add(1)).copied().unwrap_or(0);
-    let mut octets = Vec::new(alloc);
-    for (at, octet) in text.iter().enumerate() {
-        let is_length = at == 1 || at == offset.saturating_add(1);
-        let is_value = offset.saturating_add(1) < at
-            && at <= offset.saturating_add(1).saturating_add(usize::from(count));
-        if !is_value {
-            octets.push(if is_length { 0 } else { *octet })?;
-        }
-    }
-    let length = octets.len().saturating_sub(2).min(255) as u8;
-    if let Some(counted) = octets.get_mut(1) {
-        *counted = length;
-    }
-    Ok(octets)
-}
-
-fn finds_the_elements_bad_that_are_empty(
-    rt: &(impl AllocGlobal + Abort),
-    text: &[u8],
-    elements: &[(usize, u8, bool)],
-) -> Result<(), Fail> {
-    for (offset, identifier, needed) in elements {
-        // the classmark of the text has no length octet
-        if *needed && *identifier != 0x12 {
-            let octets = with_empty_element(rt.alloc(), text, *offset)?;
-            let fault = decode(rt.alloc(), &octets).err();
-            assert_eq!(rt;
-                fault,
-                Some(BssmapFault::BadElement(*identifier)),
-                "{octets:?}"
-            );
-        }
-    }
-    Ok(())
-}
-
-#[test]
-fn finds_each_element_bad_that_is_empty(rt: HostRuntime) -> Result<(), Fail> {
-    for (text, elements) in TEXTS.iter().zip(ELEMENTS) {
-        finds_the_elements_bad_that_are_empty(&rt, text, elements)?;
-    }
-    Ok(())
+    have_faults_in_fronts(&rt, &FRONTS)
 }
 
 #[test]
 fn reads_at_most_253_octets(rt: HostRuntime) {
-    for (length, fault) in [(253, None), (254, Some(BssmapFault::Length))] {
-        // each pair of zeros is an element that no message uses
-        let mut octets = [0; 256];
-        octets[2] = 0x21;
-        octets[1] = length;
-        let octets = &octets[..2 + usize::from(length)];
-        assert_eq!(rt; decode(rt.alloc(), octets).err(), fault);
+    // each pair of zeros is an element that no message uses
+    let mut octets = [0; 256];
+    octets[2] = 0x21;
+    octets[1] = 253;
+    has_fault(&rt, &octets[..255], None);
+    octets[1] = 254;
+    has_fault(&rt, &octets, Some(BssmapFault::Length));
+}
+
+/// A message that can be written has a text of so many octets.
+fn has_length(
+    rt: &(impl AllocGlobal + Abort),
+    message: &Bssmap,
+    length: Option<usize>,
+) -> Result<(), Fail> {
+    assert_eq!(rt; fits(message), length.is_some(), "{message:?}");
+    if fits(message) {
+        let text = encode(rt.alloc(), message)?;
+        assert_eq!(rt; Some(text.len()), length);
     }
+    Ok(())
+}
+
+fn command_has_length(
+    rt: &(impl AllocGlobal + Abort),
+    layer3: &[u8],
+    length: Option<usize>,
+) -> Result<(), Fail> {
+    let layer3 = Octets::new(rt.alloc(), layer3)?;
+    has_length(rt, &Bssmap::HandoverCommand { layer3 }, length)
 }
 
 #[test]
 fn writes_at_most_253_octets(rt: HostRuntime) -> Result<(), Fail> {
-    for (count, wanted) in [(250, true), (251, false)] {
-        let message = Bssmap::HandoverCommand {
-            layer3: Octets::new(rt.alloc(), &[6; 251][..count])?,
-        };
-        assert_eq!(rt; fits(&message), wanted, "{count} octets");
-        if fits(&message) {
-            assert_eq!(rt; encode(rt.alloc(), &message)?.len(), 255);
-        }
-    }
-    Ok(())
+    command_has_length(&rt, &[], None)?;
+    command_has_length(&rt, &[6; 250], Some(255))?;
+    command_has_length(&rt, &[6; 251], None)
 }
 
 const NO_AREA: CellId = CellId { lac: None, ci: 1 };
@@ -603,151 +485,177 @@ const AREA_1: CellId = CellId {
     ci: 2,
 };
 
-/// Whether a response is asked for, the cells of a HANDOVER REQUIRED, and whether it can be written.
-const CELLS_THAT_FIT: [(bool, &[CellId], bool); 7] = [
-    (true, &[], false),
-    (true, &[NO_AREA], false),
-    (true, &[AREA_0, NO_AREA], false),
-    (true, &[AREA_0, AREA_0], true),
-    (true, &[AREA_1; 61], true),
-    (false, &[AREA_1; 61], true),
-    (false, &[AREA_1; 62], false),
+/// Whether a response is asked for, the cells of a HANDOVER REQUIRED, and the length of its text where it
+/// can be written.
+const CELLS_THAT_FIT: [(bool, &[CellId], Option<usize>); 7] = [
+    (true, &[], None),
+    (true, &[NO_AREA], None),
+    (true, &[AREA_0, NO_AREA], None),
+    (true, &[AREA_0, AREA_0], Some(18)),
+    (true, &[AREA_1; 61], Some(254)),
+    (false, &[AREA_1; 61], Some(253)),
+    (false, &[AREA_1; 62], None),
 ];
 
-#[test]
-fn fits_some_cells_with_area(rt: HostRuntime) -> Result<(), Fail> {
-    for (response, cells, wanted) in CELLS_THAT_FIT {
-        let message = Bssmap::HandoverRequired {
-            cause: 0,
-            response,
-            cells: CellList::new(rt.alloc(), cells)?,
-        };
-        assert_eq!(rt; fits(&message), wanted, "{message:?}");
+fn required_has_length(
+    rt: &(impl AllocGlobal + Abort),
+    response: bool,
+    cells: &[CellId],
+    length: Option<usize>,
+) -> Result<(), Fail> {
+    let cells = CellList::new(rt.alloc(), cells)?;
+    let message = Bssmap::HandoverRequired {
+        cause: 0,
+        response,
+        cells,
+    };
+    has_length(rt, &message, length)
+}
+
+fn requireds_have_lengths(
+    rt: &(impl AllocGlobal + Abort),
+    rows: &[(bool, &[CellId], Option<usize>)],
+) -> Result<(), Fail> {
+    for (response, cells, length) in rows {
+        required_has_length(rt, *response, cells, *length)?;
     }
     Ok(())
 }
 
 #[test]
-fn fits_wants_a_location_area_code(rt: HostRuntime) {
-    for (cell, wanted) in [(NO_AREA, false), (AREA_0, true)] {
-        let message: Bssmap = Bssmap::HandoverPerformed { cause: 0, cell };
-        assert_eq!(rt; fits(&message), wanted, "{message:?}");
-    }
+fn fits_some_cells_with_area(rt: HostRuntime) -> Result<(), Fail> {
+    requireds_have_lengths(&rt, &CELLS_THAT_FIT)
 }
 
-/// Appends a message to a list that has room for its text, where no memory is left.
-fn appends_in_room<'a>(
+#[test]
+fn fits_a_cell_with_a_location_area_code(rt: HostRuntime) -> Result<(), Fail> {
+    let cell = NO_AREA;
+    has_length(&rt, &Bssmap::HandoverPerformed { cause: 0, cell }, None)?;
+    let cell = AREA_0;
+    has_length(&rt, &Bssmap::HandoverPerformed { cause: 0, cell }, Some(13))
+}
+
+/// Appends a message and HANDOVER DETECT to a list that has room for both texts.
+fn appends_two<'a>(
     rt: &impl Abort,
-    heap: &'a RefusingHeap,
     message: &Bssmap<&'a RefusingHeap>,
+    out: &mut Vec<u8, &'a RefusingHeap>,
     text: &[u8],
 ) -> Result<(), Fail> {
-    let mut out = Vec::with_capacity(heap, text.len().saturating_add(1))?;
-    out.push(7)?;
-    heap.refuse_from_now();
     assert!(rt; fits(message), "{text:?}");
-    encode_into(message, &mut out)?;
-    assert!(rt; !heap.was_refused(), "{text:?}");
-    assert_eq!(rt; (out[0], &out[1..]), (7, text));
+    encode_into(message, out)?;
+    let detect = Bssmap::HandoverDetect;
+    assert!(rt; fits(&detect));
+    encode_into(&detect, out)?;
+    let [7, written @ .., 0, 1, 0x1B] = out.as_slice() else {
+        return Err(Fail::from("other octets than 7, a text and HANDOVER DETECT"));
+    };
+    assert_eq!(rt; written, text);
     Ok(())
 }
 
 /// Appends a message to a list without room, where no memory is left: the list stays as it was.
 fn leaves_what_was_written<'a>(
     rt: &impl Abort,
+    message: &Bssmap<&'a RefusingHeap>,
+    full: &mut Vec<u8, &'a RefusingHeap>,
+) {
+    assert!(rt; fits(message));
+    assert!(rt; encode_into(message, full).is_err());
+    assert_eq!(rt; full.as_slice(), [7].as_slice());
+}
+
+/// Writes a message where no memory is left, with room and without.
+fn is_written_without_memory<'a>(
+    rt: &impl Abort,
     heap: &'a RefusingHeap,
     message: &Bssmap<&'a RefusingHeap>,
+    text: &[u8],
 ) -> Result<(), Fail> {
+    let mut out = Vec::with_capacity(heap, text.len().saturating_add(4))?;
+    out.push(7)?;
     let mut full = Vec::from_slice(heap, &[7])?;
     heap.refuse_from_now();
+    appends_two(rt, message, &mut out, text)?;
+    assert_eq!(rt; heap.refused(), 0);
+    leaves_what_was_written(rt, message, &mut full);
+    assert_eq!(rt; heap.refused(), 1);
     assert!(rt; fits(message));
-    assert!(rt; encode_into(message, &mut full).is_err());
-    assert!(rt; heap.was_refused());
-    assert_eq!(rt; full.as_slice(), [7].as_slice());
+    assert!(rt; encode(heap, message).is_err());
     Ok(())
 }
 
-#[test]
-fn with_room_for_the_text_no_memory_is_taken(rt: HostRuntime) -> Result<(), Fail> {
-    for text in TEXTS {
-        let heap = RefusingHeap::ample(rt.alloc());
-        let message = decode(&heap, text)?;
-        appends_in_room(&rt, &heap, &message, text)?;
-    }
-    Ok(())
+fn is_written_in_room(rt: &(impl AllocGlobal + Abort), text: &[u8]) -> Result<(), Fail> {
+    let heap = RefusingHeap::ample(rt.alloc());
+    let message = decode(&heap, text)?;
+    is_written_without_memory(rt, &heap, &message, text)
 }
 
-#[test]
-fn refused_memory_leaves_what_was_written(rt: HostRuntime) -> Result<(), Fail> {
-    for text in TEXTS {
-        let heap = RefusingHeap::ample(rt.alloc());
-        let message = decode(&heap, text)?;
-        leaves_what_was_written(&rt, &heap, &message)?;
-    }
-    Ok(())
+/// Refuses the n-th request for memory of `decode`: whether there is one.
+fn refuses_reading(rt: &(impl AllocGlobal + Abort), text: &[u8], n: u64) -> bool {
+    let heap = RefusingHeap::refusing_nth(rt.alloc(), n);
+    let fault = decode(&heap, text).err();
+    let refused = heap.was_refused();
+    assert_eq!(rt; fault, refused.then_some(BssmapFault::NoMemory), "{text:?}");
+    refused
 }
 
-/// Each request for memory of `decode` is refused in turn: how many there are.
-fn refused_readings(rt: &(impl AllocGlobal + Abort), text: &[u8]) -> Option<u64> {
+/// How many requests for memory reading the text makes.
+fn readings_refused(rt: &(impl AllocGlobal + Abort), text: &[u8]) -> u64 {
+    let mut refused = 0;
     for n in 1..10 {
-        let heap = RefusingHeap::refusing_nth(rt.alloc(), n);
-        let fault = decode(&heap, text).err();
-        if !heap.was_refused() {
-            assert_eq!(rt; fault, None, "request {n} of {text:?}");
-            return Some(n - 1);
+        if refuses_reading(rt, text, n) {
+            refused = n;
         }
-        assert_eq!(rt;
-            fault,
-            Some(BssmapFault::NoMemory),
-            "request {n} of {text:?}"
-        );
     }
-    None
+    refused
 }
 
-/// How many lists the message of each text keeps.
-const LISTS: [u64; 12] = [2, 1, 1, 1, 0, 0, 0, 0, 0, 0, 0, 0];
-
-#[test]
-fn reading_answers_want_of_memory(rt: HostRuntime) {
-    for (text, lists) in TEXTS.iter().zip(LISTS) {
-        assert_eq!(rt; refused_readings(&rt, text), Some(lists), "{text:?}");
-    }
-}
-
-#[test]
-fn writing_answers_want_of_memory(rt: HostRuntime) -> Result<(), Fail> {
-    for text in TEXTS {
-        let heap = RefusingHeap::ample(rt.alloc());
-        let message = decode(&heap, text)?;
-        heap.refuse_from_now();
-        assert!(rt; fits(&message));
-        assert!(rt; encode(&heap, &message).is_err());
-        assert!(rt; heap.was_refused());
+fn are_read_and_written(
+    rt: &(impl AllocGlobal + Abort),
+    texts: &[(&[u8], u64)],
+) -> Result<(), Fail> {
+    for (text, lists) in texts {
+        is_written_as(rt, text, text)?;
+        is_written_in_room(rt, text)?;
+        assert_eq!(rt; readings_refused(rt, text), *lists, "{text:?}");
     }
     Ok(())
 }
 
 #[test]
-fn lists_answer_want_of_memory(rt: HostRuntime) {
+fn reads_back_what_it_writes_with_and_without_memory(rt: HostRuntime) -> Result<(), Fail> {
+    are_read_and_written(&rt, &TEXTS)?;
+    reading_is_unique::<Global>();
+    canonical_is_text::<Global>();
+    Ok(())
+}
+
+#[test]
+fn lists_answer_that_memory_is_refused(rt: HostRuntime) {
     let heap = RefusingHeap::refusing_from(rt.alloc(), 1);
     assert!(rt; Octets::new(&heap, &[1]).is_err());
     assert!(rt; CellList::new(&heap, &[AREA_1]).is_err());
 }
 
-#[test]
-fn prints_faults(rt: HostRuntime) -> Result<(), Fail> {
-    let rows = [
-        (BssmapFault::NotBssmap, "not a BSSMAP message"),
-        (BssmapFault::Length, "wrong length octet"),
-        (BssmapFault::UnknownType(0x0F), "unknown message type 0x0f"),
-        (BssmapFault::Missing(5), "element 0x05 is missing"),
-        (BssmapFault::BadElement(0x1A), "element 0x1a is bad"),
-        (BssmapFault::Torn(12), "torn at offset 12"),
-        (BssmapFault::NoMemory, "out of memory"),
-    ];
+const FAULT_TEXTS: [(BssmapFault, &str); 7] = [
+    (BssmapFault::NotBssmap, "not a BSSMAP message"),
+    (BssmapFault::Length, "wrong length octet"),
+    (BssmapFault::UnknownType(0x0F), "unknown message type 0x0f"),
+    (BssmapFault::Missing(5), "element 0x05 is missing"),
+    (BssmapFault::BadElement(0x1A), "element 0x1a is bad"),
+    (BssmapFault::Torn(12), "torn at offset 12"),
+    (BssmapFault::NoMemory, "out of memory"),
+];
+
+fn are_printed(rt: &(impl AllocGlobal + Abort), rows: &[(BssmapFault, &str)]) -> Result<(), Fail> {
     for (fault, text) in rows {
-        assert_eq!(rt; format!(in rt.alloc(); "{fault}")?.as_str(), text);
+        assert_eq!(rt; format!(in rt.alloc(); "{fault}")?.as_str(), *text);
     }
     Ok(())
+}
+
+#[test]
+fn prints_faults(rt: HostRuntime) -> Result<(), Fail> {
+    are_printed(&rt, &FAULT_TEXTS)
 }

@@ -1,4 +1,5 @@
 pub mod Spelling
 pub mod Splits
-pub mod Places
-pub mod Turns
+pub mod Notes
+pub mod Texts
+pub mod Rows

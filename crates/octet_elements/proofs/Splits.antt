@@ -3,7 +3,7 @@ use Rattle.std.proofs.Common.{append-nil, ◌≡◌, ℕ, List, [], ◌∷◌, �
 use Rattle.std.proofs.lemmas.Grind.{flat_map-append}
 use Rattle.std.specs.List.{AllByRecursion}
 use Rattle.octet_elements.specs.Elements.{Element, Forms, element_octets, all_octets, Fits, IsCut, AreElements, AreTorn}
-use Rattle.octet_elements.proofs.Spelling.{one_spelling, nothing_is_cut}
+use Rattle.octet_elements.proofs.Spelling.{IsFixedAs, fixed, one_spelling, one_writing, nothing_is_cut, some_octet}
 
 pub one_split : (forms : Forms) (es fs : List Element) (x y : List ℕ) → AllByRecursion (Fits forms) es → AllByRecursion (Fits forms) fs → IsCut forms x → IsCut forms y → all_octets forms es ++ x ≡ all_octets forms fs ++ y → (es ≡ fs) × (x ≡ y)
 one_split forms [] [] x y p q cut_x cut_y same = (refl, same)
@@ -42,3 +42,21 @@ octets_and_one forms es e octets before rest is begins =
   where
     regroup : (last front : List ℕ) → all_octets forms (es ++ e ∷ []) ≡ front ++ (last ++ []) → all_octets forms (es ++ e ∷ []) ++ rest ≡ front ++ (last ++ rest)
     regroup last front h = ap (λ t. t ++ rest) h ∙ ap (λ t. (front ++ t) ++ rest) (append-nil last) ∙ append_assoc front last rest
+
+-- the elements have the lengths that their forms fix
+abbrev pub AreFixed : Forms → List Element → Type 0
+AreFixed forms es = AllByRecursion (λ e. IsFixedAs (forms e.0) e.1) es
+
+-- what is written is read as these elements or not at all
+pub same_written : (forms : Forms) (es fs : List Element) → AreFixed forms es → AllByRecursion (Fits forms) fs → all_octets forms es ≡ all_octets forms fs → es ≡ fs
+same_written forms [] [] p q same = refl
+same_written forms [] (f ∷ fs) p q same =
+    let some = some_octet forms f (all_octets forms fs) in
+    let none : 0 ≡ length (element_octets forms f ++ all_octets forms fs) = ap length same in absurd (omega arith)
+same_written forms (e ∷ es) [] p q same =
+    let some = some_octet forms e (all_octets forms es) in
+    let none : length (element_octets forms e ++ all_octets forms es) ≡ 0 = ap length same in absurd (omega arith)
+same_written forms (e ∷ es) (f ∷ fs) p q same =
+    let first = one_writing forms e f (all_octets forms es) (all_octets forms fs) p.0 (fixed (forms f.0) f.1 q.0) same in
+    let rest = same_written forms es fs p.1 q.1 first.1 in
+    λ i. first.0 i ∷ rest i

@@ -1,6 +1,6 @@
 -- Elements of a message: an identifier octet, and a value that is delimited by the identifier's form
 -- (TS 48.058 clause 9.3, TS 48.008 clause 3.2.2).
-use Rattle.std.specs.Prelude.{◌≡◌, ℕ, ◌+◌, ◌<◌, ◌/◌, ◌%◌, ◌^◌, if◌then◌else◌, ◌==◌, zero, suc, List, [], ◌∷◌, ◌++◌, length, flat_map, Option, Some, None}
+use Rattle.std.specs.Prelude.{◌≡◌, ℕ, ◌<◌, ◌/◌, ◌%◌, ◌^◌, if◌then◌else◌, ◌==◌, zero, suc, List, [], ◌∷◌, ◌++◌, length, flat_map, Option, Some, None}
 use Rattle.std.specs.List.{AllByRecursion}
 use Rattle.octet_elements.specs.declared.form.Form.{Form}
 use Rattle.octet_elements.specs.declared.form.Form.TheVariants.{Fixed, Counted, LongCounted}
@@ -73,20 +73,6 @@ first_of i es = nth 0 (values_of i es)
 -- the value of the second element with the identifier
 abbrev pub second_of : ℕ → List Element → Option (List ℕ)
 second_of i es = nth 1 (values_of i es)
-
--- how many places of the list want the identifier
-abbrev pub times : ℕ → List ℕ → ℕ
-times i [] = 0
-times i (j ∷ js) = if j == i then 1 + times i js else times i js
-
--- What each place of a list of wanted identifiers gets, where other places came before: of the places
--- that want one identifier the first gets its first value, the second its second.
-abbrev pub wanted_after : List ℕ → List ℕ → List Element → List (Option (List ℕ))
-wanted_after before [] es = []
-wanted_after before (i ∷ wanted) es = nth (times i before) (values_of i es) ∷ wanted_after (i ∷ before) wanted es
-
-abbrev pub wanted_of : List ℕ → List Element → List (Option (List ℕ))
-wanted_of wanted es = wanted_after [] wanted es
 
 -- octets are elements in one way only, torn or whole
 abbrev pub SplitIsUnique : Type 0

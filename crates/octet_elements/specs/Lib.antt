@@ -1,3 +1,7 @@
 pub mod Elements
+pub mod Lookup
 pub mod Reading
+pub mod Rows
+pub mod Texts
 pub mod Values
+pub mod Writing

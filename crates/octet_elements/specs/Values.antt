@@ -4,21 +4,21 @@ use Rattle.std.specs.Prelude.{ℕ, ◌+◌, ◌*◌, ◌/◌, ◌%◌, List, [],
 use Rattle.std.specs.Borrow.{Bor}
 use Rattle.std.specs.Option.{option_map}
 use Rattle.octet_elements.specs.Elements.{Element}
-use Rattle.octet_elements.specs.declared.values.ElementFault.{ElementFault}
-use Rattle.octet_elements.specs.declared.values.ElementFault.TheVariants.{Absent, Bad}
+use Rattle.octet_elements.specs.declared.values.ValueFault.{ValueFault}
+use Rattle.octet_elements.specs.declared.values.ValueFault.TheVariants.{Absent, Bad}
 
 -- a value that is passed by reference
 abbrev pub value_seen : Option (Bor (List ℕ)) → Option (List ℕ)
 value_seen value = option_map (λ v. v.now) value
 
 -- the value's first octet
-abbrev pub octet_in : ℕ → Option (List ℕ) → Result ℕ ElementFault
+abbrev pub octet_in : ℕ → Option (List ℕ) → Result ℕ ValueFault
 octet_in i None = Err (Absent i)
 octet_in i (Some []) = Err (Bad i)
 octet_in i (Some (octet ∷ v)) = Ok octet
 
 -- the value's first octet, where the element is there
-abbrev pub optional_octet_in : ℕ → Option (List ℕ) → Result (Option ℕ) ElementFault
+abbrev pub optional_octet_in : ℕ → Option (List ℕ) → Result (Option ℕ) ValueFault
 optional_octet_in i None = Ok None
 optional_octet_in i (Some []) = Err (Bad i)
 optional_octet_in i (Some (octet ∷ v)) = Ok (Some octet)
@@ -28,7 +28,7 @@ abbrev pub pair : ℕ → ℕ → ℕ
 pair high low = 256 * high + low
 
 -- the value's first two octets, a number with the high one first
-abbrev pub pair_in : ℕ → Option (List ℕ) → Result ℕ ElementFault
+abbrev pub pair_in : ℕ → Option (List ℕ) → Result ℕ ValueFault
 pair_in i None = Err (Absent i)
 pair_in i (Some []) = Err (Bad i)
 pair_in i (Some (high ∷ [])) = Err (Bad i)
@@ -38,19 +38,19 @@ abbrev pub pair_octets : ℕ → List ℕ
 pair_octets n = n / 256 ∷ n % 256 ∷ []
 
 -- the whole value, which has at least one octet
-abbrev pub octets_in : ℕ → Option (List ℕ) → Result (List ℕ) ElementFault
+abbrev pub octets_in : ℕ → Option (List ℕ) → Result (List ℕ) ValueFault
 octets_in i None = Err (Absent i)
 octets_in i (Some []) = Err (Bad i)
 octets_in i (Some (octet ∷ v)) = Ok (octet ∷ v)
 
 -- the whole value, which has at least one octet, where the element is there
-abbrev pub optional_octets_in : ℕ → Option (List ℕ) → Result (Option (List ℕ)) ElementFault
+abbrev pub optional_octets_in : ℕ → Option (List ℕ) → Result (Option (List ℕ)) ValueFault
 optional_octets_in i None = Ok None
 optional_octets_in i (Some []) = Err (Bad i)
 optional_octets_in i (Some (octet ∷ v)) = Ok (Some (octet ∷ v))
 
 -- the whole value, which may be empty
-abbrev pub any_octets_in : ℕ → Option (List ℕ) → Result (List ℕ) ElementFault
+abbrev pub any_octets_in : ℕ → Option (List ℕ) → Result (List ℕ) ValueFault
 any_octets_in i None = Err (Absent i)
 any_octets_in i (Some v) = Ok v
 

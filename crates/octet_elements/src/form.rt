@@ -1,4 +1,4 @@
-//! How the value of an element is delimited.
+//! How the value of an element is delimited, and which values a codec uses.
 /// How the value of an element is delimited.
 #[derive(Clone, Copy, Debug, PartialEq, Eq)]
 pub enum Form {
@@ -10,14 +10,25 @@ pub enum Form {
     LongCounted,
 }
 
-/// The form of each identifier's elements.
+/// How many identifiers a codec may know.
+pub const PLACES: usize = 16;
+
+/// The elements of a codec: the form of each identifier, and the identifiers whose values its messages use.
 pub trait ElementTable {
-    ghost use Rattle.std.specs.Prelude.{◌≡◌, ℕ};
+    ghost use Rattle.std.specs.Prelude.{◌≡◌, ℕ, List};
     ghost use Rattle.octet_elements.specs.declared.form.Form.{Form};
+    ghost use Rattle.octet_elements.specs.Lookup.{place_of};
 
     ghost form_of: { ℕ → Form };
+
+    ghost known: { List ℕ };
 
     /// The form of the elements with this identifier.
     fn form_for(identifier: u8) -> Form
         ensures { result ≡ form_of identifier };
+
+    /// The place of this identifier among those that the codec knows, from 0; [`PLACES`] where it isn't
+    /// one of them. Of the identifier at place 0 the second element counts too.
+    fn place_for(identifier: u8) -> usize
+        ensures { result ≡ place_of identifier known };
 }

@@ -1,11 +1,12 @@
 use crate::element::leading_element;
 use crate::form::{ElementTable, Form};
+use crate::found::Found;
+use crate::octets::Octets;
 use crate::values::{
-    ElementFault, any_octets, octet, octets, optional_octet, optional_octets, pair, pair_octets,
+    ValueFault, any_octets, octet, octets, optional_octet, optional_octets, pair, pair_octets,
     pair_of,
 };
-use crate::wanted::read_values;
-use crate::write::{append_element, append_octets};
+use crate::write::{append_element, append_octets, element_len};
 use std::alloc::Global;
 use std::test::Fail;
 
@@ -13,10 +14,12 @@ use std::test::Fail;
 struct Sample;
 
 impl ElementTable for Sample {
-    ghost use Rattle.std.specs.Prelude.{if◌then◌else◌, ◌==◌};
+    ghost use Rattle.std.specs.Prelude.{if◌then◌else◌, ◌==◌, ◌∷◌, []};
     ghost use Rattle.octet_elements.specs.declared.form.Form.TheVariants.{Fixed, Counted, LongCounted};
 
     ghost form_of = { λ i. if i == 1 then Fixed 2 else if i == 2 then Fixed 0 else if i == 3 then LongCounted else Counted };
+
+    ghost known = { 5 ∷ 1 ∷ 9 ∷ [] };
 
     fn form_for(identifier: u8) -> Form {
         match identifier {
@@ -26,23 +29,53 @@ impl ElementTable for Sample {
             _ => Form::Counted,
         }
     }
+
+    fn place_for(identifier: u8) -> usize {
+        match identifier {
+            5 => 0,
+            1 => 1,
+            9 => 2,
+            _ => 16,
+        }
+    }
 }
 
 #[test]
-fn notes_the_first_values(rt: HostRuntime) -> Result<(), Fail> {
+fn keeps_the_first_values(rt: HostRuntime) -> Result<(), Fail> {
     let octets: &[u8] = &[
         1, 10, 11, 2, 5, 1, 7, 3, 0, 2, 8, 9, 5, 0, 1, 20, 21, 5, 2, 1, 1,
     ];
-    let mut values = [None; 4];
-    read_values::<Sample>(octets, &[1, 5, 5, 9], &mut values)?;
-    let [one, five, second, other] = values;
-    assert_eq!(rt; one, Some([10, 11].as_slice()));
-    assert_eq!(rt; five, Some([7].as_slice()));
-    assert_eq!(rt; second, Some([].as_slice()));
-    assert_eq!(rt; other, None);
-    let mut values = [None; 1];
-    read_values::<Sample>(&[], &[1], &mut values)?;
-    assert_eq!(rt; values[0], None);
+    let found = Found::<Sample>::read(octets)?;
+    assert_eq!(rt; found.first(1), Some([10, 11].as_slice()));
+    assert_eq!(rt; found.first(5), Some([7].as_slice()));
+    assert_eq!(rt; found.second(5), Some([].as_slice()));
+    for other in [2, 3, 9] {
+        assert_eq!(rt; found.first(other), None);
+        assert_eq!(rt; found.second(other), None);
+    }
+    assert_eq!(rt; found.second(1), None);
+    assert_eq!(rt; Found::<Sample>::read(&[])?.first(1), None);
+    Ok(())
+}
+
+#[test]
+fn reads_by_identifier(rt: HostRuntime) -> Result<(), Fail> {
+    let found = Found::<Sample>::read(&[1, 1, 2, 5, 0])?;
+    assert_eq!(rt; found.octet(1), Ok(1));
+    assert_eq!(rt; found.optional_octet(9), Ok(None));
+    assert_eq!(rt; found.pair(1), Ok(258));
+    assert_eq!(rt; found.octets(5), Err(ValueFault::Bad(5)));
+    assert_eq!(rt; found.optional_octets(1), Ok(Some([1, 2].as_slice())));
+    assert_eq!(rt; found.any_octets(5), Ok([].as_slice()));
+    Ok(())
+}
+
+#[test]
+fn keeps_octets(rt: HostRuntime) -> Result<(), Fail> {
+    assert_eq!(rt;
+        Octets::new(rt.alloc(), &[1, 2])?.as_slice(),
+        [1, 2].as_slice()
+    );
     Ok(())
 }
 
@@ -58,8 +91,7 @@ fn names_the_torn_offset(rt: HostRuntime) {
         (&[5, 0, 3, 1, 0, 7], 2),
     ];
     for (octets, at) in torn {
-        let mut values = [None; 1];
-        assert_eq!(rt; read_values::<Sample>(octets, &[5], &mut values), Err(at));
+        assert_eq!(rt; Found::<Sample>::read(octets).err(), Some(at));
     }
 }
 
@@ -92,6 +124,14 @@ fn writes_elements(rt: HostRuntime) -> Result<(), Fail> {
     Ok(())
 }
 
+#[test]
+fn counts_octets(rt: HostRuntime) {
+    assert_eq!(rt; element_len::<Sample>(1, &[10, 11]), 3);
+    assert_eq!(rt; element_len::<Sample>(2, &[]), 1);
+    assert_eq!(rt; element_len::<Sample>(3, &[7]), 4);
+    assert_eq!(rt; element_len::<Sample>(5, &[]), 2);
+}
+
 /// The element isn't there.
 const ABSENT: Option<&[u8]> = None;
 
@@ -106,19 +146,19 @@ const LONG: Option<&[u8]> = Some(&[1, 2]);
 
 #[test]
 fn reads_the_first_octet(rt: HostRuntime) {
-    assert_eq!(rt; octet(7, ABSENT), Err(ElementFault::Absent(7)));
-    assert_eq!(rt; octet(7, EMPTY), Err(ElementFault::Bad(7)));
+    assert_eq!(rt; octet(7, ABSENT), Err(ValueFault::Absent(7)));
+    assert_eq!(rt; octet(7, EMPTY), Err(ValueFault::Bad(7)));
     assert_eq!(rt; octet(7, LONG), Ok(1));
     assert_eq!(rt; optional_octet(7, ABSENT), Ok(None));
-    assert_eq!(rt; optional_octet(7, EMPTY), Err(ElementFault::Bad(7)));
+    assert_eq!(rt; optional_octet(7, EMPTY), Err(ValueFault::Bad(7)));
     assert_eq!(rt; optional_octet(7, LONG), Ok(Some(1)));
 }
 
 #[test]
 fn reads_and_writes_pairs(rt: HostRuntime) {
-    assert_eq!(rt; pair(7, ABSENT), Err(ElementFault::Absent(7)));
-    assert_eq!(rt; pair(7, EMPTY), Err(ElementFault::Bad(7)));
-    assert_eq!(rt; pair(7, SHORT), Err(ElementFault::Bad(7)));
+    assert_eq!(rt; pair(7, ABSENT), Err(ValueFault::Absent(7)));
+    assert_eq!(rt; pair(7, EMPTY), Err(ValueFault::Bad(7)));
+    assert_eq!(rt; pair(7, SHORT), Err(ValueFault::Bad(7)));
     assert_eq!(rt; pair(7, LONG), Ok(258));
     assert_eq!(rt; pair_of(255, 254), 65_534);
     assert_eq!(rt; pair_octets(258), [1, 2]);
@@ -127,13 +167,13 @@ fn reads_and_writes_pairs(rt: HostRuntime) {
 
 #[test]
 fn reads_whole_values(rt: HostRuntime) {
-    assert_eq!(rt; octets(7, ABSENT), Err(ElementFault::Absent(7)));
-    assert_eq!(rt; octets(7, EMPTY), Err(ElementFault::Bad(7)));
+    assert_eq!(rt; octets(7, ABSENT), Err(ValueFault::Absent(7)));
+    assert_eq!(rt; octets(7, EMPTY), Err(ValueFault::Bad(7)));
     assert_eq!(rt; octets(7, LONG), Ok([1, 2].as_slice()));
     assert_eq!(rt; optional_octets(7, ABSENT), Ok(None));
-    assert_eq!(rt; optional_octets(7, EMPTY), Err(ElementFault::Bad(7)));
+    assert_eq!(rt; optional_octets(7, EMPTY), Err(ValueFault::Bad(7)));
     assert_eq!(rt; optional_octets(7, SHORT), Ok(Some([3].as_slice())));
-    assert_eq!(rt; any_octets(7, ABSENT), Err(ElementFault::Absent(7)));
+    assert_eq!(rt; any_octets(7, ABSENT), Err(ValueFault::Absent(7)));
     assert_eq!(rt; any_octets(7, EMPTY), Ok([].as_slice()));
     assert_eq!(rt; any_octets(7, LONG), Ok([1, 2].as_slice()));
 }

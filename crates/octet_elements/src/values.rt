@@ -6,7 +6,7 @@ ghost use Rattle.octet_elements.specs.Values.{value_seen, octet_in, optional_oct
 
 /// What is wrong with an element of a message whose elements are all whole.
 #[derive(Clone, Copy, PartialEq, Eq, Debug)]
-pub enum ElementFault {
+pub enum ValueFault {
     /// The element with this identifier is not there.
     Absent(u8),
     /// The element with this identifier has a value that can't be read.
@@ -15,19 +15,19 @@ pub enum ElementFault {
 
 /// The value's first octet.
 #[inline]
-pub fn octet(identifier: u8, value: Option<&[u8]>) -> Result<u8, ElementFault>
+pub fn octet(identifier: u8, value: Option<&[u8]>) -> Result<u8, ValueFault>
     ensures said { result ≡ octet_in identifier (value_seen value.entry) }
 {
     match value {
-        None => Err(ElementFault::Absent(identifier)),
+        None => Err(ValueFault::Absent(identifier)),
         Some([octet, ..]) => Ok(*octet),
-        Some([]) => Err(ElementFault::Bad(identifier)),
+        Some([]) => Err(ValueFault::Bad(identifier)),
     }
 }
 
 /// The value's first octet, where the element is there.
 #[inline]
-pub fn optional_octet(identifier: u8, value: Option<&[u8]>) -> Result<Option<u8>, ElementFault>
+pub fn optional_octet(identifier: u8, value: Option<&[u8]>) -> Result<Option<u8>, ValueFault>
     ensures said { result ≡ optional_octet_in identifier (value_seen value.entry) }
 {
     match value {
@@ -46,13 +46,13 @@ pub fn pair_of(high: u8, low: u8) -> u16
 
 /// The value's first two octets, a number with the high one first.
 #[inline]
-pub fn pair(identifier: u8, value: Option<&[u8]>) -> Result<u16, ElementFault>
+pub fn pair(identifier: u8, value: Option<&[u8]>) -> Result<u16, ValueFault>
     ensures said { result ≡ pair_in identifier (value_seen value.entry) }
 {
     match value {
-        None => Err(ElementFault::Absent(identifier)),
+        None => Err(ValueFault::Absent(identifier)),
         Some([high, low, ..]) => Ok(pair_of(*high, *low)),
-        Some(_) => Err(ElementFault::Bad(identifier)),
+        Some(_) => Err(ValueFault::Bad(identifier)),
     }
 }
 
@@ -66,31 +66,31 @@ pub fn pair_octets(number: u16) -> [u8; 2]
 
 /// The value, unless it is empty.
 #[inline]
-fn some_octets(identifier: u8, value: &[u8]) -> Result<&[u8], ElementFault>
+fn some_octets(identifier: u8, value: &[u8]) -> Result<&[u8], ValueFault>
     ensures ok { IfOk result (λ v. octets_in identifier (Some value.now) ≡ Ok v.now) }
     ensures err { IfErr result (λ e. octets_in identifier (Some value.now) ≡ Err e) }
 {
     if value.is_empty() {
-        return Err(ElementFault::Bad(identifier));
+        return Err(ValueFault::Bad(identifier));
     }
     Ok(value)
 }
 
 /// The whole value, which has at least one octet.
 #[inline]
-pub fn octets(identifier: u8, value: Option<&[u8]>) -> Result<&[u8], ElementFault>
+pub fn octets(identifier: u8, value: Option<&[u8]>) -> Result<&[u8], ValueFault>
     ensures ok { IfOk result (λ v. octets_in identifier (value_seen value.entry) ≡ Ok v.now) }
     ensures err { IfErr result (λ e. octets_in identifier (value_seen value.entry) ≡ Err e) }
 {
     match value {
-        None => Err(ElementFault::Absent(identifier)),
+        None => Err(ValueFault::Absent(identifier)),
         Some(value) => some_octets(identifier, value),
     }
 }
 
 /// The whole value, which has at least one octet, where the element is there.
 #[inline]
-pub fn optional_octets(identifier: u8, value: Option<&[u8]>) -> Result<Option<&[u8]>, ElementFault>
+pub fn optional_octets(identifier: u8, value: Option<&[u8]>) -> Result<Option<&[u8]>, ValueFault>
     ensures ok { IfOk result (λ v. optional_octets_in identifier (value_seen value.entry) ≡
         Ok (value_seen v)) }
     ensures err { IfErr result (λ e. optional_octets_in identifier (value_seen value.entry) ≡
@@ -104,9 +104,9 @@ pub fn optional_octets(identifier: u8, value: Option<&[u8]>) -> Result<Option<&[
 
 /// The whole value, which may be empty.
 #[inline]
-pub fn any_octets(identifier: u8, value: Option<&[u8]>) -> Result<&[u8], ElementFault>
+pub fn any_octets(identifier: u8, value: Option<&[u8]>) -> Result<&[u8], ValueFault>
     ensures ok { IfOk result (λ v. any_octets_in identifier (value_seen value.entry) ≡ Ok v.now) }
     ensures err { IfErr result (λ e. any_octets_in identifier (value_seen value.entry) ≡ Err e) }
 {
-    value.ok_or(ElementFault::Absent(identifier))
+    value.ok_or(ValueFault::Absent(identifier))
 }

@@ -42,3 +42,15 @@ pub fn append_element<T: ElementTable, A: Allocator>(
     }
     append_octets(out, value);
 }
+
+/// How many octets an element takes.
+#[inline]
+pub fn element_len<T: ElementTable>(identifier: u8, value: &[u8]) -> usize
+    ensures { result ≡ length (element_octets T.form_of (identifier, value.now)) }
+{
+    match T::form_for(identifier) {
+        Form::Fixed(_) => 1 + value.len(),
+        Form::Counted => 2 + value.len(),
+        Form::LongCounted => 3 + value.len(),
+    }
+}

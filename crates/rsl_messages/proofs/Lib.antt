@@ -1,3 +1,3 @@
-pub mod Faults
 pub mod Unique
+pub mod Noted
 pub mod Written

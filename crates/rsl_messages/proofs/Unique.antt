@@ -1,17 +1,18 @@
--- A text has one value and no fault.
-use Rattle.std.proofs.Common.{IfOk, IfErr, ◌≢◌, ◌≡◌, ℕ, ◌/◌, List, Option, Some, None, Result, Ok, Err, refl, sym, ◌∙◌, ap, arith, subst, cond, eqb, inl, inr}
-use Rattle.octet_elements.specs.Elements.{AreElements, IsTornAt}
-use Rattle.octet_elements.proofs.Splits.{same_elements, whole_not_torn}
-use Rattle.octet_elements.specs.declared.values.ElementFault.{ElementFault}
+-- Octets begin with one head, or have one fault before the body.
+use Rattle.std.proofs.Common.{◌≡◌, ◌⊎◌, ℕ, ◌<◌, ◌≤◌, ◌/◌, List, [], ◌∷◌, length, Option, Some, None, refl, sym, ◌∙◌, subst, ap, arith, cond, eqb, inl, inr, Result, Err, IfErr}
+use Rattle.octet_elements.specs.Texts.{HeadsAreUnique}
+use Rattle.octet_elements.specs.declared.values.ValueFault.{ValueFault}
+use Rattle.octet_elements.specs.declared.values.ValueFault.TheVariants.{Absent, Bad}
+use Rattle.octet_elements.proofs.Texts.{refused}
+use Rattle.rsl_messages.specs.Values.{fault_of}
+use Rattle.rsl_messages.specs.declared.message.Rsl.{Rsl}
+use Rattle.rsl_messages.specs.Messages.{HasOctets}
 use Rattle.rsl_messages.specs.declared.fault.RslFault.{RslFault}
 use Rattle.rsl_messages.specs.declared.fault.RslFault.TheVariants as fault
 use Rattle.rsl_messages.specs.declared.head.MessageKind.{MessageKind}
 use Rattle.rsl_messages.specs.declared.head.MessageKind.TheVariants as kind
-use Rattle.rsl_messages.specs.declared.message.Rsl.{Rsl}
-use Rattle.rsl_messages.specs.Forms.{abis}
-use Rattle.rsl_messages.specs.Heads.{IsDiscriminator, IsHead, Begins}
-use Rattle.rsl_messages.specs.Messages.{Said, meaning_of}
-use Rattle.rsl_messages.specs.Texts.{Says, IsTextOf, HasFault}
+use Rattle.rsl_messages.specs.Heads.{IsDiscriminator, IsHead, Begins, HasHeadFault}
+use Rattle.rsl_messages.specs.Texts.{codec, limit, HasEarlyFault, IsTextOf, HasFault}
 
 -- which message has half of its discriminator and its type
 kind_at : ℕ → ℕ → Option MessageKind
@@ -30,7 +31,7 @@ found_at kind.MeasurementResult d t h = λ i. kind_at (h.0 i) (h.1 i)
 found_at kind.RfChannelRelease d t h = λ i. kind_at (h.0 i) (h.1 i)
 found_at kind.RfChannelReleaseAck d t h = λ i. kind_at (h.0 i) (h.1 i)
 
-pub discriminates : (k : MessageKind) (d t : ℕ) → IsHead k d t → IsDiscriminator d
+discriminates : (k : MessageKind) (d t : ℕ) → IsHead k d t → IsDiscriminator d
 discriminates kind.DataRequest d t h = inl h.0
 discriminates kind.DataIndication d t h = inl h.0
 discriminates kind.ChannelActivation d t h = inr h.0
@@ -53,51 +54,86 @@ one_head j k octets x y (d, t, p, h) (e, u, q, g) =
     let kinds : Some j ≡ Some k = sym here ∙ across ∙ there in
     (cc, cc)
 
--- a body says one thing
-pub one_saying : {A : Type 0} (j k : MessageKind) (octets x y : List ℕ) (a b : Said A) → Begins j octets x → Begins k octets y → Says j x a → Says k y b → a ≡ b
-one_saying j k octets x y a b p q h g =
-    let same = one_head j k octets x y p q in
-    let split : AreElements abis g.elements x = subst (λ z. AreElements abis g.elements z) (sym same.1) g.split in
-    let elements = same_elements abis h.elements g.elements x h.split split in
-    sym h.says ∙ (λ i. meaning_of (same.0 i) (elements i)) ∙ g.says
+-- what follows a discriminator, where no message has this head
+no_type : List ℕ → RslFault
+no_type [] = fault.Torn 1
+no_type (t ∷ body) = fault.UnknownType t
 
-pub one_value : {A : Type 0} (v w : Rsl A) (octets : List ℕ) → IsTextOf v octets → IsTextOf w octets → v ≡ w
-one_value v w octets h g =
-    let same = one_saying h.kind g.kind octets h.body g.body (Ok v) (Ok w) h.head g.head h.says g.says in cc
+HeadIs : List ℕ → RslFault → Type 0
+HeadIs [] f = f ≡ fault.NotRsl
+HeadIs (d ∷ rest) f = ((f ≡ fault.NotRsl) × (IsDiscriminator d → ⊥)) ⊎ ((f ≡ no_type rest) × IsDiscriminator d)
 
-no_bad_element : {A : Type 0} (v : Rsl A) (octets : List ℕ) (k : MessageKind) (body : List ℕ) (e : ElementFault) → IsTextOf v octets → Begins k octets body → Says {A = A} k body (Err e) → ⊥
-no_bad_element v octets k body e h head says =
-    let same = one_saying h.kind k octets h.body body (Ok v) (Err e) h.head head h.says says in cc
+head_is : (octets : List ℕ) (f : RslFault) → HasHeadFault octets f → HeadIs octets f
+unfolding HeadIs no_type
+head_is octets fault.TooLong h = absurd h
+head_is octets fault.NotRsl (inl none) = subst (λ o. HeadIs o fault.NotRsl) (sym none) refl
+head_is octets fault.NotRsl (inr (d, rest, is, not)) = subst (λ o. HeadIs o fault.NotRsl) (sym is) (inl (refl, not))
+head_is octets (fault.Torn at) (d, is, disc, one) = subst (λ o. HeadIs o (fault.Torn at)) (sym is) (inr (ap fault.Torn one, disc))
+head_is octets (fault.UnknownType t) (d, body, is, disc, none) = subst (λ o. HeadIs o (fault.UnknownType t)) (sym is) (inr (refl, disc))
+head_is octets (fault.Missing i) h = absurd h
+head_is octets (fault.BadElement i) h = absurd h
+head_is octets fault.NoMemory h = absurd h
 
-not_torn : {A : Type 0} (v : Rsl A) (octets : List ℕ) (k : MessageKind) (body : List ℕ) (offset : ℕ) → IsTextOf v octets → Begins k octets body → IsTornAt abis body offset → ⊥
-not_torn v octets k body offset h head (es, rest, torn, at) =
-    let same = one_head h.kind k octets h.body body h.head head in
-    let split : AreElements abis h.says.elements body = subst (λ z. AreElements abis h.says.elements z) same.1 h.says.split in
-    whole_not_torn abis h.says.elements es rest body split torn
+one_head_fault : (octets : List ℕ) (f g : RslFault) → HeadIs octets f → HeadIs octets g → f ≡ g
+unfolding HeadIs no_type
+one_head_fault [] f g p q = p ∙ sym q
+one_head_fault (d ∷ rest) f g (inl p) (inl q) = p.0 ∙ sym q.0
+one_head_fault (d ∷ rest) f g (inl p) (inr q) = absurd (p.1 q.1)
+one_head_fault (d ∷ rest) f g (inr p) (inl q) = absurd (q.1 p.1)
+one_head_fault (d ∷ rest) f g (inr p) (inr q) = p.0 ∙ sym q.0
 
-pub no_fault : {A : Type 0} (v : Rsl A) (octets : List ℕ) (f : RslFault) → IsTextOf v octets → HasFault A octets f → f ≡ fault.NoMemory
-no_fault v octets fault.TooLong h g = let short = h.within in absurd (omega arith)
-no_fault v octets fault.NotRsl h (within, inl (inl none)) = let head = h.head.2 in absurd cc
-no_fault v octets fault.NotRsl h (within, inl (inr (d, rest, is, not))) =
-    let head = h.head in
+-- a head that has a fault is no head of a message
+bad_head : (octets : List ℕ) (f : RslFault) (k : MessageKind) (body : List ℕ) → HasHeadFault octets f → Begins k octets body → ⊥
+bad_head octets fault.TooLong k body h head = h
+bad_head octets fault.NotRsl k body (inl none) head = let is = head.2 in cc
+bad_head octets fault.NotRsl k body (inr (d, rest, is, not)) head =
     let same : head.0 ≡ d = cc in
-    absurd (not (subst IsDiscriminator same (discriminates h.kind head.0 head.1 head.3)))
-no_fault v octets fault.NotRsl h (within, inr g) = absurd g.fault
-no_fault v octets (fault.Torn at) h (within, inl (d, is, disc, one)) = let head = h.head.2 in absurd cc
-no_fault v octets (fault.Torn at) h (within, inr g) = absurd (not_torn v octets g.kind g.body g.fault.0 h g.head g.fault.1)
-no_fault v octets (fault.UnknownType t) h (within, inl (d, body, is, disc, none)) =
-    let head = h.head in
+    not (subst IsDiscriminator same (discriminates k head.0 head.1 head.3))
+bad_head octets (fault.Torn at) k body (d, is, disc, one) head = let begins = head.2 in cc
+bad_head octets (fault.UnknownType t) k body (d, rest, is, disc, none) head =
     let same_d : head.0 ≡ d = cc in
     let same_t : head.1 ≡ t = cc in
-    absurd (none h.kind (subst (λ u. IsHead h.kind d u) same_t (subst (λ e. IsHead h.kind e head.1) same_d head.3)))
-no_fault v octets (fault.UnknownType t) h (within, inr g) = absurd g.fault
-no_fault v octets (fault.Missing i) h (within, inl bad) = absurd bad
-no_fault v octets (fault.Missing i) h (within, inr g) = absurd (no_bad_element v octets g.kind g.body (Rattle.octet_elements.specs.declared.values.ElementFault.TheVariants.Absent i) h g.head g.fault)
-no_fault v octets (fault.BadElement i) h (within, inl bad) = absurd bad
-no_fault v octets (fault.BadElement i) h (within, inr g) = absurd (no_bad_element v octets g.kind g.body (Rattle.octet_elements.specs.declared.values.ElementFault.TheVariants.Bad i) h g.head g.fault)
-no_fault v octets fault.NoMemory h g = refl
+    none k (subst (λ u. IsHead k d u) same_t (subst (λ e. IsHead k e head.1) same_d head.3))
+bad_head octets (fault.Missing i) k body h head = h
+bad_head octets (fault.BadElement i) k body h head = h
+bad_head octets fault.NoMemory k body h head = h
 
--- what is read of a text is its value, unless memory ran out
-pub exact : {A : Type 0} (r : Result (Rsl A) RslFault) (octets : List ℕ) (v : Rsl A) → IfOk r (λ w. IsTextOf w octets) → IfErr r (HasFault A octets) → IsTextOf v octets → r ≢ Err fault.NoMemory → r ≡ Ok v
-exact (Ok w) octets v text fault h memory = ap Ok (one_value w v octets text h)
-exact (Err f) octets v text fault h memory = absurd (memory (ap Err (no_fault v octets f h fault)))
+EarlyIs : List ℕ → RslFault → Type 0
+EarlyIs octets f = ((limit < length octets) × (f ≡ fault.TooLong)) ⊎ ((length octets ≤ limit) × HasHeadFault octets f)
+
+early_is : (octets : List ℕ) (f : RslFault) → HasEarlyFault octets f → EarlyIs octets f
+unfolding EarlyIs
+early_is octets fault.TooLong h = inl (h, refl)
+early_is octets fault.NotRsl h = inr h
+early_is octets (fault.Torn at) h = inr h
+early_is octets (fault.UnknownType t) h = inr h
+early_is octets (fault.Missing i) h = inr h
+early_is octets (fault.BadElement i) h = inr h
+early_is octets fault.NoMemory h = inr h
+
+one_early_fault : (octets : List ℕ) (f g : RslFault) → EarlyIs octets f → EarlyIs octets g → f ≡ g
+unfolding EarlyIs
+one_early_fault octets f g (inl p) (inl q) = p.1 ∙ sym q.1
+one_early_fault octets f g (inl p) (inr q) = let long = p.0 in let short = q.0 in absurd (omega arith)
+one_early_fault octets f g (inr p) (inl q) = let long = q.0 in let short = p.0 in absurd (omega arith)
+one_early_fault octets f g (inr p) (inr q) = one_head_fault octets f g (head_is octets f p.1) (head_is octets g q.1)
+
+fault_or_head : (octets : List ℕ) (f : RslFault) (k : MessageKind) (body : List ℕ) → EarlyIs octets f → length octets ≤ limit → Begins k octets body → ⊥
+unfolding EarlyIs
+fault_or_head octets f k body (inl p) short head = let long = p.0 in omega arith
+fault_or_head octets f k body (inr p) short head = bad_head octets f k body p.1 head
+
+pub heads : (A : Type 0) → HeadsAreUnique (codec A)
+heads A = record {
+  head = λ j k octets x y p q. one_head j k octets x y p.1 q.1;
+  fault = λ octets f g p q. one_early_fault octets f g (early_is octets f p) (early_is octets g q);
+  either = λ octets f k body p q. fault_or_head octets f k body (early_is octets f p) q.0 q.1;
+}
+
+no_value_fault : (e : ValueFault) → fault.NoMemory ≡ fault_of e → ⊥
+no_value_fault (Absent i) same = cc
+no_value_fault (Bad i) same = cc
+
+-- memory is refused only for a text whose message keeps octets
+pub memory_refused : (A : Type 0) (octets : List ℕ) (r : Result (Rsl A) RslFault) → r ≡ Err fault.NoMemory → IfErr r (HasFault A octets) → (v : Rsl A) × IsTextOf v octets × HasOctets v
+memory_refused A octets r memory h = refused (codec A) octets (λ early. early.1) (λ at same. cc) no_value_fault (subst (λ r. IfErr r (HasFault A octets)) memory h)

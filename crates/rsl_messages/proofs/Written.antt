@@ -1,42 +1,48 @@
 -- A message has a canonical text exactly where its fields can be written.
-use Rattle.std.proofs.Common.{◌≡◌, ℕ, ◌+◌, ◌*◌, ◌<◌, ◌≤◌, ◌/◌, ◌%◌, List, [], ◌∷◌, ◌++◌, length, length-append, Option, Some, None, Result, Ok, Err, refl, sym, ◌∙◌, ap, arith, subst, cond, eqb, Bool, true, false}
+use Rattle.std.proofs.Common.{◌≡◌, ℕ, ◌+◌, ◌*◌, ◌<◌, ◌≤◌, ◌/◌, ◌%◌, List, [], ◌∷◌, length, length-append, Option, Some, None, Ok, Err, refl, sym, ◌∙◌, ap, arith, subst, cond, eqb, Bool, true, false, IfSome}
 use Rattle.std.proofs.lemmas.Bool.Decides.{nat_tests}
 use borrow.Author.Tests.{eq-eqb}
 use Rattle.std.specs.List.{AllByRecursion}
-use Rattle.octet_elements.specs.Elements.{Fits, FitsAs, first_of, all_octets}
-use Rattle.octet_elements.specs.declared.form.Form.TheVariants.{Fixed}
+use Rattle.octet_elements.specs.Elements.{Fits, FitsAs, first_of, all_octets, nth}
+use Rattle.octet_elements.specs.Lookup.{values_in}
 use Rattle.octet_elements.specs.Reading.{◌>>=◌}
+use Rattle.octet_elements.specs.Rows.{octet, optional_octet, pair, octets, any_octets, optional_octets, ◌▸◌}
+use Rattle.octet_elements.specs.Values.{optional_octet_in, pair_in, pair_octets, octets_in, optional_octets_in, where_some, where_value}
+use Rattle.octet_elements.specs.declared.form.Form.TheVariants.{Fixed}
+use Rattle.octet_elements.specs.declared.values.ValueFault.TheVariants.{Bad}
+use Rattle.octet_elements.proofs.Rows.{went_on, both_read, each_read}
+use Rattle.octet_elements.proofs.Spelling.{IsFixedAs}
+use Rattle.octet_elements.proofs.Splits.{AreFixed}
+use Rattle.octet_elements.proofs.Texts.{written_says}
 use Rattle.rsl_messages.specs.declared.message.ChanBits.{ChanBits}
 use Rattle.rsl_messages.specs.declared.message.Rsl.{Rsl}
 use Rattle.rsl_messages.specs.declared.message.Rsl.TheVariants.{DataRequest, DataIndication, ChannelActivation, ChannelActivationAck, ChannelActivationNack, ConnectionFailureIndication, HandoverDetection, MeasurementResult, RfChannelRelease, RfChannelReleaseAck}
-use Rattle.octet_elements.specs.declared.values.ElementFault.{ElementFault}
-use Rattle.octet_elements.specs.declared.values.ElementFault.TheVariants.{Bad}
-use Rattle.rsl_messages.specs.Forms.{abis}
-use Rattle.octet_elements.specs.Values.{optional_octet_in, pair_in, pair_octets, octets_in, optional_octets_in, where_some}
+use Rattle.rsl_messages.specs.Forms.{abis, CHANNEL_NUMBER, LINK_IDENTIFIER, ACTIVATION_TYPE, POWER, CHANNEL_MODE, FRAME_NUMBER, HANDOVER_REFERENCE, LAYER3, ACCESS_DELAY, UPLINK_MEASUREMENTS, CAUSE, RESULT_NUMBER}
+use Rattle.rsl_messages.specs.Heads.{head_of, Begins}
 use Rattle.rsl_messages.specs.Values.{channel_in, channel_octet}
-use Rattle.rsl_messages.specs.Messages.{Said, data_request, data_indication, channel_activation, channel_activation_ack, channel_activation_nack, connection_failure, handover_detection, measurement_result, rf_channel_release, rf_channel_release_ack}
-use Rattle.rsl_messages.specs.Texts.{HasCanonical, limit}
+use Rattle.rsl_messages.specs.Messages.{Said, said, kind_of, elements_of, channel_number, data_rows, activation_rows, activation_ack_rows, cause_rows, detection_rows, measurement_rows}
+use Rattle.rsl_messages.specs.Texts.{codec, HasCanonical, canonical_text, limit}
+use Rattle.rsl_messages.proofs.Unique.{one_head}
 
--- what of the fields of a message decides whether it can be written
-abbrev pub IsWritable : {A : Type 0} → Rsl A → Type 0
-IsWritable (DataRequest channel link layer3) = (channel.tn < 8) × (0 < length layer3) × (9 + length layer3 ≤ limit)
-IsWritable (DataIndication channel link layer3) = (channel.tn < 8) × (0 < length layer3) × (9 + length layer3 ≤ limit)
-IsWritable (ChannelActivation channel activation mode reference) = (channel.tn < 8) × (0 < length mode) × (length mode < 256)
-IsWritable (ChannelActivationAck channel frame) = channel.tn < 8
-IsWritable (ChannelActivationNack channel cause) = channel.tn < 8
-IsWritable (ConnectionFailureIndication channel cause) = channel.tn < 8
-IsWritable (HandoverDetection channel delay) = channel.tn < 8
-IsWritable (MeasurementResult channel number uplink power None) = (channel.tn < 8) × (length uplink < 256)
-IsWritable (MeasurementResult channel number uplink power (Some layer3)) = (channel.tn < 8) × (length uplink < 256) × (0 < length layer3) × (13 + length uplink + length layer3 ≤ limit)
-IsWritable (RfChannelRelease channel) = channel.tn < 8
-IsWritable (RfChannelReleaseAck channel) = channel.tn < 8
+-- the lists of a message can be written
+abbrev pub AreWritable : {A : Type 0} → Rsl A → Type 0
+AreWritable (DataRequest channel link layer3) = (channel.tn < 8) × (0 < length layer3)
+AreWritable (DataIndication channel link layer3) = (channel.tn < 8) × (0 < length layer3)
+AreWritable (ChannelActivation channel activation mode reference) = (channel.tn < 8) × (0 < length mode) × (length mode < 256)
+AreWritable (ChannelActivationAck channel frame) = channel.tn < 8
+AreWritable (ChannelActivationNack channel cause) = channel.tn < 8
+AreWritable (ConnectionFailureIndication channel cause) = channel.tn < 8
+AreWritable (HandoverDetection channel delay) = channel.tn < 8
+AreWritable (MeasurementResult channel number uplink power layer3) = (channel.tn < 8) × (length uplink < 256) × IfSome layer3 (λ l. 0 < length l)
+AreWritable (RfChannelRelease channel) = channel.tn < 8
+AreWritable (RfChannelReleaseAck channel) = channel.tn < 8
 
 -- Each reader reads again what is written.
 channel_again : (channel : ChanBits) → channel.tn < 8 → channel_in (Some (channel_octet channel ∷ [])) ≡ Ok channel
 channel_again channel h =
     let one : (8 + channel.tn) / 8 ≡ 1 = omega arith in
     let same : (8 + channel.tn) % 8 ≡ channel.tn = omega arith in
-    ap (λ b. cond b (Ok (record { tn = (8 + channel.tn) % 8 })) (Err (Bad 0x01))) (eq-eqb ((8 + channel.tn) / 8) 1 one) ∙ (λ i. Ok (record { tn = same i }))
+    ap (λ b. cond b (Ok (record { tn = (8 + channel.tn) % 8 })) (Err (Bad CHANNEL_NUMBER))) (eq-eqb ((8 + channel.tn) / 8) 1 one) ∙ (λ i. Ok (record { tn = same i }))
 
 octets_again : (i : ℕ) (v : List ℕ) → 0 < length v → octets_in i (Some v) ≡ Ok v
 octets_again i [] h = absurd (omega arith)
@@ -48,159 +54,198 @@ octets_some_again i (octet ∷ v) h = refl
 
 optional_again : (i : ℕ) (o : Option ℕ) → optional_octet_in i (first_of i (where_some i o)) ≡ Ok o
 optional_again i None = refl
-optional_again i (Some n) = ap (λ b. optional_octet_in i (Rattle.octet_elements.specs.Elements.nth 0 (cond b ((n ∷ []) ∷ []) []))) (eq-eqb i i refl)
+optional_again i (Some n) = ap (λ b. optional_octet_in i (nth 0 (cond b ((n ∷ []) ∷ []) []))) (eq-eqb i i refl)
 
 pair_again : (i n : ℕ) → pair_in i (Some (pair_octets n)) ≡ Ok n
 pair_again i n = let same : 256 * (n / 256) + n % 256 ≡ n = omega arith in ap Ok same
 
 -- A reader that goes on has read what was written, and it fits.
-channel_fits : (channel read : ChanBits) → channel_in (Some (channel_octet channel ∷ [])) ≡ Ok read → channel.tn < 8
-channel_fits channel read h = by_test (eqb ((8 + channel.tn) / 8) 1) refl h
+channel_fits : (channel : ChanBits) → (read : ChanBits) × (channel_in (Some (channel_octet channel ∷ [])) ≡ Ok read) → channel.tn < 8
+channel_fits channel (read, h) = by_test (eqb ((8 + channel.tn) / 8) 1) refl h
   where
-    by_test : (b : Bool) → eqb ((8 + channel.tn) / 8) 1 ≡ b → cond b (Ok (record { tn = (8 + channel.tn) % 8 })) (Err (Bad 0x01)) ≡ Ok read → channel.tn < 8
+    by_test : (b : Bool) → eqb ((8 + channel.tn) / 8) 1 ≡ b → cond b (Ok (record { tn = (8 + channel.tn) % 8 })) (Err (Bad CHANNEL_NUMBER)) ≡ Ok read → channel.tn < 8
     by_test true one h = let same : (8 + channel.tn) / 8 ≡ 1 = grind (arith, nat_tests) in omega arith
     by_test false one h = cc
 
-bind_ok : {X Y : Type 0} (r : Result X ElementFault) (go : X → Result Y ElementFault) (y : Y) → r >>= go ≡ Ok y → (x : X) × (r ≡ Ok x)
-bind_ok (Ok x) go y h = (x, refl)
-bind_ok (Err f) go y h = cc
+octets_some : (i : ℕ) (v : List ℕ) → (read : List ℕ) × (octets_in i (Some v) ≡ Ok read) → 0 < length v
+octets_some i [] (read, h) = cc
+octets_some i (octet ∷ v) h = omega arith
 
-channel_read : {Y : Type 0} (channel : ChanBits) (go : ChanBits → Result Y ElementFault) (y : Y) → channel_in (Some (channel_octet channel ∷ [])) >>= go ≡ Ok y → (channel.tn < 8) × (go channel ≡ Ok y)
-channel_read channel go y h =
-    let read = bind_ok (channel_in (Some (channel_octet channel ∷ []))) go y h in
-    let fits = channel_fits channel read.0 read.1 in
-    (fits, (λ i. sym (channel_again channel fits) i >>= go) ∙ h)
-
-octets_read : {Y : Type 0} (i : ℕ) (v : List ℕ) (go : List ℕ → Result Y ElementFault) (y : Y) → octets_in i (Some v) >>= go ≡ Ok y → (0 < length v) × (go v ≡ Ok y)
-octets_read i [] go y h = cc
-octets_read i (octet ∷ v) go y h = (omega arith, h)
-
-octets_some_read : {Y : Type 0} (i : ℕ) (v : List ℕ) (go : Option (List ℕ) → Result Y ElementFault) (y : Y) → optional_octets_in i (Some v) >>= go ≡ Ok y → 0 < length v
-octets_some_read i [] go y h = cc
-octets_some_read i (octet ∷ v) go y h = omega arith
+optional_some : (i : ℕ) (v : List ℕ) → (read : Option (List ℕ)) × (optional_octets_in i (Some v) ≡ Ok read) → 0 < length v
+optional_some i [] (read, h) = cc
+optional_some i (octet ∷ v) h = omega arith
 
 octet_fits : (i : ℕ) (o : Option ℕ) → abis i ≡ Fixed 1 → AllByRecursion (Fits abis) (where_some i o)
 octet_fits i None form = tt
 octet_fits i (Some n) form = (subst (λ f. FitsAs f (n ∷ [])) (sym form) refl, tt)
 
-reference-length : (o : Option ℕ) → length (all_octets abis (where_some 0x09 o)) ≤ 2
-reference-length None = omega arith
-reference-length (Some n) = omega arith
+fixed_some : (i : ℕ) (o : Option ℕ) → abis i ≡ Fixed 1 → AreFixed abis (where_some i o)
+fixed_some i None form = tt
+fixed_some i (Some n) form = (subst (λ f. IsFixedAs f (n ∷ [])) (sym form) refl, tt)
 
-delay-length : (o : Option ℕ) → length (all_octets abis (where_some 0x11 o)) ≤ 2
-delay-length None = omega arith
-delay-length (Some n) = omega arith
+fixed_layer3 : (o : Option (List ℕ)) → AreFixed abis (where_value LAYER3 o)
+fixed_layer3 None = tt
+fixed_layer3 (Some v) = (tt, tt)
+
+are_fixed : {A : Type 0} (v : Rsl A) → AreFixed abis (elements_of v)
+are_fixed (DataRequest channel link layer3) = (refl, (refl, (tt, tt)))
+are_fixed (DataIndication channel link layer3) = (refl, (refl, (tt, tt)))
+are_fixed (ChannelActivation channel activation mode reference) = (refl, (refl, (tt, fixed_some HANDOVER_REFERENCE reference refl)))
+are_fixed (ChannelActivationAck channel frame) = (refl, (refl, tt))
+are_fixed (ChannelActivationNack channel cause) = (refl, (tt, tt))
+are_fixed (ConnectionFailureIndication channel cause) = (refl, (tt, tt))
+are_fixed (HandoverDetection channel delay) = (refl, fixed_some ACCESS_DELAY delay refl)
+are_fixed (MeasurementResult channel number uplink power layer3) = (refl, (refl, (tt, (refl, fixed_layer3 layer3))))
+are_fixed (RfChannelRelease channel) = (refl, tt)
+are_fixed (RfChannelReleaseAck channel) = (refl, tt)
+
+-- What is written fits and says the message exactly where it is a text of it.
+text_of : {A : Type 0} (v : Rsl A) → length (canonical_text v) ≤ limit → AllByRecursion (Fits abis) (elements_of v) → said (kind_of v) (values_in (elements_of v)) ≡ Ok v → HasCanonical v
+text_of v within each says = record {
+  kind = kind_of v;
+  body = all_octets abis (elements_of v);
+  head = (within, ((head_of (kind_of v)).0, (head_of (kind_of v)).1, refl, (refl, refl)));
+  says = record { elements = elements_of v; split = record { each = each; spelling = refl }; says = says };
+}
+
+written_of : {A : Type 0} (v : Rsl A) → HasCanonical v → AllByRecursion (Fits abis) (elements_of v) × (said (kind_of v) (values_in (elements_of v)) ≡ Ok v)
+written_of {A} v h =
+    let here : Begins (kind_of v) (canonical_text v) (all_octets abis (elements_of v)) = ((head_of (kind_of v)).0, (head_of (kind_of v)).1, refl, (refl, refl)) in
+    let same = one_head h.kind (kind_of v) (canonical_text v) h.body (all_octets abis (elements_of v)) h.head.1 here in
+    written_says (codec A) h.kind (kind_of v) h.body (elements_of v) v same.0 same.1 (are_fixed v) h.says
+
+-- The rows of each message read again what they write, and no more than can be written.
+data_again : (channel : ChanBits) (link : ℕ) (layer3 : List ℕ) → channel.tn < 8 → 0 < length layer3 → data_rows.read (values_in (data_rows.written (channel, (link, layer3)))) ≡ Ok (channel, (link, layer3))
+data_again channel link layer3 p q =
+    let found = values_in (data_rows.written (channel, (link, layer3))) in
+    both_read channel_number (octet LINK_IDENTIFIER ▸ octets LAYER3) found channel (link, layer3) (channel_again channel p) (both_read (octet LINK_IDENTIFIER) (octets LAYER3) found link layer3 refl (octets_again LAYER3 layer3 q))
+
+data_fits : (channel : ChanBits) (link : ℕ) (layer3 : List ℕ) (read : ChanBits × (ℕ × List ℕ)) → data_rows.read (values_in (data_rows.written (channel, (link, layer3)))) ≡ Ok read → (channel.tn < 8) × (0 < length layer3)
+data_fits channel link layer3 read h =
+    let found = values_in (data_rows.written (channel, (link, layer3))) in
+    let first = each_read channel_number (octet LINK_IDENTIFIER ▸ octets LAYER3) found read h in
+    let second = each_read (octet LINK_IDENTIFIER) (octets LAYER3) found first.1.0 first.1.1 in
+    (channel_fits channel first.0, octets_some LAYER3 layer3 second.1)
+
+activation_again : (channel : ChanBits) (activation : ℕ) (mode : List ℕ) (reference : Option ℕ) → channel.tn < 8 → 0 < length mode → activation_rows.read (values_in (activation_rows.written (channel, (activation, (mode, reference))))) ≡ Ok (channel, (activation, (mode, reference)))
+activation_again channel activation mode reference p q =
+    let found = values_in (activation_rows.written (channel, (activation, (mode, reference)))) in
+    let last = octets CHANNEL_MODE ▸ optional_octet HANDOVER_REFERENCE in
+    both_read channel_number (octet ACTIVATION_TYPE ▸ last) found channel (activation, (mode, reference)) (channel_again channel p) (both_read (octet ACTIVATION_TYPE) last found activation (mode, reference) refl (both_read (octets CHANNEL_MODE) (optional_octet HANDOVER_REFERENCE) found mode reference (octets_again CHANNEL_MODE mode q) (optional_again HANDOVER_REFERENCE reference)))
+
+activation_fits : (channel : ChanBits) (activation : ℕ) (mode : List ℕ) (reference : Option ℕ) (read : ChanBits × (ℕ × (List ℕ × Option ℕ))) → activation_rows.read (values_in (activation_rows.written (channel, (activation, (mode, reference))))) ≡ Ok read → (channel.tn < 8) × (0 < length mode)
+activation_fits channel activation mode reference read h =
+    let found = values_in (activation_rows.written (channel, (activation, (mode, reference)))) in
+    let last = octets CHANNEL_MODE ▸ optional_octet HANDOVER_REFERENCE in
+    let first = each_read channel_number (octet ACTIVATION_TYPE ▸ last) found read h in
+    let second = each_read (octet ACTIVATION_TYPE) last found first.1.0 first.1.1 in
+    let third = each_read (octets CHANNEL_MODE) (optional_octet HANDOVER_REFERENCE) found second.1.0 second.1.1 in
+    (channel_fits channel first.0, octets_some CHANNEL_MODE mode third.0)
+
+layer3_again : (o : Option (List ℕ)) → IfSome o (λ l. 0 < length l) → optional_octets_in LAYER3 (first_of LAYER3 (where_value LAYER3 o)) ≡ Ok o
+layer3_again None h = refl
+layer3_again (Some v) h = octets_some_again LAYER3 v h
+
+layer3_some : (o : Option (List ℕ)) → (read : Option (List ℕ)) × (optional_octets_in LAYER3 (first_of LAYER3 (where_value LAYER3 o)) ≡ Ok read) → IfSome o (λ l. 0 < length l)
+layer3_some None h = tt
+layer3_some (Some v) h = optional_some LAYER3 v h
+
+measurement_again : (channel : ChanBits) (number : ℕ) (uplink : List ℕ) (power : ℕ) (layer3 : Option (List ℕ)) → channel.tn < 8 → IfSome layer3 (λ l. 0 < length l) → measurement_rows.read (values_in (measurement_rows.written (channel, (number, (uplink, (power, layer3)))))) ≡ Ok (channel, (number, (uplink, (power, layer3))))
+measurement_again channel number uplink power layer3 p q =
+    let found = values_in (measurement_rows.written (channel, (number, (uplink, (power, layer3))))) in
+    let last = octet POWER ▸ optional_octets LAYER3 in
+    let middle = any_octets UPLINK_MEASUREMENTS ▸ last in
+    both_read channel_number (octet RESULT_NUMBER ▸ middle) found channel (number, (uplink, (power, layer3))) (channel_again channel p) (both_read (octet RESULT_NUMBER) middle found number (uplink, (power, layer3)) refl (both_read (any_octets UPLINK_MEASUREMENTS) last found uplink (power, layer3) refl (both_read (octet POWER) (optional_octets LAYER3) found power layer3 refl (layer3_again layer3 q))))
+
+measurement_fits : (channel : ChanBits) (number : ℕ) (uplink : List ℕ) (power : ℕ) (layer3 : Option (List ℕ)) (read : ChanBits × (ℕ × (List ℕ × (ℕ × Option (List ℕ))))) → measurement_rows.read (values_in (measurement_rows.written (channel, (number, (uplink, (power, layer3)))))) ≡ Ok read → (channel.tn < 8) × IfSome layer3 (λ l. 0 < length l)
+measurement_fits channel number uplink power layer3 read h =
+    let found = values_in (measurement_rows.written (channel, (number, (uplink, (power, layer3))))) in
+    let last = octet POWER ▸ optional_octets LAYER3 in
+    let middle = any_octets UPLINK_MEASUREMENTS ▸ last in
+    let first = each_read channel_number (octet RESULT_NUMBER ▸ middle) found read h in
+    let second = each_read (octet RESULT_NUMBER) middle found first.1.0 first.1.1 in
+    let third = each_read (any_octets UPLINK_MEASUREMENTS) last found second.1.0 second.1.1 in
+    let fourth = each_read (octet POWER) (optional_octets LAYER3) found third.1.0 third.1.1 in
+    (channel_fits channel first.0, layer3_some layer3 fourth.1)
+
+-- A layer 3 message in a text that isn't too long has a length of two octets.
+layer3_fits : (o : Option (List ℕ)) (n : ℕ) → n + length (all_octets abis (where_value LAYER3 o)) ≤ limit → AllByRecursion (Fits abis) (where_value LAYER3 o)
+layer3_fits None n h = tt
+layer3_fits (Some v) n h = let long = length-append v [] in (omega arith, tt)
 
 -- What can be written has a canonical text.
-activation_canonical : {A : Type 0} (channel : ChanBits) (activation : ℕ) (mode : List ℕ) (reference : Option ℕ) → IsWritable {A = A} (ChannelActivation channel activation mode reference) → HasCanonical {A = A} (ChannelActivation channel activation mode reference)
-unfolding channel_activation
-activation_canonical channel activation mode reference h = record {
-  each = (refl, (refl, (h.2, octet_fits 9 reference refl)));
-  says = λ i. channel_again channel h.0 i >>= λ channel. octets_again 6 mode h.1 i >>= λ mode. optional_again 9 reference i >>= λ reference. Ok (ChannelActivation channel activation mode reference);
-  within = let long = length-append mode (all_octets abis (where_some 0x09 reference)) in let two = reference-length reference in omega arith;
-}
-
-pub canonical_of : {A : Type 0} (v : Rsl A) → IsWritable v → HasCanonical v
-unfolding data_request data_indication channel_activation channel_activation_ack channel_activation_nack connection_failure handover_detection measurement_result rf_channel_release rf_channel_release_ack
-canonical_of (DataRequest channel link layer3) h = record {
-  each = (refl, (refl, (let short = h.2 in omega arith, tt)));
-  says = λ i. channel_again channel h.0 i >>= λ channel. octets_again 11 layer3 h.1 i >>= λ layer3. Ok (DataRequest channel link layer3);
-  within = let long = length-append layer3 [] in let short = h.2 in omega arith;
-}
-canonical_of (DataIndication channel link layer3) h = record {
-  each = (refl, (refl, (let short = h.2 in omega arith, tt)));
-  says = λ i. channel_again channel h.0 i >>= λ channel. octets_again 11 layer3 h.1 i >>= λ layer3. Ok (DataIndication channel link layer3);
-  within = let long = length-append layer3 [] in let short = h.2 in omega arith;
-}
-canonical_of (ChannelActivation channel activation mode reference) h = activation_canonical channel activation mode reference h
-canonical_of (ChannelActivationAck channel frame) h = record {
-  each = (refl, (refl, tt));
-  says = λ i. channel_again channel h i >>= λ channel. pair_again 8 frame i >>= λ frame. Ok (ChannelActivationAck channel frame);
-  within = omega arith;
-}
-canonical_of (ChannelActivationNack channel cause) h = record {
-  each = (refl, (omega arith, tt));
-  says = λ i. channel_again channel h i >>= λ channel. Ok (ChannelActivationNack channel cause);
-  within = omega arith;
-}
-canonical_of (ConnectionFailureIndication channel cause) h = record {
-  each = (refl, (omega arith, tt));
-  says = λ i. channel_again channel h i >>= λ channel. Ok (ConnectionFailureIndication channel cause);
-  within = omega arith;
-}
-canonical_of (HandoverDetection channel delay) h = record {
-  each = (refl, octet_fits 17 delay refl);
-  says = λ i. channel_again channel h i >>= λ channel. optional_again 17 delay i >>= λ delay. Ok (HandoverDetection channel delay);
-  within = let two = delay-length delay in omega arith;
-}
-canonical_of (MeasurementResult channel number uplink power None) h = record {
-  each = (refl, (refl, (h.1, (refl, tt))));
-  says = λ i. channel_again channel h.0 i >>= λ channel. Ok (MeasurementResult channel number uplink power None);
-  within = let long = length-append uplink (4 ∷ power ∷ []) in let short = h.1 in omega arith;
-}
-canonical_of (MeasurementResult channel number uplink power (Some layer3)) h = record {
-  each = (refl, (refl, (h.1, (refl, (let short = h.3 in omega arith, tt)))));
-  says = λ i. channel_again channel h.0 i >>= λ channel. octets_some_again 11 layer3 h.2 i >>= λ layer3. Ok (MeasurementResult channel number uplink power layer3);
-  within = let long = length-append uplink (4 ∷ power ∷ 11 ∷ length layer3 / 256 ∷ length layer3 % 256 ∷ layer3 ++ []) in let last = length-append layer3 [] in let short = h.3 in omega arith;
-}
-canonical_of (RfChannelRelease channel) h = record {
-  each = (refl, tt);
-  says = λ i. channel_again channel h i >>= λ channel. Ok (RfChannelRelease channel);
-  within = omega arith;
-}
-canonical_of (RfChannelReleaseAck channel) h = record {
-  each = (refl, tt);
-  says = λ i. channel_again channel h i >>= λ channel. Ok (RfChannelReleaseAck channel);
-  within = omega arith;
-}
+pub canonical_of : {A : Type 0} (v : Rsl A) → AreWritable v → length (canonical_text v) ≤ limit → HasCanonical v
+canonical_of {A} (DataRequest channel link layer3) h within = let v : Rsl A = DataRequest channel link layer3 in let long = length-append layer3 [] in
+    text_of v within (refl, (refl, (omega arith, tt))) (λ i. data_again channel link layer3 h.0 h.1 i >>= λ (channel, (link, layer3)). Ok (DataRequest channel link layer3))
+canonical_of {A} (DataIndication channel link layer3) h within = let v : Rsl A = DataIndication channel link layer3 in let long = length-append layer3 [] in
+    text_of v within (refl, (refl, (omega arith, tt))) (λ i. data_again channel link layer3 h.0 h.1 i >>= λ (channel, (link, layer3)). Ok (DataIndication channel link layer3))
+canonical_of {A} (ChannelActivation channel activation mode reference) h within = let v : Rsl A = ChannelActivation channel activation mode reference in
+    text_of v within (refl, (refl, (h.2, octet_fits HANDOVER_REFERENCE reference refl))) (λ i. activation_again channel activation mode reference h.0 h.1 i >>= λ (channel, (activation, (mode, reference))). Ok (ChannelActivation channel activation mode reference))
+canonical_of {A} (ChannelActivationAck channel frame) h within = let v : Rsl A = ChannelActivationAck channel frame in
+    text_of v within (refl, (refl, tt)) (λ i. both_read channel_number (pair FRAME_NUMBER) (values_in (elements_of v)) channel frame (channel_again channel h) (pair_again FRAME_NUMBER frame) i >>= λ (channel, frame). Ok (ChannelActivationAck channel frame))
+canonical_of {A} (ChannelActivationNack channel cause) h within = let v : Rsl A = ChannelActivationNack channel cause in
+    text_of v within (refl, (omega arith, tt)) (λ i. both_read channel_number (octet CAUSE) (values_in (elements_of v)) channel cause (channel_again channel h) refl i >>= λ (channel, cause). Ok (ChannelActivationNack channel cause))
+canonical_of {A} (ConnectionFailureIndication channel cause) h within = let v : Rsl A = ConnectionFailureIndication channel cause in
+    text_of v within (refl, (omega arith, tt)) (λ i. both_read channel_number (octet CAUSE) (values_in (elements_of v)) channel cause (channel_again channel h) refl i >>= λ (channel, cause). Ok (ConnectionFailureIndication channel cause))
+canonical_of {A} (HandoverDetection channel delay) h within = let v : Rsl A = HandoverDetection channel delay in
+    text_of v within (refl, octet_fits ACCESS_DELAY delay refl) (λ i. both_read channel_number (optional_octet ACCESS_DELAY) (values_in (elements_of v)) channel delay (channel_again channel h) (optional_again ACCESS_DELAY delay) i >>= λ (channel, delay). Ok (HandoverDetection channel delay))
+canonical_of {A} (MeasurementResult channel number uplink power layer3) h within =
+    let v : Rsl A = MeasurementResult channel number uplink power layer3 in
+    let long = length-append uplink (POWER ∷ power ∷ all_octets abis (where_value LAYER3 layer3)) in
+    text_of v within (refl, (refl, (h.1, (refl, layer3_fits layer3 0 (omega arith))))) (λ i. measurement_again channel number uplink power layer3 h.0 h.2 i >>= λ (channel, (number, (uplink, (power, layer3)))). Ok (MeasurementResult channel number uplink power layer3))
+canonical_of {A} (RfChannelRelease channel) h within = let v : Rsl A = RfChannelRelease channel in
+    text_of v within (refl, tt) (λ i. channel_again channel h i >>= λ channel. Ok (RfChannelRelease channel))
+canonical_of {A} (RfChannelReleaseAck channel) h within = let v : Rsl A = RfChannelReleaseAck channel in
+    text_of v within (refl, tt) (λ i. channel_again channel h i >>= λ channel. Ok (RfChannelReleaseAck channel))
 
 -- What has a canonical text can be written.
-pub writable_of : {A : Type 0} (v : Rsl A) → HasCanonical v → IsWritable v
-unfolding data_request data_indication channel_activation channel_activation_ack channel_activation_nack connection_failure handover_detection measurement_result rf_channel_release rf_channel_release_ack
-writable_of {A} (DataRequest channel link layer3) h =
-    let last : ChanBits → List ℕ → Said A = λ channel layer3. Ok (DataRequest channel link layer3) in
-    let by_channel = channel_read channel (λ channel. octets_in 0x0B (Some layer3) >>= last channel) (DataRequest channel link layer3) h.says in
-    let by_layer3 = octets_read 11 layer3 (last channel) (DataRequest channel link layer3) by_channel.1 in
-    let within = h.within in
-    let long = length-append layer3 [] in
-    (by_channel.0, by_layer3.0, omega arith)
-writable_of {A} (DataIndication channel link layer3) h =
-    let last : ChanBits → List ℕ → Said A = λ channel layer3. Ok (DataIndication channel link layer3) in
-    let by_channel = channel_read channel (λ channel. octets_in 0x0B (Some layer3) >>= last channel) (DataIndication channel link layer3) h.says in
-    let by_layer3 = octets_read 11 layer3 (last channel) (DataIndication channel link layer3) by_channel.1 in
-    let within = h.within in
-    let long = length-append layer3 [] in
-    (by_channel.0, by_layer3.0, omega arith)
-writable_of {A} (ChannelActivation channel activation mode reference) h =
-    let last : ChanBits → List ℕ → Said A = λ channel mode. optional_octet_in 0x09 (first_of 0x09 (where_some 0x09 reference)) >>= λ reference. Ok (ChannelActivation channel activation mode reference) in
-    let by_channel = channel_read channel (λ channel. octets_in 0x06 (Some mode) >>= last channel) (ChannelActivation channel activation mode reference) h.says in
-    let by_mode = octets_read 6 mode (last channel) (ChannelActivation channel activation mode reference) by_channel.1 in
-    (by_channel.0, by_mode.0, h.each.1.1.0)
-writable_of {A} (ChannelActivationAck channel frame) h =
-    let go : ChanBits → Said A = λ channel. pair_in 0x08 (Some (pair_octets frame)) >>= λ frame. Ok (ChannelActivationAck channel frame) in
-    (channel_read channel go (ChannelActivationAck channel frame) h.says).0
-writable_of {A} (ChannelActivationNack channel cause) h =
-    let go : ChanBits → Said A = λ channel. Ok (ChannelActivationNack channel cause) in
-    (channel_read channel go (ChannelActivationNack channel cause) h.says).0
-writable_of {A} (ConnectionFailureIndication channel cause) h =
-    let go : ChanBits → Said A = λ channel. Ok (ConnectionFailureIndication channel cause) in
-    (channel_read channel go (ConnectionFailureIndication channel cause) h.says).0
-writable_of {A} (HandoverDetection channel delay) h =
-    let go : ChanBits → Said A = λ channel. optional_octet_in 0x11 (first_of 0x11 (where_some 0x11 delay)) >>= λ delay. Ok (HandoverDetection channel delay) in
-    (channel_read channel go (HandoverDetection channel delay) h.says).0
-writable_of {A} (MeasurementResult channel number uplink power None) h =
-    let go : ChanBits → Said A = λ channel. Ok (MeasurementResult channel number uplink power None) in
-    ((channel_read channel go (MeasurementResult channel number uplink power None) h.says).0, h.each.1.1.0)
-writable_of {A} (MeasurementResult channel number uplink power (Some layer3)) h =
-    let last : ChanBits → Option (List ℕ) → Said A = λ channel layer3. Ok (MeasurementResult channel number uplink power layer3) in
-    let by_channel = channel_read channel (λ channel. optional_octets_in 0x0B (Some layer3) >>= last channel) (MeasurementResult channel number uplink power (Some layer3)) h.says in
-    let within = h.within in
-    let long = length-append uplink (4 ∷ power ∷ 11 ∷ length layer3 / 256 ∷ length layer3 % 256 ∷ layer3 ++ []) in
-    let last_long = length-append layer3 [] in
-    (by_channel.0, h.each.1.1.0, octets_some_read 11 layer3 (last channel) (MeasurementResult channel number uplink power (Some layer3)) by_channel.1, omega arith)
-writable_of {A} (RfChannelRelease channel) h =
+are_writable : {A : Type 0} (v : Rsl A) → AllByRecursion (Fits abis) (elements_of v) → said (kind_of v) (values_in (elements_of v)) ≡ Ok v → AreWritable v
+are_writable {A} (DataRequest channel link layer3) each says =
+    let go : ChanBits × (ℕ × List ℕ) → Said A = λ (channel, (link, layer3)). Ok (DataRequest channel link layer3) in
+    let read = went_on (data_rows.read (values_in (data_rows.written (channel, (link, layer3))))) go (DataRequest channel link layer3) says in
+    data_fits channel link layer3 read.0 read.1
+are_writable {A} (DataIndication channel link layer3) each says =
+    let go : ChanBits × (ℕ × List ℕ) → Said A = λ (channel, (link, layer3)). Ok (DataIndication channel link layer3) in
+    let read = went_on (data_rows.read (values_in (data_rows.written (channel, (link, layer3))))) go (DataIndication channel link layer3) says in
+    data_fits channel link layer3 read.0 read.1
+are_writable {A} (ChannelActivation channel activation mode reference) each says =
+    let go : ChanBits × (ℕ × (List ℕ × Option ℕ)) → Said A = λ (channel, (activation, (mode, reference))). Ok (ChannelActivation channel activation mode reference) in
+    let read = went_on (activation_rows.read (values_in (activation_rows.written (channel, (activation, (mode, reference)))))) go (ChannelActivation channel activation mode reference) says in
+    let fits = activation_fits channel activation mode reference read.0 read.1 in
+    (fits.0, fits.1, each.1.1.0)
+are_writable {A} (ChannelActivationAck channel frame) each says =
+    let found = values_in (activation_ack_rows.written (channel, frame)) in
+    let go : ChanBits × ℕ → Said A = λ (channel, frame). Ok (ChannelActivationAck channel frame) in
+    let read = went_on (activation_ack_rows.read found) go (ChannelActivationAck channel frame) says in
+    channel_fits channel (each_read channel_number (pair FRAME_NUMBER) found read.0 read.1).0
+are_writable {A} (ChannelActivationNack channel cause) each says =
+    let found = values_in (cause_rows.written (channel, cause)) in
+    let go : ChanBits × ℕ → Said A = λ (channel, cause). Ok (ChannelActivationNack channel cause) in
+    let read = went_on (cause_rows.read found) go (ChannelActivationNack channel cause) says in
+    channel_fits channel (each_read channel_number (octet CAUSE) found read.0 read.1).0
+are_writable {A} (ConnectionFailureIndication channel cause) each says =
+    let found = values_in (cause_rows.written (channel, cause)) in
+    let go : ChanBits × ℕ → Said A = λ (channel, cause). Ok (ConnectionFailureIndication channel cause) in
+    let read = went_on (cause_rows.read found) go (ConnectionFailureIndication channel cause) says in
+    channel_fits channel (each_read channel_number (octet CAUSE) found read.0 read.1).0
+are_writable {A} (HandoverDetection channel delay) each says =
+    let found = values_in (detection_rows.written (channel, delay)) in
+    let go : ChanBits × Option ℕ → Said A = λ (channel, delay). Ok (HandoverDetection channel delay) in
+    let read = went_on (detection_rows.read found) go (HandoverDetection channel delay) says in
+    channel_fits channel (each_read channel_number (optional_octet ACCESS_DELAY) found read.0 read.1).0
+are_writable {A} (MeasurementResult channel number uplink power layer3) each says =
+    let go : ChanBits × (ℕ × (List ℕ × (ℕ × Option (List ℕ)))) → Said A = λ (channel, (number, (uplink, (power, layer3)))). Ok (MeasurementResult channel number uplink power layer3) in
+    let read = went_on (measurement_rows.read (values_in (measurement_rows.written (channel, (number, (uplink, (power, layer3))))))) go (MeasurementResult channel number uplink power layer3) says in
+    let fits = measurement_fits channel number uplink power layer3 read.0 read.1 in
+    (fits.0, each.1.1.0, fits.1)
+are_writable {A} (RfChannelRelease channel) each says =
     let go : ChanBits → Said A = λ channel. Ok (RfChannelRelease channel) in
-    (channel_read channel go (RfChannelRelease channel) h.says).0
-writable_of {A} (RfChannelReleaseAck channel) h =
+    let read = went_on (channel_in (Some (channel_octet channel ∷ []))) go (RfChannelRelease channel) says in
+    channel_fits channel (read.0, read.1)
+are_writable {A} (RfChannelReleaseAck channel) each says =
     let go : ChanBits → Said A = λ channel. Ok (RfChannelReleaseAck channel) in
-    (channel_read channel go (RfChannelReleaseAck channel) h.says).0
+    let read = went_on (channel_in (Some (channel_octet channel ∷ []))) go (RfChannelReleaseAck channel) says in
+    channel_fits channel (read.0, read.1)
+
+pub writable_of : {A : Type 0} (v : Rsl A) → HasCanonical v → AreWritable v × (length (canonical_text v) ≤ limit)
+writable_of v h = let written = written_of v h in (are_writable v written.0 written.1, h.head.0)

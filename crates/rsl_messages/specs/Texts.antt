@@ -1,10 +1,9 @@
 -- Which octets are the text of a message, what is wrong with all others, and which text is written
 -- (TS 48.058 clause 9).
-use Rattle.std.specs.Prelude.{◌≡◌, ◌⊎◌, ℕ, ◌+◌, ◌<◌, ◌≤◌, List, ◌∷◌, length, Result, Ok, Err}
-use Rattle.std.specs.List.{AllByRecursion}
-use Rattle.octet_elements.specs.Elements.{Element, Fits, AreElements, IsTornAt, all_octets}
-use Rattle.octet_elements.specs.declared.values.ElementFault.{ElementFault}
-use Rattle.octet_elements.specs.declared.values.ElementFault.TheVariants.{Absent, Bad}
+use Rattle.std.specs.Prelude.{ℕ, ◌+◌, ◌<◌, ◌≤◌, List, ◌∷◌, length}
+use Rattle.octet_elements.specs.Elements.{all_octets}
+use Rattle.octet_elements.specs.Texts.{Codec}
+use Rattle.octet_elements.specs.Texts as texts
 use Rattle.rsl_messages.specs.declared.fault.RslFault.{RslFault}
 use Rattle.rsl_messages.specs.declared.fault.RslFault.TheVariants as fault
 use Rattle.rsl_messages.specs.declared.head.MessageKind.{MessageKind}
@@ -12,74 +11,48 @@ use Rattle.rsl_messages.specs.declared.message.Rsl.{Rsl}
 use Rattle.rsl_messages.specs.Forms.{abis}
 use Rattle.rsl_messages.specs.Heads.{Begins, HasHeadFault, head_of}
 use Rattle.rsl_messages.specs.Values.{fault_of}
-use Rattle.rsl_messages.specs.Messages.{Said, meaning_of, kind_of, elements_of, HasOctets}
+use Rattle.rsl_messages.specs.Messages.{said, kind_of, elements_of, HasOctets}
 
 -- a message has at most so many octets
 abbrev pub limit : ℕ
 limit = 1024
 
--- The body of a message of this kind is whole elements, in any order, and this is what they say.
-pub record Says {A : Type 0} (kind : MessageKind) (body : List ℕ) (said : Said A) : Type 0 where
-  pub elements : List Element
-  pub split : AreElements abis elements body
-  pub says : meaning_of kind elements ≡ said
+-- the first fault before the body: there are too many octets; else the head has it
+abbrev pub HasEarlyFault : List ℕ → RslFault → Type 0
+HasEarlyFault octets fault.TooLong = limit < length octets
+HasEarlyFault octets f = (length octets ≤ limit) × HasHeadFault octets f
 
--- The octets are a text of the message: a head and a body that says it.
-pub record IsTextOf {A : Type 0} (v : Rsl A) (octets : List ℕ) : Type 0 where
-  pub within : length octets ≤ limit
-  pub kind : MessageKind
-  pub body : List ℕ
-  pub head : Begins kind octets body
-  pub says : Says kind body (Ok v)
+abbrev pub codec : (A : Type 0) → Codec MessageKind (Rsl A) RslFault
+codec A = record {
+  forms = abis;
+  Begins = λ kind octets body. (length octets ≤ limit) × Begins kind octets body;
+  HasHeadFault = HasEarlyFault;
+  said = said;
+  KeepsList = HasOctets;
+  torn = λ at. fault.Torn (2 + at);
+  fault_of = fault_of;
+  no_memory = fault.NoMemory;
+}
 
--- the body is torn at this offset, which counts the head too
-abbrev pub IsTornBody : List ℕ → ℕ → Type 0
-IsTornBody body at = (offset : ℕ) × IsTornAt abis body offset × (at ≡ 2 + offset)
+-- the octets are a text of the message
+abbrev pub IsTextOf : {A : Type 0} → Rsl A → List ℕ → Type 0
+IsTextOf {A} v octets = texts.IsTextOf (codec A) v octets
 
--- The body has this fault: it is torn, or an element is missing or bad. Memory runs out only for a
--- message that keeps an octet list.
-abbrev pub HasBodyFault : (A : Type 0) → MessageKind → List ℕ → RslFault → Type 0
-HasBodyFault A kind body (fault.Torn at) = IsTornBody body at
-HasBodyFault A kind body (fault.Missing i) = Says {A = A} kind body (Err (Absent i))
-HasBodyFault A kind body (fault.BadElement i) = Says {A = A} kind body (Err (Bad i))
-HasBodyFault A kind body fault.NoMemory = (v : Rsl A) × Says kind body (Ok v) × HasOctets v
-HasBodyFault A kind body _ = ⊥
-
--- The octets begin with a head, and the body after it has this fault.
-pub record HasFaultInBody (A : Type 0) (octets : List ℕ) (f : RslFault) : Type 0 where
-  pub kind : MessageKind
-  pub body : List ℕ
-  pub head : Begins kind octets body
-  pub fault : HasBodyFault A kind body f
-
--- The first fault of octets: they are too long; else the head has it; else the body.
+-- the octets have this first fault
 abbrev pub HasFault : (A : Type 0) → List ℕ → RslFault → Type 0
-HasFault A octets fault.TooLong = limit < length octets
-HasFault A octets f = (length octets ≤ limit) × (HasHeadFault octets f ⊎ HasFaultInBody A octets f)
+HasFault A octets f = texts.HasFault (codec A) octets f
 
 -- The canonical text: the head and the elements as they are written.
 abbrev pub canonical_text : {A : Type 0} → Rsl A → List ℕ
 canonical_text v = (head_of (kind_of v)).0 ∷ (head_of (kind_of v)).1 ∷ all_octets abis (elements_of v)
 
--- The message has a canonical text: its elements as written can be spelled, they say the message, and
--- the text isn't too long.
-pub record HasCanonical {A : Type 0} (v : Rsl A) : Type 0 where
-  pub each : AllByRecursion (Fits abis) (elements_of v)
-  pub says : meaning_of (kind_of v) (elements_of v) ≡ Ok v
-  pub within : length (canonical_text v) ≤ limit
+-- The message has a canonical text.
+abbrev pub HasCanonical : {A : Type 0} → Rsl A → Type 0
+HasCanonical v = IsTextOf v (canonical_text v)
 
--- What a reader of values answers: what they say, or their fault; memory runs out only for a message
--- that keeps an octet list.
-abbrev pub Answers : {A : Type 0} → Result (Rsl A) RslFault → Said A → Type 0
-Answers (Ok v) said = said ≡ Ok v
-Answers {A} (Err f) said = ((e : ElementFault) × (said ≡ Err e) × (f ≡ fault_of e)) ⊎ ((f ≡ fault.NoMemory) × (v : Rsl A) × (said ≡ Ok v) × HasOctets v)
-
--- Octets have one reading: a text has one value, and no fault but want of memory; no octets have two
--- faults.
-pub record ReadingIsUnique (A : Type 0) : Type 0 where
-  pub value : (v w : Rsl A) (octets : List ℕ) → IsTextOf v octets → IsTextOf w octets → v ≡ w
-  pub text : (v : Rsl A) (octets : List ℕ) (f : RslFault) → IsTextOf v octets → HasFault A octets f → f ≡ fault.NoMemory
-  pub fault : (octets : List ℕ) (f g : RslFault) → HasFault A octets f → HasFault A octets g → f ≡ g
+-- Octets have one reading: a text has one value, and no fault but refused memory; no octets have two faults.
+abbrev pub ReadingIsUnique : (A : Type 0) → Type 0
+ReadingIsUnique A = texts.ReadingIsUnique (codec A)
 
 -- the canonical text is a text of its message
 abbrev pub CanonicalIsText : (A : Type 0) → Type 0

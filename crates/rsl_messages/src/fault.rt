@@ -1,5 +1,5 @@
 //! Why octets are no message.
-use octet_elements::values::ElementFault;
+use octet_elements::ValueFault;
 use std::alloc::AllocError;
 use thiserror::Error;
 
@@ -43,16 +43,16 @@ impl From<AllocError> for RslFault {
     }
 }
 
-impl From<ElementFault> for RslFault {
+impl From<ValueFault> for RslFault {
     ghost use Rattle.std.specs.Prelude.{◌≡◌};
     ghost use Rattle.rsl_messages.specs.Values.{fault_of};
 
     ghost from_gives = { λ e f. f ≡ fault_of e };
 
-    fn from(fault: ElementFault) -> RslFault {
+    fn from(fault: ValueFault) -> RslFault {
         match fault {
-            ElementFault::Absent(identifier) => RslFault::Missing(identifier),
-            ElementFault::Bad(identifier) => RslFault::BadElement(identifier),
+            ValueFault::Absent(identifier) => RslFault::Missing(identifier),
+            ValueFault::Bad(identifier) => RslFault::BadElement(identifier),
         }
     }
 }

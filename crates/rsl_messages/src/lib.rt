@@ -4,19 +4,18 @@
 //! [`encode_into`] write one, and [`fits`] says whether a value can be written.
 #![tactic(auto)]
 
+mod elements;
 mod fault;
 mod head;
 mod laws;
 mod message;
-mod octets;
 mod reading;
 mod table;
-mod values;
 mod writing;
 
 pub use fault::RslFault;
 pub use laws::{canonical_is_text, reading_is_unique};
 pub use message::{ChanBits, Rsl};
-pub use octets::Octets;
+pub use octet_elements::Octets;
 pub use reading::decode;
 pub use writing::{encode, encode_into, fits};

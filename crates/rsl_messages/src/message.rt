@@ -1,5 +1,5 @@
 //! The messages.
-use crate::octets::Octets;
+use octet_elements::Octets;
 use std::alloc::{Allocator, Global};
 
 /// A channel of a TRX, as an element names it (TS 48.058 clause 9.3.1): a full-rate traffic channel.

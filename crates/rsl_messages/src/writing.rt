@@ -1,36 +1,20 @@
 //! Writing a message.
-ghost use Rattle.std.specs.Prelude.{◌≡◌, ◌≤◌, ◌<◌, ◌+◌, ◌++◌, ◌↔◌, IsTrue, IsNone, IfSome, length, IsOk, IfOk, OnOk, OnErr, vec_len, vec_capacity};
-ghost use Rattle.std.specs.Option.{option_map};
-ghost use Rattle.octet_elements.specs.Elements.{all_octets};
-ghost use Rattle.rsl_messages.specs.Forms.{abis};
-ghost use Rattle.rsl_messages.specs.Messages.{elements_of, kind_of};
-ghost use Rattle.octet_elements.specs.Values.{pair_octets, where_value};
-ghost use Rattle.rsl_messages.specs.Values.{channel_octet};
+ghost use Rattle.std.specs.Prelude.{◌≡◌, ◌≤◌, ◌<◌, ◌↔◌, IsTrue, IfSome, IfOk, length};
+ghost use Rattle.octet_elements.specs.Writing.{Appends};
+ghost use Rattle.rsl_messages.specs.Messages.{kind_of};
 ghost use Rattle.rsl_messages.specs.Texts.{limit, HasCanonical, canonical_text};
 
+use crate::elements::{append_elements, elements_len};
 use crate::head::{MessageKind, head_octets};
 use crate::message::{ChanBits, Rsl};
-use crate::octets::Octets;
 use crate::reading::LIMIT;
-use crate::table::{
-    ACCESS_DELAY, ACTIVATION_TYPE, Abis, CAUSE, CHANNEL_MODE, CHANNEL_NUMBER, FRAME_NUMBER,
-    HANDOVER_REFERENCE, LAYER3, LINK_IDENTIFIER, POWER, RESULT_NUMBER, UPLINK_MEASUREMENTS,
-};
-use octet_elements::values::pair_octets;
-use octet_elements::{append_element, append_octets};
+use octet_elements::{Octets, append_octets};
 use std::alloc::{AllocError, Allocator};
 
 /// Whether the message has a canonical text.
+#[tactic(auto, using(crate::proofs::Written::canonical_of, crate::proofs::Written::writable_of))]
 pub fn fits<A: Allocator>(message: &Rsl<A>) -> bool
     ensures canonical { IsTrue result ↔ HasCanonical message.now }
-{
-    is_writable(message)
-}
-
-/// The same, tested by the fields of the message.
-#[tactic(auto, using(crate::proofs::Written::canonical_of, crate::proofs::Written::writable_of))]
-fn is_writable<A: Allocator>(message: &Rsl<A>) -> bool
-    ensures { IsTrue result ↔ HasCanonical message.now }
 {
     match message {
         Rsl::DataRequest {
@@ -42,22 +26,27 @@ fn is_writable<A: Allocator>(message: &Rsl<A>) -> bool
             channel,
             layer3,
             ..
-        } => has_timeslot(*channel) && is_layer3(layer3.as_slice(), LIMIT - 9),
+        } => has_timeslot(*channel) && is_some(layer3) && is_within(message),
         Rsl::ChannelActivation { channel, mode, .. } => {
-            has_timeslot(*channel) && matches!(mode.as_slice().len(), 1..=255)
+            has_timeslot(*channel) && is_some(mode) && is_counted(mode) && is_within(message)
         }
         Rsl::MeasurementResult {
             channel,
             uplink,
             layer3,
             ..
-        } => has_timeslot(*channel) && is_measured(uplink.as_slice(), layer3.as_ref()),
+        } => {
+            has_timeslot(*channel)
+                && is_counted(uplink)
+                && is_reported(layer3.as_ref())
+                && is_within(message)
+        }
         Rsl::ChannelActivationAck { channel, .. }
         | Rsl::ChannelActivationNack { channel, .. }
         | Rsl::ConnectionFailureIndication { channel, .. }
         | Rsl::HandoverDetection { channel, .. }
         | Rsl::RfChannelRelease { channel }
-        | Rsl::RfChannelReleaseAck { channel } => has_timeslot(*channel),
+        | Rsl::RfChannelReleaseAck { channel } => has_timeslot(*channel) && is_within(message),
     }
 }
 
@@ -67,32 +56,35 @@ fn has_timeslot(channel: ChanBits) -> bool
     channel.tn < 8
 }
 
-/// Whether there is an octet, and no more octets than there is room for.
-fn is_layer3(octets: &[u8], room: usize) -> bool
-    ensures { IsTrue result ↔ ((0 < length octets.now) × (length octets.now ≤ room)) }
+/// Whether the list isn't empty.
+fn is_some<A: Allocator>(octets: &Octets<A>) -> bool
+    ensures { IsTrue result ↔ (0 < length octets.now) }
 {
-    0 < octets.len() && octets.len() <= room
+    !octets.as_slice().is_empty()
 }
 
-fn is_uplink(uplink: &[u8]) -> bool
-    ensures { IsTrue result ↔ (length uplink.now < 256) }
+/// Whether a length of one octet counts the list.
+fn is_counted<A: Allocator>(octets: &Octets<A>) -> bool
+    ensures { IsTrue result ↔ (length octets.now < 256) }
 {
-    uplink.len() < 256
+    octets.as_slice().len() < 256
 }
 
-/// Whether the lists of a MEASUREMENT RESULT can be written.
-fn is_measured<A: Allocator>(uplink: &[u8], layer3: Option<&Octets<A>>) -> bool
-    ensures without { IsNone layer3.entry → IsTrue result ↔ (length uplink.now < 256) }
-    ensures with { IfSome layer3.entry (λ l. IsTrue result ↔
-        ((length uplink.now < 256) × (0 < length l.now) ×
-        (13 + length uplink.now + length l.now ≤ limit))) }
+/// Whether the list, where there is one, isn't empty.
+fn is_reported<A: Allocator>(octets: Option<&Octets<A>>) -> bool
+    ensures { IsTrue result ↔ IfSome octets.entry (λ o. 0 < length o.now) }
 {
-    match layer3 {
-        None => is_uplink(uplink),
-        Some(layer3) => {
-            is_uplink(uplink) && is_layer3(layer3.as_slice(), LIMIT - 13 - uplink.len())
-        }
+    match octets {
+        None => true,
+        Some(octets) => is_some(octets),
     }
+}
+
+/// Whether the text isn't too long.
+fn is_within<A: Allocator>(message: &Rsl<A>) -> bool
+    ensures { IsTrue result ↔ (length (canonical_text message.now) ≤ limit) }
+{
+    elements_len(message) <= LIMIT - 2
 }
 
 /// Which message it is.
@@ -113,209 +105,10 @@ fn kind_of<A: Allocator>(message: &Rsl<A>) -> MessageKind
     }
 }
 
-/// How many octets the layer 3 element of a MEASUREMENT RESULT takes.
-fn reported_len<A: Allocator>(layer3: Option<&Octets<A>>) -> usize
-    requires { IfSome layer3 (λ l. length l.now ≤ limit) }
-    ensures { result ≡ length (all_octets abis
-        (where_value 0x0B (option_map (λ l. l.now) layer3.entry))) }
-{
-    match layer3 {
-        None => 0,
-        Some(layer3) => 3 + layer3.as_slice().len(),
-    }
-}
-
-/// How many octets the elements of a message take.
-fn elements_len<A: Allocator>(message: &Rsl<A>) -> usize
-    requires { length (all_octets abis (elements_of message.now)) ≤ limit }
-    ensures { result ≡ length (all_octets abis (elements_of message.now)) }
-{
-    match message {
-        Rsl::DataRequest { layer3, .. } | Rsl::DataIndication { layer3, .. } => {
-            7 + layer3.as_slice().len()
-        }
-        Rsl::ChannelActivation {
-            mode,
-            reference,
-            ..
-        } => 6 + mode.as_slice().len() + if reference.is_some() { 2 } else { 0 },
-        Rsl::HandoverDetection { delay, .. } => 2 + if delay.is_some() { 2 } else { 0 },
-        Rsl::MeasurementResult { uplink, layer3, .. } => {
-            8 + uplink.as_slice().len() + reported_len(layer3.as_ref())
-        }
-        Rsl::ChannelActivationAck { .. }
-        | Rsl::ChannelActivationNack { .. }
-        | Rsl::ConnectionFailureIndication { .. } => 5,
-        Rsl::RfChannelRelease { .. } | Rsl::RfChannelReleaseAck { .. } => 2,
-    }
-}
-
-/// The channel number's octet.
-fn channel_octet(channel: ChanBits) -> u8
-    requires { channel.tn < 8 }
-    ensures { result ≡ channel_octet channel }
-{
-    8 + channel.tn
-}
-
-/// Appends the elements of a DATA message.
-fn append_data<A: Allocator>(out: &mut Vec<u8, A>, channel: ChanBits, link: u8, layer3: &[u8])
-    requires channel { channel.tn < 8 }
-    requires layer3 { length layer3.now ≤ limit }
-    requires room { vec_len out.old + length (all_octets abis
-        (elements_of {A = A} (Rsl.DataRequest channel link layer3.now))) ≤
-        vec_capacity out.old }
-    ensures items { out.new.items ≡ out.old.items ++
-        all_octets abis (elements_of {A = A} (Rsl.DataRequest channel link layer3.now)) }
-{
-    append_element::<Abis, A>(out, CHANNEL_NUMBER, &[channel_octet(channel)]);
-    append_element::<Abis, A>(out, LINK_IDENTIFIER, &[link]);
-    append_element::<Abis, A>(out, LAYER3, layer3);
-}
-
-/// Appends the elements of a CHANNEL ACTIVATION.
-fn append_activation<A: Allocator>(
-    out: &mut Vec<u8, A>,
-    channel: ChanBits,
-    activation: u8,
-    mode: &[u8],
-    reference: Option<u8>,
-)
-    requires channel { channel.tn < 8 }
-    requires mode { length mode.now < 256 }
-    requires room { vec_len out.old + length (all_octets abis
-        (elements_of {A = A} (Rsl.ChannelActivation channel activation mode.now reference))) ≤
-        vec_capacity out.old }
-    ensures items { out.new.items ≡ out.old.items ++
-        all_octets abis (elements_of {A = A}
-        (Rsl.ChannelActivation channel activation mode.now reference)) }
-{
-    append_element::<Abis, A>(out, CHANNEL_NUMBER, &[channel_octet(channel)]);
-    append_element::<Abis, A>(out, ACTIVATION_TYPE, &[activation]);
-    append_element::<Abis, A>(out, CHANNEL_MODE, mode);
-    if let Some(reference) = reference {
-        append_element::<Abis, A>(out, HANDOVER_REFERENCE, &[reference]);
-    }
-}
-
-/// Appends the elements of a CHANNEL ACTIVATION ACKNOWLEDGE.
-fn append_ack<A: Allocator>(out: &mut Vec<u8, A>, channel: ChanBits, frame: u16)
-    requires channel { channel.tn < 8 }
-    requires room { vec_len out.old + length (all_octets abis
-        (elements_of {A = A} (Rsl.ChannelActivationAck channel frame))) ≤ vec_capacity out.old }
-    ensures items { out.new.items ≡ out.old.items ++
-        all_octets abis (elements_of {A = A} (Rsl.ChannelActivationAck channel frame)) }
-{
-    append_element::<Abis, A>(out, CHANNEL_NUMBER, &[channel_octet(channel)]);
-    append_element::<Abis, A>(out, FRAME_NUMBER, &pair_octets(frame));
-}
-
-/// Appends the elements of a message with a cause.
-fn append_cause<A: Allocator>(out: &mut Vec<u8, A>, channel: ChanBits, cause: u8)
-    requires channel { channel.tn < 8 }
-    requires room { vec_len out.old + length (all_octets abis
-        (elements_of {A = A} (Rsl.ChannelActivationNack channel cause))) ≤
-        vec_capacity out.old }
-    ensures items { out.new.items ≡ out.old.items ++
-        all_octets abis (elements_of {A = A} (Rsl.ChannelActivationNack channel cause)) }
-{
-    append_element::<Abis, A>(out, CHANNEL_NUMBER, &[channel_octet(channel)]);
-    append_element::<Abis, A>(out, CAUSE, &[cause]);
-}
-
-/// Appends the elements of a HANDOVER DETECTION.
-fn append_detection<A: Allocator>(out: &mut Vec<u8, A>, channel: ChanBits, delay: Option<u8>)
-    requires channel { channel.tn < 8 }
-    requires room { vec_len out.old + length (all_octets abis
-        (elements_of {A = A} (Rsl.HandoverDetection channel delay))) ≤ vec_capacity out.old }
-    ensures items { out.new.items ≡ out.old.items ++
-        all_octets abis (elements_of {A = A} (Rsl.HandoverDetection channel delay)) }
-{
-    append_element::<Abis, A>(out, CHANNEL_NUMBER, &[channel_octet(channel)]);
-    if let Some(delay) = delay {
-        append_element::<Abis, A>(out, ACCESS_DELAY, &[delay]);
-    }
-}
-
-/// Appends the elements of a MEASUREMENT RESULT.
-fn append_measurement<A: Allocator>(
-    out: &mut Vec<u8, A>,
-    channel: ChanBits,
-    number: u8,
-    uplink: &Octets<A>,
-    power: u8,
-    layer3: Option<&Octets<A>>,
-)
-    requires channel { channel.tn < 8 }
-    requires uplink { length uplink.now < 256 }
-    requires layer3 { IfSome layer3 (λ l. length l.now ≤ limit) }
-    requires room { vec_len out.old + length (all_octets abis
-        (elements_of {A = A} (Rsl.MeasurementResult channel number uplink.now power
-        (option_map (λ l. l.now) layer3)))) ≤ vec_capacity out.old }
-    ensures items { out.new.items ≡ out.old.items ++
-        all_octets abis (elements_of {A = A}
-        (Rsl.MeasurementResult channel number uplink.now power (option_map
-        (λ l. l.now) layer3.entry))) }
-{
-    append_element::<Abis, A>(out, CHANNEL_NUMBER, &[channel_octet(channel)]);
-    append_element::<Abis, A>(out, RESULT_NUMBER, &[number]);
-    append_element::<Abis, A>(out, UPLINK_MEASUREMENTS, uplink.as_slice());
-    append_element::<Abis, A>(out, POWER, &[power]);
-    if let Some(layer3) = layer3 {
-        append_element::<Abis, A>(out, LAYER3, layer3.as_slice());
-    }
-}
-
-/// Appends the elements of a message, for which the list has room.
-fn append_elements<A: Allocator>(message: &Rsl<A>, out: &mut Vec<u8, A>)
-    requires canonical { HasCanonical message.now }
-    requires room { vec_len out.old + length (all_octets abis (elements_of message.now)) ≤
-        vec_capacity out.old }
-    ensures items { out.new.items ≡ out.old.items ++ all_octets abis (elements_of message.now) }
-{
-    match message {
-        Rsl::DataRequest {
-            channel,
-            link,
-            layer3,
-        }
-        | Rsl::DataIndication {
-            channel,
-            link,
-            layer3,
-        } => append_data(out, *channel, *link, layer3.as_slice()),
-        Rsl::ChannelActivation {
-            channel,
-            activation,
-            mode,
-            reference,
-        } => append_activation(out, *channel, *activation, mode.as_slice(), *reference),
-        Rsl::ChannelActivationAck { channel, frame } => append_ack(out, *channel, *frame),
-        Rsl::ConnectionFailureIndication { channel, cause }
-        | Rsl::ChannelActivationNack { channel, cause } => append_cause(out, *channel, *cause),
-        Rsl::HandoverDetection { channel, delay } => append_detection(out, *channel, *delay),
-        Rsl::MeasurementResult {
-            channel,
-            number,
-            uplink,
-            power,
-            layer3,
-        } => append_measurement(out, *channel, *number, uplink, *power, layer3.as_ref()),
-        Rsl::RfChannelRelease { channel } | Rsl::RfChannelReleaseAck { channel } => {
-            append_element::<Abis, A>(out, CHANNEL_NUMBER, &[channel_octet(*channel)]);
-        }
-    }
-}
-
 /// Appends the canonical text of a message. A list with room for it is not moved: no memory is asked for.
 pub fn encode_into<A: Allocator>(message: &Rsl<A>, out: &mut Vec<u8, A>) -> Result<(), AllocError>
     requires { HasCanonical message.now }
-    ensures ok { OnOk result (out.new.items ≡ out.old.items ++ canonical_text message.now) }
-    ensures err { OnErr result (out.new.items ≡ out.old.items) }
-    ensures room { vec_len out.old + length (canonical_text message.now) ≤ vec_capacity out.old →
-        IsOk result }
-    ensures full { OnErr result (vec_capacity out.old < vec_len out.old + length
-        (canonical_text message.now)) }
+    ensures { Appends (canonical_text message.now) out.old out.new result }
 {
     out.reserve(2 + elements_len(message))?;
     append_octets(out, &head_octets(kind_of(message)));

@@ -1,6 +1,7 @@
-use Rattle.bssmap_messages.proofs.Faults.{no_fault, one_fault}
-use Rattle.bssmap_messages.proofs.Unique.{one_value}
+use Rattle.octet_elements.proofs.Texts.{reading_is_unique}
+use Rattle.bssmap_messages.specs.Texts.{codec}
+use Rattle.bssmap_messages.proofs.Unique.{heads}
 use Rattle.bssmap_messages.proofs.laws.reading_is_unique.Goals as goal
 
 pub returns : goal.returns
-returns g c = record { unique = record { value = one_value; text = no_fault; fault = λ octets f g. one_fault _ octets f g } }
+returns g c = record { unique = reading_is_unique (codec _) (heads _) }

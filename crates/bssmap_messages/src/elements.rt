@@ -1,0 +1,425 @@
+//! The elements of each message: how they are read, how many octets they take, and how they are written.
+ghost use Rattle.std.specs.Prelude.{◌≡◌, ◌≤◌, ◌<◌, ◌+◌, ◌*◌, ◌^◌, ◌-◌, ◌++◌, ◌∷◌, ◌↔◌, [], min, IsTrue, IsSome, is_some, length, flat_map, vec_len, vec_capacity};
+ghost use Rattle.std.specs.List.{list_all};
+ghost use Rattle.octet_elements.specs.Elements.{Fits, all_octets, element_octets};
+ghost use Rattle.octet_elements.specs.Lookup.{lookup};
+ghost use Rattle.octet_elements.specs.Texts.{Answers};
+ghost use Rattle.octet_elements.specs.Values.{where_some};
+ghost use Rattle.bssmap_messages.specs.Forms.{interface_a, known};
+ghost use Rattle.bssmap_messages.specs.Heads.{limit};
+ghost use Rattle.bssmap_messages.specs.Messages.{said, elements_of, CanBeSaid};
+ghost use Rattle.bssmap_messages.specs.Texts.{codec};
+ghost use Rattle.bssmap_messages.specs.Values.{cell_octets, cell_value, classmark_element, where_true};
+
+use crate::cells::{cell, cells, read_cells};
+use crate::fault::BssmapFault;
+use crate::head::MessageKind;
+use crate::message::{Bssmap, CellId, Classmark};
+use crate::table::{
+    CAUSE, CELL_IDENTIFIER, CELL_IDENTIFIER_LIST, CHANNEL_TYPE, CLASSMARK_1, CLASSMARK_2,
+    ENCRYPTION_INFORMATION, InterfaceA, LAYER_3_INFORMATION, RESPONSE_REQUEST, RR_CAUSE,
+};
+use crate::values::{channel_type, classmark, keep_classmark};
+use octet_elements::values::pair_octets;
+use octet_elements::{Found, Octets, append_element, append_octets};
+use std::alloc::Allocator;
+
+#[tactic(auto, unfolding(crate::specs::Messages::handover_request))]
+fn read_request<A: Allocator + Copy>(
+    alloc: A,
+    found: &Found<'_, InterfaceA>,
+) -> Result<Bssmap<A>, BssmapFault>
+    ensures { Answers (codec A) result
+        (said MessageKind.HandoverRequest (lookup known found.now)) }
+{
+    let channel = channel_type(found.first(CHANNEL_TYPE))?;
+    let encryption = found.octets(ENCRYPTION_INFORMATION)?;
+    let classmark = classmark::<A>(found.first(CLASSMARK_1), found.first(CLASSMARK_2))?;
+    let serving = cell(found.first(CELL_IDENTIFIER))?;
+    let target = cell(found.second(CELL_IDENTIFIER))?;
+    Ok(Bssmap::HandoverRequest {
+        channel: Octets::new(alloc, channel)?,
+        encryption: Octets::new(alloc, encryption)?,
+        classmark: keep_classmark(alloc, classmark)?,
+        serving,
+        target,
+    })
+}
+
+#[tactic(auto, unfolding(crate::specs::Messages::handover_required))]
+fn read_required<A: Allocator + Copy>(
+    alloc: A,
+    found: &Found<'_, InterfaceA>,
+) -> Result<Bssmap<A>, BssmapFault>
+    ensures { Answers (codec A) result
+        (said MessageKind.HandoverRequired (lookup known found.now)) }
+{
+    let cause = found.octet(CAUSE)?;
+    let response = found.first(RESPONSE_REQUEST).is_some();
+    let (discriminator, octets) = cells(found.first(CELL_IDENTIFIER_LIST))?;
+    let cells = read_cells(alloc, discriminator, octets)?;
+    Ok(Bssmap::HandoverRequired {
+        cause,
+        response,
+        cells,
+    })
+}
+
+/// What the elements of a message of this kind say, element by element.
+#[tactic(auto, unfolding(crate::specs::Messages::handover_request_ack, crate::specs::Messages::handover_command, crate::specs::Messages::handover_complete, crate::specs::Messages::handover_failure, crate::specs::Messages::handover_performed, crate::specs::Messages::handover_required_reject, crate::specs::Messages::clear_command, crate::specs::Messages::clear_request))]
+pub fn read_elements<A: Allocator + Copy>(
+    alloc: A,
+    kind: MessageKind,
+    found: &Found<'_, InterfaceA>,
+) -> Result<Bssmap<A>, BssmapFault>
+    ensures { Answers (codec A) result (said kind (lookup known found.now)) }
+{
+    match kind {
+        MessageKind::HandoverRequest => read_request(alloc, found),
+        MessageKind::HandoverRequired => read_required(alloc, found),
+        MessageKind::HandoverRequestAck => {
+            let layer3 = Octets::new(alloc, found.octets(LAYER_3_INFORMATION)?)?;
+            Ok(Bssmap::HandoverRequestAck { layer3 })
+        }
+        MessageKind::HandoverCommand => {
+            let layer3 = Octets::new(alloc, found.octets(LAYER_3_INFORMATION)?)?;
+            Ok(Bssmap::HandoverCommand { layer3 })
+        }
+        MessageKind::HandoverComplete => {
+            let rr = found.optional_octet(RR_CAUSE)?;
+            Ok(Bssmap::HandoverComplete { rr })
+        }
+        MessageKind::HandoverFailure => {
+            let cause = found.octet(CAUSE)?;
+            let rr = found.optional_octet(RR_CAUSE)?;
+            Ok(Bssmap::HandoverFailure { cause, rr })
+        }
+        MessageKind::HandoverPerformed => {
+            let cause = found.octet(CAUSE)?;
+            let cell = cell(found.first(CELL_IDENTIFIER))?;
+            Ok(Bssmap::HandoverPerformed { cause, cell })
+        }
+        MessageKind::HandoverRequiredReject => {
+            let cause = found.octet(CAUSE)?;
+            Ok(Bssmap::HandoverRequiredReject { cause })
+        }
+        MessageKind::HandoverDetect => Ok(Bssmap::HandoverDetect),
+        MessageKind::ClearCommand => {
+            let cause = found.octet(CAUSE)?;
+            Ok(Bssmap::ClearCommand { cause })
+        }
+        MessageKind::ClearComplete => Ok(Bssmap::ClearComplete),
+        MessageKind::ClearRequest => {
+            let cause = found.octet(CAUSE)?;
+            Ok(Bssmap::ClearRequest { cause })
+        }
+    }
+}
+
+/// Whether the elements of a message can say its fields.
+pub fn can_be_said<A: Allocator>(message: &Bssmap<A>) -> bool
+    ensures { IsTrue result ↔ CanBeSaid message.now }
+{
+    match message {
+        Bssmap::HandoverRequest {
+            channel,
+            encryption,
+            serving,
+            target,
+            ..
+        } => {
+            1 < channel.as_slice().len()
+                && !encryption.as_slice().is_empty()
+                && serving.lac.is_some()
+                && target.lac.is_some()
+        }
+        Bssmap::HandoverRequired { cells, .. } => {
+            !cells.as_slice().is_empty() && have_areas(cells.as_slice())
+        }
+        Bssmap::HandoverRequestAck { layer3 } | Bssmap::HandoverCommand { layer3 } => {
+            !layer3.as_slice().is_empty()
+        }
+        Bssmap::HandoverPerformed { cell, .. } => cell.lac.is_some(),
+        Bssmap::HandoverComplete { .. }
+        | Bssmap::HandoverFailure { .. }
+        | Bssmap::HandoverRequiredReject { .. }
+        | Bssmap::HandoverDetect
+        | Bssmap::ClearCommand { .. }
+        | Bssmap::ClearComplete
+        | Bssmap::ClearRequest { .. } => true,
+    }
+}
+
+/// Whether each cell has a location area code.
+fn have_areas(cells: &[CellId]) -> bool
+    ensures { result ≡ list_all (λ cell. is_some cell.lac) cells.now }
+{
+    cells.iter().all(|cell| cell.lac.is_some())
+}
+
+/// How many octets an element with a length octet takes; the greatest number, where that is too great.
+fn counted_len(value_len: usize) -> usize
+    ensures { result ≡ min (2 + value_len) (2 ^ 64 - 1) }
+{
+    value_len.saturating_add(2)
+}
+
+/// How many octets a cell has in an element: location area code and cell identity.
+const CELL_LEN: usize = 4;
+
+/// How many octets the elements of a message take; the greatest number, where that is too great.
+#[tactic(auto, unfolding(crate::specs::Messages::handover_request_ack, crate::specs::Messages::handover_command, crate::specs::Messages::handover_complete, crate::specs::Messages::handover_failure, crate::specs::Messages::handover_performed, crate::specs::Messages::handover_required_reject, crate::specs::Messages::clear_command, crate::specs::Messages::clear_request))]
+pub fn elements_len<A: Allocator>(message: &Bssmap<A>) -> usize
+    ensures { result ≡ min (length (all_octets interface_a (elements_of message.now))) (2 ^ 64 - 1) }
+{
+    match message {
+        Bssmap::HandoverRequest {
+            channel,
+            encryption,
+            classmark,
+            ..
+        } => counted_len(channel.as_slice().len())
+            .saturating_add(counted_len(encryption.as_slice().len()))
+            .saturating_add(classmark_len(classmark))
+            .saturating_add(2 * counted_len(1 + CELL_LEN)),
+        Bssmap::HandoverRequired {
+            response,
+            cells,
+            ..
+        } => counted_len(
+            cells
+                .as_slice()
+                .len()
+                .saturating_mul(CELL_LEN)
+                .saturating_add(1),
+        )
+        .saturating_add(response_len(*response))
+        .saturating_add(counted_len(1)),
+        Bssmap::HandoverRequestAck { layer3 } | Bssmap::HandoverCommand { layer3 } => {
+            counted_len(layer3.as_slice().len())
+        }
+        Bssmap::HandoverComplete { rr } => rr_len(*rr),
+        Bssmap::HandoverFailure { rr, .. } => counted_len(1) + rr_len(*rr),
+        Bssmap::HandoverPerformed { .. } => counted_len(1) + counted_len(1 + CELL_LEN),
+        Bssmap::HandoverRequiredReject { .. }
+        | Bssmap::ClearCommand { .. }
+        | Bssmap::ClearRequest { .. } => counted_len(1),
+        Bssmap::HandoverDetect | Bssmap::ClearComplete => 0,
+    }
+}
+
+/// How many octets the element of a classmark takes; the greatest number, where that is too great.
+fn classmark_len<A: Allocator>(classmark: &Classmark<A>) -> usize
+    ensures { result ≡
+        min (length (element_octets interface_a (classmark_element classmark.now))) (2 ^ 64 - 1) }
+{
+    match classmark {
+        Classmark::One(_) => 2,
+        Classmark::Two(octets) => counted_len(octets.as_slice().len()),
+    }
+}
+
+/// How many octets a response request takes.
+fn response_len(response: bool) -> usize
+    ensures { result ≡ length (all_octets interface_a (where_true RESPONSE_REQUEST response)) }
+{
+    if response { 1 } else { 0 }
+}
+
+/// How many octets an RR cause takes.
+fn rr_len(rr: Option<u8>) -> usize
+    ensures { result ≡ length (all_octets interface_a (where_some RR_CAUSE rr)) }
+{
+    if rr.is_some() { 2 } else { 0 }
+}
+
+/// Location area code and cell identity.
+fn cell_octets(cell: CellId) -> [u8; 4]
+    ensures { result ≡ cell_octets cell }
+{
+    let [area_high, area_low] = pair_octets(cell.lac.unwrap_or(0));
+    let [high, low] = pair_octets(cell.ci);
+    [area_high, area_low, high, low]
+}
+
+/// The discriminator of location area code and cell identity.
+const AREA_AND_CELL: u8 = 1;
+
+/// Appends a cause, for which the list has room.
+fn append_cause<A: Allocator>(out: &mut Vec<u8, A>, cause: u8)
+    requires { vec_len out.old + 3 ≤ vec_capacity out.old }
+    ensures items { out.new.items ≡ out.old.items ++ element_octets interface_a (CAUSE, cause ∷ []) }
+    ensures len { vec_len out.new ≡ vec_len out.old + 3 }
+    ensures capacity { vec_capacity out.old ≤ vec_capacity out.new }
+{
+    append_octets(out, &[CAUSE, 1, cause]);
+}
+
+/// Appends a cell identifier, for which the list has room.
+fn append_cell<A: Allocator>(out: &mut Vec<u8, A>, cell: CellId)
+    requires { vec_len out.old + 7 ≤ vec_capacity out.old }
+    ensures items { out.new.items ≡ out.old.items ++
+        element_octets interface_a (CELL_IDENTIFIER, cell_value cell) }
+    ensures len { vec_len out.new ≡ vec_len out.old + 7 }
+    ensures capacity { vec_capacity out.old ≤ vec_capacity out.new }
+{
+    let [area_high, area_low, high, low] = cell_octets(cell);
+    append_octets(
+        out,
+        &[
+            CELL_IDENTIFIER,
+            5,
+            AREA_AND_CELL,
+            area_high,
+            area_low,
+            high,
+            low,
+        ],
+    );
+}
+
+/// Appends a classmark, for which the list has room.
+fn append_classmark<A: Allocator>(out: &mut Vec<u8, A>, classmark: &Classmark<A>)
+    requires short { Fits interface_a (classmark_element classmark.now) }
+    requires room { vec_len out.old +
+        length (element_octets interface_a (classmark_element classmark.now)) ≤
+        vec_capacity out.old }
+    ensures items { out.new.items ≡ out.old.items ++
+        element_octets interface_a (classmark_element classmark.now) }
+    ensures len { vec_len out.new ≡ vec_len out.old +
+        length (element_octets interface_a (classmark_element classmark.now)) }
+    ensures capacity { vec_capacity out.old ≤ vec_capacity out.new }
+{
+    match classmark {
+        Classmark::One(octet) => append_octets(out, &[CLASSMARK_1, *octet]),
+        Classmark::Two(octets) => {
+            append_element::<InterfaceA, A>(out, CLASSMARK_2, octets.as_slice());
+        }
+    }
+}
+
+/// Appends the elements of a HANDOVER REQUEST, for which the list has room.
+#[tactic(auto, using(crate::proofs::Lengths::request_length, crate::proofs::Lengths::classmark_fits), unfolding(crate::specs::Messages::handover_request))]
+fn append_request<A: Allocator + Copy>(
+    out: &mut Vec<u8, A>,
+    channel: &Octets<A>,
+    encryption: &Octets<A>,
+    classmark: &Classmark<A>,
+    serving: CellId,
+    target: CellId,
+)
+    requires short { length (all_octets interface_a (elements_of
+        (Bssmap.HandoverRequest channel.now encryption.now classmark.now serving target))) < limit }
+    requires room { vec_len out.old + length (all_octets interface_a (elements_of
+        (Bssmap.HandoverRequest channel.now encryption.now classmark.now serving target))) ≤
+        vec_capacity out.old }
+    ensures items { out.new.items ≡ out.old.items ++ all_octets interface_a (elements_of
+        (Bssmap.HandoverRequest channel.now encryption.now classmark.now serving target)) }
+    ensures capacity { vec_capacity out.old ≤ vec_capacity out.new }
+{
+    append_element::<InterfaceA, A>(out, CHANNEL_TYPE, channel.as_slice());
+    append_element::<InterfaceA, A>(out, ENCRYPTION_INFORMATION, encryption.as_slice());
+    append_classmark(out, classmark);
+    append_cell(out, serving);
+    append_cell(out, target);
+}
+
+/// Appends cells, for which the list has room.
+fn append_cells<A: Allocator>(out: &mut Vec<u8, A>, cells: &[CellId])
+    requires { vec_len out.old + 4 * length cells.now ≤ vec_capacity out.old }
+    ensures items { out.new.items ≡ out.old.items ++ flat_map cell_octets cells.now }
+    ensures capacity { vec_capacity out.old ≤ vec_capacity out.new }
+{
+    for cell in cells {
+        append_octets(out, &cell_octets(*cell));
+    }
+}
+
+/// Appends the elements of a HANDOVER REQUIRED, for which the list has room.
+#[tactic(auto, using(crate::proofs::Lengths::required_length), unfolding(crate::specs::Messages::handover_required))]
+fn append_required<A: Allocator>(out: &mut Vec<u8, A>, cause: u8, response: bool, cells: &[CellId])
+    requires short { length (all_octets interface_a
+        (elements_of {A = A} (Bssmap.HandoverRequired cause response cells.now))) < limit }
+    requires room { vec_len out.old + length (all_octets interface_a
+        (elements_of {A = A} (Bssmap.HandoverRequired cause response cells.now))) ≤
+        vec_capacity out.old }
+    ensures items { out.new.items ≡ out.old.items ++ all_octets interface_a
+        (elements_of {A = A} (Bssmap.HandoverRequired cause response cells.now)) }
+    ensures capacity { vec_capacity out.old ≤ vec_capacity out.new }
+{
+    append_cause(out, cause);
+    append_response(out, response);
+    let len = 1 + 4 * cells.len();
+    append_octets(out, &[CELL_IDENTIFIER_LIST, len as u8, AREA_AND_CELL]);
+    append_cells(out, cells);
+}
+
+/// Appends a response request where it is asked for; the list has room for it.
+fn append_response<A: Allocator>(out: &mut Vec<u8, A>, response: bool)
+    requires { vec_len out.old + length (all_octets interface_a (where_true RESPONSE_REQUEST response)) ≤
+        vec_capacity out.old }
+    ensures items { out.new.items ≡ out.old.items ++
+        all_octets interface_a (where_true RESPONSE_REQUEST response) }
+    ensures len { vec_len out.new ≡ vec_len out.old +
+        length (all_octets interface_a (where_true RESPONSE_REQUEST response)) }
+    ensures capacity { vec_capacity out.old ≤ vec_capacity out.new }
+{
+    if response {
+        append_octets(out, &[RESPONSE_REQUEST]);
+    }
+}
+
+/// Appends an RR cause where there is one; the list has room for it.
+fn append_rr<A: Allocator>(out: &mut Vec<u8, A>, rr: Option<u8>)
+    requires { vec_len out.old + length (all_octets interface_a (where_some RR_CAUSE rr)) ≤
+        vec_capacity out.old }
+    ensures items { out.new.items ≡ out.old.items ++
+        all_octets interface_a (where_some RR_CAUSE rr) }
+    ensures capacity { vec_capacity out.old ≤ vec_capacity out.new }
+{
+    if let Some(rr) = rr {
+        append_octets(out, &[RR_CAUSE, rr]);
+    }
+}
+
+/// Appends the elements of a message, for which the list has room.
+#[tactic(auto, unfolding(crate::specs::Messages::handover_request_ack, crate::specs::Messages::handover_command, crate::specs::Messages::handover_complete, crate::specs::Messages::handover_failure, crate::specs::Messages::handover_performed, crate::specs::Messages::handover_required_reject, crate::specs::Messages::clear_command, crate::specs::Messages::clear_request))]
+pub fn append_elements<A: Allocator + Copy>(message: &Bssmap<A>, out: &mut Vec<u8, A>)
+    requires short { length (all_octets interface_a (elements_of message.now)) < limit }
+    requires room { vec_len out.old + length (all_octets interface_a (elements_of message.now)) ≤
+        vec_capacity out.old }
+    ensures items { out.new.items ≡ out.old.items ++
+        all_octets interface_a (elements_of message.now) }
+    ensures capacity { vec_capacity out.old ≤ vec_capacity out.new }
+{
+    match message {
+        Bssmap::HandoverRequest {
+            channel,
+            encryption,
+            classmark,
+            serving,
+            target,
+        } => append_request(out, channel, encryption, classmark, *serving, *target),
+        Bssmap::HandoverRequired {
+            cause,
+            response,
+            cells,
+        } => append_required(out, *cause, *response, cells.as_slice()),
+        Bssmap::HandoverRequestAck { layer3 } | Bssmap::HandoverCommand { layer3 } => {
+            append_element::<InterfaceA, A>(out, LAYER_3_INFORMATION, layer3.as_slice());
+        }
+        Bssmap::HandoverComplete { rr } => append_rr(out, *rr),
+        Bssmap::HandoverFailure { cause, rr } => {
+            append_cause(out, *cause);
+            append_rr(out, *rr);
+        }
+        Bssmap::HandoverPerformed { cause, cell } => {
+            append_cause(out, *cause);
+            append_cell(out, *cell);
+        }
+        Bssmap::HandoverRequiredReject { cause }
+        | Bssmap::ClearCommand { cause }
+        | Bssmap::ClearRequest { cause } => append_cause(out, *cause),
+        Bssmap::HandoverDetect | Bssmap::ClearComplete => {}
+    }
+}

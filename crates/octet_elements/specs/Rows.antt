@@ -1,0 +1,45 @@
+-- The rows of a message's table: what the value of an element says, and how the element is written
+-- (TS 48.058 clause 8, TS 48.008 clause 3.2.1).
+use Rattle.std.specs.Prelude.{ℕ, List, [], ◌∷◌, ◌++◌, Option, Result, Ok}
+use Rattle.octet_elements.specs.Elements.{Element}
+use Rattle.octet_elements.specs.Lookup.{Lookup}
+use Rattle.octet_elements.specs.Reading.{◌>>=◌}
+use Rattle.octet_elements.specs.Values.{octet_in, optional_octet_in, pair_in, pair_octets, octets_in, optional_octets_in, any_octets_in, where_some, where_value}
+use Rattle.octet_elements.specs.declared.values.ValueFault.{ValueFault}
+
+-- one row, or some one after the other: what is read by the identifiers, and the elements that are written
+pub record Row (X : Type 0) : Type 0 where
+  pub read : Lookup → Result X ValueFault
+  pub written : X → List Element
+
+-- mandatory: the value's first octet, written as that octet
+abbrev pub octet : ℕ → Row ℕ
+octet i = record { read = λ found. octet_in i (found.first i); written = λ octet. (i, octet ∷ []) ∷ [] }
+
+-- optional: the value's first octet, written as that octet
+abbrev pub optional_octet : ℕ → Row (Option ℕ)
+optional_octet i = record { read = λ found. optional_octet_in i (found.first i); written = λ octet. where_some i octet }
+
+-- mandatory: a number of two octets, the high one first
+abbrev pub pair : ℕ → Row ℕ
+pair i = record { read = λ found. pair_in i (found.first i); written = λ number. (i, pair_octets number) ∷ [] }
+
+-- mandatory: the whole value, at least one octet
+abbrev pub octets : ℕ → Row (List ℕ)
+octets i = record { read = λ found. octets_in i (found.first i); written = λ value. (i, value) ∷ [] }
+
+-- optional: the whole value, at least one octet
+abbrev pub optional_octets : ℕ → Row (Option (List ℕ))
+optional_octets i = record { read = λ found. optional_octets_in i (found.first i); written = λ value. where_value i value }
+
+-- mandatory: the whole value, which may be empty
+abbrev pub any_octets : ℕ → Row (List ℕ)
+any_octets i = record { read = λ found. any_octets_in i (found.first i); written = λ value. (i, value) ∷ [] }
+
+infixr 5 ◌▸◌
+-- A row and then others: the first fault counts, and they are written in this order.
+abbrev pub ◌▸◌ : {X Y : Type 0} → Row X → Row Y → Row (X × Y)
+a ▸ b = record {
+  read = λ found. a.read found >>= λ x. b.read found >>= λ y. Ok (x, y);
+  written = λ fields. a.written fields.0 ++ b.written fields.1;
+}

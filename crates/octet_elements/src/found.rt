@@ -1,0 +1,152 @@
+//! One pass over the elements of a body, which keeps the values that a codec uses.
+ghost use Rattle.std.specs.Prelude.{◌≡◌, ◌<◌, List, ◌∷◌, [], ◌++◌, length, IfOk, IfErr, Ok, Err};
+ghost use Rattle.octet_elements.specs.Elements.{Element, AreElements, IsTornAt};
+ghost use Rattle.octet_elements.specs.Lookup.{noted, lookup};
+ghost use Rattle.octet_elements.specs.Values.{value_seen, octet_in, optional_octet_in, pair_in, octets_in, optional_octets_in, any_octets_in};
+
+use crate::element::leading_element;
+use crate::form::{ElementTable, PLACES};
+use crate::values::{ValueFault, any_octets, octet, octets, optional_octet, optional_octets, pair};
+use std::marker::{Model, PhantomData};
+
+/// The values that were found in a body, by identifier.
+#[derive(Drop)]
+pub struct Found<'a, T: ElementTable> {
+    first: [Option<&'a [u8]>; 16],
+    second: Option<&'a [u8]>,
+    table: PhantomData<T>,
+}
+
+impl<'a, T: ElementTable> Model for Found<'a, T> {
+    ghost use Rattle.std.specs.Prelude.{◌≡◌, length, map};
+    ghost use Rattle.octet_elements.specs.Lookup.{Kept};
+    ghost use Rattle.octet_elements.specs.Values.{value_seen};
+
+    ghost Value = { Kept };
+
+    ghost view = { λ f. record { first = map value_seen f.first; second = value_seen f.second } };
+
+    ghost invariant = { λ f. length f.first ≡ 16 };
+}
+
+impl<'a, T: ElementTable> Found<'a, T> {
+    /// Reads elements to the end of the octets, or answers the offset of the first element that is cut.
+    pub fn read(octets: &'a [u8]) -> Result<Self, usize>
+        ensures whole { IfOk result (λ found. (es : List Element) ×
+            AreElements T.form_of es octets.now × (lookup T.known found ≡ noted T.known es)) }
+        ensures torn { IfErr result (IsTornAt T.form_of octets.now) }
+        ensures within { IfErr result (λ at. at < length octets.now) }
+    {
+        let mut found = Found {
+            first: [None; 16],
+            second: None,
+            table: PhantomData,
+        };
+        let mut rest = octets;
+        while !rest.is_empty() {
+            let Some(leading) = leading_element::<T>(rest) else {
+                return Err(octets.len() - rest.len());
+            };
+            found.note(leading.identifier, leading.value);
+            rest = leading.rest;
+        }
+        Ok(found)
+    }
+
+    /// Keeps the value of one more element, where it is the first with its identifier.
+    #[inline]
+    fn note(&mut self, identifier: u8, value: &'a [u8])
+        ensures { (es : List Element) → lookup T.known self.old ≡ noted T.known es →
+            lookup T.known self.new ≡ noted T.known (es ++ (identifier, value.now) ∷ []) }
+    {
+        let place = T::place_for(identifier);
+        if place >= PLACES {
+            return;
+        }
+        if self.first[place].is_none() {
+            self.first[place] = Some(value);
+        } else if place == 0 && self.second.is_none() {
+            self.second = Some(value);
+        }
+    }
+
+    /// The value of the first element with this identifier, where the codec knows it.
+    #[inline]
+    pub fn first(&self, identifier: u8) -> Option<&'a [u8]>
+        ensures value { value_seen result ≡ (lookup T.known self.now).first identifier }
+    {
+        match self.first.get(T::place_for(identifier)) {
+            Some(value) => *value,
+            None => None,
+        }
+    }
+
+    /// The value of the second element with this identifier, where the codec keeps it.
+    #[inline]
+    pub fn second(&self, identifier: u8) -> Option<&'a [u8]>
+        ensures value { value_seen result ≡ (lookup T.known self.now).second identifier }
+    {
+        if T::place_for(identifier) == 0 {
+            self.second
+        } else {
+            None
+        }
+    }
+
+    /// The first octet of the element with this identifier.
+    #[inline]
+    pub fn octet(&self, identifier: u8) -> Result<u8, ValueFault>
+        ensures said { result ≡ octet_in identifier ((lookup T.known self.now).first identifier) }
+    {
+        octet(identifier, self.first(identifier))
+    }
+
+    /// The first octet of the element with this identifier, where it is there.
+    #[inline]
+    pub fn optional_octet(&self, identifier: u8) -> Result<Option<u8>, ValueFault>
+        ensures said { result ≡ optional_octet_in identifier ((lookup T.known self.now).first identifier) }
+    {
+        optional_octet(identifier, self.first(identifier))
+    }
+
+    /// The first two octets of the element with this identifier, a number with the high one first.
+    #[inline]
+    pub fn pair(&self, identifier: u8) -> Result<u16, ValueFault>
+        ensures said { result ≡ pair_in identifier ((lookup T.known self.now).first identifier) }
+    {
+        pair(identifier, self.first(identifier))
+    }
+
+    /// The whole value of the element with this identifier, which has at least one octet.
+    #[inline]
+    pub fn octets(&self, identifier: u8) -> Result<&'a [u8], ValueFault>
+        ensures ok { IfOk result (λ v. octets_in identifier ((lookup T.known self.now).first identifier) ≡
+            Ok v.now) }
+        ensures err { IfErr result (λ e. octets_in identifier ((lookup T.known self.now).first identifier) ≡
+            Err e) }
+    {
+        octets(identifier, self.first(identifier))
+    }
+
+    /// The whole value of the element with this identifier, which has at least one octet, where it is there.
+    #[inline]
+    pub fn optional_octets(&self, identifier: u8) -> Result<Option<&'a [u8]>, ValueFault>
+        ensures ok { IfOk result (λ v. optional_octets_in identifier
+            ((lookup T.known self.now).first identifier) ≡ Ok (value_seen v)) }
+        ensures err { IfErr result (λ e. optional_octets_in identifier
+            ((lookup T.known self.now).first identifier) ≡ Err e) }
+    {
+        optional_octets(identifier, self.first(identifier))
+    }
+
+    /// The whole value of the element with this identifier, which may be empty.
+    #[inline]
+    pub fn any_octets(&self, identifier: u8) -> Result<&'a [u8], ValueFault>
+        ensures ok { IfOk result (λ v. any_octets_in identifier ((lookup T.known self.now).first identifier) ≡
+            Ok v.now) }
+        ensures err { IfErr result (λ e. any_octets_in identifier
+            ((lookup T.known self.now).first identifier) ≡ Err e) }
+    {
+        any_octets(identifier, self.first(identifier))
+    }
+}

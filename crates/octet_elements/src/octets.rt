@@ -1,0 +1,42 @@
+//! An octet list inside a message.
+ghost use Rattle.std.specs.Prelude.{◌≡◌, [], IfOk, IsOk};
+
+use crate::write::append_octets;
+use std::alloc::{AllocError, Allocator, Global};
+use std::marker::Model;
+
+/// An octet list inside a message, as a layer 3 message or a channel mode.
+#[derive(Debug, Drop)]
+pub struct Octets<A: Allocator = Global> {
+    items: Vec<u8, A>,
+}
+
+impl<A: Allocator> Model for Octets<A> {
+    ghost use Rattle.std.specs.Prelude.{List, ℕ};
+
+    ghost Value = { List ℕ };
+
+    ghost view = { λ o. o.items.items };
+}
+
+impl<A: Allocator + Copy> Octets<A> {
+    /// A list of these octets. An empty one takes no memory.
+    #[inline(always)]
+    pub fn new(alloc: A, octets: &[u8]) -> Result<Self, AllocError>
+        ensures octets { IfOk result (λ o. o ≡ octets.now) }
+        ensures empty { octets.now ≡ [] → IsOk result }
+    {
+        let mut items = Vec::with_capacity(alloc, octets.len())?;
+        append_octets(&mut items, octets);
+        Ok(Octets { items })
+    }
+}
+
+impl<A: Allocator> Octets<A> {
+    /// Its octets.
+    pub fn as_slice(&self) -> &[u8]
+        ensures octets { result.now ≡ self.now }
+    {
+        self.items.as_slice()
+    }
+}

@@ -1,0 +1,353 @@
+//! The elements of each message: how they are read, and beside it how they are written.
+ghost use Rattle.std.specs.Prelude.{◌≡◌, ◌+◌, ◌-◌, ◌^◌, ◌<◌, ◌≤◌, ◌∷◌, [], ◌++◌, min, length, Ok, Err, IfOk, OnErr, IsSome, IfSome, vec_len, vec_capacity};
+ghost use Rattle.std.specs.Option.{option_map};
+ghost use Rattle.octet_elements.specs.Elements.{all_octets, element_octets};
+ghost use Rattle.octet_elements.specs.Lookup.{lookup};
+ghost use Rattle.octet_elements.specs.Texts.{Answers};
+ghost use Rattle.octet_elements.specs.Values.{value_seen, where_some, where_value};
+ghost use Rattle.rsl_messages.specs.Forms.{abis, known, CHANNEL_NUMBER, LAYER3};
+ghost use Rattle.rsl_messages.specs.Messages.{said, elements_of, data_rows, activation_rows, activation_ack_rows, cause_rows, detection_rows, measurement_rows};
+ghost use Rattle.rsl_messages.specs.Texts.{codec, limit, HasCanonical};
+ghost use Rattle.rsl_messages.specs.Values.{channel_in, channel_octet};
+
+use crate::fault::RslFault;
+use crate::head::MessageKind;
+use crate::message::{ChanBits, Rsl};
+use crate::table::{
+    ACCESS_DELAY, ACTIVATION_TYPE, Abis, CAUSE, CHANNEL_MODE, CHANNEL_NUMBER, FRAME_NUMBER,
+    HANDOVER_REFERENCE, LAYER3, LINK_IDENTIFIER, POWER, RESULT_NUMBER, UPLINK_MEASUREMENTS,
+};
+use octet_elements::values::pair_octets;
+use octet_elements::{Found, Octets, ValueFault, append_element, element_len};
+use std::alloc::{AllocError, Allocator};
+
+/// The channel number.
+fn channel(found: &Found<'_, Abis>) -> Result<ChanBits, ValueFault>
+    ensures { result ≡ channel_in ((lookup known found.now).first CHANNEL_NUMBER) }
+{
+    match found.first(CHANNEL_NUMBER) {
+        None => Err(ValueFault::Absent(CHANNEL_NUMBER)),
+        Some([octet, ..]) if *octet / 8 == 1 => Ok(ChanBits { tn: *octet % 8 }),
+        Some(_) => Err(ValueFault::Bad(CHANNEL_NUMBER)),
+    }
+}
+
+/// The channel number's octet.
+fn channel_octet(channel: ChanBits) -> u8
+    requires { channel.tn < 8 }
+    ensures { result ≡ channel_octet channel }
+{
+    8 + channel.tn
+}
+
+/// A list of the octets, where there are any.
+fn copied<A: Allocator + Copy>(
+    alloc: A,
+    octets: Option<&[u8]>,
+) -> Result<Option<Octets<A>>, AllocError>
+    ensures copy { IfOk result (λ o. o ≡ value_seen octets.entry) }
+    ensures some { OnErr result (IsSome (value_seen octets.entry)) }
+{
+    match octets {
+        None => Ok(None),
+        Some(octets) => Ok(Some(Octets::new(alloc, octets)?)),
+    }
+}
+
+/// The message that elements say.
+pub fn read_elements<A: Allocator + Copy>(
+    alloc: A,
+    kind: MessageKind,
+    found: &Found<'_, Abis>,
+) -> Result<Rsl<A>, RslFault>
+    ensures { Answers (codec A) result (said kind (lookup known found.now)) }
+{
+    match kind {
+        MessageKind::DataRequest => Ok(Rsl::DataRequest {
+            channel: channel(found)?,
+            link: found.octet(LINK_IDENTIFIER)?,
+            layer3: Octets::new(alloc, found.octets(LAYER3)?)?,
+        }),
+        MessageKind::DataIndication => Ok(Rsl::DataIndication {
+            channel: channel(found)?,
+            link: found.octet(LINK_IDENTIFIER)?,
+            layer3: Octets::new(alloc, found.octets(LAYER3)?)?,
+        }),
+        MessageKind::ChannelActivation => read_activation(alloc, found),
+        MessageKind::ChannelActivationAck => Ok(Rsl::ChannelActivationAck {
+            channel: channel(found)?,
+            frame: found.pair(FRAME_NUMBER)?,
+        }),
+        MessageKind::ChannelActivationNack => Ok(Rsl::ChannelActivationNack {
+            channel: channel(found)?,
+            cause: found.octet(CAUSE)?,
+        }),
+        MessageKind::ConnectionFailureIndication => Ok(Rsl::ConnectionFailureIndication {
+            channel: channel(found)?,
+            cause: found.octet(CAUSE)?,
+        }),
+        MessageKind::HandoverDetection => Ok(Rsl::HandoverDetection {
+            channel: channel(found)?,
+            delay: found.optional_octet(ACCESS_DELAY)?,
+        }),
+        MessageKind::MeasurementResult => read_measurement(alloc, found),
+        MessageKind::RfChannelRelease => Ok(Rsl::RfChannelRelease {
+            channel: channel(found)?,
+        }),
+        MessageKind::RfChannelReleaseAck => Ok(Rsl::RfChannelReleaseAck {
+            channel: channel(found)?,
+        }),
+    }
+}
+
+/// Appends the elements of a message, for which the list has room.
+pub fn append_elements<A: Allocator>(message: &Rsl<A>, out: &mut Vec<u8, A>)
+    requires canonical { HasCanonical message.now }
+    requires room { vec_len out.old + length (all_octets abis (elements_of message.now)) ≤
+        vec_capacity out.old }
+    ensures items { out.new.items ≡ out.old.items ++ all_octets abis (elements_of message.now) }
+    ensures capacity { vec_capacity out.old ≤ vec_capacity out.new }
+{
+    match message {
+        Rsl::DataRequest {
+            channel,
+            link,
+            layer3,
+        }
+        | Rsl::DataIndication {
+            channel,
+            link,
+            layer3,
+        } => append_data(out, *channel, *link, layer3.as_slice()),
+        Rsl::ChannelActivation {
+            channel,
+            activation,
+            mode,
+            reference,
+        } => append_activation(out, *channel, *activation, mode.as_slice(), *reference),
+        Rsl::ChannelActivationAck { channel, frame } => append_ack(out, *channel, *frame),
+        Rsl::ConnectionFailureIndication { channel, cause }
+        | Rsl::ChannelActivationNack { channel, cause } => append_cause(out, *channel, *cause),
+        Rsl::HandoverDetection { channel, delay } => append_detection(out, *channel, *delay),
+        Rsl::MeasurementResult {
+            channel,
+            number,
+            uplink,
+            power,
+            layer3,
+        } => append_measurement(out, *channel, *number, uplink, *power, layer3.as_ref()),
+        Rsl::RfChannelRelease { channel } | Rsl::RfChannelReleaseAck { channel } => {
+            append_element::<Abis, A>(out, CHANNEL_NUMBER, &[channel_octet(*channel)]);
+        }
+    }
+}
+
+/// Appends the elements of a DATA message.
+fn append_data<A: Allocator>(out: &mut Vec<u8, A>, channel: ChanBits, link: u8, layer3: &[u8])
+    requires channel { channel.tn < 8 }
+    requires layer3 { length layer3.now ≤ limit }
+    requires room { vec_len out.old + length (all_octets abis
+        (data_rows.written (channel, (link, layer3.now)))) ≤ vec_capacity out.old }
+    ensures items { out.new.items ≡ out.old.items ++
+        all_octets abis (data_rows.written (channel, (link, layer3.now))) }
+    ensures capacity { vec_capacity out.old ≤ vec_capacity out.new }
+{
+    append_element::<Abis, A>(out, CHANNEL_NUMBER, &[channel_octet(channel)]);
+    append_element::<Abis, A>(out, LINK_IDENTIFIER, &[link]);
+    append_element::<Abis, A>(out, LAYER3, layer3);
+}
+
+/// CHANNEL ACTIVATION. Memory is asked for once the elements are read.
+fn read_activation<A: Allocator + Copy>(
+    alloc: A,
+    found: &Found<'_, Abis>,
+) -> Result<Rsl<A>, RslFault>
+    ensures { Answers (codec A) result
+        (said MessageKind.ChannelActivation (lookup known found.now)) }
+{
+    let channel = channel(found)?;
+    let activation = found.octet(ACTIVATION_TYPE)?;
+    let mode = found.octets(CHANNEL_MODE)?;
+    let reference = found.optional_octet(HANDOVER_REFERENCE)?;
+    Ok(Rsl::ChannelActivation {
+        channel,
+        activation,
+        mode: Octets::new(alloc, mode)?,
+        reference,
+    })
+}
+
+/// Appends the elements of a CHANNEL ACTIVATION.
+fn append_activation<A: Allocator>(
+    out: &mut Vec<u8, A>,
+    channel: ChanBits,
+    activation: u8,
+    mode: &[u8],
+    reference: Option<u8>,
+)
+    requires channel { channel.tn < 8 }
+    requires mode { length mode.now < 256 }
+    requires room { vec_len out.old + length (all_octets abis
+        (activation_rows.written (channel, (activation, (mode.now, reference))))) ≤ vec_capacity out.old }
+    ensures items { out.new.items ≡ out.old.items ++
+        all_octets abis (activation_rows.written (channel, (activation, (mode.now, reference)))) }
+    ensures capacity { vec_capacity out.old ≤ vec_capacity out.new }
+{
+    append_element::<Abis, A>(out, CHANNEL_NUMBER, &[channel_octet(channel)]);
+    append_element::<Abis, A>(out, ACTIVATION_TYPE, &[activation]);
+    append_element::<Abis, A>(out, CHANNEL_MODE, mode);
+    if let Some(reference) = reference {
+        append_element::<Abis, A>(out, HANDOVER_REFERENCE, &[reference]);
+    }
+}
+
+/// Appends the elements of a CHANNEL ACTIVATION ACKNOWLEDGE.
+fn append_ack<A: Allocator>(out: &mut Vec<u8, A>, channel: ChanBits, frame: u16)
+    requires channel { channel.tn < 8 }
+    requires room { vec_len out.old + length (all_octets abis
+        (activation_ack_rows.written (channel, frame))) ≤ vec_capacity out.old }
+    ensures items { out.new.items ≡ out.old.items ++
+        all_octets abis (activation_ack_rows.written (channel, frame)) }
+    ensures capacity { vec_capacity out.old ≤ vec_capacity out.new }
+{
+    append_element::<Abis, A>(out, CHANNEL_NUMBER, &[channel_octet(channel)]);
+    append_element::<Abis, A>(out, FRAME_NUMBER, &pair_octets(frame));
+}
+
+/// Appends the elements of a message with a cause.
+fn append_cause<A: Allocator>(out: &mut Vec<u8, A>, channel: ChanBits, cause: u8)
+    requires channel { channel.tn < 8 }
+    requires room { vec_len out.old + length (all_octets abis
+        (cause_rows.written (channel, cause))) ≤ vec_capacity out.old }
+    ensures items { out.new.items ≡ out.old.items ++
+        all_octets abis (cause_rows.written (channel, cause)) }
+    ensures capacity { vec_capacity out.old ≤ vec_capacity out.new }
+{
+    append_element::<Abis, A>(out, CHANNEL_NUMBER, &[channel_octet(channel)]);
+    append_element::<Abis, A>(out, CAUSE, &[cause]);
+}
+
+/// Appends the elements of a HANDOVER DETECTION.
+fn append_detection<A: Allocator>(out: &mut Vec<u8, A>, channel: ChanBits, delay: Option<u8>)
+    requires channel { channel.tn < 8 }
+    requires room { vec_len out.old + length (all_octets abis
+        (detection_rows.written (channel, delay))) ≤ vec_capacity out.old }
+    ensures items { out.new.items ≡ out.old.items ++
+        all_octets abis (detection_rows.written (channel, delay)) }
+    ensures capacity { vec_capacity out.old ≤ vec_capacity out.new }
+{
+    append_element::<Abis, A>(out, CHANNEL_NUMBER, &[channel_octet(channel)]);
+    if let Some(delay) = delay {
+        append_element::<Abis, A>(out, ACCESS_DELAY, &[delay]);
+    }
+}
+
+/// MEASUREMENT RESULT. Memory is asked for once the elements are read.
+fn read_measurement<A: Allocator + Copy>(
+    alloc: A,
+    found: &Found<'_, Abis>,
+) -> Result<Rsl<A>, RslFault>
+    ensures { Answers (codec A) result
+        (said MessageKind.MeasurementResult (lookup known found.now)) }
+{
+    let channel = channel(found)?;
+    let number = found.octet(RESULT_NUMBER)?;
+    let uplink = found.any_octets(UPLINK_MEASUREMENTS)?;
+    let power = found.octet(POWER)?;
+    let layer3 = found.optional_octets(LAYER3)?;
+    Ok(Rsl::MeasurementResult {
+        channel,
+        number,
+        uplink: Octets::new(alloc, uplink)?,
+        power,
+        layer3: copied(alloc, layer3)?,
+    })
+}
+
+/// Appends the elements of a MEASUREMENT RESULT.
+fn append_measurement<A: Allocator>(
+    out: &mut Vec<u8, A>,
+    channel: ChanBits,
+    number: u8,
+    uplink: &Octets<A>,
+    power: u8,
+    layer3: Option<&Octets<A>>,
+)
+    requires channel { channel.tn < 8 }
+    requires uplink { length uplink.now < 256 }
+    requires layer3 { IfSome layer3 (λ l. length l.now ≤ limit) }
+    requires room { vec_len out.old + length (all_octets abis
+        (measurement_rows.written (channel, (number, (uplink.now, (power, option_map (λ l. l.now) layer3)))))) ≤ vec_capacity out.old }
+    ensures items { out.new.items ≡ out.old.items ++
+        all_octets abis (measurement_rows.written (channel, (number, (uplink.now, (power, option_map (λ l. l.now) layer3.entry))))) }
+    ensures capacity { vec_capacity out.old ≤ vec_capacity out.new }
+{
+    append_element::<Abis, A>(out, CHANNEL_NUMBER, &[channel_octet(channel)]);
+    append_element::<Abis, A>(out, RESULT_NUMBER, &[number]);
+    append_element::<Abis, A>(out, UPLINK_MEASUREMENTS, uplink.as_slice());
+    append_element::<Abis, A>(out, POWER, &[power]);
+    if let Some(layer3) = layer3 {
+        append_element::<Abis, A>(out, LAYER3, layer3.as_slice());
+    }
+}
+
+/// How many octets the elements of a message take, or the greatest length where they are more.
+pub fn elements_len<A: Allocator>(message: &Rsl<A>) -> usize
+    ensures { result ≡ min (length (all_octets abis (elements_of message.now))) (2 ^ 64 - 1) }
+{
+    let others = match message {
+        Rsl::DataRequest { layer3, .. } | Rsl::DataIndication { layer3, .. } => {
+            octet_len(LINK_IDENTIFIER) + element_len::<Abis>(LAYER3, layer3.as_slice())
+        }
+        Rsl::ChannelActivation {
+            mode,
+            reference,
+            ..
+        } => {
+            octet_len(ACTIVATION_TYPE)
+                + element_len::<Abis>(CHANNEL_MODE, mode.as_slice())
+                + optional_octet_len(HANDOVER_REFERENCE, *reference)
+        }
+        Rsl::ChannelActivationAck { .. } => element_len::<Abis>(FRAME_NUMBER, &[0, 0]),
+        Rsl::ChannelActivationNack { .. } | Rsl::ConnectionFailureIndication { .. } => {
+            octet_len(CAUSE)
+        }
+        Rsl::HandoverDetection { delay, .. } => optional_octet_len(ACCESS_DELAY, *delay),
+        Rsl::MeasurementResult { uplink, layer3, .. } => {
+            let measured = octet_len(RESULT_NUMBER)
+                + element_len::<Abis>(UPLINK_MEASUREMENTS, uplink.as_slice())
+                + octet_len(POWER);
+            measured.saturating_add(layer3_len(layer3.as_ref()))
+        }
+        Rsl::RfChannelRelease { .. } | Rsl::RfChannelReleaseAck { .. } => 0,
+    };
+    others.saturating_add(octet_len(CHANNEL_NUMBER))
+}
+
+/// How many octets an element takes whose value has one octet.
+#[inline]
+fn octet_len(identifier: u8) -> usize
+    ensures { result ≡ length (element_octets abis (identifier, 0 ∷ [])) }
+{
+    element_len::<Abis>(identifier, &[0])
+}
+
+#[inline]
+fn optional_octet_len(identifier: u8, octet: Option<u8>) -> usize
+    ensures { result ≡ length (all_octets abis (where_some identifier octet)) }
+{
+    match octet {
+        None => 0,
+        Some(octet) => element_len::<Abis>(identifier, &[octet]),
+    }
+}
+
+fn layer3_len<A: Allocator>(layer3: Option<&Octets<A>>) -> usize
+    ensures { result ≡ length (all_octets abis
+        (where_value LAYER3 (option_map (λ l. l.now) layer3.entry))) }
+{
+    match layer3 {
+        None => 0,
+        Some(layer3) => element_len::<Abis>(LAYER3, layer3.as_slice()),
+    }
+}
