@@ -1,5 +1,5 @@
 //! What no clause says: the printed texts on the whole way from two files to a trace and from octets to a message in
-//! words, what is refused, want of memory and failing writes.
+//! words, what is refused, allocation failures and failing writes.
 mod decoded;
 mod failing;
 mod files;

@@ -1,8 +1,6 @@
 //! Printed texts, which no clause says.
 use bssmap_messages::BssmapFault;
 use ho_procedure::exchange::{Handled, Inbound, Line};
-use trace_text::bad::Bad;
-use trace_text::trace::{print_end, print_fault, print_handled, print_input};
 use radio_book::book::Usage;
 use radio_book::channel::{ChanId, ChanState};
 use radio_book::event::{
@@ -13,7 +11,10 @@ use rr_messages::RrFault;
 use rsl_messages::RslFault;
 use std::alloc::Global;
 use std::process::Abort;
+use std::str;
 use std::test::Fail;
+use trace_text::bad::Bad;
+use trace_text::trace::{print_end, print_fault, print_handled, print_input};
 
 /// Faults that octets on their way through a reader never have.
 const FAULTS: &[(Bad, &str)] = &[
@@ -35,7 +36,7 @@ fn faults_that_octets_never_have(rt: HostRuntime) -> Result<(), Fail> {
     for (fault, wanted) in FAULTS {
         let mut out = Vec::new(rt.alloc());
         print_fault(&mut out, *fault)?;
-        assert_eq!(rt; String::from_utf8(out)?.as_str(), *wanted);
+        assert_eq!(rt; str::from_utf8(&out)?, *wanted);
     }
     Ok(())
 }
@@ -52,62 +53,95 @@ const TARGET: ChanId = ChanId {
     tn: 7,
 };
 
-/// Events, each with its line up to the reply.
+/// Events that are done, and their lines.
 const EVENTS: &[(Event, &str)] = &[
-    (Event::Open(1, FIRST), "open 1 0/0/2"),
-    (Event::Clear(65535), "clear 65535"),
-    (Event::Look(0), "look 0"),
+    (Event::Open(1, FIRST), "event open 1 0/0/2 -> done\n"),
+    (Event::Clear(65535), "event clear 65535 -> done\n"),
+    (Event::Look(0), "event look 0 -> done\n"),
     (
         Event::Take(1, Kind::Internal, TARGET),
-        "take 1 internal 63/3/7",
+        "event take 1 internal 63/3/7 -> done\n",
     ),
     (
         Event::Take(1, Kind::Incoming, TARGET),
-        "take 1 incoming 63/3/7",
+        "event take 1 incoming 63/3/7 -> done\n",
     ),
-    (Event::Reserve(1, 255), "reserve 1 255"),
-    (Event::Activate(1), "activate 1"),
-    (Event::Undo(1, Why::Asked), "undo 1 asked"),
-    (Event::Undo(1, Why::Expired(Timer::T3103)), "undo 1 t3103"),
-    (Event::Undo(1, Why::Expired(Timer::T7)), "undo 1 t7"),
-    (Event::Undo(1, Why::Expired(Timer::T8)), "undo 1 t8"),
-    (Event::Confirm(FIRST), "confirm 0/0/2"),
-    (Event::Refuse(FIRST), "refuse 0/0/2"),
-    (Event::Released(FIRST), "released 0/0/2"),
+    (Event::Reserve(1, 255), "event reserve 1 255 -> done\n"),
+    (Event::Activate(1), "event activate 1 -> done\n"),
+    (Event::Undo(1, Why::Asked), "event undo 1 asked -> done\n"),
+    (
+        Event::Undo(1, Why::Expired(Timer::T3103)),
+        "event undo 1 t3103 -> done\n",
+    ),
+    (
+        Event::Undo(1, Why::Expired(Timer::T7)),
+        "event undo 1 t7 -> done\n",
+    ),
+    (
+        Event::Undo(1, Why::Expired(Timer::T8)),
+        "event undo 1 t8 -> done\n",
+    ),
+    (Event::Confirm(FIRST), "event confirm 0/0/2 -> done\n"),
+    (Event::Refuse(FIRST), "event refuse 0/0/2 -> done\n"),
+    (Event::Released(FIRST), "event released 0/0/2 -> done\n"),
 ];
 
-/// Replies, as they stand behind the arrow.
+/// Replies, and the lines of an event that has them.
 const REPLIES: &[(Reply, &str)] = &[
-    (Reply::Done, "done"),
-    (Reply::Owned(65535), "owned 65535"),
-    (Reply::Refused(Refusal::NoCall), "refused 1"),
-    (Reply::Refused(Refusal::CallExists), "refused 2"),
-    (Reply::Refused(Refusal::WrongPhase), "refused 3"),
-    (Reply::Refused(Refusal::NoChannel), "refused 4"),
-    (Reply::Refused(Refusal::SameCell), "refused 5"),
+    (Reply::Done, "event look 1 -> done\n"),
+    (Reply::Owned(65535), "event look 1 -> owned 65535\n"),
+    (
+        Reply::Refused(Refusal::NoCall),
+        "event look 1 -> refused 1\n",
+    ),
+    (
+        Reply::Refused(Refusal::CallExists),
+        "event look 1 -> refused 2\n",
+    ),
+    (
+        Reply::Refused(Refusal::WrongPhase),
+        "event look 1 -> refused 3\n",
+    ),
+    (
+        Reply::Refused(Refusal::NoChannel),
+        "event look 1 -> refused 4\n",
+    ),
+    (
+        Reply::Refused(Refusal::SameCell),
+        "event look 1 -> refused 5\n",
+    ),
     (
         Reply::Refused(Refusal::ChannelBusy(TARGET)),
-        "refused 6 63/3/7",
+        "event look 1 -> refused 6 63/3/7\n",
     ),
     (
         Reply::Refused(Refusal::RefBusy(63, 255)),
-        "refused 7 63 255",
+        "event look 1 -> refused 7 63 255\n",
     ),
     (
         Reply::Refused(Refusal::Unexpected(FIRST)),
-        "refused 8 0/0/2",
+        "event look 1 -> refused 8 0/0/2\n",
     ),
-    (Reply::Refused(Refusal::NotArmed), "refused 9"),
+    (
+        Reply::Refused(Refusal::NotArmed),
+        "event look 1 -> refused 9\n",
+    ),
 ];
 
-/// States of a serving channel, as a record prints them.
+/// States of a serving channel, and the lines of a record with them.
 const STATES: &[(Option<ChanState>, &str)] = &[
-    (None, "-"),
-    (Some(ChanState::Free), "free"),
-    (Some(ChanState::Held(1)), "held"),
-    (Some(ChanState::Pending(1)), "pending"),
-    (Some(ChanState::On(1)), "on"),
-    (Some(ChanState::Off), "off"),
+    (None, "event look 1 -> record 0/0/2 -\n"),
+    (Some(ChanState::Free), "event look 1 -> record 0/0/2 free\n"),
+    (
+        Some(ChanState::Held(1)),
+        "event look 1 -> record 0/0/2 held\n",
+    ),
+    (
+        Some(ChanState::Pending(1)),
+        "event look 1 -> record 0/0/2 pending\n",
+    ),
+    (Some(ChanState::On(1)), "event look 1 -> record 0/0/2 on\n"),
+    (Some(ChanState::Off), "event look 1 -> record 0/0/2 off\n"),
 ];
 
 /// Stages of an attempt, as a record prints them.
@@ -145,51 +179,80 @@ const PLACES: &[(AttemptKind, Option<ChanId>, Option<u8>, &str, &str)] = &[
     ),
 ];
 
-/// The line of an event with its reply.
-fn line_of(alloc: Global, event: Event, reply: Reply) -> Result<String, Fail> {
-    let mut handled = Handled::new(alloc);
-    handled.events.push((event, reply))?;
+/// What the handling of an input came to prints this.
+fn is_printed(
+    rt: &impl Abort,
+    alloc: Global,
+    handled: &Handled<Global>,
+    wanted: &str,
+) -> Result<(), Fail> {
     let mut out = Vec::new(alloc);
-    print_handled(&mut out, &handled)?;
-    Ok(String::from_utf8(out)?)
+    print_handled(&mut out, handled)?;
+    assert_eq!(rt; str::from_utf8(&out)?, wanted);
+    Ok(())
 }
 
-/// The record that call 1 has, as it is printed.
-fn record_line(
+/// An event with its reply prints this line.
+fn prints(
+    rt: &impl Abort,
     alloc: Global,
-    serving: Option<ChanId>,
-    state: Option<ChanState>,
-    attempt: Option<Attempt>,
-) -> Result<String, Fail> {
-    let record = CallRecord { serving, attempt };
-    line_of(alloc, Event::Look(1), Reply::Record(record, state))
+    event: Event,
+    reply: Reply,
+    line: &str,
+) -> Result<(), Fail> {
+    let mut handled = Handled::new(alloc);
+    handled.events.push((event, reply))?;
+    is_printed(rt, alloc, &handled, line)
 }
 
 #[test]
 fn events_are_printed(rt: HostRuntime) -> Result<(), Fail> {
-    for (event, text) in EVENTS {
-        let wanted = format!(in rt.alloc(); "event {text} -> done\n")?;
-        assert_eq!(rt; line_of(rt.alloc(), *event, Reply::Done)?, wanted);
+    for (event, line) in EVENTS {
+        prints(&rt, rt.alloc(), *event, Reply::Done, *line)?;
     }
     Ok(())
 }
 
 #[test]
 fn replies_are_printed(rt: HostRuntime) -> Result<(), Fail> {
-    for (reply, text) in REPLIES {
-        let wanted = format!(in rt.alloc(); "event look 1 -> {text}\n")?;
-        assert_eq!(rt; line_of(rt.alloc(), Event::Look(1), *reply)?, wanted);
+    for (reply, line) in REPLIES {
+        prints(&rt, rt.alloc(), Event::Look(1), *reply, *line)?;
     }
     Ok(())
 }
 
 #[test]
 fn states_are_printed(rt: HostRuntime) -> Result<(), Fail> {
-    for (state, text) in STATES {
-        let wanted = format!(in rt.alloc(); "event look 1 -> record 0/0/2 {text}\n")?;
-        assert_eq!(rt; record_line(rt.alloc(), Some(FIRST), *state, None)?, wanted);
+    for (state, line) in STATES {
+        let record = CallRecord {
+            serving: Some(FIRST),
+            attempt: None,
+        };
+        let reply = Reply::Record(record, *state);
+        prints(&rt, rt.alloc(), Event::Look(1), reply, *line)?;
     }
     Ok(())
+}
+
+/// The record of an attempt prints this, behind the words that all such lines begin with.
+fn prints_attempt(
+    rt: &impl Abort,
+    alloc: Global,
+    attempt: Attempt,
+    (kind, stage, place): (&str, &str, &str),
+) -> Result<(), Fail> {
+    let record = CallRecord {
+        serving: None,
+        attempt: Some(attempt),
+    };
+    let line = format!(in alloc; "event look 1 -> record - - {kind} {stage} {place}\n")?;
+    prints(
+        rt,
+        alloc,
+        Event::Look(1),
+        Reply::Record(record, None),
+        &line,
+    )
 }
 
 /// Compares the records of an attempt in each stage with their lines.
@@ -208,11 +271,7 @@ fn prints_stages(
             target,
             reference,
         };
-        let line = record_line(alloc, None, None, Some(attempt))?;
-        let wanted = format!(in alloc;
-            "event look 1 -> record - - {kind_text} {text} {place_text}\n"
-        )?;
-        assert_eq!(rt; line, wanted);
+        prints_attempt(rt, alloc, attempt, (kind_text, *text, place_text))?;
     }
     Ok(())
 }
@@ -246,7 +305,7 @@ fn inputs_are_printed(rt: HostRuntime) -> Result<(), Fail> {
         let input: Inbound<Global> = Inbound::Operator(*line);
         let mut out = Vec::new(rt.alloc());
         print_input(&mut out, &input)?;
-        assert_eq!(rt; String::from_utf8(out)?.as_str(), *wanted);
+        assert_eq!(rt; str::from_utf8(&out)?, *wanted);
     }
     Ok(())
 }
@@ -262,6 +321,6 @@ fn each_count_is_printed_in_its_place(rt: HostRuntime) -> Result<(), Fail> {
     let mut out = Vec::new(rt.alloc());
     print_end(&mut out, usage)?;
     let wanted = "end channels=1 calls=2 references=3 timers=4\n";
-    assert_eq!(rt; String::from_utf8(out)?.as_str(), wanted);
+    assert_eq!(rt; str::from_utf8(&out)?, wanted);
     Ok(())
 }

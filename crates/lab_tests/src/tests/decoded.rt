@@ -205,14 +205,14 @@ const NO_HEX: &[(&str, &str)] = &[
 ];
 
 /// Texts that take memory, and how many requests at least: the octets of the text, and what the message keeps.
-const WANTS: &[(Link, (&str, &str), u64)] = &[
+const REQUESTS: &[(Link, (&str, &str), u64)] = &[
     (Link::Rr, ("062c00", "HANDOVER COMPLETE cause=0"), 1),
     (Link::A, REQUIRED, 2),
     (Link::Abis, ACTIVATION, 2),
 ];
 
 /// Texts that take no memory.
-const WANTS_NOTHING: &[(Link, (&str, &str))] = &[
+const NO_REQUESTS: &[(Link, (&str, &str))] = &[
     (Link::Rr, ("", "fault rr 1")),
     (Link::A, ("", "fault a 1")),
     (Link::Abis, ("", "fault abis 1")),
@@ -243,6 +243,24 @@ fn printed<A: Allocator + Copy>(
     Ok((status, String::from_utf8(out)?))
 }
 
+/// A text ends so and prints this one line.
+fn prints<A: Allocator + Copy>(
+    rt: &impl Abort,
+    alloc: A,
+    scratch: Global,
+    link: Link,
+    ended: Status,
+    (hex, line): (&str, &str),
+) -> Result<(), Fail> {
+    let (status, text) = printed(alloc, scratch, link, hex)?;
+    assert_eq!(rt;
+        (status, text.strip_suffix('\n')),
+        (Ok(ended), Some(line)),
+        "{hex}"
+    );
+    Ok(())
+}
+
 /// Each text ends so and prints its one line.
 fn print(
     rt: &impl Abort,
@@ -251,10 +269,8 @@ fn print(
     ended: Status,
     rows: &[(&str, &str)],
 ) -> Result<(), Fail> {
-    for (hex, wanted) in rows {
-        let (status, text) = printed(alloc, alloc, link, *hex)?;
-        assert_eq!(rt; status, Ok(ended), "{hex}");
-        assert_eq!(rt; text.strip_suffix('\n'), Some(*wanted), "{hex}");
+    for row in rows {
+        prints(rt, alloc, alloc, link, ended, *row)?;
     }
     Ok(())
 }
@@ -303,12 +319,13 @@ fn faults_on_abis(rt: HostRuntime) -> Result<(), Fail> {
 fn octets_longer_than_a_message_on_abis(rt: HostRuntime) -> Result<(), Fail> {
     // one octet more than a message has
     let long = "08".repeat(rt.alloc(), 1025)?;
-    let (status, text) = printed(rt.alloc(), rt.alloc(), Link::Abis, &long)?;
-    assert_eq!(rt;
-        (status, text.as_str()),
-        (Ok(Status::Refused), "fault abis 6\n")
-    );
-    Ok(())
+    print(
+        &rt,
+        rt.alloc(),
+        Link::Abis,
+        Status::Refused,
+        &[(&long, "fault abis 6")],
+    )
 }
 
 #[test]
@@ -330,17 +347,14 @@ fn prints_without(
 ) -> Result<bool, Fail> {
     let heap = RefusingHeap::refusing_nth(alloc, n);
     let (status, text) = printed(&heap, alloc, link, hex)?;
-    if heap.was_refused() {
-        assert_eq!(rt;
-            (status, text.as_str()),
-            (Err(LabFault::NoMemory), ""),
-            "{n}"
-        );
-        return Ok(false);
-    }
-    assert_eq!(rt; status, Ok(Status::Done), "{n}");
-    assert_eq!(rt; text.strip_suffix('\n'), Some(wanted), "{n}");
-    Ok(true)
+    let (ended, line) = if heap.was_refused() {
+        (Err(LabFault::NoMemory), None)
+    } else {
+        (Ok(Status::Done), Some(wanted))
+    };
+    assert_eq!(rt; (status, text.strip_suffix('\n')), (ended, line), "{n}");
+    assert_eq!(rt; text.is_empty(), line.is_none(), "{n}");
+    Ok(line.is_some())
 }
 
 /// How many requests for memory were refused in turn before a text was read and printed.
@@ -362,7 +376,7 @@ fn refusals_of(
 
 #[test]
 fn each_request_for_memory_is_refused(rt: HostRuntime) -> Result<(), Fail> {
-    for (link, (hex, wanted), at_least) in WANTS {
+    for (link, (hex, wanted), at_least) in REQUESTS {
         let tried = refusals_of(&rt, *link, *hex, *wanted)?;
         assert!(rt; *at_least <= tried && tried < 99, "{hex}: {tried} requests");
     }
@@ -371,11 +385,9 @@ fn each_request_for_memory_is_refused(rt: HostRuntime) -> Result<(), Fail> {
 
 #[test]
 fn texts_that_take_no_memory(rt: HostRuntime) -> Result<(), Fail> {
-    for (link, (hex, wanted)) in WANTS_NOTHING {
+    for (link, row) in NO_REQUESTS {
         let heap = RefusingHeap::refusing_from(rt.alloc(), 1);
-        let (status, text) = printed(&heap, rt.alloc(), *link, *hex)?;
-        assert_eq!(rt; status, Ok(Status::Refused), "{hex}");
-        assert_eq!(rt; text.strip_suffix('\n'), Some(*wanted), "{hex}");
+        prints(&rt, &heap, rt.alloc(), *link, Status::Refused, *row)?;
     }
     Ok(())
 }

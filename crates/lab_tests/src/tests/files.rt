@@ -31,8 +31,11 @@ fn run_ends(
 ) -> Result<(), Fail> {
     let mut out = Vec::new(rt.alloc());
     let ended = run_files(rt, site, script, &mut out);
-    assert_eq!(rt; ended, Ok(wanted), "{site} {script}");
-    assert_eq!(rt; str::from_utf8(&out)?, text);
+    assert_eq!(rt;
+        (ended, str::from_utf8(&out)?),
+        (Ok(wanted), text),
+        "{site} {script}"
+    );
     Ok(())
 }
 
@@ -68,4 +71,25 @@ fn files_are_run(rt: HostRuntime) -> Result<(), Fail> {
     fs::remove_file(&rt, SITE_FILE)?;
     fs::remove_file(&rt, SCRIPT_FILE)?;
     Ok(())
+}
+
+/// A script's file, and what a run over no site prints where the file has so many octets: both files are read before
+/// the site is looked at, and 64 MiB are the most that a file may have.
+const LONG_FILE: &str = "long.txt";
+
+const LENGTHS: &[(usize, &str)] = &[(64 << 20, "site 1\n"), ((64 << 20) + 1, "file long.txt\n")];
+
+/// Writes a file of so many octets.
+fn write_long(rt: &(impl Files + AllocGlobal), octets: usize) -> Result<(), Fail> {
+    let text = "#".repeat(rt.alloc(), octets)?;
+    Ok(fs::write(rt, LONG_FILE, text.as_str())?)
+}
+
+#[test]
+fn a_file_may_have_64_mebibytes(rt: HostRuntime) -> Result<(), Fail> {
+    for (octets, text) in LENGTHS {
+        write_long(&rt, *octets)?;
+        run_ends(&rt, "/dev/null", LONG_FILE, Status::Refused, *text)?;
+    }
+    Ok(fs::remove_file(&rt, LONG_FILE)?)
 }
