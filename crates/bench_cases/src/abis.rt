@@ -1,9 +1,9 @@
-//! Works on messages of Abis (TS 48.058).
+//! Cases on messages of Abis (TS 48.058).
 ghost use Rattle.std.specs.Prelude.{IfOk};
 ghost use Rattle.rsl_messages.specs.Texts.{HasCanonical};
 
 use crate::fault::Fault;
-use crate::turning::{Turning, octets_sum};
+use crate::varying::{Varying, octets_sum};
 use rsl_messages::{Rsl, decode, encode_into, fits};
 use std::alloc::Global;
 
@@ -33,11 +33,11 @@ fn decode_once(alloc: Global, octets: &[u8]) -> Result<u64, Fault> {
     Ok(sum)
 }
 
-/// Reads a CHANNEL ACTIVATION in each turn. The sum is that of the fields that were read.
-pub fn decode_activations(alloc: Global, octets: &mut Turning, count: u64) -> Result<u64, Fault> {
+/// Reads a CHANNEL ACTIVATION in each iteration. The sum is that of the fields that were read.
+pub fn decode_activations(alloc: Global, octets: &mut Varying, count: u64) -> Result<u64, Fault> {
     let mut sum = 0u64;
-    for turn in 0..count {
-        sum = sum.wrapping_add(decode_once(alloc, octets.at(turn))?);
+    for iteration in 0..count {
+        sum = sum.wrapping_add(decode_once(alloc, octets.at(iteration))?);
     }
     Ok(sum)
 }
@@ -51,22 +51,22 @@ pub fn encode_once(message: &Rsl, out: &mut Vec<u8>) -> Result<u64, Fault>
     Ok(octets_sum(out.as_slice()))
 }
 
-/// The message of a turn, which has a text.
-pub fn message_at(alloc: Global, octets: &mut Turning, turn: u64) -> Result<Rsl, Fault>
+/// The message of an iteration, which has a text.
+pub fn message_at(alloc: Global, octets: &mut Varying, iteration: u64) -> Result<Rsl, Fault>
     ensures { IfOk result (λ message. HasCanonical message) }
 {
-    let message = decode(alloc, octets.at(turn))?;
+    let message = decode(alloc, octets.at(iteration))?;
     if fits(&message) {
         return Ok(message);
     }
     Err(Fault::Words)
 }
 
-/// The CHANNEL ACTIVATION of a turn, which has a text.
-fn activation_at(alloc: Global, octets: &mut Turning, turn: u64) -> Result<Rsl, Fault>
+/// The CHANNEL ACTIVATION of an iteration, which has a text.
+fn activation_at(alloc: Global, octets: &mut Varying, iteration: u64) -> Result<Rsl, Fault>
     ensures { IfOk result (λ message. HasCanonical message) }
 {
-    let message = message_at(alloc, octets, turn)?;
+    let message = message_at(alloc, octets, iteration)?;
     activation_sum(&message)?;
     Ok(message)
 }
@@ -77,8 +77,8 @@ fn encode_alternately(even: &Rsl, odd: &Rsl, out: &mut Vec<u8>, count: u64) -> R
     requires odd_has_text { HasCanonical odd.now }
 {
     let mut sum = 0u64;
-    for turn in 0..count {
-        let written = match turn % 2 {
+    for iteration in 0..count {
+        let written = match iteration % 2 {
             0 => encode_once(even, out)?,
             _ => encode_once(odd, out)?,
         };
@@ -87,11 +87,18 @@ fn encode_alternately(even: &Rsl, odd: &Rsl, out: &mut Vec<u8>, count: u64) -> R
     Ok(sum)
 }
 
-/// Writes a CHANNEL ACTIVATION in each turn: that of turn 0 and that of turn 1 alternately. The sum is that of the
-/// octets that were written.
-pub fn encode_activations(alloc: Global, octets: &mut Turning, count: u64) -> Result<u64, Fault> {
-    let even = activation_at(alloc, octets, 0)?;
+/// Writes the message of iteration 0 and that of iteration 1 alternately.
+fn encode_with(alloc: Global, even: &Rsl, octets: &mut Varying, count: u64) -> Result<u64, Fault>
+    requires { HasCanonical even.now }
+{
     let odd = activation_at(alloc, octets, 1)?;
     let mut out = Vec::new(alloc);
-    encode_alternately(&even, &odd, &mut out, count)
+    encode_alternately(even, &odd, &mut out, count)
+}
+
+/// Writes a CHANNEL ACTIVATION in each iteration: that of iteration 0 and that of iteration 1 alternately. The sum is
+/// that of the octets that were written.
+pub fn encode_activations(alloc: Global, octets: &mut Varying, count: u64) -> Result<u64, Fault> {
+    let even = activation_at(alloc, octets, 0)?;
+    encode_with(alloc, &even, octets, count)
 }

@@ -1,13 +1,13 @@
-//! Works on messages of A (TS 48.008).
+//! Cases on messages of A (TS 48.008).
 ghost use Rattle.std.specs.Prelude.{IfOk};
 ghost use Rattle.bssmap_messages.specs.Texts.{HasCanonical};
 
 use crate::fault::Fault;
-use crate::turning::{Turning, octets_sum};
+use crate::varying::{Varying, octets_sum};
 use bssmap_messages::{Bssmap, CellId, Classmark, decode, encode_into, fits};
 use std::alloc::Global;
 
-/// The message that a work is on.
+/// The message that a case is on.
 #[derive(Clone, Copy)]
 pub enum Subject {
     /// HANDOVER REQUEST (clause 3.2.1.8).
@@ -22,9 +22,11 @@ fn cell_sum(cell: CellId) -> u64 {
 }
 
 fn cells_sum(cells: &[CellId]) -> u64 {
-    cells
-        .iter()
-        .fold(0u64, |sum, cell| sum.wrapping_add(cell_sum(*cell)))
+    let mut sum = 0u64;
+    for cell in cells {
+        sum = sum.wrapping_add(cell_sum(*cell));
+    }
+    sum
 }
 
 fn classmark_sum(classmark: &Classmark) -> u64 {
@@ -34,7 +36,7 @@ fn classmark_sum(classmark: &Classmark) -> u64 {
     }
 }
 
-/// The fields of the message that the work is on, added up: each octet of an octet list, 1 where a response is
+/// The fields of the message that the case is on, added up: each octet of an octet list, 1 where a response is
 /// requested, location area code and cell identity of each cell.
 fn fields_sum(subject: Subject, message: &Bssmap) -> Result<u64, Fault> {
     match (subject, message) {
@@ -78,16 +80,16 @@ fn decode_once(alloc: Global, subject: Subject, octets: &[u8]) -> Result<u64, Fa
     Ok(sum)
 }
 
-/// Reads a message in each turn. The sum is that of the fields that were read.
+/// Reads a message in each iteration. The sum is that of the fields that were read.
 pub fn decode_messages(
     alloc: Global,
     subject: Subject,
-    octets: &mut Turning,
+    octets: &mut Varying,
     count: u64,
 ) -> Result<u64, Fault> {
     let mut sum = 0u64;
-    for turn in 0..count {
-        sum = sum.wrapping_add(decode_once(alloc, subject, octets.at(turn))?);
+    for iteration in 0..count {
+        sum = sum.wrapping_add(decode_once(alloc, subject, octets.at(iteration))?);
     }
     Ok(sum)
 }
@@ -101,16 +103,16 @@ fn encode_once(message: &Bssmap, out: &mut Vec<u8>) -> Result<u64, Fault>
     Ok(octets_sum(out.as_slice()))
 }
 
-/// The message of a turn that the work is on, which has a text.
+/// The message of an iteration that the case is on, which has a text.
 fn message_at(
     alloc: Global,
     subject: Subject,
-    octets: &mut Turning,
-    turn: u64,
+    octets: &mut Varying,
+    iteration: u64,
 ) -> Result<Bssmap, Fault>
     ensures { IfOk result (λ message. HasCanonical message) }
 {
-    let message = decode(alloc, octets.at(turn))?;
+    let message = decode(alloc, octets.at(iteration))?;
     fields_sum(subject, &message)?;
     if fits(&message) {
         return Ok(message);
@@ -129,8 +131,8 @@ fn encode_alternately(
     requires odd_has_text { HasCanonical odd.now }
 {
     let mut sum = 0u64;
-    for turn in 0..count {
-        let written = match turn % 2 {
+    for iteration in 0..count {
+        let written = match iteration % 2 {
             0 => encode_once(even, out)?,
             _ => encode_once(odd, out)?,
         };
@@ -139,16 +141,29 @@ fn encode_alternately(
     Ok(sum)
 }
 
-/// Writes a message in each turn: that of turn 0 and that of turn 1 alternately. The sum is that of the octets that
-/// were written.
+/// Writes the message of iteration 0 and that of iteration 1 alternately.
+fn encode_with(
+    alloc: Global,
+    subject: Subject,
+    even: &Bssmap,
+    octets: &mut Varying,
+    count: u64,
+) -> Result<u64, Fault>
+    requires { HasCanonical even.now }
+{
+    let odd = message_at(alloc, subject, octets, 1)?;
+    let mut out = Vec::new(alloc);
+    encode_alternately(even, &odd, &mut out, count)
+}
+
+/// Writes a message in each iteration: that of iteration 0 and that of iteration 1 alternately. The sum is that of the
+/// octets that were written.
 pub fn encode_messages(
     alloc: Global,
     subject: Subject,
-    octets: &mut Turning,
+    octets: &mut Varying,
     count: u64,
 ) -> Result<u64, Fault> {
     let even = message_at(alloc, subject, octets, 0)?;
-    let odd = message_at(alloc, subject, octets, 1)?;
-    let mut out = Vec::new(alloc);
-    encode_alternately(&even, &odd, &mut out, count)
+    encode_with(alloc, subject, &even, octets, count)
 }

@@ -1,7 +1,7 @@
 //! A whole call, from the operator's line to the release of its channel.
 use crate::fault::Fault;
 use crate::life::book_of;
-use crate::turning::{Turning, octets_sum};
+use crate::varying::{Varying, octets_sum};
 use ho_procedure::exchange::{Inbound, Line, Outbound};
 use ho_procedure::procedure::handle_plain;
 use radio_book::book::Book;
@@ -41,11 +41,12 @@ trx = [{ arfcn = 60, tch = [2, 3] }]
 /// Handles one input. The sum is that of the octets of all messages that are sent.
 fn handle(alloc: Global, book: &mut Book, input: Inbound) -> Result<u64, Fault> {
     let handled = handle_plain(alloc, book, input)?;
-    Ok(
-        handled.out.iter().fold(0u64, |sum, message| match message {
-            Outbound::Abis { bytes, .. } => sum.wrapping_add(octets_sum(bytes.as_slice())),
-        }),
-    )
+    let mut sum = 0u64;
+    for message in &handled.out {
+        let Outbound::Abis { bytes, .. } = message;
+        sum = sum.wrapping_add(octets_sum(bytes.as_slice()));
+    }
+    Ok(sum)
 }
 
 /// Handles what a station sends on the channel's TRX.
@@ -74,18 +75,18 @@ fn call_once(alloc: Global, book: &mut Book, acknowledgement: &[u8]) -> Result<u
     )
 }
 
-/// Whole calls in a book, one in each turn.
-fn calls(alloc: Global, book: &mut Book, octets: &mut Turning, count: u64) -> Result<u64, Fault> {
+/// Whole calls in a book, one in each iteration.
+fn calls(alloc: Global, book: &mut Book, octets: &mut Varying, count: u64) -> Result<u64, Fault> {
     let mut sum = 0u64;
-    for turn in 0..count {
-        sum = sum.wrapping_add(call_once(alloc, book, octets.at(turn))?);
+    for iteration in 0..count {
+        sum = sum.wrapping_add(call_once(alloc, book, octets.at(iteration))?);
     }
     Ok(sum)
 }
 
-/// A whole call in each turn. The sum is that of the octets of all messages that are sent: a CHANNEL ACTIVATION and an
+/// A whole call in each iteration. The sum is that of the octets of all messages that are sent: a CHANNEL ACTIVATION and an
 /// RF CHANNEL RELEASE for each call.
-pub fn call_by_octets(alloc: Global, octets: &mut Turning, count: u64) -> Result<u64, Fault> {
+pub fn call_by_octets(alloc: Global, octets: &mut Varying, count: u64) -> Result<u64, Fault> {
     let mut book = book_of(alloc, SITE)?;
     calls(alloc, &mut book, octets, count)
 }

@@ -1,6 +1,6 @@
 //! Why the program gives no sum.
 ghost use Rattle.std.specs.Prelude.{◌≡◌};
-ghost use Rattle.bench_cases.specs.Works.{status_of};
+ghost use Rattle.bench_cases.specs.Statuses.{status_of};
 
 use bssmap_messages::BssmapFault;
 use cell_table::SiteFault;
@@ -14,7 +14,7 @@ use thiserror::Error;
 /// Why the program gives no sum.
 #[derive(Clone, Copy, Debug, PartialEq, Eq, Error)]
 pub enum Fault {
-    /// The words name no work and count, or the octets are no message that the work can read.
+    /// The words name no case and count, or the octets are no message that the case can read.
     #[error("usage: bsc_bench NAME N [OCTETS] | bsc_bench all N")]
     Words,
     /// Memory was refused.
@@ -23,8 +23,8 @@ pub enum Fault {
     /// The standard output took no more.
     #[error("the sum can't be printed")]
     Output,
-    /// What a work starts from is refused, as the site or a call that should be steady.
-    #[error("the setting of the work is refused")]
+    /// What a case starts from is refused, as the site or a call that should be steady.
+    #[error("the setting of the case is refused")]
     Setting,
 }
 
@@ -52,7 +52,7 @@ impl From<AllocError> for Fault {
 }
 
 impl From<RslFault> for Fault {
-    ghost use Rattle.bench_cases.specs.Works.{of_abis};
+    ghost use Rattle.bench_cases.specs.Statuses.{of_abis};
 
     ghost from_gives = { λ cause fault. fault ≡ of_abis cause };
 
@@ -65,7 +65,7 @@ impl From<RslFault> for Fault {
 }
 
 impl From<RrFault> for Fault {
-    ghost use Rattle.bench_cases.specs.Works.{of_radio};
+    ghost use Rattle.bench_cases.specs.Statuses.{of_radio};
 
     ghost from_gives = { λ cause fault. fault ≡ of_radio cause };
 
@@ -78,7 +78,7 @@ impl From<RrFault> for Fault {
 }
 
 impl From<BssmapFault> for Fault {
-    ghost use Rattle.bench_cases.specs.Works.{of_a};
+    ghost use Rattle.bench_cases.specs.Statuses.{of_a};
 
     ghost from_gives = { λ cause fault. fault ≡ of_a cause };
 
@@ -91,7 +91,7 @@ impl From<BssmapFault> for Fault {
 }
 
 impl From<PlainFault> for Fault {
-    ghost use Rattle.bench_cases.specs.Works.{of_procedure};
+    ghost use Rattle.bench_cases.specs.Statuses.{of_procedure};
 
     ghost from_gives = { λ cause fault. fault ≡ of_procedure cause };
 
@@ -104,7 +104,7 @@ impl From<PlainFault> for Fault {
 }
 
 impl From<SiteFault> for Fault {
-    ghost use Rattle.bench_cases.specs.Works.{of_site};
+    ghost use Rattle.bench_cases.specs.Statuses.{of_site};
 
     ghost from_gives = { λ cause fault. fault ≡ of_site cause };
 

@@ -1,59 +1,59 @@
-//! The works of `bsc_bench`, each repeated as often as the command line asks. What is read gets another octet in each
-//! turn, what is written is one of two messages by turns, and the results are added up: none can be left out.
+//! The cases of `bsc_bench`, each repeated as often as the command line asks. What is read gets another octet in each
+//! iteration, what is written is one of two messages alternately, and the results are added up: none can be left out.
 #![tactic(auto)]
 
 mod abis;
 mod bssmap;
 mod call;
+pub mod case;
 pub mod fault;
 mod life;
 mod measured;
 mod radio;
-mod turning;
+mod varying;
 pub mod words;
-pub mod work;
 
 use crate::bssmap::Subject;
+use crate::case::{Case, Task};
 use crate::fault::Fault;
-use crate::turning::Turning;
-use crate::work::Work;
+use crate::varying::Varying;
 use std::alloc::Global;
 
-/// What so many turns of a work add up to, modulo 2^64. Refused are octets that the work has no use for (`Words`), a
+/// What so many iterations of a case add up to, modulo 2^64. Refused are octets that the case has no use for (`Words`), a
 /// setting that can't be made (`Setting`), and memory (`NoMemory`).
-pub fn sum_of(alloc: Global, work: Work, count: u64, octets: &[u8]) -> Result<u64, Fault> {
-    let mut turning = Turning::new(alloc, octets, work.place())?;
-    match work {
-        Work::DecodeActivation => abis::decode_activations(alloc, &mut turning, count),
-        Work::EncodeActivation => abis::encode_activations(alloc, &mut turning, count),
-        Work::CallByOctets => call::call_by_octets(alloc, &mut turning, count),
-        Work::LiveByStep => life::live_by_steps(alloc, &mut turning, count),
-        Work::DecodeMeasurement => measured::decode_measurements(alloc, &mut turning, count),
-        Work::EncodeMeasurement => measured::encode_measurements(alloc, &mut turning, count),
-        Work::DecodeCommand => radio::decode_commands(&mut turning, count),
-        Work::EncodeCommand => radio::encode_commands(alloc, &mut turning, count),
-        Work::DecodeRequest => bssmap::decode_messages(
+pub fn sum_of(alloc: Global, case: Case, count: u64, octets: &[u8]) -> Result<u64, Fault> {
+    let mut varying = Varying::new(alloc, octets, case.place)?;
+    match case.task {
+        Task::DecodeActivation => abis::decode_activations(alloc, &mut varying, count),
+        Task::EncodeActivation => abis::encode_activations(alloc, &mut varying, count),
+        Task::CallByOctets => call::call_by_octets(alloc, &mut varying, count),
+        Task::LiveByStep => life::live_by_steps(alloc, &mut varying, count),
+        Task::DecodeMeasurement => measured::decode_measurements(alloc, &mut varying, count),
+        Task::EncodeMeasurement => measured::encode_measurements(alloc, &mut varying, count),
+        Task::DecodeCommand => radio::decode_commands(&mut varying, count),
+        Task::EncodeCommand => radio::encode_commands(alloc, &mut varying, count),
+        Task::DecodeRequest => bssmap::decode_messages(
             alloc,
             Subject::Request,
-            &mut turning,
+            &mut varying,
             count,
         ),
-        Work::EncodeRequest => bssmap::encode_messages(
+        Task::EncodeRequest => bssmap::encode_messages(
             alloc,
             Subject::Request,
-            &mut turning,
+            &mut varying,
             count,
         ),
-        Work::DecodeRequired => bssmap::decode_messages(
+        Task::DecodeRequired => bssmap::decode_messages(
             alloc,
             Subject::Required,
-            &mut turning,
+            &mut varying,
             count,
         ),
-        Work::EncodeRequired => bssmap::encode_messages(
+        Task::EncodeRequired => bssmap::encode_messages(
             alloc,
             Subject::Required,
-            &mut turning,
+            &mut varying,
             count,
         ),
     }

@@ -2,7 +2,7 @@
 ghost use Rattle.std.specs.Prelude.{◌<◌};
 
 use crate::fault::Fault;
-use crate::turning::Turning;
+use crate::varying::Varying;
 use cell_table::Site;
 use radio_book::book::Book;
 use radio_book::channel::ChanId;
@@ -25,19 +25,19 @@ fn write_cell(text: &mut String, cell: u8) -> Result<(), AllocError> {
     let carrier = u16::from(cell) * 3 + 1;
     let second = carrier + 1;
     let third = carrier + 2;
-    writeln!(text, "[[cell]]\nlac = 1\nci = {cell}\nbcch = {carrier}")?;
-    writeln!(text, "ncc = 1\nbcc = 1\npower = 5\nba = []")?;
     writeln!(
         text,
-        "trx = [{{ arfcn = {carrier}, tch = [1, 2, 3, 4, 5, 6, 7] }},"
-    )?;
-    writeln!(
-        text,
-        "{{ arfcn = {second}, tch = [0, 1, 2, 3, 4, 5, 6, 7] }},"
-    )?;
-    writeln!(
-        text,
-        "{{ arfcn = {third}, tch = [0, 1, 2, 3, 4, 5, 6, 7] }}]"
+        "[[cell]]
+lac = 1
+ci = {cell}
+bcch = {carrier}
+ncc = 1
+bcc = 1
+power = 5
+ba = []
+trx = [{{ arfcn = {carrier}, tch = [1, 2, 3, 4, 5, 6, 7] }},
+{{ arfcn = {second}, tch = [0, 1, 2, 3, 4, 5, 6, 7] }},
+{{ arfcn = {third}, tch = [0, 1, 2, 3, 4, 5, 6, 7] }}]"
     )
 }
 
@@ -132,11 +132,11 @@ fn live(book: &mut Book, serving: ChanId, target: ChanId) -> Result<u64, Fault> 
     Ok(sum)
 }
 
-/// Lives a life in each turn, in a book.
-fn lives(book: &mut Book, octets: &mut Turning, count: u64) -> Result<u64, Fault> {
+/// Lives a life in each iteration, in a book.
+fn lives(book: &mut Book, octets: &mut Varying, count: u64) -> Result<u64, Fault> {
     let mut sum = 0u64;
-    for turn in 0..count {
-        let cell = octets.at(turn).first().copied().unwrap_or(0) % CELLS;
+    for iteration in 0..count {
+        let cell = octets.at(iteration).first().copied().unwrap_or(0) % CELLS;
         let serving = chan_at(cell, OTHERS);
         let target = chan_at((cell + 1) % CELLS, OTHERS);
         sum = sum.wrapping_add(live(book, serving, target)?);
@@ -144,10 +144,10 @@ fn lives(book: &mut Book, octets: &mut Turning, count: u64) -> Result<u64, Fault
     Ok(sum)
 }
 
-/// Lives a life in each turn, in a book in which 1,024 calls are steady on 64 cells: on a free channel of the cell that
+/// Lives a life in each iteration, in a book in which 1,024 calls are steady on 64 cells: on a free channel of the cell that
 /// the first octet names, modulo 64, and towards the next cell. The sum is the number of events that the book accepts,
 /// ten for each life.
-pub fn live_by_steps(alloc: Global, octets: &mut Turning, count: u64) -> Result<u64, Fault> {
+pub fn live_by_steps(alloc: Global, octets: &mut Varying, count: u64) -> Result<u64, Fault> {
     let mut book = quiet_book(alloc)?;
     settle_cells(&mut book)?;
     lives(&mut book, octets, count)

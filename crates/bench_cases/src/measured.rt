@@ -1,11 +1,11 @@
-//! Works on a MEASUREMENT RESULT of Abis (TS 48.058 clause 8.4.8) with the MEASUREMENT REPORT in it (TS 44.018 clause
+//! Cases on a MEASUREMENT RESULT of Abis (TS 48.058 clause 8.4.8) with the MEASUREMENT REPORT in it (TS 44.018 clause
 //! 9.1.21).
 ghost use Rattle.rsl_messages.specs.Texts.{HasCanonical};
 
 use crate::abis;
 use crate::fault::Fault;
 use crate::radio::{self, read_results, results_sum};
-use crate::turning::{Turning, octets_sum};
+use crate::varying::{Varying, octets_sum};
 use rr_messages::Rr;
 use rsl_messages::{Rsl, decode};
 use std::alloc::Global;
@@ -52,11 +52,11 @@ fn decode_once(alloc: Global, octets: &[u8]) -> Result<u64, Fault> {
     Ok(sum)
 }
 
-/// Reads a MEASUREMENT RESULT and its report in each turn. The sum is that of the fields that were read.
-pub fn decode_measurements(alloc: Global, octets: &mut Turning, count: u64) -> Result<u64, Fault> {
+/// Reads a MEASUREMENT RESULT and its report in each iteration. The sum is that of the fields that were read.
+pub fn decode_measurements(alloc: Global, octets: &mut Varying, count: u64) -> Result<u64, Fault> {
     let mut sum = 0u64;
-    for turn in 0..count {
-        sum = sum.wrapping_add(decode_once(alloc, octets.at(turn))?);
+    for iteration in 0..count {
+        sum = sum.wrapping_add(decode_once(alloc, octets.at(iteration))?);
     }
     Ok(sum)
 }
@@ -83,8 +83,8 @@ fn encode_alternately(
     requires odd_has_text { HasCanonical odd.now }
 {
     let mut sum = 0u64;
-    for turn in 0..count {
-        let written = match turn % 2 {
+    for iteration in 0..count {
+        let written = match iteration % 2 {
             0 => encode_both(report, even, out)?,
             _ => encode_both(report, odd, out)?,
         };
@@ -93,11 +93,19 @@ fn encode_alternately(
     Ok(sum)
 }
 
-/// Writes a report, that of turn 0, and a MEASUREMENT RESULT in each turn: that of turn 0 and that of turn 1 by turns.
-pub fn encode_measurements(alloc: Global, octets: &mut Turning, count: u64) -> Result<u64, Fault> {
-    let even = abis::message_at(alloc, octets, 0)?;
-    let report = report_of(&even)?;
+/// Writes the report of iteration 0 with its message and with that of iteration 1 alternately.
+fn encode_with(alloc: Global, even: &Rsl, octets: &mut Varying, count: u64) -> Result<u64, Fault>
+    requires { HasCanonical even.now }
+{
+    let report = report_of(even)?;
     let odd = abis::message_at(alloc, octets, 1)?;
     let mut out = Vec::new(alloc);
-    encode_alternately(&report, &even, &odd, &mut out, count)
+    encode_alternately(&report, even, &odd, &mut out, count)
+}
+
+/// Writes a report, that of iteration 0, and a MEASUREMENT RESULT in each iteration: that of iteration 0 and that of
+/// iteration 1 alternately.
+pub fn encode_measurements(alloc: Global, octets: &mut Varying, count: u64) -> Result<u64, Fault> {
+    let even = abis::message_at(alloc, octets, 0)?;
+    encode_with(alloc, &even, octets, count)
 }

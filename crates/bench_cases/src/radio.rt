@@ -1,6 +1,6 @@
-//! Works on messages between the mobile and the network (TS 44.018).
+//! Cases on messages between the mobile and the network (TS 44.018).
 use crate::fault::Fault;
-use crate::turning::{Turning, octets_sum};
+use crate::varying::{Varying, octets_sum};
 use rr_elements::MeasResults;
 use rr_messages::{Rr, decode, encode_into};
 use std::alloc::Global;
@@ -25,11 +25,11 @@ fn command_sum(message: &Rr) -> Result<u64, Fault> {
     }
 }
 
-/// Reads a HANDOVER COMMAND in each turn. The sum is that of the fields that were read.
-pub fn decode_commands(octets: &mut Turning, count: u64) -> Result<u64, Fault> {
+/// Reads a HANDOVER COMMAND in each iteration. The sum is that of the fields that were read.
+pub fn decode_commands(octets: &mut Varying, count: u64) -> Result<u64, Fault> {
     let mut sum = 0u64;
-    for turn in 0..count {
-        let message = decode(octets.at(turn))?;
+    for iteration in 0..count {
+        let message = decode(octets.at(iteration))?;
         sum = sum.wrapping_add(command_sum(&message)?);
     }
     Ok(sum)
@@ -45,8 +45,8 @@ pub fn encode_once(message: &Rr, out: &mut Vec<u8>) -> Result<u64, Fault> {
 /// Writes one message and the other alternately, so many in all. The sum is that of the octets that were written.
 fn encode_alternately(even: &Rr, odd: &Rr, out: &mut Vec<u8>, count: u64) -> Result<u64, Fault> {
     let mut sum = 0u64;
-    for turn in 0..count {
-        let message = match turn % 2 {
+    for iteration in 0..count {
+        let message = match iteration % 2 {
             0 => even,
             _ => odd,
         };
@@ -55,16 +55,16 @@ fn encode_alternately(even: &Rr, odd: &Rr, out: &mut Vec<u8>, count: u64) -> Res
     Ok(sum)
 }
 
-/// The HANDOVER COMMAND of a turn.
-fn command_at(octets: &mut Turning, turn: u64) -> Result<Rr, Fault> {
-    let message = decode(octets.at(turn))?;
+/// The HANDOVER COMMAND of an iteration.
+fn command_at(octets: &mut Varying, iteration: u64) -> Result<Rr, Fault> {
+    let message = decode(octets.at(iteration))?;
     command_sum(&message)?;
     Ok(message)
 }
 
-/// Writes a HANDOVER COMMAND in each turn: that of turn 0 and that of turn 1 alternately. The sum is that of the
+/// Writes a HANDOVER COMMAND in each iteration: that of iteration 0 and that of iteration 1 alternately. The sum is that of the
 /// octets that were written.
-pub fn encode_commands(alloc: Global, octets: &mut Turning, count: u64) -> Result<u64, Fault> {
+pub fn encode_commands(alloc: Global, octets: &mut Varying, count: u64) -> Result<u64, Fault> {
     let even = command_at(octets, 0)?;
     let odd = command_at(octets, 1)?;
     let mut out = Vec::new(alloc);
@@ -86,9 +86,10 @@ pub fn results_sum(results: &MeasResults) -> u64 {
     let levels = u64::from(head.full) + u64::from(head.sub);
     let qualities = u64::from(head.qfull) + u64::from(head.qsub);
     let serving = levels + qualities + u64::from(head.count);
-    results.neighbours().iter().fold(serving, |sum, neighbour| {
-        sum.wrapping_add(u64::from(neighbour.level))
-            .wrapping_add(u64::from(neighbour.position))
-            .wrapping_add(u64::from(neighbour.bsic))
-    })
+    let mut sum = serving;
+    for neighbour in results.neighbours() {
+        let code = u64::from(neighbour.position) + u64::from(neighbour.bsic);
+        sum = sum.wrapping_add(u64::from(neighbour.level) + code);
+    }
+    sum
 }

@@ -1,19 +1,19 @@
 //! The words of the command line.
+use crate::case::{CASES, Case, find};
 use crate::fault::Fault;
-use crate::work::Work;
 use hex::FromHexError;
 use std::alloc::Global;
 
 /// What the command line asks for.
-#[derive(Debug, Drop)]
+#[derive(Drop)]
 pub enum Job {
-    /// One work, so many times, on these octets.
+    /// One case, so many times, on these octets.
     One {
-        work: Work,
+        case: Case,
         count: u64,
         octets: Vec<u8>,
     },
-    /// Every work, so many times, on its own octets.
+    /// Every case, so many times, on its own octets.
     All {
         count: u64,
     },
@@ -31,25 +31,25 @@ fn read_count(word: &str) -> Result<u64, Fault> {
     word.parse::<u64>().map_err(|_| Fault::Words)
 }
 
-fn read_work(word: &str) -> Result<Work, Fault> {
-    Work::from_name(word).ok_or(Fault::Words)
+fn read_case(word: &str) -> Result<Case, Fault> {
+    find(&CASES, word).ok_or(Fault::Words)
 }
 
-/// A work on its own octets.
-fn on_own_octets(alloc: Global, work: Work, count: u64) -> Result<Job, Fault> {
-    let octets = Vec::from_slice(alloc, work.octets())?;
+/// A case on its own octets.
+fn on_own_octets(alloc: Global, case: Case, count: u64) -> Result<Job, Fault> {
+    let octets = Vec::from_slice(alloc, case.octets)?;
     Ok(Job::One {
-        work,
+        case,
         count,
         octets,
     })
 }
 
-/// A work on octets in hexadecimal.
-fn on_octets(alloc: Global, work: Work, count: u64, octets: &str) -> Result<Job, Fault> {
+/// A case on octets in hexadecimal.
+fn on_octets(alloc: Global, case: Case, count: u64, octets: &str) -> Result<Job, Fault> {
     let octets = read_octets(alloc, octets)?;
     Ok(Job::One {
-        work,
+        case,
         count,
         octets,
     })
@@ -61,8 +61,8 @@ pub fn read_words(alloc: Global, words: &[&str]) -> Result<Job, Fault> {
         ["all", count] => Ok(Job::All {
             count: read_count(count)?,
         }),
-        [name, count] => on_own_octets(alloc, read_work(name)?, read_count(count)?),
-        [name, count, octets] => on_octets(alloc, read_work(name)?, read_count(count)?, octets),
+        [name, count] => on_own_octets(alloc, read_case(name)?, read_count(count)?),
+        [name, count, octets] => on_octets(alloc, read_case(name)?, read_count(count)?, octets),
         _ => Err(Fault::Words),
     }
 }

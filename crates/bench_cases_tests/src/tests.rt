@@ -1,17 +1,16 @@
-//! Each work once, and words that name none.
+//! Each case once, and words that name none.
+use bench_cases::case::{CASES, Case, find};
 use bench_cases::fault::Fault;
 use bench_cases::sum_of;
 use bench_cases::words::{Job, read_words};
-use bench_cases::work::Work;
 use std::process::Abort;
-use std::test::Fail;
 
-/// The sum of two turns of each work on its own octets, worked out from the definitions of the sums:
+/// The sum of two iterations of each case on its own octets, worked out from the definitions of the sums:
 ///
 /// - CHANNEL ACTIVATION read: timeslot 3, type 2, mode 0 + 1 + 8 + 1, reference 42 and then 43: 57 + 58. Written: the 14
 ///   octets, 129 and then 130.
 /// - A whole call: the octets that are sent, 76 of `08 21 01 0B 03 00 06 04 00 01 08 01` and 66 of `08 2E 01 0B`: 142
-///   in each turn.
+///   in each iteration.
 /// - A life: ten events that are accepted.
 /// - MEASUREMENT RESULT read: timeslot 3, number 0 and then 1, uplink 0 + 30 + 0, power 0; levels 30 + 30, qualities
 ///   0 + 0, one neighbour, 40 + 2 + 21: 157 + 158. Written: the report's 18 octets, 369, and the message's 34 octets,
@@ -22,63 +21,75 @@ use std::test::Fail;
 ///   23 + 102: 311 + 312. Written: the 27 octets, 428 and then 429.
 /// - HANDOVER REQUIRED read: cause 12, response 1, cell 23 + 102 and then 23 + 103: 138 + 139. Written: the 14 octets,
 ///   230 and then 231.
-const SUMS: [(Work, u64); 12] = [
-    (Work::DecodeActivation, 115),
-    (Work::EncodeActivation, 259),
-    (Work::CallByOctets, 284),
-    (Work::LiveByStep, 20),
-    (Work::DecodeMeasurement, 315),
-    (Work::EncodeMeasurement, 1833),
-    (Work::DecodeCommand, 3617),
-    (Work::EncodeCommand, 1387),
-    (Work::DecodeRequest, 623),
-    (Work::EncodeRequest, 857),
-    (Work::DecodeRequired, 277),
-    (Work::EncodeRequired, 461),
+const SUMS: [(&str, u64); 12] = [
+    ("chan_act.dec", 115),
+    ("chan_act.enc", 259),
+    ("call.octets", 284),
+    ("step.life", 20),
+    ("meas_res.dec", 315),
+    ("meas_res.enc", 1833),
+    ("ho_command.dec", 3617),
+    ("ho_command.enc", 1387),
+    ("ho_request.dec", 623),
+    ("ho_request.enc", 857),
+    ("ho_required.dec", 277),
+    ("ho_required.enc", 461),
 ];
 
-#[test]
-fn each_work_has_its_sum(rt: HostRuntime) -> Result<(), Fail> {
-    for (work, want) in SUMS {
-        assert_eq!(rt; sum_of(rt.alloc(), work, 2, work.octets())?, want, "{work}");
-        assert_eq!(rt; sum_of(rt.alloc(), work, 0, work.octets())?, 0, "{work}");
+/// The case of this name.
+fn case(rt: &impl Abort, name: &str) -> Case {
+    find(&CASES, name).expect(rt, "a case has this name")
+}
+
+fn have_sums<R: Abort + AllocGlobal>(rt: &R, sums: &[(&str, u64)]) {
+    for (name, want) in sums {
+        let case = case(rt, name);
+        assert_eq!(rt;
+            sum_of(rt.alloc(), case, 2, case.octets),
+            Ok(*want),
+            "{name}"
+        );
+        assert_eq!(rt; sum_of(rt.alloc(), case, 0, case.octets), Ok(0), "{name}");
     }
-    Ok(())
 }
 
 #[test]
-fn other_octets_of_the_message(rt: HostRuntime) -> Result<(), Fail> {
+fn each_case_has_its_sum(rt: HostRuntime) {
+    assert_eq!(rt; CASES.len(), SUMS.len());
+    have_sums(&rt, &SUMS);
+}
+
+#[test]
+fn other_octets_of_the_message(rt: HostRuntime) {
     // reference 255 wraps to 0: 3 + 2 + 10 + 255, then 3 + 2 + 10
     let octets = [8, 0x21, 1, 0x0B, 3, 2, 6, 4, 0, 1, 8, 1, 9, 255];
-    assert_eq!(rt;
-        sum_of(rt.alloc(), Work::DecodeActivation, 2, &octets)?,
-        285
-    );
-    Ok(())
+    let activation = case(&rt, "chan_act.dec");
+    assert_eq!(rt; sum_of(rt.alloc(), activation, 2, &octets), Ok(285));
 }
 
-/// The works that read their octets as one message, whether to read it again or to write it.
-const READERS: [Work; 10] = [
-    Work::DecodeActivation,
-    Work::EncodeActivation,
-    Work::DecodeMeasurement,
-    Work::EncodeMeasurement,
-    Work::DecodeCommand,
-    Work::EncodeCommand,
-    Work::DecodeRequest,
-    Work::EncodeRequest,
-    Work::DecodeRequired,
-    Work::EncodeRequired,
+/// The cases that read their octets as one message, whether to read it again or to write it.
+const READERS: [&str; 10] = [
+    "chan_act.dec",
+    "chan_act.enc",
+    "meas_res.dec",
+    "meas_res.enc",
+    "ho_command.dec",
+    "ho_command.enc",
+    "ho_request.dec",
+    "ho_request.enc",
+    "ho_required.dec",
+    "ho_required.enc",
 ];
 
-/// Each of these works refuses these octets.
-fn refuse<R: Abort + AllocGlobal>(rt: &R, works: &[Work], octets: &[u8]) {
-    for work in works {
-        assert_eq!(rt;
-            sum_of(rt.alloc(), *work, 1, octets),
-            Err(Fault::Words),
-            "{work}"
-        );
+const REQUEST: [&str; 2] = ["ho_request.dec", "ho_request.enc"];
+
+const REQUIRED: [&str; 2] = ["ho_required.dec", "ho_required.enc"];
+
+/// Each of these cases refuses these octets.
+fn refuse<R: Abort + AllocGlobal>(rt: &R, names: &[&str], octets: &[u8]) {
+    for name in names {
+        let sum = sum_of(rt.alloc(), case(rt, name), 1, octets);
+        assert_eq!(rt; sum, Err(Fault::Words), "{name}");
     }
 }
 
@@ -87,72 +98,81 @@ fn octets_of_no_such_message(rt: HostRuntime) {
     refuse(&rt, &READERS, &[8, 0x2E, 1, 0x0B]);
     refuse(&rt, &READERS, &[6, 0x2C, 0]);
     refuse(&rt, &READERS, &[]);
-    refuse(&rt, &[Work::CallByOctets], &[]);
+    refuse(&rt, &["call.octets"], &[]);
+    refuse(&rt, &REQUEST, case(&rt, "ho_required.dec").octets);
+    refuse(&rt, &REQUIRED, case(&rt, "ho_request.dec").octets);
 }
 
-#[test]
-fn octets_of_the_other_message_on_a(rt: HostRuntime) {
-    let request = [Work::DecodeRequest, Work::EncodeRequest];
-    let required = [Work::DecodeRequired, Work::EncodeRequired];
-    refuse(&rt, &request, Work::DecodeRequired.octets());
-    refuse(&rt, &required, Work::DecodeRequest.octets());
-}
+/// Words that ask for nothing.
+const WRONG: [&[&str]; 9] = [
+    &[],
+    &["all"],
+    &["chan_act"],
+    &["chan_act.dec"],
+    &["chan_act.de", "1"],
+    &["all", "-1"],
+    &["all", "2", "00"],
+    &["chan_act.dec", "1", "0"],
+    &["chan_act.dec", "1", "00", "00"],
+];
 
-#[test]
-fn words_that_ask_for_nothing(rt: HostRuntime) {
-    let wrong: [&[&str]; 9] = [
-        &[],
-        &["all"],
-        &["chan_act"],
-        &["chan_act.dec"],
-        &["chan_act.de", "1"],
-        &["all", "-1"],
-        &["all", "2", "00"],
-        &["chan_act.dec", "1", "0"],
-        &["chan_act.dec", "1", "00", "00"],
-    ];
-    for words in wrong {
-        assert!(rt;
-            matches!(read_words(rt.alloc(), words), Err(Fault::Words)),
-            "{words:?}"
-        );
+fn ask_for_nothing<R: Abort + AllocGlobal>(rt: &R, table: &[&[&str]]) {
+    for words in table {
+        let fault = read_words(rt.alloc(), words).err();
+        assert_eq!(rt; fault, Some(Fault::Words), "{words:?}");
     }
 }
 
 #[test]
-fn words_that_ask_for_work(rt: HostRuntime) -> Result<(), Fail> {
-    assert!(rt;
-        matches!(
-            read_words(rt.alloc(), &["all", "7"])?,
-            Job::All { count: 7 }
-        )
+fn words_that_ask_for_nothing(rt: HostRuntime) {
+    ask_for_nothing(&rt, &WRONG);
+}
+
+/// The name of the case that these words ask for, or `all`, and the count; the case is asked for on these octets.
+fn asked<R: Abort + AllocGlobal>(
+    rt: &R,
+    words: &[&str],
+    want: &[u8],
+) -> Result<(&'static str, u64), Fault> {
+    Ok(match read_words(rt.alloc(), words)? {
+        Job::One {
+            case,
+            count,
+            octets,
+        } => {
+            assert_eq!(rt; octets.as_slice(), want);
+            (case.name, count)
+        }
+        Job::All { count } => ("all", count),
+    })
+}
+
+#[test]
+fn words_that_ask_for_cases(rt: HostRuntime) {
+    assert_eq!(rt; asked(&rt, &["all", "7"], &[]), Ok(("all", 7)));
+    assert_eq!(rt;
+        asked(&rt, &["ho_command.enc", "3", "062B"], &[6, 0x2B]),
+        Ok(("ho_command.enc", 3))
     );
-    let job = read_words(rt.alloc(), &["ho_command.enc", "3", "062B"])?;
-    assert!(rt;
-        matches!(
-            job,
-            Job::One {
-                work: Work::EncodeCommand,
-                count: 3,
-                ..
-            }
-        )
+    assert_eq!(rt;
+        asked(
+            &rt,
+            &["ho_command.dec", "4"],
+            case(&rt, "ho_command.dec").octets
+        ),
+        Ok(("ho_command.dec", 4))
     );
-    let Job::One { octets, .. } = job else {
-        return Ok(());
-    };
-    assert_eq!(rt; octets.as_slice(), [6, 0x2B].as_slice());
-    Ok(())
 }
 
 #[test]
 fn statuses(rt: HostRuntime) {
-    for (fault, status) in [
+    let statuses = [
         (Fault::Words, 2),
         (Fault::NoMemory, 3),
         (Fault::Output, 2),
         (Fault::Setting, 1),
-    ] {
+    ];
+    for (fault, status) in statuses {
         assert_eq!(rt; fault.status(), status, "{fault}");
     }
 }

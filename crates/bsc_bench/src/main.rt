@@ -1,27 +1,27 @@
-//! `bsc_bench` repeats a work, so that its instructions can be counted.
+//! `bsc_bench` repeats a case, so that its instructions can be counted.
 //!
-//! `bsc_bench NAME N [OCTETS]` does the work `NAME` `N` times on octets in hexadecimal, or on the work's own, and
-//! prints the name, the count and what the results add up to. What is read gets another octet in each turn,
-//! what is written is one of two messages by turns. `bsc_bench all N` does every work so, on its own octets.
+//! `bsc_bench NAME N [OCTETS]` does the case `NAME` `N` times on octets in hexadecimal, or on the case's own, and
+//! prints the name, the count and what the results add up to. What is read gets another octet in each iteration,
+//! what is written is one of two messages alternately. `bsc_bench all N` does every case so, on its own octets.
 #![tactic(auto)]
 
+use bench_cases::case::{CASES, Case};
 use bench_cases::fault::Fault;
 use bench_cases::sum_of;
 use bench_cases::words::{Job, read_words};
-use bench_cases::work::Work;
 use std::env::{self, Env};
 use std::io;
 use std::process::ExitCode;
 
-/// Does a work and prints its line.
+/// Does a case and prints its line.
 fn show<R: Print + AllocGlobal>(
     rt: &R,
-    work: Work,
+    case: Case,
     count: u64,
     octets: &[u8],
 ) -> Result<(), Fault> {
-    let sum = sum_of(rt.alloc(), work, count, octets)?;
-    println!(rt; "{work} {count} {sum}")?;
+    let sum = sum_of(rt.alloc(), case, count, octets)?;
+    println!(rt; "{case} {count} {sum}")?;
     Ok(())
 }
 
@@ -45,13 +45,13 @@ fn start<R: Print + Env + AllocGlobal>(rt: &R) -> Result<(), Fault> {
         .collect(alloc)?;
     match read_words(alloc, &words)? {
         Job::One {
-            work,
+            case,
             count,
             octets,
-        } => show(rt, work, count, octets.as_slice())?,
+        } => show(rt, case, count, octets.as_slice())?,
         Job::All { count } => {
-            for work in Work::ALL {
-                show(rt, work, count, work.octets())?;
+            for case in CASES {
+                show(rt, case, count, case.octets)?;
             }
         }
     }

@@ -124,18 +124,20 @@ fn take_ncell(bits: &mut BitReader) -> Ncell
     }
 }
 
-pub(crate) fn take_ncells(bits: &mut BitReader, used: usize) -> [Ncell; 6]
+// It isn't inlined: else its loop is unrolled, and each place is kept apart until all are known.
+#[inline(never)]
+pub(crate) fn take_ncells(mut bits: BitReader, used: usize) -> [Ncell; 6]
     requires few { used ≤ 6 }
-    requires enough { 17 * used ≤ length bits.old }
+    requires enough { 17 * used ≤ length bits }
     ensures numbers { flat_map ncell_numbers (take used result) ≡
-        cut (repeated_widths used ncell_widths) bits.old }
+        cut (repeated_widths used ncell_widths) bits }
     ensures fits { All NcellFits (take used result) }
     ensures others { drop used result ≡ replicate (6 - used) no_ncell }
     ensures six { length result ≡ 6 }
 {
     let mut places = [NO_NCELL; 6];
     for i in 0..used {
-        places[i] = take_ncell(bits);
+        places[i] = take_ncell(&mut bits);
     }
     places
 }

@@ -102,7 +102,7 @@ impl MeasResults {
             return Err(ElementFault::Length);
         };
         let head = take_head(&mut bits);
-        let places = take_ncells(&mut bits, head.used());
+        let places = take_ncells(bits, head.used());
         Ok(MeasResults { head, places })
     }
 }

@@ -2,7 +2,7 @@ use refusing_heap::RefusingHeap;
 use rr_elements::{
     CellDescription, ChanDescription, ElementFault, MeasHead, MeasResults, Ncell, Power, RrCause,
 };
-use std::alloc::Global;
+use std::alloc::{AllocError, Allocator, Global};
 use std::process::Abort;
 use std::test::Fail;
 
@@ -40,159 +40,223 @@ const FIVE: [u8; 16] = [
     0x97, 0x96, 0xD7, 0x41, 0x19, 0x05, 0x8A, 0x39, 0x02, 0x29, 0x14, 0x73, 0x12, 0x32, 0x00, 0x00,
 ];
 
-#[test]
-fn reads_and_writes_a_cell(rt: HostRuntime) -> Result<(), Fail> {
-    let table = [
-        ([0xD5, 0x67], 871, 2, 5),
-        ([0x18, 0x3E], 62, 3, 0),
-        ([0x09, 0x3C], 60, 1, 1),
-        ([0xFF, 0xFF], 1023, 7, 7),
-        ([0x40, 0x00], 256, 0, 0),
-        ([0x07, 0x00], 0, 0, 7),
-    ];
+/// An element, whichever it is.
+#[derive(Clone, Copy)]
+enum Element {
+    Cell(CellDescription),
+    Channel(ChanDescription),
+    Power(Power),
+    Cause(RrCause),
+    Results(MeasResults),
+}
+
+fn write<A: Allocator + Copy>(element: &Element, out: &mut Vec<u8, A>) -> Result<(), AllocError> {
+    match element {
+        Element::Cell(cell) => cell.encode_into(out),
+        Element::Channel(channel) => channel.encode_into(out),
+        Element::Power(power) => power.encode_into(out),
+        Element::Cause(cause) => cause.encode_into(out),
+        Element::Results(results) => results.encode_into(out),
+    }
+}
+
+/// The element is written as these octets.
+fn is_written<R: Abort + AllocGlobal>(rt: &R, element: Element, octets: &[u8]) {
+    let mut out = Vec::new(rt.alloc());
+    assert!(rt; write(&element, &mut out).is_ok());
+    assert_eq!(rt; out.as_slice(), octets);
+}
+
+const CELLS: [([u8; 2], u16, u8, u8); 6] = [
+    ([0xD5, 0x67], 871, 2, 5),
+    ([0x18, 0x3E], 62, 3, 0),
+    ([0x09, 0x3C], 60, 1, 1),
+    ([0xFF, 0xFF], 1023, 7, 7),
+    ([0x40, 0x00], 256, 0, 0),
+    ([0x07, 0x00], 0, 0, 7),
+];
+
+fn cells<R: Abort + AllocGlobal>(rt: &R, table: &[([u8; 2], u16, u8, u8)]) {
     for (octets, arfcn, ncc, bcc) in table {
-        let cell = CellDescription::decode(&octets)?;
-        assert_eq!(rt; cell, CellDescription::new(arfcn, ncc, bcc)?);
-        assert_eq!(rt; (cell.arfcn(), cell.ncc(), cell.bcc()), (arfcn, ncc, bcc));
-        let mut out = Vec::new(rt.alloc());
-        cell.encode_into(&mut out)?;
-        assert_eq!(rt; out.as_slice(), octets.as_slice());
-    }
-    Ok(())
-}
-
-#[test]
-fn reads_and_writes_a_channel(rt: HostRuntime) -> Result<(), Fail> {
-    let table = [
-        ([0x0B, 0xA3, 0x6B], 3, 5, 875),
-        ([0x09, 0x00, 0x3E], 1, 0, 62),
-        ([0x0F, 0xE3, 0xFF], 7, 7, 1023),
-        ([0x08, 0x22, 0x00], 0, 1, 512),
-    ];
-    for (octets, tn, tsc, carrier) in table {
-        let channel = ChanDescription::decode(&octets)?;
-        assert_eq!(rt; channel, ChanDescription::new(tn, tsc, carrier)?);
-        assert_eq!(rt;
-            (channel.tn(), channel.tsc(), channel.carrier()),
-            (tn, tsc, carrier)
+        let cell = CellDescription::decode(octets).expect(rt, "octets of a cell");
+        assert!(rt;
+            CellDescription::new(*arfcn, *ncc, *bcc) == Ok(cell),
+            "{arfcn}"
         );
-        let mut out = Vec::new(rt.alloc());
-        channel.encode_into(&mut out)?;
-        assert_eq!(rt; out.as_slice(), octets.as_slice());
+        assert!(rt;
+            cell.arfcn() == *arfcn && cell.ncc() == *ncc && cell.bcc() == *bcc,
+            "{arfcn}"
+        );
+        is_written(rt, Element::Cell(cell), octets);
     }
+}
+
+#[test]
+fn reads_and_writes_a_cell(rt: HostRuntime) {
+    cells(&rt, &CELLS);
+}
+
+const CHANNELS: [([u8; 3], u8, u8, u16); 4] = [
+    ([0x0B, 0xA3, 0x6B], 3, 5, 875),
+    ([0x09, 0x00, 0x3E], 1, 0, 62),
+    ([0x0F, 0xE3, 0xFF], 7, 7, 1023),
+    ([0x08, 0x22, 0x00], 0, 1, 512),
+];
+
+fn channels<R: Abort + AllocGlobal>(rt: &R, table: &[([u8; 3], u8, u8, u16)]) {
+    for (octets, tn, tsc, carrier) in table {
+        let channel = ChanDescription::decode(octets).expect(rt, "octets of a channel");
+        assert!(rt;
+            ChanDescription::new(*tn, *tsc, *carrier) == Ok(channel),
+            "{carrier}"
+        );
+        assert!(rt; channel.tn() == *tn && channel.tsc() == *tsc, "{carrier}");
+        assert!(rt; channel.carrier() == *carrier, "{carrier}");
+        is_written(rt, Element::Channel(channel), octets);
+    }
+}
+
+#[test]
+fn reads_and_writes_a_channel(rt: HostRuntime) {
     // Spare bits are ignored.
-    assert_eq!(rt;
-        ChanDescription::decode(&[0x0B, 0xAF, 0x6B])?,
-        ChanDescription::new(3, 5, 875)?
-    );
-    Ok(())
+    let spare = ChanDescription::decode(&[0x0B, 0xAF, 0x6B]);
+    assert!(rt; spare == ChanDescription::new(3, 5, 875));
+    channels(&rt, &CHANNELS);
+}
+
+fn powers<R: Abort + AllocGlobal>(rt: &R, table: &[(u8, bool, u8)]) {
+    for (octet, atc, level) in table {
+        let power = Power::decode(&[*octet]).expect(rt, "an octet of power");
+        assert!(rt; Power::new(*atc, *level) == Ok(power), "{octet}");
+        assert!(rt; power.atc() == *atc && power.level() == *level, "{octet}");
+        is_written(rt, Element::Power(power), &[*octet]);
+    }
 }
 
 #[test]
-fn reads_and_writes_power(rt: HostRuntime) -> Result<(), Fail> {
-    for (octet, atc, level) in [(0x05, false, 5), (0x80, true, 0), (0x9F, true, 31)] {
-        let power = Power::decode(&[octet])?;
-        assert_eq!(rt; power, Power::new(atc, level)?);
-        assert_eq!(rt; (power.atc(), power.level()), (atc, level));
-        let mut out = Vec::new(rt.alloc());
-        power.encode_into(&mut out)?;
-        assert_eq!(rt; out.as_slice(), [octet].as_slice());
-    }
+fn reads_and_writes_power(rt: HostRuntime) {
     // Bits 7 and 6 are ignored.
-    assert_eq!(rt; Power::decode(&[0x65])?, Power::new(false, 5)?);
-    Ok(())
+    assert!(rt; Power::decode(&[0x65]) == Power::new(false, 5));
+    powers(&rt, &[(0x05, false, 5), (0x80, true, 0), (0x9F, true, 31)]);
 }
 
-#[test]
-fn reads_and_writes_causes(rt: HostRuntime) -> Result<(), Fail> {
-    for octet in [0, 1, 3, 8, 9, 10, 255] {
-        let cause = RrCause::decode(&[octet])?;
-        assert_eq!(rt; cause, RrCause::new(octet)?);
-        assert_eq!(rt; (cause, cause.value()), (RrCause(octet), octet));
-        let mut out = Vec::new(rt.alloc());
-        cause.encode_into(&mut out)?;
-        assert_eq!(rt; out.as_slice(), [octet].as_slice());
+fn causes<R: Abort + AllocGlobal>(rt: &R, octets: &[u8]) {
+    for octet in octets {
+        let cause = RrCause(*octet);
+        assert!(rt; RrCause::decode(&[*octet]) == Ok(cause), "{octet}");
+        assert!(rt;
+            RrCause::new(*octet) == Ok(cause) && cause.value() == *octet,
+            "{octet}"
+        );
+        is_written(rt, Element::Cause(cause), &[*octet]);
     }
-    Ok(())
 }
 
 #[test]
-fn reads_and_writes_results(rt: HostRuntime) -> Result<(), Fail> {
-    let results = MeasResults::decode(&ONE)?;
-    assert_eq!(rt; results, MeasResults::new(HEAD, &[NEIGHBOUR])?);
-    assert_eq!(rt; results.head(), HEAD);
-    assert_eq!(rt; results.neighbours(), [NEIGHBOUR].as_slice());
+fn reads_and_writes_causes(rt: HostRuntime) {
+    causes(&rt, &[0, 1, 3, 8, 9, 10, 255]);
+}
+
+/// These octets are read as this head and these neighbours, and written as the last ones.
+fn results<R: Abort + AllocGlobal>(
+    rt: &R,
+    octets: &[u8; 16],
+    head: MeasHead,
+    neighbours: &[Ncell],
+    written: &[u8; 16],
+) {
+    let results = MeasResults::decode(octets).expect(rt, "octets of results");
+    assert!(rt; MeasResults::new(head, neighbours) == Ok(results));
+    assert!(rt; results.head() == head && results.neighbours() == neighbours);
+    is_written(rt, Element::Results(results), written);
+}
+
+#[test]
+fn reads_and_writes_results(rt: HostRuntime) {
     assert!(rt; NEIGHBOUR.fits() && HEAD.fits());
-    let mut out = Vec::new(rt.alloc());
-    results.encode_into(&mut out)?;
-    assert_eq!(rt; out.as_slice(), ONE.as_slice());
-
-    // A count of 7 says that there is no neighbour; what stands in the places is ignored.
-    let mut none = ONE;
-    none[2] = 0x01;
-    none[3] = 0xE8;
-    let results = MeasResults::decode(&none)?;
-    assert_eq!(rt; (results.head().count, results.neighbours().len()), (7, 0));
-    let mut out = Vec::new(rt.alloc());
-    results.encode_into(&mut out)?;
-    none[3] = 0xC0;
-    none[4] = 0;
-    none[5] = 0;
-    assert_eq!(rt; out.as_slice(), none.as_slice());
-    Ok(())
+    results(&rt, &ONE, HEAD, &[NEIGHBOUR], &ONE);
 }
 
+/// One neighbour's octets with a count of 7: it says that there is none, and what stands in the places is ignored.
+const SEVEN: [u8; 16] = [
+    0x1E, 0x1E, 0x01, 0xE8, 0x12, 0xA0, 0, 0, 0, 0, 0, 0, 0, 0, 0, 0,
+];
+
+/// What is written then.
+const NONE: [u8; 16] = [0x1E, 0x1E, 0x01, 0xC0, 0, 0, 0, 0, 0, 0, 0, 0, 0, 0, 0, 0];
+
 #[test]
-fn reads_each_field_of_results(rt: HostRuntime) -> Result<(), Fail> {
-    let results = MeasResults::decode(&SIX)?;
-    let head = MeasHead {
-        ba: true,
-        dtx: false,
-        full: 23,
-        ba3g: true,
-        valid: true,
-        sub: 22,
-        si23: true,
-        qfull: 5,
-        qsub: 3,
-        count: 6,
-    };
-    assert_eq!(rt; results.head(), head);
-    let neighbours = [
-        (1, 3, 8),
-        (11, 2, 35),
-        (36, 1, 5),
-        (8, 20, 28),
-        (49, 4, 25),
-        (63, 31, 62),
-    ];
-    assert_eq!(rt; results.neighbours().len(), 6);
-    for (found, (level, position, bsic)) in results.neighbours().iter().zip(neighbours) {
-        let want = Ncell {
-            level,
-            position,
-            bsic,
+fn with_a_count_of_seven_there_is_no_neighbour(rt: HostRuntime) {
+    results(&rt, &SEVEN, MeasHead { count: 7, ..HEAD }, &[], &NONE);
+}
+
+const SIX_HEAD: MeasHead = MeasHead {
+    ba: true,
+    dtx: false,
+    full: 23,
+    ba3g: true,
+    valid: true,
+    sub: 22,
+    si23: true,
+    qfull: 5,
+    qsub: 3,
+    count: 6,
+};
+
+/// Level, position and code of the six.
+const FIELDS: [(u8, u8, u8); 6] = [
+    (1, 3, 8),
+    (11, 2, 35),
+    (36, 1, 5),
+    (8, 20, 28),
+    (49, 4, 25),
+    (63, 31, 62),
+];
+
+/// The neighbours with these fields; those that are left over are as the one of `ONE`.
+fn neighbours(fields: &[(u8, u8, u8)]) -> [Ncell; 6] {
+    let mut neighbours = [NEIGHBOUR; 6];
+    for (place, (level, position, bsic)) in neighbours.iter_mut().zip(fields) {
+        *place = Ncell {
+            level: *level,
+            position: *position,
+            bsic: *bsic,
         };
-        assert_eq!(rt; *found, want);
     }
-    let mut out = Vec::new(rt.alloc());
-    results.encode_into(&mut out)?;
-    assert_eq!(rt; out.as_slice(), SIX.as_slice());
-    Ok(())
+    neighbours
 }
 
 #[test]
-fn with_a_count_of_five_the_sixth_place_is_ignored_and_written_0(
-    rt: HostRuntime,
-) -> Result<(), Fail> {
+fn reads_each_field_of_results(rt: HostRuntime) {
+    results(&rt, &SIX, SIX_HEAD, &neighbours(&FIELDS), &SIX);
+}
+
+#[test]
+fn with_a_count_of_five_the_sixth_place_is_ignored_and_written_0(rt: HostRuntime) {
     let mut five = SIX;
     five[3] = FIVE[3];
-    let results = MeasResults::decode(&five)?;
-    assert_eq!(rt; results.neighbours().len(), 5);
-    let mut out = Vec::new(rt.alloc());
-    results.encode_into(&mut out)?;
-    assert_eq!(rt; out.as_slice(), FIVE.as_slice());
-    Ok(())
+    let head = MeasHead {
+        count: 5,
+        ..SIX_HEAD
+    };
+    results(&rt, &five, head, &neighbours(&FIELDS)[..5], &FIVE);
+}
+
+/// Each element is refused that has another number of octets.
+fn refuse_other_lengths(rt: &impl Abort, octets: &[u8; 18]) {
+    let length = Some(ElementFault::Length);
+    for len in 0..18 {
+        let octets = &octets[..len];
+        let refused = [
+            CellDescription::decode(octets).err() == length,
+            ChanDescription::decode(octets).err() == length,
+            Power::decode(octets).err() == length,
+            RrCause::decode(octets).err() == length,
+            MeasResults::decode(octets).err() == length,
+        ];
+        let other = [len != 2, len != 3, len != 1, len != 1, len != 16];
+        assert!(rt; refused == other, "{len}");
+    }
 }
 
 #[test]
@@ -200,58 +264,50 @@ fn refuses_octets_of_another_length(rt: HostRuntime) {
     let octets = [
         0x0B, 0xA3, 0x6B, 0, 0, 0, 0, 0, 0, 0, 0, 0, 0, 0, 0, 0, 0, 0,
     ];
-    for len in 0..18 {
-        let octets = &octets[..len];
-        let short = Some(ElementFault::Length);
-        assert_eq!(rt;
-            CellDescription::decode(octets).err() == short,
-            len != 2,
-            "{len}"
-        );
-        assert_eq!(rt;
-            ChanDescription::decode(octets).err() == short,
-            len != 3,
-            "{len}"
-        );
-        assert_eq!(rt; Power::decode(octets).err() == short, len != 1, "{len}");
-        assert_eq!(rt; RrCause::decode(octets).err() == short, len != 1, "{len}");
-        assert_eq!(rt;
-            MeasResults::decode(octets).err() == short,
-            len != 16,
-            "{len}"
-        );
+    refuse_other_lengths(&rt, &octets);
+}
+
+// TCH/H, SDCCH/8, another type that hops too, and TCH/F that hops.
+const OTHER_CHANNELS: [([u8; 3], ElementFault); 4] = [
+    ([0x13, 0xA3, 0x6B], ElementFault::BadType),
+    ([0x43, 0xA3, 0x6B], ElementFault::BadType),
+    ([0x13, 0xB3, 0x6B], ElementFault::BadType),
+    ([0x0B, 0xB3, 0x6B], ElementFault::Hopping),
+];
+
+fn refuse_channels(rt: &impl Abort, table: &[([u8; 3], ElementFault)]) {
+    for (octets, fault) in table {
+        assert_eq!(rt; ChanDescription::decode(octets), Err(*fault));
     }
 }
 
 #[test]
 fn refuses_other_channels(rt: HostRuntime) {
-    // TCH/H, SDCCH/8, another type that hops too, and TCH/F that hops.
-    let table = [
-        ([0x13, 0xA3, 0x6B], ElementFault::BadType),
-        ([0x43, 0xA3, 0x6B], ElementFault::BadType),
-        ([0x13, 0xB3, 0x6B], ElementFault::BadType),
-        ([0x0B, 0xB3, 0x6B], ElementFault::Hopping),
-    ];
-    for (octets, fault) in table {
-        assert_eq!(rt; ChanDescription::decode(&octets), Err(fault));
-    }
+    refuse_channels(&rt, &OTHER_CHANNELS);
 }
 
 const BAD: Option<ElementFault> = Some(ElementFault::BadRange);
 
 #[test]
 fn refuses_cells_that_do_not_fit(rt: HostRuntime) {
-    for (arfcn, ncc, bcc) in [(1024, 7, 7), (1023, 8, 7), (1023, 7, 8)] {
-        assert_eq!(rt; CellDescription::new(arfcn, ncc, bcc).err(), BAD);
-    }
+    assert_eq!(rt; CellDescription::new(1024, 7, 7).err(), BAD);
+    assert_eq!(rt; CellDescription::new(1023, 8, 7).err(), BAD);
+    assert_eq!(rt; CellDescription::new(1023, 7, 8).err(), BAD);
 }
 
 #[test]
 fn refuses_channels_that_do_not_fit(rt: HostRuntime) {
-    for (tn, tsc, carrier) in [(8, 7, 1023), (7, 8, 1023), (7, 7, 1024)] {
-        assert_eq!(rt; ChanDescription::new(tn, tsc, carrier).err(), BAD);
-    }
+    assert_eq!(rt; ChanDescription::new(8, 7, 1023).err(), BAD);
+    assert_eq!(rt; ChanDescription::new(7, 8, 1023).err(), BAD);
+    assert_eq!(rt; ChanDescription::new(7, 7, 1024).err(), BAD);
     assert_eq!(rt; Power::new(true, 32).err(), BAD);
+}
+
+fn refuse_heads(rt: &impl Abort, heads: &[MeasHead]) {
+    for head in heads {
+        let fault = MeasResults::new(*head, &[NEIGHBOUR]).err();
+        assert_eq!(rt; fault, BAD, "{}", head.count);
+    }
 }
 
 #[test]
@@ -266,19 +322,19 @@ fn refuses_heads_that_do_not_fit(rt: HostRuntime) {
         MeasHead { count: 2, ..HEAD },
         MeasHead { count: 7, ..HEAD },
     ];
-    for head in heads {
-        assert_eq!(rt;
-            MeasResults::new(head, &[NEIGHBOUR]).err(),
-            BAD,
-            "{}",
-            head.count
-        );
+    refuse_heads(&rt, &heads);
+}
+
+fn refuse_neighbours(rt: &impl Abort, neighbours: &[Ncell]) {
+    for neighbour in neighbours {
+        assert_eq!(rt; MeasResults::new(HEAD, &[*neighbour]).err(), BAD);
+        assert!(rt; !neighbour.fits());
     }
 }
 
 #[test]
 fn refuses_neighbours_that_do_not_fit(rt: HostRuntime) {
-    let cells = [
+    let neighbours = [
         Ncell {
             level: 64,
             ..NEIGHBOUR
@@ -292,77 +348,101 @@ fn refuses_neighbours_that_do_not_fit(rt: HostRuntime) {
             ..NEIGHBOUR
         },
     ];
-    for cell in cells {
-        assert_eq!(rt; MeasResults::new(HEAD, &[cell]).err(), BAD);
-        assert!(rt; !cell.fits());
-    }
+    refuse_neighbours(&rt, &neighbours);
+}
+
+/// Whether results with this count have so many neighbours.
+fn have(count: u8, neighbours: &[Ncell]) -> bool {
+    MeasResults::new(MeasHead { count, ..HEAD }, neighbours).is_ok()
 }
 
 #[test]
 fn results_have_as_many_neighbours_as_the_count_says(rt: HostRuntime) {
-    assert_eq!(rt;
-        MeasResults::new(MeasHead { count: 5, ..HEAD }, &[NEIGHBOUR; 6]).err(),
-        BAD
-    );
-    assert!(rt; MeasResults::new(MeasHead { count: 6, ..HEAD }, &[NEIGHBOUR; 6]).is_ok());
-    assert!(rt; MeasResults::new(MeasHead { count: 0, ..HEAD }, &[]).is_ok());
-    assert!(rt; MeasResults::new(MeasHead { count: 7, ..HEAD }, &[]).is_ok());
+    assert!(rt; !have(5, &[NEIGHBOUR; 6]));
+    assert!(rt; have(6, &[NEIGHBOUR; 6]) && have(0, &[]) && have(7, &[]));
+}
+
+/// One of each element.
+fn one_of_each() -> Result<[Element; 5], ElementFault> {
+    Ok([
+        Element::Cell(CellDescription::new(871, 2, 5)?),
+        Element::Channel(ChanDescription::new(3, 5, 875)?),
+        Element::Power(Power::new(false, 5)?),
+        Element::Cause(RrCause(8)),
+        Element::Results(MeasResults::new(HEAD, &[NEIGHBOUR])?),
+    ])
 }
 
 // One element after the other over a heap that refuses a request: each says whether memory was refused, and leaves
 // the list as it was where it was.
-fn write_all(rt: &impl Abort, heap: &RefusingHeap<Global>) -> Result<(), Fail> {
+fn write_all(rt: &impl Abort, heap: &RefusingHeap<Global>, elements: &[Element]) {
     let mut out = Vec::new(heap);
-    let cell = CellDescription::new(871, 2, 5)?;
-    let channel = ChanDescription::new(3, 5, 875)?;
-    let power = Power::new(false, 5)?;
-    let results = MeasResults::new(HEAD, &[NEIGHBOUR])?;
-    for element in 0..5 {
+    for element in elements {
         let (refused, len) = (heap.refused(), out.len());
-        let answer = match element {
-            0 => cell.encode_into(&mut out),
-            1 => channel.encode_into(&mut out),
-            2 => power.encode_into(&mut out),
-            3 => RrCause(8).encode_into(&mut out),
-            _ => results.encode_into(&mut out),
-        };
-        assert_eq!(rt;
-            answer.is_err(),
-            refused < heap.refused(),
-            "element {element}"
-        );
-        if answer.is_err() {
-            assert_eq!(rt; out.len(), len, "element {element}");
-        }
+        let failed = write(element, &mut out).is_err();
+        assert!(rt; failed == (refused < heap.refused()), "after {len} octets");
+        assert!(rt; !failed || out.len() == len, "after {len} octets");
     }
-    Ok(())
 }
 
-#[test]
-fn answers_each_refusal(rt: HostRuntime) -> Result<(), Fail> {
+fn refusals(rt: &(impl AllocGlobal + Abort), elements: &[Element]) -> u64 {
     let mut refused = 0u64;
     for n in 1..100 {
         let heap = RefusingHeap::refusing_nth(rt.alloc(), n);
-        write_all(&rt, &heap)?;
+        write_all(rt, &heap, elements);
         if !heap.was_refused() {
             break;
         }
         refused = refused.saturating_add(1);
     }
+    refused
+}
+
+#[test]
+fn answers_each_refusal(rt: HostRuntime) -> Result<(), Fail> {
+    let refused = refusals(&rt, &one_of_each()?);
     assert!(rt; 1 < refused && refused < 99, "{refused} requests");
     Ok(())
 }
 
+// The elements, of 23 octets together, in a list that has room for all and one octet more: its room stays.
+fn keep_room(rt: &impl Abort, elements: &[Element], out: &mut Vec<u8, &RefusingHeap<Global>>) {
+    for element in elements {
+        assert!(rt; write(element, out).is_ok());
+        assert!(rt; out.capacity() == 47);
+    }
+}
+
+// They are written twice over, and nothing is asked for.
+fn write_in_room(rt: &impl Abort, heap: &RefusingHeap<Global>, elements: &[Element]) {
+    let mut out = Vec::with_capacity(heap, 47).expect(rt, "memory is ample");
+    heap.refuse_from_now();
+    keep_room(rt, elements, &mut out);
+    keep_room(rt, elements, &mut out);
+    assert!(rt; out.len() == 46 && !heap.was_refused());
+}
+
 #[test]
-fn faults_have_texts(rt: HostRuntime) -> Result<(), Fail> {
-    let table = [
-        (ElementFault::Length, "the element has another length"),
-        (ElementFault::BadType, "the channel is not TCH/F"),
-        (ElementFault::Hopping, "the channel hops"),
-        (ElementFault::BadRange, "a field does not fit its bits"),
-    ];
+fn keeps_the_room_of_a_list(rt: HostRuntime) -> Result<(), Fail> {
+    write_in_room(&rt, &RefusingHeap::ample(rt.alloc()), &one_of_each()?);
+    Ok(())
+}
+
+fn have_texts<R: Abort + AllocGlobal>(rt: &R, table: &[(ElementFault, &str)]) -> Result<(), Fail> {
     for (fault, text) in table {
-        assert_eq!(rt; format!(in rt.alloc(); "{fault}")?.as_str(), text);
+        assert_eq!(rt; format!(in rt.alloc(); "{fault}")?.as_str(), *text);
     }
     Ok(())
+}
+
+const FAULTS: [(ElementFault, &str); 4] = [
+    (ElementFault::Length, "the element has another length"),
+    (ElementFault::BadType, "the channel is not TCH/F"),
+    (ElementFault::Hopping, "the channel hops"),
+    (ElementFault::BadRange, "a field does not fit its bits"),
+];
+
+#[test]
+fn faults_have_texts(rt: HostRuntime) -> Result<(), Fail> {
+    have_texts(&rt, &FAULTS)
 }

@@ -1,9 +1,10 @@
 //! Octets as messages.
 ghost use Rattle.std.specs.Prelude.{◌≡◌, ◌∷◌, ◌<◌, ◌≤◌, IfOk, IfErr, length, take};
+ghost use Rattle.rr_elements.specs.MeasResults.{IsResultsText};
 ghost use Rattle.rr_elements.specs.RrCause.{IsCauseText};
 ghost use Rattle.rr_messages.specs.Kind.{type_of, part_len};
 ghost use Rattle.rr_messages.specs.Rr.{IsRrText, HasRrFault, radio_resources};
-ghost use Rattle.rr_messages.specs.declared.kind.Kind.TheVariants.{HandoverCommand as CommandKind, MeasurementReport as ReportKind};
+ghost use Rattle.rr_messages.specs.declared.kind.Kind.TheVariants.{HandoverCommand as CommandKind};
 
 use crate::fault::RrFault;
 use crate::kind::Kind;
@@ -56,15 +57,15 @@ fn command(body: &[u8]) -> Result<Rr, RrFault>
     })
 }
 
-// It isn't inlined: else the fields of each message are moved as if it had those of results too.
+// The results that are the mandatory part of a report. It isn't inlined: else the fields of each message are moved as
+// if it had those of results too.
 #[inline(never)]
-fn report(body: &[u8]) -> Result<Rr, RrFault>
-    ensures text { IfOk result
-        (λ v. IsRrText v (radio_resources ∷ type_of ReportKind ∷ body.now)) }
-    ensures fault { IfErr result (HasRrFault (radio_resources ∷ type_of ReportKind ∷ body.now)) }
+fn results(body: &[u8]) -> Result<MeasResults, RrFault>
+    ensures part { IfOk result (λ v. IsResultsText v (take 16 body.now)) }
+    ensures long { IfOk result (λ _. 16 ≤ length body.now) }
+    ensures fault { IfErr result (λ f. (f ≡ RrFault.Short) × (length body.now < 16)) }
 {
-    let part = part(Kind::MeasurementReport, body)?;
-    Ok(Rr::MeasurementReport(MeasResults::decode(part)?))
+    Ok(MeasResults::decode(part(Kind::MeasurementReport, body)?)?)
 }
 
 // The message of this type. Each mandatory part is cut where its type is known, so that its length is too.
@@ -74,7 +75,7 @@ fn message(kind: Kind, body: &[u8]) -> Result<Rr, RrFault>
 {
     match kind {
         Kind::ChannelRelease => Ok(Rr::ChannelRelease(cause(kind, body)?)),
-        Kind::MeasurementReport => report(body),
+        Kind::MeasurementReport => Ok(Rr::MeasurementReport(results(body)?)),
         Kind::HandoverFailure => Ok(Rr::HandoverFailure(cause(kind, body)?)),
         Kind::HandoverCommand => command(body),
         Kind::HandoverComplete => Ok(Rr::HandoverComplete(cause(kind, body)?)),

@@ -3,6 +3,7 @@ use rr_elements::{
     CellDescription, ChanDescription, ElementFault, MeasHead, MeasResults, Ncell, Power, RrCause,
 };
 use rr_messages::{Rr, RrFault, decode, encode, encode_into};
+use std::alloc::Global;
 use std::process::Abort;
 use std::test::Fail;
 
@@ -85,35 +86,54 @@ const MESSAGES: [(Said, &[u8]); 10] = [
     (Said::MeasurementReport(HEAD, NEIGHBOUR), &REPORT),
 ];
 
+fn read_and_write<R: Abort + AllocGlobal>(rt: &R, messages: &[(Said, &[u8])]) -> Result<(), Fail> {
+    for (said, octets) in messages {
+        let message = message(*said)?;
+        assert_eq!(rt; decode(octets), Ok(message));
+        assert_eq!(rt; encode(rt.alloc(), &message)?.as_slice(), *octets);
+    }
+    Ok(())
+}
+
 #[test]
 fn reads_and_writes_each_message(rt: HostRuntime) -> Result<(), Fail> {
-    for (said, octets) in MESSAGES {
-        let message = message(said)?;
-        assert_eq!(rt; decode(octets), Ok(message));
-        assert_eq!(rt; encode(rt.alloc(), &message)?.as_slice(), octets);
+    read_and_write(&rt, &MESSAGES)
+}
+
+fn read_with_a_rest<R: Abort + AllocGlobal>(
+    rt: &R,
+    messages: &[(Said, &[u8])],
+) -> Result<(), Fail> {
+    let mut longer = Vec::new(rt.alloc());
+    for (said, octets) in messages {
+        longer.clear();
+        longer.extend_from_slice(octets)?;
+        longer.extend_from_slice(&[0x7D, 0x06, 0x00])?;
+        assert_eq!(rt; decode(&longer), Ok(message(*said)?));
     }
     Ok(())
 }
 
 #[test]
 fn ignores_what_follows_the_mandatory_part(rt: HostRuntime) -> Result<(), Fail> {
-    for (said, octets) in MESSAGES {
-        let mut longer = Vec::from_slice(rt.alloc(), octets)?;
-        longer.extend_from_slice(&[0x7D, 0x06, 0x00])?;
-        assert_eq!(rt; decode(&longer), Ok(message(said)?));
+    read_with_a_rest(&rt, &MESSAGES)
+}
+
+fn append<R: Abort + AllocGlobal>(rt: &R, messages: &[(Said, &[u8])]) -> Result<(), Fail> {
+    let mut out = Vec::new(rt.alloc());
+    for (said, octets) in messages {
+        out.clear();
+        out.extend_from_slice(&[1, 2])?;
+        encode_into(&message(*said)?, &mut out)?;
+        assert!(rt; out.starts_with(&[1, 2]));
+        assert_eq!(rt; out.get(2..), Some(*octets));
     }
     Ok(())
 }
 
 #[test]
 fn appends_to_what_stands_in_a_list(rt: HostRuntime) -> Result<(), Fail> {
-    for (said, octets) in MESSAGES {
-        let mut out = Vec::from_slice(rt.alloc(), &[1, 2])?;
-        encode_into(&message(said)?, &mut out)?;
-        assert_eq!(rt; &out[..2], [1, 2].as_slice());
-        assert_eq!(rt; &out[2..], octets);
-    }
-    Ok(())
+    append(&rt, &MESSAGES)
 }
 
 fn refuses_truncations(rt: &impl Abort, octets: &[u8]) {
@@ -127,11 +147,15 @@ fn refuses_truncations(rt: &impl Abort, octets: &[u8]) {
     }
 }
 
+fn refuse_truncations(rt: &impl Abort, messages: &[(Said, &[u8])]) {
+    for (_said, octets) in messages {
+        refuses_truncations(rt, octets);
+    }
+}
+
 #[test]
 fn refuses_each_truncation(rt: HostRuntime) {
-    for (_said, octets) in MESSAGES {
-        refuses_truncations(&rt, octets);
-    }
+    refuse_truncations(&rt, &MESSAGES);
 }
 
 const BAD_TYPE: RrFault = RrFault::Element(ElementFault::BadType);
@@ -172,11 +196,15 @@ const FAULTS: [(&[u8], RrFault); 13] = [
     ),
 ];
 
+fn refuse(rt: &impl Abort, table: &[(&[u8], RrFault)]) {
+    for (octets, fault) in table {
+        assert_eq!(rt; decode(octets), Err(*fault), "{octets:?}");
+    }
+}
+
 #[test]
 fn refuses_octets(rt: HostRuntime) {
-    for (octets, fault) in FAULTS {
-        assert_eq!(rt; decode(octets), Err(fault), "{octets:?}");
-    }
+    refuse(&rt, &FAULTS);
 }
 
 #[test]
@@ -195,7 +223,7 @@ fn reads_what_is_not_canonical(rt: HostRuntime) -> Result<(), Fail> {
     Ok(())
 }
 
-/// How many requests for memory were refused in turn before the message was written.
+/// How many requests for memory were refused, one after the other, before the message was written.
 fn refusals_of(rt: &(impl AllocGlobal + Abort), message: &Rr, octets: &[u8]) -> u64 {
     let mut refused = 0u64;
     for n in 1..100 {
@@ -211,44 +239,64 @@ fn refusals_of(rt: &(impl AllocGlobal + Abort), message: &Rr, octets: &[u8]) -> 
     refused
 }
 
-#[test]
-fn answers_each_refusal(rt: HostRuntime) -> Result<(), Fail> {
-    for (said, octets) in MESSAGES {
-        let refused = refusals_of(&rt, &message(said)?, octets);
+fn answer_refusals<R: Abort + AllocGlobal>(rt: &R, messages: &[(Said, &[u8])]) -> Result<(), Fail> {
+    for (said, octets) in messages {
+        let refused = refusals_of(rt, &message(*said)?, octets);
         assert!(rt; 0 < refused && refused < 99, "{refused} requests");
     }
     Ok(())
 }
 
 #[test]
-fn takes_no_memory_where_there_is_room(rt: HostRuntime) -> Result<(), Fail> {
-    for (said, octets) in MESSAGES {
-        let message = message(said)?;
-        let heap = RefusingHeap::ample(rt.alloc());
-        let mut out = Vec::with_capacity(&heap, 20)?;
-        heap.refuse_from_now();
-        encode_into(&message, &mut out)?;
-        assert_eq!(rt; out.as_slice(), octets);
+fn answers_each_refusal(rt: HostRuntime) -> Result<(), Fail> {
+    answer_refusals(&rt, &MESSAGES)
+}
 
-        // A list without room stays as it was.
-        let mut full = Vec::new(&heap);
-        assert!(rt; encode_into(&message, &mut full).is_err());
-        assert!(rt; full.is_empty());
+// The message twice over in a list with room for it: nothing is asked for, and the room stays. A list without room
+// stays as it was.
+fn write_in_room(rt: &impl Abort, heap: &RefusingHeap<Global>, message: &Rr, octets: &[u8]) {
+    let mut out = Vec::with_capacity(heap, 40).expect(rt, "memory is ample");
+    let mut full = Vec::new(heap);
+    heap.refuse_from_now();
+    for count in 1..3usize {
+        assert!(rt; encode_into(message, &mut out).is_ok());
+        assert_eq!(rt; (out.len(), out.capacity()), (count * octets.len(), 40));
+        assert!(rt; out.ends_with(octets) && out.starts_with(octets));
+    }
+    assert!(rt; !heap.was_refused());
+    assert!(rt; encode_into(message, &mut full).is_err());
+    assert!(rt; full.is_empty());
+}
+
+fn keep_room<R: Abort + AllocGlobal>(rt: &R, messages: &[(Said, &[u8])]) -> Result<(), Fail> {
+    for (said, octets) in messages {
+        let message = message(*said)?;
+        write_in_room(rt, &RefusingHeap::ample(rt.alloc()), &message, octets);
     }
     Ok(())
 }
 
 #[test]
-fn faults_have_texts(rt: HostRuntime) -> Result<(), Fail> {
-    let table = [
-        (RrFault::NotRr, "not a radio resource message"),
-        (RrFault::UnknownType(41), "unknown message type 0x29"),
-        (RrFault::Short, "the message is cut"),
-        (RrFault::Element(ElementFault::Hopping), "the channel hops"),
-        (RrFault::NoMemory, "out of memory"),
-    ];
+fn takes_no_memory_where_there_is_room(rt: HostRuntime) -> Result<(), Fail> {
+    keep_room(&rt, &MESSAGES)
+}
+
+fn have_texts<R: Abort + AllocGlobal>(rt: &R, table: &[(RrFault, &str)]) -> Result<(), Fail> {
     for (fault, text) in table {
-        assert_eq!(rt; format!(in rt.alloc(); "{fault}")?.as_str(), text);
+        assert_eq!(rt; format!(in rt.alloc(); "{fault}")?.as_str(), *text);
     }
     Ok(())
+}
+
+const TEXTS: [(RrFault, &str); 5] = [
+    (RrFault::NotRr, "not a radio resource message"),
+    (RrFault::UnknownType(41), "unknown message type 0x29"),
+    (RrFault::Short, "the message is cut"),
+    (HOPPING, "the channel hops"),
+    (RrFault::NoMemory, "out of memory"),
+];
+
+#[test]
+fn faults_have_texts(rt: HostRuntime) -> Result<(), Fail> {
+    have_texts(&rt, &TEXTS)
 }

@@ -1,0 +1,174 @@
+//! The cases that are repeated.
+ghost use Rattle.std.specs.Prelude.{◌≡◌, ◌≢◌, All, Contains, IfSome, IfNone};
+
+use std::fmt;
+
+/// What is done in an iteration.
+#[derive(Clone, Copy, Debug, PartialEq, Eq)]
+pub enum Task {
+    /// Reads a CHANNEL ACTIVATION (TS 48.058 clause 8.4.1).
+    DecodeActivation,
+    /// Writes a CHANNEL ACTIVATION.
+    EncodeActivation,
+    /// A whole call by the procedure: its opening, the CHANNEL ACTIVATION ACKNOWLEDGE (TS 48.058 clause 8.4.2), its
+    /// clearing and the RF CHANNEL RELEASE ACKNOWLEDGE.
+    CallByOctets,
+    /// A call's life, from its opening to the release of its channel, with an attempt at handover that is taken
+    /// back: ten events of the radio book, beside 1,024 other calls on 64 cells.
+    LiveByStep,
+    /// Reads a MEASUREMENT RESULT (TS 48.058 clause 8.4.8) and the MEASUREMENT REPORT in it (TS 44.018 clause 9.1.21).
+    DecodeMeasurement,
+    /// Writes a MEASUREMENT REPORT and a MEASUREMENT RESULT.
+    EncodeMeasurement,
+    /// Reads a HANDOVER COMMAND (TS 44.018 clause 9.1.15).
+    DecodeCommand,
+    /// Writes a HANDOVER COMMAND.
+    EncodeCommand,
+    /// Reads a HANDOVER REQUEST (TS 48.008 clause 3.2.1.8).
+    DecodeRequest,
+    /// Writes a HANDOVER REQUEST.
+    EncodeRequest,
+    /// Reads a HANDOVER REQUIRED (TS 48.008 clause 3.2.1.9).
+    DecodeRequired,
+    /// Writes a HANDOVER REQUIRED.
+    EncodeRequired,
+}
+
+/// A case: what is repeated, and on which octets.
+#[derive(Clone, Copy, Debug)]
+pub struct Case {
+    /// The name by which the command line calls it.
+    pub name: &'static str,
+    /// What is done in an iteration.
+    pub task: Task,
+    /// The octets that it is done on where the command line gives none.
+    pub octets: &'static [u8],
+    /// The place of the octet that changes with the iteration, counted from 0.
+    pub place: usize,
+}
+
+/// Every case, in the order in which they are printed: name, task, octets, place.
+pub const CASES: [Case; 12] = [
+    Case {
+        name: "chan_act.dec",
+        task: Task::DecodeActivation,
+        octets: ACTIVATION,
+        place: 13,
+    },
+    Case {
+        name: "chan_act.enc",
+        task: Task::EncodeActivation,
+        octets: ACTIVATION,
+        place: 13,
+    },
+    Case {
+        name: "call.octets",
+        task: Task::CallByOctets,
+        octets: ACKNOWLEDGEMENT,
+        place: 6,
+    },
+    Case {
+        name: "step.life",
+        task: Task::LiveByStep,
+        octets: &[0],
+        place: 0,
+    },
+    Case {
+        name: "meas_res.dec",
+        task: Task::DecodeMeasurement,
+        octets: MEASUREMENT,
+        place: 5,
+    },
+    Case {
+        name: "meas_res.enc",
+        task: Task::EncodeMeasurement,
+        octets: MEASUREMENT,
+        place: 5,
+    },
+    Case {
+        name: "ho_command.dec",
+        task: Task::DecodeCommand,
+        octets: COMMAND,
+        place: 7,
+    },
+    Case {
+        name: "ho_command.enc",
+        task: Task::EncodeCommand,
+        octets: COMMAND,
+        place: 7,
+    },
+    Case {
+        name: "ho_request.dec",
+        task: Task::DecodeRequest,
+        octets: REQUEST,
+        place: 26,
+    },
+    Case {
+        name: "ho_request.enc",
+        task: Task::EncodeRequest,
+        octets: REQUEST,
+        place: 26,
+    },
+    Case {
+        name: "ho_required.dec",
+        task: Task::DecodeRequired,
+        octets: REQUIRED,
+        place: 13,
+    },
+    Case {
+        name: "ho_required.enc",
+        task: Task::EncodeRequired,
+        octets: REQUIRED,
+        place: 13,
+    },
+];
+
+/// The first of these cases that has this name.
+pub fn find(cases: &[Case], name: &str) -> Option<Case>
+    ensures found { IfSome result (λ case. Contains cases.now case × (case.name.now ≡ name.now)) }
+    ensures none { IfNone result (All (λ case. case.name.now ≢ name.now) cases.now) }
+{
+    for case in cases {
+        if case.name == name {
+            return Some(*case);
+        }
+    }
+    None
+}
+
+impl fmt::Display for Case {
+    fn fmt<W: fmt::Write>(&self, f: &mut fmt::Formatter<W>) -> fmt::Result {
+        f.write_str(self.name)
+    }
+}
+
+/// CHANNEL ACTIVATION of timeslot 3 for a handover, with reference 42.
+const ACTIVATION: &[u8] = &[
+    0x08, 0x21, 0x01, 0x0B, 0x03, 0x02, 0x06, 0x04, 0x00, 0x01, 0x08, 0x01, 0x09, 0x2A,
+];
+
+/// CHANNEL ACTIVATION ACKNOWLEDGE of timeslot 3 with frame number 4660.
+const ACKNOWLEDGEMENT: &[u8] = &[0x08, 0x22, 0x01, 0x0B, 0x08, 0x12, 0x34];
+
+/// MEASUREMENT RESULT of timeslot 3 with number 0 and three octets of uplink measurements; its report has one
+/// neighbour of level 40 at position 2 with code 21, and serving levels of 30.
+const MEASUREMENT: &[u8] = &[
+    0x08, 0x28, 0x01, 0x0B, 0x1B, 0x00, 0x19, 0x03, 0x00, 0x1E, 0x00, 0x04, 0x00, 0x0B, 0x00, 0x12,
+    0x06, 0x15, 0x1E, 0x1E, 0x00, 0x68, 0x12, 0xA0, 0, 0, 0, 0, 0, 0, 0, 0, 0, 0,
+];
+
+/// HANDOVER COMMAND to the cell of carrier 871 with colour codes 2 and 5: timeslot 3, training sequence 5 and carrier
+/// 875, reference 42, power level 5.
+const COMMAND: &[u8] = &[0x06, 0x2B, 0xD5, 0x67, 0x0B, 0xA3, 0x6B, 0x2A, 0x05];
+
+/// HANDOVER REQUEST from the cell of area 23 and identity 102 to that of 23 and 101: speech, a full rate channel, no
+/// encryption, classmark 1.
+const REQUEST: &[u8] = &[
+    0x00, 0x19, 0x10, 0x0B, 0x03, 0x01, 0x08, 0x01, 0x0A, 0x01, 0x01, 0x1D, 0x33, 0x05, 0x05, 0x01,
+    0x00, 0x17, 0x00, 0x66, 0x05, 0x05, 0x01, 0x00, 0x17, 0x00, 0x65,
+];
+
+/// HANDOVER REQUIRED for a better cell, that of area 23 and identity 102, with a response requested.
+const REQUIRED: &[u8] = &[
+    0x00, 0x0C, 0x11, 0x04, 0x01, 0x0C, 0x1B, 0x1A, 0x05, 0x01, 0x00, 0x17, 0x00, 0x66,
+];
