@@ -1,5 +1,5 @@
 //! One pass over the elements of a body, which keeps the values that a codec uses.
-ghost use Rattle.std.specs.Prelude.{◌≡◌, ◌<◌, List, ◌∷◌, [], ◌++◌, length, IfOk, IfErr, Ok, Err};
+ghost use Rattle.std.specs.Prelude.{◌≡◌, ◌<◌, List, ◌∷◌, [], ◌++◌, length, IfOk, OnOk, IfErr, Ok, Err};
 ghost use Rattle.octet_elements.specs.Elements.{Element, AreElements, IsTornAt};
 ghost use Rattle.octet_elements.specs.Lookup.{noted, lookup};
 ghost use Rattle.octet_elements.specs.Values.{value_seen, octet_in, optional_octet_in, pair_in, octets_in, optional_octets_in, any_octets_in};
@@ -30,27 +30,37 @@ impl<'a, T: ElementTable> Model for Found<'a, T> {
 }
 
 impl<'a, T: ElementTable> Found<'a, T> {
-    /// Reads elements to the end of the octets, or answers the offset of the first element that is cut.
-    pub fn read(octets: &'a [u8]) -> Result<Self, usize>
-        ensures whole { IfOk result (λ found. (es : List Element) ×
-            AreElements T.form_of es octets.now × (lookup T.known found ≡ noted T.known es)) }
-        ensures torn { IfErr result (IsTornAt T.form_of octets.now) }
-        ensures within { IfErr result (λ at. at < length octets.now) }
+    /// Nothing is found yet.
+    #[inline]
+    pub fn new() -> Self
+        ensures { lookup T.known result ≡ noted T.known [] }
     {
-        let mut found = Found {
+        Found {
             first: [None; 16],
             second: None,
             table: PhantomData,
-        };
+        }
+    }
+
+    /// Reads elements to the end of the octets, or answers the offset of the first element that is cut. After
+    /// an `Err` it is unspecified what was found.
+    #[inline]
+    pub fn read(&mut self, octets: &'a [u8]) -> Result<(), usize>
+        requires { lookup T.known self.old ≡ noted T.known [] }
+        ensures whole { OnOk result ((es : List Element) × AreElements T.form_of es octets.now ×
+            (lookup T.known self.new ≡ noted T.known es)) }
+        ensures torn { IfErr result (IsTornAt T.form_of octets.now) }
+        ensures within { IfErr result (λ at. at < length octets.now) }
+    {
         let mut rest = octets;
         while !rest.is_empty() {
             let Some(leading) = leading_element::<T>(rest) else {
                 return Err(octets.len() - rest.len());
             };
-            found.note(leading.identifier, leading.value);
+            self.note(leading.identifier, leading.value);
             rest = leading.rest;
         }
-        Ok(found)
+        Ok(())
     }
 
     /// Keeps the value of one more element, where it is the first with its identifier.

@@ -45,7 +45,8 @@ fn keeps_the_first_values(rt: HostRuntime) -> Result<(), Fail> {
     let octets: &[u8] = &[
         1, 10, 11, 2, 5, 1, 7, 3, 0, 2, 8, 9, 5, 0, 1, 20, 21, 5, 2, 1, 1,
     ];
-    let found = Found::<Sample>::read(octets)?;
+    let mut found = Found::<Sample>::new();
+    found.read(octets)?;
     assert_eq!(rt; found.first(1), Some([10, 11].as_slice()));
     assert_eq!(rt; found.first(5), Some([7].as_slice()));
     assert_eq!(rt; found.second(5), Some([].as_slice()));
@@ -54,13 +55,14 @@ fn keeps_the_first_values(rt: HostRuntime) -> Result<(), Fail> {
         assert_eq!(rt; found.second(other), None);
     }
     assert_eq!(rt; found.second(1), None);
-    assert_eq!(rt; Found::<Sample>::read(&[])?.first(1), None);
+    assert_eq!(rt; Found::<Sample>::new().first(1), None);
     Ok(())
 }
 
 #[test]
 fn reads_by_identifier(rt: HostRuntime) -> Result<(), Fail> {
-    let found = Found::<Sample>::read(&[1, 1, 2, 5, 0])?;
+    let mut found = Found::<Sample>::new();
+    found.read(&[1, 1, 2, 5, 0])?;
     assert_eq!(rt; found.octet(1), Ok(1));
     assert_eq!(rt; found.optional_octet(9), Ok(None));
     assert_eq!(rt; found.pair(1), Ok(258));
@@ -91,7 +93,8 @@ fn names_the_torn_offset(rt: HostRuntime) {
         (&[5, 0, 3, 1, 0, 7], 2),
     ];
     for (octets, at) in torn {
-        assert_eq!(rt; Found::<Sample>::read(octets).err(), Some(at));
+        let mut found = Found::<Sample>::new();
+        assert_eq!(rt; found.read(octets), Err(at));
     }
 }
 

@@ -54,7 +54,8 @@ fn copied<A: Allocator + Copy>(
     }
 }
 
-/// The message that elements say.
+/// The message that elements say. It isn't inlined, so that only the values that it reads are loaded.
+#[inline(never)]
 pub fn read_elements<A: Allocator + Copy>(
     alloc: A,
     kind: MessageKind,

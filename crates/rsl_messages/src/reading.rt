@@ -25,8 +25,9 @@ fn read_body<A: Allocator + Copy>(
     ensures text { IfOk result (λ v. Says (codec A) kind body.now (Ok v)) }
     ensures fault { IfErr result (HasBodyFault (codec A) kind body.now) }
 {
-    match Found::<Abis>::read(body) {
-        Ok(found) => read_elements(alloc, kind, &found),
+    let mut found = Found::<Abis>::new();
+    match found.read(body) {
+        Ok(()) => read_elements(alloc, kind, &found),
         Err(offset) => Err(RslFault::Torn(2 + offset)),
     }
 }

@@ -1,10 +1,9 @@
 use Rattle.std.proofs.Common.{[], ◌∷◌, ◌++◌, refl}
-use Rattle.octet_elements.proofs.Notes.{nothing_noted}
 use Rattle.octet_elements.proofs.Splits.{each_and_one, octets_and_one}
 use Rattle.octet_elements.proofs.found.Found.read.Goals as goal
 
 pub loop-rest-init : goal.loop-rest-init
-loop-rest-init g c = ([], tt, refl, nothing_noted g.T.ElementTable.known)
+loop-rest-init g c = ([], tt, refl, c.requires)
 
 pub loop-rest-preserved : goal.loop-rest-preserved
 loop-rest-preserved g c =

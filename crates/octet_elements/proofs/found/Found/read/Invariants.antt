@@ -6,7 +6,7 @@ use Rattle.octet_elements.proofs.found.Found.read.Given as goal
 
 -- the octets are whole elements up to the rest, and their values are kept
 abbrev pub invariant-loop-rest : goal.invariant-loop-rest
-invariant-loop-rest g l = (es : List Element) × AllByRecursion (Fits g.T.ElementTable.form_of) es × (l.octets ≡ all_octets g.T.ElementTable.form_of es ++ l.rest) × (lookup g.T.ElementTable.known l.found ≡ noted g.T.ElementTable.known es)
+invariant-loop-rest g l = (es : List Element) × AllByRecursion (Fits g.T.ElementTable.form_of) es × (l.octets ≡ all_octets g.T.ElementTable.form_of es ++ l.rest) × (lookup g.T.ElementTable.known l.self ≡ noted g.T.ElementTable.known es)
 
 abbrev pub decreases-loop-rest : goal.decreases-loop-rest
 decreases-loop-rest g l = length l.rest
