@@ -1,5 +1,5 @@
 -- A message has a canonical text exactly where its fields can be said and the length octet can count them.
-use Rattle.std.proofs.Common.{◌≡◌, ℕ, ◌+◌, ◌*◌, ◌<◌, ◌≤◌, ◌/◌, ◌%◌, ◌&&◌, List, [], ◌∷◌, ◌++◌, length, length-append, flat_map, unwrap_or, Option, Some, None, Result, Ok, Err, refl, sym, ◌∙◌, ap, arith, Bool, true, false, IsSome}
+use Rattle.std.proofs.Common.{◌≡◌, ℕ, ◌+◌, ◌*◌, ◌<◌, ◌≤◌, ◌/◌, ◌%◌, ◌&&◌, List, [], ◌∷◌, ◌++◌, length, length-append, flat_map, unwrap_or, Option, Some, None, Result, Ok, Err, refl, sym, ◌∙◌, ap, arith, Bool, true, false, IsTrue, IsSome}
 use Rattle.std.specs.List.{list_all, AllByRecursion}
 use Rattle.std.specs.Option.{option_map, is_some}
 use Rattle.octet_elements.specs.declared.form.Form.{Form}
@@ -21,7 +21,7 @@ use Rattle.bssmap_messages.specs.declared.message.Bssmap.TheVariants.{HandoverRe
 use Rattle.bssmap_messages.specs.declared.table.TheConstants.{CAUSE, CELL_IDENTIFIER, CELL_IDENTIFIER_LIST, ENCRYPTION_INFORMATION, LAYER_3_INFORMATION, RESPONSE_REQUEST}
 use Rattle.bssmap_messages.specs.Forms.{interface_a}
 use Rattle.bssmap_messages.specs.Heads.{limit, Carries}
-use Rattle.bssmap_messages.specs.Messages.{said, value_of, type_of, kind_of, elements_of, CanBeSaid, handover_request, handover_required, handover_request_ack, handover_command, handover_complete, handover_failure, handover_performed, handover_required_reject, clear_command, clear_request}
+use Rattle.bssmap_messages.specs.Messages.{said, value_of, type_of, kind_of, elements_of, handover_request, handover_required, handover_request_ack, handover_command, handover_complete, handover_failure, handover_performed, handover_required_reject, clear_command, clear_request}
 use Rattle.bssmap_messages.specs.Texts.{codec, HasCanonical, canonical_text, written_octets}
 use Rattle.bssmap_messages.specs.Values.{channel_type_in, cells_after, some_cells, cell_in, cells_in, cells_from, cell_octets, cell_value, cells_value, channel_type}
 use Rattle.bssmap_messages.proofs.Lengths.{request_length, required_length, cells_length, classmark_fits}
@@ -30,6 +30,22 @@ use Rattle.bssmap_messages.proofs.Unique.{one_head, one_carried}
 -- each cell has a location area code
 abbrev have_areas : List CellId → Bool
 have_areas cells = list_all (λ cell. is_some cell.lac) cells
+
+-- The message is what its elements say once they are written: octets are long enough, there is a cell, and each
+-- cell has a location area code.
+abbrev pub CanBeSaid : {A : Type 0} → Bssmap A → Type 0
+CanBeSaid (HandoverRequest channel encryption classmark serving target) = (1 < length channel) × (0 < length encryption) × IsSome serving.lac × IsSome target.lac
+CanBeSaid (HandoverRequired cause response cells) = (0 < length cells) × IsTrue (list_all (λ cell. is_some cell.lac) cells)
+CanBeSaid (HandoverRequestAck layer3) = 0 < length layer3
+CanBeSaid (HandoverCommand layer3) = 0 < length layer3
+CanBeSaid (HandoverComplete rr) = Unit {0}
+CanBeSaid (HandoverFailure cause rr) = Unit {0}
+CanBeSaid (HandoverPerformed cause cell) = IsSome cell.lac
+CanBeSaid (HandoverRequiredReject cause) = Unit {0}
+CanBeSaid HandoverDetect = Unit {0}
+CanBeSaid (ClearCommand cause) = Unit {0}
+CanBeSaid ClearComplete = Unit {0}
+CanBeSaid (ClearRequest cause) = Unit {0}
 
 -- Each reader reads again what is written.
 channel_again : (v : List ℕ) → 1 < length v → channel_type_in (Some v) ≡ Ok v
@@ -177,12 +193,12 @@ fit_in (e ∷ es) fixed short =
     (fits_as (interface_a e.0) e.0 e.1 fixed.0 (omega arith), fit_in es fixed.1 (omega arith))
 
 -- What can be said and is short enough has a canonical text.
-pub canonical_of : {A : Type 0} (v : Bssmap A) → CanBeSaid v → length (all_octets interface_a (elements_of v)) < limit → HasCanonical v
+pub canonical_of : {A : Type 0} (v : Bssmap A) → said (kind_of v) (values_in (elements_of v)) ≡ Ok v → length (all_octets interface_a (elements_of v)) < limit → HasCanonical v
 canonical_of v h short = record {
   kind = kind_of v;
   body = all_octets interface_a (elements_of v);
   head = record { framed = refl; some = omega arith; within = omega arith };
-  says = record { elements = elements_of v; split = record { each = fit_in (elements_of v) (fixed v) (omega arith); spelling = refl }; says = said_again v h };
+  says = record { elements = elements_of v; split = record { each = fit_in (elements_of v) (fixed v) (omega arith); spelling = refl }; says = h };
 }
 
 -- What has a canonical text is short enough, and said by its elements.
@@ -198,7 +214,7 @@ own_head v h =
 pub short_of : {A : Type 0} (v : Bssmap A) → HasCanonical v → length (all_octets interface_a (elements_of v)) < limit
 short_of v h = (own_head v h).2
 
-own_said : {A : Type 0} (v : Bssmap A) → HasCanonical v → said (kind_of v) (values_in (elements_of v)) ≡ Ok v
+pub own_said : {A : Type 0} (v : Bssmap A) → HasCanonical v → said (kind_of v) (values_in (elements_of v)) ≡ Ok v
 own_said {A} v h = let own = own_head v h in (written_says (codec A) h.kind (kind_of v) h.body (elements_of v) v own.0 own.1 (fixed v) h.says).1
 
 request_said : {A : Type 0} (channel encryption : List ℕ) (classmark : Classmark A) (serving target : CellId) (p q : Result (List ℕ) ValueFault) (r : Result (Classmark A) ValueFault) (s t : Result CellId ValueFault) → value_of (λ (channel, (encryption, (classmark, (serving, target)))). HandoverRequest channel encryption classmark serving target) (p >>= λ x. also x (q >>= λ x. also x (r >>= λ x. also x (s >>= λ x. also x t)))) ≡ Ok (HandoverRequest channel encryption classmark serving target) → (p ≡ Ok channel) × (q ≡ Ok encryption) × (s ≡ Ok serving) × (t ≡ Ok target)
@@ -240,6 +256,3 @@ can_be_said HandoverDetect h = tt
 can_be_said (ClearCommand cause) h = tt
 can_be_said ClearComplete h = tt
 can_be_said (ClearRequest cause) h = tt
-
-pub said_of : {A : Type 0} (v : Bssmap A) → HasCanonical v → CanBeSaid v
-said_of v h = can_be_said v (own_said v h)

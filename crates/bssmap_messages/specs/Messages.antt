@@ -1,7 +1,6 @@
 -- The messages (TS 48.008 clause 3.2.1): of each its type, and row by row its elements, as they are read and
 -- as they are written.
-use Rattle.std.specs.Prelude.{ℕ, ◌+◌, ◌<◌, Bool, List, [], length, Option, Result, Ok, Err, IsTrue, IsSome, is_some}
-use Rattle.std.specs.List.{list_all}
+use Rattle.std.specs.Prelude.{ℕ, ◌+◌, ◌<◌, Bool, List, [], length, Option, Result, Ok, Err}
 use Rattle.octet_elements.specs.Elements.{Element}
 use Rattle.octet_elements.specs.Lookup.{Lookup}
 use Rattle.octet_elements.specs.Rows.{Row, octet, optional_octet, octets, ◌▸◌}
@@ -139,19 +138,3 @@ KeepsList HandoverDetect = ⊥
 KeepsList (ClearCommand cause) = ⊥
 KeepsList ClearComplete = ⊥
 KeepsList (ClearRequest cause) = ⊥
-
--- The message is what its elements say once they are written: octets are long enough, there is a cell, and each
--- cell has a location area code.
-abbrev pub CanBeSaid : {A : Type 0} → Bssmap A → Type 0
-CanBeSaid (HandoverRequest channel encryption classmark serving target) = (1 < length channel) × (0 < length encryption) × IsSome serving.lac × IsSome target.lac
-CanBeSaid (HandoverRequired cause response cells) = (0 < length cells) × IsTrue (list_all (λ cell. is_some cell.lac) cells)
-CanBeSaid (HandoverRequestAck layer3) = 0 < length layer3
-CanBeSaid (HandoverCommand layer3) = 0 < length layer3
-CanBeSaid (HandoverComplete rr) = Unit {0}
-CanBeSaid (HandoverFailure cause rr) = Unit {0}
-CanBeSaid (HandoverPerformed cause cell) = IsSome cell.lac
-CanBeSaid (HandoverRequiredReject cause) = Unit {0}
-CanBeSaid HandoverDetect = Unit {0}
-CanBeSaid (ClearCommand cause) = Unit {0}
-CanBeSaid ClearComplete = Unit {0}
-CanBeSaid (ClearRequest cause) = Unit {0}

@@ -5,12 +5,47 @@ ghost use Rattle.bssmap_messages.specs.declared.message.CellId.{CellId};
 ghost use Rattle.octet_elements.specs.Values.{value_seen, pair};
 ghost use Rattle.bssmap_messages.specs.Values.{cells_after, only_cell, some_cells, cell_in, cells_in};
 
-use crate::cell_list::CellList;
 use crate::message::CellId;
 use crate::table::{CELL_IDENTIFIER, CELL_IDENTIFIER_LIST};
 use octet_elements::ValueFault;
 use octet_elements::values::pair_of;
-use std::alloc::{AllocError, Allocator};
+use std::alloc::{AllocError, Allocator, Global};
+use std::marker::Model;
+
+/// The cells of a cell identifier list (TS 48.008 clause 3.2.2.27), in its order.
+#[derive(Debug, Drop)]
+pub struct CellList<A: Allocator = Global> {
+    cells: Vec<CellId, A>,
+}
+
+impl<A: Allocator> Model for CellList<A> {
+    ghost use Rattle.std.specs.Prelude.{List};
+    ghost use Rattle.bssmap_messages.specs.declared.message.CellId.{CellId};
+
+    ghost Value = { List CellId };
+
+    ghost view = { λ o. o.cells.items };
+}
+
+impl<A: Allocator + Copy> CellList<A> {
+    /// A list of these cells.
+    pub fn new(alloc: A, cells: &[CellId]) -> Result<Self, AllocError>
+        ensures cells { IfOk result (λ o. o ≡ cells.now) }
+    {
+        Ok(CellList {
+            cells: Vec::from_slice(alloc, cells)?,
+        })
+    }
+}
+
+impl<A: Allocator> CellList<A> {
+    /// Its cells.
+    pub fn as_slice(&self) -> &[CellId]
+        ensures cells { result.now ≡ self.now }
+    {
+        self.cells.as_slice()
+    }
+}
 
 /// The cell of a location area code and a cell identity.
 fn cell_in_area(area_high: u8, area_low: u8, high: u8, low: u8) -> CellId
@@ -134,5 +169,5 @@ pub fn read_cells<A: Allocator + Copy>(
         cells.push(cell)?;
         rest = after;
     }
-    Ok(CellList::from_cells(cells))
+    Ok(CellList { cells })
 }

@@ -1,13 +1,13 @@
 //! The elements of each message: how they are read, how many octets they take, and how they are written.
-ghost use Rattle.std.specs.Prelude.{◌≡◌, ◌≤◌, ◌<◌, ◌+◌, ◌*◌, ◌^◌, ◌-◌, ◌++◌, ◌∷◌, ◌↔◌, [], min, IsTrue, IsSome, is_some, length, flat_map, vec_len, vec_capacity};
+ghost use Rattle.std.specs.Prelude.{◌≡◌, ◌≤◌, ◌<◌, ◌+◌, ◌*◌, ◌^◌, ◌-◌, ◌++◌, ◌∷◌, ◌↔◌, [], min, IsTrue, IsSome, is_some, length, flat_map, Ok, vec_len, vec_capacity};
 ghost use Rattle.std.specs.List.{list_all};
 ghost use Rattle.octet_elements.specs.Elements.{Fits, all_octets, element_octets};
-ghost use Rattle.octet_elements.specs.Lookup.{lookup};
+ghost use Rattle.octet_elements.specs.Lookup.{lookup, values_in};
 ghost use Rattle.octet_elements.specs.Texts.{Answers};
 ghost use Rattle.octet_elements.specs.Values.{where_some};
 ghost use Rattle.bssmap_messages.specs.Forms.{interface_a, known};
 ghost use Rattle.bssmap_messages.specs.Heads.{limit};
-ghost use Rattle.bssmap_messages.specs.Messages.{said, elements_of, CanBeSaid};
+ghost use Rattle.bssmap_messages.specs.Messages.{said, kind_of, elements_of};
 ghost use Rattle.bssmap_messages.specs.Texts.{codec};
 ghost use Rattle.bssmap_messages.specs.Values.{cell_octets, cell_value, classmark_element, where_true};
 
@@ -77,48 +77,43 @@ pub fn read_elements<A: Allocator + Copy>(
     match kind {
         MessageKind::HandoverRequest => read_request(alloc, found),
         MessageKind::HandoverRequired => read_required(alloc, found),
-        MessageKind::HandoverRequestAck => {
-            let layer3 = Octets::new(alloc, found.octets(LAYER_3_INFORMATION)?)?;
-            Ok(Bssmap::HandoverRequestAck { layer3 })
-        }
-        MessageKind::HandoverCommand => {
-            let layer3 = Octets::new(alloc, found.octets(LAYER_3_INFORMATION)?)?;
-            Ok(Bssmap::HandoverCommand { layer3 })
-        }
-        MessageKind::HandoverComplete => {
-            let rr = found.optional_octet(RR_CAUSE)?;
-            Ok(Bssmap::HandoverComplete { rr })
-        }
-        MessageKind::HandoverFailure => {
-            let cause = found.octet(CAUSE)?;
-            let rr = found.optional_octet(RR_CAUSE)?;
-            Ok(Bssmap::HandoverFailure { cause, rr })
-        }
-        MessageKind::HandoverPerformed => {
-            let cause = found.octet(CAUSE)?;
-            let cell = cell(found.first(CELL_IDENTIFIER))?;
-            Ok(Bssmap::HandoverPerformed { cause, cell })
-        }
-        MessageKind::HandoverRequiredReject => {
-            let cause = found.octet(CAUSE)?;
-            Ok(Bssmap::HandoverRequiredReject { cause })
-        }
+        MessageKind::HandoverRequestAck => Ok(Bssmap::HandoverRequestAck {
+            layer3: Octets::new(alloc, found.octets(LAYER_3_INFORMATION)?)?,
+        }),
+        MessageKind::HandoverCommand => Ok(Bssmap::HandoverCommand {
+            layer3: Octets::new(alloc, found.octets(LAYER_3_INFORMATION)?)?,
+        }),
+        MessageKind::HandoverComplete => Ok(Bssmap::HandoverComplete {
+            rr: found.optional_octet(RR_CAUSE)?,
+        }),
+        MessageKind::HandoverFailure => Ok(Bssmap::HandoverFailure {
+            cause: found.octet(CAUSE)?,
+            rr: found.optional_octet(RR_CAUSE)?,
+        }),
+        MessageKind::HandoverPerformed => Ok(Bssmap::HandoverPerformed {
+            cause: found.octet(CAUSE)?,
+            cell: cell(found.first(CELL_IDENTIFIER))?,
+        }),
+        MessageKind::HandoverRequiredReject => Ok(Bssmap::HandoverRequiredReject {
+            cause: found.octet(CAUSE)?,
+        }),
         MessageKind::HandoverDetect => Ok(Bssmap::HandoverDetect),
-        MessageKind::ClearCommand => {
-            let cause = found.octet(CAUSE)?;
-            Ok(Bssmap::ClearCommand { cause })
-        }
+        MessageKind::ClearCommand => Ok(Bssmap::ClearCommand {
+            cause: found.octet(CAUSE)?,
+        }),
         MessageKind::ClearComplete => Ok(Bssmap::ClearComplete),
-        MessageKind::ClearRequest => {
-            let cause = found.octet(CAUSE)?;
-            Ok(Bssmap::ClearRequest { cause })
-        }
+        MessageKind::ClearRequest => Ok(Bssmap::ClearRequest {
+            cause: found.octet(CAUSE)?,
+        }),
     }
 }
 
-/// Whether the elements of a message can say its fields.
+/// Whether the elements of a message say it, once they are written: octets are long enough, there is a cell, and
+/// each cell has a location area code.
+#[tactic(auto, using(crate::proofs::Written::said_again, crate::proofs::Written::can_be_said))]
 pub fn can_be_said<A: Allocator>(message: &Bssmap<A>) -> bool
-    ensures { IsTrue result ↔ CanBeSaid message.now }
+    ensures { IsTrue result ↔
+        (said (kind_of message.now) (values_in (elements_of message.now)) ≡ Ok message.now) }
 {
     match message {
         Bssmap::HandoverRequest {

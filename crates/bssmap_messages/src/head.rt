@@ -73,23 +73,3 @@ pub fn read_head(octets: &[u8]) -> Result<(MessageKind, &[u8]), BssmapFault>
     let kind = kind_for(message_type).ok_or(BssmapFault::UnknownType(message_type))?;
     Ok((kind, body))
 }
-
-/// The type of a message, as it is written.
-pub fn type_octet(kind: MessageKind) -> u8
-    ensures { result ≡ type_of kind }
-{
-    match kind {
-        MessageKind::HandoverRequest => 0x10,
-        MessageKind::HandoverRequired => 0x11,
-        MessageKind::HandoverRequestAck => 0x12,
-        MessageKind::HandoverCommand => 0x13,
-        MessageKind::HandoverComplete => 0x14,
-        MessageKind::HandoverFailure => 0x16,
-        MessageKind::HandoverPerformed => 0x17,
-        MessageKind::HandoverRequiredReject => 0x1A,
-        MessageKind::HandoverDetect => 0x1B,
-        MessageKind::ClearCommand => 0x20,
-        MessageKind::ClearComplete => 0x21,
-        MessageKind::ClearRequest => 0x22,
-    }
-}

@@ -4,7 +4,6 @@
 //! [`encode`] and [`encode_into`] write one, and [`fits`] says whether a value can be written.
 #![tactic(auto)]
 
-mod cell_list;
 mod cells;
 mod elements;
 mod fault;
@@ -16,7 +15,7 @@ mod table;
 mod values;
 mod writing;
 
-pub use cell_list::CellList;
+pub use cells::CellList;
 pub use fault::BssmapFault;
 pub use laws::{canonical_is_text, reading_is_unique};
 pub use message::{Bssmap, CellId, Classmark};

@@ -1,5 +1,5 @@
 //! The messages.
-use crate::cell_list::CellList;
+use crate::cells::CellList;
 use octet_elements::Octets;
 use std::alloc::{Allocator, Global};
 

@@ -23,8 +23,9 @@ fn read_body<A: Allocator + Copy>(
     ensures text { IfOk result (λ v. Says (codec A) kind body.now (Ok v)) }
     ensures fault { IfErr result (HasBodyFault (codec A) kind body.now) }
 {
-    match Found::<InterfaceA>::read(body) {
-        Ok(found) => read_elements(alloc, kind, &found),
+    let mut found = Found::<InterfaceA>::new();
+    match found.read(body) {
+        Ok(()) => read_elements(alloc, kind, &found),
         Err(offset) => Err(BssmapFault::Torn(3 + offset)),
     }
 }

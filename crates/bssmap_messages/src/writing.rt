@@ -1,11 +1,11 @@
 //! Writing a message.
 ghost use Rattle.std.specs.Prelude.{◌≡◌, ◌↔◌, IsTrue, IfOk};
 ghost use Rattle.octet_elements.specs.Writing.{Appends};
-ghost use Rattle.bssmap_messages.specs.Messages.{kind_of};
+ghost use Rattle.bssmap_messages.specs.Messages.{kind_of, type_of};
 ghost use Rattle.bssmap_messages.specs.Texts.{HasCanonical, canonical_text};
 
 use crate::elements::{append_elements, can_be_said, elements_len};
-use crate::head::{LIMIT, MessageKind, type_octet};
+use crate::head::LIMIT;
 use crate::message::Bssmap;
 use octet_elements::append_octets;
 use std::alloc::{AllocError, Allocator};
@@ -14,33 +14,26 @@ use std::alloc::{AllocError, Allocator};
 pub fn fits<A: Allocator + Copy>(message: &Bssmap<A>) -> bool
     ensures canonical { IsTrue result ↔ HasCanonical message.now }
 {
-    is_writable(message)
-}
-
-/// The same, tested by the fields of the message.
-fn is_writable<A: Allocator>(message: &Bssmap<A>) -> bool
-    ensures { IsTrue result ↔ HasCanonical message.now }
-{
     can_be_said(message) && elements_len(message) < LIMIT
 }
 
-/// Which message it is.
-fn kind_of<A: Allocator>(message: &Bssmap<A>) -> MessageKind
-    ensures { result ≡ kind_of message.now }
+/// The type of a message.
+fn message_type<A: Allocator>(message: &Bssmap<A>) -> u8
+    ensures { result ≡ type_of (kind_of message.now) }
 {
     match message {
-        Bssmap::HandoverRequest { .. } => MessageKind::HandoverRequest,
-        Bssmap::HandoverRequired { .. } => MessageKind::HandoverRequired,
-        Bssmap::HandoverRequestAck { .. } => MessageKind::HandoverRequestAck,
-        Bssmap::HandoverCommand { .. } => MessageKind::HandoverCommand,
-        Bssmap::HandoverComplete { .. } => MessageKind::HandoverComplete,
-        Bssmap::HandoverFailure { .. } => MessageKind::HandoverFailure,
-        Bssmap::HandoverPerformed { .. } => MessageKind::HandoverPerformed,
-        Bssmap::HandoverRequiredReject { .. } => MessageKind::HandoverRequiredReject,
-        Bssmap::HandoverDetect => MessageKind::HandoverDetect,
-        Bssmap::ClearCommand { .. } => MessageKind::ClearCommand,
-        Bssmap::ClearComplete => MessageKind::ClearComplete,
-        Bssmap::ClearRequest { .. } => MessageKind::ClearRequest,
+        Bssmap::HandoverRequest { .. } => 0x10,
+        Bssmap::HandoverRequired { .. } => 0x11,
+        Bssmap::HandoverRequestAck { .. } => 0x12,
+        Bssmap::HandoverCommand { .. } => 0x13,
+        Bssmap::HandoverComplete { .. } => 0x14,
+        Bssmap::HandoverFailure { .. } => 0x16,
+        Bssmap::HandoverPerformed { .. } => 0x17,
+        Bssmap::HandoverRequiredReject { .. } => 0x1A,
+        Bssmap::HandoverDetect => 0x1B,
+        Bssmap::ClearCommand { .. } => 0x20,
+        Bssmap::ClearComplete => 0x21,
+        Bssmap::ClearRequest { .. } => 0x22,
     }
 }
 
@@ -55,7 +48,7 @@ pub fn encode_into<A: Allocator + Copy>(
 {
     let len = 1 + elements_len(message);
     out.reserve(2 + len)?;
-    append_octets(out, &[0, len as u8, type_octet(kind_of(message))]);
+    append_octets(out, &[0, len as u8, message_type(message)]);
     append_elements(message, out);
     Ok(())
 }

@@ -133,11 +133,11 @@ fn reads_other_texts_of_a_message(rt: HostRuntime) -> Result<(), Fail> {
 const SAYINGS: [(&[u8], &str); 18] = [
     (
         REQUEST,
-        "HandoverRequest { channel: Octets { octets: [1, 8, 1] }, encryption: Octets { octets: [1] }, classmark: One(51), serving: CellId { lac: Some(23), ci: 102 }, target: CellId { lac: Some(23), ci: 101 } }",
+        "HandoverRequest { channel: Octets { items: [1, 8, 1] }, encryption: Octets { items: [1] }, classmark: One(51), serving: CellId { lac: Some(23), ci: 102 }, target: CellId { lac: Some(23), ci: 101 } }",
     ),
     (
         REQUEST_2,
-        "HandoverRequest { channel: Octets { octets: [1, 8, 1] }, encryption: Octets { octets: [1] }, classmark: Two(Octets { octets: [51, 25, 129] }), serving: CellId { lac: Some(23), ci: 102 }, target: CellId { lac: Some(23), ci: 101 } }",
+        "HandoverRequest { channel: Octets { items: [1, 8, 1] }, encryption: Octets { items: [1] }, classmark: Two(Octets { items: [51, 25, 129] }), serving: CellId { lac: Some(23), ci: 102 }, target: CellId { lac: Some(23), ci: 101 } }",
     ),
     (
         REQUIRED,
@@ -145,11 +145,11 @@ const SAYINGS: [(&[u8], &str); 18] = [
     ),
     (
         REQUEST_ACK,
-        "HandoverRequestAck { layer3: Octets { octets: [6, 43, 213, 103, 11, 163, 107, 0, 5] } }",
+        "HandoverRequestAck { layer3: Octets { items: [6, 43, 213, 103, 11, 163, 107, 0, 5] } }",
     ),
     (
         COMMAND,
-        "HandoverCommand { layer3: Octets { octets: [6, 43, 213, 103, 11, 163, 107, 42, 5] } }",
+        "HandoverCommand { layer3: Octets { items: [6, 43, 213, 103, 11, 163, 107, 42, 5] } }",
     ),
     (COMPLETE, "HandoverComplete { rr: Some(0) }"),
     (&[0, 1, 0x14], "HandoverComplete { rr: None }"),

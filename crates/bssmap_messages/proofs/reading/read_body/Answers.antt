@@ -6,9 +6,9 @@ use Rattle.bssmap_messages.proofs.reading.read_body.Goals as goal
 pub returns-in-Ok-clause-text : goal.returns-in-Ok-clause-text
 returns-in-Ok-clause-text g c =
     let found = c.in-Ok.ensures.whole in
-    text_answered (codec _) c.args.kind c.args.body.now found.0 c.read_elements.result found.1 (answered c.args.kind found.0 c.in-Ok.found c.read_elements.result found.2 c.read_elements.ensures)
+    text_answered (codec _) c.args.kind c.args.body.now found.0 c.read_elements.result found.1 (answered c.args.kind found.0 c.read.new.self c.read_elements.result found.2 c.read_elements.ensures)
 
 pub returns-in-Ok-clause-fault : goal.returns-in-Ok-clause-fault
 returns-in-Ok-clause-fault g c =
     let found = c.in-Ok.ensures.whole in
-    fault_answered (codec _) c.args.kind c.args.body.now found.0 c.read_elements.result found.1 (answered c.args.kind found.0 c.in-Ok.found c.read_elements.result found.2 c.read_elements.ensures)
+    fault_answered (codec _) c.args.kind c.args.body.now found.0 c.read_elements.result found.1 (answered c.args.kind found.0 c.read.new.self c.read_elements.result found.2 c.read_elements.ensures)
