@@ -1,7 +1,7 @@
 //! The journal of an attempt at handover: for each of its steps, what takes it back. Ours, of no standard.
 #![tactic(auto)]
 
-ghost use Rattle.std.specs.Prelude.{◌≡◌, ◌<◌, ◌↔◌, IsTrue, [], ◌∷◌, ◌++◌, length, option_to_list, IfNone};
+ghost use Rattle.std.specs.Prelude.{◌≡◌, ◌<◌, ◌≤◌, ◌↔◌, IsTrue, [], ◌∷◌, ◌++◌, length, option_to_list, IfNone};
 
 use channel_fsm::ChanId;
 use std::marker::Model;
@@ -67,7 +67,8 @@ impl Journal {
 
     /// How many inverses it has, 0 to 7.
     pub fn len(&self) -> usize
-        ensures { result ≡ length self.now }
+        ensures count { result ≡ length self.now }
+        ensures most { result ≤ 7 }
     {
         self.pushed
     }

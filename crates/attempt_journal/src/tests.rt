@@ -53,3 +53,17 @@ fn seven_come_back_last_first(rt: HostRuntime) {
     assert_eq!(rt; again.len(), 7);
     pops(&rt, &mut again);
 }
+
+#[test]
+fn what_is_pushed_after_a_pop_comes_back_before_the_rest(rt: HostRuntime) {
+    let mut journal = Journal::new();
+    journal.push(Settle);
+    journal.push(FreeChannel(TARGET));
+    assert_eq!(rt; journal.pop(), Some(FreeChannel(TARGET)));
+    assert_eq!(rt; journal.len(), 1);
+    journal.push(DropReference(7));
+    assert_eq!(rt; journal.len(), 2);
+    assert_eq!(rt; journal.pop(), Some(DropReference(7)));
+    assert_eq!(rt; journal.pop(), Some(Settle));
+    assert_eq!(rt; journal.pop(), None);
+}

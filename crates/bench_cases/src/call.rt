@@ -5,7 +5,7 @@ use crate::varying::{Varying, octets_sum};
 use ho_procedure::exchange::{Inbound, Line, Outbound};
 use ho_procedure::procedure::handle_plain;
 use radio_book::book::Book;
-use radio_book::channel::ChanId;
+use channel_fsm::ChanId;
 use rsl_messages::Octets;
 use std::alloc::Global;
 

@@ -5,7 +5,7 @@ use crate::fault::Fault;
 use crate::varying::Varying;
 use cell_table::Site;
 use radio_book::book::Book;
-use radio_book::channel::ChanId;
+use channel_fsm::ChanId;
 use radio_book::event::{Event, Kind, Reply, Why};
 use std::alloc::{AllocError, Global};
 use std::fmt::Write;

@@ -3,7 +3,7 @@ use Rattle.std.specs.Prelude.{◌≡◌, ◌⊎◌, ℕ, List, [], ◌∷◌, ma
 use Rattle.radio_book.specs.declared.event.Event.{Event}
 use Rattle.radio_book.specs.declared.event.Event.TheVariants.{Take, Reserve}
 use Rattle.radio_book.specs.declared.event.Reply.{Reply}
-use Rattle.radio_book.specs.Site.{SiteView}
+use Rattle.cell_table.specs.Site.{SiteView}
 use Rattle.radio_book.specs.State.{State, record_of}
 use Rattle.radio_book.specs.Table.{step}
 use Rattle.radio_book.specs.Choice.{IsFreeIn, MayReserve, taken_channel}

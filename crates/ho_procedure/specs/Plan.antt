@@ -1,7 +1,7 @@
 -- Plans: what a controller asks of the book and what it sends, each step by the replies before it.
 use Rattle.std.specs.Prelude.{◌≡◌, ℕ, List, [], ◌∷◌, Option, Some, None}
-use Rattle.radio_book.specs.ChanId.{ChanId}
-use Rattle.radio_book.specs.ChanState.{ChanState}
+use Rattle.channel_fsm.specs.declared.ChanId.{ChanId}
+use Rattle.channel_fsm.specs.declared.ChanState.{ChanState}
 use Rattle.radio_book.specs.declared.event.Kind.{Kind}
 use Rattle.radio_book.specs.declared.event.Event.{Event}
 use Rattle.radio_book.specs.declared.event.Event.TheVariants.{Take, Reserve}

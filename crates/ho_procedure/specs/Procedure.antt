@@ -1,8 +1,8 @@
 -- The procedure: for each input, what the controller asks of the book and what it sends, by the replies.
 use Rattle.std.specs.Prelude.{ℕ, Bool, true, false, if◌then◌else◌, not, ◌&&◌, ◌||◌, nat_lt, List, [], ◌∷◌, length, Option, Some, None, is_some}
-use Rattle.radio_book.specs.ChanId.{ChanId}
-use Rattle.radio_book.specs.ChanState.{ChanState}
-use Rattle.radio_book.specs.ChanState.TheVariants.{Held}
+use Rattle.channel_fsm.specs.declared.ChanId.{ChanId}
+use Rattle.channel_fsm.specs.declared.ChanState.{ChanState}
+use Rattle.channel_fsm.specs.declared.ChanState.TheVariants.{Held}
 use Rattle.radio_book.specs.declared.event.Kind.TheVariants as kind
 use Rattle.radio_book.specs.declared.event.AttemptKind.{AttemptKind}
 use Rattle.radio_book.specs.declared.event.AttemptKind.TheVariants.{Internal, Incoming}
@@ -12,7 +12,7 @@ use Rattle.radio_book.specs.declared.event.Why.TheVariants.{Asked}
 use Rattle.radio_book.specs.declared.event.Attempt.{Attempt}
 use Rattle.radio_book.specs.declared.event.CallRecord.{CallRecord}
 use Rattle.radio_book.specs.declared.event.Event.TheVariants as event
-use Rattle.radio_book.specs.Site.{SiteView}
+use Rattle.cell_table.specs.Site.{SiteView}
 use Rattle.radio_book.specs.Sound.{target_in}
 use Rattle.radio_book.specs.Table.{is_target}
 use Rattle.rsl_messages.specs.declared.message.ChanBits.{ChanBits}

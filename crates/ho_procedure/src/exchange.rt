@@ -2,7 +2,7 @@
 ghost use Rattle.std.specs.Prelude.{◌≡◌};
 ghost use Rattle.ho_procedure.specs.Handling.{IsFresh};
 
-use radio_book::channel::ChanId;
+use channel_fsm::ChanId;
 use radio_book::event::{Event, Reply};
 use rsl_messages::{Octets, RslFault};
 use std::alloc::{AllocError, Allocator, Global};

@@ -7,7 +7,7 @@ use Rattle.std.specs.Result.{result_ok}
 use Rattle.std.specs.Str.Parse.{digits_value}
 use Rattle.std.specs.Str.Lines.{strip_carriage_return}
 use Rattle.hex.specs.Hex.{decode_of}
-use Rattle.radio_book.specs.ChanId.{ChanId}
+use Rattle.channel_fsm.specs.declared.ChanId.{ChanId}
 use Rattle.ho_procedure.specs.declared.exchange.Line.{Line}
 use Rattle.ho_procedure.specs.declared.exchange.Line.TheVariants.{Open, Handover, Undo, Clear}
 use Rattle.ho_procedure.specs.declared.exchange.Inbound.{Inbound}

@@ -1,6 +1,6 @@
 use ho_procedure::exchange::{Inbound, Line};
 use lab_script::script::{ScriptFault, first_unread, is_octets, read_script};
-use radio_book::channel::ChanId;
+use channel_fsm::ChanId;
 use refusing_heap::RefusingHeap;
 use std::alloc::Global;
 use std::process::Abort;

@@ -1,8 +1,3 @@
-pub use Rattle.channel_fsm.specs.Text
-pub use Rattle.channel_fsm.specs.declared.ChanId
-pub use Rattle.channel_fsm.specs.declared.ChanState
-pub use Rattle.cell_table.specs.Site
-pub use Rattle.cell_table.specs.SiteFile
 pub mod Keys
 pub mod Maps
 pub mod State

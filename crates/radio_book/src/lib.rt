@@ -9,6 +9,3 @@ pub mod laws;
 pub mod others;
 mod records;
 mod tables;
-
-pub use cell_table as site;
-pub use channel_fsm as channel;

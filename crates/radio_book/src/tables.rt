@@ -65,8 +65,10 @@ impl<A: Allocator + Copy> Channels<A> {
         self.get(x).unwrap_or(ChanState::Free)
     }
 
-    /// A free channel comes into use by a step from the state Free. Memory is asked for.
+    /// A free channel comes into use by a step of a free channel. Memory is asked for.
     pub fn occupy(&mut self, x: ChanId, event: ChanEvent) -> Result<(), AllocError>
+        requires free { map.get self.old x ≡ None }
+        requires step { IsSome (next_state state.Free event) }
         ensures ok { OnOk result (self.new ≡ map.insert self.old x (state_after state.Free event)) }
         ensures err { OnErr result (self.new ≡ self.old) }
         ensures new_key { OnErr result (map.get self.old x ≡ None) }
@@ -74,7 +76,8 @@ impl<A: Allocator + Copy> Channels<A> {
         self.insert(x, state_after(ChanState::Free, event))
     }
 
-    /// A channel takes a step that no free channel has. Where its state has no such step, it stays.
+    /// Moves a channel by an event that is no step of a free channel (neither `Take` nor `Begin`). Where it is no step
+    /// of the channel's state either, the channel stays.
     pub fn step(&mut self, x: ChanId, event: ChanEvent)
         requires { next_state state.Free event ≡ None }
         ensures { self.new ≡ with_change self.old

@@ -5,7 +5,7 @@ use crate::bad::Bad;
 use crate::text::{HexText, OrDash};
 use ho_procedure::exchange::{Handled, Inbound, Line, Outbound};
 use radio_book::book::Usage;
-use radio_book::channel::ChanState;
+use channel_fsm::ChanState;
 use radio_book::event::{
     Attempt, AttemptKind, CallRecord, Event, Kind, Refusal, Reply, Stage, Timer, Why,
 };

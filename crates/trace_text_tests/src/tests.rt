@@ -2,7 +2,7 @@
 use bssmap_messages::BssmapFault;
 use ho_procedure::exchange::{Handled, Inbound, Line};
 use radio_book::book::Usage;
-use radio_book::channel::{ChanId, ChanState};
+use channel_fsm::{ChanId, ChanState};
 use radio_book::event::{
     Attempt, AttemptKind, CallRecord, Event, Kind, Refusal, Reply, Stage, Timer, Why,
 };

@@ -9,7 +9,7 @@ use super::release::{Release, is_nameable, serving_release, target_release};
 use super::steps::{ask, send_activation, send_release};
 use crate::exchange::Handled;
 use radio_book::book::Book;
-use radio_book::channel::{ChanId, ChanState};
+use channel_fsm::{ChanId, ChanState};
 use radio_book::event::{Attempt, AttemptKind, CallRecord, Event, Reply, Why};
 use std::alloc::{AllocError, Allocator};
 

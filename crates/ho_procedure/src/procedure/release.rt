@@ -2,7 +2,7 @@
 ghost use Rattle.std.specs.Prelude.{◌≡◌};
 ghost use Rattle.ho_procedure.specs.Procedure.{is_nameable, release_of, is_named, is_switched_on, target_release, serving_release};
 
-use radio_book::channel::{ChanId, ChanState};
+use channel_fsm::{ChanId, ChanState};
 use radio_book::event::{Attempt, CallRecord, Stage};
 
 /// What a row releases, where a channel may be left behind.

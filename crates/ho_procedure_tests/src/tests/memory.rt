@@ -6,7 +6,7 @@ use super::{
 use ho_procedure::exchange::{Inbound, PlainFault};
 use ho_procedure::procedure::handle_plain;
 use radio_book::book::{Book, Usage};
-use radio_book::channel::ChanId;
+use channel_fsm::ChanId;
 use radio_book::event::Event::{Look, Open};
 use radio_book::event::Reply::Done;
 use radio_book::event::{Event, Reply};

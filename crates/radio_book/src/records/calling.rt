@@ -1,5 +1,6 @@
 //! Calls begin and end.
-ghost use Rattle.std.specs.Prelude.{◌≡◌, OnOk, OnErr, IfOk, Some, None};
+ghost use Rattle.std.specs.Prelude.{◌≡◌, OnOk, OnErr, IfOk, Some, None, IsSome};
+ghost use Rattle.channel_fsm.specs.Table.{next_state};
 ghost use Rattle.std.specs.FinMap as map;
 ghost use Rattle.radio_book.specs.declared.event.Event.TheVariants as event;
 ghost use Rattle.cell_table.specs.Site.{is_traffic};
@@ -25,7 +26,8 @@ impl<A: Allocator + Copy> Records<A> {
         entry: CallEntry,
         event: ChanEvent,
     ) -> Result<Reply, AllocError>
-        requires { IsSound self.old }
+        requires sound { IsSound self.old }
+        requires step { IsSome (next_state state.Free event) }
         ensures reply { IfOk result (λ reply. reply ≡
             reply_of (begin_row call x entry (state_after state.Free event) (record_of self.old call)
             (is_traffic self.old.site x) (state_of self.old x))) }
@@ -60,6 +62,7 @@ impl<A: Allocator + Copy> Records<A> {
     ) -> Result<(), AllocError>
         requires call { record_of self.old call ≡ None }
         requires channel { map.get self.old.channels x ≡ None }
+        requires step { IsSome (next_state state.Free event) }
         ensures book { OnOk result (self.new ≡ apply
             (record no_change
             { channel = with_state x (state_after state.Free event); call = with_record call entry })
