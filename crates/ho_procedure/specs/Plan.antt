@@ -60,7 +60,7 @@ Follows (Reserves c next) (s ∷ steps) none_free out = (n : ℕ) × (s.0 ≡ Re
 Follows (Sends m next) steps none_free [] = ⊥
 Follows (Sends m next) steps none_free (o ∷ out) = (o ≡ m) × Follows next steps none_free out
 
--- Events with their replies are a beginning of a plan's, behind which the plan has a step: it isn't at its end there.
+-- Events with their replies follow a plan from its beginning, and the plan has a step behind them: it isn't at its end.
 abbrev pub StopsIn : Plan → List (Event × Reply) → Type 0
 StopsIn Ends steps = ⊥
 StopsIn (Asks e next) [] = Unit {0}

@@ -42,7 +42,7 @@ pub enum Outbound<A: Allocator = Global> {
 pub struct Handled<A: Allocator = Global> {
     /// The events that were asked of the book, each with its reply.
     pub events: Vec<(Event, Reply), A>,
-    /// The cell in which no channel was free, where one was asked for there in vain.
+    /// The cell in which a handover found no free channel.
     pub none_free: Option<u8>,
     /// The messages that are sent.
     pub out: Vec<Outbound<A>, A>,
@@ -67,7 +67,7 @@ pub enum PlainFault {
     /// The octets are no message. The book is as it was.
     #[error("the octets are no message: {0}")]
     Undecoded(RslFault),
-    /// Memory was refused. The book is where the first events of the row lead.
+    /// Memory was refused. The book was asked some first events of the row, or none, and is where they lead.
     #[error("out of memory")]
     NoMemory,
 }

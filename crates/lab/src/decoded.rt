@@ -145,9 +145,9 @@ fn decode_abis<A: Allocator + Copy, W: Write>(
 
 /// Prints the message that a hexadecimal text writes, on one line.
 ///
-/// Octets that are no message of the link print `fault`, the link, the number of the fault and its arguments, a text
-/// that isn't hexadecimal prints `hex`; then the answer is `Refused`. An empty text writes no octets. Once memory was
-/// refused nothing is printed.
+/// Octets that are no message of the link print `fault`, the link, and the number of the fault with its argument. A text
+/// that isn't hexadecimal prints `hex`. In both cases the answer is `Refused`. An empty text writes no octets. Once
+/// memory was refused nothing is printed.
 pub fn decode_run<A: Allocator + Copy, W: Write>(
     alloc: A,
     link: Link,

@@ -52,8 +52,8 @@ fn text_of<R: Files + AllocGlobal, W: Write>(
 
 /// Runs the script of one file over the site of another, and prints the trace to `out`, as [`lab_run`] does of texts.
 ///
-/// The site's file is read first. A file that isn't there or can't be read, that isn't UTF-8 or has more than 64 MiB
-/// prints `file` and its path; then nothing else is printed and the answer is `Refused`.
+/// The site's file is read first. Where a file isn't there, can't be read, isn't UTF-8 or has more than
+/// [`LONGEST_FILE`] octets, `file` and its path are printed and nothing else, and the answer is `Refused`.
 pub fn run_files<R: Files + AllocGlobal, W: Write>(
     rt: &R,
     site: &str,

@@ -5,7 +5,7 @@ ghost use Rattle.ho_procedure.specs.Procedure.{is_nameable, release_of, is_named
 use channel_fsm::{ChanId, ChanState};
 use radio_book::event::{Attempt, CallRecord, Stage};
 
-/// What a row releases, where a channel may be left behind.
+/// What a row releases.
 #[derive(Clone, Copy, Debug, PartialEq, Eq)]
 pub enum Release {
     /// The station has nothing to release.
