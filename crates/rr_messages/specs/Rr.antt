@@ -81,7 +81,7 @@ HasPartFault kind.HandoverCommand part fault =
 HasPartFault _ part fault = ⊥
 
 -- The octets have this fault: no octet, or another discriminator; no type, or a part that is cut; a type
--- that no message has; a bad element in the part. Memory is never wanted.
+-- that no message has; a bad element in the part. Memory is never refused.
 abbrev pub HasRrFault : List ℕ → RrFault → Type 0
 HasRrFault octets NotRr = (octets ≡ []) ⊎ ((d : ℕ) × (rest : List ℕ) × (octets ≡ d ∷ rest) × (d ≢ radio_resources))
 HasRrFault octets Short = (octets ≡ radio_resources ∷ []) ⊎ ((k : Kind) × (body : List ℕ) × (octets ≡ radio_resources ∷ type_of k ∷ body) × (length body < part_len k))

@@ -31,7 +31,7 @@ const NEIGHBOUR: Ncell = Ncell {
 };
 
 // What a message says, its fields not yet known to fit their bits.
-#[derive(Clone, Copy, Debug)]
+#[derive(Clone, Copy)]
 enum Said {
     // The cell's carrier and colour codes, the channel's timeslot, training sequence and carrier, the reference and
     // the power level.
@@ -86,54 +86,63 @@ const MESSAGES: [(Said, &[u8]); 10] = [
     (Said::MeasurementReport(HEAD, NEIGHBOUR), &REPORT),
 ];
 
-fn read_and_write<R: Abort + AllocGlobal>(rt: &R, messages: &[(Said, &[u8])]) -> Result<(), Fail> {
+fn message_of(rt: &impl Abort, said: Said) -> Rr {
+    message(said).expect(rt, "fields that fit their bits")
+}
+
+fn is_written<R: Abort + AllocGlobal>(rt: &R, message: &Rr, octets: &[u8]) {
+    let written = encode(rt.alloc(), message).expect(rt, "memory is ample");
+    assert!(rt; written.as_slice() == octets, "{octets:?}");
+}
+
+fn read_and_write<R: Abort + AllocGlobal>(rt: &R, messages: &[(Said, &[u8])]) {
     for (said, octets) in messages {
-        let message = message(*said)?;
-        assert_eq!(rt; decode(octets), Ok(message));
-        assert_eq!(rt; encode(rt.alloc(), &message)?.as_slice(), *octets);
+        let message = message_of(rt, *said);
+        assert!(rt; decode(octets) == Ok(message), "{octets:?}");
+        is_written(rt, &message, octets);
     }
-    Ok(())
 }
 
 #[test]
-fn reads_and_writes_each_message(rt: HostRuntime) -> Result<(), Fail> {
-    read_and_write(&rt, &MESSAGES)
+fn reads_and_writes_each_message(rt: HostRuntime) {
+    read_and_write(&rt, &MESSAGES);
 }
 
-fn read_with_a_rest<R: Abort + AllocGlobal>(
-    rt: &R,
-    messages: &[(Said, &[u8])],
-) -> Result<(), Fail> {
-    let mut longer = Vec::new(rt.alloc());
+fn is_read_before_a_rest<R: Abort + AllocGlobal>(rt: &R, message: Rr, octets: &[u8]) {
+    let mut longer = Vec::from_slice(rt.alloc(), octets).expect(rt, "memory is ample");
+    assert!(rt; longer.extend_from_slice(&[0x7D, 0x06, 0x00]).is_ok());
+    assert!(rt; decode(&longer) == Ok(message), "{octets:?}");
+}
+
+fn are_read_before_a_rest<R: Abort + AllocGlobal>(rt: &R, messages: &[(Said, &[u8])]) {
     for (said, octets) in messages {
-        longer.clear();
-        longer.extend_from_slice(octets)?;
-        longer.extend_from_slice(&[0x7D, 0x06, 0x00])?;
-        assert_eq!(rt; decode(&longer), Ok(message(*said)?));
+        is_read_before_a_rest(rt, message_of(rt, *said), octets);
     }
-    Ok(())
 }
 
 #[test]
-fn ignores_what_follows_the_mandatory_part(rt: HostRuntime) -> Result<(), Fail> {
-    read_with_a_rest(&rt, &MESSAGES)
+fn ignores_what_follows_the_mandatory_part(rt: HostRuntime) {
+    are_read_before_a_rest(&rt, &MESSAGES);
 }
 
-fn append<R: Abort + AllocGlobal>(rt: &R, messages: &[(Said, &[u8])]) -> Result<(), Fail> {
-    let mut out = Vec::new(rt.alloc());
+fn is_appended<R: Abort + AllocGlobal>(rt: &R, message: &Rr, octets: &[u8]) {
+    let mut out = Vec::from_slice(rt.alloc(), &[1, 2]).expect(rt, "memory is ample");
+    assert!(rt; encode_into(message, &mut out).is_ok());
+    assert!(rt;
+        out.starts_with(&[1, 2]) && out.get(2..) == Some(octets),
+        "{octets:?}"
+    );
+}
+
+fn are_appended<R: Abort + AllocGlobal>(rt: &R, messages: &[(Said, &[u8])]) {
     for (said, octets) in messages {
-        out.clear();
-        out.extend_from_slice(&[1, 2])?;
-        encode_into(&message(*said)?, &mut out)?;
-        assert!(rt; out.starts_with(&[1, 2]));
-        assert_eq!(rt; out.get(2..), Some(*octets));
+        is_appended(rt, &message_of(rt, *said), octets);
     }
-    Ok(())
 }
 
 #[test]
-fn appends_to_what_stands_in_a_list(rt: HostRuntime) -> Result<(), Fail> {
-    append(&rt, &MESSAGES)
+fn appends_to_what_stands_in_a_list(rt: HostRuntime) {
+    are_appended(&rt, &MESSAGES);
 }
 
 fn refuses_truncations(rt: &impl Abort, octets: &[u8]) {
@@ -143,7 +152,7 @@ fn refuses_truncations(rt: &impl Abort, octets: &[u8]) {
         } else {
             RrFault::Short
         };
-        assert_eq!(rt; decode(&octets[..len]), Err(fault), "{len}");
+        assert!(rt; decode(&octets[..len]) == Err(fault), "{len}");
     }
 }
 
@@ -198,7 +207,7 @@ const FAULTS: [(&[u8], RrFault); 13] = [
 
 fn refuse(rt: &impl Abort, table: &[(&[u8], RrFault)]) {
     for (octets, fault) in table {
-        assert_eq!(rt; decode(octets), Err(*fault), "{octets:?}");
+        assert!(rt; decode(octets) == Err(*fault), "{octets:?}");
     }
 }
 
@@ -207,20 +216,19 @@ fn refuses_octets(rt: HostRuntime) {
     refuse(&rt, &FAULTS);
 }
 
+/// A report's octets with a count of 7.
+const SEVEN: [u8; 18] = [
+    0x06, 0x15, 0x1E, 0x1E, 0x01, 0xE8, 0x12, 0xA0, 0, 0, 0, 0, 0, 0, 0, 0, 0, 0,
+];
+
 #[test]
-fn reads_what_is_not_canonical(rt: HostRuntime) -> Result<(), Fail> {
+fn reads_what_is_not_canonical(rt: HostRuntime) {
     // Spare bits of the channel, bits 7 and 6 of the power, a rest, and neighbours with a count of 7.
     let octets = [0x06, 0x2B, 0xD5, 0x67, 0x0B, 0xAF, 0x6B, 0x2A, 0x65, 0x7C];
-    assert_eq!(rt; decode(&octets)?, message(COMMAND)?);
-    let mut octets = REPORT;
-    octets[4] = 0x01;
-    octets[5] = 0xE8;
-    let Rr::MeasurementReport(results) = decode(&octets)? else {
-        return Err("another message".into());
-    };
-    assert_eq!(rt; results.head().count, 7);
-    assert!(rt; results.neighbours().is_empty());
-    Ok(())
+    assert!(rt; decode(&octets) == Ok(message_of(&rt, COMMAND)));
+    let none = MeasResults::new(MeasHead { count: 7, ..HEAD }, &[]);
+    let none = none.expect(&rt, "a head that fits");
+    assert!(rt; decode(&SEVEN) == Ok(Rr::MeasurementReport(none)));
 }
 
 /// How many requests for memory were refused, one after the other, before the message was written.
@@ -229,9 +237,9 @@ fn refusals_of(rt: &(impl AllocGlobal + Abort), message: &Rr, octets: &[u8]) -> 
     for n in 1..100 {
         let heap = RefusingHeap::refusing_nth(rt.alloc(), n);
         let answer = encode(&heap, message);
-        assert_eq!(rt; answer.is_err(), heap.was_refused(), "request {n}");
+        assert!(rt; answer.is_err() == heap.was_refused(), "request {n}");
         if let Ok(written) = answer {
-            assert_eq!(rt; written.as_slice(), octets);
+            assert!(rt; written.as_slice() == octets, "request {n}");
             break;
         }
         refused = refused.saturating_add(1);
@@ -239,46 +247,49 @@ fn refusals_of(rt: &(impl AllocGlobal + Abort), message: &Rr, octets: &[u8]) -> 
     refused
 }
 
-fn answer_refusals<R: Abort + AllocGlobal>(rt: &R, messages: &[(Said, &[u8])]) -> Result<(), Fail> {
+fn answer_refusals<R: Abort + AllocGlobal>(rt: &R, messages: &[(Said, &[u8])]) {
     for (said, octets) in messages {
-        let refused = refusals_of(rt, &message(*said)?, octets);
+        let refused = refusals_of(rt, &message_of(rt, *said), octets);
         assert!(rt; 0 < refused && refused < 99, "{refused} requests");
     }
-    Ok(())
 }
 
 #[test]
-fn answers_each_refusal(rt: HostRuntime) -> Result<(), Fail> {
-    answer_refusals(&rt, &MESSAGES)
+fn answers_each_refusal(rt: HostRuntime) {
+    answer_refusals(&rt, &MESSAGES);
 }
 
-// The message twice over in a list with room for it: nothing is asked for, and the room stays. A list without room
-// stays as it was.
+// The message twice over in a list with room for it: nothing is asked for, and the room stays.
 fn write_in_room(rt: &impl Abort, heap: &RefusingHeap<Global>, message: &Rr, octets: &[u8]) {
     let mut out = Vec::with_capacity(heap, 40).expect(rt, "memory is ample");
-    let mut full = Vec::new(heap);
     heap.refuse_from_now();
-    for count in 1..3usize {
-        assert!(rt; encode_into(message, &mut out).is_ok());
-        assert_eq!(rt; (out.len(), out.capacity()), (count * octets.len(), 40));
-        assert!(rt; out.ends_with(octets) && out.starts_with(octets));
-    }
-    assert!(rt; !heap.was_refused());
-    assert!(rt; encode_into(message, &mut full).is_err());
-    assert!(rt; full.is_empty());
+    let written = encode_into(message, &mut out).is_ok() && encode_into(message, &mut out).is_ok();
+    assert!(rt;
+        written && !heap.was_refused() && out.capacity() == 40,
+        "{octets:?}"
+    );
+    let (first, second) = out.split_at(octets.len().min(out.len()));
+    assert!(rt; first == octets && second == octets, "{octets:?}");
 }
 
-fn keep_room<R: Abort + AllocGlobal>(rt: &R, messages: &[(Said, &[u8])]) -> Result<(), Fail> {
+// A list without room stays as it was.
+fn write_without_room(rt: &impl Abort, heap: &RefusingHeap<Global>, message: &Rr) {
+    let mut out = Vec::new(heap);
+    heap.refuse_from_now();
+    assert!(rt; encode_into(message, &mut out).is_err() && out.is_empty());
+}
+
+fn keep_room<R: Abort + AllocGlobal>(rt: &R, messages: &[(Said, &[u8])]) {
     for (said, octets) in messages {
-        let message = message(*said)?;
+        let message = message_of(rt, *said);
         write_in_room(rt, &RefusingHeap::ample(rt.alloc()), &message, octets);
+        write_without_room(rt, &RefusingHeap::ample(rt.alloc()), &message);
     }
-    Ok(())
 }
 
 #[test]
-fn takes_no_memory_where_there_is_room(rt: HostRuntime) -> Result<(), Fail> {
-    keep_room(&rt, &MESSAGES)
+fn takes_no_memory_where_there_is_room(rt: HostRuntime) {
+    keep_room(&rt, &MESSAGES);
 }
 
 fn have_texts<R: Abort + AllocGlobal>(rt: &R, table: &[(RrFault, &str)]) -> Result<(), Fail> {
