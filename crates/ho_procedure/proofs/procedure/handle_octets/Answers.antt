@@ -1,6 +1,5 @@
 use Rattle.std.proofs.Common.{ap, ◌∙◌, Err}
-use Rattle.rsl_messages.proofs.Unique.{no_fault}
-use Rattle.rsl_messages.proofs.Faults.{one_fault}
+use Rattle.rsl_messages.proofs.Unique.{no_fault, one_fault}
 use Rattle.ho_procedure.specs.declared.exchange.PlainFault.TheVariants.{Undecoded}
 use Rattle.ho_procedure.proofs.procedure.handle_octets.Goals as goal
 
