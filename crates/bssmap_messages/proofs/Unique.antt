@@ -1,6 +1,6 @@
 -- Octets begin with one head, or have one fault in it.
-use Rattle.std.proofs.Common.{◌≡◌, ◌⊎◌, ℕ, List, ◌∷◌, Option, Some, None, Result, Err, IfErr, refl, sym, ◌∙◌, ap, subst, cond, eqb, length, inl, inr}
-use Rattle.octet_elements.specs.Texts.{HeadsAreUnique}
+use Rattle.std.proofs.Common.{◌≡◌, ◌⊎◌, ℕ, List, ◌∷◌, Option, Some, None, Result, Ok, Err, IfOk, IfErr, refl, sym, ◌∙◌, ap, subst, cond, eqb, length, inl, inr}
+use Rattle.octet_elements.specs.Texts.{HeadsAreUnique, Says, HasBodyFault}
 use Rattle.octet_elements.specs.declared.values.ValueFault.{ValueFault}
 use Rattle.octet_elements.specs.declared.values.ValueFault.TheVariants.{Absent, Bad}
 use Rattle.octet_elements.proofs.Texts.{refused}
@@ -101,3 +101,12 @@ no_value_fault (Bad i) same = cc
 -- memory is refused only for a text whose message keeps a list
 pub memory_refused : (A : Type 0) (octets : List ℕ) (r : Result (Bssmap A) BssmapFault) → r ≡ Err fault.NoMemory → IfErr r (HasFault A octets) → (v : Bssmap A) × IsTextOf v octets × KeepsList v
 memory_refused A octets r memory h = refused (codec A) octets (λ early. early) (λ at same. cc) no_value_fault (subst (λ r. IfErr r (HasFault A octets)) memory h)
+
+-- what is read of the body behind a head is read of the octets
+pub text_read : {A : Type 0} (k : MessageKind) (octets body : List ℕ) (r : Result (Bssmap A) BssmapFault) → Begins k octets body → IfOk r (λ v. Says (codec A) k body (Ok v)) → IfOk r (λ v. IsTextOf v octets)
+text_read k octets body (Ok v) head h = record { kind = k; body = body; head = head; says = h }
+text_read k octets body (Err f) head h = tt
+
+pub fault_read : {A : Type 0} (k : MessageKind) (octets body : List ℕ) (r : Result (Bssmap A) BssmapFault) → Begins k octets body → IfErr r (HasBodyFault (codec A) k body) → IfErr r (HasFault A octets)
+fault_read k octets body (Ok v) head h = tt
+fault_read k octets body (Err f) head h = inr (k, body, head, h)

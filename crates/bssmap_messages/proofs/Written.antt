@@ -18,10 +18,10 @@ use Rattle.bssmap_messages.specs.declared.message.Classmark.{Classmark}
 use Rattle.bssmap_messages.specs.declared.message.Classmark.TheVariants.{One, Two}
 use Rattle.bssmap_messages.specs.declared.message.Bssmap.{Bssmap}
 use Rattle.bssmap_messages.specs.declared.message.Bssmap.TheVariants.{HandoverRequest, HandoverRequired, HandoverRequestAck, HandoverCommand, HandoverComplete, HandoverFailure, HandoverPerformed, HandoverRequiredReject, HandoverDetect, ClearCommand, ClearComplete, ClearRequest}
-use Rattle.bssmap_messages.specs.declared.table.TheConstants.{CAUSE, CELL_IDENTIFIER, CELL_IDENTIFIER_LIST, ENCRYPTION_INFORMATION, LAYER_3_INFORMATION, RESPONSE_REQUEST}
+use Rattle.bssmap_messages.specs.Forms.{CAUSE, CELL_IDENTIFIER, CELL_IDENTIFIER_LIST, ENCRYPTION_INFORMATION, LAYER_3_INFORMATION, RESPONSE_REQUEST}
 use Rattle.bssmap_messages.specs.Forms.{interface_a}
 use Rattle.bssmap_messages.specs.Heads.{limit, Carries}
-use Rattle.bssmap_messages.specs.Messages.{said, value_of, type_of, kind_of, elements_of, handover_request, handover_required, handover_request_ack, handover_command, handover_complete, handover_failure, handover_performed, handover_required_reject, clear_command, clear_request}
+use Rattle.bssmap_messages.specs.Messages.{said, value_of, type_of, kind_of, elements_of, CanBeSaid, handover_request, handover_required, handover_request_ack, handover_command, handover_complete, handover_failure, handover_performed, handover_required_reject, clear_command, clear_request}
 use Rattle.bssmap_messages.specs.Texts.{codec, HasCanonical, canonical_text, written_octets}
 use Rattle.bssmap_messages.specs.Values.{channel_type_in, cells_after, some_cells, cell_in, cells_in, cells_from, cell_octets, cell_value, cells_value, channel_type}
 use Rattle.bssmap_messages.proofs.Lengths.{request_length, required_length, cells_length, classmark_fits}
@@ -30,22 +30,6 @@ use Rattle.bssmap_messages.proofs.Unique.{one_head, one_carried}
 -- each cell has a location area code
 abbrev have_areas : List CellId → Bool
 have_areas cells = list_all (λ cell. is_some cell.lac) cells
-
--- The message is what its elements say once they are written: octets are long enough, there is a cell, and each
--- cell has a location area code.
-abbrev pub CanBeSaid : {A : Type 0} → Bssmap A → Type 0
-CanBeSaid (HandoverRequest channel encryption classmark serving target) = (1 < length channel) × (0 < length encryption) × IsSome serving.lac × IsSome target.lac
-CanBeSaid (HandoverRequired cause response cells) = (0 < length cells) × IsTrue (list_all (λ cell. is_some cell.lac) cells)
-CanBeSaid (HandoverRequestAck layer3) = 0 < length layer3
-CanBeSaid (HandoverCommand layer3) = 0 < length layer3
-CanBeSaid (HandoverComplete rr) = Unit {0}
-CanBeSaid (HandoverFailure cause rr) = Unit {0}
-CanBeSaid (HandoverPerformed cause cell) = IsSome cell.lac
-CanBeSaid (HandoverRequiredReject cause) = Unit {0}
-CanBeSaid HandoverDetect = Unit {0}
-CanBeSaid (ClearCommand cause) = Unit {0}
-CanBeSaid ClearComplete = Unit {0}
-CanBeSaid (ClearRequest cause) = Unit {0}
 
 -- Each reader reads again what is written.
 channel_again : (v : List ℕ) → 1 < length v → channel_type_in (Some v) ≡ Ok v
@@ -256,3 +240,10 @@ can_be_said HandoverDetect h = tt
 can_be_said (ClearCommand cause) h = tt
 can_be_said ClearComplete h = tt
 can_be_said (ClearRequest cause) h = tt
+
+-- What can be written has a canonical text, and has none else.
+pub writable : {A : Type 0} (v : Bssmap A) → CanBeSaid v → length (written_octets v) ≤ limit → HasCanonical v
+writable v can short = canonical_of v (said_again v can) (omega arith)
+
+pub writable_of : {A : Type 0} (v : Bssmap A) → HasCanonical v → CanBeSaid v × (length (written_octets v) ≤ limit)
+writable_of v h = let short = short_of v h in (can_be_said v (own_said v h), omega arith)

@@ -1,9 +1,29 @@
--- The forms of the elements on A (TS 48.008 clause 3.2.2).
+-- The elements on A: identifiers (TS 48.008 clause 3.2.2.1) and forms (clause 3.2.2).
 use Rattle.std.specs.Prelude.{ℕ, ◌-◌, if◌then◌else◌, ◌==◌, List, [], ◌∷◌}
 use Rattle.octet_elements.specs.declared.form.Form.{Form}
 use Rattle.octet_elements.specs.declared.form.Form.TheVariants.{Fixed, Counted}
 use Rattle.octet_elements.specs.Elements.{Forms}
-use Rattle.bssmap_messages.specs.declared.table.TheConstants.{CAUSE, CELL_IDENTIFIER, ENCRYPTION_INFORMATION, CHANNEL_TYPE, CLASSMARK_2, RR_CAUSE, LAYER_3_INFORMATION, CELL_IDENTIFIER_LIST, RESPONSE_REQUEST, CLASSMARK_1}
+
+abbrev pub CELL_IDENTIFIER : ℕ
+CELL_IDENTIFIER = 0x05
+abbrev pub CAUSE : ℕ
+CAUSE = 0x04
+abbrev pub ENCRYPTION_INFORMATION : ℕ
+ENCRYPTION_INFORMATION = 0x0A
+abbrev pub CHANNEL_TYPE : ℕ
+CHANNEL_TYPE = 0x0B
+abbrev pub CLASSMARK_2 : ℕ
+CLASSMARK_2 = 0x12
+abbrev pub RR_CAUSE : ℕ
+RR_CAUSE = 0x15
+abbrev pub LAYER_3_INFORMATION : ℕ
+LAYER_3_INFORMATION = 0x17
+abbrev pub CELL_IDENTIFIER_LIST : ℕ
+CELL_IDENTIFIER_LIST = 0x1A
+abbrev pub RESPONSE_REQUEST : ℕ
+RESPONSE_REQUEST = 0x1B
+abbrev pub CLASSMARK_1 : ℕ
+CLASSMARK_1 = 0x1D
 
 -- The elements of a fixed length: identifier, and how many octets they have with it. Three of them stand
 -- in messages that are read here: RR cause, response request and classmark 1.

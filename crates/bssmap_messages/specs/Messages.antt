@@ -1,6 +1,7 @@
 -- The messages (TS 48.008 clause 3.2.1): of each its type, and row by row its elements, as they are read and
 -- as they are written.
-use Rattle.std.specs.Prelude.{ℕ, ◌+◌, ◌<◌, Bool, List, [], length, Option, Result, Ok, Err}
+use Rattle.std.specs.Prelude.{ℕ, ◌+◌, ◌<◌, Bool, List, [], length, Option, Result, Ok, Err, IsTrue, IsSome, is_some}
+use Rattle.std.specs.List.{list_all}
 use Rattle.octet_elements.specs.Elements.{Element}
 use Rattle.octet_elements.specs.Lookup.{Lookup}
 use Rattle.octet_elements.specs.Rows.{Row, octet, optional_octet, octets, ◌▸◌}
@@ -11,7 +12,7 @@ use Rattle.bssmap_messages.specs.declared.message.CellId.{CellId}
 use Rattle.bssmap_messages.specs.declared.message.Classmark.{Classmark}
 use Rattle.bssmap_messages.specs.declared.message.Bssmap.{Bssmap}
 use Rattle.bssmap_messages.specs.declared.message.Bssmap.TheVariants.{HandoverRequest, HandoverRequired, HandoverRequestAck, HandoverCommand, HandoverComplete, HandoverFailure, HandoverPerformed, HandoverRequiredReject, HandoverDetect, ClearCommand, ClearComplete, ClearRequest}
-use Rattle.bssmap_messages.specs.declared.table.TheConstants.{CAUSE, ENCRYPTION_INFORMATION, RR_CAUSE, LAYER_3_INFORMATION, RESPONSE_REQUEST}
+use Rattle.bssmap_messages.specs.Forms.{CAUSE, ENCRYPTION_INFORMATION, RR_CAUSE, LAYER_3_INFORMATION, RESPONSE_REQUEST}
 use Rattle.bssmap_messages.specs.Values.{channel_type, classmark_information, cell_identifier, second_cell_identifier, cell_identifier_list, presence, classmark_length}
 
 -- the message type (clause 3.2.2.1)
@@ -138,3 +139,19 @@ KeepsList HandoverDetect = ⊥
 KeepsList (ClearCommand cause) = ⊥
 KeepsList ClearComplete = ⊥
 KeepsList (ClearRequest cause) = ⊥
+
+-- The message is what its elements say once they are written: octets are long enough, there is a cell, and each
+-- cell has a location area code.
+abbrev pub CanBeSaid : {A : Type 0} → Bssmap A → Type 0
+CanBeSaid (HandoverRequest channel encryption classmark serving target) = (1 < length channel) × (0 < length encryption) × IsSome serving.lac × IsSome target.lac
+CanBeSaid (HandoverRequired cause response cells) = (0 < length cells) × IsTrue (list_all (λ cell. is_some cell.lac) cells)
+CanBeSaid (HandoverRequestAck layer3) = 0 < length layer3
+CanBeSaid (HandoverCommand layer3) = 0 < length layer3
+CanBeSaid (HandoverComplete rr) = Unit {0}
+CanBeSaid (HandoverFailure cause rr) = Unit {0}
+CanBeSaid (HandoverPerformed cause cell) = IsSome cell.lac
+CanBeSaid (HandoverRequiredReject cause) = Unit {0}
+CanBeSaid HandoverDetect = Unit {0}
+CanBeSaid (ClearCommand cause) = Unit {0}
+CanBeSaid ClearComplete = Unit {0}
+CanBeSaid (ClearRequest cause) = Unit {0}

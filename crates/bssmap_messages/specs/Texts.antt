@@ -1,6 +1,6 @@
 -- Which octets are the text of a message, what is wrong with all others, and which text is written
 -- (TS 48.008 clause 3.2).
-use Rattle.std.specs.Prelude.{ℕ, ◌+◌, List, ◌∷◌, length}
+use Rattle.std.specs.Prelude.{ℕ, ◌+◌, ◌≤◌, ◌↔◌, List, ◌∷◌, length}
 use Rattle.octet_elements.specs.Elements.{all_octets}
 use Rattle.octet_elements.specs.Texts as texts
 use Rattle.octet_elements.specs.Texts.{Codec}
@@ -9,9 +9,9 @@ use Rattle.bssmap_messages.specs.declared.fault.BssmapFault.TheVariants.{Torn, N
 use Rattle.bssmap_messages.specs.declared.head.MessageKind.{MessageKind}
 use Rattle.bssmap_messages.specs.declared.message.Bssmap.{Bssmap}
 use Rattle.bssmap_messages.specs.Forms.{interface_a}
-use Rattle.bssmap_messages.specs.Heads.{Begins, HasHeadFault}
+use Rattle.bssmap_messages.specs.Heads.{Begins, HasHeadFault, limit}
 use Rattle.bssmap_messages.specs.Values.{fault_of}
-use Rattle.bssmap_messages.specs.Messages.{said, type_of, kind_of, elements_of, KeepsList}
+use Rattle.bssmap_messages.specs.Messages.{said, type_of, kind_of, elements_of, KeepsList, CanBeSaid}
 
 -- The body of a message follows three octets of head.
 abbrev pub codec : (A : Type 0) → Codec MessageKind (Bssmap A) BssmapFault
@@ -50,6 +50,6 @@ HasCanonical v = IsTextOf v (canonical_text v)
 abbrev pub ReadingIsUnique : (A : Type 0) → Type 0
 ReadingIsUnique A = texts.ReadingIsUnique (codec A)
 
--- where a message has a canonical text, it is a text of it
+-- Just the messages whose fields can be said, in at most 253 octets behind the length octet, have a canonical text.
 abbrev pub CanonicalIsText : (A : Type 0) → Type 0
-CanonicalIsText A = (v : Bssmap A) → HasCanonical v → IsTextOf v (canonical_text v)
+CanonicalIsText A = (v : Bssmap A) → (CanBeSaid v × (length (written_octets v) ≤ limit)) ↔ HasCanonical v

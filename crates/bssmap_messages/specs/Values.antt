@@ -13,7 +13,7 @@ use Rattle.bssmap_messages.specs.declared.values.ClassmarkValue.{ClassmarkValue}
 use Rattle.bssmap_messages.specs.declared.values.ClassmarkValue.TheVariants as in_octets
 use Rattle.bssmap_messages.specs.declared.fault.BssmapFault.{BssmapFault}
 use Rattle.bssmap_messages.specs.declared.fault.BssmapFault.TheVariants.{Missing, BadElement}
-use Rattle.bssmap_messages.specs.declared.table.TheConstants.{CELL_IDENTIFIER, CHANNEL_TYPE, CLASSMARK_2, CELL_IDENTIFIER_LIST, CLASSMARK_1}
+use Rattle.bssmap_messages.specs.Forms.{CELL_IDENTIFIER, CHANNEL_TYPE, CLASSMARK_2, CELL_IDENTIFIER_LIST, CLASSMARK_1}
 
 -- the fault that a message has by its element
 abbrev pub fault_of : ValueFault → BssmapFault

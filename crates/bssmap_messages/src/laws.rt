@@ -9,7 +9,7 @@ pub fn reading_is_unique<A: Allocator>()
     ensures unique { ReadingIsUnique A }
 {}
 
-/// The canonical text of a message is a text of it, so reading what was written gives the message.
+/// Which messages have a canonical text, which is a text of them, so that reading what was written gives them.
 pub fn canonical_is_text<A: Allocator>()
     ensures text { CanonicalIsText A }
 {}

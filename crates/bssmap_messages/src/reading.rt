@@ -1,34 +1,15 @@
 //! Reading a message.
-ghost use Rattle.std.specs.Prelude.{◌≡◌, ◌≢◌, ◌≤◌, List, length, Ok, Err, IfOk, IfErr};
-ghost use Rattle.octet_elements.specs.Texts.{Says, HasBodyFault};
-ghost use Rattle.bssmap_messages.specs.Heads.{limit};
+ghost use Rattle.std.specs.Prelude.{◌≡◌, ◌≢◌, List, Ok, Err, IfOk, IfErr};
 ghost use Rattle.bssmap_messages.specs.Messages.{KeepsList};
-ghost use Rattle.bssmap_messages.specs.Texts.{IsTextOf, HasFault, codec};
+ghost use Rattle.bssmap_messages.specs.Texts.{IsTextOf, HasFault};
 
 use crate::elements::read_elements;
 use crate::fault::BssmapFault;
-use crate::head::{MessageKind, read_head};
+use crate::head::read_head;
 use crate::message::Bssmap;
 use crate::table::InterfaceA;
 use octet_elements::Found;
 use std::alloc::Allocator;
-
-/// Reads the body of a message of this kind.
-fn read_body<A: Allocator + Copy>(
-    alloc: A,
-    kind: MessageKind,
-    body: &[u8],
-) -> Result<Bssmap<A>, BssmapFault>
-    requires { length body.now ≤ limit }
-    ensures text { IfOk result (λ v. Says (codec A) kind body.now (Ok v)) }
-    ensures fault { IfErr result (HasBodyFault (codec A) kind body.now) }
-{
-    let mut found = Found::<InterfaceA>::new();
-    match found.read(body) {
-        Ok(()) => read_elements(alloc, kind, &found),
-        Err(offset) => Err(BssmapFault::Torn(3 + offset)),
-    }
-}
 
 /// Reads a message: its value, or its first fault.
 fn read_message<A: Allocator + Copy>(alloc: A, octets: &[u8]) -> Result<Bssmap<A>, BssmapFault>
@@ -36,7 +17,11 @@ fn read_message<A: Allocator + Copy>(alloc: A, octets: &[u8]) -> Result<Bssmap<A
     ensures fault { IfErr result (HasFault A octets.now) }
 {
     let (kind, body) = read_head(octets)?;
-    read_body(alloc, kind, body)
+    let mut found = Found::<InterfaceA>::new();
+    match found.read(body) {
+        Ok(()) => read_elements(alloc, kind, &found),
+        Err(offset) => Err(BssmapFault::Torn(3 + offset)),
+    }
 }
 
 /// Reads a message.
