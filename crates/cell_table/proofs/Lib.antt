@@ -1,4 +1,1 @@
-pub mod Told
-pub mod Judged
-pub mod SiteFacts
-pub mod Blank
+pub mod Each

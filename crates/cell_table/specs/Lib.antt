@@ -1,2 +1,4 @@
 pub mod Site
+pub mod Rules
 pub mod SiteFile
+pub mod Reading
