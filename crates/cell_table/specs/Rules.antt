@@ -1,11 +1,11 @@
 -- What has to hold of the cells of a site together, each rule looked at over the whole file before the next.
-use Rattle.std.specs.Prelude.{ℕ, ◌==◌, Bool, true, false, ◌&&◌, ◌||◌, if◌then◌else◌, Option, Some, None, Result, Ok, Err, List, [], ◌∷◌, ◌++◌, map, is_some}
+use Rattle.std.specs.Prelude.{ℕ, ◌≡◌, ◌==◌, Bool, true, false, ◌&&◌, ◌||◌, if◌then◌else◌, Option, Some, None, Result, Ok, Err, List, [], ◌∷◌, ◌++◌, map, is_some}
 use Rattle.std.specs.List.{list_any, list_all, position}
 use Rattle.cell_table.specs.declared.fault.SiteFault.{SiteFault}
 use Rattle.cell_table.specs.declared.fault.SiteFault.TheVariants.{Twice, NoTraffic}
 use Rattle.cell_table.specs.declared.fault.What.TheVariants as what
 use Rattle.cell_table.specs.declared.tables.CellIdentity.{CellIdentity}
-use Rattle.cell_table.specs.Site.{TrxView, CellView, SiteView}
+use Rattle.cell_table.specs.Site.{TrxView, CellView, SiteView, IsWithin}
 
 -- two of them are alike: one is like one that comes after it
 abbrev pub has_twice : {A : Type 0} → (A → A → Bool) → List A → Bool
@@ -26,15 +26,15 @@ identities site = map (λ c. c.identity) site.cells ++ site.outside
 
 -- a cell has one carrier on two TRX
 abbrev pub has_carrier_twice : CellView → Bool
-has_carrier_twice c = has_twice (λ s t. s.arfcn == t.arfcn) c.trx
+has_carrier_twice c = has_twice (λ s t. t.arfcn == s.arfcn) c.trx
 
 -- a cell has one timeslot twice in a TRX
 abbrev pub has_slot_twice : CellView → Bool
-has_slot_twice c = list_any (λ t. has_twice (λ m n. m == n) t.tch) c.trx
+has_slot_twice c = list_any (λ t. has_twice (λ m n. n == m) t.tch) c.trx
 
 -- a cell has one carrier twice in its BA list
 abbrev pub has_neighbour_twice : CellView → Bool
-has_neighbour_twice c = has_twice (λ m n. m == n) c.ba
+has_neighbour_twice c = has_twice (λ m n. n == m) c.ba
 
 -- a cell has a traffic channel
 abbrev pub is_empty_list : List ℕ → Bool
@@ -59,6 +59,11 @@ unfoldable pub broken_rule : SiteView → Option SiteFault
 broken_rule site =
     first_broken (has_twice same_codes (identities site)) (has_twice same_colour (identities site)) (list_any has_carrier_twice site.cells)
     (list_any has_slot_twice site.cells) (list_any has_neighbour_twice site.cells) (position has_no_traffic site.cells)
+
+-- A site keeps the limits, and breaks no rule.
+pub record IsSite (site : SiteView) : Type 0 where
+  pub within : IsWithin site
+  pub rules : broken_rule site ≡ None
 
 -- a site that breaks none
 abbrev pub unbroken : SiteView → Option SiteFault → Result SiteView SiteFault

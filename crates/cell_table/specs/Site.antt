@@ -1,5 +1,5 @@
 -- What a site is, and what is looked up in it.
-use Rattle.std.specs.Prelude.{ℕ, ◌==◌, ◌<◌, ◌≤◌, ◌≡◌, ◌+◌, ◌-◌, ◌&&◌, Bool, true, false, nat_lt, if◌then◌else◌, List, [], ◌∷◌, ◌++◌, length, map, take, filter, All, Option, Some, None, slice_get, option_map, option_and_then, unwrap_or}
+use Rattle.std.specs.Prelude.{ℕ, ◌*◌, nat_le, sum_by, count_by, not, IfSome, ◌==◌, ◌<◌, ◌≤◌, ◌≡◌, ◌+◌, ◌-◌, ◌&&◌, Bool, true, false, nat_lt, if◌then◌else◌, List, [], ◌∷◌, ◌++◌, length, map, take, filter, All, Option, Some, None, slice_get, option_map, option_and_then, unwrap_or}
 use Rattle.std.specs.List.{list_any, position}
 use Rattle.channel_fsm.specs.declared.ChanId.{ChanId}
 use Rattle.cell_table.specs.declared.tables.CellIdentity.{CellIdentity}
@@ -56,3 +56,51 @@ own_or_outside None outside = option_map (λ place. first_outside + place) outsi
 -- the own cell with these codes, or else the outside cell with them
 abbrev pub cell_of : SiteView → ℕ → ℕ → Option ℕ
 cell_of site lac ci = own_or_outside (position (λ c. has_codes lac ci c.identity) site.cells) (position (has_codes lac ci) site.outside)
+
+-- how many traffic channels a TRX and a cell have
+abbrev pub trx_size : TrxView → ℕ
+trx_size t = length t.tch
+
+abbrev pub cell_size : CellView → ℕ
+cell_size c = sum_by trx_size c.trx
+
+-- how many traffic timeslots of a TRX come before one
+abbrev pub slots_before : ℕ → TrxView → ℕ
+slots_before tn t = count_by (λ n. nat_lt n tn) t.tch
+
+-- how many traffic channels of a cell come before one, by TRX and timeslot
+abbrev pub before_in_cell : ChanId → CellView → ℕ
+before_in_cell chan c = sum_by trx_size (take chan.trx c.trx) + unwrap_or (option_map (slots_before chan.tn) (slice_get c.trx chan.trx)) 0
+
+-- how many traffic channels of a site come before one, by cell, TRX and timeslot
+abbrev pub channels_before : SiteView → ChanId → ℕ
+channels_before site chan =
+    sum_by cell_size (take chan.cell site.cells) + unwrap_or (option_map (before_in_cell chan) (slice_get site.cells chan.cell)) 0
+
+-- the place of a traffic channel among those of the site: as many come before it
+abbrev pub index_of : SiteView → ChanId → Option ℕ
+index_of site chan = if is_traffic site chan then Some (channels_before site chan) else None
+
+-- the first TRX names timeslot 0, which carries the cell's broadcast channels (TS 45.002 clause 7) and never traffic
+abbrev pub names_broadcast : CellView → Bool
+names_broadcast cell = list_any (λ tn. tn == 0) (unwrap_or (option_map (λ t. t.tch) (slice_get cell.trx 0)) [])
+
+-- A cell has 1 to 4 TRX with timeslots 0 to 7 (TS 45.002 clause 4.3.2), and leaves the broadcast channel alone.
+pub record IsCell (cell : CellView) : Type 0 where
+  pub some_trx : 1 ≤ length cell.trx
+  pub few_trx : length cell.trx ≤ 4
+  pub timeslot_range : All (λ t. All (λ tn. tn < 8) t.tch) cell.trx
+  pub broadcast : names_broadcast cell ≡ false
+
+-- A site has 1 to 64 cells and at most 64 of others, and each of its cells is one.
+pub record IsWithin (site : SiteView) : Type 0 where
+  pub some_cells : 1 ≤ length site.cells
+  pub few_cells : length site.cells ≤ 64
+  pub few_outside : length site.outside ≤ 64
+  pub each_cell : All IsCell site.cells
+
+-- Where every traffic channel of a site lies.
+pub record IsWithinLimits (chan : ChanId) : Type 0 where
+  pub cell : chan.cell < 64
+  pub trx : chan.trx < 4
+  pub timeslot : chan.tn < 8
