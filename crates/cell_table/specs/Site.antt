@@ -72,14 +72,13 @@ slots_before tn t = count_by (λ n. nat_lt n tn) t.tch
 abbrev pub before_in_cell : ChanId → CellView → ℕ
 before_in_cell chan c = sum_by trx_size (take chan.trx c.trx) + unwrap_or (option_map (slots_before chan.tn) (slice_get c.trx chan.trx)) 0
 
--- how many traffic channels of a site come before one, by cell, TRX and timeslot
-abbrev pub channels_before : SiteView → ChanId → ℕ
-channels_before site chan =
-    sum_by cell_size (take chan.cell site.cells) + unwrap_or (option_map (before_in_cell chan) (slice_get site.cells chan.cell)) 0
+-- how many traffic channels of the cells come before one, by cell, TRX and timeslot
+abbrev pub channels_before : List CellView → ChanId → ℕ
+channels_before cells chan = sum_by cell_size (take chan.cell cells) + unwrap_or (option_map (before_in_cell chan) (slice_get cells chan.cell)) 0
 
 -- the place of a traffic channel among those of the site: as many come before it
 abbrev pub index_of : SiteView → ChanId → Option ℕ
-index_of site chan = if is_traffic site chan then Some (channels_before site chan) else None
+index_of site chan = if is_traffic site chan then Some (channels_before site.cells chan) else None
 
 -- the first TRX names timeslot 0, which carries the cell's broadcast channels (TS 45.002 clause 7) and never traffic
 abbrev pub names_broadcast : CellView → Bool

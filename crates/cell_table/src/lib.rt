@@ -3,7 +3,10 @@
 
 mod checks;
 mod fault;
+mod places;
 mod reading;
+mod site;
 mod tables;
 
 pub use fault::{Key, SiteFault, What};
+pub use site::Site;

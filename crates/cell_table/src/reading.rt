@@ -282,7 +282,7 @@ fn each_cell(entries: &[Value]) -> Result<ArrayVec<Cell, 64>, SiteFault>
 
 /// The own cells.
 #[tactic(auto, unfolding(crate::specs::SiteFile::cells_of))]
-fn cells_of(document: &Value) -> Result<ArrayVec<Cell, 64>, SiteFault>
+pub fn cells_of(document: &Value) -> Result<ArrayVec<Cell, 64>, SiteFault>
     ensures read { items_read result ≡ cells_of (view document.now) }
 {
     let count = Allowed { least: 1, most: 64 };
@@ -304,7 +304,7 @@ fn each_outside(entries: &[Value]) -> Result<ArrayVec<CellIdentity, 64>, SiteFau
 
 /// The cells of others.
 #[tactic(auto, unfolding(crate::specs::SiteFile::outside_of))]
-fn outside_of(document: &Value) -> Result<ArrayVec<CellIdentity, 64>, SiteFault>
+pub fn outside_of(document: &Value) -> Result<ArrayVec<CellIdentity, 64>, SiteFault>
     ensures read { items_read result ≡ outside_of (get (key_name Key.Outside) (view document.now)) }
 {
     match document.get(Key::Outside.name()) {
@@ -315,7 +315,7 @@ fn outside_of(document: &Value) -> Result<ArrayVec<CellIdentity, 64>, SiteFault>
 
 /// When a neighbour is a candidate.
 #[tactic(auto, unfolding(crate::specs::SiteFile::handover_at))]
-fn handover_at(document: &Value) -> Result<HandoverRule, SiteFault>
+pub fn handover_at(document: &Value) -> Result<HandoverRule, SiteFault>
     ensures read { result ≡ handover_at (view document.now) }
 {
     let table = value_at(document, Key::Handover)?;
