@@ -1,1 +1,5 @@
 pub mod Each
+pub mod Chains
+pub mod SiteFacts
+pub mod Blank
+pub mod Refusals

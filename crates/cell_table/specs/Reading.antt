@@ -1,5 +1,5 @@
 -- What the readers of values answer, in the words of the definitions.
-use Rattle.std.specs.Prelude.{List, Result, map}
+use Rattle.std.specs.Prelude.{List, map}
 use Rattle.std.specs.Borrow.{Bor}
 use Rattle.std.specs.Result.{result_map_both}
 use Rattle.toml.specs.Data.{Data}

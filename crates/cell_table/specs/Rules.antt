@@ -1,11 +1,11 @@
 -- What has to hold of the cells of a site together, each rule looked at over the whole file before the next.
-use Rattle.std.specs.Prelude.{ℕ, ◌≡◌, ◌==◌, Bool, true, false, ◌&&◌, ◌||◌, if◌then◌else◌, Option, Some, None, Result, Ok, Err, List, [], ◌∷◌, ◌++◌, map, is_some}
+use Rattle.std.specs.Prelude.{ℕ, ◌≡◌, ◌==◌, Bool, true, false, ◌&&◌, ◌||◌, Option, Some, None, Result, Ok, Err, List, [], ◌∷◌, ◌++◌, map}
 use Rattle.std.specs.List.{list_any, list_all, position}
 use Rattle.cell_table.specs.declared.fault.SiteFault.{SiteFault}
 use Rattle.cell_table.specs.declared.fault.SiteFault.TheVariants.{Twice, NoTraffic}
 use Rattle.cell_table.specs.declared.fault.What.TheVariants as what
 use Rattle.cell_table.specs.declared.tables.CellIdentity.{CellIdentity}
-use Rattle.cell_table.specs.Site.{TrxView, CellView, SiteView, IsWithin}
+use Rattle.cell_table.specs.Site.{CellView, SiteView, IsWithin}
 
 -- two of them are alike: one is like one that comes after it
 abbrev pub has_twice : {A : Type 0} → (A → A → Bool) → List A → Bool

@@ -1,5 +1,5 @@
 -- What a site is, and what is looked up in it.
-use Rattle.std.specs.Prelude.{ℕ, ◌*◌, nat_le, sum_by, count_by, not, IfSome, ◌==◌, ◌<◌, ◌≤◌, ◌≡◌, ◌+◌, ◌-◌, ◌&&◌, Bool, true, false, nat_lt, if◌then◌else◌, List, [], ◌∷◌, ◌++◌, length, map, take, filter, All, Option, Some, None, slice_get, option_map, option_and_then, unwrap_or}
+use Rattle.std.specs.Prelude.{ℕ, sum_by, count_by, ◌==◌, ◌<◌, ◌≤◌, ◌≡◌, ◌+◌, ◌-◌, ◌&&◌, Bool, false, nat_lt, if◌then◌else◌, List, [], length, take, All, Option, Some, None, slice_get, option_map, option_and_then, unwrap_or}
 use Rattle.std.specs.List.{list_any, position}
 use Rattle.channel_fsm.specs.declared.ChanId.{ChanId}
 use Rattle.cell_table.specs.declared.tables.CellIdentity.{CellIdentity}

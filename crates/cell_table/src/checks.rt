@@ -30,9 +30,7 @@ fn have_codes_twice(cells: &[CellIdentity]) -> bool
 fn have_colour(cells: &[CellIdentity], of: CellIdentity) -> bool
     ensures value { result ≡ list_any (same_colour of) cells.now }
 {
-    cells
-        .iter()
-        .any(|other| of.bcch == other.bcch && of.ncc == other.ncc && of.bcc == other.bcc)
+    cells.iter().any(|other| of.bcch == other.bcch && of.ncc == other.ncc && of.bcc == other.bcc)
 }
 
 /// Whether two cells have one BCCH carrier, network colour code and base station colour code.

@@ -11,7 +11,6 @@ use crate::tables::{Allowed, Cell, CellIdentity, HandoverRule, Tables, Trx};
 use arrayvec::ArrayVec;
 use toml::Value;
 
-
 /// The value at a key, which has to be there.
 fn value_at<'a>(table: &'a Value, key: Key) -> Result<&'a Value, SiteFault>
     ensures read { value_read result ≡ value_at key (view table.now) }
@@ -24,9 +23,7 @@ fn allowed_number(allowed: Allowed, value: &Value) -> Option<u16>
     ensures read { result ≡ allowed_number allowed (view value.now) }
 {
     match value.as_integer() {
-        Some(number)
-            if i64::from(allowed.least) <= number && number <= i64::from(allowed.most) =>
-        {
+        Some(number) if i64::from(allowed.least) <= number && number <= i64::from(allowed.most) => {
             Some(number as u16)
         }
         _ => None,
@@ -65,7 +62,11 @@ fn handover_of(table: &Value) -> Result<HandoverRule, SiteFault>
     let window = number_at(table, Key::Window, Allowed { least: 1, most: 32 })? as u8;
     let margin = number_at(table, Key::Margin, up_to(63))? as u8;
     let minimum = number_at(table, Key::Minimum, up_to(63))? as u8;
-    Ok(HandoverRule { window, margin, minimum })
+    Ok(HandoverRule {
+        window,
+        margin,
+        minimum,
+    })
 }
 
 /// What every cell has.

@@ -77,10 +77,10 @@ impl Model for Cell {
     ghost Value = { CellView };
 
     ghost view = { λ a. record {
-        identity = a.identity;
-        power = a.power;
-        ba = a.ba.items;
-        trx = a.trx.items;
+      identity = a.identity;
+      power = a.power;
+      ba = a.ba.items;
+      trx = a.trx.items;
     } };
 }
 
@@ -98,8 +98,8 @@ impl Model for Tables {
     ghost Value = { SiteView };
 
     ghost view = { λ a. record {
-        handover = a.handover;
-        cells = a.cells.items;
-        outside = a.outside.items;
+      handover = a.handover;
+      cells = a.cells.items;
+      outside = a.outside.items;
     } };
 }

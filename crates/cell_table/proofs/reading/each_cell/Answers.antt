@@ -12,7 +12,7 @@ loop-entry-preserved c =
 pub returns-in_err-cell_of : goal.returns-in_err-cell_of
 returns-in_err-cell_of c =
     let p = err_from_is_err_and c.from_residual.result c.from_residual.ensures.1 in
-    record { read = rw p.1 (sym (reading-err (λ place. cell_of) c.args.entries.now c.loop-entry.entry-index c.entry-item.result c.loop-entry.cells.items _ c.loop-entry-test.true c.entry-item.is (search rules) c.loop-entry.invariant)); }
+    record { read = rw p.1 (sym (reading-err (λ place. cell_of) c.args.entries.now c.loop-entry.entry-index c.entry-item.result c.loop-entry.cells.items _ c.loop-entry-test.true c.entry-item.is (search rules) c.loop-entry.invariant)) }
 
 pub returns : goal.returns
 returns c = record {

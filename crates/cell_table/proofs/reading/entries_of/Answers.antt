@@ -1,7 +1,6 @@
-use Rattle.std.proofs.Common.{◌≡◌, Some, map, option_map, sym, ap, ◌∙◌, rules}
+use Rattle.std.proofs.Common.{◌≡◌, Some, map, ap, rules}
 use Rattle.toml.specs.Data.{as_array}
 use Rattle.toml.specs.View.{view, items_view}
-use Rattle.cell_table.specs.SiteFile.{entries_of}
 use Rattle.cell_table.proofs.Each.{entries_of-items_view}
 use Rattle.cell_table.proofs.reading.entries_of.Goals as goal
 

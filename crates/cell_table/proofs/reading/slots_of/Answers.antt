@@ -32,7 +32,7 @@ loop-entry-preserved c =
 pub returns-in_err-slot : goal.returns-in_err-slot
 returns-in_err-slot c =
     let p = err_from_is_err_and c.from_residual.result c.from_residual.ensures.1 in
-    record { read = rw p.1 (sym (nine-err (λ place. number_of key.Tch c.args.allowed) c.args.entries.now c.loop-entry.entry-index c.entry-item.result c.loop-entry.slots.items _ c.loop-entry-test.true c.entry-item.is (search rules) c.loop-entry.invariant)); }
+    record { read = rw p.1 (sym (nine-err (λ place. number_of key.Tch c.args.allowed) c.args.entries.now c.loop-entry.entry-index c.entry-item.result c.loop-entry.slots.items _ c.loop-entry-test.true c.entry-item.is (search rules) c.loop-entry.invariant)) }
 
 pub returns : goal.returns
 returns c = record {
