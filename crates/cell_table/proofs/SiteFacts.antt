@@ -13,8 +13,8 @@ use Rattle.cell_table.specs.declared.fault.SiteFault.{SiteFault}
 use Rattle.cell_table.specs.declared.fault.SiteFault.TheVariants.{Range}
 use Rattle.cell_table.specs.declared.tables.Allowed.{Allowed}
 use Rattle.cell_table.specs.declared.tables.CellIdentity.{CellIdentity}
-use Rattle.cell_table.specs.Site.{TrxView, CellView, SiteView, IsCell, IsWithinLimits, is_traffic}
-use Rattle.cell_table.specs.Rules.{IsSite, broken_rule, unbroken, checked}
+use Rattle.cell_table.specs.Site.{TrxView, CellView, SiteView, IsCell, IsSite, IsWithinLimits, is_traffic}
+use Rattle.cell_table.specs.Rules.{broken_rule, unbroken, checked}
 use Rattle.cell_table.specs.SiteFile.{Read, ◌>>=◌, each, is_allowed, natural_number, number_of, number_at, value_at, array_of, counted, all_tables, tables_of, is_table, key_name, up_to, handover_at, identity_of, ba_of, arfcn_range, tch_range, first_nine, tch_of, trx_of, all_trx_of, cell_of, cells_of, outside_of, site_of}
 use Rattle.cell_table.proofs.Chains.{bind_parts, ok_or_parts, where_passes_parts, passed, All-each, first-each, length-each}
 

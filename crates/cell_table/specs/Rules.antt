@@ -5,7 +5,7 @@ use Rattle.cell_table.specs.declared.fault.SiteFault.{SiteFault}
 use Rattle.cell_table.specs.declared.fault.SiteFault.TheVariants.{Twice, NoTraffic}
 use Rattle.cell_table.specs.declared.fault.What.TheVariants as what
 use Rattle.cell_table.specs.declared.tables.CellIdentity.{CellIdentity}
-use Rattle.cell_table.specs.Site.{CellView, SiteView, IsWithin}
+use Rattle.cell_table.specs.Views.{CellView, SiteView}
 
 -- two of them are alike: one is like one that comes after it
 abbrev pub has_twice : {A : Type 0} → (A → A → Bool) → List A → Bool
@@ -59,11 +59,6 @@ unfoldable pub broken_rule : SiteView → Option SiteFault
 broken_rule site =
     first_broken (has_twice same_codes (identities site)) (has_twice same_colour (identities site)) (list_any has_carrier_twice site.cells)
     (list_any has_slot_twice site.cells) (list_any has_neighbour_twice site.cells) (position has_no_traffic site.cells)
-
--- A site keeps the limits, and breaks no rule.
-pub record IsSite (site : SiteView) : Type 0 where
-  pub within : IsWithin site
-  pub rules : broken_rule site ≡ None
 
 -- a site that breaks none
 abbrev pub unbroken : SiteView → Option SiteFault → Result SiteView SiteFault

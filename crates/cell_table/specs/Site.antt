@@ -3,25 +3,8 @@ use Rattle.std.specs.Prelude.{ℕ, sum_by, count_by, ◌==◌, ◌<◌, ◌≤�
 use Rattle.std.specs.List.{list_any, position}
 use Rattle.channel_fsm.specs.declared.ChanId.{ChanId}
 use Rattle.cell_table.specs.declared.tables.CellIdentity.{CellIdentity}
-use Rattle.cell_table.specs.declared.tables.HandoverRule.{HandoverRule}
-
--- one TRX: its carrier (an ARFCN, TS 45.005 clause 2), and its traffic timeslots in the site file's order
-pub record TrxView : Type 0 where
-  pub arfcn : ℕ
-  pub tch : List ℕ
-
--- an own cell: what every cell has, the power class of its mobiles, its BA list and its TRX, in the site file's order
-pub record CellView : Type 0 where
-  pub identity : CellIdentity
-  pub power : ℕ
-  pub ba : List ℕ
-  pub trx : List TrxView
-
--- the own cells and those of others, in the site file's order
-pub record SiteView : Type 0 where
-  pub handover : HandoverRule
-  pub cells : List CellView
-  pub outside : List CellIdentity
+pub use Rattle.cell_table.specs.Views.{TrxView, CellView, SiteView, site_code}
+use Rattle.cell_table.specs.Rules.{broken_rule}
 
 -- the number of the first outside cell; own cells are numbered from 0
 abbrev pub first_outside : ℕ
@@ -97,6 +80,11 @@ pub record IsWithin (site : SiteView) : Type 0 where
   pub few_cells : length site.cells ≤ 64
   pub few_outside : length site.outside ≤ 64
   pub each_cell : All IsCell site.cells
+
+-- A site keeps the limits, and breaks no rule.
+pub record IsSite (site : SiteView) : Type 0 where
+  pub within : IsWithin site
+  pub rules : broken_rule site ≡ None
 
 -- Where every traffic channel of a site lies.
 pub record IsWithinLimits (chan : ChanId) : Type 0 where

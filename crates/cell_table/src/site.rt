@@ -3,8 +3,7 @@ ghost use Rattle.std.specs.Prelude.{◌≡◌, ◌≢◌, Ok, Err, true, IfOk, I
 ghost use Rattle.std.specs.Result.{is_ok};
 ghost use Rattle.std.specs.List.{position};
 ghost use Rattle.toml.specs.View.{view};
-ghost use Rattle.cell_table.specs.Site.{IsWithinLimits, trx_at, identity_at, is_traffic, has_codes, cell_of, index_of};
-ghost use Rattle.cell_table.specs.Rules.{IsSite};
+ghost use Rattle.cell_table.specs.Site.{IsSite, IsWithinLimits, trx_at, identity_at, is_traffic, has_codes, cell_of, index_of};
 ghost use Rattle.cell_table.specs.SiteFile.{site_of, read_site, IsBlankFile};
 
 use crate::checks::broken_rule;
@@ -32,8 +31,7 @@ pub struct Site<A: Allocator = Global> {
 }
 
 impl<A: Allocator> Model for Site<A> {
-    ghost use Rattle.cell_table.specs.Site.{SiteView};
-    ghost use Rattle.cell_table.specs.Rules.{IsSite};
+    ghost use Rattle.cell_table.specs.Site.{SiteView, IsSite};
 
     ghost Value = { SiteView };
 

@@ -1,18 +1,6 @@
 //! What is kept of a site: tables of fixed capacity, which take no memory of their own.
-ghost use Rattle.std.specs.Prelude.{◌≡◌, map};
-ghost use Rattle.arrayvec.specs.ArrayVec.{array_vec_len};
-
 use arrayvec::ArrayVec;
 use std::marker::Model;
-
-/// The most cells of a site, own or outside.
-pub const CELLS: usize = 64;
-/// The most TRX of a cell.
-pub const TRX: usize = 4;
-/// The most carriers of a BA list.
-pub const NEIGHBOURS: usize = 32;
-/// The timeslots of a TRX (TS 45.002 clause 4.3.2), and one more: a TRX that names so many names one twice.
-pub const SLOTS: usize = 9;
 
 /// The numbers that a key may have, from the least to the most.
 #[derive(Clone, Copy, Debug, PartialEq, Eq)]
@@ -55,7 +43,7 @@ pub struct Trx {
 }
 
 impl Model for Trx {
-    ghost use Rattle.cell_table.specs.Site.{TrxView};
+    ghost use Rattle.cell_table.specs.Views.{TrxView};
 
     ghost Value = { TrxView };
 
@@ -72,7 +60,7 @@ pub struct Cell {
 }
 
 impl Model for Cell {
-    ghost use Rattle.cell_table.specs.Site.{CellView};
+    ghost use Rattle.cell_table.specs.Views.{CellView};
 
     ghost Value = { CellView };
 
@@ -93,7 +81,7 @@ pub struct Tables {
 }
 
 impl Model for Tables {
-    ghost use Rattle.cell_table.specs.Site.{SiteView};
+    ghost use Rattle.cell_table.specs.Views.{SiteView};
 
     ghost Value = { SiteView };
 
