@@ -169,8 +169,7 @@ impl<A: Allocator + Copy> Site<A> {
     pub fn trx(&self, cell: u8) -> Option<u8>
         ensures count { result ≡ option_map (λ c. length c.trx) (slice_get self.now.cells cell) }
     {
-        let found = self.tables.cells.get(cell as usize)?;
-        Some(found.trx.len() as u8)
+        Some(self.tables.cells.get(cell as usize)?.trx.len() as u8)
     }
 
     /// `arfcn` of a TRX of an own cell: its carrier; `None` where there is no such cell or TRX.

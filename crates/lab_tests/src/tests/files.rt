@@ -18,7 +18,7 @@ const REFUSED: &[(&str, &str, &str)] = &[
     ("/dev/null", "no such file", "file no such file\n"),
     ("/dev/null", "/", "file /\n"),
     ("/dev/null", "/proc/self/exe", "file /proc/self/exe\n"),
-    ("/dev/null", "/dev/null", "site 1\n"),
+    ("/dev/null", "/dev/null", "site 2 handover\n"),
 ];
 
 /// Asserts how a run over two files ends, and what it prints.
