@@ -2,6 +2,11 @@
 //! release them, and answers (TS 48.058 clause 4).
 #![tactic(auto)]
 
+ghost use Rattle.std.specs.Prelude.{◌≡◌};
+ghost use Rattle.channel_fsm.specs.Table.{next_state};
+
+use ChanEvent::{Begin, Confirm, Drop, Refuse, Released, Send, SwitchOff, Take};
+use ChanState::{Free, Held, Off, On, Pending};
 use std::fmt;
 
 #[cfg(test)]
@@ -45,4 +50,58 @@ pub enum ChanState {
     /// It was, or may have been, active; the station was asked to release it (RF CHANNEL RELEASE, TS 48.058
     /// clause 8.4.14), and has not acknowledged.
     Off,
+}
+
+/// What happens to a channel.
+#[derive(Clone, Copy, Debug, PartialEq, Eq)]
+pub enum ChanEvent {
+    /// A call takes it, and does not ask for it yet.
+    Take(u16),
+    /// A call takes it, and its CHANNEL ACTIVATION is sent (TS 48.058 clause 8.4.1).
+    Begin(u16),
+    /// The call that has it asks for it: its CHANNEL ACTIVATION is sent (TS 48.058 clause 8.4.1).
+    Send(u16),
+    /// The station activated it: CHANNEL ACTIVATION ACKNOWLEDGE (TS 48.058 clause 8.4.2).
+    Confirm,
+    /// The station refused to activate it: CHANNEL ACTIVATION NEGATIVE ACKNOWLEDGE (TS 48.058 clause 8.4.3).
+    Refuse,
+    /// It may be active and is used no more: its RF CHANNEL RELEASE is sent (TS 48.058 clause 8.4.14).
+    SwitchOff,
+    /// It is not active and is used no more.
+    Drop,
+    /// The station released it: RF CHANNEL RELEASE ACKNOWLEDGE (TS 48.058 clause 8.4.19).
+    Released,
+}
+
+/// The state of a channel after an event. `None` where the event is no step of a channel in this state:
+///
+/// | Event | From | To |
+/// |---|---|---|
+/// | `Take(c)` | `Free` | `Held(c)` |
+/// | `Begin(c)` | `Free` | `Pending(c)` |
+/// | `Send(c)` | `Held(c)` | `Pending(c)` |
+/// | `Confirm` | `Pending(c)` | `On(c)` |
+/// | `Refuse` | `Pending(c)` | `Held(c)` |
+/// | `SwitchOff` | `Pending(c)`, `On(c)` | `Off` |
+/// | `Drop` | `Held(c)` | `Free` |
+/// | `Released` | `Off` | `Free` |
+pub fn next(state: ChanState, event: ChanEvent) -> Option<ChanState>
+    ensures { result ≡ next_state state event }
+{
+    match (state, event) {
+        (Free, Take(call)) => Some(Held(call)),
+        (Free, Begin(call)) => Some(Pending(call)),
+        (Held(call), Send(other)) if call == other => Some(Pending(call)),
+        (Pending(call), Confirm) => Some(On(call)),
+        (Pending(call), Refuse) => Some(Held(call)),
+        (Pending(_) | On(_), SwitchOff) => Some(Off),
+        (Held(_), Drop) => Some(Free),
+        (Off, Released) => Some(Free),
+
+        (Free, Send(_) | Confirm | Refuse | SwitchOff | Drop | Released) => None,
+        (Held(_), Take(_) | Begin(_) | Send(_) | Confirm | Refuse | SwitchOff | Released) => None,
+        (Pending(_), Take(_) | Begin(_) | Send(_) | Drop | Released) => None,
+        (On(_), Take(_) | Begin(_) | Send(_) | Confirm | Refuse | Drop | Released) => None,
+        (Off, Take(_) | Begin(_) | Send(_) | Confirm | Refuse | SwitchOff | Drop) => None,
+    }
 }

@@ -42,8 +42,8 @@ abbrev pub FollowsRow : {A : Type 0} → SiteView → Inbound A → List (Event 
 FollowsRow site (inbound.Operator line) steps none_free out = Follows (line_plan site line) steps none_free out
 FollowsRow {A} site (inbound.Abis cell trx octets) steps none_free out = (v : Rsl A) × IsTextOf v octets × Follows (message_plan cell trx v) steps none_free out
 
--- The events are a beginning of that row's, of which a step is left, for which memory may be wanted; or none
--- was asked of the book yet, and the message keeps octets.
+-- The events are a beginning of that row's, and a step is left, whose memory may have been refused; or nothing was
+-- asked of the book yet, and the message keeps octets, whose memory may have been refused.
 abbrev pub StopsInRow : {A : Type 0} → SiteView → Inbound A → List (Event × Reply) → Type 0
 StopsInRow site (inbound.Operator line) steps = StopsIn (line_plan site line) steps
 StopsInRow {A} site (inbound.Abis cell trx octets) steps = (v : Rsl A) × IsTextOf v octets × (((steps ≡ []) × HasOctets v) ⊎ StopsIn (message_plan cell trx v) steps)

@@ -1,19 +1,20 @@
 -- Facts of the words, numbers and lines of a script.
 use Rattle.std.proofs.Common.{◌≡◌, ◌≢◌, ℕ, ◌+◌, ◌-◌, ◌<◌, ◌^◌, ◌%◌, ◌∷◌, ◌++◌, List, [], Bool, true, false, Option, Some, None, Result, Ok, Err, refl, sym, ap, ◌∙◌, arith, rules, length, take, get_or, is_some, option_map, map, length-append, not, unwrap_or, suc, zero, ◌==◌, Bor, MatchOption}
 use Rattle.std.specs.Char.{is_ascii_digit, is_ascii_hexdigit}
-use Rattle.std.specs.List.{list_all, filter_map, position_from, slice_split, cons_option}
+use Rattle.std.specs.List.{list_all, filter_map, position_from, slice_split, cons_option, join_with_byte, onto_first, position_or_len, before_first, after_first}
 use Rattle.std.specs.Result.{result_ok}
 use Rattle.std.specs.Str.Lines.{strip_carriage_return}
 use Rattle.std.specs.Str.Parse.{digits_value, ParsesUnsigned}
 use Rattle.std.proofs.lemmas.List.{map-append, get_or-map, length-map}
 use Rattle.std.proofs.lemmas.List.Elements.{filter_map-append}
+use Rattle.std.proofs.lemmas.List.Splits.{slice_split-cons_no, slice_split_first, join_with_byte-slice_split}
 use Rattle.std.proofs.lemmas.List.Sums.{AllPass-from_list_all, list_all-from_AllPass}
 use Rattle.std.proofs.lemmas.Str.Parse.{IsNumeralModel, numerals_by_value, parse_digits}
 use Rattle.std.proofs.Math.Seq.{take-suc, take-length, take-append_seam, get_or-append_seam}
 use Rattle.hex.proofs.HexLemmas.{decode_of-digits, decode_of-ok}
 use Rattle.hex.specs.declared.error.FromHexError.{FromHexError}
 use Rattle.hex.specs.Hex.{decode_of, is_hex_digit}
-use Rattle.lab_script.specs.Script.{number_below, octets_of, is_readable, first_unread, input_of, inputs_of}
+use Rattle.lab_script.specs.Script.{words_of, number_below, octets_of, channel_at, channel_of, handover_at, handover_of, call_of, message_at, message_of, is_readable, first_unread, input_of, inputs_of}
 
 -- a text of digits alone is a numeral
 numerals : IsNumeralModel (λ ds. list_all is_ascii_digit ds ≡ true) (digits_value 10)
@@ -51,6 +52,115 @@ octets_test s some even = by_test s (list_all is_hex_digit s) refl some even
 
 pub octets_from_digits : (s : List ℕ) → length s ≢ 0 → length s % 2 ≡ 0 → list_all is_ascii_hexdigit s ≡ is_some (octets_of s)
 octets_from_digits s some even = list_all_same is_ascii_hexdigit is_hex_digit s hex_digit_same ∙ octets_test s some even
+
+-- an octet before a text of one word
+longer_word : (b : ℕ) (text : List ℕ) → (b == 32) ≡ false → words_of text ≡ text ∷ [] → words_of (b ∷ text) ≡ (b ∷ text) ∷ []
+longer_word b text no_blank one = slice_split-cons_no (λ c. c == 32) b text no_blank ∙ ap (onto_first b) one
+
+-- a text without a blank is one word
+uncut : (text : List ℕ) → position_or_len (λ b. b == 32) text ≡ length text → words_of text ≡ text ∷ []
+uncut [] h = refl
+uncut (b ∷ text) h =
+    let no_blank : (b == 32) ≡ false = grind (arith, h) in
+    longer_word b text no_blank (uncut text (grind (arith, h, no_blank)))
+
+-- a text is cut at its first blank
+pub cut_words : (text : List ℕ) (r : Option (Bor (List ℕ) × Bor (List ℕ)))
+    → MatchOption r (position_or_len (λ b. b == 32) text ≡ length text) (λ x. (position_or_len (λ b. b == 32) text < length text) × (x.0.now ≡ before_first (λ b. b == 32) text) × (x.1.now ≡ after_first (λ b. b == 32) text))
+    → MatchOption r (words_of text ≡ text ∷ []) (λ x. words_of text ≡ x.0.now ∷ words_of x.1.now)
+cut_words text None h = uncut text h
+cut_words text (Some x) h = slice_split_first (λ b. b == 32) text 0 h.0 ∙ rw (h.1, h.2) refl
+
+-- a text of digits is one word
+one_word : (p : ℕ → Bool) → p 32 ≡ false → (text : List ℕ) → list_all p text ≡ true → words_of text ≡ text ∷ []
+one_word p blank [] h = refl
+one_word p blank (b ∷ text) h =
+    let (first, rest) : (p b ≡ true) × (list_all p text ≡ true) = grind (arith, h) in
+    longer_word b text (no_blank (b == 32) refl first) (one_word p blank text rest)
+  where
+    no_blank : (is_blank : Bool) → (b == 32) ≡ is_blank → p b ≡ true → (b == 32) ≡ false
+    no_blank true e first = let found : b ≡ 32 = grind (arith, e) in absurd (search (rules, sym first ∙ (ap p found ∙ blank)))
+    no_blank false e first = e
+
+-- what a text gives by its one word, where another has none
+abbrev pub lone : {X : Type 0} → (List ℕ → Option X) → List (List ℕ) → Option X
+lone read (word ∷ []) = read word
+lone read words = None
+
+pub lone_word : {X : Type 0} (read : List ℕ → Option X) (text : List ℕ) → (words_of text ≢ text ∷ [] → read text ≡ None) → lone read (words_of text) ≡ read text
+lone_word read text more = by_words (words_of text) refl
+  where
+    by_words : (words : List (List ℕ)) → words_of text ≡ words → lone read words ≡ read text
+    by_words [] e = sym (more (λ one. let none : [] ≡ text ∷ [] = sym e ∙ one in absurd cc))
+    by_words (word ∷ []) e =
+        let joined : word ≡ text = sym (ap (join_with_byte 32) e) ∙ join_with_byte-slice_split 32 text in
+        ap read joined
+    by_words (word ∷ next ∷ rest) e = sym (more (λ one. let none : word ∷ next ∷ rest ≡ text ∷ [] = sym e ∙ one in absurd cc))
+
+-- a number is one word
+pub lone_number : (limit : ℕ) (text : List ℕ) → lone (number_below limit) (words_of text) ≡ number_below limit text
+lone_number limit text = lone_word (number_below limit) text (λ more. by_digits (list_all is_ascii_digit text) refl more)
+  where
+    by_digits : (digits : Bool) → list_all is_ascii_digit text ≡ digits → words_of text ≢ text ∷ [] → number_below limit text ≡ None
+    by_digits true e more = absurd (more (one_word is_ascii_digit refl text e))
+    by_digits false e more = rw e (search rules)
+
+-- octets in hexadecimal are one word
+pub lone_octets : (text : List ℕ) → lone octets_of (words_of text) ≡ octets_of text
+lone_octets text = lone_word octets_of text (λ more. by_octets (decode_of text) refl more)
+  where
+    by_octets : (octets : Result (List ℕ) FromHexError) → decode_of text ≡ octets → words_of text ≢ text ∷ [] → octets_of text ≡ None
+    by_octets (Ok octets) e more =
+        let (_, digits, _, _) = decode_of-ok text octets e in
+        absurd (more (one_word is_hex_digit refl text (list_all-from_AllPass is_hex_digit text digits)))
+    by_octets (Err fault) e more = rw e (search rules)
+
+-- The forms of lines, where what stands after the last blank is handed over as a text.
+pub channel_words : (cell trx tn : List ℕ) → channel_of (cell ∷ trx ∷ words_of tn) ≡ channel_at (number_below 256 cell) (number_below 256 trx) (number_below 8 tn)
+channel_words cell trx tn = by_words (words_of tn) ∙ ap (channel_at (number_below 256 cell) (number_below 256 trx)) (lone_number 8 tn)
+  where
+    nothing : (cell trx : Option ℕ) → channel_at cell trx None ≡ None
+    nothing (Some cell) (Some trx) = refl
+    nothing (Some cell) None = refl
+    nothing None trx = refl
+
+    by_words : (words : List (List ℕ)) → channel_of (cell ∷ trx ∷ words) ≡ channel_at (number_below 256 cell) (number_below 256 trx) (lone (number_below 8) words)
+    by_words [] = sym (nothing _ _)
+    by_words (word ∷ []) = refl
+    by_words (word ∷ next ∷ rest) = sym (nothing _ _)
+
+pub handover_words : (call cell : List ℕ) → handover_of (call ∷ words_of cell) ≡ handover_at (number_below 65536 call) (number_below 256 cell)
+handover_words call cell = by_words (words_of cell) ∙ ap (handover_at (number_below 65536 call)) (lone_number 256 cell)
+  where
+    nothing : (call : Option ℕ) → handover_at call None ≡ None
+    nothing (Some call) = refl
+    nothing None = refl
+
+    by_words : (words : List (List ℕ)) → handover_of (call ∷ words) ≡ handover_at (number_below 65536 call) (lone (number_below 256) words)
+    by_words [] = sym (nothing _)
+    by_words (word ∷ []) = refl
+    by_words (word ∷ next ∷ rest) = sym (nothing _)
+
+pub call_words : (call : List ℕ) → call_of (words_of call) ≡ number_below 65536 call
+call_words call = by_words (words_of call) ∙ lone_number 65536 call
+  where
+    by_words : (words : List (List ℕ)) → call_of words ≡ lone (number_below 65536) words
+    by_words [] = refl
+    by_words (word ∷ []) = refl
+    by_words (word ∷ next ∷ rest) = refl
+
+pub message_words : (cell trx octets : List ℕ) → message_of (cell ∷ trx ∷ words_of octets) ≡ message_at (number_below 256 cell) (number_below 256 trx) (octets_of octets)
+message_words cell trx octets = by_words (words_of octets) ∙ ap (message_at (number_below 256 cell) (number_below 256 trx)) (lone_octets octets)
+  where
+    nothing : (cell trx : Option ℕ) → message_at cell trx None ≡ None
+    nothing (Some cell) (Some trx) = refl
+    nothing (Some cell) None = refl
+    nothing None trx = refl
+
+    by_words : (words : List (List ℕ)) → message_of (cell ∷ trx ∷ words) ≡ message_at (number_below 256 cell) (number_below 256 trx) (lone octets_of words)
+    by_words [] = sym (nothing _ _)
+    by_words (word ∷ []) = refl
+    by_words (word ∷ next ∷ rest) = sym (nothing _ _)
 
 pub strip_carriage_return-append : (front : List ℕ) → strip_carriage_return (front ++ (13 ∷ [])) ≡ front
 strip_carriage_return-append front =

@@ -1,6 +1,6 @@
 -- What a script says, line by line. A text is the list of its bytes.
-use Rattle.std.specs.Prelude.{ℕ, ◌==◌, ◌&&◌, ◌||◌, Bool, nat_lt, nat_eq, not, if◌then◌else◌, List, length, map, codes, Option, Some, None, is_some, option_map, option_and_then, bytes_eq}
-use Rattle.std.specs.List.{slice_split, filter_map, list_all, before_first, after_first, starts_with, position_from}
+use Rattle.std.specs.Prelude.{ℕ, ◌==◌, ◌&&◌, ◌||◌, Bool, nat_lt, nat_eq, not, if◌then◌else◌, List, length, map, codes, Option, Some, None, is_some, option_map, bytes_eq, [], ◌∷◌}
+use Rattle.std.specs.List.{slice_split, filter_map, list_all, starts_with, position_from}
 use Rattle.std.specs.Char.{is_ascii_digit}
 use Rattle.std.specs.Option.{option_or}
 use Rattle.std.specs.Result.{result_ok}
@@ -13,17 +13,9 @@ use Rattle.ho_procedure.specs.declared.exchange.Line.TheVariants.{Open, Handover
 use Rattle.ho_procedure.specs.declared.exchange.Inbound.{Inbound}
 use Rattle.ho_procedure.specs.declared.exchange.Inbound.TheVariants.{Abis, Operator}
 
--- the text before the first blank, or all of it
-abbrev pub word_of : List ℕ → List ℕ
-word_of text = before_first (λ b. b == 32) text
-
--- the text after the first blank, or nothing
-abbrev pub rest_of : List ℕ → List ℕ
-rest_of text = after_first (λ b. b == 32) text
-
--- what follows the first word, where that is the keyword
-abbrev pub after_keyword : List ℕ → List ℕ → Option (List ℕ)
-after_keyword keyword line = if bytes_eq (word_of line) keyword then Some (rest_of line) else None
+-- the words of a text: one blank stands between any two
+abbrev pub words_of : List ℕ → List (List ℕ)
+words_of text = slice_split (λ b. b == 32) text
 
 -- one decimal digit or more, and nothing else
 abbrev pub is_number : List ℕ → Bool
@@ -42,48 +34,55 @@ channel_at (Some cell) (Some trx) (Some tn) = Some (record { cell = cell; trx = 
 channel_at cell trx tn = None
 
 -- CELL TRX TN
-abbrev pub channel_of : List ℕ → Option ChanId
-channel_of text = channel_at (number_below 256 (word_of text)) (number_below 256 (word_of (rest_of text))) (number_below 8 (rest_of (rest_of text)))
+abbrev pub channel_of : List (List ℕ) → Option ChanId
+channel_of (cell ∷ trx ∷ tn ∷ []) = channel_at (number_below 256 cell) (number_below 256 trx) (number_below 8 tn)
+channel_of words = None
 
 abbrev pub open_at : Option ℕ → Option ChanId → Option Line
 open_at (Some call) (Some chan) = Some (Open call chan)
 open_at call chan = None
 
--- open CALL CELL TRX TN
-abbrev pub open_line : List ℕ → Option Line
-open_line line = option_and_then (λ rest. open_at (number_below 65536 (word_of rest)) (channel_of (rest_of rest))) (after_keyword (codes "open") line)
+-- CALL CELL TRX TN
+abbrev pub open_of : List (List ℕ) → Option Line
+open_of (call ∷ chan) = open_at (number_below 65536 call) (channel_of chan)
+open_of words = None
 
 abbrev pub handover_at : Option ℕ → Option ℕ → Option Line
 handover_at (Some call) (Some cell) = Some (Handover call cell)
 handover_at call cell = None
 
--- handover CALL CELL
-abbrev pub handover_line : List ℕ → Option Line
-handover_line line = option_and_then (λ rest. handover_at (number_below 65536 (word_of rest)) (number_below 256 (rest_of rest))) (after_keyword (codes "handover") line)
+-- CALL CELL
+abbrev pub handover_of : List (List ℕ) → Option Line
+handover_of (call ∷ cell ∷ []) = handover_at (number_below 65536 call) (number_below 256 cell)
+handover_of words = None
 
--- undo CALL
-abbrev pub undo_line : List ℕ → Option Line
-undo_line line = option_and_then (λ rest. option_map Undo (number_below 65536 rest)) (after_keyword (codes "undo") line)
+-- CALL
+abbrev pub call_of : List (List ℕ) → Option ℕ
+call_of (call ∷ []) = number_below 65536 call
+call_of words = None
 
--- clear CALL
-abbrev pub clear_line : List ℕ → Option Line
-clear_line line = option_and_then (λ rest. option_map Clear (number_below 65536 rest)) (after_keyword (codes "clear") line)
-
--- what an operator asks for by a line
-abbrev pub operator_line : List ℕ → Option Line
-operator_line line = option_or (option_or (option_or (open_line line) (handover_line line)) (undo_line line)) (clear_line line)
+-- what an operator asks for by the words of a line: a keyword, and what it names
+abbrev pub operator_line : List (List ℕ) → Option Line
+operator_line (keyword ∷ words) = if bytes_eq keyword (codes "open") then open_of words else if bytes_eq keyword (codes "handover") then handover_of words else if bytes_eq keyword (codes "undo") then option_map Undo (call_of words) else if bytes_eq keyword (codes "clear") then option_map Clear (call_of words) else None
+operator_line words = None
 
 abbrev pub message_at : Option ℕ → Option ℕ → Option (List ℕ) → Option (ℕ × ℕ × List ℕ)
 message_at (Some cell) (Some trx) (Some octets) = Some (cell, trx, octets)
 message_at cell trx octets = None
 
--- abis CELL TRX HEX: the cell, the TRX and the octets
-abbrev pub abis_line : List ℕ → Option (ℕ × ℕ × List ℕ)
-abis_line line = option_and_then (λ rest. message_at (number_below 256 (word_of rest)) (number_below 256 (word_of (rest_of rest))) (octets_of (rest_of (rest_of rest)))) (after_keyword (codes "abis") line)
+-- CELL TRX HEX: the cell, the TRX and the octets
+abbrev pub message_of : List (List ℕ) → Option (ℕ × ℕ × List ℕ)
+message_of (cell ∷ trx ∷ octets ∷ []) = message_at (number_below 256 cell) (number_below 256 trx) (octets_of octets)
+message_of words = None
+
+-- the message on Abis that the words of a line give
+abbrev pub abis_line : List (List ℕ) → Option (ℕ × ℕ × List ℕ)
+abis_line (keyword ∷ words) = if bytes_eq keyword (codes "abis") then message_of words else None
+abis_line words = None
 
 -- what a line gives
 abbrev pub input_of : {A : Type 0} → List ℕ → Option (Inbound A)
-input_of line = option_or (option_map Operator (operator_line line)) (option_map (λ m. Abis m.0 m.1 m.2) (abis_line line))
+input_of line = option_or (option_map Operator (operator_line (words_of line))) (option_map (λ m. Abis m.0 m.1 m.2) (abis_line (words_of line)))
 
 abbrev pub is_comment : List ℕ → Bool
 is_comment line = starts_with nat_eq line (codes "#")

@@ -2,7 +2,7 @@
 //!
 //! `docs/PROGRAM.md` lists the lines and the ranges of their numbers; [`Line`] and [`Inbound`] are what they give.
 
-ghost use Rattle.std.specs.Prelude.{◌≡◌, ◌≢◌, ◌↔◌, ℕ, Some, None, Err, true, [], ◌∷◌, ◌++◌, IsErr, IfOk, OnOk, IfSome, not, is_some, option_map, option_and_then};
+ghost use Rattle.std.specs.Prelude.{◌≡◌, ◌≢◌, ◌↔◌, ℕ, Some, None, MatchOption, Err, true, [], ◌∷◌, ◌++◌, IsErr, IfOk, OnOk, IfSome, not, is_some, option_map, option_and_then};
 ghost use Rattle.std.specs.Char.{is_ascii_digit, is_ascii_hexdigit};
 ghost use Rattle.std.specs.List.{list_all, filter_map};
 ghost use Rattle.std.specs.Str.Lines.{strip_carriage_return};
@@ -35,20 +35,12 @@ impl From<AllocError> for ScriptFault {
     }
 }
 
-/// The text up to its first blank, and the text after that. With no blank, all of it and nothing.
-fn first_word(text: &str) -> (&str, &str)
-    ensures word { result.0.now ≡ said.word_of text.now }
-    ensures rest { result.1.now ≡ said.rest_of text.now }
+/// The first word of a text, and what stands after its blank; `None` where the text is one word.
+fn first_word(text: &str) -> Option<(&str, &str)>
+    ensures { MatchOption result (said.words_of text.now ≡ text.now ∷ [])
+        (λ cut. said.words_of text.now ≡ cut.0.now ∷ said.words_of cut.1.now) }
 {
-    text.split_once(' ').unwrap_or((text, ""))
-}
-
-/// What stands after this first word; `None` where the line begins with another.
-fn after_keyword<'a>(line: &'a str, keyword: &str) -> Option<&'a str>
-    ensures { option_map (λ rest. rest.now) result ≡ said.after_keyword keyword.now line.now }
-{
-    let (word, rest) = first_word(line);
-    if word == keyword { Some(rest) } else { None }
+    text.split_once(' ')
 }
 
 /// Whether the text has decimal digits alone.
@@ -90,12 +82,12 @@ fn timeslot(text: &str) -> Option<u8>
     }
 }
 
-/// A cell, a TRX and a timeslot.
+/// `CELL TRX TN`
 fn channel(text: &str) -> Option<ChanId>
-    ensures { result ≡ said.channel_of text.now }
+    ensures { result ≡ said.channel_of (said.words_of text.now) }
 {
-    let (cell, text) = first_word(text);
-    let (trx, tn) = first_word(text);
+    let (cell, text) = first_word(text)?;
+    let (trx, tn) = first_word(text)?;
     Some(ChanId {
         cell: octet(cell)?,
         trx: octet(trx)?,
@@ -103,54 +95,44 @@ fn channel(text: &str) -> Option<ChanId>
     })
 }
 
-/// `open CALL CELL TRX TN`
-fn open_line(line: &str) -> Option<Line>
-    ensures { result ≡ said.open_line line.now }
+/// `CALL CELL TRX TN`
+fn open(text: &str) -> Option<Line>
+    ensures { result ≡ said.open_of (said.words_of text.now) }
 {
-    let (call, chan) = first_word(after_keyword(line, "open")?);
+    let (call, chan) = first_word(text)?;
     Some(Line::Open {
         call: call_number(call)?,
         chan: channel(chan)?,
     })
 }
 
-/// `handover CALL CELL`
-fn handover_line(line: &str) -> Option<Line>
-    ensures { result ≡ said.handover_line line.now }
+/// `CALL CELL`
+fn handover(text: &str) -> Option<Line>
+    ensures { result ≡ said.handover_of (said.words_of text.now) }
 {
-    let (call, cell) = first_word(after_keyword(line, "handover")?);
+    let (call, cell) = first_word(text)?;
     Some(Line::Handover {
         call: call_number(call)?,
         cell: octet(cell)?,
     })
 }
 
-/// `undo CALL`
-fn undo_line(line: &str) -> Option<Line>
-    ensures { result ≡ said.undo_line line.now }
-{
-    Some(Line::Undo {
-        call: call_number(after_keyword(line, "undo")?)?,
-    })
-}
-
-/// `clear CALL`
-fn clear_line(line: &str) -> Option<Line>
-    ensures { result ≡ said.clear_line line.now }
-{
-    Some(Line::Clear {
-        call: call_number(after_keyword(line, "clear")?)?,
-    })
-}
-
 /// A line of the operator.
 fn operator_line(line: &str) -> Option<Line>
-    ensures { result ≡ said.operator_line line.now }
+    ensures { result ≡ said.operator_line (said.words_of line.now) }
 {
-    open_line(line)
-        .or(handover_line(line))
-        .or(undo_line(line))
-        .or(clear_line(line))
+    let (keyword, text) = first_word(line)?;
+    match keyword {
+        "open" => open(text),
+        "handover" => handover(text),
+        "undo" => Some(Line::Undo {
+            call: call_number(text)?,
+        }),
+        "clear" => Some(Line::Clear {
+            call: call_number(text)?,
+        }),
+        _ => None,
+    }
 }
 
 /// Whether the text has hexadecimal digits alone.
@@ -167,19 +149,32 @@ pub fn is_octets(text: &str) -> bool
     !text.is_empty() && text.len() % 2 == 0 && is_hex_digits(text)
 }
 
-/// The cell, the TRX and the octets, still in hexadecimal, of `abis CELL TRX HEX`.
-fn abis_line(line: &str) -> Option<(u8, u8, &str)>
+/// `CELL TRX HEX`: the cell, the TRX and the octets, still in hexadecimal.
+fn message(text: &str) -> Option<(u8, u8, &str)>
     ensures message { option_and_then (λ m. option_map
         (λ octets. (m.0, m.1, octets)) (said.octets_of m.2.now)) result ≡
-        said.abis_line line.now }
+        said.message_of (said.words_of text.now) }
     ensures octets { IfSome result (λ m. is_some (said.octets_of m.2.now) ≡ true) }
 {
-    let (cell, text) = first_word(after_keyword(line, "abis")?);
-    let (trx, hex) = first_word(text);
+    let (cell, text) = first_word(text)?;
+    let (trx, hex) = first_word(text)?;
     if is_octets(hex) {
         Some((octet(cell)?, octet(trx)?, hex))
     } else {
         None
+    }
+}
+
+/// The message of a line that gives one: as `message` has it.
+fn abis_line(line: &str) -> Option<(u8, u8, &str)>
+    ensures message { option_and_then (λ m. option_map
+        (λ octets. (m.0, m.1, octets)) (said.octets_of m.2.now)) result ≡
+        said.abis_line (said.words_of line.now) }
+    ensures octets { IfSome result (λ m. is_some (said.octets_of m.2.now) ≡ true) }
+{
+    match first_word(line)? {
+        ("abis", text) => message(text),
+        _ => None,
     }
 }
 
@@ -220,7 +215,7 @@ fn is_unread(line: &str) -> bool
 
 /// The octets that a text of hexadecimal digits writes.
 fn octets<A: Allocator + Copy>(alloc: A, text: &str) -> Result<Octets<A>, AllocError>
-    ensures { IfOk result (λ octets. IfSome (said.octets_of text.now) (λ wanted. octets ≡ wanted)) }
+    ensures { IfOk result (λ octets. IfSome (said.octets_of text.now) (λ written. octets ≡ written)) }
 {
     match hex::decode(alloc, text) {
         Ok(octets) => Octets::new(alloc, &octets),

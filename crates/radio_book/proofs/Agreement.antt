@@ -23,98 +23,98 @@ use Rattle.radio_book.proofs.Changes.{Misses, ChangesApart, apply_swap, state_ke
 
 -- the change of an accepted event names other entries
 abbrev pub Avoids : Outcome → Change → Type 0
-Avoids (Refuses refusal) gone = Unit {0}
-Avoids (Accepts change reply) gone = ChangesApart change gone
+Avoids (Refuses refusal) removal = Unit {0}
+Avoids (Accepts change reply) removal = ChangesApart change removal
 
 -- one outcome from the whole book and from what is left of it, which keeps away from what is gone
-pub record Agrees (gone : Change) (whole left : Outcome) : Type 0 where
+pub record Agrees (removal : Change) (whole left : Outcome) : Type 0 where
   pub same : left ≡ whole
-  pub away : Avoids whole gone
+  pub away : Avoids whole removal
 
 abbrev pub AgreesAt : Change → State → Event → Type 0
-AgreesAt gone b e = Agrees gone (row b e) (row (apply gone b) e)
+AgreesAt removal b e = Agrees removal (row b e) (row (apply removal b) e)
 
-pub agrees_commute : (gone : Change) (b : State) (e : Event) → AgreesAt gone b e → Commutes gone b e
-agrees_commute gone b e agrees = record {
-  book = over (row b e) agrees.away ∙ ap (λ o. book_after o (apply gone b)) (sym agrees.same);
+pub agrees_commute : (removal : Change) (b : State) (e : Event) → AgreesAt removal b e → Commutes removal b e
+agrees_commute removal b e agrees = record {
+  book = over (row b e) agrees.away ∙ ap (λ o. book_after o (apply removal b)) (sym agrees.same);
   reply = ap reply_of agrees.same;
 }
   where
-    over : (o : Outcome) → Avoids o gone → apply gone (book_after o b) ≡ book_after o (apply gone b)
+    over : (o : Outcome) → Avoids o removal → apply removal (book_after o b) ≡ book_after o (apply removal b)
     over (Refuses refusal) away = refl
-    over (Accepts change reply) away = apply_swap change gone b away
+    over (Accepts change reply) away = apply_swap change removal b away
 
-pub refused : (gone : Change) (refusal : Refusal) → Agrees gone (Refuses refusal) (Refuses refusal)
-refused gone refusal = record { same = refl; away = tt }
+pub refused : (removal : Change) (refusal : Refusal) → Agrees removal (Refuses refusal) (Refuses refusal)
+refused removal refusal = record { same = refl; away = tt }
 
 -- what is left reads the same, one thing after another
-pub as_read : {gone : Change} {whole left read : Outcome} → read ≡ left → Agrees gone whole left → Agrees gone whole read
+pub as_read : {removal : Change} {whole left read : Outcome} → read ≡ left → Agrees removal whole left → Agrees removal whole read
 as_read e agrees = record { same = e ∙ agrees.same; away = agrees.away }
 
 -- What is gone are entries in use, and none that the other calls use. The other calls are those that the taking away doesn't name.
-pub record Hides (gone : Change) (b : State) : Type 0 where
-  pub free_channel : (x : ChanId) → state_of b x ≡ Free → Misses gone.channel x
-  pub others_channel : (x : ChanId) (d : ℕ) → owner (state_of b x) ≡ Some d → Misses gone.call d → Misses gone.channel x
+pub record Hides (removal : Change) (b : State) : Type 0 where
+  pub free_channel : (x : ChanId) → state_of b x ≡ Free → Misses removal.channel x
+  pub others_channel : (x : ChanId) (d : ℕ) → owner (state_of b x) ≡ Some d → Misses removal.call d → Misses removal.channel x
   -- another channel that waits for its station is not of the calls that the taking away names
-  pub others_pending : (x : ChanId) (d : ℕ) → state_of b x ≡ Pending d → Misses gone.channel x → Misses gone.call d
-  pub free_reference : (k : Reference) → map.get b.references k ≡ None → Misses gone.reference k
-  pub others_reference : (k : Reference) (d : ℕ) → map.get b.references k ≡ Some d → Misses gone.call d → Misses gone.reference k
-  pub others_timer : (d : ℕ) → Misses gone.call d → Misses gone.timer d
+  pub others_pending : (x : ChanId) (d : ℕ) → state_of b x ≡ Pending d → Misses removal.channel x → Misses removal.call d
+  pub free_reference : (k : Reference) → map.get b.references k ≡ None → Misses removal.reference k
+  pub others_reference : (k : Reference) (d : ℕ) → map.get b.references k ≡ Some d → Misses removal.call d → Misses removal.reference k
+  pub others_timer : (d : ℕ) → Misses removal.call d → Misses removal.timer d
 
 -- the event is by another call, or a station's on another channel
 abbrev pub IsOfOther : Change → Event → Type 0
-IsOfOther gone (event.Open d y) = Misses gone.call d
-IsOfOther gone (event.Clear d) = Misses gone.call d
-IsOfOther gone (event.Look d) = Misses gone.call d
-IsOfOther gone (event.Take d k y) = Misses gone.call d
-IsOfOther gone (event.Reserve d n) = Misses gone.call d
-IsOfOther gone (event.Activate d) = Misses gone.call d
-IsOfOther gone (event.Undo d why) = Misses gone.call d
-IsOfOther gone (event.Confirm y) = Misses gone.channel y
-IsOfOther gone (event.Refuse y) = Misses gone.channel y
-IsOfOther gone (event.Released y) = Misses gone.channel y
+IsOfOther removal (event.Open d y) = Misses removal.call d
+IsOfOther removal (event.Clear d) = Misses removal.call d
+IsOfOther removal (event.Look d) = Misses removal.call d
+IsOfOther removal (event.Take d k y) = Misses removal.call d
+IsOfOther removal (event.Reserve d n) = Misses removal.call d
+IsOfOther removal (event.Activate d) = Misses removal.call d
+IsOfOther removal (event.Undo d why) = Misses removal.call d
+IsOfOther removal (event.Confirm y) = Misses removal.channel y
+IsOfOther removal (event.Refuse y) = Misses removal.channel y
+IsOfOther removal (event.Released y) = Misses removal.channel y
 
 -- the reply refuses for no channel and no reference that is gone
-pub record IsNotHeld (gone : Change) (reply : Reply) : Type 0 where
-  pub channel : (x : ChanId) → reply ≡ Refused (ChannelBusy x) → Misses gone.channel x
-  pub reference : (k : Reference) → reply ≡ Refused (RefBusy k.cell k.number) → Misses gone.reference k
+pub record IsNotHeld (removal : Change) (reply : Reply) : Type 0 where
+  pub channel : (x : ChanId) → reply ≡ Refused (ChannelBusy x) → Misses removal.channel x
+  pub reference : (k : Reference) → reply ≡ Refused (RefBusy k.cell k.number) → Misses removal.reference k
 
 -- the row of an event agrees, whatever is gone of a sound book
 abbrev pub AgreesWithOthers : Event → Type 0
-AgreesWithOthers e = (gone : Change) (b : State) → IsSound b → Hides gone b → IsOfOther gone e → IsNotHeld gone (reply_to b e) → AgreesAt gone b e
+AgreesWithOthers e = (removal : Change) (b : State) → IsSound b → Hides removal b → IsOfOther removal e → IsNotHeld removal (reply_to b e) → AgreesAt removal b e
 
-module _ (gone : Change) (b : State) (hides : Hides gone b) where
-  -- a row that wants a channel free: the channel is none that is gone, or a refusal comes from it
-  pub wants_free :
+module _ (removal : Change) (b : State) (hides : Hides removal b) where
+  -- a row that requires a channel to be free: the channel is none that is gone, or a refusal comes from it
+  pub requires_free :
       (y : ChanId) (f : ChanState → Outcome) → ((c : ℕ) → f (Held c) ≡ Refuses (ChannelBusy y)) → ((c : ℕ) → f (Pending c) ≡ Refuses (ChannelBusy y)) →
-      ((c : ℕ) → f (On c) ≡ Refuses (ChannelBusy y)) → f Off ≡ Refuses (ChannelBusy y) → (Misses gone.channel y → Avoids (f Free) gone) →
-      (reply_of (f (state_of b y)) ≡ Refused (ChannelBusy y) → Misses gone.channel y) →
-      Agrees gone (f (state_of b y)) (f (state_of (apply gone b) y))
-  wants_free y f held pending on off away not_held = by (state_of b y) refl not_held
+      ((c : ℕ) → f (On c) ≡ Refuses (ChannelBusy y)) → f Off ≡ Refuses (ChannelBusy y) → (Misses removal.channel y → Avoids (f Free) removal) →
+      (reply_of (f (state_of b y)) ≡ Refused (ChannelBusy y) → Misses removal.channel y) →
+      Agrees removal (f (state_of b y)) (f (state_of (apply removal b) y))
+  requires_free y f held pending on off away not_held = by (state_of b y) refl not_held
     where
-      busy : (s : ChanState) → state_of b y ≡ s → f s ≡ Refuses (ChannelBusy y) → (reply_of (f s) ≡ Refused (ChannelBusy y) → Misses gone.channel y) → Agrees gone (f s) (f (state_of (apply gone b) y))
+      busy : (s : ChanState) → state_of b y ≡ s → f s ≡ Refuses (ChannelBusy y) → (reply_of (f s) ≡ Refused (ChannelBusy y) → Misses removal.channel y) → Agrees removal (f s) (f (state_of (apply removal b) y))
       busy s is refuses not_held = record {
-        same = ap f (state_kept gone b y (not_held (ap reply_of refuses)) ∙ is);
-        away = subst (λ o. Avoids o gone) (sym refuses) tt;
+        same = ap f (state_kept removal b y (not_held (ap reply_of refuses)) ∙ is);
+        away = subst (λ o. Avoids o removal) (sym refuses) tt;
       }
 
-      by : (s : ChanState) → state_of b y ≡ s → (reply_of (f s) ≡ Refused (ChannelBusy y) → Misses gone.channel y) → Agrees gone (f s) (f (state_of (apply gone b) y))
-      by Free is not_held = let missed = hides.free_channel y is in record { same = ap f (state_kept gone b y missed ∙ is); away = away missed }
+      by : (s : ChanState) → state_of b y ≡ s → (reply_of (f s) ≡ Refused (ChannelBusy y) → Misses removal.channel y) → Agrees removal (f s) (f (state_of (apply removal b) y))
+      by Free is not_held = let missed = hides.free_channel y is in record { same = ap f (state_kept removal b y missed ∙ is); away = away missed }
       by (Held c) is not_held = busy (Held c) is (held c) not_held
       by (Pending c) is not_held = busy (Pending c) is (pending c) not_held
       by (On c) is not_held = busy (On c) is (on c) not_held
       by Off is not_held = busy Off is off not_held
 
 -- of channels that aren't gone the states read the same
-pub states_kept : {X : Type 0} (gone : Change) (b : State) (f : ChanId → ChanState → X) (o : Option ChanId) → ((x : ChanId) → o ≡ Some x → Misses gone.channel x) →
-    option_map (λ x. f x (state_of (apply gone b) x)) o ≡ option_map (λ x. f x (state_of b x)) o
-states_kept gone b f None misses = refl
-states_kept gone b f (Some x) misses = ap (λ s. Some (f x s)) (state_kept gone b x (misses x refl))
+pub states_kept : {X : Type 0} (removal : Change) (b : State) (f : ChanId → ChanState → X) (o : Option ChanId) → ((x : ChanId) → o ≡ Some x → Misses removal.channel x) →
+    option_map (λ x. f x (state_of (apply removal b) x)) o ≡ option_map (λ x. f x (state_of b x)) o
+states_kept removal b f None misses = refl
+states_kept removal b f (Some x) misses = ap (λ s. Some (f x s)) (state_kept removal b x (misses x refl))
 
-module _ (gone : Change) (b : State) (sound : IsSound b) (hides : Hides gone b) (d : ℕ) (other : Misses gone.call d) (r : CallRecord) (is : record_of b d ≡ Some r) where
+module _ (removal : Change) (b : State) (sound : IsSound b) (hides : Hides removal b) (d : ℕ) (other : Misses removal.call d) (r : CallRecord) (is : record_of b d ≡ Some r) where
   -- the channels of another call aren't gone
-  pub serving_missed : (x : ChanId) → r.serving ≡ Some x → Misses gone.channel x
+  pub serving_missed : (x : ChanId) → r.serving ≡ Some x → Misses removal.channel x
   serving_missed x serves = hides.others_channel x d (sound.serving_is_owned d r x is serves) other
 
-  pub target_missed : (a : Attempt) → r.attempt ≡ Some a → (x : ChanId) → a.target ≡ Some x → Misses gone.channel x
+  pub target_missed : (a : Attempt) → r.attempt ≡ Some a → (x : ChanId) → a.target ≡ Some x → Misses removal.channel x
   target_missed a has x aims = hides.others_channel x d (ap owner (sound.target_by_stage d r a x is has aims) ∙ is_owned d a.stage) other

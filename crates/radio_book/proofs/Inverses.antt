@@ -10,33 +10,35 @@ use Rattle.radio_book.specs.declared.event.AttemptKind.{AttemptKind}
 use Rattle.radio_book.specs.declared.event.AttemptKind.TheVariants.{Internal, Incoming}
 use Rattle.radio_book.specs.declared.event.Stage.{Stage}
 use Rattle.radio_book.specs.declared.event.Stage.TheVariants.{Taken, Reserved, Sent, Refused, Confirmed}
-use Rattle.radio_book.specs.declared.journal.Inverse.TheVariants.{FreeChannel, DropReference}
+use Rattle.attempt_journal.specs.declared.Inverse.TheVariants.{FreeChannel, DropReference}
 use Rattle.radio_book.specs.Keys.{chan_cmp, reference_cmp}
 use Rattle.radio_book.specs.Maps.{put, with_change}
+use Rattle.channel_fsm.specs.declared.ChanEvent.TheVariants.{Drop, SwitchOff}
+use Rattle.radio_book.specs.Channels.{channel_step}
 use Rattle.radio_book.specs.State.{State, apply, or_free, state_of, record_of}
 use Rattle.radio_book.specs.Table.{left_state, resting_record, reference_at, undo_change}
 use Rattle.radio_book.specs.Sound.{IsSound, target_state, HasReference}
-use Rattle.radio_book.specs.Journal.{InversesUndo, opening_inverse, journal_of, freed_if_held, off_if_active, reference_removal_of_call, run_inverse, run_back}
+use Rattle.radio_book.specs.Journal.{InversesUndo, opening_inverse, journal_of, reference_removal_of_call, run_inverse, run_back}
 use Rattle.radio_book.proofs.MapFacts.{state_same}
 use Rattle.radio_book.proofs.Frame.{attempting, attempt_of, call_of}
 
 -- the channels after the first inverse and the one that frees the target
 
 abbrev switched : ChanId → FinMap chan_cmp ChanState → FinMap chan_cmp ChanState
-switched t m = with_change m (off_if_active t (or_free (map.get m t)))
+switched t m = with_change m (channel_step t SwitchOff (or_free (map.get m t)))
 
 abbrev freed : ChanId → FinMap chan_cmp ChanState → FinMap chan_cmp ChanState
-freed t m = with_change m (freed_if_held t (or_free (map.get m t)))
+freed t m = with_change m (channel_step t Drop (or_free (map.get m t)))
 
 -- a held target is freed, and so left
 held_is_left : (m : FinMap chan_cmp ChanState) (t : ChanId) (c : ℕ) → or_free (map.get m t) ≡ Held c → freed t m ≡ put m t (left_state (or_free (map.get m t)))
-held_is_left m t c e = ap (λ z. with_change m (freed_if_held t z)) e ∙ sym (ap (λ z. put m t (left_state z)) e)
+held_is_left m t c e = ap (λ z. with_change m (channel_step t Drop z)) e ∙ sym (ap (λ z. put m t (left_state z)) e)
 
 -- a target that may be active is off, and so left
-off_is_left : (m : FinMap chan_cmp ChanState) (t : ChanId) (z : ChanState) → or_free (map.get m t) ≡ z → off_if_active t z ≡ Some (t, Some Off) → left_state z ≡ Some Off → freed t (switched t m) ≡ put m t (left_state (or_free (map.get m t)))
+off_is_left : (m : FinMap chan_cmp ChanState) (t : ChanId) (z : ChanState) → or_free (map.get m t) ≡ z → channel_step t SwitchOff z ≡ Some (t, Some Off) → left_state z ≡ Some Off → freed t (switched t m) ≡ put m t (left_state (or_free (map.get m t)))
 off_is_left m t z e off left =
-    ap (λ o. freed t (with_change m o)) (ap (off_if_active t) e ∙ off)
-    ∙ ap (λ y. with_change (put m t (Some Off)) (freed_if_held t y)) (state_same m t (Some Off))
+    ap (λ o. freed t (with_change m o)) (ap (channel_step t SwitchOff) e ∙ off)
+    ∙ ap (λ y. with_change (put m t (Some Off)) (channel_step t Drop y)) (state_same m t (Some Off))
     ∙ sym (ap (put m t) (ap left_state e ∙ left))
 
 module _ (b : State) (sound : IsSound b) (c : ℕ) (s : Option ChanId) (k : AttemptKind) (t : ChanId) where
@@ -75,7 +77,7 @@ module _ (b : State) (sound : IsSound b) (c : ℕ) (s : Option ChanId) (k : Atte
   by_stage Sent (Some m) e is has = closed Sent m e (switched t b.channels) (off_is_left b.channels t (Pending c) is refl refl)
   by_stage Refused None e is has = cc
   by_stage Refused (Some m) e is has =
-      closed Refused m e (switched t b.channels) (ap (λ o. freed t (with_change b.channels o)) (ap (off_if_active t) is) ∙ held_is_left b.channels t c is)
+      closed Refused m e (switched t b.channels) (ap (λ o. freed t (with_change b.channels o)) (ap (channel_step t SwitchOff) is) ∙ held_is_left b.channels t c is)
   by_stage Confirmed None e is has = cc
   by_stage Confirmed (Some m) e is has = closed Confirmed m e (switched t b.channels) (off_is_left b.channels t (On c) is refl refl)
 

@@ -4,6 +4,7 @@ pub mod TableFacts
 pub mod Frame
 pub mod SoundSteps
 pub mod Inverses
+pub mod ChannelSteps
 pub mod RecordFacts
 pub mod Runs
 pub mod RunBack

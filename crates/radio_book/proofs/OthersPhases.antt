@@ -20,7 +20,7 @@ use Rattle.radio_book.specs.Maps.{put, with_change}
 use Rattle.radio_book.specs.State.{State, apply, state_of, record_of}
 use Rattle.radio_book.specs.Table.{reference_held, reply_to, left_state}
 use Rattle.radio_book.specs.Sound.{IsSound, owner, target_in, reference_of, HasServing}
-use Rattle.radio_book.specs.Others.{IsOn, IsBy, IsHeldChannel, IsHeldReference, attempt_gone, channel_gone, CommutesWithUndone, UndoneIsGone}
+use Rattle.radio_book.specs.Others.{IsOn, IsBy, IsHeldChannel, IsHeldReference, without_attempt, without_channel, CommutesWithUndone, UndoneIsRemoved}
 use Rattle.radio_book.proofs.KeyFacts.{chan_total, chan_exact}
 use Rattle.radio_book.proofs.MapFacts.{put_put_same}
 use Rattle.radio_book.proofs.Frame.{is_owned}
@@ -52,7 +52,7 @@ module _ (c : ℕ) (r : CallRecord) (a : Attempt) (b : State) (sound : IsSound b
         | inr aims ↦ other (sym (ap target_in one ∙ ap (option_and_then (λ w. w.target)) has) ∙ aims)
       ]
 
-  pub open_hides : Hides (attempt_gone c r a (map.get b.timers c)) b
+  pub open_hides : Hides (without_attempt c r a (map.get b.timers c)) b
   open_hides = record {
     free_channel = λ x free. option_missed (λ t. (t, None)) a.target x (λ t aims here.
         let bad : None ≡ Some c = sym (ap owner free) ∙ ap (λ z. owner (state_of b z)) here ∙ target_is_owned t aims in cc);
@@ -67,10 +67,10 @@ module _ (c : ℕ) (r : CallRecord) (a : Attempt) (b : State) (sound : IsSound b
   }
 
 module _ (c : ℕ) (r : CallRecord) (a : Attempt) (t : ChanId) (b : State) (aims : a.target ≡ Some t) where
-  open_missed : (x : ChanId) → x ≢ t → Misses (attempt_gone c r a (map.get b.timers c)).channel x
+  open_missed : (x : ChanId) → x ≢ t → Misses (without_attempt c r a (map.get b.timers c)).channel x
   open_missed x other = option_missed (λ t. (t, None)) a.target x (λ v is here. other (here ∙ same_Some v t (sym is ∙ aims)))
 
-  pub open_others : (e : Event) → (IsBy c e → ⊥) → (IsOn t e → ⊥) → IsOfOther (attempt_gone c r a (map.get b.timers c)) e
+  pub open_others : (e : Event) → (IsBy c e → ⊥) → (IsOn t e → ⊥) → IsOfOther (without_attempt c r a (map.get b.timers c)) e
   open_others (event.Open d y) by on = by
   open_others (event.Clear d) by on = by
   open_others (event.Look d) by on = by
@@ -83,7 +83,7 @@ module _ (c : ℕ) (r : CallRecord) (a : Attempt) (t : ChanId) (b : State) (aims
   open_others (event.Released y) by on = open_missed y on
 
   pub open_not_held : (reply : Reply) → (IsHeldChannel t reply → ⊥) → (IsHeldReference (reference_held a.target a.reference) reply → ⊥) →
-      IsNotHeld (attempt_gone c r a (map.get b.timers c)) reply
+      IsNotHeld (without_attempt c r a (map.get b.timers c)) reply
   open_not_held reply channel reference = record {
     channel = λ x e. open_missed x (λ here. channel (e ∙ ap (λ z. Refused (ChannelBusy z)) here));
     reference = λ k e. option_missed (λ j. (j, None)) (reference_held a.target a.reference) k (λ j held here.
@@ -91,7 +91,7 @@ module _ (c : ℕ) (r : CallRecord) (a : Attempt) (t : ChanId) (b : State) (aims
   }
 
 -- while the target is off
-pub off_hides : (t : ChanId) (b : State) → state_of b t ≡ Off → Hides (channel_gone t) b
+pub off_hides : (t : ChanId) (b : State) → state_of b t ≡ Off → Hides (without_channel t) b
 off_hides t b off = record {
   free_channel = λ x free here. let bad : Free ≡ Off = sym free ∙ ap (state_of b) here ∙ off in cc;
   others_channel = λ x d owned other here. let bad : Some d ≡ None = sym owned ∙ ap owner (ap (state_of b) here ∙ off) in cc;
@@ -101,7 +101,7 @@ off_hides t b off = record {
   others_timer = λ d other. other;
 }
 
-pub off_others : (t : ChanId) (e : Event) → (IsOn t e → ⊥) → IsOfOther (channel_gone t) e
+pub off_others : (t : ChanId) (e : Event) → (IsOn t e → ⊥) → IsOfOther (without_channel t) e
 off_others t (event.Open d y) on = λ touched. touched
 off_others t (event.Clear d) on = λ touched. touched
 off_others t (event.Look d) on = λ touched. touched
@@ -113,7 +113,7 @@ off_others t (event.Confirm y) on = on
 off_others t (event.Refuse y) on = on
 off_others t (event.Released y) on = on
 
-pub off_not_held : (t : ChanId) (reply : Reply) → (IsHeldChannel t reply → ⊥) → IsNotHeld (channel_gone t) reply
+pub off_not_held : (t : ChanId) (reply : Reply) → (IsHeldChannel t reply → ⊥) → IsNotHeld (without_channel t) reply
 off_not_held t reply channel = record {
   channel = λ x e here. channel (e ∙ ap (λ z. Refused (ChannelBusy z)) here);
   reference = λ k e touched. touched;
@@ -123,20 +123,20 @@ off_not_held t reply channel = record {
 pub commutes_with_undone : (e : Event) → AgreesWithOthers e → CommutesWithUndone e
 commutes_with_undone e agrees = record {
   while_open = λ c r a t b sound is has aims by on channel reference.
-      agrees_commute (attempt_gone c r a (map.get b.timers c)) b e
-      (agrees (attempt_gone c r a (map.get b.timers c)) b sound (open_hides c r a b sound is has) (open_others c r a t b aims e by on)
+      agrees_commute (without_attempt c r a (map.get b.timers c)) b e
+      (agrees (without_attempt c r a (map.get b.timers c)) b sound (open_hides c r a b sound is has) (open_others c r a t b aims e by on)
       (open_not_held c r a t b aims (reply_to b e) channel reference));
   while_off = λ t b sound off on channel.
-      agrees_commute (channel_gone t) b e
-      (agrees (channel_gone t) b sound (off_hides t b off) (off_others t e on) (off_not_held t (reply_to b e) channel));
+      agrees_commute (without_channel t) b e
+      (agrees (without_channel t) b sound (off_hides t b off) (off_others t e on) (off_not_held t (reply_to b e) channel));
 }
 
 -- of the target two changes follow one another, and the later stands; all else is the same in both
-pub undone_is_gone : UndoneIsGone
-undone_is_gone c r a t b aims =
-    let gone = apply (attempt_gone c r a (map.get b.timers c)) b in
+pub undone_is_removed : UndoneIsRemoved
+undone_is_removed c r a t b aims =
+    let removal = apply (without_attempt c r a (map.get b.timers c)) b in
     let channels =
     ap (λ o. put (with_change b.channels (option_map (λ y. (y, left_state (state_of b y))) o)) t None) aims
     ∙ put_put_same chan_total chan_exact b.channels t (left_state (state_of b t)) None
     ∙ sym (ap (λ o. with_change b.channels (option_map (λ y. (y, None)) o)) aims) in
-    (λ i. record { site = b.site; channels = channels i; calls = gone.calls; references = gone.references; timers = gone.timers })
+    (λ i. record { site = b.site; channels = channels i; calls = removal.calls; references = removal.references; timers = removal.timers })

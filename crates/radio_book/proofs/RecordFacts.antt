@@ -1,5 +1,8 @@
 -- What a sound book says of the channels that an event reads.
-use Rattle.std.proofs.Common.{◌≡◌, ◌≢◌, ℕ, true, false, Option, Some, None, IsSome, is_some, Result, Ok, Err, OnOk, OnErr, refl, sym, ap, ◌∙◌, subst}
+use Rattle.std.proofs.Common.{◌≡◌, ◌≢◌, ℕ, true, false, if◌then◌else◌, Option, Some, None, is_some, Result, Ok, Err, OnOk, OnErr, refl, sym, ap, ◌∙◌, subst}
+use Rattle.std.proofs.lemmas.Bool.{eq-eqb}
+use Rattle.std.specs.Option.{option_map}
+use Rattle.std.specs.FinMap.{FinMap}
 use Rattle.std.specs.FinMap as map
 use Rattle.channel_fsm.specs.declared.ChanId.{ChanId}
 use Rattle.channel_fsm.specs.declared.ChanState.{ChanState}
@@ -10,26 +13,23 @@ use Rattle.radio_book.specs.declared.event.Attempt.{Attempt}
 use Rattle.radio_book.specs.declared.event.CallRecord.{CallRecord}
 use Rattle.radio_book.specs.declared.event.Event.{Event}
 use Rattle.radio_book.specs.declared.event.Refusal.TheVariants.{ChannelBusy}
-use Rattle.radio_book.specs.declared.journal.Inverse.{Inverse}
+use Rattle.attempt_journal.specs.declared.Inverse.{Inverse}
 use Rattle.cell_table.specs.Site.{is_traffic}
+use Rattle.channel_fsm.specs.declared.ChanEvent.TheVariants.{Send}
+use Rattle.radio_book.specs.Keys.{chan_cmp}
+use Rattle.radio_book.specs.Maps.{with_change}
+use Rattle.radio_book.specs.Channels.{entry_of, channel_step}
 use Rattle.radio_book.specs.State.{State, or_free, state_of, record_of}
-use Rattle.radio_book.specs.Sound.{IsSound, owner, target_state}
+use Rattle.radio_book.specs.Sound.{IsSound, target_state}
 use Rattle.radio_book.specs.Table.{Refuses, step, begin_row}
 use Rattle.radio_book.specs.Journal.{journal_of, inverses_at, stage_inverses, opening_inverse, or_zero}
-use Rattle.radio_book.proofs.Frame.{is_owned}
 use Rattle.radio_book.proofs.SoundSteps.{sound_step}
 
--- a state that names a call is an entry
-owned_there : (o : Option ChanState) (c : ℕ) → owner (or_free o) ≡ Some c → IsSome o
-owned_there None c e = cc
-owned_there (Some s) c e = refl
-
-pub serving_there : (b : State) (c : ℕ) (r : CallRecord) (x : ChanId) → IsSound b → record_of b c ≡ Some r → r.serving ≡ Some x → IsSome (map.get b.channels x)
-serving_there b c r x sound known serving = owned_there (map.get b.channels x) c (sound.serving_is_owned c r x known serving)
-
-pub target_there : (b : State) (c : ℕ) (r : CallRecord) (a : Attempt) (x : ChanId) → IsSound b → record_of b c ≡ Some r → r.attempt ≡ Some a → a.target ≡ Some x → IsSome (map.get b.channels x)
-target_there b c r a x sound known opened target =
-    owned_there (map.get b.channels x) c (ap owner (sound.target_by_stage c r a x known opened target) ∙ is_owned c a.stage)
+-- a held channel of a call that asks for it
+pub sent : (m : FinMap chan_cmp ChanState) (x : ChanId) (c : ℕ) → or_free (map.get m x) ≡ Held c → with_change m (channel_step x (Send c) (or_free (map.get m x))) ≡ map.insert m x (Pending c)
+sent m x c held =
+    ap (λ s. with_change m (channel_step x (Send c) s)) held
+    ∙ ap (λ same. with_change m (option_map (λ after. (x, entry_of after)) (if same then Some (Pending c) else None))) (eq-eqb c c refl)
 
 -- an entry is of a channel that isn't free
 not_free : (b : State) (x : ChanId) → IsSound b → is_some (map.get b.channels x) ≡ true → state_of b x ≢ Free

@@ -10,7 +10,7 @@ use Rattle.radio_book.specs.declared.event.Refusal.TheVariants.{WrongPhase, NotA
 use Rattle.radio_book.specs.declared.event.Reply.TheVariants.{Record}
 use Rattle.radio_book.specs.declared.event.Why.{Why}
 use Rattle.radio_book.specs.declared.event.Why.TheVariants.{Asked, Expired}
-use Rattle.radio_book.specs.declared.journal.Inverse.{Inverse}
+use Rattle.attempt_journal.specs.declared.Inverse.{Inverse}
 use Rattle.radio_book.specs.State.{State, state_of, record_of}
 use Rattle.radio_book.specs.Sound.{IsSound}
 use Rattle.radio_book.specs.Table.{Refuses, step, reply_to, reply_of, book_after, undo_attempt, undo_row, is_armed}

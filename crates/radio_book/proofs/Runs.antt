@@ -15,12 +15,12 @@ replies ss = map (λ s. s.1) ss
 run_of : (b : State) (ss : List (Event × Reply)) (b' : State) → Leads b ss b' → (b' ≡ run_book b (events ss)) × (replies ss ≡ run_replies b (events ss))
 run_of b [] b' same = (same, refl)
 run_of b (s ∷ ss) b' leads =
-    let (book, told) = run_of (step b s.0) ss b' leads.1 in
-    (book, ap (λ reply. reply ∷ replies ss) leads.0 ∙ ap (λ rest. reply_to b s.0 ∷ rest) told)
+    let (book, answered) = run_of (step b s.0) ss b' leads.1 in
+    (book, ap (λ reply. reply ∷ replies ss) leads.0 ∙ ap (λ rest. reply_to b s.0 ∷ rest) answered)
 
 led_by : (b : State) (ss : List (Event × Reply)) (b' : State) → b' ≡ run_book b (events ss) → replies ss ≡ run_replies b (events ss) → Leads b ss b'
-led_by b [] b' book told = book
-led_by b (s ∷ ss) b' book told =
+led_by b [] b' book answered = book
+led_by b (s ∷ ss) b' book answered =
     let first : s.1 ≡ reply_to b s.0 = cc in
     let rest : replies ss ≡ run_replies (step b s.0) (events ss) = cc in
     (first, led_by (step b s.0) ss b' book rest)

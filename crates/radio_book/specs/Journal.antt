@@ -3,8 +3,7 @@ use Rattle.std.specs.Prelude.{◌≡◌, ℕ, List, [], ◌∷◌, Option, Some,
 use Rattle.std.specs.Option.{option_map}
 use Rattle.std.specs.FinMap as map
 use Rattle.channel_fsm.specs.declared.ChanId.{ChanId}
-use Rattle.channel_fsm.specs.declared.ChanState.{ChanState}
-use Rattle.channel_fsm.specs.declared.ChanState.TheVariants.{Held, Pending, On, Off}
+use Rattle.channel_fsm.specs.declared.ChanEvent.TheVariants as chan
 use Rattle.radio_book.specs.declared.event.AttemptKind.{AttemptKind}
 use Rattle.radio_book.specs.declared.event.AttemptKind.TheVariants.{Internal, Incoming}
 use Rattle.radio_book.specs.declared.event.Stage.{Stage}
@@ -12,9 +11,10 @@ use Rattle.radio_book.specs.declared.event.Stage.TheVariants.{Taken, Reserved, S
 use Rattle.radio_book.specs.declared.event.Attempt.{Attempt}
 use Rattle.radio_book.specs.declared.event.CallRecord.{CallRecord}
 use Rattle.radio_book.specs.declared.event.Reference.{Reference}
-use Rattle.radio_book.specs.declared.journal.Inverse.{Inverse}
-use Rattle.radio_book.specs.declared.journal.Inverse.TheVariants.{FreeChannel, Settle, Forget, DropReference, SwitchOff}
+use Rattle.attempt_journal.specs.declared.Inverse.{Inverse}
+use Rattle.attempt_journal.specs.declared.Inverse.TheVariants.{FreeChannel, Settle, Forget, DropReference, SwitchOff}
 use Rattle.radio_book.specs.Maps.{Entry}
+use Rattle.radio_book.specs.Channels.{channel_step}
 use Rattle.radio_book.specs.State.{State, Change, apply, state_of, record_of}
 use Rattle.radio_book.specs.Table.{no_change, undo_change, reference_held}
 use Rattle.radio_book.specs.Sound.{IsSound}
@@ -47,17 +47,6 @@ abbrev pub journal_of : Option Attempt → List Inverse
 journal_of None = []
 journal_of (Some a) = inverses_at a a.target
 
--- a held channel becomes free, any other stays
-abbrev pub freed_if_held : ChanId → ChanState → Option (Entry ChanId ChanState)
-freed_if_held x (Held c) = Some (x, None)
-freed_if_held x s = None
-
--- a channel that may be active is off, any other stays
-abbrev pub off_if_active : ChanId → ChanState → Option (Entry ChanId ChanState)
-off_if_active x (Pending c) = Some (x, Some Off)
-off_if_active x (On c) = Some (x, Some Off)
-off_if_active x s = None
-
 -- the reference with this number in the cell of the attempt's target is in use no more
 abbrev pub reference_removal_of_attempt : ℕ → Option Attempt → Option (Entry Reference ℕ)
 reference_removal_of_attempt n None = None
@@ -70,8 +59,8 @@ reference_removal_of_call n (Some r) = reference_removal_of_attempt n r.attempt
 
 -- what one inverse of a call changes
 abbrev pub inverse_change : ℕ → Inverse → State → Change
-inverse_change c (FreeChannel x) b = record no_change { channel = freed_if_held x (state_of b x) }
-inverse_change c (SwitchOff x) b = record no_change { channel = off_if_active x (state_of b x) }
+inverse_change c (FreeChannel x) b = record no_change { channel = channel_step x chan.Drop (state_of b x) }
+inverse_change c (SwitchOff x) b = record no_change { channel = channel_step x chan.SwitchOff (state_of b x) }
 inverse_change c (DropReference n) b = record no_change { reference = reference_removal_of_call n (record_of b c) }
 inverse_change c Settle b = record no_change { call = option_map (λ r. (c, Some (record r { attempt = None }))) (record_of b c) }
 inverse_change c Forget b = record no_change { call = Some (c, None) }

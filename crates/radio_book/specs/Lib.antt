@@ -6,6 +6,7 @@ pub use Rattle.cell_table.specs.SiteFile
 pub mod Keys
 pub mod Maps
 pub mod State
+pub mod Channels
 pub mod Table
 pub mod Sound
 pub mod Journal

@@ -44,17 +44,17 @@ IsHeldReference None reply = ⊥
 IsHeldReference (Some k) reply = reply ≡ Refused (RefBusy k.cell k.number)
 
 -- all that an open attempt has is gone: what its undo takes away, and its channel, whatever its state
-abbrev pub attempt_gone : ℕ → CallRecord → Attempt → Option Timer → Change
-attempt_gone c r a armed = record (undo_change c r a (λ x. Free) armed) { channel = option_map (λ t. (t, None)) a.target }
+abbrev pub without_attempt : ℕ → CallRecord → Attempt → Option Timer → Change
+without_attempt c r a armed = record (undo_change c r a (λ x. Free) armed) { channel = option_map (λ t. (t, None)) a.target }
 
 -- a channel whose release is awaited is gone
-abbrev pub channel_gone : ChanId → Change
-channel_gone x = record no_change { channel = Some (x, None) }
+abbrev pub without_channel : ChanId → Change
+without_channel x = record no_change { channel = Some (x, None) }
 
 -- the step and the taking away lead to one book in either order, and the reply is the same
-pub record Commutes (gone : Change) (b : State) (e : Event) : Type 0 where
-  pub book : apply gone (step b e) ≡ step (apply gone b) e
-  pub reply : reply_to (apply gone b) e ≡ reply_to b e
+pub record Commutes (removal : Change) (b : State) (e : Event) : Type 0 where
+  pub book : apply removal (step b e) ≡ step (apply removal b) e
+  pub reply : reply_to (apply removal b) e ≡ reply_to b e
 
 -- while an attempt is open: a step that isn't by its call nor on its target, and is no refusal that comes from what it holds
 abbrev pub CommutesWhileOpen : Event → Type 0
@@ -63,21 +63,21 @@ CommutesWhileOpen e =
     IsSound b → record_of b c ≡ Some r → r.attempt ≡ Some a → a.target ≡ Some t →
     (IsBy c e → ⊥) → (IsOn t e → ⊥) → (IsHeldChannel t (reply_to b e) → ⊥) →
     (IsHeldReference (reference_held a.target a.reference) (reply_to b e) → ⊥) →
-    Commutes (attempt_gone c r a (map.get b.timers c)) b e
+    Commutes (without_attempt c r a (map.get b.timers c)) b e
 
 -- once it is undone, while its target is off: a step that isn't on the target, and is no refusal that comes from it
 abbrev pub CommutesWhileOff : Event → Type 0
 CommutesWhileOff e =
     (t : ChanId) (b : State) → IsSound b → state_of b t ≡ Off →
     (IsOn t e → ⊥) → (IsHeldChannel t (reply_to b e) → ⊥) →
-    Commutes (channel_gone t) b e
+    Commutes (without_channel t) b e
 
 pub record CommutesWithUndone (e : Event) : Type 0 where
   pub while_open : CommutesWhileOpen e
   pub while_off : CommutesWhileOff e
 
 -- an undo, and then its channel gone: the same as if all that the attempt had were gone at once
-abbrev pub UndoneIsGone : Type 0
-UndoneIsGone =
+abbrev pub UndoneIsRemoved : Type 0
+UndoneIsRemoved =
     (c : ℕ) (r : CallRecord) (a : Attempt) (t : ChanId) (b : State) → a.target ≡ Some t →
-    apply (channel_gone t) (apply (undo_change c r a (state_of b) (map.get b.timers c)) b) ≡ apply (attempt_gone c r a (map.get b.timers c)) b
+    apply (without_channel t) (apply (undo_change c r a (state_of b) (map.get b.timers c)) b) ≡ apply (without_attempt c r a (map.get b.timers c)) b

@@ -104,13 +104,13 @@ abbrev pub taking_change : ℕ → ChanId → CallRecord → Change
 taking_change c x r = record no_change { channel = with_state x (Held c); call = with_record c r }
 
 -- an attempt of a call of this controller (TS 44.018 clause 3.4.4): by the state of the serving channel, whether the
--- wanted one is a traffic channel, whether it lies in the same cell, and its state
+-- requested one is a traffic channel, whether it lies in the same cell, and its state
 abbrev pub take_from : ℕ → ChanId → CallRecord → ChanState → Bool → Bool → ChanState → Outcome
-take_from c x r (On d) false same wanted = Refuses NoChannel
-take_from c x r (On d) true true wanted = Refuses SameCell
+take_from c x r (On d) false same requested = Refuses NoChannel
+take_from c x r (On d) true true requested = Refuses SameCell
 take_from c x r (On d) true false Free = Accepts (taking_change c x (with_attempt r (taken_attempt Internal x))) Done
 take_from c x r (On d) true false busy = Refuses (ChannelBusy x)
-take_from c x r serving traffic same wanted = Refuses WrongPhase
+take_from c x r serving traffic same requested = Refuses WrongPhase
 
 abbrev pub take_internal : ℕ → ChanId → CallRecord → Option Attempt → Option ChanId → (ChanId → ChanState) → Bool → Outcome
 take_internal c x r (Some a) serving states traffic = Refuses WrongPhase
@@ -119,8 +119,8 @@ take_internal c x r None (Some s) states traffic = take_from c x r (states s) tr
 
 -- a call comes from another controller (TS 48.008 clause 3.1.5): it begins with its attempt
 abbrev pub take_incoming : ℕ → ChanId → Option CallRecord → Bool → ChanState → Outcome
-take_incoming c x found traffic wanted =
-    begin_row c x (record { serving = None; attempt = Some (taken_attempt Incoming x) }) (Held c) found traffic wanted
+take_incoming c x found traffic requested =
+    begin_row c x (record { serving = None; attempt = Some (taken_attempt Incoming x) }) (Held c) found traffic requested
 
 -- Take: an attempt is opened, and takes a free channel
 abbrev pub take_row : ℕ → Kind → ChanId → Option CallRecord → (ChanId → ChanState) → Bool → Outcome

@@ -87,8 +87,8 @@ impl<A: Allocator + Copy> Book<A> {
     /// Judges one event by the table: its refusal, or what it changes and its answer. A refused event
     /// changes nothing.
     ///
-    /// Memory is wanted only by an event that is accepted and brings a channel, a call or a reference
-    /// that the book doesn't have, so by none but `Open`, `Take` and `Reserve`; where it isn't given, the
+    /// Memory is asked for only by an event that is accepted and brings a channel, a call or a reference
+    /// that the book doesn't have, so by none but `Open`, `Take` and `Reserve`. Where it is refused, the
     /// book is as it was.
     pub fn step(&mut self, event: Event) -> Result<Reply, AllocError>
         ensures reply { IfOk result (λ reply. reply ≡ reply_to self.old event) }

@@ -6,7 +6,7 @@ ghost use Rattle.radio_book.specs.Table.{with_attempt, at_stage, taken_attempt};
 ghost use Rattle.radio_book.specs.Journal.{journal_of};
 
 use crate::event::{Attempt, AttemptKind, CallRecord, Stage};
-use crate::journal::{Inverse, Journal};
+use attempt_journal::{Inverse, Journal};
 use channel_fsm::ChanId;
 use std::marker::Model;
 

@@ -1,5 +1,5 @@
 //! Laws of the table, of every book and every event. Ours, of no standard.
-ghost use Rattle.radio_book.specs.Run.{StepsKeepSound, RunsAreSound, LeadsIsRun};
+ghost use Rattle.radio_book.specs.Run.{StepsKeepSound, RunsAreSound, ChannelsTakeSteps, LeadsIsRun};
 ghost use Rattle.radio_book.specs.Journal.{InversesUndo};
 
 /// Every event leads from a sound book to a sound one.
@@ -20,4 +20,9 @@ pub fn inverses_undo()
 /// Events with their replies lead to a book just where that is the book after them, and those their replies.
 pub fn leads_is_run()
     ensures run { LeadsIsRun }
+{}
+
+/// Whatever changes the state of a channel is a step of the channel.
+pub fn channels_take_steps()
+    ensures steps { ChannelsTakeSteps }
 {}

@@ -5,7 +5,6 @@
 pub mod book;
 mod entry;
 pub mod event;
-mod journal;
 pub mod laws;
 pub mod others;
 mod records;

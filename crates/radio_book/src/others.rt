@@ -19,7 +19,7 @@ ghost use Rattle.radio_book.specs.declared.event.Kind.{Kind};
 ghost use Rattle.radio_book.specs.declared.event.Why.{Why};
 ghost use Rattle.radio_book.specs.declared.event.Event.{Event};
 ghost use Rattle.radio_book.specs.declared.event.Event.TheVariants as event;
-ghost use Rattle.radio_book.specs.Others.{CommutesWithUndone, UndoneIsGone};
+ghost use Rattle.radio_book.specs.Others.{CommutesWithUndone, UndoneIsRemoved};
 
 /// A call that begins.
 pub fn open_commutes()
@@ -78,6 +78,6 @@ pub fn steps_commute()
 {}
 
 /// An undo, and then its target out of the book: the attempt is out of the book.
-pub fn undone_is_gone()
-    ensures gone { UndoneIsGone }
+pub fn undone_is_removed()
+    ensures removed { UndoneIsRemoved }
 {}

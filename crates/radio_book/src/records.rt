@@ -16,7 +16,7 @@ use crate::entry::CallEntry;
 use crate::event::{CallRecord, Event, Kind, Reply};
 use crate::tables::{Calls, Channels, References, Timers};
 use cell_table::Site;
-use channel_fsm::{ChanId, ChanState};
+use channel_fsm::{ChanEvent, ChanId, ChanState};
 use std::alloc::{AllocError, Allocator, Global};
 use std::marker::Model;
 use std::sync::Arc;
@@ -100,12 +100,12 @@ impl<A: Allocator + Copy> Records<A> {
         ensures kinds { OnErr result (MayNeedRoom event) }
     {
         match event {
-            Event::Open(call, x) => self.begin(call, x, CallEntry::on(x), ChanState::Pending(call)),
+            Event::Open(call, x) => self.begin(call, x, CallEntry::on(x), ChanEvent::Begin(call)),
             Event::Clear(call) => Ok(self.clear(call)),
             Event::Look(call) => Ok(self.look(call)),
             Event::Take(call, Kind::Internal, x) => self.take_internal(call, x),
             Event::Take(call, Kind::Incoming, x) => {
-                self.begin(call, x, CallEntry::coming_to(x), ChanState::Held(call))
+                self.begin(call, x, CallEntry::coming_to(x), ChanEvent::Take(call))
             }
             Event::Reserve(call, number) => self.reserve(call, number),
             Event::Activate(call) => Ok(self.activate(call)),
@@ -125,10 +125,7 @@ impl<A: Allocator + Copy> Records<A> {
     fn state_of(&self, x: ChanId) -> ChanState
         ensures { result ≡ state_of self.now x }
     {
-        match self.channels.get(x) {
-            Some(state) => state,
-            None => ChanState::Free,
-        }
+        self.channels.state(x)
     }
 
     /// The record, and the state of its serving channel.

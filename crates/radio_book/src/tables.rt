@@ -1,10 +1,15 @@
 //! The four tables of a book. Each wraps a tree, and is seen as the finite map from its keys to its values.
 ghost use Rattle.std.specs.Prelude.{◌≡◌, OnOk, OnErr, None, IsSome};
 ghost use Rattle.std.specs.FinMap as map;
+ghost use Rattle.channel_fsm.specs.Table.{next_state};
+ghost use Rattle.channel_fsm.specs.declared.ChanState.TheVariants as state;
+ghost use Rattle.radio_book.specs.Maps.{with_change};
+ghost use Rattle.radio_book.specs.State.{or_free};
+ghost use Rattle.radio_book.specs.Channels.{state_after, channel_step};
 
 use crate::entry::CallEntry;
 use crate::event::{CallRecord, Reference, Timer};
-use channel_fsm::{ChanId, ChanState};
+use channel_fsm::{ChanEvent, ChanId, ChanState, next};
 use std::alloc::{AllocError, Allocator, Global};
 use std::collections::BTreeMap;
 use std::marker::Model;
@@ -13,7 +18,7 @@ mod key;
 
 use key::CallKey;
 
-/// Channels with their states; a free one has no entry.
+/// Channels with their states; a free one has no entry. A state changes by the steps of a channel alone.
 #[derive(Drop)]
 pub struct Channels<A: Allocator = Global> {
     states: BTreeMap<ChanId, ChanState, A>,
@@ -53,8 +58,41 @@ impl<A: Allocator + Copy> Channels<A> {
         self.states.get(&x).copied()
     }
 
-    /// Memory is wanted for a new key alone.
-    pub fn insert(&mut self, x: ChanId, state: ChanState) -> Result<(), AllocError>
+    /// The state of a channel; one that has no entry is free.
+    pub fn state(&self, x: ChanId) -> ChanState
+        ensures { result ≡ or_free (map.get self.now x) }
+    {
+        self.get(x).unwrap_or(ChanState::Free)
+    }
+
+    /// A free channel comes into use by a step from the state Free. Memory is asked for.
+    pub fn occupy(&mut self, x: ChanId, event: ChanEvent) -> Result<(), AllocError>
+        ensures ok { OnOk result (self.new ≡ map.insert self.old x (state_after state.Free event)) }
+        ensures err { OnErr result (self.new ≡ self.old) }
+        ensures new_key { OnErr result (map.get self.old x ≡ None) }
+    {
+        self.insert(x, state_after(ChanState::Free, event))
+    }
+
+    /// A channel takes a step that no free channel has. Where its state has no such step, it stays.
+    pub fn step(&mut self, x: ChanId, event: ChanEvent)
+        requires { next_state state.Free event ≡ None }
+        ensures { self.new ≡ with_change self.old
+            (channel_step x event (or_free (map.get self.old x))) }
+    {
+        let Some(state) = next(self.state(x), event) else {
+            return;
+        };
+        match state {
+            ChanState::Free => self.remove(x),
+            ChanState::Held(_) | ChanState::Pending(_) | ChanState::On(_) | ChanState::Off => {
+                self.replace(x, state)
+            }
+        }
+    }
+
+    /// Memory is asked for where the key is new, and only there.
+    fn insert(&mut self, x: ChanId, state: ChanState) -> Result<(), AllocError>
         ensures ok { OnOk result (self.new ≡ map.insert self.old x state) }
         ensures err { OnErr result (self.new ≡ self.old) }
         ensures new_key { OnErr result (map.get self.old x ≡ None) }
@@ -63,8 +101,8 @@ impl<A: Allocator + Copy> Channels<A> {
         Ok(())
     }
 
-    /// Another value at a key that is there, so no memory is wanted.
-    pub fn replace(&mut self, x: ChanId, state: ChanState)
+    /// Another value at a key that is there, so no memory is asked for.
+    fn replace(&mut self, x: ChanId, state: ChanState)
         requires { IsSome (map.get self.old x) }
         ensures { self.new ≡ map.insert self.old x state }
     {
@@ -74,11 +112,18 @@ impl<A: Allocator + Copy> Channels<A> {
         }
     }
 
-    pub fn remove(&mut self, x: ChanId)
+    fn remove(&mut self, x: ChanId)
         ensures { self.new ≡ map.remove self.old x }
     {
         let _ = self.states.remove(&x);
     }
+}
+
+/// The state after an event; a state that has no such step stays.
+fn state_after(state: ChanState, event: ChanEvent) -> ChanState
+    ensures { result ≡ state_after state event }
+{
+    next(state, event).unwrap_or(state)
 }
 
 /// What is kept of each call, seen as its record.
@@ -135,7 +180,7 @@ impl<A: Allocator + Copy> Calls<A> {
         }
     }
 
-    /// Memory is wanted for a new key alone.
+    /// Memory is asked for where the key is new, and only there.
     pub fn insert(&mut self, call: u16, entry: CallEntry) -> Result<(), AllocError>
         ensures ok { OnOk result (self.new ≡ map.insert self.old call entry) }
         ensures err { OnErr result (self.new ≡ self.old) }
@@ -145,7 +190,7 @@ impl<A: Allocator + Copy> Calls<A> {
         Ok(())
     }
 
-    /// Another value at a key that is there, so no memory is wanted.
+    /// Another value at a key that is there, so no memory is asked for.
     pub fn replace(&mut self, call: u16, entry: CallEntry)
         requires { IsSome (map.get self.old call) }
         ensures { self.new ≡ map.insert self.old call entry }
@@ -203,7 +248,7 @@ impl<A: Allocator + Copy> References<A> {
         self.users.get(&reference).copied()
     }
 
-    /// Memory is wanted for a new key alone.
+    /// Memory is asked for where the key is new, and only there.
     pub fn insert(&mut self, reference: Reference, call: u16) -> Result<(), AllocError>
         ensures ok { OnOk result (self.new ≡ map.insert self.old reference call) }
         ensures err { OnErr result (self.new ≡ self.old) }

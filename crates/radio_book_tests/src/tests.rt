@@ -1,3 +1,4 @@
+mod largest;
 mod memory;
 
 use cell_table::Site;
@@ -19,22 +20,69 @@ use std::sync::Arc;
 use std::test::Fail;
 
 // Cell 0 has timeslots 2 and 3 of TRX 0, cell 1 has timeslot 3 of TRX 1.
-const THREE_CHANNELS: &str = "[[cell]]
-trx = [{ tch = [2, 3] }]
+const THREE_CHANNELS: &str = "[handover]
+window = 1
+margin = 0
+minimum = 0
 [[cell]]
-trx = [{ tch = [] }, { tch = [3] }]
+lac = 1
+ci = 0
+bcch = 60
+ncc = 1
+bcc = 1
+power = 5
+ba = []
+trx = [{ arfcn = 60, tch = [2, 3] }]
+[[cell]]
+lac = 1
+ci = 1
+bcch = 70
+ncc = 1
+bcc = 1
+power = 5
+ba = []
+trx = [{ arfcn = 70, tch = [] }, { arfcn = 71, tch = [3] }]
 ";
 
 // Timeslots 5 and 3 of TRX 1, and 6 and 2 of TRX 2.
-const SCATTERED: &str = "[[cell]]
-trx = [{ tch = [] }, { tch = [5, 3] }, { tch = [6, 2] }]
+const SCATTERED: &str = "[handover]
+window = 1
+margin = 0
+minimum = 0
+[[cell]]
+lac = 1
+ci = 0
+bcch = 60
+ncc = 1
+bcc = 1
+power = 5
+ba = []
+trx = [{ arfcn = 60, tch = [] }, { arfcn = 61, tch = [5, 3] }, { arfcn = 62, tch = [6, 2] }]
 ";
 
 // Two cells of four TRX with seven traffic timeslots each.
-const MANY_CHANNELS: &str = "[[cell]]
-trx = [{ tch = [1, 2, 3, 4, 5, 6, 7] }, { tch = [1, 2, 3, 4, 5, 6, 7] }, { tch = [1, 2, 3, 4, 5, 6, 7] }, { tch = [1, 2, 3, 4, 5, 6, 7] }]
+const MANY_CHANNELS: &str = "[handover]
+window = 1
+margin = 0
+minimum = 0
 [[cell]]
-trx = [{ tch = [1, 2, 3, 4, 5, 6, 7] }, { tch = [1, 2, 3, 4, 5, 6, 7] }, { tch = [1, 2, 3, 4, 5, 6, 7] }, { tch = [1, 2, 3, 4, 5, 6, 7] }]
+lac = 1
+ci = 0
+bcch = 60
+ncc = 1
+bcc = 1
+power = 5
+ba = []
+trx = [{ arfcn = 60, tch = [1, 2, 3, 4, 5, 6, 7] }, { arfcn = 61, tch = [1, 2, 3, 4, 5, 6, 7] }, { arfcn = 62, tch = [1, 2, 3, 4, 5, 6, 7] }, { arfcn = 63, tch = [1, 2, 3, 4, 5, 6, 7] }]
+[[cell]]
+lac = 1
+ci = 1
+bcch = 70
+ncc = 1
+bcc = 1
+power = 5
+ba = []
+trx = [{ arfcn = 70, tch = [1, 2, 3, 4, 5, 6, 7] }, { arfcn = 71, tch = [1, 2, 3, 4, 5, 6, 7] }, { arfcn = 72, tch = [1, 2, 3, 4, 5, 6, 7] }, { arfcn = 73, tch = [1, 2, 3, 4, 5, 6, 7] }]
 ";
 
 const OTHER: ChanId = ChanId {
@@ -148,8 +196,8 @@ const TRAFFIC: [(ChanId, bool); 4] = [
 fn is_of_three_channels(rt: &impl Abort, book: &Book<Global>) {
     let site = book.site();
     assert_eq!(rt; site.cells(), 2);
-    for (chan, wanted) in &TRAFFIC {
-        assert_eq!(rt; site.is_traffic(*chan), *wanted, "{chan}");
+    for (chan, carries) in &TRAFFIC {
+        assert_eq!(rt; site.is_traffic(*chan), *carries, "{chan}");
     }
 }
 
@@ -237,11 +285,15 @@ const STEADY: [Row; 2] = [
     (Step(Confirm(HOME)), Says(Owned(1))),
 ];
 
+fn play_beside_a_call(rt: &impl Abort, book: &mut Book<Global>, rows: &[Row]) -> Result<(), Fail> {
+    play(rt, book, &STEADY)?;
+    play(rt, book, rows)
+}
+
 // What a book in which call 1 rests answers.
 fn answers_beside_a_call(rt: &(impl AllocGlobal + Abort), rows: &[Row]) -> Result<(), Fail> {
     let mut book = book_of(rt.alloc(), rt.alloc(), THREE_CHANNELS)?;
-    play(rt, &mut book, &STEADY)?;
-    play(rt, &mut book, rows)
+    play_beside_a_call(rt, &mut book, rows)
 }
 
 // What a book refuses in which call 1 rests and call 3 has begun on the channel of cell 1, and why.
@@ -288,13 +340,16 @@ fn refuses<A: Allocator + Copy>(
     Ok(())
 }
 
+fn refuses_each(rt: &impl Abort, book: &mut Book<Global>) -> Result<(), Fail> {
+    play_beside_a_call(rt, book, &[(Step(Open(3, TARGET)), DONE)])?;
+    refuses(rt, book, &REFUSALS)?;
+    play(rt, book, &[(Ask::Usage, holds(2, 2, 0))])
+}
+
 #[test]
 fn the_first_refusal_is_answered(rt: HostRuntime) -> Result<(), Fail> {
     let mut book = book_of(rt.alloc(), rt.alloc(), THREE_CHANNELS)?;
-    play(&rt, &mut book, &STEADY)?;
-    play(&rt, &mut book, &[(Step(Open(3, TARGET)), DONE)])?;
-    refuses(&rt, &mut book, &REFUSALS)?;
-    play(&rt, &mut book, &[(Ask::Usage, holds(2, 2, 0))])
+    refuses_each(&rt, &mut book)
 }
 
 // What the book has of call 1 with an attempt at this stage.
@@ -447,15 +502,23 @@ fn comes_back(
     play(rt, book, after)
 }
 
-fn comes_and_goes(rt: &(impl AllocGlobal + Abort), way: Way) -> Result<(), Fail> {
-    let mut book = book_of(rt.alloc(), rt.alloc(), THREE_CHANNELS)?;
+fn comes_back_and_is_forgotten(
+    rt: &impl Abort,
+    book: &mut Book<Global>,
+    way: Way,
+) -> Result<(), Fail> {
     let answer = Says(Record(coming(way.1, way.2), None));
-    comes_back(rt, &mut book, Kind::Incoming, way, answer)?;
+    comes_back(rt, book, Kind::Incoming, way, answer)?;
     let ends = [
         (Ask::Usage, holds(0, 0, 0)),
         (Step(Look(1)), Says(Refused(NoCall))),
     ];
-    play(rt, &mut book, &ends)
+    play(rt, book, &ends)
+}
+
+fn comes_and_goes(rt: &(impl AllocGlobal + Abort), way: Way) -> Result<(), Fail> {
+    let mut book = book_of(rt.alloc(), rt.alloc(), THREE_CHANNELS)?;
+    comes_back_and_is_forgotten(rt, &mut book, way)
 }
 
 #[test]

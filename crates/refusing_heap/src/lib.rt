@@ -1,8 +1,8 @@
 //! A heap for tests that counts the requests for memory, and refuses those that the test chooses.
 //!
-//! A call that takes memory can fail for want of it, and a proof does not show that it ever succeeds. So refuse its
-//! n-th request, for each n from 1 on, until a run refuses none. In each run the answer is want of memory exactly
-//! where something was refused:
+//! A call that takes memory fails where it is refused, and a proof does not show that it ever succeeds. So refuse its
+//! n-th request, for each n from 1 on, until a run is refused none. In each run the answer is an allocation failure
+//! exactly where something was refused:
 //!
 //! ```text
 //! for n in 1..1000 {
@@ -15,16 +15,16 @@
 //! }
 //! ```
 //!
-//! - Let the test also count the runs, so that one which refused nothing at all fails.
-//! - In a run of many calls compare [`RefusingHeap::refused`] before and after each call: the answer is want of
-//!   memory exactly where it grew. Then look at what the call was to leave as it was, and call again. Memory has come
-//!   back, since the n-th request alone was refused.
-//! - Let a second loop take [`RefusingHeap::refusing_from`], under which memory stays away: whatever a call does to
-//!   undo its work has to do without.
+//! - Let the test also count the runs in which something was refused, and fail where there is none.
+//! - In a run of many calls compare [`RefusingHeap::refused`] before and after each call: the answer is an allocation
+//!   failure exactly where it grew. Then see that the call left everything as it was, and call again: only the n-th
+//!   request is refused, so this time there is memory.
+//! - Let a second loop take [`RefusingHeap::refusing_from`], which refuses all later requests too: a call that undoes
+//!   its work has to do that without memory.
 //! - To spare what comes before, run that over a [`RefusingHeap::ample`] first, and begin at the number after its
 //!   [`RefusingHeap::requests`]. Or begin over an ample heap, and call [`RefusingHeap::refuse_from_now`].
 //!
-//! Collections take the heap by `&`, which is `Copy`. A thread of its own wants a `&'static`, so leak the heap:
+//! Collections take the heap by `&`, which is `Copy`. A thread that is spawned needs a `&'static`, so leak the heap:
 //!
 //! ```text
 //! let heap: &'static RefusingHeap = Box::leak(Box::new(alloc, RefusingHeap::ample(alloc))?);

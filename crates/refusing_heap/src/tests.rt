@@ -4,23 +4,29 @@ use std::process::Abort;
 use std::test::Fail;
 use std::thread;
 
+/// Refusals, the number of a request, and whether it is refused.
+const NUMBERS: &[(Refusals, u64, bool)] = &[
+    (Refusals::Never, 1, false),
+    (Refusals::Never, u64::MAX, false),
+    (Refusals::Nth(0), 1, false),
+    (Refusals::Nth(3), 2, false),
+    (Refusals::Nth(3), 3, true),
+    (Refusals::Nth(3), 4, false),
+    (Refusals::From(0), 1, true),
+    (Refusals::From(3), 2, false),
+    (Refusals::From(3), 3, true),
+    (Refusals::From(3), 4, true),
+    (Refusals::From(3), u64::MAX, true),
+];
+
 #[test]
 fn refusals_name_their_requests(rt: HostRuntime) {
-    let rows = [
-        (Refusals::Never, 1, false),
-        (Refusals::Never, u64::MAX, false),
-        (Refusals::Nth(0), 1, false),
-        (Refusals::Nth(3), 2, false),
-        (Refusals::Nth(3), 3, true),
-        (Refusals::Nth(3), 4, false),
-        (Refusals::From(0), 1, true),
-        (Refusals::From(3), 2, false),
-        (Refusals::From(3), 3, true),
-        (Refusals::From(3), 4, true),
-        (Refusals::From(3), u64::MAX, true),
-    ];
-    for (refusals, number, refused) in rows {
-        assert_eq!(rt; refusals.refuses(number), refused, "{refusals:?} {number}");
+    for (refusals, number, refused) in NUMBERS {
+        assert_eq!(rt;
+            refusals.refuses(*number),
+            *refused,
+            "{refusals:?} {number}"
+        );
     }
 }
 
@@ -32,36 +38,44 @@ fn refusals_are_printed(rt: HostRuntime) -> Result<(), Fail> {
     Ok(())
 }
 
-// Each request of a row is answered as the row says, and is counted at once.
-fn asks(rt: &impl Abort, heap: &RefusingHeap, row: [bool; 5]) {
+/// So many requests were made, and so many of them refused.
+fn counts(rt: &impl Abort, heap: &RefusingHeap, requests: u64, refused: u64) {
+    assert_eq!(rt;
+        (heap.requests(), heap.refused()),
+        (requests, refused),
+        "{:?}",
+        heap.refusals()
+    );
+}
+
+/// Refusals, and whether each of five requests is refused.
+const ANSWERS: &[(Refusals, &[bool])] = &[
+    (Refusals::Never, &[false, false, false, false, false]),
+    (Refusals::Nth(1), &[true, false, false, false, false]),
+    (Refusals::Nth(4), &[false, false, false, true, false]),
+    (Refusals::Nth(6), &[false, false, false, false, false]),
+    (Refusals::From(1), &[true, true, true, true, true]),
+    (Refusals::From(4), &[false, false, false, true, true]),
+    (Refusals::From(6), &[false, false, false, false, false]),
+];
+
+/// Each request of a row is answered as the row says, and is counted at once.
+fn asks(rt: &impl Abort, heap: &RefusingHeap, row: &[bool]) {
     let (mut requests, mut refused) = (0u64, 0u64);
     for refuses in row {
-        assert_eq!(rt;
-            Box::new(heap, 7u64).is_err(),
-            refuses,
-            "{:?}",
-            heap.refusals()
-        );
+        let answer = Box::new(heap, 7u64).is_err();
+        assert_eq!(rt; answer, *refuses, "{:?}", heap.refusals());
         requests = requests.saturating_add(1);
-        refused = refused.saturating_add(u64::from(refuses));
-        assert_eq!(rt; (heap.requests(), heap.refused()), (requests, refused));
+        refused = refused.saturating_add(u64::from(*refuses));
+        counts(rt, heap, requests, refused);
         assert_eq!(rt; heap.was_refused(), refused != 0);
     }
 }
 
 #[test]
 fn requests_are_counted_and_refused(rt: HostRuntime) {
-    let rows = [
-        (Refusals::Never, [false, false, false, false, false]),
-        (Refusals::Nth(1), [true, false, false, false, false]),
-        (Refusals::Nth(4), [false, false, false, true, false]),
-        (Refusals::Nth(6), [false, false, false, false, false]),
-        (Refusals::From(1), [true, true, true, true, true]),
-        (Refusals::From(4), [false, false, false, true, true]),
-        (Refusals::From(6), [false, false, false, false, false]),
-    ];
-    for (refusals, row) in rows {
-        asks(&rt, &RefusingHeap::new(rt.alloc(), refusals), row);
+    for (refusals, row) in ANSWERS {
+        asks(&rt, &RefusingHeap::new(rt.alloc(), *refusals), *row);
     }
 }
 
@@ -74,7 +88,7 @@ fn every_request_is_refused_from_now_on(rt: HostRuntime) -> Result<(), Fail> {
     for _ in 0..3 {
         assert!(rt; Box::new(&heap, 8u64).is_err());
     }
-    assert_eq!(rt; (heap.requests(), heap.refused()), (4, 3));
+    counts(&rt, &heap, 4, 3);
     assert_eq!(rt; *kept, 7);
     Ok(())
 }
@@ -84,47 +98,70 @@ fn giving_back_is_no_request(rt: HostRuntime) -> Result<(), Fail> {
     let heap = RefusingHeap::refusing_from(rt.alloc(), 2);
     let kept = Box::new(&heap, 7u64)?;
     drop(kept);
-    assert_eq!(rt; (heap.requests(), heap.refused()), (1, 0));
+    counts(&rt, &heap, 1, 0);
     Ok(())
 }
 
 // A refused shrinking keeps the room, and is no error.
+fn shrinks<'a>(
+    rt: &impl Abort,
+    heap: &'a RefusingHeap,
+    items: &mut Vec<u64, &'a RefusingHeap>,
+    room: usize,
+    requests: u64,
+) {
+    items.shrink_to_fit();
+    assert_eq!(rt; items.capacity(), room);
+    counts(rt, heap, requests, 1);
+    assert_eq!(rt; items.as_slice(), [7].as_slice());
+}
+
 #[test]
 fn shrinking_is_a_request(rt: HostRuntime) -> Result<(), Fail> {
     let heap = RefusingHeap::refusing_nth(rt.alloc(), 2);
     let mut items = Vec::with_capacity(&heap, 10)?;
-    items.push(7u64)?;
-    for (room, requests) in [(10, 2), (1, 3)] {
-        items.shrink_to_fit();
-        assert_eq!(rt; items.capacity(), room);
-        assert_eq!(rt; (heap.requests(), heap.refused()), (requests, 1));
-        assert_eq!(rt; items.as_slice(), [7].as_slice());
-    }
+    items.push_reserved(7u64);
+    shrinks(&rt, &heap, &mut items, 10, 2);
+    shrinks(&rt, &heap, &mut items, 1, 3);
     Ok(())
 }
 
-// Pushes 0, 1, .. up to the room that it has and one beyond, which the heap refuses, and then more.
-#[test]
-fn a_vector_keeps_its_items_after_a_refusal(rt: HostRuntime) -> Result<(), Fail> {
-    let heap = RefusingHeap::refusing_nth(rt.alloc(), 2);
-    let mut items = Vec::new(&heap);
-    assert_eq!(rt; heap.requests(), 0);
-    items.push(0u64)?;
+// Pushes 0, 1, .. up to the room that the first of them makes: how many they are.
+fn fill<A: Allocator + Copy>(items: &mut Vec<u64, A>) -> Result<u64, AllocError> {
+    items.push(0)?;
     let room = items.capacity() as u64;
     for item in 1..room {
         items.push(item)?;
     }
-    assert_eq!(rt; heap.requests(), 1);
+    Ok(room)
+}
+
+// One more item is refused by the heap, and then pushed.
+fn keeps_its_items<'a>(
+    rt: &impl Abort,
+    heap: &'a RefusingHeap,
+    items: &mut Vec<u64, &'a RefusingHeap>,
+) -> Result<(), Fail> {
+    let room = fill(items)?;
+    counts(rt, heap, 1, 0);
     assert!(rt; items.push(room).is_err());
-    assert_eq!(rt; (heap.requests(), heap.refused()), (2, 1));
+    counts(rt, heap, 2, 1);
     assert!(rt; items.iter().copied().eq(0..room));
     items.push(room)?;
-    assert_eq!(rt; (heap.requests(), heap.refused()), (3, 1));
+    counts(rt, heap, 3, 1);
     assert!(rt; items.iter().copied().eq(0..=room));
     Ok(())
 }
 
-// Two blocks are wanted at least: one for each list.
+#[test]
+fn a_vector_keeps_its_items_after_a_refusal(rt: HostRuntime) -> Result<(), Fail> {
+    let heap = RefusingHeap::refusing_nth(rt.alloc(), 2);
+    let mut items = Vec::new(&heap);
+    counts(&rt, &heap, 0, 0);
+    keeps_its_items(&rt, &heap, &mut items)
+}
+
+// Asks for two blocks at least: one for each list.
 fn squares_and_cubes<A: Allocator + Copy>(
     alloc: A,
     up_to: u64,
@@ -152,7 +189,7 @@ fn refused_runs(rt: &impl Abort, alloc: Global, lasting: bool) -> u64 {
         if !heap.was_refused() {
             break;
         }
-        assert_eq!(rt; (heap.requests(), heap.refused()), (n, 1));
+        counts(rt, &heap, n, 1);
         runs = runs.saturating_add(1);
     }
     runs
@@ -181,22 +218,25 @@ fn refused_of_fifty<A: Allocator + Copy>(alloc: A) -> u64 {
     refused
 }
 
+/// Refusals, and how many of a hundred requests they refuse.
+const SHARED: &[(Refusals, u64)] = &[
+    (Refusals::Never, 0),
+    (Refusals::Nth(60), 1),
+    (Refusals::From(60), 41),
+];
+
 #[test]
 fn two_threads_share_a_heap(rt: HostRuntime) {
-    for (refusals, refused) in [
-        (Refusals::Never, 0),
-        (Refusals::Nth(60), 1),
-        (Refusals::From(60), 41),
-    ] {
-        let heap = RefusingHeap::new(rt.alloc(), refusals);
+    for (refusals, refused) in SHARED {
+        let heap = RefusingHeap::new(rt.alloc(), *refusals);
         let shared = &heap;
         let (one, other) = thread::join(
             &rt,
             move || refused_of_fifty(shared),
             move || refused_of_fifty(shared),
         );
-        assert_eq!(rt; one.saturating_add(other), refused, "{refusals:?}");
-        assert_eq!(rt; (heap.requests(), heap.refused()), (100, refused));
+        assert_eq!(rt; one.saturating_add(other), *refused, "{refusals:?}");
+        counts(&rt, &heap, 100, *refused);
     }
 }
 
@@ -213,6 +253,6 @@ fn a_thread_takes_a_leaked_heap(rt: HostRuntime) -> Result<(), Fail> {
     let (items, refused) = child.map_err(|_| "no thread")?.join(&rt);
     assert_eq!(rt; items.as_slice(), [7].as_slice());
     assert_eq!(rt; refused, 50);
-    assert_eq!(rt; (heap.requests(), heap.refused()), (51, 50));
+    counts(&rt, heap, 51, 50);
     Ok(())
 }

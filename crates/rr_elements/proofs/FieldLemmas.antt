@@ -6,7 +6,7 @@ use Rattle.std.proofs.lemmas.Nat.{mod_below, pow_pos}
 use Rattle.std.proofs.Math.Nat.{mod-eq_of_lt}
 use Rattle.rr_elements.specs.Bits.{bits, bits_of, number_of, total, cut, bits_written}
 use Rattle.rr_elements.specs.Fields.{AreFields, field_octets}
-use Rattle.rr_elements.proofs.BitLemmas.{length-bits, number_of-bits, bits-add, bits-same, bits-put, put_below, drop-bits, number_of-take-bits, length-octets_of}
+use Rattle.rr_elements.proofs.BitLemmas.{no_bits, length-bits, number_of-bits, bits-add, bits-same, bits-put, put_below, drop-bits, number_of-take-bits, length-octets_of}
 
 -- each number fits its width
 abbrev pub FieldsFit : List ℕ → List ℕ → Type 0
@@ -48,12 +48,8 @@ cut-bits_written (w ∷ ws) (n ∷ ns) fit =
 bits_of-cons : (x : ℕ) (xs : List ℕ) → bits_of (x ∷ xs) ≡ bits 8 x ++ bits_of xs
 bits_of-cons x xs = flat_map-cons (bits 8) x xs
 
-no_bits : (n : ℕ) → bits 0 n ≡ []
-unfolding bits
-no_bits n = refl
-
 -- the octets of a bit string have its bits
-bits_of-cut : (k n : ℕ) → bits_of (cut (replicate k 8) (bits (k * 8) n)) ≡ bits (k * 8) n
+pub bits_of-cut : (k n : ℕ) → bits_of (cut (replicate k 8) (bits (k * 8) n)) ≡ bits (k * 8) n
 bits_of-cut zero n = sym (no_bits n)
 bits_of-cut (suc k) n =
     let step : suc k * 8 ≡ 8 + k * 8 = omega arith in

@@ -1,11 +1,9 @@
 -- How measurement results are kept: six places, the unused ones 0.
-use Rattle.std.proofs.Common.{◌≡◌, ◌∙◌, sym, ℕ, ◌+◌, ◌-◌, ◌<◌, ◌≤◌, List, ◌++◌, length, take, drop, replicate, ap, arith, All}
+use Rattle.std.proofs.Common.{◌≡◌, ◌∙◌, ℕ, ◌+◌, ◌-◌, ◌<◌, ◌≤◌, List, ◌++◌, length, take, drop, replicate, ap, arith, All}
 use Rattle.std.proofs.lemmas.Bool.Decides.{nat_tests}
 use Rattle.std.proofs.lemmas.List.{take_at, drop_at, drop-replicate, length-append, length-replicate, length-take-le}
-use Rattle.std.proofs.lemmas.List.Elements.{All-append, All-same, All-replicate}
 use Rattle.rr_elements.specs.declared.measurement.MeasHead.{MeasHead}
 use Rattle.rr_elements.specs.declared.measurement.Ncell.{Ncell}
-use Rattle.rr_elements.specs.ResultsKept.{kept_again}
 use Rattle.rr_elements.specs.MeasResults.{HeadFits, NcellFits, IsKept, used_count, no_ncell}
 
 pub used_count_le : (count : ℕ) → count < 8 → used_count count ≤ 6
@@ -13,10 +11,6 @@ used_count_le count h = grind (arith, nat_tests)
 
 pub no_ncell_fits : NcellFits no_ncell
 no_ncell_fits = record { level = omega arith; position = omega arith; bsic = omega arith }
-
-pub kept_fits : (head : MeasHead) (places : List Ncell) → IsKept head places → All NcellFits places
-kept_fits head places kept =
-    All-same NcellFits _ _ (sym (kept_again head places kept)) (All-append NcellFits _ _ kept.fits.each (All-replicate NcellFits _ no_ncell no_ncell_fits))
 
 -- neighbours that are put into empty places
 pub kept_new : (head : MeasHead) (cells : List Ncell) → HeadFits head → All NcellFits cells → length cells ≡ used_count head.count → IsKept head (cells ++ drop (length cells) (replicate 6 no_ncell))

@@ -7,3 +7,4 @@ pub mod KeptLemmas
 pub mod Readers
 pub mod ResultsLemmas
 pub mod ResultsTexts
+pub mod WordLemmas

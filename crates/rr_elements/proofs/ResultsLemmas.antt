@@ -1,15 +1,14 @@
 -- Measurement results, read and written.
-use Rattle.std.proofs.Common.{◌≡◌, ◌∙◌, sym, ℕ, zero, suc, ◌+◌, ◌*◌, ◌-◌, ◌≤◌, ◌==◌, Bool, true, false, not, List, [], ◌∷◌, ◌++◌, length, take, replicate, flat_map, refl, ap, arith, Ok}
+use Rattle.std.proofs.Common.{◌≡◌, ◌∙◌, sym, ℕ, zero, suc, ◌+◌, ◌*◌, ◌-◌, ◌≤◌, ◌==◌, Bool, true, false, not, List, [], ◌∷◌, ◌++◌, length, take, replicate, flat_map, append_assoc, append-nil, refl, ap, arith, Ok}
 use Rattle.std.proofs.lemmas.Grind.{flat_map-append}
-use Rattle.std.proofs.lemmas.List.{take_at}
-use Rattle.std.proofs.lemmas.List.{length-take-le}
+use Rattle.std.proofs.lemmas.List.{take_at, length-take-le, length-append, length-replicate}
 use Rattle.rr_elements.specs.declared.measurement.MeasHead.{MeasHead}
 use Rattle.rr_elements.specs.declared.measurement.Ncell.{Ncell}
-use Rattle.rr_elements.specs.Bits.{bits_of, cut, after, repeated_widths, bits_written}
+use Rattle.rr_elements.specs.Bits.{bits, bits_of, cut, after, repeated_widths, bits_written}
 use Rattle.rr_elements.specs.Fields.{flag}
-use Rattle.rr_elements.specs.MeasResults.{Results, IsKept, IsResultsText, used_count, head_widths, head_numbers, ncell_widths, ncell_numbers, results_widths, results_numbers, no_ncell}
+use Rattle.rr_elements.specs.MeasResults.{Results, IsResultsText, used_count, head_widths, head_numbers, ncell_widths, ncell_numbers, results_widths, results_numbers, no_ncell}
 use Rattle.rr_elements.proofs.CutLemmas.{cut-append, repeated_widths-add, bits_written-append}
-use Rattle.rr_elements.specs.ResultsKept.{kept_again}
+use Rattle.rr_elements.proofs.BitLemmas.{no_bits, zeros-add}
 use Rattle.rr_elements.proofs.ElementLemmas.{flag-one}
 use Rattle.rr_elements.proofs.Readers.{ncells_of, results_of, results_said}
 
@@ -72,10 +71,23 @@ bits_written-cells [] = refl
 bits_written-cells (c ∷ cs) =
     bits_written-append ncell_widths (repeated_widths (length cs) ncell_widths) (ncell_numbers c) (flat_map ncell_numbers cs) refl ∙ ap (λ bs. bits_written ncell_widths (ncell_numbers c) ++ bs) (bits_written-cells cs)
 
--- what is kept, written
-pub bits_written-kept : (h : MeasHead) (places : List Ncell) → IsKept h places → bits_written head_widths (head_numbers h) ++ flat_map (λ n. bits_written ncell_widths (ncell_numbers n)) places ≡ bits_written results_widths (results_numbers (record { head = h; neighbours = take (used_count h.count) places }) (replicate (6 - length (take (used_count h.count) places)) no_ncell))
-bits_written-kept h places kept =
-    let again : flat_map ncell_numbers (take (used_count h.count) places ++ replicate (6 - length (take (used_count h.count) places)) no_ncell) ≡ flat_map ncell_numbers places = ap (flat_map ncell_numbers) (kept_again h places kept) in
-    let cells : flat_map (λ n. bits_written ncell_widths (ncell_numbers n)) places ≡ bits_written (repeated_widths 6 ncell_widths) (flat_map ncell_numbers places) =
-    sym (bits_written-cells places) ∙ ap (λ k. bits_written (repeated_widths k ncell_widths) (flat_map ncell_numbers places)) kept.six in
-    rw (again, cells) (sym (bits_written-append head_widths (repeated_widths 6 ncell_widths) (head_numbers h) (flat_map ncell_numbers places) refl))
+-- places that are not in use are written as zeros
+bits_written-unused : (k : ℕ) → flat_map (λ n. bits_written ncell_widths (ncell_numbers n)) (replicate k no_ncell) ≡ bits (17 * k) 0
+bits_written-unused zero = sym (no_bits 0)
+bits_written-unused (suc k) =
+    let next : 17 * suc k ≡ 17 + 17 * k = omega arith in
+    let none : bits_written ncell_widths (ncell_numbers no_ncell) ≡ bits 17 0 = sym (zeros-add 6 11 ∙ ap (λ bs. bits 6 0 ++ bs) (zeros-add 5 6 ∙ ap (λ bs. bits 5 0 ++ bs) (sym (append-nil (bits 6 0))))) in
+    rw (next, none, bits_written-unused k) (sym (zeros-add 17 (17 * k)))
+
+-- what is put for the head and the neighbours, padded to 128 bits
+pub bits_written-results : (v : Results) (n : ℕ) → length v.neighbours ≤ 6 → n ≡ 26 + 17 * length v.neighbours → (bits_written head_widths (head_numbers v.head) ++ flat_map (λ n. bits_written ncell_widths (ncell_numbers n)) v.neighbours) ++ bits (128 - n) 0 ≡ bits_written results_widths (results_numbers v (replicate (6 - length v.neighbours) no_ncell))
+bits_written-results v n few long =
+    let used = v.neighbours in
+    let others = replicate (6 - length used) no_ncell in
+    let written = flat_map (λ n. bits_written ncell_widths (ncell_numbers n)) in
+    let six : length (used ++ others) ≡ 6 = length-append used others ∙ ap (λ k. length used + k) (length-replicate (6 - length used) no_ncell) ∙ omega arith in
+    let left : 128 - n ≡ 17 * (6 - length used) = omega arith in
+    let zeros : bits (128 - n) 0 ≡ written others = ap (λ k. bits k 0) left ∙ sym (bits_written-unused (6 - length used)) in
+    let all : written used ++ written others ≡ bits_written (repeated_widths 6 ncell_widths) (flat_map ncell_numbers (used ++ others)) =
+    sym (flat_map-append (λ n. bits_written ncell_widths (ncell_numbers n)) used others) ∙ sym (bits_written-cells (used ++ others)) ∙ ap (λ k. bits_written (repeated_widths k ncell_widths) (flat_map ncell_numbers (used ++ others))) six in
+    append_assoc (bits_written head_widths (head_numbers v.head)) (written used) (bits (128 - n) 0) ∙ ap (λ bs. bits_written head_widths (head_numbers v.head) ++ bs) (ap (λ bs. written used ++ bs) zeros ∙ all) ∙ sym (bits_written-append head_widths (repeated_widths 6 ncell_widths) (head_numbers v.head) (flat_map ncell_numbers (used ++ others)) refl)

@@ -1,6 +1,7 @@
 //! Bit strings of at most 128 bits, the most significant bit first.
-ghost use Rattle.std.specs.Prelude.{◌≡◌, [], ◌+◌, ◌*◌, ◌%◌, ◌/◌, ◌^◌, ◌<◌, ◌≤◌, ◌++◌, length, take, drop, OnOk, OnErr, IsOk, vec_len, vec_capacity};
+ghost use Rattle.std.specs.Prelude.{◌≡◌, ◌↔◌, [], ◌+◌, ◌-◌, ◌*◌, ◌%◌, ◌/◌, ◌^◌, ◌<◌, ◌≤◌, ◌++◌, length, take, drop, IfSome, IsSome};
 ghost use Rattle.rr_elements.specs.Bits.{bits, bits_of, number_of, octets_of};
+ghost use Rattle.rr_elements.specs.Appending.{IsAppended};
 
 use std::alloc::{AllocError, Allocator};
 use std::marker::Model;
@@ -43,15 +44,21 @@ impl BitWriter {
         self.len += width;
     }
 
+    /// Puts zeros at the end, until there are `len` bits.
+    pub fn pad_to(&mut self, len: u32)
+        requires some { 0 < length self.old }
+        requires room { (length self.old ≤ len) × (len ≤ 128) }
+        ensures bits { self.new ≡ self.old ++ bits (len - length self.old) 0 }
+        ensures len { length self.new ≡ len }
+    {
+        self.number = self.number << (len - self.len);
+        self.len = len;
+    }
+
     /// Appends the octets of the bit string, all of them or none.
     pub fn append_to<A: Allocator + Copy>(self, out: &mut Vec<u8, A>) -> Result<(), AllocError>
         requires whole { length self % 8 ≡ 0 }
-        ensures ok { OnOk result (out.new.items ≡ out.old.items ++ octets_of self) }
-        ensures err { OnErr result (out.new.items ≡ out.old.items) }
-        ensures room { vec_len out.old + length self / 8 ≤ vec_capacity out.old → IsOk result }
-        ensures full { OnErr result (vec_capacity out.old < vec_len out.old + length self / 8) }
-        ensures len { OnOk result (vec_len out.new ≡ vec_len out.old + length self / 8) }
-        ensures capacity { vec_capacity out.old ≤ vec_capacity out.new }
+        ensures written { IsAppended (octets_of self) (length self / 8) out.old out.new result }
     {
         let octets = self.number.to_be_bytes();
         let unused = 16 - (self.len / 8) as usize;
@@ -59,7 +66,7 @@ impl BitWriter {
     }
 }
 
-/// The bits that are left of a bit string.
+/// The bits that are left of a bit string, at the top of the number.
 #[derive(Drop)]
 pub struct BitReader {
     number: u128,
@@ -67,20 +74,21 @@ pub struct BitReader {
 }
 
 impl Model for BitReader {
-    ghost use Rattle.std.specs.Prelude.{List, ℕ, ◌≤◌};
+    ghost use Rattle.std.specs.Prelude.{List, ℕ, ◌≤◌, take};
     ghost use Rattle.rr_elements.specs.Bits.{bits};
 
     ghost Value = { List ℕ };
 
-    ghost view = { λ a. bits a.len a.number };
+    ghost view = { λ a. take a.len (bits 128 a.number) };
 
     ghost invariant = { λ a. a.len ≤ 128 };
 }
 
 impl BitReader {
-    /// All bits of at most 16 octets.
+    /// All bits of one to sixteen octets.
     pub fn new(octets: &[u8]) -> Self
-        requires { length octets.now ≤ 16 }
+        requires some { 0 < length octets.now }
+        requires few { length octets.now ≤ 16 }
         ensures bits { result ≡ bits_of octets.now }
         ensures len { length result ≡ 8 * length octets.now }
     {
@@ -89,9 +97,25 @@ impl BitReader {
             bits.put(8, *octet);
         }
         BitReader {
-            number: bits.number,
+            number: bits.number << (128 - bits.len),
             len: bits.len,
         }
+    }
+
+    /// All bits of sixteen octets; `None` where there are fewer or more.
+    pub fn sixteen(octets: &[u8]) -> Option<Self>
+        ensures bits { IfSome result (λ reader. reader ≡ bits_of octets.now) }
+        ensures len { IfSome result (λ reader. length reader ≡ 128) }
+        ensures some { IsSome result ↔ (length octets.now ≡ 16) }
+    {
+        let (high, low) = octets.split_first_chunk::<8>()?;
+        let low = low.as_array::<8>()?;
+        let high = u64::from_be_bytes(*high);
+        let low = u64::from_be_bytes(*low);
+        Some(BitReader {
+            number: (u128::from(high) << 64) | u128::from(low),
+            len: 128,
+        })
     }
 
     /// The number of the next bits, at most eight.
@@ -104,7 +128,9 @@ impl BitReader {
         ensures rest { self.new ≡ drop width self.old }
         ensures left { length self.new + width ≡ length self.old }
     {
+        let number = (self.number >> (128 - width)) as u8;
+        self.number = self.number << width;
         self.len -= width;
-        ((self.number >> self.len) % (1 << width)) as u8
+        number
     }
 }

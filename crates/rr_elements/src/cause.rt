@@ -1,5 +1,5 @@
 //! RR Cause.
-ghost use Rattle.std.specs.Prelude.{◌≡◌, ◌+◌, ◌<◌, ◌≤◌, ◌++◌, OnOk, OnErr, IsOk, Ok, vec_len, vec_capacity, ◌↔◌, ◌≢◌, IfOk, IfErr, length, Err};
+ghost use Rattle.std.specs.Prelude.{◌≡◌, IfOk, IfErr, Ok};
 
 use crate::bits::{BitReader, BitWriter};
 use crate::fault::ElementFault;
@@ -12,6 +12,7 @@ pub struct RrCause(pub u8);
 impl RrCause {
     ghost use Rattle.rr_elements.specs.RrCause.{IsCauseText, cause_text};
     ghost use Rattle.rr_elements.specs.Faults.{HasOtherLength};
+    ghost use Rattle.rr_elements.specs.Appending.{IsAppended};
 
     /// The cause with this value; each octet is one, so no fault comes.
     pub fn new(value: u8) -> Result<Self, ElementFault>
@@ -29,12 +30,7 @@ impl RrCause {
 
     /// Appends the element's one octet.
     pub fn encode_into<A: Allocator + Copy>(&self, out: &mut Vec<u8, A>) -> Result<(), AllocError>
-        ensures ok { OnOk result (out.new.items ≡ out.old.items ++ cause_text self.now) }
-        ensures err { OnErr result (out.new.items ≡ out.old.items) }
-        ensures room { vec_len out.old + 1 ≤ vec_capacity out.old → IsOk result }
-        ensures full { OnErr result (vec_capacity out.old < vec_len out.old + 1) }
-        ensures len { OnOk result (vec_len out.new ≡ vec_len out.old + 1) }
-        ensures capacity { vec_capacity out.old ≤ vec_capacity out.new }
+        ensures written { IsAppended (cause_text self.now) 1 out.old out.new result }
 
         // What is written is a text of the value, so `decode` reads it as the value.
         ensures text { IsCauseText self.now (cause_text self.now) }
@@ -46,12 +42,8 @@ impl RrCause {
 
     /// Reads the element's one octet; `Length` where it is not one.
     pub fn decode(octets: &[u8]) -> Result<Self, ElementFault>
-        // What is read has the octets as a text, and each text is read.
+        // What is read has the octets as a text; what is no text has this fault.
         ensures text { IfOk result (λ v. IsCauseText v octets.now) }
-        ensures only { (v : RrCause) → IsCauseText v octets.now → result ≡ Ok v }
-
-        // What is no text has this fault.
-        ensures length { (result ≡ Err ElementFault.Length) ↔ (length octets.now ≢ 1) }
         ensures fault { IfErr result (HasOtherLength 1 octets.now) }
     {
         if octets.len() != 1 {

@@ -1,5 +1,5 @@
 //! Cell Description.
-ghost use Rattle.std.specs.Prelude.{◌≡◌, ◌↔◌, ◌+◌, ◌<◌, ◌≤◌, ◌++◌, OnOk, OnErr, IsOk, Ok, Err, length, vec_len, vec_capacity, ◌≢◌, IfOk, IfErr};
+ghost use Rattle.std.specs.Prelude.{◌≡◌, ◌<◌, IfOk, IfErr, Ok, Err};
 
 use crate::bits::{BitReader, BitWriter};
 use crate::fault::ElementFault;
@@ -29,6 +29,7 @@ impl Model for CellDescription {
 impl CellDescription {
     ghost use Rattle.rr_elements.specs.CellDescription.{Cell, CellFits, IsCellText, cell_text};
     ghost use Rattle.rr_elements.specs.Faults.{HasOtherLength};
+    ghost use Rattle.rr_elements.specs.Appending.{IsAppended};
 
     /// A description of the cell with this carrier (0 to 1023), network colour code and base
     /// station colour code (0 to 7 each); `BadRange` where one of them is more.
@@ -71,12 +72,7 @@ impl CellDescription {
 
     /// Appends the element's two octets.
     pub fn encode_into<A: Allocator + Copy>(&self, out: &mut Vec<u8, A>) -> Result<(), AllocError>
-        ensures ok { OnOk result (out.new.items ≡ out.old.items ++ cell_text self.now) }
-        ensures err { OnErr result (out.new.items ≡ out.old.items) }
-        ensures room { vec_len out.old + 2 ≤ vec_capacity out.old → IsOk result }
-        ensures full { OnErr result (vec_capacity out.old < vec_len out.old + 2) }
-        ensures len { OnOk result (vec_len out.new ≡ vec_len out.old + 2) }
-        ensures capacity { vec_capacity out.old ≤ vec_capacity out.new }
+        ensures written { IsAppended (cell_text self.now) 2 out.old out.new result }
 
         // What is written is a text of the value, so `decode` reads it as the value.
         ensures text { IsCellText self.now (cell_text self.now) }
@@ -92,12 +88,8 @@ impl CellDescription {
 
     /// Reads the element's two octets; `Length` where they are not two.
     pub fn decode(octets: &[u8]) -> Result<Self, ElementFault>
-        // What is read has the octets as a text, and each text is read.
+        // What is read has the octets as a text; what is no text has this fault.
         ensures text { IfOk result (λ v. IsCellText v octets.now) }
-        ensures only { (v : Cell) → IsCellText v octets.now → result ≡ Ok v }
-
-        // What is no text has this fault.
-        ensures length { (result ≡ Err ElementFault.Length) ↔ (length octets.now ≢ 2) }
         ensures fault { IfErr result (HasOtherLength 2 octets.now) }
     {
         if octets.len() != 2 {

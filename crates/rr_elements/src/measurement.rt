@@ -1,5 +1,5 @@
 //! The parts of Measurement Results: the head and the neighbours.
-ghost use Rattle.std.specs.Prelude.{◌≡◌, ◌↔◌, ◌≢◌, ◌+◌, ◌*◌, ◌-◌, ◌<◌, ◌≤◌, ◌++◌, IsTrue, OnOk, OnErr, IsOk, IfOk, Ok, Err, All, length, take, drop, replicate, flat_map, vec_len, vec_capacity};
+ghost use Rattle.std.specs.Prelude.{◌≡◌, ◌↔◌, ◌+◌, ◌*◌, ◌-◌, ◌≤◌, ◌++◌, IsTrue, All, length, take, drop, replicate, flat_map};
 ghost use Rattle.rr_elements.specs.Bits.{cut, after, repeated_widths, bits_written};
 ghost use Rattle.rr_elements.specs.MeasResults.{HeadFits, NcellFits, used_count, head_widths, head_numbers, ncell_widths, ncell_numbers, no_ncell};
 
@@ -169,15 +169,15 @@ fn put_ncell(bits: &mut BitWriter, ncell: &Ncell)
     bits.put(6, ncell.bsic);
 }
 
-pub(crate) fn put_ncells(bits: &mut BitWriter, places: &[Ncell])
-    requires fits { All NcellFits places.now }
-    requires room { length bits.old + 17 * length places.now ≤ 128 }
+pub(crate) fn put_ncells(bits: &mut BitWriter, ncells: &[Ncell])
+    requires fits { All NcellFits ncells.now }
+    requires room { length bits.old + 17 * length ncells.now ≤ 128 }
     ensures bits { bits.new ≡ bits.old ++ flat_map
-        (λ n. bits_written ncell_widths (ncell_numbers n)) places.now }
-    ensures len { length bits.new ≡ length bits.old + 17 * length places.now }
+        (λ n. bits_written ncell_widths (ncell_numbers n)) ncells.now }
+    ensures len { length bits.new ≡ length bits.old + 17 * length ncells.now }
 {
-    for place in places {
-        put_ncell(bits, place);
+    for ncell in ncells {
+        put_ncell(bits, ncell);
     }
 }
 

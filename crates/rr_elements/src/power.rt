@@ -1,5 +1,5 @@
 //! Power Command and access type.
-ghost use Rattle.std.specs.Prelude.{◌≡◌, ◌+◌, ◌<◌, ◌≤◌, ◌++◌, OnOk, OnErr, IsOk, Ok, Err, vec_len, vec_capacity, ◌↔◌, ◌≢◌, IfOk, IfErr, length};
+ghost use Rattle.std.specs.Prelude.{◌≡◌, ◌<◌, IfOk, IfErr, Ok, Err};
 
 use crate::bits::{BitReader, BitWriter};
 use crate::fault::ElementFault;
@@ -29,6 +29,7 @@ impl Model for Power {
 impl Power {
     ghost use Rattle.rr_elements.specs.Power.{PowerCommand, PowerFits, IsPowerText, power_text};
     ghost use Rattle.rr_elements.specs.Faults.{HasOtherLength};
+    ghost use Rattle.rr_elements.specs.Appending.{IsAppended};
 
     /// This access type (`true`: the handover access is optional) and power level (0 to 31);
     /// `BadRange` where the level is more.
@@ -62,12 +63,7 @@ impl Power {
 
     /// Appends the element's one octet.
     pub fn encode_into<A: Allocator + Copy>(&self, out: &mut Vec<u8, A>) -> Result<(), AllocError>
-        ensures ok { OnOk result (out.new.items ≡ out.old.items ++ power_text self.now) }
-        ensures err { OnErr result (out.new.items ≡ out.old.items) }
-        ensures room { vec_len out.old + 1 ≤ vec_capacity out.old → IsOk result }
-        ensures full { OnErr result (vec_capacity out.old < vec_len out.old + 1) }
-        ensures len { OnOk result (vec_len out.new ≡ vec_len out.old + 1) }
-        ensures capacity { vec_capacity out.old ≤ vec_capacity out.new }
+        ensures written { IsAppended (power_text self.now) 1 out.old out.new result }
 
         // What is written is a text of the value, so `decode` reads it as the value.
         ensures text { IsPowerText self.now (power_text self.now) }
@@ -82,12 +78,8 @@ impl Power {
 
     /// Reads the element's one octet; `Length` where it is not one.
     pub fn decode(octets: &[u8]) -> Result<Self, ElementFault>
-        // What is read has the octets as a text, and each text is read.
+        // What is read has the octets as a text; what is no text has this fault.
         ensures text { IfOk result (λ v. IsPowerText v octets.now) }
-        ensures only { (v : PowerCommand) → IsPowerText v octets.now → result ≡ Ok v }
-
-        // What is no text has this fault.
-        ensures length { (result ≡ Err ElementFault.Length) ↔ (length octets.now ≢ 1) }
         ensures fault { IfErr result (HasOtherLength 1 octets.now) }
     {
         if octets.len() != 1 {

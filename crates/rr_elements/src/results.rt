@@ -1,5 +1,5 @@
 //! Measurement Results.
-ghost use Rattle.std.specs.Prelude.{◌≡◌, ◌↔◌, ◌≢◌, ◌+◌, ◌<◌, ◌≤◌, ◌^◌, ◌++◌, OnOk, OnErr, IsOk, IsErr, IfOk, IfErr, Ok, Err, All, length, vec_len, vec_capacity};
+ghost use Rattle.std.specs.Prelude.{◌≡◌, IfOk, IfErr, Ok, Err, All, length};
 
 use crate::bits::{BitReader, BitWriter};
 use crate::fault::ElementFault;
@@ -41,6 +41,7 @@ impl Model for MeasResults {
 impl MeasResults {
     ghost use Rattle.rr_elements.specs.MeasResults.{Results, ResultsFit, HeadFits, NcellFits, used_count, IsResultsText, results_text};
     ghost use Rattle.rr_elements.specs.Faults.{HasOtherLength};
+    ghost use Rattle.rr_elements.specs.Appending.{IsAppended};
 
     /// Results with these fields and neighbours. `BadRange` where a field does not fit its bits,
     /// or there are not as many neighbours as the count says (none where it is 7).
@@ -79,36 +80,27 @@ impl MeasResults {
 
     /// Appends the element's sixteen octets.
     pub fn encode_into<A: Allocator + Copy>(&self, out: &mut Vec<u8, A>) -> Result<(), AllocError>
-        ensures ok { OnOk result (out.new.items ≡ out.old.items ++ results_text self.now) }
-        ensures err { OnErr result (out.new.items ≡ out.old.items) }
-        ensures room { vec_len out.old + 16 ≤ vec_capacity out.old → IsOk result }
-        ensures full { OnErr result (vec_capacity out.old < vec_len out.old + 16) }
-        ensures len { OnOk result (vec_len out.new ≡ vec_len out.old + 16) }
-        ensures capacity { vec_capacity out.old ≤ vec_capacity out.new }
+        ensures written { IsAppended (results_text self.now) 16 out.old out.new result }
 
         // What is written is a text of the value, so `decode` reads it as the value.
         ensures text { IsResultsText self.now (results_text self.now) }
     {
         let mut bits = BitWriter::new();
         put_head(&mut bits, &self.head);
-        put_ncells(&mut bits, &self.places);
+        put_ncells(&mut bits, self.neighbours());
+        bits.pad_to(128);
         bits.append_to(out)
     }
 
     /// Reads the element's sixteen octets; `Length` where they are not sixteen.
     pub fn decode(octets: &[u8]) -> Result<Self, ElementFault>
-        // What is read has the octets as a text, and each text is read.
+        // What is read has the octets as a text; what is no text has this fault.
         ensures text { IfOk result (λ v. IsResultsText v octets.now) }
-        ensures only { (v : Results) → IsResultsText v octets.now → result ≡ Ok v }
-
-        // What is no text has this fault.
-        ensures length { (result ≡ Err ElementFault.Length) ↔ (length octets.now ≢ 16) }
         ensures fault { IfErr result (HasOtherLength 16 octets.now) }
     {
-        if octets.len() != 16 {
+        let Some(mut bits) = BitReader::sixteen(octets) else {
             return Err(ElementFault::Length);
-        }
-        let mut bits = BitReader::new(octets);
+        };
         let head = take_head(&mut bits);
         let places = take_ncells(&mut bits, head.used());
         Ok(MeasResults { head, places })

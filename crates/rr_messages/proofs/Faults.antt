@@ -1,5 +1,5 @@
 -- What is wrong with octets: a text has no fault, and no octets have two.
-use Rattle.std.proofs.Common.{◌≡◌, ◌≢◌, ◌∙◌, sym, ℕ, ◌<◌, nat_lt, true, List, [], ◌∷◌, ◌++◌, length, None, Result, Ok, Err, IfOk, IfErr, inl, inr, refl, ap, arith}
+use Rattle.std.proofs.Common.{◌≡◌, ◌≢◌, ◌∙◌, sym, ℕ, ◌<◌, ◌≤◌, nat_lt, true, List, [], ◌∷◌, ◌++◌, length, take, None, Err, inl, inr, refl, ap, arith}
 use Rattle.std.proofs.lemmas.List.{length-append}
 use Rattle.std.proofs.lemmas.Bool.Decides.{nat_tests}
 use Rattle.rr_elements.specs.declared.fault.ElementFault.{ElementFault}
@@ -13,7 +13,7 @@ use Rattle.rr_messages.specs.declared.message.Rr.{Rr}
 use Rattle.rr_messages.specs.Kind.{type_of, part_len}
 use Rattle.rr_messages.specs.Rr.{kind_of, IsFramed, IsPart, IsRrText, HasPartFault, HasRrFault}
 use Rattle.rr_messages.proofs.Readers.{kind_at, command_said, part_said, body_said, in_message, rr_said}
-use Rattle.rr_messages.proofs.Texts.{command-cut, kind_at-type_of, framed-said, framed-text, text-said, one_value}
+use Rattle.rr_messages.proofs.Texts.{command-cut, kind_at-type_of, framed-said, framed-body, text-said, one_value}
 
 no_kind : (t : ℕ) → ((k : Kind) → t ≢ type_of k) → kind_at t ≡ None
 no_kind t none =
@@ -60,16 +60,9 @@ one_fault octets f g p q =
     let second = fault-said octets g q in
     cc
 
--- who answers by texts and faults answers the value of a text
-pub exact : (r : Result Rr RrFault) (octets : List ℕ) (v : Rr) → IfOk r (λ w. IsRrText w octets) → IfErr r (HasRrFault octets) → IsRrText v octets → r ≡ Ok v
-exact (Ok w) octets v text fault h = ap Ok (one_value w v octets text h)
-exact (Err f) octets v text fault h = absurd (no_fault v octets f h fault)
+-- what is wrong with what follows a type
+pub cut-fault : (k : Kind) (body : List ℕ) (f : RrFault) → (f ≡ Short) × (length body < part_len k) → HasRrFault (6 ∷ type_of k ∷ body) f
+cut-fault k body f (is, short) = rw is (inr (k, body, refl, short))
 
--- a bad element of a framed part is the message's fault
-framed-fault : (k : Kind) (part octets : List ℕ) (f : RrFault) → IsFramed k part octets → (e : ElementFault) × (f ≡ Element e) × HasPartFault k part e → HasRrFault octets f
-framed-fault k part octets f framed (e, is, bad) = rw is (k, part, framed, bad)
-
--- what is read of a framed part is what is read of the octets
-pub exact-framed : (r : Result Rr RrFault) (k : Kind) (part octets : List ℕ) (v : Rr) → IsFramed k part octets → IfOk r (λ w. IsPart w part) → IfOk r (λ w. kind_of w ≡ k) → IfErr r (λ f. (e : ElementFault) × (f ≡ Element e) × HasPartFault k part e) → IsRrText v octets → r ≡ Ok v
-exact-framed (Ok w) k part octets v framed is same fault text = exact (Ok w) octets v (framed-text w k part octets framed same is) tt text
-exact-framed (Err f) k part octets v framed is same fault text = exact (Err f) octets v tt (framed-fault k part octets f framed fault) text
+pub element-fault : (k : Kind) (body : List ℕ) (f : ElementFault) → part_len k ≤ length body → HasPartFault k (take (part_len k) body) f → HasRrFault (6 ∷ type_of k ∷ body) (Element f)
+element-fault k body f long bad = (k, take (part_len k) body, framed-body k body long, bad)

@@ -1,6 +1,6 @@
 -- A text of a message is read as the message.
-use Rattle.std.proofs.Common.{◌≡◌, ◌∙◌, sym, ℕ, ◌+◌, ◌*◌, ◌≤◌, nat_lt, false, List, [], ◌∷◌, ◌++◌, length, take, Some, Result, Ok, Err, OnOk, get_or, refl, ap, arith}
-use Rattle.std.proofs.lemmas.List.{take_at, length-append, append-nil}
+use Rattle.std.proofs.Common.{◌≡◌, ◌∙◌, sym, ℕ, ◌+◌, ◌*◌, ◌≤◌, nat_lt, false, List, [], ◌∷◌, ◌++◌, length, take, drop, Some, Result, Ok, Err, OnOk, get_or, refl, ap, arith}
+use Rattle.std.proofs.lemmas.List.{take_at, take-append-drop, length-take-le, length-append, append-nil}
 use Rattle.std.proofs.lemmas.Bool.Decides.{nat_tests}
 use Rattle.rr_elements.specs.CellDescription.{cell_text}
 use Rattle.rr_elements.specs.ChanDescription.{chan_text}
@@ -100,9 +100,14 @@ text-is v part =
     let same = ap (λ octets. 6 ∷ type_of (kind_of v) ∷ octets) (sym (append-nil (part_text v))) in
     (part_text v, record { rest = []; len = long; octets_are = same }, part)
 
--- a framed part that is the value's
-pub framed-text : (v : Rr) (k : Kind) (part octets : List ℕ) → IsFramed k part octets → kind_of v ≡ k → IsPart v part → IsRrText v octets
-framed-text v k part octets framed same is = (part, rw same framed, is)
+-- what follows a type is framed where the part is whole
+pub framed-body : (k : Kind) (body : List ℕ) → part_len k ≤ length body → IsFramed k (take (part_len k) body) (6 ∷ type_of k ∷ body)
+framed-body k body long =
+    let n = part_len k in
+    record { rest = drop n body; len = length-take-le n body long; octets_are = ap (λ octets. 6 ∷ type_of k ∷ octets) (sym (take-append-drop n body)) }
+
+pub body-text : (v : Rr) (k : Kind) (body : List ℕ) → kind_of v ≡ k → part_len k ≤ length body → IsPart v (take (part_len k) body) → IsRrText v (6 ∷ type_of k ∷ body)
+body-text v k body same long is = (take (part_len k) body, rw same (framed-body k body long), is)
 
 -- each value that fits has a text
 pub fitting-part : (v : Rr) → Fits v → IsPart v (part_text v)

@@ -1,7 +1,6 @@
 //! Why octets are no radio resource message.
 
 use rr_elements::ElementFault;
-use std::alloc::AllocError;
 use thiserror::Error;
 
 /// Why octets are no radio resource message.
@@ -33,16 +32,5 @@ impl From<ElementFault> for RrFault {
 
     fn from(fault: ElementFault) -> RrFault {
         RrFault::Element(fault)
-    }
-}
-
-impl From<AllocError> for RrFault {
-    ghost use Rattle.std.specs.Prelude.{◌≡◌};
-    ghost use Rattle.rr_messages.specs.declared.fault.RrFault.TheVariants.{NoMemory};
-
-    ghost from_gives = { λ _ e. e ≡ NoMemory };
-
-    fn from(_error: AllocError) -> RrFault {
-        RrFault::NoMemory
     }
 }

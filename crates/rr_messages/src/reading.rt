@@ -1,26 +1,49 @@
 //! Octets as messages.
-ghost use Rattle.std.specs.Prelude.{◌≡◌, ◌≢◌, IsOk, IfOk, IfErr, Ok, Err, length};
-ghost use Rattle.rr_messages.specs.Kind.{part_len};
-ghost use Rattle.rr_messages.specs.Rr.{kind_of, IsFramed, IsPart, IsRrText, HasPartFault, HasRrFault};
-ghost use Rattle.rr_elements.specs.declared.fault.ElementFault.{ElementFault};
+ghost use Rattle.std.specs.Prelude.{◌≡◌, ◌∷◌, ◌<◌, ◌≤◌, IfOk, IfErr, length, take};
+ghost use Rattle.rr_elements.specs.RrCause.{IsCauseText};
+ghost use Rattle.rr_messages.specs.Kind.{type_of, part_len};
+ghost use Rattle.rr_messages.specs.Rr.{IsRrText, HasRrFault, radio_resources};
 ghost use Rattle.rr_messages.specs.declared.kind.Kind.TheVariants.{HandoverCommand as CommandKind, MeasurementReport as ReportKind};
 
 use crate::fault::RrFault;
 use crate::kind::Kind;
 use crate::message::Rr;
-use rr_elements::{CellDescription, ChanDescription, ElementFault, MeasResults, Power, RrCause};
+use rr_elements::{CellDescription, ChanDescription, MeasResults, Power, RrCause};
 
 /// The discriminator of radio resource messages.
 pub(crate) const RADIO_RESOURCES: u8 = 6;
 
-fn command(part: &[u8]) -> Result<Rr, ElementFault>
-    requires { length part.now ≡ part_len CommandKind }
-    ensures part { IfOk result (λ v. IsPart v part.now) }
-    ensures kind { IfOk result (λ v. kind_of v ≡ CommandKind) }
-    ensures fault { IfErr result (HasPartFault CommandKind part.now) }
+// The mandatory part, with which what follows the type begins.
+fn part(kind: Kind, body: &[u8]) -> Result<&[u8], RrFault>
+    ensures part { IfOk result (λ part. part.now ≡ take (part_len kind) body.now) }
+    ensures long { IfOk result (λ _. part_len kind ≤ length body.now) }
+    ensures fault { IfErr result (λ f. (f ≡ RrFault.Short) × (length body.now < part_len kind)) }
 {
+    let len = kind.part_len();
+    if body.len() < len {
+        return Err(RrFault::Short);
+    }
+    Ok(&body[..len])
+}
+
+// The cause that is the mandatory part of a message of this type.
+fn cause(kind: Kind, body: &[u8]) -> Result<RrCause, RrFault>
+    requires { part_len kind ≡ 1 }
+    ensures part { IfOk result (λ v. IsCauseText v (take 1 body.now)) }
+    ensures long { IfOk result (λ _. 1 ≤ length body.now) }
+    ensures fault { IfErr result (λ f. (f ≡ RrFault.Short) × (length body.now < 1)) }
+{
+    Ok(RrCause::decode(part(kind, body)?)?)
+}
+
+fn command(body: &[u8]) -> Result<Rr, RrFault>
+    ensures text { IfOk result
+        (λ v. IsRrText v (radio_resources ∷ type_of CommandKind ∷ body.now)) }
+    ensures fault { IfErr result (HasRrFault (radio_resources ∷ type_of CommandKind ∷ body.now)) }
+{
+    let part = part(Kind::HandoverCommand, body)?;
     let [cell1, cell2, chan1, chan2, chan3, reference, power] = part else {
-        return Err(ElementFault::Length);
+        return Err(RrFault::Short);
     };
     let cell = CellDescription::decode(&[*cell1, *cell2])?;
     let channel = ChanDescription::decode(&[*chan1, *chan2, *chan3])?;
@@ -35,40 +58,38 @@ fn command(part: &[u8]) -> Result<Rr, ElementFault>
 
 // It isn't inlined: else the fields of each message are moved as if it had those of results too.
 #[inline(never)]
-fn report(part: &[u8]) -> Result<Rr, RrFault>
-    requires { length part.now ≡ part_len ReportKind }
-    ensures part { IfOk result (λ v. IsPart v part.now) }
-    ensures kind { IfOk result (λ v. kind_of v ≡ ReportKind) }
-    ensures ok { IsOk result }
+fn report(body: &[u8]) -> Result<Rr, RrFault>
+    ensures text { IfOk result
+        (λ v. IsRrText v (radio_resources ∷ type_of ReportKind ∷ body.now)) }
+    ensures fault { IfErr result (HasRrFault (radio_resources ∷ type_of ReportKind ∷ body.now)) }
 {
+    let part = part(Kind::MeasurementReport, body)?;
     Ok(Rr::MeasurementReport(MeasResults::decode(part)?))
 }
 
-fn message(kind: Kind, part: &[u8]) -> Result<Rr, RrFault>
-    requires { length part.now ≡ part_len kind }
-    ensures part { IfOk result (λ v. IsPart v part.now) }
-    ensures kind { IfOk result (λ v. kind_of v ≡ kind) }
-    ensures fault { IfErr result (λ f. (e : ElementFault) × (f ≡ RrFault.Element e) ×
-        HasPartFault kind part.now e) }
+// The message of this type. Each mandatory part is cut where its type is known, so that its length is too.
+fn message(kind: Kind, body: &[u8]) -> Result<Rr, RrFault>
+    ensures text { IfOk result (λ v. IsRrText v (radio_resources ∷ type_of kind ∷ body.now)) }
+    ensures fault { IfErr result (HasRrFault (radio_resources ∷ type_of kind ∷ body.now)) }
 {
     match kind {
-        Kind::ChannelRelease => Ok(Rr::ChannelRelease(RrCause::decode(part)?)),
-        Kind::MeasurementReport => report(part),
-        Kind::HandoverFailure => Ok(Rr::HandoverFailure(RrCause::decode(part)?)),
-        Kind::HandoverCommand => Ok(command(part)?),
-        Kind::HandoverComplete => Ok(Rr::HandoverComplete(RrCause::decode(part)?)),
+        Kind::ChannelRelease => Ok(Rr::ChannelRelease(cause(kind, body)?)),
+        Kind::MeasurementReport => report(body),
+        Kind::HandoverFailure => Ok(Rr::HandoverFailure(cause(kind, body)?)),
+        Kind::HandoverCommand => command(body),
+        Kind::HandoverComplete => Ok(Rr::HandoverComplete(cause(kind, body)?)),
         Kind::PhysicalInformation => {
-            let [advance] = part else {
-                return Err(RrFault::Element(ElementFault::Length));
+            let [advance] = part(kind, body)? else {
+                return Err(RrFault::Short);
             };
             Ok(Rr::PhysicalInformation(*advance))
         }
     }
 }
 
-// The type of a message and its mandatory part.
-fn frame(octets: &[u8]) -> Result<(Kind, &[u8]), RrFault>
-    ensures ok { IfOk result (λ x. IsFramed x.0 x.1.now octets.now) }
+// The type of a message, and what follows it.
+fn head(octets: &[u8]) -> Result<(Kind, &[u8]), RrFault>
+    ensures ok { IfOk result (λ x. octets.now ≡ radio_resources ∷ type_of x.0 ∷ x.1.now) }
     ensures fault { IfErr result (HasRrFault octets.now) }
 {
     let (discriminator, octets) = octets.split_first().ok_or(RrFault::NotRr)?;
@@ -77,25 +98,16 @@ fn frame(octets: &[u8]) -> Result<(Kind, &[u8]), RrFault>
     }
     let (octet, body) = octets.split_first().ok_or(RrFault::Short)?;
     let kind = Kind::at(*octet).ok_or(RrFault::UnknownType(*octet))?;
-    let len = kind.part_len();
-    if body.len() < len {
-        return Err(RrFault::Short);
-    }
-    let (part, _rest) = body.split_at(len);
-    Ok((kind, part))
+    Ok((kind, body))
 }
 
 /// Reads a message, whatever stands behind its mandatory part. What is no message gets the first of these faults:
 /// `NotRr`; `Short`, where the type is missing; `UnknownType`; `Short`, where the part is cut; `Element`.
 pub fn decode(octets: &[u8]) -> Result<Rr, RrFault>
-    // What is read has the octets as a text, and each text is read.
+    // What is read has the octets as a text, and what is no text has this fault: `NoMemory` is none.
     ensures text { IfOk result (λ v. IsRrText v octets.now) }
-    ensures only { (v : Rr) → IsRrText v octets.now → result ≡ Ok v }
-
-    // The first fault; want of memory is none of them.
     ensures fault { IfErr result (HasRrFault octets.now) }
-    ensures no_memory { result ≢ Err RrFault.NoMemory }
 {
-    let (kind, part) = frame(octets)?;
-    message(kind, part)
+    let (kind, body) = head(octets)?;
+    message(kind, body)
 }

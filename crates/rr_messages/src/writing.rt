@@ -1,6 +1,7 @@
 //! Messages as octets.
-ghost use Rattle.std.specs.Prelude.{◌≡◌, ◌+◌, ◌≤◌, ◌<◌, ◌++◌, OnOk, OnErr, IsOk, IfOk, Ok, Err, length, vec_len, vec_capacity};
+ghost use Rattle.std.specs.Prelude.{◌≡◌, ◌+◌, ◌≤◌, ◌++◌, OnOk, IsOk, IfOk, vec_len, vec_capacity};
 ghost use Rattle.rr_messages.specs.Kind.{part_len};
+ghost use Rattle.rr_elements.specs.Appending.{IsAppended};
 ghost use Rattle.rr_messages.specs.Rr.{kind_of, IsPart, IsRrText, part_text, rr_text, text_len};
 
 use crate::message::Rr;
@@ -42,12 +43,8 @@ pub fn encode_into<A: Allocator + Copy>(
     message: &Rr,
     out: &mut Vec<u8, A>,
 ) -> Result<(), AllocError>
-    ensures ok { OnOk result (out.new.items ≡ out.old.items ++ rr_text message.now) }
-    ensures err { OnErr result (out.new.items ≡ out.old.items) }
-    ensures room { vec_len out.old + text_len message.now ≤ vec_capacity out.old → IsOk result }
-    ensures full { OnErr result (vec_capacity out.old < vec_len out.old + text_len message.now) }
-    ensures len { OnOk result (vec_len out.new ≡ vec_len out.old + text_len message.now) }
-    ensures capacity { vec_capacity out.old ≤ vec_capacity out.new }
+    ensures written { IsAppended (rr_text message.now) (text_len message.now)
+        out.old out.new result }
 
     // What is written is a text of the message, so `decode` reads it as the message.
     ensures text { OnOk result (IsRrText message.now (rr_text message.now)) }

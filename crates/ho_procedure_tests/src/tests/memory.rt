@@ -1,4 +1,4 @@
-//! Want of memory while an input is handled.
+//! Allocation failures while an input is handled.
 use super::{
     ASKS_NOTHING, BEGINS, CLEARS, ENDS_IN_HANDOVER, Given, OPENS, OPENS_2, Row, STARTS,
     TARGET_CONFIRMED, TARGET_TAKEN_BACK, UNDOES, UNEXPECTED, comes_to, inbound, opened, play, step,
@@ -28,9 +28,10 @@ enum Before {
     Crowded,
 }
 
-/// Inputs that want memory, and for how many things at least: for each first or sixteenth entry of a table of the book,
-/// for what the message keeps, for the list of events, and for that of messages with the octets of each.
-const WANTS: &[(Before, Row, u64)] = &[
+/// Inputs that take memory, and how many requests they make for it at least: one for each first or sixteenth entry of a
+/// table of the book, for what the message keeps, for the list of events, for that of messages, and for the octets of
+/// each.
+const REQUESTS: &[(Before, Row, u64)] = &[
     (Before::Nothing, OPENS, 5),
     (Before::Steady, OPENS_2, 3),
     (Before::Steady, STARTS, 4),
@@ -244,7 +245,7 @@ fn refusals_of(rt: &(impl AllocGlobal + Abort), before: Before, row: Row) -> Res
 
 #[test]
 fn refused_memory_is_answered(rt: HostRuntime) -> Result<(), Fail> {
-    for (before, row, at_least) in WANTS {
+    for (before, row, at_least) in REQUESTS {
         let tried = refusals_of(&rt, *before, *row)?;
         assert!(rt;
             *at_least <= tried && tried < 99,

@@ -2,12 +2,14 @@
 ghost use Rattle.std.specs.Prelude.{◌≡◌, OnOk, OnErr, IfOk};
 ghost use Rattle.radio_book.specs.declared.event.Kind.TheVariants as kind;
 ghost use Rattle.radio_book.specs.declared.event.Event.TheVariants as event;
+ghost use Rattle.channel_fsm.specs.declared.ChanState.TheVariants as state;
+ghost use Rattle.radio_book.specs.State.{apply, state_of};
 ghost use Rattle.radio_book.specs.Sound.{IsSound};
-ghost use Rattle.radio_book.specs.Table.{step, reply_to, row, NeedsRoom, reference_at};
+ghost use Rattle.radio_book.specs.Table.{step, reply_to, row, NeedsRoom, reference_at, no_change, with_state};
 
 use crate::event::{Reference, Refusal, Reply, Stage};
 use crate::records::Records;
-use channel_fsm::{ChanId, ChanState};
+use channel_fsm::{ChanEvent, ChanId, ChanState};
 use std::alloc::{AllocError, Allocator};
 
 impl<A: Allocator + Copy> Records<A> {
@@ -42,7 +44,7 @@ impl<A: Allocator + Copy> Records<A> {
         if self.channels.get(x).is_some() {
             return Ok(Reply::Refused(Refusal::ChannelBusy(x)));
         }
-        self.channels.insert(x, ChanState::Held(call))?;
+        self.channels.occupy(x, ChanEvent::Take(call))?;
         entry.take(x);
         self.calls.replace(call, entry);
         Ok(Reply::Done)
@@ -89,10 +91,20 @@ impl<A: Allocator + Copy> Records<A> {
         let (Stage::Reserved, Some(target)) = (attempt.stage, attempt.target) else {
             return Reply::Refused(Refusal::WrongPhase);
         };
-        self.channels.replace(target, ChanState::Pending(call));
+        self.send(call, target);
         entry.activate(attempt, target);
         self.calls.replace(call, entry);
         Reply::Done
+    }
+
+    /// A held channel of the call is asked for.
+    #[tactic(auto, using(crate::proofs::RecordFacts::sent))]
+    fn send(&mut self, call: u16, x: ChanId)
+        requires { state_of self.old x ≡ state.Held call }
+        ensures { self.new ≡ apply
+            (record no_change { channel = with_state x (state.Pending call) }) self.old }
+    {
+        self.channels.step(x, ChanEvent::Send(call));
     }
 }
 

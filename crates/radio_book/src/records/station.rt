@@ -10,7 +10,7 @@ ghost use Rattle.radio_book.specs.Journal.{journal_of};
 
 use crate::event::{Refusal, Reply, Stage};
 use crate::records::Records;
-use channel_fsm::{ChanId, ChanState};
+use channel_fsm::{ChanEvent, ChanId, ChanState};
 use std::alloc::Allocator;
 
 impl<A: Allocator + Copy> Records<A> {
@@ -22,7 +22,7 @@ impl<A: Allocator + Copy> Records<A> {
         let Some(ChanState::Pending(call)) = self.channels.get(x) else {
             return Reply::Refused(Refusal::Unexpected(x));
         };
-        self.channels.replace(x, ChanState::On(call));
+        self.channels.step(x, ChanEvent::Confirm);
         self.move_attempt(call, x, Stage::Confirmed);
         Reply::Owned(call)
     }
@@ -35,7 +35,7 @@ impl<A: Allocator + Copy> Records<A> {
         let Some(ChanState::Pending(call)) = self.channels.get(x) else {
             return Reply::Refused(Refusal::Unexpected(x));
         };
-        self.channels.replace(x, ChanState::Held(call));
+        self.channels.step(x, ChanEvent::Refuse);
         self.move_attempt(call, x, Stage::Refused);
         Reply::Owned(call)
     }
@@ -67,7 +67,7 @@ impl<A: Allocator + Copy> Records<A> {
         let Some(ChanState::Off) = self.channels.get(x) else {
             return Reply::Refused(Refusal::Unexpected(x));
         };
-        self.channels.remove(x);
+        self.channels.step(x, ChanEvent::Released);
         Reply::Done
     }
 }

@@ -3,7 +3,7 @@ ghost use Rattle.std.specs.Prelude.{◌≡◌, Some};
 ghost use Rattle.std.specs.FinMap as map;
 ghost use Rattle.radio_book.specs.declared.event.Why.TheVariants.{Asked, Expired};
 ghost use Rattle.radio_book.specs.declared.event.Event.TheVariants as event;
-ghost use Rattle.radio_book.specs.declared.journal.Inverse.TheVariants as inverse;
+ghost use Rattle.attempt_journal.specs.declared.Inverse.TheVariants as inverse;
 ghost use Rattle.radio_book.specs.Sound.{IsSound};
 ghost use Rattle.radio_book.specs.State.{state_of, record_of};
 ghost use Rattle.radio_book.specs.Table.{step, reply_to, book_after, reply_of, undo_attempt, is_armed};
@@ -11,10 +11,10 @@ ghost use Rattle.radio_book.specs.Journal.{run_inverse, run_back};
 
 use crate::entry::CallEntry;
 use crate::event::{Refusal, Reply, Timer, Why};
-use crate::journal::{Inverse, Journal};
 use crate::records::Records;
 use crate::records::attempt::reference_at;
-use channel_fsm::{ChanId, ChanState};
+use attempt_journal::{Inverse, Journal};
+use channel_fsm::ChanEvent;
 use std::alloc::Allocator;
 
 impl<A: Allocator + Copy> Records<A> {
@@ -86,27 +86,11 @@ impl<A: Allocator + Copy> Records<A> {
         ensures { self.new ≡ run_inverse call inverse self.old }
     {
         match inverse {
-            Inverse::FreeChannel(x) => self.free_channel(call, x),
-            Inverse::SwitchOff(x) => self.switch_off(call, x),
+            Inverse::FreeChannel(x) => self.channels.step(x, ChanEvent::Drop),
+            Inverse::SwitchOff(x) => self.channels.step(x, ChanEvent::SwitchOff),
             Inverse::DropReference(number) => self.drop_reference(call, number),
             Inverse::Settle => self.settle(call),
             Inverse::Forget => self.calls.remove(call),
-        }
-    }
-
-    fn free_channel(&mut self, call: u16, x: ChanId)
-        ensures { self.new ≡ run_inverse call (inverse.FreeChannel x) self.old }
-    {
-        if let Some(ChanState::Held(_)) = self.channels.get(x) {
-            self.channels.remove(x);
-        }
-    }
-
-    fn switch_off(&mut self, call: u16, x: ChanId)
-        ensures { self.new ≡ run_inverse call (inverse.SwitchOff x) self.old }
-    {
-        if let Some(ChanState::Pending(_) | ChanState::On(_)) = self.channels.get(x) {
-            self.channels.replace(x, ChanState::Off);
         }
     }
 

@@ -1,4 +1,4 @@
-//! Want of memory in each call of a book.
+//! Memory is refused in each call of a book.
 use super::Answer::{Chose, NoneFree, Says};
 use super::Ask::{FreeIn, ReserveAny, Step, TakeAny};
 use super::{
@@ -18,11 +18,11 @@ use std::alloc::AllocError;
 use std::process::Abort;
 use std::test::Fail;
 
-// An ask that may want memory, and its answer where calls 1, 2, .. up to `open` are open in cell 0 and these steps came
+// An ask that takes memory, and its answer where calls 1, 2, .. up to `open` are open in cell 0 and these steps came
 // after.
 //
 // A table asks for memory with its first entry, and where the 15 entries of a node are full.
-struct Want {
+struct Request {
     open: u16,
     steps: &'static [Row],
     ask: Ask,
@@ -33,62 +33,62 @@ const CONFIRMED: Row = (Step(Confirm(HOME_OF_1)), Says(Owned(1)));
 
 const MOVES: Row = (Step(Take(1, Kind::Internal, LOWEST)), DONE);
 
-const WANTS: &[Want] = &[
-    Want {
+const REQUESTS: &[Request] = &[
+    Request {
         open: 0,
         steps: &[],
         ask: Step(Open(1, HOME_OF_1)),
         answer: DONE,
     },
-    Want {
+    Request {
         open: 15,
         steps: &[],
         ask: Step(Open(16, HOME_OF_16)),
         answer: DONE,
     },
-    Want {
+    Request {
         open: 0,
         steps: &[],
         ask: Step(Take(1, Kind::Incoming, HIGHEST)),
         answer: DONE,
     },
-    Want {
+    Request {
         open: 0,
         steps: &[],
         ask: TakeAny(1, Kind::Incoming, 1),
         answer: Chose(Take(1, Kind::Incoming, LOWEST), Done),
     },
-    Want {
+    Request {
         open: 15,
         steps: &[],
         ask: Step(Take(16, Kind::Incoming, HIGHEST)),
         answer: DONE,
     },
-    Want {
+    Request {
         open: 15,
         steps: &[],
         ask: TakeAny(16, Kind::Incoming, 1),
         answer: Chose(Take(16, Kind::Incoming, LOWEST), Done),
     },
-    Want {
+    Request {
         open: 15,
         steps: &[CONFIRMED],
         ask: Step(Take(1, Kind::Internal, HIGHEST)),
         answer: DONE,
     },
-    Want {
+    Request {
         open: 15,
         steps: &[CONFIRMED],
         ask: TakeAny(1, Kind::Internal, 1),
         answer: Chose(Take(1, Kind::Internal, LOWEST), Done),
     },
-    Want {
+    Request {
         open: 1,
         steps: &[CONFIRMED, MOVES],
         ask: Step(Reserve(1, 7)),
         answer: DONE,
     },
-    Want {
+    Request {
         open: 1,
         steps: &[CONFIRMED, MOVES],
         ask: ReserveAny(1),
@@ -97,23 +97,23 @@ const WANTS: &[Want] = &[
 ];
 
 // Makes an empty book the one before the ask.
-fn prepare(rt: &impl Abort, book: &mut Book<&RefusingHeap>, want: &Want) -> Result<(), Fail> {
-    for before in 0..want.open {
+fn prepare(rt: &impl Abort, book: &mut Book<&RefusingHeap>, request: &Request) -> Result<(), Fail> {
+    for before in 0..request.open {
         let call = before.saturating_add(1);
         assert_eq!(rt; book.step(Open(call, home_of(call)))?, Done, "{call}");
     }
-    play(rt, book, want.steps)
+    play(rt, book, request.steps)
 }
 
 // How many requests come before the ask.
-fn requests_before(rt: &(impl AllocGlobal + Abort), want: &Want) -> Result<u64, Fail> {
+fn requests_before(rt: &(impl AllocGlobal + Abort), request: &Request) -> Result<u64, Fail> {
     let heap = RefusingHeap::ample(rt.alloc());
     let mut book = book_of(&heap, rt.alloc(), MANY_CHANNELS)?;
-    prepare(rt, &mut book, want)?;
+    prepare(rt, &mut book, request)?;
     Ok(heap.requests())
 }
 
-// What a book shows of itself and of calls 1, 2 and 16, where no memory is wanted.
+// What a book shows of itself and of calls 1, 2 and 16, which takes no memory.
 fn shown(book: &mut Book<&RefusingHeap>) -> Result<[Answer; 6], AllocError> {
     Ok([
         put(book, Ask::Usage)?,
@@ -142,32 +142,32 @@ fn ask_twice(
     put(book, ask)
 }
 
-// Asks the book before the ask, which answers as is wanted: whether memory was refused.
-fn answers_want(
+// Asks the book before the ask, which gives the expected answer: whether memory was refused.
+fn answers_request(
     rt: &impl Abort,
     book: &mut Book<&RefusingHeap>,
     heap: &RefusingHeap,
-    want: &Want,
+    request: &Request,
 ) -> Result<bool, Fail> {
-    prepare(rt, book, want)?;
-    let answer = ask_twice(rt, book, heap, want.ask)?;
-    assert_eq!(rt; answer, want.answer, "{:?}", want.ask);
+    prepare(rt, book, request)?;
+    let answer = ask_twice(rt, book, heap, request.ask)?;
+    assert_eq!(rt; answer, request.answer, "{:?}", request.ask);
     Ok(heap.was_refused())
 }
 
 // Whether an ask met the refusal of the n-th request.
-fn meets_refusal(rt: &(impl AllocGlobal + Abort), want: &Want, n: u64) -> Result<bool, Fail> {
+fn meets_refusal(rt: &(impl AllocGlobal + Abort), request: &Request, n: u64) -> Result<bool, Fail> {
     let heap = RefusingHeap::refusing_nth(rt.alloc(), n);
     let mut book = book_of(&heap, rt.alloc(), MANY_CHANNELS)?;
-    answers_want(rt, &mut book, &heap, want)
+    answers_request(rt, &mut book, &heap, request)
 }
 
 // How many requests of an ask were refused in turn before one met no refusal.
-fn refusals_of(rt: &(impl AllocGlobal + Abort), want: &Want) -> Result<u64, Fail> {
-    let before = requests_before(rt, want)?;
+fn refusals_of(rt: &(impl AllocGlobal + Abort), request: &Request) -> Result<u64, Fail> {
+    let before = requests_before(rt, request)?;
     let mut tried = 0u64;
     for n in 1..100 {
-        if !meets_refusal(rt, want, before.saturating_add(n))? {
+        if !meets_refusal(rt, request, before.saturating_add(n))? {
             break;
         }
         tried = n;
@@ -177,12 +177,12 @@ fn refusals_of(rt: &(impl AllocGlobal + Abort), want: &Want) -> Result<u64, Fail
 
 #[test]
 fn each_refusal_of_memory_is_answered(rt: HostRuntime) -> Result<(), Fail> {
-    for want in WANTS {
-        let tried = refusals_of(&rt, want)?;
+    for request in REQUESTS {
+        let tried = refusals_of(&rt, request)?;
         assert!(rt;
             1 <= tried && tried < 99,
             "{:?}: {tried} requests",
-            want.ask
+            request.ask
         );
     }
     Ok(())

@@ -4,7 +4,7 @@ use Rattle.rsl_messages.proofs.Faults.{one_fault}
 use Rattle.ho_procedure.specs.declared.exchange.PlainFault.TheVariants.{Undecoded}
 use Rattle.ho_procedure.proofs.procedure.handle_octets.Goals as goal
 
--- a text has no fault but want of memory
+-- a text of a message has no fault but an allocation failure
 pub returns-in_err-handle_message-in-Ok-clause-decoded : goal.returns-in_err-handle_message-in-Ok-clause-decoded
 returns-in_err-handle_message-in-Ok-clause-decoded g c = λ f other has. absurd (other (no_fault _ _ f c.in-Ok.ensures.text has))
 

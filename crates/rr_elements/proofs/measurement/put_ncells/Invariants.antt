@@ -3,8 +3,8 @@ use Rattle.rr_elements.specs.Bits.{bits_written}
 use Rattle.rr_elements.specs.MeasResults.{ncell_widths, ncell_numbers}
 use Rattle.rr_elements.proofs.measurement.put_ncells.Given as goal
 
-abbrev pub invariant-loop-place : goal.invariant-loop-place
-invariant-loop-place l = record {
-  bits : l.bits ≡ l.fn.bits ++ flat_map (λ n. bits_written ncell_widths (ncell_numbers n)) (take l.place-index l.places);
-  len : length l.bits ≡ length l.fn.bits + 17 * l.place-index;
+abbrev pub invariant-loop-ncell : goal.invariant-loop-ncell
+invariant-loop-ncell l = record {
+  bits : l.bits ≡ l.fn.bits ++ flat_map (λ n. bits_written ncell_widths (ncell_numbers n)) (take l.ncell-index l.ncells);
+  len : length l.bits ≡ length l.fn.bits + 17 * l.ncell-index;
 }

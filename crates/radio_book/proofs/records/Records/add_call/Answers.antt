@@ -1,22 +1,23 @@
 use Rattle.std.proofs.Common.{sym, ◌∙◌, ap}
+use Rattle.std.specs.Cmp.{nat_cmp_total}
 use Rattle.std.specs.FinMap as map
-use Rattle.radio_book.proofs.KeyFacts.{chan_total, chan_exact}
+use Rattle.std.specs.FinMap.{nat_cmp-IsAntisymmetric}
+use Rattle.radio_book.specs.State.{record_of}
 use Rattle.radio_book.proofs.MapFacts.{remove_inserted}
-use Rattle.radio_book.proofs.TableFacts.{at_err}
+use Rattle.radio_book.proofs.TableFacts.{at_err, err_holds}
 use Rattle.radio_book.proofs.records.Records.add_call.Goals as goal
 
 pub returns-then-is_err-clause-unchanged : goal.returns-then-is_err-clause-unchanged
 returns-then-is_err-clause-unchanged g c =
-    let x = c.args.x in
-    let absent = ap (λ b. map.get b.channels x) c.self.view_is ∙ c.requires.channel in
-    let channels =
-    c.remove.ensures ∙ ap (λ m. map.remove m x) c.in_ok-insert.ensures.ok
-    ∙ remove_inserted chan_total chan_exact c.self.inside.channels x c.args.state absent in
-    let calls = at_err c.insert-2.result (sym c.is_err.ensures.value ∙ c.if-is_err.true) c.insert-2.ensures.err in
-    (λ i. record {
+    let absent = ap (λ b. record_of b c.args.call) c.self.view_is ∙ c.requires.call in
+    let calls =
+    c.remove.ensures ∙ ap (λ m. map.remove m c.args.call) c.in_ok-insert.ensures.ok
+    ∙ remove_inserted nat_cmp_total nat_cmp-IsAntisymmetric c.self.inside.calls c.args.call c.args.entry absent in
+    let channels = at_err c.occupy-occupied.result (sym c.is_err.ensures.value ∙ c.if-is_err.true) c.occupy-occupied.ensures.err in
+    err_holds c.occupy-occupied.result ((λ i. record {
       site = c.self.inside.site.value;
       channels = channels i;
       calls = calls i;
       references = c.self.inside.references;
       timers = c.self.inside.timers;
-    }) ∙ c.self.view_is
+    }) ∙ c.self.view_is)

@@ -1,9 +1,8 @@
 use Rattle.std.proofs.Common.{sym, ◌∙◌, ap}
 use Rattle.radio_book.specs.State.{record_of}
-use Rattle.radio_book.proofs.RecordFacts.{serving_there}
 use Rattle.radio_book.proofs.records.Records.clear.Goals as goal
 
-pub let_go-requires : goal.let_go-requires
-let_go-requires g c =
+pub release_serving-requires : goal.release_serving-requires
+release_serving-requires g c =
     let known = sym (ap (λ b. record_of b c.args.call) c.self.view_is) ∙ sym c.get.ensures ∙ c.in-Some.is in
-    serving_there c.args.self.now c.args.call _ c.in-Some-serving.serving c.requires known c.in-Some-serving.is
+    c.requires.serving_is_owned c.args.call _ c.in-Some-serving.serving known c.in-Some-serving.is

@@ -12,7 +12,7 @@ unreachable-requires g c =
     let absent =
     sym (ap option_copied_mut c.in-None.is) ∙ c.get_mut.ensures.value
     ∙ sym (get_listed nat_cmp_total c.self.inside.entries.entries c.args.call) ∙ ap (λ m. map.get m c.args.call) c.self.view_is in
-    let wanted = ap is_some absent ∙ c.requires in
+    let there = ap is_some absent ∙ c.requires in
     cc
 
 pub returns : goal.returns

@@ -11,7 +11,7 @@ unreachable-requires g c =
     let absent =
     sym (ap option_copied_mut c.in-None.is) ∙ c.get_mut.ensures.value
     ∙ sym (get_listed chan_total c.self.inside.states.entries c.args.x) ∙ ap (λ m. map.get m c.args.x) c.self.view_is in
-    let wanted = ap is_some absent ∙ c.requires in
+    let there = ap is_some absent ∙ c.requires in
     cc
 
 pub returns : goal.returns

@@ -1,16 +1,25 @@
-use Rattle.rr_elements.proofs.KeptLemmas.{kept_fits}
-use Rattle.rr_elements.proofs.ResultsLemmas.{bits_written-kept}
+use Rattle.std.proofs.Common.{◌≡◌, ◌∙◌, ◌+◌, ◌-◌, ◌*◌, ◌/◌, ◌≤◌, ◌++◌, length, flat_map, ap, subst, refl, arith, rules}
+use Rattle.rr_elements.specs.Bits.{bits, bits_written, octets_of}
+use Rattle.rr_elements.specs.Appending.{IsAppended}
+use Rattle.rr_elements.specs.MeasResults.{head_widths, head_numbers, ncell_widths, ncell_numbers}
+use Rattle.rr_elements.proofs.KeptLemmas.{used_count_le}
+use Rattle.rr_elements.proofs.ResultsLemmas.{bits_written-results}
 use Rattle.rr_elements.proofs.ResultsTexts.{results-text}
 use Rattle.rr_elements.proofs.results.MeasResults.encode_into.Goals as goal
 
-pub put_ncells-requires-clause-fits : goal.put_ncells-requires-clause-fits
-put_ncells-requires-clause-fits g c = kept_fits c.self.inside.head c.self.inside.places c.self.invariant
-
-pub returns-clause-ok : goal.returns-clause-ok
-returns-clause-ok g c =
-    let all = bits_written-kept c.self.inside.head c.self.inside.places c.self.invariant in
-    let text = rw (c.put_ncells.ensures.bits, c.put_head.ensures.bits, c.new-bits.ensures, all) at c.append_to.ensures.ok in
-    rw (← c.self.view_is) text
+pub returns-clause-written : goal.returns-clause-written
+returns-clause-written g c =
+    let v = c.args.self.now in
+    let n = length c.put_ncells.new.bits in
+    let used : length c.neighbours.result.now ≡ length v.neighbours = ap length c.neighbours.ensures.value in
+    let empty : length c.new-bits.result ≡ 0 = ap length c.new-bits.ensures in
+    let long : n ≡ 26 + 17 * length v.neighbours = omega (arith, c.put_ncells.ensures.len, c.put_head.ensures.len) in
+    let few : length v.neighbours ≤ 6 = rw (← c.self.view_is) (omega (arith, c.self.invariant.fits.count, used_count_le c.self.inside.head.count c.self.invariant.fits.head.count)) in
+    let put : c.put_ncells.new.bits ≡ bits_written head_widths (head_numbers v.head) ++ flat_map (λ n. bits_written ncell_widths (ncell_numbers n)) v.neighbours =
+    rw (c.put_ncells.ensures.bits, c.put_head.ensures.bits, c.new-bits.ensures, c.neighbours.ensures.value, ← c.self.view_is) refl in
+    let whole = c.pad_to.ensures.bits ∙ ap (λ bs. bs ++ bits (128 - n) 0) put ∙ bits_written-results v n few long in
+    let sixteen = subst (λ k. IsAppended (octets_of c.pad_to.new.self) k c.args.out.now c.append_to.new.out c.append_to.result) (ap (λ k. k / 8) c.pad_to.ensures.len) c.append_to.ensures.written in
+    subst (λ bs. IsAppended (octets_of bs) 16 c.args.out.now c.append_to.new.out c.append_to.result) whole sixteen
 
 pub returns-clause-text : goal.returns-clause-text
 returns-clause-text g c = rw (← c.self.view_is) (results-text _ c.self.invariant.fits)

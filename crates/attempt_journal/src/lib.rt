@@ -1,25 +1,30 @@
-//! The journal of an attempt: for each of its steps, what undoes it. Ours, of no standard.
-ghost use Rattle.std.specs.Prelude.{◌≡◌, ◌<◌, [], ◌∷◌, ◌++◌, length, option_to_list, IfNone};
+//! The journal of an attempt at handover: for each of its steps, what takes it back. Ours, of no standard.
+#![tactic(auto)]
+
+ghost use Rattle.std.specs.Prelude.{◌≡◌, ◌<◌, ◌↔◌, IsTrue, [], ◌∷◌, ◌++◌, length, option_to_list, IfNone};
 
 use channel_fsm::ChanId;
 use std::marker::Model;
 
-/// The inverse of a step.
+#[cfg(test)]
+mod tests;
+
+/// The inverse of a step of an attempt.
 #[derive(Clone, Copy, Debug, PartialEq, Eq)]
 pub enum Inverse {
     /// The channel is free, where it is held.
     FreeChannel(ChanId),
     /// The attempt ends, and the call rests on its serving channel.
     Settle,
-    /// The record of the call is gone.
+    /// The book has the call no more.
     Forget,
-    /// The reference is no longer in use.
+    /// The handover reference with this number, in the cell of the attempt's target, is no longer in use.
     DropReference(u8),
     /// The channel is off, where it may be active.
     SwitchOff(ChanId),
 }
 
-/// A stack of up to seven inverses, which it keeps in itself: it takes no memory.
+/// A list of up to seven inverses, last in first out. It keeps them in itself, and takes no memory.
 #[derive(Drop)]
 pub struct Journal {
     inverses: [Inverse; 7],
@@ -29,7 +34,7 @@ pub struct Journal {
 
 impl Model for Journal {
     ghost use Rattle.std.specs.Prelude.{List, take, ◌≤◌, ◌≡◌, length};
-    ghost use Rattle.radio_book.specs.declared.journal.Inverse.{Inverse};
+    ghost use Rattle.attempt_journal.specs.declared.Inverse.{Inverse};
 
     ghost Value = { List Inverse };
 
@@ -40,6 +45,7 @@ impl Model for Journal {
 }
 
 impl Journal {
+    /// No inverse.
     pub fn new() -> Journal
         ensures { result ≡ [] }
     {
@@ -49,6 +55,7 @@ impl Journal {
         }
     }
 
+    /// The same inverses again.
     pub fn copy(&self) -> Journal
         ensures { result ≡ self.now }
     {
@@ -58,6 +65,20 @@ impl Journal {
         }
     }
 
+    /// How many inverses it has, 0 to 7.
+    pub fn len(&self) -> usize
+        ensures { result ≡ length self.now }
+    {
+        self.pushed
+    }
+
+    pub fn is_empty(&self) -> bool
+        ensures { IsTrue result ↔ (self.now ≡ []) }
+    {
+        self.pushed == 0
+    }
+
+    /// Adds an inverse behind the others, of which there are less than seven.
     pub fn push(&mut self, inverse: Inverse)
         requires { length self.old < 7 }
         ensures { self.new ≡ self.old ++ inverse ∷ [] }
@@ -67,7 +88,7 @@ impl Journal {
         self.pushed = next + 1;
     }
 
-    /// The inverse that was pushed last.
+    /// Takes the inverse out that was pushed last. `None` where there is none.
     pub fn pop(&mut self) -> Option<Inverse>
         ensures items { self.old ≡ self.new ++ option_to_list result }
         ensures empty { IfNone result (self.new ≡ []) }

@@ -1,0 +1,90 @@
+//! The largest site: a call on each of its traffic channels.
+use super::Ask::FreeIn;
+use super::{Answer, Ask, book_of, holds, play};
+use channel_fsm::ChanId;
+use radio_book::book::Book;
+use radio_book::event::Event;
+use radio_book::event::Event::{Clear, Open};
+use radio_book::event::Reply::Done;
+use std::alloc::{AllocError, Global};
+use std::process::Abort;
+use std::test::Fail;
+
+// The text of a site of 64 cells with four TRX each, where every timeslot but the first of the first TRX carries
+// traffic: 31 in each cell.
+fn largest_site(alloc: Global) -> Result<String, AllocError> {
+    let mut text = String::new(alloc);
+    text.push_str("[handover]\nwindow = 1\nmargin = 0\nminimum = 0\n")?;
+    for cell in 0..64u16 {
+        let carrier = 4 * cell;
+        let entry = format!(in alloc;
+            "[[cell]]\nlac = 1\nci = {cell}\nbcch = {carrier}\nncc = 0\nbcc = 0\npower = 0\nba = []\n"
+        )?;
+        text.push_str(entry.as_str())?;
+        let first = format!(in alloc;
+            "trx = [{{ arfcn = {carrier}, tch = [1, 2, 3, 4, 5, 6, 7] }}"
+        )?;
+        text.push_str(first.as_str())?;
+        for trx in 1..4u16 {
+            let other = carrier + trx;
+            let next = format!(in alloc;
+                ", {{ arfcn = {other}, tch = [0, 1, 2, 3, 4, 5, 6, 7] }}"
+            )?;
+            text.push_str(next.as_str())?;
+        }
+        text.push_str("]\n")?;
+    }
+    Ok(text)
+}
+
+// The timeslot at a place of the site, by cell, TRX, timeslot.
+fn channel_at(place: u16) -> ChanId {
+    ChanId {
+        cell: (place / 32 % 64) as u8,
+        trx: (place / 8 % 4) as u8,
+        tn: (place % 8) as u8,
+    }
+}
+
+#[derive(Clone, Copy)]
+enum Turn {
+    Begin,
+    End,
+}
+
+// What is asked in this turn for the call of a place.
+fn event_at(turn: Turn, place: u16) -> Event {
+    match turn {
+        Turn::Begin => Open(place, channel_at(place)),
+        Turn::End => Clear(place),
+    }
+}
+
+fn each_is_done(rt: &impl Abort, book: &mut Book<Global>, turn: Turn) -> Result<(), Fail> {
+    for place in 0..2048u16 {
+        // not for the broadcast channel of a cell
+        if place % 32 != 0 {
+            assert_eq!(rt; book.step(event_at(turn, place))?, Done, "{place}");
+        }
+    }
+    Ok(())
+}
+
+fn fills_and_empties(rt: &impl Abort, book: &mut Book<Global>) -> Result<(), Fail> {
+    each_is_done(rt, book, Turn::Begin)?;
+    let full = [
+        (Ask::Usage, holds(1984, 1984, 0)),
+        (FreeIn(0), Answer::Free(0)),
+        (FreeIn(63), Answer::Free(0)),
+    ];
+    play(rt, book, &full)?;
+    each_is_done(rt, book, Turn::End)?;
+    play(rt, book, &[(Ask::Usage, holds(1984, 0, 0))])
+}
+
+#[test]
+fn each_channel_of_the_largest_site_serves_a_call(rt: HostRuntime) -> Result<(), Fail> {
+    let text = largest_site(rt.alloc())?;
+    let mut book = book_of(rt.alloc(), rt.alloc(), text.as_str())?;
+    fills_and_empties(&rt, &mut book)
+}
