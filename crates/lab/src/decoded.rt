@@ -7,14 +7,14 @@ ghost use Rattle.lab.specs.Decoded.{IsRrMessage, IsBssmapMessage, IsAbisMessage,
 use crate::run::{LabFault, Status};
 use bssmap_messages::BssmapFault;
 use lab_script::script::is_octets;
+use rsl_messages::RslFault;
+use std::alloc::{AllocError, Allocator};
+use std::io::Write;
 use trace_text::abis::AbisText;
 use trace_text::bad::Bad;
 use trace_text::bssmap::BssmapText;
 use trace_text::rr::RrText;
 use trace_text::trace::print_fault;
-use rsl_messages::RslFault;
-use std::alloc::{AllocError, Allocator};
-use std::io::Write;
 
 /// Where a message comes from.
 #[derive(Clone, Copy, Debug, PartialEq, Eq)]

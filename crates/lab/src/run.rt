@@ -8,13 +8,13 @@ use cell_table::{Site, SiteFault};
 use ho_procedure::exchange::{Inbound, PlainFault};
 use ho_procedure::procedure::handle_plain;
 use lab_script::script::{ScriptFault, read_script};
-use trace_text::bad::Bad;
-use trace_text::trace::{print_end, print_fault, print_handled, print_input};
 use radio_book::book::Book;
 use std::alloc::{AllocError, Allocator, Global};
 use std::io::{self, Write};
 use std::sync::Arc;
 use thiserror::Error;
+use trace_text::bad::Bad;
+use trace_text::trace::{print_end, print_fault, print_handled, print_input};
 
 /// How the work ended.
 #[derive(Clone, Copy, Debug, PartialEq, Eq)]

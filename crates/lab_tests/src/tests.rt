@@ -4,6 +4,7 @@ mod decoded;
 mod failing;
 mod files;
 mod program;
+mod reasons;
 mod refusals;
 mod traces;
 mod words;

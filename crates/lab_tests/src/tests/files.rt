@@ -30,7 +30,8 @@ fn run_ends(
     text: &str,
 ) -> Result<(), Fail> {
     let mut out = Vec::new(rt.alloc());
-    let ended = run_files(rt, site, script, &mut out);
+    let mut errors = Vec::new(rt.alloc());
+    let ended = run_files(rt, site, script, &mut out, &mut errors);
     assert_eq!(rt; ended, Ok(wanted), "{site} {script}");
     assert_eq!(rt; str::from_utf8(&out)?, text);
     Ok(())
