@@ -8,8 +8,8 @@ use Rattle.bssmap_messages.specs.declared.fault.BssmapFault.{BssmapFault}
 use Rattle.bssmap_messages.specs.declared.fault.BssmapFault.TheVariants as bssmap
 use Rattle.ho_procedure.specs.declared.exchange.PlainFault.{PlainFault}
 use Rattle.ho_procedure.specs.declared.exchange.PlainFault.TheVariants as plain
-use Rattle.cell_table.specs.declared.SiteFault.{SiteFault}
-use Rattle.cell_table.specs.declared.SiteFault.TheVariants as site
+use Rattle.cell_table.specs.declared.fault.SiteFault.{SiteFault}
+use Rattle.cell_table.specs.declared.fault.SiteFault.TheVariants as site
 use Rattle.bench_cases.specs.declared.fault.Fault.{Fault}
 use Rattle.bench_cases.specs.declared.fault.Fault.TheVariants.{Words, NoMemory, Output, Setting}
 

@@ -111,7 +111,11 @@ impl From<SiteFault> for Fault {
     fn from(cause: SiteFault) -> Self {
         match cause {
             SiteFault::NoMemory => Self::NoMemory,
-            SiteFault::Toml => Self::Setting,
+            SiteFault::Toml
+            | SiteFault::Missing(_)
+            | SiteFault::Range(_)
+            | SiteFault::Twice(_)
+            | SiteFault::NoTraffic(_) => Self::Setting,
         }
     }
 }

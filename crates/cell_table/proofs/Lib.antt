@@ -1,4 +1,5 @@
-pub mod Told
-pub mod Judged
+pub mod Each
+pub mod Chains
 pub mod SiteFacts
 pub mod Blank
+pub mod Refusals

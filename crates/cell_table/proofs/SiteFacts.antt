@@ -1,71 +1,177 @@
--- What holds of every site: what a document tells keeps the limits, and a traffic channel lies within them.
-use Rattle.std.proofs.Common.{◌≡◌, ℕ, Bool, true, false, not, ◌&&◌, ◌==◌, ◌<◌, ◌≤◌, nat_le, nat_lt, if◌then◌else◌, List, [], ◌∷◌, length, Option, Some, None, is_some, All, codes, option_and_then, IfSome, take, get_or, slice_get, unwrap_or, refl, sym, ◌∙◌, subst, inl, inr, arith}
-use Rattle.std.proofs.lemmas.List.{take_all}
-use Rattle.std.proofs.lemmas.List.Elements.{All-head, All-tail}
+-- What holds of every site: what a document says keeps the limits, and a traffic channel lies within them.
+use Rattle.std.proofs.Common.{◌≡◌, ℕ, Bool, true, false, ◌==◌, ◌<◌, ◌≤◌, nat_le, List, [], ◌∷◌, length, Option, Some, None, option_map, option_and_then, IfSome, All, Ok, Err, take, get_or, slice_get, unwrap_or, refl, sym, ◌∙◌, subst, inl, inr, rules, arith}
+use Rattle.std.proofs.lemmas.List.Elements.{All-head, All-tail, All-take}
 use Rattle.std.proofs.lemmas.Bool.{false≢true, and_parts, cases_Bool}
 use Rattle.std.proofs.lemmas.Bool.Decides.{nat_tests}
-use Rattle.std.proofs.lemmas.Option.{same_Some, none-some, option_and_then_some, slice_get_within, slice_get-get_or}
-use Rattle.toml.specs.Data.{Data, Items, as_integer}
-use Rattle.toml.specs.View.{items_view}
-use Rattle.toml.specs.declared.value.Value.{Value}
-use Rattle.cell_table.specs.Site.{SiteView, IsCell, IsSite, IsWithinLimits, keeps_cell_rules, keeps_site_rules, names_broadcast, is_traffic}
+use Rattle.std.proofs.lemmas.Option.{same_Some, slice_get_within, slice_get-get_or}
+use Rattle.std.specs.List.{list_any, list_all}
 use Rattle.channel_fsm.specs.declared.ChanId.{ChanId}
-use Rattle.std.specs.List.{list_any}
-use Rattle.cell_table.specs.SiteFile.{all_read, value_within, array_at, natural_number, timeslot_of, trx_of, cell_of, site_of}
-use Rattle.cell_table.proofs.Told.{All-all_read, IsTold}
+use Rattle.toml.specs.Data.{Data, get, as_integer}
+use Rattle.cell_table.specs.declared.fault.Key.{Key}
+use Rattle.cell_table.specs.declared.fault.Key.TheVariants as key
+use Rattle.cell_table.specs.declared.fault.SiteFault.{SiteFault}
+use Rattle.cell_table.specs.declared.fault.SiteFault.TheVariants.{Range}
+use Rattle.cell_table.specs.declared.tables.Allowed.{Allowed}
+use Rattle.cell_table.specs.declared.tables.CellIdentity.{CellIdentity}
+use Rattle.cell_table.specs.Site.{TrxView, CellView, SiteView, IsCell, IsSite, IsWithinLimits, is_traffic}
+use Rattle.cell_table.specs.Rules.{broken_rule, unbroken, checked}
+use Rattle.cell_table.specs.SiteFile.{Read, ◌>>=◌, each, is_allowed, natural_number, number_of, number_at, value_at, array_of, counted, all_tables, tables_of, is_table, key_name, up_to, handover_at, identity_of, ba_of, arfcn_range, tch_range, first_nine, tch_of, trx_of, all_trx_of, cell_of, cells_of, outside_of, site_of}
+use Rattle.cell_table.proofs.Chains.{bind_parts, ok_or_parts, where_passes_parts, passed, All-each, first-each, length-each}
 
-if_kept : {A : Type 0} (b : Bool) (x y : A) → (if b then Some x else None) ≡ Some y → (x ≡ y) × (b ≡ true)
-if_kept true x y e = (same_Some x y e, refl)
-if_kept false x y e = absurd (none-some y e)
+-- what was read within a range is a number of that range
+number_range : (k : Key) (allowed : Allowed) (d : Data) (n : ℕ) → number_of k allowed d ≡ Ok n → (allowed.least ≤ n) × (n ≤ allowed.most)
+number_range k allowed d n e =
+    let within = where_passes_parts (is_allowed allowed) (option_and_then natural_number (as_integer d)) n (ok_or_parts _ (Range k) n e) in
+    let (least, most) = and_parts (nat_le allowed.least n) (nat_le n allowed.most) within in
+    (grind (arith, nat_tests), grind (arith, nat_tests))
 
--- what was read and kept keeps its rule
-value_within_parts : {A : Type 0} (rule : A → Bool) (told : Option A) (x : A) → value_within rule told ≡ Some x → (told ≡ Some x) × (rule x ≡ true)
-value_within_parts rule None x e = absurd (none-some x e)
-value_within_parts rule (Some y) x e = let (same, kept) = if_kept (rule y) y x e in rw (← same) (refl, kept)
+nine_parts : (P : ℕ → Type 0) (r : Read (List ℕ)) (slots : List ℕ) → first_nine r ≡ Ok slots → ((xs : List ℕ) → r ≡ Ok xs → All P xs) → All P slots
+nine_parts P (Ok xs) slots e all = let same : take 9 xs ≡ slots = cc in rw (← same) (All-take P 9 xs (all xs refl))
+nine_parts P (Err fault) slots e all = absurd cc
 
-timeslot_range : (d : Data) (tn : ℕ) → timeslot_of d ≡ Some tn → tn < 8
-timeslot_range d tn e =
-    let (read, kept) = value_within_parts (λ n. nat_lt n 8) (option_and_then natural_number (as_integer d)) tn e in grind (arith, nat_tests)
+-- the timeslots of a TRX are in their range
+tch_within : (first : Bool) (d : Data) (slots : List ℕ) → tch_of first d ≡ Ok slots → All (λ tn. ((tch_range first).least ≤ tn) × (tn ≤ (tch_range first).most)) slots
+unfolding tch_of
+tch_within first d slots e =
+    let Within : ℕ → Type 0 = λ tn. ((tch_range first).least ≤ tn) × (tn ≤ (tch_range first).most) in
+    bind_parts (All Within slots) (value_at key.Tch d) (λ value. array_of key.Tch value >>= (λ entries. first_nine (each (λ place. number_of key.Tch (tch_range first)) 0 entries))) slots e
+    (λ value there rest. bind_parts (All Within slots) (array_of key.Tch value) (λ entries. first_nine (each (λ place. number_of key.Tch (tch_range first)) 0 entries)) slots rest
+    (λ entries array nine. nine_parts Within (each (λ place. number_of key.Tch (tch_range first)) 0 entries) slots nine
+    (λ xs told. All-each (λ place. number_of key.Tch (tch_range first)) Within (λ n d' tn read. number_range key.Tch (tch_range first) d' tn read) 0 entries xs told)))
 
-trx_range : (d : Data) (trx : List ℕ) → trx_of d ≡ Some trx → All (λ tn. tn < 8) trx
-trx_range d trx e =
-    option_and_then_some (all_read timeslot_of) (array_at (codes "tch") d) trx e
-    (λ ds found told. All-all_read timeslot_of (λ tn. tn < 8) timeslot_range ds trx told)
+-- the timeslots of a TRX
+trx_slots : (bcch : ℕ) (first : Bool) (d : Data) (t : TrxView) → trx_of bcch first d ≡ Ok t
+    → All (λ tn. ((tch_range first).least ≤ tn) × (tn ≤ (tch_range first).most)) t.tch
+unfolding trx_of
+trx_slots bcch first d t e =
+    let Within : ℕ → Type 0 = λ tn. ((tch_range first).least ≤ tn) × (tn ≤ (tch_range first).most) in
+    bind_parts (All Within t.tch) (number_at key.Arfcn (arfcn_range bcch first) d) (λ arfcn. tch_of first d >>= (λ tch. Ok (record { arfcn = arfcn; tch = tch }))) t e
+    (λ arfcn read rest. bind_parts (All Within t.tch) (tch_of first d) (λ tch. Ok (record { arfcn = arfcn; tch = tch })) t rest
+    (λ tch told same. let is : record { arfcn = arfcn; tch = tch } ≡ t = cc in rw (← is) (tch_within first d tch told)))
 
-cell_limits : (d : Data) (cell : List (List ℕ)) → cell_of d ≡ Some cell → IsCell cell
-cell_limits d cell e =
-    let (read, kept) = value_within_parts keeps_cell_rules (option_and_then (all_read trx_of) (array_at (codes "trx") d)) cell e in
+most_seven : (first : Bool) → (tch_range first).most ≡ 7
+most_seven true = refl
+most_seven false = refl
+
+trx_range : (bcch : ℕ) (first : Bool) (d : Data) (t : TrxView) → trx_of bcch first d ≡ Ok t → All (λ tn. tn < 8) t.tch
+trx_range bcch first d t e =
+    let slots = trx_slots bcch first d t e in
+    let most = most_seven first in
+    λ i x within. let at = slots i x within in omega (arith, at.1, most)
+
+no_zero : (slots : List ℕ) → All (λ tn. (1 ≤ tn) × (tn ≤ 7)) slots → list_any (λ tn. tn == 0) slots ≡ false
+no_zero [] all = refl
+no_zero (tn ∷ slots) all =
+    let Within : ℕ → Type 0 = λ tn. (1 ≤ tn) × (tn ≤ 7) in
+    let here : Within tn = All-head Within tn slots all in
+    let other : (tn == 0) ≡ false = not_zero tn here.0 in
+    rw other (no_zero slots (All-tail Within tn slots all))
+  where
+    not_zero : (n : ℕ) → 1 ≤ n → (n == 0) ≡ false
+    not_zero n some = grind (arith, nat_tests)
+
+quiet : (first : Option TrxView) → IfSome first (λ t. list_any (λ tn. tn == 0) t.tch ≡ false)
+    → list_any (λ tn. tn == 0) (unwrap_or (option_map (λ t. t.tch) first) []) ≡ false
+quiet None silent = refl
+quiet (Some t) silent = silent
+
+-- what was read in the place of tables is as many as are allowed
+tables_count : (k : Key) (count : Allowed) (d : Data) (entries : List Data) → tables_of k count d ≡ Ok entries → (count.least ≤ length entries) × (length entries ≤ count.most)
+unfolding tables_of
+tables_count k count d entries e =
+    let Fits : List Data → Type 0 = λ ds. (count.least ≤ length ds) × (length ds ≤ count.most) in
+    bind_parts (Fits entries) (array_of k d) (λ ds. counted k count ds >>= (λ some. all_tables k some)) entries e
+    (λ ds array rest. bind_parts (Fits entries) (counted k count ds) (λ some. all_tables k some) entries rest
+    (λ some few tables.
+    let (same, fits) = passed (is_allowed count (length ds)) ds some (Range k) few in
+    let (whole, all) = passed (list_all is_table some) some entries (Range k) tables in
+    let (least, most) = and_parts (nat_le count.least (length ds)) (nat_le (length ds) count.most) fits in
+    let as_many : ds ≡ entries = same ∙ whole in
+    rw (← as_many) (grind (arith, nat_tests), grind (arith, nat_tests))))
+
+-- the TRX of a cell
+record IsTrxList (trx : List TrxView) : Type 0 where
+  some_trx : 1 ≤ length trx
+  few_trx : length trx ≤ 4
+  timeslot_range : All (λ t. All (λ tn. tn < 8) t.tch) trx
+  broadcast : IfSome (slice_get trx 0) (λ t. list_any (λ tn. tn == 0) t.tch ≡ false)
+
+trx_list : (bcch : ℕ) (d : Data) (trx : List TrxView) → all_trx_of bcch d ≡ Ok trx → IsTrxList trx
+unfolding all_trx_of
+trx_list bcch d trx e =
+    bind_parts (IsTrxList trx) (value_at key.Trx d) (λ value. tables_of key.Trx (record { least = 1; most = 4 }) value >>= (λ entries. each (λ place. trx_of bcch (place == 0)) 0 entries)) trx e
+    (λ value there rest. bind_parts (IsTrxList trx) (tables_of key.Trx (record { least = 1; most = 4 }) value) (λ entries. each (λ place. trx_of bcch (place == 0)) 0 entries) trx rest
+    (λ entries tables told.
+    let as_many = length-each (λ place. trx_of bcch (place == 0)) 0 entries trx told in
+    let (least, most) = tables_count key.Trx (record { least = 1; most = 4 }) value entries tables in
     record {
-      rules = kept;
-      timeslot_range = option_and_then_some (all_read trx_of) (array_at (codes "trx") d) cell read
-          (λ ds found told. All-all_read trx_of (λ trx. All (λ tn. tn < 8) trx) trx_range ds cell told);
-    }
+      some_trx = omega arith;
+      few_trx = omega arith;
+      timeslot_range = All-each (λ place. trx_of bcch (place == 0)) (λ t. All (λ tn. tn < 8) t.tch) (λ n d' t read. trx_range bcch (n == 0) d' t read) 0 entries trx told;
+      broadcast = first-each (λ place. trx_of bcch (place == 0)) (λ t. list_any (λ tn. tn == 0) t.tch ≡ false) 0 (λ d' t read. no_zero t.tch (trx_slots bcch true d' t read)) entries trx told;
+    }))
 
--- a document tells of no site beyond the limits
-pub site_limits : (d : Data) (site : SiteView) → site_of d ≡ Some site → IsSite site
+-- an own cell
+cell_limits : (d : Data) (c : CellView) → cell_of d ≡ Ok c → IsCell c
+unfolding cell_of
+cell_limits d c e =
+    bind_parts (IsCell c) (identity_of d) (λ identity. number_at key.Power (up_to 31) d >>= (λ power. ba_of d >>= (λ ba. all_trx_of identity.bcch d >>= (λ trx. Ok (record { identity = identity; power = power; ba = ba; trx = trx }))))) c e
+    (λ identity r1 e1. bind_parts (IsCell c) (number_at key.Power (up_to 31) d) (λ power. ba_of d >>= (λ ba. all_trx_of identity.bcch d >>= (λ trx. Ok (record { identity = identity; power = power; ba = ba; trx = trx })))) c e1
+    (λ power r2 e2. bind_parts (IsCell c) (ba_of d) (λ ba. all_trx_of identity.bcch d >>= (λ trx. Ok (record { identity = identity; power = power; ba = ba; trx = trx }))) c e2
+    (λ ba r3 e3. bind_parts (IsCell c) (all_trx_of identity.bcch d) (λ trx. Ok (record { identity = identity; power = power; ba = ba; trx = trx })) c e3
+    (λ trx r4 e4.
+    let is : record { identity = identity; power = power; ba = ba; trx = trx } ≡ c = cc in
+    let facts = trx_list identity.bcch d trx r4 in
+    rw (← is) (record { some_trx = facts.some_trx; few_trx = facts.few_trx; timeslot_range = facts.timeslot_range; broadcast = quiet (slice_get trx 0) facts.broadcast })))))
+
+record IsCellList (cells : List CellView) : Type 0 where
+  some_cells : 1 ≤ length cells
+  few_cells : length cells ≤ 64
+  each_cell : All IsCell cells
+
+cell_list : (d : Data) (cells : List CellView) → cells_of d ≡ Ok cells → IsCellList cells
+unfolding cells_of
+cell_list d cells e =
+    bind_parts (IsCellList cells) (value_at key.Cell d) (λ value. tables_of key.Cell (record { least = 1; most = 64 }) value >>= (λ entries. each (λ place. cell_of) 0 entries)) cells e
+    (λ value there rest. bind_parts (IsCellList cells) (tables_of key.Cell (record { least = 1; most = 64 }) value) (λ entries. each (λ place. cell_of) 0 entries) cells rest
+    (λ entries tables told.
+    let as_many = length-each (λ place. cell_of) 0 entries cells told in
+    let (least, most) = tables_count key.Cell (record { least = 1; most = 64 }) value entries tables in
+    record {
+      some_cells = omega arith;
+      few_cells = omega arith;
+      each_cell = All-each (λ place. cell_of) IsCell (λ n d' c read. cell_limits d' c read) 0 entries cells told;
+    }))
+
+outside_count : (o : Option Data) (cells : List CellIdentity) → outside_of o ≡ Ok cells → length cells ≤ 64
+unfolding outside_of
+outside_count None cells e = let is : [] ≡ cells = cc in rw (← is) (omega arith)
+outside_count (Some value) cells e =
+    bind_parts (length cells ≤ 64) (tables_of key.Outside (up_to 64) value) (λ entries. each (λ place. identity_of) 0 entries) cells e
+    (λ entries tables told.
+    let as_many = length-each (λ place. identity_of) 0 entries cells told in
+    let (least, most) = tables_count key.Outside (up_to 64) value entries tables in
+    omega arith)
+
+unbroken_parts : (site : SiteView) (broken : Option SiteFault) (y : SiteView) → unbroken site broken ≡ Ok y → (site ≡ y) × (broken ≡ None)
+unbroken_parts site None y e = (cc, refl)
+unbroken_parts site (Some fault) y e = absurd cc
+
+-- a document tells of no site beyond the limits, nor of one that breaks a rule
+pub site_limits : (d : Data) (site : SiteView) → site_of d ≡ Ok site → IsSite site
+unfolding site_of
 site_limits d site e =
-    let (read, kept) = value_within_parts keeps_site_rules (option_and_then (all_read cell_of) (array_at (codes "cell") d)) site e in
-    record {
-      rules = kept;
-      each_cell = option_and_then_some (all_read cell_of) (array_at (codes "cell") d) site read
-          (λ ds found told. All-all_read cell_of IsCell cell_limits ds site told);
-    }
-
-if_some : {A : Type 0} (b : Bool) (x : A) → is_some (if b then Some x else None) ≡ true → (if b then Some x else None) ≡ Some x
-if_some true x e = refl
-if_some false x e = absurd (false≢true e)
-
-whole_kept : (told : Option SiteView) (kept : SiteView) → IsTold told kept → is_some (value_within keeps_site_rules told) ≡ true → value_within keeps_site_rules told ≡ Some kept
-whole_kept None kept same e = absurd (false≢true e)
-whole_kept (Some site) kept same e = rw same (if_some (keeps_site_rules site) site e)
-
--- where a document tells of a site, a loop over its cells has kept that
-pub site_kept : (found : Option Items) (vs : List Value) (i : ℕ) (kept : SiteView) → IfSome found (λ ds. items_view vs ≡ ds) → length vs ≤ i
-    → IsTold (all_read cell_of (items_view (take i vs))) kept → is_some (value_within keeps_site_rules (option_and_then (all_read cell_of) found)) ≡ true
-    → value_within keeps_site_rules (option_and_then (all_read cell_of) found) ≡ Some kept
-site_kept None vs i kept same end told e = absurd (false≢true e)
-site_kept (Some ds) vs i kept same end told e =
-    whole_kept (all_read cell_of ds) kept (rw (← same, ← take_all i vs end) told) e
+    bind_parts (IsSite site) (handover_at d) (λ handover. cells_of d >>= (λ cells. outside_of (get (key_name key.Outside) d) >>= (λ outside. checked (record { handover = handover; cells = cells; outside = outside })))) site e
+    (λ handover r1 e1. bind_parts (IsSite site) (cells_of d) (λ cells. outside_of (get (key_name key.Outside) d) >>= (λ outside. checked (record { handover = handover; cells = cells; outside = outside }))) site e1
+    (λ cells r2 e2. bind_parts (IsSite site) (outside_of (get (key_name key.Outside) d)) (λ outside. checked (record { handover = handover; cells = cells; outside = outside })) site e2
+    (λ outside r3 e3.
+    let whole : SiteView = record { handover = handover; cells = cells; outside = outside } in
+    let (is, rules) = unbroken_parts whole (broken_rule whole) site e3 in
+    let own = cell_list d cells r2 in
+    rw (← is) (record {
+      within = record { some_cells = own.some_cells; few_cells = own.few_cells; few_outside = outside_count (get (key_name key.Outside) d) outside r3; each_cell = own.each_cell };
+      rules = rules;
+    }))))
 
 within_any : (slots : List ℕ) (tn : ℕ) → All (λ n. n < 8) slots → list_any (λ n. n == tn) slots ≡ true → tn < 8
 within_any [] tn limits named = absurd (false≢true named)
@@ -82,26 +188,23 @@ got P xs i x all at =
     let same : get_or xs i x ≡ x = same_Some (get_or xs i x) x (sym (slice_get-get_or xs i x within) ∙ at) in
     subst P same (all i x within)
 
-trx_traffic : (cell : List (List ℕ)) (trx tn : ℕ) (slots : Option (List ℕ)) → slice_get cell trx ≡ slots → IsCell cell
-    → list_any (λ n. n == tn) (unwrap_or slots []) ≡ true → (trx < 4) × (tn < 8)
+trx_traffic : (cell : CellView) (trx tn : ℕ) (found : Option TrxView) → slice_get cell.trx trx ≡ found → IsCell cell
+    → list_any (λ n. n == tn) (unwrap_or (option_map (λ t. t.tch) found) []) ≡ true → (trx < 4) × (tn < 8)
 trx_traffic cell trx tn None at limits named = absurd (false≢true named)
-trx_traffic cell trx tn (Some slots) at limits named =
-    let within = slice_get_within cell trx slots at in
-    let (count, silent) = and_parts (nat_le 1 (length cell) && nat_le (length cell) 4) (not (names_broadcast cell)) limits.rules in
-    let (least, few) = and_parts (nat_le 1 (length cell)) (nat_le (length cell) 4) count in
-    let most : length cell ≤ 4 = grind (arith, nat_tests) in
-    (omega arith, within_any slots tn (got (λ t. All (λ n. n < 8) t) cell trx slots limits.timeslot_range at) named)
+trx_traffic cell trx tn (Some t) at limits named =
+    let within = slice_get_within cell.trx trx t at in
+    let few = limits.few_trx in
+    (omega arith, within_any t.tch tn (got (λ t. All (λ n. n < 8) t.tch) cell.trx trx t limits.timeslot_range at) named)
 
-cell_traffic : (site : SiteView) (chan : ChanId) (cell : Option (List (List ℕ))) → slice_get site chan.cell ≡ cell → IsSite site
-    → list_any (λ n. n == chan.tn) (unwrap_or (option_and_then (λ found. slice_get found chan.trx) cell) []) ≡ true → IsWithinLimits chan
+cell_traffic : (site : SiteView) (chan : ChanId) (cell : Option CellView) → slice_get site.cells chan.cell ≡ cell → IsSite site
+    → list_any (λ n. n == chan.tn) (unwrap_or (option_map (λ t. t.tch) (option_and_then (λ c. slice_get c.trx chan.trx) cell)) []) ≡ true → IsWithinLimits chan
 cell_traffic site chan None at limits named = absurd (false≢true named)
 cell_traffic site chan (Some cell) at limits named =
-    let within = slice_get_within site chan.cell cell at in
-    let (least, few) = and_parts (nat_le 1 (length site)) (nat_le (length site) 64) limits.rules in
-    let most : length site ≤ 64 = grind (arith, nat_tests) in
-    let (trx, timeslot) = trx_traffic cell chan.trx chan.tn (slice_get cell chan.trx) refl (got IsCell site chan.cell cell limits.each_cell at) named in
+    let within = slice_get_within site.cells chan.cell cell at in
+    let few = limits.within.few_cells in
+    let (trx, timeslot) = trx_traffic cell chan.trx chan.tn (slice_get cell.trx chan.trx) refl (got IsCell site.cells chan.cell cell limits.within.each_cell at) named in
     record { cell = omega arith; trx = trx; timeslot = timeslot }
 
 -- a traffic channel of a site lies within the limits
 pub traffic_limits : (site : SiteView) (chan : ChanId) → IsSite site → is_traffic site chan ≡ true → IsWithinLimits chan
-traffic_limits site chan limits named = cell_traffic site chan (slice_get site chan.cell) refl limits named
+traffic_limits site chan limits named = cell_traffic site chan (slice_get site.cells chan.cell) refl limits named

@@ -1,2 +1,5 @@
+pub mod Views
+pub mod Rules
 pub mod Site
 pub mod SiteFile
+pub mod Reading

@@ -1,41 +1,90 @@
--- What a site is: the traffic channels of a controller's cells.
-use Rattle.std.specs.Prelude.{ℕ, ◌==◌, ◌<◌, ◌≡◌, Bool, true, nat_le, not, ◌&&◌, List, [], length, All, slice_get, option_and_then, unwrap_or}
-use Rattle.std.specs.List.{list_any}
+-- What a site is, and what is looked up in it.
+use Rattle.std.specs.Prelude.{ℕ, sum_by, count_by, ◌==◌, ◌<◌, ◌≤◌, ◌≡◌, ◌+◌, ◌-◌, ◌&&◌, Bool, false, nat_lt, if◌then◌else◌, List, [], length, take, All, Option, Some, None, slice_get, option_map, option_and_then, unwrap_or}
+use Rattle.std.specs.List.{list_any, position}
 use Rattle.channel_fsm.specs.declared.ChanId.{ChanId}
+use Rattle.cell_table.specs.declared.tables.CellIdentity.{CellIdentity}
+pub use Rattle.cell_table.specs.Views.{TrxView, CellView, SiteView, site_code}
+use Rattle.cell_table.specs.Rules.{broken_rule}
 
--- the traffic timeslots of each TRX of each cell, all in the site file's order
-abbrev pub SiteView : Type 0
-SiteView = List (List (List ℕ))
+-- the number of the first outside cell; own cells are numbered from 0
+abbrev pub first_outside : ℕ
+first_outside = 64
+
+-- a TRX of an own cell
+abbrev pub trx_at : SiteView → ℕ → ℕ → Option TrxView
+trx_at site cell trx = option_and_then (λ c. slice_get c.trx trx) (slice_get site.cells cell)
+
+-- what identifies a cell, own or outside
+abbrev pub identity_at : SiteView → ℕ → Option CellIdentity
+identity_at site cell =
+    if nat_lt cell first_outside then option_map (λ c. c.identity) (slice_get site.cells cell) else slice_get site.outside (cell - first_outside)
 
 -- the traffic timeslots of a TRX of a cell; one that the site doesn't have has none
 abbrev pub timeslots : SiteView → ℕ → ℕ → List ℕ
-timeslots site cell trx = unwrap_or (option_and_then (λ found. slice_get found trx) (slice_get site cell)) []
+timeslots site cell trx = unwrap_or (option_map (λ t. t.tch) (trx_at site cell trx)) []
 
 -- the site names the channel as a traffic channel
 abbrev pub is_traffic : SiteView → ChanId → Bool
 is_traffic site chan = list_any (λ tn. tn == chan.tn) (timeslots site chan.cell chan.trx)
 
+-- the cell has this location area code and cell identity (TS 23.003 clause 4.3)
+abbrev pub has_codes : ℕ → ℕ → CellIdentity → Bool
+has_codes lac ci c = (c.lac == lac) && (c.ci == ci)
+
+-- an own cell before an outside one
+abbrev pub own_or_outside : Option ℕ → Option ℕ → Option ℕ
+own_or_outside (Some cell) outside = Some cell
+own_or_outside None outside = option_map (λ place. first_outside + place) outside
+
+-- the own cell with these codes, or else the outside cell with them
+abbrev pub cell_of : SiteView → ℕ → ℕ → Option ℕ
+cell_of site lac ci = own_or_outside (position (λ c. has_codes lac ci c.identity) site.cells) (position (has_codes lac ci) site.outside)
+
+-- how many traffic channels a TRX and a cell have
+abbrev pub trx_size : TrxView → ℕ
+trx_size t = length t.tch
+
+abbrev pub cell_size : CellView → ℕ
+cell_size c = sum_by trx_size c.trx
+
+-- how many traffic timeslots of a TRX come before one
+abbrev pub slots_before : ℕ → TrxView → ℕ
+slots_before tn t = count_by (λ n. nat_lt n tn) t.tch
+
+-- how many traffic channels of a cell come before one, by TRX and timeslot
+abbrev pub before_in_cell : ChanId → CellView → ℕ
+before_in_cell chan c = sum_by trx_size (take chan.trx c.trx) + unwrap_or (option_map (slots_before chan.tn) (slice_get c.trx chan.trx)) 0
+
+-- how many traffic channels of the cells come before one, by cell, TRX and timeslot
+abbrev pub channels_before : List CellView → ChanId → ℕ
+channels_before cells chan = sum_by cell_size (take chan.cell cells) + unwrap_or (option_map (before_in_cell chan) (slice_get cells chan.cell)) 0
+
+-- the place of a traffic channel among those of the site: as many come before it
+abbrev pub index_of : SiteView → ChanId → Option ℕ
+index_of site chan = if is_traffic site chan then Some (channels_before site.cells chan) else None
+
 -- the first TRX names timeslot 0, which carries the cell's broadcast channels (TS 45.002 clause 7) and never traffic
-abbrev pub names_broadcast : List (List ℕ) → Bool
-names_broadcast cell = list_any (λ tn. tn == 0) (unwrap_or (slice_get cell 0) [])
+abbrev pub names_broadcast : CellView → Bool
+names_broadcast cell = list_any (λ tn. tn == 0) (unwrap_or (option_map (λ t. t.tch) (slice_get cell.trx 0)) [])
 
--- a cell has 1 to 4 TRX, and leaves the broadcast channel alone
-abbrev pub keeps_cell_rules : List (List ℕ) → Bool
-keeps_cell_rules cell = (nat_le 1 (length cell) && nat_le (length cell) 4) && not (names_broadcast cell)
+-- A cell has 1 to 4 TRX with timeslots 0 to 7 (TS 45.002 clause 4.3.2), and leaves the broadcast channel alone.
+pub record IsCell (cell : CellView) : Type 0 where
+  pub some_trx : 1 ≤ length cell.trx
+  pub few_trx : length cell.trx ≤ 4
+  pub timeslot_range : All (λ t. All (λ tn. tn < 8) t.tch) cell.trx
+  pub broadcast : names_broadcast cell ≡ false
 
--- a site has 1 to 64 cells
-abbrev pub keeps_site_rules : SiteView → Bool
-keeps_site_rules site = nat_le 1 (length site) && nat_le (length site) 64
+-- A site has 1 to 64 cells and at most 64 of others, and each of its cells is one.
+pub record IsWithin (site : SiteView) : Type 0 where
+  pub some_cells : 1 ≤ length site.cells
+  pub few_cells : length site.cells ≤ 64
+  pub few_outside : length site.outside ≤ 64
+  pub each_cell : All IsCell site.cells
 
--- A cell keeps its rules, and has timeslots 0 to 7 (TS 45.002 clause 4.3.2).
-pub record IsCell (cell : List (List ℕ)) : Type 0 where
-  pub rules : keeps_cell_rules cell ≡ true
-  pub timeslot_range : All (λ trx. All (λ tn. tn < 8) trx) cell
-
--- A site keeps its rules, and so does each of its cells.
+-- A site keeps the limits, and breaks no rule.
 pub record IsSite (site : SiteView) : Type 0 where
-  pub rules : keeps_site_rules site ≡ true
-  pub each_cell : All IsCell site
+  pub within : IsWithin site
+  pub rules : broken_rule site ≡ None
 
 -- Where every traffic channel of a site lies.
 pub record IsWithinLimits (chan : ChanId) : Type 0 where

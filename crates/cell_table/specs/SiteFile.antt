@@ -1,47 +1,231 @@
--- What a site file says, read off the TOML document that it is: [[cell]] has trx, and each of them tch.
-use Rattle.std.specs.Prelude.{ℕ, ℤ, pos, negsuc, nat_lt, Bool, if◌then◌else◌, Option, Some, None, option_map, option_and_then, List, [], ◌∷◌, codes}
-use Rattle.toml.specs.Data.{Data, Items, no_items, item, table, get, as_array, as_integer}
+-- What a site file says, read off the TOML document that it is: each check in its order, and the first that fails.
+use Rattle.std.specs.Prelude.{ℕ, suc, ◌==◌, ℤ, pos, negsuc, nat_le, Bool, true, false, ◌&&◌, if◌then◌else◌, Option, Some, None, option_map, option_and_then, ok_or, is_some, Result, Ok, Err, List, [], ◌∷◌, length, take, codes}
+use Rattle.std.specs.List.{list_all}
+use Rattle.std.specs.Result.{result_map_both}
+use Rattle.toml.specs.Data.{Data, Items, no_items, item, table, get, as_array, as_integer, as_table}
 use Rattle.toml.specs.Errors.{IsBlank}
 use Rattle.toml.specs.Parse.{parse_document}
-use Rattle.cell_table.specs.Site.{SiteView, keeps_cell_rules, keeps_site_rules}
+use Rattle.cell_table.specs.declared.fault.Key.{Key}
+use Rattle.cell_table.specs.declared.fault.Key.TheVariants as key
+use Rattle.cell_table.specs.declared.fault.SiteFault.{SiteFault}
+use Rattle.cell_table.specs.declared.fault.SiteFault.TheVariants.{Toml, Missing, Range}
+use Rattle.cell_table.specs.declared.tables.CellIdentity.{CellIdentity}
+use Rattle.cell_table.specs.declared.tables.HandoverRule.{HandoverRule}
+use Rattle.cell_table.specs.declared.tables.Allowed.{Allowed}
+use Rattle.cell_table.specs.Site.{TrxView, CellView, SiteView}
+use Rattle.cell_table.specs.Rules.{checked}
 
--- the values of an array, each as it is read; None where one of them can't be read
-abbrev pub all_read : {A : Type 0} → (Data → Option A) → Items → Option (List A)
-all_read read no_items = Some []
-all_read read (item d ds) = option_and_then (λ x. option_map (λ xs. x ∷ xs) (all_read read ds)) (read d)
+-- what is read, or the first check that fails
+abbrev pub Read : Type 0 → Type 0
+Read A = Result A SiteFault
 
--- what was read, where it keeps a rule
-abbrev pub value_within : {A : Type 0} → (A → Bool) → Option A → Option A
-value_within rule o = option_and_then (λ x. if rule x then Some x else None) o
+infixl 10 ◌>>=◌
+-- the next check comes once those before have passed
+abbrev pub ◌>>=◌ : {A B : Type 0} → Read A → (A → Read B) → Read B
+(Ok x) >>= f = f x
+(Err e) >>= f = Err e
 
--- the array at a key of a table
-abbrev pub array_at : List ℕ → Data → Option Items
-array_at key d = option_and_then as_array (get key d)
+-- the key as it stands in the file
+abbrev pub key_name : Key → List ℕ
+key_name key.Handover = codes "handover"
+key_name key.Window = codes "window"
+key_name key.Margin = codes "margin"
+key_name key.Minimum = codes "minimum"
+key_name key.Cell = codes "cell"
+key_name key.Lac = codes "lac"
+key_name key.Ci = codes "ci"
+key_name key.Bcch = codes "bcch"
+key_name key.Ncc = codes "ncc"
+key_name key.Bcc = codes "bcc"
+key_name key.Power = codes "power"
+key_name key.Ba = codes "ba"
+key_name key.Trx = codes "trx"
+key_name key.Arfcn = codes "arfcn"
+key_name key.Tch = codes "tch"
+key_name key.Outside = codes "outside"
+
+-- the value at a key, which has to be there
+abbrev pub value_at : Key → Data → Read Data
+value_at key d = ok_or (get (key_name key) d) (Missing key)
+
+-- from 0 to a number
+abbrev pub up_to : ℕ → Allowed
+up_to most = record { least = 0; most = most }
+
+-- the number is one of those allowed
+abbrev pub is_allowed : Allowed → ℕ → Bool
+is_allowed allowed n = nat_le allowed.least n && nat_le n allowed.most
 
 -- a natural number
 abbrev pub natural_number : ℤ → Option ℕ
 natural_number (pos n) = Some n
 natural_number (negsuc n) = None
 
--- a timeslot is an integer from 0 to 7
-abbrev pub timeslot_of : Data → Option ℕ
-timeslot_of d = value_within (λ tn. nat_lt tn 8) (option_and_then natural_number (as_integer d))
+-- what is there, where it passes a test
+abbrev pub where_passes : {A : Type 0} → (A → Bool) → Option A → Option A
+where_passes test o = option_and_then (λ x. if test x then Some x else None) o
 
--- a TRX has `tch`, an array of timeslots
-abbrev pub trx_of : Data → Option (List ℕ)
-trx_of d = option_and_then (all_read timeslot_of) (array_at (codes "tch") d)
+-- the integer that a value is, where it is allowed
+abbrev pub allowed_number : Allowed → Data → Option ℕ
+allowed_number allowed d = where_passes (is_allowed allowed) (option_and_then natural_number (as_integer d))
 
--- a cell has `trx`, an array of TRX that keeps the rules of a cell
-abbrev pub cell_of : Data → Option (List (List ℕ))
-cell_of d = value_within keeps_cell_rules (option_and_then (all_read trx_of) (array_at (codes "trx") d))
+-- the value of a key, or an entry of it, is an integer within the range of the key
+abbrev pub number_of : Key → Allowed → Data → Read ℕ
+number_of key allowed d = ok_or (allowed_number allowed d) (Range key)
 
--- a document has `cell`, an array of cells that keeps the rules of a site
-abbrev pub site_of : Data → Option SiteView
-site_of d = value_within keeps_site_rules (option_and_then (all_read cell_of) (array_at (codes "cell") d))
+-- the number at a key
+unfoldable pub number_at : Key → Allowed → Data → Read ℕ
+number_at key allowed d = do
+  value ← value_at key d
+  number_of key allowed value
 
--- the site that a text describes, if it is TOML and describes one
+-- the entries of an array
+abbrev pub entries_of : Items → List Data
+entries_of no_items = []
+entries_of (item d ds) = d ∷ entries_of ds
+
+-- the value of a key is an array
+abbrev pub array_of : Key → Data → Read (List Data)
+array_of key d = ok_or (option_map entries_of (as_array d)) (Range key)
+
+-- a value is a table
+abbrev pub is_table : Data → Bool
+is_table d = is_some (as_table d)
+
+-- so many entries are allowed
+abbrev pub counted : Key → Allowed → List Data → Read (List Data)
+counted key count entries = if is_allowed count (length entries) then Ok entries else Err (Range key)
+
+-- each entry is a table
+abbrev pub all_tables : Key → List Data → Read (List Data)
+all_tables key entries = if list_all is_table entries then Ok entries else Err (Range key)
+
+-- the value of a key is an array of tables, as many as are allowed
+unfoldable pub tables_of : Key → Allowed → Data → Read (List Data)
+tables_of key count d = do
+  entries ← array_of key d
+  entries ← counted key count entries
+  all_tables key entries
+
+-- each entry as it is read at its place; the first check that fails, entry by entry
+abbrev pub each : {A : Type 0} → (ℕ → Data → Read A) → ℕ → List Data → Read (List A)
+each read place [] = Ok []
+each read place (d ∷ ds) = do
+  x ← read place d
+  xs ← each read (suc place) ds
+  Ok (x ∷ xs)
+
+-- the table at `handover`: when a neighbour is a candidate
+unfoldable pub handover_of : Data → Read HandoverRule
+handover_of d = do
+  window ← number_at key.Window (record { least = 1; most = 32 }) d
+  margin ← number_at key.Margin (up_to 63) d
+  minimum ← number_at key.Minimum (up_to 63) d
+  Ok (record { window = window; margin = margin; minimum = minimum })
+
+-- What every cell has: location area code and cell identity (TS 23.003 clause 4.3), and its colour: BCCH carrier,
+-- network and base station colour code (TS 23.003 clause 4.3.2).
+unfoldable pub identity_of : Data → Read CellIdentity
+identity_of d = do
+  lac ← number_at key.Lac (up_to 65535) d
+  ci ← number_at key.Ci (up_to 65535) d
+  bcch ← number_at key.Bcch (up_to 1023) d
+  ncc ← number_at key.Ncc (up_to 7) d
+  bcc ← number_at key.Bcc (up_to 7) d
+  Ok (record { lac = lac; ci = ci; bcch = bcch; ncc = ncc; bcc = bcc })
+
+-- the BA list: at most 32 carriers
+unfoldable pub ba_of : Data → Read (List ℕ)
+ba_of d = do
+  value ← value_at key.Ba d
+  entries ← array_of key.Ba value
+  carriers ← counted key.Ba (up_to 32) entries
+  each (λ place. number_of key.Ba (up_to 1023)) 0 carriers
+
+-- the carrier of a TRX; the first has the cell's BCCH carrier
+abbrev pub arfcn_range : ℕ → Bool → Allowed
+arfcn_range bcch true = record { least = bcch; most = bcch }
+arfcn_range bcch false = up_to 1023
+
+-- a timeslot; timeslot 0 of the first TRX carries the cell's broadcast channels (TS 45.002 clause 7) and never traffic
+abbrev pub tch_range : Bool → Allowed
+tch_range true = record { least = 1; most = 7 }
+tch_range false = up_to 7
+
+-- the first nine of what is read
+abbrev pub first_nine : Read (List ℕ) → Read (List ℕ)
+first_nine slots = result_map_both (λ found. take 9 found) (λ fault. fault) slots
+
+-- The traffic timeslots of a TRX. Of nine there are always two that are the same, so what comes after the ninth has to
+-- be a timeslot and is not kept.
+unfoldable pub tch_of : Bool → Data → Read (List ℕ)
+tch_of first d = do
+  value ← value_at key.Tch d
+  entries ← array_of key.Tch value
+  first_nine (each (λ place. number_of key.Tch (tch_range first)) 0 entries)
+
+-- a TRX of a cell, the first or another
+unfoldable pub trx_of : ℕ → Bool → Data → Read TrxView
+trx_of bcch first d = do
+  arfcn ← number_at key.Arfcn (arfcn_range bcch first) d
+  tch ← tch_of first d
+  Ok (record { arfcn = arfcn; tch = tch })
+
+-- the TRX of a cell: 1 to 4
+unfoldable pub all_trx_of : ℕ → Data → Read (List TrxView)
+all_trx_of bcch d = do
+  value ← value_at key.Trx d
+  entries ← tables_of key.Trx (record { least = 1; most = 4 }) value
+  each (λ place. trx_of bcch (place == 0)) 0 entries
+
+-- an own cell
+unfoldable pub cell_of : Data → Read CellView
+cell_of d = do
+  identity ← identity_of d
+  power ← number_at key.Power (up_to 31) d
+  ba ← ba_of d
+  trx ← all_trx_of identity.bcch d
+  Ok (record { identity = identity; power = power; ba = ba; trx = trx })
+
+-- the own cells: 1 to 64
+unfoldable pub cells_of : Data → Read (List CellView)
+cells_of d = do
+  value ← value_at key.Cell d
+  entries ← tables_of key.Cell (record { least = 1; most = 64 }) value
+  each (λ place. cell_of) 0 entries
+
+-- the cells of others: at most 64; the key may be absent
+unfoldable pub outside_of : Option Data → Read (List CellIdentity)
+outside_of None = Ok []
+outside_of (Some value) = do
+  entries ← tables_of key.Outside (up_to 64) value
+  each (λ place. identity_of) 0 entries
+
+-- the table at `handover` has to be there
+unfoldable pub handover_at : Data → Read HandoverRule
+handover_at d = do
+  value ← value_at key.Handover d
+  if is_table value then handover_of value else Err (Range key.Handover)
+
+-- all keys of a document, and then what holds of several of them
+unfoldable pub site_of : Data → Read SiteView
+site_of d = do
+  handover ← handover_at d
+  cells ← cells_of d
+  outside ← outside_of (get (key_name key.Outside) d)
+  checked (record { handover = handover; cells = cells; outside = outside })
+
+-- what a site file says: the site, or the first check that fails
+abbrev pub read_site : List ℕ → Read SiteView
+read_site text = ok_or (parse_document text) Toml >>= (λ document. site_of (table document))
+
+-- the site that a text describes, if it describes one
+abbrev pub read_value : {A : Type 0} → Read A → Option A
+read_value (Ok x) = Some x
+read_value (Err fault) = None
+
 abbrev pub described_site : List ℕ → Option SiteView
-described_site text = option_and_then (λ document. site_of (table document)) (parse_document text)
+described_site text = read_value (read_site text)
 
 -- the text has only white space and comments: a document without keys
 abbrev pub IsBlankFile : List ℕ → Type 0

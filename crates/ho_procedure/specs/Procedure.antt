@@ -108,7 +108,7 @@ start_plan c cell = Takes c kind.Internal cell (λ x. if_done (start_taken c x))
 
 -- An operator asks for a handover. Nothing is done about a cell that the site lacks.
 abbrev pub handover_plan : SiteView → ℕ → ℕ → Plan
-handover_plan site c cell = if nat_lt cell (length site) then start_plan c cell else Ends
+handover_plan site c cell = if nat_lt cell (length site.cells) then start_plan c cell else Ends
 
 -- An operator takes an attempt back: its target is released where it was switched on.
 abbrev pub undo_plan : ℕ → Plan

@@ -19,10 +19,28 @@ use std::sync::Arc;
 use std::test::Fail;
 
 // Cell 0 has timeslots 2 and 3 of TRX 0 and fourteen channels more, cell 1 has timeslot 3 of TRX 1.
-const SITE: &str = "[[cell]]
-trx = [{ tch = [2, 3] }, { tch = [1, 2, 3, 4, 5, 6, 7] }, { tch = [1, 2, 3, 4, 5, 6, 7] }]
+const SITE: &str = "[handover]
+window = 2
+margin = 3
+minimum = 10
 [[cell]]
-trx = [{ tch = [] }, { tch = [3] }]
+lac = 23
+ci = 100
+bcch = 60
+ncc = 1
+bcc = 1
+power = 5
+ba = [871]
+trx = [{ arfcn = 60, tch = [2, 3] }, { arfcn = 61, tch = [1, 2, 3, 4, 5, 6, 7] }, { arfcn = 62, tch = [1, 2, 3, 4, 5, 6, 7] }]
+[[cell]]
+lac = 23
+ci = 101
+bcch = 871
+ncc = 2
+bcc = 5
+power = 5
+ba = [60]
+trx = [{ arfcn = 871, tch = [] }, { arfcn = 875, tch = [3] }]
 ";
 
 const FIRST: ChanId = ChanId {

@@ -3,6 +3,7 @@ ghost use Rattle.std.specs.Prelude.{◌≡◌, ◌<◌, ◌≤◌, length, strin
 ghost use Rattle.lab.specs.Files.{longest_file};
 
 use crate::run::{LabFault, Status, lab_run};
+use crate::site_reason::say_reason;
 use std::alloc::Allocator;
 use std::fs::File;
 use std::io::{self, Read, Write};
@@ -53,19 +54,25 @@ fn text_of<R: Files + AllocGlobal, W: Write>(
 /// Runs the script of one file over the site of another, and prints the trace to `out`, as [`lab_run`] does of texts.
 ///
 /// The site's file is read first. Where a file isn't there, can't be read, isn't UTF-8 or has more than
-/// [`LONGEST_FILE`] octets, `file` and its path are printed and nothing else, and the answer is `Refused`.
-pub fn run_files<R: Files + AllocGlobal, W: Write>(
+/// [`LONGEST_FILE`] octets, `file` and its path are printed and nothing else, and the answer is `Refused`. Where the
+/// site is refused, one line on `errors` says where in its file, and what is allowed there.
+pub fn run_files<R: Files + AllocGlobal, W: Write, E: Write>(
     rt: &R,
     site: &str,
     script: &str,
     out: &mut W,
+    errors: &mut E,
 ) -> Result<Status, LabFault> {
     let alloc = rt.alloc();
-    let Some(site) = text_of(rt, site, out)? else {
+    let Some(site_text) = text_of(rt, site, out)? else {
         return Ok(Status::Refused);
     };
-    let Some(script) = text_of(rt, script, out)? else {
+    let Some(script_text) = text_of(rt, script, out)? else {
         return Ok(Status::Refused);
     };
-    lab_run(alloc, alloc, &site, &script, out)
+    let status = lab_run(alloc, alloc, &site_text, &script_text, out)?;
+    if status == Status::Refused {
+        say_reason(alloc, site, &site_text, errors)?;
+    }
+    Ok(status)
 }

@@ -7,6 +7,7 @@ pub mod decoded;
 pub mod files;
 pub mod program;
 pub mod run;
+mod site_reason;
 pub mod words;
 
 pub use ho_procedure::{exchange, procedure};

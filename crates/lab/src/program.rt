@@ -8,7 +8,7 @@ use std::rt::Files;
 
 /// Does what the words of a command line ask for, those after the program's own name: runs a script over a site
 /// ([`run_files`]), prints a message in words ([`decode_run`]), or shows help or the version. What it prints goes to
-/// `out`; why words are refused goes to `errors`.
+/// `out`; why words or a site are refused goes to `errors`.
 ///
 /// No clause says what is printed, nor which words end how: that is shown by tests.
 pub fn perform<R: Files + AllocGlobal, W: Write, E: Write>(
@@ -18,7 +18,7 @@ pub fn perform<R: Files + AllocGlobal, W: Write, E: Write>(
     errors: &mut E,
 ) -> Result<Status, LabFault> {
     match read_words(rt.alloc(), words) {
-        Ok(Job::Run { site, script }) => run_files(rt, site, script, out),
+        Ok(Job::Run { site, script }) => run_files(rt, site, script, out, errors),
         Ok(Job::Decode { link, text }) => decode_run(rt.alloc(), link, text, out),
         Ok(Job::Show(text)) => {
             write!(out, "{text}")?;

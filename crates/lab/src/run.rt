@@ -159,26 +159,30 @@ fn run_script<A: Allocator + Copy, W: Write>(
     }
 }
 
-/// Says that there is no site to run over.
+/// Says why there is no site to run over: the number of the fault and what it is of.
 fn refuse_site<W: Write>(fault: SiteFault, out: &mut W) -> Result<Status, LabFault>
     ensures done { result ≢ Ok Status.Done }
-    ensures refused { result ≡ Ok Status.Refused → fault ≡ SiteFault.Toml }
+    ensures refused { result ≡ Ok Status.Refused → fault ≢ SiteFault.NoMemory }
     ensures memory { result ≡ Err LabFault.NoMemory → fault ≡ SiteFault.NoMemory }
 {
     match fault {
-        SiteFault::Toml => {
-            writeln!(out, "site 1")?;
-            Ok(Status::Refused)
-        }
-        SiteFault::NoMemory => Err(LabFault::NoMemory),
+        SiteFault::Toml => writeln!(out, "site 1")?,
+        SiteFault::Missing(key) => writeln!(out, "site 2 {key}")?,
+        SiteFault::Range(key) => writeln!(out, "site 3 {key}")?,
+        SiteFault::Twice(what) => writeln!(out, "site 4 {what}")?,
+        SiteFault::NoTraffic(cell) => writeln!(out, "site 5 {cell}")?,
+        SiteFault::NoMemory => return Err(LabFault::NoMemory),
     }
+    Ok(Status::Refused)
 }
 
 /// Runs a script over a site, both given as texts, and prints the trace to `out`.
 ///
-/// The site is read first, then all lines of the script. A text that describes no site prints `site 1`, a script
-/// prints `line` and the number of its first line that can't be read, counted from 1; then nothing else is printed
-/// and the answer is `Refused`. `scratch` serves while the site is read, `alloc` for all else. Once memory was
+/// The site is read first, then all lines of the script. A text that describes no site prints one line: `site 1` where
+/// it isn't TOML, `site 2` and the key where a key is missing, `site 3` and the key where a value is of another kind or
+/// out of its range, `site 4` and the kind where something stands twice, `site 5` and the cell where it has no traffic
+/// channel. A script prints `line` and the number of its first line that can't be read, counted from 1. Then nothing
+/// else is printed and the answer is `Refused`. `scratch` serves while the site is read, `alloc` for all else. Once memory was
 /// refused nothing more is printed; a site of white space and comments alone is refused without any.
 pub fn lab_run<A: Allocator + Copy, W: Write>(
     alloc: A,

@@ -1,5 +1,5 @@
 -- Which channels a choice finds, and how many it counts.
-use Rattle.std.proofs.Common.{◌≡◌, ◌==◌, IfSome, IfNone, ℕ, ◌+◌, ◌*◌, lit≤, ◌<◌, ◌≤◌, ◌/◌, ◌%◌, Bool, true, false, cond, List, [], ◌∷◌, length, get_or, take, drop, map as map_list, count_by, Option, Some, None, slice_get, option_and_then, unwrap_or, refl, sym, ap, ◌∙◌, subst, zero-add, arith}
+use Rattle.std.proofs.Common.{◌≡◌, ◌==◌, IfSome, IfNone, ℕ, ◌+◌, ◌*◌, lit≤, ◌<◌, ◌≤◌, ◌/◌, ◌%◌, Bool, true, false, cond, List, [], ◌∷◌, length, get_or, take, drop, map as map_list, count_by, Option, Some, None, slice_get, option_map, option_and_then, unwrap_or, refl, sym, ap, ◌∙◌, subst, zero-add, arith}
 use Rattle.std.specs.List.{find, list_any, range_with_len}
 use Rattle.std.specs.Int.{from_bool}
 use Rattle.std.proofs.lemmas.List.{at_drop_more, drop_all, take_all}
@@ -128,10 +128,10 @@ none_free b cell site e x free =
     cc
 
 -- a cell that the site doesn't have has no channel
-pub no_cell : (b : State) (cell : ℕ) → length b.site ≤ cell → NoneFree b cell
+pub no_cell : (b : State) (cell : ℕ) → length b.site.cells ≤ cell → NoneFree b cell
 no_cell b cell h x free =
-    let absent = slice_get_past b.site x.cell (subst (λ k. length b.site ≤ k) (sym free.in_cell) h) in
-    let none : is_traffic b.site x ≡ false = ap (λ o. list_any (λ tn. tn == x.tn) (unwrap_or (option_and_then (λ found. slice_get found x.trx) o) [])) absent in
+    let absent = slice_get_past b.site.cells x.cell (subst (λ k. length b.site.cells ≤ k) (sym free.in_cell) h) in
+    let none : is_traffic b.site x ≡ false = ap (λ o. list_any (λ tn. tn == x.tn) (unwrap_or (option_map (λ t. t.tch) (option_and_then (λ found. slice_get found.trx x.trx) o)) [])) absent in
     let traffic = free.is_traffic in
     cc
 

@@ -2,7 +2,7 @@
 -- 3.1.5) and the activation and release of channels (TS 48.058 clause 4).
 use Rattle.std.specs.Prelude.{ℕ, Option, Some, None, refl}
 use Rattle.std.specs.Ordering.{nat_cmp}
-use Rattle.std.specs.Coded.{Coded, code_by, coded×, coded_ℕ, coded_list}
+use Rattle.std.specs.Coded.{Coded, code_by, coded×, coded_ℕ}
 use Rattle.std.specs.FinMap as map
 use Rattle.channel_fsm.specs.declared.ChanId.{ChanId}
 use Rattle.channel_fsm.specs.declared.ChanState.{ChanState}
@@ -13,7 +13,7 @@ use Rattle.radio_book.specs.declared.event.Timer.{Timer}
 use Rattle.channel_fsm.specs.contracts.ChanState.{the_row as state_row}
 use Rattle.radio_book.specs.contracts.event.CallRecord.{the_row as record_row}
 use Rattle.radio_book.specs.contracts.event.Timer.{the_row as timer_row}
-use Rattle.cell_table.specs.Site.{SiteView}
+use Rattle.cell_table.specs.Site.{SiteView, site_code}
 use Rattle.radio_book.specs.Keys.{chan_cmp, reference_cmp, coded_chan, coded_reference}
 use Rattle.radio_book.specs.Maps.{Entry, with_change}
 
@@ -33,7 +33,7 @@ state_code =
     code_by
     (SiteView ×
     (map.FinMap chan_cmp ChanState × (map.FinMap nat_cmp CallRecord × (map.FinMap reference_cmp ℕ × map.FinMap nat_cmp Timer))))
-    (coded× (coded_list (coded_list (coded_list coded_ℕ)))
+    (coded× site_code
     (coded× (map.code coded_chan state_row.coded)
     (coded× (map.code coded_ℕ record_row.coded) (coded× (map.code coded_reference coded_ℕ) (map.code coded_ℕ timer_row.coded)))))
     (λ b. (b.site, (b.channels, (b.calls, (b.references, b.timers)))))

@@ -18,7 +18,7 @@ const REFUSED: &[(&str, &str, &str)] = &[
     ("/dev/null", "no such file", "file no such file\n"),
     ("/dev/null", "/", "file /\n"),
     ("/dev/null", "/proc/self/exe", "file /proc/self/exe\n"),
-    ("/dev/null", "/dev/null", "site 1\n"),
+    ("/dev/null", "/dev/null", "site 2 handover\n"),
 ];
 
 /// Asserts how a run over two files ends, and what it prints.
@@ -30,7 +30,8 @@ fn run_ends(
     text: &str,
 ) -> Result<(), Fail> {
     let mut out = Vec::new(rt.alloc());
-    let ended = run_files(rt, site, script, &mut out);
+    let mut errors = Vec::new(rt.alloc());
+    let ended = run_files(rt, site, script, &mut out, &mut errors);
     assert_eq!(rt;
         (ended, str::from_utf8(&out)?),
         (Ok(wanted), text),

@@ -29,7 +29,12 @@ const LINES: &[(&[&str], u8, &str, &str)] = &[
     (&["decode", "rr", "06ff"], 2, "fault rr 2 255\n", ""),
     (&["decode", "abis", "0g"], 2, "hex\n", ""),
     (&["run", "no site", "no script"], 2, "file no site\n", ""),
-    (&["run", "/dev/null", "/dev/null"], 2, "site 1\n", ""),
+    (
+        &["run", "/dev/null", "/dev/null"],
+        2,
+        "site 2 handover\n",
+        "/dev/null: handover is missing\n",
+    ),
     (&["--version"], 0, "bsc_lab 0.1\n", ""),
     (&["runn"], 2, "", "runn"),
     (&[], 2, "", "subcommand"),

@@ -7,14 +7,56 @@ use std::process::Abort;
 use std::str;
 use std::test::Fail;
 
+/// A site file without cells.
+const NO_CELL: &str = "[handover]\nwindow = 2\nmargin = 3\nminimum = 10\n";
+
+/// Two cells with one location area code and cell identity.
+const CODES_TWICE: &str = "[handover]
+window = 2
+margin = 3
+minimum = 10
+[[cell]]
+lac = 23
+ci = 100
+bcch = 60
+ncc = 1
+bcc = 1
+power = 5
+ba = []
+trx = [{ arfcn = 60, tch = [2] }]
+[[outside]]
+lac = 23
+ci = 100
+bcch = 62
+ncc = 3
+bcc = 0
+";
+
+/// A cell without a traffic channel.
+const NO_TRAFFIC: &str = "[handover]
+window = 2
+margin = 3
+minimum = 10
+[[cell]]
+lac = 23
+ci = 100
+bcch = 60
+ncc = 1
+bcc = 1
+power = 5
+ba = []
+trx = [{ arfcn = 60, tch = [] }]
+";
+
 /// A site, a script, and the one line by which they are refused.
 const REFUSALS: &[(&str, &str, &str)] = &[
     // the site is looked at before the script
-    ("", "no line", "site 1\n"),
+    ("", "no line", "site 2 handover\n"),
     ("[", "no line", "site 1\n"),
-    ("cell = 3", "no line", "site 1\n"),
-    ("[[cell]]\n", "no line", "site 1\n"),
-    ("[[cell]]\ntrx = [{ tch = [0] }]\n", "no line", "site 1\n"),
+    ("handover = 3", "no line", "site 3 handover\n"),
+    (NO_CELL, "no line", "site 2 cell\n"),
+    (CODES_TWICE, "no line", "site 4 identity\n"),
+    (NO_TRAFFIC, "no line", "site 5 0\n"),
     (SITE, "expire 1 T7", "line 1\n"),
     // nothing runs before all lines are read
     (
@@ -27,7 +69,11 @@ const REFUSALS: &[(&str, &str, &str)] = &[
 /// A site, a script with what they print, and in how many writes at least.
 const WRITES: &[(&str, (&str, &str), u64)] = &[
     (SITE, ONE_CALL, 13),
-    ("", ("", "site 1\n"), 1),
+    ("", ("", "site 2 handover\n"), 1),
+    ("[", ("", "site 1\n"), 1),
+    ("handover = 3", ("", "site 3 handover\n"), 1),
+    (CODES_TWICE, ("", "site 4 identity\n"), 1),
+    (NO_TRAFFIC, ("", "site 5 0\n"), 1),
     (SITE, ("undo", "line 1\n"), 1),
     (
         SITE,

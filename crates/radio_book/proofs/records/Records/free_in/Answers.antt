@@ -6,15 +6,15 @@ use Rattle.radio_book.proofs.records.Records.free_in.Goals as goal
 pub returns-then-cell-cells-clause-count : goal.returns-then-cell-cells-clause-count
 returns-then-cell-cells-clause-count g c =
     let b = c.args.self.now in
-    let cells = ap length (c.deref.ensures ∙ ap (λ b. b.site) c.self.view_is) in
-    let absent : length b.site ≤ c.args.cell = omega (arith, c.cells.ensures.value, c.if-cell-cells.true, cells) in
+    let cells = ap (λ s. length s.cells) (c.deref.ensures ∙ ap (λ b. b.site) c.self.view_is) in
+    let absent : length b.site.cells ≤ c.args.cell = omega (arith, c.cells.ensures.value, c.if-cell-cells.true, cells) in
     sym (count_from_none b c.args.cell (no_cell b c.args.cell absent))
 
 pub returns-then-cell-cells-clause-none : goal.returns-then-cell-cells-clause-none
 returns-then-cell-cells-clause-none g c =
     let b = c.args.self.now in
-    let cells = ap length (c.deref.ensures ∙ ap (λ b. b.site) c.self.view_is) in
-    let absent : length b.site ≤ c.args.cell = omega (arith, c.cells.ensures.value, c.if-cell-cells.true, cells) in
+    let cells = ap (λ s. length s.cells) (c.deref.ensures ∙ ap (λ b. b.site) c.self.view_is) in
+    let absent : length b.site.cells ≤ c.args.cell = omega (arith, c.cells.ensures.value, c.if-cell-cells.true, cells) in
     (λ e. no_cell b c.args.cell absent, λ none. omega arith)
 
 pub returns-clause-none : goal.returns-clause-none

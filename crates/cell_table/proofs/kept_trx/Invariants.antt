@@ -1,8 +1,0 @@
-use Rattle.std.proofs.Common.{take}
-use Rattle.toml.specs.View.{items_view}
-use Rattle.cell_table.specs.SiteFile.{all_read, timeslot_of}
-use Rattle.cell_table.proofs.Told.{IsTold}
-use Rattle.cell_table.proofs.kept_trx.Given as goal
-
-abbrev pub invariant-loop-each : goal.invariant-loop-each
-invariant-loop-each g l = IsTold (all_read timeslot_of (items_view (take l.each-index l.told))) l.timeslots.items

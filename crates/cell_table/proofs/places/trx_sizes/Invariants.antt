@@ -1,0 +1,6 @@
+use Rattle.std.proofs.Common.{◌≡◌, ◌≤◌, ◌*◌, sum_by, take}
+use Rattle.cell_table.specs.Site.{trx_size}
+use Rattle.cell_table.proofs.places.trx_sizes.Given as goal
+
+abbrev pub invariant-loop-each : goal.invariant-loop-each
+invariant-loop-each l = record { sum : l.sum ≡ sum_by trx_size (take l.each-index l.trx); most : l.sum ≤ 9 * l.each-index }

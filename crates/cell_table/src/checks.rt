@@ -1,0 +1,173 @@
+//! What has to hold of the cells of a site together.
+ghost use Rattle.std.specs.Prelude.{◌≡◌, ◌==◌, ◌≤◌, ◌++◌, length, map};
+ghost use Rattle.std.specs.List.{list_any, list_all, position};
+ghost use Rattle.cell_table.specs.Rules.{has_twice, same_codes, same_colour, identities, has_carrier_twice, has_slot_twice, has_neighbour_twice, has_no_traffic, broken_rule};
+
+use crate::fault::{SiteFault, What};
+use crate::tables::{Cell, CellIdentity, Tables, Trx};
+use arrayvec::ArrayVec;
+
+/// Whether a cell has the location area code and cell identity of another.
+fn have_codes(cells: &[CellIdentity], of: CellIdentity) -> bool
+    ensures value { result ≡ list_any (same_codes of) cells.now }
+{
+    cells
+        .iter()
+        .any(|other| of.lac == other.lac && of.ci == other.ci)
+}
+
+/// Whether two cells have one location area code and cell identity.
+fn have_codes_twice(cells: &[CellIdentity]) -> bool
+    ensures value { result ≡ has_twice same_codes cells.now }
+{
+    match cells {
+        [first, rest @ ..] => have_codes(rest, *first) || have_codes_twice(rest),
+        [] => false,
+    }
+}
+
+/// Whether a cell has the BCCH carrier, network colour code and base station colour code of another.
+fn have_colour(cells: &[CellIdentity], of: CellIdentity) -> bool
+    ensures value { result ≡ list_any (same_colour of) cells.now }
+{
+    cells.iter().any(|other| of.bcch == other.bcch && of.ncc == other.ncc && of.bcc == other.bcc)
+}
+
+/// Whether two cells have one BCCH carrier, network colour code and base station colour code.
+fn have_colour_twice(cells: &[CellIdentity]) -> bool
+    ensures value { result ≡ has_twice same_colour cells.now }
+{
+    match cells {
+        [first, rest @ ..] => have_colour(rest, *first) || have_colour_twice(rest),
+        [] => false,
+    }
+}
+
+/// Whether a TRX has a carrier.
+fn have_carrier(trx: &[Trx], arfcn: u16) -> bool
+    ensures value { result ≡ list_any (λ t. t.arfcn == arfcn) trx.now }
+{
+    trx.iter().any(|other| other.arfcn == arfcn)
+}
+
+/// Whether two TRX have one carrier.
+fn have_carrier_twice(trx: &[Trx]) -> bool
+    ensures value { result ≡ has_twice (λ s t. t.arfcn == s.arfcn) trx.now }
+{
+    match trx {
+        [first, rest @ ..] => have_carrier(rest, first.arfcn) || have_carrier_twice(rest),
+        [] => false,
+    }
+}
+
+/// Whether a timeslot stands twice.
+fn have_slot_twice(slots: &[u8]) -> bool
+    ensures value { result ≡ has_twice (λ m n. n == m) slots.now }
+{
+    match slots {
+        [first, rest @ ..] => rest.contains(first) || have_slot_twice(rest),
+        [] => false,
+    }
+}
+
+/// Whether a carrier stands twice.
+fn have_neighbour_twice(carriers: &[u16]) -> bool
+    ensures value { result ≡ has_twice (λ m n. n == m) carriers.now }
+{
+    match carriers {
+        [first, rest @ ..] => rest.contains(first) || have_neighbour_twice(rest),
+        [] => false,
+    }
+}
+
+/// Whether a TRX of a cell names a timeslot twice.
+fn has_slot_twice(cell: &Cell) -> bool
+    ensures value { result ≡ has_slot_twice cell.now }
+{
+    cell.trx
+        .iter()
+        .any(|trx| have_slot_twice(trx.tch.as_slice()))
+}
+
+/// Whether a cell has no traffic channel.
+fn has_no_traffic(cell: &Cell) -> bool
+    ensures value { result ≡ has_no_traffic cell.now }
+{
+    cell.trx.iter().all(|trx| trx.tch.is_empty())
+}
+
+/// Whether a cell has one carrier on two TRX.
+fn any_carrier_twice(cells: &[Cell]) -> bool
+    ensures value { result ≡ list_any has_carrier_twice cells.now }
+{
+    cells
+        .iter()
+        .any(|cell| have_carrier_twice(cell.trx.as_slice()))
+}
+
+/// Whether a TRX of a cell names a timeslot twice.
+fn any_slot_twice(cells: &[Cell]) -> bool
+    ensures value { result ≡ list_any has_slot_twice cells.now }
+{
+    cells.iter().any(|cell| has_slot_twice(cell))
+}
+
+/// Whether a BA list has a carrier twice.
+fn any_neighbour_twice(cells: &[Cell]) -> bool
+    ensures value { result ≡ list_any has_neighbour_twice cells.now }
+{
+    cells
+        .iter()
+        .any(|cell| have_neighbour_twice(cell.ba.as_slice()))
+}
+
+/// The first cell that has no traffic channel.
+fn silent_cell(cells: &[Cell]) -> Option<usize>
+    ensures value { result ≡ position has_no_traffic cells.now }
+{
+    cells.iter().position(|cell| has_no_traffic(cell))
+}
+
+/// All cells, the own and then those of others.
+fn all_identities(cells: &[Cell], outside: &[CellIdentity]) -> ArrayVec<CellIdentity, 128>
+    requires cells { length cells.now ≤ 64 }
+    requires outside { length outside.now ≤ 64 }
+    ensures all { result.items ≡ map (λ c. c.identity) cells.now ++ outside.now }
+{
+    let mut all = ArrayVec::new();
+    for cell in cells {
+        all.push(cell.identity);
+    }
+    for identity in outside {
+        all.push(*identity);
+    }
+    all
+}
+
+/// The first rule that the cells break together.
+#[tactic(auto, unfolding(crate::specs::Rules::broken_rule))]
+pub fn broken_rule(site: &Tables) -> Option<SiteFault>
+    ensures value { result ≡ broken_rule site.now }
+{
+    let cells = site.cells.as_slice();
+    let all = all_identities(cells, site.outside.as_slice());
+    if have_codes_twice(all.as_slice()) {
+        return Some(SiteFault::Twice(What::Identity));
+    }
+    if have_colour_twice(all.as_slice()) {
+        return Some(SiteFault::Twice(What::Colour));
+    }
+    if any_carrier_twice(cells) {
+        return Some(SiteFault::Twice(What::Carrier));
+    }
+    if any_slot_twice(cells) {
+        return Some(SiteFault::Twice(What::Slot));
+    }
+    if any_neighbour_twice(cells) {
+        return Some(SiteFault::Twice(What::Neighbour));
+    }
+    match silent_cell(cells) {
+        Some(cell) => Some(SiteFault::NoTraffic(cell as u8)),
+        None => None,
+    }
+}

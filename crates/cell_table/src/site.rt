@@ -1,0 +1,301 @@
+//! The site, and what is looked up in it.
+ghost use Rattle.std.specs.Prelude.{◌≡◌, ◌≢◌, Ok, Err, true, IfOk, IfErr, length, option_map, slice_get};
+ghost use Rattle.std.specs.Result.{is_ok};
+ghost use Rattle.std.specs.List.{position};
+ghost use Rattle.toml.specs.View.{view};
+ghost use Rattle.cell_table.specs.Site.{IsSite, IsWithinLimits, trx_at, identity_at, is_traffic, has_codes, cell_of, index_of};
+ghost use Rattle.cell_table.specs.SiteFile.{site_of, read_site, IsBlankFile};
+
+use crate::checks::broken_rule;
+use crate::fault::SiteFault;
+use crate::places::channels_before;
+use crate::reading::{cells_of, handover_at, outside_of};
+use crate::tables::{Cell, CellIdentity, Tables, Trx};
+use channel_fsm::ChanId;
+use std::alloc::{AllocError, Allocator, Global};
+use std::marker::Model;
+use toml::Value;
+
+/// The number of the first outside cell; own cells are numbered from 0.
+const FIRST_OUTSIDE: u8 = 64;
+
+/// The cells of a controller, each with its TRX, and the cells of others that mobiles may be handed over to.
+///
+/// Own cells are numbered from 0 in the order of the site file, outside cells from 64, TRX of a cell from 0. A site has
+/// 1 to 64 own cells and at most 64 outside cells, a cell 1 to 4 TRX, and a timeslot is a number from 0 to 7
+/// (TS 45.002 clause 4.3.2). Timeslot 0 of the first TRX carries the cell's broadcast channels (TS 45.002 clause 7) and
+/// never traffic. Every own cell has a traffic channel.
+#[derive(Debug, Drop)]
+pub struct Site<A: Allocator = Global> {
+    tables: Box<Tables, A>,
+}
+
+impl<A: Allocator> Model for Site<A> {
+    ghost use Rattle.cell_table.specs.Site.{SiteView, IsSite};
+
+    ghost Value = { SiteView };
+
+    ghost view = { λ a. a.tables.value };
+
+    ghost invariant = { λ a. IsSite a.tables.value };
+}
+
+impl<A: Allocator + Copy> Site<A> {
+    /// Reads a site file, a TOML text with these keys; any other key is ignored.
+    ///
+    /// - A table `handover`: `window` (1 to 32 reports), `margin` and `minimum` (0 to 63 each).
+    /// - An array `cell` of 1 to 64 tables: `lac` and `ci` (0 to 65535), `bcch` (0 to 1023), `ncc` and `bcc` (0 to 7),
+    ///   `power` (0 to 31), `ba` (at most 32 carriers, 0 to 1023 each), and `trx`, an array of 1 to 4 tables with
+    ///   `arfcn` (0 to 1023; in the first it is the cell's `bcch`) and `tch` (timeslots 0 to 7, but not 0 in the first).
+    /// - An array `outside` of at most 64 tables, with `lac`, `ci`, `bcch`, `ncc` and `bcc` as in `cell`. It may be
+    ///   absent.
+    ///
+    /// The fault is the first check that fails: TOML, the keys in the order above (`cell` cell by cell, `trx` TRX by
+    /// TRX), what may stand once only, each kind looked for over the whole file in the order of [`What`](crate::What),
+    /// and a cell without traffic channel.
+    ///
+    /// The site is kept in the memory of `alloc`, which is asked for in one piece, once the text is known to describe a
+    /// site. `scratch` serves while TOML is read; where it is refused then, which can't be while a blank text (white
+    /// space and comments alone) is read, the answer is `NoMemory` too.
+    pub fn read(alloc: A, scratch: Global, text: &str) -> Result<Site<A>, SiteFault>
+        ensures described { IfOk result (λ site. read_site text.now ≡ Ok site) }
+        ensures refused { IfErr result (λ fault. fault ≢ SiteFault.NoMemory →
+            read_site text.now ≡ Err fault) }
+        ensures memory { result ≡ Err SiteFault.NoMemory → ¬ IsBlankFile text.now }
+    {
+        match toml::table_from_str(scratch, text) {
+            Ok(document) => site_in(alloc, &Value::Table(document)),
+            Err(fault) if fault.is_memory() => Err(SiteFault::NoMemory),
+            Err(_) => Err(SiteFault::Toml),
+        }
+    }
+
+    /// The number of own cells, 1 to 64. Its contract also hands out what holds of every site.
+    pub fn cells(&self) -> u8
+        ensures value { result ≡ length self.now.cells }
+        ensures limits { IsSite self.now }
+    {
+        self.tables.cells.len() as u8
+    }
+
+    /// The number of outside cells, at most 64.
+    pub fn outside_cells(&self) -> u8
+        ensures value { result ≡ length self.now.outside }
+    {
+        self.tables.outside.len() as u8
+    }
+
+    /// `window`: how many reports a window has.
+    pub fn window(&self) -> u8
+        ensures value { result ≡ self.now.handover.window }
+    {
+        self.tables.handover.window
+    }
+
+    /// `margin`: by how many levels a neighbour has to be better.
+    pub fn margin(&self) -> u8
+        ensures value { result ≡ self.now.handover.margin }
+    {
+        self.tables.handover.margin
+    }
+
+    /// `minimum`: the least level of a neighbour.
+    pub fn minimum(&self) -> u8
+        ensures value { result ≡ self.now.handover.minimum }
+    {
+        self.tables.handover.minimum
+    }
+
+    /// What identifies a cell, own or outside.
+    fn identity(&self, cell: u8) -> Option<CellIdentity>
+        ensures value { result ≡ identity_at self.now cell }
+    {
+        identity_in(&self.tables, cell)
+    }
+
+    /// `lac` of a cell, own or outside: its location area code; `None` where there is no such cell.
+    pub fn lac(&self, cell: u8) -> Option<u16>
+        ensures value { result ≡ option_map (λ c. c.lac) (identity_at self.now cell) }
+    {
+        Some(self.identity(cell)?.lac)
+    }
+
+    /// `ci` of a cell, own or outside: its cell identity; `None` where there is no such cell.
+    pub fn ci(&self, cell: u8) -> Option<u16>
+        ensures value { result ≡ option_map (λ c. c.ci) (identity_at self.now cell) }
+    {
+        Some(self.identity(cell)?.ci)
+    }
+
+    /// `bcch` of a cell, own or outside: its BCCH carrier; `None` where there is no such cell.
+    pub fn bcch(&self, cell: u8) -> Option<u16>
+        ensures value { result ≡ option_map (λ c. c.bcch) (identity_at self.now cell) }
+    {
+        Some(self.identity(cell)?.bcch)
+    }
+
+    /// `ncc` of a cell, own or outside: its network colour code; `None` where there is no such cell.
+    pub fn ncc(&self, cell: u8) -> Option<u8>
+        ensures value { result ≡ option_map (λ c. c.ncc) (identity_at self.now cell) }
+    {
+        Some(self.identity(cell)?.ncc)
+    }
+
+    /// `bcc` of a cell, own or outside: its base station colour code; `None` where there is no such cell.
+    pub fn bcc(&self, cell: u8) -> Option<u8>
+        ensures value { result ≡ option_map (λ c. c.bcc) (identity_at self.now cell) }
+    {
+        Some(self.identity(cell)?.bcc)
+    }
+
+    /// `power` of an own cell: the power level that its mobiles begin with; `None` where there is no such cell.
+    pub fn power(&self, cell: u8) -> Option<u8>
+        ensures value { result ≡ option_map (λ c. c.power) (slice_get self.now.cells cell) }
+    {
+        Some(self.tables.cells.get(cell as usize)?.power)
+    }
+
+    /// `ba` of an own cell: the BCCH carriers of its neighbours, in the site file's order; `None` where there is no such
+    /// cell.
+    pub fn ba(&self, cell: u8) -> Option<&[u16]>
+        ensures value { option_map (λ found. found.now) result ≡
+            option_map (λ c. c.ba) (slice_get self.now.cells cell) }
+    {
+        let found = self.tables.cells.get(cell as usize)?;
+        Some(found.ba.as_slice())
+    }
+
+    /// The number of TRX of an own cell, 1 to 4; `None` where there is no such cell.
+    pub fn trx(&self, cell: u8) -> Option<u8>
+        ensures count { result ≡ option_map (λ c. length c.trx) (slice_get self.now.cells cell) }
+    {
+        Some(self.tables.cells.get(cell as usize)?.trx.len() as u8)
+    }
+
+    /// `arfcn` of a TRX of an own cell: its carrier; `None` where there is no such cell or TRX.
+    pub fn arfcn(&self, cell: u8, trx: u8) -> Option<u16>
+        ensures value { result ≡ option_map (λ t. t.arfcn) (trx_at self.now cell trx) }
+    {
+        Some(trx_in(&self.tables, cell, trx)?.arfcn)
+    }
+
+    /// `tch` of a TRX of an own cell: its traffic timeslots, in the site file's order; `None` where there is no such
+    /// cell or TRX.
+    pub fn timeslots(&self, cell: u8, trx: u8) -> Option<&[u8]>
+        ensures value { option_map (λ found. found.now) result ≡
+            option_map (λ t. t.tch) (trx_at self.now cell trx) }
+    {
+        let found = trx_in(&self.tables, cell, trx)?;
+        Some(found.tch.as_slice())
+    }
+
+    /// Whether the site names the channel as one that carries traffic. Such a channel lies in one
+    /// of the cells 0 to 63, on TRX 0 to 3 and timeslot 0 to 7.
+    pub fn is_traffic(&self, chan: ChanId) -> bool
+        ensures value { result ≡ is_traffic self.now chan }
+        ensures limits { result ≡ true → IsWithinLimits chan }
+    {
+        match trx_in(&self.tables, chan.cell, chan.trx) {
+            Some(found) => found.tch.contains(&chan.tn),
+            None => false,
+        }
+    }
+
+    /// The cell, own or outside, with this location area code and cell identity; `None` where there is none.
+    pub fn cell_of(&self, lac: u16, ci: u16) -> Option<u8>
+        ensures value { result ≡ cell_of self.now lac ci }
+    {
+        match own_with(self.tables.cells.as_slice(), lac, ci) {
+            Some(cell) => Some(cell as u8),
+            None => {
+                let place = outside_with(self.tables.outside.as_slice(), lac, ci)?;
+                Some(FIRST_OUTSIDE + place as u8)
+            }
+        }
+    }
+
+    /// The place of a traffic channel among those of the site, by cell, TRX and timeslot, counted from 0; `None` for
+    /// any other channel.
+    pub fn index_of(&self, chan: ChanId) -> Option<usize>
+        ensures value { result ≡ index_of self.now chan }
+    {
+        if !self.is_traffic(chan) {
+            return None;
+        }
+        Some(channels_before(self.tables.cells.as_slice(), chan))
+    }
+}
+
+/// The site that a document describes. No memory is asked for before it is known to describe one.
+#[tactic(auto, unfolding(crate::specs::SiteFile::site_of))]
+fn site_in<A: Allocator + Copy>(alloc: A, document: &Value) -> Result<Site<A>, SiteFault>
+    ensures described { IfOk result (λ site. site_of (view document.now) ≡ Ok site) }
+    ensures refused { IfErr result (λ fault. fault ≢ SiteFault.NoMemory →
+        site_of (view document.now) ≡ Err fault) }
+    ensures memory { result ≡ Err SiteFault.NoMemory → is_ok (site_of (view document.now)) ≡ true }
+{
+    let tables = tables_of(document)?;
+    Ok(kept(alloc, tables)?)
+}
+
+/// What a document says.
+#[tactic(auto, unfolding(crate::specs::SiteFile::site_of))]
+fn tables_of(document: &Value) -> Result<Tables, SiteFault>
+    ensures read { result ≡ site_of (view document.now) }
+{
+    let tables = Tables {
+        handover: handover_at(document)?,
+        cells: cells_of(document)?,
+        outside: outside_of(document)?,
+    };
+    match broken_rule(&tables) {
+        Some(fault) => Err(fault),
+        None => Ok(tables),
+    }
+}
+
+/// A site of these tables.
+fn kept<A: Allocator + Copy>(alloc: A, tables: Tables) -> Result<Site<A>, AllocError>
+    requires { IsSite tables }
+    ensures { IfOk result (λ site. site ≡ tables) }
+{
+    let tables = Box::new(alloc, tables).map_err(AllocError::from)?;
+    Ok(Site { tables })
+}
+
+/// What identifies a cell, own or outside.
+fn identity_in(tables: &Tables, cell: u8) -> Option<CellIdentity>
+    ensures value { result ≡ identity_at tables.now cell }
+{
+    if cell < FIRST_OUTSIDE {
+        Some(tables.cells.get(cell as usize)?.identity)
+    } else {
+        Some(*tables.outside.get((cell - FIRST_OUTSIDE) as usize)?)
+    }
+}
+
+/// A TRX of an own cell.
+fn trx_in(tables: &Tables, cell: u8, trx: u8) -> Option<&Trx>
+    ensures value { option_map (λ found. found.now) result ≡ trx_at tables.now cell trx }
+{
+    let found = tables.cells.get(cell as usize)?;
+    found.trx.get(trx as usize)
+}
+
+/// The first own cell with a location area code and cell identity.
+fn own_with(cells: &[Cell], lac: u16, ci: u16) -> Option<usize>
+    ensures place { result ≡ position (λ c. has_codes lac ci c.identity) cells.now }
+{
+    cells
+        .iter()
+        .position(|cell| cell.identity.lac == lac && cell.identity.ci == ci)
+}
+
+/// The first outside cell with a location area code and cell identity.
+fn outside_with(cells: &[CellIdentity], lac: u16, ci: u16) -> Option<usize>
+    ensures place { result ≡ position (has_codes lac ci) cells.now }
+{
+    cells
+        .iter()
+        .position(|cell| cell.lac == lac && cell.ci == ci)
+}

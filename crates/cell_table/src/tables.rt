@@ -1,0 +1,93 @@
+//! What is kept of a site: tables of fixed capacity, which take no memory of their own.
+use arrayvec::ArrayVec;
+use std::marker::Model;
+
+/// The numbers that a key may have, from the least to the most.
+#[derive(Clone, Copy, Debug, PartialEq, Eq)]
+pub struct Allowed {
+    pub least: u16,
+    pub most: u16,
+}
+
+/// When a neighbour is a candidate for a handover.
+#[derive(Clone, Copy, Debug, PartialEq, Eq)]
+pub struct HandoverRule {
+    /// Reports in a window, 1 to 32.
+    pub window: u8,
+    /// How much higher the level of a neighbour has to be, 0 to 63.
+    pub margin: u8,
+    /// The least level of a neighbour, 0 to 63.
+    pub minimum: u8,
+}
+
+/// What identifies a cell, own or outside.
+#[derive(Clone, Copy, Debug, Default, PartialEq, Eq)]
+pub struct CellIdentity {
+    /// Location area code (TS 23.003 clause 4.1).
+    pub lac: u16,
+    /// Cell identity (TS 23.003 clause 4.3.1).
+    pub ci: u16,
+    /// BCCH carrier, an ARFCN from 0 to 1023 (TS 45.005 clause 2).
+    pub bcch: u16,
+    /// Network colour code, 0 to 7 (TS 23.003 clause 4.3.2).
+    pub ncc: u8,
+    /// Base station colour code, 0 to 7 (TS 23.003 clause 4.3.2).
+    pub bcc: u8,
+}
+
+/// One TRX of an own cell.
+#[derive(Debug, Default, Drop)]
+pub struct Trx {
+    pub arfcn: u16,
+    pub tch: ArrayVec<u8, 9>,
+}
+
+impl Model for Trx {
+    ghost use Rattle.cell_table.specs.Views.{TrxView};
+
+    ghost Value = { TrxView };
+
+    ghost view = { λ a. record { arfcn = a.arfcn; tch = a.tch.items } };
+}
+
+/// An own cell.
+#[derive(Debug, Default, Drop)]
+pub struct Cell {
+    pub identity: CellIdentity,
+    pub power: u8,
+    pub ba: ArrayVec<u16, 32>,
+    pub trx: ArrayVec<Trx, 4>,
+}
+
+impl Model for Cell {
+    ghost use Rattle.cell_table.specs.Views.{CellView};
+
+    ghost Value = { CellView };
+
+    ghost view = { λ a. record {
+      identity = a.identity;
+      power = a.power;
+      ba = a.ba.items;
+      trx = a.trx.items;
+    } };
+}
+
+/// The cells of a site.
+#[derive(Debug, Drop)]
+pub struct Tables {
+    pub handover: HandoverRule,
+    pub cells: ArrayVec<Cell, 64>,
+    pub outside: ArrayVec<CellIdentity, 64>,
+}
+
+impl Model for Tables {
+    ghost use Rattle.cell_table.specs.Views.{SiteView};
+
+    ghost Value = { SiteView };
+
+    ghost view = { λ a. record {
+      handover = a.handover;
+      cells = a.cells.items;
+      outside = a.outside.items;
+    } };
+}

@@ -1,0 +1,84 @@
+use super::{SITE, fault_of};
+use cell_table::SiteFault::{Range, Toml};
+use cell_table::{Key, SiteFault};
+use std::alloc::{AllocError, Global};
+use std::fmt::Write;
+use std::test::Fail;
+
+/// A site file of so many own and outside cells.
+fn text_of_cells(alloc: Global, own: u32, outside: u32) -> Result<String, AllocError> {
+    let mut text = String::from_str(alloc, "[handover]\nwindow = 2\nmargin = 3\nminimum = 10\n")?;
+    for ci in 0..own {
+        writeln!(
+            text,
+            "[[cell]]\nlac = 1\nci = {ci}\nbcch = {ci}\nncc = 0\nbcc = 0\npower = 0\nba = []"
+        )?;
+        writeln!(text, "trx = [{{ arfcn = {ci}, tch = [1] }}]")?;
+    }
+    for ci in 0..outside {
+        writeln!(
+            text,
+            "[[outside]]\nlac = 2\nci = {ci}\nbcch = {ci}\nncc = 1\nbcc = 0"
+        )?;
+    }
+    Ok(text)
+}
+
+/// How many own and outside cells, and why the site is refused.
+const COUNTS: &[(u32, u32, Option<SiteFault>)] = &[
+    (1, 0, None),
+    (64, 0, None),
+    (64, 64, None),
+    (65, 0, Some(Range(Key::Cell))),
+    (321, 0, Some(Range(Key::Cell))),
+    (64, 65, Some(Range(Key::Outside))),
+];
+
+#[test]
+fn a_site_has_at_most_64_cells_and_as_many_of_others(rt: HostRuntime) -> Result<(), Fail> {
+    for (own, outside, fault) in COUNTS {
+        let text = text_of_cells(rt.alloc(), *own, *outside)?;
+        assert_eq!(rt; fault_of(rt.alloc(), &text), *fault, "{own} {outside}");
+    }
+    Ok(())
+}
+
+/// The site file behind so many arrays that stand one in another.
+fn text_of_arrays(alloc: Global, arrays: u32) -> Result<String, AllocError> {
+    let (mut text, mut ends) = (String::new(alloc), String::new(alloc));
+    text.push_str("unused = ")?;
+    for _ in 0..arrays {
+        text.push_str("[")?;
+        ends.push_str("]")?;
+    }
+    text.push_str(&ends)?;
+    text.push_str("\n")?;
+    text.push_str(SITE)?;
+    Ok(text)
+}
+
+#[test]
+fn what_is_nested_more_than_80_deep_is_refused(rt: HostRuntime) -> Result<(), Fail> {
+    for (arrays, fault) in [(80, None), (81, Some(Toml)), (1000, Some(Toml))] {
+        let text = text_of_arrays(rt.alloc(), arrays)?;
+        assert_eq!(rt; fault_of(rt.alloc(), &text), fault, "{arrays}");
+    }
+    Ok(())
+}
+
+/// The site file with so many comments of 64 octets before it.
+fn text_of_comments(alloc: Global, comments: u32) -> Result<String, AllocError> {
+    let mut text = String::new(alloc);
+    for _ in 0..comments {
+        text.push_str("# 456789012345678901234567890123456789012345678901234567890123\n")?;
+    }
+    text.push_str(SITE)?;
+    Ok(text)
+}
+
+#[test]
+fn a_file_of_1_mb_is_read(rt: HostRuntime) -> Result<(), Fail> {
+    let text = text_of_comments(rt.alloc(), 16384)?;
+    assert_eq!(rt; fault_of(rt.alloc(), &text), None);
+    Ok(())
+}

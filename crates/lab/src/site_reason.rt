@@ -1,0 +1,473 @@
+//! Where in a site file the first mistake is, and what is allowed there: one line for a person.
+//!
+//! No clause says what the line holds. What is refused, and by which check, is `Site::read`'s to say; here the text is
+//! read once more, for the line alone.
+use crate::run::LabFault;
+use cell_table::{Key, Site, SiteFault, What};
+use std::alloc::Global;
+use std::fmt;
+use std::io::Write;
+use toml::Value;
+
+/// The integers that a key may have, and what they are.
+#[derive(Clone, Copy)]
+struct Numbers {
+    what: &'static str,
+    least: i64,
+    most: i64,
+}
+
+impl Numbers {
+    fn hold(&self, value: &Value) -> bool {
+        match value.as_integer() {
+            Some(number) => self.least <= number && number <= self.most,
+            None => false,
+        }
+    }
+}
+
+impl fmt::Display for Numbers {
+    fn fmt<W: fmt::Write>(&self, f: &mut fmt::Formatter<W>) -> fmt::Result {
+        let Numbers { what, least, most } = self;
+        if least == most {
+            write!(f, "the cell's BCCH carrier {least}")
+        } else {
+            write!(f, "{what} from {least} to {most}")
+        }
+    }
+}
+
+/// Where a table stands: counted from 0, each in the order of the file.
+#[derive(Clone, Copy)]
+enum Place {
+    Top,
+    Handover,
+    Cell(usize),
+    Trx(usize, usize),
+    Outside(usize),
+}
+
+impl fmt::Display for Place {
+    fn fmt<W: fmt::Write>(&self, f: &mut fmt::Formatter<W>) -> fmt::Result {
+        match self {
+            Place::Top => write!(f, "the file"),
+            Place::Handover => write!(f, "handover"),
+            Place::Cell(cell) => write!(f, "cell {cell}"),
+            Place::Trx(cell, trx) => write!(f, "cell {cell}, trx {trx}"),
+            Place::Outside(cell) => write!(f, "outside {cell}"),
+        }
+    }
+}
+
+/// A value as it is said in a sentence: an integer by its digits, any other by its kind.
+#[derive(Clone, Copy)]
+struct Said<'a>(&'a Value);
+
+impl<'a> fmt::Display for Said<'a> {
+    fn fmt<W: fmt::Write>(&self, f: &mut fmt::Formatter<W>) -> fmt::Result {
+        match self.0.as_integer() {
+            Some(number) => write!(f, "{number}"),
+            None => write!(f, "a value of the kind {}", self.0.type_str()),
+        }
+    }
+}
+
+/// The entries of the array at a key; none where there is no array.
+fn entries(table: &Value, key: Key) -> &[Value] {
+    match table.get(key.name()) {
+        Some(value) => match value.as_array() {
+            Some(found) => found.as_slice(),
+            None => &[],
+        },
+        None => &[],
+    }
+}
+
+/// The integers that a key, or an entry of it, may have. The first TRX has the cell's BCCH carrier, and no traffic on
+/// timeslot 0.
+fn numbers_of(key: Key, bcch: Option<i64>) -> Numbers {
+    let (what, least, most) = match key {
+        Key::Window => ("a number of reports", 1, 32),
+        Key::Margin | Key::Minimum => ("a level", 0, 63),
+        Key::Lac => ("a location area code", 0, 65535),
+        Key::Ci => ("a cell identity", 0, 65535),
+        Key::Bcch | Key::Ba => ("a carrier", 0, 1023),
+        Key::Ncc | Key::Bcc => ("a colour code", 0, 7),
+        Key::Power => ("a power level", 0, 31),
+        Key::Arfcn => ("a carrier", bcch.unwrap_or(0), bcch.unwrap_or(1023)),
+        Key::Tch => ("a timeslot", i64::from(bcch.is_some()), 7),
+        Key::Cell => ("a number of tables", 1, 64),
+        Key::Trx => ("a number of tables", 1, 4),
+        Key::Handover | Key::Outside => ("a number of tables", 0, 64),
+    };
+    Numbers { what, least, most }
+}
+
+/// Whether the value of a key is an array, by the key.
+fn is_list(key: Key) -> bool {
+    matches!(key, Key::Ba | Key::Tch)
+}
+
+/// Whether the value of a key is an array of tables, by the key.
+fn is_tables(key: Key) -> bool {
+    matches!(key, Key::Cell | Key::Trx | Key::Outside)
+}
+
+/// Whether an array has as many tables as are allowed, and nothing else.
+fn are_tables(value: &Value, count: &Numbers) -> bool {
+    match value.as_array() {
+        Some(found) => {
+            let tables = found.as_slice();
+            count.least <= tables.len() as i64
+                && tables.len() as i64 <= count.most
+                && tables.iter().all(|entry| entry.is_table())
+        }
+        None => false,
+    }
+}
+
+/// Whether a value is what the key may have.
+fn fits(key: Key, value: &Value, numbers: &Numbers) -> bool {
+    if is_tables(key) {
+        return are_tables(value, numbers);
+    }
+    if !is_list(key) {
+        return numbers.hold(value);
+    }
+    match value.as_array() {
+        Some(found) => {
+            let few = !matches!(key, Key::Ba) || found.len() <= 32;
+            few && found.as_slice().iter().all(|entry| numbers.hold(entry))
+        }
+        None => false,
+    }
+}
+
+/// A table where it stands, and of the first TRX of a cell the cell's BCCH carrier.
+#[derive(Clone, Copy)]
+struct Found<'a> {
+    place: Place,
+    table: &'a Value,
+    bcch: Option<i64>,
+}
+
+/// Whether a table lacks a key, or has another value there than it may have.
+fn is_bad(table: &Value, key: Key, bcch: Option<i64>) -> bool {
+    match table.get(key.name()) {
+        Some(value) => !fits(key, value, &numbers_of(key, bcch)),
+        None => true,
+    }
+}
+
+/// The integer at a key of a table.
+fn integer_at(table: &Value, key: Key) -> Option<i64> {
+    table.get(key.name())?.as_integer()
+}
+
+/// The first TRX of a cell with a mistake at a key.
+fn bad_trx(cell: &Value, number: usize, key: Key) -> Option<Found<'_>> {
+    for (trx, table) in entries(cell, Key::Trx).iter().enumerate() {
+        let bcch = if trx == 0 {
+            integer_at(cell, Key::Bcch)
+        } else {
+            None
+        };
+        if is_bad(table, key, bcch) {
+            let place = Place::Trx(number, trx);
+            return Some(Found { place, table, bcch });
+        }
+    }
+    None
+}
+
+/// The first own cell, or TRX of one, with a mistake at a key.
+fn bad_cell(document: &Value, key: Key) -> Option<Found<'_>> {
+    for (number, table) in entries(document, Key::Cell).iter().enumerate() {
+        if matches!(key, Key::Arfcn | Key::Tch) {
+            if let Some(found) = bad_trx(table, number, key) {
+                return Some(found);
+            }
+        } else if is_bad(table, key, None) {
+            let place = Place::Cell(number);
+            let bcch = None;
+            return Some(Found { place, table, bcch });
+        }
+    }
+    None
+}
+
+/// The first outside cell with a mistake at a key.
+fn bad_outside(document: &Value, key: Key) -> Option<Found<'_>> {
+    for (number, table) in entries(document, Key::Outside).iter().enumerate() {
+        if is_bad(table, key, None) {
+            let place = Place::Outside(number);
+            let bcch = None;
+            return Some(Found { place, table, bcch });
+        }
+    }
+    None
+}
+
+/// The first table with a mistake at a key.
+fn first_bad(document: &Value, key: Key) -> Option<Found<'_>> {
+    match key {
+        Key::Handover | Key::Cell | Key::Outside => Some(Found {
+            place: Place::Top,
+            table: document,
+            bcch: None,
+        }),
+        Key::Window | Key::Margin | Key::Minimum => Some(Found {
+            place: Place::Handover,
+            table: document.get(Key::Handover.name())?,
+            bcch: None,
+        }),
+        Key::Power | Key::Ba | Key::Trx | Key::Arfcn | Key::Tch => bad_cell(document, key),
+        Key::Lac | Key::Ci | Key::Bcch | Key::Ncc | Key::Bcc => match bad_cell(document, key) {
+            Some(found) => Some(found),
+            None => bad_outside(document, key),
+        },
+    }
+}
+
+/// Says of an array that it has too many entries, or which of them doesn't fit.
+fn say_list<W: Write>(list: &[Value], numbers: &Numbers, errors: &mut W) -> Result<(), LabFault> {
+    for entry in list {
+        if !numbers.hold(entry) {
+            writeln!(errors, "{} isn't {numbers}", Said(entry))?;
+            return Ok(());
+        }
+    }
+    writeln!(errors, "{} entries are more than 32", list.len())?;
+    Ok(())
+}
+
+/// Says what the value of a key is, and what is allowed.
+fn say_range<W: Write>(found: &Found<'_>, key: Key, errors: &mut W) -> Result<(), LabFault> {
+    let Some(value) = found.table.get(key.name()) else {
+        writeln!(errors, "it is missing")?;
+        return Ok(());
+    };
+    let numbers = numbers_of(key, found.bcch);
+    if is_tables(key) {
+        let Numbers { least, most, .. } = numbers;
+        writeln!(errors, "it isn't an array of {least} to {most} tables")?;
+    } else if matches!(key, Key::Handover) {
+        writeln!(errors, "{} isn't a table", Said(value))?;
+    } else if !is_list(key) {
+        writeln!(errors, "{} isn't {numbers}", Said(value))?;
+    } else {
+        match value.as_array() {
+            Some(list) => say_list(list.as_slice(), &numbers, errors)?,
+            None => writeln!(errors, "{} isn't an array", Said(value))?,
+        }
+    }
+    Ok(())
+}
+
+/// A cell by its place among all, the own and then those of others.
+fn cell_at(document: &Value, place: usize) -> Option<Found<'_>> {
+    let own = entries(document, Key::Cell);
+    let (place, table) = match own.get(place) {
+        Some(table) => (Place::Cell(place), table),
+        None => {
+            let number = place.checked_sub(own.len())?;
+            (
+                Place::Outside(number),
+                entries(document, Key::Outside).get(number)?,
+            )
+        }
+    };
+    let bcch = None;
+    Some(Found { place, table, bcch })
+}
+
+/// Whether two tables have the same integers at these keys.
+fn are_alike(one: &Value, other: &Value, keys: &[Key]) -> bool {
+    keys.iter()
+        .all(|key| integer_at(one, *key) == integer_at(other, *key))
+}
+
+/// The first cell among so many that is like another.
+fn first_like<'a>(
+    document: &'a Value,
+    other: &Value,
+    before: usize,
+    keys: &[Key],
+) -> Option<Found<'a>> {
+    for place in 0..before {
+        if let Some(found) = cell_at(document, place) {
+            if are_alike(found.table, other, keys) {
+                return Some(found);
+            }
+        }
+    }
+    None
+}
+
+/// Says which cells have the same integers at these keys.
+fn say_alike<W: Write>(document: &Value, keys: &[Key], errors: &mut W) -> Result<(), LabFault> {
+    for place in 0..128 {
+        let Some(cell) = cell_at(document, place) else {
+            break;
+        };
+        if let Some(first) = first_like(document, cell.table, place, keys) {
+            write!(errors, "{} has what {} has at", cell.place, first.place)?;
+            for key in keys {
+                write!(errors, " {key}")?;
+            }
+            writeln!(errors)?;
+            return Ok(());
+        }
+    }
+    Ok(())
+}
+
+/// The first integer that stands more than once.
+fn repeated(list: &[Value]) -> Option<i64> {
+    for entry in list {
+        let same = list
+            .iter()
+            .filter(|other| other.as_integer() == entry.as_integer())
+            .count();
+        if same > 1 {
+            return entry.as_integer();
+        }
+    }
+    None
+}
+
+/// Says in which TRX of a cell a timeslot stands twice; whether there is one.
+fn say_slot<W: Write>(cell: &Value, number: usize, errors: &mut W) -> Result<bool, LabFault> {
+    for (trx, table) in entries(cell, Key::Trx).iter().enumerate() {
+        if let Some(slot) = repeated(entries(table, Key::Tch)) {
+            writeln!(errors, "cell {number}, trx {trx}: tch: {slot} stands twice")?;
+            return Ok(true);
+        }
+    }
+    Ok(false)
+}
+
+/// Says where a cell has a carrier or timeslot twice; whether it has.
+fn say_repeated<W: Write>(
+    cell: &Value,
+    number: usize,
+    what: What,
+    errors: &mut W,
+) -> Result<bool, LabFault> {
+    match what {
+        What::Slot => return say_slot(cell, number, errors),
+        What::Neighbour => {
+            if let Some(carrier) = repeated(entries(cell, Key::Ba)) {
+                writeln!(errors, "cell {number}: ba: {carrier} stands twice")?;
+                return Ok(true);
+            }
+        }
+        What::Carrier => {
+            if let Some(carrier) = repeated_carrier(entries(cell, Key::Trx)) {
+                writeln!(errors, "cell {number}: arfcn {carrier} stands in two trx")?;
+                return Ok(true);
+            }
+        }
+        What::Identity | What::Colour => {}
+    }
+    Ok(false)
+}
+
+/// The first carrier that more than one TRX has.
+fn repeated_carrier(trx: &[Value]) -> Option<i64> {
+    for table in trx {
+        let same = trx
+            .iter()
+            .filter(|other| integer_at(other, Key::Arfcn) == integer_at(table, Key::Arfcn))
+            .count();
+        if same > 1 {
+            return integer_at(table, Key::Arfcn);
+        }
+    }
+    None
+}
+
+/// Says what stands twice, and where.
+fn say_twice<W: Write>(document: &Value, what: What, errors: &mut W) -> Result<(), LabFault> {
+    match what {
+        What::Identity => return say_alike(document, &[Key::Lac, Key::Ci], errors),
+        What::Colour => return say_alike(document, &[Key::Bcch, Key::Ncc, Key::Bcc], errors),
+        What::Carrier | What::Slot | What::Neighbour => {}
+    }
+    for (number, cell) in entries(document, Key::Cell).iter().enumerate() {
+        if say_repeated(cell, number, what, errors)? {
+            return Ok(());
+        }
+    }
+    Ok(())
+}
+
+/// Says what is wrong at a key, and in which table.
+fn say_key<W: Write>(
+    document: &Value,
+    key: Key,
+    missing: bool,
+    errors: &mut W,
+) -> Result<(), LabFault> {
+    let Some(found) = first_bad(document, key) else {
+        return Ok(());
+    };
+    if !matches!(found.place, Place::Top) {
+        write!(errors, "{}: ", found.place)?;
+    }
+    if missing {
+        writeln!(errors, "{key} is missing")?;
+        return Ok(());
+    }
+    write!(errors, "{key}: ")?;
+    say_range(&found, key, errors)
+}
+
+/// Says why a text isn't TOML: line, column, and what was awaited there.
+fn say_toml<W: Write>(
+    alloc: Global,
+    fault: toml::de::Error,
+    errors: &mut W,
+) -> Result<(), LabFault> {
+    let text = format!(in alloc; "{fault}")?;
+    let mut between = "";
+    for line in text.lines() {
+        write!(errors, "{between}{line}")?;
+        between = ": ";
+    }
+    writeln!(errors)?;
+    Ok(())
+}
+
+/// Says in one line why the text of a site file gives no site: the file, where in it, and what is allowed there.
+/// Nothing is said of a text that gives one.
+pub fn say_reason<W: Write>(
+    alloc: Global,
+    path: &str,
+    text: &str,
+    errors: &mut W,
+) -> Result<(), LabFault> {
+    let fault = match Site::read(alloc, alloc, text) {
+        Ok(_) => return Ok(()),
+        Err(fault) => fault,
+    };
+    if matches!(fault, SiteFault::NoMemory) {
+        return Err(LabFault::NoMemory);
+    }
+    write!(errors, "{path}: ")?;
+    let document = match toml::table_from_str(alloc, text) {
+        Ok(document) => Value::Table(document),
+        Err(fault) if fault.is_memory() => return Err(LabFault::NoMemory),
+        Err(fault) => return say_toml(alloc, fault, errors),
+    };
+    match fault {
+        SiteFault::Missing(key) => say_key(&document, key, true, errors),
+        SiteFault::Range(key) => say_key(&document, key, false, errors),
+        SiteFault::Twice(what) => say_twice(&document, what, errors),
+        SiteFault::NoTraffic(cell) => {
+            writeln!(errors, "cell {cell}: no trx has a traffic timeslot at tch")?;
+            Ok(())
+        }
+        SiteFault::Toml | SiteFault::NoMemory => Ok(()),
+    }
+}
