@@ -2,10 +2,10 @@
 use crate::fault::Fault;
 use crate::life::book_of;
 use crate::varying::{Varying, octets_sum};
+use channel_fsm::ChanId;
 use ho_procedure::exchange::{Inbound, Line, Outbound};
 use ho_procedure::procedure::handle_plain;
 use radio_book::book::Book;
-use channel_fsm::ChanId;
 use rsl_messages::Octets;
 use std::alloc::Global;
 

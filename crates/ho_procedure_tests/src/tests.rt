@@ -1,9 +1,10 @@
 mod memory;
 
+use cell_table::Site;
+use channel_fsm::{ChanId, ChanState};
 use ho_procedure::exchange::{Handled, Inbound, Line, Outbound, PlainFault};
 use ho_procedure::procedure::handle_plain;
 use radio_book::book::{Book, Usage};
-use channel_fsm::{ChanId, ChanState};
 use radio_book::event::Event::{
     Activate, Clear, Confirm, Look, Open, Refuse, Released, Reserve, Take, Undo,
 };
@@ -11,7 +12,6 @@ use radio_book::event::Reply::{Done, Owned, Record, Refused};
 use radio_book::event::{
     Attempt, AttemptKind, CallRecord, Event, Kind, Refusal, Reply, Stage, Why,
 };
-use cell_table::Site;
 use rsl_messages::{Octets, RslFault};
 use std::alloc::{AllocError, Allocator, Global};
 use std::process::Abort;

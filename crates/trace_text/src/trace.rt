@@ -3,9 +3,9 @@
 //! `docs/PROGRAM.md` lists the lines and their words.
 use crate::bad::Bad;
 use crate::text::{HexText, OrDash};
+use channel_fsm::ChanState;
 use ho_procedure::exchange::{Handled, Inbound, Line, Outbound};
 use radio_book::book::Usage;
-use channel_fsm::ChanState;
 use radio_book::event::{
     Attempt, AttemptKind, CallRecord, Event, Kind, Refusal, Reply, Stage, Timer, Why,
 };

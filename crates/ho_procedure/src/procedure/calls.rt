@@ -8,8 +8,8 @@ ghost use Rattle.ho_procedure.specs.Handling.{all_sent, AreChoices, IsFresh};
 use super::release::{Release, is_nameable, serving_release, target_release};
 use super::steps::{ask, send_activation, send_release};
 use crate::exchange::Handled;
-use radio_book::book::Book;
 use channel_fsm::{ChanId, ChanState};
+use radio_book::book::Book;
 use radio_book::event::{Attempt, AttemptKind, CallRecord, Event, Reply, Why};
 use std::alloc::{AllocError, Allocator};
 

@@ -9,8 +9,8 @@ ghost use Rattle.ho_procedure.specs.Handling.{all_sent, AreChoices, IsFresh};
 
 use super::steps::ask;
 use crate::exchange::Handled;
-use radio_book::book::Book;
 use channel_fsm::ChanId;
+use radio_book::book::Book;
 use radio_book::event::{CallRecord, Event, Reply, Why};
 use rsl_messages::{ChanBits, Rsl};
 use std::alloc::{AllocError, Allocator};

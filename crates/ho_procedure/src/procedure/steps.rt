@@ -9,8 +9,8 @@ ghost use Rattle.ho_procedure.specs.Procedure.{activation, target_activation, re
 ghost use Rattle.ho_procedure.specs.Handling.{all_sent};
 
 use crate::exchange::{Handled, Outbound};
-use radio_book::book::Book;
 use channel_fsm::ChanId;
+use radio_book::book::Book;
 use radio_book::event::{Event, Kind, Reply};
 use rsl_messages::{ChanBits, Octets, Rsl, encode};
 use std::alloc::{AllocError, Allocator};

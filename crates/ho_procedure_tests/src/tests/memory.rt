@@ -3,10 +3,10 @@ use super::{
     ASKS_NOTHING, BEGINS, CLEARS, ENDS_IN_HANDOVER, Given, OPENS, OPENS_2, Row, STARTS,
     TARGET_CONFIRMED, TARGET_TAKEN_BACK, UNDOES, UNEXPECTED, comes_to, inbound, opened, play, step,
 };
+use channel_fsm::ChanId;
 use ho_procedure::exchange::{Inbound, PlainFault};
 use ho_procedure::procedure::handle_plain;
 use radio_book::book::{Book, Usage};
-use channel_fsm::ChanId;
 use radio_book::event::Event::{Look, Open};
 use radio_book::event::Reply::Done;
 use radio_book::event::{Event, Reply};
