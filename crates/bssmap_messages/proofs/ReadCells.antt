@@ -1,5 +1,5 @@
 -- What cells say of the octets that they are read from.
-use Rattle.std.proofs.Common.{◌≡◌, ℕ, ◌+◌, ◌<◌, ◌%◌, List, [], ◌∷◌, ◌++◌, length, length-append, Option, Some, None, Bool, true, false, refl, sym, ◌∙◌, ap, arith, subst, get_or, take, drop, ◌-◌, ◌≤◌, IfSome, nat_eq, eqb, cond, Ok, Err, append_assoc, append-nil}
+use Rattle.std.proofs.Common.{◌≡◌, ℕ, ◌+◌, ◌<◌, ◌%◌, List, [], ◌∷◌, ◌++◌, length, length-append, Option, Some, None, true, false, refl, sym, ◌∙◌, ap, arith, subst, IfSome, nat_eq, eqb, cond, Ok, Err, append_assoc, append-nil}
 use Rattle.std.proofs.lemmas.Bool.Decides.{nat_tests}
 use Rattle.std.specs.Option.{option_map, is_some}
 use Rattle.bssmap_messages.specs.declared.message.CellId.{CellId}

@@ -1,16 +1,15 @@
 -- A message has a canonical text exactly where its fields can be said and the length octet can count them.
-use Rattle.std.proofs.Common.{◌≡◌, ℕ, ◌+◌, ◌*◌, ◌<◌, ◌≤◌, ◌/◌, ◌%◌, ◌&&◌, List, [], ◌∷◌, ◌++◌, length, length-append, flat_map, unwrap_or, Option, Some, None, Result, Ok, Err, refl, sym, ◌∙◌, ap, arith, Bool, true, false, IsTrue, IsSome}
+use Rattle.std.proofs.Common.{◌≡◌, ℕ, ◌+◌, ◌*◌, ◌<◌, ◌≤◌, ◌/◌, ◌%◌, ◌&&◌, List, [], ◌∷◌, length, length-append, flat_map, unwrap_or, Option, Some, None, Result, Ok, Err, refl, sym, ◌∙◌, ap, arith, Bool, true, false, IsSome}
 use Rattle.std.specs.List.{list_all, AllByRecursion}
 use Rattle.std.specs.Option.{option_map, is_some}
 use Rattle.octet_elements.specs.declared.form.Form.{Form}
 use Rattle.octet_elements.specs.declared.form.Form.TheVariants.{Fixed, Counted, LongCounted}
 use Rattle.octet_elements.specs.Elements.{Element, Fits, FitsAs, all_octets, element_octets, octets_by_form}
 use Rattle.octet_elements.proofs.Spelling.{IsFixedAs}
-use Rattle.octet_elements.specs.Lookup.{Lookup, values_in}
+use Rattle.octet_elements.specs.Lookup.{values_in}
 use Rattle.octet_elements.specs.Reading.{◌>>=◌}
 use Rattle.octet_elements.specs.Values.{pair, octets_in}
 use Rattle.octet_elements.specs.declared.values.ValueFault.{ValueFault}
-use Rattle.octet_elements.proofs.Rows.{both_read, each_read}
 use Rattle.octet_elements.proofs.Splits.{AreFixed}
 use Rattle.octet_elements.proofs.Texts.{written_says}
 use Rattle.bssmap_messages.specs.declared.message.CellId.{CellId}
@@ -18,14 +17,13 @@ use Rattle.bssmap_messages.specs.declared.message.Classmark.{Classmark}
 use Rattle.bssmap_messages.specs.declared.message.Classmark.TheVariants.{One, Two}
 use Rattle.bssmap_messages.specs.declared.message.Bssmap.{Bssmap}
 use Rattle.bssmap_messages.specs.declared.message.Bssmap.TheVariants.{HandoverRequest, HandoverRequired, HandoverRequestAck, HandoverCommand, HandoverComplete, HandoverFailure, HandoverPerformed, HandoverRequiredReject, HandoverDetect, ClearCommand, ClearComplete, ClearRequest}
-use Rattle.bssmap_messages.specs.Forms.{CAUSE, CELL_IDENTIFIER, CELL_IDENTIFIER_LIST, ENCRYPTION_INFORMATION, LAYER_3_INFORMATION, RESPONSE_REQUEST}
+use Rattle.bssmap_messages.specs.Forms.{ENCRYPTION_INFORMATION, LAYER_3_INFORMATION}
 use Rattle.bssmap_messages.specs.Forms.{interface_a}
 use Rattle.bssmap_messages.specs.Heads.{limit, Carries}
 use Rattle.bssmap_messages.specs.Messages.{said, value_of, type_of, kind_of, elements_of, CanBeSaid, handover_request, handover_required, handover_request_ack, handover_command, handover_complete, handover_failure, handover_performed, handover_required_reject, clear_command, clear_request}
 use Rattle.bssmap_messages.specs.Texts.{codec, HasCanonical, canonical_text, written_octets}
-use Rattle.bssmap_messages.specs.Values.{channel_type_in, cells_after, some_cells, cell_in, cells_in, cells_from, cell_octets, cell_value, cells_value, channel_type}
-use Rattle.bssmap_messages.proofs.Lengths.{request_length, required_length, cells_length, classmark_fits}
-use Rattle.bssmap_messages.proofs.Unique.{one_head, one_carried}
+use Rattle.bssmap_messages.specs.Values.{channel_type_in, some_cells, cell_in, cells_in, cells_from, cell_octets, cell_value, cells_value}
+use Rattle.bssmap_messages.proofs.Unique.{one_head}
 
 -- each cell has a location area code
 abbrev have_areas : List CellId → Bool

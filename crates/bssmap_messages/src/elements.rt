@@ -1,5 +1,5 @@
 //! The elements of each message: how they are read, how many octets they take, and how they are written.
-ghost use Rattle.std.specs.Prelude.{◌≡◌, ◌≤◌, ◌<◌, ◌+◌, ◌*◌, ◌^◌, ◌-◌, ◌++◌, ◌∷◌, ◌↔◌, [], min, IsTrue, IsSome, is_some, length, flat_map, Ok, vec_len, vec_capacity};
+ghost use Rattle.std.specs.Prelude.{◌≡◌, ◌≤◌, ◌<◌, ◌+◌, ◌*◌, ◌^◌, ◌-◌, ◌++◌, ◌∷◌, ◌↔◌, [], min, IsTrue, is_some, length, flat_map, Ok, vec_len, vec_capacity};
 ghost use Rattle.std.specs.List.{list_all};
 ghost use Rattle.octet_elements.specs.Elements.{Fits, all_octets, element_octets};
 ghost use Rattle.octet_elements.specs.Lookup.{lookup, values_in};
@@ -24,6 +24,7 @@ use octet_elements::values::pair_octets;
 use octet_elements::{Found, Octets, append_element, append_octets};
 use std::alloc::Allocator;
 
+/// HANDOVER REQUEST. Memory is asked for once the elements are read.
 #[tactic(auto, unfolding(crate::specs::Messages::handover_request))]
 fn read_request<A: Allocator + Copy>(
     alloc: A,
@@ -46,6 +47,7 @@ fn read_request<A: Allocator + Copy>(
     })
 }
 
+/// HANDOVER REQUIRED. Memory is asked for once the elements are read.
 #[tactic(auto, unfolding(crate::specs::Messages::handover_required))]
 fn read_required<A: Allocator + Copy>(
     alloc: A,

@@ -1,5 +1,5 @@
 //! Reading a message.
-ghost use Rattle.std.specs.Prelude.{◌≡◌, ◌≢◌, List, Ok, Err, IfOk, IfErr};
+ghost use Rattle.std.specs.Prelude.{◌≡◌, ◌≢◌, Ok, Err, IfOk, IfErr};
 ghost use Rattle.bssmap_messages.specs.Messages.{KeepsList};
 ghost use Rattle.bssmap_messages.specs.Texts.{IsTextOf, HasFault};
 

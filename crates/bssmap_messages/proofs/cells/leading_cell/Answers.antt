@@ -1,5 +1,4 @@
-use Rattle.std.proofs.Common.{◌≡◌, ◌%◌, List, ℕ, ◌<◌, length, sym, arith, Option, None, true, false, cond, eqb, refl, suc}
-use Rattle.bssmap_messages.specs.Values.{cell_of}
+use Rattle.std.proofs.Common.{arith}
 use Rattle.bssmap_messages.proofs.ReadCells.{size_0, size_1, size_2, none_read, none_by_form}
 use Rattle.bssmap_messages.proofs.cells.leading_cell.Goals as goal
 

@@ -1,4 +1,4 @@
-use Rattle.std.proofs.Common.{◌≡◌, ◌∷◌, [], ◌++◌, length, ap, ◌∙◌, append_assoc, arith}
+use Rattle.std.proofs.Common.{◌∷◌, [], ◌++◌, ap, ◌∙◌, append_assoc}
 use Rattle.octet_elements.specs.Elements.{all_octets, element_octets}
 use Rattle.bssmap_messages.specs.Forms.{interface_a}
 use Rattle.octet_elements.specs.Values.{where_some}
