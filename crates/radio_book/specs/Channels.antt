@@ -1,5 +1,5 @@
 -- The channels of a book go from state to state by the steps of a channel, and a free one has no entry. Ours, of no standard.
-use Rattle.std.specs.Prelude.{◌≡◌, ◌⊎◌, Option, Some, None, unwrap_or}
+use Rattle.std.specs.Prelude.{Option, Some, None, unwrap_or}
 use Rattle.std.specs.Option.{option_map}
 use Rattle.channel_fsm.specs.declared.ChanId.{ChanId}
 use Rattle.channel_fsm.specs.declared.ChanState.{ChanState}
