@@ -162,7 +162,15 @@ reserve_number c n r a t None =
 
 abbrev pub reserve_at : ℕ → ℕ → CallRecord → Attempt → Stage → Option ChanId → (Reference → Option ℕ) → Outcome
 reserve_at c n r a stage.Taken (Some t) user = reserve_number c n r a t (user (reference_at t n))
-reserve_at c n r a s target user = Refuses WrongPhase
+reserve_at c n r a stage.Taken None user = Refuses WrongPhase
+reserve_at c n r a stage.Reserved target user = Refuses WrongPhase
+reserve_at c n r a stage.Sent target user = Refuses WrongPhase
+reserve_at c n r a stage.Refused target user = Refuses WrongPhase
+reserve_at c n r a stage.Confirmed target user = Refuses WrongPhase
+reserve_at c n r a stage.Commanded target user = Refuses WrongPhase
+reserve_at c n r a stage.Detected target user = Refuses WrongPhase
+reserve_at c n r a stage.Required target user = Refuses WrongPhase
+reserve_at c n r a stage.Ordered target user = Refuses WrongPhase
 
 abbrev pub reserve_by : ℕ → ℕ → CallRecord → Option Attempt → (Reference → Option ℕ) → Outcome
 reserve_by c n r None user = Refuses WrongPhase
@@ -176,7 +184,15 @@ reserve_row c n (Some r) user = reserve_by c n r r.attempt user
 abbrev pub activate_at : ℕ → CallRecord → Attempt → Stage → Option ChanId → Outcome
 activate_at c r a stage.Reserved (Some t) =
     Accepts (record no_change { channel = with_state t (Pending c); call = with_record c (at_stage r a stage.Sent) }) Done
-activate_at c r a s target = Refuses WrongPhase
+activate_at c r a stage.Reserved None = Refuses WrongPhase
+activate_at c r a stage.Taken target = Refuses WrongPhase
+activate_at c r a stage.Sent target = Refuses WrongPhase
+activate_at c r a stage.Refused target = Refuses WrongPhase
+activate_at c r a stage.Confirmed target = Refuses WrongPhase
+activate_at c r a stage.Commanded target = Refuses WrongPhase
+activate_at c r a stage.Detected target = Refuses WrongPhase
+activate_at c r a stage.Required target = Refuses WrongPhase
+activate_at c r a stage.Ordered target = Refuses WrongPhase
 
 abbrev pub activate_by : ℕ → CallRecord → Option Attempt → Outcome
 activate_by c r None = Refuses WrongPhase
@@ -190,7 +206,14 @@ activate_row c (Some r) = activate_by c r r.attempt
 abbrev pub command_at : ℕ → CallRecord → Attempt → Stage → Outcome
 command_at c r a stage.Confirmed =
     Accepts (record no_change { call = with_record c (at_stage r a stage.Commanded); timer = with_timer c T3103 }) Done
-command_at c r a s = Refuses WrongPhase
+command_at c r a stage.Taken = Refuses WrongPhase
+command_at c r a stage.Reserved = Refuses WrongPhase
+command_at c r a stage.Sent = Refuses WrongPhase
+command_at c r a stage.Refused = Refuses WrongPhase
+command_at c r a stage.Commanded = Refuses WrongPhase
+command_at c r a stage.Detected = Refuses WrongPhase
+command_at c r a stage.Required = Refuses WrongPhase
+command_at c r a stage.Ordered = Refuses WrongPhase
 
 abbrev pub command_by : ℕ → CallRecord → Option Attempt → Outcome
 command_by c r None = Refuses WrongPhase
@@ -213,7 +236,13 @@ complete_change c r a = record {
 abbrev pub complete_at : ℕ → CallRecord → Attempt → Stage → Outcome
 complete_at c r a stage.Commanded = Accepts (complete_change c r a) Done
 complete_at c r a stage.Detected = Accepts (complete_change c r a) Done
-complete_at c r a s = Refuses WrongPhase
+complete_at c r a stage.Taken = Refuses WrongPhase
+complete_at c r a stage.Reserved = Refuses WrongPhase
+complete_at c r a stage.Sent = Refuses WrongPhase
+complete_at c r a stage.Refused = Refuses WrongPhase
+complete_at c r a stage.Confirmed = Refuses WrongPhase
+complete_at c r a stage.Required = Refuses WrongPhase
+complete_at c r a stage.Ordered = Refuses WrongPhase
 
 abbrev pub complete_by : ℕ → CallRecord → Option Attempt → Outcome
 complete_by c r None = Refuses WrongPhase
@@ -231,7 +260,10 @@ required_attempt = record { kind = Outgoing; stage = stage.Required; target = No
 abbrev pub require_from : ℕ → CallRecord → ChanState → Outcome
 require_from c r (On d) =
     Accepts (record no_change { call = with_record c (with_attempt r required_attempt); timer = with_timer c T7 }) Done
-require_from c r s = Refuses WrongPhase
+require_from c r Free = Refuses WrongPhase
+require_from c r (Held d) = Refuses WrongPhase
+require_from c r (Pending d) = Refuses WrongPhase
+require_from c r Off = Refuses WrongPhase
 
 abbrev pub require_at : ℕ → CallRecord → Option Attempt → Option ChanId → (ChanId → ChanState) → Outcome
 require_at c r (Some a) serving states = Refuses WrongPhase
@@ -246,7 +278,14 @@ require_row c (Some r) states = require_at c r r.attempt r.serving states
 abbrev pub order_at : ℕ → CallRecord → Attempt → Stage → Outcome
 order_at c r a stage.Required =
     Accepts (record no_change { call = with_record c (at_stage r a stage.Ordered); timer = with_timer c T8 }) Done
-order_at c r a s = Refuses WrongPhase
+order_at c r a stage.Taken = Refuses WrongPhase
+order_at c r a stage.Reserved = Refuses WrongPhase
+order_at c r a stage.Sent = Refuses WrongPhase
+order_at c r a stage.Refused = Refuses WrongPhase
+order_at c r a stage.Confirmed = Refuses WrongPhase
+order_at c r a stage.Commanded = Refuses WrongPhase
+order_at c r a stage.Detected = Refuses WrongPhase
+order_at c r a stage.Ordered = Refuses WrongPhase
 
 abbrev pub order_by : ℕ → CallRecord → Option Attempt → Outcome
 order_by c r None = Refuses WrongPhase
@@ -260,7 +299,14 @@ order_row c (Some r) = order_by c r r.attempt
 abbrev pub left_at : ℕ → CallRecord → Stage → Outcome
 left_at c r stage.Ordered =
     Accepts (record no_change { channel = option_map (λ s. (s, Some Off)) r.serving; call = Some (c, None); timer = without_timer c }) Done
-left_at c r s = Refuses WrongPhase
+left_at c r stage.Taken = Refuses WrongPhase
+left_at c r stage.Reserved = Refuses WrongPhase
+left_at c r stage.Sent = Refuses WrongPhase
+left_at c r stage.Refused = Refuses WrongPhase
+left_at c r stage.Confirmed = Refuses WrongPhase
+left_at c r stage.Commanded = Refuses WrongPhase
+left_at c r stage.Detected = Refuses WrongPhase
+left_at c r stage.Required = Refuses WrongPhase
 
 abbrev pub left_by : ℕ → CallRecord → Option Attempt → Outcome
 left_by c r None = Refuses WrongPhase
@@ -345,7 +391,14 @@ refuse_row x s find = Refuses (Unexpected x)
 
 abbrev pub detect_at : ChanId → ℕ → CallRecord → Attempt → Stage → Outcome
 detect_at x c r a stage.Commanded = Accepts (record no_change { call = with_record c (at_stage r a stage.Detected) }) (Owned c)
-detect_at x c r a s = Refuses (Unexpected x)
+detect_at x c r a stage.Taken = Refuses (Unexpected x)
+detect_at x c r a stage.Reserved = Refuses (Unexpected x)
+detect_at x c r a stage.Sent = Refuses (Unexpected x)
+detect_at x c r a stage.Refused = Refuses (Unexpected x)
+detect_at x c r a stage.Confirmed = Refuses (Unexpected x)
+detect_at x c r a stage.Detected = Refuses (Unexpected x)
+detect_at x c r a stage.Required = Refuses (Unexpected x)
+detect_at x c r a stage.Ordered = Refuses (Unexpected x)
 
 abbrev pub detect_of : ChanId → ℕ → CallRecord → Option Attempt → Outcome
 detect_of x c r None = Refuses (Unexpected x)
