@@ -9,6 +9,17 @@ use std::marker::Model;
 #[cfg(test)]
 mod tests;
 
+/// The timers that guard a handover.
+#[derive(Clone, Copy, Debug, PartialEq, Eq)]
+pub enum Timer {
+    /// From the HANDOVER COMMAND until the mobile has come to the new channel (TS 44.018 clause 11.1.2).
+    T3103,
+    /// From HANDOVER REQUIRED until the switching centre answers (TS 48.008 clause 3.1.5).
+    T7,
+    /// From the HANDOVER COMMAND to another controller until the call is cleared (TS 48.008 clause 3.1.5).
+    T8,
+}
+
 /// The inverse of a step of an attempt.
 #[derive(Clone, Copy, Debug, PartialEq, Eq)]
 pub enum Inverse {
@@ -22,6 +33,14 @@ pub enum Inverse {
     DropReference(u8),
     /// The channel is off, where it may be active.
     SwitchOff(ChanId),
+    /// The mobile was not sent to the target: the attempt goes back one stage.
+    Uncommand,
+    /// The mobile was not seen on the target: the attempt goes back one stage.
+    Undetect,
+    /// The timer is not armed.
+    Disarm(Timer),
+    /// The timer is armed.
+    Rearm(Timer),
 }
 
 /// A list of up to seven inverses, last in first out. It keeps them in itself, and takes no memory.

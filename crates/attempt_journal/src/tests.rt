@@ -1,5 +1,5 @@
-use super::Inverse::{DropReference, Forget, FreeChannel, Settle, SwitchOff};
-use super::{Inverse, Journal};
+use super::Inverse::{Disarm, DropReference, Forget, FreeChannel, Rearm, SwitchOff, Undetect};
+use super::{Inverse, Journal, Timer};
 use channel_fsm::ChanId;
 use std::process::Abort;
 
@@ -10,23 +10,23 @@ const TARGET: ChanId = ChanId {
 };
 
 const PUSHED: [Inverse; 7] = [
-    Settle,
+    Forget,
     FreeChannel(TARGET),
     DropReference(255),
     SwitchOff(TARGET),
-    Forget,
-    DropReference(0),
-    Settle,
+    Undetect,
+    Disarm(Timer::T3103),
+    Rearm(Timer::T7),
 ];
 
 const POPPED: [Inverse; 7] = [
-    Settle,
-    DropReference(0),
-    Forget,
+    Rearm(Timer::T7),
+    Disarm(Timer::T3103),
+    Undetect,
     SwitchOff(TARGET),
     DropReference(255),
     FreeChannel(TARGET),
-    Settle,
+    Forget,
 ];
 
 fn pushes(rt: &impl Abort, journal: &mut Journal) {

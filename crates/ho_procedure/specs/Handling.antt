@@ -1,7 +1,7 @@
 -- What the handling of an input comes to.
 use Rattle.std.specs.Prelude.{◌≡◌, ◌⊎◌, ℕ, List, [], ◌∷◌, map, Option, None}
 use Rattle.radio_book.specs.declared.event.Event.{Event}
-use Rattle.radio_book.specs.declared.event.Event.TheVariants.{Take, Reserve}
+use Rattle.radio_book.specs.declared.event.Event.TheVariants.{Open, Clear, Look, Take, Reserve, Activate, Command, Complete, Undo, Confirm, Refuse, Detect, Released, Owner, Require, Order, Left}
 use Rattle.radio_book.specs.declared.event.Reply.{Reply}
 use Rattle.cell_table.specs.Site.{SiteView}
 use Rattle.radio_book.specs.State.{State, record_of}
@@ -29,7 +29,21 @@ all_sent out = map sent_of out
 abbrev pub IsChoice : State → Event → Type 0
 IsChoice b (Take c k x) = IsFreeIn b x.cell x
 IsChoice b (Reserve c n) = MayReserve b (taken_channel (record_of b c)) n
-IsChoice b e = Unit {0}
+IsChoice b (Open c x) = Unit {0}
+IsChoice b (Clear c) = Unit {0}
+IsChoice b (Look c) = Unit {0}
+IsChoice b (Activate c) = Unit {0}
+IsChoice b (Command c) = Unit {0}
+IsChoice b (Complete c) = Unit {0}
+IsChoice b (Undo c why) = Unit {0}
+IsChoice b (Confirm x) = Unit {0}
+IsChoice b (Refuse x) = Unit {0}
+IsChoice b (Detect x) = Unit {0}
+IsChoice b (Released x) = Unit {0}
+IsChoice b (Owner x) = Unit {0}
+IsChoice b (Require c) = Unit {0}
+IsChoice b (Order c) = Unit {0}
+IsChoice b (Left c) = Unit {0}
 
 -- the same of each event, in the book as it was asked
 abbrev pub AreChoices : State → List (Event × Reply) → Type 0

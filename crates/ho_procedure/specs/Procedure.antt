@@ -5,14 +5,14 @@ use Rattle.channel_fsm.specs.declared.ChanState.{ChanState}
 use Rattle.channel_fsm.specs.declared.ChanState.TheVariants.{Held}
 use Rattle.radio_book.specs.declared.event.Kind.TheVariants as kind
 use Rattle.radio_book.specs.declared.event.AttemptKind.{AttemptKind}
-use Rattle.radio_book.specs.declared.event.AttemptKind.TheVariants.{Internal, Incoming}
+use Rattle.radio_book.specs.declared.event.AttemptKind.TheVariants.{Internal, Incoming, Outgoing}
 use Rattle.radio_book.specs.declared.event.Stage.{Stage}
-use Rattle.radio_book.specs.declared.event.Stage.TheVariants as stage
 use Rattle.radio_book.specs.declared.event.Why.TheVariants.{Asked}
 use Rattle.radio_book.specs.declared.event.Attempt.{Attempt}
 use Rattle.radio_book.specs.declared.event.CallRecord.{CallRecord}
 use Rattle.radio_book.specs.declared.event.Event.TheVariants as event
 use Rattle.cell_table.specs.Site.{SiteView}
+use Rattle.radio_book.specs.Stages.{stage_row}
 use Rattle.radio_book.specs.Sound.{target_in}
 use Rattle.radio_book.specs.Table.{is_target}
 use Rattle.rsl_messages.specs.declared.message.ChanBits.{ChanBits}
@@ -78,9 +78,7 @@ release_messages Unknown = []
 
 -- a target is switched on from its activation on, until the station refused it
 abbrev pub is_switched_on : Stage → Bool
-is_switched_on stage.Sent = true
-is_switched_on stage.Confirmed = true
-is_switched_on s = false
+is_switched_on s = (stage_row s).switched_on
 
 -- the release of an attempt's target, where it was switched on
 abbrev pub target_release : Option Attempt → Release
@@ -118,6 +116,7 @@ undo_plan c = Asks (event.Undo c Asked) (if_record (λ r s. messages_then (relea
 abbrev pub is_own_kind : AttemptKind → Bool
 is_own_kind Internal = true
 is_own_kind Incoming = false
+is_own_kind Outgoing = true
 
 abbrev pub is_own : Option Attempt → Bool
 is_own None = true

@@ -1,5 +1,5 @@
 -- What a taking away hides of a book, and rows that read the same without it.
-use Rattle.std.proofs.Common.{◌≡◌, ℕ, Option, Some, None, refl, sym, ◌∙◌, ap, subst}
+use Rattle.std.proofs.Common.{◌≡◌, ◌⊎◌, ℕ, Option, Some, None, refl, sym, ◌∙◌, ap, subst}
 use Rattle.std.specs.Option.{option_map}
 use Rattle.std.specs.FinMap as map
 use Rattle.channel_fsm.specs.declared.ChanId.{ChanId}
@@ -11,14 +11,14 @@ use Rattle.radio_book.specs.declared.event.Reference.{Reference}
 use Rattle.radio_book.specs.declared.event.Event.{Event}
 use Rattle.radio_book.specs.declared.event.Event.TheVariants as event
 use Rattle.radio_book.specs.declared.event.Refusal.{Refusal}
-use Rattle.radio_book.specs.declared.event.Refusal.TheVariants.{ChannelBusy, RefBusy}
+use Rattle.radio_book.specs.declared.event.Refusal.TheVariants.{ChannelBusy, RefBusy, Unexpected}
 use Rattle.radio_book.specs.declared.event.Reply.{Reply}
 use Rattle.radio_book.specs.declared.event.Reply.TheVariants.{Refused}
 use Rattle.radio_book.specs.State.{State, Change, apply, state_of, record_of}
-use Rattle.radio_book.specs.Table.{Outcome, Refuses, Accepts, row, book_after, reply_of, reply_to}
-use Rattle.radio_book.specs.Sound.{IsSound, owner}
+use Rattle.radio_book.specs.Table.{owner, detect_by, Outcome, Refuses, Accepts, row, book_after, reply_of, reply_to}
+use Rattle.radio_book.specs.Sound.{IsSound}
 use Rattle.radio_book.specs.Others.{Commutes}
-use Rattle.radio_book.proofs.Frame.{is_owned}
+use Rattle.radio_book.proofs.Frame.{aimed_is_owned}
 use Rattle.radio_book.proofs.Changes.{Misses, ChangesApart, apply_swap, state_kept}
 
 -- the change of an accepted event names other entries
@@ -57,6 +57,10 @@ pub record Hides (removal : Change) (b : State) : Type 0 where
   pub others_channel : (x : ChanId) (d : ℕ) → owner (state_of b x) ≡ Some d → Misses removal.call d → Misses removal.channel x
   -- another channel that waits for its station is not of the calls that the taking away names
   pub others_pending : (x : ChanId) (d : ℕ) → state_of b x ≡ Pending d → Misses removal.channel x → Misses removal.call d
+  -- nor is another channel that is on, unless those calls don't move to it, before or after
+  pub others_on :
+      (x : ChanId) (d : ℕ) → state_of b x ≡ On d → Misses removal.channel x →
+      Misses removal.call d ⊎ ((detect_by x d (record_of b d) ≡ Refuses (Unexpected x)) × (detect_by x d (record_of (apply removal b) d) ≡ Refuses (Unexpected x)))
   pub free_reference : (k : Reference) → map.get b.references k ≡ None → Misses removal.reference k
   pub others_reference : (k : Reference) (d : ℕ) → map.get b.references k ≡ Some d → Misses removal.call d → Misses removal.reference k
   pub others_timer : (d : ℕ) → Misses removal.call d → Misses removal.timer d
@@ -73,6 +77,13 @@ IsOfOther removal (event.Undo d why) = Misses removal.call d
 IsOfOther removal (event.Confirm y) = Misses removal.channel y
 IsOfOther removal (event.Refuse y) = Misses removal.channel y
 IsOfOther removal (event.Released y) = Misses removal.channel y
+IsOfOther removal (event.Command d) = Misses removal.call d
+IsOfOther removal (event.Complete d) = Misses removal.call d
+IsOfOther removal (event.Detect y) = Misses removal.channel y
+IsOfOther removal (event.Owner y) = Misses removal.channel y
+IsOfOther removal (event.Require d) = Misses removal.call d
+IsOfOther removal (event.Order d) = Misses removal.call d
+IsOfOther removal (event.Left d) = Misses removal.call d
 
 -- the reply refuses for no channel and no reference that is gone
 pub record IsNotHeld (removal : Change) (reply : Reply) : Type 0 where
@@ -117,4 +128,4 @@ module _ (removal : Change) (b : State) (sound : IsSound b) (hides : Hides remov
   serving_missed x serves = hides.others_channel x d (sound.serving_is_owned d r x is serves) other
 
   pub target_missed : (a : Attempt) → r.attempt ≡ Some a → (x : ChanId) → a.target ≡ Some x → Misses removal.channel x
-  target_missed a has x aims = hides.others_channel x d (ap owner (sound.target_by_stage d r a x is has aims) ∙ is_owned d a.stage) other
+  target_missed a has x aims = hides.others_channel x d (aimed_is_owned b sound d r a x is has aims) other

@@ -6,19 +6,20 @@ use Rattle.std.specs.FinMap as map
 use Rattle.std.specs.FinMap.{FinMap, IsAntisymmetric, nat_cmp-IsAntisymmetric}
 use Rattle.channel_fsm.specs.declared.ChanId.{ChanId}
 use Rattle.channel_fsm.specs.declared.ChanState.{ChanState}
-use Rattle.channel_fsm.specs.declared.ChanState.TheVariants.{Free}
+use Rattle.channel_fsm.specs.declared.ChanState.TheVariants.{Free, On}
 use Rattle.radio_book.specs.declared.event.AttemptKind.{AttemptKind}
-use Rattle.radio_book.specs.declared.event.AttemptKind.TheVariants.{Internal, Incoming}
+use Rattle.radio_book.specs.declared.event.AttemptKind.TheVariants.{Internal, Incoming, Outgoing}
 use Rattle.radio_book.specs.declared.event.Stage.{Stage}
-use Rattle.radio_book.specs.declared.event.Stage.TheVariants.{Taken, Reserved, Sent, Refused, Confirmed}
+use Rattle.radio_book.specs.declared.event.Stage.TheVariants.{Taken, Reserved, Sent, Refused, Confirmed, Commanded, Detected, Required, Ordered}
 use Rattle.radio_book.specs.declared.event.Attempt.{Attempt}
 use Rattle.radio_book.specs.declared.event.CallRecord.{CallRecord}
 use Rattle.radio_book.specs.declared.event.Reference.{Reference}
 use Rattle.cell_table.specs.Site.{is_traffic}
 use Rattle.radio_book.specs.Maps.{Entry, put, with_change}
 use Rattle.radio_book.specs.State.{State, Change, apply, or_free, state_of, record_of}
-use Rattle.radio_book.specs.Table.{reference_at, reference_held}
-use Rattle.radio_book.specs.Sound.{IsSound, owner, Uses, target_in, reference_of, target_state, HasServing, HasReference}
+use Rattle.radio_book.specs.Stages.{stage_row}
+use Rattle.radio_book.specs.Table.{owner, reference_held}
+use Rattle.radio_book.specs.Sound.{IsSound, Uses, target_in, reference_of, IsStageOf, HasTarget, HasServing, HasReference, armed_in}
 use Rattle.radio_book.proofs.KeyFacts.{chan_total, chan_exact, reference_total, reference_exact}
 use Rattle.radio_book.proofs.MapFacts.{key_cases, get_put_same, get_put_other, call_cases}
 
@@ -55,19 +56,19 @@ module _ {K X : Type 0} {R : K → K → Ordering} (o : IsTotalOrder R) (exact :
 -- what a sound book says of one call
 pub record IsCallSound (look : ChanId → ChanState) (user : Reference → Option ℕ) (c : ℕ) (r : CallRecord) : Type 0 where
   pub serving_is_owned : (x : ChanId) → r.serving ≡ Some x → owner (look x) ≡ Some c
-  pub has_target : (a : Attempt) → r.attempt ≡ Some a → IsSome a.target
-  pub target_by_stage : (a : Attempt) (x : ChanId) → r.attempt ≡ Some a → a.target ≡ Some x → look x ≡ target_state c a.stage
+  pub stage_of_kind : (a : Attempt) → r.attempt ≡ Some a → IsStageOf a.kind (stage_row a.stage).target
+  pub target_by_stage : (a : Attempt) → r.attempt ≡ Some a → HasTarget c (stage_row a.stage).target a.target look
   pub cells_differ : (x y : ChanId) → r.serving ≡ Some x → target_in r ≡ Some y → x.cell ≢ y.cell
   pub serving_while_open : (a : Attempt) → r.attempt ≡ Some a → HasServing c a.kind r.serving look
   pub serving_at_rest : r.attempt ≡ None → IsSome r.serving
   pub reference_is_used : (k : Reference) → reference_of r.attempt ≡ Some k → user k ≡ Some c
-  pub reference_by_stage : (a : Attempt) → r.attempt ≡ Some a → HasReference a.stage a.reference
+  pub reference_by_stage : (a : Attempt) → r.attempt ≡ Some a → HasReference (stage_row a.stage).has_reference a.reference
 
 pub call_of : (b : State) → IsSound b → (c : ℕ) (r : CallRecord) → record_of b c ≡ Some r → IsCallSound (state_of b) (map.get b.references) c r
 call_of b sound c r e = record {
   serving_is_owned = λ x h. sound.serving_is_owned c r x e h;
-  has_target = λ a h. sound.has_target c r a e h;
-  target_by_stage = λ a x h g. sound.target_by_stage c r a x e h g;
+  stage_of_kind = λ a h. sound.stage_of_kind c r a e h;
+  target_by_stage = λ a h. sound.target_by_stage c r a e h;
   cells_differ = λ x y h g. sound.cells_differ c r x y e h g;
   serving_while_open = λ a h. sound.serving_while_open c r a e h;
   serving_at_rest = λ h. sound.serving_at_rest c r e h;
@@ -75,24 +76,42 @@ call_of b sound c r e = record {
   reference_by_stage = λ a h. sound.reference_by_stage c r a e h;
 }
 
-pub is_owned : (c : ℕ) (s : Stage) → owner (target_state c s) ≡ Some c
-is_owned c Taken = refl
-is_owned c Reserved = refl
-is_owned c Sent = refl
-is_owned c Refused = refl
-is_owned c Confirmed = refl
+-- the call of an attempt owns its target
+pub target_owned : (c : ℕ) (look : ChanId → ChanState) (t : ChanId) (g : Stage) → HasTarget c (stage_row g).target (Some t) look → owner (look t) ≡ Some c
+target_owned c look t Taken h = ap owner h
+target_owned c look t Reserved h = ap owner h
+target_owned c look t Sent h = ap owner h
+target_owned c look t Refused h = ap owner h
+target_owned c look t Confirmed h = ap owner h
+target_owned c look t Commanded h = ap owner h
+target_owned c look t Detected h = ap owner h
+target_owned c look t Required h = absurd h
+target_owned c look t Ordered h = absurd h
+
+pub aimed_is_owned : (b : State) → IsSound b → (c : ℕ) (r : CallRecord) (a : Attempt) (t : ChanId) → record_of b c ≡ Some r → r.attempt ≡ Some a → a.target ≡ Some t → owner (state_of b t) ≡ Some c
+aimed_is_owned b sound c r a t known opened aims =
+    target_owned c (state_of b) t a.stage (subst (λ o. HasTarget c (stage_row a.stage).target o (state_of b)) aims (sound.target_by_stage c r a known opened))
+
+pub target_stays : (c : ℕ) (look seen : ChanId → ChanState) (said : Option (ℕ → ChanState)) (o : Option ChanId) → ((t : ChanId) → o ≡ Some t → seen t ≡ look t) → HasTarget c said o look → HasTarget c said o seen
+target_stays c look seen None None same h = h
+target_stays c look seen None (Some t) same h = h
+target_stays c look seen (Some state) None same h = h
+target_stays c look seen (Some state) (Some t) same h = same t refl ∙ h
 
 serving_stays : (c : ℕ) (look seen : ChanId → ChanState) → ((x : ChanId) → owner (look x) ≡ Some c → seen x ≡ look x) → (k : AttemptKind) (s : Option ChanId) → HasServing c k s look → HasServing c k s seen
 serving_stays c look seen same Internal None h = h
 serving_stays c look seen same Internal (Some x) h = same x (ap owner h) ∙ h
 serving_stays c look seen same Incoming s h = h
+serving_stays c look seen same Outgoing None h = h
+serving_stays c look seen same Outgoing (Some x) h = same x (ap owner h) ∙ h
 
 -- a call whose channels and references stay, stays sound
 pub call_stays : (look seen : ChanId → ChanState) (user used : Reference → Option ℕ) (c : ℕ) (r : CallRecord) → ((x : ChanId) → owner (look x) ≡ Some c → seen x ≡ look x) → ((k : Reference) → user k ≡ Some c → used k ≡ Some c) → IsCallSound look user c r → IsCallSound seen used c r
 call_stays look seen user used c r same kept is = record {
   serving_is_owned = λ x h. ap owner (same x (is.serving_is_owned x h)) ∙ is.serving_is_owned x h;
-  has_target = is.has_target;
-  target_by_stage = λ a x h g. same x (ap owner (is.target_by_stage a x h g) ∙ is_owned c a.stage) ∙ is.target_by_stage a x h g;
+  stage_of_kind = is.stage_of_kind;
+  target_by_stage = λ a h. target_stays c look seen (stage_row a.stage).target a.target
+      (λ t aims. same t (target_owned c look t a.stage (subst (λ o. HasTarget c (stage_row a.stage).target o look) aims (is.target_by_stage a h)))) (is.target_by_stage a h);
   cells_differ = is.cells_differ;
   serving_while_open = λ a h. serving_stays c look seen same a.kind r.serving (is.serving_while_open a h);
   serving_at_rest = is.serving_at_rest;
@@ -105,8 +124,8 @@ call_stays look seen user used c r same kept is = record {
 pub resting_call : (look : ChanId → ChanState) (user : Reference → Option ℕ) (c : ℕ) (x : ChanId) → owner (look x) ≡ Some c → IsCallSound look user c (record { serving = Some x; attempt = None })
 resting_call look user c x owned = record {
   serving_is_owned = λ y h. at_some (λ z. owner (look z) ≡ Some c) x y owned h;
-  has_target = λ a h. cc;
-  target_by_stage = λ a y h g. cc;
+  stage_of_kind = λ a h. cc;
+  target_by_stage = λ a h. cc;
   cells_differ = λ y z h g. cc;
   serving_while_open = λ a h. cc;
   serving_at_rest = λ h. refl;
@@ -114,22 +133,24 @@ resting_call look user c x owned = record {
   reference_by_stage = λ a h. cc;
 }
 
-abbrev pub attempting : Option ChanId → AttemptKind → Stage → ChanId → Option ℕ → CallRecord
-attempting s k g t n = record { serving = s; attempt = Some (record { kind = k; stage = g; target = Some t; reference = n }) }
+abbrev pub attempting : Option ChanId → AttemptKind → Stage → Option ChanId → Option ℕ → CallRecord
+attempting s k g o n = record { serving = s; attempt = Some (record { kind = k; stage = g; target = o; reference = n }) }
 
-pub record HasAttempt (look : ChanId → ChanState) (user : Reference → Option ℕ) (c : ℕ) (s : Option ChanId) (k : AttemptKind) (g : Stage) (t : ChanId) (n : Option ℕ) : Type 0 where
-  pub state : look t ≡ target_state c g
-  pub cells_differ : (x : ChanId) → s ≡ Some x → x.cell ≢ t.cell
+pub record HasAttempt (look : ChanId → ChanState) (user : Reference → Option ℕ) (c : ℕ) (s : Option ChanId) (k : AttemptKind) (g : Stage) (o : Option ChanId) (n : Option ℕ) : Type 0 where
+  pub stage_of_kind : IsStageOf k (stage_row g).target
+  pub state : HasTarget c (stage_row g).target o look
+  pub cells_differ : (x y : ChanId) → s ≡ Some x → o ≡ Some y → x.cell ≢ y.cell
   pub serving_while_open : HasServing c k s look
-  pub reference_is_used : (m : ℕ) → n ≡ Some m → user (reference_at t m) ≡ Some c
-  pub reference_by_stage : HasReference g n
+  pub reference_is_used : (j : Reference) → reference_held o n ≡ Some j → user j ≡ Some c
+  pub reference_by_stage : HasReference (stage_row g).has_reference n
 
-pub attempt_of : (look : ChanId → ChanState) (user : Reference → Option ℕ) (c : ℕ) (s : Option ChanId) (k : AttemptKind) (g : Stage) (t : ChanId) (n : Option ℕ) → IsCallSound look user c (attempting s k g t n) → HasAttempt look user c s k g t n
-attempt_of look user c s k g t n is = record {
-  state = is.target_by_stage _ t refl refl;
-  cells_differ = λ x h. is.cells_differ x t h refl;
+pub attempt_of : (look : ChanId → ChanState) (user : Reference → Option ℕ) (c : ℕ) (s : Option ChanId) (k : AttemptKind) (g : Stage) (o : Option ChanId) (n : Option ℕ) → IsCallSound look user c (attempting s k g o n) → HasAttempt look user c s k g o n
+attempt_of look user c s k g o n is = record {
+  stage_of_kind = is.stage_of_kind _ refl;
+  state = is.target_by_stage _ refl;
+  cells_differ = λ x y h aims. is.cells_differ x y h aims;
   serving_while_open = is.serving_while_open _ refl;
-  reference_is_used = λ m h. is.reference_is_used (reference_at t m) (ap (reference_held (Some t)) h);
+  reference_is_used = λ j h. is.reference_is_used j h;
   reference_by_stage = is.reference_by_stage _ refl;
 }
 
@@ -137,21 +158,27 @@ serving_owned : (c : ℕ) (look : ChanId → ChanState) (k : AttemptKind) (s : O
 serving_owned c look Internal None h x e = absurd h
 serving_owned c look Internal (Some y) h x e = at_some (λ z. owner (look z) ≡ Some c) y x (ap owner h) e
 serving_owned c look Incoming s h x e = cc
+serving_owned c look Outgoing None h x e = absurd h
+serving_owned c look Outgoing (Some y) h x e = at_some (λ z. owner (look z) ≡ Some c) y x (ap owner h) e
 
-reference_kept : (user : Reference → Option ℕ) (c : ℕ) (t : ChanId) (n : Option ℕ) → ((m : ℕ) → n ≡ Some m → user (reference_at t m) ≡ Some c) → (k : Reference) → reference_held (Some t) n ≡ Some k → user k ≡ Some c
-reference_kept user c t None h k e = cc
-reference_kept user c t (Some m) h k e = at_some (λ j. user j ≡ Some c) _ k (h m refl) e
+-- the serving channel is on while an attempt is open
+pub serving_is_on : (c : ℕ) (look : ChanId → ChanState) (k : AttemptKind) (s : Option ChanId) (x : ChanId) → HasServing c k s look → s ≡ Some x → look x ≡ On c
+serving_is_on c look Internal None x on serves = absurd on
+serving_is_on c look Internal (Some y) x on serves = ap look (sym (same_some y x serves)) ∙ on
+serving_is_on c look Incoming s x on serves = let bad : None ≡ Some x = sym on ∙ serves in cc
+serving_is_on c look Outgoing None x on serves = absurd on
+serving_is_on c look Outgoing (Some y) x on serves = ap look (sym (same_some y x serves)) ∙ on
 
-pub attempting_call : (look : ChanId → ChanState) (user : Reference → Option ℕ) (c : ℕ) (s : Option ChanId) (k : AttemptKind) (g : Stage) (t : ChanId) (n : Option ℕ) → HasAttempt look user c s k g t n → IsCallSound look user c (attempting s k g t n)
-attempting_call look user c s k g t n has = record {
+pub attempting_call : (look : ChanId → ChanState) (user : Reference → Option ℕ) (c : ℕ) (s : Option ChanId) (k : AttemptKind) (g : Stage) (o : Option ChanId) (n : Option ℕ) → HasAttempt look user c s k g o n → IsCallSound look user c (attempting s k g o n)
+attempting_call look user c s k g o n has = record {
   serving_is_owned = λ x h. serving_owned c look k s has.serving_while_open x h;
-  has_target = λ a h. at_some (λ (a : Attempt). IsSome a.target) (record { kind = k; stage = g; target = Some t; reference = n }) a refl h;
-  target_by_stage = λ a x h e. at_some (λ (a : Attempt). a.target ≡ Some x → look x ≡ target_state c a.stage) _ a (λ e. at_some (λ y. look y ≡ target_state c g) t x has.state e) h e;
-  cells_differ = λ x y h e. at_some (λ z. x.cell ≢ z.cell) t y (has.cells_differ x h) e;
+  stage_of_kind = λ a h. at_some (λ (a : Attempt). IsStageOf a.kind (stage_row a.stage).target) _ a has.stage_of_kind h;
+  target_by_stage = λ a h. at_some (λ (a : Attempt). HasTarget c (stage_row a.stage).target a.target look) _ a has.state h;
+  cells_differ = λ x y h e. has.cells_differ x y h e;
   serving_while_open = λ a h. at_some (λ (a : Attempt). HasServing c a.kind s look) _ a has.serving_while_open h;
   serving_at_rest = λ h. cc;
-  reference_is_used = λ k h. reference_kept user c t n has.reference_is_used k h;
-  reference_by_stage = λ a h. at_some (λ (a : Attempt). HasReference a.stage a.reference) _ a has.reference_by_stage h;
+  reference_is_used = λ j h. has.reference_is_used j h;
+  reference_by_stage = λ a h. at_some (λ (a : Attempt). HasReference (stage_row a.stage).has_reference a.reference) _ a has.reference_by_stage h;
 }
 
 -- a call's record, if it has one, uses the channel; has the reference; is sound
@@ -186,7 +213,9 @@ pub record Concerns (b : State) (change : Change) (c : ℕ) (was is : Option Cal
   -- the call keeps its other references
   pub references : (k : Reference) → (Touches change.reference k → ⊥) → ReferredBy was k → ReferredBy is k
   pub sound : SoundIfAny (state_of (apply change b)) (map.get (apply change b).references) c is
-  pub timers : (d : ℕ) → map.get (apply change b).timers d ≡ None
+  -- no other timer is changed, and that of the call is the one that its stage says
+  pub timer : AtKey change.timer (λ d v. d ≡ c)
+  pub armed : map.get (apply change b).timers c ≡ armed_in is
 
 module _ (b : State) (sound : IsSound b) (change : Change) (c : ℕ) (was is : Option CallRecord) (concerns : Concerns b change c was is) where
   abbrev b' : State
@@ -208,6 +237,15 @@ module _ (b : State) (sound : IsSound b) (change : Change) (c : ℕ) (was is : O
   other_reference d other k used = elim (get-with_change reference_total reference_exact b.references change.reference (λ k v. (d : ℕ) → map.get b.references k ≡ Some d → d ≡ c) k concerns.reference_was) [
     | inl (was, t) ↦ absurd (other (was d used))
     | inr (t, same) ↦ same ∙ used
+  ]
+
+  timers : (d : ℕ) → map.get b'.timers d ≡ armed_in (record_of b' d)
+  timers d = elim (call_cases d c) [
+    | inl at ↦ ap (map.get b'.timers) at ∙ concerns.armed ∙ ap armed_in (sym concerns.after) ∙ ap (λ z. armed_in (record_of b' z)) (sym at)
+    | inr other ↦ elim (get-with_change nat_cmp_total nat_cmp-IsAntisymmetric b.timers change.timer (λ e v. e ≡ c) d concerns.timer) [
+      | inl (same, t) ↦ absurd (other same)
+      | inr (t, same) ↦ same ∙ sound.timers d ∙ ap armed_in (sym (other_call d other))
+    ]
   ]
 
   calls : (d : ℕ) (r : CallRecord) → record_of b' d ≡ Some r → IsCallSound (state_of b') (map.get b'.references) d r
@@ -256,13 +294,13 @@ module _ (b : State) (sound : IsSound b) (change : Change) (c : ℕ) (was is : O
     not_free = λ x s e. (entries x s e).1;
     owner_uses = owner_uses;
     serving_is_owned = λ d r x e h. (calls d r e).serving_is_owned x h;
-    has_target = λ d r a e h. (calls d r e).has_target a h;
-    target_by_stage = λ d r a x e h g. (calls d r e).target_by_stage a x h g;
+    stage_of_kind = λ d r a e h. (calls d r e).stage_of_kind a h;
+    target_by_stage = λ d r a e h. (calls d r e).target_by_stage a h;
     cells_differ = λ d r x y e h g. (calls d r e).cells_differ x y h g;
     serving_while_open = λ d r a e h. (calls d r e).serving_while_open a h;
     serving_at_rest = λ d r e h. (calls d r e).serving_at_rest h;
     reference_is_used = λ d r k e h. (calls d r e).reference_is_used k h;
     user_has_reference = user_has_reference;
     reference_by_stage = λ d r a e h. (calls d r e).reference_by_stage a h;
-    timers = concerns.timers;
+    timers = timers;
   }

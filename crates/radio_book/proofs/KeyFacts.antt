@@ -1,6 +1,6 @@
 -- The orders of the keys are total, and keys that tie are one.
-use Rattle.std.proofs.Common.{◌≡◌, ℕ, true, refl, ap}
-use Rattle.std.proofs.lemmas.Bool.{eq-eqb, and_from}
+use Rattle.std.proofs.Common.{◌≡◌, ◌≢◌, ◌==◌, ◌&&◌, ℕ, true, false, refl, ap}
+use Rattle.std.proofs.lemmas.Bool.{eq-eqb, eqb-true, and_from, and_parts}
 use Rattle.std.specs.Ordering.{nat_cmp}
 use Rattle.std.specs.Cmp.{IsTotalOrder, nat_cmp_total}
 use Rattle.std.specs.FinMap.{IsAntisymmetric}
@@ -32,3 +32,17 @@ reference_exact k j h =
 -- the table's test finds a channel in its place
 pub same_chan_itself : (x : ChanId) → same_chan x x ≡ true
 same_chan_itself x = and_from _ _ (eq-eqb x.cell x.cell refl) (and_from _ _ (eq-eqb x.trx x.trx refl) (eq-eqb x.tn x.tn refl))
+
+-- and no other
+pub other_chan : (x y : ChanId) → x ≢ y → same_chan x y ≡ false
+other_chan x y apart =
+    elim (same_chan x y) as (λ b. same_chan x y ≡ b → b ≡ false) [
+      | true ↦ λ e. absurd (apart (one_chan x y e))
+      | false ↦ λ e. refl
+    ] refl
+  where
+    one_chan : (x y : ChanId) → same_chan x y ≡ true → x ≡ y
+    one_chan x y e =
+        let (cells, places) = and_parts (x.cell == y.cell) (x.trx == y.trx && x.tn == y.tn) e in
+        let (trx, tn) = and_parts (x.trx == y.trx) (x.tn == y.tn) places in
+        λ i. record { cell = eqb-true x.cell y.cell cells i; trx = eqb-true x.trx y.trx trx i; tn = eqb-true x.tn y.tn tn i }

@@ -1,7 +1,11 @@
 pub mod KeyFacts
 pub mod MapFacts
 pub mod TableFacts
+pub mod JournalFacts
+pub mod EntryFacts
 pub mod Frame
+pub mod SoundParts
+pub mod SoundHandover
 pub mod SoundSteps
 pub mod Inverses
 pub mod ChannelSteps
@@ -15,4 +19,5 @@ pub mod Agreement
 pub mod OthersCalls
 pub mod OthersAttempts
 pub mod OthersStations
+pub mod OthersHandover
 pub mod OthersPhases

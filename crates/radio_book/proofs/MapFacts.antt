@@ -56,7 +56,7 @@ module _ {K X : Type 0} {R : K → K → Ordering} (o : IsTotalOrder R) where
   pub get_listed : (es : List (K × X)) (q : K) → map.get (map.from_entries {R = R} es) q ≡ lookup (is_at (R q)) es
   get_listed es q = get-from_entries o es q ∙ find_is_lookup R es q
 
-  get_put : (m : FinMap R X) (k : K) (w : Option X) (q : K) → map.get (put m k w) q ≡ cond (eq_by_cmp R q k) w (map.get m q)
+  pub get_put : (m : FinMap R X) (k : K) (w : Option X) (q : K) → map.get (put m k w) q ≡ cond (eq_by_cmp R q k) w (map.get m q)
   get_put m k None q = get-remove o m k q
   get_put m k (Some v) q = get-insert o m k v q
 

@@ -12,11 +12,11 @@ use Rattle.radio_book.specs.declared.event.CallRecord.{CallRecord}
 use Rattle.radio_book.specs.declared.event.Reference.{Reference}
 use Rattle.cell_table.specs.Site.{IsSite, IsWithinLimits}
 use Rattle.radio_book.specs.State.{State, state_of, record_of}
-use Rattle.radio_book.specs.Table.{reference_held}
-use Rattle.radio_book.specs.Sound.{IsSound, owner, target_in, reference_of}
+use Rattle.radio_book.specs.Table.{owner, reference_held}
+use Rattle.radio_book.specs.Sound.{IsSound, target_in, reference_of}
 use Rattle.cell_table.proofs.SiteFacts.{traffic_limits}
-use Rattle.radio_book.proofs.Frame.{same_some, is_owned}
-use Rattle.radio_book.proofs.SoundSteps.{owned_traffic}
+use Rattle.radio_book.proofs.Frame.{same_some, aimed_is_owned}
+use Rattle.radio_book.proofs.SoundParts.{owned_traffic}
 
 abbrev numbered : ℕ → ℕ → Reference
 numbered cell n = record { cell = cell; number = n }
@@ -47,7 +47,7 @@ used_by b sound site cell n c r user recorded reference =
       | Some a ↦ λ is h.
           let held = held_by a.target a.reference (numbered cell n) h in
           let t = held.0 in
-          let owned = ap owner (sound.target_by_stage c r a t recorded is held.1) ∙ is_owned c a.stage in
+          let owned = aimed_is_owned b sound c r a t recorded is held.1 in
           record {
             call = c;
             known = r;

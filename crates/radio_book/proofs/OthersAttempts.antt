@@ -8,7 +8,7 @@ use Rattle.channel_fsm.specs.declared.ChanState.TheVariants.{Free, Held, Pending
 use Rattle.radio_book.specs.declared.event.AttemptKind.TheVariants.{Incoming}
 use Rattle.radio_book.specs.declared.event.Kind.{Kind}
 use Rattle.radio_book.specs.declared.event.Kind.TheVariants as kind
-use Rattle.radio_book.specs.declared.event.Timer.{Timer}
+use Rattle.attempt_journal.specs.declared.Timer.{Timer}
 use Rattle.radio_book.specs.declared.event.Why.{Why}
 use Rattle.radio_book.specs.declared.event.Why.TheVariants.{Asked, Expired}
 use Rattle.radio_book.specs.declared.event.Stage.{Stage}
@@ -90,6 +90,10 @@ module _ (removal : Change) (b : State) (hides : Hides removal b) (d n : ℕ) (o
   reserve_at_agrees a stage.Sent target h = refused removal WrongPhase
   reserve_at_agrees a stage.Refused target h = refused removal WrongPhase
   reserve_at_agrees a stage.Confirmed target h = refused removal WrongPhase
+  reserve_at_agrees a stage.Commanded target h = refused removal WrongPhase
+  reserve_at_agrees a stage.Detected target h = refused removal WrongPhase
+  reserve_at_agrees a stage.Required target h = refused removal WrongPhase
+  reserve_at_agrees a stage.Ordered target h = refused removal WrongPhase
 
   reserve_by_agrees : (o : Option Attempt) →
       ((k : Reference) → reply_of (reserve_by d n r o (map.get b.references)) ≡ Refused (RefBusy k.cell k.number) → Misses removal.reference k) →
@@ -118,6 +122,10 @@ activate_agrees d removal b sound hides other not_held = as_read (ap (activate_r
     at r a stage.Sent target missed = refused removal WrongPhase
     at r a stage.Refused target missed = refused removal WrongPhase
     at r a stage.Confirmed target missed = refused removal WrongPhase
+    at r a stage.Commanded target missed = refused removal WrongPhase
+    at r a stage.Detected target missed = refused removal WrongPhase
+    at r a stage.Required target missed = refused removal WrongPhase
+    at r a stage.Ordered target missed = refused removal WrongPhase
 
     of : (r : CallRecord) → record_of b d ≡ Some r → (o : Option Attempt) → r.attempt ≡ o → Agrees removal (activate_by d r o) (activate_by d r o)
     of r is None has = refused removal WrongPhase

@@ -1,5 +1,5 @@
--- Confirm, Refuse and Released on another channel agree, whatever is gone.
-use Rattle.std.proofs.Common.{◌≡◌, ℕ, Bool, true, false, if◌then◌else◌, Option, Some, None, refl, ap}
+-- Confirm, Refuse, Detect, Released and Owner on another channel agree, whatever is gone.
+use Rattle.std.proofs.Common.{◌≡◌, inl, inr, ℕ, Bool, true, false, if◌then◌else◌, Option, Some, None, refl, sym, ◌∙◌, ap, subst}
 use Rattle.channel_fsm.specs.declared.ChanId.{ChanId}
 use Rattle.channel_fsm.specs.declared.ChanState.{ChanState}
 use Rattle.channel_fsm.specs.declared.ChanState.TheVariants.{Free, Held, Pending, On, Off}
@@ -11,9 +11,9 @@ use Rattle.radio_book.specs.declared.event.Event.TheVariants as event
 use Rattle.radio_book.specs.declared.event.Refusal.TheVariants.{Unexpected}
 use Rattle.radio_book.specs.declared.event.Reply.TheVariants.{Owned}
 use Rattle.radio_book.specs.State.{State, Change, apply, state_of, record_of}
-use Rattle.radio_book.specs.Table.{Accepts, with_state, with_record, at_stage, is_target, attempt_entry, moved_entry, confirm_row, refuse_row, released_row}
+use Rattle.radio_book.specs.Table.{owner, Refuses, detect_row, detect_by, detect_of, detect_at, owner_row, Accepts, with_state, with_record, at_stage, is_target, attempt_entry, moved_entry, confirm_row, refuse_row, released_row}
 use Rattle.radio_book.proofs.Changes.{Misses, AreApart, state_kept, record_kept}
-use Rattle.radio_book.proofs.Agreement.{Agrees, refused, as_read, AgreesWithOthers}
+use Rattle.radio_book.proofs.Agreement.{Agrees, Avoids, refused, as_read, AgreesWithOthers}
 
 module _ (removal : Change) (c : ℕ) (other : Misses removal.call c) (x : ChanId) (s : Stage) where
   with_record_apart : (aimed : Bool) (r : CallRecord) → AreApart (if aimed then with_record c r else None) removal.call
@@ -68,3 +68,53 @@ released_agrees y removal b sound hides other not_held = as_read (ap (released_r
     by (Pending c) = refused removal (Unexpected y)
     by (On c) = refused removal (Unexpected y)
     by Off = record { same = refl; away = record { channel = other; call = tt; reference = tt; timer = tt } }
+
+-- Detect: the channel is no target of a call that is gone, or that call's record isn't
+module _ (removal : Change) (x : ChanId) (c : ℕ) (other : Misses removal.call c) where
+  detect_at_agrees : (r : CallRecord) (a : Attempt) (g : Stage) → Agrees removal (detect_at x c r a g) (detect_at x c r a g)
+  detect_at_agrees r a stage.Taken = refused removal (Unexpected x)
+  detect_at_agrees r a stage.Reserved = refused removal (Unexpected x)
+  detect_at_agrees r a stage.Sent = refused removal (Unexpected x)
+  detect_at_agrees r a stage.Refused = refused removal (Unexpected x)
+  detect_at_agrees r a stage.Confirmed = refused removal (Unexpected x)
+  detect_at_agrees r a stage.Commanded = record { same = refl; away = record { channel = tt; call = other; reference = tt; timer = tt } }
+  detect_at_agrees r a stage.Detected = refused removal (Unexpected x)
+  detect_at_agrees r a stage.Required = refused removal (Unexpected x)
+  detect_at_agrees r a stage.Ordered = refused removal (Unexpected x)
+
+  detect_if_agrees : (r : CallRecord) (a : Attempt) (aimed : Bool) →
+      Agrees removal (if aimed then detect_at x c r a a.stage else Refuses (Unexpected x)) (if aimed then detect_at x c r a a.stage else Refuses (Unexpected x))
+  detect_if_agrees r a true = detect_at_agrees r a a.stage
+  detect_if_agrees r a false = refused removal (Unexpected x)
+
+  detect_of_agrees : (r : CallRecord) (o : Option Attempt) → Agrees removal (detect_of x c r o) (detect_of x c r o)
+  detect_of_agrees r None = refused removal (Unexpected x)
+  detect_of_agrees r (Some a) = detect_if_agrees r a (is_target x a.target)
+
+  detect_by_agrees : (o : Option CallRecord) → Agrees removal (detect_by x c o) (detect_by x c o)
+  detect_by_agrees None = refused removal (Unexpected x)
+  detect_by_agrees (Some r) = detect_of_agrees r r.attempt
+
+pub detect_agrees : (y : ChanId) → AgreesWithOthers (event.Detect y)
+detect_agrees y removal b sound hides other not_held =
+    as_read (ap (λ s. detect_row y s (record_of (apply removal b))) (state_kept removal b y other)) (by (state_of b y) refl)
+  where
+    on : (c : ℕ) → state_of b y ≡ On c → Agrees removal (detect_by y c (record_of b c)) (detect_by y c (record_of (apply removal b) c))
+    on c is = elim (hides.others_on y c is other) [
+      | inl missed ↦ as_read (ap (detect_by y c) (record_kept removal b c missed)) (detect_by_agrees removal y c missed (record_of b c))
+      | inr none ↦ record { same = none.1 ∙ sym none.0; away = subst (λ o. Avoids o removal) (sym none.0) tt }
+    ]
+
+    by : (s : ChanState) → state_of b y ≡ s → Agrees removal (detect_row y s (record_of b)) (detect_row y s (record_of (apply removal b)))
+    by Free is = refused removal (Unexpected y)
+    by (Held c) is = refused removal (Unexpected y)
+    by (Pending c) is = refused removal (Unexpected y)
+    by (On c) is = on c is
+    by Off is = refused removal (Unexpected y)
+
+pub owner_agrees : (y : ChanId) → AgreesWithOthers (event.Owner y)
+owner_agrees y removal b sound hides other not_held = as_read (ap (λ s. owner_row y (owner s)) (state_kept removal b y other)) (by (owner (state_of b y)))
+  where
+    by : (o : Option ℕ) → Agrees removal (owner_row y o) (owner_row y o)
+    by None = refused removal (Unexpected y)
+    by (Some c) = record { same = refl; away = record { channel = tt; call = tt; reference = tt; timer = tt } }

@@ -8,22 +8,21 @@ use Rattle.channel_fsm.specs.declared.ChanId.{ChanId}
 use Rattle.channel_fsm.specs.declared.ChanState.{ChanState}
 use Rattle.channel_fsm.specs.declared.ChanState.TheVariants.{Free, Held, Pending, On, Off}
 use Rattle.radio_book.specs.declared.event.Stage.{Stage}
-use Rattle.radio_book.specs.declared.event.Stage.TheVariants.{Taken, Reserved, Sent, Refused, Confirmed}
 use Rattle.radio_book.specs.declared.event.Attempt.{Attempt}
 use Rattle.radio_book.specs.declared.event.CallRecord.{CallRecord}
 use Rattle.radio_book.specs.declared.event.Event.{Event}
 use Rattle.radio_book.specs.declared.event.Refusal.TheVariants.{ChannelBusy}
-use Rattle.attempt_journal.specs.declared.Inverse.{Inverse}
 use Rattle.cell_table.specs.Site.{is_traffic}
 use Rattle.channel_fsm.specs.declared.ChanEvent.TheVariants.{Send}
 use Rattle.radio_book.specs.Keys.{chan_cmp}
 use Rattle.radio_book.specs.Maps.{with_change}
 use Rattle.radio_book.specs.Channels.{entry_of, channel_step}
 use Rattle.radio_book.specs.State.{State, or_free, state_of, record_of}
-use Rattle.radio_book.specs.Sound.{IsSound, target_state}
+use Rattle.radio_book.specs.Sound.{IsSound, HasTarget}
 use Rattle.radio_book.specs.Table.{Refuses, step, begin_row}
-use Rattle.radio_book.specs.Journal.{journal_of, inverses_at, stage_inverses, opening_inverse, or_zero}
-use Rattle.radio_book.proofs.SoundSteps.{sound_step}
+use Rattle.radio_book.specs.Stages.{stage_row, sent_inverses, opening_inverse}
+use Rattle.radio_book.specs.Journal.{journal_of, or_zero, or_origin}
+use Rattle.radio_book.proofs.SoundSteps.{sent_stage, sound_step}
 
 -- a held channel of a call that asks for it
 pub sent : (m : FinMap chan_cmp ChanState) (x : ChanId) (c : ℕ) → or_free (map.get m x) ≡ Held c → with_change m (channel_step x (Send c) (or_free (map.get m x))) ≡ map.insert m x (Pending c)
@@ -55,13 +54,6 @@ begin_is_busy b c x r v sound new traffic there =
     ap (λ o. begin_row c x r v o (is_traffic b.site x) (state_of b x)) (no_record (record_of b c) new)
     ∙ ap (λ t. begin_row c x r v None t (state_of b x)) traffic ∙ begin_busy c x r v (state_of b x) (not_free b x sound there)
 
-target_of_sent : (c : ℕ) (s : Stage) → target_state c s ≡ Pending c → s ≡ Sent
-target_of_sent c Taken e = cc
-target_of_sent c Reserved e = cc
-target_of_sent c Sent e = refl
-target_of_sent c Refused e = cc
-target_of_sent c Confirmed e = cc
-
 -- an attempt of the call that has the channel as its target keeps its inverses at the stage
 abbrev pub MayMove : ℕ → ChanId → Stage → State → Type 0
 MayMove c x s b =
@@ -69,14 +61,12 @@ MayMove c x s b =
     journal_of (Some (record a { stage = s })) ≡ journal_of (Some a)
 
 -- the inverses stay where a target that was asked for is answered
-pub pending_moves : (b : State) (c : ℕ) (x : ChanId) (s : Stage) → IsSound b → map.get b.channels x ≡ Some (Pending c) →
-    ((o : Inverse) (t : ChanId) (n : ℕ) → stage_inverses o t n s ≡ stage_inverses o t n Sent) → MayMove c x s b
-pending_moves b c x s sound pending same r a known opened target =
-    let sent = target_of_sent c a.stage (sym (sound.target_by_stage c r a x known opened target) ∙ ap or_free pending) in
-    ap (inverses_at (record a { stage = s })) target
-    ∙ same (opening_inverse a.kind) x (or_zero a.reference)
-    ∙ ap (stage_inverses (opening_inverse a.kind) x (or_zero a.reference)) (sym sent)
-    ∙ sym (ap (inverses_at a) target)
+pub pending_moves : (b : State) (c : ℕ) (x : ChanId) (s : Stage) → IsSound b → map.get b.channels x ≡ Some (Pending c) → (stage_row s).inverses ≡ sent_inverses → MayMove c x s b
+pending_moves b c x s sound pending same r a known opened aims =
+    let is = subst (λ o. HasTarget c (stage_row a.stage).target o (state_of b)) aims (sound.target_by_stage c r a known opened) in
+    let sent = sent_stage c (state_of b) x a.stage is (ap or_free pending) in
+    ap (λ f. f (opening_inverse a.kind) (or_origin a.target) (or_zero a.reference)) same
+    ∙ sym (ap (λ g. (stage_row g).inverses (opening_inverse a.kind) (or_origin a.target) (or_zero a.reference)) sent)
 
 -- a book is sound after a step, whether or not memory was refused
 pub stepped_sound : {T E : Type 0} (r : Result T E) (b n : State) (e : Event) → IsSound b → OnOk r (n ≡ step b e) → OnErr r (n ≡ b) → IsSound n

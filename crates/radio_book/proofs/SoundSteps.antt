@@ -9,60 +9,34 @@ use Rattle.channel_fsm.specs.declared.ChanId.{ChanId}
 use Rattle.channel_fsm.specs.declared.ChanState.{ChanState}
 use Rattle.channel_fsm.specs.declared.ChanState.TheVariants.{Free, Held, Pending, On, Off}
 use Rattle.radio_book.specs.declared.event.AttemptKind.{AttemptKind}
-use Rattle.radio_book.specs.declared.event.AttemptKind.TheVariants.{Internal, Incoming}
+use Rattle.radio_book.specs.declared.event.AttemptKind.TheVariants.{Internal, Incoming, Outgoing}
 use Rattle.radio_book.specs.declared.event.Stage.{Stage}
-use Rattle.radio_book.specs.declared.event.Stage.TheVariants.{Taken, Reserved, Sent, Refused, Confirmed}
+use Rattle.radio_book.specs.declared.event.Stage.TheVariants.{Taken, Reserved, Sent, Refused, Confirmed, Commanded, Detected, Required, Ordered}
 use Rattle.radio_book.specs.declared.event.Attempt.{Attempt}
 use Rattle.radio_book.specs.declared.event.CallRecord.{CallRecord}
 use Rattle.radio_book.specs.declared.event.Reference.{Reference}
 use Rattle.radio_book.specs.declared.event.Kind.{Kind}
 use Rattle.radio_book.specs.declared.event.Kind.TheVariants as kind
-use Rattle.radio_book.specs.declared.event.Timer.{Timer}
+use Rattle.attempt_journal.specs.declared.Timer.{Timer}
 use Rattle.radio_book.specs.declared.event.Why.{Why}
 use Rattle.radio_book.specs.declared.event.Why.TheVariants.{Asked, Expired}
 use Rattle.radio_book.specs.declared.event.Refusal.{Refusal}
-use Rattle.radio_book.specs.declared.event.Refusal.TheVariants.{WrongPhase}
+use Rattle.radio_book.specs.declared.event.Refusal.TheVariants.{WrongPhase, NotArmed}
 use Rattle.radio_book.specs.declared.event.Event.{Event}
 use Rattle.radio_book.specs.declared.event.Event.TheVariants as event
 use Rattle.cell_table.specs.Site.{SiteView, is_traffic}
 use Rattle.radio_book.specs.Keys.{chan_cmp, reference_cmp}
 use Rattle.radio_book.specs.Maps.{Entry, put}
 use Rattle.radio_book.specs.State.{State, Change, apply, or_free, state_of, record_of, empty_book}
-use Rattle.radio_book.specs.Table.{step, book_after, with_state, without_state, with_record, begin_row, cleared_state, clear_row, clear_at, look_row, moved_entry, confirm_row, refuse_row, released_row, taking_change, take_from, take_internal, take_row, reference_at, reference_held, reserve_number, reserve_at, reserve_by, reserve_row, activate_at, activate_by, activate_row, left_state, resting_record, undo_change, undo_attempt, undo_row}
-use Rattle.radio_book.specs.Sound.{IsSound, owner, Uses, target_state, HasServing, HasReference}
+use Rattle.radio_book.specs.Table.{owner, step, book_after, with_state, without_state, with_record, begin_row, cleared_state, clear_row, clear_at, look_row, moved_entry, confirm_row, refuse_row, released_row, taking_change, take_from, take_internal, take_row, reference_at, reference_held, reserve_number, reserve_at, reserve_by, reserve_row, activate_at, activate_by, activate_row, left_state, resting_record, undo_change, undo_attempt, undo_row, is_armed, Refuses}
+use Rattle.radio_book.specs.Sound.{IsSound, Uses, IsStageOf, HasTarget, HasServing, armed_in}
+use Rattle.radio_book.specs.Stages.{stage_row}
 use Rattle.radio_book.specs.Run.{run_book, RunsAreSound}
-use Rattle.radio_book.proofs.KeyFacts.{same_chan_itself}
+use Rattle.radio_book.proofs.KeyFacts.{chan_total, chan_exact, same_chan_itself}
 use Rattle.radio_book.proofs.MapFacts.{state_same, state_other, record_same, reference_same}
-use Rattle.radio_book.proofs.Frame.{same_some, at_some, Touches, AtKey, UsedBy, ReferredBy, call_of, call_stays, resting_call, attempting, attempt_of, attempting_call, is_owned, SoundIfAny, concerned_sound}
-
--- facts of states
-
--- two calls that a state names are one
-one_owner : (s : ChanState) (c d : ℕ) → owner s ≡ Some c → owner s ≡ Some d → d ≡ c
-one_owner s c d h g = same_some d c (sym g ∙ h)
-
-owned_not_free : (s : ChanState) (c : ℕ) → owner s ≡ Some c → s ≢ Free
-owned_not_free s c h f = let bad : None ≡ Some c = sym (ap owner f) ∙ h in cc
-
--- a channel that isn't free has an entry
-listed : (b : State) → IsSound b → (x : ChanId) (o : Option ChanState) → map.get b.channels x ≡ o → or_free o ≢ Free → is_traffic b.site x ≡ true
-listed b sound x None e used = absurd (used refl)
-listed b sound x (Some s) e used = sound.is_traffic x s e
-
-pub owned_traffic : (b : State) → IsSound b → (x : ChanId) (c : ℕ) → owner (state_of b x) ≡ Some c → is_traffic b.site x ≡ true
-owned_traffic b sound x c h = listed b sound x (map.get b.channels x) refl (owned_not_free (state_of b x) c h)
-
--- what a channel becomes, when that isn't free
-state_fits : (b : State) (x : ChanId) (v : ChanState) → is_traffic b.site x ≡ true → v ≢ Free → (s : ChanState) → Some v ≡ Some s → (is_traffic b.site x ≡ true) × (s ≢ Free)
-state_fits b x v traffic used s h = (traffic, at_some (λ z. z ≢ Free) v s used h)
-
--- a change that arms no timer
-abbrev changes : Option (Entry ChanId ChanState) → Option (Entry ℕ CallRecord) → Option (Entry Reference ℕ) → Change
-changes channel call reference = record { channel = channel; call = call; reference = reference; timer = None }
-
--- a call on its serving channel, without an attempt
-abbrev rests : ChanId → CallRecord
-rests x = record { serving = Some x; attempt = None }
+use Rattle.radio_book.proofs.Frame.{same_some, at_some, UsedBy, ReferredBy, call_of, call_stays, resting_call, attempting, attempt_of, attempting_call, aimed_is_owned, serving_is_on, get_untouched, SoundIfAny, concerned_sound}
+use Rattle.radio_book.proofs.SoundHandover.{sound_command, sound_complete, sound_detect, sound_owner, sound_require, sound_order, sound_left}
+use Rattle.radio_book.proofs.SoundParts.{other_than, one_owner, owned_not_free, owned_traffic, state_fits, changes, rests, at_option, touched_at, disarmed, serving_apart, IsAt, staged, aims_always}
 
 -- a call begins: what it makes of a free traffic channel is sound
 
@@ -92,7 +66,8 @@ opened b sound c x new traffic free = concerned_sound b sound (changes (with_sta
   reference_is = tt;
   references = λ k t u. absurd u;
   sound = resting_call _ _ c x (ap owner (state_same b.channels x (Some (Pending c))));
-  timers = sound.timers;
+  timer = tt;
+  armed = sound.timers c ∙ ap armed_in new;
 })
 
 pub sound_open : (b : State) → IsSound b → (c : ℕ) (x : ChanId) → IsSound (step b (event.Open c x))
@@ -131,7 +106,8 @@ clear_sound b sound c (Some x) None e =
       reference_is = tt;
       references = λ k t h. cc;
       sound = tt;
-      timers = sound.timers;
+      timer = tt;
+      armed = sound.timers c ∙ ap armed_in e;
     })
 
 clear_row_sound : (b : State) → IsSound b → (c : ℕ) (o : Option CallRecord) → record_of b c ≡ o → IsSound (book_after (clear_row c o (state_of b)) b)
@@ -150,104 +126,88 @@ look_sound b sound (Some r) = sound
 pub sound_look : (b : State) → IsSound b → (c : ℕ) → IsSound (step b (event.Look c))
 sound_look b sound c = look_sound b sound (record_of b c)
 
--- a new stage of an attempt, with the state of its channel
+-- Confirm and Refuse: a station answers an activation, and the channel comes to this state
 
-serving_apart : (c : ℕ) (t : ChanId) (look seen : ChanId → ChanState) → ((x : ChanId) → x ≢ t → seen x ≡ look x) → (k : AttemptKind) (s : Option ChanId) → ((x : ChanId) → s ≡ Some x → x.cell ≢ t.cell) → HasServing c k s look → HasServing c k s seen
-serving_apart c t look seen same Internal None apart h = h
-serving_apart c t look seen same Internal (Some x) apart h = same x (λ e. apart x refl (ap (λ z. z.cell) e)) ∙ h
-serving_apart c t look seen same Incoming s apart h = h
+abbrev answers : ChanId → Stage → ChanState → ℕ → Option CallRecord → Change
+answers x g v c o = changes (with_state x v) (moved_entry x g c o) None
 
-staged : (b : State) → IsSound b → (c : ℕ) (s : Option ChanId) (k : AttemptKind) (g : Stage) (t : ChanId) (n : Option ℕ) → record_of b c ≡ Some (attempting s k g t n) → (h : Stage) → HasReference h n →
-    IsSound (apply (changes (with_state t (target_state c h)) (with_record c (attempting s k h t n)) None) b)
-staged b sound c s k g t n e h reserved =
-    let has = attempt_of _ _ c s k g t n (call_of b sound c _ e) in
-    let owned : owner (state_of b t) ≡ Some c = ap owner has.state ∙ is_owned c g in
-    concerned_sound b sound (changes (with_state t (target_state c h)) (with_record c (attempting s k h t n)) None) c (Some (attempting s k g t n)) (Some (attempting s k h t n)) (record {
-      before = e;
-      after = record_same b.calls c (Some (attempting s k h t n));
-      call = refl;
-      channel_was = λ d u. one_owner (state_of b t) c d owned u;
-      channel_is = λ d u. (one_owner (target_state c h) c d (is_owned c h) u, inr refl);
-      entry = state_fits b t (target_state c h) (owned_traffic b sound t c owned) (owned_not_free (target_state c h) c (is_owned c h));
-      channels = λ y t u. u;
-      reference_was = tt;
-      reference_is = tt;
-      references = λ j t u. u;
-      sound = attempting_call _ _ c s k h t n (record {
-        state = state_same b.channels t (Some (target_state c h));
-        cells_differ = has.cells_differ;
-        serving_while_open = serving_apart c t (state_of b) _ (λ x other. state_other b.channels t (Some (target_state c h)) x other) k s has.cells_differ has.serving_while_open;
-        reference_is_used = has.reference_is_used;
-        reference_by_stage = reserved;
-      });
-      timers = sound.timers;
-    })
-
--- Confirm and Refuse: a station answers an activation, and the channel is in the state of this stage
-
-abbrev answers : ChanId → Stage → ℕ → Option CallRecord → Change
-answers x g c o = changes (with_state x (target_state c g)) (moved_entry x g c o) None
+-- the stage is one of those that an answer leads to
+record IsAnswer (c : ℕ) (x : ChanId) (g : Stage) (v : ChanState) : Type 0 where
+  owned : owner v ≡ Some c
+  state : HasTarget c (stage_row g).target (Some x) (λ y. v)
+  timer : None ≡ (stage_row g).timer
+  at : (k : AttemptKind) (n : Option ℕ) → IsStageOf k (Some Pending) → IsSome n → IsAt k n g
 
 -- the channel is the serving one of a call without an attempt
-serving_answered : (b : State) → IsSound b → (c : ℕ) (x : ChanId) (g : Stage) → record_of b c ≡ Some (rests x) →
-    IsSound (apply (changes (with_state x (target_state c g)) None None) b)
-serving_answered b sound c x g e =
+serving_answered : (b : State) → IsSound b → (c : ℕ) (x : ChanId) (v : ChanState) → owner v ≡ Some c → record_of b c ≡ Some (rests x) →
+    IsSound (apply (changes (with_state x v) None None) b)
+serving_answered b sound c x v names e =
     let owned : owner (state_of b x) ≡ Some c = sound.serving_is_owned c _ x e refl in
-    concerned_sound b sound (changes (with_state x (target_state c g)) None None) c (Some (rests x)) (Some (rests x)) (record {
+    concerned_sound b sound (changes (with_state x v) None None) c (Some (rests x)) (Some (rests x)) (record {
       before = e;
       after = e;
       call = tt;
       channel_was = λ d h. one_owner (state_of b x) c d owned h;
-      channel_is = λ d h. (one_owner (target_state c g) c d (is_owned c g) h, inl refl);
-      entry = state_fits b x (target_state c g) (owned_traffic b sound x c owned) (owned_not_free (target_state c g) c (is_owned c g));
+      channel_is = λ d h. (one_owner v c d names h, inl refl);
+      entry = state_fits b x v (owned_traffic b sound x c owned) (owned_not_free v c names);
       channels = λ y t u. u;
       reference_was = tt;
       reference_is = tt;
       references = λ k t h. h;
-      sound = resting_call _ _ c x (ap owner (state_same b.channels x (Some (target_state c g))) ∙ is_owned c g);
-      timers = sound.timers;
+      sound = resting_call _ _ c x (ap owner (state_same b.channels x (Some v)) ∙ names);
+      timer = tt;
+      armed = sound.timers c ∙ ap armed_in e;
     })
 
--- while an attempt is open no activation of the serving channel is awaited
-serving_settled : (c : ℕ) (look : ChanId → ChanState) (k : AttemptKind) (s : Option ChanId) (x : ChanId) → HasServing c k s look → s ≡ Some x → look x ≡ Pending c → ⊥
-serving_settled c look Internal None x h e p = h
-serving_settled c look Internal (Some y) x h e p = let is : look x ≡ On c = ap look (sym (same_some y x e)) ∙ h in cc
-serving_settled c look Incoming s x h e p = cc
-
-pending_reserved : (c : ℕ) (g : Stage) (n : Option ℕ) → target_state c g ≡ Pending c → HasReference g n → IsSome n
-pending_reserved c Taken n e h = cc
-pending_reserved c Reserved n e h = h
-pending_reserved c Sent n e h = h
-pending_reserved c Refused n e h = h
-pending_reserved c Confirmed n e h = h
+-- a target whose activation is awaited is that of an attempt in Sent
+pub sent_stage : (c : ℕ) (look : ChanId → ChanState) (x : ChanId) (g : Stage) → HasTarget c (stage_row g).target (Some x) look → look x ≡ Pending c → g ≡ Sent
+sent_stage c look x Taken h p = let bad : Pending c ≡ Held c = sym p ∙ h in cc
+sent_stage c look x Reserved h p = let bad : Pending c ≡ Held c = sym p ∙ h in cc
+sent_stage c look x Sent h p = refl
+sent_stage c look x Refused h p = let bad : Pending c ≡ Held c = sym p ∙ h in cc
+sent_stage c look x Confirmed h p = let bad : Pending c ≡ On c = sym p ∙ h in cc
+sent_stage c look x Commanded h p = let bad : Pending c ≡ On c = sym p ∙ h in cc
+sent_stage c look x Detected h p = let bad : Pending c ≡ On c = sym p ∙ h in cc
+sent_stage c look x Required h p = absurd h
+sent_stage c look x Ordered h p = absurd h
 
 -- the channel is the target of the call's attempt
-target_answered : (b : State) → IsSound b → (c : ℕ) (x : ChanId) (g : Stage) → ((n : Option ℕ) → IsSome n → HasReference g n) → state_of b x ≡ Pending c →
-    (s : Option ChanId) (k : AttemptKind) (h : Stage) (n : Option ℕ) → record_of b c ≡ Some (attempting s k h x n) → IsSound (apply (answers x g c (Some (attempting s k h x n))) b)
-target_answered b sound c x g reserved p s k h n e =
-    let has = attempt_of _ _ c s k h x n (call_of b sound c _ e) in
-    let change = λ (v : Option (Entry ℕ CallRecord)). changes (with_state x (target_state c g)) v None in
-    subst (λ q. IsSound (apply (change (if q then with_record c (attempting s k g x n) else None)) b)) (sym (same_chan_itself x))
-    (staged b sound c s k h x n e g (reserved n (pending_reserved c h n (sym has.state ∙ p) has.reference_by_stage)))
+sent_answered : (b : State) → IsSound b → (c : ℕ) (x : ChanId) (g : Stage) (v : ChanState) → IsAnswer c x g v →
+    (s : Option ChanId) (k : AttemptKind) (n : Option ℕ) → record_of b c ≡ Some (attempting s k Sent (Some x) n) → IsSound (apply (answers x g v c (Some (attempting s k Sent (Some x) n))) b)
+sent_answered b sound c x g v is s k n e =
+    let has = attempt_of _ _ c s k Sent (Some x) n (call_of b sound c _ e) in
+    let change = λ (w : Option (Entry ℕ CallRecord)). changes (with_state x v) w None in
+    subst (λ q. IsSound (apply (change (if q then with_record c (attempting s k g (Some x) n) else None)) b)) (sym (same_chan_itself x))
+    (staged b sound c s k Sent x n e g v is.state is.timer (is.at k n has.stage_of_kind has.reference_by_stage))
 
-answer_sound : (b : State) → IsSound b → (c : ℕ) (x : ChanId) (g : Stage) → ((n : Option ℕ) → IsSome n → HasReference g n) → state_of b x ≡ Pending c →
-    (s : Option ChanId) (o : Option Attempt) → record_of b c ≡ Some (record { serving = s; attempt = o }) → Uses (record { serving = s; attempt = o }) x → IsSound (apply (answers x g c (Some (record { serving = s; attempt = o }))) b)
-answer_sound b sound c x g reserved p s None e (inl h) = serving_answered b sound c x g (e ∙ ap (λ z. Some (record { serving = z; attempt = None })) h)
-answer_sound b sound c x g reserved p s None e (inr h) = cc
-answer_sound b sound c x g reserved p s (Some a) e (inl h) = absurd (serving_settled c (state_of b) a.kind s x (sound.serving_while_open c _ a e refl) h p)
-answer_sound b sound c x g reserved p s (Some a) e (inr h) =
-    subst (λ z. IsSound (apply (answers x g c (Some (record { serving = s; attempt = Some (record a { target = z }) }))) b)) (sym h)
-    (target_answered b sound c x g reserved p s a.kind a.stage a.reference (e ∙ ap (λ z. Some (record { serving = s; attempt = Some (record a { target = z }) })) h))
+target_answered : (b : State) → IsSound b → (c : ℕ) (x : ChanId) (g : Stage) (v : ChanState) → IsAnswer c x g v → state_of b x ≡ Pending c →
+    (s : Option ChanId) (k : AttemptKind) (h : Stage) (n : Option ℕ) → record_of b c ≡ Some (attempting s k h (Some x) n) → IsSound (apply (answers x g v c (Some (attempting s k h (Some x) n))) b)
+target_answered b sound c x g v is p s k h n e =
+    let has = attempt_of _ _ c s k h (Some x) n (call_of b sound c _ e) in
+    let sent = sent_stage c (state_of b) x h has.state p in
+    subst (λ z. IsSound (apply (answers x g v c (Some (attempting s k z (Some x) n))) b)) (sym sent)
+    (sent_answered b sound c x g v is s k n (e ∙ ap (λ z. Some (attempting s k z (Some x) n)) sent))
 
-answered : (b : State) → IsSound b → (c : ℕ) (x : ChanId) (g : Stage) → ((n : Option ℕ) → IsSome n → HasReference g n) → state_of b x ≡ Pending c → IsSound (apply (answers x g c (record_of b c)) b)
-answered b sound c x g reserved p =
+answer_sound : (b : State) → IsSound b → (c : ℕ) (x : ChanId) (g : Stage) (v : ChanState) → IsAnswer c x g v → state_of b x ≡ Pending c →
+    (s : Option ChanId) (o : Option Attempt) → record_of b c ≡ Some (record { serving = s; attempt = o }) → Uses (record { serving = s; attempt = o }) x → IsSound (apply (answers x g v c (Some (record { serving = s; attempt = o }))) b)
+answer_sound b sound c x g v is p s None e (inl h) = serving_answered b sound c x v is.owned (e ∙ ap (λ z. Some (record { serving = z; attempt = None })) h)
+answer_sound b sound c x g v is p s None e (inr h) = cc
+answer_sound b sound c x g v is p s (Some a) e (inl h) =
+    let bad : Pending c ≡ On c = sym p ∙ serving_is_on c (state_of b) a.kind s x (sound.serving_while_open c _ a e refl) h in cc
+answer_sound b sound c x g v is p s (Some a) e (inr h) =
+    subst (λ z. IsSound (apply (answers x g v c (Some (record { serving = s; attempt = Some (record a { target = z }) }))) b)) (sym h)
+    (target_answered b sound c x g v is p s a.kind a.stage a.reference (e ∙ ap (λ z. Some (record { serving = s; attempt = Some (record a { target = z }) })) h))
+
+answered : (b : State) → IsSound b → (c : ℕ) (x : ChanId) (g : Stage) (v : ChanState) → IsAnswer c x g v → state_of b x ≡ Pending c → IsSound (apply (answers x g v c (record_of b c)) b)
+answered b sound c x g v is p =
     let n = sound.owner_uses x c (ap owner p) in
-    subst (λ o. IsSound (apply (answers x g c o) b)) (sym n.1) (answer_sound b sound c x g reserved p n.0.serving n.0.attempt n.1 n.2)
+    subst (λ o. IsSound (apply (answers x g v c o) b)) (sym n.1) (answer_sound b sound c x g v is p n.0.serving n.0.attempt n.1 n.2)
 
 confirm_sound : (b : State) → IsSound b → (x : ChanId) (s : ChanState) → state_of b x ≡ s → IsSound (book_after (confirm_row x s (record_of b)) b)
 confirm_sound b sound x Free e = sound
 confirm_sound b sound x (Held c) e = sound
-confirm_sound b sound x (Pending c) e = answered b sound c x Confirmed (λ n h. h) e
+confirm_sound b sound x (Pending c) e = answered b sound c x Confirmed (On c)
+    (record { owned = refl; state = refl; timer = refl; at = λ k n h m. record { stage_of_kind = aims_always k Pending On h; reference_by_stage = m } }) e
 confirm_sound b sound x (On c) e = sound
 confirm_sound b sound x Off e = sound
 
@@ -257,7 +217,8 @@ sound_confirm b sound x = confirm_sound b sound x (state_of b x) refl
 refuse_sound : (b : State) → IsSound b → (x : ChanId) (s : ChanState) → state_of b x ≡ s → IsSound (book_after (refuse_row x s (record_of b)) b)
 refuse_sound b sound x Free e = sound
 refuse_sound b sound x (Held c) e = sound
-refuse_sound b sound x (Pending c) e = answered b sound c x Refused (λ n h. h) e
+refuse_sound b sound x (Pending c) e = answered b sound c x Refused (Held c)
+    (record { owned = refl; state = refl; timer = refl; at = λ k n h m. record { stage_of_kind = aims_always k Pending Held h; reference_by_stage = m } }) e
 refuse_sound b sound x (On c) e = sound
 refuse_sound b sound x Off e = sound
 
@@ -279,7 +240,8 @@ released b sound x off = concerned_sound b sound (changes (without_state x) None
   reference_is = tt;
   references = λ k t h. h;
   sound = stays (record_of b 0) refl;
-  timers = sound.timers;
+  timer = tt;
+  armed = sound.timers 0;
 })
   where
     unowned : (d : ℕ) → owner (state_of b x) ≡ Some d → ⊥
@@ -302,27 +264,32 @@ sound_released b sound x = released_sound b sound x (state_of b x) refl
 -- Take: an attempt on a free channel
 
 taken : (b : State) → IsSound b → (c : ℕ) (x : ChanId) (was : Option CallRecord) (s : Option ChanId) (k : AttemptKind) → record_of b c ≡ was → is_traffic b.site x ≡ true → state_of b x ≡ Free →
-    ((y : ChanId) → UsedBy was y → s ≡ Some y) → ((j : Reference) → ReferredBy was j → ⊥) → ((y : ChanId) → s ≡ Some y → y.cell ≢ x.cell) → HasServing c k s (state_of b) → IsSound (apply (taking_change c x (attempting s k Taken x None)) b)
-taken b sound c x was s k e traffic free uses refers apart during = concerned_sound b sound (taking_change c x (attempting s k Taken x None)) c was (Some (attempting s k Taken x None)) (record {
-  before = e;
-  after = record_same b.calls c (Some (attempting s k Taken x None));
-  call = refl;
-  channel_was = λ d h. let bad : None ≡ Some d = sym (ap owner free) ∙ h in cc;
-  channel_is = λ d h. (one_owner (Held c) c d refl h, inr refl);
-  entry = state_fits b x (Held c) traffic (λ h. cc);
-  channels = λ y t u. inl (uses y u);
-  reference_was = tt;
-  reference_is = tt;
-  references = λ j t u. absurd (refers j u);
-  sound = attempting_call _ _ c s k Taken x None (record {
-    state = state_same b.channels x (Some (Held c));
-    cells_differ = apart;
-    serving_while_open = serving_apart c x (state_of b) _ (λ y other. state_other b.channels x (Some (Held c)) y other) k s apart during;
-    reference_is_used = λ m h. cc;
-    reference_by_stage = refl;
-  });
-  timers = sound.timers;
-})
+    ((y : ChanId) → UsedBy was y → s ≡ Some y) → ((j : Reference) → ReferredBy was j → ⊥) → ((y : ChanId) → s ≡ Some y → y.cell ≢ x.cell) → HasServing c k s (state_of b) → IsStageOf k (Some Held) → armed_in was ≡ None →
+    IsSound (apply (taking_change c x (attempting s k Taken (Some x) None)) b)
+taken b sound c x was s k e traffic free uses refers apart during kinds unarmed =
+    let differ : (y z : ChanId) → s ≡ Some y → Some x ≡ Some z → y.cell ≢ z.cell = λ y z serves aims. at_some (λ z. y.cell ≢ z.cell) x z (apart y serves) aims in
+    concerned_sound b sound (taking_change c x (attempting s k Taken (Some x) None)) c was (Some (attempting s k Taken (Some x) None)) (record {
+      before = e;
+      after = record_same b.calls c (Some (attempting s k Taken (Some x) None));
+      call = refl;
+      channel_was = λ d h. let bad : None ≡ Some d = sym (ap owner free) ∙ h in cc;
+      channel_is = λ d h. (one_owner (Held c) c d refl h, inr refl);
+      entry = state_fits b x (Held c) traffic (λ h. cc);
+      channels = λ y t u. inl (uses y u);
+      reference_was = tt;
+      reference_is = tt;
+      references = λ j t u. absurd (refers j u);
+      sound = attempting_call _ _ c s k Taken (Some x) None (record {
+        stage_of_kind = kinds;
+        state = state_same b.channels x (Some (Held c));
+        cells_differ = differ;
+        serving_while_open = serving_apart c (Some x) (state_of b) _ (λ y other. state_other b.channels x (Some (Held c)) y (other x refl)) k s differ during;
+        reference_is_used = λ j h. cc;
+        reference_by_stage = refl;
+      });
+      timer = tt;
+      armed = sound.timers c ∙ ap armed_in e ∙ unarmed;
+    })
 
 internal_sound : (b : State) → IsSound b → (c : ℕ) (x y : ChanId) (now : ChanState) (t same : Bool) (s : ChanState) → record_of b c ≡ Some (rests y) → state_of b y ≡ now → is_traffic b.site x ≡ t → y.cell == x.cell ≡ same → state_of b x ≡ s →
     IsSound (book_after (take_from c x (rests y) now t same s) b)
@@ -339,7 +306,7 @@ internal_sound b sound c x y (On d) true false Off e n f h g = sound
 internal_sound b sound c x y (On d) true false Free e n f h g =
     let own : d ≡ c = one_owner (On d) c d (sym (ap owner n) ∙ sound.serving_is_owned c (rests y) y e refl) refl in
     taken b sound c x (Some (rests y)) (Some y) Internal e f g
-    (λ z u. elim u [ inl i ↦ i | inr i ↦ cc ]) (λ j u. cc) (λ z i. at_some (λ z. z.cell ≢ x.cell) y z (eqb-false y.cell x.cell h) i) (n ∙ ap On own)
+    (λ z u. elim u [ inl i ↦ i | inr i ↦ cc ]) (λ j u. cc) (λ z i. at_some (λ z. z.cell ≢ x.cell) y z (eqb-false y.cell x.cell h) i) (n ∙ ap On own) tt refl
 
 take_internal_sound : (b : State) → IsSound b → (c : ℕ) (x : ChanId) (s : Option ChanId) (o : Option Attempt) → record_of b c ≡ Some (record { serving = s; attempt = o }) → IsSound (book_after (take_internal c x (record { serving = s; attempt = o }) o s (state_of b) (is_traffic b.site x)) b)
 take_internal_sound b sound c x s (Some a) e = sound
@@ -350,8 +317,8 @@ take_sound : (b : State) → IsSound b → (c : ℕ) (k : Kind) (x : ChanId) (o 
 take_sound b sound c kind.Internal x None e = sound
 take_sound b sound c kind.Internal x (Some r) e = take_internal_sound b sound c x r.serving r.attempt e
 take_sound b sound c kind.Incoming x o e =
-    begin_sound b sound c x (attempting None Incoming Taken x None) (Held c)
-    (λ new f g. taken b sound c x None None Incoming new f g (λ y u. absurd u) (λ j u. u) (λ y h. cc) refl)
+    begin_sound b sound c x (attempting None Incoming Taken (Some x) None) (Held c)
+    (λ new f g. taken b sound c x None None Incoming new f g (λ y u. absurd u) (λ j u. u) (λ y h. cc) refl tt refl)
     o (is_traffic b.site x) (state_of b x) e refl refl
 
 pub sound_take : (b : State) → IsSound b → (c : ℕ) (k : Kind) (x : ChanId) → IsSound (step b (event.Take c k x))
@@ -359,13 +326,13 @@ sound_take b sound c k x = take_sound b sound c k x (record_of b c) refl
 
 -- Reserve: an attempt gets a reference that was nobody's
 
-reserved : (b : State) → IsSound b → (c : ℕ) (s : Option ChanId) (k : AttemptKind) (t : ChanId) (n : Option ℕ) (m : ℕ) → record_of b c ≡ Some (attempting s k Taken t n) → map.get b.references (reference_at t m) ≡ None →
-    IsSound (apply (changes None (with_record c (attempting s k Reserved t (Some m))) (Some (reference_at t m, Some c))) b)
+reserved : (b : State) → IsSound b → (c : ℕ) (s : Option ChanId) (k : AttemptKind) (t : ChanId) (n : Option ℕ) (m : ℕ) → record_of b c ≡ Some (attempting s k Taken (Some t) n) → map.get b.references (reference_at t m) ≡ None →
+    IsSound (apply (changes None (with_record c (attempting s k Reserved (Some t) (Some m))) (Some (reference_at t m, Some c))) b)
 reserved b sound c s k t n m e unused =
-    let has = attempt_of _ _ c s k Taken t n (call_of b sound c _ e) in
-    concerned_sound b sound (changes None (with_record c (attempting s k Reserved t (Some m))) (Some (reference_at t m, Some c))) c (Some (attempting s k Taken t n)) (Some (attempting s k Reserved t (Some m))) (record {
+    let has = attempt_of _ _ c s k Taken (Some t) n (call_of b sound c _ e) in
+    concerned_sound b sound (changes None (with_record c (attempting s k Reserved (Some t) (Some m))) (Some (reference_at t m, Some c))) c (Some (attempting s k Taken (Some t) n)) (Some (attempting s k Reserved (Some t) (Some m))) (record {
       before = e;
-      after = record_same b.calls c (Some (attempting s k Reserved t (Some m)));
+      after = record_same b.calls c (Some (attempting s k Reserved (Some t) (Some m)));
       call = refl;
       channel_was = tt;
       channel_is = tt;
@@ -374,29 +341,35 @@ reserved b sound c s k t n m e unused =
       reference_was = λ d h. let bad : None ≡ Some d = sym unused ∙ h in cc;
       reference_is = λ d h. (sym (same_some c d h), refl);
       references = λ j u h. let bad : None ≡ Some j = ap (reference_held (Some t)) (sym has.reference_by_stage) ∙ h in cc;
-      sound = attempting_call _ _ c s k Reserved t (Some m) (record {
+      sound = attempting_call _ _ c s k Reserved (Some t) (Some m) (record {
+        stage_of_kind = has.stage_of_kind;
         state = has.state;
         cells_differ = has.cells_differ;
         serving_while_open = has.serving_while_open;
-        reference_is_used = λ i h. at_some (λ i. map.get (put b.references (reference_at t m) (Some c)) (reference_at t i) ≡ Some c) m i (reference_same b.references (reference_at t m) (Some c)) h;
+        reference_is_used = λ j h. at_some (λ j. map.get (put b.references (reference_at t m) (Some c)) j ≡ Some c) (reference_at t m) j (reference_same b.references (reference_at t m) (Some c)) h;
         reference_by_stage = refl;
       });
-      timers = sound.timers;
+      timer = tt;
+      armed = sound.timers c ∙ ap armed_in e;
     })
 
-reserve_number_sound : (b : State) → IsSound b → (c m : ℕ) (s : Option ChanId) (k : AttemptKind) (t : ChanId) (n : Option ℕ) (user : Option ℕ) → record_of b c ≡ Some (attempting s k Taken t n) → map.get b.references (reference_at t m) ≡ user →
-    IsSound (book_after (reserve_number c m (attempting s k Taken t n) (record { kind = k; stage = Taken; target = Some t; reference = n }) t user) b)
+reserve_number_sound : (b : State) → IsSound b → (c m : ℕ) (s : Option ChanId) (k : AttemptKind) (t : ChanId) (n : Option ℕ) (user : Option ℕ) → record_of b c ≡ Some (attempting s k Taken (Some t) n) → map.get b.references (reference_at t m) ≡ user →
+    IsSound (book_after (reserve_number c m (attempting s k Taken (Some t) n) (record { kind = k; stage = Taken; target = Some t; reference = n }) t user) b)
 reserve_number_sound b sound c m s k t n (Some d) e h = sound
 reserve_number_sound b sound c m s k t n None e h = reserved b sound c s k t n m e h
 
-reserve_sound : (b : State) → IsSound b → (c m : ℕ) (s : Option ChanId) (k : AttemptKind) (g : Stage) (o : Option ChanId) (n : Option ℕ) → record_of b c ≡ Some (record { serving = s; attempt = Some (record { kind = k; stage = g; target = o; reference = n }) }) →
-    IsSound (book_after (reserve_at c m (record { serving = s; attempt = Some (record { kind = k; stage = g; target = o; reference = n }) }) (record { kind = k; stage = g; target = o; reference = n }) g o (map.get b.references)) b)
+reserve_sound : (b : State) → IsSound b → (c m : ℕ) (s : Option ChanId) (k : AttemptKind) (g : Stage) (o : Option ChanId) (n : Option ℕ) → record_of b c ≡ Some (attempting s k g o n) →
+    IsSound (book_after (reserve_at c m (attempting s k g o n) (record { kind = k; stage = g; target = o; reference = n }) g o (map.get b.references)) b)
 reserve_sound b sound c m s k Taken None n e = sound
 reserve_sound b sound c m s k Taken (Some t) n e = reserve_number_sound b sound c m s k t n (map.get b.references (reference_at t m)) e refl
 reserve_sound b sound c m s k Reserved o n e = sound
 reserve_sound b sound c m s k Sent o n e = sound
 reserve_sound b sound c m s k Refused o n e = sound
 reserve_sound b sound c m s k Confirmed o n e = sound
+reserve_sound b sound c m s k Commanded o n e = sound
+reserve_sound b sound c m s k Detected o n e = sound
+reserve_sound b sound c m s k Required o n e = sound
+reserve_sound b sound c m s k Ordered o n e = sound
 
 reserve_by_sound : (b : State) → IsSound b → (c m : ℕ) (s : Option ChanId) (o : Option Attempt) → record_of b c ≡ Some (record { serving = s; attempt = o }) → IsSound (book_after (reserve_by c m (record { serving = s; attempt = o }) o (map.get b.references)) b)
 reserve_by_sound b sound c m s None e = sound
@@ -411,14 +384,24 @@ sound_reserve b sound c n = reserve_row_sound b sound c n (record_of b c) refl
 
 -- Activate
 
-activate_sound : (b : State) → IsSound b → (c : ℕ) (s : Option ChanId) (k : AttemptKind) (g : Stage) (o : Option ChanId) (n : Option ℕ) → record_of b c ≡ Some (record { serving = s; attempt = Some (record { kind = k; stage = g; target = o; reference = n }) }) →
-    IsSound (book_after (activate_at c (record { serving = s; attempt = Some (record { kind = k; stage = g; target = o; reference = n }) }) (record { kind = k; stage = g; target = o; reference = n }) g o) b)
+activated : (b : State) → IsSound b → (c : ℕ) (s : Option ChanId) (k : AttemptKind) (t : ChanId) (n : Option ℕ) → record_of b c ≡ Some (attempting s k Reserved (Some t) n) →
+    IsSound (apply (changes (with_state t (Pending c)) (with_record c (attempting s k Sent (Some t) n)) None) b)
+activated b sound c s k t n e =
+    let has = attempt_of _ _ c s k Reserved (Some t) n (call_of b sound c _ e) in
+    staged b sound c s k Reserved t n e Sent (Pending c) refl refl (record { stage_of_kind = aims_always k Held Pending has.stage_of_kind; reference_by_stage = has.reference_by_stage })
+
+activate_sound : (b : State) → IsSound b → (c : ℕ) (s : Option ChanId) (k : AttemptKind) (g : Stage) (o : Option ChanId) (n : Option ℕ) → record_of b c ≡ Some (attempting s k g o n) →
+    IsSound (book_after (activate_at c (attempting s k g o n) (record { kind = k; stage = g; target = o; reference = n }) g o) b)
 activate_sound b sound c s k Taken o n e = sound
 activate_sound b sound c s k Reserved None n e = sound
-activate_sound b sound c s k Reserved (Some t) n e = staged b sound c s k Reserved t n e Sent (sound.reference_by_stage c _ _ e refl)
+activate_sound b sound c s k Reserved (Some t) n e = activated b sound c s k t n e
 activate_sound b sound c s k Sent o n e = sound
 activate_sound b sound c s k Refused o n e = sound
 activate_sound b sound c s k Confirmed o n e = sound
+activate_sound b sound c s k Commanded o n e = sound
+activate_sound b sound c s k Detected o n e = sound
+activate_sound b sound c s k Required o n e = sound
+activate_sound b sound c s k Ordered o n e = sound
 
 activate_by_sound : (b : State) → IsSound b → (c : ℕ) (s : Option ChanId) (o : Option Attempt) → record_of b c ≡ Some (record { serving = s; attempt = o }) → IsSound (book_after (activate_by c (record { serving = s; attempt = o }) o) b)
 activate_by_sound b sound c s None e = sound
@@ -447,63 +430,60 @@ left_not_free (Pending c) z h f = cc
 left_not_free (On c) z h f = cc
 left_not_free Off z h f = cc
 
--- the reference that an attempt drops
-abbrev drops : ChanId → Option ℕ → Option (Entry Reference ℕ)
-drops t n = option_map (λ k. (k, None)) (reference_held (Some t) n)
+rests_on : (c : ℕ) (k : AttemptKind) (s o : Option ChanId) (look : ChanId → ChanState) (g : Stage) (n : Option ℕ) → HasServing c k s look → (y : ChanId) → s ≡ Some y → UsedBy (resting_record k (attempting s k g o n)) y
+rests_on c Internal s o look g n during y h = inl h
+rests_on c Incoming s o look g n during y h = cc
+rests_on c Outgoing s o look g n during y h = inl h
 
-at_drop : (t : ChanId) (n : Option ℕ) (P : Reference → Option ℕ → Type 0) → ((m : ℕ) → n ≡ Some m → P (reference_at t m) None) → AtKey (drops t n) P
-at_drop t None P p = tt
-at_drop t (Some m) P p = p m refl
+rest_sound : (c : ℕ) (k : AttemptKind) (s o : Option ChanId) (g : Stage) (n : Option ℕ) (look : ChanId → ChanState) (user : Reference → Option ℕ) → HasServing c k s look → SoundIfAny look user c (resting_record k (attempting s k g o n))
+rest_sound c Internal None o g n look user during = absurd during
+rest_sound c Internal (Some x) o g n look user during = resting_call look user c x (ap owner during)
+rest_sound c Incoming s o g n look user during = tt
+rest_sound c Outgoing None o g n look user during = absurd during
+rest_sound c Outgoing (Some x) o g n look user during = resting_call look user c x (ap owner during)
 
-not_dropped : (t : ChanId) (n : Option ℕ) (j : Reference) → (Touches (drops t n) j → ⊥) → reference_held (Some t) n ≡ Some j → ⊥
-not_dropped t None j other h = cc
-not_dropped t (Some m) j other h = other (sym (same_some (reference_at t m) j h))
+rest_unarmed : (k : AttemptKind) (s o : Option ChanId) (g : Stage) (n : Option ℕ) → armed_in (resting_record k (attempting s k g o n)) ≡ None
+rest_unarmed Internal s o g n = refl
+rest_unarmed Incoming s o g n = refl
+rest_unarmed Outgoing s o g n = refl
 
-rests_on : (c : ℕ) (k : AttemptKind) (s : Option ChanId) (look : ChanId → ChanState) (t : ChanId) (g : Stage) (n : Option ℕ) → HasServing c k s look → (y : ChanId) → s ≡ Some y → UsedBy (resting_record k (attempting s k g t n)) y
-rests_on c Internal s look t g n during y h = inl h
-rests_on c Incoming s look t g n during y h = cc
-
-rest_sound : (c : ℕ) (k : AttemptKind) (s : Option ChanId) (t : ChanId) (g : Stage) (n : Option ℕ) (look : ChanId → ChanState) (user : Reference → Option ℕ) → HasServing c k s look → SoundIfAny look user c (resting_record k (attempting s k g t n))
-rest_sound c Internal None t g n look user during = absurd during
-rest_sound c Internal (Some x) t g n look user during = resting_call look user c x (ap owner during)
-rest_sound c Incoming s t g n look user during = tt
-
-undo_change_sound : (b : State) → IsSound b → (c : ℕ) (s : Option ChanId) (k : AttemptKind) (g : Stage) (t : ChanId) (n : Option ℕ) → record_of b c ≡ Some (attempting s k g t n) →
-    IsSound (apply (undo_change c (attempting s k g t n) (record { kind = k; stage = g; target = Some t; reference = n }) (state_of b) None) b)
-undo_change_sound b sound c s k g t n e =
-    let has = attempt_of _ _ c s k g t n (call_of b sound c _ e) in
-    let owned : owner (state_of b t) ≡ Some c = ap owner has.state ∙ is_owned c g in
-    concerned_sound b sound (undo_change c (attempting s k g t n) (record { kind = k; stage = g; target = Some t; reference = n }) (state_of b) None) c (Some (attempting s k g t n)) (resting_record k (attempting s k g t n)) (record {
+undo_change_sound : (b : State) → IsSound b → (c : ℕ) (s : Option ChanId) (k : AttemptKind) (g : Stage) (o : Option ChanId) (n : Option ℕ) (armed : Option Timer) → record_of b c ≡ Some (attempting s k g o n) → map.get b.timers c ≡ armed →
+    IsSound (apply (undo_change c (attempting s k g o n) (record { kind = k; stage = g; target = o; reference = n }) (state_of b) armed) b)
+undo_change_sound b sound c s k g o n armed e is =
+    let has = attempt_of _ _ c s k g o n (call_of b sound c _ e) in
+    let owned : (t : ChanId) → o ≡ Some t → owner (state_of b t) ≡ Some c = λ t aims. aimed_is_owned b sound c _ _ t e refl aims in
+    let left : ChanId → Entry ChanId ChanState = λ t. (t, left_state (state_of b t)) in
+    concerned_sound b sound (undo_change c (attempting s k g o n) (record { kind = k; stage = g; target = o; reference = n }) (state_of b) armed) c (Some (attempting s k g o n)) (resting_record k (attempting s k g o n)) (record {
       before = e;
-      after = record_same b.calls c (resting_record k (attempting s k g t n));
+      after = record_same b.calls c (resting_record k (attempting s k g o n));
       call = refl;
-      channel_was = λ d h. one_owner (state_of b t) c d owned h;
-      channel_is = λ d h. absurd (left_unowned (state_of b t) d h);
-      entry = λ z h. (owned_traffic b sound t c owned, left_not_free (state_of b t) z h);
-      channels = λ y u h. elim h [ inl i ↦ rests_on c k s (state_of b) t g n has.serving_while_open y i | inr i ↦ absurd (u (sym (same_some t y i))) ];
-      reference_was = at_drop t n _ (λ m h d i. sym (same_some c d (sym (has.reference_is_used m h) ∙ i)));
-      reference_is = at_drop t n _ (λ m h d i. cc);
-      references = λ j u h. absurd (not_dropped t n j u h);
-      sound = rest_sound c k s t g n _ _ (serving_apart c t (state_of b) _ (λ y other. state_other b.channels t (left_state (state_of b t)) y other) k s has.cells_differ has.serving_while_open);
-      timers = sound.timers;
+      channel_was = at_option left o _ (λ t aims d h. one_owner (state_of b t) c d (owned t aims) h);
+      channel_is = at_option left o _ (λ t aims d h. absurd (left_unowned (state_of b t) d h));
+      entry = at_option left o _ (λ t aims z h. (owned_traffic b sound t c (owned t aims), left_not_free (state_of b t) z h));
+      channels = λ y u h. elim h [ inl i ↦ rests_on c k s o (state_of b) g n has.serving_while_open y i | inr i ↦ absurd (u (touched_at left o y i)) ];
+      reference_was = at_option (λ j. (j, None)) (reference_held o n) _ (λ j h d i. sym (same_some c d (sym (has.reference_is_used j h) ∙ i)));
+      reference_is = at_option (λ j. (j, None)) (reference_held o n) _ (λ j h d i. cc);
+      references = λ j u h. absurd (u (touched_at (λ j. (j, None)) (reference_held o n) j h));
+      sound = rest_sound c k s o g n _ _ (serving_apart c o (state_of b) _ (λ y other. ap or_free (get_untouched chan_total chan_exact b.channels (option_map left o) y (λ touched. other_than (λ t. left_state (state_of b t)) o y other touched))) k s has.cells_differ has.serving_while_open);
+      timer = at_option (λ m. (c, None)) armed _ (λ m h. refl);
+      armed = disarmed b.timers c armed is ∙ sym (rest_unarmed k s o g n);
     })
 
-undo_sound : (b : State) → IsSound b → (c : ℕ) (refusal : Refusal) (s : Option ChanId) (o : Option Attempt) → record_of b c ≡ Some (record { serving = s; attempt = o }) → IsSound (book_after (undo_attempt c refusal (record { serving = s; attempt = o }) o (state_of b) None) b)
-undo_sound b sound c refusal s None e = sound
-undo_sound b sound c refusal s (Some a) e = targeted a.target e
-  where
-    targeted : (o : Option ChanId) → record_of b c ≡ Some (record { serving = s; attempt = Some (record a { target = o }) }) → IsSound (book_after (undo_attempt c refusal (record { serving = s; attempt = Some (record a { target = o }) }) (Some (record a { target = o })) (state_of b) None) b)
-    targeted None h = let bad = sound.has_target c _ (record a { target = None }) h refl in cc
-    targeted (Some t) h = undo_change_sound b sound c s a.kind a.stage t a.reference h
+undo_sound : (b : State) → IsSound b → (c : ℕ) (refusal : Refusal) (s : Option ChanId) (o : Option Attempt) (armed : Option Timer) → record_of b c ≡ Some (record { serving = s; attempt = o }) → map.get b.timers c ≡ armed → IsSound (book_after (undo_attempt c refusal (record { serving = s; attempt = o }) o (state_of b) armed) b)
+undo_sound b sound c refusal s None armed e is = sound
+undo_sound b sound c refusal s (Some a) armed e is = undo_change_sound b sound c s a.kind a.stage a.target a.reference armed e is
 
-undo_row_sound : (b : State) → IsSound b → (c : ℕ) (why : Why) (o : Option CallRecord) (armed : Option Timer) → record_of b c ≡ o → armed ≡ None → IsSound (book_after (undo_row c why o (state_of b) armed) b)
-undo_row_sound b sound c why None armed e unarmed = sound
-undo_row_sound b sound c why (Some r) (Some m) e unarmed = cc
-undo_row_sound b sound c Asked (Some r) None e unarmed = undo_sound b sound c WrongPhase r.serving r.attempt e
-undo_row_sound b sound c (Expired m) (Some r) None e unarmed = sound
+expiry_sound : (b : State) → IsSound b → (c : ℕ) (r : CallRecord) (expired : Bool) (armed : Option Timer) → record_of b c ≡ Some r → map.get b.timers c ≡ armed → IsSound (book_after (if expired then undo_attempt c NotArmed r r.attempt (state_of b) armed else Refuses NotArmed) b)
+expiry_sound b sound c r true armed e is = undo_sound b sound c NotArmed r.serving r.attempt armed e is
+expiry_sound b sound c r false armed e is = sound
+
+undo_row_sound : (b : State) → IsSound b → (c : ℕ) (why : Why) (o : Option CallRecord) (armed : Option Timer) → record_of b c ≡ o → map.get b.timers c ≡ armed → IsSound (book_after (undo_row c why o (state_of b) armed) b)
+undo_row_sound b sound c why None armed e is = sound
+undo_row_sound b sound c Asked (Some r) armed e is = undo_sound b sound c WrongPhase r.serving r.attempt armed e is
+undo_row_sound b sound c (Expired m) (Some r) armed e is = expiry_sound b sound c r (is_armed m armed) armed e is
 
 pub sound_undo : (b : State) → IsSound b → (c : ℕ) (why : Why) → IsSound (step b (event.Undo c why))
-sound_undo b sound c why = undo_row_sound b sound c why (record_of b c) (map.get b.timers c) refl (sound.timers c)
+sound_undo b sound c why = undo_row_sound b sound c why (record_of b c) (map.get b.timers c) refl refl
 
 -- every step, and the book with which it begins
 
@@ -518,6 +498,13 @@ sound_step b (event.Undo c why) sound = sound_undo b sound c why
 sound_step b (event.Confirm x) sound = sound_confirm b sound x
 sound_step b (event.Refuse x) sound = sound_refuse b sound x
 sound_step b (event.Released x) sound = sound_released b sound x
+sound_step b (event.Command c) sound = sound_command b sound c
+sound_step b (event.Complete c) sound = sound_complete b sound c
+sound_step b (event.Detect x) sound = sound_detect b sound x
+sound_step b (event.Owner x) sound = sound_owner b sound x
+sound_step b (event.Require c) sound = sound_require b sound c
+sound_step b (event.Order c) sound = sound_order b sound c
+sound_step b (event.Left c) sound = sound_left b sound c
 
 pub sound_empty : (site : SiteView) → IsSound (empty_book site)
 sound_empty site = record {
@@ -525,15 +512,15 @@ sound_empty site = record {
   not_free = λ x s e. absurd (no_entry chan_cmp x s e);
   owner_uses = λ x c h. let bad : None ≡ Some c = sym (ap (λ o. owner (or_free o)) (map.get-empty chan_cmp x)) ∙ h in cc;
   serving_is_owned = λ c r x e h. absurd (no_entry nat_cmp c r e);
-  has_target = λ c r a e h. absurd (no_entry nat_cmp c r e);
-  target_by_stage = λ c r a x e h g. absurd (no_entry nat_cmp c r e);
+  stage_of_kind = λ c r a e h. absurd (no_entry nat_cmp c r e);
+  target_by_stage = λ c r a e h. absurd (no_entry nat_cmp c r e);
   cells_differ = λ c r x y e h g. absurd (no_entry nat_cmp c r e);
   serving_while_open = λ c r a e h. absurd (no_entry nat_cmp c r e);
   serving_at_rest = λ c r e h. absurd (no_entry nat_cmp c r e);
   reference_is_used = λ c r k e h. absurd (no_entry nat_cmp c r e);
   user_has_reference = λ k c e. absurd (no_entry reference_cmp k c e);
   reference_by_stage = λ c r a e h. absurd (no_entry nat_cmp c r e);
-  timers = λ c. map.get-empty nat_cmp c;
+  timers = λ c. map.get-empty nat_cmp c ∙ sym (ap armed_in (map.get-empty nat_cmp c));
 }
   where
     no_entry : {K X : Type 0} (R : K → K → Ordering) (k : K) (v : X) → map.get (map.empty {R = R}) k ≡ Some v → ⊥

@@ -13,7 +13,7 @@ use Rattle.std.specs.FinMap.{len-empty, len-insert}
 use Rattle.radio_book.proofs.MapFacts.{get_listed}
 
 module _ {K X : Type 0} {R : K → K → Ordering} (o : IsTotalOrder R) where
-  absent_below : (q : K) (es : List (K × X)) → AllByRecursion (λ y. R q y ≡ Less) (keys_of es) → lookup (is_at (R q)) es ≡ None
+  pub absent_below : (q : K) (es : List (K × X)) → AllByRecursion (λ y. R q y ≡ Less) (keys_of es) → lookup (is_at (R q)) es ≡ None
   absent_below q [] h = refl
   absent_below q (e ∷ es) h = ap (λ r. cond (is_eq r) (Some e.1) (lookup (is_at (R q)) es)) h.0 ∙ absent_below q es h.1
 

@@ -1,14 +1,11 @@
 -- The channels of a book go from state to state by the steps of a channel, and a free one has no entry. Ours, of no standard.
-use Rattle.std.specs.Prelude.{◌≡◌, ◌⊎◌, Option, Some, None, unwrap_or}
+use Rattle.std.specs.Prelude.{Option, Some, None, unwrap_or}
 use Rattle.std.specs.Option.{option_map}
 use Rattle.channel_fsm.specs.declared.ChanId.{ChanId}
 use Rattle.channel_fsm.specs.declared.ChanState.{ChanState}
 use Rattle.channel_fsm.specs.declared.ChanState.TheVariants.{Free, Held, Pending, On, Off}
 use Rattle.channel_fsm.specs.declared.ChanEvent.{ChanEvent}
 use Rattle.channel_fsm.specs.Table.{next_state}
-use Rattle.channel_fsm.specs.declared.ChanEvent.TheVariants as chan
-use Rattle.radio_book.specs.declared.event.Event.{Event}
-use Rattle.radio_book.specs.declared.event.Event.TheVariants as event
 use Rattle.radio_book.specs.Maps.{Entry}
 
 -- what stands in the table for a state
@@ -26,16 +23,3 @@ state_after s e = unwrap_or (next_state s e) s
 -- what the step of a channel in this state changes in the table, if it has such a step
 abbrev pub channel_step : ChanId → ChanEvent → ChanState → Option (Entry ChanId ChanState)
 channel_step x e s = option_map (λ after. (x, entry_of after)) (next_state s e)
-
--- the step of a channel that an event of the book is; two of them end its use, by what state it is in
-abbrev pub IsStepOf : Event → ChanEvent → Type 0
-IsStepOf (event.Open c x) f = f ≡ chan.Begin c
-IsStepOf (event.Clear c) f = (f ≡ chan.Drop) ⊎ (f ≡ chan.SwitchOff)
-IsStepOf (event.Look c) f = ⊥
-IsStepOf (event.Take c k x) f = f ≡ chan.Take c
-IsStepOf (event.Reserve c n) f = ⊥
-IsStepOf (event.Activate c) f = f ≡ chan.Send c
-IsStepOf (event.Undo c why) f = (f ≡ chan.Drop) ⊎ (f ≡ chan.SwitchOff)
-IsStepOf (event.Confirm x) f = f ≡ chan.Confirm
-IsStepOf (event.Refuse x) f = f ≡ chan.Refuse
-IsStepOf (event.Released x) f = f ≡ chan.Released

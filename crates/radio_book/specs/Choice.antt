@@ -6,7 +6,7 @@ use Rattle.channel_fsm.specs.declared.ChanState.{ChanState}
 use Rattle.channel_fsm.specs.declared.ChanState.TheVariants.{Free}
 use Rattle.radio_book.specs.declared.event.Kind.{Kind}
 use Rattle.radio_book.specs.declared.event.Stage.{Stage}
-use Rattle.radio_book.specs.declared.event.Stage.TheVariants.{Taken}
+use Rattle.radio_book.specs.declared.event.Stage.TheVariants.{Taken, Reserved, Sent, Refused, Confirmed, Commanded, Detected, Required, Ordered}
 use Rattle.radio_book.specs.declared.event.Attempt.{Attempt}
 use Rattle.radio_book.specs.declared.event.CallRecord.{CallRecord}
 use Rattle.radio_book.specs.declared.event.Event.{Event}
@@ -35,7 +35,14 @@ pub record IsNumberFree (b : State) (cell number : ℕ) : Type 0 where
 -- the channel of an attempt that has taken it and reserved no reference
 abbrev pub taken_at : Stage → Option ChanId → Option ChanId
 taken_at Taken target = target
-taken_at s target = None
+taken_at Reserved target = None
+taken_at Sent target = None
+taken_at Refused target = None
+taken_at Confirmed target = None
+taken_at Commanded target = None
+taken_at Detected target = None
+taken_at Required target = None
+taken_at Ordered target = None
 
 abbrev pub taken_by : Option Attempt → Option ChanId
 taken_by None = None

@@ -4,48 +4,35 @@ use Rattle.std.specs.Option.{option_map}
 use Rattle.std.specs.FinMap as map
 use Rattle.channel_fsm.specs.declared.ChanId.{ChanId}
 use Rattle.channel_fsm.specs.declared.ChanEvent.TheVariants as chan
-use Rattle.radio_book.specs.declared.event.AttemptKind.{AttemptKind}
-use Rattle.radio_book.specs.declared.event.AttemptKind.TheVariants.{Internal, Incoming}
 use Rattle.radio_book.specs.declared.event.Stage.{Stage}
-use Rattle.radio_book.specs.declared.event.Stage.TheVariants.{Taken, Reserved, Sent, Refused, Confirmed}
+use Rattle.radio_book.specs.declared.event.Stage.TheVariants.{Taken, Reserved, Sent, Refused, Confirmed, Commanded, Detected, Required, Ordered}
 use Rattle.radio_book.specs.declared.event.Attempt.{Attempt}
 use Rattle.radio_book.specs.declared.event.CallRecord.{CallRecord}
 use Rattle.radio_book.specs.declared.event.Reference.{Reference}
 use Rattle.attempt_journal.specs.declared.Inverse.{Inverse}
-use Rattle.attempt_journal.specs.declared.Inverse.TheVariants.{FreeChannel, Settle, Forget, DropReference, SwitchOff}
+use Rattle.attempt_journal.specs.declared.Inverse.TheVariants.{FreeChannel, Settle, Forget, DropReference, SwitchOff, Uncommand, Undetect, Disarm, Rearm}
 use Rattle.radio_book.specs.Maps.{Entry}
+use Rattle.attempt_journal.specs.declared.Timer.{Timer}
+use Rattle.radio_book.specs.Stages.{stage_row, opening_inverse}
 use Rattle.radio_book.specs.Channels.{channel_step}
 use Rattle.radio_book.specs.State.{State, Change, apply, state_of, record_of}
 use Rattle.radio_book.specs.Table.{no_change, undo_change, reference_held}
 use Rattle.radio_book.specs.Sound.{IsSound}
-
--- the inverse of the opening
-abbrev pub opening_inverse : AttemptKind → Inverse
-opening_inverse Internal = Settle
-opening_inverse Incoming = Forget
-
--- the inverses of an attempt at a stage with this target and reference, in the order of pushing
-abbrev pub stage_inverses : Inverse → ChanId → ℕ → Stage → List Inverse
-stage_inverses opening t n Taken = opening ∷ FreeChannel t ∷ []
-stage_inverses opening t n Reserved = opening ∷ FreeChannel t ∷ DropReference n ∷ []
-stage_inverses opening t n Sent = opening ∷ FreeChannel t ∷ DropReference n ∷ SwitchOff t ∷ []
-stage_inverses opening t n Refused = opening ∷ FreeChannel t ∷ DropReference n ∷ SwitchOff t ∷ []
-stage_inverses opening t n Confirmed = opening ∷ FreeChannel t ∷ DropReference n ∷ SwitchOff t ∷ []
 
 -- Only a stage that has a reference reads this, and has one in a sound book; so the 0 never counts.
 abbrev pub or_zero : Option ℕ → ℕ
 or_zero None = 0
 or_zero (Some n) = n
 
--- the inverses of an attempt with this target
-abbrev pub inverses_at : Attempt → Option ChanId → List Inverse
-inverses_at a None = []
-inverses_at a (Some t) = stage_inverses (opening_inverse a.kind) t (or_zero a.reference) a.stage
+-- And only a stage that has a target reads this.
+abbrev pub or_origin : Option ChanId → ChanId
+or_origin None = record { cell = 0; trx = 0; tn = 0 }
+or_origin (Some t) = t
 
 -- what a call's journal holds follows from its attempt alone
 abbrev pub journal_of : Option Attempt → List Inverse
 journal_of None = []
-journal_of (Some a) = inverses_at a a.target
+journal_of (Some a) = (stage_row a.stage).inverses (opening_inverse a.kind) (or_origin a.target) (or_zero a.reference)
 
 -- the reference with this number in the cell of the attempt's target is in use no more
 abbrev pub reference_removal_of_attempt : ℕ → Option Attempt → Option (Entry Reference ℕ)
@@ -57,13 +44,40 @@ abbrev pub reference_removal_of_call : ℕ → Option CallRecord → Option (Ent
 reference_removal_of_call n None = None
 reference_removal_of_call n (Some r) = reference_removal_of_attempt n r.attempt
 
+-- the stage before; of these two alone, since no other step is taken back by going back one stage
+abbrev pub stage_before : Stage → Stage
+stage_before Commanded = Confirmed
+stage_before Detected = Commanded
+stage_before Taken = Taken
+stage_before Reserved = Reserved
+stage_before Sent = Sent
+stage_before Refused = Refused
+stage_before Confirmed = Confirmed
+stage_before Required = Required
+stage_before Ordered = Ordered
+
+abbrev pub back_one_stage : CallRecord → CallRecord
+back_one_stage r = record r { attempt = option_map (λ (a : Attempt). record a { stage = stage_before a.stage }) r.attempt }
+
+-- a change of the record of a call that the book has; of the timer that stands with it
+abbrev pub record_change : ℕ → (CallRecord → CallRecord) → Option CallRecord → Option (Entry ℕ CallRecord)
+record_change c f found = option_map (λ r. (c, Some (f r))) found
+
+abbrev pub timer_change : ℕ → Option Timer → Option CallRecord → Option (Entry ℕ Timer)
+timer_change c m found = option_map (λ r. (c, m)) found
+
 -- what one inverse of a call changes
 abbrev pub inverse_change : ℕ → Inverse → State → Change
 inverse_change c (FreeChannel x) b = record no_change { channel = channel_step x chan.Drop (state_of b x) }
 inverse_change c (SwitchOff x) b = record no_change { channel = channel_step x chan.SwitchOff (state_of b x) }
 inverse_change c (DropReference n) b = record no_change { reference = reference_removal_of_call n (record_of b c) }
-inverse_change c Settle b = record no_change { call = option_map (λ r. (c, Some (record r { attempt = None }))) (record_of b c) }
-inverse_change c Forget b = record no_change { call = Some (c, None) }
+inverse_change c Settle b = record no_change { call = record_change c (λ r. record r { attempt = None }) (record_of b c) }
+-- with the record goes what stands with it
+inverse_change c Forget b = record no_change { call = Some (c, None); timer = Some (c, None) }
+inverse_change c Uncommand b = record no_change { call = record_change c back_one_stage (record_of b c) }
+inverse_change c Undetect b = record no_change { call = record_change c back_one_stage (record_of b c) }
+inverse_change c (Disarm m) b = record no_change { timer = timer_change c None (record_of b c) }
+inverse_change c (Rearm m) b = record no_change { timer = timer_change c (Some m) (record_of b c) }
 
 abbrev pub run_inverse : ℕ → Inverse → State → State
 run_inverse c j b = apply (inverse_change c j b) b

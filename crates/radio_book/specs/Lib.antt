@@ -2,6 +2,8 @@ pub mod Keys
 pub mod Maps
 pub mod State
 pub mod Channels
+pub mod Stages
+pub mod Entries
 pub mod Table
 pub mod Sound
 pub mod Journal

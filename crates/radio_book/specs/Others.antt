@@ -12,28 +12,50 @@ use Rattle.radio_book.specs.declared.event.Event.TheVariants as event
 use Rattle.radio_book.specs.declared.event.Refusal.TheVariants.{ChannelBusy, RefBusy}
 use Rattle.radio_book.specs.declared.event.Reply.{Reply}
 use Rattle.radio_book.specs.declared.event.Reply.TheVariants.{Refused}
-use Rattle.radio_book.specs.declared.event.Timer.{Timer}
+use Rattle.attempt_journal.specs.declared.Timer.{Timer}
 use Rattle.radio_book.specs.State.{State, Change, apply, state_of, record_of}
 use Rattle.radio_book.specs.Sound.{IsSound}
 use Rattle.radio_book.specs.Table.{step, reply_to, undo_change, reference_held, no_change}
 
--- the event is a station's answer about this channel
-abbrev pub IsOn : ChanId → Event → Type 0
-IsOn x (event.Confirm y) = y ≡ x
-IsOn x (event.Refuse y) = y ≡ x
-IsOn x (event.Released y) = y ≡ x
-IsOn x e = ⊥
+-- the call that an event is asked for; a station's event is asked for none
+abbrev pub call_of : Event → Option ℕ
+call_of (event.Open c x) = Some c
+call_of (event.Clear c) = Some c
+call_of (event.Look c) = Some c
+call_of (event.Take c k x) = Some c
+call_of (event.Reserve c n) = Some c
+call_of (event.Activate c) = Some c
+call_of (event.Command c) = Some c
+call_of (event.Complete c) = Some c
+call_of (event.Undo c why) = Some c
+call_of (event.Confirm x) = None
+call_of (event.Refuse x) = None
+call_of (event.Detect x) = None
+call_of (event.Released x) = None
+call_of (event.Owner x) = None
+call_of (event.Require c) = Some c
+call_of (event.Order c) = Some c
+call_of (event.Left c) = Some c
 
--- the event is asked for this call
-abbrev pub IsBy : ℕ → Event → Type 0
-IsBy c (event.Open d y) = d ≡ c
-IsBy c (event.Clear d) = d ≡ c
-IsBy c (event.Look d) = d ≡ c
-IsBy c (event.Take d k y) = d ≡ c
-IsBy c (event.Reserve d n) = d ≡ c
-IsBy c (event.Activate d) = d ≡ c
-IsBy c (event.Undo d why) = d ≡ c
-IsBy c e = ⊥
+-- the channel that a station's event is about; an event that is asked for a call is none
+abbrev pub channel_of : Event → Option ChanId
+channel_of (event.Open c x) = None
+channel_of (event.Clear c) = None
+channel_of (event.Look c) = None
+channel_of (event.Take c k x) = None
+channel_of (event.Reserve c n) = None
+channel_of (event.Activate c) = None
+channel_of (event.Command c) = None
+channel_of (event.Complete c) = None
+channel_of (event.Undo c why) = None
+channel_of (event.Confirm x) = Some x
+channel_of (event.Refuse x) = Some x
+channel_of (event.Detect x) = Some x
+channel_of (event.Released x) = Some x
+channel_of (event.Owner x) = Some x
+channel_of (event.Require c) = None
+channel_of (event.Order c) = None
+channel_of (event.Left c) = None
 
 -- a refusal that comes from a channel which an attempt holds, or from its reference
 abbrev pub IsHeldChannel : ChanId → Reply → Type 0
@@ -47,37 +69,41 @@ IsHeldReference (Some k) reply = reply ≡ Refused (RefBusy k.cell k.number)
 abbrev pub without_attempt : ℕ → CallRecord → Attempt → Option Timer → Change
 without_attempt c r a armed = record (undo_change c r a (λ x. Free) armed) { channel = option_map (λ t. (t, None)) a.target }
 
--- a channel whose release is awaited is gone
-abbrev pub without_channel : ChanId → Change
-without_channel x = record no_change { channel = Some (x, None) }
+-- a channel whose release is awaited is gone, if there is one
+abbrev pub without_channel : Option ChanId → Change
+without_channel target = record no_change { channel = option_map (λ t. (t, None)) target }
 
 -- the step and the taking away lead to one book in either order, and the reply is the same
 pub record Commutes (removal : Change) (b : State) (e : Event) : Type 0 where
   pub book : apply removal (step b e) ≡ step (apply removal b) e
   pub reply : reply_to (apply removal b) e ≡ reply_to b e
 
--- while an attempt is open: a step that isn't by its call nor on its target, and is no refusal that comes from what it holds
+-- the event is no station's on the channel, and its reply is no refusal that comes from it
+pub record LeavesAlone (t : ChanId) (b : State) (e : Event) : Type 0 where
+  pub event : channel_of e ≡ Some t → ⊥
+  pub reply : IsHeldChannel t (reply_to b e) → ⊥
+
+-- while an attempt is open: a step that isn't by its call, leaves its target alone, and is no refusal that comes from its
+-- reference
 abbrev pub CommutesWhileOpen : Event → Type 0
 CommutesWhileOpen e =
-    (c : ℕ) (r : CallRecord) (a : Attempt) (t : ChanId) (b : State) →
-    IsSound b → record_of b c ≡ Some r → r.attempt ≡ Some a → a.target ≡ Some t →
-    (IsBy c e → ⊥) → (IsOn t e → ⊥) → (IsHeldChannel t (reply_to b e) → ⊥) →
+    (c : ℕ) (r : CallRecord) (a : Attempt) (b : State) →
+    IsSound b → record_of b c ≡ Some r → r.attempt ≡ Some a →
+    (call_of e ≡ Some c → ⊥) → ((t : ChanId) → a.target ≡ Some t → LeavesAlone t b e) →
     (IsHeldReference (reference_held a.target a.reference) (reply_to b e) → ⊥) →
     Commutes (without_attempt c r a (map.get b.timers c)) b e
 
--- once it is undone, while its target is off: a step that isn't on the target, and is no refusal that comes from it
+-- once it is undone, while its target is off: a step that leaves the target alone
 abbrev pub CommutesWhileOff : Event → Type 0
 CommutesWhileOff e =
-    (t : ChanId) (b : State) → IsSound b → state_of b t ≡ Off →
-    (IsOn t e → ⊥) → (IsHeldChannel t (reply_to b e) → ⊥) →
-    Commutes (without_channel t) b e
+    (t : ChanId) (b : State) → IsSound b → state_of b t ≡ Off → LeavesAlone t b e → Commutes (without_channel (Some t)) b e
 
 pub record CommutesWithUndone (e : Event) : Type 0 where
   pub while_open : CommutesWhileOpen e
   pub while_off : CommutesWhileOff e
 
--- an undo, and then its channel gone: the same as if all that the attempt had were gone at once
+-- an undo, and then its target gone: the same as if all that the attempt had were gone at once
 abbrev pub UndoneIsRemoved : Type 0
 UndoneIsRemoved =
-    (c : ℕ) (r : CallRecord) (a : Attempt) (t : ChanId) (b : State) → a.target ≡ Some t →
-    apply (without_channel t) (apply (undo_change c r a (state_of b) (map.get b.timers c)) b) ≡ apply (without_attempt c r a (map.get b.timers c)) b
+    (c : ℕ) (r : CallRecord) (a : Attempt) (b : State) →
+    apply (without_channel a.target) (apply (undo_change c r a (state_of b) (map.get b.timers c)) b) ≡ apply (without_attempt c r a (map.get b.timers c)) b

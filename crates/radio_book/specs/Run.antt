@@ -7,7 +7,6 @@ use Rattle.radio_book.specs.declared.event.Event.{Event}
 use Rattle.radio_book.specs.declared.event.Reply.{Reply}
 use Rattle.cell_table.specs.Site.{SiteView}
 use Rattle.radio_book.specs.State.{State, empty_book, state_of}
-use Rattle.radio_book.specs.Channels.{IsStepOf}
 use Rattle.radio_book.specs.Table.{step, reply_to}
 use Rattle.radio_book.specs.Sound.{IsSound}
 
@@ -41,8 +40,8 @@ LeadsIsRun =
     Leads b steps b' ↔
     (b' ≡ run_book b (map (λ s. s.0) steps)) × (map (λ s. s.1) steps ≡ run_replies b (map (λ s. s.0) steps))
 
--- an event leaves a channel in its state, or the channel takes the step that the event is
+-- an event leaves a channel in its state, or the channel takes a step of its own table
 abbrev pub ChannelsTakeSteps : Type 0
 ChannelsTakeSteps =
     (b : State) (e : Event) (x : ChanId) → IsSound b →
-    (state_of (step b e) x ≡ state_of b x) ⊎ ((f : ChanEvent) × IsStepOf e f × (next_state (state_of b x) f ≡ Some (state_of (step b e) x)))
+    (state_of (step b e) x ≡ state_of b x) ⊎ ((f : ChanEvent) × (next_state (state_of b x) f ≡ Some (state_of (step b e) x)))

@@ -1,28 +1,20 @@
 -- Which books are sound: what the maps say of one another. Ours, of no standard.
-use Rattle.std.specs.Prelude.{◌≡◌, ◌≢◌, ◌⊎◌, ℕ, true, Option, Some, None, IsSome}
+use Rattle.std.specs.Prelude.{◌≡◌, ◌≢◌, ◌⊎◌, ℕ, Bool, true, false, Option, Some, None, IsSome}
 use Rattle.std.specs.Option.{option_and_then}
 use Rattle.std.specs.FinMap as map
 use Rattle.channel_fsm.specs.declared.ChanId.{ChanId}
 use Rattle.channel_fsm.specs.declared.ChanState.{ChanState}
-use Rattle.channel_fsm.specs.declared.ChanState.TheVariants.{Free, Held, Pending, On, Off}
+use Rattle.channel_fsm.specs.declared.ChanState.TheVariants.{Free, On}
 use Rattle.radio_book.specs.declared.event.AttemptKind.{AttemptKind}
-use Rattle.radio_book.specs.declared.event.AttemptKind.TheVariants.{Internal, Incoming}
-use Rattle.radio_book.specs.declared.event.Stage.{Stage}
-use Rattle.radio_book.specs.declared.event.Stage.TheVariants.{Taken, Reserved, Sent, Refused, Confirmed}
+use Rattle.radio_book.specs.declared.event.AttemptKind.TheVariants.{Internal, Incoming, Outgoing}
+use Rattle.attempt_journal.specs.declared.Timer.{Timer}
 use Rattle.radio_book.specs.declared.event.Attempt.{Attempt}
 use Rattle.radio_book.specs.declared.event.CallRecord.{CallRecord}
 use Rattle.radio_book.specs.declared.event.Reference.{Reference}
 use Rattle.cell_table.specs.Site.{is_traffic}
 use Rattle.radio_book.specs.State.{State, state_of, record_of}
-use Rattle.radio_book.specs.Table.{reference_held}
-
--- a state of use says whose the channel is
-abbrev pub owner : ChanState → Option ℕ
-owner Free = None
-owner (Held c) = Some c
-owner (Pending c) = Some c
-owner (On c) = Some c
-owner Off = None
+use Rattle.radio_book.specs.Stages.{stage_row}
+use Rattle.radio_book.specs.Table.{owner, reference_held}
 
 abbrev pub target_in : CallRecord → Option ChanId
 target_in r = option_and_then (λ a. a.target) r.attempt
@@ -35,27 +27,42 @@ reference_of (Some a) = reference_held a.target a.reference
 abbrev pub Uses : CallRecord → ChanId → Type 0
 Uses r x = (r.serving ≡ Some x) ⊎ (target_in r ≡ Some x)
 
--- what a target is used for, by how far its attempt has come
-abbrev pub target_state : ℕ → Stage → ChanState
-target_state c Taken = Held c
-target_state c Reserved = Held c
-target_state c Sent = Pending c
-target_state c Refused = Held c
-target_state c Confirmed = On c
+-- an outgoing attempt is in a stage without a target, any other in one with a target
+abbrev pub IsStageOf : AttemptKind → Option (ℕ → ChanState) → Type 0
+IsStageOf Internal None = ⊥
+IsStageOf Internal (Some state) = Unit {0}
+IsStageOf Incoming None = ⊥
+IsStageOf Incoming (Some state) = Unit {0}
+IsStageOf Outgoing None = Unit {0}
+IsStageOf Outgoing (Some state) = ⊥
 
--- whoever moves within this controller is on a channel of it, whoever comes to it on none
+-- the target is in the state that the stage says; where the stage says none, there is no target
+abbrev pub HasTarget : ℕ → Option (ℕ → ChanState) → Option ChanId → (ChanId → ChanState) → Type 0
+HasTarget c None None states = Unit {0}
+HasTarget c None (Some t) states = ⊥
+HasTarget c (Some state) None states = ⊥
+HasTarget c (Some state) (Some t) states = states t ≡ state c
+
+-- whoever moves from a channel of this controller is on it, whoever comes to it on none
 abbrev pub HasServing : ℕ → AttemptKind → Option ChanId → (ChanId → ChanState) → Type 0
 HasServing c Internal None states = ⊥
 HasServing c Internal (Some s) states = states s ≡ On c
 HasServing c Incoming serving states = serving ≡ None
+HasServing c Outgoing None states = ⊥
+HasServing c Outgoing (Some s) states = states s ≡ On c
 
--- only the first stage is without a reference
-abbrev pub HasReference : Stage → Option ℕ → Type 0
-HasReference Taken number = number ≡ None
-HasReference Reserved number = IsSome number
-HasReference Sent number = IsSome number
-HasReference Refused number = IsSome number
-HasReference Confirmed number = IsSome number
+abbrev pub HasReference : Bool → Option ℕ → Type 0
+HasReference false number = number ≡ None
+HasReference true number = IsSome number
+
+-- the timer that a record's attempt arms
+abbrev pub armed_by : Option Attempt → Option Timer
+armed_by None = None
+armed_by (Some a) = (stage_row a.stage).timer
+
+abbrev pub armed_in : Option CallRecord → Option Timer
+armed_in None = None
+armed_in (Some r) = armed_by r.attempt
 
 pub record IsSound (b : State) : Type 0 where
   -- only traffic channels have an entry, and none of the entries says Free
@@ -65,11 +72,12 @@ pub record IsSound (b : State) : Type 0 where
   pub owner_uses : (x : ChanId) (c : ℕ) → owner (state_of b x) ≡ Some c → (r : CallRecord) × (record_of b c ≡ Some r) × Uses r x
   -- who is served on a channel owns it
   pub serving_is_owned : (c : ℕ) (r : CallRecord) (x : ChanId) → record_of b c ≡ Some r → r.serving ≡ Some x → owner (state_of b x) ≡ Some c
-  -- every attempt aims at some channel, and its stage says in which state that is
-  pub has_target : (c : ℕ) (r : CallRecord) (a : Attempt) → record_of b c ≡ Some r → r.attempt ≡ Some a → IsSome a.target
+  -- the stage of an attempt is one of its kind, and says in which state the target is
+  pub stage_of_kind :
+      (c : ℕ) (r : CallRecord) (a : Attempt) → record_of b c ≡ Some r → r.attempt ≡ Some a → IsStageOf a.kind (stage_row a.stage).target
   pub target_by_stage :
-      (c : ℕ) (r : CallRecord) (a : Attempt) (x : ChanId) →
-      record_of b c ≡ Some r → r.attempt ≡ Some a → a.target ≡ Some x → state_of b x ≡ target_state c a.stage
+      (c : ℕ) (r : CallRecord) (a : Attempt) →
+      record_of b c ≡ Some r → r.attempt ≡ Some a → HasTarget c (stage_row a.stage).target a.target (state_of b)
   -- an attempt never moves its call within a cell
   pub cells_differ :
       (c : ℕ) (r : CallRecord) (x y : ChanId) →
@@ -86,6 +94,8 @@ pub record IsSound (b : State) : Type 0 where
   pub user_has_reference :
       (k : Reference) (c : ℕ) →
       map.get b.references k ≡ Some c → (r : CallRecord) × (record_of b c ≡ Some r) × (reference_of r.attempt ≡ Some k)
-  pub reference_by_stage : (c : ℕ) (r : CallRecord) (a : Attempt) → record_of b c ≡ Some r → r.attempt ≡ Some a → HasReference a.stage a.reference
-  -- no stage arms a timer yet
-  pub timers : (c : ℕ) → map.get b.timers c ≡ None
+  pub reference_by_stage :
+      (c : ℕ) (r : CallRecord) (a : Attempt) →
+      record_of b c ≡ Some r → r.attempt ≡ Some a → HasReference (stage_row a.stage).has_reference a.reference
+  -- a timer is armed exactly where the stage of an attempt says so
+  pub timers : (c : ℕ) → map.get b.timers c ≡ armed_in (record_of b c)

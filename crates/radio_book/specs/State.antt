@@ -9,10 +9,10 @@ use Rattle.channel_fsm.specs.declared.ChanState.{ChanState}
 use Rattle.channel_fsm.specs.declared.ChanState.TheVariants.{Free}
 use Rattle.radio_book.specs.declared.event.Reference.{Reference}
 use Rattle.radio_book.specs.declared.event.CallRecord.{CallRecord}
-use Rattle.radio_book.specs.declared.event.Timer.{Timer}
+use Rattle.attempt_journal.specs.declared.Timer.{Timer}
 use Rattle.channel_fsm.specs.contracts.ChanState.{the_row as state_row}
 use Rattle.radio_book.specs.contracts.event.CallRecord.{the_row as record_row}
-use Rattle.radio_book.specs.contracts.event.Timer.{the_row as timer_row}
+use Rattle.attempt_journal.specs.contracts.Timer.{the_row as timer_row}
 use Rattle.cell_table.specs.Site.{SiteView, site_code}
 use Rattle.radio_book.specs.Keys.{chan_cmp, reference_cmp, coded_chan, coded_reference}
 use Rattle.radio_book.specs.Maps.{Entry, with_change}

@@ -11,9 +11,9 @@ use Rattle.channel_fsm.specs.declared.ChanState.TheVariants.{Free, Held, Pending
 use Rattle.radio_book.specs.declared.event.Kind.{Kind}
 use Rattle.radio_book.specs.declared.event.Kind.TheVariants as kind
 use Rattle.radio_book.specs.declared.event.AttemptKind.{AttemptKind}
-use Rattle.radio_book.specs.declared.event.AttemptKind.TheVariants.{Internal, Incoming}
-use Rattle.radio_book.specs.declared.event.Timer.{Timer}
-use Rattle.radio_book.specs.declared.event.Timer.TheVariants.{T3103, T7, T8}
+use Rattle.radio_book.specs.declared.event.AttemptKind.TheVariants.{Internal, Incoming, Outgoing}
+use Rattle.attempt_journal.specs.declared.Timer.{Timer}
+use Rattle.attempt_journal.specs.declared.Timer.TheVariants.{T3103, T7, T8}
 use Rattle.radio_book.specs.declared.event.Why.{Why}
 use Rattle.radio_book.specs.declared.event.Why.TheVariants.{Asked, Expired}
 use Rattle.radio_book.specs.declared.event.Stage.{Stage}
@@ -36,6 +36,14 @@ pub data Outcome : Type 0 where
   Refuses : Refusal → Outcome
   Accepts : Change → Reply → Outcome
 
+-- a state of use says whose the channel is
+abbrev pub owner : ChanState → Option ℕ
+owner Free = None
+owner (Held c) = Some c
+owner (Pending c) = Some c
+owner (On c) = Some c
+owner Off = None
+
 abbrev pub same_chan : ChanId → ChanId → Bool
 same_chan a b = a.cell == b.cell && (a.trx == b.trx && a.tn == b.tn)
 
@@ -46,6 +54,12 @@ no_change = record { channel = None; call = None; reference = None; timer = None
 
 abbrev pub with_state : ChanId → ChanState → Option (Entry ChanId ChanState)
 with_state x s = Some (x, Some s)
+
+abbrev pub with_timer : ℕ → Timer → Option (Entry ℕ Timer)
+with_timer c m = Some (c, Some m)
+
+abbrev pub without_timer : ℕ → Option (Entry ℕ Timer)
+without_timer c = Some (c, None)
 
 abbrev pub without_state : ChanId → Option (Entry ChanId ChanState)
 without_state x = Some (x, None)
@@ -132,6 +146,11 @@ take_row c kind.Incoming x found states traffic = take_incoming c x found traffi
 abbrev pub reference_at : ChanId → ℕ → Reference
 reference_at x n = record { cell = x.cell; number = n }
 
+-- the reference that an attempt has, in the cell of its target
+abbrev pub reference_held : Option ChanId → Option ℕ → Option Reference
+reference_held (Some t) (Some n) = Some (reference_at t n)
+reference_held target number = None
+
 -- the record, its attempt with a reference
 abbrev pub reserved_record : CallRecord → Attempt → ℕ → CallRecord
 reserved_record r a n = with_attempt r (record a { stage = stage.Reserved; reference = Some n })
@@ -143,7 +162,15 @@ reserve_number c n r a t None =
 
 abbrev pub reserve_at : ℕ → ℕ → CallRecord → Attempt → Stage → Option ChanId → (Reference → Option ℕ) → Outcome
 reserve_at c n r a stage.Taken (Some t) user = reserve_number c n r a t (user (reference_at t n))
-reserve_at c n r a s target user = Refuses WrongPhase
+reserve_at c n r a stage.Taken None user = Refuses WrongPhase
+reserve_at c n r a stage.Reserved target user = Refuses WrongPhase
+reserve_at c n r a stage.Sent target user = Refuses WrongPhase
+reserve_at c n r a stage.Refused target user = Refuses WrongPhase
+reserve_at c n r a stage.Confirmed target user = Refuses WrongPhase
+reserve_at c n r a stage.Commanded target user = Refuses WrongPhase
+reserve_at c n r a stage.Detected target user = Refuses WrongPhase
+reserve_at c n r a stage.Required target user = Refuses WrongPhase
+reserve_at c n r a stage.Ordered target user = Refuses WrongPhase
 
 abbrev pub reserve_by : ℕ → ℕ → CallRecord → Option Attempt → (Reference → Option ℕ) → Outcome
 reserve_by c n r None user = Refuses WrongPhase
@@ -157,7 +184,15 @@ reserve_row c n (Some r) user = reserve_by c n r r.attempt user
 abbrev pub activate_at : ℕ → CallRecord → Attempt → Stage → Option ChanId → Outcome
 activate_at c r a stage.Reserved (Some t) =
     Accepts (record no_change { channel = with_state t (Pending c); call = with_record c (at_stage r a stage.Sent) }) Done
-activate_at c r a s target = Refuses WrongPhase
+activate_at c r a stage.Reserved None = Refuses WrongPhase
+activate_at c r a stage.Taken target = Refuses WrongPhase
+activate_at c r a stage.Sent target = Refuses WrongPhase
+activate_at c r a stage.Refused target = Refuses WrongPhase
+activate_at c r a stage.Confirmed target = Refuses WrongPhase
+activate_at c r a stage.Commanded target = Refuses WrongPhase
+activate_at c r a stage.Detected target = Refuses WrongPhase
+activate_at c r a stage.Required target = Refuses WrongPhase
+activate_at c r a stage.Ordered target = Refuses WrongPhase
 
 abbrev pub activate_by : ℕ → CallRecord → Option Attempt → Outcome
 activate_by c r None = Refuses WrongPhase
@@ -167,6 +202,120 @@ activate_by c r (Some a) = activate_at c r a a.stage a.target
 abbrev pub activate_row : ℕ → Option CallRecord → Outcome
 activate_row c None = Refuses NoCall
 activate_row c (Some r) = activate_by c r r.attempt
+
+abbrev pub command_at : ℕ → CallRecord → Attempt → Stage → Outcome
+command_at c r a stage.Confirmed =
+    Accepts (record no_change { call = with_record c (at_stage r a stage.Commanded); timer = with_timer c T3103 }) Done
+command_at c r a stage.Taken = Refuses WrongPhase
+command_at c r a stage.Reserved = Refuses WrongPhase
+command_at c r a stage.Sent = Refuses WrongPhase
+command_at c r a stage.Refused = Refuses WrongPhase
+command_at c r a stage.Commanded = Refuses WrongPhase
+command_at c r a stage.Detected = Refuses WrongPhase
+command_at c r a stage.Required = Refuses WrongPhase
+command_at c r a stage.Ordered = Refuses WrongPhase
+
+abbrev pub command_by : ℕ → CallRecord → Option Attempt → Outcome
+command_by c r None = Refuses WrongPhase
+command_by c r (Some a) = command_at c r a a.stage
+
+-- Command: the mobile is sent to the target (HANDOVER COMMAND, TS 44.018 clause 3.4.4), and T3103 is armed
+abbrev pub command_row : ℕ → Option CallRecord → Outcome
+command_row c None = Refuses NoCall
+command_row c (Some r) = command_by c r r.attempt
+
+-- the call is served on its target; to the channel that it leaves RF CHANNEL RELEASE is sent (TS 48.058 clause 8.4.14)
+abbrev pub complete_change : ℕ → CallRecord → Attempt → Change
+complete_change c r a = record {
+  channel = option_map (λ s. (s, Some Off)) r.serving;
+  call = with_record c (record { serving = a.target; attempt = None });
+  reference = option_map (λ k. (k, None)) (reference_held a.target a.reference);
+  timer = without_timer c;
+}
+
+abbrev pub complete_at : ℕ → CallRecord → Attempt → Stage → Outcome
+complete_at c r a stage.Commanded = Accepts (complete_change c r a) Done
+complete_at c r a stage.Detected = Accepts (complete_change c r a) Done
+complete_at c r a stage.Taken = Refuses WrongPhase
+complete_at c r a stage.Reserved = Refuses WrongPhase
+complete_at c r a stage.Sent = Refuses WrongPhase
+complete_at c r a stage.Refused = Refuses WrongPhase
+complete_at c r a stage.Confirmed = Refuses WrongPhase
+complete_at c r a stage.Required = Refuses WrongPhase
+complete_at c r a stage.Ordered = Refuses WrongPhase
+
+abbrev pub complete_by : ℕ → CallRecord → Option Attempt → Outcome
+complete_by c r None = Refuses WrongPhase
+complete_by c r (Some a) = complete_at c r a a.stage
+
+-- Complete: the mobile has come to the target (HANDOVER COMPLETE, TS 44.018 clause 3.4.4)
+abbrev pub complete_row : ℕ → Option CallRecord → Outcome
+complete_row c None = Refuses NoCall
+complete_row c (Some r) = complete_by c r r.attempt
+
+-- an attempt towards another controller, which has the target (TS 48.008 clause 3.1.5)
+abbrev pub required_attempt : Attempt
+required_attempt = record { kind = Outgoing; stage = stage.Required; target = None; reference = None }
+
+abbrev pub require_from : ℕ → CallRecord → ChanState → Outcome
+require_from c r (On d) =
+    Accepts (record no_change { call = with_record c (with_attempt r required_attempt); timer = with_timer c T7 }) Done
+require_from c r Free = Refuses WrongPhase
+require_from c r (Held d) = Refuses WrongPhase
+require_from c r (Pending d) = Refuses WrongPhase
+require_from c r Off = Refuses WrongPhase
+
+abbrev pub require_at : ℕ → CallRecord → Option Attempt → Option ChanId → (ChanId → ChanState) → Outcome
+require_at c r (Some a) serving states = Refuses WrongPhase
+require_at c r None None states = Refuses WrongPhase
+require_at c r None (Some s) states = require_from c r (states s)
+
+-- Require: the switching centre is asked for a handover (HANDOVER REQUIRED), and T7 is armed
+abbrev pub require_row : ℕ → Option CallRecord → (ChanId → ChanState) → Outcome
+require_row c None states = Refuses NoCall
+require_row c (Some r) states = require_at c r r.attempt r.serving states
+
+abbrev pub order_at : ℕ → CallRecord → Attempt → Stage → Outcome
+order_at c r a stage.Required =
+    Accepts (record no_change { call = with_record c (at_stage r a stage.Ordered); timer = with_timer c T8 }) Done
+order_at c r a stage.Taken = Refuses WrongPhase
+order_at c r a stage.Reserved = Refuses WrongPhase
+order_at c r a stage.Sent = Refuses WrongPhase
+order_at c r a stage.Refused = Refuses WrongPhase
+order_at c r a stage.Confirmed = Refuses WrongPhase
+order_at c r a stage.Commanded = Refuses WrongPhase
+order_at c r a stage.Detected = Refuses WrongPhase
+order_at c r a stage.Ordered = Refuses WrongPhase
+
+abbrev pub order_by : ℕ → CallRecord → Option Attempt → Outcome
+order_by c r None = Refuses WrongPhase
+order_by c r (Some a) = order_at c r a a.stage
+
+-- Order: the mobile is sent to the other controller (HANDOVER COMMAND, TS 48.008 clause 3.1.5); T8 is armed in place of T7
+abbrev pub order_row : ℕ → Option CallRecord → Outcome
+order_row c None = Refuses NoCall
+order_row c (Some r) = order_by c r r.attempt
+
+abbrev pub left_at : ℕ → CallRecord → Stage → Outcome
+left_at c r stage.Ordered =
+    Accepts (record no_change { channel = option_map (λ s. (s, Some Off)) r.serving; call = Some (c, None); timer = without_timer c }) Done
+left_at c r stage.Taken = Refuses WrongPhase
+left_at c r stage.Reserved = Refuses WrongPhase
+left_at c r stage.Sent = Refuses WrongPhase
+left_at c r stage.Refused = Refuses WrongPhase
+left_at c r stage.Confirmed = Refuses WrongPhase
+left_at c r stage.Commanded = Refuses WrongPhase
+left_at c r stage.Detected = Refuses WrongPhase
+left_at c r stage.Required = Refuses WrongPhase
+
+abbrev pub left_by : ℕ → CallRecord → Option Attempt → Outcome
+left_by c r None = Refuses WrongPhase
+left_by c r (Some a) = left_at c r a.stage
+
+-- Left: the call has left for the other controller, and ends (TS 48.008 clause 3.1.9)
+abbrev pub left_row : ℕ → Option CallRecord → Outcome
+left_row c None = Refuses NoCall
+left_row c (Some r) = left_by c r r.attempt
 
 -- what an undo leaves of the target: to a channel that may be active RF CHANNEL RELEASE is sent (TS 48.058 clause 8.4.14),
 -- any other is free
@@ -179,11 +328,7 @@ left_state s = None
 abbrev pub resting_record : AttemptKind → CallRecord → Option CallRecord
 resting_record Internal r = Some (record r { attempt = None })
 resting_record Incoming r = None
-
--- the reference that an attempt has, in the cell of its target
-abbrev pub reference_held : Option ChanId → Option ℕ → Option Reference
-reference_held (Some t) (Some n) = Some (reference_at t n)
-reference_held target number = None
+resting_record Outgoing r = Some (record r { attempt = None })
 
 -- the attempt is gone: nothing of it is left but a target whose release is awaited
 abbrev pub undo_change : ℕ → CallRecord → Attempt → (ChanId → ChanState) → Option Timer → Change
@@ -244,6 +389,38 @@ refuse_row x (Pending c) find =
     Accepts (record no_change { channel = with_state x (Held c); call = moved_entry x stage.Refused c (find c) }) (Owned c)
 refuse_row x s find = Refuses (Unexpected x)
 
+abbrev pub detect_at : ChanId → ℕ → CallRecord → Attempt → Stage → Outcome
+detect_at x c r a stage.Commanded = Accepts (record no_change { call = with_record c (at_stage r a stage.Detected) }) (Owned c)
+detect_at x c r a stage.Taken = Refuses (Unexpected x)
+detect_at x c r a stage.Reserved = Refuses (Unexpected x)
+detect_at x c r a stage.Sent = Refuses (Unexpected x)
+detect_at x c r a stage.Refused = Refuses (Unexpected x)
+detect_at x c r a stage.Confirmed = Refuses (Unexpected x)
+detect_at x c r a stage.Detected = Refuses (Unexpected x)
+detect_at x c r a stage.Required = Refuses (Unexpected x)
+detect_at x c r a stage.Ordered = Refuses (Unexpected x)
+
+abbrev pub detect_of : ChanId → ℕ → CallRecord → Option Attempt → Outcome
+detect_of x c r None = Refuses (Unexpected x)
+detect_of x c r (Some a) = if is_target x a.target then detect_at x c r a a.stage else Refuses (Unexpected x)
+
+abbrev pub detect_by : ChanId → ℕ → Option CallRecord → Outcome
+detect_by x c None = Refuses (Unexpected x)
+detect_by x c (Some r) = detect_of x c r r.attempt
+
+-- Detect: a station sees the mobile on a target, by HANDOVER DETECTION (TS 48.058 clause 8.4.7)
+abbrev pub detect_row : ChanId → ChanState → (ℕ → Option CallRecord) → Outcome
+detect_row x (On c) find = detect_by x c (find c)
+detect_row x Free find = Refuses (Unexpected x)
+detect_row x (Held c) find = Refuses (Unexpected x)
+detect_row x (Pending c) find = Refuses (Unexpected x)
+detect_row x Off find = Refuses (Unexpected x)
+
+-- Owner: the call whose the channel is
+abbrev pub owner_row : ChanId → Option ℕ → Outcome
+owner_row x None = Refuses (Unexpected x)
+owner_row x (Some c) = Accepts no_change (Owned c)
+
 -- Released: a station released a channel, by RF CHANNEL RELEASE ACKNOWLEDGE (TS 48.058 clause 8.4.19)
 abbrev pub released_row : ChanId → ChanState → Outcome
 released_row x Off = Accepts (record no_change { channel = without_state x }) Done
@@ -261,6 +438,13 @@ row b (event.Undo c why) = undo_row c why (record_of b c) (state_of b) (map.get 
 row b (event.Confirm x) = confirm_row x (state_of b x) (record_of b)
 row b (event.Refuse x) = refuse_row x (state_of b x) (record_of b)
 row b (event.Released x) = released_row x (state_of b x)
+row b (event.Command c) = command_row c (record_of b c)
+row b (event.Complete c) = complete_row c (record_of b c)
+row b (event.Detect x) = detect_row x (state_of b x) (record_of b)
+row b (event.Owner x) = owner_row x (owner (state_of b x))
+row b (event.Require c) = require_row c (record_of b c) (state_of b)
+row b (event.Order c) = order_row c (record_of b c)
+row b (event.Left c) = left_row c (record_of b c)
 
 -- the book after an event, by its outcome
 abbrev pub book_after : Outcome → State → State
@@ -279,16 +463,28 @@ step b e = book_after (row b e) b
 abbrev pub reply_to : State → Event → Reply
 reply_to b e = reply_of (row b e)
 
--- the event is accepted, and its change puts a key that a map doesn't have
+-- the event is accepted, and its change puts a key that a map doesn't have; a timer stands with its call
 abbrev pub NeedsRoom : State → Outcome → Type 0
 NeedsRoom b (Refuses refusal) = ⊥
 NeedsRoom b (Accepts change reply) =
-    AddsKey b.channels change.channel ⊎ AddsKey b.calls change.call ⊎
-    AddsKey b.references change.reference ⊎ AddsKey b.timers change.timer
+    AddsKey b.channels change.channel ⊎ AddsKey b.calls change.call ⊎ AddsKey b.references change.reference
 
 -- the kinds of event that may put a key: they begin a call or an attempt, or reserve a reference
 abbrev pub MayNeedRoom : Event → Type 0
 MayNeedRoom (event.Open c x) = Unit {0}
 MayNeedRoom (event.Take c k x) = Unit {0}
 MayNeedRoom (event.Reserve c n) = Unit {0}
-MayNeedRoom e = ⊥
+MayNeedRoom (event.Clear c) = ⊥
+MayNeedRoom (event.Look c) = ⊥
+MayNeedRoom (event.Activate c) = ⊥
+MayNeedRoom (event.Command c) = ⊥
+MayNeedRoom (event.Complete c) = ⊥
+MayNeedRoom (event.Undo c why) = ⊥
+MayNeedRoom (event.Confirm x) = ⊥
+MayNeedRoom (event.Refuse x) = ⊥
+MayNeedRoom (event.Detect x) = ⊥
+MayNeedRoom (event.Released x) = ⊥
+MayNeedRoom (event.Owner x) = ⊥
+MayNeedRoom (event.Require c) = ⊥
+MayNeedRoom (event.Order c) = ⊥
+MayNeedRoom (event.Left c) = ⊥

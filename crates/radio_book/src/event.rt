@@ -1,5 +1,6 @@
 //! What may happen to a radio book, and what it answers: the steps of calls and of handovers (TS 44.018 clause
 //! 3.4.4, TS 48.008 clause 3.1.5), and the answers of stations about channels (TS 48.058 clause 4).
+pub use attempt_journal::Timer;
 use channel_fsm::{ChanId, ChanState};
 
 /// Where the call of an attempt comes from.
@@ -11,17 +12,6 @@ pub enum Kind {
     Incoming,
 }
 
-/// The timers that guard a handover (TS 44.018 clause 11.1.2, TS 48.008 clause 3.1.5).
-#[derive(Clone, Copy, Debug, PartialEq, Eq)]
-pub enum Timer {
-    /// From the HANDOVER COMMAND until the mobile has come to the new channel (TS 44.018 clause 11.1.2).
-    T3103,
-    /// From HANDOVER REQUIRED until the switching centre answers (TS 48.008 clause 3.1.5).
-    T7,
-    /// From the HANDOVER COMMAND to another controller until the call is cleared (TS 48.008 clause 3.1.5).
-    T8,
-}
-
 /// Why an attempt is taken back.
 #[derive(Clone, Copy, Debug, PartialEq, Eq)]
 pub enum Why {
@@ -31,7 +21,7 @@ pub enum Why {
     Expired(Timer),
 }
 
-/// The steps that an attempt at handover has behind it.
+/// How far an attempt at handover has come.
 #[derive(Clone, Copy, Debug, PartialEq, Eq)]
 pub enum Stage {
     /// It has a channel.
@@ -44,16 +34,27 @@ pub enum Stage {
     Refused,
     /// The station activated the channel.
     Confirmed,
+    /// The mobile was sent to the channel (HANDOVER COMMAND, TS 44.018 clause 3.4.4).
+    Commanded,
+    /// The station sees the mobile on the channel (HANDOVER DETECTION, TS 48.058 clause 8.4.7).
+    Detected,
+    /// The switching centre was asked for a handover to another controller (HANDOVER REQUIRED, TS 48.008 clause
+    /// 3.1.5).
+    Required,
+    /// The mobile was sent to the other controller (HANDOVER COMMAND, TS 48.008 clause 3.1.5).
+    Ordered,
 }
 
-/// What kind of handover is attempted: within this controller (TS 44.018 clause 3.4.4), or towards it from another
-/// (TS 48.008 clause 3.1.5).
+/// What kind of handover is attempted: within this controller (TS 44.018 clause 3.4.4), towards it from another, or
+/// away from it to another (TS 48.008 clause 3.1.5).
 #[derive(Clone, Copy, Debug, PartialEq, Eq)]
 pub enum AttemptKind {
     /// As [`Kind::Internal`].
     Internal,
     /// As [`Kind::Incoming`].
     Incoming,
+    /// A call of this controller moves to a cell of another.
+    Outgoing,
 }
 
 /// An attempt at handover that is open.
@@ -63,9 +64,10 @@ pub struct Attempt {
     pub kind: AttemptKind,
     /// How far it has come.
     pub stage: Stage,
-    /// The channel that the call is to move to. An attempt of today's kinds has one in every stage.
+    /// The channel that the call is to move to. `None` where it is another controller's.
     pub target: Option<ChanId>,
-    /// The handover reference in the target's cell, 0 to 255. `None` in [`Stage::Taken`] alone.
+    /// The handover reference in the target's cell, 0 to 255. `None` in [`Stage::Taken`], and where there is no
+    /// target.
     pub reference: Option<u8>,
 }
 
@@ -116,6 +118,15 @@ pub enum Event {
     ///
     /// Refused: `NoCall`, `WrongPhase` (no attempt in [`Stage::Reserved`]).
     Activate(u16),
+    /// The mobile is sent to an attempt's channel (HANDOVER COMMAND, TS 44.018 clause 3.4.4), and T3103 is armed.
+    ///
+    /// Refused: `NoCall`, `WrongPhase` (no attempt in [`Stage::Confirmed`]).
+    Command(u16),
+    /// The mobile has come (HANDOVER COMPLETE, TS 44.018 clause 3.4.4): the call is served on the attempt's channel,
+    /// and the RF CHANNEL RELEASE (TS 48.058 clause 8.4.14) of the one before, if it had one, is sent.
+    ///
+    /// Refused: `NoCall`, `WrongPhase` (no attempt in [`Stage::Commanded`] or [`Stage::Detected`]).
+    Complete(u16),
     /// An attempt is taken back. Where its channel may be active, the RF CHANNEL RELEASE is sent (TS 48.058
     /// clause 8.4.14).
     ///
@@ -130,10 +141,33 @@ pub enum Event {
     ///
     /// Refused: `Unexpected` (the channel isn't [`ChanState::Pending`]).
     Refuse(ChanId),
+    /// A station sees the mobile on the channel that it was sent to: HANDOVER DETECTION (TS 48.058 clause 8.4.7).
+    ///
+    /// Refused: `Unexpected` (the channel isn't the target of an attempt in [`Stage::Commanded`]).
+    Detect(ChanId),
     /// A station released a channel: RF CHANNEL RELEASE ACKNOWLEDGE (TS 48.058 clause 8.4.19).
     ///
     /// Refused: `Unexpected` (the channel isn't [`ChanState::Off`]).
     Released(ChanId),
+    /// Whose a channel is, is asked.
+    ///
+    /// Refused: `Unexpected` (no call has the channel).
+    Owner(ChanId),
+    /// The switching centre is asked to move a call to another controller (HANDOVER REQUIRED, TS 48.008 clause
+    /// 3.1.5): an attempt opens, and T7 is armed.
+    ///
+    /// Refused: `NoCall`, `WrongPhase` (an attempt is open, or the serving channel isn't active).
+    Require(u16),
+    /// The switching centre orders the move (HANDOVER COMMAND, TS 48.008 clause 3.1.5), and the mobile is sent: T7 is
+    /// disarmed, and T8 armed.
+    ///
+    /// Refused: `NoCall`, `WrongPhase` (no attempt in [`Stage::Required`]).
+    Order(u16),
+    /// The call has left for the other controller (CLEAR COMMAND, TS 48.008 clause 3.1.9): it ends, and the RF CHANNEL
+    /// RELEASE (TS 48.058 clause 8.4.14) of its channel is sent.
+    ///
+    /// Refused: `NoCall`, `WrongPhase` (no attempt in [`Stage::Ordered`]).
+    Left(u16),
 }
 
 /// Why an event is refused. Of those that hold, the first in this order is answered.

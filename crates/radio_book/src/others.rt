@@ -72,6 +72,41 @@ pub fn released_commutes()
     ensures commutes { (x : ChanId) → CommutesWithUndone (event.Released x) }
 {}
 
+/// A mobile that is sent to a channel.
+pub fn command_commutes()
+    ensures commutes { (c : ℕ) → CommutesWithUndone (event.Command c) }
+{}
+
+/// A mobile that has come to a channel.
+pub fn complete_commutes()
+    ensures commutes { (c : ℕ) → CommutesWithUndone (event.Complete c) }
+{}
+
+/// A station that sees a mobile on a channel.
+pub fn detect_commutes()
+    ensures commutes { (x : ChanId) → CommutesWithUndone (event.Detect x) }
+{}
+
+/// A channel whose call is asked.
+pub fn owner_commutes()
+    ensures commutes { (x : ChanId) → CommutesWithUndone (event.Owner x) }
+{}
+
+/// A handover to another controller that is asked for.
+pub fn require_commutes()
+    ensures commutes { (c : ℕ) → CommutesWithUndone (event.Require c) }
+{}
+
+/// A mobile that is sent to another controller.
+pub fn order_commutes()
+    ensures commutes { (c : ℕ) → CommutesWithUndone (event.Order c) }
+{}
+
+/// A call that has left for another controller.
+pub fn left_commutes()
+    ensures commutes { (c : ℕ) → CommutesWithUndone (event.Left c) }
+{}
+
 /// Any event.
 pub fn steps_commute()
     ensures commutes { (e : Event) → CommutesWithUndone e }

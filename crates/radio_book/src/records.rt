@@ -1,4 +1,4 @@
-//! The four tables over a site, and what each event does to them.
+//! The tables over a site, and what each event does to them.
 ghost use Rattle.std.specs.Prelude.{◌≡◌, OnOk, OnErr, IfOk, Some, None};
 ghost use Rattle.std.specs.FinMap as map;
 ghost use Rattle.cell_table.specs.Site.{is_traffic};
@@ -9,26 +9,25 @@ ghost use Rattle.radio_book.specs.Table.{step, reply_to, row, NeedsRoom, MayNeed
 mod attempt;
 mod calling;
 mod choice;
+mod outgoing;
 mod station;
 mod undo;
 
-use crate::entry::CallEntry;
 use crate::event::{CallRecord, Event, Kind, Reply};
-use crate::tables::{Calls, Channels, References, Timers};
+use crate::tables::{Calls, Channels, References};
 use cell_table::Site;
-use channel_fsm::{ChanEvent, ChanId, ChanState};
+use channel_fsm::{ChanId, ChanState};
 use std::alloc::{AllocError, Allocator, Global};
 use std::marker::Model;
 use std::sync::Arc;
 
-/// The four tables of a book, and its site. Any tables: whether they are sound, the book says.
+/// The tables of a book, and its site. Any tables: whether they are sound, the book says.
 #[derive(Drop)]
 pub struct Records<A: Allocator = Global> {
     site: Arc<Site<A>, A>,
     channels: Channels<A>,
     calls: Calls<A>,
     references: References<A>,
-    timers: Timers<A>,
 }
 
 impl<A: Allocator> Model for Records<A> {
@@ -41,9 +40,9 @@ impl<A: Allocator> Model for Records<A> {
     ghost view = { λ tables. record {
       site = tables.site.value;
       channels = tables.channels;
-      calls = tables.calls;
+      calls = tables.calls.records;
       references = tables.references;
-      timers = tables.timers;
+      timers = tables.calls.armed;
     } };
 }
 
@@ -56,7 +55,6 @@ impl<A: Allocator + Copy> Records<A> {
             channels: Channels::new(alloc),
             calls: Calls::new(alloc),
             references: References::new(alloc),
-            timers: Timers::new(alloc),
         }
     }
 
@@ -87,7 +85,7 @@ impl<A: Allocator + Copy> Records<A> {
     pub fn timers(&self) -> usize
         ensures { result ≡ map.len self.now.timers }
     {
-        self.timers.len()
+        self.calls.armed()
     }
 
     /// What the table says.
@@ -100,19 +98,24 @@ impl<A: Allocator + Copy> Records<A> {
         ensures kinds { OnErr result (MayNeedRoom event) }
     {
         match event {
-            Event::Open(call, x) => self.begin(call, x, CallEntry::on(x), ChanEvent::Begin(call)),
+            Event::Open(call, x) => self.open(call, x),
             Event::Clear(call) => Ok(self.clear(call)),
             Event::Look(call) => Ok(self.look(call)),
             Event::Take(call, Kind::Internal, x) => self.take_internal(call, x),
-            Event::Take(call, Kind::Incoming, x) => {
-                self.begin(call, x, CallEntry::coming_to(x), ChanEvent::Take(call))
-            }
+            Event::Take(call, Kind::Incoming, x) => self.take_incoming(call, x),
             Event::Reserve(call, number) => self.reserve(call, number),
             Event::Activate(call) => Ok(self.activate(call)),
             Event::Undo(call, why) => Ok(self.undo(call, why)),
             Event::Confirm(x) => Ok(self.confirm(x)),
             Event::Refuse(x) => Ok(self.refuse(x)),
             Event::Released(x) => Ok(self.released(x)),
+            Event::Command(call) => Ok(self.command(call)),
+            Event::Complete(call) => Ok(self.complete(call)),
+            Event::Detect(x) => Ok(self.detect(x)),
+            Event::Owner(x) => Ok(self.owner(x)),
+            Event::Require(call) => Ok(self.require(call)),
+            Event::Order(call) => Ok(self.order(call)),
+            Event::Left(call) => Ok(self.left(call)),
         }
     }
 

@@ -1,14 +1,17 @@
-//! The four tables of a book. Each wraps a tree, and is seen as the finite map from its keys to its values.
-ghost use Rattle.std.specs.Prelude.{◌≡◌, OnOk, OnErr, None, IsSome};
+//! The tables of a book. Each wraps a tree, and is seen as finite maps from its keys.
+ghost use Rattle.std.specs.Prelude.{◌≡◌, OnOk, OnErr, None, IsSome, IfSome, is_some, count_by};
+ghost use Rattle.std.specs.BTreeMap.{values, IsOrdered};
+ghost use Rattle.std.specs.Ordering.{nat_cmp};
+ghost use Rattle.std.specs.Option.{option_map};
 ghost use Rattle.std.specs.FinMap as map;
 ghost use Rattle.channel_fsm.specs.Table.{next_state};
 ghost use Rattle.channel_fsm.specs.declared.ChanState.TheVariants as state;
-ghost use Rattle.radio_book.specs.Maps.{with_change};
+ghost use Rattle.radio_book.specs.Maps.{with_change, put};
 ghost use Rattle.radio_book.specs.State.{or_free};
 ghost use Rattle.radio_book.specs.Channels.{state_after, channel_step};
 
 use crate::entry::CallEntry;
-use crate::event::{CallRecord, Reference, Timer};
+use crate::event::{CallRecord, Reference};
 use channel_fsm::{ChanEvent, ChanId, ChanState, next};
 use std::alloc::{AllocError, Allocator, Global};
 use std::collections::BTreeMap;
@@ -129,29 +132,28 @@ fn state_after(state: ChanState, event: ChanEvent) -> ChanState
     next(state, event).unwrap_or(state)
 }
 
-/// What is kept of each call, seen as its record.
+/// What is kept of each call, seen as the map of its records and the map of the timers that are armed.
 #[derive(Drop)]
 pub struct Calls<A: Allocator = Global> {
     entries: BTreeMap<CallKey, CallEntry, A>,
 }
 
 impl<A: Allocator> Model for Calls<A> {
-    ghost use Rattle.std.specs.FinMap as map;
-    ghost use Rattle.std.specs.Ordering.{nat_cmp};
-    ghost use Rattle.std.specs.Coded.{coded_ℕ};
-    ghost use Rattle.radio_book.specs.declared.event.CallRecord.{CallRecord};
-    ghost use Rattle.radio_book.specs.contracts.event.CallRecord.{the_row};
+    ghost use Rattle.radio_book.specs.Entries.{CallTable, call_table_code, records_of, armed_of};
 
-    ghost Value = { map.FinMap nat_cmp CallRecord };
+    ghost Value = { CallTable };
 
-    ghost coded = { map.code coded_ℕ the_row.coded };
+    ghost coded = { call_table_code };
 
-    ghost view = { λ table. map.from_entries table.entries.entries };
+    ghost view = { λ table. record {
+      records = records_of table.entries.entries;
+      armed = armed_of table.entries.entries;
+    } };
 }
 
 impl<A: Allocator + Copy> Calls<A> {
     pub fn new(alloc: A) -> Calls<A>
-        ensures { result ≡ map.empty }
+        ensures { result ≡ record { records = map.empty; armed = map.empty } }
     {
         Calls {
             entries: BTreeMap::new(alloc),
@@ -159,13 +161,20 @@ impl<A: Allocator + Copy> Calls<A> {
     }
 
     pub fn len(&self) -> usize
-        ensures { result ≡ map.len self.now }
+        ensures { result ≡ map.len self.now.records }
     {
         self.entries.len()
     }
 
+    /// How many timers are armed.
+    pub fn armed(&self) -> usize
+        ensures { result ≡ map.len self.now.armed }
+    {
+        count_armed(&self.entries)
+    }
+
     pub fn get(&self, call: u16) -> Option<CallRecord>
-        ensures { result ≡ map.get self.now call }
+        ensures { result ≡ map.get self.now.records call }
     {
         match self.entries.get(&CallKey { number: call }) {
             Some(entry) => Some(entry.record()),
@@ -175,7 +184,8 @@ impl<A: Allocator + Copy> Calls<A> {
 
     /// A copy of what is kept.
     pub fn entry(&self, call: u16) -> Option<CallEntry>
-        ensures { result ≡ map.get self.now call }
+        ensures call { option_map (λ kept. kept.call) result ≡ map.get self.now.records call }
+        ensures timer { IfSome result (λ kept. kept.timer ≡ map.get self.now.armed call) }
     {
         match self.entries.get(&CallKey { number: call }) {
             Some(entry) => Some(entry.copy()),
@@ -183,11 +193,14 @@ impl<A: Allocator + Copy> Calls<A> {
         }
     }
 
-    /// Memory is asked for where the key is new, and only there.
+    /// A call begins, for which no timer is armed. Memory is asked for where the key is new, and only there.
     pub fn insert(&mut self, call: u16, entry: CallEntry) -> Result<(), AllocError>
-        ensures ok { OnOk result (self.new ≡ map.insert self.old call entry) }
+        requires entry { entry.timer ≡ None }
+        requires unarmed { map.get self.old.armed call ≡ None }
+        ensures ok { OnOk result (self.new ≡ record self.old
+            { records = map.insert self.old.records call entry.call }) }
         ensures err { OnErr result (self.new ≡ self.old) }
-        ensures new_key { OnErr result (map.get self.old call ≡ None) }
+        ensures new_key { OnErr result (map.get self.old.records call ≡ None) }
     {
         self.entries.insert(CallKey { number: call }, entry)?;
         Ok(())
@@ -195,8 +208,11 @@ impl<A: Allocator + Copy> Calls<A> {
 
     /// Another value at a key that is there, so no memory is asked for.
     pub fn replace(&mut self, call: u16, entry: CallEntry)
-        requires { IsSome (map.get self.old call) }
-        ensures { self.new ≡ map.insert self.old call entry }
+        requires { IsSome (map.get self.old.records call) }
+        ensures { self.new ≡ record {
+          records = map.insert self.old.records call entry.call;
+          armed = put self.old.armed call entry.timer;
+        } }
     {
         match self.entries.get_mut(&CallKey { number: call }) {
             Some(place) => *place = entry,
@@ -204,11 +220,41 @@ impl<A: Allocator + Copy> Calls<A> {
         }
     }
 
+    /// The same where the timer stays as it is.
+    pub fn update(&mut self, call: u16, entry: CallEntry)
+        requires key { IsSome (map.get self.old.records call) }
+        requires timer { entry.timer ≡ map.get self.old.armed call }
+        ensures { self.new ≡ record self.old
+            { records = map.insert self.old.records call entry.call } }
+    {
+        self.replace(call, entry);
+    }
+
+    /// The record and the timer are gone.
     pub fn remove(&mut self, call: u16)
-        ensures { self.new ≡ map.remove self.old call }
+        ensures { self.new ≡ record {
+          records = map.remove self.old.records call;
+          armed = map.remove self.old.armed call;
+        } }
     {
         let _ = self.entries.remove(&CallKey { number: call });
     }
+
+    /// The record is gone, beside which no timer is armed.
+    pub fn remove_unarmed(&mut self, call: u16)
+        requires { map.get self.old.armed call ≡ None }
+        ensures { self.new ≡ record self.old { records = map.remove self.old.records call } }
+    {
+        self.remove(call);
+    }
+}
+
+/// How many of the entries have a timer.
+fn count_armed<A: Allocator>(entries: &BTreeMap<CallKey, CallEntry, A>) -> usize
+    ensures count { result ≡ count_by (λ kept. is_some kept.timer) (values entries.now) }
+    ensures ordered { IsOrdered nat_cmp entries.now }
+{
+    entries.values().filter(|entry| entry.is_armed()).count()
 }
 
 /// The call of each handover reference in use.
@@ -265,47 +311,5 @@ impl<A: Allocator + Copy> References<A> {
         ensures { self.new ≡ map.remove self.old reference }
     {
         let _ = self.users.remove(&reference);
-    }
-}
-
-/// The armed timer of each call that has one.
-#[derive(Drop)]
-pub struct Timers<A: Allocator = Global> {
-    armed: BTreeMap<u16, Timer, A>,
-}
-
-impl<A: Allocator> Model for Timers<A> {
-    ghost use Rattle.std.specs.FinMap as map;
-    ghost use Rattle.std.specs.Ordering.{nat_cmp};
-    ghost use Rattle.std.specs.Coded.{coded_ℕ};
-    ghost use Rattle.radio_book.specs.declared.event.Timer.{Timer};
-    ghost use Rattle.radio_book.specs.contracts.event.Timer.{the_row};
-
-    ghost Value = { map.FinMap nat_cmp Timer };
-
-    ghost coded = { map.code coded_ℕ the_row.coded };
-
-    ghost view = { λ table. map.from_entries table.armed.entries };
-}
-
-impl<A: Allocator + Copy> Timers<A> {
-    pub fn new(alloc: A) -> Timers<A>
-        ensures { result ≡ map.empty }
-    {
-        Timers {
-            armed: BTreeMap::new(alloc),
-        }
-    }
-
-    pub fn len(&self) -> usize
-        ensures { result ≡ map.len self.now }
-    {
-        self.armed.len()
-    }
-
-    pub fn get(&self, call: u16) -> Option<Timer>
-        ensures { result ≡ map.get self.now call }
-    {
-        self.armed.get(&call).copied()
     }
 }

@@ -104,6 +104,13 @@ impl fmt::Display for EventText {
             Event::Confirm(chan) => write!(f, "confirm {chan}"),
             Event::Refuse(chan) => write!(f, "refuse {chan}"),
             Event::Released(chan) => write!(f, "released {chan}"),
+            Event::Command(call) => write!(f, "command {call}"),
+            Event::Complete(call) => write!(f, "complete {call}"),
+            Event::Detect(chan) => write!(f, "detect {chan}"),
+            Event::Owner(chan) => write!(f, "owner {chan}"),
+            Event::Require(call) => write!(f, "require {call}"),
+            Event::Order(call) => write!(f, "order {call}"),
+            Event::Left(call) => write!(f, "left {call}"),
         }
     }
 }
@@ -136,6 +143,10 @@ impl fmt::Display for StageText {
             Stage::Sent => "sent",
             Stage::Refused => "refused",
             Stage::Confirmed => "confirmed",
+            Stage::Commanded => "commanded",
+            Stage::Detected => "detected",
+            Stage::Required => "required",
+            Stage::Ordered => "ordered",
         })
     }
 }
@@ -150,6 +161,7 @@ impl fmt::Display for AttemptText {
         let kind = match attempt.kind {
             AttemptKind::Internal => "internal",
             AttemptKind::Incoming => "incoming",
+            AttemptKind::Outgoing => "outgoing",
         };
         let stage = StageText(attempt.stage);
         let target = OrDash(attempt.target);

@@ -59,7 +59,10 @@ fn is_own(attempt: Option<Attempt>) -> bool
     ensures { result ≡ is_own attempt }
 {
     match attempt {
-        Some(attempt) => matches!(attempt.kind, AttemptKind::Internal),
+        Some(attempt) => match attempt.kind {
+            AttemptKind::Internal | AttemptKind::Outgoing => true,
+            AttemptKind::Incoming => false,
+        },
         None => true,
     }
 }

@@ -50,7 +50,10 @@ fn release_of(chan: Option<ChanId>) -> Release
 fn is_switched_on(stage: Stage) -> bool
     ensures { result ≡ is_switched_on stage }
 {
-    matches!(stage, Stage::Sent | Stage::Confirmed)
+    match stage {
+        Stage::Sent | Stage::Confirmed | Stage::Commanded | Stage::Detected => true,
+        Stage::Taken | Stage::Reserved | Stage::Refused | Stage::Required | Stage::Ordered => false,
+    }
 }
 
 /// The release of an attempt's target, where it was switched on.

@@ -1,13 +1,15 @@
 //! An attempt takes its steps.
-ghost use Rattle.std.specs.Prelude.{◌≡◌, OnOk, OnErr, IfOk};
+ghost use Rattle.std.specs.Prelude.{◌≡◌, OnOk, OnErr, IfOk, None};
+ghost use Rattle.std.specs.Option.{option_map};
 ghost use Rattle.radio_book.specs.declared.event.Kind.TheVariants as kind;
 ghost use Rattle.radio_book.specs.declared.event.Event.TheVariants as event;
 ghost use Rattle.channel_fsm.specs.declared.ChanState.TheVariants as state;
 ghost use Rattle.radio_book.specs.State.{apply, state_of};
 ghost use Rattle.radio_book.specs.Sound.{IsSound};
-ghost use Rattle.radio_book.specs.Table.{step, reply_to, row, NeedsRoom, reference_at, no_change, with_state};
+ghost use Rattle.radio_book.specs.Table.{step, reply_to, row, NeedsRoom, reference_at, reference_held, no_change, with_state};
 
-use crate::event::{Reference, Refusal, Reply, Stage};
+use crate::entry::CallEntry;
+use crate::event::{Attempt, Reference, Refusal, Reply, Stage};
 use crate::records::Records;
 use channel_fsm::{ChanEvent, ChanId, ChanState};
 use std::alloc::{AllocError, Allocator};
@@ -46,8 +48,20 @@ impl<A: Allocator + Copy> Records<A> {
         }
         self.channels.occupy(x, ChanEvent::Take(call))?;
         entry.take(x);
-        self.calls.replace(call, entry);
+        self.calls.update(call, entry);
         Ok(Reply::Done)
+    }
+
+    pub(super) fn take_incoming(&mut self, call: u16, x: ChanId) -> Result<Reply, AllocError>
+        requires { IsSound self.old }
+        ensures reply { IfOk result (λ reply. reply ≡
+            reply_to self.old (event.Take call kind.Incoming x)) }
+        ensures book { OnOk result (self.new ≡ step self.old (event.Take call kind.Incoming x)) }
+        ensures unchanged { OnErr result (self.new ≡ self.old) }
+        ensures memory { OnErr result (NeedsRoom self.old
+            (row self.old (event.Take call kind.Incoming x))) }
+    {
+        self.begin(call, x, CallEntry::coming_to(x), ChanEvent::Take(call))
     }
 
     pub(super) fn reserve(&mut self, call: u16, number: u8) -> Result<Reply, AllocError>
@@ -73,7 +87,7 @@ impl<A: Allocator + Copy> Records<A> {
         }
         self.references.insert(reference, call)?;
         entry.reserve(attempt, number);
-        self.calls.replace(call, entry);
+        self.calls.update(call, entry);
         Ok(Reply::Done)
     }
 
@@ -93,8 +107,59 @@ impl<A: Allocator + Copy> Records<A> {
         };
         self.send(call, target);
         entry.activate(attempt, target);
+        self.calls.update(call, entry);
+        Reply::Done
+    }
+
+    pub(super) fn command(&mut self, call: u16) -> Reply
+        ensures reply { result ≡ reply_to self.old (event.Command call) }
+        ensures book { self.new ≡ step self.old (event.Command call) }
+    {
+        let Some(mut entry) = self.calls.entry(call) else {
+            return Reply::Refused(Refusal::NoCall);
+        };
+        let Some(attempt) = entry.record().attempt else {
+            return Reply::Refused(Refusal::WrongPhase);
+        };
+        let Stage::Confirmed = attempt.stage else {
+            return Reply::Refused(Refusal::WrongPhase);
+        };
+        entry.command(attempt);
         self.calls.replace(call, entry);
         Reply::Done
+    }
+
+    pub(super) fn complete(&mut self, call: u16) -> Reply
+        requires { IsSound self.old }
+        ensures reply { result ≡ reply_to self.old (event.Complete call) }
+        ensures book { self.new ≡ step self.old (event.Complete call) }
+    {
+        let Some(mut entry) = self.calls.entry(call) else {
+            return Reply::Refused(Refusal::NoCall);
+        };
+        let record = entry.record();
+        let Some(attempt) = record.attempt else {
+            return Reply::Refused(Refusal::WrongPhase);
+        };
+        let (Stage::Commanded | Stage::Detected) = attempt.stage else {
+            return Reply::Refused(Refusal::WrongPhase);
+        };
+        self.switch_off_serving(call, record.serving);
+        self.drop_reference_of(attempt);
+        entry.complete(attempt.target);
+        self.calls.replace(call, entry);
+        Reply::Done
+    }
+
+    /// The reference of an attempt, if it has one, is no longer in use.
+    fn drop_reference_of(&mut self, attempt: Attempt)
+        ensures { self.new ≡ apply (record no_change
+            { reference = option_map (λ k. (k, None)) (reference_held attempt.target attempt.reference) })
+            self.old }
+    {
+        if let (Some(target), Some(number)) = (attempt.target, attempt.reference) {
+            self.references.remove(reference_at(target, number));
+        }
     }
 
     /// A held channel of the call is asked for.

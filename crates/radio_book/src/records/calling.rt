@@ -7,8 +7,8 @@ ghost use Rattle.cell_table.specs.Site.{is_traffic};
 ghost use Rattle.radio_book.specs.State.{apply, state_of, record_of};
 ghost use Rattle.channel_fsm.specs.declared.ChanState.TheVariants as state;
 ghost use Rattle.radio_book.specs.Channels.{state_after};
-ghost use Rattle.radio_book.specs.Sound.{IsSound, owner};
-ghost use Rattle.radio_book.specs.Table.{step, reply_to, reply_of, book_after, begin_row, NeedsRoom, no_change, with_state, with_record, cleared_state};
+ghost use Rattle.radio_book.specs.Sound.{IsSound};
+ghost use Rattle.radio_book.specs.Table.{owner, step, reply_to, reply_of, book_after, begin_row, row, NeedsRoom, no_change, with_state, with_record, cleared_state};
 
 use crate::entry::CallEntry;
 use crate::event::{Refusal, Reply};
@@ -17,6 +17,16 @@ use channel_fsm::{ChanEvent, ChanId, ChanState};
 use std::alloc::{AllocError, Allocator};
 
 impl<A: Allocator + Copy> Records<A> {
+    pub(super) fn open(&mut self, call: u16, x: ChanId) -> Result<Reply, AllocError>
+        requires { IsSound self.old }
+        ensures reply { IfOk result (λ reply. reply ≡ reply_to self.old (event.Open call x)) }
+        ensures book { OnOk result (self.new ≡ step self.old (event.Open call x)) }
+        ensures unchanged { OnErr result (self.new ≡ self.old) }
+        ensures memory { OnErr result (NeedsRoom self.old (row self.old (event.Open call x))) }
+    {
+        self.begin(call, x, CallEntry::on(x), ChanEvent::Begin(call))
+    }
+
     /// A call begins with this record on a free traffic channel, which takes this step.
     #[tactic(auto, using(crate::proofs::RecordFacts::begin_is_busy))]
     pub(super) fn begin(
@@ -28,15 +38,16 @@ impl<A: Allocator + Copy> Records<A> {
     ) -> Result<Reply, AllocError>
         requires sound { IsSound self.old }
         requires step { IsSome (next_state state.Free event) }
+        requires timer { entry.timer ≡ None }
         ensures reply { IfOk result (λ reply. reply ≡
-            reply_of (begin_row call x entry (state_after state.Free event) (record_of self.old call)
+            reply_of (begin_row call x entry.call (state_after state.Free event) (record_of self.old call)
             (is_traffic self.old.site x) (state_of self.old x))) }
         ensures book { OnOk result (self.new ≡
-            book_after (begin_row call x entry (state_after state.Free event) (record_of self.old call)
+            book_after (begin_row call x entry.call (state_after state.Free event) (record_of self.old call)
             (is_traffic self.old.site x) (state_of self.old x)) self.old) }
         ensures unchanged { OnErr result (self.new ≡ self.old) }
         ensures memory { OnErr result (NeedsRoom self.old
-            (begin_row call x entry (state_after state.Free event) (record_of self.old call)
+            (begin_row call x entry.call (state_after state.Free event) (record_of self.old call)
             (is_traffic self.old.site x) (state_of self.old x))) }
     {
         if self.calls.get(call).is_some() {
@@ -61,18 +72,20 @@ impl<A: Allocator + Copy> Records<A> {
         event: ChanEvent,
     ) -> Result<(), AllocError>
         requires call { record_of self.old call ≡ None }
+        requires timer { entry.timer ≡ None }
+        requires unarmed { map.get self.old.timers call ≡ None }
         requires channel { map.get self.old.channels x ≡ None }
         requires step { IsSome (next_state state.Free event) }
         ensures book { OnOk result (self.new ≡ apply
             (record no_change
-            { channel = with_state x (state_after state.Free event); call = with_record call entry })
+            { channel = with_state x (state_after state.Free event); call = with_record call entry.call })
             self.old) }
         ensures unchanged { OnErr result (self.new ≡ self.old) }
     {
         self.calls.insert(call, entry)?;
         let occupied = self.channels.occupy(x, event);
         if occupied.is_err() {
-            self.calls.remove(call);
+            self.calls.remove_unarmed(call);
         }
         occupied
     }
@@ -91,7 +104,7 @@ impl<A: Allocator + Copy> Records<A> {
         if let Some(serving) = record.serving {
             self.release_serving(call, serving);
         }
-        self.calls.remove(call);
+        self.calls.remove_unarmed(call);
         Reply::Done
     }
 

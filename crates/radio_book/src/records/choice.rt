@@ -109,8 +109,16 @@ fn channel_at(cell: u8, place: u8) -> ChanId
 fn taken_channel(found: Option<CallRecord>) -> Option<ChanId>
     ensures { result ≡ taken_channel found }
 {
-    match found?.attempt {
-        Some(attempt) if matches!(attempt.stage, Stage::Taken) => attempt.target,
-        _ => None,
+    let attempt = found?.attempt?;
+    match attempt.stage {
+        Stage::Taken => attempt.target,
+        Stage::Reserved
+        | Stage::Sent
+        | Stage::Refused
+        | Stage::Confirmed
+        | Stage::Commanded
+        | Stage::Detected
+        | Stage::Required
+        | Stage::Ordered => None,
     }
 }

@@ -56,7 +56,7 @@ impl<A: Allocator + Copy> Records<A> {
         };
         if attempt.target == Some(x) {
             entry.move_to(attempt, stage);
-            self.calls.replace(call, entry);
+            self.calls.update(call, entry);
         }
     }
 
@@ -69,5 +69,40 @@ impl<A: Allocator + Copy> Records<A> {
         };
         self.channels.step(x, ChanEvent::Released);
         Reply::Done
+    }
+
+    pub(super) fn detect(&mut self, x: ChanId) -> Reply
+        ensures reply { result ≡ reply_to self.old (event.Detect x) }
+        ensures book { self.new ≡ step self.old (event.Detect x) }
+    {
+        let Some(ChanState::On(call)) = self.channels.get(x) else {
+            return Reply::Refused(Refusal::Unexpected(x));
+        };
+        let Some(mut entry) = self.calls.entry(call) else {
+            return Reply::Refused(Refusal::Unexpected(x));
+        };
+        let Some(attempt) = entry.record().attempt else {
+            return Reply::Refused(Refusal::Unexpected(x));
+        };
+        if attempt.target != Some(x) {
+            return Reply::Refused(Refusal::Unexpected(x));
+        }
+        let Stage::Commanded = attempt.stage else {
+            return Reply::Refused(Refusal::Unexpected(x));
+        };
+        entry.detect(attempt);
+        self.calls.update(call, entry);
+        Reply::Owned(call)
+    }
+
+    pub(super) fn owner(&self, x: ChanId) -> Reply
+        ensures { result ≡ reply_to self.now (event.Owner x) }
+    {
+        match self.state_of(x) {
+            ChanState::Held(call) | ChanState::Pending(call) | ChanState::On(call) => {
+                Reply::Owned(call)
+            }
+            ChanState::Free | ChanState::Off => Reply::Refused(Refusal::Unexpected(x)),
+        }
     }
 }

@@ -5,9 +5,9 @@ ghost use Rattle.radio_book.specs.declared.event.Why.TheVariants.{Asked, Expired
 ghost use Rattle.radio_book.specs.declared.event.Event.TheVariants as event;
 ghost use Rattle.attempt_journal.specs.declared.Inverse.TheVariants as inverse;
 ghost use Rattle.radio_book.specs.Sound.{IsSound};
-ghost use Rattle.radio_book.specs.State.{state_of, record_of};
-ghost use Rattle.radio_book.specs.Table.{step, reply_to, book_after, reply_of, undo_attempt, is_armed};
-ghost use Rattle.radio_book.specs.Journal.{run_inverse, run_back};
+ghost use Rattle.radio_book.specs.State.{apply, state_of, record_of};
+ghost use Rattle.radio_book.specs.Table.{step, reply_to, book_after, reply_of, undo_attempt, is_armed, no_change};
+ghost use Rattle.radio_book.specs.Journal.{run_inverse, run_back, timer_change};
 
 use crate::entry::CallEntry;
 use crate::event::{Refusal, Reply, Timer, Why};
@@ -48,7 +48,7 @@ impl<A: Allocator + Copy> Records<A> {
         let Some(entry) = self.calls.entry(call) else {
             return Reply::Refused(Refusal::NoCall);
         };
-        if !is_armed(timer, self.timers.get(call)) {
+        if !is_armed(timer, entry.timer()) {
             return Reply::Refused(Refusal::NotArmed);
         }
         self.take_back(call, entry, Refusal::NotArmed)
@@ -57,10 +57,10 @@ impl<A: Allocator + Copy> Records<A> {
     /// Takes the attempt of a call back, or answers the refusal where it has none.
     fn take_back(&mut self, call: u16, entry: CallEntry, refusal: Refusal) -> Reply
         requires sound { IsSound self.old }
-        requires entry { record_of self.old call ≡ Some entry }
-        ensures reply { result ≡ reply_of (undo_attempt call refusal entry entry.attempt
+        requires entry { record_of self.old call ≡ Some entry.call }
+        ensures reply { result ≡ reply_of (undo_attempt call refusal entry.call entry.call.attempt
             (state_of self.old) (map.get self.old.timers call)) }
-        ensures book { self.new ≡ book_after (undo_attempt call refusal entry entry.attempt
+        ensures book { self.new ≡ book_after (undo_attempt call refusal entry.call entry.call.attempt
             (state_of self.old) (map.get self.old.timers call)) self.old }
     {
         let found = entry.record();
@@ -91,6 +91,9 @@ impl<A: Allocator + Copy> Records<A> {
             Inverse::DropReference(number) => self.drop_reference(call, number),
             Inverse::Settle => self.settle(call),
             Inverse::Forget => self.calls.remove(call),
+            Inverse::Uncommand | Inverse::Undetect => self.go_back(call),
+            Inverse::Disarm(_) => self.set_timer(call, None),
+            Inverse::Rearm(timer) => self.set_timer(call, Some(timer)),
         }
     }
 
@@ -113,6 +116,25 @@ impl<A: Allocator + Copy> Records<A> {
     {
         if let Some(mut entry) = self.calls.entry(call) {
             entry.settle();
+            self.calls.update(call, entry);
+        }
+    }
+
+    fn go_back(&mut self, call: u16)
+        ensures { self.new ≡ run_inverse call inverse.Undetect self.old }
+    {
+        if let Some(mut entry) = self.calls.entry(call) {
+            entry.go_back();
+            self.calls.update(call, entry);
+        }
+    }
+
+    fn set_timer(&mut self, call: u16, timer: Option<Timer>)
+        ensures { self.new ≡ apply (record no_change
+            { timer = timer_change call timer (record_of self.old call) }) self.old }
+    {
+        if let Some(mut entry) = self.calls.entry(call) {
+            entry.set_timer(timer);
             self.calls.replace(call, entry);
         }
     }

@@ -10,5 +10,5 @@ move_attempt-requires g c r a known =
     let x = c.args.x in
     let call = c.in-Some-Pending.call in
     let pending = sym (ap (λ b. map.get b.channels x) c.self.view_is) ∙ sym c.get.ensures ∙ c.in-Some-Pending.is ∙ ap Some c.in-Some-Pending.field-0-is in
-    pending_moves c.args.self.now call x Confirmed c.requires pending (λ o t n. refl) r a
+    pending_moves c.args.self.now call x Confirmed c.requires pending refl r a
     (sym (ap (λ b. record_of b call) c.self.view_is) ∙ known)

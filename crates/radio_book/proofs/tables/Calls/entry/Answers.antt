@@ -1,16 +1,20 @@
 use Rattle.std.proofs.Common.{Some, sym, ◌∙◌, ap}
-use Rattle.std.specs.Cmp.{nat_cmp_total}
 use Rattle.std.specs.FinMap as map
 use Rattle.std.specs.Option.{option_copied}
-use Rattle.radio_book.proofs.MapFacts.{get_listed}
+use Rattle.radio_book.proofs.EntryFacts.{call_kept, timer_kept, get_records, get_armed}
 use Rattle.radio_book.proofs.tables.Calls.entry.Goals as goal
 
-pub returns-in-Some : goal.returns-in-Some
-returns-in-Some g c =
-    ap Some c.copy.ensures ∙ sym (ap option_copied c.in-Some.is) ∙ c.get.ensures.value
-    ∙ sym (get_listed nat_cmp_total c.self.inside.entries.entries c.args.call) ∙ ap (λ m. map.get m c.args.call) c.self.view_is
+pub returns-in-Some-clause-call : goal.returns-in-Some-clause-call
+returns-in-Some-clause-call g c =
+    ap (λ k. call_kept (Some k)) c.copy.ensures ∙ sym (ap (λ o. call_kept (option_copied o)) c.in-Some.is) ∙ ap call_kept c.get.ensures.value
+    ∙ sym (get_records c.self.inside.entries.entries c.args.call) ∙ ap (λ t. map.get t.records c.args.call) c.self.view_is
 
-pub returns-in-None : goal.returns-in-None
-returns-in-None g c =
-    sym (ap option_copied c.in-None.is) ∙ c.get.ensures.value
-    ∙ sym (get_listed nat_cmp_total c.self.inside.entries.entries c.args.call) ∙ ap (λ m. map.get m c.args.call) c.self.view_is
+pub returns-in-Some-clause-timer : goal.returns-in-Some-clause-timer
+returns-in-Some-clause-timer g c =
+    ap (λ k. timer_kept (Some k)) c.copy.ensures ∙ sym (ap (λ o. timer_kept (option_copied o)) c.in-Some.is) ∙ ap timer_kept c.get.ensures.value
+    ∙ sym (get_armed c.self.inside.entries.entries c.args.call) ∙ ap (λ t. map.get t.armed c.args.call) c.self.view_is
+
+pub returns-in-None-clause-call : goal.returns-in-None-clause-call
+returns-in-None-clause-call g c =
+    sym (ap (λ o. call_kept (option_copied o)) c.in-None.is) ∙ ap call_kept c.get.ensures.value
+    ∙ sym (get_records c.self.inside.entries.entries c.args.call) ∙ ap (λ t. map.get t.records c.args.call) c.self.view_is

@@ -1,0 +1,11 @@
+use Rattle.std.proofs.Common.{sym, ◌∙◌, ap}
+use Rattle.std.proofs.Common.{rules}
+use Rattle.radio_book.specs.State.{record_of}
+use Rattle.radio_book.proofs.EntryFacts.{call_kept}
+use Rattle.radio_book.proofs.records.Records.move_attempt.Goals as goal
+
+pub move_to-requires-clause-inverses : goal.move_to-requires-clause-inverses
+move_to-requires-clause-inverses g c =
+    let known = sym (ap (λ b. record_of b c.args.call) c.self.view_is) ∙ sym c.entry.ensures.call ∙ ap call_kept c.in-Some.is in
+    let opened = sym (ap (λ q. q.attempt) c.record.ensures) ∙ c.in-Some-attempt.is in
+    c.requires c.in-Some.entry.call c.in-Some-attempt.attempt known opened (Prim.search rules)

@@ -1,0 +1,11 @@
+use Rattle.std.proofs.Common.{None, ◌∙◌}
+use Rattle.std.specs.Cmp.{nat_cmp_total}
+use Rattle.std.specs.FinMap as map
+use Rattle.std.specs.FinMap.{nat_cmp-IsAntisymmetric}
+use Rattle.radio_book.proofs.MapFacts.{put_again}
+use Rattle.radio_book.proofs.tables.Calls.remove_unarmed.Goals as goal
+
+pub returns : goal.returns
+returns g c =
+    let armed = put_again nat_cmp_total nat_cmp-IsAntisymmetric c.args.self.now.armed c.args.call None c.requires in
+    c.remove.ensures ∙ (λ i. record { records = map.remove c.args.self.now.records c.args.call; armed = armed i })
