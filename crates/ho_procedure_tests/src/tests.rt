@@ -423,26 +423,6 @@ const ENDS_PENDING: Row = Row {
     out: &[(0, 0, RELEASES_3)],
 };
 
-/// Rows that come before, rows that follow, and how many channels and calls the book has then.
-const FOLLOWED: &[(&[Row], &[Row], (usize, usize))] = &[
-    (BEGINS, &[CONFIRM_UNEXPECTED], (1, 1)),
-    (BEGINS, &[REFUSE_UNEXPECTED], (1, 1)),
-    (BEGINS, &[STARTS, UNDOES, TARGET_CONFIRM_UNEXPECTED], (2, 1)),
-    (BEGINS, &[STARTS, UNDOES, TARGET_REFUSE_UNEXPECTED], (2, 1)),
-    (
-        BEGINS,
-        &[
-            STARTS,
-            TARGET_CONFIRMED,
-            TARGET_CONFIRM_UNEXPECTED,
-            UNDOES_CONFIRMED,
-        ],
-        (2, 1),
-    ),
-    (BEGINS, &[STARTS, TARGET_CONFIRMED, ENDS_CONFIRMED], (2, 0)),
-    (&[OPENS], &[ENDS_PENDING], (1, 0)),
-];
-
 /// Call 1 comes from another controller to a channel, and reserves a reference.
 const COMES: &[(Event, Reply)] = &[
     (Take(1, Kind::Incoming, TARGET), Done),
@@ -566,6 +546,52 @@ const WITHOUT_A_ROW: &[Row] = &[
     ASKS_NOTHING,
 ];
 
+/// Rows that are played in three parts over an empty book, and how many channels and calls the book has then.
+const PLAYED: &[(&[Row], &[Row], &[Row], (usize, usize))] = &[
+    // a call begins and ends
+    (BEGINS, &[], ENDS, (0, 0)),
+    // a refused channel is cleared without a message
+    (REFUSED_AT_ONCE, &[], &[], (0, 0)),
+    // a handover is taken back
+    (BEGINS, &[STARTS], TAKEN_BACK, (1, 1)),
+    // a refused target is taken back
+    (BEGINS, &[STARTS], &[TARGET_TAKEN_BACK], (1, 1)),
+    // a call with an attempt is cleared: both channels await their releases
+    (BEGINS, &[STARTS], &[ENDS_IN_HANDOVER], (2, 0)),
+    // an input that finds nothing asks nothing
+    (FINDS_NOTHING, WITHOUT_A_ROW, &[], (1, 1)),
+    // what isn't awaited is refused
+    (BEGINS, &[], &[CONFIRM_UNEXPECTED], (1, 1)),
+    (BEGINS, &[], &[REFUSE_UNEXPECTED], (1, 1)),
+    (
+        BEGINS,
+        &[STARTS, UNDOES],
+        &[TARGET_CONFIRM_UNEXPECTED],
+        (2, 1),
+    ),
+    (
+        BEGINS,
+        &[STARTS, UNDOES],
+        &[TARGET_REFUSE_UNEXPECTED],
+        (2, 1),
+    ),
+    // a confirmed target is taken back, by an undo and by the end of its call
+    (
+        BEGINS,
+        &[STARTS, TARGET_CONFIRMED],
+        &[TARGET_CONFIRM_UNEXPECTED, UNDOES_CONFIRMED],
+        (2, 1),
+    ),
+    (
+        BEGINS,
+        &[STARTS, TARGET_CONFIRMED],
+        &[ENDS_CONFIRMED],
+        (2, 0),
+    ),
+    // a call ends before its channel is confirmed
+    (&[OPENS], &[], &[ENDS_PENDING], (1, 0)),
+];
+
 /// Octets that are no message, and why.
 const NO_MESSAGES: &[(&[u8], RslFault)] = &[
     (&[0x04], RslFault::NotRsl),
@@ -655,20 +681,6 @@ fn usage_after(
     played(rt, alloc, &mut book, begin, middle, end)
 }
 
-#[test]
-fn a_call_begins_and_ends(rt: HostRuntime) -> Result<(), Fail> {
-    let usage = usage_after(&rt, BEGINS, &[], ENDS)?;
-    assert_eq!(rt; (usage.channels, usage.calls), (0, 0));
-    Ok(())
-}
-
-#[test]
-fn a_refused_channel_is_cleared_without_a_message(rt: HostRuntime) -> Result<(), Fail> {
-    let usage = usage_after(&rt, REFUSED_AT_ONCE, &[], &[])?;
-    assert_eq!(rt; (usage.channels, usage.calls), (0, 0));
-    Ok(())
-}
-
 /// So many channels and calls, and nothing of an attempt.
 const fn holds(channels: usize, calls: usize) -> Usage {
     Usage {
@@ -679,40 +691,10 @@ const fn holds(channels: usize, calls: usize) -> Usage {
     }
 }
 
-/// What a book holds of a call without an attempt.
-const ONE_STEADY_CALL: Usage = Usage {
-    channels: 1,
-    calls: 1,
-    references: 0,
-    timers: 0,
-};
-
 #[test]
-fn a_handover_is_taken_back(rt: HostRuntime) -> Result<(), Fail> {
-    let usage = usage_after(&rt, BEGINS, &[STARTS], TAKEN_BACK)?;
-    assert_eq!(rt; usage, ONE_STEADY_CALL);
-    Ok(())
-}
-
-#[test]
-fn a_refused_target_is_taken_back(rt: HostRuntime) -> Result<(), Fail> {
-    let usage = usage_after(&rt, BEGINS, &[STARTS], &[TARGET_TAKEN_BACK])?;
-    assert_eq!(rt; usage, ONE_STEADY_CALL);
-    Ok(())
-}
-
-#[test]
-fn a_call_with_an_attempt_is_cleared(rt: HostRuntime) -> Result<(), Fail> {
-    let usage = usage_after(&rt, BEGINS, &[STARTS], &[ENDS_IN_HANDOVER])?;
-    // both channels await their releases
-    assert_eq!(rt; (usage.channels, usage.calls), (2, 0));
-    Ok(())
-}
-
-#[test]
-fn rows_follow_others(rt: HostRuntime) -> Result<(), Fail> {
-    for (before, rows, (channels, calls)) in FOLLOWED {
-        let usage = usage_after(&rt, *before, *rows, &[])?;
+fn rows_are_played(rt: HostRuntime) -> Result<(), Fail> {
+    for (begin, middle, end, (channels, calls)) in PLAYED {
+        let usage = usage_after(&rt, *begin, *middle, *end)?;
         assert_eq!(rt; usage, holds(*channels, *calls));
     }
     Ok(())
@@ -759,13 +741,6 @@ fn a_call_that_comes_is_taken_back(rt: HostRuntime) -> Result<(), Fail> {
         let usage = usage_after_events(&rt, *events, *rows)?;
         assert_eq!(rt; usage, holds(*channels, 0));
     }
-    Ok(())
-}
-
-#[test]
-fn an_input_that_finds_nothing_asks_nothing(rt: HostRuntime) -> Result<(), Fail> {
-    let usage = usage_after(&rt, FINDS_NOTHING, WITHOUT_A_ROW, &[])?;
-    assert_eq!(rt; (usage.channels, usage.calls), (1, 1));
     Ok(())
 }
 
