@@ -3,7 +3,7 @@ use Rattle.std.proofs.Common.{◌≡◌, ◌⊎◌, ℕ, ◌<◌, ◌≤◌, ◌
 use Rattle.octet_elements.specs.Texts.{HeadsAreUnique}
 use Rattle.octet_elements.specs.declared.values.ValueFault.{ValueFault}
 use Rattle.octet_elements.specs.declared.values.ValueFault.TheVariants.{Absent, Bad}
-use Rattle.octet_elements.proofs.Texts.{refused}
+use Rattle.octet_elements.proofs.Texts.{refused, reading_is_unique}
 use Rattle.rsl_messages.specs.Values.{fault_of}
 use Rattle.rsl_messages.specs.declared.message.Rsl.{Rsl}
 use Rattle.rsl_messages.specs.Messages.{HasOctets}
@@ -137,3 +137,11 @@ no_value_fault (Bad i) same = cc
 -- memory is refused only for a text whose message keeps octets
 pub memory_refused : (A : Type 0) (octets : List ℕ) (r : Result (Rsl A) RslFault) → r ≡ Err fault.NoMemory → IfErr r (HasFault A octets) → (v : Rsl A) × IsTextOf v octets × HasOctets v
 memory_refused A octets r memory h = refused (codec A) octets (λ early. early.1) (λ at same. cc) no_value_fault (subst (λ r. IfErr r (HasFault A octets)) memory h)
+
+-- a text has no fault but refused memory
+pub no_fault : {A : Type 0} (v : Rsl A) (octets : List ℕ) (f : RslFault) → IsTextOf v octets → HasFault A octets f → f ≡ fault.NoMemory
+no_fault {A} v octets f text fault = (reading_is_unique (codec A) (heads A)).text v octets f text fault
+
+-- octets have one fault
+pub one_fault : (A : Type 0) (octets : List ℕ) (f g : RslFault) → HasFault A octets f → HasFault A octets g → f ≡ g
+one_fault A octets f g p q = (reading_is_unique (codec A) (heads A)).fault octets f g p q

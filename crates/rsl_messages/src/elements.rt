@@ -1,11 +1,11 @@
 //! The elements of each message: how they are read, and beside it how they are written.
-ghost use Rattle.std.specs.Prelude.{◌≡◌, ◌+◌, ◌-◌, ◌^◌, ◌<◌, ◌≤◌, ◌∷◌, [], ◌++◌, min, length, Ok, Err, IfOk, OnErr, IsSome, IfSome, vec_len, vec_capacity};
+ghost use Rattle.std.specs.Prelude.{◌≡◌, ◌+◌, ◌-◌, ◌^◌, ◌<◌, ◌≤◌, ◌∷◌, [], ◌++◌, min, length, Ok, Err, IfOk, IfSome, vec_len, vec_capacity};
 ghost use Rattle.std.specs.Option.{option_map};
 ghost use Rattle.octet_elements.specs.Elements.{all_octets, element_octets};
 ghost use Rattle.octet_elements.specs.Lookup.{lookup};
 ghost use Rattle.octet_elements.specs.Texts.{Answers};
-ghost use Rattle.octet_elements.specs.Values.{value_seen, where_some, where_value};
-ghost use Rattle.rsl_messages.specs.Forms.{abis, known, CHANNEL_NUMBER, LAYER3};
+ghost use Rattle.octet_elements.specs.Values.{where_some};
+ghost use Rattle.rsl_messages.specs.Forms.{abis, known, CHANNEL_NUMBER};
 ghost use Rattle.rsl_messages.specs.Messages.{said, elements_of, data_rows, activation_rows, activation_ack_rows, cause_rows, detection_rows, measurement_rows};
 ghost use Rattle.rsl_messages.specs.Texts.{codec, limit, HasCanonical};
 ghost use Rattle.rsl_messages.specs.Values.{channel_in, channel_octet};
@@ -19,7 +19,7 @@ use crate::table::{
 };
 use octet_elements::values::pair_octets;
 use octet_elements::{Found, Octets, ValueFault, append_element, element_len};
-use std::alloc::{AllocError, Allocator};
+use std::alloc::Allocator;
 
 /// The channel number.
 fn channel(found: &Found<'_, Abis>) -> Result<ChanBits, ValueFault>
@@ -40,22 +40,8 @@ fn channel_octet(channel: ChanBits) -> u8
     8 + channel.tn
 }
 
-/// A list of the octets, where there are any.
-fn copied<A: Allocator + Copy>(
-    alloc: A,
-    octets: Option<&[u8]>,
-) -> Result<Option<Octets<A>>, AllocError>
-    ensures copy { IfOk result (λ o. o ≡ value_seen octets.entry) }
-    ensures some { OnErr result (IsSome (value_seen octets.entry)) }
-{
-    match octets {
-        None => Ok(None),
-        Some(octets) => Ok(Some(Octets::new(alloc, octets)?)),
-    }
-}
-
-/// The message that elements say. It isn't inlined, so that only the values that it reads are loaded.
-#[inline(never)]
+/// The message that elements say.
+#[inline(always)]
 pub fn read_elements<A: Allocator + Copy>(
     alloc: A,
     kind: MessageKind,
@@ -159,6 +145,7 @@ fn append_data<A: Allocator>(out: &mut Vec<u8, A>, channel: ChanBits, link: u8, 
 }
 
 /// CHANNEL ACTIVATION. Memory is asked for once the elements are read.
+#[inline(always)]
 fn read_activation<A: Allocator + Copy>(
     alloc: A,
     found: &Found<'_, Abis>,
@@ -244,6 +231,7 @@ fn append_detection<A: Allocator>(out: &mut Vec<u8, A>, channel: ChanBits, delay
 }
 
 /// MEASUREMENT RESULT. Memory is asked for once the elements are read.
+#[inline(always)]
 fn read_measurement<A: Allocator + Copy>(
     alloc: A,
     found: &Found<'_, Abis>,
@@ -261,7 +249,10 @@ fn read_measurement<A: Allocator + Copy>(
         number,
         uplink: Octets::new(alloc, uplink)?,
         power,
-        layer3: copied(alloc, layer3)?,
+        layer3: match layer3 {
+            None => None,
+            Some(layer3) => Some(Octets::new(alloc, layer3)?),
+        },
     })
 }
 
@@ -318,7 +309,12 @@ pub fn elements_len<A: Allocator>(message: &Rsl<A>) -> usize
             let measured = octet_len(RESULT_NUMBER)
                 + element_len::<Abis>(UPLINK_MEASUREMENTS, uplink.as_slice())
                 + octet_len(POWER);
-            measured.saturating_add(layer3_len(layer3.as_ref()))
+            match layer3 {
+                None => measured,
+                Some(layer3) => {
+                    measured.saturating_add(element_len::<Abis>(LAYER3, layer3.as_slice()))
+                }
+            }
         }
         Rsl::RfChannelRelease { .. } | Rsl::RfChannelReleaseAck { .. } => 0,
     };
@@ -340,15 +336,5 @@ fn optional_octet_len(identifier: u8, octet: Option<u8>) -> usize
     match octet {
         None => 0,
         Some(octet) => element_len::<Abis>(identifier, &[octet]),
-    }
-}
-
-fn layer3_len<A: Allocator>(layer3: Option<&Octets<A>>) -> usize
-    ensures { result ≡ length (all_octets abis
-        (where_value LAYER3 (option_map (λ l. l.now) layer3.entry))) }
-{
-    match layer3 {
-        None => 0,
-        Some(layer3) => element_len::<Abis>(LAYER3, layer3.as_slice()),
     }
 }

@@ -1,6 +1,6 @@
 //! Discriminator and type.
-ghost use Rattle.std.specs.Prelude.{◌≡◌, ◌∷◌, [], IfOk, IfErr, IfSome, IfNone};
-ghost use Rattle.rsl_messages.specs.Heads.{head_of, IsHead, Begins, HasHeadFault};
+ghost use Rattle.std.specs.Prelude.{IfOk, IfErr, IfSome, IfNone};
+ghost use Rattle.rsl_messages.specs.Heads.{IsHead, Begins, HasHeadFault};
 
 use crate::fault::RslFault;
 
@@ -56,22 +56,4 @@ pub fn read_head(octets: &[u8]) -> Result<(MessageKind, &[u8]), RslFault>
     };
     let kind = kind_for(*discriminator, *message_type).ok_or(RslFault::UnknownType(*message_type))?;
     Ok((kind, body))
-}
-
-/// Discriminator and type of a message, as they are written.
-pub fn head_octets(kind: MessageKind) -> [u8; 2]
-    ensures { result ≡ (head_of kind).0 ∷ (head_of kind).1 ∷ [] }
-{
-    match kind {
-        MessageKind::DataRequest => [3, 0x01],
-        MessageKind::DataIndication => [3, 0x02],
-        MessageKind::ChannelActivation => [8, 0x21],
-        MessageKind::ChannelActivationAck => [8, 0x22],
-        MessageKind::ChannelActivationNack => [8, 0x23],
-        MessageKind::ConnectionFailureIndication => [8, 0x24],
-        MessageKind::HandoverDetection => [8, 0x27],
-        MessageKind::MeasurementResult => [8, 0x28],
-        MessageKind::RfChannelRelease => [8, 0x2E],
-        MessageKind::RfChannelReleaseAck => [8, 0x33],
-    }
 }

@@ -1,14 +1,14 @@
 //! Writing a message.
-ghost use Rattle.std.specs.Prelude.{◌≡◌, ◌≤◌, ◌<◌, ◌↔◌, IsTrue, IfSome, IfOk, length};
+ghost use Rattle.std.specs.Prelude.{◌≡◌, ◌≤◌, ◌<◌, ◌↔◌, ◌∷◌, [], IsTrue, IfOk, length};
 ghost use Rattle.octet_elements.specs.Writing.{Appends};
+ghost use Rattle.rsl_messages.specs.Heads.{head_of};
 ghost use Rattle.rsl_messages.specs.Messages.{kind_of};
 ghost use Rattle.rsl_messages.specs.Texts.{limit, HasCanonical, canonical_text};
 
 use crate::elements::{append_elements, elements_len};
-use crate::head::{MessageKind, head_octets};
-use crate::message::{ChanBits, Rsl};
+use crate::message::Rsl;
 use crate::reading::LIMIT;
-use octet_elements::{Octets, append_octets};
+use octet_elements::append_octets;
 use std::alloc::{AllocError, Allocator};
 
 /// Whether the message has a canonical text.
@@ -26,9 +26,9 @@ pub fn fits<A: Allocator>(message: &Rsl<A>) -> bool
             channel,
             layer3,
             ..
-        } => has_timeslot(*channel) && is_some(layer3) && is_within(message),
+        } => channel.tn < 8 && !layer3.as_slice().is_empty() && is_within(message),
         Rsl::ChannelActivation { channel, mode, .. } => {
-            has_timeslot(*channel) && is_some(mode) && is_counted(mode) && is_within(message)
+            channel.tn < 8 && matches!(mode.as_slice().len(), 1..=255) && is_within(message)
         }
         Rsl::MeasurementResult {
             channel,
@@ -36,9 +36,12 @@ pub fn fits<A: Allocator>(message: &Rsl<A>) -> bool
             layer3,
             ..
         } => {
-            has_timeslot(*channel)
-                && is_counted(uplink)
-                && is_reported(layer3.as_ref())
+            channel.tn < 8
+                && uplink.as_slice().len() < 256
+                && match layer3 {
+                    None => true,
+                    Some(layer3) => !layer3.as_slice().is_empty(),
+                }
                 && is_within(message)
         }
         Rsl::ChannelActivationAck { channel, .. }
@@ -46,37 +49,7 @@ pub fn fits<A: Allocator>(message: &Rsl<A>) -> bool
         | Rsl::ConnectionFailureIndication { channel, .. }
         | Rsl::HandoverDetection { channel, .. }
         | Rsl::RfChannelRelease { channel }
-        | Rsl::RfChannelReleaseAck { channel } => has_timeslot(*channel) && is_within(message),
-    }
-}
-
-fn has_timeslot(channel: ChanBits) -> bool
-    ensures { IsTrue result ↔ (channel.tn < 8) }
-{
-    channel.tn < 8
-}
-
-/// Whether the list isn't empty.
-fn is_some<A: Allocator>(octets: &Octets<A>) -> bool
-    ensures { IsTrue result ↔ (0 < length octets.now) }
-{
-    !octets.as_slice().is_empty()
-}
-
-/// Whether a length of one octet counts the list.
-fn is_counted<A: Allocator>(octets: &Octets<A>) -> bool
-    ensures { IsTrue result ↔ (length octets.now < 256) }
-{
-    octets.as_slice().len() < 256
-}
-
-/// Whether the list, where there is one, isn't empty.
-fn is_reported<A: Allocator>(octets: Option<&Octets<A>>) -> bool
-    ensures { IsTrue result ↔ IfSome octets.entry (λ o. 0 < length o.now) }
-{
-    match octets {
-        None => true,
-        Some(octets) => is_some(octets),
+        | Rsl::RfChannelReleaseAck { channel } => channel.tn < 8 && is_within(message),
     }
 }
 
@@ -87,21 +60,22 @@ fn is_within<A: Allocator>(message: &Rsl<A>) -> bool
     elements_len(message) <= LIMIT - 2
 }
 
-/// Which message it is.
-fn kind_of<A: Allocator>(message: &Rsl<A>) -> MessageKind
-    ensures { result ≡ kind_of message.now }
+/// Discriminator and type of a message.
+fn head_octets<A: Allocator>(message: &Rsl<A>) -> [u8; 2]
+    ensures { result ≡ (head_of (kind_of message.now)).0 ∷
+        (head_of (kind_of message.now)).1 ∷ [] }
 {
     match message {
-        Rsl::DataRequest { .. } => MessageKind::DataRequest,
-        Rsl::DataIndication { .. } => MessageKind::DataIndication,
-        Rsl::ChannelActivation { .. } => MessageKind::ChannelActivation,
-        Rsl::ChannelActivationAck { .. } => MessageKind::ChannelActivationAck,
-        Rsl::ChannelActivationNack { .. } => MessageKind::ChannelActivationNack,
-        Rsl::ConnectionFailureIndication { .. } => MessageKind::ConnectionFailureIndication,
-        Rsl::HandoverDetection { .. } => MessageKind::HandoverDetection,
-        Rsl::MeasurementResult { .. } => MessageKind::MeasurementResult,
-        Rsl::RfChannelRelease { .. } => MessageKind::RfChannelRelease,
-        Rsl::RfChannelReleaseAck { .. } => MessageKind::RfChannelReleaseAck,
+        Rsl::DataRequest { .. } => [3, 0x01],
+        Rsl::DataIndication { .. } => [3, 0x02],
+        Rsl::ChannelActivation { .. } => [8, 0x21],
+        Rsl::ChannelActivationAck { .. } => [8, 0x22],
+        Rsl::ChannelActivationNack { .. } => [8, 0x23],
+        Rsl::ConnectionFailureIndication { .. } => [8, 0x24],
+        Rsl::HandoverDetection { .. } => [8, 0x27],
+        Rsl::MeasurementResult { .. } => [8, 0x28],
+        Rsl::RfChannelRelease { .. } => [8, 0x2E],
+        Rsl::RfChannelReleaseAck { .. } => [8, 0x33],
     }
 }
 
@@ -111,7 +85,7 @@ pub fn encode_into<A: Allocator>(message: &Rsl<A>, out: &mut Vec<u8, A>) -> Resu
     ensures { Appends (canonical_text message.now) out.old out.new result }
 {
     out.reserve(2 + elements_len(message))?;
-    append_octets(out, &head_octets(kind_of(message)));
+    append_octets(out, &head_octets(message));
     append_elements(message, out);
     Ok(())
 }

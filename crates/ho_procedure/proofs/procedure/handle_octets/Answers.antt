@@ -1,6 +1,6 @@
-use Rattle.std.proofs.Common.{ap, ◌∙◌, Err}
-use Rattle.rsl_messages.proofs.Unique.{no_fault}
-use Rattle.rsl_messages.proofs.Faults.{one_fault}
+use Rattle.std.proofs.Common.{◌≡◌, ap, ◌∙◌, Err, subst}
+use Rattle.rsl_messages.proofs.Unique.{no_fault, one_fault}
+use Rattle.rsl_messages.specs.Texts.{HasFault}
 use Rattle.ho_procedure.specs.declared.exchange.PlainFault.TheVariants.{Undecoded}
 use Rattle.ho_procedure.proofs.procedure.handle_octets.Goals as goal
 
@@ -17,3 +17,8 @@ returns-in-Err-NoMemory-clause-decoded g c = λ f other has. absurd (other (one_
 -- octets have one fault
 pub returns-in-Err-clause-decoded : goal.returns-in-Err-clause-decoded
 returns-in-Err-clause-decoded g c = λ f other has. ap (λ k. Err (Undecoded k)) (one_fault _ _ c.in-Err.fault f c.in-Err.ensures.fault has)
+
+pub returns-in-Err-clause-undecoded : goal.returns-in-Err-clause-undecoded
+returns-in-Err-clause-undecoded g c = λ f same.
+    let is : c.in-Err.fault ≡ f = cc in
+    subst (λ k. HasFault g.row.A.Denot c.args.octets.now k) is c.in-Err.ensures.fault

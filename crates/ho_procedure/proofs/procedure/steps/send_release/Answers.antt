@@ -1,5 +1,5 @@
-use Rattle.rsl_messages.proofs.Written.{canonical_of}
+use Rattle.rsl_messages.proofs.Written.{release_canonical}
 use Rattle.ho_procedure.proofs.procedure.steps.send_release.Goals as goal
 
 pub send-requires : goal.send-requires
-send-requires g c = canonical_of _ c.requires
+send-requires g c = release_canonical _ c.requires
