@@ -40,5 +40,5 @@ nine_name_one_twice slots all once =
     let few = length-le_from_distinct_below (take 9 slots) 8 (distinct (take 9 slots) once) (member_below (take 9 slots) (All-take (λ n. n < 8) 9 slots all)) in
     take_all 9 slots (short (length slots) (λ long. length-take-le 9 slots long) few)
   where
-  short : (n : ℕ) → (9 ≤ n → length (take 9 slots) ≡ 9) → length (take 9 slots) ≤ 8 → n ≤ 9
-  short n full few = grind arith
+    short : (n : ℕ) → (9 ≤ n → length (take 9 slots) ≡ 9) → length (take 9 slots) ≤ 8 → n ≤ 9
+    short n full few = grind arith

@@ -61,9 +61,9 @@ handover_at_limits d rule e =
     bind_parts (IsHandoverRule rule) (value_at key.Handover d) (λ value. if is_table value then handover_of value else Err (Range key.Handover)) rule e
     (λ value there rest. handover_limits value rule (taken (is_table value) (handover_of value) rule rest))
   where
-  taken : (b : Bool) (r : Read HandoverRule) (y : HandoverRule) → (if b then r else Err (Range key.Handover)) ≡ Ok y → r ≡ Ok y
-  taken true r y same = same
-  taken false r y same = absurd cc
+    taken : (b : Bool) (r : Read HandoverRule) (y : HandoverRule) → (if b then r else Err (Range key.Handover)) ≡ Ok y → r ≡ Ok y
+    taken true r y same = same
+    taken false r y same = absurd cc
 
 counted_parts : (k : Key) (count : Allowed) (ds some : List Data) → counted k count ds ≡ Ok some → length some ≤ count.most
 counted_parts k count ds some e =

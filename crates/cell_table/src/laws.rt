@@ -5,5 +5,4 @@ ghost use Rattle.cell_table.specs.Laws.{NineNameOneTwice};
 /// twice among the first nine, there are no more.
 pub fn nine_timeslots_name_one_twice()
     ensures law { NineNameOneTwice }
-{
-}
+{}
