@@ -3,3 +3,4 @@ pub mod Chains
 pub mod SiteFacts
 pub mod Blank
 pub mod Refusals
+pub mod Nine

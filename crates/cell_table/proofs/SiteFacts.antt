@@ -1,6 +1,6 @@
 -- What holds of every site: what a document says keeps the limits, and a traffic channel lies within them.
-use Rattle.std.proofs.Common.{◌≡◌, ℕ, Bool, true, false, ◌==◌, ◌<◌, ◌≤◌, nat_le, List, [], ◌∷◌, length, Option, Some, None, option_map, option_and_then, IfSome, All, Ok, Err, take, get_or, slice_get, unwrap_or, refl, sym, ◌∙◌, subst, inl, inr, rules, arith}
-use Rattle.std.proofs.lemmas.List.Elements.{All-head, All-tail, All-take}
+use Rattle.std.proofs.Common.{◌≡◌, ap, is_some, if◌then◌else◌, ℕ, Bool, true, false, ◌==◌, ◌<◌, ◌≤◌, nat_le, List, [], ◌∷◌, length, Option, Some, None, option_map, option_and_then, IfSome, All, Ok, Err, take, get_or, slice_get, unwrap_or, refl, sym, ◌∙◌, subst, inl, inr, rules, arith}
+use Rattle.std.proofs.lemmas.List.Elements.{All-nil, All-head, All-tail, All-take}
 use Rattle.std.proofs.lemmas.Bool.{false≢true, and_parts, cases_Bool}
 use Rattle.std.proofs.lemmas.Bool.Decides.{nat_tests}
 use Rattle.std.proofs.lemmas.Option.{same_Some, slice_get_within, slice_get-get_or}
@@ -13,9 +13,10 @@ use Rattle.cell_table.specs.declared.fault.SiteFault.{SiteFault}
 use Rattle.cell_table.specs.declared.fault.SiteFault.TheVariants.{Range}
 use Rattle.cell_table.specs.declared.tables.Allowed.{Allowed}
 use Rattle.cell_table.specs.declared.tables.CellIdentity.{CellIdentity}
-use Rattle.cell_table.specs.Site.{TrxView, CellView, SiteView, IsCell, IsSite, IsWithinLimits, is_traffic}
+use Rattle.cell_table.specs.declared.tables.HandoverRule.{HandoverRule}
+use Rattle.cell_table.specs.Site.{TrxView, CellView, SiteView, IsCell, IsSite, IsHandoverRule, IsIdentity, IsWithinLimits, is_traffic}
 use Rattle.cell_table.specs.Rules.{broken_rule, unbroken, checked}
-use Rattle.cell_table.specs.SiteFile.{Read, ◌>>=◌, each, is_allowed, natural_number, number_of, number_at, value_at, array_of, counted, all_tables, tables_of, is_table, key_name, up_to, handover_at, identity_of, ba_of, arfcn_range, tch_range, first_nine, tch_of, trx_of, all_trx_of, cell_of, cells_of, outside_of, site_of}
+use Rattle.cell_table.specs.SiteFile.{Read, ◌>>=◌, handover_of, is_table, each, is_allowed, natural_number, number_of, number_at, value_at, array_of, counted, all_tables, tables_of, key_name, up_to, handover_at, identity_of, ba_of, arfcn_range, tch_range, first_nine, tch_of, trx_of, all_trx_of, cell_of, cells_of, outside_of, site_of}
 use Rattle.cell_table.proofs.Chains.{bind_parts, ok_or_parts, where_passes_parts, passed, All-each, first-each, length-each}
 
 -- what was read within a range is a number of that range
@@ -24,6 +25,63 @@ number_range k allowed d n e =
     let within = where_passes_parts (is_allowed allowed) (option_and_then natural_number (as_integer d)) n (ok_or_parts _ (Range k) n e) in
     let (least, most) = and_parts (nat_le allowed.least n) (nat_le n allowed.most) within in
     (grind (arith, nat_tests), grind (arith, nat_tests))
+
+number_at_range : (k : Key) (allowed : Allowed) (d : Data) (n : ℕ) → number_at k allowed d ≡ Ok n → (allowed.least ≤ n) × (n ≤ allowed.most)
+unfolding number_at
+number_at_range k allowed d n e =
+    bind_parts ((allowed.least ≤ n) × (n ≤ allowed.most)) (value_at k d) (λ value. number_of k allowed value) n e
+    (λ value there read. number_range k allowed value n read)
+
+handover_limits : (d : Data) (rule : HandoverRule) → handover_of d ≡ Ok rule → IsHandoverRule rule
+unfolding handover_of
+handover_limits d rule e =
+    bind_parts (IsHandoverRule rule) (number_at key.Window (record { least = 1; most = 32 }) d) (λ window. number_at key.Margin (up_to 63) d >>= (λ margin. number_at key.Minimum (up_to 63) d >>= (λ minimum. Ok (record { window = window; margin = margin; minimum = minimum })))) rule e
+    (λ window r1 e1. bind_parts (IsHandoverRule rule) (number_at key.Margin (up_to 63) d) (λ margin. number_at key.Minimum (up_to 63) d >>= (λ minimum. Ok (record { window = window; margin = margin; minimum = minimum }))) rule e1
+    (λ margin r2 e2. bind_parts (IsHandoverRule rule) (number_at key.Minimum (up_to 63) d) (λ minimum. Ok (record { window = window; margin = margin; minimum = minimum })) rule e2
+    (λ minimum r3 e3.
+    let is : record { window = window; margin = margin; minimum = minimum } ≡ rule = cc in
+    let w = number_at_range key.Window (record { least = 1; most = 32 }) d window r1 in
+    rw (← is) (record { some_window = w.0; window = w.1; margin = (number_at_range key.Margin (up_to 63) d margin r2).1; minimum = (number_at_range key.Minimum (up_to 63) d minimum r3).1 }))))
+
+identity_limits : (d : Data) (c : CellIdentity) → identity_of d ≡ Ok c → IsIdentity c
+unfolding identity_of
+identity_limits d c e =
+    bind_parts (IsIdentity c) (number_at key.Lac (up_to 65535) d) (λ lac. number_at key.Ci (up_to 65535) d >>= (λ ci. number_at key.Bcch (up_to 1023) d >>= (λ bcch. number_at key.Ncc (up_to 7) d >>= (λ ncc. number_at key.Bcc (up_to 7) d >>= (λ bcc. Ok (record { lac = lac; ci = ci; bcch = bcch; ncc = ncc; bcc = bcc })))))) c e
+    (λ lac r1 e1. bind_parts (IsIdentity c) (number_at key.Ci (up_to 65535) d) (λ ci. number_at key.Bcch (up_to 1023) d >>= (λ bcch. number_at key.Ncc (up_to 7) d >>= (λ ncc. number_at key.Bcc (up_to 7) d >>= (λ bcc. Ok (record { lac = lac; ci = ci; bcch = bcch; ncc = ncc; bcc = bcc }))))) c e1
+    (λ ci r2 e2. bind_parts (IsIdentity c) (number_at key.Bcch (up_to 1023) d) (λ bcch. number_at key.Ncc (up_to 7) d >>= (λ ncc. number_at key.Bcc (up_to 7) d >>= (λ bcc. Ok (record { lac = lac; ci = ci; bcch = bcch; ncc = ncc; bcc = bcc })))) c e2
+    (λ bcch r3 e3. bind_parts (IsIdentity c) (number_at key.Ncc (up_to 7) d) (λ ncc. number_at key.Bcc (up_to 7) d >>= (λ bcc. Ok (record { lac = lac; ci = ci; bcch = bcch; ncc = ncc; bcc = bcc }))) c e3
+    (λ ncc r4 e4. bind_parts (IsIdentity c) (number_at key.Bcc (up_to 7) d) (λ bcc. Ok (record { lac = lac; ci = ci; bcch = bcch; ncc = ncc; bcc = bcc })) c e4
+    (λ bcc r5 e5.
+    let is : record { lac = lac; ci = ci; bcch = bcch; ncc = ncc; bcc = bcc } ≡ c = cc in
+    rw (← is) (record { bcch = (number_at_range key.Bcch (up_to 1023) d bcch r3).1; ncc = (number_at_range key.Ncc (up_to 7) d ncc r4).1; bcc = (number_at_range key.Bcc (up_to 7) d bcc r5).1 }))))))
+
+handover_at_limits : (d : Data) (rule : HandoverRule) → handover_at d ≡ Ok rule → IsHandoverRule rule
+unfolding handover_at
+handover_at_limits d rule e =
+    bind_parts (IsHandoverRule rule) (value_at key.Handover d) (λ value. if is_table value then handover_of value else Err (Range key.Handover)) rule e
+    (λ value there rest. handover_limits value rule (taken (is_table value) (handover_of value) rule rest))
+  where
+    taken : (b : Bool) (r : Read HandoverRule) (y : HandoverRule) → (if b then r else Err (Range key.Handover)) ≡ Ok y → r ≡ Ok y
+    taken true r y same = same
+    taken false r y same = absurd cc
+
+counted_parts : (k : Key) (count : Allowed) (ds some : List Data) → counted k count ds ≡ Ok some → length some ≤ count.most
+counted_parts k count ds some e =
+    let (same, fits) = passed (is_allowed count (length ds)) ds some (Range k) e in
+    let (least, most) = and_parts (nat_le count.least (length ds)) (nat_le (length ds) count.most) fits in
+    rw (← same) (grind (arith, nat_tests))
+
+ba_limits : (d : Data) (ba : List ℕ) → ba_of d ≡ Ok ba → (length ba ≤ 32) × All (λ carrier. carrier ≤ 1023) ba
+unfolding ba_of
+ba_limits d ba e =
+    let Fits : Type 0 = (length ba ≤ 32) × All (λ carrier. carrier ≤ 1023) ba in
+    bind_parts Fits (value_at key.Ba d) (λ value. array_of key.Ba value >>= (λ entries. counted key.Ba (up_to 32) entries >>= (λ carriers. each (λ place. number_of key.Ba (up_to 1023)) 0 carriers))) ba e
+    (λ value r1 e1. bind_parts Fits (array_of key.Ba value) (λ entries. counted key.Ba (up_to 32) entries >>= (λ carriers. each (λ place. number_of key.Ba (up_to 1023)) 0 carriers)) ba e1
+    (λ entries r2 e2. bind_parts Fits (counted key.Ba (up_to 32) entries) (λ carriers. each (λ place. number_of key.Ba (up_to 1023)) 0 carriers) ba e2
+    (λ carriers r3 e3.
+    let as_many = length-each (λ place. number_of key.Ba (up_to 1023)) 0 carriers ba e3 in
+    let few = counted_parts key.Ba (up_to 32) entries carriers r3 in
+    (omega arith, All-each (λ place. number_of key.Ba (up_to 1023)) (λ carrier. carrier ≤ 1023) (λ n d' c read. (number_range key.Ba (up_to 1023) d' c read).1) 0 carriers ba e3))))
 
 nine_parts : (P : ℕ → Type 0) (r : Read (List ℕ)) (slots : List ℕ) → first_nine r ≡ Ok slots → ((xs : List ℕ) → r ≡ Ok xs → All P xs) → All P slots
 nine_parts P (Ok xs) slots e all = let same : take 9 xs ≡ slots = cc in rw (← same) (All-take P 9 xs (all xs refl))
@@ -48,6 +106,31 @@ trx_slots bcch first d t e =
     bind_parts (All Within t.tch) (number_at key.Arfcn (arfcn_range bcch first) d) (λ arfcn. tch_of first d >>= (λ tch. Ok (record { arfcn = arfcn; tch = tch }))) t e
     (λ arfcn read rest. bind_parts (All Within t.tch) (tch_of first d) (λ tch. Ok (record { arfcn = arfcn; tch = tch })) t rest
     (λ tch told same. let is : record { arfcn = arfcn; tch = tch } ≡ t = cc in rw (← is) (tch_within first d tch told)))
+
+-- the carrier of a TRX
+trx_carrier : (bcch : ℕ) (first : Bool) (d : Data) (t : TrxView) → trx_of bcch first d ≡ Ok t
+    → ((arfcn_range bcch first).least ≤ t.arfcn) × (t.arfcn ≤ (arfcn_range bcch first).most)
+unfolding trx_of
+trx_carrier bcch first d t e =
+    let Within : ℕ → Type 0 = λ n. ((arfcn_range bcch first).least ≤ n) × (n ≤ (arfcn_range bcch first).most) in
+    bind_parts (Within t.arfcn) (number_at key.Arfcn (arfcn_range bcch first) d) (λ arfcn. tch_of first d >>= (λ tch. Ok (record { arfcn = arfcn; tch = tch }))) t e
+    (λ arfcn read rest. bind_parts (Within t.arfcn) (tch_of first d) (λ tch. Ok (record { arfcn = arfcn; tch = tch })) t rest
+    (λ tch told same. let is : record { arfcn = arfcn; tch = tch } ≡ t = cc in rw (← is) (number_at_range key.Arfcn (arfcn_range bcch first) d arfcn read)))
+
+carrier_most : (bcch : ℕ) (first : Bool) → bcch ≤ 1023 → (arfcn_range bcch first).most ≤ 1023
+carrier_most bcch true small = small
+carrier_most bcch false small = omega arith
+
+equal : (n m : ℕ) → (m ≤ n) × (n ≤ m) → n ≡ m
+equal n m both = omega (arith, both.0, both.1)
+
+first_is : (o : Option TrxView) (bcch : ℕ) → is_some o ≡ true → IfSome o (λ t. t.arfcn ≡ bcch) → option_map (λ t. t.arfcn) o ≡ Some bcch
+first_is None bcch there same = absurd (false≢true there)
+first_is (Some t) bcch there same = ap (λ n. Some n) same
+
+has_first : (trx : List TrxView) → 1 ≤ length trx → is_some (slice_get trx 0) ≡ true
+has_first [] some = absurd (omega arith)
+has_first (t ∷ trx) some = refl
 
 most_seven : (first : Bool) → (tch_range first).most ≡ 7
 most_seven true = refl
@@ -90,21 +173,26 @@ tables_count k count d entries e =
     rw (← as_many) (grind (arith, nat_tests), grind (arith, nat_tests))))
 
 -- the TRX of a cell
-record IsTrxList (trx : List TrxView) : Type 0 where
+record IsTrxList (bcch : ℕ) (trx : List TrxView) : Type 0 where
+  carrier_range : All (λ t. t.arfcn ≤ 1023) trx
+  first_carrier : option_map (λ t. t.arfcn) (slice_get trx 0) ≡ Some bcch
   some_trx : 1 ≤ length trx
   few_trx : length trx ≤ 4
   timeslot_range : All (λ t. All (λ tn. tn < 8) t.tch) trx
   broadcast : IfSome (slice_get trx 0) (λ t. list_any (λ tn. tn == 0) t.tch ≡ false)
 
-trx_list : (bcch : ℕ) (d : Data) (trx : List TrxView) → all_trx_of bcch d ≡ Ok trx → IsTrxList trx
+trx_list : (bcch : ℕ) (d : Data) (trx : List TrxView) → bcch ≤ 1023 → all_trx_of bcch d ≡ Ok trx → IsTrxList bcch trx
 unfolding all_trx_of
-trx_list bcch d trx e =
-    bind_parts (IsTrxList trx) (value_at key.Trx d) (λ value. tables_of key.Trx (record { least = 1; most = 4 }) value >>= (λ entries. each (λ place. trx_of bcch (place == 0)) 0 entries)) trx e
-    (λ value there rest. bind_parts (IsTrxList trx) (tables_of key.Trx (record { least = 1; most = 4 }) value) (λ entries. each (λ place. trx_of bcch (place == 0)) 0 entries) trx rest
+trx_list bcch d trx small e =
+    bind_parts (IsTrxList bcch trx) (value_at key.Trx d) (λ value. tables_of key.Trx (record { least = 1; most = 4 }) value >>= (λ entries. each (λ place. trx_of bcch (place == 0)) 0 entries)) trx e
+    (λ value there rest. bind_parts (IsTrxList bcch trx) (tables_of key.Trx (record { least = 1; most = 4 }) value) (λ entries. each (λ place. trx_of bcch (place == 0)) 0 entries) trx rest
     (λ entries tables told.
     let as_many = length-each (λ place. trx_of bcch (place == 0)) 0 entries trx told in
     let (least, most) = tables_count key.Trx (record { least = 1; most = 4 }) value entries tables in
     record {
+      carrier_range = All-each (λ place. trx_of bcch (place == 0)) (λ t. t.arfcn ≤ 1023) (λ n d' t read. let c = trx_carrier bcch (n == 0) d' t read in let m = carrier_most bcch (n == 0) small in omega (arith, c.1, m)) 0 entries trx told;
+      first_carrier = first_is (slice_get trx 0) bcch (has_first trx (omega arith))
+          (first-each (λ place. trx_of bcch (place == 0)) (λ t. t.arfcn ≡ bcch) 0 (λ d' t read. equal t.arfcn bcch (trx_carrier bcch true d' t read)) entries trx told);
       some_trx = omega arith;
       few_trx = omega arith;
       timeslot_range = All-each (λ place. trx_of bcch (place == 0)) (λ t. All (λ tn. tn < 8) t.tch) (λ n d' t read. trx_range bcch (n == 0) d' t read) 0 entries trx told;
@@ -121,8 +209,10 @@ cell_limits d c e =
     (λ ba r3 e3. bind_parts (IsCell c) (all_trx_of identity.bcch d) (λ trx. Ok (record { identity = identity; power = power; ba = ba; trx = trx })) c e3
     (λ trx r4 e4.
     let is : record { identity = identity; power = power; ba = ba; trx = trx } ≡ c = cc in
-    let facts = trx_list identity.bcch d trx r4 in
-    rw (← is) (record { some_trx = facts.some_trx; few_trx = facts.few_trx; timeslot_range = facts.timeslot_range; broadcast = quiet (slice_get trx 0) facts.broadcast })))))
+    let named = identity_limits d identity r1 in
+    let facts = trx_list identity.bcch d trx named.bcch r4 in
+    let list = ba_limits d ba r3 in
+    rw (← is) (record { identity = named; power = (number_at_range key.Power (up_to 31) d power r2).1; few_neighbours = list.0; neighbour_range = list.1; carrier_range = facts.carrier_range; first_carrier = facts.first_carrier; some_trx = facts.some_trx; few_trx = facts.few_trx; timeslot_range = facts.timeslot_range; broadcast = quiet (slice_get trx 0) facts.broadcast })))))
 
 record IsCellList (cells : List CellView) : Type 0 where
   some_cells : 1 ≤ length cells
@@ -143,15 +233,15 @@ cell_list d cells e =
       each_cell = All-each (λ place. cell_of) IsCell (λ n d' c read. cell_limits d' c read) 0 entries cells told;
     }))
 
-outside_count : (o : Option Data) (cells : List CellIdentity) → outside_of o ≡ Ok cells → length cells ≤ 64
+outside_limits : (o : Option Data) (cells : List CellIdentity) → outside_of o ≡ Ok cells → (length cells ≤ 64) × All IsIdentity cells
 unfolding outside_of
-outside_count None cells e = let is : [] ≡ cells = cc in rw (← is) (omega arith)
-outside_count (Some value) cells e =
-    bind_parts (length cells ≤ 64) (tables_of key.Outside (up_to 64) value) (λ entries. each (λ place. identity_of) 0 entries) cells e
+outside_limits None cells e = let is : [] ≡ cells = cc in rw (← is) (omega arith, All-nil IsIdentity)
+outside_limits (Some value) cells e =
+    bind_parts ((length cells ≤ 64) × All IsIdentity cells) (tables_of key.Outside (up_to 64) value) (λ entries. each (λ place. identity_of) 0 entries) cells e
     (λ entries tables told.
     let as_many = length-each (λ place. identity_of) 0 entries cells told in
     let (least, most) = tables_count key.Outside (up_to 64) value entries tables in
-    omega arith)
+    (omega arith, All-each (λ place. identity_of) IsIdentity (λ n d' c read. identity_limits d' c read) 0 entries cells told))
 
 unbroken_parts : (site : SiteView) (broken : Option SiteFault) (y : SiteView) → unbroken site broken ≡ Ok y → (site ≡ y) × (broken ≡ None)
 unbroken_parts site None y e = (cc, refl)
@@ -168,8 +258,9 @@ site_limits d site e =
     let whole : SiteView = record { handover = handover; cells = cells; outside = outside } in
     let (is, rules) = unbroken_parts whole (broken_rule whole) site e3 in
     let own = cell_list d cells r2 in
+    let others = outside_limits (get (key_name key.Outside) d) outside r3 in
     rw (← is) (record {
-      within = record { some_cells = own.some_cells; few_cells = own.few_cells; few_outside = outside_count (get (key_name key.Outside) d) outside r3; each_cell = own.each_cell };
+      within = record { some_cells = own.some_cells; few_cells = own.few_cells; few_outside = others.0; each_outside = others.1; handover = handover_at_limits d handover r1; each_cell = own.each_cell };
       rules = rules;
     }))))
 

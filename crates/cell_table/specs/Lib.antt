@@ -3,3 +3,4 @@ pub mod Rules
 pub mod Site
 pub mod SiteFile
 pub mod Reading
+pub mod Laws

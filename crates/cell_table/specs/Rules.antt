@@ -36,11 +36,12 @@ has_slot_twice c = list_any (λ t. has_twice (λ m n. n == m) t.tch) c.trx
 abbrev pub has_neighbour_twice : CellView → Bool
 has_neighbour_twice c = has_twice (λ m n. n == m) c.ba
 
--- a cell has a traffic channel
+-- a list without elements
 abbrev pub is_empty_list : List ℕ → Bool
 is_empty_list [] = true
 is_empty_list (x ∷ xs) = false
 
+-- no TRX of the cell has a traffic channel
 abbrev pub has_no_traffic : CellView → Bool
 has_no_traffic c = list_all (λ t. is_empty_list t.tch) c.trx
 

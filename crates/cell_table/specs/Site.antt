@@ -3,6 +3,7 @@ use Rattle.std.specs.Prelude.{ℕ, sum_by, count_by, ◌==◌, ◌<◌, ◌≤�
 use Rattle.std.specs.List.{list_any, position}
 use Rattle.channel_fsm.specs.declared.ChanId.{ChanId}
 use Rattle.cell_table.specs.declared.tables.CellIdentity.{CellIdentity}
+use Rattle.cell_table.specs.declared.tables.HandoverRule.{HandoverRule}
 pub use Rattle.cell_table.specs.Views.{TrxView, CellView, SiteView, site_code}
 use Rattle.cell_table.specs.Rules.{broken_rule}
 
@@ -67,19 +68,41 @@ index_of site chan = if is_traffic site chan then Some (channels_before site.cel
 abbrev pub names_broadcast : CellView → Bool
 names_broadcast cell = list_any (λ tn. tn == 0) (unwrap_or (option_map (λ t. t.tch) (slice_get cell.trx 0)) [])
 
--- A cell has 1 to 4 TRX with timeslots 0 to 7 (TS 45.002 clause 4.3.2), and leaves the broadcast channel alone.
+-- The rule of candidates keeps its ranges.
+pub record IsHandoverRule (rule : HandoverRule) : Type 0 where
+  pub some_window : 1 ≤ rule.window
+  pub window : rule.window ≤ 32
+  pub margin : rule.margin ≤ 63
+  pub minimum : rule.minimum ≤ 63
+
+-- The colour of a cell fits a Cell Description (TS 44.018 clause 10.5.2.2).
+pub record IsIdentity (identity : CellIdentity) : Type 0 where
+  pub bcch : identity.bcch ≤ 1023
+  pub ncc : identity.ncc ≤ 7
+  pub bcc : identity.bcc ≤ 7
+
+-- A cell has 1 to 4 TRX with timeslots 0 to 7 (TS 45.002 clause 4.3.2), of which the first has the cell's BCCH carrier and
+-- leaves the broadcast channel alone.
 pub record IsCell (cell : CellView) : Type 0 where
+  pub identity : IsIdentity cell.identity
+  pub power : cell.power ≤ 31
+  pub few_neighbours : length cell.ba ≤ 32
+  pub neighbour_range : All (λ carrier. carrier ≤ 1023) cell.ba
   pub some_trx : 1 ≤ length cell.trx
   pub few_trx : length cell.trx ≤ 4
+  pub carrier_range : All (λ t. t.arfcn ≤ 1023) cell.trx
   pub timeslot_range : All (λ t. All (λ tn. tn < 8) t.tch) cell.trx
+  pub first_carrier : option_map (λ t. t.arfcn) (slice_get cell.trx 0) ≡ Some cell.identity.bcch
   pub broadcast : names_broadcast cell ≡ false
 
 -- A site has 1 to 64 cells and at most 64 of others, and each of its cells is one.
 pub record IsWithin (site : SiteView) : Type 0 where
+  pub handover : IsHandoverRule site.handover
   pub some_cells : 1 ≤ length site.cells
   pub few_cells : length site.cells ≤ 64
   pub few_outside : length site.outside ≤ 64
   pub each_cell : All IsCell site.cells
+  pub each_outside : All IsIdentity site.outside
 
 -- A site keeps the limits, and breaks no rule.
 pub record IsSite (site : SiteView) : Type 0 where

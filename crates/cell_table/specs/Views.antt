@@ -11,7 +11,8 @@ pub record TrxView : Type 0 where
   pub arfcn : ℕ
   pub tch : List ℕ
 
--- an own cell: what every cell has, the power class of its mobiles, its BA list and its TRX, in the site file's order
+-- an own cell: what every cell has, the power level that mobiles begin with (TS 45.005 clause 4.1.1), its BA list
+-- (TS 44.018 clause 10.5.2.22) and its TRX, in the site file's order
 pub record CellView : Type 0 where
   pub identity : CellIdentity
   pub power : ℕ

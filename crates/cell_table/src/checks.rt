@@ -80,8 +80,8 @@ fn have_neighbour_twice(carriers: &[u16]) -> bool
     }
 }
 
-/// Whether a TRX of a cell names a timeslot twice.
-fn has_slot_twice(cell: &Cell) -> bool
+/// Whether a TRX of the cell names a timeslot twice.
+fn cell_has_slot_twice(cell: &Cell) -> bool
     ensures value { result ≡ has_slot_twice cell.now }
 {
     cell.trx
@@ -96,7 +96,7 @@ fn has_no_traffic(cell: &Cell) -> bool
     cell.trx.iter().all(|trx| trx.tch.is_empty())
 }
 
-/// Whether a cell has one carrier on two TRX.
+/// Whether one of the cells has one carrier on two TRX.
 fn any_carrier_twice(cells: &[Cell]) -> bool
     ensures value { result ≡ list_any has_carrier_twice cells.now }
 {
@@ -105,14 +105,14 @@ fn any_carrier_twice(cells: &[Cell]) -> bool
         .any(|cell| have_carrier_twice(cell.trx.as_slice()))
 }
 
-/// Whether a TRX of a cell names a timeslot twice.
+/// Whether a TRX of one of the cells names a timeslot twice.
 fn any_slot_twice(cells: &[Cell]) -> bool
     ensures value { result ≡ list_any has_slot_twice cells.now }
 {
-    cells.iter().any(|cell| has_slot_twice(cell))
+    cells.iter().any(|cell| cell_has_slot_twice(cell))
 }
 
-/// Whether a BA list has a carrier twice.
+/// Whether the BA list of one of the cells has a carrier twice.
 fn any_neighbour_twice(cells: &[Cell]) -> bool
     ensures value { result ≡ list_any has_neighbour_twice cells.now }
 {
@@ -122,7 +122,7 @@ fn any_neighbour_twice(cells: &[Cell]) -> bool
 }
 
 /// The first cell that has no traffic channel.
-fn silent_cell(cells: &[Cell]) -> Option<usize>
+fn first_without_traffic(cells: &[Cell]) -> Option<usize>
     ensures value { result ≡ position has_no_traffic cells.now }
 {
     cells.iter().position(|cell| has_no_traffic(cell))
@@ -166,7 +166,7 @@ pub fn broken_rule(site: &Tables) -> Option<SiteFault>
     if any_neighbour_twice(cells) {
         return Some(SiteFault::Twice(What::Neighbour));
     }
-    match silent_cell(cells) {
+    match first_without_traffic(cells) {
         Some(cell) => Some(SiteFault::NoTraffic(cell as u8)),
         None => None,
     }

@@ -61,7 +61,7 @@ impl fmt::Display for Key {
     }
 }
 
-/// What stands twice in a site file that may stand there once.
+/// What a site file may say only once.
 #[derive(Clone, Copy, Debug, PartialEq, Eq)]
 pub enum What {
     /// Two cells, own or outside, have one location area code and cell identity.
@@ -96,13 +96,13 @@ pub enum SiteFault {
     /// The text isn't TOML.
     #[error("the text is not TOML")]
     Toml,
-    /// A key isn't there that has to be.
+    /// A required key is absent.
     #[error("the key {0} is missing")]
     Missing(Key),
     /// The value of a key is of another kind, or out of its range.
     #[error("the value of {0} is of another kind or out of its range")]
     Range(Key),
-    /// Something stands twice that may stand once.
+    /// Something that may be said only once is said twice.
     #[error("{0} stands twice")]
     Twice(What),
     /// This cell, counted from 0, has no traffic channel.

@@ -3,6 +3,7 @@
 
 mod checks;
 mod fault;
+pub mod laws;
 mod places;
 mod reading;
 mod site;

@@ -54,9 +54,8 @@ impl<A: Allocator + Copy> Site<A> {
     /// TRX), what may stand once only, each kind looked for over the whole file in the order of [`What`](crate::What),
     /// and a cell without traffic channel.
     ///
-    /// The site is kept in the memory of `alloc`, which is asked for in one piece, once the text is known to describe a
-    /// site. `scratch` serves while TOML is read; where it is refused then, which can't be while a blank text (white
-    /// space and comments alone) is read, the answer is `NoMemory` too.
+    /// TOML is read in the memory of `scratch`, and the document is read by [`Site::of_document`]. `NoMemory` is answered
+    /// where memory of `scratch` or of `alloc` is refused. A blank text, of white space and comments alone, takes none.
     pub fn read(alloc: A, scratch: Global, text: &str) -> Result<Site<A>, SiteFault>
         ensures described { IfOk result (λ site. read_site text.now ≡ Ok site) }
         ensures refused { IfErr result (λ fault. fault ≢ SiteFault.NoMemory →
@@ -64,10 +63,26 @@ impl<A: Allocator + Copy> Site<A> {
         ensures memory { result ≡ Err SiteFault.NoMemory → ¬ IsBlankFile text.now }
     {
         match toml::table_from_str(scratch, text) {
-            Ok(document) => site_in(alloc, &Value::Table(document)),
+            Ok(document) => Site::of_document(alloc, &Value::Table(document)),
             Err(fault) if fault.is_memory() => Err(SiteFault::NoMemory),
             Err(_) => Err(SiteFault::Toml),
         }
+    }
+
+    /// Reads the document that a site file is, by the checks of [`Site::read`] after TOML itself.
+    ///
+    /// Memory of `alloc` is asked for in one piece, once the document is known to describe a site: `NoMemory` is
+    /// answered to no other.
+    #[tactic(auto, unfolding(crate::specs::SiteFile::site_of))]
+    pub fn of_document(alloc: A, document: &Value) -> Result<Site<A>, SiteFault>
+        ensures described { IfOk result (λ site. site_of (view document.now) ≡ Ok site) }
+        ensures refused { IfErr result (λ fault. fault ≢ SiteFault.NoMemory →
+            site_of (view document.now) ≡ Err fault) }
+        ensures memory { result ≡ Err SiteFault.NoMemory →
+            is_ok (site_of (view document.now)) ≡ true }
+    {
+        let tables = tables_of(document)?;
+        Ok(site_of_tables(alloc, tables)?)
     }
 
     /// The number of own cells, 1 to 64. Its contract also hands out what holds of every site.
@@ -148,14 +163,14 @@ impl<A: Allocator + Copy> Site<A> {
         Some(self.identity(cell)?.bcc)
     }
 
-    /// `power` of an own cell: the power level that its mobiles begin with; `None` where there is no such cell.
+    /// `power` of an own cell: the power level that mobiles begin with (TS 45.005 clause 4.1.1); `None` where there is no such cell.
     pub fn power(&self, cell: u8) -> Option<u8>
         ensures value { result ≡ option_map (λ c. c.power) (slice_get self.now.cells cell) }
     {
         Some(self.tables.cells.get(cell as usize)?.power)
     }
 
-    /// `ba` of an own cell: the BCCH carriers of its neighbours, in the site file's order; `None` where there is no such
+    /// `ba` of an own cell: its BA list, the BCCH carriers of its neighbours (TS 44.018 clause 10.5.2.22), in the site file's order; `None` where there is no such
     /// cell.
     pub fn ba(&self, cell: u8) -> Option<&[u16]>
         ensures value { option_map (λ found. found.now) result ≡
@@ -181,7 +196,7 @@ impl<A: Allocator + Copy> Site<A> {
 
     /// `tch` of a TRX of an own cell: its traffic timeslots, in the site file's order; `None` where there is no such
     /// cell or TRX.
-    pub fn timeslots(&self, cell: u8, trx: u8) -> Option<&[u8]>
+    pub fn tch(&self, cell: u8, trx: u8) -> Option<&[u8]>
         ensures value { option_map (λ found. found.now) result ≡
             option_map (λ t. t.tch) (trx_at self.now cell trx) }
     {
@@ -205,10 +220,10 @@ impl<A: Allocator + Copy> Site<A> {
     pub fn cell_of(&self, lac: u16, ci: u16) -> Option<u8>
         ensures value { result ≡ cell_of self.now lac ci }
     {
-        match own_with(self.tables.cells.as_slice(), lac, ci) {
+        match own_cell_with(self.tables.cells.as_slice(), lac, ci) {
             Some(cell) => Some(cell as u8),
             None => {
-                let place = outside_with(self.tables.outside.as_slice(), lac, ci)?;
+                let place = outside_cell_with(self.tables.outside.as_slice(), lac, ci)?;
                 Some(FIRST_OUTSIDE + place as u8)
             }
         }
@@ -224,18 +239,6 @@ impl<A: Allocator + Copy> Site<A> {
         }
         Some(channels_before(self.tables.cells.as_slice(), chan))
     }
-}
-
-/// The site that a document describes. No memory is asked for before it is known to describe one.
-#[tactic(auto, unfolding(crate::specs::SiteFile::site_of))]
-fn site_in<A: Allocator + Copy>(alloc: A, document: &Value) -> Result<Site<A>, SiteFault>
-    ensures described { IfOk result (λ site. site_of (view document.now) ≡ Ok site) }
-    ensures refused { IfErr result (λ fault. fault ≢ SiteFault.NoMemory →
-        site_of (view document.now) ≡ Err fault) }
-    ensures memory { result ≡ Err SiteFault.NoMemory → is_ok (site_of (view document.now)) ≡ true }
-{
-    let tables = tables_of(document)?;
-    Ok(kept(alloc, tables)?)
 }
 
 /// What a document says.
@@ -254,8 +257,8 @@ fn tables_of(document: &Value) -> Result<Tables, SiteFault>
     }
 }
 
-/// A site of these tables.
-fn kept<A: Allocator + Copy>(alloc: A, tables: Tables) -> Result<Site<A>, AllocError>
+/// Puts the tables of a site into memory.
+fn site_of_tables<A: Allocator + Copy>(alloc: A, tables: Tables) -> Result<Site<A>, AllocError>
     requires { IsSite tables }
     ensures { IfOk result (λ site. site ≡ tables) }
 {
@@ -283,7 +286,7 @@ fn trx_in(tables: &Tables, cell: u8, trx: u8) -> Option<&Trx>
 }
 
 /// The first own cell with a location area code and cell identity.
-fn own_with(cells: &[Cell], lac: u16, ci: u16) -> Option<usize>
+fn own_cell_with(cells: &[Cell], lac: u16, ci: u16) -> Option<usize>
     ensures place { result ≡ position (λ c. has_codes lac ci c.identity) cells.now }
 {
     cells
@@ -292,7 +295,7 @@ fn own_with(cells: &[Cell], lac: u16, ci: u16) -> Option<usize>
 }
 
 /// The first outside cell with a location area code and cell identity.
-fn outside_with(cells: &[CellIdentity], lac: u16, ci: u16) -> Option<usize>
+fn outside_cell_with(cells: &[CellIdentity], lac: u16, ci: u16) -> Option<usize>
     ensures place { result ≡ position (has_codes lac ci) cells.now }
 {
     cells

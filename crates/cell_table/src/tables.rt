@@ -14,9 +14,10 @@ pub struct Allowed {
 pub struct HandoverRule {
     /// Reports in a window, 1 to 32.
     pub window: u8,
-    /// How much higher the level of a neighbour has to be, 0 to 63.
+    /// By how many steps of RXLEV (TS 45.008 clause 8.1.4) a neighbour has to be better on average over the window, 0 to
+    /// 63.
     pub margin: u8,
-    /// The least level of a neighbour, 0 to 63.
+    /// The least RXLEV of a neighbour on average over the window, 0 to 63.
     pub minimum: u8,
 }
 

@@ -40,15 +40,13 @@ bcc = 0
 ";
 
 /// The site file with the first place of a text replaced.
-fn changed(alloc: Global, old: &str, new: &str) -> Result<String, AllocError> {
+fn changed(rt: &impl Abort, alloc: Global, old: &str, new: &str) -> Result<String, AllocError> {
     let mut text = String::new(alloc);
-    match SITE.split_once(old) {
-        Some((before, after)) => {
-            text.push_str(before)?;
-            text.push_str(new)?;
-            text.push_str(after)?;
-        }
-        None => text.push_str("the text is not in the site file")?,
+    assert!(rt; SITE.contains(old), "{old}");
+    if let Some((before, after)) = SITE.split_once(old) {
+        text.push_str(before)?;
+        text.push_str(new)?;
+        text.push_str(after)?;
     }
     Ok(text)
 }

@@ -37,7 +37,7 @@ impl fmt::Display for Numbers {
     }
 }
 
-/// Where a table stands: counted from 0, each in the order of the file.
+/// Where a table stands: cells and TRX are counted from 0 in the order of the file, outside cells from 64 too.
 #[derive(Clone, Copy)]
 enum Place {
     Top,
@@ -54,7 +54,9 @@ impl fmt::Display for Place {
             Place::Handover => write!(f, "handover"),
             Place::Cell(cell) => write!(f, "cell {cell}"),
             Place::Trx(cell, trx) => write!(f, "cell {cell}, trx {trx}"),
-            Place::Outside(cell) => write!(f, "outside {cell}"),
+            Place::Outside(cell) => {
+                write!(f, "outside {cell} (cell {})", cell.saturating_add(64))
+            }
         }
     }
 }
@@ -208,7 +210,8 @@ fn bad_outside(document: &Value, key: Key) -> Option<Found<'_>> {
     None
 }
 
-/// The first table with a mistake at a key.
+/// The first table with a mistake at a key. The checks go table by table and stopped at this key, so a table before
+/// the one that was refused has no mistake there.
 fn first_bad(document: &Value, key: Key) -> Option<Found<'_>> {
     match key {
         Key::Handover | Key::Cell | Key::Outside => Some(Found {
@@ -311,9 +314,11 @@ fn say_alike<W: Write>(document: &Value, keys: &[Key], errors: &mut W) -> Result
             break;
         };
         if let Some(first) = first_like(document, cell.table, place, keys) {
-            write!(errors, "{} has what {} has at", cell.place, first.place)?;
+            write!(errors, "{} and {} have the same", first.place, cell.place)?;
+            let mut between = "";
             for key in keys {
-                write!(errors, " {key}")?;
+                write!(errors, "{between} {key}")?;
+                between = " and";
             }
             writeln!(errors)?;
             return Ok(());
@@ -454,12 +459,15 @@ pub fn say_reason<W: Write>(
     if matches!(fault, SiteFault::NoMemory) {
         return Err(LabFault::NoMemory);
     }
-    write!(errors, "{path}: ")?;
     let document = match toml::table_from_str(alloc, text) {
         Ok(document) => Value::Table(document),
         Err(fault) if fault.is_memory() => return Err(LabFault::NoMemory),
-        Err(fault) => return say_toml(alloc, fault, errors),
+        Err(fault) => {
+            write!(errors, "{path}: ")?;
+            return say_toml(alloc, fault, errors);
+        }
     };
+    write!(errors, "{path}: ")?;
     match fault {
         SiteFault::Missing(key) => say_key(&document, key, true, errors),
         SiteFault::Range(key) => say_key(&document, key, false, errors),

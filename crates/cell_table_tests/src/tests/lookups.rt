@@ -93,11 +93,7 @@ fn says_of_trx(rt: &impl Abort, site: &Site<Global>) {
             wanted.map(|t| t.0),
             "{cell} {trx}"
         );
-        assert_eq!(rt;
-            site.timeslots(*cell, *trx),
-            wanted.map(|t| t.1),
-            "{cell} {trx}"
-        );
+        assert_eq!(rt; site.tch(*cell, *trx), wanted.map(|t| t.1), "{cell} {trx}");
     }
 }
 

@@ -102,7 +102,6 @@ const CHANGES: &[(&str, &str, SiteFault)] = &[
     ("tch = [3]", "tch = [8]", Range(Key::Tch)),
     // the cells of others
     ("[[outside]]", "[outside]", Range(Key::Outside)),
-    ("[handover]", "outside = 3\n[[other]]\n[handover]", Toml),
     (
         "[[outside]]\nlac = 23\n",
         "[[outside]]\n",
@@ -184,6 +183,70 @@ const CHANGES: &[(&str, &str, SiteFault)] = &[
         "ba = [60, 60]\ntrx = [{ arfcn = 871, tch = [] }]",
         Twice(What::Neighbour),
     ),
+    // a key is looked at before those that stand behind it
+    ("ci = 100\nbcch = 60", "bcch = 1024", Missing(Key::Ci)),
+    ("bcch = 60\nncc = 1", "ncc = 8", Missing(Key::Bcch)),
+    ("ncc = 1\nbcc = 1", "bcc = 8", Missing(Key::Ncc)),
+    ("bcc = 1\npower = 5", "power = 32", Missing(Key::Bcc)),
+    (
+        "power = 5\nba = [62, 70, 871]",
+        "ba = 3",
+        Missing(Key::Power),
+    ),
+    (
+        "ba = [62, 70, 871]\ntrx = [{ arfcn = 60, tch = [2, 3] }]",
+        "trx = 1",
+        Missing(Key::Ba),
+    ),
+    (
+        "tch = [2, 3] }]\n[[cell]]\nlac = 23",
+        "tch = [8] }]\n[[cell]]",
+        Range(Key::Tch),
+    ),
+    (
+        "tch = [] }, { arfcn = 875, ",
+        "tch = [8] }, { ",
+        Range(Key::Tch),
+    ),
+    (
+        "tch = [3] }]\n[[outside]]\nlac = 23",
+        "tch = [8] }]\n[[outside]]",
+        Range(Key::Tch),
+    ),
+    // cell 0 breaks a later rule, cell 1 an earlier one
+    (
+        "tch = [2, 3] }]\n[[cell]]\nlac = 23\nci = 101\nbcch = 871\nncc = 2\nbcc = 5\npower = 5\nba = [60]\ntrx = [{ arfcn = 871, tch = [] }, { arfcn = 875",
+        "tch = [3, 3] }]\n[[cell]]\nlac = 23\nci = 101\nbcch = 871\nncc = 2\nbcc = 5\npower = 5\nba = [60]\ntrx = [{ arfcn = 871, tch = [] }, { arfcn = 871",
+        Twice(What::Carrier),
+    ),
+    (
+        "ba = [62, 70, 871]\ntrx = [{ arfcn = 60, tch = [2, 3] }]\n[[cell]]\nlac = 23\nci = 101\nbcch = 871\nncc = 2\nbcc = 5\npower = 5\nba = [60]\ntrx = [{ arfcn = 871, tch = [] }, { arfcn = 875, tch = [3] }]",
+        "ba = [62, 62]\ntrx = [{ arfcn = 60, tch = [2, 3] }]\n[[cell]]\nlac = 23\nci = 101\nbcch = 871\nncc = 2\nbcc = 5\npower = 5\nba = [60]\ntrx = [{ arfcn = 871, tch = [] }, { arfcn = 875, tch = [3, 3] }]",
+        Twice(What::Slot),
+    ),
+    (
+        "ncc = 3\nbcc = 0\n",
+        "ncc = 3\nbcc = 0\n[[outside]]\nlac = 23\nci = 102\nbcch = 63\nncc = 3\nbcc = 0\n",
+        Twice(What::Identity),
+    ),
+    (
+        "ncc = 3\nbcc = 0\n",
+        "ncc = 3\nbcc = 0\n[[outside]]\nlac = 23\nci = 103\nbcch = 62\nncc = 3\nbcc = 0\n",
+        Twice(What::Colour),
+    ),
+    // below the least number, and numbers of another kind
+    ("margin = 3", "margin = -1", Range(Key::Margin)),
+    ("minimum = 10", "minimum = -1", Range(Key::Minimum)),
+    ("lac = 23", "lac = -1", Range(Key::Lac)),
+    ("bcch = 60", "bcch = -1", Range(Key::Bcch)),
+    ("ncc = 1", "ncc = -1", Range(Key::Ncc)),
+    ("bcc = 1", "bcc = -1", Range(Key::Bcc)),
+    ("power = 5", "power = -1", Range(Key::Power)),
+    ("arfcn = 875", "arfcn = -1", Range(Key::Arfcn)),
+    ("ba = [62, 70, 871]", "ba = [-1]", Range(Key::Ba)),
+    ("ba = [62, 70, 871]", "ba = [62.0]", Range(Key::Ba)),
+    ("tch = [2, 3]", "tch = [true]", Range(Key::Tch)),
+    ("tch = [] }", "tch = [0] }", Range(Key::Tch)),
 ];
 
 /// A text of the site file, and what may stand in its place.
@@ -217,6 +280,19 @@ const ALLOWED: &[(&str, &str)] = &[
     ("bcch = 62\nncc = 3\nbcc = 0", "bcch = 60\nncc = 1\nbcc = 2"),
     // one cell identity, but another location area
     ("lac = 23\nci = 102", "lac = 24\nci = 100"),
+    ("ci = 100", "ci = 0"),
+    ("minimum = 10", "minimum = 0"),
+    ("power = 5", "power = 0"),
+    ("ncc = 1", "ncc = 0"),
+    ("bcc = 1", "bcc = 7"),
+    ("bcch = 62", "bcch = 0"),
+    ("bcch = 62", "bcch = 1023"),
+    // what stands twice in two TRX or cells
+    ("tch = [] }", "tch = [3] }"),
+    ("ba = [60]", "ba = [60, 62]"),
+    ("arfcn = 875", "arfcn = 60"),
+    ("bcch = 62\nncc = 3\nbcc = 0", "bcch = 60\nncc = 3\nbcc = 1"),
+    ("bcch = 62\nncc = 3\nbcc = 0", "bcch = 61\nncc = 1\nbcc = 1"),
 ];
 
 /// Whole texts that are refused, and why.
@@ -245,12 +321,24 @@ const TEXTS: &[(&str, SiteFault)] = &[
         "[handover]\nwindow = 2\nmargin = 3\nminimum = 10\n[cell]\nlac = 23",
         Range(Key::Cell),
     ),
+    (
+        "outside = 3\n[handover]\nwindow = 2\nmargin = 3\nminimum = 10\n[[cell]]\nlac = 23\nci = 100\nbcch = 60\nncc = 1\nbcc = 1\npower = 5\nba = []\ntrx = [{ arfcn = 60, tch = [2] }]",
+        Range(Key::Outside),
+    ),
+    (
+        "outside = [{}, 3]\n[handover]\nwindow = 2\nmargin = 3\nminimum = 10\n[[cell]]\nlac = 23\nci = 100\nbcch = 60\nncc = 1\nbcc = 1\npower = 5\nba = []\ntrx = [{ arfcn = 60, tch = [2] }]",
+        Range(Key::Outside),
+    ),
 ];
+
+/// A site file whose array of outside cells is empty.
+const NO_OUTSIDE: &str =
+    "outside = []\n[handover]\nwindow = 2\nmargin = 3\nminimum = 10\n[[cell]]\nlac = 23\nci = 100\nbcch = 60\nncc = 1\nbcc = 1\npower = 5\nba = []\ntrx = [{ arfcn = 60, tch = [2] }]";
 
 #[test]
 fn what_is_one_key_away_is_refused(rt: HostRuntime) -> Result<(), Fail> {
     for (old, new, fault) in CHANGES {
-        let text = changed(rt.alloc(), *old, *new)?;
+        let text = changed(&rt, rt.alloc(), *old, *new)?;
         assert_eq!(rt; fault_of(rt.alloc(), &text), Some(*fault), "{old} -> {new}");
     }
     Ok(())
@@ -259,9 +347,10 @@ fn what_is_one_key_away_is_refused(rt: HostRuntime) -> Result<(), Fail> {
 #[test]
 fn what_is_allowed_is_read(rt: HostRuntime) -> Result<(), Fail> {
     for (old, new) in ALLOWED {
-        let text = changed(rt.alloc(), *old, *new)?;
+        let text = changed(&rt, rt.alloc(), *old, *new)?;
         assert_eq!(rt; fault_of(rt.alloc(), &text), None, "{old} -> {new}");
     }
+    assert_eq!(rt; fault_of(rt.alloc(), NO_OUTSIDE), None);
     Ok(())
 }
 
@@ -292,7 +381,7 @@ fn asks_for_none(
 fn no_memory_is_asked_for_a_text_without_a_site(rt: HostRuntime) -> Result<(), Fail> {
     let heap = RefusingHeap::refusing_from(rt.alloc(), 1);
     for (old, new, fault) in CHANGES {
-        let text = changed(rt.alloc(), *old, *new)?;
+        let text = changed(&rt, rt.alloc(), *old, *new)?;
         asks_for_none(&rt, rt.alloc(), &heap, &text, *fault);
     }
     Ok(())

@@ -13,5 +13,5 @@ pub returns-in-Ok-clause-memory : goal.returns-in-Ok-clause-memory
 returns-in-Ok-clause-memory g c no_memory blank =
     let read : parse_document c.args.text.now ≡ Some (table_view c.in-Ok.document) = c.in-Ok.ensures.ok in
     let HasSite : Data → Type 0 = λ d. is_ok (site_of d) ≡ true in
-    let told : is_ok (read_site c.args.text.now) ≡ true = rw read (subst HasSite (view-Table c.in-Ok.document) (c.site_in.ensures.memory no_memory)) in
+    let told : is_ok (read_site c.args.text.now) ≡ true = rw read (subst HasSite (view-Table c.in-Ok.document) (c.of_document.ensures.memory no_memory)) in
     false≢true (sym (ap is_ok (read_site-blank c.args.text.now blank)) ∙ told)
