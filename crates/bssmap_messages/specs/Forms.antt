@@ -6,22 +6,31 @@ use Rattle.octet_elements.specs.Elements.{Forms}
 
 abbrev pub CELL_IDENTIFIER : ℕ
 CELL_IDENTIFIER = 0x05
+
 abbrev pub CAUSE : ℕ
 CAUSE = 0x04
+
 abbrev pub ENCRYPTION_INFORMATION : ℕ
 ENCRYPTION_INFORMATION = 0x0A
+
 abbrev pub CHANNEL_TYPE : ℕ
 CHANNEL_TYPE = 0x0B
+
 abbrev pub CLASSMARK_2 : ℕ
 CLASSMARK_2 = 0x12
+
 abbrev pub RR_CAUSE : ℕ
 RR_CAUSE = 0x15
+
 abbrev pub LAYER_3_INFORMATION : ℕ
 LAYER_3_INFORMATION = 0x17
+
 abbrev pub CELL_IDENTIFIER_LIST : ℕ
 CELL_IDENTIFIER_LIST = 0x1A
+
 abbrev pub RESPONSE_REQUEST : ℕ
 RESPONSE_REQUEST = 0x1B
+
 abbrev pub CLASSMARK_1 : ℕ
 CLASSMARK_1 = 0x1D
 
