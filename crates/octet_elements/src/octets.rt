@@ -1,7 +1,6 @@
 //! An octet list inside a message.
 ghost use Rattle.std.specs.Prelude.{◌≡◌, [], IfOk, IsOk};
 
-use crate::write::append_octets;
 use std::alloc::{AllocError, Allocator, Global};
 use std::marker::Model;
 
@@ -26,8 +25,12 @@ impl<A: Allocator + Copy> Octets<A> {
         ensures octets { IfOk result (λ o. o ≡ octets.now) }
         ensures empty { octets.now ≡ [] → IsOk result }
     {
-        let mut items = Vec::with_capacity(alloc, octets.len())?;
-        append_octets(&mut items, octets);
+        if octets.is_empty() {
+            return Ok(Octets {
+                items: Vec::new(alloc),
+            });
+        }
+        let items = Vec::from_slice(alloc, octets)?;
         Ok(Octets { items })
     }
 }
