@@ -1,4 +1,6 @@
-use super::Inverse::{Disarm, DropReference, Forget, FreeChannel, Rearm, SwitchOff, Undetect};
+use super::Inverse::{
+    Disarm, DropReference, Forget, FreeChannel, Rearm, Settle, SwitchOff, Undetect,
+};
 use super::{Inverse, Journal, Timer};
 use channel_fsm::ChanId;
 use std::process::Abort;
