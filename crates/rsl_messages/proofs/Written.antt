@@ -20,22 +20,9 @@ use Rattle.rsl_messages.specs.declared.message.Rsl.TheVariants.{DataRequest, Dat
 use Rattle.rsl_messages.specs.Forms.{abis, CHANNEL_NUMBER, LINK_IDENTIFIER, ACTIVATION_TYPE, POWER, CHANNEL_MODE, FRAME_NUMBER, HANDOVER_REFERENCE, LAYER3, ACCESS_DELAY, UPLINK_MEASUREMENTS, CAUSE, RESULT_NUMBER}
 use Rattle.rsl_messages.specs.Heads.{head_of, Begins}
 use Rattle.rsl_messages.specs.Values.{channel_in, channel_octet}
-use Rattle.rsl_messages.specs.Messages.{Said, said, kind_of, elements_of, channel_number, data_rows, activation_rows, activation_ack_rows, cause_rows, detection_rows, measurement_rows}
+use Rattle.rsl_messages.specs.Messages.{Said, CanBeSaid, said, kind_of, elements_of, channel_number, data_rows, activation_rows, activation_ack_rows, cause_rows, detection_rows, measurement_rows}
 use Rattle.rsl_messages.specs.Texts.{codec, HasCanonical, canonical_text, limit}
 use Rattle.rsl_messages.proofs.Unique.{one_head}
-
--- the lists of a message can be written
-abbrev pub AreWritable : {A : Type 0} → Rsl A → Type 0
-AreWritable (DataRequest channel link layer3) = (channel.tn < 8) × (0 < length layer3)
-AreWritable (DataIndication channel link layer3) = (channel.tn < 8) × (0 < length layer3)
-AreWritable (ChannelActivation channel activation mode reference) = (channel.tn < 8) × (0 < length mode) × (length mode < 256)
-AreWritable (ChannelActivationAck channel frame) = channel.tn < 8
-AreWritable (ChannelActivationNack channel cause) = channel.tn < 8
-AreWritable (ConnectionFailureIndication channel cause) = channel.tn < 8
-AreWritable (HandoverDetection channel delay) = channel.tn < 8
-AreWritable (MeasurementResult channel number uplink power layer3) = (channel.tn < 8) × (length uplink < 256) × IfSome layer3 (λ l. 0 < length l)
-AreWritable (RfChannelRelease channel) = channel.tn < 8
-AreWritable (RfChannelReleaseAck channel) = channel.tn < 8
 
 -- Each reader reads again what is written.
 channel_again : (channel : ChanBits) → channel.tn < 8 → channel_in (Some (channel_octet channel ∷ [])) ≡ Ok channel
@@ -174,7 +161,7 @@ layer3_fits None n h = tt
 layer3_fits (Some v) n h = let long = length-append v [] in (omega arith, tt)
 
 -- What can be written has a canonical text.
-pub canonical_of : {A : Type 0} (v : Rsl A) → AreWritable v → length (canonical_text v) ≤ limit → HasCanonical v
+pub canonical_of : {A : Type 0} (v : Rsl A) → CanBeSaid v → length (canonical_text v) ≤ limit → HasCanonical v
 canonical_of {A} (DataRequest channel link layer3) h within = let v : Rsl A = DataRequest channel link layer3 in let long = length-append layer3 [] in
     text_of v within (refl, (refl, (omega arith, tt))) (λ i. data_again channel link layer3 h.0 h.1 i >>= λ (channel, (link, layer3)). Ok (DataRequest channel link layer3))
 canonical_of {A} (DataIndication channel link layer3) h within = let v : Rsl A = DataIndication channel link layer3 in let long = length-append layer3 [] in
@@ -215,7 +202,7 @@ pub release_canonical : {A : Type 0} (channel : ChanBits) → channel.tn < 8 →
 release_canonical channel h = canonical_of (RfChannelRelease channel) h (omega arith)
 
 -- What has a canonical text can be written.
-are_writable : {A : Type 0} (v : Rsl A) → AllByRecursion (Fits abis) (elements_of v) → said (kind_of v) (values_in (elements_of v)) ≡ Ok v → AreWritable v
+are_writable : {A : Type 0} (v : Rsl A) → AllByRecursion (Fits abis) (elements_of v) → said (kind_of v) (values_in (elements_of v)) ≡ Ok v → CanBeSaid v
 are_writable {A} (DataRequest channel link layer3) each says =
     let go : ChanBits × (ℕ × List ℕ) → Said A = λ (channel, (link, layer3)). Ok (DataRequest channel link layer3) in
     let read = went_on (data_rows.read (values_in (data_rows.written (channel, (link, layer3))))) go (DataRequest channel link layer3) says in
@@ -263,5 +250,5 @@ are_writable {A} (RfChannelReleaseAck channel) each says =
     let read = went_on (channel_in (Some (channel_octet channel ∷ []))) go (RfChannelReleaseAck channel) says in
     channel_fits channel (read.0, read.1)
 
-pub writable_of : {A : Type 0} (v : Rsl A) → HasCanonical v → AreWritable v × (length (canonical_text v) ≤ limit)
+pub writable_of : {A : Type 0} (v : Rsl A) → HasCanonical v → CanBeSaid v × (length (canonical_text v) ≤ limit)
 writable_of v h = let written = written_of v h in (are_writable v written.0 written.1, h.head.0)

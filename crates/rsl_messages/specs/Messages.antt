@@ -1,5 +1,5 @@
 -- The messages: the rows of their elements, in the order in which they are read and written.
-use Rattle.std.specs.Prelude.{◌⊎◌, ℕ, ◌<◌, List, [], ◌∷◌, length, Result, Ok, IsSome, Option}
+use Rattle.std.specs.Prelude.{◌⊎◌, ℕ, ◌<◌, List, [], ◌∷◌, length, Result, Ok, IsSome, IfSome, Option}
 use Rattle.octet_elements.specs.Elements.{Element}
 use Rattle.octet_elements.specs.Lookup.{Lookup}
 use Rattle.octet_elements.specs.Reading.{◌>>=◌}
@@ -13,7 +13,8 @@ use Rattle.rsl_messages.specs.declared.message.Rsl.TheVariants.{DataRequest, Dat
 use Rattle.rsl_messages.specs.Forms.{CHANNEL_NUMBER, LINK_IDENTIFIER, ACTIVATION_TYPE, POWER, CHANNEL_MODE, FRAME_NUMBER, HANDOVER_REFERENCE, LAYER3, ACCESS_DELAY, UPLINK_MEASUREMENTS, CAUSE, RESULT_NUMBER}
 use Rattle.rsl_messages.specs.Values.{channel_in, channel_octet}
 
--- Channel number (clause 9.3.1), the first element of each message.
+-- Channel number (clause 9.3.1), the first element of each message, and the only one of RF CHANNEL RELEASE
+-- (clause 8.4.14) and RF CHANNEL RELEASE ACKNOWLEDGE (8.4.19).
 abbrev pub channel_number : Row ChanBits
 channel_number = record { read = λ found. channel_in (found.first CHANNEL_NUMBER); written = λ channel. (CHANNEL_NUMBER, channel_octet channel ∷ []) ∷ [] }
 
@@ -44,10 +45,6 @@ detection_rows = channel_number ▸ optional_octet ACCESS_DELAY
 abbrev pub measurement_rows : Row (ChanBits × (ℕ × (List ℕ × (ℕ × Option (List ℕ)))))
 measurement_rows = channel_number ▸ octet RESULT_NUMBER ▸ any_octets UPLINK_MEASUREMENTS ▸ octet POWER ▸ optional_octets LAYER3
 
--- RF CHANNEL RELEASE (clause 8.4.14) and RF CHANNEL RELEASE ACKNOWLEDGE (8.4.19): nothing more.
-abbrev pub release_rows : Row ChanBits
-release_rows = channel_number
-
 -- the message that elements say, or the first fault in the order of its rows
 abbrev pub Said : Type 0 → Type 0
 Said A = Result (Rsl A) ValueFault
@@ -61,8 +58,8 @@ said kind.ChannelActivationNack found = cause_rows.read found >>= λ (channel, c
 said kind.ConnectionFailureIndication found = cause_rows.read found >>= λ (channel, cause). Ok (ConnectionFailureIndication channel cause)
 said kind.HandoverDetection found = detection_rows.read found >>= λ (channel, delay). Ok (HandoverDetection channel delay)
 said kind.MeasurementResult found = measurement_rows.read found >>= λ (channel, (number, (uplink, (power, layer3)))). Ok (MeasurementResult channel number uplink power layer3)
-said kind.RfChannelRelease found = release_rows.read found >>= λ channel. Ok (RfChannelRelease channel)
-said kind.RfChannelReleaseAck found = release_rows.read found >>= λ channel. Ok (RfChannelReleaseAck channel)
+said kind.RfChannelRelease found = channel_number.read found >>= λ channel. Ok (RfChannelRelease channel)
+said kind.RfChannelReleaseAck found = channel_number.read found >>= λ channel. Ok (RfChannelReleaseAck channel)
 
 -- the elements of a message as they are written
 abbrev pub elements_of : {A : Type 0} → Rsl A → List Element
@@ -74,8 +71,8 @@ elements_of (ChannelActivationNack channel cause) = cause_rows.written (channel,
 elements_of (ConnectionFailureIndication channel cause) = cause_rows.written (channel, cause)
 elements_of (HandoverDetection channel delay) = detection_rows.written (channel, delay)
 elements_of (MeasurementResult channel number uplink power layer3) = measurement_rows.written (channel, (number, (uplink, (power, layer3))))
-elements_of (RfChannelRelease channel) = release_rows.written channel
-elements_of (RfChannelReleaseAck channel) = release_rows.written channel
+elements_of (RfChannelRelease channel) = channel_number.written channel
+elements_of (RfChannelReleaseAck channel) = channel_number.written channel
 
 abbrev pub kind_of : {A : Type 0} → Rsl A → MessageKind
 kind_of (DataRequest channel link layer3) = kind.DataRequest
@@ -101,3 +98,17 @@ HasOctets (HandoverDetection channel delay) = ⊥
 HasOctets (MeasurementResult channel number uplink power layer3) = (0 < length uplink) ⊎ IsSome layer3
 HasOctets (RfChannelRelease channel) = ⊥
 HasOctets (RfChannelReleaseAck channel) = ⊥
+
+-- The fields of the message can be said: a timeslot below 8, a mode of 1 to 255 octets, uplink measurements of
+-- at most 255, a layer 3 message of one octet at least.
+abbrev pub CanBeSaid : {A : Type 0} → Rsl A → Type 0
+CanBeSaid (DataRequest channel link layer3) = (channel.tn < 8) × (0 < length layer3)
+CanBeSaid (DataIndication channel link layer3) = (channel.tn < 8) × (0 < length layer3)
+CanBeSaid (ChannelActivation channel activation mode reference) = (channel.tn < 8) × (0 < length mode) × (length mode < 256)
+CanBeSaid (ChannelActivationAck channel frame) = channel.tn < 8
+CanBeSaid (ChannelActivationNack channel cause) = channel.tn < 8
+CanBeSaid (ConnectionFailureIndication channel cause) = channel.tn < 8
+CanBeSaid (HandoverDetection channel delay) = channel.tn < 8
+CanBeSaid (MeasurementResult channel number uplink power layer3) = (channel.tn < 8) × (length uplink < 256) × IfSome layer3 (λ l. 0 < length l)
+CanBeSaid (RfChannelRelease channel) = channel.tn < 8
+CanBeSaid (RfChannelReleaseAck channel) = channel.tn < 8

@@ -1,6 +1,6 @@
 -- Which octets are the text of a message, what is wrong with all others, and which text is written
 -- (TS 48.058 clause 9).
-use Rattle.std.specs.Prelude.{ℕ, ◌+◌, ◌<◌, ◌≤◌, List, ◌∷◌, length}
+use Rattle.std.specs.Prelude.{◌↔◌, ℕ, ◌+◌, ◌<◌, ◌≤◌, List, ◌∷◌, length}
 use Rattle.octet_elements.specs.Elements.{all_octets}
 use Rattle.octet_elements.specs.Texts.{Codec}
 use Rattle.octet_elements.specs.Texts as texts
@@ -11,7 +11,7 @@ use Rattle.rsl_messages.specs.declared.message.Rsl.{Rsl}
 use Rattle.rsl_messages.specs.Forms.{abis}
 use Rattle.rsl_messages.specs.Heads.{Begins, HasHeadFault, head_of}
 use Rattle.rsl_messages.specs.Values.{fault_of}
-use Rattle.rsl_messages.specs.Messages.{said, kind_of, elements_of, HasOctets}
+use Rattle.rsl_messages.specs.Messages.{said, kind_of, elements_of, HasOctets, CanBeSaid}
 
 -- a message has at most so many octets
 abbrev pub limit : ℕ
@@ -54,6 +54,6 @@ HasCanonical v = IsTextOf v (canonical_text v)
 abbrev pub ReadingIsUnique : (A : Type 0) → Type 0
 ReadingIsUnique A = texts.ReadingIsUnique (codec A)
 
--- the canonical text is a text of its message
+-- Just the messages whose fields can be said, in at most 1,024 octets, have a canonical text.
 abbrev pub CanonicalIsText : (A : Type 0) → Type 0
-CanonicalIsText A = (v : Rsl A) → HasCanonical v → IsTextOf v (canonical_text v)
+CanonicalIsText A = (v : Rsl A) → (CanBeSaid v × (length (canonical_text v) ≤ limit)) ↔ HasCanonical v

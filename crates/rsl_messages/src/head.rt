@@ -1,8 +1,11 @@
 //! Discriminator and type.
-ghost use Rattle.std.specs.Prelude.{IfOk, IfErr, IfSome, IfNone};
-ghost use Rattle.rsl_messages.specs.Heads.{IsHead, Begins, HasHeadFault};
+ghost use Rattle.std.specs.Prelude.{◌≡◌, ◌∷◌, [], IfOk, IfErr, IfSome, IfNone};
+ghost use Rattle.rsl_messages.specs.Messages.{kind_of};
+ghost use Rattle.rsl_messages.specs.Heads.{head_of, IsHead, Begins, HasHeadFault};
 
 use crate::fault::RslFault;
+use crate::message::Rsl;
+use std::alloc::Allocator;
 
 /// Which message it is.
 #[derive(Clone, Copy, Debug, PartialEq, Eq)]
@@ -37,6 +40,25 @@ fn kind_for(discriminator: u8, message_type: u8) -> Option<MessageKind>
         (4, 0x2E) => Some(MessageKind::RfChannelRelease),
         (4, 0x33) => Some(MessageKind::RfChannelReleaseAck),
         _ => None,
+    }
+}
+
+/// Discriminator and type of a message.
+pub fn head_octets<A: Allocator>(message: &Rsl<A>) -> [u8; 2]
+    ensures { result ≡ (head_of (kind_of message.now)).0 ∷
+        (head_of (kind_of message.now)).1 ∷ [] }
+{
+    match message {
+        Rsl::DataRequest { .. } => [3, 0x01],
+        Rsl::DataIndication { .. } => [3, 0x02],
+        Rsl::ChannelActivation { .. } => [8, 0x21],
+        Rsl::ChannelActivationAck { .. } => [8, 0x22],
+        Rsl::ChannelActivationNack { .. } => [8, 0x23],
+        Rsl::ConnectionFailureIndication { .. } => [8, 0x24],
+        Rsl::HandoverDetection { .. } => [8, 0x27],
+        Rsl::MeasurementResult { .. } => [8, 0x28],
+        Rsl::RfChannelRelease { .. } => [8, 0x2E],
+        Rsl::RfChannelReleaseAck { .. } => [8, 0x33],
     }
 }
 

@@ -1,11 +1,10 @@
 //! Writing a message.
-ghost use Rattle.std.specs.Prelude.{◌≡◌, ◌≤◌, ◌<◌, ◌↔◌, ◌∷◌, [], IsTrue, IfOk, length};
+ghost use Rattle.std.specs.Prelude.{◌≡◌, ◌↔◌, IsTrue, IfOk};
 ghost use Rattle.octet_elements.specs.Writing.{Appends};
-ghost use Rattle.rsl_messages.specs.Heads.{head_of};
-ghost use Rattle.rsl_messages.specs.Messages.{kind_of};
-ghost use Rattle.rsl_messages.specs.Texts.{limit, HasCanonical, canonical_text};
+ghost use Rattle.rsl_messages.specs.Texts.{HasCanonical, canonical_text};
 
 use crate::elements::{append_elements, elements_len};
+use crate::head::head_octets;
 use crate::message::Rsl;
 use crate::reading::LIMIT;
 use octet_elements::append_octets;
@@ -16,6 +15,7 @@ use std::alloc::{AllocError, Allocator};
 pub fn fits<A: Allocator>(message: &Rsl<A>) -> bool
     ensures canonical { IsTrue result ↔ HasCanonical message.now }
 {
+    let within = elements_len(message) <= LIMIT - 2;
     match message {
         Rsl::DataRequest {
             channel,
@@ -26,9 +26,9 @@ pub fn fits<A: Allocator>(message: &Rsl<A>) -> bool
             channel,
             layer3,
             ..
-        } => channel.tn < 8 && !layer3.as_slice().is_empty() && is_within(message),
+        } => channel.tn < 8 && !layer3.as_slice().is_empty() && within,
         Rsl::ChannelActivation { channel, mode, .. } => {
-            channel.tn < 8 && matches!(mode.as_slice().len(), 1..=255) && is_within(message)
+            channel.tn < 8 && matches!(mode.as_slice().len(), 1..=255) && within
         }
         Rsl::MeasurementResult {
             channel,
@@ -42,40 +42,14 @@ pub fn fits<A: Allocator>(message: &Rsl<A>) -> bool
                     None => true,
                     Some(layer3) => !layer3.as_slice().is_empty(),
                 }
-                && is_within(message)
+                && within
         }
         Rsl::ChannelActivationAck { channel, .. }
         | Rsl::ChannelActivationNack { channel, .. }
         | Rsl::ConnectionFailureIndication { channel, .. }
         | Rsl::HandoverDetection { channel, .. }
         | Rsl::RfChannelRelease { channel }
-        | Rsl::RfChannelReleaseAck { channel } => channel.tn < 8 && is_within(message),
-    }
-}
-
-/// Whether the text isn't too long.
-fn is_within<A: Allocator>(message: &Rsl<A>) -> bool
-    ensures { IsTrue result ↔ (length (canonical_text message.now) ≤ limit) }
-{
-    elements_len(message) <= LIMIT - 2
-}
-
-/// Discriminator and type of a message.
-fn head_octets<A: Allocator>(message: &Rsl<A>) -> [u8; 2]
-    ensures { result ≡ (head_of (kind_of message.now)).0 ∷
-        (head_of (kind_of message.now)).1 ∷ [] }
-{
-    match message {
-        Rsl::DataRequest { .. } => [3, 0x01],
-        Rsl::DataIndication { .. } => [3, 0x02],
-        Rsl::ChannelActivation { .. } => [8, 0x21],
-        Rsl::ChannelActivationAck { .. } => [8, 0x22],
-        Rsl::ChannelActivationNack { .. } => [8, 0x23],
-        Rsl::ConnectionFailureIndication { .. } => [8, 0x24],
-        Rsl::HandoverDetection { .. } => [8, 0x27],
-        Rsl::MeasurementResult { .. } => [8, 0x28],
-        Rsl::RfChannelRelease { .. } => [8, 0x2E],
-        Rsl::RfChannelReleaseAck { .. } => [8, 0x33],
+        | Rsl::RfChannelReleaseAck { channel } => channel.tn < 8 && within,
     }
 }
 
