@@ -308,19 +308,18 @@ fn first_like<'a>(
 }
 
 /// Says which cells have the same integers at these keys.
-fn say_alike<W: Write>(document: &Value, keys: &[Key], errors: &mut W) -> Result<(), LabFault> {
+fn say_alike<W: Write>(
+    document: &Value,
+    keys: &[Key],
+    names: &str,
+    errors: &mut W,
+) -> Result<(), LabFault> {
     for place in 0..128 {
         let Some(cell) = cell_at(document, place) else {
             break;
         };
         if let Some(first) = first_like(document, cell.table, place, keys) {
-            write!(errors, "{} and {} have the same", first.place, cell.place)?;
-            let mut between = "";
-            for key in keys {
-                write!(errors, "{between} {key}")?;
-                between = " and";
-            }
-            writeln!(errors)?;
+            writeln!(errors, "{} and {} have the same {names}", first.place, cell.place)?;
             return Ok(());
         }
     }
@@ -395,8 +394,8 @@ fn repeated_carrier(trx: &[Value]) -> Option<i64> {
 /// Says what stands twice, and where.
 fn say_twice<W: Write>(document: &Value, what: What, errors: &mut W) -> Result<(), LabFault> {
     match what {
-        What::Identity => return say_alike(document, &[Key::Lac, Key::Ci], errors),
-        What::Colour => return say_alike(document, &[Key::Bcch, Key::Ncc, Key::Bcc], errors),
+        What::Identity => return say_alike(document, &[Key::Lac, Key::Ci], "lac and ci", errors),
+        What::Colour => return say_alike(document, &[Key::Bcch, Key::Ncc, Key::Bcc], "bcch, ncc and bcc", errors),
         What::Carrier | What::Slot | What::Neighbour => {}
     }
     for (number, cell) in entries(document, Key::Cell).iter().enumerate() {
@@ -435,10 +434,8 @@ fn say_toml<W: Write>(
     errors: &mut W,
 ) -> Result<(), LabFault> {
     let text = format!(in alloc; "{fault}")?;
-    let mut between = "";
     for line in text.lines() {
-        write!(errors, "{between}{line}")?;
-        between = ": ";
+        write!(errors, ": {line}")?;
     }
     writeln!(errors)?;
     Ok(())
@@ -463,7 +460,7 @@ pub fn say_reason<W: Write>(
         Ok(document) => Value::Table(document),
         Err(fault) if fault.is_memory() => return Err(LabFault::NoMemory),
         Err(fault) => {
-            write!(errors, "{path}: ")?;
+            write!(errors, "{path}")?;
             return say_toml(alloc, fault, errors);
         }
     };

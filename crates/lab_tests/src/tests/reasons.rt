@@ -80,7 +80,7 @@ const REASONS: &[(&str, &str, &str, &str)] = &[
         "bcch = 62\nncc = 3\nbcc = 0",
         "bcch = 60\nncc = 1\nbcc = 1",
         "site 4 colour\n",
-        "cell 0 and outside 0 (cell 64) have the same bcch and ncc and bcc",
+        "cell 0 and outside 0 (cell 64) have the same bcch, ncc and bcc",
     ),
     (
         "arfcn = 875",
