@@ -8,6 +8,7 @@ pub mod event;
 pub mod laws;
 pub mod others;
 mod records;
+pub mod run;
 mod tables;
 
 pub use cell_table as site;
