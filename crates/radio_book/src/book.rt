@@ -73,7 +73,7 @@ impl<A: Allocator + Copy> Book<A> {
         ensures copy { IfOk result (λ book. book ≡ self.now) }
     {
         let records = self.records.copy()?;
-        Ok(Book { records })
+        Ok(Self { records })
     }
 
     /// How much the book holds. Its contract also hands out that every book is sound.
