@@ -1,6 +1,7 @@
 pub mod KeyFacts
 pub mod MapFacts
 pub mod TableFacts
+pub mod CopyFacts
 pub mod JournalFacts
 pub mod EntryFacts
 pub mod Frame

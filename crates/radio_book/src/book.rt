@@ -68,6 +68,14 @@ impl<A: Allocator + Copy> Book<A> {
         self.records.site()
     }
 
+    /// The same book again. Memory is asked for.
+    pub fn copy(&self) -> Result<Book<A>, AllocError>
+        ensures copy { IfOk result (λ book. book ≡ self.now) }
+    {
+        let records = self.records.copy()?;
+        Ok(Self { records })
+    }
+
     /// How much the book holds. Its contract also hands out that every book is sound.
     pub fn usage(&self) -> Usage
         ensures channels { result.channels ≡ map.len self.now.channels }

@@ -9,6 +9,7 @@ ghost use Rattle.radio_book.specs.Journal.{journal_of, back_one_stage};
 use crate::event::{Attempt, AttemptKind, CallRecord, Stage, Timer};
 use attempt_journal::{Inverse, Journal};
 use channel_fsm::ChanId;
+use std::alloc::AllocError;
 use std::marker::Model;
 
 /// The record of a call and its timer, with the inverses of its attempt's steps. Each step of the attempt pushes its own.
@@ -31,6 +32,14 @@ impl Model for CallEntry {
     ghost view = { λ entry. record { call = entry.record; timer = entry.timer } };
 
     ghost invariant = { λ entry. entry.journal ≡ journal_of entry.record.attempt };
+}
+
+impl Clone for CallEntry {
+    ghost is_clone = { λ entry copy. copy ≡ entry };
+
+    fn clone(&self) -> Result<CallEntry, AllocError> {
+        Ok(self.copy())
+    }
 }
 
 impl CallEntry {

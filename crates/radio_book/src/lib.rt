@@ -8,4 +8,5 @@ pub mod event;
 pub mod laws;
 pub mod others;
 mod records;
+pub mod run;
 mod tables;

@@ -58,6 +58,22 @@ impl<A: Allocator + Copy> Records<A> {
         }
     }
 
+    /// The same tables again. Memory is asked for.
+    pub fn copy(&self) -> Result<Records<A>, AllocError>
+        ensures { IfOk result (λ copy. copy ≡ self.now) }
+    {
+        let site = self.site.clone()?;
+        let channels = self.channels.copy()?;
+        let calls = self.calls.copy()?;
+        let references = self.references.copy()?;
+        Ok(Records {
+            site,
+            channels,
+            calls,
+            references,
+        })
+    }
+
     pub fn site(&self) -> &Arc<Site<A>, A>
         ensures { result.now.value ≡ self.now.site }
     {

@@ -1,5 +1,5 @@
 //! The tables of a book. Each wraps a tree, and is seen as finite maps from its keys.
-ghost use Rattle.std.specs.Prelude.{◌≡◌, OnOk, OnErr, None, IsSome, IfSome, is_some, count_by};
+ghost use Rattle.std.specs.Prelude.{◌≡◌, OnOk, OnErr, IfOk, None, IsSome, IfSome, is_some, count_by};
 ghost use Rattle.std.specs.BTreeMap.{values, IsOrdered};
 ghost use Rattle.std.specs.Ordering.{nat_cmp};
 ghost use Rattle.std.specs.Option.{option_map};
@@ -47,6 +47,13 @@ impl<A: Allocator + Copy> Channels<A> {
         Channels {
             states: BTreeMap::new(alloc),
         }
+    }
+
+    pub fn copy(&self) -> Result<Channels<A>, AllocError>
+        ensures { IfOk result (λ copy. copy ≡ self.now) }
+    {
+        let states = self.states.clone()?;
+        Ok(Channels { states })
     }
 
     pub fn len(&self) -> usize
@@ -158,6 +165,13 @@ impl<A: Allocator + Copy> Calls<A> {
         Calls {
             entries: BTreeMap::new(alloc),
         }
+    }
+
+    pub fn copy(&self) -> Result<Calls<A>, AllocError>
+        ensures { IfOk result (λ copy. copy ≡ self.now) }
+    {
+        let entries = self.entries.clone()?;
+        Ok(Calls { entries })
     }
 
     pub fn len(&self) -> usize
@@ -283,6 +297,13 @@ impl<A: Allocator + Copy> References<A> {
         References {
             users: BTreeMap::new(alloc),
         }
+    }
+
+    pub fn copy(&self) -> Result<References<A>, AllocError>
+        ensures { IfOk result (λ copy. copy ≡ self.now) }
+    {
+        let users = self.users.clone()?;
+        Ok(References { users })
     }
 
     pub fn len(&self) -> usize

@@ -1,11 +1,14 @@
+mod handover;
 mod largest;
 mod memory;
+mod runs;
 
 use cell_table::Site;
 use channel_fsm::{ChanId, ChanState};
 use radio_book::book::{Book, Usage};
 use radio_book::event::Event::{
-    Activate, Clear, Confirm, Look, Open, Refuse, Released, Reserve, Take, Undo,
+    Activate, Clear, Command, Complete, Confirm, Detect, Left, Look, Open, Order, Owner, Refuse,
+    Released, Require, Reserve, Take, Undo,
 };
 use radio_book::event::Refusal::{
     CallExists, ChannelBusy, NoCall, NoChannel, NotArmed, RefBusy, SameCell, Unexpected, WrongPhase,
@@ -297,7 +300,7 @@ fn answers_beside_a_call(rt: &(impl AllocGlobal + Abort), rows: &[Row]) -> Resul
 }
 
 // What a book refuses in which call 1 rests and call 3 has begun on the channel of cell 1, and why.
-const REFUSALS: [(Event, Refusal); 25] = [
+const REFUSALS: [(Event, Refusal); 38] = [
     (Open(1, NO_TRAFFIC), CallExists),
     (Open(2, NO_TRAFFIC), NoChannel),
     (Open(2, HOME), ChannelBusy(HOME)),
@@ -320,6 +323,19 @@ const REFUSALS: [(Event, Refusal); 25] = [
     (Undo(1, Why::Asked), WrongPhase),
     (Undo(2, Why::Expired(Timer::T3103)), NoCall),
     (Undo(1, Why::Expired(Timer::T7)), NotArmed),
+    (Command(2), NoCall),
+    (Command(1), WrongPhase),
+    (Complete(2), NoCall),
+    (Complete(1), WrongPhase),
+    (Require(2), NoCall),
+    (Require(3), WrongPhase),
+    (Order(2), NoCall),
+    (Order(1), WrongPhase),
+    (Left(2), NoCall),
+    (Left(1), WrongPhase),
+    (Detect(HOME), Unexpected(HOME)),
+    (Detect(TARGET), Unexpected(TARGET)),
+    (Owner(OTHER), Unexpected(OTHER)),
     (Confirm(HOME), Unexpected(HOME)),
     (Refuse(OTHER), Unexpected(OTHER)),
     (Released(HOME), Unexpected(HOME)),
@@ -381,6 +397,20 @@ fn coming(stage: Stage, reference: Option<u8>) -> CallRecord {
 // What an undo answers of an attempt of call 1 at this stage, while its serving channel is on.
 fn undone(stage: Stage, reference: Option<u8>) -> Answer {
     Says(Record(moving(stage, reference), Some(ChanState::On(1))))
+}
+
+// The same of an attempt towards another controller.
+fn outgoing(stage: Stage) -> Answer {
+    let record = CallRecord {
+        serving: Some(HOME),
+        attempt: Some(Attempt {
+            kind: AttemptKind::Outgoing,
+            stage,
+            target: None,
+            reference: None,
+        }),
+    };
+    Says(Record(record, Some(ChanState::On(1))))
 }
 
 #[test]

@@ -5,6 +5,7 @@ ghost use Rattle.std.specs.Cmp.{partial_order_from_own_ties};
 ghost use Rattle.std.specs.Cmp.Rules.{comparing};
 ghost use Rattle.std.specs.Ordering.{nat_cmp, as_partial_cmp};
 
+use std::alloc::AllocError;
 use std::cmp::Ordering;
 use std::marker::Model;
 
@@ -21,6 +22,16 @@ impl Model for CallKey {
     ghost Value = { ℕ };
 
     ghost view = { λ key. key.number };
+}
+
+impl Clone for CallKey {
+    ghost is_clone = { λ key copy. copy ≡ key };
+
+    fn clone(&self) -> Result<CallKey, AllocError> {
+        Ok(CallKey {
+            number: self.number,
+        })
+    }
 }
 
 impl PartialEq for CallKey {

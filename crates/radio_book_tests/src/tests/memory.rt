@@ -3,12 +3,13 @@ use super::Answer::{Chose, NoneFree, Says};
 use super::Ask::{FreeIn, ReserveAny, Step, TakeAny};
 use super::{
     Answer, Ask, DONE, HIGHEST, HOME, HOME_OF_1, HOME_OF_16, LOWEST, MANY_CHANNELS, NO_TRAFFIC,
-    OTHER, Row, TARGET, THREE_CHANNELS, book_of, home_of, play, put, undone,
+    OTHER, Row, TARGET, THREE_CHANNELS, book_of, home_of, outgoing, play, put, undone,
 };
 use channel_fsm::ChanState;
 use radio_book::book::{Book, Usage};
 use radio_book::event::Event::{
-    Activate, Clear, Confirm, Look, Open, Refuse, Released, Reserve, Take, Undo,
+    Activate, Clear, Command, Confirm, Detect, Look, Open, Order, Owner, Refuse, Released, Require,
+    Reserve, Take, Undo,
 };
 use radio_book::event::Refusal::{NoCall, NoChannel};
 use radio_book::event::Reply::{Done, Owned, Record, Refused};
@@ -228,8 +229,14 @@ fn what_takes_no_memory_succeeds_without(rt: HostRuntime) -> Result<(), Fail> {
         (Step(Confirm(TARGET)), Says(Owned(1))),
         (Step(Refuse(OTHER)), Says(Owned(2))),
         (Step(Look(2)), Says(Record(held, Some(ChanState::Held(2))))),
-        (Step(Undo(1, Why::Asked)), undone(Stage::Confirmed, Some(0))),
+        (Step(Command(1)), DONE),
+        (Step(Detect(TARGET)), Says(Owned(1))),
+        (Step(Undo(1, Why::Asked)), undone(Stage::Detected, Some(0))),
         (Step(Released(TARGET)), DONE),
+        (Step(Require(1)), DONE),
+        (Step(Order(1)), DONE),
+        (Step(Owner(HOME)), Says(Owned(1))),
+        (Step(Undo(1, Why::Asked)), outgoing(Stage::Ordered)),
         (Step(Clear(1)), DONE),
         (Step(Clear(2)), DONE),
         (Step(Open(3, NO_TRAFFIC)), Says(Refused(NoChannel))),
