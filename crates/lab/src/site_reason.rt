@@ -319,7 +319,11 @@ fn say_alike<W: Write>(
             break;
         };
         if let Some(first) = first_like(document, cell.table, place, keys) {
-            writeln!(errors, "{} and {} have the same {names}", first.place, cell.place)?;
+            writeln!(
+                errors,
+                "{} and {} have the same {names}",
+                first.place, cell.place
+            )?;
             return Ok(());
         }
     }
@@ -395,7 +399,12 @@ fn repeated_carrier(trx: &[Value]) -> Option<i64> {
 fn say_twice<W: Write>(document: &Value, what: What, errors: &mut W) -> Result<(), LabFault> {
     match what {
         What::Identity => return say_alike(document, &[Key::Lac, Key::Ci], "lac and ci", errors),
-        What::Colour => return say_alike(document, &[Key::Bcch, Key::Ncc, Key::Bcc], "bcch, ncc and bcc", errors),
+        What::Colour => return say_alike(
+            document,
+            &[Key::Bcch, Key::Ncc, Key::Bcc],
+            "bcch, ncc and bcc",
+            errors,
+        ),
         What::Carrier | What::Slot | What::Neighbour => {}
     }
     for (number, cell) in entries(document, Key::Cell).iter().enumerate() {

@@ -27,12 +27,7 @@ const REASONS: &[(&str, &str, &str, &str)] = &[
         "site 3 window\n",
         "handover: window: 33 isn't a number of reports from 1 to 32",
     ),
-    (
-        "ncc = 2\n",
-        "",
-        "site 2 ncc\n",
-        "cell 1: ncc is missing",
-    ),
+    ("ncc = 2\n", "", "site 2 ncc\n", "cell 1: ncc is missing"),
     (
         "ncc = 2",
         "ncc = \"x\"",
@@ -141,12 +136,7 @@ const REASONS: &[(&str, &str, &str, &str)] = &[
 const REFUSED_FILE: &str = "refused.toml";
 
 /// The site file with the first place of a text replaced.
-fn changed(
-    rt: &impl Abort,
-    alloc: Global,
-    old: &str,
-    new: &str,
-) -> Result<String, AllocError> {
+fn changed(rt: &impl Abort, alloc: Global, old: &str, new: &str) -> Result<String, AllocError> {
     assert!(rt; SITE.contains(old), "{old}");
     let mut text = String::new(alloc);
     if let Some((before, after)) = SITE.split_once(old) {
