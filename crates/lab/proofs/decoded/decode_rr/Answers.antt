@@ -1,6 +1,5 @@
-use Rattle.std.proofs.Common.{sym, ◌∙◌}
+use Rattle.rr_messages.proofs.Faults.{no_fault}
 use Rattle.lab.proofs.decoded.decode_rr.Goals as goal
 
 pub returns-in-Err-clause-refused : goal.returns-in-Err-clause-refused
-returns-in-Err-clause-refused g c =
-    λ _ message. cc (sym c.in-Err.is ∙ c.decode.ensures.only message.0 message.1)
+returns-in-Err-clause-refused g c = λ _ message. no_fault message.0 _ _ message.1 c.in-Err.ensures.fault
