@@ -1,4 +1,4 @@
-use Rattle.std.proofs.Common.{◌≡◌, ap, ◌∙◌, Err, subst}
+use Rattle.std.proofs.Common.{◌≡◌, ap, ◌∙◌, Err, subst, inl, refl, []}
 use Rattle.rsl_messages.proofs.Unique.{no_fault, one_fault}
 use Rattle.rsl_messages.specs.Texts.{HasFault}
 use Rattle.ho_procedure.specs.declared.exchange.PlainFault.TheVariants.{Undecoded}
@@ -22,3 +22,9 @@ pub returns-in-Err-clause-undecoded : goal.returns-in-Err-clause-undecoded
 returns-in-Err-clause-undecoded g c = λ f same.
     let is : c.in-Err.fault ≡ f = cc in
     subst (λ k. HasFault g.row.A.Denot c.args.octets.now k) is c.in-Err.ensures.fault
+
+-- nothing was asked, and the message keeps octets
+pub returns-in-Err-NoMemory-clause-memory : goal.returns-in-Err-NoMemory-clause-memory
+returns-in-Err-NoMemory-clause-memory g c = λ is.
+    let kept = c.in-Err-NoMemory.ensures.memory (ap Err c.in-Err-NoMemory.field-0-is) in
+    ([], (kept.0, kept.1, inl (refl, kept.2)), refl, tt)
