@@ -19,7 +19,7 @@ ghost use Rattle.radio_book.specs.declared.event.Kind.{Kind};
 ghost use Rattle.radio_book.specs.declared.event.Why.{Why};
 ghost use Rattle.radio_book.specs.declared.event.Event.{Event};
 ghost use Rattle.radio_book.specs.declared.event.Event.TheVariants as event;
-ghost use Rattle.radio_book.specs.Others.{CommutesWithUndone, UndoneIsRemoved};
+ghost use Rattle.radio_book.specs.Others.{CommutesWithUndone, UndoneIsRemoved, OpeningsAddTheAttempt, OwnStepsChangeTheAttempt};
 
 /// A call that begins.
 pub fn open_commutes()
@@ -115,4 +115,14 @@ pub fn steps_commute()
 /// An undo, and then its target out of the book: the attempt is out of the book.
 pub fn undone_is_removed()
     ensures removed { UndoneIsRemoved }
+{}
+
+/// The opening of an attempt adds to the book what the attempt has, and nothing else.
+pub fn openings_add_the_attempt()
+    ensures added { OpeningsAddTheAttempt }
+{}
+
+/// An attempt that goes on changes what it has, and nothing else in the book.
+pub fn own_steps_change_the_attempt()
+    ensures changed { OwnStepsChangeTheAttempt }
 {}
