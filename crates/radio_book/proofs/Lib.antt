@@ -24,3 +24,4 @@ pub mod OthersHandover
 pub mod OthersPhases
 pub mod OwnSteps
 pub mod GoingOn
+pub mod EachAgrees

@@ -94,6 +94,21 @@ CommutesWhileOpen e =
     (IsHeldReference (reference_held a.target a.reference) (reply_to b e) → ⊥) →
     Commutes (without_attempt c r a (map.get b.timers c)) b e
 
+-- a step that leaves an attempt as it is: the record of its call, the state of its target, its timer
+pub record LeavesAttempt (c : ℕ) (target : Option ChanId) (b after : State) : Type 0 where
+  pub record_stays : record_of after c ≡ record_of b c
+  pub target_stays : (t : ChanId) → target ≡ Some t → state_of after t ≡ state_of b t
+  pub timer_stays : map.get after.timers c ≡ map.get b.timers c
+
+-- while an attempt is open: the same steps leave it as it is
+abbrev pub LeavesOpenAttempts : Event → Type 0
+LeavesOpenAttempts e =
+    (c : ℕ) (r : CallRecord) (a : Attempt) (b : State) →
+    IsSound b → record_of b c ≡ Some r → r.attempt ≡ Some a →
+    (call_of e ≡ Some c → ⊥) → ((t : ChanId) → a.target ≡ Some t → LeavesAlone t b e) →
+    (IsHeldReference (reference_held a.target a.reference) (reply_to b e) → ⊥) →
+    LeavesAttempt c a.target b (step b e)
+
 -- once it is undone, while its target is off: a step that leaves the target alone
 abbrev pub CommutesWhileOff : Event → Type 0
 CommutesWhileOff e =
