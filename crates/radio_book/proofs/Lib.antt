@@ -22,3 +22,6 @@ pub mod OthersAttempts
 pub mod OthersStations
 pub mod OthersHandover
 pub mod OthersPhases
+pub mod OwnSteps
+pub mod GoingOn
+pub mod EachAgrees

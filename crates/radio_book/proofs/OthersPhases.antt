@@ -16,16 +16,17 @@ use Rattle.radio_book.specs.declared.event.Event.TheVariants as event
 use Rattle.radio_book.specs.declared.event.Refusal.TheVariants.{ChannelBusy, RefBusy, Unexpected}
 use Rattle.radio_book.specs.declared.event.Reply.{Reply}
 use Rattle.radio_book.specs.declared.event.Reply.TheVariants.{Refused}
-use Rattle.radio_book.specs.Maps.{with_change}
+use Rattle.radio_book.specs.Maps.{Entry, with_change}
 use Rattle.radio_book.specs.State.{State, apply, state_of, record_of}
-use Rattle.radio_book.specs.Table.{owner, Refuses, is_target, detect_by, detect_of, detect_at, resting_record, reference_held, reply_to, left_state}
-use Rattle.radio_book.specs.Sound.{IsSound, target_in, reference_of}
-use Rattle.radio_book.specs.Others.{call_of, channel_of, IsHeldChannel, IsHeldReference, without_attempt, without_channel, CommutesWithUndone, UndoneIsRemoved}
+use Rattle.radio_book.specs.Table.{owner, Refuses, is_target, detect_by, detect_of, detect_at, resting_record, reference_held, reply_to, left_state, Outcome, Accepts, row, book_after}
+use Rattle.radio_book.specs.Sound.{IsSound, target_in, reference_of, armed_in}
+use Rattle.radio_book.specs.Others.{call_of, channel_of, IsHeldChannel, IsHeldReference, without_attempt, without_channel, CommutesWithUndone, UndoneIsRemoved, LeavesOpenAttempts}
 use Rattle.radio_book.proofs.KeyFacts.{chan_total, chan_exact, other_chan}
 use Rattle.radio_book.proofs.MapFacts.{put_put_same, call_cases, record_same}
-use Rattle.radio_book.proofs.Frame.{aimed_is_owned, serving_is_on}
-use Rattle.radio_book.proofs.Changes.{Misses, option_missed}
-use Rattle.radio_book.proofs.Agreement.{Hides, IsOfOther, IsNotHeld, AgreesWithOthers, agrees_commute}
+use Rattle.radio_book.proofs.Frame.{Touches, aimed_is_owned, serving_is_on}
+use Rattle.radio_book.proofs.Changes.{Misses, AreApart, option_missed, record_kept, state_kept}
+use Rattle.radio_book.proofs.SoundSteps.{sound_step}
+use Rattle.radio_book.proofs.Agreement.{Avoids, Hides, IsOfOther, IsNotHeld, AgreesWithOthers, agrees_commute}
 
 -- a channel isn't the target of an attempt that aims at another, or at none
 other_target : (x : ChanId) (o : Option ChanId) → (o ≡ Some x → ⊥) → is_target x o ≡ false
@@ -180,3 +181,29 @@ undone_is_removed c r a b =
         with_change (with_change b.channels (option_map (λ y. (y, left_state (state_of b y))) o)) (option_map (λ y. (y, None)) o) ≡ with_change b.channels (option_map (λ y. (y, None)) o)
     channels None = refl
     channels (Some t) = put_put_same chan_total chan_exact b.channels t (left_state (state_of b t)) None
+
+-- what the row of an event of others doesn't touch, stays
+
+untouched : {K X : Type 0} (p : Option (Entry K X)) (k : K) (v : Option X) → AreApart p (Some (k, v)) → Touches p k → ⊥
+untouched None k v apart touched = touched
+untouched (Some e) k v apart touched = apart (sym touched)
+
+record_avoided : (c : ℕ) (r : CallRecord) (a : Attempt) (b : State) (o : Outcome) → Avoids o (without_attempt c r a (map.get b.timers c)) → record_of (book_after o b) c ≡ record_of b c
+record_avoided c r a b (Refuses refusal) away = refl
+record_avoided c r a b (Accepts change reply) away = record_kept change b c (untouched change.call c (resting_record a.kind r) away.call)
+
+target_avoided : (c : ℕ) (r : CallRecord) (a : Attempt) (b : State) (o : Outcome) → Avoids o (without_attempt c r a (map.get b.timers c)) → (t : ChanId) → a.target ≡ Some t → state_of (book_after o b) t ≡ state_of b t
+target_avoided c r a b (Refuses refusal) away t aims = refl
+target_avoided c r a b (Accepts change reply) away t aims =
+    state_kept change b t (untouched change.channel t None (subst (λ o. AreApart change.channel (option_map (λ (t : ChanId). (t, None)) o)) aims away.channel))
+
+pub leaves_open_attempts : (e : Event) → AgreesWithOthers e → LeavesOpenAttempts e
+leaves_open_attempts e agrees c r a b sound is has by alone reference =
+    let agreed = agrees (without_attempt c r a (map.get b.timers c)) b sound (open_hides c r a b sound is has) (open_others c r a b e by (λ t aims. (alone t aims).event))
+    (open_not_held c r a b (reply_to b e) (λ t aims. (alone t aims).reply) reference) in
+    let same = record_avoided c r a b (row b e) agreed.away in
+    record {
+      record_stays = same;
+      target_stays = target_avoided c r a b (row b e) agreed.away;
+      timer_stays = (sound_step b e sound).timers c ∙ ap armed_in same ∙ sym (sound.timers c);
+    }

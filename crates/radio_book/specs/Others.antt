@@ -1,5 +1,5 @@
 -- Steps of others, while an attempt is open and while its target's release is awaited. Ours, of no standard.
-use Rattle.std.specs.Prelude.{◌≡◌, ℕ, Option, Some, None}
+use Rattle.std.specs.Prelude.{◌≡◌, ◌⊎◌, ℕ, Option, Some, None}
 use Rattle.std.specs.Option.{option_map}
 use Rattle.std.specs.FinMap as map
 use Rattle.channel_fsm.specs.declared.ChanId.{ChanId}
@@ -7,11 +7,12 @@ use Rattle.channel_fsm.specs.declared.ChanState.TheVariants.{Free, Off}
 use Rattle.radio_book.specs.declared.event.Reference.{Reference}
 use Rattle.radio_book.specs.declared.event.Attempt.{Attempt}
 use Rattle.radio_book.specs.declared.event.CallRecord.{CallRecord}
+use Rattle.radio_book.specs.declared.event.Kind.{Kind}
 use Rattle.radio_book.specs.declared.event.Event.{Event}
 use Rattle.radio_book.specs.declared.event.Event.TheVariants as event
 use Rattle.radio_book.specs.declared.event.Refusal.TheVariants.{ChannelBusy, RefBusy}
 use Rattle.radio_book.specs.declared.event.Reply.{Reply}
-use Rattle.radio_book.specs.declared.event.Reply.TheVariants.{Refused}
+use Rattle.radio_book.specs.declared.event.Reply.TheVariants.{Done, Refused}
 use Rattle.attempt_journal.specs.declared.Timer.{Timer}
 use Rattle.radio_book.specs.State.{State, Change, apply, state_of, record_of}
 use Rattle.radio_book.specs.Sound.{IsSound}
@@ -93,6 +94,21 @@ CommutesWhileOpen e =
     (IsHeldReference (reference_held a.target a.reference) (reply_to b e) → ⊥) →
     Commutes (without_attempt c r a (map.get b.timers c)) b e
 
+-- a step that leaves an attempt as it is: the record of its call, the state of its target, its timer
+pub record LeavesAttempt (c : ℕ) (target : Option ChanId) (b after : State) : Type 0 where
+  pub record_stays : record_of after c ≡ record_of b c
+  pub target_stays : (t : ChanId) → target ≡ Some t → state_of after t ≡ state_of b t
+  pub timer_stays : map.get after.timers c ≡ map.get b.timers c
+
+-- while an attempt is open: the same steps leave it as it is
+abbrev pub LeavesOpenAttempts : Event → Type 0
+LeavesOpenAttempts e =
+    (c : ℕ) (r : CallRecord) (a : Attempt) (b : State) →
+    IsSound b → record_of b c ≡ Some r → r.attempt ≡ Some a →
+    (call_of e ≡ Some c → ⊥) → ((t : ChanId) → a.target ≡ Some t → LeavesAlone t b e) →
+    (IsHeldReference (reference_held a.target a.reference) (reply_to b e) → ⊥) →
+    LeavesAttempt c a.target b (step b e)
+
 -- once it is undone, while its target is off: a step that leaves the target alone
 abbrev pub CommutesWhileOff : Event → Type 0
 CommutesWhileOff e =
@@ -107,3 +123,50 @@ abbrev pub UndoneIsRemoved : Type 0
 UndoneIsRemoved =
     (c : ℕ) (r : CallRecord) (a : Attempt) (b : State) →
     apply (without_channel a.target) (apply (undo_change c r a (state_of b) (map.get b.timers c)) b) ≡ apply (without_attempt c r a (map.get b.timers c)) b
+
+-- the book without the open attempt of a call; where the call has none, the book
+abbrev pub without_open : ℕ → CallRecord → Option Attempt → State → State
+without_open c r None b = b
+without_open c r (Some a) b = apply (without_attempt c r a (map.get b.timers c)) b
+
+abbrev pub without_attempt_in : ℕ → Option CallRecord → State → State
+without_attempt_in c None b = b
+without_attempt_in c (Some r) b = without_open c r r.attempt b
+
+abbrev pub without_attempt_of : ℕ → State → State
+without_attempt_of c b = without_attempt_in c (record_of b c) b
+
+-- an attempt of this call opens: it takes a channel, or a handover to another controller is asked for
+abbrev pub IsOpening : ℕ → Event → Type 0
+IsOpening c e = ((k : Kind) × (x : ChanId) × (e ≡ event.Take c k x)) ⊎ (e ≡ event.Require c)
+
+-- an opening that is accepted changes nothing but what the attempt has
+abbrev pub OpeningsAddTheAttempt : Type 0
+OpeningsAddTheAttempt =
+    (e : Event) (c : ℕ) (b : State) → IsSound b → IsOpening c e → reply_to b e ≡ Done → without_attempt_of c (step b e) ≡ b
+
+-- a step by which an open attempt of a call with this target goes on, or which looks at it; the others end it or are refused
+abbrev pub GoesOn : ℕ → Option ChanId → Event → Type 0
+GoesOn c target (event.Open d x) = ⊥
+GoesOn c target (event.Clear d) = ⊥
+GoesOn c target (event.Look d) = d ≡ c
+GoesOn c target (event.Take d k x) = ⊥
+GoesOn c target (event.Reserve d n) = d ≡ c
+GoesOn c target (event.Activate d) = d ≡ c
+GoesOn c target (event.Command d) = d ≡ c
+GoesOn c target (event.Complete d) = ⊥
+GoesOn c target (event.Undo d why) = ⊥
+GoesOn c target (event.Confirm x) = target ≡ Some x
+GoesOn c target (event.Refuse x) = target ≡ Some x
+GoesOn c target (event.Detect x) = target ≡ Some x
+GoesOn c target (event.Released x) = ⊥
+GoesOn c target (event.Owner x) = target ≡ Some x
+GoesOn c target (event.Require d) = ⊥
+GoesOn c target (event.Order d) = d ≡ c
+GoesOn c target (event.Left d) = ⊥
+
+-- such a step changes nothing but what the attempt has
+abbrev pub OwnStepsChangeTheAttempt : Type 0
+OwnStepsChangeTheAttempt =
+    (e : Event) (c : ℕ) (r : CallRecord) (a : Attempt) (b : State) → IsSound b → record_of b c ≡ Some r → r.attempt ≡ Some a →
+    GoesOn c a.target e → without_attempt_of c (step b e) ≡ without_attempt_of c b

@@ -12,6 +12,9 @@
 //!
 //! There is one law for each kind of event, one for them all, and one that ties the two phases: an undo and
 //! then the taking out of the target leave what the taking away of the whole attempt leaves.
+//!
+//! Three more say what an induction over events needs: such a step leaves the attempt as it is; the opening of an
+//! attempt adds what it has, and nothing else; and its own steps change that alone.
 
 ghost use Rattle.std.specs.Prelude.{ℕ};
 ghost use Rattle.channel_fsm.specs.declared.ChanId.{ChanId};
@@ -19,7 +22,7 @@ ghost use Rattle.radio_book.specs.declared.event.Kind.{Kind};
 ghost use Rattle.radio_book.specs.declared.event.Why.{Why};
 ghost use Rattle.radio_book.specs.declared.event.Event.{Event};
 ghost use Rattle.radio_book.specs.declared.event.Event.TheVariants as event;
-ghost use Rattle.radio_book.specs.Others.{CommutesWithUndone, UndoneIsRemoved};
+ghost use Rattle.radio_book.specs.Others.{CommutesWithUndone, LeavesOpenAttempts, UndoneIsRemoved, OpeningsAddTheAttempt, OwnStepsChangeTheAttempt};
 
 /// A call that begins.
 pub fn open_commutes()
@@ -115,4 +118,19 @@ pub fn steps_commute()
 /// An undo, and then its target out of the book: the attempt is out of the book.
 pub fn undone_is_removed()
     ensures removed { UndoneIsRemoved }
+{}
+
+/// The opening of an attempt adds to the book what the attempt has, and nothing else.
+pub fn openings_add_the_attempt()
+    ensures added { OpeningsAddTheAttempt }
+{}
+
+/// An attempt that goes on changes what it has, and nothing else in the book.
+pub fn own_steps_change_the_attempt()
+    ensures changed { OwnStepsChangeTheAttempt }
+{}
+
+/// A step of others leaves an open attempt as it is.
+pub fn steps_leave_open_attempts()
+    ensures leaves { (e : Event) → LeavesOpenAttempts e }
 {}
