@@ -19,7 +19,7 @@ bssmap-octets : {A : Type 0} (octets : List ℕ) → IsBssmapMessage A octets �
 bssmap-octets octets message none = let framed = message.1.head.framed in absurd cc
 
 abis-octets : {A : Type 0} (octets : List ℕ) → IsAbisMessage A octets → octets ≢ []
-abis-octets octets message none = let head = message.1.head.2 in absurd cc
+abis-octets octets message none = let head = message.1.head.1 in absurd cc
 
 pub returns-in-A-clause-memory : goal.returns-in-A-clause-memory
 returns-in-A-clause-memory g c =
