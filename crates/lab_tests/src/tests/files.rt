@@ -78,7 +78,10 @@ fn files_are_run(rt: HostRuntime) -> Result<(), Fail> {
 /// the site is looked at, and 64 MiB are the most that a file may have.
 const LONG_FILE: &str = "long.txt";
 
-const LENGTHS: &[(usize, &str)] = &[(64 << 20, "site 1\n"), ((64 << 20) + 1, "file long.txt\n")];
+const LENGTHS: &[(usize, &str)] = &[
+    (64 << 20, "site 2 handover\n"),
+    ((64 << 20) + 1, "file long.txt\n"),
+];
 
 /// Writes a file of so many octets.
 fn write_long(rt: &(impl Files + AllocGlobal), octets: usize) -> Result<(), Fail> {
