@@ -3,7 +3,7 @@ ghost use Rattle.bssmap_messages.specs.Texts.{ReadingIsUnique, CanonicalIsText};
 
 use std::alloc::Allocator;
 
-/// Octets have one reading: a text has one value and no fault but want of memory, and no octets have
+/// Octets have one reading: a text has one value and no fault but refused memory, and no octets have
 /// two faults.
 pub fn reading_is_unique<A: Allocator>()
     ensures unique { ReadingIsUnique A }

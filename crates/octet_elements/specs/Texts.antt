@@ -15,7 +15,7 @@ pub record Codec (Kind V F : Type 0) : Type 1 where
   pub HasHeadFault : List ℕ → F → Type 0
   -- what the elements of a message of this kind say
   pub said : Kind → Lookup → Result V ValueFault
-  -- the value keeps a list that isn't empty, for which reading it may want memory
+  -- the value keeps a list that isn't empty, for which reading it may ask for memory
   pub KeepsList : V → Type 0
   -- the fault of a body that is torn at this offset, of an element's value, and of memory that is refused
   pub torn : ℕ → F

@@ -86,7 +86,7 @@ kind_of (MeasurementResult channel number uplink power layer3) = kind.Measuremen
 kind_of (RfChannelRelease channel) = kind.RfChannelRelease
 kind_of (RfChannelReleaseAck channel) = kind.RfChannelReleaseAck
 
--- The message keeps an octet list that isn't empty, for which reading it may want memory.
+-- The message keeps an octet list that isn't empty, for which reading it may ask for memory.
 abbrev pub HasOctets : {A : Type 0} → Rsl A → Type 0
 HasOctets (DataRequest channel link layer3) = 0 < length layer3
 HasOctets (DataIndication channel link layer3) = 0 < length layer3
