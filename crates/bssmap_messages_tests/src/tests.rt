@@ -52,9 +52,16 @@ const REQUEST_EMPTY_2: &[u8] = &[
     0x17, 0, 0x65,
 ];
 
+/// HANDOVER REQUEST with another encryption and another target.
+const REQUEST_ENCRYPTED: &[u8] = &[
+    0, 0x19, 0x10, 0x0B, 3, 1, 8, 1, 0x0A, 1, 2, 0x1D, 0x33, 5, 5, 1, 0, 0x17, 0, 0x66, 5, 5, 1, 0,
+    0x17, 0, 0x63,
+];
+
 /// A text of each message, as it is written, and how many lists with an item the message keeps.
-const TEXTS: [(&[u8], u64); 14] = [
+const TEXTS: [(&[u8], u64); 15] = [
     (REQUEST, 2),
+    (REQUEST_ENCRYPTED, 2),
     (REQUEST_2, 3),
     (REQUEST_EMPTY_2, 2),
     (REQUIRED, 1),
