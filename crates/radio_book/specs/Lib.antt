@@ -10,3 +10,5 @@ pub mod Journal
 pub mod Run
 pub mod Choice
 pub mod Others
+pub mod Kinds
+pub mod Undone

@@ -1,0 +1,197 @@
+-- An attempt that is undone within a list of steps: what stays of the list without it, which of that was refused for what
+-- the attempt held, and whether its channel came back. Ours, of no standard.
+use Rattle.std.specs.Prelude.{◌≡◌, ◌⊎◌, ◌+◌, ℕ, Bool, true, false, not, ◌&&◌, ◌||◌, ◌==◌, if◌then◌else◌, IsTrue, List, [], ◌∷◌, ◌++◌, map, filter, find, All, slice_get, Option, Some, None, is_some}
+use Rattle.std.specs.Option.{option_map, option_and_then}
+use Rattle.std.specs.List.{list_any}
+use Rattle.channel_fsm.specs.declared.ChanId.{ChanId}
+use Rattle.channel_fsm.specs.declared.ChanState.{ChanState}
+use Rattle.channel_fsm.specs.declared.ChanState.TheVariants.{Free, Held, Pending, On, Off}
+use Rattle.radio_book.specs.declared.event.Kind.{Kind}
+use Rattle.radio_book.specs.declared.event.Why.{Why}
+use Rattle.radio_book.specs.declared.event.Reference.{Reference}
+use Rattle.radio_book.specs.declared.event.Event.{Event}
+use Rattle.radio_book.specs.declared.event.Event.TheVariants as event
+use Rattle.radio_book.specs.declared.event.Refusal.{Refusal}
+use Rattle.radio_book.specs.declared.event.Reply.{Reply}
+use Rattle.radio_book.specs.State.{State, state_of}
+use Rattle.radio_book.specs.Table.{step, reply_to, same_chan, reference_held}
+use Rattle.radio_book.specs.Run.{run_book}
+use Rattle.radio_book.specs.Others.{call_of, channel_of}
+use Rattle.radio_book.specs.Kinds.{released_by, number_of, refusal_of, is_accepted, busy_channel, busy_reference}
+
+-- LISTS OF STEPS
+
+-- a step of a list: where it stands, counted from 0, what was asked and what was answered
+pub record StepAt : Type 0 where
+  pub place : ℕ
+  pub event : Event
+  pub reply : Reply
+
+-- the steps that the events are from a book, the first of which stands at this place
+abbrev pub steps_from : ℕ → State → List Event → List StepAt
+steps_from n b [] = []
+steps_from n b (e ∷ es) = record { place = n; event = e; reply = reply_to b e } ∷ steps_from (n + 1) (step b e) es
+
+abbrev pub places_of : List StepAt → List ℕ
+places_of steps = map (λ s. s.place) steps
+
+abbrev pub events_of : List StepAt → List Event
+events_of steps = map (λ s. s.event) steps
+
+abbrev pub replies_of : List StepAt → List Reply
+replies_of steps = map (λ s. s.reply) steps
+
+-- a list up to and with the first element that passes the test; all of it where none does
+abbrev pub up_to_first : {X : Type 0} → (X → Bool) → List X → List X
+up_to_first test [] = []
+up_to_first test (x ∷ xs) = x ∷ (if test x then [] else up_to_first test xs)
+
+-- what follows the first element that passes the test; nothing where none does
+abbrev pub after_first : {X : Type 0} → (X → Bool) → List X → List X
+after_first test [] = []
+after_first test (x ∷ xs) = if test x then xs else after_first test xs
+
+-- UNDONE ATTEMPTS
+
+-- an attempt that was undone: whose it is, the channel that it took, if any, and the five parts of the list around it
+pub record Undone : Type 0 where
+  pub call : ℕ
+  pub target : Option ChanId
+  pub head : List StepAt
+  pub opening : StepAt
+  pub between : List StepAt
+  pub undo : StepAt
+  pub tail : List StepAt
+
+-- an attempt of the call opens: a Take names its target, a Require has none
+abbrev pub Opens : ℕ → Option ChanId → Event → Type 0
+Opens c target e =
+    ((k : Kind) × (x : ChanId) × (e ≡ event.Take c k x) × (target ≡ Some x)) ⊎ ((e ≡ event.Require c) × (target ≡ None))
+
+-- the call's attempt is taken back, for whatever reason
+abbrev pub Undoes : ℕ → Event → Type 0
+Undoes c e = (why : Why) × (e ≡ event.Undo c why)
+
+-- with this step the call's attempt is over: it was taken back, the mobile came to its target, or left for another controller
+abbrev pub Ends : ℕ → StepAt → Type 0
+Ends c s = IsTrue (is_accepted s.reply) × (Undoes c s.event ⊎ (s.event ≡ event.Complete c) ⊎ (s.event ≡ event.Left c))
+
+-- the events from this book fall into these parts: an accepted opening, and the first accepted undo after it, before which
+-- nothing else ended the attempt
+pub record IsUndoneAttempt (b : State) (es : List Event) (u : Undone) : Type 0 where
+  pub parts : steps_from 0 b es ≡ u.head ++ (u.opening ∷ (u.between ++ (u.undo ∷ u.tail)))
+  pub opens : Opens u.call u.target u.opening.event
+  pub opening_accepted : IsTrue (is_accepted u.opening.reply)
+  pub undoes : Undoes u.call u.undo.event
+  pub undo_accepted : IsTrue (is_accepted u.undo.reply)
+  pub stays_open : All (λ s. Ends u.call s → ⊥) u.between
+
+-- at this place of the list opens an attempt that was undone
+abbrev pub OpensUndone : State → List Event → ℕ → Type 0
+OpensUndone b es at = (u : Undone) × IsUndoneAttempt b es u × (u.opening.place ≡ at)
+
+-- THE UNDO AND THE RELEASE
+
+-- both are the same call, channel, reference; where one isn't there they aren't
+
+abbrev pub is_call : ℕ → Option ℕ → Bool
+is_call c None = false
+is_call c (Some d) = d == c
+
+abbrev pub is_channel : Option ChanId → Option ChanId → Bool
+is_channel None o = false
+is_channel (Some x) None = false
+is_channel (Some x) (Some y) = same_chan y x
+
+abbrev pub is_reference : Option Reference → Option Reference → Bool
+is_reference None o = false
+is_reference (Some k) None = false
+is_reference (Some k) (Some l) = l.cell == k.cell && l.number == k.number
+
+abbrev pub is_off : ChanState → Bool
+is_off Free = false
+is_off (Held c) = false
+is_off (Pending c) = false
+is_off (On c) = false
+is_off Off = true
+
+-- a channel that is there is off
+abbrev pub is_target_off : State → Option ChanId → Bool
+is_target_off b None = false
+is_target_off b (Some x) = is_off (state_of b x)
+
+-- the book right after the undo
+abbrev pub book_after_undo : State → Undone → State
+book_after_undo b u = run_book b (events_of (u.head ++ (u.opening ∷ (u.between ++ (u.undo ∷ [])))))
+
+-- the undo left the target off, so that its release is awaited
+abbrev pub leaves_off : State → Undone → Bool
+leaves_off b u = is_target_off (book_after_undo b u) u.target
+
+-- the step acknowledges the release of the target
+abbrev pub releases : Option ChanId → StepAt → Bool
+releases target s = is_channel target (released_by s.event)
+
+-- the tail while the release is awaited: up to and with the first acknowledgement of it, or to the end
+abbrev pub awaiting : State → Undone → List StepAt
+awaiting b u = if leaves_off b u then up_to_first (releases u.target) u.tail else []
+
+-- the tail once no release is awaited
+abbrev pub settled_tail : State → Undone → List StepAt
+settled_tail b u = if leaves_off b u then after_first (releases u.target) u.tail else u.tail
+
+-- nothing of the attempt is left: no release was awaited, or it came
+abbrev pub is_settled : State → Undone → Bool
+is_settled b u = not (leaves_off b u) || list_any (releases u.target) u.tail
+
+-- OTHERS
+
+-- the step is a station's on the target
+abbrev pub is_on_target : Option ChanId → StepAt → Bool
+is_on_target target s = is_channel target (channel_of s.event)
+
+-- the step was asked for the call
+abbrev pub is_by_call : ℕ → StepAt → Bool
+is_by_call c s = is_call c (call_of s.event)
+
+-- between opening and undo stays what isn't by the call, and isn't a station's on the target
+abbrev pub others_between : Undone → List StepAt → List StepAt
+others_between u steps = filter (λ s. not (is_by_call u.call s) && not (is_on_target u.target s)) steps
+
+-- while the release is awaited stays what isn't a station's on the target
+abbrev pub others_awaiting : Undone → List StepAt → List StepAt
+others_awaiting u steps = filter (λ s. not (is_on_target u.target s)) steps
+
+-- the steps that stay without the attempt: the whole head, the others of the two stretches above, the whole rest
+abbrev pub others : State → Undone → List StepAt
+others b u = u.head ++ (others_between u u.between ++ (others_awaiting u (awaiting b u) ++ settled_tail b u))
+
+-- HELD REFUSALS
+
+-- the attempt reserves a reference with this step
+abbrev pub reserves : ℕ → StepAt → Bool
+reserves c s = is_by_call c s && is_some (number_of s.event) && is_accepted s.reply
+
+-- the reference that the attempt reserved, in the cell of its target
+abbrev pub reference_reserved : Undone → Option Reference
+reference_reserved u = reference_held u.target (option_and_then (λ (s : StepAt). number_of s.event) (find (reserves u.call) u.between))
+
+-- the refusal comes from this channel, or from this reference
+abbrev pub comes_from : Option ChanId → Option Reference → Option Refusal → Bool
+comes_from target reference None = false
+comes_from target reference (Some why) = is_channel target (busy_channel why) || is_reference reference (busy_reference why)
+
+abbrev pub refused_for : Option ChanId → Option Reference → List StepAt → List StepAt
+refused_for target reference steps = filter (λ s. comes_from target reference (refusal_of s.reply)) steps
+
+-- the others that were refused for what the attempt held: its channel from the opening on, its reference from the step that
+-- reserved it to the undo, and again its channel while the release was awaited
+abbrev pub held_refusals : State → Undone → List StepAt
+held_refusals b u =
+    refused_for u.target None (others_between u (up_to_first (reserves u.call) u.between))
+    ++ (refused_for u.target (reference_reserved u) (others_between u (after_first (reserves u.call) u.between))
+    ++ refused_for u.target None (others_awaiting u (awaiting b u)))
+
+-- where the first of them stands
+abbrev pub first_held : State → Undone → Option ℕ
+first_held b u = option_map (λ (s : StepAt). s.place) (slice_get (held_refusals b u) 0)
