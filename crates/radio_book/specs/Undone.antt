@@ -13,6 +13,7 @@ use Rattle.radio_book.specs.declared.event.Event.{Event}
 use Rattle.radio_book.specs.declared.event.Event.TheVariants as event
 use Rattle.radio_book.specs.declared.event.Refusal.{Refusal}
 use Rattle.radio_book.specs.declared.event.Reply.{Reply}
+use Rattle.radio_book.specs.declared.undone.StepAt.{StepAt}
 use Rattle.radio_book.specs.State.{State, state_of}
 use Rattle.radio_book.specs.Table.{step, reply_to, same_chan, reference_held}
 use Rattle.radio_book.specs.Run.{run_book}
@@ -21,13 +22,7 @@ use Rattle.radio_book.specs.Kinds.{released_by, number_of, refusal_of, is_accept
 
 -- LISTS OF STEPS
 
--- a step of a list: where it stands, counted from 0, what was asked and what was answered
-pub record StepAt : Type 0 where
-  pub place : ℕ
-  pub event : Event
-  pub reply : Reply
-
--- the steps that the events are from a book, the first of which stands at this place
+-- the events from a book as steps, each with its place and its reply; the first stands at this place
 abbrev pub steps_from : ℕ → State → List Event → List StepAt
 steps_from n b [] = []
 steps_from n b (e ∷ es) = record { place = n; event = e; reply = reply_to b e } ∷ steps_from (n + 1) (step b e) es
@@ -53,7 +48,8 @@ after_first test (x ∷ xs) = if test x then xs else after_first test xs
 
 -- UNDONE ATTEMPTS
 
--- an attempt that was undone: whose it is, the channel that it took, if any, and the five parts of the list around it
+-- an attempt that was undone: whose it is, the channel that it took, if any, and the five parts of the list of steps around
+-- it: what came before, its opening, what came between, its undo, what came after
 pub record Undone : Type 0 where
   pub call : ℕ
   pub target : Option ChanId
@@ -62,6 +58,8 @@ pub record Undone : Type 0 where
   pub between : List StepAt
   pub undo : StepAt
   pub tail : List StepAt
+  -- the undo left the target off, so that its release is awaited
+  pub awaited : Bool
 
 -- an attempt of the call opens: a Take names its target, a Require has none
 abbrev pub Opens : ℕ → Option ChanId → Event → Type 0
@@ -76,37 +74,15 @@ Undoes c e = (why : Why) × (e ≡ event.Undo c why)
 abbrev pub Ends : ℕ → StepAt → Type 0
 Ends c s = IsTrue (is_accepted s.reply) × (Undoes c s.event ⊎ (s.event ≡ event.Complete c) ⊎ (s.event ≡ event.Left c))
 
--- the events from this book fall into these parts: an accepted opening, and the first accepted undo after it, before which
--- nothing else ended the attempt
-pub record IsUndoneAttempt (b : State) (es : List Event) (u : Undone) : Type 0 where
-  pub parts : steps_from 0 b es ≡ u.head ++ (u.opening ∷ (u.between ++ (u.undo ∷ u.tail)))
+-- the steps fall into these parts: an accepted opening, and the first accepted undo after it, before which nothing else
+-- ended the attempt
+pub record IsUndoneIn (steps : List StepAt) (u : Undone) : Type 0 where
+  pub parts : steps ≡ u.head ++ (u.opening ∷ (u.between ++ (u.undo ∷ u.tail)))
   pub opens : Opens u.call u.target u.opening.event
   pub opening_accepted : IsTrue (is_accepted u.opening.reply)
+  pub stays_open : All (λ s. Ends u.call s → ⊥) u.between
   pub undoes : Undoes u.call u.undo.event
   pub undo_accepted : IsTrue (is_accepted u.undo.reply)
-  pub stays_open : All (λ s. Ends u.call s → ⊥) u.between
-
--- at this place of the list opens an attempt that was undone
-abbrev pub OpensUndone : State → List Event → ℕ → Type 0
-OpensUndone b es at = (u : Undone) × IsUndoneAttempt b es u × (u.opening.place ≡ at)
-
--- THE UNDO AND THE RELEASE
-
--- both are the same call, channel, reference; where one isn't there they aren't
-
-abbrev pub is_call : ℕ → Option ℕ → Bool
-is_call c None = false
-is_call c (Some d) = d == c
-
-abbrev pub is_channel : Option ChanId → Option ChanId → Bool
-is_channel None o = false
-is_channel (Some x) None = false
-is_channel (Some x) (Some y) = same_chan y x
-
-abbrev pub is_reference : Option Reference → Option Reference → Bool
-is_reference None o = false
-is_reference (Some k) None = false
-is_reference (Some k) (Some l) = l.cell == k.cell && l.number == k.number
 
 abbrev pub is_off : ChanState → Bool
 is_off Free = false
@@ -124,25 +100,50 @@ is_target_off b (Some x) = is_off (state_of b x)
 abbrev pub book_after_undo : State → Undone → State
 book_after_undo b u = run_book b (events_of (u.head ++ (u.opening ∷ (u.between ++ (u.undo ∷ [])))))
 
--- the undo left the target off, so that its release is awaited
-abbrev pub leaves_off : State → Undone → Bool
-leaves_off b u = is_target_off (book_after_undo b u) u.target
+-- among the events from this book this attempt was undone, and the book says whether its channel came back with the undo
+pub record IsUndoneAttempt (b : State) (es : List Event) (u : Undone) : Type 0 where
+  pub among : IsUndoneIn (steps_from 0 b es) u
+  pub awaited : u.awaited ≡ is_target_off (book_after_undo b u) u.target
+
+-- at this place of the list opens an attempt that was undone
+abbrev pub OpensUndone : State → List Event → ℕ → Type 0
+OpensUndone b es at = (u : Undone) × IsUndoneAttempt b es u × (u.opening.place ≡ at)
+
+-- TESTS
+
+-- both are the same call, channel, reference; where one isn't there they aren't
+
+abbrev pub is_call : ℕ → Option ℕ → Bool
+is_call c None = false
+is_call c (Some d) = d == c
+
+abbrev pub is_channel : Option ChanId → Option ChanId → Bool
+is_channel None o = false
+is_channel (Some x) None = false
+is_channel (Some x) (Some y) = same_chan y x
+
+abbrev pub is_reference : Option Reference → Option Reference → Bool
+is_reference None o = false
+is_reference (Some k) None = false
+is_reference (Some k) (Some l) = l.cell == k.cell && l.number == k.number
+
+-- THE RELEASE
 
 -- the step acknowledges the release of the target
 abbrev pub releases : Option ChanId → StepAt → Bool
 releases target s = is_channel target (released_by s.event)
 
 -- the tail while the release is awaited: up to and with the first acknowledgement of it, or to the end
-abbrev pub awaiting : State → Undone → List StepAt
-awaiting b u = if leaves_off b u then up_to_first (releases u.target) u.tail else []
+abbrev pub awaiting : Undone → List StepAt
+awaiting u = if u.awaited then up_to_first (releases u.target) u.tail else []
 
 -- the tail once no release is awaited
-abbrev pub settled_tail : State → Undone → List StepAt
-settled_tail b u = if leaves_off b u then after_first (releases u.target) u.tail else u.tail
+abbrev pub settled_tail : Undone → List StepAt
+settled_tail u = if u.awaited then after_first (releases u.target) u.tail else u.tail
 
 -- nothing of the attempt is left: no release was awaited, or it came
-abbrev pub is_settled : State → Undone → Bool
-is_settled b u = not (leaves_off b u) || list_any (releases u.target) u.tail
+abbrev pub is_settled : Undone → Bool
+is_settled u = not (u.awaited) || list_any (releases u.target) u.tail
 
 -- OTHERS
 
@@ -163,8 +164,8 @@ abbrev pub others_awaiting : Undone → List StepAt → List StepAt
 others_awaiting u steps = filter (λ s. not (is_on_target u.target s)) steps
 
 -- the steps that stay without the attempt: the whole head, the others of the two stretches above, the whole rest
-abbrev pub others : State → Undone → List StepAt
-others b u = u.head ++ (others_between u u.between ++ (others_awaiting u (awaiting b u) ++ settled_tail b u))
+abbrev pub others : Undone → List StepAt
+others u = u.head ++ (others_between u u.between ++ (others_awaiting u (awaiting u) ++ settled_tail u))
 
 -- HELD REFUSALS
 
@@ -186,12 +187,12 @@ refused_for target reference steps = filter (λ s. comes_from target reference (
 
 -- the others that were refused for what the attempt held: its channel from the opening on, its reference from the step that
 -- reserved it to the undo, and again its channel while the release was awaited
-abbrev pub held_refusals : State → Undone → List StepAt
-held_refusals b u =
+abbrev pub held_refusals : Undone → List StepAt
+held_refusals u =
     refused_for u.target None (others_between u (up_to_first (reserves u.call) u.between))
     ++ (refused_for u.target (reference_reserved u) (others_between u (after_first (reserves u.call) u.between))
-    ++ refused_for u.target None (others_awaiting u (awaiting b u)))
+    ++ refused_for u.target None (others_awaiting u (awaiting u)))
 
 -- where the first of them stands
-abbrev pub first_held : State → Undone → Option ℕ
-first_held b u = option_map (λ (s : StepAt). s.place) (slice_get (held_refusals b u) 0)
+abbrev pub first_held : Undone → Option ℕ
+first_held u = option_map (λ (s : StepAt). s.place) (slice_get (held_refusals u) 0)

@@ -10,3 +10,4 @@ pub mod others;
 mod records;
 pub mod run;
 mod tables;
+pub mod undone;
