@@ -1,5 +1,6 @@
 pub mod Each
 pub mod Chains
+pub mod Same
 pub mod SiteFacts
 pub mod Blank
 pub mod Refusals

@@ -1,5 +1,6 @@
 pub mod Views
 pub mod Rules
+pub mod Same
 pub mod Site
 pub mod SiteFile
 pub mod Reading

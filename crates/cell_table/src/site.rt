@@ -1,10 +1,13 @@
 //! The site, and what is looked up in it.
-ghost use Rattle.std.specs.Prelude.{◌≡◌, ◌≢◌, Ok, Err, true, IfOk, IfErr, length, option_map, slice_get};
+ghost use Rattle.std.specs.Prelude.{◌≡◌, ◌≢◌, ◌↔◌, IsTrue, Ok, Err, true, IfOk, IfErr, length, option_map, slice_get};
 ghost use Rattle.std.specs.Result.{is_ok};
 ghost use Rattle.std.specs.List.{position};
 ghost use Rattle.toml.specs.View.{view};
 ghost use Rattle.cell_table.specs.Site.{IsSite, IsWithinLimits, trx_at, identity_at, is_traffic, has_codes, cell_of, index_of};
 ghost use Rattle.cell_table.specs.SiteFile.{site_of, read_site, IsBlankFile};
+ghost use Rattle.std.proofs.Common.{rules};
+ghost use Rattle.std.specs.Cmp.Rules.{comparing};
+ghost use Rattle.cell_table.specs.Same.{same_site};
 
 use crate::checks::broken_rule;
 use crate::fault::SiteFault;
@@ -38,6 +41,25 @@ impl<A: Allocator> Model for Site<A> {
     ghost view = { λ a. a.tables.value };
 
     ghost invariant = { λ a. IsSite a.tables.value };
+}
+
+/// Two sites are equal where every key says the same in both, entry by entry: all that a contract sees of a site.
+/// Where their memory lies doesn't count. Takes no memory.
+impl<A: Allocator> PartialEq for Site<A> {
+    ghost eq = { same_site };
+
+    ghost laws = { Prim.search (comparing, rules) depth 15 };
+
+    fn eq(&self, other: &Site<A>) -> bool
+        ensures value { result ≡ same_site self.now other.now }
+        ensures same { IsTrue result ↔ (self.now ≡ other.now) }
+    {
+        *self.tables == *other.tables
+    }
+}
+
+impl<A: Allocator> Eq for Site<A> {
+    ghost laws = { Prim.search (comparing, rules) depth 15 };
 }
 
 impl<A: Allocator + Copy> Site<A> {

@@ -1,4 +1,9 @@
 //! What is kept of a site: tables of fixed capacity, which take no memory of their own.
+ghost use Rattle.std.specs.Prelude.{◌≡◌, ◌↔◌, IsTrue};
+ghost use Rattle.std.proofs.Common.{rules};
+ghost use Rattle.std.specs.Cmp.Rules.{comparing};
+ghost use Rattle.cell_table.specs.Same.{same_trx, same_cell, same_site};
+
 use arrayvec::ArrayVec;
 use std::marker::Model;
 
@@ -51,6 +56,20 @@ impl Model for Trx {
     ghost view = { λ a. record { arfcn = a.arfcn; tch = a.tch.items } };
 }
 
+impl PartialEq for Trx {
+    ghost eq = { same_trx };
+
+    ghost laws = { Prim.search (comparing, rules) depth 9 };
+
+    fn eq(&self, other: &Trx) -> bool {
+        self.arfcn == other.arfcn && self.tch.as_slice() == other.tch.as_slice()
+    }
+}
+
+impl Eq for Trx {
+    ghost laws = { Prim.search (comparing, rules) depth 9 };
+}
+
 /// An own cell.
 #[derive(Debug, Default, Drop)]
 pub struct Cell {
@@ -73,6 +92,23 @@ impl Model for Cell {
     } };
 }
 
+impl PartialEq for Cell {
+    ghost eq = { same_cell };
+
+    ghost laws = { Prim.search (comparing, rules) depth 9 };
+
+    fn eq(&self, other: &Cell) -> bool {
+        self.identity == other.identity
+            && self.power == other.power
+            && self.ba.as_slice() == other.ba.as_slice()
+            && self.trx.as_slice() == other.trx.as_slice()
+    }
+}
+
+impl Eq for Cell {
+    ghost laws = { Prim.search (comparing, rules) depth 9 };
+}
+
 /// The cells of a site.
 #[derive(Debug, Drop)]
 pub struct Tables {
@@ -91,4 +127,20 @@ impl Model for Tables {
       cells = a.cells.items;
       outside = a.outside.items;
     } };
+}
+
+impl PartialEq for Tables {
+    ghost eq = { same_site };
+
+    ghost laws = { Prim.search (comparing, rules) depth 15 };
+
+    fn eq(&self, other: &Tables) -> bool {
+        self.handover == other.handover
+            && self.cells.as_slice() == other.cells.as_slice()
+            && self.outside.as_slice() == other.outside.as_slice()
+    }
+}
+
+impl Eq for Tables {
+    ghost laws = { Prim.search (comparing, rules) depth 15 };
 }

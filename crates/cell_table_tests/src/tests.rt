@@ -1,3 +1,4 @@
+mod equality;
 mod lookups;
 mod memory;
 mod refusals;
