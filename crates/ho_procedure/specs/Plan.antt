@@ -7,7 +7,7 @@ use Rattle.radio_book.specs.declared.event.Event.{Event}
 use Rattle.radio_book.specs.declared.event.Event.TheVariants.{Take, Reserve}
 use Rattle.radio_book.specs.declared.event.CallRecord.{CallRecord}
 use Rattle.radio_book.specs.declared.event.Reply.{Reply}
-use Rattle.radio_book.specs.declared.event.Reply.TheVariants.{Done, Record, Owned}
+use Rattle.radio_book.specs.declared.event.Reply.TheVariants.{Done, Record, Owned, Refused}
 
 -- a message to the station behind a TRX of a cell, in octets
 pub data Sent : Type 0 where
@@ -30,15 +30,21 @@ messages_then (m ∷ ms) next = Sends m (messages_then ms next)
 -- A plan goes on at one reply, and ends at any other.
 abbrev pub if_done : Plan → Reply → Plan
 if_done next Done = next
-if_done next reply = Ends
+if_done next (Record r s) = Ends
+if_done next (Owned c) = Ends
+if_done next (Refused refusal) = Ends
 
 abbrev pub if_owned : (ℕ → Plan) → Reply → Plan
+if_owned next Done = Ends
+if_owned next (Record r s) = Ends
 if_owned next (Owned c) = next c
-if_owned next reply = Ends
+if_owned next (Refused refusal) = Ends
 
 abbrev pub if_record : (CallRecord → Option ChanState → Plan) → Reply → Plan
+if_record next Done = Ends
 if_record next (Record r s) = next r s
-if_record next reply = Ends
+if_record next (Owned c) = Ends
+if_record next (Refused refusal) = Ends
 
 -- a plan that ends at every reply
 abbrev pub nothing_more : Reply → Plan

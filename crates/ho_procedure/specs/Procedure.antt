@@ -2,7 +2,7 @@
 use Rattle.std.specs.Prelude.{ℕ, Bool, true, false, if◌then◌else◌, not, ◌&&◌, ◌||◌, nat_lt, List, [], ◌∷◌, length, Option, Some, None, is_some}
 use Rattle.channel_fsm.specs.declared.ChanId.{ChanId}
 use Rattle.channel_fsm.specs.declared.ChanState.{ChanState}
-use Rattle.channel_fsm.specs.declared.ChanState.TheVariants.{Held}
+use Rattle.channel_fsm.specs.declared.ChanState.TheVariants.{Free, Held, Pending, On, Off}
 use Rattle.radio_book.specs.declared.event.Kind.TheVariants as kind
 use Rattle.radio_book.specs.declared.event.AttemptKind.{AttemptKind}
 use Rattle.radio_book.specs.declared.event.AttemptKind.TheVariants.{Internal, Incoming, Outgoing}
@@ -17,7 +17,7 @@ use Rattle.radio_book.specs.Sound.{target_in}
 use Rattle.radio_book.specs.Table.{is_target}
 use Rattle.rsl_messages.specs.declared.message.ChanBits.{ChanBits}
 use Rattle.rsl_messages.specs.declared.message.Rsl.{Rsl}
-use Rattle.rsl_messages.specs.declared.message.Rsl.TheVariants.{ChannelActivation, ChannelActivationAck, ChannelActivationNack, RfChannelRelease, RfChannelReleaseAck}
+use Rattle.rsl_messages.specs.declared.message.Rsl.TheVariants.{DataRequest, DataIndication, ChannelActivation, ChannelActivationAck, ChannelActivationNack, ConnectionFailureIndication, HandoverDetection, MeasurementResult, RfChannelRelease, RfChannelReleaseAck}
 use Rattle.rsl_messages.specs.Texts.{canonical_text}
 use Rattle.ho_procedure.specs.declared.exchange.Line.{Line}
 use Rattle.ho_procedure.specs.declared.exchange.Line.TheVariants as line
@@ -87,8 +87,12 @@ target_release (Some a) = if is_switched_on a.stage then release_of a.target els
 
 -- the release of the serving channel, unless it was held: the station knows nothing of a held one
 abbrev pub serving_release : CallRecord → Option ChanState → Release
+serving_release r None = release_of r.serving
+serving_release r (Some Free) = release_of r.serving
 serving_release r (Some (Held c)) = Nothing
-serving_release r s = release_of r.serving
+serving_release r (Some (Pending c)) = release_of r.serving
+serving_release r (Some (On c)) = release_of r.serving
+serving_release r (Some Off) = release_of r.serving
 
 -- An operator opens a call: its channel is activated.
 abbrev pub open_plan : ℕ → ChanId → Plan
@@ -174,4 +178,10 @@ abbrev pub message_plan : {A : Type 0} → ℕ → ℕ → Rsl A → Plan
 message_plan cell trx (ChannelActivationAck channel frame) = confirm_plan (chan_of cell trx channel)
 message_plan cell trx (ChannelActivationNack channel cause) = refuse_plan (chan_of cell trx channel)
 message_plan cell trx (RfChannelReleaseAck channel) = released_plan (chan_of cell trx channel)
-message_plan cell trx message = Ends
+message_plan cell trx (DataRequest channel link layer3) = Ends
+message_plan cell trx (DataIndication channel link layer3) = Ends
+message_plan cell trx (ChannelActivation channel activation mode reference) = Ends
+message_plan cell trx (ConnectionFailureIndication channel cause) = Ends
+message_plan cell trx (HandoverDetection channel delay) = Ends
+message_plan cell trx (MeasurementResult channel number uplink power layer3) = Ends
+message_plan cell trx (RfChannelRelease channel) = Ends

@@ -10,7 +10,7 @@ use Rattle.radio_book.specs.declared.event.Refusal.TheVariants.{NoCall, CallExis
 use Rattle.radio_book.specs.declared.event.Reply.TheVariants.{Done, Record, Refused}
 use Rattle.cell_table.specs.Site.{is_traffic}
 use Rattle.radio_book.specs.State.{State, Change, apply, state_of, record_of}
-use Rattle.radio_book.specs.Table.{Accepts, reply_of, no_change, begin_row, open_row, clear_row, clear_at, cleared_state, look_row}
+use Rattle.radio_book.specs.Table.{Accepts, reply_of, no_change, begin_row, open_row, clear_row, clear_at, left_state, look_row}
 use Rattle.radio_book.proofs.Changes.{Misses, option_apart, record_kept}
 use Rattle.radio_book.proofs.Agreement.{Agrees, refused, as_read, Hides, AgreesWithOthers, requires_free, states_kept, serving_missed}
 
@@ -38,8 +38,8 @@ clear_agrees d removal b sound hides other not_held =
         let missed = serving_missed removal b sound hides d other r is in
         record {
           same = ap (λ entry. Accepts (record { channel = entry; call = Some (d, None); reference = None; timer = None }) Done)
-              (states_kept removal b (λ x s. (x, cleared_state s)) r.serving missed);
-          away = record { channel = option_apart (λ x. (x, cleared_state (state_of b x))) r.serving removal.channel missed; call = other; reference = tt; timer = tt };
+              (states_kept removal b (λ x s. (x, left_state s)) r.serving missed);
+          away = record { channel = option_apart (λ x. (x, left_state (state_of b x))) r.serving removal.channel missed; call = other; reference = tt; timer = tt };
         }
 
     at : (r : CallRecord) → record_of b d ≡ Some r → (o : Option Attempt) → Agrees removal (clear_at d r o (state_of b)) (clear_at d r o (state_of (apply removal b)))

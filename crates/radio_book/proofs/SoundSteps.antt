@@ -28,7 +28,7 @@ use Rattle.cell_table.specs.Site.{SiteView, is_traffic}
 use Rattle.radio_book.specs.Keys.{chan_cmp, reference_cmp}
 use Rattle.radio_book.specs.Maps.{Entry, put}
 use Rattle.radio_book.specs.State.{State, Change, apply, or_free, state_of, record_of, empty_book}
-use Rattle.radio_book.specs.Table.{owner, step, book_after, with_state, without_state, with_record, begin_row, cleared_state, clear_row, clear_at, look_row, moved_entry, confirm_row, refuse_row, released_row, taking_change, take_from, take_internal, take_row, reference_at, reference_held, reserve_number, reserve_at, reserve_by, reserve_row, activate_at, activate_by, activate_row, left_state, resting_record, undo_change, undo_attempt, undo_row, is_armed, Refuses}
+use Rattle.radio_book.specs.Table.{owner, step, book_after, with_state, without_state, with_record, begin_row, clear_row, clear_at, look_row, moved_entry, confirm_row, refuse_row, released_row, taking_change, take_from, take_internal, take_row, reference_at, reference_held, reserve_number, reserve_at, reserve_by, reserve_row, activate_at, activate_by, activate_row, left_state, resting_record, undo_change, undo_attempt, undo_row, is_armed, Refuses}
 use Rattle.radio_book.specs.Sound.{IsSound, Uses, IsStageOf, HasTarget, HasServing, armed_in}
 use Rattle.radio_book.specs.Stages.{stage_row}
 use Rattle.radio_book.specs.Run.{run_book, RunsAreSound}
@@ -73,34 +73,36 @@ opened b sound c x new traffic free = concerned_sound b sound (changes (with_sta
 pub sound_open : (b : State) → IsSound b → (c : ℕ) (x : ChanId) → IsSound (step b (event.Open c x))
 sound_open b sound c x = begin_sound b sound c x (rests x) (Pending c) (opened b sound c x) (record_of b c) (is_traffic b.site x) (state_of b x) refl refl refl
 
+-- what is left of a channel that is used no more
+
+left_unowned : (s : ChanState) (d : ℕ) → owner (or_free (left_state s)) ≡ Some d → ⊥
+left_unowned Free d h = cc
+left_unowned (Held c) d h = cc
+left_unowned (Pending c) d h = cc
+left_unowned (On c) d h = cc
+left_unowned Off d h = cc
+
+left_not_free : (s z : ChanState) → left_state s ≡ Some z → z ≢ Free
+left_not_free Free z h f = cc
+left_not_free (Held c) z h f = cc
+left_not_free (Pending c) z h f = cc
+left_not_free (On c) z h f = cc
+left_not_free Off z h f = cc
+
 -- Clear
-
-cleared_unowned : (s : ChanState) (d : ℕ) → owner (or_free (cleared_state s)) ≡ Some d → ⊥
-cleared_unowned Free d h = cc
-cleared_unowned (Held c) d h = cc
-cleared_unowned (Pending c) d h = cc
-cleared_unowned (On c) d h = cc
-cleared_unowned Off d h = cc
-
-cleared_not_free : (s z : ChanState) → cleared_state s ≡ Some z → z ≢ Free
-cleared_not_free Free z h f = cc
-cleared_not_free (Held c) z h f = cc
-cleared_not_free (Pending c) z h f = cc
-cleared_not_free (On c) z h f = cc
-cleared_not_free Off z h f = cc
 
 clear_sound : (b : State) → IsSound b → (c : ℕ) (s : Option ChanId) (o : Option Attempt) → record_of b c ≡ Some (record { serving = s; attempt = o }) → IsSound (book_after (clear_at c (record { serving = s; attempt = o }) o (state_of b)) b)
 clear_sound b sound c s (Some a) e = sound
 clear_sound b sound c None None e = let bad = sound.serving_at_rest c (record { serving = None; attempt = None }) e refl in cc
 clear_sound b sound c (Some x) None e =
     let owned : owner (state_of b x) ≡ Some c = sound.serving_is_owned c _ x e refl in
-    concerned_sound b sound (changes (Some (x, cleared_state (state_of b x))) (Some (c, None)) None) c (Some (rests x)) None (record {
+    concerned_sound b sound (changes (Some (x, left_state (state_of b x))) (Some (c, None)) None) c (Some (rests x)) None (record {
       before = e;
       after = record_same b.calls c None;
       call = refl;
       channel_was = λ d h. one_owner (state_of b x) c d owned h;
-      channel_is = λ d h. absurd (cleared_unowned (state_of b x) d h);
-      entry = λ z h. (owned_traffic b sound x c owned, cleared_not_free (state_of b x) z h);
+      channel_is = λ d h. absurd (left_unowned (state_of b x) d h);
+      entry = λ z h. (owned_traffic b sound x c owned, left_not_free (state_of b x) z h);
       channels = λ y t u. elim u [ inl h ↦ t (sym (same_some x y h)) | inr h ↦ cc ];
       reference_was = tt;
       reference_is = tt;
@@ -415,20 +417,6 @@ pub sound_activate : (b : State) → IsSound b → (c : ℕ) → IsSound (step b
 sound_activate b sound c = activate_row_sound b sound c (record_of b c) refl
 
 -- Undo
-
-left_unowned : (s : ChanState) (d : ℕ) → owner (or_free (left_state s)) ≡ Some d → ⊥
-left_unowned Free d h = cc
-left_unowned (Held c) d h = cc
-left_unowned (Pending c) d h = cc
-left_unowned (On c) d h = cc
-left_unowned Off d h = cc
-
-left_not_free : (s z : ChanState) → left_state s ≡ Some z → z ≢ Free
-left_not_free Free z h f = cc
-left_not_free (Held c) z h f = cc
-left_not_free (Pending c) z h f = cc
-left_not_free (On c) z h f = cc
-left_not_free Off z h f = cc
 
 rests_on : (c : ℕ) (k : AttemptKind) (s o : Option ChanId) (look : ChanId → ChanState) (g : Stage) (n : Option ℕ) → HasServing c k s look → (y : ChanId) → s ≡ Some y → UsedBy (resting_record k (attempting s k g o n)) y
 rests_on c Internal s o look g n during y h = inl h

@@ -1,9 +1,10 @@
 -- What a choice of a channel (TS 48.058 clause 4) or of a Handover Reference (TS 44.018 clause 10.5.2.15) allows.
-use Rattle.std.specs.Prelude.{◌≡◌, ℕ, ◌<◌, Bool, true, false, ◌&&◌, List, [], ◌∷◌, count_by, flat_map, map as map_list, Option, Some, None}
+use Rattle.std.specs.Prelude.{◌≡◌, ℕ, ◌<◌, Bool, true, false, ◌&&◌, List, count_by, flat_map, map as map_list, Option, Some, None}
+use Rattle.std.specs.List.{range_with_len}
 use Rattle.std.specs.FinMap as map
 use Rattle.channel_fsm.specs.declared.ChanId.{ChanId}
 use Rattle.channel_fsm.specs.declared.ChanState.{ChanState}
-use Rattle.channel_fsm.specs.declared.ChanState.TheVariants.{Free}
+use Rattle.channel_fsm.specs.declared.ChanState.TheVariants.{Free, Held, Pending, On, Off}
 use Rattle.radio_book.specs.declared.event.Kind.{Kind}
 use Rattle.radio_book.specs.declared.event.Stage.{Stage}
 use Rattle.radio_book.specs.declared.event.Stage.TheVariants.{Taken, Reserved, Sent, Refused, Confirmed, Commanded, Detected, Required, Ordered}
@@ -13,6 +14,17 @@ use Rattle.radio_book.specs.declared.event.Event.{Event}
 use Rattle.radio_book.specs.declared.event.Event.TheVariants as event
 use Rattle.cell_table.specs.Site.{is_traffic}
 use Rattle.radio_book.specs.State.{State, state_of, record_of}
+
+-- the most TRX of a cell, and the timeslots of a TRX (TS 45.002 clause 4.3.2)
+abbrev pub most_trx : ℕ
+most_trx = 4
+
+abbrev pub timeslots_of_trx : ℕ
+timeslots_of_trx = 8
+
+-- how many numbers a cell has for Handover References: one octet's (TS 44.018 clause 10.5.2.15)
+abbrev pub reference_numbers : ℕ
+reference_numbers = 256
 
 -- what can be chosen in a cell: a channel in the state Free which the site names for traffic there
 pub record IsFreeIn (b : State) (cell : ℕ) (x : ChanId) : Type 0 where
@@ -27,9 +39,9 @@ NoneFree b cell = (x : ChanId) → IsFreeIn b cell x → ⊥
 abbrev pub TakesFree : State → ℕ → Kind → ℕ → Event → Type 0
 TakesFree b c kind cell e = (x : ChanId) × IsFreeIn b cell x × (e ≡ event.Take c kind x)
 
--- a number of one octet that, with the cell, is the reference of no call
+-- a number that, with the cell, is the reference of no call
 pub record IsNumberFree (b : State) (cell number : ℕ) : Type 0 where
-  pub range : number < 256
+  pub range : number < reference_numbers
   pub not_in_use : map.get b.references (record { cell = cell; number = number }) ≡ None
 
 -- the channel of an attempt that has taken it and reserved no reference
@@ -63,17 +75,18 @@ ReservesFree b c e = (number : ℕ) × MayReserve b (taken_channel (record_of b 
 
 abbrev pub is_free : ChanState → Bool
 is_free Free = true
-is_free s = false
+is_free (Held c) = false
+is_free (Pending c) = false
+is_free (On c) = false
+is_free Off = false
 
 abbrev pub is_free_traffic : State → ChanId → Bool
 is_free_traffic b x = is_traffic b.site x && is_free (state_of b x)
 
--- every channel that a cell can have: at most four TRX, of eight timeslots each (TS 45.002 clause 4.3.2), by TRX, then
--- timeslot
+-- every channel that a cell can have, by TRX, then timeslot
 unfoldable pub channels_of : ℕ → List ChanId
 channels_of cell =
-    flat_map (λ trx. map_list (λ tn. record { cell = cell; trx = trx; tn = tn }) (0 ∷ 1 ∷ 2 ∷ 3 ∷ 4 ∷ 5 ∷ 6 ∷ 7 ∷ []))
-    (0 ∷ 1 ∷ 2 ∷ 3 ∷ [])
+    flat_map (λ trx. map_list (λ tn. record { cell = cell; trx = trx; tn = tn }) (range_with_len 0 timeslots_of_trx)) (range_with_len 0 most_trx)
 
 -- how many channels can be chosen in a cell
 abbrev pub free_count : State → ℕ → ℕ

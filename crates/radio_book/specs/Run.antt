@@ -1,12 +1,9 @@
 -- Runs: lists of events from a book. Ours, of no standard.
-use Rattle.std.specs.Prelude.{◌≡◌, ◌↔◌, ◌⊎◌, List, [], ◌∷◌, map, Some}
-use Rattle.channel_fsm.specs.declared.ChanId.{ChanId}
-use Rattle.channel_fsm.specs.declared.ChanEvent.{ChanEvent}
-use Rattle.channel_fsm.specs.Table.{next_state}
+use Rattle.std.specs.Prelude.{◌≡◌, ◌↔◌, List, [], ◌∷◌, map}
 use Rattle.radio_book.specs.declared.event.Event.{Event}
 use Rattle.radio_book.specs.declared.event.Reply.{Reply}
 use Rattle.cell_table.specs.Site.{SiteView}
-use Rattle.radio_book.specs.State.{State, empty_book, state_of}
+use Rattle.radio_book.specs.State.{State, empty_book}
 use Rattle.radio_book.specs.Table.{step, reply_to}
 use Rattle.radio_book.specs.Sound.{IsSound}
 
@@ -39,9 +36,3 @@ LeadsIsRun =
     (b : State) (steps : List (Event × Reply)) (b' : State) →
     Leads b steps b' ↔
     (b' ≡ run_book b (map (λ s. s.0) steps)) × (map (λ s. s.1) steps ≡ run_replies b (map (λ s. s.0) steps))
-
--- an event leaves a channel in its state, or the channel takes a step of its own table
-abbrev pub ChannelsTakeSteps : Type 0
-ChannelsTakeSteps =
-    (b : State) (e : Event) (x : ChanId) → IsSound b →
-    (state_of (step b e) x ≡ state_of b x) ⊎ ((f : ChanEvent) × (next_state (state_of b x) f ≡ Some (state_of (step b e) x)))

@@ -78,27 +78,37 @@ at_stage r a s = with_attempt r (record a { stage = s })
 abbrev pub record_reply : CallRecord → (ChanId → ChanState) → Reply
 record_reply r states = Record r (option_map states r.serving)
 
+-- what is done on a channel that has to be free, by the state that it is in
+abbrev pub on_free : ChanId → Change → ChanState → Outcome
+on_free x change Free = Accepts change Done
+on_free x change (Held d) = Refuses (ChannelBusy x)
+on_free x change (Pending d) = Refuses (ChannelBusy x)
+on_free x change (On d) = Refuses (ChannelBusy x)
+on_free x change Off = Refuses (ChannelBusy x)
+
 -- a call begins with this record on a free traffic channel, which comes to this state
 abbrev pub begin_row : ℕ → ChanId → CallRecord → ChanState → Option CallRecord → Bool → ChanState → Outcome
 begin_row c x r s (Some old) traffic state = Refuses CallExists
 begin_row c x r s None false state = Refuses NoChannel
-begin_row c x r s None true Free = Accepts (record no_change { channel = with_state x s; call = with_record c r }) Done
-begin_row c x r s None true busy = Refuses (ChannelBusy x)
+begin_row c x r s None true state = on_free x (record no_change { channel = with_state x s; call = with_record c r }) state
 
 -- Open: a call begins on its serving channel, whose CHANNEL ACTIVATION is sent (TS 48.058 clause 8.4.1)
 abbrev pub open_row : ℕ → ChanId → Option CallRecord → Bool → ChanState → Outcome
 open_row c x found traffic state = begin_row c x (record { serving = Some x; attempt = None }) (Pending c) found traffic state
 
--- what the end of a call leaves of its serving channel: a held one is free, to the others RF CHANNEL RELEASE is sent
--- (TS 48.058 clause 8.4.14)
-abbrev pub cleared_state : ChanState → Option ChanState
-cleared_state (Held c) = None
-cleared_state s = Some Off
+-- What is left of a channel that is used no more: a held one is free, to one that may be active RF CHANNEL RELEASE is sent
+-- (TS 48.058 clause 8.4.14). A free channel stays free, and one that is off stays off.
+abbrev pub left_state : ChanState → Option ChanState
+left_state Free = None
+left_state (Held c) = None
+left_state (Pending c) = Some Off
+left_state (On c) = Some Off
+left_state Off = Some Off
 
 abbrev pub clear_at : ℕ → CallRecord → Option Attempt → (ChanId → ChanState) → Outcome
 clear_at c r (Some a) states = Refuses WrongPhase
 clear_at c r None states =
-    Accepts (record no_change { channel = option_map (λ x. (x, cleared_state (states x))) r.serving; call = Some (c, None) }) Done
+    Accepts (record no_change { channel = option_map (λ x. (x, left_state (states x))) r.serving; call = Some (c, None) }) Done
 
 -- Clear: a call without an attempt ends
 abbrev pub clear_row : ℕ → Option CallRecord → (ChanId → ChanState) → Outcome
@@ -122,9 +132,11 @@ taking_change c x r = record no_change { channel = with_state x (Held c); call =
 abbrev pub take_from : ℕ → ChanId → CallRecord → ChanState → Bool → Bool → ChanState → Outcome
 take_from c x r (On d) false same requested = Refuses NoChannel
 take_from c x r (On d) true true requested = Refuses SameCell
-take_from c x r (On d) true false Free = Accepts (taking_change c x (with_attempt r (taken_attempt Internal x))) Done
-take_from c x r (On d) true false busy = Refuses (ChannelBusy x)
-take_from c x r serving traffic same requested = Refuses WrongPhase
+take_from c x r (On d) true false requested = on_free x (taking_change c x (with_attempt r (taken_attempt Internal x))) requested
+take_from c x r Free traffic same requested = Refuses WrongPhase
+take_from c x r (Held d) traffic same requested = Refuses WrongPhase
+take_from c x r (Pending d) traffic same requested = Refuses WrongPhase
+take_from c x r Off traffic same requested = Refuses WrongPhase
 
 abbrev pub take_internal : ℕ → ChanId → CallRecord → Option Attempt → Option ChanId → (ChanId → ChanState) → Bool → Outcome
 take_internal c x r (Some a) serving states traffic = Refuses WrongPhase
@@ -148,8 +160,9 @@ reference_at x n = record { cell = x.cell; number = n }
 
 -- the reference that an attempt has, in the cell of its target
 abbrev pub reference_held : Option ChanId → Option ℕ → Option Reference
+reference_held None number = None
+reference_held (Some t) None = None
 reference_held (Some t) (Some n) = Some (reference_at t n)
-reference_held target number = None
 
 -- the record, its attempt with a reference
 abbrev pub reserved_record : CallRecord → Attempt → ℕ → CallRecord
@@ -317,13 +330,6 @@ abbrev pub left_row : ℕ → Option CallRecord → Outcome
 left_row c None = Refuses NoCall
 left_row c (Some r) = left_by c r r.attempt
 
--- what an undo leaves of the target: to a channel that may be active RF CHANNEL RELEASE is sent (TS 48.058 clause 8.4.14),
--- any other is free
-abbrev pub left_state : ChanState → Option ChanState
-left_state (Pending c) = Some Off
-left_state (On c) = Some Off
-left_state s = None
-
 -- what an undo leaves of the record: a call of this controller rests on its serving channel, another is forgotten
 abbrev pub resting_record : AttemptKind → CallRecord → Option CallRecord
 resting_record Internal r = Some (record r { attempt = None })
@@ -345,9 +351,14 @@ undo_attempt c refusal r (Some a) states armed = Accepts (undo_change c r a stat
 
 abbrev pub is_same_timer : Timer → Timer → Bool
 is_same_timer T3103 T3103 = true
+is_same_timer T3103 T7 = false
+is_same_timer T3103 T8 = false
+is_same_timer T7 T3103 = false
 is_same_timer T7 T7 = true
+is_same_timer T7 T8 = false
+is_same_timer T8 T3103 = false
+is_same_timer T8 T7 = false
 is_same_timer T8 T8 = true
-is_same_timer m n = false
 
 abbrev pub is_armed : Timer → Option Timer → Bool
 is_armed m None = false
@@ -381,13 +392,19 @@ moved_entry x s c (Some r) = attempt_entry x s c r r.attempt
 abbrev pub confirm_row : ChanId → ChanState → (ℕ → Option CallRecord) → Outcome
 confirm_row x (Pending c) find =
     Accepts (record no_change { channel = with_state x (On c); call = moved_entry x stage.Confirmed c (find c) }) (Owned c)
-confirm_row x s find = Refuses (Unexpected x)
+confirm_row x Free find = Refuses (Unexpected x)
+confirm_row x (Held c) find = Refuses (Unexpected x)
+confirm_row x (On c) find = Refuses (Unexpected x)
+confirm_row x Off find = Refuses (Unexpected x)
 
 -- Refuse: a station refused to activate a channel, by CHANNEL ACTIVATION NEGATIVE ACKNOWLEDGE (TS 48.058 clause 8.4.3)
 abbrev pub refuse_row : ChanId → ChanState → (ℕ → Option CallRecord) → Outcome
 refuse_row x (Pending c) find =
     Accepts (record no_change { channel = with_state x (Held c); call = moved_entry x stage.Refused c (find c) }) (Owned c)
-refuse_row x s find = Refuses (Unexpected x)
+refuse_row x Free find = Refuses (Unexpected x)
+refuse_row x (Held c) find = Refuses (Unexpected x)
+refuse_row x (On c) find = Refuses (Unexpected x)
+refuse_row x Off find = Refuses (Unexpected x)
 
 abbrev pub detect_at : ChanId → ℕ → CallRecord → Attempt → Stage → Outcome
 detect_at x c r a stage.Commanded = Accepts (record no_change { call = with_record c (at_stage r a stage.Detected) }) (Owned c)
@@ -424,7 +441,10 @@ owner_row x (Some c) = Accepts no_change (Owned c)
 -- Released: a station released a channel, by RF CHANNEL RELEASE ACKNOWLEDGE (TS 48.058 clause 8.4.19)
 abbrev pub released_row : ChanId → ChanState → Outcome
 released_row x Off = Accepts (record no_change { channel = without_state x }) Done
-released_row x s = Refuses (Unexpected x)
+released_row x Free = Refuses (Unexpected x)
+released_row x (Held c) = Refuses (Unexpected x)
+released_row x (Pending c) = Refuses (Unexpected x)
+released_row x (On c) = Refuses (Unexpected x)
 
 -- the row of each event
 abbrev pub row : State → Event → Outcome

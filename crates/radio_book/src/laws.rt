@@ -1,5 +1,6 @@
 //! Laws of the table, of every book and every event. Ours, of no standard.
-ghost use Rattle.radio_book.specs.Run.{StepsKeepSound, RunsAreSound, ChannelsTakeSteps, LeadsIsRun};
+ghost use Rattle.radio_book.specs.Run.{StepsKeepSound, RunsAreSound, LeadsIsRun};
+ghost use Rattle.radio_book.specs.Channels.{ChannelsTakeSteps};
 ghost use Rattle.radio_book.specs.Journal.{InversesUndo};
 
 /// Every event leads from a sound book to a sound one.
@@ -22,7 +23,8 @@ pub fn leads_is_run()
     ensures run { LeadsIsRun }
 {}
 
-/// Whatever changes the state of a channel is a step of the channel.
+/// Whatever changes the state of a channel is a step of the channel: one that the event may make it take, and of the one
+/// channel that the event may change.
 pub fn channels_take_steps()
     ensures steps { ChannelsTakeSteps }
 {}

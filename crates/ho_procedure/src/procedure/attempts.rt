@@ -46,7 +46,7 @@ pub(super) fn start<A: Allocator + Copy, B: Allocator + Copy>(
     };
     match ask(book, handled, Event::Activate(call))? {
         Reply::Done => send_target_activation(alloc, handled, target, number),
-        _ => Ok(()),
+        Reply::Record(..) | Reply::Owned(_) | Reply::Refused(_) => Ok(()),
     }
 }
 
@@ -67,6 +67,6 @@ pub(super) fn undo<A: Allocator + Copy, B: Allocator + Copy>(
 {
     match ask(book, handled, Event::Undo(call, Why::Asked))? {
         Reply::Record(record, _) => release(alloc, handled, target_release(record.attempt)),
-        _ => Ok(()),
+        Reply::Done | Reply::Owned(_) | Reply::Refused(_) => Ok(()),
     }
 }

@@ -31,7 +31,7 @@ pub(super) fn open<A: Allocator + Copy, B: Allocator + Copy>(
 {
     match ask(book, handled, Event::Open(call, chan))? {
         Reply::Done if is_nameable(chan) => send_activation(alloc, handled, chan),
-        _ => Ok(()),
+        Reply::Done | Reply::Record(..) | Reply::Owned(_) | Reply::Refused(_) => Ok(()),
     }
 }
 
@@ -50,7 +50,7 @@ pub(super) fn release<A: Allocator + Copy>(
 {
     match release {
         Release::Channel(chan) if is_nameable(chan) => send_release(alloc, handled, chan),
-        _ => Ok(()),
+        Release::Channel(_) | Release::Nothing | Release::Unknown => Ok(()),
     }
 }
 
@@ -113,6 +113,6 @@ pub(super) fn clear<A: Allocator + Copy, B: Allocator + Copy>(
     }
     match ask(book, handled, Event::Clear(call))? {
         Reply::Done => release(alloc, handled, serving_release(shown, state)),
-        _ => Ok(()),
+        Reply::Record(..) | Reply::Owned(_) | Reply::Refused(_) => Ok(()),
     }
 }

@@ -62,7 +62,7 @@ pub(super) fn target_release(attempt: Option<Attempt>) -> Release
 {
     match attempt {
         Some(attempt) if is_switched_on(attempt.stage) => release_of(attempt.target),
-        _ => Release::Nothing,
+        Some(_) | None => Release::Nothing,
     }
 }
 
@@ -72,6 +72,10 @@ pub(super) fn serving_release(shown: CallRecord, state: Option<ChanState>) -> Re
 {
     match state {
         Some(ChanState::Held(_)) => Release::Nothing,
-        _ => release_of(shown.serving),
+        Some(ChanState::Free)
+        | Some(ChanState::Pending(_))
+        | Some(ChanState::On(_))
+        | Some(ChanState::Off)
+        | None => release_of(shown.serving),
     }
 }

@@ -59,7 +59,13 @@ pub(super) fn handle_message<A: Allocator + Copy, B: Allocator + Copy>(
             handled,
             chan_of(cell, trx, *channel),
         ),
-        _ => Ok(()),
+        Rsl::DataRequest { .. }
+        | Rsl::DataIndication { .. }
+        | Rsl::ChannelActivation { .. }
+        | Rsl::ConnectionFailureIndication { .. }
+        | Rsl::HandoverDetection { .. }
+        | Rsl::MeasurementResult { .. }
+        | Rsl::RfChannelRelease { .. } => Ok(()),
     }
 }
 
@@ -114,7 +120,7 @@ fn refuse<A: Allocator + Copy, B: Allocator + Copy>(
         Reply::Record(record, _) if is_target_of(chan, record) => {
             ask(book, handled, Event::Undo(call, Why::Asked))?;
         }
-        _ => {}
+        Reply::Record(..) | Reply::Done | Reply::Owned(_) | Reply::Refused(_) => {}
     }
     Ok(())
 }

@@ -70,10 +70,10 @@ pub(super) fn take<A: Allocator + Copy, B: Allocator + Copy>(
         return Ok(None);
     };
     handled.events.push_reserved((event, reply));
-    match event {
-        Event::Take(_, _, chan) => Ok(Some((chan, reply))),
-        _ => unreachable!(),
-    }
+    let Event::Take(_, _, chan) = event else {
+        unreachable!()
+    };
+    Ok(Some((chan, reply)))
 }
 
 /// Reserves some handover reference for a call: its number and the reply.
@@ -97,10 +97,10 @@ pub(super) fn reserve<A: Allocator + Copy, B: Allocator + Copy>(
     handled.events.reserve(1)?;
     let (event, reply) = book.reserve_any(call)?;
     handled.events.push_reserved((event, reply));
-    match event {
-        Event::Reserve(_, number) => Ok((number, reply)),
-        _ => unreachable!(),
-    }
+    let Event::Reserve(_, number) = event else {
+        unreachable!()
+    };
+    Ok((number, reply))
 }
 
 /// Sends a message about a channel to the station behind the channel's TRX.

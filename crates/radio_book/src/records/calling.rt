@@ -8,7 +8,7 @@ ghost use Rattle.radio_book.specs.State.{apply, state_of, record_of};
 ghost use Rattle.channel_fsm.specs.declared.ChanState.TheVariants as state;
 ghost use Rattle.radio_book.specs.Channels.{state_after};
 ghost use Rattle.radio_book.specs.Sound.{IsSound};
-ghost use Rattle.radio_book.specs.Table.{owner, step, reply_to, reply_of, book_after, begin_row, row, NeedsRoom, no_change, with_state, with_record, cleared_state};
+ghost use Rattle.radio_book.specs.Table.{owner, step, reply_to, reply_of, book_after, begin_row, row, NeedsRoom, no_change, with_state, with_record, left_state};
 
 use crate::entry::CallEntry;
 use crate::event::{Refusal, Reply};
@@ -112,7 +112,7 @@ impl<A: Allocator + Copy> Records<A> {
     fn release_serving(&mut self, call: u16, x: ChanId)
         requires { owner (state_of self.old x) ≡ Some call }
         ensures { self.new ≡ apply (record no_change
-            { channel = Some (x, cleared_state (state_of self.old x)) }) self.old }
+            { channel = Some (x, left_state (state_of self.old x)) }) self.old }
     {
         match self.state_of(x) {
             ChanState::Held(_) => self.channels.step(x, ChanEvent::Drop),
