@@ -5,51 +5,14 @@ mod refusals;
 mod sizes;
 
 use cell_table::{Key, Site, SiteFault, What};
+use sample_sites::THREE_CHANNELS as SITE;
 use std::alloc::{AllocError, Global};
 use std::process::Abort;
 use std::test::Fail;
 
-/// Two cells and one of another controller, with every key that a site file has.
-const SITE: &str = "[handover]
-window = 2
-margin = 3
-minimum = 10
-[[cell]]
-lac = 23
-ci = 100
-bcch = 60
-ncc = 1
-bcc = 1
-power = 5
-ba = [62, 70, 871]
-trx = [{ arfcn = 60, tch = [2, 3] }]
-[[cell]]
-lac = 23
-ci = 101
-bcch = 871
-ncc = 2
-bcc = 5
-power = 5
-ba = [60]
-trx = [{ arfcn = 871, tch = [] }, { arfcn = 875, tch = [3] }]
-[[outside]]
-lac = 23
-ci = 102
-bcch = 62
-ncc = 3
-bcc = 0
-";
-
 /// The site file with the first place of a text replaced.
 fn changed(rt: &impl Abort, alloc: Global, old: &str, new: &str) -> Result<String, AllocError> {
-    let mut text = String::new(alloc);
-    assert!(rt; SITE.contains(old), "{old}");
-    if let Some((before, after)) = SITE.split_once(old) {
-        text.push_str(before)?;
-        text.push_str(new)?;
-        text.push_str(after)?;
-    }
-    Ok(text)
+    Ok(sample_sites::changed(alloc, SITE, old, new)?.expect(rt, old))
 }
 
 /// How a text is read: nothing where it describes a site.

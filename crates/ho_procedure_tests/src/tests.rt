@@ -13,53 +13,11 @@ use radio_book::event::{
     Attempt, AttemptKind, CallRecord, Event, Kind, Refusal, Reply, Stage, Why,
 };
 use rsl_messages::{Octets, RslFault};
+use sample_sites::{HOME, OTHER, SEVENTEEN_CHANNELS, TARGET};
 use std::alloc::{AllocError, Allocator, Global};
 use std::process::Abort;
 use std::sync::Arc;
 use std::test::Fail;
-
-// Cell 0 has timeslots 2 and 3 of TRX 0 and fourteen channels more, cell 1 has timeslot 3 of TRX 1.
-const SITE: &str = "[handover]
-window = 2
-margin = 3
-minimum = 10
-[[cell]]
-lac = 23
-ci = 100
-bcch = 60
-ncc = 1
-bcc = 1
-power = 5
-ba = [871]
-trx = [{ arfcn = 60, tch = [2, 3] }, { arfcn = 61, tch = [1, 2, 3, 4, 5, 6, 7] }, { arfcn = 62, tch = [1, 2, 3, 4, 5, 6, 7] }]
-[[cell]]
-lac = 23
-ci = 101
-bcch = 871
-ncc = 2
-bcc = 5
-power = 5
-ba = [60]
-trx = [{ arfcn = 871, tch = [] }, { arfcn = 875, tch = [3] }]
-";
-
-const FIRST: ChanId = ChanId {
-    cell: 0,
-    trx: 0,
-    tn: 2,
-};
-
-const SERVING: ChanId = ChanId {
-    cell: 0,
-    trx: 0,
-    tn: 3,
-};
-
-const TARGET: ChanId = ChanId {
-    cell: 1,
-    trx: 1,
-    tn: 3,
-};
 
 /// CHANNEL ACTIVATION of timeslot 2 for an immediate assignment.
 const ACTIVATES_2: &[u8] = &[
@@ -115,7 +73,7 @@ struct Row {
 /// The record of call 1 on its serving channel.
 const STEADY: Reply = Record(
     CallRecord {
-        serving: Some(SERVING),
+        serving: Some(HOME),
         attempt: None,
     },
     Some(ChanState::On(1)),
@@ -124,7 +82,7 @@ const STEADY: Reply = Record(
 /// The record of call 1 whose target's activation was sent.
 const SENT: Reply = Record(
     CallRecord {
-        serving: Some(SERVING),
+        serving: Some(HOME),
         attempt: Some(Attempt {
             kind: AttemptKind::Internal,
             stage: Stage::Sent,
@@ -138,7 +96,7 @@ const SENT: Reply = Record(
 /// The record of call 1 whose target was confirmed.
 const CONFIRMED: Reply = Record(
     CallRecord {
-        serving: Some(SERVING),
+        serving: Some(HOME),
         attempt: Some(Attempt {
             kind: AttemptKind::Internal,
             stage: Stage::Confirmed,
@@ -152,7 +110,7 @@ const CONFIRMED: Reply = Record(
 /// The record of call 1 whose target was refused.
 const TARGET_REFUSED: Reply = Record(
     CallRecord {
-        serving: Some(SERVING),
+        serving: Some(HOME),
         attempt: Some(Attempt {
             kind: AttemptKind::Internal,
             stage: Stage::Refused,
@@ -166,7 +124,7 @@ const TARGET_REFUSED: Reply = Record(
 /// The record of call 1 whose serving channel was not confirmed.
 const PENDING: Reply = Record(
     CallRecord {
-        serving: Some(SERVING),
+        serving: Some(HOME),
         attempt: None,
     },
     Some(ChanState::Pending(1)),
@@ -217,7 +175,7 @@ const COMING_REFUSED: Reply = Record(
 /// The record of call 2 on a channel that was refused.
 const HELD: Reply = Record(
     CallRecord {
-        serving: Some(FIRST),
+        serving: Some(OTHER),
         attempt: None,
     },
     Some(ChanState::Held(2)),
@@ -227,9 +185,9 @@ const HELD: Reply = Record(
 const OPENS: Row = Row {
     given: Operator(Line::Open {
         call: 1,
-        chan: SERVING,
+        chan: HOME,
     }),
-    events: &[(Open(1, SERVING), Done)],
+    events: &[(Open(1, HOME), Done)],
     none_free: None,
     out: &[(0, 0, ACTIVATES_3)],
 };
@@ -239,7 +197,7 @@ const BEGINS: &[Row] = &[
     OPENS,
     Row {
         given: Abis(0, 0, ACTIVATED_3),
-        events: &[(Confirm(SERVING), Owned(1)), (Look(1), STEADY)],
+        events: &[(Confirm(HOME), Owned(1)), (Look(1), STEADY)],
         none_free: None,
         out: &[],
     },
@@ -270,7 +228,7 @@ const ENDS: &[Row] = &[
     CLEARS,
     Row {
         given: Abis(0, 0, RELEASED_3),
-        events: &[(Released(SERVING), Done)],
+        events: &[(Released(HOME), Done)],
         none_free: None,
         out: &[],
     },
@@ -280,9 +238,9 @@ const ENDS: &[Row] = &[
 const OPENS_2: Row = Row {
     given: Operator(Line::Open {
         call: 2,
-        chan: FIRST,
+        chan: OTHER,
     }),
-    events: &[(Open(2, FIRST), Done)],
+    events: &[(Open(2, OTHER), Done)],
     none_free: None,
     out: &[(0, 0, ACTIVATES_2)],
 };
@@ -292,7 +250,7 @@ const REFUSED_AT_ONCE: &[Row] = &[
     OPENS_2,
     Row {
         given: Abis(0, 0, REFUSES_2),
-        events: &[(Refuse(FIRST), Owned(2)), (Look(2), HELD)],
+        events: &[(Refuse(OTHER), Owned(2)), (Look(2), HELD)],
         none_free: None,
         out: &[],
     },
@@ -366,7 +324,7 @@ const ENDS_IN_HANDOVER: Row = Row {
 /// No confirmation of call 1's channel is awaited.
 const CONFIRM_UNEXPECTED: Row = Row {
     given: Abis(0, 0, ACTIVATED_3),
-    events: &[(Confirm(SERVING), Refused(Refusal::Unexpected(SERVING)))],
+    events: &[(Confirm(HOME), Refused(Refusal::Unexpected(HOME)))],
     none_free: None,
     out: &[],
 };
@@ -374,7 +332,7 @@ const CONFIRM_UNEXPECTED: Row = Row {
 /// No refusal of it is awaited.
 const REFUSE_UNEXPECTED: Row = Row {
     given: Abis(0, 0, REFUSES_3),
-    events: &[(Refuse(SERVING), Refused(Refusal::Unexpected(SERVING)))],
+    events: &[(Refuse(HOME), Refused(Refusal::Unexpected(HOME)))],
     none_free: None,
     out: &[],
 };
@@ -521,7 +479,7 @@ const FINDS_NOTHING: &[Row] = &[
     },
     Row {
         given: Operator(Line::Handover { call: 1, cell: 0 }),
-        events: &[(Take(1, Kind::Internal, FIRST), Refused(Refusal::NoCall))],
+        events: &[(Take(1, Kind::Internal, OTHER), Refused(Refusal::NoCall))],
         none_free: None,
         out: &[],
     },
@@ -614,7 +572,7 @@ fn inbound<A: Allocator + Copy>(alloc: A, given: Given) -> Result<Inbound<A>, Al
 }
 
 fn opened<A: Allocator + Copy>(alloc: A, scratch: Global) -> Result<Book<A>, Fail> {
-    let site = Site::read(alloc, scratch, SITE)?;
+    let site = Site::read(alloc, scratch, SEVENTEEN_CHANNELS)?;
     Ok(Book::new(alloc, Arc::new(alloc, site)?)?)
 }
 

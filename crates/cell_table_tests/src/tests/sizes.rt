@@ -1,31 +1,12 @@
 use super::{SITE, fault_of};
 use cell_table::SiteFault::{Range, Toml};
 use cell_table::{Key, SiteFault};
+use sample_sites::site_of_cells;
 use std::alloc::{AllocError, Global};
-use std::fmt::Write;
 use std::test::Fail;
 
-/// A site file of so many own and outside cells.
-fn text_of_cells(alloc: Global, own: u32, outside: u32) -> Result<String, AllocError> {
-    let mut text = String::from_str(alloc, "[handover]\nwindow = 2\nmargin = 3\nminimum = 10\n")?;
-    for ci in 0..own {
-        writeln!(
-            text,
-            "[[cell]]\nlac = 1\nci = {ci}\nbcch = {ci}\nncc = 0\nbcc = 0\npower = 0\nba = []"
-        )?;
-        writeln!(text, "trx = [{{ arfcn = {ci}, tch = [1] }}]")?;
-    }
-    for ci in 0..outside {
-        writeln!(
-            text,
-            "[[outside]]\nlac = 2\nci = {ci}\nbcch = {ci}\nncc = 1\nbcc = 0"
-        )?;
-    }
-    Ok(text)
-}
-
 /// How many own and outside cells, and why the site is refused.
-const COUNTS: &[(u32, u32, Option<SiteFault>)] = &[
+const COUNTS: &[(u16, u16, Option<SiteFault>)] = &[
     (1, 0, None),
     (64, 0, None),
     (64, 64, None),
@@ -37,7 +18,7 @@ const COUNTS: &[(u32, u32, Option<SiteFault>)] = &[
 #[test]
 fn a_site_has_at_most_64_cells_and_as_many_of_others(rt: HostRuntime) -> Result<(), Fail> {
     for (own, outside, fault) in COUNTS {
-        let text = text_of_cells(rt.alloc(), *own, *outside)?;
+        let text = site_of_cells(rt.alloc(), *own, 1, *outside)?;
         assert_eq!(rt; fault_of(rt.alloc(), &text), *fault, "{own} {outside}");
     }
     Ok(())

@@ -1,0 +1,231 @@
+//! Site files for tests and for the bench, with channels that they name: each stands here once, whoever reads it.
+#![tactic(auto)]
+
+use channel_fsm::ChanId;
+use std::alloc::{AllocError, Global};
+use std::fmt::Write;
+
+/// Two cells and one of another controller, with every key that a site file has. In cell 0 timeslots 2 and 3 of TRX 0
+/// carry traffic, in cell 1 timeslot 3 of TRX 1.
+pub const THREE_CHANNELS: &str = "[handover]
+window = 2
+margin = 3
+minimum = 10
+[[cell]]
+lac = 23
+ci = 100
+bcch = 60
+ncc = 1
+bcc = 1
+power = 5
+ba = [62, 70, 871]
+trx = [{ arfcn = 60, tch = [2, 3] }]
+[[cell]]
+lac = 23
+ci = 101
+bcch = 871
+ncc = 2
+bcc = 5
+power = 5
+ba = [60]
+trx = [{ arfcn = 871, tch = [] }, { arfcn = 875, tch = [3] }]
+[[outside]]
+lac = 23
+ci = 102
+bcch = 62
+ncc = 3
+bcc = 0
+";
+
+/// The first channel of cell 0 in [`THREE_CHANNELS`], and in [`SEVENTEEN_CHANNELS`].
+pub const OTHER: ChanId = ChanId {
+    cell: 0,
+    trx: 0,
+    tn: 2,
+};
+
+/// The channel beside it.
+pub const HOME: ChanId = ChanId {
+    cell: 0,
+    trx: 0,
+    tn: 3,
+};
+
+/// The one channel of cell 1 there.
+pub const TARGET: ChanId = ChanId {
+    cell: 1,
+    trx: 1,
+    tn: 3,
+};
+
+/// Two cells. In cell 0 timeslots 2 and 3 of TRX 0 and all but timeslot 0 of TRX 1 and TRX 2 carry traffic, in cell 1
+/// timeslot 3 of TRX 1.
+pub const SEVENTEEN_CHANNELS: &str = "[handover]
+window = 2
+margin = 3
+minimum = 10
+[[cell]]
+lac = 23
+ci = 100
+bcch = 60
+ncc = 1
+bcc = 1
+power = 5
+ba = [871]
+trx = [{ arfcn = 60, tch = [2, 3] }, { arfcn = 61, tch = [1, 2, 3, 4, 5, 6, 7] }, { arfcn = 62, tch = [1, 2, 3, 4, 5, 6, 7] }]
+[[cell]]
+lac = 23
+ci = 101
+bcch = 871
+ncc = 2
+bcc = 5
+power = 5
+ba = [60]
+trx = [{ arfcn = 871, tch = [] }, { arfcn = 875, tch = [3] }]
+";
+
+/// One cell, in which timeslots 5 and 3 of TRX 1 and 6 and 2 of TRX 2 carry traffic, named in this order.
+pub const SCATTERED: &str = "[handover]
+window = 1
+margin = 0
+minimum = 0
+[[cell]]
+lac = 1
+ci = 0
+bcch = 60
+ncc = 1
+bcc = 1
+power = 5
+ba = []
+trx = [{ arfcn = 60, tch = [] }, { arfcn = 61, tch = [5, 3] }, { arfcn = 62, tch = [6, 2] }]
+";
+
+/// Two cells of four TRX, in each of which all timeslots but timeslot 0 carry traffic.
+pub const MANY_CHANNELS: &str = "[handover]
+window = 1
+margin = 0
+minimum = 0
+[[cell]]
+lac = 1
+ci = 0
+bcch = 60
+ncc = 1
+bcc = 1
+power = 5
+ba = []
+trx = [{ arfcn = 60, tch = [1, 2, 3, 4, 5, 6, 7] }, { arfcn = 61, tch = [1, 2, 3, 4, 5, 6, 7] }, { arfcn = 62, tch = [1, 2, 3, 4, 5, 6, 7] }, { arfcn = 63, tch = [1, 2, 3, 4, 5, 6, 7] }]
+[[cell]]
+lac = 1
+ci = 1
+bcch = 70
+ncc = 1
+bcc = 1
+power = 5
+ba = []
+trx = [{ arfcn = 70, tch = [1, 2, 3, 4, 5, 6, 7] }, { arfcn = 71, tch = [1, 2, 3, 4, 5, 6, 7] }, { arfcn = 72, tch = [1, 2, 3, 4, 5, 6, 7] }, { arfcn = 73, tch = [1, 2, 3, 4, 5, 6, 7] }]
+";
+
+/// A cell, and one of another controller with the same location area code and cell identity, which is refused.
+pub const SAME_IDENTITY: &str = "[handover]
+window = 2
+margin = 3
+minimum = 10
+[[cell]]
+lac = 23
+ci = 100
+bcch = 60
+ncc = 1
+bcc = 1
+power = 5
+ba = []
+trx = [{ arfcn = 60, tch = [2] }]
+[[outside]]
+lac = 23
+ci = 100
+bcch = 62
+ncc = 3
+bcc = 0
+";
+
+/// A cell without a traffic channel, which is refused.
+pub const NO_TRAFFIC: &str = "[handover]
+window = 2
+margin = 3
+minimum = 10
+[[cell]]
+lac = 23
+ci = 100
+bcch = 60
+ncc = 1
+bcc = 1
+power = 5
+ba = []
+trx = [{ arfcn = 60, tch = [] }]
+";
+
+/// No cell, which is refused.
+pub const NO_CELL: &str = "[handover]\nwindow = 2\nmargin = 3\nminimum = 10\n";
+
+/// Appends a TRX on this carrier: `first` is that of the broadcast channel, whose timeslot 0 carries no traffic.
+fn push_trx(text: &mut String, carrier: u32, first: bool) -> Result<(), AllocError> {
+    text.push_str(if first { "trx = [" } else { ", " })?;
+    let zero = if first { "" } else { "0, " };
+    write!(
+        text,
+        "{{ arfcn = {carrier}, tch = [{zero}1, 2, 3, 4, 5, 6, 7] }}"
+    )
+}
+
+/// Appends cell `ci` with so many TRX.
+fn push_cell(text: &mut String, ci: u16, trx: u16) -> Result<(), AllocError> {
+    let bcch = u32::from(ci) * u32::from(trx);
+    writeln!(
+        text,
+        "[[cell]]\nlac = 1\nci = {ci}\nbcch = {bcch}\nncc = 0\nbcc = 0\npower = 0\nba = []"
+    )?;
+    for place in 0..trx {
+        push_trx(text, bcch + u32::from(place), place == 0)?;
+    }
+    text.push_str("]\n")
+}
+
+/// So many cells with so many TRX each, and so many cells of others. Every timeslot carries traffic but timeslot 0 of
+/// each cell's first TRX.
+///
+/// Cell `n` has cell identity `n` in area 1, and its TRX have the carriers from `n * trx` on; outside cell `n` has cell
+/// identity `n` in area 2 and carrier `n`. Nothing is looked at: numbers out of their ranges make a text that
+/// `Site::read` refuses.
+pub fn site_of_cells(
+    alloc: Global,
+    cells: u16,
+    trx: u16,
+    outside: u16,
+) -> Result<String, AllocError> {
+    let mut text = String::from_str(alloc, NO_CELL)?;
+    for ci in 0..cells {
+        push_cell(&mut text, ci, trx)?;
+    }
+    for ci in 0..outside {
+        writeln!(
+            text,
+            "[[outside]]\nlac = 2\nci = {ci}\nbcch = {ci}\nncc = 1\nbcc = 0"
+        )?;
+    }
+    Ok(text)
+}
+
+/// A text with the first place of `old` replaced by `new`. None where `old` doesn't stand in it.
+pub fn changed(
+    alloc: Global,
+    text: &str,
+    old: &str,
+    new: &str,
+) -> Result<Option<String>, AllocError> {
+    let Some((before, after)) = text.split_once(old) else {
+        return Ok(None);
+    };
+    let mut changed = String::from_str(alloc, before)?;
+    changed.push_str(new)?;
+    changed.push_str(after)?;
+    Ok(Some(changed))
+}
