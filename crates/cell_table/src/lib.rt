@@ -4,6 +4,7 @@
 mod checks;
 mod fault;
 pub mod laws;
+mod neighbours;
 mod places;
 mod reading;
 mod site;

@@ -8,9 +8,11 @@ ghost use Rattle.cell_table.specs.SiteFile.{site_of, read_site, IsBlankFile};
 ghost use Rattle.std.proofs.Common.{rules};
 ghost use Rattle.std.specs.Cmp.Rules.{comparing};
 ghost use Rattle.cell_table.specs.Same.{same_site};
+ghost use Rattle.cell_table.specs.Neighbours.{by_bsic};
 
 use crate::checks::broken_rule;
 use crate::fault::SiteFault;
+use crate::neighbours::named_cell;
 use crate::places::channels_before;
 use crate::reading::{cells_of, handover_at, outside_of};
 use crate::tables::{Cell, CellIdentity, Tables, Trx};
@@ -20,7 +22,7 @@ use std::marker::Model;
 use toml::Value;
 
 /// The number of the first outside cell; own cells are numbered from 0.
-const FIRST_OUTSIDE: u8 = 64;
+pub const FIRST_OUTSIDE: u8 = 64;
 
 /// The cells of a controller, each with its TRX, and the cells of others that mobiles may be handed over to.
 ///
@@ -249,6 +251,19 @@ impl<A: Allocator + Copy> Site<A> {
                 Some(FIRST_OUTSIDE + place as u8)
             }
         }
+    }
+
+    /// The cell, own or outside, that a mobile in an own cell names by a position in its neighbour list and a base
+    /// station identity code; `None` where there is no such cell, position, or cell of that code.
+    ///
+    /// The neighbour list has the carriers of `ba` in ascending order, but carrier 0 last (TS 44.018 clause 10.5.2.20);
+    /// positions are counted from 0. The cell's `bcch` is the carrier at the position, its `ncc` the code's high and
+    /// its `bcc` the low three bits (TS 23.003 clause 4.3.2); codes are 0 to 63, and no cell has one above.
+    pub fn by_bsic(&self, cell: u8, position: u8, bsic: u8) -> Option<u8>
+        ensures value { result ≡ by_bsic self.now cell position bsic }
+    {
+        let serving = self.tables.cells.get(cell as usize)?;
+        named_cell(&self.tables, serving.ba.as_slice(), position, bsic)
     }
 
     /// The place of a traffic channel among those of the site, by cell, TRX and timeslot, counted from 0; `None` for

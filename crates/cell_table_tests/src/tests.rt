@@ -1,6 +1,7 @@
 mod equality;
 mod lookups;
 mod memory;
+mod neighbours;
 mod refusals;
 mod sizes;
 
