@@ -1,5 +1,5 @@
 -- An attempt that goes on changes what it has, and nothing else in the book.
-use Rattle.std.proofs.Common.{◌≡◌, ℕ, if◌then◌else◌, Option, Some, None, refl, sym, ◌∙◌, ap, subst}
+use Rattle.std.proofs.Common.{◌≡◌, inl, inr, ℕ, Bool, true, false, ◌&&◌, if◌then◌else◌, IsTrue, is_some, Option, Some, None, refl, sym, ◌∙◌, ap, subst}
 use Rattle.std.specs.Option.{option_map}
 use Rattle.std.specs.Ordering.{nat_cmp}
 use Rattle.std.specs.Cmp.{nat_cmp_total}
@@ -12,31 +12,48 @@ use Rattle.attempt_journal.specs.declared.Timer.{Timer}
 use Rattle.attempt_journal.specs.declared.Timer.TheVariants.{T3103, T8}
 use Rattle.radio_book.specs.declared.event.AttemptKind.{AttemptKind}
 use Rattle.radio_book.specs.declared.event.AttemptKind.TheVariants.{Internal, Incoming, Outgoing}
+use Rattle.radio_book.specs.declared.event.Attempt.{Attempt}
+use Rattle.radio_book.specs.declared.event.CallRecord.{CallRecord}
+use Rattle.radio_book.specs.declared.event.Kind.{Kind}
+use Rattle.radio_book.specs.declared.event.Kind.TheVariants as kind
+use Rattle.radio_book.specs.declared.event.Why.{Why}
+use Rattle.radio_book.specs.declared.event.Why.TheVariants.{Asked, Expired}
 use Rattle.radio_book.specs.declared.event.Stage.{Stage}
 use Rattle.radio_book.specs.declared.event.Stage.TheVariants.{Taken, Reserved, Sent, Refused, Confirmed, Commanded, Detected, Required, Ordered}
 use Rattle.radio_book.specs.declared.event.Reference.{Reference}
 use Rattle.radio_book.specs.declared.event.Event.{Event}
 use Rattle.radio_book.specs.declared.event.Event.TheVariants as event
-use Rattle.radio_book.specs.declared.event.Refusal.TheVariants.{Unexpected}
+use Rattle.radio_book.specs.declared.event.Refusal.{Refusal}
+use Rattle.radio_book.specs.declared.event.Refusal.TheVariants.{Unexpected, WrongPhase, NotArmed}
+use Rattle.radio_book.specs.declared.event.Reply.{Reply}
+use Rattle.radio_book.specs.declared.event.Reply.TheVariants.{Done}
+use Rattle.cell_table.specs.Site.{is_traffic}
 use Rattle.radio_book.specs.Maps.{Entry, put, with_change}
 use Rattle.radio_book.specs.State.{State, apply, state_of, record_of}
 use Rattle.radio_book.specs.Stages.{stage_row}
-use Rattle.radio_book.specs.Table.{owner, Outcome, Refuses, Accepts, row, step, book_after, with_state, with_record, with_timer, resting_record, reference_at, reference_held, look_row, reserve_row, activate_row, command_row, order_row, reserve_at, reserve_number, activate_at, command_at, order_at, moved_entry, confirm_row, refuse_row, detect_row, detect_by, detect_at, owner_row}
+use Rattle.radio_book.specs.Table.{owner, Outcome, Refuses, Accepts, row, step, reply_of, reply_to, book_after, with_state, with_record, with_timer, resting_record, reference_at, reference_held, open_row, clear_row, look_row, take_row, reserve_row, activate_row, command_row, complete_row, undo_row, undo_by, undo_attempt, is_armed, require_row, order_row, left_row, reserve_at, reserve_number, activate_at, command_at, complete_at, order_at, left_at, moved_entry, confirm_row, refuse_row, released_row, detect_row, detect_by, detect_at, owner_row}
 use Rattle.radio_book.specs.Sound.{IsSound, HasReference}
-use Rattle.radio_book.specs.Others.{without_attempt_of, without_attempt_in, GoesOn, OwnStepsChangeTheAttempt}
+use Rattle.radio_book.specs.Kinds.{EndsIt, number_of, is_accepted, is_reserved}
+use Rattle.radio_book.specs.Others.{call_of, channel_of, without_attempt_of, without_attempt_in, IsOpen, number_after, OwnStepsChangeTheAttempt}
 use Rattle.radio_book.proofs.KeyFacts.{chan_total, chan_exact, reference_total, reference_exact, same_chan_itself}
 use Rattle.radio_book.proofs.MapFacts.{get_put_same, put_put_same, put_again, record_same}
-use Rattle.radio_book.proofs.Frame.{attempting, aimed_is_owned}
+use Rattle.radio_book.proofs.Frame.{attempting, same_some, aimed_is_owned}
 use Rattle.radio_book.proofs.SoundParts.{one_owner}
 
--- what an outcome changes is gone with the attempt
-abbrev Keeps : State → ℕ → Outcome → Type 0
-Keeps b c (Refuses refusal) = Unit {0}
-Keeps b c (Accepts change reply) = without_attempt_of c (apply change b) ≡ without_attempt_of c b
+-- the attempt is open with this target and this number, and what differs from the book before is gone with it
+record Goes (b : State) (c : ℕ) (s : Option ChanId) (k : AttemptKind) (o : Option ChanId) (n : Option ℕ) (after : State) : Type 0 where
+  stage : Stage
+  still : record_of after c ≡ Some (attempting s k stage o n)
+  rest : without_attempt_of c after ≡ without_attempt_of c b
 
-kept : (b : State) (c : ℕ) (o : Outcome) → Keeps b c o → without_attempt_of c (book_after o b) ≡ without_attempt_of c b
-kept b c (Refuses refusal) keeps = refl
-kept b c (Accepts change reply) keeps = keeps
+abbrev Keeps : State → ℕ → Option ChanId → AttemptKind → Option ChanId → Option ℕ → Outcome → Type 0
+Keeps b c s k o n (Refuses refusal) = Unit {0}
+Keeps b c s k o n (Accepts change reply) = Goes b c s k o n (apply change b)
+
+-- the same, where the attempt gets its number, and had none
+abbrev Reserves : State → ℕ → Option ChanId → AttemptKind → Option ChanId → Option ℕ → ℕ → Outcome → Type 0
+Reserves b c s k o n m (Refuses refusal) = Unit {0}
+Reserves b c s k o n m (Accepts change reply) = (n ≡ None) × (reply ≡ Done) × Goes b c s k o (Some m) (apply change b)
 
 rests_alike : (k : AttemptKind) (s o : Option ChanId) (g h : Stage) (n m : Option ℕ) → resting_record k (attempting s k g o n) ≡ resting_record k (attempting s k h o m)
 rests_alike Internal s o g h n m = refl
@@ -61,28 +78,36 @@ module _ (b : State) (sound : IsSound b) (c : ℕ) (s : Option ChanId) (k : Atte
       with_change (with_change b.channels channel) (option_map (λ (t : ChanId). (t, None)) o) ≡ with_change b.channels (option_map (λ (t : ChanId). (t, None)) o) →
       with_change (with_change b.references reference) (option_map (λ (j : Reference). (j, None)) (reference_held o m)) ≡ with_change b.references (option_map (λ (j : Reference). (j, None)) (reference_held o n)) →
       with_change (with_change b.timers timer) (option_map (λ (t : Timer). (c, None)) (map.get (with_change b.timers timer) c)) ≡ with_change b.timers (option_map (λ (t : Timer). (c, None)) (map.get b.timers c)) →
-      without_attempt_of c (apply (record { channel = channel; call = with_record c (attempting s k h o m); reference = reference; timer = timer }) b) ≡ without_attempt_of c b
+      Goes b c s k o m (apply (record { channel = channel; call = with_record c (attempting s k h o m); reference = reference; timer = timer }) b)
   moved g h o n m channel reference timer known channels references timers =
       let calls = put_put_same nat_cmp_total nat_cmp-IsAntisymmetric b.calls c (Some (attempting s k h o m)) (resting_record k (attempting s k h o m))
       ∙ ap (put b.calls c) (rests_alike k s o h g m n) in
-      ap (λ f. without_attempt_in c f (apply (record { channel = channel; call = with_record c (attempting s k h o m); reference = reference; timer = timer }) b)) (record_same b.calls c (Some (attempting s k h o m)))
-      ∙ (λ i. record { site = b.site; channels = channels i; calls = calls i; references = references i; timers = timers i })
-      ∙ sym (ap (λ f. without_attempt_in c f b) known)
+      let still = record_same b.calls c (Some (attempting s k h o m)) in
+      record {
+        stage = h;
+        still = still;
+        rest = ap (λ f. without_attempt_in c f (apply (record { channel = channel; call = with_record c (attempting s k h o m); reference = reference; timer = timer }) b)) still
+            ∙ (λ i. record { site = b.site; channels = channels i; calls = calls i; references = references i; timers = timers i })
+            ∙ sym (ap (λ f. without_attempt_in c f b) known);
+      }
 
   covered : (t : ChanId) (v : ChanState) → put (put b.channels t (Some v)) t None ≡ put b.channels t None
   covered t v = put_put_same chan_total chan_exact b.channels t (Some v) None
 
   number_kept : (t : ChanId) (n : Option ℕ) (m : ℕ) (user : Option ℕ) → record_of b c ≡ Some (attempting s k Taken (Some t) n) → n ≡ None → map.get b.references (reference_at t m) ≡ user →
-      Keeps b c (reserve_number c m (attempting s k Taken (Some t) n) (record { kind = k; stage = Taken; target = Some t; reference = n }) t user)
+      Reserves b c s k (Some t) n m (reserve_number c m (attempting s k Taken (Some t) n) (record { kind = k; stage = Taken; target = Some t; reference = n }) t user)
   number_kept t n m (Some d) known none unused = tt
-  number_kept t n m None known none unused =
-      moved Taken Reserved (Some t) n (Some m) None (Some (reference_at t m, Some c)) None known refl
-      (put_put_same reference_total reference_exact b.references (reference_at t m) (Some c) None
-      ∙ put_again reference_total reference_exact b.references (reference_at t m) None unused
-      ∙ sym (ap (λ n. with_change b.references (option_map (λ (j : Reference). (j, None)) (reference_held (Some t) n))) none)) refl
+  number_kept t n m None known none unused = (
+    none,
+    refl,
+    moved Taken Reserved (Some t) n (Some m) None (Some (reference_at t m, Some c)) None known refl
+        (put_put_same reference_total reference_exact b.references (reference_at t m) (Some c) None
+        ∙ put_again reference_total reference_exact b.references (reference_at t m) None unused
+        ∙ sym (ap (λ n. with_change b.references (option_map (λ (j : Reference). (j, None)) (reference_held (Some t) n))) none)) refl,
+  )
 
   reserve_kept : (m : ℕ) (g : Stage) (o : Option ChanId) (n : Option ℕ) → record_of b c ≡ Some (attempting s k g o n) → HasReference (stage_row g).has_reference n →
-      Keeps b c (reserve_at c m (attempting s k g o n) (record { kind = k; stage = g; target = o; reference = n }) g o (map.get b.references))
+      Reserves b c s k o n m (reserve_at c m (attempting s k g o n) (record { kind = k; stage = g; target = o; reference = n }) g o (map.get b.references))
   reserve_kept m Taken None n known has = tt
   reserve_kept m Taken (Some t) n known has = number_kept t n m (map.get b.references (reference_at t m)) known has refl
   reserve_kept m Reserved o n known has = tt
@@ -95,7 +120,7 @@ module _ (b : State) (sound : IsSound b) (c : ℕ) (s : Option ChanId) (k : Atte
   reserve_kept m Ordered o n known has = tt
 
   activate_kept : (g : Stage) (o : Option ChanId) (n : Option ℕ) → record_of b c ≡ Some (attempting s k g o n) →
-      Keeps b c (activate_at c (attempting s k g o n) (record { kind = k; stage = g; target = o; reference = n }) g o)
+      Keeps b c s k o n (activate_at c (attempting s k g o n) (record { kind = k; stage = g; target = o; reference = n }) g o)
   activate_kept Reserved None n known = tt
   activate_kept Reserved (Some t) n known = moved Reserved Sent (Some t) n n (with_state t (Pending c)) None None known (covered t (Pending c)) refl refl
   activate_kept Taken o n known = tt
@@ -108,7 +133,7 @@ module _ (b : State) (sound : IsSound b) (c : ℕ) (s : Option ChanId) (k : Atte
   activate_kept Ordered o n known = tt
 
   command_kept : (g : Stage) (o : Option ChanId) (n : Option ℕ) → record_of b c ≡ Some (attempting s k g o n) →
-      Keeps b c (command_at c (attempting s k g o n) (record { kind = k; stage = g; target = o; reference = n }) g)
+      Keeps b c s k o n (command_at c (attempting s k g o n) (record { kind = k; stage = g; target = o; reference = n }) g)
   command_kept Confirmed o n known = moved Confirmed Commanded o n n None None (with_timer c T3103) known refl refl (timer_covered b.timers c T3103)
   command_kept Taken o n known = tt
   command_kept Reserved o n known = tt
@@ -120,7 +145,7 @@ module _ (b : State) (sound : IsSound b) (c : ℕ) (s : Option ChanId) (k : Atte
   command_kept Ordered o n known = tt
 
   order_kept : (g : Stage) (o : Option ChanId) (n : Option ℕ) → record_of b c ≡ Some (attempting s k g o n) →
-      Keeps b c (order_at c (attempting s k g o n) (record { kind = k; stage = g; target = o; reference = n }) g)
+      Keeps b c s k o n (order_at c (attempting s k g o n) (record { kind = k; stage = g; target = o; reference = n }) g)
   order_kept Required o n known = moved Required Ordered o n n None None (with_timer c T8) known refl refl (timer_covered b.timers c T8)
   order_kept Taken o n known = tt
   order_kept Reserved o n known = tt
@@ -133,14 +158,15 @@ module _ (b : State) (sound : IsSound b) (c : ℕ) (s : Option ChanId) (k : Atte
 
   -- a station's answer about the target
   answer_kept : (g h : Stage) (t : ChanId) (n : Option ℕ) (v : ChanState) → record_of b c ≡ Some (attempting s k g (Some t) n) →
-      without_attempt_of c (apply (record { channel = with_state t v; call = moved_entry t h c (record_of b c); reference = None; timer = None }) b) ≡ without_attempt_of c b
+      Goes b c s k (Some t) n (apply (record { channel = with_state t v; call = moved_entry t h c (record_of b c); reference = None; timer = None }) b)
   answer_kept g h t n v known =
-      ap (λ f. without_attempt_of c (apply (record { channel = with_state t v; call = moved_entry t h c f; reference = None; timer = None }) b)) known
-      ∙ ap (λ q. without_attempt_of c (apply (record { channel = with_state t v; call = if q then with_record c (attempting s k h (Some t) n) else None; reference = None; timer = None }) b)) (same_chan_itself t)
-      ∙ moved g h (Some t) n n (with_state t v) None None known (covered t v) refl refl
+      let entry : moved_entry t h c (record_of b c) ≡ with_record c (attempting s k h (Some t) n)
+      = ap (moved_entry t h c) known ∙ ap (λ q. if q then with_record c (attempting s k h (Some t) n) else None) (same_chan_itself t) in
+      subst (λ f. Goes b c s k (Some t) n (apply (record { channel = with_state t v; call = f; reference = None; timer = None }) b)) (sym entry)
+      (moved g h (Some t) n n (with_state t v) None None known (covered t v) refl refl)
 
   detect_kept : (g : Stage) (t : ChanId) (n : Option ℕ) → record_of b c ≡ Some (attempting s k g (Some t) n) →
-      Keeps b c (detect_at t c (attempting s k g (Some t) n) (record { kind = k; stage = g; target = Some t; reference = n }) g)
+      Keeps b c s k (Some t) n (detect_at t c (attempting s k g (Some t) n) (record { kind = k; stage = g; target = Some t; reference = n }) g)
   detect_kept Commanded t n known = moved Commanded Detected (Some t) n n None None None known refl refl refl
   detect_kept Taken t n known = tt
   detect_kept Reserved t n known = tt
@@ -151,89 +177,237 @@ module _ (b : State) (sound : IsSound b) (c : ℕ) (s : Option ChanId) (k : Atte
   detect_kept Required t n known = tt
   detect_kept Ordered t n known = tt
 
+-- events that end an attempt, where they aren't accepted
+module _ (b : State) (c : ℕ) (s : Option ChanId) (k : AttemptKind) (o : Option ChanId) (n : Option ℕ) (r : CallRecord) (a : Attempt) where
+  complete_kept : (g : Stage) → (IsTrue (is_accepted (reply_of (complete_at c r a g))) → ⊥) → Keeps b c s k o n (complete_at c r a g)
+  complete_kept Commanded refused = absurd (refused refl)
+  complete_kept Detected refused = absurd (refused refl)
+  complete_kept Taken refused = tt
+  complete_kept Reserved refused = tt
+  complete_kept Sent refused = tt
+  complete_kept Refused refused = tt
+  complete_kept Confirmed refused = tt
+  complete_kept Required refused = tt
+  complete_kept Ordered refused = tt
+
+  left_kept : (g : Stage) → (IsTrue (is_accepted (reply_of (left_at c r g))) → ⊥) → Keeps b c s k o n (left_at c r g)
+  left_kept Ordered refused = absurd (refused refl)
+  left_kept Taken refused = tt
+  left_kept Reserved refused = tt
+  left_kept Sent refused = tt
+  left_kept Refused refused = tt
+  left_kept Confirmed refused = tt
+  left_kept Commanded refused = tt
+  left_kept Detected refused = tt
+  left_kept Required refused = tt
+
+  undone_kept : (refusal : Refusal) (timer : Option Timer) → (IsTrue (is_accepted (reply_of (undo_attempt c refusal r (Some a) (state_of b) timer))) → ⊥) → Keeps b c s k o n (undo_attempt c refusal r (Some a) (state_of b) timer)
+  undone_kept refusal timer refused = absurd (refused refl)
+
 module _ (b : State) (sound : IsSound b) (c : ℕ) (s : Option ChanId) (k : AttemptKind) (g : Stage) (o : Option ChanId) (n : Option ℕ) (known : record_of b c ≡ Some (attempting s k g o n)) where
-  look_goes : Keeps b c (row b (event.Look c))
-  look_goes = subst (λ f. Keeps b c (look_row f (state_of b))) (sym known) refl
+  abbrev attempt : Attempt
+  attempt = record { kind = k; stage = g; target = o; reference = n }
 
-  reserve_goes : (m : ℕ) → Keeps b c (row b (event.Reserve c m))
-  reserve_goes m = subst (λ f. Keeps b c (reserve_row c m f (map.get b.references))) (sym known)
-      (reserve_kept b sound c s k m g o n known (sound.reference_by_stage c _ (record { kind = k; stage = g; target = o; reference = n }) known refl))
+  still_there : Goes b c s k o n b
+  still_there = record { stage = g; still = known; rest = refl }
 
-  activate_goes : Keeps b c (row b (event.Activate c))
-  activate_goes = subst (λ f. Keeps b c (activate_row c f)) (sym known) (activate_kept b sound c s k g o n known)
+  kept : (outcome : Outcome) → Keeps b c s k o n outcome → Goes b c s k o n (book_after outcome b)
+  kept (Refuses refusal) keeps = still_there
+  kept (Accepts change reply) keeps = keeps
 
-  command_goes : Keeps b c (row b (event.Command c))
-  command_goes = subst (λ f. Keeps b c (command_row c f)) (sym known) (command_kept b sound c s k g o n known)
+  -- the attempt has the number that a step leaves, and had none before it got one
+  abbrev Numbered : Event → Reply → State → Type 0
+  Numbered e reply after = Goes b c s k o (number_after n e reply) after × (IsTrue (is_reserved e reply) → n ≡ None)
 
-  order_goes : Keeps b c (row b (event.Order c))
-  order_goes = subst (λ f. Keeps b c (order_row c f)) (sym known) (order_kept b sound c s k g o n known)
+  reserved : (m : ℕ) (outcome : Outcome) → Reserves b c s k o n m outcome → Numbered (event.Reserve c m) (reply_of outcome) (book_after outcome b)
+  reserved m (Refuses refusal) keeps = (still_there, λ new. cc)
+  reserved m (Accepts change reply) keeps = subst (λ reply. Numbered (event.Reserve c m) reply (apply change b)) (sym keeps.1) (keeps.2, λ new. keeps.0)
 
-  owner_goes : (t : ChanId) → Keeps b c (row b (event.Owner t))
+  unnumbered : (e : Event) (reply : Reply) (after : State) → number_of e ≡ None → Goes b c s k o n after → Numbered e reply after
+  unnumbered e reply after none goes =
+      let same : is_reserved e reply ≡ false = ap (λ v. is_some v && is_accepted reply) none in
+      (subst (λ q. Goes b c s k o (if q then number_of e else n) after) (sym same) goes, λ new. cc)
+
+  open_goes : (x : ChanId) → Keeps b c s k o n (row b (event.Open c x))
+  open_goes x = subst (λ f. Keeps b c s k o n (open_row c x f (is_traffic b.site x) (state_of b x))) (sym known) tt
+
+  clear_goes : Keeps b c s k o n (row b (event.Clear c))
+  clear_goes = subst (λ f. Keeps b c s k o n (clear_row c f (state_of b))) (sym known) tt
+
+  look_goes : Keeps b c s k o n (row b (event.Look c))
+  look_goes = subst (λ f. Keeps b c s k o n (look_row f (state_of b))) (sym known) still_there
+
+  take_goes : (from : Kind) (x : ChanId) → Keeps b c s k o n (row b (event.Take c from x))
+  take_goes kind.Internal x = subst (λ f. Keeps b c s k o n (take_row c kind.Internal x f (state_of b) (is_traffic b.site x))) (sym known) tt
+  take_goes kind.Incoming x = subst (λ f. Keeps b c s k o n (take_row c kind.Incoming x f (state_of b) (is_traffic b.site x))) (sym known) tt
+
+  reserve_goes : (m : ℕ) → Reserves b c s k o n m (row b (event.Reserve c m))
+  reserve_goes m = subst (λ f. Reserves b c s k o n m (reserve_row c m f (map.get b.references))) (sym known)
+      (reserve_kept b sound c s k m g o n known (sound.reference_by_stage c _ attempt known refl))
+
+  activate_goes : Keeps b c s k o n (row b (event.Activate c))
+  activate_goes = subst (λ f. Keeps b c s k o n (activate_row c f)) (sym known) (activate_kept b sound c s k g o n known)
+
+  command_goes : Keeps b c s k o n (row b (event.Command c))
+  command_goes = subst (λ f. Keeps b c s k o n (command_row c f)) (sym known) (command_kept b sound c s k g o n known)
+
+  complete_goes : (IsTrue (is_accepted (reply_to b (event.Complete c))) → ⊥) → Keeps b c s k o n (row b (event.Complete c))
+  complete_goes = subst (λ f. (IsTrue (is_accepted (reply_of (complete_row c f))) → ⊥) → Keeps b c s k o n (complete_row c f)) (sym known)
+      (complete_kept b c s k o n (attempting s k g o n) attempt g)
+
+  undo_goes : (why : Why) → (IsTrue (is_accepted (reply_to b (event.Undo c why))) → ⊥) → Keeps b c s k o n (row b (event.Undo c why))
+  undo_goes why = subst (λ f. (IsTrue (is_accepted (reply_of (undo_row c why f (state_of b) (map.get b.timers c)))) → ⊥) → Keeps b c s k o n (undo_row c why f (state_of b) (map.get b.timers c))) (sym known) (by why)
+    where
+      guarded : (armed : Bool) → (IsTrue (is_accepted (reply_of (if armed then undo_attempt c NotArmed (attempting s k g o n) (Some attempt) (state_of b) (map.get b.timers c) else Refuses NotArmed))) → ⊥) →
+          Keeps b c s k o n (if armed then undo_attempt c NotArmed (attempting s k g o n) (Some attempt) (state_of b) (map.get b.timers c) else Refuses NotArmed)
+      guarded true refused = undone_kept b c s k o n (attempting s k g o n) attempt NotArmed (map.get b.timers c) refused
+      guarded false refused = tt
+
+      by : (why : Why) → (IsTrue (is_accepted (reply_of (undo_by c why (attempting s k g o n) (state_of b) (map.get b.timers c)))) → ⊥) → Keeps b c s k o n (undo_by c why (attempting s k g o n) (state_of b) (map.get b.timers c))
+      by Asked refused = undone_kept b c s k o n (attempting s k g o n) attempt WrongPhase (map.get b.timers c) refused
+      by (Expired m) refused = guarded (is_armed m (map.get b.timers c)) refused
+
+  require_goes : Keeps b c s k o n (row b (event.Require c))
+  require_goes = subst (λ f. Keeps b c s k o n (require_row c f (state_of b))) (sym known) tt
+
+  order_goes : Keeps b c s k o n (row b (event.Order c))
+  order_goes = subst (λ f. Keeps b c s k o n (order_row c f)) (sym known) (order_kept b sound c s k g o n known)
+
+  left_goes : (IsTrue (is_accepted (reply_to b (event.Left c))) → ⊥) → Keeps b c s k o n (row b (event.Left c))
+  left_goes = subst (λ f. (IsTrue (is_accepted (reply_of (left_row c f))) → ⊥) → Keeps b c s k o n (left_row c f)) (sym known) (left_kept b c s k o n (attempting s k g o n) attempt g)
+
+  owner_goes : (t : ChanId) → Keeps b c s k o n (row b (event.Owner t))
   owner_goes t = by (owner (state_of b t))
     where
-      by : (f : Option ℕ) → Keeps b c (owner_row t f)
+      by : (f : Option ℕ) → Keeps b c s k o n (owner_row t f)
       by None = tt
-      by (Some d) = refl
+      by (Some d) = still_there
 
 module _ (b : State) (sound : IsSound b) (c : ℕ) (s : Option ChanId) (k : AttemptKind) (g : Stage) (t : ChanId) (n : Option ℕ) (known : record_of b c ≡ Some (attempting s k g (Some t) n)) where
+  owned : owner (state_of b t) ≡ Some c
+  owned = aimed_is_owned b sound c _ (record { kind = k; stage = g; target = Some t; reference = n }) t known refl refl
+
   -- a state that names a call names this one
   own : (d : ℕ) (z : ChanState) → state_of b t ≡ z → owner z ≡ Some d → d ≡ c
-  own d z is names = one_owner z c d (ap owner (sym is) ∙ aimed_is_owned b sound c _ (record { kind = k; stage = g; target = Some t; reference = n }) t known refl refl) names
+  own d z is names = one_owner z c d (ap owner (sym is) ∙ owned) names
 
-  confirm_goes : (z : ChanState) → state_of b t ≡ z → Keeps b c (confirm_row t z (record_of b))
+  confirm_goes : (z : ChanState) → state_of b t ≡ z → Keeps b c s k (Some t) n (confirm_row t z (record_of b))
   confirm_goes Free is = tt
   confirm_goes (Held d) is = tt
-  confirm_goes (Pending d) is = subst (λ d. Keeps b c (confirm_row t (Pending d) (record_of b))) (sym (own d (Pending d) is refl)) (answer_kept b sound c s k g Confirmed t n (On c) known)
+  confirm_goes (Pending d) is = subst (λ d. Keeps b c s k (Some t) n (confirm_row t (Pending d) (record_of b))) (sym (own d (Pending d) is refl)) (answer_kept b sound c s k g Confirmed t n (On c) known)
   confirm_goes (On d) is = tt
   confirm_goes Off is = tt
 
-  refuse_goes : (z : ChanState) → state_of b t ≡ z → Keeps b c (refuse_row t z (record_of b))
+  refuse_goes : (z : ChanState) → state_of b t ≡ z → Keeps b c s k (Some t) n (refuse_row t z (record_of b))
   refuse_goes Free is = tt
   refuse_goes (Held d) is = tt
-  refuse_goes (Pending d) is = subst (λ d. Keeps b c (refuse_row t (Pending d) (record_of b))) (sym (own d (Pending d) is refl)) (answer_kept b sound c s k g Refused t n (Held c) known)
+  refuse_goes (Pending d) is = subst (λ d. Keeps b c s k (Some t) n (refuse_row t (Pending d) (record_of b))) (sym (own d (Pending d) is refl)) (answer_kept b sound c s k g Refused t n (Held c) known)
   refuse_goes (On d) is = tt
   refuse_goes Off is = tt
 
-  detect_by_goes : Keeps b c (detect_by t c (record_of b c))
-  detect_by_goes = subst (λ f. Keeps b c (detect_by t c f)) (sym known)
-      (subst (λ q. Keeps b c (if q then detect_at t c (attempting s k g (Some t) n) (record { kind = k; stage = g; target = Some t; reference = n }) g else Refuses (Unexpected t))) (sym (same_chan_itself t))
+  -- it isn't off
+  released_goes : (z : ChanState) → state_of b t ≡ z → Keeps b c s k (Some t) n (released_row t z)
+  released_goes Free is = tt
+  released_goes (Held d) is = tt
+  released_goes (Pending d) is = tt
+  released_goes (On d) is = tt
+  released_goes Off is = let bad : None ≡ Some c = sym (ap owner is) ∙ owned in cc
+
+  detect_by_goes : Keeps b c s k (Some t) n (detect_by t c (record_of b c))
+  detect_by_goes = subst (λ f. Keeps b c s k (Some t) n (detect_by t c f)) (sym known)
+      (subst (λ q. Keeps b c s k (Some t) n (if q then detect_at t c (attempting s k g (Some t) n) (record { kind = k; stage = g; target = Some t; reference = n }) g else Refuses (Unexpected t))) (sym (same_chan_itself t))
       (detect_kept b sound c s k g t n known))
 
-  detect_goes : (z : ChanState) → state_of b t ≡ z → Keeps b c (detect_row t z (record_of b))
+  detect_goes : (z : ChanState) → state_of b t ≡ z → Keeps b c s k (Some t) n (detect_row t z (record_of b))
   detect_goes Free is = tt
   detect_goes (Held d) is = tt
   detect_goes (Pending d) is = tt
-  detect_goes (On d) is = subst (λ d. Keeps b c (detect_by t d (record_of b d))) (sym (own d (On d) is refl)) detect_by_goes
+  detect_goes (On d) is = subst (λ d. Keeps b c s k (Some t) n (detect_by t d (record_of b d))) (sym (own d (On d) is refl)) detect_by_goes
   detect_goes Off is = tt
 
--- a step of this call
-of_call : (b : State) (c d : ℕ) (e : ℕ → Event) → d ≡ c → Keeps b c (row b (e c)) → without_attempt_of c (step b (e d)) ≡ without_attempt_of c b
-of_call b c d e same keeps = subst (λ d. without_attempt_of c (step b (e d)) ≡ without_attempt_of c b) (sym same) (kept b c (row b (e c)) keeps)
+module _ (b : State) (sound : IsSound b) (c : ℕ) (s : Option ChanId) (k : AttemptKind) (g : Stage) (o : Option ChanId) (n : Option ℕ) (known : record_of b c ≡ Some (attempting s k g o n)) where
+  abbrev Leaves : Event → Type 0
+  Leaves e = Numbered b sound c s k g o n known e (reply_to b e) (step b e)
+
+  -- a step of this call
+  of_call : (e : ℕ → Event) (d : ℕ) → Some d ≡ Some c → Leaves (e c) → Leaves (e d)
+  of_call e d by leaves = subst (λ d. Leaves (e d)) (sym (same_some d c by)) leaves
+
+  goes : (e : ℕ → Event) (d : ℕ) → Some d ≡ Some c → number_of (e c) ≡ None → Keeps b c s k o n (row b (e c)) → Leaves (e d)
+  goes e d by none keeps = of_call e d by (unnumbered b sound c s k g o n known (e c) (reply_to b (e c)) (step b (e c)) none (kept b sound c s k g o n known (row b (e c)) keeps))
+
+  call_leaves : (e : Event) → call_of e ≡ Some c → (IsTrue (is_accepted (reply_to b e)) → EndsIt c e → ⊥) → Leaves e
+  call_leaves (event.Open d x) by ends = goes (λ d. event.Open d x) d by refl (open_goes b sound c s k g o n known x)
+  call_leaves (event.Clear d) by ends = goes event.Clear d by refl (clear_goes b sound c s k g o n known)
+  call_leaves (event.Look d) by ends = goes event.Look d by refl (look_goes b sound c s k g o n known)
+  call_leaves (event.Take d from x) by ends = goes (λ d. event.Take d from x) d by refl (take_goes b sound c s k g o n known from x)
+  call_leaves (event.Reserve d m) by ends =
+      of_call (λ d. event.Reserve d m) d by (reserved b sound c s k g o n known m (row b (event.Reserve c m)) (reserve_goes b sound c s k g o n known m))
+  call_leaves (event.Activate d) by ends = goes event.Activate d by refl (activate_goes b sound c s k g o n known)
+  call_leaves (event.Command d) by ends = goes event.Command d by refl (command_goes b sound c s k g o n known)
+  call_leaves (event.Complete d) by ends = goes event.Complete d by refl (complete_goes b sound c s k g o n known
+      (λ accepted. ends (subst (λ d. IsTrue (is_accepted (reply_to b (event.Complete d)))) (sym (same_some d c by)) accepted) (inr (inl (ap event.Complete (same_some d c by))))))
+  call_leaves (event.Undo d why) by ends = goes (λ d. event.Undo d why) d by refl (undo_goes b sound c s k g o n known why
+      (λ accepted. ends (subst (λ d. IsTrue (is_accepted (reply_to b (event.Undo d why)))) (sym (same_some d c by)) accepted) (inl (why, ap (λ d. event.Undo d why) (same_some d c by)))))
+  call_leaves (event.Confirm x) by ends = cc
+  call_leaves (event.Refuse x) by ends = cc
+  call_leaves (event.Detect x) by ends = cc
+  call_leaves (event.Released x) by ends = cc
+  call_leaves (event.Owner x) by ends = cc
+  call_leaves (event.Require d) by ends = goes event.Require d by refl (require_goes b sound c s k g o n known)
+  call_leaves (event.Order d) by ends = goes event.Order d by refl (order_goes b sound c s k g o n known)
+  call_leaves (event.Left d) by ends = goes event.Left d by refl (left_goes b sound c s k g o n known
+      (λ accepted. ends (subst (λ d. IsTrue (is_accepted (reply_to b (event.Left d)))) (sym (same_some d c by)) accepted) (inr (inr (ap event.Left (same_some d c by))))))
+
+  station_leaves : (t : ChanId) → o ≡ Some t → (e : Event) → channel_of e ≡ Some t → Leaves e
+  station_leaves t aims e on = let step_of = by e on in unnumbered b sound c s k g o n known e (reply_to b e) (step b e) step_of.0 (subst (λ o. Goes b c s k o n (step b e)) (sym aims) step_of.1)
+    where
+      there : record_of b c ≡ Some (attempting s k g (Some t) n)
+      there = known ∙ ap (λ o. Some (attempting s k g o n)) aims
+
+      at : (e : ChanId → Event) (x : ChanId) → Some x ≡ Some t → number_of (e x) ≡ None → Keeps b c s k (Some t) n (row b (e t)) → (number_of (e x) ≡ None) × Goes b c s k (Some t) n (step b (e x))
+      at e x here none keeps = (none, subst (λ x. Goes b c s k (Some t) n (step b (e x))) (sym (same_some x t here)) (kept b sound c s k g (Some t) n there (row b (e t)) keeps))
+
+      by : (e : Event) → channel_of e ≡ Some t → (number_of e ≡ None) × Goes b c s k (Some t) n (step b e)
+      by (event.Open d x) on = cc
+      by (event.Clear d) on = cc
+      by (event.Look d) on = cc
+      by (event.Take d from x) on = cc
+      by (event.Reserve d m) on = cc
+      by (event.Activate d) on = cc
+      by (event.Command d) on = cc
+      by (event.Complete d) on = cc
+      by (event.Undo d why) on = cc
+      by (event.Confirm x) on = at event.Confirm x on refl (confirm_goes b sound c s k g t n there (state_of b t) refl)
+      by (event.Refuse x) on = at event.Refuse x on refl (refuse_goes b sound c s k g t n there (state_of b t) refl)
+      by (event.Detect x) on = at event.Detect x on refl (detect_goes b sound c s k g t n there (state_of b t) refl)
+      by (event.Released x) on = at event.Released x on refl (released_goes b sound c s k g t n there (state_of b t) refl)
+      by (event.Owner x) on = at event.Owner x on refl (owner_goes b sound c s k g (Some t) n there t)
+      by (event.Require d) on = cc
+      by (event.Order d) on = cc
+      by (event.Left d) on = cc
+
+-- an attempt that is open, by what is said of it in public
+is_open : (b : State) (c : ℕ) (s : Option ChanId) (k : AttemptKind) (o : Option ChanId) (n : Option ℕ) (after : State) → Goes b c s k o n after → IsOpen c o n after
+is_open b c s k o n after goes = record {
+  call_record = attempting s k goes.stage o n;
+  attempt = record { kind = k; stage = goes.stage; target = o; reference = n };
+  of_call = goes.still;
+  of_record = refl;
+  aims = refl;
+  has = refl;
+}
 
 pub own_steps_change_the_attempt : OwnStepsChangeTheAttempt
-own_steps_change_the_attempt e c r a b sound is has goes = by e goes
-  where
-    known : record_of b c ≡ Some (attempting r.serving a.kind a.stage a.target a.reference)
-    known = is ∙ ap (λ o. Some (record r { attempt = o })) has
-
-    at : (x : ChanId) → a.target ≡ Some x → record_of b c ≡ Some (attempting r.serving a.kind a.stage (Some x) a.reference)
-    at x aims = known ∙ ap (λ o. Some (attempting r.serving a.kind a.stage o a.reference)) aims
-
-    by : (e : Event) → GoesOn c a.target e → without_attempt_of c (step b e) ≡ without_attempt_of c b
-    by (event.Open d x) goes = absurd goes
-    by (event.Clear d) goes = absurd goes
-    by (event.Look d) goes = of_call b c d event.Look goes (look_goes b sound c _ _ _ _ _ known)
-    by (event.Take d k x) goes = absurd goes
-    by (event.Reserve d m) goes = of_call b c d (λ d. event.Reserve d m) goes (reserve_goes b sound c _ _ _ _ _ known m)
-    by (event.Activate d) goes = of_call b c d event.Activate goes (activate_goes b sound c _ _ _ _ _ known)
-    by (event.Command d) goes = of_call b c d event.Command goes (command_goes b sound c _ _ _ _ _ known)
-    by (event.Complete d) goes = absurd goes
-    by (event.Undo d why) goes = absurd goes
-    by (event.Confirm x) goes = kept b c (row b (event.Confirm x)) (confirm_goes b sound c _ _ _ x _ (at x goes) (state_of b x) refl)
-    by (event.Refuse x) goes = kept b c (row b (event.Refuse x)) (refuse_goes b sound c _ _ _ x _ (at x goes) (state_of b x) refl)
-    by (event.Detect x) goes = kept b c (row b (event.Detect x)) (detect_goes b sound c _ _ _ x _ (at x goes) (state_of b x) refl)
-    by (event.Released x) goes = absurd goes
-    by (event.Owner x) goes = kept b c (row b (event.Owner x)) (owner_goes b sound c _ _ _ _ _ known x)
-    by (event.Require d) goes = absurd goes
-    by (event.Order d) goes = of_call b c d event.Order goes (order_goes b sound c _ _ _ _ _ known)
-    by (event.Left d) goes = absurd goes
+own_steps_change_the_attempt e c target number b sound opened own ends =
+    let s : Option ChanId = opened.call_record.serving in
+    let k : AttemptKind = opened.attempt.kind in
+    let g : Stage = opened.attempt.stage in
+    let known : record_of b c ≡ Some (attempting s k g target number)
+    = opened.of_call ∙ ap (λ o. Some (record opened.call_record { attempt = o })) opened.of_record ∙ (λ i. Some (attempting s k g (opened.aims i) (opened.has i))) in
+    let leaves : Leaves b sound c s k g target number known e
+    = elim own [
+      | inl by ↦ call_leaves b sound c s k g target number known e by ends
+      | inr on ↦ station_leaves b sound c s k g target number known on.0 on.1 e on.2
+    ] in
+    record { changed = leaves.0.rest; opened = is_open b c s k target (number_after number e (reply_to b e)) (step b e) leaves.0; first_number = leaves.1 }

@@ -34,15 +34,15 @@ pub same_chan_itself : (x : ChanId) → same_chan x x ≡ true
 same_chan_itself x = and_from _ _ (eq-eqb x.cell x.cell refl) (and_from _ _ (eq-eqb x.trx x.trx refl) (eq-eqb x.tn x.tn refl))
 
 -- and no other
+pub one_chan : (x y : ChanId) → same_chan x y ≡ true → x ≡ y
+one_chan x y e =
+    let (cells, places) = and_parts (x.cell == y.cell) (x.trx == y.trx && x.tn == y.tn) e in
+    let (trx, tn) = and_parts (x.trx == y.trx) (x.tn == y.tn) places in
+    λ i. record { cell = eqb-true x.cell y.cell cells i; trx = eqb-true x.trx y.trx trx i; tn = eqb-true x.tn y.tn tn i }
+
 pub other_chan : (x y : ChanId) → x ≢ y → same_chan x y ≡ false
 other_chan x y apart =
     elim (same_chan x y) as (λ b. same_chan x y ≡ b → b ≡ false) [
       | true ↦ λ e. absurd (apart (one_chan x y e))
       | false ↦ λ e. refl
     ] refl
-  where
-    one_chan : (x y : ChanId) → same_chan x y ≡ true → x ≡ y
-    one_chan x y e =
-        let (cells, places) = and_parts (x.cell == y.cell) (x.trx == y.trx && x.tn == y.tn) e in
-        let (trx, tn) = and_parts (x.trx == y.trx) (x.tn == y.tn) places in
-        λ i. record { cell = eqb-true x.cell y.cell cells i; trx = eqb-true x.trx y.trx trx i; tn = eqb-true x.tn y.tn tn i }

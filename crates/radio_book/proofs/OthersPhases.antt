@@ -20,7 +20,7 @@ use Rattle.radio_book.specs.Maps.{Entry, with_change}
 use Rattle.radio_book.specs.State.{State, apply, state_of, record_of}
 use Rattle.radio_book.specs.Table.{owner, Refuses, is_target, detect_by, detect_of, detect_at, resting_record, reference_held, reply_to, left_state, Outcome, Accepts, row, book_after}
 use Rattle.radio_book.specs.Sound.{IsSound, target_in, reference_of, armed_in}
-use Rattle.radio_book.specs.Others.{call_of, channel_of, IsHeldChannel, IsHeldReference, without_attempt, without_channel, CommutesWithUndone, UndoneIsRemoved, LeavesOpenAttempts}
+use Rattle.radio_book.specs.Others.{call_of, channel_of, IsHeldChannel, IsHeldReference, without_attempt, without_channel, CommutesWithUndone, UndoneIsRemoved, LeavesOpenAttempts, LeavesOffTargets}
 use Rattle.radio_book.proofs.KeyFacts.{chan_total, chan_exact, other_chan}
 use Rattle.radio_book.proofs.MapFacts.{put_put_same, call_cases, record_same}
 use Rattle.radio_book.proofs.Frame.{Touches, aimed_is_owned, serving_is_on}
@@ -207,3 +207,14 @@ leaves_open_attempts e agrees c r a b sound is has by alone reference =
       target_stays = target_avoided c r a b (row b e) agreed.away;
       timer_stays = (sound_step b e sound).timers c ∙ ap armed_in same ∙ sym (sound.timers c);
     }
+
+-- and while the target is off
+
+off_avoided : (t : ChanId) (b : State) (o : Outcome) → Avoids o (without_channel (Some t)) → state_of (book_after o b) t ≡ state_of b t
+off_avoided t b (Refuses refusal) away = refl
+off_avoided t b (Accepts change reply) away = state_kept change b t (untouched change.channel t None away.channel)
+
+pub leaves_off_targets : (e : Event) → AgreesWithOthers e → LeavesOffTargets e
+leaves_off_targets e agrees t b sound off alone =
+    let agreed = agrees (without_channel (Some t)) b sound (off_hides t b off) (off_others t e alone.event) (off_not_held t (reply_to b e) alone.reply) in
+    off_avoided t b (row b e) agreed.away ∙ off

@@ -1,6 +1,8 @@
 -- What single events and replies say of an attempt. Ours, of no standard.
-use Rattle.std.specs.Prelude.{ℕ, Bool, true, false, Option, Some, None, is_none}
+use Rattle.std.specs.Prelude.{◌≡◌, ◌⊎◌, ◌&&◌, ℕ, Bool, Option, Some, None, is_some, is_none}
 use Rattle.channel_fsm.specs.declared.ChanId.{ChanId}
+use Rattle.radio_book.specs.declared.event.Kind.{Kind}
+use Rattle.radio_book.specs.declared.event.Why.{Why}
 use Rattle.radio_book.specs.declared.event.Reference.{Reference}
 use Rattle.radio_book.specs.declared.event.Event.{Event}
 use Rattle.radio_book.specs.declared.event.Event.TheVariants as event
@@ -82,3 +84,20 @@ busy_reference (ChannelBusy x) = None
 busy_reference (RefBusy k n) = Some (record { cell = k; number = n })
 busy_reference (Unexpected x) = None
 busy_reference NotArmed = None
+
+-- an attempt of the call opens: a Take names its target, a Require has none
+abbrev pub Opens : ℕ → Option ChanId → Event → Type 0
+Opens c target e =
+    ((k : Kind) × (x : ChanId) × (e ≡ event.Take c k x) × (target ≡ Some x)) ⊎ ((e ≡ event.Require c) × (target ≡ None))
+
+-- the call's attempt is taken back, for whatever reason
+abbrev pub Undoes : ℕ → Event → Type 0
+Undoes c e = (why : Why) × (e ≡ event.Undo c why)
+
+-- the call's attempt is over: it was taken back, the mobile came to its target, or left for another controller
+abbrev pub EndsIt : ℕ → Event → Type 0
+EndsIt c e = Undoes c e ⊎ (e ≡ event.Complete c) ⊎ (e ≡ event.Left c)
+
+-- the event reserved a reference
+abbrev pub is_reserved : Event → Reply → Bool
+is_reserved e reply = is_some (number_of e) && is_accepted reply

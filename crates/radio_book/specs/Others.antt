@@ -1,5 +1,5 @@
 -- Steps of others, while an attempt is open and while its target's release is awaited. Ours, of no standard.
-use Rattle.std.specs.Prelude.{◌≡◌, ◌⊎◌, ℕ, Option, Some, None}
+use Rattle.std.specs.Prelude.{◌≡◌, ◌⊎◌, ℕ, if◌then◌else◌, IsTrue, Option, Some, None}
 use Rattle.std.specs.Option.{option_map}
 use Rattle.std.specs.FinMap as map
 use Rattle.channel_fsm.specs.declared.ChanId.{ChanId}
@@ -7,15 +7,15 @@ use Rattle.channel_fsm.specs.declared.ChanState.TheVariants.{Free, Off}
 use Rattle.radio_book.specs.declared.event.Reference.{Reference}
 use Rattle.radio_book.specs.declared.event.Attempt.{Attempt}
 use Rattle.radio_book.specs.declared.event.CallRecord.{CallRecord}
-use Rattle.radio_book.specs.declared.event.Kind.{Kind}
 use Rattle.radio_book.specs.declared.event.Event.{Event}
 use Rattle.radio_book.specs.declared.event.Event.TheVariants as event
 use Rattle.radio_book.specs.declared.event.Refusal.TheVariants.{ChannelBusy, RefBusy}
 use Rattle.radio_book.specs.declared.event.Reply.{Reply}
-use Rattle.radio_book.specs.declared.event.Reply.TheVariants.{Done, Refused}
+use Rattle.radio_book.specs.declared.event.Reply.TheVariants.{Refused}
 use Rattle.attempt_journal.specs.declared.Timer.{Timer}
 use Rattle.radio_book.specs.State.{State, Change, apply, state_of, record_of}
 use Rattle.radio_book.specs.Sound.{IsSound}
+use Rattle.radio_book.specs.Kinds.{Opens, EndsIt, number_of, is_accepted, is_reserved}
 use Rattle.radio_book.specs.Table.{step, reply_to, undo_change, reference_held, no_change}
 
 -- the call that an event is asked for; a station's event is asked for none
@@ -114,6 +114,10 @@ abbrev pub CommutesWhileOff : Event → Type 0
 CommutesWhileOff e =
     (t : ChanId) (b : State) → IsSound b → state_of b t ≡ Off → LeavesAlone t b e → Commutes (without_channel (Some t)) b e
 
+-- and it leaves the target off
+abbrev pub LeavesOffTargets : Event → Type 0
+LeavesOffTargets e = (t : ChanId) (b : State) → IsSound b → state_of b t ≡ Off → LeavesAlone t b e → state_of (step b e) t ≡ Off
+
 pub record CommutesWithUndone (e : Event) : Type 0 where
   pub while_open : CommutesWhileOpen e
   pub while_off : CommutesWhileOff e
@@ -136,37 +140,43 @@ without_attempt_in c (Some r) b = without_open c r r.attempt b
 abbrev pub without_attempt_of : ℕ → State → State
 without_attempt_of c b = without_attempt_in c (record_of b c) b
 
--- an attempt of this call opens: it takes a channel, or a handover to another controller is asked for
-abbrev pub IsOpening : ℕ → Event → Type 0
-IsOpening c e = ((k : Kind) × (x : ChanId) × (e ≡ event.Take c k x)) ⊎ (e ≡ event.Require c)
+-- an attempt of the call is open, with this target and this number of its reference
+pub record IsOpen (c : ℕ) (target : Option ChanId) (number : Option ℕ) (b : State) : Type 0 where
+  pub call_record : CallRecord
+  pub attempt : Attempt
+  pub of_call : record_of b c ≡ Some call_record
+  pub of_record : call_record.attempt ≡ Some attempt
+  pub aims : attempt.target ≡ target
+  pub has : attempt.reference ≡ number
 
--- an opening that is accepted changes nothing but what the attempt has
+-- the attempt is open, without a reference, and else the book is as it was
+pub record AddsTheAttempt (c : ℕ) (target : Option ChanId) (b : State) (e : Event) : Type 0 where
+  pub rest : without_attempt_of c (step b e) ≡ b
+  pub opened : IsOpen c target None (step b e)
+
+-- so is it after an opening that is accepted
 abbrev pub OpeningsAddTheAttempt : Type 0
 OpeningsAddTheAttempt =
-    (e : Event) (c : ℕ) (b : State) → IsSound b → IsOpening c e → reply_to b e ≡ Done → without_attempt_of c (step b e) ≡ b
+    (e : Event) (c : ℕ) (target : Option ChanId) (b : State) →
+    IsSound b → Opens c target e → IsTrue (is_accepted (reply_to b e)) → AddsTheAttempt c target b e
 
--- a step by which an open attempt of a call with this target goes on, or which looks at it; the others end it or are refused
-abbrev pub GoesOn : ℕ → Option ChanId → Event → Type 0
-GoesOn c target (event.Open d x) = ⊥
-GoesOn c target (event.Clear d) = ⊥
-GoesOn c target (event.Look d) = d ≡ c
-GoesOn c target (event.Take d k x) = ⊥
-GoesOn c target (event.Reserve d n) = d ≡ c
-GoesOn c target (event.Activate d) = d ≡ c
-GoesOn c target (event.Command d) = d ≡ c
-GoesOn c target (event.Complete d) = ⊥
-GoesOn c target (event.Undo d why) = ⊥
-GoesOn c target (event.Confirm x) = target ≡ Some x
-GoesOn c target (event.Refuse x) = target ≡ Some x
-GoesOn c target (event.Detect x) = target ≡ Some x
-GoesOn c target (event.Released x) = ⊥
-GoesOn c target (event.Owner x) = target ≡ Some x
-GoesOn c target (event.Require d) = ⊥
-GoesOn c target (event.Order d) = d ≡ c
-GoesOn c target (event.Left d) = ⊥
+-- an event by the attempt's call, or a station's about its target
+abbrev pub IsOwn : ℕ → Option ChanId → Event → Type 0
+IsOwn c target e = (call_of e ≡ Some c) ⊎ ((t : ChanId) × (target ≡ Some t) × (channel_of e ≡ Some t))
 
--- such a step changes nothing but what the attempt has
+-- the number of an attempt's reference after a step of its own, by that before
+abbrev pub number_after : Option ℕ → Event → Reply → Option ℕ
+number_after number e reply = if is_reserved e reply then number_of e else number
+
+-- the step changes nothing but what the attempt has, which stays open; it reserves a reference only where it has none
+pub record GoesOn (c : ℕ) (target : Option ChanId) (number : Option ℕ) (b : State) (e : Event) : Type 0 where
+  pub changed : without_attempt_of c (step b e) ≡ without_attempt_of c b
+  pub opened : IsOpen c target (number_after number e (reply_to b e)) (step b e)
+  pub first_number : IsTrue (is_reserved e (reply_to b e)) → number ≡ None
+
+-- so goes each own step of an attempt that doesn't end it
 abbrev pub OwnStepsChangeTheAttempt : Type 0
 OwnStepsChangeTheAttempt =
-    (e : Event) (c : ℕ) (r : CallRecord) (a : Attempt) (b : State) → IsSound b → record_of b c ≡ Some r → r.attempt ≡ Some a →
-    GoesOn c a.target e → without_attempt_of c (step b e) ≡ without_attempt_of c b
+    (e : Event) (c : ℕ) (target : Option ChanId) (number : Option ℕ) (b : State) →
+    IsSound b → IsOpen c target number b → IsOwn c target e → (IsTrue (is_accepted (reply_to b e)) → EndsIt c e → ⊥) →
+    GoesOn c target number b e

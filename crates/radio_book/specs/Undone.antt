@@ -1,16 +1,13 @@
 -- An attempt that is undone within a list of steps: what stays of the list without it, which of that was refused for what
 -- the attempt held, and whether its channel came back. Ours, of no standard.
-use Rattle.std.specs.Prelude.{◌≡◌, ◌⊎◌, ◌+◌, ℕ, Bool, true, false, not, ◌&&◌, ◌||◌, ◌==◌, if◌then◌else◌, IsTrue, List, [], ◌∷◌, ◌++◌, map, filter, find, All, slice_get, Option, Some, None, is_some}
+use Rattle.std.specs.Prelude.{◌≡◌, ◌+◌, ℕ, Bool, true, false, not, ◌&&◌, ◌||◌, ◌==◌, if◌then◌else◌, IsTrue, List, [], ◌∷◌, ◌++◌, map, filter, find, All, slice_get, Option, Some, None, is_some}
 use Rattle.std.specs.Option.{option_map, option_and_then}
 use Rattle.std.specs.List.{list_any}
 use Rattle.channel_fsm.specs.declared.ChanId.{ChanId}
 use Rattle.channel_fsm.specs.declared.ChanState.{ChanState}
 use Rattle.channel_fsm.specs.declared.ChanState.TheVariants.{Free, Held, Pending, On, Off}
-use Rattle.radio_book.specs.declared.event.Kind.{Kind}
-use Rattle.radio_book.specs.declared.event.Why.{Why}
 use Rattle.radio_book.specs.declared.event.Reference.{Reference}
 use Rattle.radio_book.specs.declared.event.Event.{Event}
-use Rattle.radio_book.specs.declared.event.Event.TheVariants as event
 use Rattle.radio_book.specs.declared.event.Refusal.{Refusal}
 use Rattle.radio_book.specs.declared.event.Reply.{Reply}
 use Rattle.radio_book.specs.declared.undone.StepAt.{StepAt}
@@ -18,7 +15,8 @@ use Rattle.radio_book.specs.State.{State, state_of}
 use Rattle.radio_book.specs.Table.{step, reply_to, same_chan, reference_held}
 use Rattle.radio_book.specs.Run.{run_book}
 use Rattle.radio_book.specs.Others.{call_of, channel_of}
-use Rattle.radio_book.specs.Kinds.{released_by, number_of, refusal_of, is_accepted, busy_channel, busy_reference}
+pub use Rattle.radio_book.specs.Kinds.{Opens, Undoes}
+use Rattle.radio_book.specs.Kinds.{EndsIt, released_by, number_of, refusal_of, is_accepted, busy_channel, busy_reference}
 
 -- LISTS OF STEPS
 
@@ -61,18 +59,9 @@ pub record Undone : Type 0 where
   -- the undo left the target off, so that its release is awaited
   pub awaited : Bool
 
--- an attempt of the call opens: a Take names its target, a Require has none
-abbrev pub Opens : ℕ → Option ChanId → Event → Type 0
-Opens c target e =
-    ((k : Kind) × (x : ChanId) × (e ≡ event.Take c k x) × (target ≡ Some x)) ⊎ ((e ≡ event.Require c) × (target ≡ None))
-
--- the call's attempt is taken back, for whatever reason
-abbrev pub Undoes : ℕ → Event → Type 0
-Undoes c e = (why : Why) × (e ≡ event.Undo c why)
-
--- with this step the call's attempt is over: it was taken back, the mobile came to its target, or left for another controller
+-- with this step the call's attempt is over
 abbrev pub Ends : ℕ → StepAt → Type 0
-Ends c s = IsTrue (is_accepted s.reply) × (Undoes c s.event ⊎ (s.event ≡ event.Complete c) ⊎ (s.event ≡ event.Left c))
+Ends c s = IsTrue (is_accepted s.reply) × EndsIt c s.event
 
 -- the steps fall into these parts: an accepted opening, and the first accepted undo after it, before which nothing else
 -- ended the attempt

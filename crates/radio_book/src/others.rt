@@ -13,8 +13,9 @@
 //! There is one law for each kind of event, one for them all, and one that ties the two phases: an undo and
 //! then the taking out of the target leave what the taking away of the whole attempt leaves.
 //!
-//! Three more say what an induction over events needs: such a step leaves the attempt as it is; the opening of an
-//! attempt adds what it has, and nothing else; and its own steps change that alone.
+//! Four more say what an induction over events needs: such a step leaves the attempt as it is, and the target off
+//! while its release is awaited; the opening of an attempt adds what it has, and nothing else; and its own steps
+//! change that alone, until one ends it.
 
 ghost use Rattle.std.specs.Prelude.{ℕ};
 ghost use Rattle.channel_fsm.specs.declared.ChanId.{ChanId};
@@ -22,7 +23,7 @@ ghost use Rattle.radio_book.specs.declared.event.Kind.{Kind};
 ghost use Rattle.radio_book.specs.declared.event.Why.{Why};
 ghost use Rattle.radio_book.specs.declared.event.Event.{Event};
 ghost use Rattle.radio_book.specs.declared.event.Event.TheVariants as event;
-ghost use Rattle.radio_book.specs.Others.{CommutesWithUndone, LeavesOpenAttempts, UndoneIsRemoved, OpeningsAddTheAttempt, OwnStepsChangeTheAttempt};
+ghost use Rattle.radio_book.specs.Others.{CommutesWithUndone, LeavesOpenAttempts, LeavesOffTargets, UndoneIsRemoved, OpeningsAddTheAttempt, OwnStepsChangeTheAttempt};
 
 /// A call that begins.
 pub fn open_commutes()
@@ -125,7 +126,8 @@ pub fn openings_add_the_attempt()
     ensures added { OpeningsAddTheAttempt }
 {}
 
-/// An attempt that goes on changes what it has, and nothing else in the book.
+/// A step of an open attempt's own that doesn't end it, accepted or refused, changes what the attempt has, and nothing
+/// else in the book. The attempt stays open, with its target; it gets its reference by the one Reserve that is accepted.
 pub fn own_steps_change_the_attempt()
     ensures changed { OwnStepsChangeTheAttempt }
 {}
@@ -133,4 +135,9 @@ pub fn own_steps_change_the_attempt()
 /// A step of others leaves an open attempt as it is.
 pub fn steps_leave_open_attempts()
     ensures leaves { (e : Event) → LeavesOpenAttempts e }
+{}
+
+/// A step of others leaves the target of an undone attempt off, while its release is awaited.
+pub fn steps_leave_off_targets()
+    ensures leaves { (e : Event) → LeavesOffTargets e }
 {}
