@@ -25,3 +25,8 @@ pub mod OthersPhases
 pub mod OwnSteps
 pub mod GoingOn
 pub mod EachAgrees
+pub mod StepFacts
+pub mod OpenPhase
+pub mod OffPhase
+pub mod Answered
+pub mod NoTrace

@@ -12,3 +12,4 @@ pub mod Choice
 pub mod Others
 pub mod Kinds
 pub mod Undone
+pub mod NoTrace

@@ -2,6 +2,7 @@
 ghost use Rattle.radio_book.specs.Run.{StepsKeepSound, RunsAreSound, LeadsIsRun};
 ghost use Rattle.radio_book.specs.Channels.{ChannelsTakeSteps};
 ghost use Rattle.radio_book.specs.Journal.{InversesUndo};
+ghost use Rattle.radio_book.specs.NoTrace.{UndoneAttemptsLeaveNoTrace};
 
 /// Every event leads from a sound book to a sound one.
 pub fn steps_keep_sound()
@@ -27,4 +28,11 @@ pub fn leads_is_run()
 /// channel that the event may change.
 pub fn channels_take_steps()
     ensures steps { ChannelsTakeSteps }
+{}
+
+/// An undone attempt leaves no trace. From every sound book, by any events: where the attempt is settled, and none of
+/// the others met a held refusal, the book is the one that the others alone lead to, and each of them got the same
+/// reply.
+pub fn undone_attempts_leave_no_trace()
+    ensures no_trace { UndoneAttemptsLeaveNoTrace }
 {}
