@@ -4,6 +4,7 @@ pub mod TableFacts
 pub mod CopyFacts
 pub mod JournalFacts
 pub mod EntryFacts
+pub mod SameFacts
 pub mod Frame
 pub mod SoundParts
 pub mod SoundHandover

@@ -1,5 +1,5 @@
 -- By what order the tables keep channels and references, and how each is written as numbers. Ours, of no standard.
-use Rattle.std.specs.Prelude.{ℕ, refl}
+use Rattle.std.specs.Prelude.{◌≡◌, ◌+◌, ◌*◌, ◌<◌, ℕ, refl}
 use Rattle.std.specs.declared.cmp.Ordering.{Ordering}
 use Rattle.std.specs.Ordering.{nat_cmp, ordering_then}
 use Rattle.std.specs.Coded.{Coded, code_by, coded×, coded_ℕ}
@@ -14,6 +14,12 @@ abbrev pub coded_chan : Coded ChanId
 coded_chan =
     code_by (ℕ × (ℕ × ℕ)) (coded× coded_ℕ (coded× coded_ℕ coded_ℕ)) (λ x. (x.cell, (x.trx, x.tn)))
     (λ p. record { cell = p.0; trx = p.1.0; tn = p.1.1 }) (λ _. refl)
+
+-- the number of a channel, in whose order channels stand: a cell has fewer than 256 TRX, and a TRX fewer timeslots
+pub record IsNumberOf (n : ℕ) (x : ChanId) : Type 0 where
+  pub number : n ≡ (x.cell * 256 + x.trx) * 256 + x.tn
+  pub trx : x.trx < 256
+  pub tn : x.tn < 256
 
 -- references stand by cell, then number
 abbrev pub reference_cmp : Reference → Reference → Ordering

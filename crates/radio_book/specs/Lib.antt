@@ -1,5 +1,6 @@
 pub mod Keys
 pub mod Maps
+pub mod Same
 pub mod State
 pub mod Channels
 pub mod Stages

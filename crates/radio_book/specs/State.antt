@@ -28,14 +28,20 @@ pub record State : Type 0 where
   -- the armed timers (TS 44.018 clause 11.1.2, TS 48.008 clause 3.1.5): a call has at most one, so they stand by their calls
   pub timers : map.FinMap nat_cmp Timer
 
+abbrev pub channels_code : Coded (map.FinMap chan_cmp ChanState)
+channels_code = map.code coded_chan state_row.coded
+
+abbrev pub references_code : Coded (map.FinMap reference_cmp ℕ)
+references_code = map.code coded_reference coded_ℕ
+
 abbrev pub state_code : Coded State
 state_code =
     code_by
     (SiteView ×
     (map.FinMap chan_cmp ChanState × (map.FinMap nat_cmp CallRecord × (map.FinMap reference_cmp ℕ × map.FinMap nat_cmp Timer))))
     (coded× site_code
-    (coded× (map.code coded_chan state_row.coded)
-    (coded× (map.code coded_ℕ record_row.coded) (coded× (map.code coded_reference coded_ℕ) (map.code coded_ℕ timer_row.coded)))))
+    (coded× channels_code
+    (coded× (map.code coded_ℕ record_row.coded) (coded× references_code (map.code coded_ℕ timer_row.coded)))))
     (λ b. (b.site, (b.channels, (b.calls, (b.references, b.timers)))))
     (λ p. record { site = p.0; channels = p.1.0; calls = p.1.1.0; references = p.1.1.1.0; timers = p.1.1.1.1 })
     (λ _. refl)

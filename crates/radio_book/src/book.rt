@@ -1,7 +1,9 @@
 //! The radio book.
-ghost use Rattle.std.specs.Prelude.{◌≡◌, ◌↔◌, ℕ, Option, Ok, None, OnOk, OnErr, IfOk, IfSome, IsOk};
+ghost use Rattle.std.specs.Prelude.{◌≡◌, ◌↔◌, ℕ, Option, Ok, None, OnOk, OnErr, IfOk, IfSome, IsOk, IsTrue};
 ghost use Rattle.std.specs.FinMap as map;
-ghost use Rattle.radio_book.specs.State.{empty_book};
+ghost use Rattle.radio_book.specs.State.{empty_book, state_code};
+ghost use Rattle.radio_book.specs.Same.{is_same, is_same-IsEquivalence};
+ghost use Rattle.std.specs.Cmp.{partial_equiv_from_equiv};
 ghost use Rattle.radio_book.specs.Sound.{IsSound};
 ghost use Rattle.channel_fsm.specs.declared.ChanState.{ChanState};
 ghost use Rattle.radio_book.specs.declared.event.CallRecord.{CallRecord};
@@ -49,6 +51,25 @@ impl<A: Allocator> Model for Book<A> {
     ghost view = { λ book. book.records };
 
     ghost invariant = { λ book. IsSound book.records };
+}
+
+/// Two books are equal where their sites, the states of their channels, the records of their calls, their references in
+/// use and their armed timers are equal. Takes no memory.
+impl<A: Allocator> PartialEq for Book<A> {
+    ghost eq = { is_same state_code };
+
+    ghost laws = { partial_equiv_from_equiv (is_same-IsEquivalence state_code) };
+
+    fn eq(&self, other: &Book<A>) -> bool
+        ensures value { result ≡ is_same state_code self.now other.now }
+        ensures same { IsTrue result ↔ (self.now ≡ other.now) }
+    {
+        self.records == other.records
+    }
+}
+
+impl<A: Allocator> Eq for Book<A> {
+    ghost laws = { is_same-IsEquivalence state_code };
 }
 
 impl<A: Allocator + Copy> Book<A> {

@@ -5,6 +5,9 @@ ghost use Rattle.radio_book.specs.declared.event.AttemptKind.TheVariants.{Intern
 ghost use Rattle.radio_book.specs.declared.event.Stage.TheVariants as stage;
 ghost use Rattle.radio_book.specs.Table.{with_attempt, at_stage, taken_attempt, required_attempt, reserved_record};
 ghost use Rattle.radio_book.specs.Journal.{journal_of, back_one_stage};
+ghost use Rattle.radio_book.specs.Entries.{kept_code};
+ghost use Rattle.radio_book.specs.Same.{is_same, is_same-IsEquivalence};
+ghost use Rattle.std.specs.Cmp.{partial_equiv_from_equiv};
 
 use crate::event::{Attempt, AttemptKind, CallRecord, Stage, Timer};
 use attempt_journal::{Inverse, Journal};
@@ -32,6 +35,17 @@ impl Model for CallEntry {
     ghost view = { λ entry. record { call = entry.record; timer = entry.timer } };
 
     ghost invariant = { λ entry. entry.journal ≡ journal_of entry.record.attempt };
+}
+
+/// The journal is no part of it: the record fixes it.
+impl PartialEq for CallEntry {
+    ghost eq = { is_same kept_code };
+
+    ghost laws = { partial_equiv_from_equiv (is_same-IsEquivalence kept_code) };
+
+    fn eq(&self, other: &CallEntry) -> bool {
+        self.record == other.record && self.timer == other.timer
+    }
 }
 
 impl Clone for CallEntry {

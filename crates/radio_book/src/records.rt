@@ -2,7 +2,9 @@
 ghost use Rattle.std.specs.Prelude.{◌≡◌, OnOk, OnErr, IfOk, Some, None};
 ghost use Rattle.std.specs.FinMap as map;
 ghost use Rattle.cell_table.specs.Site.{is_traffic};
-ghost use Rattle.radio_book.specs.State.{empty_book, state_of};
+ghost use Rattle.radio_book.specs.State.{empty_book, state_of, state_code};
+ghost use Rattle.radio_book.specs.Same.{is_same, is_same-IsEquivalence};
+ghost use Rattle.std.specs.Cmp.{partial_equiv_from_equiv};
 ghost use Rattle.radio_book.specs.Sound.{IsSound};
 ghost use Rattle.radio_book.specs.Table.{step, reply_to, row, NeedsRoom, MayNeedRoom, record_reply};
 
@@ -44,6 +46,19 @@ impl<A: Allocator> Model for Records<A> {
       references = tables.references;
       timers = tables.calls.armed;
     } };
+}
+
+impl<A: Allocator> PartialEq for Records<A> {
+    ghost eq = { is_same state_code };
+
+    ghost laws = { partial_equiv_from_equiv (is_same-IsEquivalence state_code) };
+
+    fn eq(&self, other: &Records<A>) -> bool {
+        self.site == other.site
+            && self.channels == other.channels
+            && self.calls == other.calls
+            && self.references == other.references
+    }
 }
 
 impl<A: Allocator + Copy> Records<A> {

@@ -2,12 +2,15 @@
 ghost use Rattle.std.specs.Prelude.{◌≡◌, OnOk, OnErr, IfOk, None, IsSome, IfSome, is_some, count_by};
 ghost use Rattle.std.specs.BTreeMap.{values, IsOrdered};
 ghost use Rattle.std.specs.Ordering.{nat_cmp};
+ghost use Rattle.std.specs.Cmp.{partial_equiv_from_equiv};
 ghost use Rattle.std.specs.Option.{option_map};
 ghost use Rattle.std.specs.FinMap as map;
 ghost use Rattle.channel_fsm.specs.Table.{next_state};
 ghost use Rattle.channel_fsm.specs.declared.ChanState.TheVariants as state;
 ghost use Rattle.radio_book.specs.Maps.{with_change, put};
-ghost use Rattle.radio_book.specs.State.{or_free};
+ghost use Rattle.radio_book.specs.Same.{is_same, is_same-IsEquivalence};
+ghost use Rattle.radio_book.specs.Entries.{call_table_code};
+ghost use Rattle.radio_book.specs.State.{or_free, channels_code, references_code};
 ghost use Rattle.radio_book.specs.Channels.{state_after, channel_step};
 
 use crate::entry::CallEntry;
@@ -19,25 +22,35 @@ use std::marker::Model;
 
 mod key;
 
-use key::CallKey;
+use key::{CallKey, ChanKey};
 
 /// Channels with their states; a free one has no entry. A state changes by the steps of a channel alone.
 #[derive(Drop)]
 pub struct Channels<A: Allocator = Global> {
-    states: BTreeMap<ChanId, ChanState, A>,
+    states: BTreeMap<ChanKey, ChanState, A>,
 }
 
 impl<A: Allocator> Model for Channels<A> {
     ghost use Rattle.std.specs.FinMap as map;
-    ghost use Rattle.radio_book.specs.Keys.{chan_cmp, coded_chan};
+    ghost use Rattle.radio_book.specs.Keys.{chan_cmp};
+    ghost use Rattle.radio_book.specs.State.{channels_code};
     ghost use Rattle.channel_fsm.specs.declared.ChanState.{ChanState};
-    ghost use Rattle.channel_fsm.specs.contracts.ChanState.{the_row};
 
     ghost Value = { map.FinMap chan_cmp ChanState };
 
-    ghost coded = { map.code coded_chan the_row.coded };
+    ghost coded = { channels_code };
 
     ghost view = { λ table. map.from_entries table.states.entries };
+}
+
+impl<A: Allocator> PartialEq for Channels<A> {
+    ghost eq = { is_same channels_code };
+
+    ghost laws = { partial_equiv_from_equiv (is_same-IsEquivalence channels_code) };
+
+    fn eq(&self, other: &Channels<A>) -> bool {
+        self.states.len() == other.states.len() && self.states == other.states
+    }
 }
 
 impl<A: Allocator + Copy> Channels<A> {
@@ -65,7 +78,7 @@ impl<A: Allocator + Copy> Channels<A> {
     pub fn get(&self, x: ChanId) -> Option<ChanState>
         ensures { result ≡ map.get self.now x }
     {
-        self.states.get(&x).copied()
+        self.states.get(&ChanKey::of(x)).copied()
     }
 
     /// The state of a channel; one that has no entry is free.
@@ -93,13 +106,23 @@ impl<A: Allocator + Copy> Channels<A> {
         ensures { self.new ≡ with_change self.old
             (channel_step x event (or_free (map.get self.old x))) }
     {
-        let Some(state) = next(self.state(x), event) else {
+        let before = self.state(x);
+        self.step_from(x, before, event);
+    }
+
+    /// The same of a channel that is known to be in this state.
+    pub fn step_from(&mut self, x: ChanId, before: ChanState, event: ChanEvent)
+        requires state { or_free (map.get self.old x) ≡ before }
+        requires event { next_state state.Free event ≡ None }
+        ensures { self.new ≡ with_change self.old (channel_step x event before) }
+    {
+        let Some(after) = next(before, event) else {
             return;
         };
-        match state {
+        match after {
             ChanState::Free => self.remove(x),
             ChanState::Held(_) | ChanState::Pending(_) | ChanState::On(_) | ChanState::Off => {
-                self.replace(x, state)
+                self.replace(x, after)
             }
         }
     }
@@ -110,7 +133,7 @@ impl<A: Allocator + Copy> Channels<A> {
         ensures err { OnErr result (self.new ≡ self.old) }
         ensures new_key { OnErr result (map.get self.old x ≡ None) }
     {
-        self.states.insert(x, state)?;
+        self.states.insert(ChanKey::of(x), state)?;
         Ok(())
     }
 
@@ -119,7 +142,7 @@ impl<A: Allocator + Copy> Channels<A> {
         requires { IsSome (map.get self.old x) }
         ensures { self.new ≡ map.insert self.old x state }
     {
-        match self.states.get_mut(&x) {
+        match self.states.get_mut(&ChanKey::of(x)) {
             Some(place) => *place = state,
             None => unreachable!(),
         }
@@ -128,7 +151,7 @@ impl<A: Allocator + Copy> Channels<A> {
     fn remove(&mut self, x: ChanId)
         ensures { self.new ≡ map.remove self.old x }
     {
-        let _ = self.states.remove(&x);
+        let _ = self.states.remove(&ChanKey::of(x));
     }
 }
 
@@ -156,6 +179,16 @@ impl<A: Allocator> Model for Calls<A> {
       records = records_of table.entries.entries;
       armed = armed_of table.entries.entries;
     } };
+}
+
+impl<A: Allocator> PartialEq for Calls<A> {
+    ghost eq = { is_same call_table_code };
+
+    ghost laws = { partial_equiv_from_equiv (is_same-IsEquivalence call_table_code) };
+
+    fn eq(&self, other: &Calls<A>) -> bool {
+        self.entries.len() == other.entries.len() && self.entries == other.entries
+    }
 }
 
 impl<A: Allocator + Copy> Calls<A> {
@@ -280,14 +313,24 @@ pub struct References<A: Allocator = Global> {
 impl<A: Allocator> Model for References<A> {
     ghost use Rattle.std.specs.FinMap as map;
     ghost use Rattle.std.specs.Prelude.{ℕ};
-    ghost use Rattle.std.specs.Coded.{coded_ℕ};
-    ghost use Rattle.radio_book.specs.Keys.{reference_cmp, coded_reference};
+    ghost use Rattle.radio_book.specs.Keys.{reference_cmp};
+    ghost use Rattle.radio_book.specs.State.{references_code};
 
     ghost Value = { map.FinMap reference_cmp ℕ };
 
-    ghost coded = { map.code coded_reference coded_ℕ };
+    ghost coded = { references_code };
 
     ghost view = { λ table. map.from_entries table.users.entries };
+}
+
+impl<A: Allocator> PartialEq for References<A> {
+    ghost eq = { is_same references_code };
+
+    ghost laws = { partial_equiv_from_equiv (is_same-IsEquivalence references_code) };
+
+    fn eq(&self, other: &References<A>) -> bool {
+        self.users.len() == other.users.len() && self.users == other.users
+    }
 }
 
 impl<A: Allocator + Copy> References<A> {

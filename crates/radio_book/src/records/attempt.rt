@@ -169,7 +169,8 @@ impl<A: Allocator + Copy> Records<A> {
         ensures { self.new ≡ apply
             (record no_change { channel = with_state x (state.Pending call) }) self.old }
     {
-        self.channels.step(x, ChanEvent::Send(call));
+        self.channels
+            .step_from(x, ChanState::Held(call), ChanEvent::Send(call));
     }
 }
 

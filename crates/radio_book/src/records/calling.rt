@@ -114,9 +114,12 @@ impl<A: Allocator + Copy> Records<A> {
         ensures { self.new ≡ apply (record no_change
             { channel = Some (x, left_state (state_of self.old x)) }) self.old }
     {
-        match self.state_of(x) {
-            ChanState::Held(_) => self.channels.step(x, ChanEvent::Drop),
-            ChanState::Pending(_) | ChanState::On(_) => self.channels.step(x, ChanEvent::SwitchOff),
+        let state = self.state_of(x);
+        match state {
+            ChanState::Held(_) => self.channels.step_from(x, state, ChanEvent::Drop),
+            ChanState::Pending(_) | ChanState::On(_) => {
+                self.channels.step_from(x, state, ChanEvent::SwitchOff)
+            }
             ChanState::Free | ChanState::Off => unreachable!(),
         }
     }

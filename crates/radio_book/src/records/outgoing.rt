@@ -79,7 +79,8 @@ impl<A: Allocator + Copy> Records<A> {
             { channel = option_map (λ x. (x, Some state.Off)) serving }) self.old }
     {
         if let Some(x) = serving {
-            self.channels.step(x, ChanEvent::SwitchOff);
+            self.channels
+                .step_from(x, ChanState::On(call), ChanEvent::SwitchOff);
         }
     }
 }

@@ -22,7 +22,8 @@ impl<A: Allocator + Copy> Records<A> {
         let Some(ChanState::Pending(call)) = self.channels.get(x) else {
             return Reply::Refused(Refusal::Unexpected(x));
         };
-        self.channels.step(x, ChanEvent::Confirm);
+        self.channels
+            .step_from(x, ChanState::Pending(call), ChanEvent::Confirm);
         self.move_attempt(call, x, Stage::Confirmed);
         Reply::Owned(call)
     }
@@ -35,7 +36,8 @@ impl<A: Allocator + Copy> Records<A> {
         let Some(ChanState::Pending(call)) = self.channels.get(x) else {
             return Reply::Refused(Refusal::Unexpected(x));
         };
-        self.channels.step(x, ChanEvent::Refuse);
+        self.channels
+            .step_from(x, ChanState::Pending(call), ChanEvent::Refuse);
         self.move_attempt(call, x, Stage::Refused);
         Reply::Owned(call)
     }
@@ -67,7 +69,8 @@ impl<A: Allocator + Copy> Records<A> {
         let Some(ChanState::Off) = self.channels.get(x) else {
             return Reply::Refused(Refusal::Unexpected(x));
         };
-        self.channels.step(x, ChanEvent::Released);
+        self.channels
+            .step_from(x, ChanState::Off, ChanEvent::Released);
         Reply::Done
     }
 

@@ -1,4 +1,4 @@
-use Rattle.std.proofs.Common.{sym, ◌∙◌, ap}
+use Rattle.std.proofs.Common.{sym, ◌∙◌}
 use Rattle.std.specs.FinMap as map
 use Rattle.radio_book.proofs.MapFacts.{get_listed}
 use Rattle.radio_book.proofs.KeyFacts.{chan_total}
@@ -6,5 +6,5 @@ use Rattle.radio_book.proofs.tables.Channels.get.Goals as goal
 
 pub returns : goal.returns
 returns g c =
-    c.copied.ensures ∙ c.get.ensures.value ∙ sym (get_listed chan_total c.self.inside.states.entries c.args.x)
-    ∙ ap (λ m. map.get m c.args.x) c.self.view_is
+    c.copied.ensures ∙ c.get.ensures.value ∙ sym (get_listed chan_total c.self.inside.states.entries c.of.result)
+    ∙ (λ i. map.get (c.self.view_is i) (c.of.ensures i))

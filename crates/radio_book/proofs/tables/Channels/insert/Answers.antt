@@ -1,4 +1,4 @@
-use Rattle.std.proofs.Common.{Some, sym, ◌∙◌, ap}
+use Rattle.std.proofs.Common.{Some, sym, ◌∙◌}
 use Rattle.std.specs.FinMap as map
 use Rattle.radio_book.specs.Maps.{put}
 use Rattle.radio_book.proofs.TableFacts.{err_holds}
@@ -9,11 +9,11 @@ use Rattle.radio_book.proofs.tables.Channels.insert.Goals as goal
 pub returns-in_err-insert-clause-new_key : goal.returns-in_err-insert-clause-new_key
 returns-in_err-insert-clause-new_key g c =
     let absent =
-    sym (ap (λ m. map.get m c.args.x) c.self.view_is) ∙ get_listed chan_total c.self.inside.states.entries c.args.x
+    sym (λ i. map.get (c.self.view_is i) (c.of.ensures i)) ∙ get_listed chan_total c.self.inside.states.entries c.of.result
     ∙ c.in_err-insert.ensures.absent in
     err_holds c.from_residual.result absent
 
 pub returns-clause-ok : goal.returns-clause-ok
 returns-clause-ok g c =
-    put_listed chan_total chan_exact c.self.inside.states.entries c.insert.new.self.entries c.args.x (Some c.args.state) c.in_ok-insert.ensures.updates.0
-    ∙ ap (λ m. put m c.args.x (Some c.args.state)) c.self.view_is
+    put_listed chan_total chan_exact c.self.inside.states.entries c.insert.new.self.entries c.of.result (Some c.args.state) c.in_ok-insert.ensures.updates.0
+    ∙ (λ i. put (c.self.view_is i) (c.of.ensures i) (Some c.args.state))

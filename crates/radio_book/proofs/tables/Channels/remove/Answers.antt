@@ -1,4 +1,4 @@
-use Rattle.std.proofs.Common.{None, ◌∙◌, ap}
+use Rattle.std.proofs.Common.{None, ◌∙◌}
 use Rattle.radio_book.specs.Maps.{put}
 use Rattle.radio_book.proofs.MapFacts.{put_listed}
 use Rattle.radio_book.proofs.KeyFacts.{chan_total, chan_exact}
@@ -6,5 +6,5 @@ use Rattle.radio_book.proofs.tables.Channels.remove.Goals as goal
 
 pub returns : goal.returns
 returns g c =
-    put_listed chan_total chan_exact c.self.inside.states.entries c.remove.new.self.entries c.args.x None c.remove.ensures.updates.0
-    ∙ ap (λ m. put m c.args.x None) c.self.view_is
+    put_listed chan_total chan_exact c.self.inside.states.entries c.remove.new.self.entries c.of.result None c.remove.ensures.updates.0
+    ∙ (λ i. put (c.self.view_is i) (c.of.ensures i) None)

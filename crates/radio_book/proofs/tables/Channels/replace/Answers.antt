@@ -10,7 +10,7 @@ pub unreachable-requires : goal.unreachable-requires
 unreachable-requires g c =
     let absent =
     sym (ap option_copied_mut c.in-None.is) ∙ c.get_mut.ensures.value
-    ∙ sym (get_listed chan_total c.self.inside.states.entries c.args.x) ∙ ap (λ m. map.get m c.args.x) c.self.view_is in
+    ∙ sym (get_listed chan_total c.self.inside.states.entries c.of.result) ∙ (λ i. map.get (c.self.view_is i) (c.of.ensures i)) in
     let there = ap is_some absent ∙ c.requires in
     cc
 
@@ -18,5 +18,5 @@ pub returns : goal.returns
 returns g c =
     let there = sym (ap is_some (sym (ap option_copied_mut c.in-Some.is) ∙ c.get_mut.ensures.value)) in
     let written = c.get_mut.follows.holds c.args.state in
-    put_listed chan_total chan_exact c.self.inside.states.entries (c.get_mut.follows.lender c.args.state).entries c.args.x (Some c.args.state) (written.3 there).0
-    ∙ ap (λ m. put m c.args.x (Some c.args.state)) c.self.view_is
+    put_listed chan_total chan_exact c.self.inside.states.entries (c.get_mut.follows.lender c.args.state).entries c.of.result (Some c.args.state) (written.3 there).0
+    ∙ (λ i. put (c.self.view_is i) (c.of.ensures i) (Some c.args.state))
