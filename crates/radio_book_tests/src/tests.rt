@@ -17,95 +17,13 @@ use radio_book::event::Reply::{Done, Owned, Record, Refused};
 use radio_book::event::{
     Attempt, AttemptKind, CallRecord, Event, Kind, Refusal, Reply, Stage, Timer, Why,
 };
+use sample_sites::{HOME, MANY_CHANNELS, OTHER, SCATTERED, TARGET, THREE_CHANNELS};
 use std::alloc::{AllocError, Allocator, Global};
 use std::process::Abort;
 use std::sync::Arc;
 use std::test::Fail;
 
-// Cell 0 has timeslots 2 and 3 of TRX 0, cell 1 has timeslot 3 of TRX 1.
-const THREE_CHANNELS: &str = "[handover]
-window = 1
-margin = 0
-minimum = 0
-[[cell]]
-lac = 1
-ci = 0
-bcch = 60
-ncc = 1
-bcc = 1
-power = 5
-ba = []
-trx = [{ arfcn = 60, tch = [2, 3] }]
-[[cell]]
-lac = 1
-ci = 1
-bcch = 70
-ncc = 1
-bcc = 1
-power = 5
-ba = []
-trx = [{ arfcn = 70, tch = [] }, { arfcn = 71, tch = [3] }]
-";
-
-// Timeslots 5 and 3 of TRX 1, and 6 and 2 of TRX 2.
-const SCATTERED: &str = "[handover]
-window = 1
-margin = 0
-minimum = 0
-[[cell]]
-lac = 1
-ci = 0
-bcch = 60
-ncc = 1
-bcc = 1
-power = 5
-ba = []
-trx = [{ arfcn = 60, tch = [] }, { arfcn = 61, tch = [5, 3] }, { arfcn = 62, tch = [6, 2] }]
-";
-
-// Two cells of four TRX with seven traffic timeslots each.
-const MANY_CHANNELS: &str = "[handover]
-window = 1
-margin = 0
-minimum = 0
-[[cell]]
-lac = 1
-ci = 0
-bcch = 60
-ncc = 1
-bcc = 1
-power = 5
-ba = []
-trx = [{ arfcn = 60, tch = [1, 2, 3, 4, 5, 6, 7] }, { arfcn = 61, tch = [1, 2, 3, 4, 5, 6, 7] }, { arfcn = 62, tch = [1, 2, 3, 4, 5, 6, 7] }, { arfcn = 63, tch = [1, 2, 3, 4, 5, 6, 7] }]
-[[cell]]
-lac = 1
-ci = 1
-bcch = 70
-ncc = 1
-bcc = 1
-power = 5
-ba = []
-trx = [{ arfcn = 70, tch = [1, 2, 3, 4, 5, 6, 7] }, { arfcn = 71, tch = [1, 2, 3, 4, 5, 6, 7] }, { arfcn = 72, tch = [1, 2, 3, 4, 5, 6, 7] }, { arfcn = 73, tch = [1, 2, 3, 4, 5, 6, 7] }]
-";
-
-const OTHER: ChanId = ChanId {
-    cell: 0,
-    trx: 0,
-    tn: 2,
-};
-
-const HOME: ChanId = ChanId {
-    cell: 0,
-    trx: 0,
-    tn: 3,
-};
-
-const TARGET: ChanId = ChanId {
-    cell: 1,
-    trx: 1,
-    tn: 3,
-};
-
+// A channel of TRX 0 of cell 1, whose timeslots carry no traffic.
 const NO_TRAFFIC: ChanId = ChanId {
     cell: 1,
     trx: 0,
@@ -217,6 +135,12 @@ const RESTING: CallRecord = CallRecord {
     attempt: None,
 };
 
+// A call on the channel beside it, without an attempt.
+const ON_OTHER: CallRecord = CallRecord {
+    serving: Some(OTHER),
+    ..RESTING
+};
+
 #[test]
 fn a_call_begins_and_ends(rt: HostRuntime) -> Result<(), Fail> {
     let rows = [
@@ -236,14 +160,13 @@ fn a_call_begins_and_ends(rt: HostRuntime) -> Result<(), Fail> {
 
 #[test]
 fn a_refused_serving_channel_is_held_until_the_call_ends(rt: HostRuntime) -> Result<(), Fail> {
-    let found = CallRecord {
-        serving: Some(OTHER),
-        attempt: None,
-    };
     let rows = [
         (Step(Open(2, OTHER)), DONE),
         (Step(Refuse(OTHER)), Says(Owned(2))),
-        (Step(Look(2)), Says(Record(found, Some(ChanState::Held(2))))),
+        (
+            Step(Look(2)),
+            Says(Record(ON_OTHER, Some(ChanState::Held(2)))),
+        ),
         (
             Step(Take(2, Kind::Internal, TARGET)),
             Says(Refused(WrongPhase)),
@@ -257,15 +180,11 @@ fn a_refused_serving_channel_is_held_until_the_call_ends(rt: HostRuntime) -> Res
 
 #[test]
 fn a_channel_that_was_not_confirmed_awaits_its_release(rt: HostRuntime) -> Result<(), Fail> {
-    let found = CallRecord {
-        serving: Some(OTHER),
-        attempt: None,
-    };
     let rows = [
         (Step(Open(2, OTHER)), DONE),
         (
             Step(Look(2)),
-            Says(Record(found, Some(ChanState::Pending(2)))),
+            Says(Record(ON_OTHER, Some(ChanState::Pending(2)))),
         ),
         (
             Step(Take(2, Kind::Internal, TARGET)),
@@ -546,19 +465,6 @@ fn comes_back_and_is_forgotten(
     play(rt, book, &ends)
 }
 
-fn comes_and_goes(rt: &(impl AllocGlobal + Abort), way: Way) -> Result<(), Fail> {
-    let mut book = book_of(rt.alloc(), rt.alloc(), THREE_CHANNELS)?;
-    comes_back_and_is_forgotten(rt, &mut book, way)
-}
-
-#[test]
-fn each_stage_of_a_call_that_comes_is_undone(rt: HostRuntime) -> Result<(), Fail> {
-    for way in &WAYS {
-        comes_and_goes(&rt, *way)?;
-    }
-    Ok(())
-}
-
 fn comes_back_and_rests(rt: &impl Abort, book: &mut Book<Global>, way: Way) -> Result<(), Fail> {
     play(rt, book, &STEADY)?;
     comes_back(rt, book, Kind::Internal, way, undone(way.1, way.2))?;
@@ -569,15 +475,20 @@ fn comes_back_and_rests(rt: &impl Abort, book: &mut Book<Global>, way: Way) -> R
     play(rt, book, &ends)
 }
 
-fn moves_and_rests(rt: &(impl AllocGlobal + Abort), way: Way) -> Result<(), Fail> {
+// A call that comes or moves goes a way, and comes back.
+fn goes_and_comes_back(rt: &(impl AllocGlobal + Abort), kind: Kind, way: Way) -> Result<(), Fail> {
     let mut book = book_of(rt.alloc(), rt.alloc(), THREE_CHANNELS)?;
-    comes_back_and_rests(rt, &mut book, way)
+    match kind {
+        Kind::Incoming => comes_back_and_is_forgotten(rt, &mut book, way),
+        Kind::Internal => comes_back_and_rests(rt, &mut book, way),
+    }
 }
 
 #[test]
-fn each_stage_of_a_call_that_moves_is_undone(rt: HostRuntime) -> Result<(), Fail> {
+fn each_stage_of_a_call_that_comes_or_moves_is_undone(rt: HostRuntime) -> Result<(), Fail> {
     for way in &WAYS {
-        moves_and_rests(&rt, *way)?;
+        goes_and_comes_back(&rt, Kind::Incoming, *way)?;
+        goes_and_comes_back(&rt, Kind::Internal, *way)?;
     }
     Ok(())
 }

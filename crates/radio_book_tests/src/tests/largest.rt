@@ -1,4 +1,4 @@
-//! The largest site: a call on each of its traffic channels.
+//! The largest site, 64 cells with four TRX each: a call on each of its traffic channels, 31 in each cell.
 use super::Ask::FreeIn;
 use super::{Answer, Ask, book_of, holds, play};
 use channel_fsm::ChanId;
@@ -6,36 +6,10 @@ use radio_book::book::Book;
 use radio_book::event::Event;
 use radio_book::event::Event::{Clear, Open};
 use radio_book::event::Reply::Done;
-use std::alloc::{AllocError, Global};
+use sample_sites::site_of_cells;
+use std::alloc::Global;
 use std::process::Abort;
 use std::test::Fail;
-
-// The text of a site of 64 cells with four TRX each, where every timeslot but the first of the first TRX carries
-// traffic: 31 in each cell.
-fn largest_site(alloc: Global) -> Result<String, AllocError> {
-    let mut text = String::new(alloc);
-    text.push_str("[handover]\nwindow = 1\nmargin = 0\nminimum = 0\n")?;
-    for cell in 0..64u16 {
-        let carrier = 4 * cell;
-        let entry = format!(in alloc;
-            "[[cell]]\nlac = 1\nci = {cell}\nbcch = {carrier}\nncc = 0\nbcc = 0\npower = 0\nba = []\n"
-        )?;
-        text.push_str(entry.as_str())?;
-        let first = format!(in alloc;
-            "trx = [{{ arfcn = {carrier}, tch = [1, 2, 3, 4, 5, 6, 7] }}"
-        )?;
-        text.push_str(first.as_str())?;
-        for trx in 1..4u16 {
-            let other = carrier + trx;
-            let next = format!(in alloc;
-                ", {{ arfcn = {other}, tch = [0, 1, 2, 3, 4, 5, 6, 7] }}"
-            )?;
-            text.push_str(next.as_str())?;
-        }
-        text.push_str("]\n")?;
-    }
-    Ok(text)
-}
 
 // The timeslot at a place of the site, by cell, TRX, timeslot.
 fn channel_at(place: u16) -> ChanId {
@@ -84,7 +58,7 @@ fn fills_and_empties(rt: &impl Abort, book: &mut Book<Global>) -> Result<(), Fai
 
 #[test]
 fn each_channel_of_the_largest_site_serves_a_call(rt: HostRuntime) -> Result<(), Fail> {
-    let text = largest_site(rt.alloc())?;
+    let text = site_of_cells(rt.alloc(), 64, 4, 0)?;
     let mut book = book_of(rt.alloc(), rt.alloc(), text.as_str())?;
     fills_and_empties(&rt, &mut book)
 }

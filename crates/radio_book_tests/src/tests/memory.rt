@@ -3,7 +3,7 @@ use super::Answer::{Chose, NoneFree, Says};
 use super::Ask::{FreeIn, ReserveAny, Step, TakeAny};
 use super::{
     Answer, Ask, DONE, HIGHEST, HOME, HOME_OF_1, HOME_OF_16, LOWEST, MANY_CHANNELS, NO_TRAFFIC,
-    OTHER, Row, TARGET, THREE_CHANNELS, book_of, home_of, outgoing, play, put, undone,
+    ON_OTHER, OTHER, Row, TARGET, THREE_CHANNELS, book_of, home_of, outgoing, play, put, undone,
 };
 use channel_fsm::ChanState;
 use radio_book::book::{Book, Usage};
@@ -13,7 +13,7 @@ use radio_book::event::Event::{
 };
 use radio_book::event::Refusal::{NoCall, NoChannel};
 use radio_book::event::Reply::{Done, Owned, Record, Refused};
-use radio_book::event::{CallRecord, Kind, Stage, Why};
+use radio_book::event::{Kind, Stage, Why};
 use refusing_heap::RefusingHeap;
 use std::alloc::AllocError;
 use std::process::Abort;
@@ -220,15 +220,14 @@ fn answers_without_memory(rt: &(impl AllocGlobal + Abort), rows: &[Row]) -> Resu
 
 #[test]
 fn what_takes_no_memory_succeeds_without(rt: HostRuntime) -> Result<(), Fail> {
-    let held = CallRecord {
-        serving: Some(OTHER),
-        attempt: None,
-    };
     let rows = [
         (Step(Activate(1)), DONE),
         (Step(Confirm(TARGET)), Says(Owned(1))),
         (Step(Refuse(OTHER)), Says(Owned(2))),
-        (Step(Look(2)), Says(Record(held, Some(ChanState::Held(2))))),
+        (
+            Step(Look(2)),
+            Says(Record(ON_OTHER, Some(ChanState::Held(2)))),
+        ),
         (Step(Command(1)), DONE),
         (Step(Detect(TARGET)), Says(Owned(1))),
         (Step(Undo(1, Why::Asked)), undone(Stage::Detected, Some(0))),
