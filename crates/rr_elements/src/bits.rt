@@ -1,8 +1,10 @@
 //! Bit strings of at most 128 bits, the most significant bit first.
-ghost use Rattle.std.specs.Prelude.{◌≡◌, ◌↔◌, [], ◌+◌, ◌-◌, ◌*◌, ◌%◌, ◌/◌, ◌^◌, ◌<◌, ◌≤◌, ◌++◌, length, take, drop, IfSome, IsSome};
+ghost use Rattle.std.specs.Prelude.{◌≡◌, [], ◌+◌, ◌-◌, ◌*◌, ◌%◌, ◌/◌, ◌^◌, ◌<◌, ◌≤◌, ◌++◌, length, take, drop, IfOk, IfErr, OnOk};
 ghost use Rattle.rr_elements.specs.Bits.{bits, bits_of, number_of, octets_of};
 ghost use Rattle.rr_elements.specs.Appending.{IsAppended};
+ghost use Rattle.rr_elements.specs.Faults.{HasOtherLength};
 
+use crate::fault::ElementFault;
 use std::alloc::{AllocError, Allocator};
 use std::marker::Model;
 
@@ -85,34 +87,44 @@ impl Model for BitReader {
 }
 
 impl BitReader {
-    /// All bits of one to sixteen octets.
-    pub fn new(octets: &[u8]) -> Self
-        requires some { 0 < length octets.now }
-        requires few { length octets.now ≤ 16 }
-        ensures bits { result ≡ bits_of octets.now }
-        ensures len { length result ≡ 8 * length octets.now }
+    /// All bits of so many octets, one to sixteen; `Length` where there are fewer or more.
+    pub fn new(octets: &[u8], count: usize) -> Result<Self, ElementFault>
+        requires some { 0 < count }
+        requires few { count ≤ 16 }
+        ensures bits { IfOk result (λ reader. reader ≡ bits_of octets.now) }
+        ensures len { IfOk result (λ reader. length reader ≡ 8 * count) }
+        ensures count { OnOk result (length octets.now ≡ count) }
+        ensures fault { IfErr result (HasOtherLength count octets.now) }
     {
+        if octets.len() != count {
+            return Err(ElementFault::Length);
+        }
         let mut bits = BitWriter::new();
         for octet in octets {
             bits.put(8, *octet);
         }
-        BitReader {
+        Ok(BitReader {
             number: bits.number << (128 - bits.len),
             len: bits.len,
-        }
+        })
     }
 
-    /// All bits of sixteen octets; `None` where there are fewer or more.
-    pub fn sixteen(octets: &[u8]) -> Option<Self>
-        ensures bits { IfSome result (λ reader. reader ≡ bits_of octets.now) }
-        ensures len { IfSome result (λ reader. length reader ≡ 128) }
-        ensures some { IsSome result ↔ (length octets.now ≡ 16) }
+    /// All bits of sixteen octets, as two words; `Length` where there are fewer or more.
+    pub fn sixteen(octets: &[u8]) -> Result<Self, ElementFault>
+        ensures bits { IfOk result (λ reader. reader ≡ bits_of octets.now) }
+        ensures len { IfOk result (λ reader. length reader ≡ 128) }
+        ensures count { OnOk result (length octets.now ≡ 16) }
+        ensures fault { IfErr result (HasOtherLength 16 octets.now) }
     {
-        let (high, low) = octets.split_first_chunk::<8>()?;
-        let low = low.as_array::<8>()?;
+        let Some((high, low)) = octets.split_first_chunk::<8>() else {
+            return Err(ElementFault::Length);
+        };
+        let Some(low) = low.as_array::<8>() else {
+            return Err(ElementFault::Length);
+        };
         let high = u64::from_be_bytes(*high);
         let low = u64::from_be_bytes(*low);
-        Some(BitReader {
+        Ok(BitReader {
             number: (u128::from(high) << 64) | u128::from(low),
             len: 128,
         })

@@ -31,8 +31,6 @@ impl RrCause {
     /// Appends the element's one octet.
     pub fn encode_into<A: Allocator + Copy>(&self, out: &mut Vec<u8, A>) -> Result<(), AllocError>
         ensures written { IsAppended (cause_text self.now) 1 out.old out.new result }
-
-        // What is written is a text of the value, so `decode` reads it as the value.
         ensures text { IsCauseText self.now (cause_text self.now) }
     {
         let mut bits = BitWriter::new();
@@ -42,14 +40,10 @@ impl RrCause {
 
     /// Reads the element's one octet; `Length` where it is not one.
     pub fn decode(octets: &[u8]) -> Result<Self, ElementFault>
-        // What is read has the octets as a text; what is no text has this fault.
         ensures text { IfOk result (λ v. IsCauseText v octets.now) }
         ensures fault { IfErr result (HasOtherLength 1 octets.now) }
     {
-        if octets.len() != 1 {
-            return Err(ElementFault::Length);
-        }
-        let mut bits = BitReader::new(octets);
+        let mut bits = BitReader::new(octets, 1)?;
         let cause = bits.take(8);
         Ok(RrCause(cause))
     }

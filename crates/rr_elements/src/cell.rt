@@ -73,8 +73,6 @@ impl CellDescription {
     /// Appends the element's two octets.
     pub fn encode_into<A: Allocator + Copy>(&self, out: &mut Vec<u8, A>) -> Result<(), AllocError>
         ensures written { IsAppended (cell_text self.now) 2 out.old out.new result }
-
-        // What is written is a text of the value, so `decode` reads it as the value.
         ensures text { IsCellText self.now (cell_text self.now) }
     {
         let CellDescription { arfcn, ncc, bcc } = *self;
@@ -88,14 +86,10 @@ impl CellDescription {
 
     /// Reads the element's two octets; `Length` where they are not two.
     pub fn decode(octets: &[u8]) -> Result<Self, ElementFault>
-        // What is read has the octets as a text; what is no text has this fault.
         ensures text { IfOk result (λ v. IsCellText v octets.now) }
         ensures fault { IfErr result (HasOtherLength 2 octets.now) }
     {
-        if octets.len() != 2 {
-            return Err(ElementFault::Length);
-        }
-        let mut bits = BitReader::new(octets);
+        let mut bits = BitReader::new(octets, 2)?;
         let high = bits.take(2);
         let network = bits.take(3);
         let station = bits.take(3);

@@ -75,8 +75,6 @@ impl ChanDescription {
     /// Appends the element's three octets.
     pub fn encode_into<A: Allocator + Copy>(&self, out: &mut Vec<u8, A>) -> Result<(), AllocError>
         ensures written { IsAppended (chan_text self.now) 3 out.old out.new result }
-
-        // What is written is a text of the value, so `decode` reads it as the value.
         ensures text { IsChanText self.now (chan_text self.now) }
     {
         let ChanDescription { tn, tsc, carrier } = *self;
@@ -94,14 +92,10 @@ impl ChanDescription {
     /// Reads the element's three octets. The first fault of `Length` (they are not three),
     /// `BadType` (another channel type) and `Hopping` (H is 1) that holds comes.
     pub fn decode(octets: &[u8]) -> Result<Self, ElementFault>
-        // What is read has the octets as a text; what is no text has this fault.
         ensures text { IfOk result (λ v. IsChanText v octets.now) }
         ensures fault { IfErr result (HasChanFault octets.now) }
     {
-        if octets.len() != 3 {
-            return Err(ElementFault::Length);
-        }
-        let mut bits = BitReader::new(octets);
+        let mut bits = BitReader::new(octets, 3)?;
         let kind = bits.take(5);
         let tn = bits.take(3);
         let tsc = bits.take(3);

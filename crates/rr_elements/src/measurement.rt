@@ -83,27 +83,17 @@ pub(crate) fn take_head(bits: &mut BitReader) -> MeasHead
     ensures rest { bits.new ≡ after head_widths bits.old }
     ensures left { length bits.new + 26 ≡ length bits.old }
 {
-    let ba = bits.take(1);
-    let dtx = bits.take(1);
-    let full = bits.take(6);
-    let ba3g = bits.take(1);
-    let invalid = bits.take(1);
-    let sub = bits.take(6);
-    let si23 = bits.take(1);
-    let qfull = bits.take(3);
-    let qsub = bits.take(3);
-    let count = bits.take(3);
     MeasHead {
-        ba: ba == 1,
-        dtx: dtx == 1,
-        full,
-        ba3g: ba3g == 1,
-        valid: invalid == 0,
-        sub,
-        si23: si23 == 1,
-        qfull,
-        qsub,
-        count,
+        ba: bits.take(1) == 1,
+        dtx: bits.take(1) == 1,
+        full: bits.take(6),
+        ba3g: bits.take(1) == 1,
+        valid: bits.take(1) == 0,
+        sub: bits.take(6),
+        si23: bits.take(1) == 1,
+        qfull: bits.take(3),
+        qsub: bits.take(3),
+        count: bits.take(3),
     }
 }
 
@@ -114,13 +104,10 @@ fn take_ncell(bits: &mut BitReader) -> Ncell
     ensures rest { bits.new ≡ after ncell_widths bits.old }
     ensures left { length bits.new + 17 ≡ length bits.old }
 {
-    let level = bits.take(6);
-    let position = bits.take(5);
-    let bsic = bits.take(6);
     Ncell {
-        level,
-        position,
-        bsic,
+        level: bits.take(6),
+        position: bits.take(5),
+        bsic: bits.take(6),
     }
 }
 
@@ -160,17 +147,6 @@ pub(crate) fn put_head(bits: &mut BitWriter, head: &MeasHead)
     bits.put(3, head.count);
 }
 
-fn put_ncell(bits: &mut BitWriter, ncell: &Ncell)
-    requires fits { NcellFits ncell.now }
-    requires room { length bits.old + 17 ≤ 128 }
-    ensures bits { bits.new ≡ bits.old ++ bits_written ncell_widths (ncell_numbers ncell.now) }
-    ensures len { length bits.new ≡ length bits.old + 17 }
-{
-    bits.put(6, ncell.level);
-    bits.put(5, ncell.position);
-    bits.put(6, ncell.bsic);
-}
-
 pub(crate) fn put_ncells(bits: &mut BitWriter, ncells: &[Ncell])
     requires fits { All NcellFits ncells.now }
     requires room { length bits.old + 17 * length ncells.now ≤ 128 }
@@ -179,7 +155,9 @@ pub(crate) fn put_ncells(bits: &mut BitWriter, ncells: &[Ncell])
     ensures len { length bits.new ≡ length bits.old + 17 * length ncells.now }
 {
     for ncell in ncells {
-        put_ncell(bits, ncell);
+        bits.put(6, ncell.level);
+        bits.put(5, ncell.position);
+        bits.put(6, ncell.bsic);
     }
 }
 

@@ -64,8 +64,6 @@ impl Power {
     /// Appends the element's one octet.
     pub fn encode_into<A: Allocator + Copy>(&self, out: &mut Vec<u8, A>) -> Result<(), AllocError>
         ensures written { IsAppended (power_text self.now) 1 out.old out.new result }
-
-        // What is written is a text of the value, so `decode` reads it as the value.
         ensures text { IsPowerText self.now (power_text self.now) }
     {
         let Power { atc, level } = *self;
@@ -78,20 +76,13 @@ impl Power {
 
     /// Reads the element's one octet; `Length` where it is not one.
     pub fn decode(octets: &[u8]) -> Result<Self, ElementFault>
-        // What is read has the octets as a text; what is no text has this fault.
         ensures text { IfOk result (λ v. IsPowerText v octets.now) }
         ensures fault { IfErr result (HasOtherLength 1 octets.now) }
     {
-        if octets.len() != 1 {
-            return Err(ElementFault::Length);
-        }
-        let mut bits = BitReader::new(octets);
-        let atc = bits.take(1);
+        let mut bits = BitReader::new(octets, 1)?;
+        let atc = bits.take(1) == 1;
         let _ignored = bits.take(2);
         let level = bits.take(5);
-        Ok(Power {
-            atc: atc == 1,
-            level,
-        })
+        Ok(Power { atc, level })
     }
 }

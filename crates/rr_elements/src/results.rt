@@ -81,8 +81,6 @@ impl MeasResults {
     /// Appends the element's sixteen octets.
     pub fn encode_into<A: Allocator + Copy>(&self, out: &mut Vec<u8, A>) -> Result<(), AllocError>
         ensures written { IsAppended (results_text self.now) 16 out.old out.new result }
-
-        // What is written is a text of the value, so `decode` reads it as the value.
         ensures text { IsResultsText self.now (results_text self.now) }
     {
         let mut bits = BitWriter::new();
@@ -94,13 +92,10 @@ impl MeasResults {
 
     /// Reads the element's sixteen octets; `Length` where they are not sixteen.
     pub fn decode(octets: &[u8]) -> Result<Self, ElementFault>
-        // What is read has the octets as a text; what is no text has this fault.
         ensures text { IfOk result (λ v. IsResultsText v octets.now) }
         ensures fault { IfErr result (HasOtherLength 16 octets.now) }
     {
-        let Some(mut bits) = BitReader::sixteen(octets) else {
-            return Err(ElementFault::Length);
-        };
+        let mut bits = BitReader::sixteen(octets)?;
         let head = take_head(&mut bits);
         let places = take_ncells(bits, head.used());
         Ok(MeasResults { head, places })

@@ -351,15 +351,17 @@ fn refuses_neighbours_that_do_not_fit(rt: HostRuntime) {
     refuse_neighbours(&rt, &neighbours);
 }
 
-/// Whether results with this count have so many neighbours.
-fn have(count: u8, neighbours: &[Ncell]) -> bool {
-    MeasResults::new(MeasHead { count, ..HEAD }, neighbours).is_ok()
+/// Why there are no results with this count and these neighbours.
+fn refused(count: u8, neighbours: &[Ncell]) -> Option<ElementFault> {
+    MeasResults::new(MeasHead { count, ..HEAD }, neighbours).err()
 }
 
 #[test]
 fn results_have_as_many_neighbours_as_the_count_says(rt: HostRuntime) {
-    assert!(rt; !have(5, &[NEIGHBOUR; 6]));
-    assert!(rt; have(6, &[NEIGHBOUR; 6]) && have(0, &[]) && have(7, &[]));
+    assert!(rt; refused(5, &[NEIGHBOUR; 6]) == Some(ElementFault::BadRange));
+    assert!(rt; refused(6, &[NEIGHBOUR; 6]) == None);
+    assert!(rt; refused(0, &[]) == None);
+    assert!(rt; refused(7, &[]) == None);
 }
 
 /// One of each element.

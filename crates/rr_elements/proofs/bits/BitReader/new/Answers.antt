@@ -21,4 +21,5 @@ pub returns-clause-len : goal.returns-clause-len
 returns-clause-len c =
     let s = c.bits.inside in
     let index : c.loop-octet.octet-index ≡ length c.args.octets.now = omega arith in
-    ap length (take-top s.len s.number c.bits.invariant.0 ∙ c.bits.view_is) ∙ c.loop-octet.invariant.1 ∙ ap (λ i. 8 * i) index
+    let whole : length c.args.octets.now ≡ c.args.count = search rules in
+    ap length (take-top s.len s.number c.bits.invariant.0 ∙ c.bits.view_is) ∙ c.loop-octet.invariant.1 ∙ ap (λ i. 8 * i) (index ∙ whole)

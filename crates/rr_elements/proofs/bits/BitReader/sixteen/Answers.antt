@@ -7,8 +7,8 @@ use Rattle.rr_elements.proofs.bits.BitReader.sixteen.Goals as goal
 pub returns-clause-bits : goal.returns-clause-bits
 returns-clause-bits c =
     let octets = c.args.octets.now in
-    let front : c.in_ok-high.high.now ≡ take 8 octets = search rules in
-    let back : c.in_ok-low.low.now ≡ drop 8 octets = search rules in
+    let front : c.in-Some.high.now ≡ take 8 octets = search rules in
+    let back : c.in-Some-as_array.low.now ≡ drop 8 octets = search rules in
     let sixteen : length octets ≡ 16 = search rules in
     let high : c.from_be_bytes-high.result ≡ from_be_bytes w64 (take 8 octets) = c.from_be_bytes-high.ensures ∙ ap (from_be_bytes w64) front in
     let low : c.from_be_bytes-low.result ≡ from_be_bytes w64 (drop 8 octets) = c.from_be_bytes-low.ensures ∙ ap (from_be_bytes w64) back in

@@ -12,7 +12,7 @@ returns-clause-text c =
     let octets = c.args.octets.now in
     let sixteen : length octets ≡ 16 = search rules in
     let few = used_count_le head.count c.take_head-head.ensures.fits.count in
-    let read : head_numbers head ≡ cut head_widths (bits_of octets) = rw c.in-Some.ensures.bits at c.take_head-head.ensures.numbers in
-    let rest : c.take_head-head.new.bits ≡ after head_widths (bits_of octets) = c.take_head-head.ensures.rest ∙ ap (after head_widths) c.in-Some.ensures.bits in
+    let read : head_numbers head ≡ cut head_widths (bits_of octets) = rw c.in_ok-bits.ensures.bits at c.take_head-head.ensures.numbers in
+    let rest : c.take_head-head.new.bits ≡ after head_widths (bits_of octets) = c.take_head-head.ensures.rest ∙ ap (after head_widths) c.in_ok-bits.ensures.bits in
     let front : flat_map ncell_numbers (take (used_count head.count) places) ≡ cut (repeated_widths (used_count head.count) ncell_widths) (after head_widths (bits_of octets)) = rw (c.used.ensures, rest) at c.take_ncells-places.ensures.numbers in
     read-text octets head places sixteen c.take_ncells-places.ensures.six few read front
