@@ -1,0 +1,94 @@
+//! The last valid reports of a mobile.
+ghost use Rattle.std.specs.Prelude.{◌≡◌, ◌≤◌, [], ◌∷◌, ◌++◌, IfOk, IsTrue, ◌↔◌, length};
+ghost use Rattle.measurements.specs.Reports.{no_reports, last_valid, sum_used, sum_named};
+
+use crate::levels::{neighbour_levels, serving_levels};
+use circular_buffer::HeapCircularBuffer;
+use rr_elements::MeasResults;
+use std::alloc::{AllocError, Allocator, Global};
+use std::marker::Model;
+
+/// The last valid reports of a mobile, at most as many as the window was made for. A report with another one behind it
+/// that many times is forgotten.
+#[derive(Drop)]
+pub struct Window<A: Allocator = Global> {
+    reports: HeapCircularBuffer<MeasResults, A>,
+}
+
+impl<A: Allocator> Model for Window<A> {
+    ghost use Rattle.measurements.specs.Reports.{Reports};
+    ghost use Rattle.measurements.specs.WindowKept.{IsKept};
+
+    ghost Value = { Reports };
+
+    ghost view = { λ a. record { reports = a.reports.items; width = a.reports.capacity } };
+
+    ghost invariant = { λ a. IsKept (record { reports = a.reports.items; width = a.reports.capacity }) };
+}
+
+impl<A: Allocator> Window<A> {
+    /// An empty window in which the last `width` valid reports count, 1 to 32. All the room that it will need is made
+    /// here.
+    pub fn new(alloc: A, width: usize) -> Result<Window<A>, AllocError>
+        requires some { 1 ≤ width }
+        requires most { width ≤ 32 }
+        ensures empty { IfOk result (λ window. window ≡ no_reports width) }
+    {
+        let reports = HeapCircularBuffer::with_capacity(alloc, width)?;
+        Ok(Window { reports })
+    }
+
+    /// Adds a report. An invalid one (MEAS-VALID is 1) changes nothing; where the window is full, the oldest goes.
+    pub fn add(&mut self, report: &MeasResults)
+        ensures reports { self.new.reports ≡
+            last_valid self.old.width (self.old.reports ++ report.now ∷ []) }
+        ensures width { self.new.width ≡ self.old.width }
+    {
+        if report.head().valid {
+            let _forgotten = self.reports.push_back(*report);
+        }
+    }
+
+    /// Forgets all reports. The room stays.
+    pub fn clear(&mut self)
+        ensures empty { self.new ≡ no_reports self.old.width }
+    {
+        self.reports.clear();
+    }
+
+    /// How many reports there are.
+    pub fn len(&self) -> usize
+        ensures len { result ≡ length self.now.reports }
+        ensures most { result ≤ self.now.width }
+    {
+        self.reports.len()
+    }
+
+    /// Whether there is no report.
+    pub fn is_empty(&self) -> bool
+        ensures { IsTrue result ↔ (self.now.reports ≡ []) }
+    {
+        self.reports.is_empty()
+    }
+
+    /// The serving cell's levels, added up over the reports: in each RXLEV-FULL, or RXLEV-SUB where transmission was
+    /// discontinuous (DTX-USED is 1). At most 2,016.
+    pub fn serving_sum(&self) -> u32
+        ensures sum { result ≡ sum_used self.now.reports }
+        ensures most { result ≤ 2016 }
+    {
+        let (older, newer) = self.reports.as_slices();
+        serving_levels(older) + serving_levels(newer)
+    }
+
+    /// The levels of a neighbour cell, added up over the reports, by its carrier's position in the neighbour list and its
+    /// base station identity code: in each that of the first neighbour with both, or 0 where there is none. At most
+    /// 2,016.
+    pub fn sum_of(&self, position: u8, bsic: u8) -> u32
+        ensures sum { result ≡ sum_named position bsic self.now.reports }
+        ensures most { result ≤ 2016 }
+    {
+        let (older, newer) = self.reports.as_slices();
+        neighbour_levels(older, position, bsic) + neighbour_levels(newer, position, bsic)
+    }
+}
