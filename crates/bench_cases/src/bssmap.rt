@@ -3,6 +3,7 @@ ghost use Rattle.std.specs.Prelude.{IfOk};
 ghost use Rattle.bssmap_messages.specs.Texts.{HasCanonical};
 
 use crate::fault::Fault;
+use crate::repeated::{Reader, Written, write_alternately};
 use crate::varying::{Varying, octets_sum};
 use bssmap_messages::{Bssmap, CellId, Classmark, decode, encode_into, fits};
 use std::alloc::Global;
@@ -43,9 +44,9 @@ fn fields_sum(subject: Subject, message: &Bssmap) -> Result<u64, Fault> {
         (
             Subject::Request,
             Bssmap::HandoverRequest {
+                classmark,
                 channel,
                 encryption,
-                classmark,
                 serving,
                 target,
             },
@@ -72,35 +73,23 @@ fn fields_sum(subject: Subject, message: &Bssmap) -> Result<u64, Fault> {
     }
 }
 
-/// Reads a message. The sum is that of its fields.
-fn decode_once(alloc: Global, subject: Subject, octets: &[u8]) -> Result<u64, Fault> {
-    let message = decode(alloc, octets)?;
-    // past the `?` the compiler knows which message it drops
-    let sum = fields_sum(subject, &message)?;
-    Ok(sum)
-}
-
-/// Reads a message in each iteration. The sum is that of the fields that were read.
-pub fn decode_messages(
-    alloc: Global,
-    subject: Subject,
-    octets: &mut Varying,
-    count: u64,
-) -> Result<u64, Fault> {
-    let mut sum = 0u64;
-    for iteration in 0..count {
-        sum = sum.wrapping_add(decode_once(alloc, subject, octets.at(iteration))?);
+impl Reader for Subject {
+    fn read(&self, alloc: Global, octets: &[u8]) -> Result<u64, Fault> {
+        let message = decode(alloc, octets)?;
+        // past the `?` the compiler knows which message it drops
+        let sum = fields_sum(*self, &message)?;
+        Ok(sum)
     }
-    Ok(sum)
 }
 
-/// Writes a message. The sum is that of the octets that were written.
-fn encode_once(message: &Bssmap, out: &mut Vec<u8>) -> Result<u64, Fault>
-    requires { HasCanonical message.now }
-{
-    out.clear();
-    encode_into(message, out)?;
-    Ok(octets_sum(out.as_slice()))
+impl Written for Bssmap {
+    ghost has_text = { λ message. HasCanonical message };
+
+    fn write(&self, out: &mut Vec<u8>) -> Result<u64, Fault> {
+        out.clear();
+        encode_into(self, out)?;
+        Ok(octets_sum(out.as_slice()))
+    }
 }
 
 /// The message of an iteration that the case is on, which has a text.
@@ -120,27 +109,6 @@ fn message_at(
     Err(Fault::Words)
 }
 
-/// Writes one message and the other alternately, so many in all. The sum is that of the octets that were written.
-fn encode_alternately(
-    even: &Bssmap,
-    odd: &Bssmap,
-    out: &mut Vec<u8>,
-    count: u64,
-) -> Result<u64, Fault>
-    requires even_has_text { HasCanonical even.now }
-    requires odd_has_text { HasCanonical odd.now }
-{
-    let mut sum = 0u64;
-    for iteration in 0..count {
-        let written = match iteration % 2 {
-            0 => encode_once(even, out)?,
-            _ => encode_once(odd, out)?,
-        };
-        sum = sum.wrapping_add(written);
-    }
-    Ok(sum)
-}
-
 /// Writes the message of iteration 0 and that of iteration 1 alternately.
 fn encode_with(
     alloc: Global,
@@ -152,8 +120,7 @@ fn encode_with(
     requires { HasCanonical even.now }
 {
     let odd = message_at(alloc, subject, octets, 1)?;
-    let mut out = Vec::new(alloc);
-    encode_alternately(even, &odd, &mut out, count)
+    write_alternately(even, &odd, alloc, count)
 }
 
 /// Writes a message in each iteration: that of iteration 0 and that of iteration 1 alternately. The sum is that of the

@@ -7,36 +7,14 @@ use ho_procedure::exchange::{Inbound, Line, Outbound};
 use ho_procedure::procedure::handle_plain;
 use radio_book::book::Book;
 use rsl_messages::Octets;
+use sample_sites::{HOME, THREE_CHANNELS};
 use std::alloc::Global;
 
 /// The call whose life it is.
 const CALL: u16 = 1;
 
-/// The channel that it is opened on.
-const CHAN: ChanId = ChanId {
-    cell: 0,
-    trx: 0,
-    tn: 3,
-};
-
 /// RF CHANNEL RELEASE ACKNOWLEDGE (TS 48.058 clause 8.4.19) of timeslot 3.
 const RELEASED: [u8; 4] = [0x08, 0x33, 0x01, 0x0B];
-
-/// A site of one cell with two traffic channels.
-const SITE: &str = "[handover]
-window = 2
-margin = 3
-minimum = 10
-[[cell]]
-lac = 23
-ci = 100
-bcch = 60
-ncc = 1
-bcc = 1
-power = 5
-ba = [62, 70, 871]
-trx = [{ arfcn = 60, tch = [2, 3] }]
-";
 
 /// Handles one input. The sum is that of the octets of all messages that are sent.
 fn handle(alloc: Global, book: &mut Book, input: Inbound) -> Result<u64, Fault> {
@@ -52,7 +30,7 @@ fn handle(alloc: Global, book: &mut Book, input: Inbound) -> Result<u64, Fault> 
 /// Handles what a station sends on the channel's TRX.
 fn hear(alloc: Global, book: &mut Book, octets: &[u8]) -> Result<u64, Fault> {
     let bytes = Octets::new(alloc, octets)?;
-    let ChanId { cell, trx, .. } = CHAN;
+    let ChanId { cell, trx, .. } = HOME;
     handle(alloc, book, Inbound::Abis { cell, trx, bytes })
 }
 
@@ -60,7 +38,7 @@ fn hear(alloc: Global, book: &mut Book, octets: &[u8]) -> Result<u64, Fault> {
 fn call_once(alloc: Global, book: &mut Book, acknowledgement: &[u8]) -> Result<u64, Fault> {
     let open = Line::Open {
         call: CALL,
-        chan: CHAN,
+        chan: HOME,
     };
     let clear = Line::Clear { call: CALL };
     let opened = handle(alloc, book, Inbound::Operator(open))?;
@@ -87,6 +65,6 @@ fn calls(alloc: Global, book: &mut Book, octets: &mut Varying, count: u64) -> Re
 /// A whole call in each iteration. The sum is that of the octets of all messages that are sent: a CHANNEL ACTIVATION and an
 /// RF CHANNEL RELEASE for each call.
 pub fn call_by_octets(alloc: Global, octets: &mut Varying, count: u64) -> Result<u64, Fault> {
-    let mut book = book_of(alloc, SITE)?;
+    let mut book = book_of(alloc, THREE_CHANNELS)?;
     calls(alloc, &mut book, octets, count)
 }

@@ -32,6 +32,8 @@ pub enum Task {
     DecodeRequired,
     /// Writes a HANDOVER REQUIRED.
     EncodeRequired,
+    /// Reads a site file of 64 cells with four TRX each.
+    ReadSite,
 }
 
 /// A case: what is repeated, and on which octets.
@@ -48,7 +50,7 @@ pub struct Case {
 }
 
 /// Every case, in the order in which they are printed: name, task, octets, place.
-pub const CASES: [Case; 12] = [
+pub const CASES: [Case; 13] = [
     Case {
         name: "chan_act.dec",
         task: Task::DecodeActivation,
@@ -120,6 +122,12 @@ pub const CASES: [Case; 12] = [
         task: Task::EncodeRequired,
         octets: REQUIRED,
         place: 13,
+    },
+    Case {
+        name: "site.read",
+        task: Task::ReadSite,
+        octets: &[0],
+        place: 0,
     },
 ];
 

@@ -10,12 +10,18 @@ pub mod fault;
 mod life;
 mod measured;
 mod radio;
+mod repeated;
+mod site;
 mod varying;
 pub mod words;
 
-use crate::bssmap::Subject;
+use crate::abis::Activations;
+use crate::bssmap::{Subject, encode_messages};
 use crate::case::{Case, Task};
 use crate::fault::Fault;
+use crate::measured::Measurements;
+use crate::radio::Commands;
+use crate::repeated::read_each;
 use crate::varying::Varying;
 use std::alloc::Global;
 
@@ -24,37 +30,18 @@ use std::alloc::Global;
 pub fn sum_of(alloc: Global, case: Case, count: u64, octets: &[u8]) -> Result<u64, Fault> {
     let mut varying = Varying::new(alloc, octets, case.place)?;
     match case.task {
-        Task::DecodeActivation => abis::decode_activations(alloc, &mut varying, count),
+        Task::DecodeActivation => read_each(&Activations, alloc, &mut varying, count),
         Task::EncodeActivation => abis::encode_activations(alloc, &mut varying, count),
         Task::CallByOctets => call::call_by_octets(alloc, &mut varying, count),
         Task::LiveByStep => life::live_by_steps(alloc, &mut varying, count),
-        Task::DecodeMeasurement => measured::decode_measurements(alloc, &mut varying, count),
+        Task::DecodeMeasurement => read_each(&Measurements, alloc, &mut varying, count),
         Task::EncodeMeasurement => measured::encode_measurements(alloc, &mut varying, count),
-        Task::DecodeCommand => radio::decode_commands(&mut varying, count),
+        Task::DecodeCommand => read_each(&Commands, alloc, &mut varying, count),
         Task::EncodeCommand => radio::encode_commands(alloc, &mut varying, count),
-        Task::DecodeRequest => bssmap::decode_messages(
-            alloc,
-            Subject::Request,
-            &mut varying,
-            count,
-        ),
-        Task::EncodeRequest => bssmap::encode_messages(
-            alloc,
-            Subject::Request,
-            &mut varying,
-            count,
-        ),
-        Task::DecodeRequired => bssmap::decode_messages(
-            alloc,
-            Subject::Required,
-            &mut varying,
-            count,
-        ),
-        Task::EncodeRequired => bssmap::encode_messages(
-            alloc,
-            Subject::Required,
-            &mut varying,
-            count,
-        ),
+        Task::DecodeRequest => read_each(&Subject::Request, alloc, &mut varying, count),
+        Task::EncodeRequest => encode_messages(alloc, Subject::Request, &mut varying, count),
+        Task::DecodeRequired => read_each(&Subject::Required, alloc, &mut varying, count),
+        Task::EncodeRequired => encode_messages(alloc, Subject::Required, &mut varying, count),
+        Task::ReadSite => site::read_sites(alloc, &mut varying, count),
     }
 }

@@ -7,8 +7,8 @@ use cell_table::Site;
 use channel_fsm::ChanId;
 use radio_book::book::Book;
 use radio_book::event::{Event, Kind, Reply, Why};
+use sample_sites::site_of_cells;
 use std::alloc::{AllocError, Global};
-use std::fmt::Write;
 use std::sync::Arc;
 
 /// How many cells the site has.
@@ -19,36 +19,6 @@ const OTHERS: u8 = 16;
 
 /// The call whose life it is. The others have the numbers from 0 to 1,023.
 const CALL: u16 = 5000;
-
-/// Writes the text of a cell with three TRX of 7, 8 and 8 traffic timeslots.
-fn write_cell(text: &mut String, cell: u8) -> Result<(), AllocError> {
-    let carrier = u16::from(cell) * 3 + 1;
-    let second = carrier + 1;
-    let third = carrier + 2;
-    writeln!(
-        text,
-        "[[cell]]
-lac = 1
-ci = {cell}
-bcch = {carrier}
-ncc = 1
-bcc = 1
-power = 5
-ba = []
-trx = [{{ arfcn = {carrier}, tch = [1, 2, 3, 4, 5, 6, 7] }},
-{{ arfcn = {second}, tch = [0, 1, 2, 3, 4, 5, 6, 7] }},
-{{ arfcn = {third}, tch = [0, 1, 2, 3, 4, 5, 6, 7] }}]"
-    )
-}
-
-/// The site file of 64 cells.
-fn site_text(alloc: Global) -> Result<String, AllocError> {
-    let mut text = String::from_str(alloc, "[handover]\nwindow = 2\nmargin = 3\nminimum = 10\n")?;
-    for cell in 0..CELLS {
-        write_cell(&mut text, cell)?;
-    }
-    Ok(text)
-}
 
 /// The traffic channel of a cell at this place, counted from 0. Each TRX has eight timeslots, and timeslot 0 of
 /// the first carries no traffic.
@@ -97,9 +67,9 @@ pub fn book_of(alloc: Global, text: &str) -> Result<Book, Fault> {
     Ok(Book::new(alloc, site)?)
 }
 
-/// The book of 64 cells in which nothing is in use.
+/// The book of 64 cells with three TRX each in which nothing is in use.
 fn quiet_book(alloc: Global) -> Result<Book, Fault> {
-    let text = site_text(alloc)?;
+    let text = site_of_cells(alloc, u16::from(CELLS), 3, 0)?;
     book_of(alloc, text.as_str())
 }
 

@@ -4,7 +4,8 @@ ghost use Rattle.rsl_messages.specs.Texts.{HasCanonical};
 
 use crate::abis;
 use crate::fault::Fault;
-use crate::radio::{self, read_results, results_sum};
+use crate::radio::{read_results, results_sum};
+use crate::repeated::{Reader, Written, write_alternately};
 use crate::varying::{Varying, octets_sum};
 use rr_messages::Rr;
 use rsl_messages::{Rsl, decode};
@@ -44,63 +45,49 @@ fn result_sum(message: &Rsl) -> Result<u64, Fault> {
     }
 }
 
-/// Reads a MEASUREMENT RESULT and its report. The sum is that of their fields.
-fn decode_once(alloc: Global, octets: &[u8]) -> Result<u64, Fault> {
-    let message = decode(alloc, octets)?;
-    // past the `?` the compiler knows which message it drops
-    let sum = result_sum(&message)?;
-    Ok(sum)
-}
+/// Every MEASUREMENT RESULT with its report.
+#[derive(Clone, Copy)]
+pub struct Measurements;
 
-/// Reads a MEASUREMENT RESULT and its report in each iteration. The sum is that of the fields that were read.
-pub fn decode_measurements(alloc: Global, octets: &mut Varying, count: u64) -> Result<u64, Fault> {
-    let mut sum = 0u64;
-    for iteration in 0..count {
-        sum = sum.wrapping_add(decode_once(alloc, octets.at(iteration))?);
+impl Reader for Measurements {
+    fn read(&self, alloc: Global, octets: &[u8]) -> Result<u64, Fault> {
+        let message = decode(alloc, octets)?;
+        // past the `?` the compiler knows which message it drops
+        let sum = result_sum(&message)?;
+        Ok(sum)
     }
-    Ok(sum)
 }
 
-/// Writes a report, and the message that carries one. The sum is that of the octets of both.
-fn encode_both(report: &Rr, message: &Rsl, out: &mut Vec<u8>) -> Result<u64, Fault>
-    requires { HasCanonical message.now }
-{
-    let inner = radio::encode_once(report, out)?;
-    let outer = abis::encode_once(message, out)?;
-    Ok(inner.wrapping_add(outer))
+/// A report, and a message that carries one.
+#[derive(Clone, Copy)]
+struct Measured<'a> {
+    report: &'a Rr,
+    message: &'a Rsl,
 }
 
-/// Writes the report with one message and with the other alternately, so many in all. The sum is that of the octets
-/// that were written.
-fn encode_alternately(
-    report: &Rr,
-    even: &Rsl,
-    odd: &Rsl,
-    out: &mut Vec<u8>,
-    count: u64,
-) -> Result<u64, Fault>
-    requires even_has_text { HasCanonical even.now }
-    requires odd_has_text { HasCanonical odd.now }
-{
-    let mut sum = 0u64;
-    for iteration in 0..count {
-        let written = match iteration % 2 {
-            0 => encode_both(report, even, out)?,
-            _ => encode_both(report, odd, out)?,
-        };
-        sum = sum.wrapping_add(written);
+impl Written for Measured<'_> {
+    ghost has_text = { λ both. HasCanonical both.message.now };
+
+    /// The sum is that of the octets of both.
+    fn write(&self, out: &mut Vec<u8>) -> Result<u64, Fault> {
+        let inner = self.report.write(out)?;
+        let outer = self.message.write(out)?;
+        Ok(inner.wrapping_add(outer))
     }
-    Ok(sum)
 }
 
 /// Writes the report of iteration 0 with its message and with that of iteration 1 alternately.
-fn encode_with(alloc: Global, even: &Rsl, octets: &mut Varying, count: u64) -> Result<u64, Fault>
-    requires { HasCanonical even.now }
+fn encode_with(alloc: Global, message: &Rsl, octets: &mut Varying, count: u64) -> Result<u64, Fault>
+    requires { HasCanonical message.now }
 {
-    let report = report_of(even)?;
-    let odd = abis::message_at(alloc, octets, 1)?;
-    let mut out = Vec::new(alloc);
-    encode_alternately(&report, even, &odd, &mut out, count)
+    let report = &report_of(message)?;
+    let other = &abis::message_at(alloc, octets, 1)?;
+    let even = Measured { report, message };
+    let odd = Measured {
+        report,
+        message: other,
+    };
+    write_alternately(&even, &odd, alloc, count)
 }
 
 /// Writes a report, that of iteration 0, and a MEASUREMENT RESULT in each iteration: that of iteration 0 and that of

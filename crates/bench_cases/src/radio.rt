@@ -1,5 +1,6 @@
 //! Cases on messages between the mobile and the network (TS 44.018).
 use crate::fault::Fault;
+use crate::repeated::{Reader, Written, write_alternately};
 use crate::varying::{Varying, octets_sum};
 use rr_elements::MeasResults;
 use rr_messages::{Rr, decode, encode_into};
@@ -10,10 +11,10 @@ use std::alloc::Global;
 fn command_sum(message: &Rr) -> Result<u64, Fault> {
     match message {
         Rr::HandoverCommand {
-            cell,
-            channel,
             reference,
             power,
+            cell,
+            channel,
         } => {
             let carriers = u64::from(cell.arfcn()) + u64::from(channel.carrier());
             let colours = u64::from(cell.ncc()) + u64::from(cell.bcc());
@@ -25,34 +26,22 @@ fn command_sum(message: &Rr) -> Result<u64, Fault> {
     }
 }
 
-/// Reads a HANDOVER COMMAND in each iteration. The sum is that of the fields that were read.
-pub fn decode_commands(octets: &mut Varying, count: u64) -> Result<u64, Fault> {
-    let mut sum = 0u64;
-    for iteration in 0..count {
-        let message = decode(octets.at(iteration))?;
-        sum = sum.wrapping_add(command_sum(&message)?);
+/// Every HANDOVER COMMAND.
+#[derive(Clone, Copy)]
+pub struct Commands;
+
+impl Reader for Commands {
+    fn read(&self, _alloc: Global, octets: &[u8]) -> Result<u64, Fault> {
+        command_sum(&decode(octets)?)
     }
-    Ok(sum)
 }
 
-/// Writes a message. The sum is that of the octets that were written.
-pub fn encode_once(message: &Rr, out: &mut Vec<u8>) -> Result<u64, Fault> {
-    out.clear();
-    encode_into(message, out)?;
-    Ok(octets_sum(out.as_slice()))
-}
-
-/// Writes one message and the other alternately, so many in all. The sum is that of the octets that were written.
-fn encode_alternately(even: &Rr, odd: &Rr, out: &mut Vec<u8>, count: u64) -> Result<u64, Fault> {
-    let mut sum = 0u64;
-    for iteration in 0..count {
-        let message = match iteration % 2 {
-            0 => even,
-            _ => odd,
-        };
-        sum = sum.wrapping_add(encode_once(message, out)?);
+impl Written for Rr {
+    fn write(&self, out: &mut Vec<u8>) -> Result<u64, Fault> {
+        out.clear();
+        encode_into(self, out)?;
+        Ok(octets_sum(out.as_slice()))
     }
-    Ok(sum)
 }
 
 /// The HANDOVER COMMAND of an iteration.
@@ -67,8 +56,7 @@ fn command_at(octets: &mut Varying, iteration: u64) -> Result<Rr, Fault> {
 pub fn encode_commands(alloc: Global, octets: &mut Varying, count: u64) -> Result<u64, Fault> {
     let even = command_at(octets, 0)?;
     let odd = command_at(octets, 1)?;
-    let mut out = Vec::new(alloc);
-    encode_alternately(&even, &odd, &mut out, count)
+    write_alternately(&even, &odd, alloc, count)
 }
 
 /// The measurement results of the octets of a MEASUREMENT REPORT.

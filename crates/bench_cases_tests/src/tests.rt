@@ -21,7 +21,8 @@ use std::process::Abort;
 ///   23 + 102: 311 + 312. Written: the 27 octets, 428 and then 429.
 /// - HANDOVER REQUIRED read: cause 12, response 1, cell 23 + 102 and then 23 + 103: 138 + 139. Written: the 14 octets,
 ///   230 and then 231.
-const SUMS: [(&str, u64); 12] = [
+/// - A site read: 64 cells, and the carriers 0 to 3 of cell 0 and then 4 to 7 of cell 1: 70 + 86.
+const SUMS: [(&str, u64); 13] = [
     ("chan_act.dec", 115),
     ("chan_act.enc", 259),
     ("call.octets", 284),
@@ -34,6 +35,7 @@ const SUMS: [(&str, u64); 12] = [
     ("ho_request.enc", 857),
     ("ho_required.dec", 277),
     ("ho_required.enc", 461),
+    ("site.read", 156),
 ];
 
 /// The case of this name.

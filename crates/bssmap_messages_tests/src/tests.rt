@@ -1,6 +1,6 @@
 use bssmap_messages::{
-    Bssmap, BssmapFault, CellId, CellList, Octets, canonical_is_text, decode, encode, encode_into,
-    fits, reading_is_unique,
+    Bssmap, BssmapFault, CellId, CellList, Classmark, Octets, canonical_is_text, decode, encode,
+    encode_into, fits, reading_is_unique,
 };
 use refusing_heap::RefusingHeap;
 use std::alloc::Global;
@@ -59,7 +59,7 @@ const REQUEST_ENCRYPTED: &[u8] = &[
 ];
 
 /// A text of each message, as it is written, and how many lists with an item the message keeps.
-const TEXTS: [(&[u8], u64); 15] = [
+const TEXTS: &[(&[u8], u64)] = &[
     (REQUEST, 2),
     (REQUEST_ENCRYPTED, 2),
     (REQUEST_2, 3),
@@ -91,7 +91,7 @@ fn is_written_as(rt: &(impl AllocGlobal + Abort), text: &[u8], written: &[u8]) -
 }
 
 /// Texts, with the text that is written for what they say.
-const OTHER_TEXTS: [(&[u8], &[u8]); 15] = [
+const OTHER_TEXTS: &[(&[u8], &[u8])] = &[
     // unknown elements before, between and after
     (
         &[0, 7, 0x16, 0x99, 1, 0, 4, 1, 0x21],
@@ -124,100 +124,187 @@ const OTHER_TEXTS: [(&[u8], &[u8]); 15] = [
     ),
 ];
 
-fn are_written_as(rt: &(impl AllocGlobal + Abort), rows: &[(&[u8], &[u8])]) -> Result<(), Fail> {
-    for (text, written) in rows {
-        is_written_as(rt, text, written)?;
+#[test]
+fn reads_other_texts_of_a_message(rt: HostRuntime) -> Result<(), Fail> {
+    for (text, written) in OTHER_TEXTS {
+        is_written_as(&rt, *text, *written)?;
     }
     Ok(())
 }
 
-#[test]
-fn reads_other_texts_of_a_message(rt: HostRuntime) -> Result<(), Fail> {
-    are_written_as(&rt, &OTHER_TEXTS)
+/// A classmark with octets that nobody owns.
+#[derive(Clone, Copy, PartialEq)]
+enum Mark<'a> {
+    One(u8),
+    Two(&'a [u8]),
 }
 
-/// What texts say, as it is shown for debugging: each message, and each kind of cell list.
-const SAYINGS: [(&[u8], &str); 18] = [
+/// The fields of a message in the order of its type, with octets and cells that nobody owns.
+#[derive(Clone, Copy, PartialEq)]
+enum Fields<'a> {
+    HandoverRequest(&'a [u8], &'a [u8], Mark<'a>, CellId, CellId),
+    HandoverRequired(u8, bool, &'a [CellId]),
+    HandoverRequestAck(&'a [u8]),
+    HandoverCommand(&'a [u8]),
+    HandoverComplete(Option<u8>),
+    HandoverFailure(u8, Option<u8>),
+    HandoverPerformed(u8, CellId),
+    HandoverRequiredReject(u8),
+    HandoverDetect,
+    ClearCommand(u8),
+    ClearComplete,
+    ClearRequest(u8),
+}
+
+fn mark_of(classmark: &Classmark) -> Mark<'_> {
+    match classmark {
+        Classmark::One(octet) => Mark::One(*octet),
+        Classmark::Two(octets) => Mark::Two(octets.as_slice()),
+    }
+}
+
+fn fields_of(message: &Bssmap) -> Fields<'_> {
+    match message {
+        Bssmap::HandoverRequest {
+            serving,
+            target,
+            channel,
+            encryption,
+            classmark,
+        } => Fields::HandoverRequest(
+            channel.as_slice(),
+            encryption.as_slice(),
+            mark_of(classmark),
+            *serving,
+            *target,
+        ),
+        Bssmap::HandoverRequired {
+            cause,
+            response,
+            cells,
+        } => Fields::HandoverRequired(*cause, *response, cells.as_slice()),
+        Bssmap::HandoverRequestAck { layer3 } => Fields::HandoverRequestAck(layer3.as_slice()),
+        Bssmap::HandoverCommand { layer3 } => Fields::HandoverCommand(layer3.as_slice()),
+        Bssmap::HandoverComplete { rr } => Fields::HandoverComplete(*rr),
+        Bssmap::HandoverFailure { cause, rr } => Fields::HandoverFailure(*cause, *rr),
+        Bssmap::HandoverPerformed { cause, cell } => Fields::HandoverPerformed(*cause, *cell),
+        Bssmap::HandoverRequiredReject { cause } => Fields::HandoverRequiredReject(*cause),
+        Bssmap::HandoverDetect => Fields::HandoverDetect,
+        Bssmap::ClearCommand { cause } => Fields::ClearCommand(*cause),
+        Bssmap::ClearComplete => Fields::ClearComplete,
+        Bssmap::ClearRequest { cause } => Fields::ClearRequest(*cause),
+    }
+}
+
+const CELL_101: CellId = CellId {
+    lac: Some(23),
+    ci: 101,
+};
+
+const CELL_102: CellId = CellId {
+    lac: Some(23),
+    ci: 102,
+};
+
+const CELL_1286: CellId = CellId {
+    lac: None,
+    ci: 1286,
+};
+
+/// What texts say: each message, and each kind of cell list.
+const READINGS: &[(&[u8], Fields<'static>)] = &[
     (
         REQUEST,
-        "HandoverRequest { channel: Octets { items: [1, 8, 1] }, encryption: Octets { items: [1] }, classmark: One(51), serving: CellId { lac: Some(23), ci: 102 }, target: CellId { lac: Some(23), ci: 101 } }",
+        Fields::HandoverRequest(&[1, 8, 1], &[1], Mark::One(51), CELL_102, CELL_101),
     ),
     (
         REQUEST_2,
-        "HandoverRequest { channel: Octets { items: [1, 8, 1] }, encryption: Octets { items: [1] }, classmark: Two(Octets { items: [51, 25, 129] }), serving: CellId { lac: Some(23), ci: 102 }, target: CellId { lac: Some(23), ci: 101 } }",
+        Fields::HandoverRequest(
+            &[1, 8, 1],
+            &[1],
+            Mark::Two(&[51, 25, 129]),
+            CELL_102,
+            CELL_101,
+        ),
     ),
-    (
-        REQUIRED,
-        "HandoverRequired { cause: 12, response: true, cells: CellList { cells: [CellId { lac: Some(23), ci: 102 }] } }",
-    ),
+    (REQUIRED, Fields::HandoverRequired(12, true, &[CELL_102])),
     (
         REQUEST_ACK,
-        "HandoverRequestAck { layer3: Octets { items: [6, 43, 213, 103, 11, 163, 107, 0, 5] } }",
+        Fields::HandoverRequestAck(&[6, 43, 213, 103, 11, 163, 107, 0, 5]),
     ),
     (
         COMMAND,
-        "HandoverCommand { layer3: Octets { items: [6, 43, 213, 103, 11, 163, 107, 42, 5] } }",
+        Fields::HandoverCommand(&[6, 43, 213, 103, 11, 163, 107, 42, 5]),
     ),
-    (COMPLETE, "HandoverComplete { rr: Some(0) }"),
-    (&[0, 1, 0x14], "HandoverComplete { rr: None }"),
-    (FAILURE, "HandoverFailure { cause: 10, rr: Some(0) }"),
-    (
-        PERFORMED,
-        "HandoverPerformed { cause: 12, cell: CellId { lac: Some(23), ci: 101 } }",
-    ),
-    (REQUIRED_REJECT, "HandoverRequiredReject { cause: 33 }"),
-    (DETECT, "HandoverDetect"),
-    (CLEAR_COMMAND, "ClearCommand { cause: 9 }"),
-    (CLEAR_COMPLETE, "ClearComplete"),
-    (CLEAR_REQUEST, "ClearRequest { cause: 32 }"),
+    (COMPLETE, Fields::HandoverComplete(Some(0))),
+    (&[0, 1, 0x14], Fields::HandoverComplete(None)),
+    (FAILURE, Fields::HandoverFailure(10, Some(0))),
+    (PERFORMED, Fields::HandoverPerformed(12, CELL_101)),
+    (REQUIRED_REJECT, Fields::HandoverRequiredReject(33)),
+    (DETECT, Fields::HandoverDetect),
+    (CLEAR_COMMAND, Fields::ClearCommand(9)),
+    (CLEAR_COMPLETE, Fields::ClearComplete),
+    (CLEAR_REQUEST, Fields::ClearRequest(32)),
     (
         &[
             0, 15, 0x11, 4, 1, 0x0C, 0x1A, 9, 0xF1, 1, 2, 3, 4, 5, 6, 7, 8,
         ],
-        "HandoverRequired { cause: 12, response: false, cells: CellList { cells: [CellId { lac: Some(258), ci: 772 }, CellId { lac: Some(1286), ci: 1800 }] } }",
+        Fields::HandoverRequired(
+            12,
+            false,
+            &[
+                CellId {
+                    lac: Some(258),
+                    ci: 772,
+                },
+                CellId {
+                    lac: Some(1286),
+                    ci: 1800,
+                },
+            ],
+        ),
     ),
     (
         &[0, 14, 0x11, 4, 1, 0x0C, 0x1A, 8, 0, 9, 9, 9, 1, 2, 3, 4],
-        "HandoverRequired { cause: 12, response: false, cells: CellList { cells: [CellId { lac: Some(258), ci: 772 }] } }",
+        Fields::HandoverRequired(
+            12,
+            false,
+            &[CellId {
+                lac: Some(258),
+                ci: 772,
+            }],
+        ),
     ),
     (
         &[0, 9, 0x11, 4, 1, 0x0C, 0x1A, 3, 2, 5, 6],
-        "HandoverRequired { cause: 12, response: false, cells: CellList { cells: [CellId { lac: None, ci: 1286 }] } }",
+        Fields::HandoverRequired(12, false, &[CELL_1286]),
     ),
     (
         &[0, 11, 0x11, 4, 1, 0x0C, 0x1A, 5, 0x12, 5, 6, 5, 6],
-        "HandoverRequired { cause: 12, response: false, cells: CellList { cells: [CellId { lac: None, ci: 1286 }, CellId { lac: None, ci: 1286 }] } }",
+        Fields::HandoverRequired(12, false, &[CELL_1286, CELL_1286]),
     ),
 ];
 
-fn is_shown_as(
+fn is_read_as(
     rt: &(impl AllocGlobal + Abort),
-    message: &Bssmap,
-    saying: &str,
+    text: &[u8],
+    wanted: Fields<'static>,
 ) -> Result<(), Fail> {
-    let shown = format!(in rt.alloc(); "{message:?}")?;
-    assert_eq!(rt; shown.as_str(), saying);
-    Ok(())
-}
-
-fn is_read_as(rt: &(impl AllocGlobal + Abort), text: &[u8], saying: &str) -> Result<(), Fail> {
-    is_shown_as(rt, &decode(rt.alloc(), text)?, saying)
-}
-
-fn are_read_as(rt: &(impl AllocGlobal + Abort), rows: &[(&[u8], &str)]) -> Result<(), Fail> {
-    for (text, saying) in rows {
-        is_read_as(rt, text, saying)?;
-    }
+    let message = decode(rt.alloc(), text)?;
+    assert!(rt; fields_of(&message) == wanted, "{text:?}");
     Ok(())
 }
 
 #[test]
 fn reads_each_message(rt: HostRuntime) -> Result<(), Fail> {
-    are_read_as(&rt, &SAYINGS)
+    for (text, wanted) in READINGS {
+        is_read_as(&rt, *text, *wanted)?;
+    }
+    Ok(())
 }
 
 /// Octets that are no text of a message, and their first fault.
-const FAULTS: [(&[u8], BssmapFault); 47] = [
+const FAULTS: &[(&[u8], BssmapFault)] = &[
     (&[], BssmapFault::NotBssmap),
     (&[1], BssmapFault::NotBssmap),
     (&[1, 1, 0x1B], BssmapFault::NotBssmap),
@@ -344,20 +431,16 @@ fn has_fault(rt: &(impl AllocGlobal + Abort), octets: &[u8], fault: Option<Bssma
     assert_eq!(rt; found, fault, "{octets:?}");
 }
 
-fn have_faults(rt: &(impl AllocGlobal + Abort), rows: &[(&[u8], BssmapFault)]) {
-    for (octets, fault) in rows {
-        has_fault(rt, octets, Some(*fault));
-    }
-}
-
 #[test]
 fn finds_the_first_fault(rt: HostRuntime) {
-    have_faults(&rt, &FAULTS);
+    for (octets, fault) in FAULTS {
+        has_fault(&rt, *octets, Some(*fault));
+    }
 }
 
 /// The elements of a text: the offset where one begins, the identifier that is missing without it, and
 /// whether the message needs it.
-const FRONTS: [(&[u8], &[(usize, u8, bool)]); 12] = [
+const FRONTS: &[(&[u8], &[(usize, u8, bool)])] = &[
     (
         REQUEST,
         &[
@@ -424,19 +507,12 @@ fn finds_the_faults_of_fronts(
     Ok(())
 }
 
-fn have_faults_in_fronts(
-    rt: &(impl AllocGlobal + Abort),
-    rows: &[(&[u8], &[(usize, u8, bool)])],
-) -> Result<(), Fail> {
-    for (text, elements) in rows {
-        finds_the_faults_of_fronts(rt, text, elements)?;
-    }
-    Ok(())
-}
-
 #[test]
 fn finds_the_fault_of_each_front_of_a_text(rt: HostRuntime) -> Result<(), Fail> {
-    have_faults_in_fronts(&rt, &FRONTS)
+    for (text, elements) in FRONTS {
+        finds_the_faults_of_fronts(&rt, *text, *elements)?;
+    }
+    Ok(())
 }
 
 #[test]
@@ -494,7 +570,7 @@ const AREA_1: CellId = CellId {
 
 /// Whether a response is asked for, the cells of a HANDOVER REQUIRED, and the length of its text where it
 /// can be written.
-const CELLS_THAT_FIT: [(bool, &[CellId], Option<usize>); 7] = [
+const CELLS_THAT_FIT: &[(bool, &[CellId], Option<usize>)] = &[
     (true, &[], None),
     (true, &[NO_AREA], None),
     (true, &[AREA_0, NO_AREA], None),
@@ -519,19 +595,12 @@ fn required_has_length(
     has_length(rt, &message, length)
 }
 
-fn requireds_have_lengths(
-    rt: &(impl AllocGlobal + Abort),
-    rows: &[(bool, &[CellId], Option<usize>)],
-) -> Result<(), Fail> {
-    for (response, cells, length) in rows {
-        required_has_length(rt, *response, cells, *length)?;
-    }
-    Ok(())
-}
-
 #[test]
 fn fits_some_cells_with_area(rt: HostRuntime) -> Result<(), Fail> {
-    requireds_have_lengths(&rt, &CELLS_THAT_FIT)
+    for (response, cells, length) in CELLS_THAT_FIT {
+        required_has_length(&rt, *response, *cells, *length)?;
+    }
+    Ok(())
 }
 
 #[test]
@@ -542,18 +611,22 @@ fn fits_a_cell_with_a_location_area_code(rt: HostRuntime) -> Result<(), Fail> {
     has_length(&rt, &Bssmap::HandoverPerformed { cause: 0, cell }, Some(13))
 }
 
-/// Appends a message and HANDOVER DETECT to a list that has room for both texts.
+/// Appends a message and HANDOVER DETECT to a list that has room for both texts: no memory is asked for, and the room
+/// stays.
 fn appends_two<'a>(
     rt: &impl Abort,
+    heap: &'a RefusingHeap,
     message: &Bssmap<&'a RefusingHeap>,
     out: &mut Vec<u8, &'a RefusingHeap>,
     text: &[u8],
 ) -> Result<(), Fail> {
+    let room = out.capacity();
     assert!(rt; fits(message), "{text:?}");
-    encode_into(message, out)?;
+    assert!(rt; encode_into(message, out).is_ok(), "{text:?}");
     let detect = Bssmap::HandoverDetect;
     assert!(rt; fits(&detect));
-    encode_into(&detect, out)?;
+    assert!(rt; encode_into(&detect, out).is_ok(), "{text:?}");
+    assert_eq!(rt; (heap.refused(), out.capacity()), (0, room), "{text:?}");
     let [7, written @ .., 0, 1, 0x1B] = out.as_slice() else {
         return Err(Fail::from("other octets than 7, a text and HANDOVER DETECT"));
     };
@@ -561,15 +634,17 @@ fn appends_two<'a>(
     Ok(())
 }
 
-/// Appends a message to a list without room, where no memory is left: the list stays as it was.
-fn leaves_what_was_written<'a>(
+/// Appends a message to a full list, where no memory is left: the list stays as it was.
+fn is_not_appended<'a>(
     rt: &impl Abort,
     message: &Bssmap<&'a RefusingHeap>,
     full: &mut Vec<u8, &'a RefusingHeap>,
 ) {
+    let room = full.capacity();
     assert!(rt; fits(message));
     assert!(rt; encode_into(message, full).is_err());
     assert_eq!(rt; full.as_slice(), [7].as_slice());
+    assert_eq!(rt; full.capacity(), room);
 }
 
 /// Writes a message where no memory is left, with room and without.
@@ -583,12 +658,12 @@ fn is_written_without_memory<'a>(
     out.push(7)?;
     let mut full = Vec::from_slice(heap, &[7])?;
     heap.refuse_from_now();
-    appends_two(rt, message, &mut out, text)?;
-    assert_eq!(rt; heap.refused(), 0);
-    leaves_what_was_written(rt, message, &mut full);
-    assert_eq!(rt; heap.refused(), 1);
+    appends_two(rt, heap, message, &mut out, text)?;
+    is_not_appended(rt, message, &mut full);
+    assert_eq!(rt; heap.refused(), 1, "{text:?}");
     assert!(rt; fits(message));
-    assert!(rt; encode(heap, message).is_err());
+    assert!(rt; encode(heap, message).is_err(), "{text:?}");
+    assert_eq!(rt; heap.refused(), 2, "{text:?}");
     Ok(())
 }
 
@@ -618,21 +693,23 @@ fn readings_refused(rt: &(impl AllocGlobal + Abort), text: &[u8]) -> u64 {
     refused
 }
 
-fn are_read_and_written(
+/// A text is read, each request for memory refused in turn, and written.
+fn is_read_and_written(
     rt: &(impl AllocGlobal + Abort),
-    texts: &[(&[u8], u64)],
+    text: &[u8],
+    lists: u64,
 ) -> Result<(), Fail> {
-    for (text, lists) in texts {
-        is_written_as(rt, text, text)?;
-        is_written_in_room(rt, text)?;
-        assert_eq!(rt; readings_refused(rt, text), *lists, "{text:?}");
-    }
+    is_written_as(rt, text, text)?;
+    is_written_in_room(rt, text)?;
+    assert_eq!(rt; readings_refused(rt, text), lists, "{text:?}");
     Ok(())
 }
 
 #[test]
 fn reads_back_what_it_writes_with_and_without_memory(rt: HostRuntime) -> Result<(), Fail> {
-    are_read_and_written(&rt, &TEXTS)?;
+    for (text, lists) in TEXTS {
+        is_read_and_written(&rt, *text, *lists)?;
+    }
     reading_is_unique::<Global>();
     canonical_is_text::<Global>();
     Ok(())
@@ -645,7 +722,7 @@ fn lists_answer_that_memory_is_refused(rt: HostRuntime) {
     assert!(rt; CellList::new(&heap, &[AREA_1]).is_err());
 }
 
-const FAULT_TEXTS: [(BssmapFault, &str); 7] = [
+const FAULT_TEXTS: &[(BssmapFault, &str)] = &[
     (BssmapFault::NotBssmap, "not a BSSMAP message"),
     (BssmapFault::Length, "wrong length octet"),
     (BssmapFault::UnknownType(0x0F), "unknown message type 0x0f"),
@@ -655,14 +732,10 @@ const FAULT_TEXTS: [(BssmapFault, &str); 7] = [
     (BssmapFault::NoMemory, "out of memory"),
 ];
 
-fn are_printed(rt: &(impl AllocGlobal + Abort), rows: &[(BssmapFault, &str)]) -> Result<(), Fail> {
-    for (fault, text) in rows {
+#[test]
+fn prints_faults(rt: HostRuntime) -> Result<(), Fail> {
+    for (fault, text) in FAULT_TEXTS {
         assert_eq!(rt; format!(in rt.alloc(); "{fault}")?.as_str(), *text);
     }
     Ok(())
-}
-
-#[test]
-fn prints_faults(rt: HostRuntime) -> Result<(), Fail> {
-    are_printed(&rt, &FAULT_TEXTS)
 }
