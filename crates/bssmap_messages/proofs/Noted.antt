@@ -8,11 +8,11 @@ use Rattle.bssmap_messages.specs.declared.head.MessageKind.{MessageKind}
 use Rattle.bssmap_messages.specs.declared.head.MessageKind.TheVariants as kind
 use Rattle.bssmap_messages.specs.declared.message.Bssmap.{Bssmap}
 use Rattle.bssmap_messages.specs.Forms.{known}
-use Rattle.bssmap_messages.specs.Messages.{said, handover_request, handover_required, handover_request_ack, handover_command, handover_complete, handover_failure, handover_performed, handover_required_reject, clear_command, clear_request}
+use Rattle.bssmap_messages.specs.Messages.{said, handover_request, handover_required, layer_3_alone, handover_complete, handover_failure, handover_performed, cause_alone}
 use Rattle.bssmap_messages.specs.Texts.{codec}
 
 all_noted : {A : Type 0} (k : MessageKind) (es : List Element) → said {A = A} k (noted known es) ≡ said k (values_in es)
-unfolding handover_request handover_required handover_request_ack handover_command handover_complete handover_failure handover_performed handover_required_reject clear_command clear_request
+unfolding handover_request handover_required layer_3_alone handover_complete handover_failure handover_performed cause_alone
 all_noted kind.HandoverRequest es = refl
 all_noted kind.HandoverRequired es = refl
 all_noted kind.HandoverRequestAck es = refl

@@ -20,7 +20,7 @@ use Rattle.bssmap_messages.specs.declared.message.Bssmap.TheVariants.{HandoverRe
 use Rattle.bssmap_messages.specs.Forms.{ENCRYPTION_INFORMATION, LAYER_3_INFORMATION}
 use Rattle.bssmap_messages.specs.Forms.{interface_a}
 use Rattle.bssmap_messages.specs.Heads.{limit, Carries}
-use Rattle.bssmap_messages.specs.Messages.{said, value_of, type_of, kind_of, elements_of, CanBeSaid, handover_request, handover_required, handover_request_ack, handover_command, handover_complete, handover_failure, handover_performed, handover_required_reject, clear_command, clear_request}
+use Rattle.bssmap_messages.specs.Messages.{said, value_of, type_of, kind_of, elements_of, CanBeSaid, handover_request, handover_required, layer_3_alone, handover_complete, handover_failure, handover_performed, cause_alone}
 use Rattle.bssmap_messages.specs.Texts.{codec, HasCanonical, canonical_text, written_octets}
 use Rattle.bssmap_messages.specs.Values.{channel_type_in, some_cells, cell_in, cells_in, cells_from, cell_octets, cell_value, cells_value}
 use Rattle.bssmap_messages.proofs.Unique.{one_head}
@@ -124,7 +124,7 @@ each (Err e) q z h = absurd cc
 
 -- What can be said is said by the elements that are written.
 pub said_again : {A : Type 0} (v : Bssmap A) → CanBeSaid v → said (kind_of v) (values_in (elements_of v)) ≡ Ok v
-unfolding also handover_request handover_required handover_request_ack handover_command handover_complete handover_failure handover_performed handover_required_reject clear_command clear_request
+unfolding also handover_request handover_required layer_3_alone handover_complete handover_failure handover_performed cause_alone
 said_again (HandoverRequest channel encryption (One octet) serving target) h = ap (value_of (λ (channel, (encryption, (classmark, (serving, target)))). HandoverRequest channel encryption classmark serving target)) (both _ _ _ _ (channel_again channel h.0) (both _ _ _ _ (octets_again ENCRYPTION_INFORMATION encryption h.1) (both _ _ _ _ refl (both _ _ _ _ (cell_again serving h.2) (cell_again target h.3)))))
 said_again (HandoverRequest channel encryption (Two v) serving target) h = ap (value_of (λ (channel, (encryption, (classmark, (serving, target)))). HandoverRequest channel encryption classmark serving target)) (both _ _ _ _ (channel_again channel h.0) (both _ _ _ _ (octets_again ENCRYPTION_INFORMATION encryption h.1) (both _ _ _ _ refl (both _ _ _ _ (cell_again serving h.2) (cell_again target h.3)))))
 said_again (HandoverRequired cause true cells) h = ap (value_of (λ (cause, (response, cells)). HandoverRequired cause response cells)) (both _ _ _ _ refl (both _ _ _ _ refl (cells_again cells h.0 h.1)))
@@ -144,7 +144,7 @@ said_again (ClearRequest cause) h = refl
 
 -- the elements of a message have the lengths that their forms fix
 fixed : {A : Type 0} (v : Bssmap A) → AreFixed interface_a (elements_of v)
-unfolding handover_request handover_required handover_request_ack handover_command handover_complete handover_failure handover_performed handover_required_reject clear_command clear_request
+unfolding handover_request handover_required layer_3_alone handover_complete handover_failure handover_performed cause_alone
 fixed (HandoverRequest channel encryption (One octet) serving target) = (tt, (tt, (refl, (tt, (tt, tt)))))
 fixed (HandoverRequest channel encryption (Two v) serving target) = (tt, (tt, (tt, (tt, (tt, tt)))))
 fixed (HandoverRequired cause true cells) = (tt, (refl, (tt, tt)))
@@ -219,7 +219,7 @@ performed_said cause cell (Ok read) is h = cell_fits cell read (sym is) cc
 performed_said cause cell (Err e) is h = absurd cc
 
 pub can_be_said : {A : Type 0} (v : Bssmap A) → said (kind_of v) (values_in (elements_of v)) ≡ Ok v → CanBeSaid v
-unfolding also handover_request handover_required handover_request_ack handover_command handover_complete handover_failure handover_performed handover_required_reject clear_command clear_request
+unfolding also handover_request handover_required layer_3_alone handover_complete handover_failure handover_performed cause_alone
 can_be_said (HandoverRequest channel encryption (One octet) serving target) h =
     let each = request_said channel encryption (One octet) serving target (channel_type_in (Some channel)) (octets_in ENCRYPTION_INFORMATION (Some encryption)) (Ok (One octet)) (cell_in (Some (cell_value serving))) (cell_in (Some (cell_value target))) h in
     (channel_fits channel channel each.0, octets_fit ENCRYPTION_INFORMATION encryption encryption each.1, cell_fits serving serving each.2 refl, cell_fits target target each.3 refl)

@@ -39,13 +39,9 @@ handover_request = channel_type ▸ octets ENCRYPTION_INFORMATION ▸ classmark_
 unfoldable pub handover_required : Row (ℕ × (Bool × List CellId))
 handover_required = octet CAUSE ▸ presence RESPONSE_REQUEST ▸ cell_identifier_list
 
--- HANDOVER REQUEST ACKNOWLEDGE (clause 3.2.1.10): layer 3 information (3.2.2.24).
-unfoldable pub handover_request_ack : Row (List ℕ)
-handover_request_ack = octets LAYER_3_INFORMATION
-
--- HANDOVER COMMAND (clause 3.2.1.11): layer 3 information.
-unfoldable pub handover_command : Row (List ℕ)
-handover_command = octets LAYER_3_INFORMATION
+-- HANDOVER REQUEST ACKNOWLEDGE (clause 3.2.1.10) and HANDOVER COMMAND (3.2.1.11): layer 3 information (3.2.2.24).
+unfoldable pub layer_3_alone : Row (List ℕ)
+layer_3_alone = octets LAYER_3_INFORMATION
 
 -- HANDOVER COMPLETE (clause 3.2.1.12): [RR cause (3.2.2.22)].
 unfoldable pub handover_complete : Row (Option ℕ)
@@ -59,19 +55,11 @@ handover_failure = octet CAUSE ▸ optional_octet RR_CAUSE
 unfoldable pub handover_performed : Row (ℕ × CellId)
 handover_performed = octet CAUSE ▸ cell_identifier
 
--- HANDOVER REQUIRED REJECT (clause 3.2.1.37): cause.
-unfoldable pub handover_required_reject : Row ℕ
-handover_required_reject = octet CAUSE
+-- HANDOVER REQUIRED REJECT (clause 3.2.1.37), CLEAR COMMAND (3.2.1.21) and CLEAR REQUEST (3.2.1.20): cause.
+unfoldable pub cause_alone : Row ℕ
+cause_alone = octet CAUSE
 
--- HANDOVER DETECT (clause 3.2.1.40) and CLEAR COMPLETE (clause 3.2.1.22) have no elements.
-
--- CLEAR COMMAND (clause 3.2.1.21): cause.
-unfoldable pub clear_command : Row ℕ
-clear_command = octet CAUSE
-
--- CLEAR REQUEST (clause 3.2.1.20): cause.
-unfoldable pub clear_request : Row ℕ
-clear_request = octet CAUSE
+-- HANDOVER DETECT (clause 3.2.1.40) and CLEAR COMPLETE (3.2.1.22) have no elements.
 
 -- what the elements of a message say, or the first fault in the order of its rows
 abbrev pub Said : Type 0 → Type 0
@@ -85,31 +73,31 @@ value_of message (Err fault) = Err fault
 abbrev pub said : {A : Type 0} → MessageKind → Lookup → Said A
 said kind.HandoverRequest found = value_of (λ (channel, (encryption, (classmark, (serving, target)))). HandoverRequest channel encryption classmark serving target) (handover_request.read found)
 said kind.HandoverRequired found = value_of (λ (cause, (response, cells)). HandoverRequired cause response cells) (handover_required.read found)
-said kind.HandoverRequestAck found = value_of HandoverRequestAck (handover_request_ack.read found)
-said kind.HandoverCommand found = value_of HandoverCommand (handover_command.read found)
+said kind.HandoverRequestAck found = value_of HandoverRequestAck (layer_3_alone.read found)
+said kind.HandoverCommand found = value_of HandoverCommand (layer_3_alone.read found)
 said kind.HandoverComplete found = value_of HandoverComplete (handover_complete.read found)
 said kind.HandoverFailure found = value_of (λ (cause, rr). HandoverFailure cause rr) (handover_failure.read found)
 said kind.HandoverPerformed found = value_of (λ (cause, cell). HandoverPerformed cause cell) (handover_performed.read found)
-said kind.HandoverRequiredReject found = value_of HandoverRequiredReject (handover_required_reject.read found)
+said kind.HandoverRequiredReject found = value_of HandoverRequiredReject (cause_alone.read found)
 said kind.HandoverDetect found = Ok HandoverDetect
-said kind.ClearCommand found = value_of ClearCommand (clear_command.read found)
+said kind.ClearCommand found = value_of ClearCommand (cause_alone.read found)
 said kind.ClearComplete found = Ok ClearComplete
-said kind.ClearRequest found = value_of ClearRequest (clear_request.read found)
+said kind.ClearRequest found = value_of ClearRequest (cause_alone.read found)
 
 -- the elements of a message in the order in which they are written
 abbrev pub elements_of : {A : Type 0} → Bssmap A → List Element
 elements_of (HandoverRequest channel encryption classmark serving target) = handover_request.written (channel, (encryption, (classmark, (serving, target))))
 elements_of (HandoverRequired cause response cells) = handover_required.written (cause, (response, cells))
-elements_of (HandoverRequestAck layer3) = handover_request_ack.written layer3
-elements_of (HandoverCommand layer3) = handover_command.written layer3
+elements_of (HandoverRequestAck layer3) = layer_3_alone.written layer3
+elements_of (HandoverCommand layer3) = layer_3_alone.written layer3
 elements_of (HandoverComplete rr) = handover_complete.written rr
 elements_of (HandoverFailure cause rr) = handover_failure.written (cause, rr)
 elements_of (HandoverPerformed cause cell) = handover_performed.written (cause, cell)
-elements_of (HandoverRequiredReject cause) = handover_required_reject.written cause
+elements_of (HandoverRequiredReject cause) = cause_alone.written cause
 elements_of HandoverDetect = []
-elements_of (ClearCommand cause) = clear_command.written cause
+elements_of (ClearCommand cause) = cause_alone.written cause
 elements_of ClearComplete = []
-elements_of (ClearRequest cause) = clear_request.written cause
+elements_of (ClearRequest cause) = cause_alone.written cause
 
 abbrev pub kind_of : {A : Type 0} → Bssmap A → MessageKind
 kind_of (HandoverRequest channel encryption classmark serving target) = kind.HandoverRequest

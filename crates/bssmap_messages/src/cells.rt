@@ -1,5 +1,5 @@
 //! Cells in the value of an element.
-ghost use Rattle.std.specs.Prelude.{◌≡◌, ◌<◌, ◌↔◌, [], ◌∷◌, List, length, Some, Ok, Err, IsTrue, IsSome, IfSome, IfNone, IfOk, IfErr};
+ghost use Rattle.std.specs.Prelude.{◌≡◌, ◌<◌, ◌↔◌, [], ◌∷◌, List, length, Some, Ok, Err, IsOk, IsTrue, IsSome, IfSome, IfNone, IfOk, IfErr};
 ghost use Rattle.std.specs.Option.{option_map};
 ghost use Rattle.bssmap_messages.specs.declared.message.CellId.{CellId};
 ghost use Rattle.octet_elements.specs.Values.{value_seen, pair};
@@ -28,10 +28,16 @@ impl<A: Allocator> Model for CellList<A> {
 }
 
 impl<A: Allocator + Copy> CellList<A> {
-    /// A list of these cells.
+    /// A list of these cells. An empty one takes no memory.
     pub fn new(alloc: A, cells: &[CellId]) -> Result<Self, AllocError>
         ensures cells { IfOk result (λ o. o ≡ cells.now) }
+        ensures empty { cells.now ≡ [] → IsOk result }
     {
+        if cells.is_empty() {
+            return Ok(CellList {
+                cells: Vec::new(alloc),
+            });
+        }
         Ok(CellList {
             cells: Vec::from_slice(alloc, cells)?,
         })

@@ -4,7 +4,6 @@ ghost use Rattle.std.specs.List.{list_all};
 ghost use Rattle.octet_elements.specs.Elements.{Fits, all_octets, element_octets};
 ghost use Rattle.octet_elements.specs.Lookup.{lookup, values_in};
 ghost use Rattle.octet_elements.specs.Texts.{Answers};
-ghost use Rattle.octet_elements.specs.Values.{where_some};
 ghost use Rattle.bssmap_messages.specs.Forms.{interface_a, known};
 ghost use Rattle.bssmap_messages.specs.Heads.{limit};
 ghost use Rattle.bssmap_messages.specs.Messages.{said, kind_of, elements_of};
@@ -21,7 +20,10 @@ use crate::table::{
 };
 use crate::values::{channel_type, classmark, keep_classmark};
 use octet_elements::values::pair_octets;
-use octet_elements::{Found, Octets, append_element, append_octets};
+use octet_elements::{
+    Found, Octets, append_element, append_octet, append_octets, append_optional_octet, element_len,
+    octet_len, optional_octet_len,
+};
 use std::alloc::Allocator;
 
 /// HANDOVER REQUEST. Memory is asked for once the elements are read.
@@ -68,7 +70,7 @@ fn read_required<A: Allocator + Copy>(
 }
 
 /// What the elements of a message of this kind say, element by element.
-#[tactic(auto, unfolding(crate::specs::Messages::handover_request_ack, crate::specs::Messages::handover_command, crate::specs::Messages::handover_complete, crate::specs::Messages::handover_failure, crate::specs::Messages::handover_performed, crate::specs::Messages::handover_required_reject, crate::specs::Messages::clear_command, crate::specs::Messages::clear_request))]
+#[tactic(auto, unfolding(crate::specs::Messages::layer_3_alone, crate::specs::Messages::handover_complete, crate::specs::Messages::handover_failure, crate::specs::Messages::handover_performed, crate::specs::Messages::cause_alone))]
 pub fn read_elements<A: Allocator + Copy>(
     alloc: A,
     kind: MessageKind,
@@ -165,7 +167,7 @@ fn counted_len(value_len: usize) -> usize
 const CELL_LEN: usize = 4;
 
 /// How many octets the elements of a message take; the greatest number, where that is too great.
-#[tactic(auto, unfolding(crate::specs::Messages::handover_request_ack, crate::specs::Messages::handover_command, crate::specs::Messages::handover_complete, crate::specs::Messages::handover_failure, crate::specs::Messages::handover_performed, crate::specs::Messages::handover_required_reject, crate::specs::Messages::clear_command, crate::specs::Messages::clear_request))]
+#[tactic(auto, unfolding(crate::specs::Messages::layer_3_alone, crate::specs::Messages::handover_complete, crate::specs::Messages::handover_failure, crate::specs::Messages::handover_performed, crate::specs::Messages::cause_alone))]
 pub fn elements_len<A: Allocator>(message: &Bssmap<A>) -> usize
     ensures { result ≡ min (length (all_octets interface_a (elements_of message.now))) (2 ^ 64 - 1) }
 {
@@ -191,16 +193,18 @@ pub fn elements_len<A: Allocator>(message: &Bssmap<A>) -> usize
                 .saturating_add(1),
         )
         .saturating_add(response_len(*response))
-        .saturating_add(counted_len(1)),
+        .saturating_add(octet_len::<InterfaceA>(CAUSE)),
         Bssmap::HandoverRequestAck { layer3 } | Bssmap::HandoverCommand { layer3 } => {
             counted_len(layer3.as_slice().len())
         }
-        Bssmap::HandoverComplete { rr } => rr_len(*rr),
-        Bssmap::HandoverFailure { rr, .. } => counted_len(1) + rr_len(*rr),
-        Bssmap::HandoverPerformed { .. } => counted_len(1) + counted_len(1 + CELL_LEN),
+        Bssmap::HandoverComplete { rr } => optional_octet_len::<InterfaceA>(RR_CAUSE, *rr),
+        Bssmap::HandoverFailure { rr, .. } => octet_len::<InterfaceA>(CAUSE)
+            + optional_octet_len::<InterfaceA>(RR_CAUSE, *rr),
+        Bssmap::HandoverPerformed { .. } => octet_len::<InterfaceA>(CAUSE)
+            + counted_len(1 + CELL_LEN),
         Bssmap::HandoverRequiredReject { .. }
         | Bssmap::ClearCommand { .. }
-        | Bssmap::ClearRequest { .. } => counted_len(1),
+        | Bssmap::ClearRequest { .. } => octet_len::<InterfaceA>(CAUSE),
         Bssmap::HandoverDetect | Bssmap::ClearComplete => 0,
     }
 }
@@ -211,7 +215,7 @@ fn classmark_len<A: Allocator>(classmark: &Classmark<A>) -> usize
         min (length (element_octets interface_a (classmark_element classmark.now))) (2 ^ 64 - 1) }
 {
     match classmark {
-        Classmark::One(_) => 2,
+        Classmark::One(_) => octet_len::<InterfaceA>(CLASSMARK_1),
         Classmark::Two(octets) => counted_len(octets.as_slice().len()),
     }
 }
@@ -220,14 +224,11 @@ fn classmark_len<A: Allocator>(classmark: &Classmark<A>) -> usize
 fn response_len(response: bool) -> usize
     ensures { result ≡ length (all_octets interface_a (where_true RESPONSE_REQUEST response)) }
 {
-    if response { 1 } else { 0 }
-}
-
-/// How many octets an RR cause takes.
-fn rr_len(rr: Option<u8>) -> usize
-    ensures { result ≡ length (all_octets interface_a (where_some RR_CAUSE rr)) }
-{
-    if rr.is_some() { 2 } else { 0 }
+    if response {
+        element_len::<InterfaceA>(RESPONSE_REQUEST, &[])
+    } else {
+        0
+    }
 }
 
 /// Location area code and cell identity.
@@ -242,22 +243,14 @@ fn cell_octets(cell: CellId) -> [u8; 4]
 /// The discriminator of location area code and cell identity.
 const AREA_AND_CELL: u8 = 1;
 
-/// Appends a cause, for which the list has room.
-fn append_cause<A: Allocator>(out: &mut Vec<u8, A>, cause: u8)
-    requires { vec_len out.old + 3 ≤ vec_capacity out.old }
-    ensures items { out.new.items ≡ out.old.items ++ element_octets interface_a (CAUSE, cause ∷ []) }
-    ensures len { vec_len out.new ≡ vec_len out.old + 3 }
-    ensures capacity { vec_capacity out.old ≤ vec_capacity out.new }
-{
-    append_octets(out, &[CAUSE, 1, cause]);
-}
-
 /// Appends a cell identifier, for which the list has room.
 fn append_cell<A: Allocator>(out: &mut Vec<u8, A>, cell: CellId)
-    requires { vec_len out.old + 7 ≤ vec_capacity out.old }
+    requires { vec_len out.old +
+        length (element_octets interface_a (CELL_IDENTIFIER, cell_value cell)) ≤ vec_capacity out.old }
     ensures items { out.new.items ≡ out.old.items ++
         element_octets interface_a (CELL_IDENTIFIER, cell_value cell) }
-    ensures len { vec_len out.new ≡ vec_len out.old + 7 }
+    ensures len { vec_len out.new ≡ vec_len out.old +
+        length (element_octets interface_a (CELL_IDENTIFIER, cell_value cell)) }
     ensures capacity { vec_capacity out.old ≤ vec_capacity out.new }
 {
     let [area_high, area_low, high, low] = cell_octets(cell);
@@ -265,7 +258,7 @@ fn append_cell<A: Allocator>(out: &mut Vec<u8, A>, cell: CellId)
         out,
         &[
             CELL_IDENTIFIER,
-            5,
+            1 + CELL_LEN as u8,
             AREA_AND_CELL,
             area_high,
             area_low,
@@ -288,7 +281,7 @@ fn append_classmark<A: Allocator>(out: &mut Vec<u8, A>, classmark: &Classmark<A>
     ensures capacity { vec_capacity out.old ≤ vec_capacity out.new }
 {
     match classmark {
-        Classmark::One(octet) => append_octets(out, &[CLASSMARK_1, *octet]),
+        Classmark::One(octet) => append_octet::<InterfaceA, A>(out, CLASSMARK_1, *octet),
         Classmark::Two(octets) => {
             append_element::<InterfaceA, A>(out, CLASSMARK_2, octets.as_slice());
         }
@@ -344,9 +337,9 @@ fn append_required<A: Allocator>(out: &mut Vec<u8, A>, cause: u8, response: bool
         (elements_of {A = A} (Bssmap.HandoverRequired cause response cells.now)) }
     ensures capacity { vec_capacity out.old ≤ vec_capacity out.new }
 {
-    append_cause(out, cause);
+    append_octet::<InterfaceA, A>(out, CAUSE, cause);
     append_response(out, response);
-    let len = 1 + 4 * cells.len();
+    let len = 1 + CELL_LEN * cells.len();
     append_octets(out, &[CELL_IDENTIFIER_LIST, len as u8, AREA_AND_CELL]);
     append_cells(out, cells);
 }
@@ -366,21 +359,8 @@ fn append_response<A: Allocator>(out: &mut Vec<u8, A>, response: bool)
     }
 }
 
-/// Appends an RR cause where there is one; the list has room for it.
-fn append_rr<A: Allocator>(out: &mut Vec<u8, A>, rr: Option<u8>)
-    requires { vec_len out.old + length (all_octets interface_a (where_some RR_CAUSE rr)) ≤
-        vec_capacity out.old }
-    ensures items { out.new.items ≡ out.old.items ++
-        all_octets interface_a (where_some RR_CAUSE rr) }
-    ensures capacity { vec_capacity out.old ≤ vec_capacity out.new }
-{
-    if let Some(rr) = rr {
-        append_octets(out, &[RR_CAUSE, rr]);
-    }
-}
-
 /// Appends the elements of a message, for which the list has room.
-#[tactic(auto, unfolding(crate::specs::Messages::handover_request_ack, crate::specs::Messages::handover_command, crate::specs::Messages::handover_complete, crate::specs::Messages::handover_failure, crate::specs::Messages::handover_performed, crate::specs::Messages::handover_required_reject, crate::specs::Messages::clear_command, crate::specs::Messages::clear_request))]
+#[tactic(auto, unfolding(crate::specs::Messages::layer_3_alone, crate::specs::Messages::handover_complete, crate::specs::Messages::handover_failure, crate::specs::Messages::handover_performed, crate::specs::Messages::cause_alone))]
 pub fn append_elements<A: Allocator + Copy>(message: &Bssmap<A>, out: &mut Vec<u8, A>)
     requires short { length (all_octets interface_a (elements_of message.now)) < limit }
     requires room { vec_len out.old + length (all_octets interface_a (elements_of message.now)) ≤
@@ -405,18 +385,20 @@ pub fn append_elements<A: Allocator + Copy>(message: &Bssmap<A>, out: &mut Vec<u
         Bssmap::HandoverRequestAck { layer3 } | Bssmap::HandoverCommand { layer3 } => {
             append_element::<InterfaceA, A>(out, LAYER_3_INFORMATION, layer3.as_slice());
         }
-        Bssmap::HandoverComplete { rr } => append_rr(out, *rr),
+        Bssmap::HandoverComplete { rr } => append_optional_octet::<InterfaceA, A>(
+            out, RR_CAUSE, *rr,
+        ),
         Bssmap::HandoverFailure { cause, rr } => {
-            append_cause(out, *cause);
-            append_rr(out, *rr);
+            append_octet::<InterfaceA, A>(out, CAUSE, *cause);
+            append_optional_octet::<InterfaceA, A>(out, RR_CAUSE, *rr);
         }
         Bssmap::HandoverPerformed { cause, cell } => {
-            append_cause(out, *cause);
+            append_octet::<InterfaceA, A>(out, CAUSE, *cause);
             append_cell(out, *cell);
         }
         Bssmap::HandoverRequiredReject { cause }
         | Bssmap::ClearCommand { cause }
-        | Bssmap::ClearRequest { cause } => append_cause(out, *cause),
+        | Bssmap::ClearRequest { cause } => append_octet::<InterfaceA, A>(out, CAUSE, *cause),
         Bssmap::HandoverDetect | Bssmap::ClearComplete => {}
     }
 }

@@ -12,6 +12,7 @@ use octet_elements::Found;
 use std::alloc::Allocator;
 
 /// Reads a message: its value, or its first fault.
+#[inline(always)]
 fn read_message<A: Allocator + Copy>(alloc: A, octets: &[u8]) -> Result<Bssmap<A>, BssmapFault>
     ensures text { IfOk result (λ v. IsTextOf v octets.now) }
     ensures fault { IfErr result (HasFault A octets.now) }
@@ -29,6 +30,7 @@ fn read_message<A: Allocator + Copy>(alloc: A, octets: &[u8]) -> Result<Bssmap<A
 /// The order of the elements doesn't matter, nor do those that the message has no use for. Where one
 /// comes again the first is read; of the cell identifiers of a HANDOVER REQUEST the first is the serving
 /// cell and the second the target cell.
+#[inline(always)]
 pub fn decode<A: Allocator + Copy>(alloc: A, octets: &[u8]) -> Result<Bssmap<A>, BssmapFault>
     ensures text { IfOk result (λ v. IsTextOf v octets.now) }
     ensures exact { (v : Bssmap A) → IsTextOf v octets.now → result ≢ Err BssmapFault.NoMemory →

@@ -49,14 +49,19 @@ impl ElementTable for InterfaceA {
 
     ghost known = { known };
 
-    /// Most elements of the messages have an identifier from 0x02 to 0x13. They are told here, so that reading them is
-    /// short.
+    /// The elements of the messages are told here, so that reading them is short: most have an identifier from 0x02 to
+    /// 0x13.
     #[inline(always)]
     fn form_for(identifier: u8) -> Form {
         if 0x01 < identifier && identifier < 0x14 {
             Form::Counted
         } else {
-            form_in_table(identifier)
+            match identifier {
+                RR_CAUSE | CLASSMARK_1 => Form::Fixed(1),
+                RESPONSE_REQUEST => Form::Fixed(0),
+                LAYER_3_INFORMATION | CELL_IDENTIFIER_LIST => Form::Counted,
+                _ => form_in_table(identifier),
+            }
         }
     }
 

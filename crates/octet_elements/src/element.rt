@@ -1,6 +1,7 @@
 //! The element that octets begin with.
 ghost use Rattle.std.specs.Prelude.{◌≡◌, ◌++◌, IfSome, IfNone};
 ghost use Rattle.octet_elements.specs.Elements.{element_octets, Fits, IsCut};
+ghost use Rattle.octet_elements.specs.Lookup.{place_of};
 
 use crate::form::{ElementTable, Form};
 
@@ -8,6 +9,8 @@ use crate::form::{ElementTable, Form};
 #[derive(Clone, Copy)]
 pub struct Leading<'a> {
     pub identifier: u8,
+    /// The place of the identifier among those that the codec knows.
+    pub place: usize,
     pub value: &'a [u8],
     pub rest: &'a [u8],
 }
@@ -16,11 +19,13 @@ pub struct Leading<'a> {
 pub fn leading_element<T: ElementTable>(octets: &[u8]) -> Option<Leading<'_>>
     ensures found { IfSome result (λ f. Fits T.form_of (f.identifier, f.value.now) ×
         (octets.now ≡ element_octets T.form_of (f.identifier, f.value.now) ++ f.rest.now)) }
+    ensures place { IfSome result (λ f. f.place ≡ place_of f.identifier T.known) }
     ensures cut { IfNone result (IsCut T.form_of octets.now) }
 {
     let (identifier, after) = octets.split_first()?;
     let identifier = *identifier;
-    let (count, after) = match T::form_for(identifier) {
+    let (form, place) = T::rule_for(identifier);
+    let (count, after) = match form {
         Form::Fixed(count) => (count, after),
         Form::Counted => {
             let (count, after) = after.split_first()?;
@@ -39,6 +44,7 @@ pub fn leading_element<T: ElementTable>(octets: &[u8]) -> Option<Leading<'_>>
     let (value, rest) = after.split_at(count);
     Some(Leading {
         identifier,
+        place,
         value,
         rest,
     })

@@ -11,7 +11,10 @@ pub enum Form {
 }
 
 /// How many identifiers a codec may know.
-pub const PLACES: usize = 16;
+pub const PLACES: usize = 12;
+
+/// Of the identifier at this place the value of the second element is kept too.
+pub const DOUBLED: usize = 0;
 
 /// The elements of a codec: the form of each identifier, and the identifiers whose values its messages use.
 pub trait ElementTable {
@@ -28,7 +31,16 @@ pub trait ElementTable {
         ensures { result ≡ form_of identifier };
 
     /// The place of this identifier among those that the codec knows, from 0; [`PLACES`] where it isn't
-    /// one of them. Of the identifier at place 0 the second element counts too.
+    /// one of them.
     fn place_for(identifier: u8) -> usize
         ensures { result ≡ place_of identifier known };
+
+    /// Form and place at once, for a codec that tells them by one look at the identifier.
+    #[inline(always)]
+    fn rule_for(identifier: u8) -> (Form, usize)
+        ensures form { result.0 ≡ form_of identifier }
+        ensures place { result.1 ≡ place_of identifier known }
+    {
+        (Self::form_for(identifier), Self::place_for(identifier))
+    }
 }

@@ -1,32 +1,32 @@
 //! One pass over the elements of a body, which keeps the values that a codec uses.
 ghost use Rattle.std.specs.Prelude.{◌≡◌, ◌<◌, List, ◌∷◌, [], ◌++◌, length, IfOk, OnOk, IfErr, Ok, Err};
 ghost use Rattle.octet_elements.specs.Elements.{Element, AreElements, IsTornAt};
-ghost use Rattle.octet_elements.specs.Lookup.{noted, lookup};
+ghost use Rattle.octet_elements.specs.Lookup.{place_of, noted, lookup};
 ghost use Rattle.octet_elements.specs.Values.{value_seen, octet_in, optional_octet_in, pair_in, octets_in, optional_octets_in, any_octets_in};
 
-use crate::element::leading_element;
-use crate::form::{ElementTable, PLACES};
+use crate::element::{Leading, leading_element};
+use crate::form::{DOUBLED, ElementTable, PLACES};
 use crate::values::{ValueFault, any_octets, octet, octets, optional_octet, optional_octets, pair};
 use std::marker::{Model, PhantomData};
 
 /// The values that were found in a body, by identifier.
 #[derive(Drop)]
 pub struct Found<'a, T: ElementTable> {
-    first: [Option<&'a [u8]>; 16],
+    first: [Option<&'a [u8]>; 12],
     second: Option<&'a [u8]>,
     table: PhantomData<T>,
 }
 
 impl<'a, T: ElementTable> Model for Found<'a, T> {
     ghost use Rattle.std.specs.Prelude.{◌≡◌, length, map};
-    ghost use Rattle.octet_elements.specs.Lookup.{Kept};
+    ghost use Rattle.octet_elements.specs.Lookup.{Kept, places};
     ghost use Rattle.octet_elements.specs.Values.{value_seen};
 
     ghost Value = { Kept };
 
     ghost view = { λ f. record { first = map value_seen f.first; second = value_seen f.second } };
 
-    ghost invariant = { λ f. length f.first ≡ 16 };
+    ghost invariant = { λ f. length f.first ≡ places };
 }
 
 impl<'a, T: ElementTable> Found<'a, T> {
@@ -36,7 +36,7 @@ impl<'a, T: ElementTable> Found<'a, T> {
         ensures { lookup T.known result ≡ noted T.known [] }
     {
         Found {
-            first: [None; 16],
+            first: [None; 12],
             second: None,
             table: PhantomData,
         }
@@ -57,7 +57,7 @@ impl<'a, T: ElementTable> Found<'a, T> {
             let Some(leading) = leading_element::<T>(rest) else {
                 return Err(octets.len() - rest.len());
             };
-            self.note(leading.identifier, leading.value);
+            self.note(leading);
             rest = leading.rest;
         }
         Ok(())
@@ -65,17 +65,20 @@ impl<'a, T: ElementTable> Found<'a, T> {
 
     /// Keeps the value of one more element, where it is the first with its identifier.
     #[inline]
-    fn note(&mut self, identifier: u8, value: &'a [u8])
+    fn note(&mut self, leading: Leading<'a>)
+        requires { leading.place ≡ place_of leading.identifier T.known }
         ensures { (es : List Element) → lookup T.known self.old ≡ noted T.known es →
-            lookup T.known self.new ≡ noted T.known (es ++ (identifier, value.now) ∷ []) }
+            lookup T.known self.new ≡ noted T.known (es ++
+            (leading.entry.identifier, leading.entry.value.now) ∷ []) }
     {
-        let place = T::place_for(identifier);
+        let place = leading.place;
+        let value = leading.value;
         if place >= PLACES {
             return;
         }
         if self.first[place].is_none() {
             self.first[place] = Some(value);
-        } else if place == 0 && self.second.is_none() {
+        } else if place == DOUBLED && self.second.is_none() {
             self.second = Some(value);
         }
     }
@@ -96,7 +99,7 @@ impl<'a, T: ElementTable> Found<'a, T> {
     pub fn second(&self, identifier: u8) -> Option<&'a [u8]>
         ensures value { value_seen result ≡ (lookup T.known self.now).second identifier }
     {
-        if T::place_for(identifier) == 0 {
+        if T::place_for(identifier) == DOUBLED {
             self.second
         } else {
             None

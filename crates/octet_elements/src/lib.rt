@@ -23,4 +23,7 @@ pub use found::Found;
 pub use laws::{spelling_is_unique, split_is_unique};
 pub use octets::Octets;
 pub use values::ValueFault;
-pub use write::{append_element, append_octets, element_len};
+pub use write::{
+    append_element, append_octet, append_octets, append_optional_octet, element_len, octet_len,
+    optional_octet_len,
+};

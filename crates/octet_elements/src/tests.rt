@@ -1,5 +1,5 @@
 use crate::element::leading_element;
-use crate::form::{ElementTable, Form};
+use crate::form::{ElementTable, Form, PLACES};
 use crate::found::Found;
 use crate::octets::Octets;
 use crate::values::{
@@ -35,7 +35,7 @@ impl ElementTable for Sample {
             5 => 0,
             1 => 1,
             9 => 2,
-            _ => 16,
+            _ => PLACES,
         }
     }
 }

@@ -1,6 +1,7 @@
 //! Writing into a list that has room.
-ghost use Rattle.std.specs.Prelude.{◌≡◌, ◌+◌, ◌≤◌, ◌++◌, length, vec_len, vec_capacity};
-ghost use Rattle.octet_elements.specs.Elements.{element_octets, Fits};
+ghost use Rattle.std.specs.Prelude.{◌≡◌, ◌+◌, ◌≤◌, ◌++◌, ◌∷◌, [], length, vec_len, vec_capacity};
+ghost use Rattle.octet_elements.specs.Elements.{element_octets, all_octets, Fits};
+ghost use Rattle.octet_elements.specs.Values.{where_some};
 
 use crate::form::{ElementTable, Form};
 use std::alloc::Allocator;
@@ -43,6 +44,45 @@ pub fn append_element<T: ElementTable, A: Allocator>(
     append_octets(out, value);
 }
 
+/// Appends an element whose value is one octet; the list has room for it.
+#[inline]
+pub fn append_octet<T: ElementTable, A: Allocator>(out: &mut Vec<u8, A>, identifier: u8, octet: u8)
+    requires { vec_len out.old + length (element_octets T.form_of (identifier, octet ∷ [])) ≤
+        vec_capacity out.old }
+    ensures items { out.new.items ≡ out.old.items ++
+        element_octets T.form_of (identifier, octet ∷ []) }
+    ensures len { vec_len out.new ≡ vec_len out.old +
+        length (element_octets T.form_of (identifier, octet ∷ [])) }
+    ensures capacity { vec_capacity out.old ≤ vec_capacity out.new }
+{
+    // One array for each form: appending once is shorter than appending the head and then the value.
+    match T::form_for(identifier) {
+        Form::Fixed(_) => append_octets(out, &[identifier, octet]),
+        Form::Counted => append_octets(out, &[identifier, 1, octet]),
+        Form::LongCounted => append_octets(out, &[identifier, 0, 1, octet]),
+    }
+}
+
+/// Appends an element whose value is one octet, where there is one; the list has room for it.
+#[inline]
+pub fn append_optional_octet<T: ElementTable, A: Allocator>(
+    out: &mut Vec<u8, A>,
+    identifier: u8,
+    octet: Option<u8>,
+)
+    requires { vec_len out.old + length (all_octets T.form_of (where_some identifier octet)) ≤
+        vec_capacity out.old }
+    ensures items { out.new.items ≡ out.old.items ++
+        all_octets T.form_of (where_some identifier octet) }
+    ensures len { vec_len out.new ≡ vec_len out.old +
+        length (all_octets T.form_of (where_some identifier octet)) }
+    ensures capacity { vec_capacity out.old ≤ vec_capacity out.new }
+{
+    if let Some(octet) = octet {
+        append_octet::<T, A>(out, identifier, octet);
+    }
+}
+
 /// How many octets an element takes.
 #[inline]
 pub fn element_len<T: ElementTable>(identifier: u8, value: &[u8]) -> usize
@@ -52,5 +92,24 @@ pub fn element_len<T: ElementTable>(identifier: u8, value: &[u8]) -> usize
         Form::Fixed(_) => 1 + value.len(),
         Form::Counted => 2 + value.len(),
         Form::LongCounted => 3 + value.len(),
+    }
+}
+
+/// How many octets an element takes whose value is one octet.
+#[inline]
+pub fn octet_len<T: ElementTable>(identifier: u8) -> usize
+    ensures { result ≡ length (element_octets T.form_of (identifier, 0 ∷ [])) }
+{
+    element_len::<T>(identifier, &[0])
+}
+
+/// How many octets an element takes whose value is one octet, where there is one.
+#[inline]
+pub fn optional_octet_len<T: ElementTable>(identifier: u8, octet: Option<u8>) -> usize
+    ensures { result ≡ length (all_octets T.form_of (where_some identifier octet)) }
+{
+    match octet {
+        None => 0,
+        Some(octet) => element_len::<T>(identifier, &[octet]),
     }
 }

@@ -98,45 +98,34 @@ bad_head octets (fault.Missing i) k body h head = h
 bad_head octets (fault.BadElement i) k body h head = h
 bad_head octets fault.NoMemory k body h head = h
 
-EarlyIs : List ℕ → RslFault → Type 0
-EarlyIs octets f = ((limit < length octets) × (f ≡ fault.TooLong)) ⊎ ((length octets ≤ limit) × HasHeadFault octets f)
-
-early_is : (octets : List ℕ) (f : RslFault) → HasEarlyFault octets f → EarlyIs octets f
-unfolding EarlyIs
-early_is octets fault.TooLong h = inl (h, refl)
-early_is octets fault.NotRsl h = inr h
-early_is octets (fault.Torn at) h = inr h
-early_is octets (fault.UnknownType t) h = inr h
-early_is octets (fault.Missing i) h = inr h
-early_is octets (fault.BadElement i) h = inr h
-early_is octets fault.NoMemory h = inr h
-
-one_early_fault : (octets : List ℕ) (f g : RslFault) → EarlyIs octets f → EarlyIs octets g → f ≡ g
-unfolding EarlyIs
+one_early_fault : (octets : List ℕ) (f g : RslFault) → HasEarlyFault octets f → HasEarlyFault octets g → f ≡ g
 one_early_fault octets f g (inl p) (inl q) = p.1 ∙ sym q.1
 one_early_fault octets f g (inl p) (inr q) = let long = p.0 in let short = q.0 in absurd (omega arith)
 one_early_fault octets f g (inr p) (inl q) = let long = q.0 in let short = p.0 in absurd (omega arith)
 one_early_fault octets f g (inr p) (inr q) = one_head_fault octets f g (head_is octets f p.1) (head_is octets g q.1)
 
-fault_or_head : (octets : List ℕ) (f : RslFault) (k : MessageKind) (body : List ℕ) → EarlyIs octets f → length octets ≤ limit → Begins k octets body → ⊥
-unfolding EarlyIs
+fault_or_head : (octets : List ℕ) (f : RslFault) (k : MessageKind) (body : List ℕ) → HasEarlyFault octets f → length octets ≤ limit → Begins k octets body → ⊥
 fault_or_head octets f k body (inl p) short head = let long = p.0 in omega arith
 fault_or_head octets f k body (inr p) short head = bad_head octets f k body p.1 head
 
 pub heads : (A : Type 0) → HeadsAreUnique (codec A)
 heads A = record {
   head = λ j k octets x y p q. one_head j k octets x y p.1 q.1;
-  fault = λ octets f g p q. one_early_fault octets f g (early_is octets f p) (early_is octets g q);
-  either = λ octets f k body p q. fault_or_head octets f k body (early_is octets f p) q.0 q.1;
+  fault = λ octets f g p q. one_early_fault octets f g p q;
+  either = λ octets f k body p q. fault_or_head octets f k body p q.0 q.1;
 }
 
 no_value_fault : (e : ValueFault) → fault.NoMemory ≡ fault_of e → ⊥
 no_value_fault (Absent i) same = cc
 no_value_fault (Bad i) same = cc
 
+not_early : (octets : List ℕ) → HasEarlyFault octets fault.NoMemory → ⊥
+not_early octets (inl (long, same)) = cc
+not_early octets (inr (short, head)) = head
+
 -- memory is refused only for a text whose message keeps octets
 pub memory_refused : (A : Type 0) (octets : List ℕ) (r : Result (Rsl A) RslFault) → r ≡ Err fault.NoMemory → IfErr r (HasFault A octets) → (v : Rsl A) × IsTextOf v octets × HasOctets v
-memory_refused A octets r memory h = refused (codec A) octets (λ early. early.1) (λ at same. cc) no_value_fault (subst (λ r. IfErr r (HasFault A octets)) memory h)
+memory_refused A octets r memory h = refused (codec A) octets (not_early octets) (λ at same. cc) no_value_fault (subst (λ r. IfErr r (HasFault A octets)) memory h)
 
 -- a text has no fault but refused memory
 pub no_fault : {A : Type 0} (v : Rsl A) (octets : List ℕ) (f : RslFault) → IsTextOf v octets → HasFault A octets f → f ≡ fault.NoMemory

@@ -1,6 +1,6 @@
 -- Which octets are the text of a message, what is wrong with all others, and which text is written
 -- (TS 48.058 clause 9).
-use Rattle.std.specs.Prelude.{◌↔◌, ℕ, ◌+◌, ◌<◌, ◌≤◌, List, ◌∷◌, length}
+use Rattle.std.specs.Prelude.{◌≡◌, ◌↔◌, ◌⊎◌, ℕ, ◌+◌, ◌<◌, ◌≤◌, List, ◌∷◌, length}
 use Rattle.octet_elements.specs.Elements.{all_octets}
 use Rattle.octet_elements.specs.Texts.{Codec}
 use Rattle.octet_elements.specs.Texts as texts
@@ -19,8 +19,7 @@ limit = 1024
 
 -- the first fault before the body: there are too many octets; else the head has it
 abbrev pub HasEarlyFault : List ℕ → RslFault → Type 0
-HasEarlyFault octets fault.TooLong = limit < length octets
-HasEarlyFault octets f = (length octets ≤ limit) × HasHeadFault octets f
+HasEarlyFault octets f = ((limit < length octets) × (f ≡ fault.TooLong)) ⊎ ((length octets ≤ limit) × HasHeadFault octets f)
 
 abbrev pub codec : (A : Type 0) → Codec MessageKind (Rsl A) RslFault
 codec A = record {

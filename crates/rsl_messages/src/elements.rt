@@ -1,10 +1,9 @@
 //! The elements of each message: how they are read, and beside it how they are written.
-ghost use Rattle.std.specs.Prelude.{◌≡◌, ◌+◌, ◌-◌, ◌^◌, ◌<◌, ◌≤◌, ◌∷◌, [], ◌++◌, min, length, Ok, Err, IfOk, IfSome, vec_len, vec_capacity};
+ghost use Rattle.std.specs.Prelude.{◌≡◌, ◌+◌, ◌-◌, ◌^◌, ◌<◌, ◌≤◌, ◌++◌, min, length, Ok, Err, IfOk, IfSome, vec_len, vec_capacity};
 ghost use Rattle.std.specs.Option.{option_map};
-ghost use Rattle.octet_elements.specs.Elements.{all_octets, element_octets};
+ghost use Rattle.octet_elements.specs.Elements.{all_octets};
 ghost use Rattle.octet_elements.specs.Lookup.{lookup};
 ghost use Rattle.octet_elements.specs.Texts.{Answers};
-ghost use Rattle.octet_elements.specs.Values.{where_some};
 ghost use Rattle.rsl_messages.specs.Forms.{abis, known, CHANNEL_NUMBER};
 ghost use Rattle.rsl_messages.specs.Messages.{said, elements_of, data_rows, activation_rows, activation_ack_rows, cause_rows, detection_rows, measurement_rows};
 ghost use Rattle.rsl_messages.specs.Texts.{codec, limit, HasCanonical};
@@ -18,8 +17,14 @@ use crate::table::{
     HANDOVER_REFERENCE, LAYER3, LINK_IDENTIFIER, POWER, RESULT_NUMBER, UPLINK_MEASUREMENTS,
 };
 use octet_elements::values::pair_octets;
-use octet_elements::{Found, Octets, ValueFault, append_element, element_len};
+use octet_elements::{
+    Found, Octets, ValueFault, append_element, append_octet, append_optional_octet, element_len,
+    octet_len, optional_octet_len,
+};
 use std::alloc::Allocator;
+
+/// The message that elements say, or their first fault.
+type Read<A> = Result<Rsl<A>, RslFault>;
 
 /// The channel number.
 fn channel(found: &Found<'_, Abis>) -> Result<ChanBits, ValueFault>
@@ -50,16 +55,8 @@ pub fn read_elements<A: Allocator + Copy>(
     ensures { Answers (codec A) result (said kind (lookup known found.now)) }
 {
     match kind {
-        MessageKind::DataRequest => Ok(Rsl::DataRequest {
-            channel: channel(found)?,
-            link: found.octet(LINK_IDENTIFIER)?,
-            layer3: Octets::new(alloc, found.octets(LAYER3)?)?,
-        }),
-        MessageKind::DataIndication => Ok(Rsl::DataIndication {
-            channel: channel(found)?,
-            link: found.octet(LINK_IDENTIFIER)?,
-            layer3: Octets::new(alloc, found.octets(LAYER3)?)?,
-        }),
+        MessageKind::DataRequest => read_data_request(alloc, found),
+        MessageKind::DataIndication => read_data_indication(alloc, found),
         MessageKind::ChannelActivation => read_activation(alloc, found),
         MessageKind::ChannelActivationAck => Ok(Rsl::ChannelActivationAck {
             channel: channel(found)?,
@@ -124,9 +121,33 @@ pub fn append_elements<A: Allocator>(message: &Rsl<A>, out: &mut Vec<u8, A>)
             layer3,
         } => append_measurement(out, *channel, *number, uplink, *power, layer3.as_ref()),
         Rsl::RfChannelRelease { channel } | Rsl::RfChannelReleaseAck { channel } => {
-            append_element::<Abis, A>(out, CHANNEL_NUMBER, &[channel_octet(*channel)]);
+            append_octet::<Abis, A>(out, CHANNEL_NUMBER, channel_octet(*channel));
         }
     }
+}
+
+/// DATA REQUEST. Memory is asked for once the elements are read.
+#[inline(always)]
+fn read_data_request<A: Allocator + Copy>(alloc: A, found: &Found<'_, Abis>) -> Read<A>
+    ensures { Answers (codec A) result (said MessageKind.DataRequest (lookup known found.now)) }
+{
+    Ok(Rsl::DataRequest {
+        channel: channel(found)?,
+        link: found.octet(LINK_IDENTIFIER)?,
+        layer3: Octets::new(alloc, found.octets(LAYER3)?)?,
+    })
+}
+
+/// DATA INDICATION. Memory is asked for once the elements are read.
+#[inline(always)]
+fn read_data_indication<A: Allocator + Copy>(alloc: A, found: &Found<'_, Abis>) -> Read<A>
+    ensures { Answers (codec A) result (said MessageKind.DataIndication (lookup known found.now)) }
+{
+    Ok(Rsl::DataIndication {
+        channel: channel(found)?,
+        link: found.octet(LINK_IDENTIFIER)?,
+        layer3: Octets::new(alloc, found.octets(LAYER3)?)?,
+    })
 }
 
 /// Appends the elements of a DATA message.
@@ -139,17 +160,14 @@ fn append_data<A: Allocator>(out: &mut Vec<u8, A>, channel: ChanBits, link: u8, 
         all_octets abis (data_rows.written (channel, (link, layer3.now))) }
     ensures capacity { vec_capacity out.old ≤ vec_capacity out.new }
 {
-    append_element::<Abis, A>(out, CHANNEL_NUMBER, &[channel_octet(channel)]);
-    append_element::<Abis, A>(out, LINK_IDENTIFIER, &[link]);
+    append_octet::<Abis, A>(out, CHANNEL_NUMBER, channel_octet(channel));
+    append_octet::<Abis, A>(out, LINK_IDENTIFIER, link);
     append_element::<Abis, A>(out, LAYER3, layer3);
 }
 
 /// CHANNEL ACTIVATION. Memory is asked for once the elements are read.
 #[inline(always)]
-fn read_activation<A: Allocator + Copy>(
-    alloc: A,
-    found: &Found<'_, Abis>,
-) -> Result<Rsl<A>, RslFault>
+fn read_activation<A: Allocator + Copy>(alloc: A, found: &Found<'_, Abis>) -> Read<A>
     ensures { Answers (codec A) result
         (said MessageKind.ChannelActivation (lookup known found.now)) }
 {
@@ -181,12 +199,10 @@ fn append_activation<A: Allocator>(
         all_octets abis (activation_rows.written (channel, (activation, (mode.now, reference)))) }
     ensures capacity { vec_capacity out.old ≤ vec_capacity out.new }
 {
-    append_element::<Abis, A>(out, CHANNEL_NUMBER, &[channel_octet(channel)]);
-    append_element::<Abis, A>(out, ACTIVATION_TYPE, &[activation]);
+    append_octet::<Abis, A>(out, CHANNEL_NUMBER, channel_octet(channel));
+    append_octet::<Abis, A>(out, ACTIVATION_TYPE, activation);
     append_element::<Abis, A>(out, CHANNEL_MODE, mode);
-    if let Some(reference) = reference {
-        append_element::<Abis, A>(out, HANDOVER_REFERENCE, &[reference]);
-    }
+    append_optional_octet::<Abis, A>(out, HANDOVER_REFERENCE, reference);
 }
 
 /// Appends the elements of a CHANNEL ACTIVATION ACKNOWLEDGE.
@@ -198,7 +214,7 @@ fn append_ack<A: Allocator>(out: &mut Vec<u8, A>, channel: ChanBits, frame: u16)
         all_octets abis (activation_ack_rows.written (channel, frame)) }
     ensures capacity { vec_capacity out.old ≤ vec_capacity out.new }
 {
-    append_element::<Abis, A>(out, CHANNEL_NUMBER, &[channel_octet(channel)]);
+    append_octet::<Abis, A>(out, CHANNEL_NUMBER, channel_octet(channel));
     append_element::<Abis, A>(out, FRAME_NUMBER, &pair_octets(frame));
 }
 
@@ -211,8 +227,8 @@ fn append_cause<A: Allocator>(out: &mut Vec<u8, A>, channel: ChanBits, cause: u8
         all_octets abis (cause_rows.written (channel, cause)) }
     ensures capacity { vec_capacity out.old ≤ vec_capacity out.new }
 {
-    append_element::<Abis, A>(out, CHANNEL_NUMBER, &[channel_octet(channel)]);
-    append_element::<Abis, A>(out, CAUSE, &[cause]);
+    append_octet::<Abis, A>(out, CHANNEL_NUMBER, channel_octet(channel));
+    append_octet::<Abis, A>(out, CAUSE, cause);
 }
 
 /// Appends the elements of a HANDOVER DETECTION.
@@ -224,18 +240,13 @@ fn append_detection<A: Allocator>(out: &mut Vec<u8, A>, channel: ChanBits, delay
         all_octets abis (detection_rows.written (channel, delay)) }
     ensures capacity { vec_capacity out.old ≤ vec_capacity out.new }
 {
-    append_element::<Abis, A>(out, CHANNEL_NUMBER, &[channel_octet(channel)]);
-    if let Some(delay) = delay {
-        append_element::<Abis, A>(out, ACCESS_DELAY, &[delay]);
-    }
+    append_octet::<Abis, A>(out, CHANNEL_NUMBER, channel_octet(channel));
+    append_optional_octet::<Abis, A>(out, ACCESS_DELAY, delay);
 }
 
 /// MEASUREMENT RESULT. Memory is asked for once the elements are read.
 #[inline(always)]
-fn read_measurement<A: Allocator + Copy>(
-    alloc: A,
-    found: &Found<'_, Abis>,
-) -> Result<Rsl<A>, RslFault>
+fn read_measurement<A: Allocator + Copy>(alloc: A, found: &Found<'_, Abis>) -> Read<A>
     ensures { Answers (codec A) result
         (said MessageKind.MeasurementResult (lookup known found.now)) }
 {
@@ -274,10 +285,10 @@ fn append_measurement<A: Allocator>(
         all_octets abis (measurement_rows.written (channel, (number, (uplink.now, (power, option_map (λ l. l.now) layer3.entry))))) }
     ensures capacity { vec_capacity out.old ≤ vec_capacity out.new }
 {
-    append_element::<Abis, A>(out, CHANNEL_NUMBER, &[channel_octet(channel)]);
-    append_element::<Abis, A>(out, RESULT_NUMBER, &[number]);
+    append_octet::<Abis, A>(out, CHANNEL_NUMBER, channel_octet(channel));
+    append_octet::<Abis, A>(out, RESULT_NUMBER, number);
     append_element::<Abis, A>(out, UPLINK_MEASUREMENTS, uplink.as_slice());
-    append_element::<Abis, A>(out, POWER, &[power]);
+    append_octet::<Abis, A>(out, POWER, power);
     if let Some(layer3) = layer3 {
         append_element::<Abis, A>(out, LAYER3, layer3.as_slice());
     }
@@ -289,26 +300,26 @@ pub fn elements_len<A: Allocator>(message: &Rsl<A>) -> usize
 {
     let others = match message {
         Rsl::DataRequest { layer3, .. } | Rsl::DataIndication { layer3, .. } => {
-            octet_len(LINK_IDENTIFIER) + element_len::<Abis>(LAYER3, layer3.as_slice())
+            octet_len::<Abis>(LINK_IDENTIFIER) + element_len::<Abis>(LAYER3, layer3.as_slice())
         }
         Rsl::ChannelActivation {
             mode,
             reference,
             ..
         } => {
-            octet_len(ACTIVATION_TYPE)
+            octet_len::<Abis>(ACTIVATION_TYPE)
                 + element_len::<Abis>(CHANNEL_MODE, mode.as_slice())
-                + optional_octet_len(HANDOVER_REFERENCE, *reference)
+                + optional_octet_len::<Abis>(HANDOVER_REFERENCE, *reference)
         }
         Rsl::ChannelActivationAck { .. } => element_len::<Abis>(FRAME_NUMBER, &[0, 0]),
         Rsl::ChannelActivationNack { .. } | Rsl::ConnectionFailureIndication { .. } => {
-            octet_len(CAUSE)
+            octet_len::<Abis>(CAUSE)
         }
-        Rsl::HandoverDetection { delay, .. } => optional_octet_len(ACCESS_DELAY, *delay),
+        Rsl::HandoverDetection { delay, .. } => optional_octet_len::<Abis>(ACCESS_DELAY, *delay),
         Rsl::MeasurementResult { uplink, layer3, .. } => {
-            let measured = octet_len(RESULT_NUMBER)
+            let measured = octet_len::<Abis>(RESULT_NUMBER)
                 + element_len::<Abis>(UPLINK_MEASUREMENTS, uplink.as_slice())
-                + octet_len(POWER);
+                + octet_len::<Abis>(POWER);
             match layer3 {
                 None => measured,
                 Some(layer3) => {
@@ -318,23 +329,5 @@ pub fn elements_len<A: Allocator>(message: &Rsl<A>) -> usize
         }
         Rsl::RfChannelRelease { .. } | Rsl::RfChannelReleaseAck { .. } => 0,
     };
-    others.saturating_add(octet_len(CHANNEL_NUMBER))
-}
-
-/// How many octets an element takes whose value has one octet.
-#[inline]
-fn octet_len(identifier: u8) -> usize
-    ensures { result ≡ length (element_octets abis (identifier, 0 ∷ [])) }
-{
-    element_len::<Abis>(identifier, &[0])
-}
-
-#[inline]
-fn optional_octet_len(identifier: u8, octet: Option<u8>) -> usize
-    ensures { result ≡ length (all_octets abis (where_some identifier octet)) }
-{
-    match octet {
-        None => 0,
-        Some(octet) => element_len::<Abis>(identifier, &[octet]),
-    }
+    others.saturating_add(octet_len::<Abis>(CHANNEL_NUMBER))
 }

@@ -16,6 +16,7 @@ use std::alloc::Allocator;
 pub const LIMIT: usize = 1024;
 
 /// Reads the body of a message of this kind.
+#[inline(always)]
 fn read_body<A: Allocator + Copy>(
     alloc: A,
     kind: MessageKind,
@@ -33,6 +34,7 @@ fn read_body<A: Allocator + Copy>(
 }
 
 /// Reads a message: its value, or its first fault.
+#[inline(always)]
 fn read_message<A: Allocator + Copy>(alloc: A, octets: &[u8]) -> Result<Rsl<A>, RslFault>
     ensures text { IfOk result (λ v. IsTextOf v octets.now) }
     ensures fault { IfErr result (HasFault A octets.now) }
@@ -48,6 +50,7 @@ fn read_message<A: Allocator + Copy>(alloc: A, octets: &[u8]) -> Result<Rsl<A>, 
 ///
 /// The elements may stand in any order. A repeated one is taken at its first place, and one that the
 /// message has no use for is passed over.
+#[inline(always)]
 pub fn decode<A: Allocator + Copy>(alloc: A, octets: &[u8]) -> Result<Rsl<A>, RslFault>
     ensures text { IfOk result (λ v. IsTextOf v octets.now) }
     ensures exact { (v : Rsl A) → IsTextOf v octets.now → result ≢ Err RslFault.NoMemory →

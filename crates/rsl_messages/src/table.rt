@@ -35,32 +35,34 @@ impl ElementTable for Abis {
 
     ghost known = { known };
 
-    #[inline]
+    #[inline(always)]
     fn form_for(identifier: u8) -> Form {
-        match identifier {
-            1..=4 | 9 | 0x0D | 0x11 | 0x18 | 0x1B | 0x25 => Form::Fixed(1),
-            8 | 0x0A => Form::Fixed(2),
-            0x0B => Form::LongCounted,
-            _ => Form::Counted,
-        }
+        Self::rule_for(identifier).0
     }
 
-    #[inline]
+    #[inline(always)]
     fn place_for(identifier: u8) -> usize {
+        Self::rule_for(identifier).1
+    }
+
+    #[inline(always)]
+    fn rule_for(identifier: u8) -> (Form, usize) {
         match identifier {
-            CHANNEL_NUMBER => 0,
-            LINK_IDENTIFIER => 1,
-            ACTIVATION_TYPE => 2,
-            POWER => 3,
-            CHANNEL_MODE => 4,
-            FRAME_NUMBER => 5,
-            HANDOVER_REFERENCE => 6,
-            LAYER3 => 7,
-            ACCESS_DELAY => 8,
-            UPLINK_MEASUREMENTS => 9,
-            CAUSE => 10,
-            RESULT_NUMBER => 11,
-            _ => PLACES,
+            CHANNEL_NUMBER => (Form::Fixed(1), 0),
+            LINK_IDENTIFIER => (Form::Fixed(1), 1),
+            ACTIVATION_TYPE => (Form::Fixed(1), 2),
+            POWER => (Form::Fixed(1), 3),
+            CHANNEL_MODE => (Form::Counted, 4),
+            FRAME_NUMBER => (Form::Fixed(2), 5),
+            HANDOVER_REFERENCE => (Form::Fixed(1), 6),
+            LAYER3 => (Form::LongCounted, 7),
+            ACCESS_DELAY => (Form::Fixed(1), 8),
+            UPLINK_MEASUREMENTS => (Form::Counted, 9),
+            CAUSE => (Form::Counted, 10),
+            RESULT_NUMBER => (Form::Fixed(1), 11),
+            0x0D | 0x18 | 0x25 => (Form::Fixed(1), PLACES),
+            0x0A => (Form::Fixed(2), PLACES),
+            _ => (Form::Counted, PLACES),
         }
     }
 }

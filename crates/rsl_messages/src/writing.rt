@@ -56,7 +56,7 @@ pub fn fits<A: Allocator>(message: &Rsl<A>) -> bool
 /// Appends the canonical text of a message. A list with room for it is not moved: no memory is asked for.
 pub fn encode_into<A: Allocator>(message: &Rsl<A>, out: &mut Vec<u8, A>) -> Result<(), AllocError>
     requires { HasCanonical message.now }
-    ensures { Appends (canonical_text message.now) out.old out.new result }
+    ensures appends { Appends (canonical_text message.now) out.old out.new result }
 {
     out.reserve(2 + elements_len(message))?;
     append_octets(out, &head_octets(message));

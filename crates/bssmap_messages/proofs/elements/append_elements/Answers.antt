@@ -15,10 +15,10 @@ pub returns-in-HandoverFailure-clause-items : goal.returns-in-HandoverFailure-cl
 unfolding handover_failure
 returns-in-HandoverFailure-clause-items g c =
     let arm = c.in-HandoverFailure in
-    rw arm.is (c.append_rr-in-HandoverFailure.ensures.items ∙ ap (λ x. x ++ all_octets interface_a (where_some 0x15 arm.rr)) c.append_cause.ensures.items ∙ append_assoc c.args.out.now.items (4 ∷ 1 ∷ arm.cause ∷ []) (all_octets interface_a (where_some 0x15 arm.rr)))
+    rw arm.is (c.append_optional_octet-in-HandoverFailure.ensures.items ∙ ap (λ x. x ++ all_octets interface_a (where_some 0x15 arm.rr)) c.append_octet.ensures.items ∙ append_assoc c.args.out.now.items (4 ∷ 1 ∷ arm.cause ∷ []) (all_octets interface_a (where_some 0x15 arm.rr)))
 
 pub returns-in-HandoverPerformed-clause-items : goal.returns-in-HandoverPerformed-clause-items
 unfolding handover_performed
 returns-in-HandoverPerformed-clause-items g c =
     let arm = c.in-HandoverPerformed in
-    rw arm.is (c.append_cell.ensures.items ∙ ap (λ x. x ++ element_octets interface_a (0x05, cell_value arm.cell)) c.append_cause-in-HandoverPerformed.ensures.items ∙ append_assoc c.args.out.now.items (4 ∷ 1 ∷ arm.cause ∷ []) (element_octets interface_a (0x05, cell_value arm.cell)))
+    rw arm.is (c.append_cell.ensures.items ∙ ap (λ x. x ++ element_octets interface_a (0x05, cell_value arm.cell)) c.append_octet-in-HandoverPerformed.ensures.items ∙ append_assoc c.args.out.now.items (4 ∷ 1 ∷ arm.cause ∷ []) (element_octets interface_a (0x05, cell_value arm.cell)))
