@@ -1,7 +1,11 @@
+mod courses;
 mod handover;
 mod largest;
 mod memory;
+mod overlaps;
 mod runs;
+mod taken_back;
+mod worked;
 
 use cell_table::Site;
 use channel_fsm::{ChanId, ChanState};
