@@ -1,4 +1,5 @@
 mod courses;
+mod equality;
 mod handover;
 mod largest;
 mod memory;

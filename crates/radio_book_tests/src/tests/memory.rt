@@ -8,8 +8,8 @@ use super::{
 use channel_fsm::ChanState;
 use radio_book::book::{Book, Usage};
 use radio_book::event::Event::{
-    Activate, Clear, Command, Confirm, Detect, Look, Open, Order, Owner, Refuse, Released, Require,
-    Reserve, Take, Undo,
+    Activate, Clear, Command, Complete, Confirm, Detect, Left, Look, Open, Order, Owner, Refuse,
+    Released, Require, Reserve, Take, Undo,
 };
 use radio_book::event::Refusal::{NoCall, NoChannel};
 use radio_book::event::Reply::{Done, Owned, Record, Refused};
@@ -241,6 +241,22 @@ fn what_takes_no_memory_succeeds_without(rt: HostRuntime) -> Result<(), Fail> {
         (Step(Open(3, NO_TRAFFIC)), Says(Refused(NoChannel))),
         (TakeAny(3, Kind::Incoming, 9), NoneFree),
         (ReserveAny(3), Chose(Reserve(3, 0), Refused(NoCall))),
+    ];
+    answers_without_memory(&rt, &rows)
+}
+
+#[test]
+fn a_handover_is_completed_and_a_call_leaves_without_memory(rt: HostRuntime) -> Result<(), Fail> {
+    let rows = [
+        (Step(Activate(1)), DONE),
+        (Step(Confirm(TARGET)), Says(Owned(1))),
+        (Step(Command(1)), DONE),
+        (Step(Complete(1)), DONE),
+        (Step(Released(HOME)), DONE),
+        (Step(Require(1)), DONE),
+        (Step(Order(1)), DONE),
+        (Step(Left(1)), DONE),
+        (Step(Released(TARGET)), DONE),
     ];
     answers_without_memory(&rt, &rows)
 }
