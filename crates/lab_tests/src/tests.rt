@@ -10,40 +10,10 @@ mod traces;
 mod words;
 
 use lab::run::{LabFault, Status, lab_run};
+use sample_sites::THREE_CHANNELS as SITE;
 use std::alloc::{Allocator, Global};
 use std::process::Abort;
 use std::test::Fail;
-
-/// In cell 0 timeslots 2 and 3 of TRX 0 carry traffic, in cell 1 timeslot 3 of TRX 1.
-const SITE: &str = "[handover]
-window = 2
-margin = 3
-minimum = 10
-[[cell]]
-lac = 23
-ci = 100
-bcch = 60
-ncc = 1
-bcc = 1
-power = 5
-ba = [62, 70, 871]
-trx = [{ arfcn = 60, tch = [2, 3] }]
-[[cell]]
-lac = 23
-ci = 101
-bcch = 871
-ncc = 2
-bcc = 5
-power = 5
-ba = [60]
-trx = [{ arfcn = 871, tch = [] }, { arfcn = 875, tch = [3] }]
-[[outside]]
-lac = 23
-ci = 102
-bcch = 62
-ncc = 3
-bcc = 0
-";
 
 /// A call from its begin to its end, and what it prints.
 const ONE_CALL: (&str, &str) = (

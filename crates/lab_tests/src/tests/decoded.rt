@@ -275,74 +275,59 @@ fn print(
     Ok(())
 }
 
-#[test]
-fn radio_resource_messages(rt: HostRuntime) -> Result<(), Fail> {
-    print(&rt, rt.alloc(), Link::Rr, Status::Done, RADIO)
-}
+/// Texts of a link that end so, each with its one line.
+const TABLES: &[(Link, Status, &[(&str, &str)])] = &[
+    (Link::Rr, Status::Done, RADIO),
+    (Link::Rr, Status::Done, REPORTS),
+    (Link::Abis, Status::Done, ON_ABIS),
+    (Link::A, Status::Done, ON_A),
+    (Link::A, Status::Done, ON_A_WITH_CELLS),
+    (Link::Rr, Status::Refused, RADIO_FAULTS),
+    (Link::A, Status::Refused, FAULTS_ON_A),
+    (Link::Abis, Status::Refused, FAULTS_ON_ABIS),
+    (Link::Rr, Status::Refused, NO_HEX),
+    (Link::A, Status::Refused, NO_HEX),
+    (Link::Abis, Status::Refused, NO_HEX),
+];
 
 #[test]
-fn measurement_reports(rt: HostRuntime) -> Result<(), Fail> {
-    print(&rt, rt.alloc(), Link::Rr, Status::Done, REPORTS)
-}
-
-#[test]
-fn messages_on_abis(rt: HostRuntime) -> Result<(), Fail> {
-    print(&rt, rt.alloc(), Link::Abis, Status::Done, ON_ABIS)
-}
-
-#[test]
-fn messages_on_a(rt: HostRuntime) -> Result<(), Fail> {
-    print(&rt, rt.alloc(), Link::A, Status::Done, ON_A)
-}
-
-#[test]
-fn messages_on_a_with_cells(rt: HostRuntime) -> Result<(), Fail> {
-    print(&rt, rt.alloc(), Link::A, Status::Done, ON_A_WITH_CELLS)
-}
-
-#[test]
-fn faults_of_radio_resource_messages(rt: HostRuntime) -> Result<(), Fail> {
-    print(&rt, rt.alloc(), Link::Rr, Status::Refused, RADIO_FAULTS)
-}
-
-#[test]
-fn faults_on_a(rt: HostRuntime) -> Result<(), Fail> {
-    print(&rt, rt.alloc(), Link::A, Status::Refused, FAULTS_ON_A)
-}
-
-#[test]
-fn faults_on_abis(rt: HostRuntime) -> Result<(), Fail> {
-    print(&rt, rt.alloc(), Link::Abis, Status::Refused, FAULTS_ON_ABIS)
+fn messages_and_faults_are_one_line(rt: HostRuntime) -> Result<(), Fail> {
+    for (link, ended, rows) in TABLES {
+        print(&rt, rt.alloc(), *link, *ended, *rows)?;
+    }
+    Ok(())
 }
 
 #[test]
 fn octets_longer_than_a_message_on_abis(rt: HostRuntime) -> Result<(), Fail> {
     // one octet more than a message has
     let long = "08".repeat(rt.alloc(), 1025)?;
-    print(
+    let row = (long.as_str(), "fault abis 6");
+    prints(
         &rt,
+        rt.alloc(),
         rt.alloc(),
         Link::Abis,
         Status::Refused,
-        &[(&long, "fault abis 6")],
+        row,
     )
 }
 
-#[test]
-fn text_that_is_not_hexadecimal(rt: HostRuntime) -> Result<(), Fail> {
-    for link in [Link::Rr, Link::A, Link::Abis] {
-        print(&rt, rt.alloc(), link, Status::Refused, NO_HEX)?;
-    }
-    Ok(())
+/// What may fail while a text is read and printed.
+#[derive(Clone, Copy)]
+enum Failure {
+    /// A request for memory.
+    Request,
+    /// A write.
+    Write,
 }
 
-/// Whether a message was printed over a heap that refuses this request, and met no refusal.
+/// Whether a text was printed over a heap that refuses this request, and met no refusal.
 fn prints_without(
     rt: &impl Abort,
     alloc: Global,
     link: Link,
-    hex: &str,
-    wanted: &str,
+    (hex, wanted): (&str, &str),
     n: u64,
 ) -> Result<bool, Fail> {
     let heap = RefusingHeap::refusing_nth(alloc, n);
@@ -357,28 +342,51 @@ fn prints_without(
     Ok(line.is_some())
 }
 
-/// How many requests for memory were refused in turn before a text was read and printed.
-fn refusals_of(
-    rt: &(impl AllocGlobal + Abort),
+/// Whether a text met no failing write, where the n-th fails.
+fn writes_all(
+    rt: &impl Abort,
+    alloc: Global,
+    n: u64,
     link: Link,
-    hex: &str,
-    wanted: &str,
-) -> Result<u64, Fail> {
-    let mut tried = 0u64;
-    for n in 1..100 {
-        if prints_without(rt, rt.alloc(), link, hex, wanted, n)? {
-            break;
-        }
-        tried = n;
+    (hex, wanted): (&str, &str),
+) -> Result<bool, Fail> {
+    let mut out = Failing::after(alloc, n.saturating_sub(1));
+    let status = decode_run(alloc, link, hex, &mut out);
+    let text = String::from_utf8(out.text)?;
+    if out.failed {
+        assert_eq!(rt; status, Err(LabFault::Write), "{n}");
+        assert!(rt; wanted.starts_with(text.as_str()), "{n}: {text}");
+        return Ok(false);
     }
-    Ok(tried)
+    assert!(rt; status.is_ok(), "{n}");
+    assert_eq!(rt; text.strip_suffix('\n'), Some(wanted), "{n}");
+    Ok(true)
+}
+
+/// How many requests or writes failed in turn before a text was read and printed.
+fn failures_of(
+    rt: &(impl AllocGlobal + Abort),
+    failure: Failure,
+    link: Link,
+    row: (&str, &str),
+) -> Result<u64, Fail> {
+    for n in 1..100 {
+        let is_whole = match failure {
+            Failure::Request => prints_without(rt, rt.alloc(), link, row, n)?,
+            Failure::Write => writes_all(rt, rt.alloc(), n, link, row)?,
+        };
+        if is_whole {
+            return Ok(n - 1);
+        }
+    }
+    Err(Fail::from("a hundredth request or write"))
 }
 
 #[test]
 fn each_request_for_memory_is_refused(rt: HostRuntime) -> Result<(), Fail> {
-    for (link, (hex, wanted), at_least) in REQUESTS {
-        let tried = refusals_of(&rt, *link, *hex, *wanted)?;
-        assert!(rt; *at_least <= tried && tried < 99, "{hex}: {tried} requests");
+    for (link, row, at_least) in REQUESTS {
+        let tried = failures_of(&rt, Failure::Request, *link, *row)?;
+        assert!(rt; *at_least <= tried, "{}: {tried} requests", row.0);
     }
     Ok(())
 }
@@ -392,50 +400,11 @@ fn texts_that_take_no_memory(rt: HostRuntime) -> Result<(), Fail> {
     Ok(())
 }
 
-/// Whether a text met no failing write, where so many come before it.
-fn writes_all(
-    rt: &impl Abort,
-    alloc: Global,
-    link: Link,
-    hex: &str,
-    wanted: &str,
-    before: u64,
-) -> Result<bool, Fail> {
-    let mut out = Failing::after(alloc, before);
-    let status = decode_run(alloc, link, hex, &mut out);
-    let text = String::from_utf8(out.text)?;
-    if out.failed {
-        assert_eq!(rt; status, Err(LabFault::Write), "{before}");
-        assert!(rt; wanted.starts_with(text.as_str()), "{before}: {text}");
-        return Ok(false);
-    }
-    assert!(rt; status.is_ok(), "{before}");
-    assert_eq!(rt; text.strip_suffix('\n'), Some(wanted), "{before}");
-    Ok(true)
-}
-
-/// How many writes failed in turn before a text was printed.
-fn failures_of(
-    rt: &(impl AllocGlobal + Abort),
-    link: Link,
-    hex: &str,
-    wanted: &str,
-) -> Result<u64, Fail> {
-    let mut tried = 0u64;
-    for before in 0..100 {
-        if writes_all(rt, rt.alloc(), link, hex, wanted, before)? {
-            break;
-        }
-        tried = tried.saturating_add(1);
-    }
-    Ok(tried)
-}
-
 #[test]
 fn each_write_fails(rt: HostRuntime) -> Result<(), Fail> {
-    for (link, (hex, wanted)) in WRITES {
-        let tried = failures_of(&rt, *link, *hex, *wanted)?;
-        assert!(rt; 1 <= tried && tried < 100, "{hex}: {tried} writes");
+    for (link, row) in WRITES {
+        let tried = failures_of(&rt, Failure::Write, *link, *row)?;
+        assert!(rt; 1 <= tried, "{}: {tried} writes", row.0);
     }
     Ok(())
 }

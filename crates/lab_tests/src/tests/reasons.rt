@@ -1,7 +1,7 @@
 use super::SITE;
 use lab::files::run_files;
 use lab::run::Status;
-use std::alloc::{AllocError, Global};
+use sample_sites::changed;
 use std::process::Abort;
 use std::rt::Files;
 use std::test::Fail;
@@ -135,18 +135,6 @@ const REASONS: &[(&str, &str, &str, &str)] = &[
 /// Where a refused site is written.
 const REFUSED_FILE: &str = "refused.toml";
 
-/// The site file with the first place of a text replaced.
-fn changed(rt: &impl Abort, alloc: Global, old: &str, new: &str) -> Result<String, AllocError> {
-    assert!(rt; SITE.contains(old), "{old}");
-    let mut text = String::new(alloc);
-    if let Some((before, after)) = SITE.split_once(old) {
-        text.push_str(before)?;
-        text.push_str(new)?;
-        text.push_str(after)?;
-    }
-    Ok(text)
-}
-
 /// Asserts that a site is refused, what is printed, and what is said behind its file's name.
 fn says(
     rt: &(impl Files + AllocGlobal + Abort),
@@ -168,8 +156,8 @@ fn says(
 #[test]
 fn a_refused_site_is_explained_in_one_line(rt: HostRuntime) -> Result<(), Fail> {
     for (old, new, printed, line) in REASONS {
-        let site = changed(&rt, rt.alloc(), *old, *new)?;
-        says(&rt, &site, *printed, *line)?;
+        let site = changed(rt.alloc(), SITE, *old, *new)?;
+        says(&rt, &site.expect(&rt, *old), *printed, *line)?;
     }
     says(
         &rt,

@@ -2,51 +2,11 @@ use super::failing::Failing;
 use super::{ONE_CALL, SITE, printed, prints};
 use lab::run::{LabFault, Status, lab_run};
 use refusing_heap::RefusingHeap;
+use sample_sites::{NO_CELL, NO_TRAFFIC, SAME_IDENTITY};
 use std::alloc::Global;
 use std::process::Abort;
 use std::str;
 use std::test::Fail;
-
-/// A site file without cells.
-const NO_CELL: &str = "[handover]\nwindow = 2\nmargin = 3\nminimum = 10\n";
-
-/// Two cells with one location area code and cell identity.
-const CODES_TWICE: &str = "[handover]
-window = 2
-margin = 3
-minimum = 10
-[[cell]]
-lac = 23
-ci = 100
-bcch = 60
-ncc = 1
-bcc = 1
-power = 5
-ba = []
-trx = [{ arfcn = 60, tch = [2] }]
-[[outside]]
-lac = 23
-ci = 100
-bcch = 62
-ncc = 3
-bcc = 0
-";
-
-/// A cell without a traffic channel.
-const NO_TRAFFIC: &str = "[handover]
-window = 2
-margin = 3
-minimum = 10
-[[cell]]
-lac = 23
-ci = 100
-bcch = 60
-ncc = 1
-bcc = 1
-power = 5
-ba = []
-trx = [{ arfcn = 60, tch = [] }]
-";
 
 /// A site, a script, and the one line by which they are refused.
 const REFUSALS: &[(&str, &str, &str)] = &[
@@ -55,7 +15,7 @@ const REFUSALS: &[(&str, &str, &str)] = &[
     ("[", "no line", "site 1\n"),
     ("handover = 3", "no line", "site 3 handover\n"),
     (NO_CELL, "no line", "site 2 cell\n"),
-    (CODES_TWICE, "no line", "site 4 identity\n"),
+    (SAME_IDENTITY, "no line", "site 4 identity\n"),
     (NO_TRAFFIC, "no line", "site 5 0\n"),
     (SITE, "expire 1 T7", "line 1\n"),
     // nothing runs before all lines are read
@@ -72,7 +32,7 @@ const WRITES: &[(&str, (&str, &str), u64)] = &[
     ("", ("", "site 2 handover\n"), 1),
     ("[", ("", "site 1\n"), 1),
     ("handover = 3", ("", "site 3 handover\n"), 1),
-    (CODES_TWICE, ("", "site 4 identity\n"), 1),
+    (SAME_IDENTITY, ("", "site 4 identity\n"), 1),
     (NO_TRAFFIC, ("", "site 5 0\n"), 1),
     (SITE, ("undo", "line 1\n"), 1),
     (

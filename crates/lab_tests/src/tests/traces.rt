@@ -1,178 +1,252 @@
 use super::{ONE_CALL, SITE, prints};
 use lab::run::Status;
+use std::alloc::{AllocError, Global};
+use std::process::Abort;
 use std::test::Fail;
 
-/// Scripts, and what each prints.
-const TRACES: &[(&str, &str)] = &[
-    ONE_CALL,
+/// A line of a script, in the form in which it is printed behind `in`, and the lines that are printed then.
+type Step = (&'static str, &'static [&'static str]);
+
+/// Call 1 begins.
+const OPENS: Step = (
+    "open 1 0 0 3",
+    &[
+        "event open 1 0/0/3 -> done",
+        "out abis 0 0 0821010b0300060400010801",
+    ],
+);
+
+/// Its channel is confirmed.
+const CONFIRMED: Step = (
+    "abis 0 0 0822010b081234",
+    &[
+        "event confirm 0/0/3 -> owned 1",
+        "event look 1 -> record 0/0/3 on",
+    ],
+);
+
+/// Scripts by their lines, each with what it prints, and what is in use at the end.
+const TRACES: &[(&[Step], &str)] = &[
     // no line prints the end alone
-    ("", "end channels=0 calls=0 references=0 timers=0\n"),
+    (&[], "channels=0 calls=0 references=0 timers=0"),
     // a station refuses a call
     (
-        "open 2 0 0 2\nabis 0 0 0823010a1a0120\nclear 2\n",
-        "in open 2 0 0 2
-event open 2 0/0/2 -> done
-out abis 0 0 0821010a0300060400010801
-in abis 0 0 0823010a1a0120
-event refuse 0/0/2 -> owned 2
-event look 2 -> record 0/0/2 held
-in clear 2
-event look 2 -> record 0/0/2 held
-event clear 2 -> done
-end channels=0 calls=0 references=0 timers=0
-",
+        &[
+            (
+                "open 2 0 0 2",
+                &[
+                    "event open 2 0/0/2 -> done",
+                    "out abis 0 0 0821010a0300060400010801",
+                ],
+            ),
+            (
+                "abis 0 0 0823010a1a0120",
+                &[
+                    "event refuse 0/0/2 -> owned 2",
+                    "event look 2 -> record 0/0/2 held",
+                ],
+            ),
+            (
+                "clear 2",
+                &["event look 2 -> record 0/0/2 held", "event clear 2 -> done"],
+            ),
+        ],
+        "channels=0 calls=0 references=0 timers=0",
     ),
     // a channel is confirmed twice
     (
-        "open 1 0 0 3\nabis 0 0 0822010b081234\nabis 0 0 0822010b081234\n",
-        "in open 1 0 0 3
-event open 1 0/0/3 -> done
-out abis 0 0 0821010b0300060400010801
-in abis 0 0 0822010b081234
-event confirm 0/0/3 -> owned 1
-event look 1 -> record 0/0/3 on
-in abis 0 0 0822010b081234
-event confirm 0/0/3 -> refused 8 0/0/3
-end channels=1 calls=1 references=0 timers=0
-",
+        &[
+            OPENS,
+            CONFIRMED,
+            (
+                "abis 0 0 0822010b081234",
+                &["event confirm 0/0/3 -> refused 8 0/0/3"],
+            ),
+        ],
+        "channels=1 calls=1 references=0 timers=0",
     ),
     // a channel is refused once it was confirmed
     (
-        "open 1 0 0 3\nabis 0 0 0822010b081234\nabis 0 0 0823010b1a0120\n",
-        "in open 1 0 0 3
-event open 1 0/0/3 -> done
-out abis 0 0 0821010b0300060400010801
-in abis 0 0 0822010b081234
-event confirm 0/0/3 -> owned 1
-event look 1 -> record 0/0/3 on
-in abis 0 0 0823010b1a0120
-event refuse 0/0/3 -> refused 8 0/0/3
-end channels=1 calls=1 references=0 timers=0
-",
+        &[
+            OPENS,
+            CONFIRMED,
+            (
+                "abis 0 0 0823010b1a0120",
+                &["event refuse 0/0/3 -> refused 8 0/0/3"],
+            ),
+        ],
+        "channels=1 calls=1 references=0 timers=0",
     ),
     // a call ends before its channel is confirmed
     (
-        "open 1 0 0 3\nclear 1\nabis 0 0 0833010b\n",
-        "in open 1 0 0 3
-event open 1 0/0/3 -> done
-out abis 0 0 0821010b0300060400010801
-in clear 1
-event look 1 -> record 0/0/3 pending
-event clear 1 -> done
-out abis 0 0 082e010b
-in abis 0 0 0833010b
-event released 0/0/3 -> done
-end channels=0 calls=0 references=0 timers=0
-",
+        &[
+            OPENS,
+            (
+                "clear 1",
+                &[
+                    "event look 1 -> record 0/0/3 pending",
+                    "event clear 1 -> done",
+                    "out abis 0 0 082e010b",
+                ],
+            ),
+            ("abis 0 0 0833010b", &["event released 0/0/3 -> done"]),
+        ],
+        "channels=0 calls=0 references=0 timers=0",
     ),
     // a handover is taken back
     (
-        "open 1 0 0 3\nabis 0 0 0822010b081234\nhandover 1 1\nundo 1\nabis 1 1 0833010b\n",
-        "in open 1 0 0 3
-event open 1 0/0/3 -> done
-out abis 0 0 0821010b0300060400010801
-in abis 0 0 0822010b081234
-event confirm 0/0/3 -> owned 1
-event look 1 -> record 0/0/3 on
-in handover 1 1
-event take 1 internal 1/1/3 -> done
-event reserve 1 0 -> done
-event activate 1 -> done
-out abis 1 1 0821010b03020604000108010900
-in undo 1
-event undo 1 asked -> record 0/0/3 on internal sent 1/1/3 0
-out abis 1 1 082e010b
-in abis 1 1 0833010b
-event released 1/1/3 -> done
-end channels=1 calls=1 references=0 timers=0
-",
+        &[
+            OPENS,
+            CONFIRMED,
+            (
+                "handover 1 1",
+                &[
+                    "event take 1 internal 1/1/3 -> done",
+                    "event reserve 1 0 -> done",
+                    "event activate 1 -> done",
+                    "out abis 1 1 0821010b03020604000108010900",
+                ],
+            ),
+            (
+                "undo 1",
+                &[
+                    "event undo 1 asked -> record 0/0/3 on internal sent 1/1/3 0",
+                    "out abis 1 1 082e010b",
+                ],
+            ),
+            ("abis 1 1 0833010b", &["event released 1/1/3 -> done"]),
+        ],
+        "channels=1 calls=1 references=0 timers=0",
     ),
     // no channel is free
     (
-        "open 1 0 0 3\nabis 0 0 0822010b081234\nopen 2 1 1 3\nhandover 1 1\nundo 1\nabis 1 1 0833010b\n",
-        "in open 1 0 0 3
-event open 1 0/0/3 -> done
-out abis 0 0 0821010b0300060400010801
-in abis 0 0 0822010b081234
-event confirm 0/0/3 -> owned 1
-event look 1 -> record 0/0/3 on
-in open 2 1 1 3
-event open 2 1/1/3 -> done
-out abis 1 1 0821010b0300060400010801
-in handover 1 1
-none free 1
-in undo 1
-event undo 1 asked -> refused 3
-in abis 1 1 0833010b
-event released 1/1/3 -> refused 8 1/1/3
-end channels=2 calls=2 references=0 timers=0
-",
+        &[
+            OPENS,
+            CONFIRMED,
+            (
+                "open 2 1 1 3",
+                &[
+                    "event open 2 1/1/3 -> done",
+                    "out abis 1 1 0821010b0300060400010801",
+                ],
+            ),
+            ("handover 1 1", &["none free 1"]),
+            ("undo 1", &["event undo 1 asked -> refused 3"]),
+            (
+                "abis 1 1 0833010b",
+                &["event released 1/1/3 -> refused 8 1/1/3"],
+            ),
+        ],
+        "channels=2 calls=2 references=0 timers=0",
     ),
     // refusals are printed with their arguments
     (
-        "open 1 0 0 3\nopen 1 0 0 2\nopen 2 0 0 3\nopen 2 0 0 5\nclear 9\nhandover 1 0\nabis 0 0 0822010b081234\nhandover 1 0\nhandover 1 2\n",
-        "in open 1 0 0 3
-event open 1 0/0/3 -> done
-out abis 0 0 0821010b0300060400010801
-in open 1 0 0 2
-event open 1 0/0/2 -> refused 2
-in open 2 0 0 3
-event open 2 0/0/3 -> refused 6 0/0/3
-in open 2 0 0 5
-event open 2 0/0/5 -> refused 4
-in clear 9
-event look 9 -> refused 1
-in handover 1 0
-event take 1 internal 0/0/2 -> refused 3
-in abis 0 0 0822010b081234
-event confirm 0/0/3 -> owned 1
-event look 1 -> record 0/0/3 on
-in handover 1 0
-event take 1 internal 0/0/2 -> refused 5
-in handover 1 2
-end channels=1 calls=1 references=0 timers=0
-",
+        &[
+            OPENS,
+            ("open 1 0 0 2", &["event open 1 0/0/2 -> refused 2"]),
+            ("open 2 0 0 3", &["event open 2 0/0/3 -> refused 6 0/0/3"]),
+            ("open 2 0 0 5", &["event open 2 0/0/5 -> refused 4"]),
+            ("clear 9", &["event look 9 -> refused 1"]),
+            (
+                "handover 1 0",
+                &["event take 1 internal 0/0/2 -> refused 3"],
+            ),
+            CONFIRMED,
+            (
+                "handover 1 0",
+                &["event take 1 internal 0/0/2 -> refused 5"],
+            ),
+            ("handover 1 2", &[]),
+        ],
+        "channels=1 calls=1 references=0 timers=0",
     ),
     // faults are printed with their arguments
     (
-        "abis 0 0 04\nabis 0 0 08\nabis 0 0 08ff\nabis 0 0 082201\nabis 0 0 0822010b\nabis 0 0 0833010000\nabis 0 0 08330100\n",
-        "in abis 0 0 04
-fault abis 1
-in abis 0 0 08
-fault abis 5 1
-in abis 0 0 08ff
-fault abis 2 255
-in abis 0 0 082201
-fault abis 5 2
-in abis 0 0 0822010b
-fault abis 3 8
-in abis 0 0 0833010000
-fault abis 5 4
-in abis 0 0 08330100
-fault abis 4 1
-end channels=0 calls=0 references=0 timers=0
-",
-    ),
-    // lines are printed in one form
-    (
-        "# a comment\r\n \t\n\nopen 0001 00 000 03\r\nabis 0 0 0822010B08AbCd\n#\nundo 65535",
-        "in open 1 0 0 3
-event open 1 0/0/3 -> done
-out abis 0 0 0821010b0300060400010801
-in abis 0 0 0822010b08abcd
-event confirm 0/0/3 -> owned 1
-event look 1 -> record 0/0/3 on
-in undo 65535
-event undo 65535 asked -> refused 1
-end channels=1 calls=1 references=0 timers=0
-",
+        &[
+            ("abis 0 0 04", &["fault abis 1"]),
+            ("abis 0 0 08", &["fault abis 5 1"]),
+            ("abis 0 0 08ff", &["fault abis 2 255"]),
+            ("abis 0 0 082201", &["fault abis 5 2"]),
+            ("abis 0 0 0822010b", &["fault abis 3 8"]),
+            ("abis 0 0 0833010000", &["fault abis 5 4"]),
+            ("abis 0 0 08330100", &["fault abis 4 1"]),
+        ],
+        "channels=0 calls=0 references=0 timers=0",
     ),
 ];
 
-#[test]
-fn traces(rt: HostRuntime) -> Result<(), Fail> {
-    for (script, wanted) in TRACES {
-        prints(&rt, rt.alloc(), SITE, *script, Status::Done, *wanted)?;
+fn push_line(text: &mut String, line: &str) -> Result<(), AllocError> {
+    text.push_str(line)?;
+    text.push_str("\n")
+}
+
+/// Appends a line to a script, and what is printed of it to a trace.
+fn push_step(
+    script: &mut String,
+    trace: &mut String,
+    line: &str,
+    printed: &[&str],
+) -> Result<(), AllocError> {
+    push_line(script, line)?;
+    trace.push_str("in ")?;
+    push_line(trace, line)?;
+    for text in printed {
+        push_line(trace, text)?;
     }
     Ok(())
+}
+
+/// The script of these steps, and its trace.
+fn texts_of(alloc: Global, steps: &[Step], in_use: &str) -> Result<(String, String), AllocError> {
+    let (mut script, mut trace) = (String::new(alloc), String::new(alloc));
+    for (line, printed) in steps {
+        push_step(&mut script, &mut trace, *line, *printed)?;
+    }
+    trace.push_str("end ")?;
+    push_line(&mut trace, in_use)?;
+    Ok((script, trace))
+}
+
+/// A script of these steps prints what they say.
+fn is_traced(rt: &impl Abort, alloc: Global, steps: &[Step], in_use: &str) -> Result<(), Fail> {
+    let (script, trace) = texts_of(alloc, steps, in_use)?;
+    prints(rt, alloc, SITE, &script, Status::Done, &trace)
+}
+
+#[test]
+fn lines_are_traced(rt: HostRuntime) -> Result<(), Fail> {
+    for (steps, in_use) in TRACES {
+        is_traced(&rt, rt.alloc(), *steps, *in_use)?;
+    }
+    Ok(())
+}
+
+/// A script in other forms than those that are printed.
+const OTHER_FORMS: &str =
+    "# a comment\r\n \t\n\nopen 0001 00 000 03\r\nabis 0 0 0822010B08AbCd\n#\nundo 65535";
+
+/// Its lines as they are printed.
+const PRINTED_FORMS: &[Step] = &[
+    OPENS,
+    (
+        "abis 0 0 0822010b08abcd",
+        &[
+            "event confirm 0/0/3 -> owned 1",
+            "event look 1 -> record 0/0/3 on",
+        ],
+    ),
+    ("undo 65535", &["event undo 65535 asked -> refused 1"]),
+];
+
+#[test]
+fn lines_are_printed_in_one_form(rt: HostRuntime) -> Result<(), Fail> {
+    let in_use = "channels=1 calls=1 references=0 timers=0";
+    let (_script, trace) = texts_of(rt.alloc(), PRINTED_FORMS, in_use)?;
+    prints(&rt, rt.alloc(), SITE, OTHER_FORMS, Status::Done, &trace)
+}
+
+#[test]
+fn a_whole_call_is_traced(rt: HostRuntime) -> Result<(), Fail> {
+    let (script, trace) = ONE_CALL;
+    prints(&rt, rt.alloc(), SITE, script, Status::Done, trace)
 }

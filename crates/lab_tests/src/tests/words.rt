@@ -55,21 +55,6 @@ const SHOWS: &[(&[&str], &str)] = &[
     (&["-V"], "bsc_lab 0."),
 ];
 
-/// These words ask for a text with this part.
-fn shows<'a>(rt: &impl Abort, alloc: Global, words: &'a [&'a str], part: &str) {
-    match read_words(alloc, words) {
-        Ok(Job::Show(text)) => assert!(rt; text.contains(part), "{part}: {text}"),
-        _ => assert!(rt; false, "{part}: a text"),
-    }
-}
-
-#[test]
-fn help_and_version_are_shown(rt: HostRuntime) {
-    for (words, part) in SHOWS {
-        shows(&rt, rt.alloc(), *words, *part);
-    }
-}
-
 /// Words that are refused, and what names the mistake.
 const REFUSALS: &[(&[&str], &str)] = &[
     (&[], "subcommand"),
@@ -88,17 +73,39 @@ const REFUSALS: &[(&[&str], &str)] = &[
     (&["decode", "rr", "-0"], "'-0'"),
 ];
 
-/// These words are refused by a text that names the mistake.
-fn refuses<'a>(rt: &impl Abort, alloc: Global, words: &'a [&'a str], mistake: &str) {
-    match read_words(alloc, words) {
-        Err(WordsFault::Refused(text)) => assert!(rt; text.contains(mistake), "{mistake}: {text}"),
-        _ => assert!(rt; false, "{mistake}: a refusal"),
-    }
+/// What becomes of words that are answered by a text.
+#[derive(Clone, Copy, Debug, PartialEq, Eq)]
+enum Answer {
+    Shown,
+    Refused,
+}
+
+/// These words are answered so, by a text with this part.
+fn are_answered<'a>(
+    rt: &impl Abort,
+    alloc: Global,
+    words: &'a [&'a str],
+    wanted: Answer,
+    part: &str,
+) {
+    let (answer, text) = match read_words(alloc, words) {
+        Ok(Job::Show(text)) => (Answer::Shown, text),
+        Err(WordsFault::Refused(text)) => (Answer::Refused, text),
+        _ => {
+            assert!(rt; false, "{part}: a text");
+            return;
+        }
+    };
+    assert_eq!(rt; answer, wanted, "{part}");
+    assert!(rt; text.contains(part), "{part}: {text}");
 }
 
 #[test]
-fn other_words_are_refused(rt: HostRuntime) {
+fn help_and_version_are_shown_and_other_words_refused(rt: HostRuntime) {
+    for (words, part) in SHOWS {
+        are_answered(&rt, rt.alloc(), *words, Answer::Shown, *part);
+    }
     for (words, mistake) in REFUSALS {
-        refuses(&rt, rt.alloc(), *words, *mistake);
+        are_answered(&rt, rt.alloc(), *words, Answer::Refused, *mistake);
     }
 }
