@@ -1,3 +1,4 @@
+pub mod Limits
 pub mod Views
 pub mod Rules
 pub mod Same

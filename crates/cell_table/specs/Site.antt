@@ -1,15 +1,12 @@
 -- What a site is, and what is looked up in it.
-use Rattle.std.specs.Prelude.{ℕ, sum_by, count_by, ◌==◌, ◌<◌, ◌≤◌, ◌≡◌, ◌+◌, ◌-◌, ◌&&◌, Bool, false, nat_lt, if◌then◌else◌, List, [], length, take, All, Option, Some, None, slice_get, option_map, option_and_then, unwrap_or}
+use Rattle.std.specs.Prelude.{ℕ, sum_by, count_by, ◌==◌, ◌<◌, ◌≤◌, ◌≡◌, ◌+◌, ◌-◌, ◌&&◌, Bool, true, false, nat_lt, if◌then◌else◌, List, [], length, take, All, Option, Some, None, slice_get, option_map, option_and_then, unwrap_or}
 use Rattle.std.specs.List.{list_any, position}
 use Rattle.channel_fsm.specs.declared.ChanId.{ChanId}
 use Rattle.cell_table.specs.declared.tables.CellIdentity.{CellIdentity}
 use Rattle.cell_table.specs.declared.tables.HandoverRule.{HandoverRule}
 pub use Rattle.cell_table.specs.Views.{TrxView, CellView, SiteView, site_code}
+use Rattle.cell_table.specs.Limits.{most_cells, most_outside, first_outside, most_trx, timeslots_of_trx, most_neighbours, most_reports}
 use Rattle.cell_table.specs.Rules.{broken_rule}
-
--- the number of the first outside cell; own cells are numbered from 0
-abbrev pub first_outside : ℕ
-first_outside = 64
 
 -- a TRX of an own cell
 abbrev pub trx_at : SiteView → ℕ → ℕ → Option TrxView
@@ -71,7 +68,7 @@ names_broadcast cell = list_any (λ tn. tn == 0) (unwrap_or (option_map (λ t. t
 -- The rule of candidates keeps its ranges.
 pub record IsHandoverRule (rule : HandoverRule) : Type 0 where
   pub some_window : 1 ≤ rule.window
-  pub window : rule.window ≤ 32
+  pub window : rule.window ≤ most_reports
   pub margin : rule.margin ≤ 63
   pub minimum : rule.minimum ≤ 63
 
@@ -86,12 +83,12 @@ pub record IsIdentity (identity : CellIdentity) : Type 0 where
 pub record IsCell (cell : CellView) : Type 0 where
   pub identity : IsIdentity cell.identity
   pub power : cell.power ≤ 31
-  pub few_neighbours : length cell.ba ≤ 32
+  pub few_neighbours : length cell.ba ≤ most_neighbours
   pub neighbour_range : All (λ carrier. carrier ≤ 1023) cell.ba
   pub some_trx : 1 ≤ length cell.trx
-  pub few_trx : length cell.trx ≤ 4
+  pub few_trx : length cell.trx ≤ most_trx
   pub carrier_range : All (λ t. t.arfcn ≤ 1023) cell.trx
-  pub timeslot_range : All (λ t. All (λ tn. tn < 8) t.tch) cell.trx
+  pub timeslot_range : All (λ t. All (λ tn. tn < timeslots_of_trx) t.tch) cell.trx
   pub first_carrier : option_map (λ t. t.arfcn) (slice_get cell.trx 0) ≡ Some cell.identity.bcch
   pub broadcast : names_broadcast cell ≡ false
 
@@ -99,8 +96,8 @@ pub record IsCell (cell : CellView) : Type 0 where
 pub record IsWithin (site : SiteView) : Type 0 where
   pub handover : IsHandoverRule site.handover
   pub some_cells : 1 ≤ length site.cells
-  pub few_cells : length site.cells ≤ 64
-  pub few_outside : length site.outside ≤ 64
+  pub few_cells : length site.cells ≤ most_cells
+  pub few_outside : length site.outside ≤ most_outside
   pub each_cell : All IsCell site.cells
   pub each_outside : All IsIdentity site.outside
 
@@ -111,6 +108,10 @@ pub record IsSite (site : SiteView) : Type 0 where
 
 -- Where every traffic channel of a site lies.
 pub record IsWithinLimits (chan : ChanId) : Type 0 where
-  pub cell : chan.cell < 64
-  pub trx : chan.trx < 4
-  pub timeslot : chan.tn < 8
+  pub cell : chan.cell < most_cells
+  pub trx : chan.trx < most_trx
+  pub timeslot : chan.tn < timeslots_of_trx
+
+-- every traffic channel of a site lies there
+abbrev pub TrafficLiesWithin : SiteView → Type 0
+TrafficLiesWithin site = (chan : ChanId) → is_traffic site chan ≡ true → IsWithinLimits chan

@@ -1,5 +1,5 @@
 -- What a site file says, read off the TOML document that it is: each check in its order, and the first that fails.
-use Rattle.std.specs.Prelude.{ℕ, suc, ◌==◌, ℤ, pos, negsuc, nat_le, Bool, true, false, ◌&&◌, if◌then◌else◌, Option, Some, None, option_map, option_and_then, ok_or, is_some, Result, Ok, Err, List, [], ◌∷◌, length, take, codes}
+use Rattle.std.specs.Prelude.{ℕ, suc, ◌-◌, ◌==◌, ℤ, pos, negsuc, nat_le, Bool, true, false, ◌&&◌, if◌then◌else◌, Option, Some, None, option_map, option_and_then, ok_or, is_some, Result, Ok, Err, List, [], ◌∷◌, length, take, codes}
 use Rattle.std.specs.List.{list_all}
 use Rattle.std.specs.Result.{result_map_both}
 use Rattle.toml.specs.Data.{Data, Items, no_items, item, table, get, as_array, as_integer, as_table}
@@ -13,6 +13,7 @@ use Rattle.cell_table.specs.declared.tables.CellIdentity.{CellIdentity}
 use Rattle.cell_table.specs.declared.tables.HandoverRule.{HandoverRule}
 use Rattle.cell_table.specs.declared.tables.Allowed.{Allowed}
 use Rattle.cell_table.specs.Site.{TrxView, CellView, SiteView}
+use Rattle.cell_table.specs.Limits.{most_cells, most_outside, most_trx, timeslots_of_trx, most_neighbours, most_reports}
 use Rattle.cell_table.specs.Rules.{checked}
 
 -- what is read, or the first check that fails
@@ -51,6 +52,10 @@ value_at key d = ok_or (get (key_name key) d) (Missing key)
 -- from 0 to a number
 abbrev pub up_to : ℕ → Allowed
 up_to most = record { least = 0; most = most }
+
+-- from 1 to a number
+abbrev pub from_one : ℕ → Allowed
+from_one most = record { least = 1; most = most }
 
 -- the number is one of those allowed
 abbrev pub is_allowed : Allowed → ℕ → Bool
@@ -118,7 +123,7 @@ each read place (d ∷ ds) = do
 -- the table at `handover`: when a neighbour is a candidate
 unfoldable pub handover_of : Data → Read HandoverRule
 handover_of d = do
-  window ← number_at key.Window (record { least = 1; most = 32 }) d
+  window ← number_at key.Window (from_one most_reports) d
   margin ← number_at key.Margin (up_to 63) d
   minimum ← number_at key.Minimum (up_to 63) d
   Ok (record { window = window; margin = margin; minimum = minimum })
@@ -134,12 +139,12 @@ identity_of d = do
   bcc ← number_at key.Bcc (up_to 7) d
   Ok (record { lac = lac; ci = ci; bcch = bcch; ncc = ncc; bcc = bcc })
 
--- the BA list: at most 32 carriers
+-- the BA list: no more carriers than it may have
 unfoldable pub ba_of : Data → Read (List ℕ)
 ba_of d = do
   value ← value_at key.Ba d
   entries ← array_of key.Ba value
-  carriers ← counted key.Ba (up_to 32) entries
+  carriers ← counted key.Ba (up_to most_neighbours) entries
   each (λ place. number_of key.Ba (up_to 1023)) 0 carriers
 
 -- the carrier of a TRX; the first has the cell's BCCH carrier
@@ -149,8 +154,8 @@ arfcn_range bcch false = up_to 1023
 
 -- a timeslot; timeslot 0 of the first TRX carries the cell's broadcast channels (TS 45.002 clause 7) and never traffic
 abbrev pub tch_range : Bool → Allowed
-tch_range true = record { least = 1; most = 7 }
-tch_range false = up_to 7
+tch_range true = from_one (timeslots_of_trx - 1)
+tch_range false = up_to (timeslots_of_trx - 1)
 
 -- the first nine of what is read
 abbrev pub first_nine : Read (List ℕ) → Read (List ℕ)
@@ -171,11 +176,11 @@ trx_of bcch first d = do
   tch ← tch_of first d
   Ok (record { arfcn = arfcn; tch = tch })
 
--- the TRX of a cell: 1 to 4
+-- the TRX of a cell: one, or more
 unfoldable pub all_trx_of : ℕ → Data → Read (List TrxView)
 all_trx_of bcch d = do
   value ← value_at key.Trx d
-  entries ← tables_of key.Trx (record { least = 1; most = 4 }) value
+  entries ← tables_of key.Trx (from_one most_trx) value
   each (λ place. trx_of bcch (place == 0)) 0 entries
 
 -- an own cell
@@ -187,18 +192,18 @@ cell_of d = do
   trx ← all_trx_of identity.bcch d
   Ok (record { identity = identity; power = power; ba = ba; trx = trx })
 
--- the own cells: 1 to 64
+-- the own cells: one, or more
 unfoldable pub cells_of : Data → Read (List CellView)
 cells_of d = do
   value ← value_at key.Cell d
-  entries ← tables_of key.Cell (record { least = 1; most = 64 }) value
+  entries ← tables_of key.Cell (from_one most_cells) value
   each (λ place. cell_of) 0 entries
 
--- the cells of others: at most 64; the key may be absent
+-- the cells of others; the key may be absent
 unfoldable pub outside_of : Option Data → Read (List CellIdentity)
 outside_of None = Ok []
 outside_of (Some value) = do
-  entries ← tables_of key.Outside (up_to 64) value
+  entries ← tables_of key.Outside (up_to most_outside) value
   each (λ place. identity_of) 0 entries
 
 -- the table at `handover` has to be there

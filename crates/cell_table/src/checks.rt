@@ -1,11 +1,16 @@
 //! What has to hold of the cells of a site together.
 ghost use Rattle.std.specs.Prelude.{◌≡◌, ◌==◌, ◌≤◌, ◌++◌, length, map};
 ghost use Rattle.std.specs.List.{list_any, list_all, position};
+ghost use Rattle.cell_table.specs.Limits.{most_cells, most_outside};
 ghost use Rattle.cell_table.specs.Rules.{has_twice, same_codes, same_colour, identities, has_carrier_twice, has_slot_twice, has_neighbour_twice, has_no_traffic, broken_rule};
 
 use crate::fault::{SiteFault, What};
+use crate::limits::{MOST_CELLS, MOST_OUTSIDE};
 use crate::tables::{Cell, CellIdentity, Tables, Trx};
 use arrayvec::ArrayVec;
+
+/// The most cells, own and outside.
+const MOST_IDENTITIES: usize = MOST_CELLS + MOST_OUTSIDE;
 
 /// Whether a cell has the location area code and cell identity of another.
 fn have_codes(cells: &[CellIdentity], of: CellIdentity) -> bool
@@ -128,16 +133,28 @@ fn first_without_traffic(cells: &[Cell]) -> Option<usize>
     cells.iter().position(|cell| has_no_traffic(cell))
 }
 
-/// All cells, the own and then those of others.
-fn all_identities(cells: &[Cell], outside: &[CellIdentity]) -> ArrayVec<CellIdentity, 128>
-    requires cells { length cells.now ≤ 64 }
-    requires outside { length outside.now ≤ 64 }
+/// What identifies the own cells.
+fn own_identities(cells: &[Cell]) -> ArrayVec<CellIdentity, MOST_IDENTITIES>
+    requires { length cells.now ≤ most_cells }
+    ensures all { result.items ≡ map (λ c. c.identity) cells.now }
+{
+    let mut own = ArrayVec::new();
+    for cell in cells {
+        own.push(cell.identity);
+    }
+    own
+}
+
+/// What identifies all cells, the own and then those of others.
+fn all_identities(
+    cells: &[Cell],
+    outside: &[CellIdentity],
+) -> ArrayVec<CellIdentity, MOST_IDENTITIES>
+    requires cells { length cells.now ≤ most_cells }
+    requires outside { length outside.now ≤ most_outside }
     ensures all { result.items ≡ map (λ c. c.identity) cells.now ++ outside.now }
 {
-    let mut all = ArrayVec::new();
-    for cell in cells {
-        all.push(cell.identity);
-    }
+    let mut all = own_identities(cells);
     for identity in outside {
         all.push(*identity);
     }

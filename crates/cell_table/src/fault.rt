@@ -76,6 +76,19 @@ pub enum What {
     Neighbour,
 }
 
+impl What {
+    /// What stands twice, in words, with its keys.
+    fn in_words(self) -> &'static str {
+        match self {
+            What::Identity => "two cells have the same lac and ci",
+            What::Colour => "two cells have the same bcch, ncc and bcc",
+            What::Carrier => "two trx of a cell have the same arfcn",
+            What::Slot => "a trx names a timeslot twice in tch",
+            What::Neighbour => "a cell names a carrier twice in ba",
+        }
+    }
+}
+
 /// The kind in lower case.
 impl fmt::Display for What {
     fn fmt<W: fmt::Write>(&self, f: &mut fmt::Formatter<W>) -> fmt::Result {
@@ -94,22 +107,22 @@ impl fmt::Display for What {
 #[derive(Clone, Copy, Debug, PartialEq, Eq, Error)]
 pub enum SiteFault {
     /// The text isn't TOML.
-    #[error("the text is not TOML")]
+    #[error("the text isn't TOML")]
     Toml,
     /// A required key is absent.
     #[error("the key {0} is missing")]
     Missing(Key),
     /// The value of a key is of another kind, or out of its range.
-    #[error("the value of {0} is of another kind or out of its range")]
+    #[error("the value of {0} is of another kind than allowed, or out of its range")]
     Range(Key),
     /// Something that may be said only once is said twice.
-    #[error("{0} stands twice")]
+    #[error("{}", .0.in_words())]
     Twice(What),
     /// This cell, counted from 0, has no traffic channel.
-    #[error("cell {0} has no traffic channel")]
+    #[error("cell {0} has no traffic timeslot at tch")]
     NoTraffic(u8),
     /// Memory was refused.
-    #[error("out of memory")]
+    #[error("memory is refused")]
     NoMemory,
 }
 

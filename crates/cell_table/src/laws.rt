@@ -1,5 +1,23 @@
 //! Laws of what a site file says: their clauses are the statements, and their bodies are empty.
+ghost use Rattle.std.specs.Prelude.{◌≡◌};
 ghost use Rattle.cell_table.specs.Laws.{NineNameOneTwice, SameSitesAreEqual};
+ghost use Rattle.cell_table.specs.Limits.{most_cells, most_outside, first_outside, most_trx, timeslots_of_trx, most_neighbours, most_reports};
+
+use crate::limits::{
+    FIRST_OUTSIDE, MOST_CELLS, MOST_NEIGHBOURS, MOST_OUTSIDE, MOST_REPORTS, MOST_TRX,
+    TIMESLOTS_OF_TRX,
+};
+
+/// The limits of the code are those of the definitions.
+pub fn limits_are_those_defined()
+    ensures cells { MOST_CELLS ≡ most_cells }
+    ensures outside { MOST_OUTSIDE ≡ most_outside }
+    ensures first { FIRST_OUTSIDE ≡ first_outside }
+    ensures trx { MOST_TRX ≡ most_trx }
+    ensures timeslots { TIMESLOTS_OF_TRX ≡ timeslots_of_trx }
+    ensures neighbours { MOST_NEIGHBOURS ≡ most_neighbours }
+    ensures reports { MOST_REPORTS ≡ most_reports }
+{}
 
 /// Reading keeps the first nine timeslots of a TRX alone, and a site loses none by that: where no timeslot stands
 /// twice among the first nine, there are no more.

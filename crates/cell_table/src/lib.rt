@@ -4,6 +4,7 @@
 mod checks;
 mod fault;
 pub mod laws;
+pub mod limits;
 mod neighbours;
 mod places;
 mod reading;

@@ -3,7 +3,7 @@ ghost use Rattle.std.specs.Prelude.{◌≡◌, count_by};
 ghost use Rattle.std.specs.List.{position};
 ghost use Rattle.cell_table.specs.Neighbours.{stands_before, is_at, has_bsic, is_named, named_cell};
 
-use crate::site::FIRST_OUTSIDE;
+use crate::limits::FIRST_OUTSIDE;
 use crate::tables::{Cell, CellIdentity, Tables};
 
 /// Whether one carrier stands before another in a neighbour list: in ascending order, but carrier 0 last.

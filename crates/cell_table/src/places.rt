@@ -1,5 +1,6 @@
 //! How many traffic channels come before one.
 ghost use Rattle.std.specs.Prelude.{◌≡◌, ◌≤◌, length, sum_by, count_by, nat_lt};
+ghost use Rattle.cell_table.specs.Limits.{most_cells, most_trx};
 ghost use Rattle.cell_table.specs.Site.{trx_size, cell_size, before_in_cell, channels_before};
 
 use crate::tables::{Cell, Trx};
@@ -7,7 +8,7 @@ use channel_fsm::ChanId;
 
 /// How many traffic channels some TRX have.
 fn trx_sizes(trx: &[Trx]) -> usize
-    requires { length trx.now ≤ 4 }
+    requires { length trx.now ≤ most_trx }
     ensures value { result ≡ sum_by trx_size trx.now }
     ensures most { result ≤ 36 }
 {
@@ -20,7 +21,7 @@ fn trx_sizes(trx: &[Trx]) -> usize
 
 /// How many traffic channels some cells have.
 fn cell_sizes(cells: &[Cell]) -> usize
-    requires { length cells.now ≤ 64 }
+    requires { length cells.now ≤ most_cells }
     ensures value { result ≡ sum_by cell_size cells.now }
     ensures most { result ≤ 2304 }
 {
@@ -61,7 +62,7 @@ fn before_in_cell(cell: &Cell, chan: ChanId) -> usize
 
 /// How many traffic channels of some cells come before one.
 pub fn channels_before(cells: &[Cell], chan: ChanId) -> usize
-    requires { length cells.now ≤ 64 }
+    requires { length cells.now ≤ most_cells }
     ensures value { result ≡ channels_before cells.now chan }
 {
     match cells.get(chan.cell as usize) {

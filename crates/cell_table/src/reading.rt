@@ -1,12 +1,16 @@
 //! A site file as it is read: every key is checked once, and what it says is kept.
-ghost use Rattle.std.specs.Prelude.{◌≡◌, ◌==◌, ◌≤◌, Ok, IfOk, length, map, option_map};
+ghost use Rattle.std.specs.Prelude.{◌≡◌, ◌==◌, ◌<◌, ◌≤◌, Ok, IfOk, length, map, option_map};
 ghost use Rattle.std.specs.List.{list_all};
 ghost use Rattle.toml.specs.View.{view};
 ghost use Rattle.toml.specs.Data.{get, as_array};
-ghost use Rattle.cell_table.specs.SiteFile.{Read, value_at, is_allowed, allowed_number, number_of, number_at, array_of, entries_of, counted, all_tables, tables_of, each, handover_of, handover_at, identity_of, ba_of, arfcn_range, tch_range, first_nine, tch_of, trx_of, all_trx_of, cell_of, cells_of, outside_of, site_of, key_name, is_table, up_to};
+ghost use Rattle.cell_table.specs.SiteFile.{Read, value_at, is_allowed, allowed_number, number_of, number_at, array_of, entries_of, counted, all_tables, tables_of, each, handover_of, handover_at, identity_of, ba_of, arfcn_range, tch_range, first_nine, tch_of, trx_of, all_trx_of, cell_of, cells_of, outside_of, site_of, key_name, is_table, up_to, from_one};
+ghost use Rattle.cell_table.specs.Limits.{most_cells, most_outside, most_trx, timeslots_of_trx, most_neighbours};
 ghost use Rattle.cell_table.specs.Reading.{value_read, values_read, items_read};
 
 use crate::fault::{Key, SiteFault};
+use crate::limits::{
+    MOST_CELLS, MOST_NEIGHBOURS, MOST_OUTSIDE, MOST_REPORTS, MOST_TRX, TIMESLOTS_OF_TRX,
+};
 use crate::tables::{Allowed, Cell, CellIdentity, HandoverRule, Tables, Trx};
 use arrayvec::ArrayVec;
 use toml::Value;
@@ -54,12 +58,19 @@ fn up_to(most: u16) -> Allowed
     Allowed { least: 0, most }
 }
 
+/// From 1 to a number.
+fn from_one(most: u16) -> Allowed
+    ensures { result ≡ from_one most }
+{
+    Allowed { least: 1, most }
+}
+
 /// When a neighbour is a candidate, from the table at `handover`.
 #[tactic(auto, unfolding(crate::specs::SiteFile::handover_of))]
 fn handover_of(table: &Value) -> Result<HandoverRule, SiteFault>
     ensures read { result ≡ handover_of (view table.now) }
 {
-    let window = number_at(table, Key::Window, Allowed { least: 1, most: 32 })? as u8;
+    let window = number_at(table, Key::Window, from_one(MOST_REPORTS as u16))? as u8;
     let margin = number_at(table, Key::Margin, up_to(63))? as u8;
     let minimum = number_at(table, Key::Minimum, up_to(63))? as u8;
     Ok(HandoverRule {
@@ -176,12 +187,12 @@ fn arfcn_range(bcch: u16, first: bool) -> Allowed
 /// The timeslots of a TRX that may carry traffic.
 fn tch_range(first: bool) -> Allowed
     ensures value { result ≡ tch_range first }
-    ensures most { result.most ≡ 7 }
+    ensures most { result.most < timeslots_of_trx }
 {
     if first {
-        Allowed { least: 1, most: 7 }
+        from_one(TIMESLOTS_OF_TRX as u16 - 1)
     } else {
-        up_to(7)
+        up_to(TIMESLOTS_OF_TRX as u16 - 1)
     }
 }
 
@@ -196,7 +207,7 @@ fn tch_of(first: bool, trx: &Value) -> Result<ArrayVec<u8, 9>, SiteFault>
 
 /// The timeslots at the entries of `tch`, of which the first nine are kept.
 fn slots_of(allowed: Allowed, entries: &[Value]) -> Result<ArrayVec<u8, 9>, SiteFault>
-    requires { allowed.most ≡ 7 }
+    requires { allowed.most < timeslots_of_trx }
     ensures read { items_read result ≡
         first_nine (each (λ place. number_of Key.Tch allowed) 0 (map view entries.now)) }
 {
@@ -212,16 +223,16 @@ fn slots_of(allowed: Allowed, entries: &[Value]) -> Result<ArrayVec<u8, 9>, Site
 
 /// The BA list of a cell.
 #[tactic(auto, unfolding(crate::specs::SiteFile::ba_of))]
-fn ba_of(cell: &Value) -> Result<ArrayVec<u16, 32>, SiteFault>
+fn ba_of(cell: &Value) -> Result<ArrayVec<u16, MOST_NEIGHBOURS>, SiteFault>
     ensures read { items_read result ≡ ba_of (view cell.now) }
 {
     let entries = array_of(Key::Ba, value_at(cell, Key::Ba)?)?;
-    carriers_of(counted(Key::Ba, up_to(32), entries)?)
+    carriers_of(counted(Key::Ba, up_to(MOST_NEIGHBOURS as u16), entries)?)
 }
 
 /// The carriers at the entries of `ba`.
-fn carriers_of(entries: &[Value]) -> Result<ArrayVec<u16, 32>, SiteFault>
-    requires { length entries.now ≤ 32 }
+fn carriers_of(entries: &[Value]) -> Result<ArrayVec<u16, MOST_NEIGHBOURS>, SiteFault>
+    requires { length entries.now ≤ most_neighbours }
     ensures read { items_read result ≡
         each (λ place. number_of Key.Ba (up_to 1023)) 0 (map view entries.now) }
 {
@@ -233,8 +244,8 @@ fn carriers_of(entries: &[Value]) -> Result<ArrayVec<u16, 32>, SiteFault>
 }
 
 /// The TRX at the entries of `trx`.
-fn each_trx(bcch: u16, entries: &[Value]) -> Result<ArrayVec<Trx, 4>, SiteFault>
-    requires { length entries.now ≤ 4 }
+fn each_trx(bcch: u16, entries: &[Value]) -> Result<ArrayVec<Trx, MOST_TRX>, SiteFault>
+    requires { length entries.now ≤ most_trx }
     ensures read { items_read result ≡
         each (λ place. trx_of bcch (place == 0)) 0 (map view entries.now) }
 {
@@ -247,10 +258,10 @@ fn each_trx(bcch: u16, entries: &[Value]) -> Result<ArrayVec<Trx, 4>, SiteFault>
 
 /// The TRX of a cell.
 #[tactic(auto, unfolding(crate::specs::SiteFile::all_trx_of))]
-fn all_trx_of(bcch: u16, cell: &Value) -> Result<ArrayVec<Trx, 4>, SiteFault>
+fn all_trx_of(bcch: u16, cell: &Value) -> Result<ArrayVec<Trx, MOST_TRX>, SiteFault>
     ensures read { items_read result ≡ all_trx_of bcch (view cell.now) }
 {
-    let count = Allowed { least: 1, most: 4 };
+    let count = from_one(MOST_TRX as u16);
     let entries = tables_of(Key::Trx, count, value_at(cell, Key::Trx)?)?;
     each_trx(bcch, entries)
 }
@@ -270,8 +281,8 @@ fn cell_of(entry: &Value) -> Result<Cell, SiteFault>
 }
 
 /// The own cells at the entries of `cell`.
-fn each_cell(entries: &[Value]) -> Result<ArrayVec<Cell, 64>, SiteFault>
-    requires { length entries.now ≤ 64 }
+fn each_cell(entries: &[Value]) -> Result<ArrayVec<Cell, MOST_CELLS>, SiteFault>
+    requires { length entries.now ≤ most_cells }
     ensures read { items_read result ≡ each (λ place. cell_of) 0 (map view entries.now) }
 {
     let mut cells = ArrayVec::new();
@@ -283,17 +294,17 @@ fn each_cell(entries: &[Value]) -> Result<ArrayVec<Cell, 64>, SiteFault>
 
 /// The own cells.
 #[tactic(auto, unfolding(crate::specs::SiteFile::cells_of))]
-pub fn cells_of(document: &Value) -> Result<ArrayVec<Cell, 64>, SiteFault>
+pub fn cells_of(document: &Value) -> Result<ArrayVec<Cell, MOST_CELLS>, SiteFault>
     ensures read { items_read result ≡ cells_of (view document.now) }
 {
-    let count = Allowed { least: 1, most: 64 };
+    let count = from_one(MOST_CELLS as u16);
     let entries = tables_of(Key::Cell, count, value_at(document, Key::Cell)?)?;
     each_cell(entries)
 }
 
 /// The cells of others at the entries of `outside`.
-fn each_outside(entries: &[Value]) -> Result<ArrayVec<CellIdentity, 64>, SiteFault>
-    requires { length entries.now ≤ 64 }
+fn each_outside(entries: &[Value]) -> Result<ArrayVec<CellIdentity, MOST_OUTSIDE>, SiteFault>
+    requires { length entries.now ≤ most_outside }
     ensures read { items_read result ≡ each (λ place. identity_of) 0 (map view entries.now) }
 {
     let mut cells = ArrayVec::new();
@@ -305,11 +316,11 @@ fn each_outside(entries: &[Value]) -> Result<ArrayVec<CellIdentity, 64>, SiteFau
 
 /// The cells of others.
 #[tactic(auto, unfolding(crate::specs::SiteFile::outside_of))]
-pub fn outside_of(document: &Value) -> Result<ArrayVec<CellIdentity, 64>, SiteFault>
+pub fn outside_of(document: &Value) -> Result<ArrayVec<CellIdentity, MOST_OUTSIDE>, SiteFault>
     ensures read { items_read result ≡ outside_of (get (key_name Key.Outside) (view document.now)) }
 {
     match document.get(Key::Outside.name()) {
-        Some(value) => each_outside(tables_of(Key::Outside, up_to(64), value)?),
+        Some(value) => each_outside(tables_of(Key::Outside, up_to(MOST_OUTSIDE as u16), value)?),
         None => Ok(ArrayVec::new()),
     }
 }

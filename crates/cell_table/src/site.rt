@@ -3,7 +3,7 @@ ghost use Rattle.std.specs.Prelude.{◌≡◌, ◌≢◌, ◌↔◌, IsTrue, Ok,
 ghost use Rattle.std.specs.Result.{is_ok};
 ghost use Rattle.std.specs.List.{position};
 ghost use Rattle.toml.specs.View.{view};
-ghost use Rattle.cell_table.specs.Site.{IsSite, IsWithinLimits, trx_at, identity_at, is_traffic, has_codes, cell_of, index_of};
+ghost use Rattle.cell_table.specs.Site.{IsSite, IsWithinLimits, TrafficLiesWithin, trx_at, identity_at, is_traffic, has_codes, cell_of, index_of};
 ghost use Rattle.cell_table.specs.SiteFile.{site_of, read_site, IsBlankFile};
 ghost use Rattle.std.proofs.Common.{rules};
 ghost use Rattle.std.specs.Cmp.Rules.{comparing};
@@ -11,7 +11,8 @@ ghost use Rattle.cell_table.specs.Same.{same_site};
 ghost use Rattle.cell_table.specs.Neighbours.{by_bsic};
 
 use crate::checks::broken_rule;
-use crate::fault::SiteFault;
+use crate::fault::{Key, SiteFault};
+use crate::limits::FIRST_OUTSIDE;
 use crate::neighbours::named_cell;
 use crate::places::channels_before;
 use crate::reading::{cells_of, handover_at, outside_of};
@@ -20,9 +21,6 @@ use channel_fsm::ChanId;
 use std::alloc::{AllocError, Allocator, Global};
 use std::marker::Model;
 use toml::Value;
-
-/// The number of the first outside cell; own cells are numbered from 0.
-pub const FIRST_OUTSIDE: u8 = 64;
 
 /// The cells of a controller, each with its TRX, and the cells of others that mobiles may be handed over to.
 ///
@@ -79,12 +77,13 @@ impl<A: Allocator + Copy> Site<A> {
     /// and a cell without traffic channel.
     ///
     /// TOML is read in the memory of `scratch`, and the document is read by [`Site::of_document`]. `NoMemory` is answered
-    /// where memory of `scratch` or of `alloc` is refused. A blank text, of white space and comments alone, takes none.
+    /// where memory of `scratch` or of `alloc` is refused. A blank text, of white space and comments alone, takes none: it
+    /// lacks `handover`.
     pub fn read(alloc: A, scratch: Global, text: &str) -> Result<Site<A>, SiteFault>
         ensures described { IfOk result (λ site. read_site text.now ≡ Ok site) }
         ensures refused { IfErr result (λ fault. fault ≢ SiteFault.NoMemory →
             read_site text.now ≡ Err fault) }
-        ensures memory { result ≡ Err SiteFault.NoMemory → ¬ IsBlankFile text.now }
+        ensures blank { IsBlankFile text.now → result ≡ Err (SiteFault.Missing Key.Handover) }
     {
         match toml::table_from_str(scratch, text) {
             Ok(document) => Site::of_document(alloc, &Value::Table(document)),
@@ -113,6 +112,7 @@ impl<A: Allocator + Copy> Site<A> {
     pub fn cells(&self) -> u8
         ensures value { result ≡ length self.now.cells }
         ensures limits { IsSite self.now }
+        ensures traffic { TrafficLiesWithin self.now }
     {
         self.tables.cells.len() as u8
     }

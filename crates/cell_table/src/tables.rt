@@ -4,6 +4,7 @@ ghost use Rattle.std.proofs.Common.{rules};
 ghost use Rattle.std.specs.Cmp.Rules.{comparing};
 ghost use Rattle.cell_table.specs.Same.{same_trx, same_cell, same_site};
 
+use crate::limits::{MOST_CELLS, MOST_NEIGHBOURS, MOST_OUTSIDE, MOST_TRX};
 use arrayvec::ArrayVec;
 use std::marker::Model;
 
@@ -75,8 +76,8 @@ impl Eq for Trx {
 pub struct Cell {
     pub identity: CellIdentity,
     pub power: u8,
-    pub ba: ArrayVec<u16, 32>,
-    pub trx: ArrayVec<Trx, 4>,
+    pub ba: ArrayVec<u16, MOST_NEIGHBOURS>,
+    pub trx: ArrayVec<Trx, MOST_TRX>,
 }
 
 impl Model for Cell {
@@ -113,8 +114,8 @@ impl Eq for Cell {
 #[derive(Debug, Drop)]
 pub struct Tables {
     pub handover: HandoverRule,
-    pub cells: ArrayVec<Cell, 64>,
-    pub outside: ArrayVec<CellIdentity, 64>,
+    pub cells: ArrayVec<Cell, MOST_CELLS>,
+    pub outside: ArrayVec<CellIdentity, MOST_OUTSIDE>,
 }
 
 impl Model for Tables {

@@ -24,18 +24,40 @@ fn fault_of(alloc: Global, text: &str) -> Option<SiteFault> {
 #[test]
 fn faults_are_printed(rt: HostRuntime) -> Result<(), Fail> {
     let rows = [
-        (SiteFault::Toml, "the text is not TOML"),
+        (SiteFault::Toml, "the text isn't TOML"),
         (
             SiteFault::Missing(Key::Handover),
             "the key handover is missing",
         ),
         (
             SiteFault::Range(Key::Tch),
-            "the value of tch is of another kind or out of its range",
+            "the value of tch is of another kind than allowed, or out of its range",
         ),
-        (SiteFault::Twice(What::Colour), "colour stands twice"),
-        (SiteFault::NoTraffic(7), "cell 7 has no traffic channel"),
-        (SiteFault::NoMemory, "out of memory"),
+        (
+            SiteFault::Twice(What::Identity),
+            "two cells have the same lac and ci",
+        ),
+        (
+            SiteFault::Twice(What::Colour),
+            "two cells have the same bcch, ncc and bcc",
+        ),
+        (
+            SiteFault::Twice(What::Carrier),
+            "two trx of a cell have the same arfcn",
+        ),
+        (
+            SiteFault::Twice(What::Slot),
+            "a trx names a timeslot twice in tch",
+        ),
+        (
+            SiteFault::Twice(What::Neighbour),
+            "a cell names a carrier twice in ba",
+        ),
+        (
+            SiteFault::NoTraffic(7),
+            "cell 7 has no traffic timeslot at tch",
+        ),
+        (SiteFault::NoMemory, "memory is refused"),
     ];
     for (fault, text) in rows {
         let printed = format!(in rt.alloc(); "{fault}")?;

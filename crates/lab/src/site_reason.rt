@@ -3,6 +3,10 @@
 //! No clause says what the line holds. What is refused, and by which check, is `Site::read`'s to say; here the text is
 //! read once more, for the line alone.
 use crate::run::LabFault;
+use cell_table::limits::{
+    FIRST_OUTSIDE, MOST_CELLS, MOST_NEIGHBOURS, MOST_OUTSIDE, MOST_REPORTS, MOST_TRX,
+    TIMESLOTS_OF_TRX,
+};
 use cell_table::{Key, Site, SiteFault, What};
 use std::alloc::Global;
 use std::fmt;
@@ -55,7 +59,8 @@ impl fmt::Display for Place {
             Place::Cell(cell) => write!(f, "cell {cell}"),
             Place::Trx(cell, trx) => write!(f, "cell {cell}, trx {trx}"),
             Place::Outside(cell) => {
-                write!(f, "outside {cell} (cell {})", cell.saturating_add(64))
+                let number = cell.saturating_add(usize::from(FIRST_OUTSIDE));
+                write!(f, "outside {cell} (cell {number})")
             }
         }
     }
@@ -89,7 +94,7 @@ fn entries(table: &Value, key: Key) -> &[Value] {
 /// timeslot 0.
 fn numbers_of(key: Key, bcch: Option<i64>) -> Numbers {
     let (what, least, most) = match key {
-        Key::Window => ("a number of reports", 1, 32),
+        Key::Window => ("a number of reports", 1, MOST_REPORTS as i64),
         Key::Margin | Key::Minimum => ("a level", 0, 63),
         Key::Lac => ("a location area code", 0, 65535),
         Key::Ci => ("a cell identity", 0, 65535),
@@ -97,12 +102,52 @@ fn numbers_of(key: Key, bcch: Option<i64>) -> Numbers {
         Key::Ncc | Key::Bcc => ("a colour code", 0, 7),
         Key::Power => ("a power level", 0, 31),
         Key::Arfcn => ("a carrier", bcch.unwrap_or(0), bcch.unwrap_or(1023)),
-        Key::Tch => ("a timeslot", i64::from(bcch.is_some()), 7),
-        Key::Cell => ("a number of tables", 1, 64),
-        Key::Trx => ("a number of tables", 1, 4),
-        Key::Handover | Key::Outside => ("a number of tables", 0, 64),
+        Key::Tch => {
+            let least = i64::from(bcch.is_some());
+            ("a timeslot", least, TIMESLOTS_OF_TRX as i64 - 1)
+        }
+        Key::Cell => ("a number of tables", 1, MOST_CELLS as i64),
+        Key::Trx => ("a number of tables", 1, MOST_TRX as i64),
+        Key::Handover | Key::Outside => ("a number of tables", 0, MOST_OUTSIDE as i64),
     };
     Numbers { what, least, most }
+}
+
+/// What the value of a key may be; for the first TRX of a cell with the cell's BCCH carrier.
+#[derive(Clone, Copy)]
+struct Wanted {
+    key: Key,
+    bcch: Option<i64>,
+}
+
+impl fmt::Display for Wanted {
+    fn fmt<W: fmt::Write>(&self, f: &mut fmt::Formatter<W>) -> fmt::Result {
+        let numbers = numbers_of(self.key, self.bcch);
+        let Numbers { least, most, .. } = numbers;
+        match self.key {
+            Key::Handover => write!(f, "a table"),
+            Key::Cell | Key::Trx | Key::Outside => {
+                write!(f, "an array of {least} to {most} tables")
+            }
+            Key::Ba => {
+                write!(
+                    f,
+                    "an array of at most {MOST_NEIGHBOURS} carriers from {least} to {most}"
+                )
+            }
+            Key::Tch => write!(f, "an array of timeslots from {least} to {most}"),
+            Key::Window
+            | Key::Margin
+            | Key::Minimum
+            | Key::Lac
+            | Key::Ci
+            | Key::Bcch
+            | Key::Ncc
+            | Key::Bcc
+            | Key::Power
+            | Key::Arfcn => write!(f, "{numbers}"),
+        }
+    }
 }
 
 /// Whether the value of a key is an array, by the key.
@@ -138,7 +183,7 @@ fn fits(key: Key, value: &Value, numbers: &Numbers) -> bool {
     }
     match value.as_array() {
         Some(found) => {
-            let few = !matches!(key, Key::Ba) || found.len() <= 32;
+            let few = !matches!(key, Key::Ba) || found.len() <= MOST_NEIGHBOURS;
             few && found.as_slice().iter().all(|entry| numbers.hold(entry))
         }
         None => false,
@@ -232,7 +277,7 @@ fn first_bad(document: &Value, key: Key) -> Option<Found<'_>> {
     }
 }
 
-/// Says of an array that it has too many entries, or which of them doesn't fit.
+/// Says which entry of an array isn't one of the numbers that are allowed.
 fn say_list<W: Write>(list: &[Value], numbers: &Numbers, errors: &mut W) -> Result<(), LabFault> {
     for entry in list {
         if !numbers.hold(entry) {
@@ -240,30 +285,57 @@ fn say_list<W: Write>(list: &[Value], numbers: &Numbers, errors: &mut W) -> Resu
             return Ok(());
         }
     }
-    writeln!(errors, "{} entries are more than 32", list.len())?;
     Ok(())
+}
+
+/// Says which entry of an array isn't a table.
+fn say_tables<W: Write>(list: &[Value], errors: &mut W) -> Result<(), LabFault> {
+    for (number, entry) in list.iter().enumerate() {
+        if !entry.is_table() {
+            writeln!(errors, "entry {number}: {} isn't a table", Said(entry))?;
+            return Ok(());
+        }
+    }
+    Ok(())
+}
+
+/// Whether an array at a key may have so many entries.
+fn are_few(key: Key, count: usize, numbers: &Numbers) -> bool {
+    if is_tables(key) {
+        return numbers.least <= count as i64 && count as i64 <= numbers.most;
+    }
+    !matches!(key, Key::Ba) || count <= MOST_NEIGHBOURS
+}
+
+/// Says of an array at a key what doesn't fit: how many entries it has, or one of them.
+fn say_array<W: Write>(list: &[Value], wanted: Wanted, errors: &mut W) -> Result<(), LabFault> {
+    let numbers = numbers_of(wanted.key, wanted.bcch);
+    if !are_few(wanted.key, list.len(), &numbers) {
+        writeln!(errors, "an array of {} entries isn't {wanted}", list.len())?;
+        return Ok(());
+    }
+    if is_tables(wanted.key) {
+        return say_tables(list, errors);
+    }
+    say_list(list, &numbers, errors)
 }
 
 /// Says what the value of a key is, and what is allowed.
 fn say_range<W: Write>(found: &Found<'_>, key: Key, errors: &mut W) -> Result<(), LabFault> {
+    let wanted = Wanted {
+        key,
+        bcch: found.bcch,
+    };
     let Some(value) = found.table.get(key.name()) else {
-        writeln!(errors, "it is missing")?;
+        writeln!(errors, "it has to be {wanted}")?;
         return Ok(());
     };
-    let numbers = numbers_of(key, found.bcch);
-    if is_tables(key) {
-        let Numbers { least, most, .. } = numbers;
-        writeln!(errors, "it isn't an array of {least} to {most} tables")?;
-    } else if matches!(key, Key::Handover) {
-        writeln!(errors, "{} isn't a table", Said(value))?;
-    } else if !is_list(key) {
-        writeln!(errors, "{} isn't {numbers}", Said(value))?;
-    } else {
-        match value.as_array() {
-            Some(list) => say_list(list.as_slice(), &numbers, errors)?,
-            None => writeln!(errors, "{} isn't an array", Said(value))?,
+    if is_tables(key) || is_list(key) {
+        if let Some(list) = value.as_array() {
+            return say_array(list.as_slice(), wanted, errors);
         }
     }
+    writeln!(errors, "{} isn't {wanted}", Said(value))?;
     Ok(())
 }
 
@@ -314,14 +386,14 @@ fn say_alike<W: Write>(
     names: &str,
     errors: &mut W,
 ) -> Result<(), LabFault> {
-    for place in 0..128 {
+    for place in 0..MOST_CELLS + MOST_OUTSIDE {
         let Some(cell) = cell_at(document, place) else {
             break;
         };
         if let Some(first) = first_like(document, cell.table, place, keys) {
             writeln!(
                 errors,
-                "{} and {} have the same {names}",
+                "{} and {} have the same {names}, which no two cells may have",
                 first.place, cell.place
             )?;
             return Ok(());
@@ -348,7 +420,10 @@ fn repeated(list: &[Value]) -> Option<i64> {
 fn say_slot<W: Write>(cell: &Value, number: usize, errors: &mut W) -> Result<bool, LabFault> {
     for (trx, table) in entries(cell, Key::Trx).iter().enumerate() {
         if let Some(slot) = repeated(entries(table, Key::Tch)) {
-            writeln!(errors, "cell {number}, trx {trx}: tch: {slot} stands twice")?;
+            writeln!(
+                errors,
+                "cell {number}, trx {trx}: tch: {slot} stands twice, where it may stand once"
+            )?;
             return Ok(true);
         }
     }
@@ -366,13 +441,19 @@ fn say_repeated<W: Write>(
         What::Slot => return say_slot(cell, number, errors),
         What::Neighbour => {
             if let Some(carrier) = repeated(entries(cell, Key::Ba)) {
-                writeln!(errors, "cell {number}: ba: {carrier} stands twice")?;
+                writeln!(
+                    errors,
+                    "cell {number}: ba: {carrier} stands twice, where it may stand once"
+                )?;
                 return Ok(true);
             }
         }
         What::Carrier => {
             if let Some(carrier) = repeated_carrier(entries(cell, Key::Trx)) {
-                writeln!(errors, "cell {number}: arfcn {carrier} stands in two trx")?;
+                writeln!(
+                    errors,
+                    "cell {number}: arfcn {carrier} stands in two trx, where each has its own"
+                )?;
                 return Ok(true);
             }
         }
@@ -429,7 +510,12 @@ fn say_key<W: Write>(
         write!(errors, "{}: ", found.place)?;
     }
     if missing {
-        writeln!(errors, "{key} is missing")?;
+        let bcch = found.bcch;
+        writeln!(
+            errors,
+            "{key} is missing: it has to be {}",
+            Wanted { key, bcch }
+        )?;
         return Ok(());
     }
     write!(errors, "{key}: ")?;
@@ -479,7 +565,10 @@ pub fn say_reason<W: Write>(
         SiteFault::Range(key) => say_key(&document, key, false, errors),
         SiteFault::Twice(what) => say_twice(&document, what, errors),
         SiteFault::NoTraffic(cell) => {
-            writeln!(errors, "cell {cell}: no trx has a traffic timeslot at tch")?;
+            writeln!(
+                errors,
+                "cell {cell}: no trx has a timeslot at tch, where at least one is wanted"
+            )?;
             Ok(())
         }
         SiteFault::Toml | SiteFault::NoMemory => Ok(()),

@@ -10,10 +10,9 @@ use Rattle.std.proofs.lemmas.Bool.{and_parts, and_from}
 use Rattle.channel_fsm.specs.declared.ChanId.{ChanId}
 use Rattle.channel_fsm.specs.declared.ChanState.{ChanState}
 use Rattle.channel_fsm.specs.declared.ChanState.TheVariants.{Free, Held, Pending, On, Off}
-use Rattle.cell_table.specs.Site.{IsSite, is_traffic}
+use Rattle.cell_table.specs.Site.{TrafficLiesWithin, is_traffic}
 use Rattle.radio_book.specs.State.{State, state_of}
 use Rattle.radio_book.specs.Choice.{IsFreeIn, NoneFree, channels_of, is_free, is_free_traffic, free_count}
-use Rattle.cell_table.proofs.SiteFacts.{traffic_limits}
 use Rattle.radio_book.proofs.Frame.{same_some}
 use Rattle.std.specs.List.{AllByRecursion}
 use Rattle.std.proofs.lemmas.List.Elements.{All-get_or, All-from_recursion}
@@ -114,9 +113,9 @@ by_place x h =
     let tn : (8 * x.trx + x.tn) % 8 ≡ x.tn = omega arith in
     λ i. record { cell = x.cell; trx = trx i; tn = tn i }
 
-pub none_free : (b : State) (cell : ℕ) → IsSite b.site → find (is_free_traffic b) (channels_of cell) ≡ None → NoneFree b cell
+pub none_free : (b : State) (cell : ℕ) → TrafficLiesWithin b.site → find (is_free_traffic b) (channels_of cell) ≡ None → NoneFree b cell
 none_free b cell site e x free =
-    let limits = traffic_limits b.site x site free.is_traffic in
+    let limits = site x free.is_traffic in
     let place = 8 * x.trx + x.tn in
     let small : place < 32 = omega (arith, limits.trx, limits.timeslot) in
     let here : get_or (channels_of cell) place x ≡ x =
@@ -143,7 +142,7 @@ pub if_found : (b : State) (cell : ℕ) (o : Option ChanId) → o ≡ find (is_f
 if_found b cell None e = tt
 if_found b cell (Some x) e = found_free b cell x (sym e)
 
-pub if_none : (b : State) (cell : ℕ) → IsSite b.site → (o : Option ChanId) → o ≡ find (is_free_traffic b) (channels_of cell) → IfNone o (NoneFree b cell)
+pub if_none : (b : State) (cell : ℕ) → TrafficLiesWithin b.site → (o : Option ChanId) → o ≡ find (is_free_traffic b) (channels_of cell) → IfNone o (NoneFree b cell)
 if_none b cell site None e = none_free b cell site (sym e)
 if_none b cell site (Some x) e = tt
 
@@ -171,5 +170,5 @@ count_from_none b cell none = by_found (find (is_free_traffic b) (channels_of ce
     by_found None e = none_counted (is_free_traffic b) (channels_of cell) e
     by_found (Some x) e = absurd (none x (found_free b cell x e))
 
-pub none_from_count : (b : State) (cell : ℕ) → IsSite b.site → free_count b cell ≡ 0 → NoneFree b cell
+pub none_from_count : (b : State) (cell : ℕ) → TrafficLiesWithin b.site → free_count b cell ≡ 0 → NoneFree b cell
 none_from_count b cell site e = none_free b cell site (none_found (is_free_traffic b) (channels_of cell) e)

@@ -10,11 +10,10 @@ use Rattle.std.specs.FinMap as map
 use Rattle.channel_fsm.specs.declared.ChanId.{ChanId}
 use Rattle.radio_book.specs.declared.event.CallRecord.{CallRecord}
 use Rattle.radio_book.specs.declared.event.Reference.{Reference}
-use Rattle.cell_table.specs.Site.{IsSite, IsWithinLimits}
+use Rattle.cell_table.specs.Site.{TrafficLiesWithin, IsWithinLimits}
 use Rattle.radio_book.specs.State.{State, state_of, record_of}
 use Rattle.radio_book.specs.Table.{owner, reference_held}
 use Rattle.radio_book.specs.Sound.{IsSound, target_in, reference_of}
-use Rattle.cell_table.proofs.SiteFacts.{traffic_limits}
 use Rattle.radio_book.proofs.Frame.{same_some, aimed_is_owned}
 use Rattle.radio_book.proofs.SoundParts.{owned_traffic}
 
@@ -40,7 +39,7 @@ held_by None m k e = cc
 held_by (Some t) None k e = cc
 held_by (Some t) (Some m) k e = (t, refl, ap (λ r. r.cell) (same_some _ _ e))
 
-used_by : (b : State) → IsSound b → IsSite b.site → (cell n c : ℕ) (r : CallRecord) → map.get b.references (numbered cell n) ≡ Some c → record_of b c ≡ Some r → reference_of r.attempt ≡ Some (numbered cell n) → IsUsed b cell n
+used_by : (b : State) → IsSound b → TrafficLiesWithin b.site → (cell n c : ℕ) (r : CallRecord) → map.get b.references (numbered cell n) ≡ Some c → record_of b c ≡ Some r → reference_of r.attempt ≡ Some (numbered cell n) → IsUsed b cell n
 used_by b sound site cell n c r user recorded reference =
     elim r.attempt as (λ o. r.attempt ≡ o → reference_of o ≡ Some (numbered cell n) → IsUsed b cell n) [
       | None ↦ λ is h. cc
@@ -58,11 +57,11 @@ used_by b sound site cell n c r user recorded reference =
             target = ap (option_and_then (λ a. a.target)) is ∙ held.1;
             in_cell = held.2;
             owned = owned;
-            limits = traffic_limits b.site t site (owned_traffic b sound t c owned);
+            limits = site t (owned_traffic b sound t c owned);
           }
     ] refl reference
 
-used : (b : State) → IsSound b → IsSite b.site → (cell n : ℕ) → is_some (map.get b.references (numbered cell n)) ≡ true → IsUsed b cell n
+used : (b : State) → IsSound b → TrafficLiesWithin b.site → (cell n : ℕ) → is_some (map.get b.references (numbered cell n)) ≡ true → IsUsed b cell n
 used b sound site cell n there =
     elim (map.get b.references (numbered cell n)) as (λ o. map.get b.references (numbered cell n) ≡ o → is_some o ≡ true → IsUsed b cell n) [
       | None ↦ λ is h. cc
@@ -101,7 +100,7 @@ same_number b cell n m u v e =
     let known : u.known ≡ v.known = same_some _ _ (sym u.recorded ∙ ap (record_of b) calls ∙ v.recorded) in
     ap (λ k. k.number) (same_some _ _ (sym u.reference ∙ ap (λ r. reference_of r.attempt) known ∙ v.reference))
 
-pub not_all_used : (b : State) → IsSound b → IsSite b.site → (cell : ℕ) → ((n : ℕ) → n < 33 → is_some (map.get b.references (numbered cell n)) ≡ true) → ⊥
+pub not_all_used : (b : State) → IsSound b → TrafficLiesWithin b.site → (cell : ℕ) → ((n : ℕ) → n < 33 → is_some (map.get b.references (numbered cell n)) ≡ true) → ⊥
 not_all_used b sound site cell all =
     let f : ℕ → ℕ = place_of b cell in
     let xs = map_list f (range_with_len 0 33) in

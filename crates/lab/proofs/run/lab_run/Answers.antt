@@ -1,10 +1,9 @@
 use Rattle.std.proofs.Common.{◌≡◌, Ok, Err, sym, ◌∙◌}
 use Rattle.cell_table.specs.declared.fault.Key.TheVariants as key
 use Rattle.cell_table.specs.declared.fault.SiteFault.TheVariants.{Missing}
-use Rattle.cell_table.proofs.Blank.{read_site-blank}
 use Rattle.lab.proofs.run.lab_run.Goals as goal
 
 pub returns-in-Ok-clause-memory : goal.returns-in-Ok-clause-memory
 returns-in-Ok-clause-memory g c no_memory blank =
-    let bad : Err (Missing key.Handover) ≡ Ok c.in-Ok.site = sym (read_site-blank c.args.site.now blank) ∙ c.in-Ok.ensures.described in
+    let bad : Err (Missing key.Handover) ≡ Ok c.in-Ok.site = sym (c.read.ensures.blank blank) ∙ c.in-Ok.is in
     cc

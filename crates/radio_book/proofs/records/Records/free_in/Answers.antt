@@ -1,5 +1,5 @@
 use Rattle.std.proofs.Common.{◌≤◌, length, ◌∙◌, ap, sym, subst, arith}
-use Rattle.cell_table.specs.Site.{IsSite}
+use Rattle.cell_table.specs.Site.{TrafficLiesWithin}
 use Rattle.radio_book.proofs.Chosen.{no_cell, count_from_none, none_from_count}
 use Rattle.radio_book.proofs.records.Records.free_in.Goals as goal
 
@@ -20,5 +20,5 @@ returns-then-cell-cells-clause-none g c =
 pub returns-clause-none : goal.returns-clause-none
 returns-clause-none g c =
     let b = c.args.self.now in
-    let site = subst IsSite (c.deref.ensures ∙ ap (λ b. b.site) c.self.view_is) c.cells.ensures.limits in
+    let site = subst TrafficLiesWithin (c.deref.ensures ∙ ap (λ b. b.site) c.self.view_is) c.cells.ensures.traffic in
     (λ e. none_from_count b c.args.cell site (sym c.count_free.ensures ∙ e), λ none. c.count_free.ensures ∙ count_from_none b c.args.cell none)

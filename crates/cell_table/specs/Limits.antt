@@ -1,0 +1,29 @@
+-- How much a site may have.
+use Rattle.std.specs.Prelude.{ℕ}
+
+-- the most own cells of a site, and the most cells of others
+abbrev pub most_cells : ℕ
+most_cells = 64
+
+abbrev pub most_outside : ℕ
+most_outside = 64
+
+-- the number of the first outside cell: own cells have the numbers below
+abbrev pub first_outside : ℕ
+first_outside = most_cells
+
+-- the most TRX of a cell
+abbrev pub most_trx : ℕ
+most_trx = 4
+
+-- the timeslots of a TRX (TS 45.002 clause 4.3.2)
+abbrev pub timeslots_of_trx : ℕ
+timeslots_of_trx = 8
+
+-- the most carriers of a BA list
+abbrev pub most_neighbours : ℕ
+most_neighbours = 32
+
+-- the most reports of a window
+abbrev pub most_reports : ℕ
+most_reports = 32
