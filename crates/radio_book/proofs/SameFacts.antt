@@ -33,7 +33,7 @@ use Rattle.radio_book.specs.contracts.event.AttemptPartialEq.TheImpl.{eq-value a
 use Rattle.radio_book.specs.contracts.event.CallRecordPartialEq.TheImpl.{eq-value as call_record_eq}
 use Rattle.radio_book.specs.contracts.event.ReferencePartialEq.TheImpl.{eq-value as reference_eq}
 use Rattle.cell_table.specs.Same.{same_site}
-use Rattle.cell_table.proofs.Same.{same_site-Decides}
+use Rattle.cell_table.specs.Laws.{SameSitesAreEqual}
 use Rattle.radio_book.specs.State.{State, state_code, channels_code, references_code}
 use Rattle.radio_book.specs.Entries.{Kept, kept_code, CallTable, call_table_code, records_of, armed_of}
 use Rattle.radio_book.specs.Same.{is_same, is_same-Decides}
@@ -162,10 +162,10 @@ calls_eq m n s t =
     (is_same-Decides call_table_code (table_of m) (table_of n))
 
 -- what each map says together
-pub state_eq : (a b : State) → (((same_site a.site b.site && is_same channels_code a.channels b.channels) && is_same call_table_code (record { records = a.calls; armed = a.timers }) (record { records = b.calls; armed = b.timers })) && is_same references_code a.references b.references) ≡ is_same state_code a b
-state_eq a b =
+pub state_eq : SameSitesAreEqual → (a b : State) → (((same_site a.site b.site && is_same channels_code a.channels b.channels) && is_same call_table_code (record { records = a.calls; armed = a.timers }) (record { records = b.calls; armed = b.timers })) && is_same references_code a.references b.references) ≡ is_same state_code a b
+state_eq sites a b =
     both_same state_code a b _ _
-    (Decides-and _ _ (Decides-and _ _ (same_site-Decides a.site b.site) (is_same-Decides channels_code a.channels b.channels))
+    (Decides-and _ _ (Decides-and _ _ (sites a.site b.site) (is_same-Decides channels_code a.channels b.channels))
     (is_same-Decides call_table_code (record { records = a.calls; armed = a.timers }) (record { records = b.calls; armed = b.timers })))
     (is_same-Decides references_code a.references b.references)
     (λ p i. record { site = p.0.0.0 i; channels = p.0.0.1 i; calls = (p.0.1 i).records; references = p.1 i; timers = (p.0.1 i).armed })

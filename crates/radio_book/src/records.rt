@@ -18,6 +18,7 @@ mod undo;
 use crate::event::{CallRecord, Event, Kind, Reply};
 use crate::tables::{Calls, Channels, References};
 use cell_table::Site;
+use cell_table::laws::same_sites_are_equal;
 use channel_fsm::{ChanId, ChanState};
 use std::alloc::{AllocError, Allocator, Global};
 use std::marker::Model;
@@ -54,6 +55,7 @@ impl<A: Allocator> PartialEq for Records<A> {
     ghost laws = { partial_equiv_from_equiv (is_same-IsEquivalence state_code) };
 
     fn eq(&self, other: &Records<A>) -> bool {
+        same_sites_are_equal();
         self.site == other.site
             && self.channels == other.channels
             && self.calls == other.calls

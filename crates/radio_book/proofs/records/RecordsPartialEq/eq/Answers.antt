@@ -22,7 +22,7 @@ returns-then-eq-3 g c =
       | then-eq-2 w ↦ w.value-is ∙ w.eq-then-eq-2.ensures ∙ ap (λ p. p && calls) (sym w.if-eq-2.true ∙ two)
       | else-eq-2 w ↦ w.value-is ∙ w.if-eq-2.false ∙ ap (λ p. p && calls) (sym w.if-eq-2.false ∙ two)
     ] in
-    c.eq-then-eq-3.ensures ∙ ap (λ p. p && references) (sym c.if-eq-3.true ∙ three) ∙ state_eq a b
+    c.eq-then-eq-3.ensures ∙ ap (λ p. p && references) (sym c.if-eq-3.true ∙ three) ∙ state_eq c.same_sites_are_equal.ensures.law a b
     ∙ (λ i. is_same state_code (c.self.view_is i) (c.other.view_is i))
 
 pub returns-else-eq-3 : goal.returns-else-eq-3
@@ -40,5 +40,5 @@ returns-else-eq-3 g c =
       | then-eq-2 w ↦ w.value-is ∙ w.eq-then-eq-2.ensures ∙ ap (λ p. p && calls) (sym w.if-eq-2.true ∙ two)
       | else-eq-2 w ↦ w.value-is ∙ w.if-eq-2.false ∙ ap (λ p. p && calls) (sym w.if-eq-2.false ∙ two)
     ] in
-    c.if-eq-3.false ∙ ap (λ p. p && references) (sym c.if-eq-3.false ∙ three) ∙ state_eq a b
+    c.if-eq-3.false ∙ ap (λ p. p && references) (sym c.if-eq-3.false ∙ three) ∙ state_eq c.same_sites_are_equal.ensures.law a b
     ∙ (λ i. is_same state_code (c.self.view_is i) (c.other.view_is i))
