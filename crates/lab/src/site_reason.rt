@@ -299,18 +299,18 @@ fn say_tables<W: Write>(list: &[Value], errors: &mut W) -> Result<(), LabFault> 
     Ok(())
 }
 
-/// Whether an array at a key may have so many entries.
-fn are_few(key: Key, count: usize, numbers: &Numbers) -> bool {
+/// Whether an array at a key may have as many entries as this one.
+fn are_few(key: Key, list: &[Value], numbers: &Numbers) -> bool {
     if is_tables(key) {
-        return numbers.least <= count as i64 && count as i64 <= numbers.most;
+        return numbers.least <= list.len() as i64 && list.len() as i64 <= numbers.most;
     }
-    !matches!(key, Key::Ba) || count <= MOST_NEIGHBOURS
+    !matches!(key, Key::Ba) || list.len() <= MOST_NEIGHBOURS
 }
 
 /// Says of an array at a key what doesn't fit: how many entries it has, or one of them.
 fn say_array<W: Write>(list: &[Value], wanted: Wanted, errors: &mut W) -> Result<(), LabFault> {
     let numbers = numbers_of(wanted.key, wanted.bcch);
-    if !are_few(wanted.key, list.len(), &numbers) {
+    if !are_few(wanted.key, list, &numbers) {
         writeln!(errors, "an array of {} entries isn't {wanted}", list.len())?;
         return Ok(());
     }
