@@ -12,15 +12,9 @@ use Rattle.radio_book.specs.declared.event.Attempt.{Attempt}
 use Rattle.radio_book.specs.declared.event.CallRecord.{CallRecord}
 use Rattle.radio_book.specs.declared.event.Event.{Event}
 use Rattle.radio_book.specs.declared.event.Event.TheVariants as event
+use Rattle.cell_table.specs.Limits.{most_trx, timeslots_of_trx}
 use Rattle.cell_table.specs.Site.{is_traffic}
 use Rattle.radio_book.specs.State.{State, state_of, record_of}
-
--- the most TRX of a cell, and the timeslots of a TRX (TS 45.002 clause 4.3.2)
-abbrev pub most_trx : ℕ
-most_trx = 4
-
-abbrev pub timeslots_of_trx : ℕ
-timeslots_of_trx = 8
 
 -- how many numbers a cell has for Handover References: one octet's (TS 44.018 clause 10.5.2.15)
 abbrev pub reference_numbers : ℕ
