@@ -33,7 +33,7 @@ const LINES: &[(&[&str], u8, &str, &str)] = &[
         &["run", "/dev/null", "/dev/null"],
         2,
         "site 2 handover\n",
-        "/dev/null: handover is missing\n",
+        "/dev/null: handover is missing: it has to be a table\n",
     ),
     (&["--version"], 0, "bsc_lab 0.1\n", ""),
     (&["runn"], 2, "", "runn"),
