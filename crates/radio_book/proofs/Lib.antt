@@ -31,3 +31,6 @@ pub mod OpenPhase
 pub mod OffPhase
 pub mod Answered
 pub mod NoTrace
+pub mod UndoneFacts
+pub mod Stretches
+pub mod FoundFacts

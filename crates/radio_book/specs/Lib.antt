@@ -14,3 +14,4 @@ pub mod Others
 pub mod Kinds
 pub mod Undone
 pub mod NoTrace
+pub mod Found

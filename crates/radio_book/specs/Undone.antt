@@ -94,9 +94,13 @@ pub record IsUndoneAttempt (b : State) (es : List Event) (u : Undone) : Type 0 w
   pub among : IsUndoneIn (steps_from 0 b es) u
   pub awaited : u.awaited ≡ is_target_off (book_after_undo b u) u.target
 
+-- the attempt is one whose opening stands at this place of the list
+abbrev pub IsUndoneAt : State → List Event → ℕ → Undone → Type 0
+IsUndoneAt b es at u = IsUndoneAttempt b es u × (u.opening.place ≡ at)
+
 -- at this place of the list opens an attempt that was undone
 abbrev pub OpensUndone : State → List Event → ℕ → Type 0
-OpensUndone b es at = (u : Undone) × IsUndoneAttempt b es u × (u.opening.place ≡ at)
+OpensUndone b es at = (u : Undone) × IsUndoneAt b es at u
 
 -- TESTS
 
@@ -185,3 +189,11 @@ held_refusals u =
 -- where the first of them stands
 abbrev pub first_held : Undone → Option ℕ
 first_held u = option_map (λ (s : StepAt). s.place) (slice_get (held_refusals u) 0)
+
+-- LAWS
+
+-- a list has at most one undone attempt that opens at a place
+abbrev pub UndoneIsUnique : Type 0
+UndoneIsUnique =
+    (b : State) (es : List Event) (u v : Undone) → IsUndoneAttempt b es u → IsUndoneAttempt b es v →
+    u.opening.place ≡ v.opening.place → u ≡ v

@@ -5,9 +5,12 @@
 pub mod book;
 mod entry;
 pub mod event;
+mod found;
+mod kinds;
 pub mod laws;
 pub mod others;
 mod records;
+pub mod rewind;
 pub mod run;
 mod tables;
 pub mod undone;

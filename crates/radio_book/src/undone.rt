@@ -1,4 +1,6 @@
 //! Lists of steps, in which attempts are undone. Ours, of no standard.
+ghost use Rattle.radio_book.specs.Undone.{UndoneIsUnique};
+
 use crate::event::{Event, Reply};
 
 /// A step of a list of events: one event with its reply.
@@ -11,3 +13,8 @@ pub struct StepAt {
     /// What the book answered.
     pub reply: Reply,
 }
+
+/// A list of events has at most one undone attempt that opens at a place.
+pub fn undone_attempts_are_unique()
+    ensures unique { UndoneIsUnique }
+{}

@@ -1,0 +1,140 @@
+//! An attempt that was undone, taken out of a list of events.
+ghost use Rattle.std.specs.Prelude.{◌≡◌, ℕ, List, map, zip, Err, IfOk, OnOk};
+ghost use Rattle.std.specs.List.{enumerate_from};
+ghost use Rattle.radio_book.specs.Run.{run_book, run_replies};
+ghost use Rattle.radio_book.specs.Undone.{Undone, IsUndoneAt, OpensUndone, others, places_of, events_of, is_settled, first_held};
+ghost use Rattle.radio_book.specs.declared.undone.StepAt.{StepAt};
+
+use crate::book::Book;
+use crate::event::{Event, Reply};
+use crate::found::{found_at, without_attempt};
+use crate::run::run;
+use crate::undone::StepAt;
+use std::alloc::{AllocError, Allocator, Global};
+use thiserror::Error;
+
+/// A list of events with an attempt that was undone, and without it.
+#[derive(Drop)]
+pub struct Rewound<A: Allocator = Global> {
+    /// The book after all events.
+    pub whole: Book<A>,
+    /// The replies to all events.
+    pub whole_replies: Vec<Reply, A>,
+    /// The book after the others alone.
+    pub without: Book<A>,
+    /// The replies to the others alone.
+    pub without_replies: Vec<Reply, A>,
+    /// Where the others stand among all events, upwards.
+    pub others: Vec<usize, A>,
+    /// No release of the attempt's channel is still awaited.
+    pub settled: bool,
+    /// Where the first of the others stands that was refused for a channel or a reference which the attempt held.
+    pub held: Option<usize>,
+}
+
+/// Why an attempt can't be taken out of a list of events.
+#[derive(Clone, Copy, Debug, PartialEq, Eq, Error)]
+pub enum RewindFault {
+    /// The event at the place isn't an accepted `Take` or `Require` that an accepted `Undo` ends.
+    #[error("no undone attempt")]
+    NoAttempt,
+    /// Memory was refused.
+    #[error("out of memory")]
+    NoMemory,
+}
+
+impl From<AllocError> for RewindFault {
+    ghost use Rattle.std.specs.Prelude.{◌≡◌};
+    ghost use Rattle.radio_book.specs.declared.rewind.RewindFault.TheVariants.{NoMemory};
+
+    ghost from_gives = { λ _ fault. fault ≡ NoMemory };
+
+    fn from(_: AllocError) -> RewindFault {
+        RewindFault::NoMemory
+    }
+}
+
+/// The events as steps, each with its place and its reply.
+fn steps_of<A: Allocator + Copy>(
+    alloc: A,
+    events: &[Event],
+    replies: &[Reply],
+) -> Result<Vec<StepAt, A>, AllocError>
+    ensures { IfOk result (λ steps. steps.items ≡ map
+        (λ (p : ℕ × (Event × Reply)). record { place = p.0; event = p.1.0; reply = p.1.1 })
+        (enumerate_from 0 (zip events.now replies.now))) }
+{
+    events
+        .iter()
+        .zip(replies.iter())
+        .enumerate()
+        .map(|(place, (event, reply))| StepAt {
+            place,
+            event: *event,
+            reply: *reply,
+        })
+        .collect(alloc)
+}
+
+fn places_of<A: Allocator + Copy>(alloc: A, steps: &[StepAt]) -> Result<Vec<usize, A>, AllocError>
+    ensures { IfOk result (λ places. places.items ≡ places_of steps.now) }
+{
+    steps.iter().map(|step| step.place).collect(alloc)
+}
+
+fn events_of<A: Allocator + Copy>(alloc: A, steps: &[StepAt]) -> Result<Vec<Event, A>, AllocError>
+    ensures { IfOk result (λ events. events.items ≡ events_of steps.now) }
+{
+    steps.iter().map(|step| step.event).collect(alloc)
+}
+
+/// Takes out of a list of events the attempt whose opening stands at a place, counted from 0, and that was undone. The
+/// events are asked of copies of the book, one after another: all of them, and those that stay without the attempt.
+///
+/// `NoAttempt` where no undone attempt opens there, as at a place past the end.
+pub fn rewind<A: Allocator + Copy>(
+    alloc: A,
+    book: &Book<A>,
+    events: &[Event],
+    at: usize,
+) -> Result<Rewound<A>, RewindFault>
+    ensures attempt { OnOk result (OpensUndone book.now events.now at) }
+    ensures no_attempt { result ≡ Err RewindFault.NoAttempt →
+        OpensUndone book.now events.now at → ⊥ }
+    ensures whole { IfOk result (λ rewound. rewound.whole ≡ run_book book.now events.now) }
+    ensures whole_replies { IfOk result (λ rewound.
+        rewound.whole_replies.items ≡ run_replies book.now events.now) }
+    ensures others { IfOk result (λ rewound. (u : Undone) →
+        IsUndoneAt book.now events.now at u → rewound.others.items ≡ places_of (others u)) }
+    ensures without { IfOk result (λ rewound. (u : Undone) →
+        IsUndoneAt book.now events.now at u →
+        rewound.without ≡ run_book book.now (events_of (others u))) }
+    ensures without_replies { IfOk result (λ rewound. (u : Undone) →
+        IsUndoneAt book.now events.now at u →
+        rewound.without_replies.items ≡ run_replies book.now (events_of (others u))) }
+    ensures settled { IfOk result (λ rewound. (u : Undone) →
+        IsUndoneAt book.now events.now at u → rewound.settled ≡ is_settled u) }
+    ensures held { IfOk result (λ rewound. (u : Undone) →
+        IsUndoneAt book.now events.now at u → rewound.held ≡ first_held u) }
+{
+    let (whole, whole_replies) = run(alloc, book, events)?;
+    let steps = steps_of(alloc, events, &whole_replies)?;
+    let Some(found) = found_at(&steps, at) else {
+        return Err(RewindFault::NoAttempt);
+    };
+    let (undone, _) = run(alloc, book, &events[..found.head + found.between + 2])?;
+    let awaited = undone.is_off(found.target);
+    let remainder = without_attempt(alloc, &steps, &found, awaited)?;
+    let kept = events_of(alloc, &remainder.kept)?;
+    let others = places_of(alloc, &remainder.kept)?;
+    let (without, without_replies) = run(alloc, book, &kept)?;
+    Ok(Rewound {
+        whole,
+        whole_replies,
+        without,
+        without_replies,
+        others,
+        settled: remainder.settled,
+        held: remainder.held,
+    })
+}
