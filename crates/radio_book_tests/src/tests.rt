@@ -4,6 +4,7 @@ mod handover;
 mod largest;
 mod memory;
 mod overlaps;
+mod rewinds;
 mod runs;
 mod taken_back;
 mod worked;

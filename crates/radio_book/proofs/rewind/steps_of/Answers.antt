@@ -8,9 +8,10 @@ use Rattle.radio_book.proofs.rewind.steps_of.Goals as goal
 
 pub returns : goal.returns
 returns g c =
-    items_from_collect _ c.collect.ensures.ran
+    items_from_collect {s = c.map.result} _ c.collect.ensures.ran
     (YieldsList-from_map _ (λ (p : ℕ × (Event × Reply)). record { place = p.0; event = p.1.0; reply = p.1.1 })
+    (YieldsList-at c.map.ensures.source
     (YieldsList-from_enumerate
     (YieldsList-at c.enumerate.ensures.source
     (YieldsList-from_zip (YieldsList-at c.zip.ensures.first (YieldsList-from_slice c.args.events.now (cc))) (YieldsList-from_slice c.args.replies.now (cc))))
-    (cc)) c.map.ensures.closure (λ x r q k. search (rules, tests)))
+    c.enumerate.ensures.count)) c.map.ensures.closure (λ x r q k. search (rules, tests)))
