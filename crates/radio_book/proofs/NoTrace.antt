@@ -1,6 +1,6 @@
 -- An undone attempt leaves no trace: its list of events, part by part, runs alike without it.
 use Rattle.std.proofs.Common.{◌≡◌, ◌⊎◌, inl, inr, ℕ, Bool, true, false, not, ◌||◌, if◌then◌else◌, IsTrue, List, [], ◌∷◌, ◌++◌, map as each, Option, Some, None, refl, sym, ◌∙◌, ap, subst}
-use Rattle.std.specs.Prelude.{filter}
+use Rattle.std.specs.Prelude.{filter, slice_get}
 use Rattle.std.specs.List.{list_any}
 use Rattle.std.specs.Option.{option_map}
 use Rattle.std.specs.FinMap as map
@@ -15,6 +15,7 @@ use Rattle.radio_book.specs.declared.event.Refusal.{Refusal}
 use Rattle.radio_book.specs.declared.event.Refusal.TheVariants.{WrongPhase, NotArmed}
 use Rattle.radio_book.specs.declared.event.Why.{Why}
 use Rattle.radio_book.specs.declared.event.Why.TheVariants.{Asked, Expired}
+use Rattle.radio_book.specs.declared.event.Reply.{Reply}
 use Rattle.radio_book.specs.declared.undone.StepAt.{StepAt}
 use Rattle.radio_book.specs.State.{State, apply, or_free, state_of, record_of}
 use Rattle.radio_book.specs.Table.{step, reply_of, reply_to, book_after, Refuses, undo_row, undo_by, undo_attempt, is_armed, undo_change, left_state}
@@ -22,7 +23,7 @@ use Rattle.radio_book.specs.Sound.{IsSound}
 use Rattle.radio_book.specs.Run.{run_book, run_replies}
 use Rattle.radio_book.specs.Kinds.{Undoes, is_accepted}
 use Rattle.radio_book.specs.Others.{without_channel, without_attempt_of, IsOpen}
-use Rattle.radio_book.specs.Undone.{Undone, steps_from, is_off, is_target_off, is_on_target, releases, refused_for, up_to_first, after_first, awaiting, settled_tail, others, others_between, others_awaiting, reference_reserved, reserves}
+use Rattle.radio_book.specs.Undone.{Undone, IsUndoneAttempt, first_held, held_refusals, places_of, events_of, is_settled, steps_from, is_off, is_target_off, is_on_target, releases, refused_for, up_to_first, after_first, awaiting, settled_tail, others, others_between, others_awaiting, reference_reserved, reserves}
 use Rattle.radio_book.specs.NoTrace.{UndoneAttemptsLeaveNoTrace}
 use Rattle.radio_book.proofs.KeyFacts.{chan_total, chan_exact}
 use Rattle.radio_book.proofs.MapFacts.{put_again, channel_same}
@@ -175,3 +176,20 @@ no_trace b sound es u is settled held =
       book = answered.0;
       replies = at_places (run_replies b es) (others u) (of_others (IsAnswered (run_replies b es)) (steps_from 0 b es) u parts (all_answered b es)) ∙ ap (each Some) answered.1;
     }
+
+-- where no held refusal is the first, there is none
+none_first : (ss : List StepAt) → option_map (λ (s : StepAt). s.place) (slice_get ss 0) ≡ None → ss ≡ []
+none_first [] none = refl
+none_first (s ∷ ss) none = cc
+
+-- the same of what is answered of a list with an undone attempt, and without it
+pub same_without :
+    (b : State) (es : List Event) (u : Undone) (whole without : State) (whole_replies without_replies : List Reply) (places : List ℕ) →
+    IsSound b → IsUndoneAttempt b es u →
+    whole ≡ run_book b es → whole_replies ≡ run_replies b es →
+    places ≡ places_of (others u) → without ≡ run_book b (events_of (others u)) → without_replies ≡ run_replies b (events_of (others u)) →
+    is_settled u ≡ true → first_held u ≡ None →
+    (whole ≡ without) × (each (slice_get whole_replies) places ≡ each Some without_replies)
+same_without b es u whole without whole_replies without_replies places sound is whole_is replies_are places_are without_is left_are settled held =
+    let same = no_trace b sound es u is settled (none_first (held_refusals u) held) in
+    (whole_is ∙ same.book ∙ sym without_is, (λ i. each (slice_get (replies_are i)) (places_are i)) ∙ same.replies ∙ ap (each Some) (sym left_are))

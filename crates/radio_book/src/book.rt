@@ -115,6 +115,13 @@ impl<A: Allocator + Copy> Book<A> {
         }
     }
 
+    /// Does nothing; its contract hands out that every book is sound.
+    pub(crate) fn sound(&self)
+        ensures { IsSound self.now }
+    {
+        let _ = &self.records;
+    }
+
     /// The channel, if there is one, is off: its release is awaited.
     pub(crate) fn is_off(&self, target: Option<ChanId>) -> bool
         ensures { result ≡ is_target_off self.now target }

@@ -1,5 +1,5 @@
 //! An attempt that was undone, taken out of a list of events.
-ghost use Rattle.std.specs.Prelude.{◌≡◌, ℕ, List, map, zip, Err, IfOk, OnOk};
+ghost use Rattle.std.specs.Prelude.{◌≡◌, ℕ, true, List, map, zip, slice_get, Some, None, Err, IfOk, OnOk};
 ghost use Rattle.std.specs.List.{enumerate_from};
 ghost use Rattle.radio_book.specs.Run.{run_book, run_replies};
 ghost use Rattle.radio_book.specs.Undone.{Undone, IsUndoneAt, OpensUndone, others, places_of, events_of, is_settled, first_held};
@@ -89,7 +89,8 @@ fn events_of<A: Allocator + Copy>(alloc: A, steps: &[StepAt]) -> Result<Vec<Even
 }
 
 /// Takes out of a list of events the attempt whose opening stands at a place, counted from 0, and that was undone. The
-/// events are asked of copies of the book, one after another: all of them, and those that stay without the attempt.
+/// events are asked of copies of the book, one after another: all of them, and those that stay without the attempt. Where
+/// the attempt is settled and no refusal is held, both come to one book, and the others got the same replies.
 ///
 /// `NoAttempt` where no undone attempt opens there, as at a place past the end.
 pub fn rewind<A: Allocator + Copy>(
@@ -116,7 +117,14 @@ pub fn rewind<A: Allocator + Copy>(
         IsUndoneAt book.now events.now at u → rewound.settled ≡ is_settled u) }
     ensures held { IfOk result (λ rewound. (u : Undone) →
         IsUndoneAt book.now events.now at u → rewound.held ≡ first_held u) }
+
+    // A settled attempt leaves no trace where none of the others was refused for what it held.
+    ensures no_trace { IfOk result (λ rewound. rewound.settled ≡ true → rewound.held ≡ None →
+        (rewound.whole ≡ rewound.without) ×
+        (map (slice_get rewound.whole_replies.items) rewound.others.items ≡
+        map Some rewound.without_replies.items)) }
 {
+    book.sound();
     let (whole, whole_replies) = run(alloc, book, events)?;
     let steps = steps_of(alloc, events, &whole_replies)?;
     let Some(found) = found_at(&steps, at) else {

@@ -7,6 +7,7 @@ use Rattle.radio_book.specs.declared.undone.StepAt.{StepAt}
 use Rattle.radio_book.specs.Run.{run_book, run_replies}
 use Rattle.radio_book.specs.Undone.{Undone, IsUndoneIn, IsUndoneAt, steps_from, places_of, events_of, is_target_off, others, is_settled, first_held}
 use Rattle.radio_book.specs.Found.{parts_of}
+use Rattle.radio_book.proofs.NoTrace.{same_without}
 use Rattle.radio_book.proofs.FoundFacts.{steps_are, opens_none, undo_within, found_there, only_one}
 use Rattle.radio_book.proofs.rewind.rewind.Given.{Over}
 use Rattle.radio_book.proofs.rewind.rewind.Goals as goal
@@ -69,3 +70,10 @@ returns-clause-settled g c = λ u at. c.in_ok-remainder.ensures.settled ∙ ap i
 
 pub returns-clause-held : goal.returns-clause-held
 returns-clause-held g c = λ u at. c.in_ok-remainder.ensures.held ∙ ap first_held (same g c u at)
+
+pub returns-clause-no_trace : goal.returns-clause-no_trace
+returns-clause-no_trace g c = λ settled held.
+    same_without c.args.book.now c.args.events.now (found g c) _ _ _ _ _ c.sound.ensures (here g c).0
+    c.in_ok-whole.ensures.book c.in_ok-whole.ensures.replies
+    (returns-clause-others g c (found g c) (here g c)) (returns-clause-without g c (found g c) (here g c)) (returns-clause-without_replies g c (found g c) (here g c))
+    (sym (returns-clause-settled g c (found g c) (here g c)) ∙ settled) (sym (returns-clause-held g c (found g c) (here g c)) ∙ held)
