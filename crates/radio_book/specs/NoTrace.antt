@@ -9,21 +9,20 @@ use Rattle.radio_book.specs.Undone.{Undone, IsUndoneAttempt, others, events_of, 
 
 -- what all events do and what the others alone do is the same
 pub record LeavesNoTrace (b : State) (es : List Event) (u : Undone) : Type 0 where
-  -- the book is the one that the other steps alone give,
+  -- both lists lead to one book,
   pub book : run_book b es ≡ run_book b (events_of (others u))
-  -- and each of them got the same reply, place by place
+  -- and at the place of each of the others stands the reply that it gets alone
   pub replies : map (slice_get (run_replies b es)) (places_of (others u)) ≡ map Some (run_replies b (events_of (others u)))
 
 abbrev pub UndoneAttemptsLeaveNoTrace : Type 0
 UndoneAttemptsLeaveNoTrace =
-    -- from every sound book, whatever other calls and attempts it holds,
+    -- take a sound book, with any calls and attempts in it,
     (b : State) → IsSound b →
-    -- by any events of which an attempt is opened, driven through any of its steps and undone, of whatever kind it is, in
-    -- whatever stage, and for whatever reason; others, of other calls or of its own after the undo, refused ones too, stand
-    -- anywhere before, between and after,
+    -- and any events among which an attempt is opened and taken back, of any of the three kinds, from any stage, asked or by
+    -- a timer, mixed in any order with what else happens to this call and to others;
     (es : List Event) (u : Undone) → IsUndoneAttempt b es u →
-    -- where its target's release is acknowledged, if the undo left it off,
+    -- if no release of its target is awaited any more,
     IsTrue (is_settled u) →
-    -- and none of the others was refused for a channel or a reference that the attempt held:
+    -- and none of the others met a held refusal, then
     held_refusals u ≡ [] →
     LeavesNoTrace b es u

@@ -28,14 +28,15 @@ pub struct Rewound<A: Allocator = Global> {
     pub others: Vec<usize, A>,
     /// No release of the attempt's channel is still awaited.
     pub settled: bool,
-    /// Where the first of the others stands that was refused for a channel or a reference which the attempt held.
+    /// Where the first of the others stands that was refused because the attempt's target wasn't free yet, or because
+    /// it had the reference.
     pub held: Option<usize>,
 }
 
 /// Why an attempt can't be taken out of a list of events.
 #[derive(Clone, Copy, Debug, PartialEq, Eq, Error)]
 pub enum RewindFault {
-    /// The event at the place isn't an accepted `Take` or `Require` that an accepted `Undo` ends.
+    /// No attempt that was undone opens at the place.
     #[error("no undone attempt")]
     NoAttempt,
     /// Memory was refused.

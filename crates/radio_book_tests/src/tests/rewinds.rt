@@ -8,7 +8,7 @@ use radio_book::event::Event::{
 };
 use radio_book::event::Refusal::{CallExists, ChannelBusy, RefBusy, Unexpected};
 use radio_book::event::Reply::{Done, Owned, Refused};
-use radio_book::event::{Attempt, AttemptKind, CallRecord, Event, Kind, Reply, Stage, Why};
+use radio_book::event::{Attempt, AttemptKind, CallRecord, Event, Kind, Reply, Stage, Timer, Why};
 use radio_book::rewind::{RewindFault, Rewound, rewind};
 use refusing_heap::RefusingHeap;
 use std::alloc::{AllocError, Allocator};
@@ -84,6 +84,13 @@ const TAKEN_BACK: &[Event] = &[
     Command(1),
     Undo(1, Why::Asked),
     Released(TARGET),
+];
+
+// A call is refused for the target of an attempt.
+const REFUSED_FOR_THE_TARGET: &[Event] = &[
+    Take(1, Kind::Internal, TARGET),
+    Open(2, TARGET),
+    Undo(1, Why::Asked),
 ];
 
 const ROWS: &[Row] = &[
@@ -164,6 +171,19 @@ const ROWS: &[Row] = &[
         looks: &[(Look(1), RESTS), (Look(2), WAITS_ON_TARGET)],
     },
     Row {
+        name: "a call is refused for the target",
+        before: STEADY,
+        events: REFUSED_FOR_THE_TARGET,
+        at: 0,
+        others: &[1],
+        settled: true,
+        held: Some(1),
+        whole: &[Refused(ChannelBusy(TARGET))],
+        without: &[Done],
+        same: false,
+        looks: &[(Look(1), RESTS), (Look(2), WAITS_ON_TARGET)],
+    },
+    Row {
         name: "a call is refused for the target, twice",
         before: STEADY,
         events: &[
@@ -213,6 +233,102 @@ const ROWS: &[Row] = &[
         same: true,
         looks: &[(Look(1), RESTS), (Look(2), WAITS_ON_OTHER)],
     },
+    Row {
+        name: "a refusal for the channel of another call is not held",
+        before: STEADY,
+        events: &[
+            Take(1, Kind::Internal, TARGET),
+            Open(2, HOME),
+            Undo(1, Why::Asked),
+        ],
+        at: 0,
+        others: &[1],
+        settled: true,
+        held: None,
+        whole: &[Refused(ChannelBusy(HOME))],
+        without: &[Refused(ChannelBusy(HOME))],
+        same: true,
+        looks: &[(Look(1), RESTS)],
+    },
+    Row {
+        name: "a reference is not held after the undo",
+        before: &[],
+        events: &[
+            Take(8, Kind::Incoming, OTHER),
+            Take(9, Kind::Incoming, HOME),
+            Reserve(8, 5),
+            Undo(8, Why::Asked),
+            Take(10, Kind::Incoming, OTHER),
+            Reserve(10, 5),
+            Reserve(9, 5),
+        ],
+        at: 0,
+        others: &[1, 4, 5, 6],
+        settled: true,
+        held: None,
+        whole: &[Done, Done, Done, Refused(RefBusy(0, 5))],
+        without: &[Done, Done, Done, Refused(RefBusy(0, 5))],
+        same: true,
+        looks: &[],
+    },
+    Row {
+        name: "steps of the call itself stay while the release is awaited",
+        before: STEADY,
+        events: &[
+            Take(1, Kind::Internal, TARGET),
+            Reserve(1, 0),
+            Activate(1),
+            Undo(1, Why::Asked),
+            Look(1),
+            Require(1),
+            Released(TARGET),
+        ],
+        at: 0,
+        others: &[4, 5],
+        settled: true,
+        held: None,
+        whole: &[RESTS, Done],
+        without: &[RESTS, Done],
+        same: true,
+        looks: &[],
+    },
+    Row {
+        name: "what a station says of the target stays where no release is awaited",
+        before: STEADY,
+        events: &[
+            Take(1, Kind::Internal, TARGET),
+            Undo(1, Why::Asked),
+            Open(2, TARGET),
+            Confirm(TARGET),
+        ],
+        at: 0,
+        others: &[2, 3],
+        settled: true,
+        held: None,
+        whole: &[Done, Owned(2)],
+        without: &[Done, Owned(2)],
+        same: true,
+        looks: &[(Look(1), RESTS)],
+    },
+    Row {
+        name: "an attempt is taken back by a timer, and its call opens in the list",
+        before: &[],
+        events: &[
+            Open(1, HOME),
+            Confirm(HOME),
+            Require(1),
+            Order(1),
+            Undo(1, Why::Expired(Timer::T8)),
+        ],
+        at: 2,
+        others: &[0, 1],
+        settled: true,
+        held: None,
+        whole: &[Done, Owned(1)],
+        without: &[Done, Owned(1)],
+        same: true,
+        looks: &[(Look(1), RESTS)],
+    },
 ];
 
 // A list of events in which no undone attempt opens at a place.
@@ -260,6 +376,10 @@ const MISSING: &[Missing] = &[
     Missing {
         events: REFUSED,
         at: 3,
+    },
+    Missing {
+        events: REFUSED_FOR_THE_TARGET,
+        at: 1,
     },
     // It is open.
     Missing {
