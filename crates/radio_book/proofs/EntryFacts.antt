@@ -1,6 +1,6 @@
 -- The maps that the entries of calls make: their records, and the timers of those that have one.
-use Rattle.std.proofs.Common.{◌≡◌, ◌+◌, ◌-◌, ℕ, arith, count_by, map as map_list, Bool, true, false, cond, List, [], ◌∷◌, Option, Some, None, is_some, option_and_then, refl, sym, ap, ◌∙◌}
-use Rattle.std.specs.Option.{option_map}
+use Rattle.std.proofs.Common.{◌≡◌, ◌+◌, ◌-◌, ℕ, arith, count_by, map as map_list, Bool, true, false, cond, List, [], ◌∷◌, Option, Some, None, is_some, OnSome, IfSome, option_and_then, refl, sym, ap, ◌∙◌, subst, MutBor}
+use Rattle.std.specs.Option.{option_map, option_copied_mut}
 use Rattle.std.specs.Ordering.{nat_cmp, eq_by_cmp}
 use Rattle.std.specs.Cmp.{nat_cmp_total, eq_by_cmp_equiv}
 use Rattle.std.specs.Map.{lookup, keys_of}
@@ -12,8 +12,8 @@ use Rattle.std.specs.FinMap.{FinMap, same_map, get-empty, get-insert, len-empty,
 use Rattle.attempt_journal.specs.declared.Timer.{Timer}
 use Rattle.radio_book.specs.declared.event.CallRecord.{CallRecord}
 use Rattle.radio_book.specs.Maps.{put}
-use Rattle.radio_book.specs.Entries.{Kept, records_of, armed_of}
-use Rattle.radio_book.proofs.MapFacts.{get_put, get_listed}
+use Rattle.radio_book.specs.Entries.{Kept, CallTable, records_of, armed_of, with_kept}
+use Rattle.radio_book.proofs.MapFacts.{get_put, get_listed, put_again}
 use Rattle.radio_book.proofs.TableFacts.{absent_below}
 
 mapped_choice : {A B : Type 0} (f : A → B) (p : Bool) (w z : Option A) → option_map f (cond p w z) ≡ cond p (option_map f w) (option_map f z)
@@ -33,6 +33,26 @@ call_kept o = option_map (λ (k : Kept). k.call) o
 
 abbrev pub timer_kept : Option Kept → Option Timer
 timer_kept o = option_and_then (λ (k : Kept). k.timer) o
+
+-- what is lent is what is kept
+pub lent_there : (o : Option (MutBor Kept)) (found : Option Kept) → option_copied_mut o ≡ found → is_some o ≡ true → is_some found ≡ true
+lent_there None found same some = cc
+lent_there (Some r) found same some = sym (ap is_some same)
+
+abbrev pub record_lent : Option (MutBor Kept) → Option CallRecord
+record_lent o = option_map (λ (r : MutBor Kept). r.now.call) o
+
+pub lent_call : (o : Option (MutBor Kept)) → record_lent o ≡ call_kept (option_copied_mut o)
+lent_call None = refl
+lent_call (Some r) = refl
+
+pub lent_timer : (o : Option (MutBor Kept)) (t : Option Timer) → timer_kept (option_copied_mut o) ≡ t → IfSome o (λ r. r.now.timer ≡ t)
+lent_timer None t same = tt
+lent_timer (Some r) t same = same
+
+pub some_holds : {X P : Type 0} (o : Option X) → (is_some o ≡ true → P) → OnSome o P
+some_holds None fact = tt
+some_holds (Some v) fact = fact refl
 
 -- each answers as the entries do
 pub get_records : (es : List (ℕ × Kept)) (q : ℕ) → map.get (records_of es) q ≡ call_kept (lookup (is_at (nat_cmp q)) es)
@@ -93,3 +113,29 @@ armed_entries (e ∷ es) h =
 -- as many timers are armed as entries have one
 pub armed_len : (t : BTreeMap ℕ Kept) → IsOrdered nat_cmp t → map.len (armed_of t.entries) ≡ count_by (λ (k : Kept). is_some k.timer) (values t)
 armed_len t h = armed_entries t.entries h
+
+-- What becomes of the table where something was lent of it, by what was left there.
+module _ (t n : CallTable) (c : ℕ) (k : Kept) (o : Option (MutBor Kept)) (r : MutBor Kept) (is : o ≡ Some r) (left : OnSome o (n ≡ with_kept t c k)) where
+  pub changed : n ≡ with_kept t c k
+  changed = subst (λ o. OnSome o (n ≡ with_kept t c k)) is left
+
+  timer_there : IfSome o (λ r. r.now.timer ≡ map.get t.armed c) → r.now.timer ≡ map.get t.armed c
+  timer_there timer = subst (λ o. IfSome o (λ r. r.now.timer ≡ map.get t.armed c)) is timer
+
+  -- another record, with the timer that was there
+  pub recorded : IfSome o (λ r. r.now.timer ≡ map.get t.armed c) → k.timer ≡ r.now.timer → n ≡ record t { records = map.insert t.records c k.call }
+  recorded timer same =
+      let armed = put_again nat_cmp_total nat_cmp-IsAntisymmetric t.armed c k.timer (sym (same ∙ timer_there timer)) in
+      changed ∙ (λ i. record { records = map.insert t.records c k.call; armed = armed i })
+
+  -- another timer, with the record that was there
+  pub timed : record_lent o ≡ map.get t.records c → k.call ≡ r.now.call → n ≡ record t { armed = put t.armed c k.timer }
+  timed call same =
+      let records = put_again nat_cmp_total nat_cmp-IsAntisymmetric t.records c (Some k.call) (sym call ∙ ap record_lent is ∙ ap Some (sym same)) in
+      changed ∙ (λ i. record { records = records i; armed = put t.armed c k.timer })
+
+  -- what was there
+  pub unchanged : record_lent o ≡ map.get t.records c → IfSome o (λ r. r.now.timer ≡ map.get t.armed c) → k ≡ r.now → n ≡ t
+  unchanged call timer same =
+      let armed = put_again nat_cmp_total nat_cmp-IsAntisymmetric t.armed c k.timer (sym (ap (λ k. k.timer) same ∙ timer_there timer)) in
+      timed call (ap (λ k. k.call) same) ∙ (λ i. record { records = t.records; armed = armed i })

@@ -36,3 +36,7 @@ records_of (e ∷ es) = map.insert (records_of es) e.0 e.1.call
 abbrev pub armed_of : List (ℕ × Kept) → map.FinMap nat_cmp Timer
 armed_of [] = map.empty
 armed_of (e ∷ es) = put (armed_of es) e.0 e.1.timer
+
+-- the table, with this kept of a call
+abbrev pub with_kept : CallTable → ℕ → Kept → CallTable
+with_kept t c k = record { records = map.insert t.records c k.call; armed = put t.armed c k.timer }

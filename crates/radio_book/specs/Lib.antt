@@ -5,6 +5,7 @@ pub mod State
 pub mod Channels
 pub mod Stages
 pub mod Entries
+pub mod Lending
 pub mod Table
 pub mod Sound
 pub mod Journal

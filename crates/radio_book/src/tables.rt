@@ -2,6 +2,7 @@
 ghost use Rattle.std.specs.Prelude.{◌≡◌, OnOk, OnErr, IfOk, None, IsSome, IfSome, is_some, count_by};
 ghost use Rattle.std.specs.BTreeMap.{values, IsOrdered};
 ghost use Rattle.std.specs.Ordering.{nat_cmp};
+ghost use Rattle.std.specs.Borrow.{sem};
 ghost use Rattle.std.specs.Cmp.{partial_equiv_from_equiv};
 ghost use Rattle.std.specs.Option.{option_map};
 ghost use Rattle.std.specs.FinMap as map;
@@ -192,6 +193,8 @@ impl<A: Allocator> PartialEq for Calls<A> {
 }
 
 impl<A: Allocator + Copy> Calls<A> {
+    ghost use Rattle.radio_book.specs.Lending.{lends_kept};
+
     pub fn new(alloc: A) -> Calls<A>
         ensures { result ≡ record { records = map.empty; armed = map.empty } }
     {
@@ -240,6 +243,15 @@ impl<A: Allocator + Copy> Calls<A> {
         }
     }
 
+    /// What is kept of a call, to be changed in place.
+    pub fn entry_mut(&mut self, call: u16) -> Option<&mut CallEntry>
+        ensures* writes_back { sem 𝓛 (lends_kept A.row A.Allocator self.entry call result) }
+        ensures call { option_map (λ kept. kept.now.call) result ≡ map.get self.old.records call }
+        ensures timer { IfSome result (λ kept. kept.now.timer ≡ map.get self.old.armed call) }
+    {
+        self.entries.get_mut(&CallKey { number: call })
+    }
+
     /// A call begins, for which no timer is armed. Memory is asked for where the key is new, and only there.
     pub fn insert(&mut self, call: u16, entry: CallEntry) -> Result<(), AllocError>
         requires entry { entry.timer ≡ None }
@@ -251,30 +263,6 @@ impl<A: Allocator + Copy> Calls<A> {
     {
         self.entries.insert(CallKey { number: call }, entry)?;
         Ok(())
-    }
-
-    /// Another value at a key that is there, so no memory is asked for.
-    pub fn replace(&mut self, call: u16, entry: CallEntry)
-        requires { IsSome (map.get self.old.records call) }
-        ensures { self.new ≡ record {
-          records = map.insert self.old.records call entry.call;
-          armed = put self.old.armed call entry.timer;
-        } }
-    {
-        match self.entries.get_mut(&CallKey { number: call }) {
-            Some(place) => *place = entry,
-            None => unreachable!(),
-        }
-    }
-
-    /// The same where the timer stays as it is.
-    pub fn update(&mut self, call: u16, entry: CallEntry)
-        requires key { IsSome (map.get self.old.records call) }
-        requires timer { entry.timer ≡ map.get self.old.armed call }
-        ensures { self.new ≡ record self.old
-            { records = map.insert self.old.records call entry.call } }
-    {
-        self.replace(call, entry);
     }
 
     /// The record and the timer are gone.

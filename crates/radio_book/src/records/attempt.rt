@@ -24,7 +24,7 @@ impl<A: Allocator + Copy> Records<A> {
         ensures memory { OnErr result (NeedsRoom self.old
             (row self.old (event.Take call kind.Internal x))) }
     {
-        let Some(mut entry) = self.calls.entry(call) else {
+        let Some(entry) = self.calls.entry_mut(call) else {
             return Ok(Reply::Refused(Refusal::NoCall));
         };
         let record = entry.record();
@@ -34,10 +34,10 @@ impl<A: Allocator + Copy> Records<A> {
         let Some(serving) = record.serving else {
             return Ok(Reply::Refused(Refusal::WrongPhase));
         };
-        if !matches!(self.state_of(serving), ChanState::On(_)) {
+        if !matches!(self.channels.state(serving), ChanState::On(_)) {
             return Ok(Reply::Refused(Refusal::WrongPhase));
         }
-        if !self.is_traffic(x) {
+        if !self.site.is_traffic(x) {
             return Ok(Reply::Refused(Refusal::NoChannel));
         }
         if serving.cell == x.cell {
@@ -48,7 +48,6 @@ impl<A: Allocator + Copy> Records<A> {
         }
         self.channels.occupy(x, ChanEvent::Take(call))?;
         entry.take(x);
-        self.calls.update(call, entry);
         Ok(Reply::Done)
     }
 
@@ -72,13 +71,16 @@ impl<A: Allocator + Copy> Records<A> {
         ensures memory { OnErr result (NeedsRoom self.old
             (row self.old (event.Reserve call number))) }
     {
-        let Some(mut entry) = self.calls.entry(call) else {
+        let Some(entry) = self.calls.entry_mut(call) else {
             return Ok(Reply::Refused(Refusal::NoCall));
         };
         let Some(attempt) = entry.record().attempt else {
             return Ok(Reply::Refused(Refusal::WrongPhase));
         };
-        let (Stage::Taken, Some(target)) = (attempt.stage, attempt.target) else {
+        let Stage::Taken = attempt.stage else {
+            return Ok(Reply::Refused(Refusal::WrongPhase));
+        };
+        let Some(target) = attempt.target else {
             return Ok(Reply::Refused(Refusal::WrongPhase));
         };
         let reference = reference_at(target, number);
@@ -87,7 +89,6 @@ impl<A: Allocator + Copy> Records<A> {
         }
         self.references.insert(reference, call)?;
         entry.reserve(attempt, number);
-        self.calls.update(call, entry);
         Ok(Reply::Done)
     }
 
@@ -96,18 +97,20 @@ impl<A: Allocator + Copy> Records<A> {
         ensures reply { result ≡ reply_to self.old (event.Activate call) }
         ensures book { self.new ≡ step self.old (event.Activate call) }
     {
-        let Some(mut entry) = self.calls.entry(call) else {
+        let Some(entry) = self.calls.entry_mut(call) else {
             return Reply::Refused(Refusal::NoCall);
         };
         let Some(attempt) = entry.record().attempt else {
             return Reply::Refused(Refusal::WrongPhase);
         };
-        let (Stage::Reserved, Some(target)) = (attempt.stage, attempt.target) else {
+        let Stage::Reserved = attempt.stage else {
             return Reply::Refused(Refusal::WrongPhase);
         };
-        self.send(call, target);
+        let Some(target) = attempt.target else {
+            return Reply::Refused(Refusal::WrongPhase);
+        };
         entry.activate(attempt, target);
-        self.calls.update(call, entry);
+        self.send(call, target);
         Reply::Done
     }
 
@@ -115,7 +118,7 @@ impl<A: Allocator + Copy> Records<A> {
         ensures reply { result ≡ reply_to self.old (event.Command call) }
         ensures book { self.new ≡ step self.old (event.Command call) }
     {
-        let Some(mut entry) = self.calls.entry(call) else {
+        let Some(entry) = self.calls.entry_mut(call) else {
             return Reply::Refused(Refusal::NoCall);
         };
         let Some(attempt) = entry.record().attempt else {
@@ -125,7 +128,6 @@ impl<A: Allocator + Copy> Records<A> {
             return Reply::Refused(Refusal::WrongPhase);
         };
         entry.command(attempt);
-        self.calls.replace(call, entry);
         Reply::Done
     }
 
@@ -134,7 +136,7 @@ impl<A: Allocator + Copy> Records<A> {
         ensures reply { result ≡ reply_to self.old (event.Complete call) }
         ensures book { self.new ≡ step self.old (event.Complete call) }
     {
-        let Some(mut entry) = self.calls.entry(call) else {
+        let Some(entry) = self.calls.entry_mut(call) else {
             return Reply::Refused(Refusal::NoCall);
         };
         let record = entry.record();
@@ -144,10 +146,9 @@ impl<A: Allocator + Copy> Records<A> {
         let (Stage::Commanded | Stage::Detected) = attempt.stage else {
             return Reply::Refused(Refusal::WrongPhase);
         };
+        entry.complete(attempt.target);
         self.switch_off_serving(call, record.serving);
         self.drop_reference_of(attempt);
-        entry.complete(attempt.target);
-        self.calls.replace(call, entry);
         Reply::Done
     }
 

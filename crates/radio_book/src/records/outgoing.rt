@@ -17,7 +17,7 @@ impl<A: Allocator + Copy> Records<A> {
         ensures reply { result ≡ reply_to self.old (event.Require call) }
         ensures book { self.new ≡ step self.old (event.Require call) }
     {
-        let Some(mut entry) = self.calls.entry(call) else {
+        let Some(entry) = self.calls.entry_mut(call) else {
             return Reply::Refused(Refusal::NoCall);
         };
         let record = entry.record();
@@ -27,11 +27,10 @@ impl<A: Allocator + Copy> Records<A> {
         let Some(serving) = record.serving else {
             return Reply::Refused(Refusal::WrongPhase);
         };
-        if !matches!(self.state_of(serving), ChanState::On(_)) {
+        if !matches!(self.channels.state(serving), ChanState::On(_)) {
             return Reply::Refused(Refusal::WrongPhase);
         }
         entry.require();
-        self.calls.replace(call, entry);
         Reply::Done
     }
 
@@ -39,7 +38,7 @@ impl<A: Allocator + Copy> Records<A> {
         ensures reply { result ≡ reply_to self.old (event.Order call) }
         ensures book { self.new ≡ step self.old (event.Order call) }
     {
-        let Some(mut entry) = self.calls.entry(call) else {
+        let Some(entry) = self.calls.entry_mut(call) else {
             return Reply::Refused(Refusal::NoCall);
         };
         let Some(attempt) = entry.record().attempt else {
@@ -49,7 +48,6 @@ impl<A: Allocator + Copy> Records<A> {
             return Reply::Refused(Refusal::WrongPhase);
         };
         entry.order(attempt);
-        self.calls.replace(call, entry);
         Reply::Done
     }
 

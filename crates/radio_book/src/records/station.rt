@@ -50,16 +50,17 @@ impl<A: Allocator + Copy> Records<A> {
         ensures { self.new ≡ apply (record no_change
             { call = moved_entry x stage call (record_of self.old call) }) self.old }
     {
-        let Some(mut entry) = self.calls.entry(call) else {
+        let Some(entry) = self.calls.entry_mut(call) else {
             return;
         };
         let Some(attempt) = entry.record().attempt else {
             return;
         };
-        if attempt.target == Some(x) {
-            entry.move_to(attempt, stage);
-            self.calls.update(call, entry);
+        let is_target = attempt.target == Some(x);
+        if !is_target {
+            return;
         }
+        entry.move_to(attempt, stage);
     }
 
     pub(super) fn released(&mut self, x: ChanId) -> Reply
@@ -81,7 +82,7 @@ impl<A: Allocator + Copy> Records<A> {
         let Some(ChanState::On(call)) = self.channels.get(x) else {
             return Reply::Refused(Refusal::Unexpected(x));
         };
-        let Some(mut entry) = self.calls.entry(call) else {
+        let Some(entry) = self.calls.entry_mut(call) else {
             return Reply::Refused(Refusal::Unexpected(x));
         };
         let Some(attempt) = entry.record().attempt else {
@@ -94,7 +95,6 @@ impl<A: Allocator + Copy> Records<A> {
             return Reply::Refused(Refusal::Unexpected(x));
         };
         entry.detect(attempt);
-        self.calls.update(call, entry);
         Reply::Owned(call)
     }
 

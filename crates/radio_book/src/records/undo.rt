@@ -114,29 +114,29 @@ impl<A: Allocator + Copy> Records<A> {
     fn settle(&mut self, call: u16)
         ensures { self.new ≡ run_inverse call inverse.Settle self.old }
     {
-        if let Some(mut entry) = self.calls.entry(call) {
-            entry.settle();
-            self.calls.update(call, entry);
-        }
+        let Some(entry) = self.calls.entry_mut(call) else {
+            return;
+        };
+        entry.settle();
     }
 
     fn go_back(&mut self, call: u16)
         ensures { self.new ≡ run_inverse call inverse.Undetect self.old }
     {
-        if let Some(mut entry) = self.calls.entry(call) {
-            entry.go_back();
-            self.calls.update(call, entry);
-        }
+        let Some(entry) = self.calls.entry_mut(call) else {
+            return;
+        };
+        entry.go_back();
     }
 
     fn set_timer(&mut self, call: u16, timer: Option<Timer>)
         ensures { self.new ≡ apply (record no_change
             { timer = timer_change call timer (record_of self.old call) }) self.old }
     {
-        if let Some(mut entry) = self.calls.entry(call) {
-            entry.set_timer(timer);
-            self.calls.replace(call, entry);
-        }
+        let Some(entry) = self.calls.entry_mut(call) else {
+            return;
+        };
+        entry.set_timer(timer);
     }
 }
 
