@@ -13,9 +13,11 @@ pub enum Task {
     /// A whole call by the procedure: its opening, the CHANNEL ACTIVATION ACKNOWLEDGE (TS 48.058 clause 8.4.2), its
     /// clearing and the RF CHANNEL RELEASE ACKNOWLEDGE.
     CallByOctets,
-    /// A call's life, from its opening to the release of its channel, with an attempt at handover that is taken
-    /// back: ten events of the radio book, beside 1,024 other calls on 64 cells.
+    /// A call's life, from its opening to the release of its channel, with a handover to another cell: twelve events of
+    /// the radio book, beside 1,024 other calls on 64 cells.
     LiveByStep,
+    /// Takes an undone attempt at handover out of a list of a hundred events.
+    RewindList,
     /// Reads a MEASUREMENT RESULT (TS 48.058 clause 8.4.8) and the MEASUREMENT REPORT in it (TS 44.018 clause 9.1.21).
     DecodeMeasurement,
     /// Writes a MEASUREMENT REPORT and a MEASUREMENT RESULT.
@@ -50,7 +52,7 @@ pub struct Case {
 }
 
 /// Every case, in the order in which they are printed: name, task, octets, place.
-pub const CASES: [Case; 13] = [
+pub const CASES: [Case; 14] = [
     Case {
         name: "chan_act.dec",
         task: Task::DecodeActivation,
@@ -72,6 +74,12 @@ pub const CASES: [Case; 13] = [
     Case {
         name: "step.life",
         task: Task::LiveByStep,
+        octets: &[0],
+        place: 0,
+    },
+    Case {
+        name: "rewind.100",
+        task: Task::RewindList,
         octets: &[0],
         place: 0,
     },

@@ -34,6 +34,7 @@ pub fn sum_of(alloc: Global, case: Case, count: u64, octets: &[u8]) -> Result<u6
         Task::EncodeActivation => abis::encode_activations(alloc, &mut varying, count),
         Task::CallByOctets => call::call_by_octets(alloc, &mut varying, count),
         Task::LiveByStep => life::live_by_steps(alloc, &mut varying, count),
+        Task::RewindList => life::rewind_lists(alloc, &mut varying, count),
         Task::DecodeMeasurement => read_each(&Measurements, alloc, &mut varying, count),
         Task::EncodeMeasurement => measured::encode_measurements(alloc, &mut varying, count),
         Task::DecodeCommand => read_each(&Commands, alloc, &mut varying, count),

@@ -1,4 +1,4 @@
-//! A call's life in a radio book that many others use.
+//! A call's life in a radio book that many others use, and an attempt at handover taken out of a list of events.
 ghost use Rattle.std.specs.Prelude.{◌<◌};
 
 use crate::fault::Fault;
@@ -7,6 +7,7 @@ use cell_table::Site;
 use channel_fsm::ChanId;
 use radio_book::book::Book;
 use radio_book::event::{Event, Kind, Reply, Why};
+use radio_book::rewind::{RewindFault, rewind};
 use sample_sites::site_of_cells;
 use std::alloc::{AllocError, Global};
 use std::sync::Arc;
@@ -16,6 +17,12 @@ const CELLS: u8 = 64;
 
 /// How many other calls each cell carries.
 const OTHERS: u8 = 16;
+
+/// How many calls begin between the opening of an attempt and its undo.
+const MEANWHILE: u8 = 45;
+
+/// Where the attempt's opening stands in the list of events.
+const OPENING: usize = 2;
 
 /// The call whose life it is. The others have the numbers from 0 to 1,023.
 const CALL: u16 = 5000;
@@ -33,11 +40,18 @@ fn chan_at(cell: u8, place: u8) -> ChanId
     }
 }
 
+/// The cell that the first octet names.
+fn cell_of(octets: &[u8]) -> u8
+    ensures { result < 64 }
+{
+    octets.first().copied().unwrap_or(0) % CELLS
+}
+
 /// 1 where the book accepts the event, 0 where it refuses it.
 fn accepted(book: &mut Book, event: Event) -> Result<u64, Fault> {
     match book.step(event)? {
         Reply::Refused(_) => Ok(0),
-        _ => Ok(1),
+        Reply::Done | Reply::Record(_, _) | Reply::Owned(_) => Ok(1),
     }
 }
 
@@ -81,7 +95,7 @@ fn settle_cells(book: &mut Book) -> Result<(), Fault> {
     Ok(())
 }
 
-/// A whole life of ten events. The sum is the number of those that the book accepts.
+/// A whole life of twelve events, with a handover to another cell. The sum is the number of those that the book accepts.
 fn live(book: &mut Book, serving: ChanId, target: ChanId) -> Result<u64, Fault> {
     let events = [
         Event::Open(CALL, serving),
@@ -90,10 +104,12 @@ fn live(book: &mut Book, serving: ChanId, target: ChanId) -> Result<u64, Fault> 
         Event::Reserve(CALL, 0),
         Event::Activate(CALL),
         Event::Confirm(target),
-        Event::Undo(CALL, Why::Asked),
-        Event::Released(target),
-        Event::Clear(CALL),
+        Event::Command(CALL),
+        Event::Detect(target),
+        Event::Complete(CALL),
         Event::Released(serving),
+        Event::Clear(CALL),
+        Event::Released(target),
     ];
     let mut sum = 0u64;
     for event in events {
@@ -106,7 +122,7 @@ fn live(book: &mut Book, serving: ChanId, target: ChanId) -> Result<u64, Fault> 
 fn lives(book: &mut Book, octets: &mut Varying, count: u64) -> Result<u64, Fault> {
     let mut sum = 0u64;
     for iteration in 0..count {
-        let cell = octets.at(iteration).first().copied().unwrap_or(0) % CELLS;
+        let cell = cell_of(octets.at(iteration));
         let serving = chan_at(cell, OTHERS);
         let target = chan_at((cell + 1) % CELLS, OTHERS);
         sum = sum.wrapping_add(live(book, serving, target)?);
@@ -116,9 +132,58 @@ fn lives(book: &mut Book, octets: &mut Varying, count: u64) -> Result<u64, Fault
 
 /// Lives a life in each iteration, in a book in which 1,024 calls are steady on 64 cells: on a free channel of the cell that
 /// the first octet names, modulo 64, and towards the next cell. The sum is the number of events that the book accepts,
-/// ten for each life.
+/// twelve for each life.
 pub fn live_by_steps(alloc: Global, octets: &mut Varying, count: u64) -> Result<u64, Fault> {
     let mut book = quiet_book(alloc)?;
     settle_cells(&mut book)?;
     lives(&mut book, octets, count)
+}
+
+/// A hundred events: a call begins, an attempt of it goes as far as the HANDOVER COMMAND, 45 other calls begin and are
+/// confirmed, the attempt is undone, its channel is released, and the call is looked at.
+fn undone_amid_others(alloc: Global, cell: u8) -> Result<Vec<Event>, AllocError>
+    requires { cell < 64 }
+{
+    let serving = chan_at(cell, OTHERS);
+    let target = chan_at((cell + 1) % CELLS, OTHERS);
+    let mut events = vec![in alloc;
+        Event::Open(CALL, serving),
+        Event::Confirm(serving),
+        Event::Take(CALL, Kind::Internal, target),
+        Event::Reserve(CALL, 0),
+        Event::Activate(CALL),
+        Event::Confirm(target),
+        Event::Command(CALL),
+    ]?;
+    for other in 0..MEANWHILE {
+        let chan = chan_at((cell + other / OTHERS) % CELLS, other % OTHERS);
+        events.push(Event::Open(u16::from(other), chan))?;
+        events.push(Event::Confirm(chan))?;
+    }
+    events.push(Event::Undo(CALL, Why::Asked))?;
+    events.push(Event::Released(target))?;
+    events.push(Event::Look(CALL))?;
+    Ok(events)
+}
+
+/// How many events stay without the attempt.
+fn others_of(alloc: Global, book: &Book, events: &[Event]) -> Result<u64, Fault> {
+    match rewind(alloc, book, events, OPENING) {
+        Ok(rewound) => Ok(rewound.others.len() as u64),
+        Err(RewindFault::NoAttempt) => Err(Fault::Setting),
+        Err(RewindFault::NoMemory) => Err(Fault::NoMemory),
+    }
+}
+
+/// Takes an attempt out of a list of a hundred events in each iteration, from the empty book of 64 cells. The call is on a
+/// channel of the cell that the first octet names, modulo 64, and is to move to the next cell. The sum is the number of
+/// events that stay, 93 in each list.
+pub fn rewind_lists(alloc: Global, octets: &mut Varying, count: u64) -> Result<u64, Fault> {
+    let book = quiet_book(alloc)?;
+    let mut sum = 0u64;
+    for iteration in 0..count {
+        let events = undone_amid_others(alloc, cell_of(octets.at(iteration)))?;
+        sum = sum.wrapping_add(others_of(alloc, &book, &events)?);
+    }
+    Ok(sum)
 }

@@ -11,7 +11,8 @@ use std::process::Abort;
 ///   octets, 129 and then 130.
 /// - A whole call: the octets that are sent, 76 of `08 21 01 0B 03 00 06 04 00 01 08 01` and 66 of `08 2E 01 0B`: 142
 ///   in each iteration.
-/// - A life: ten events that are accepted.
+/// - A life: twelve events that are accepted. Of the hundred events of a list seven are the attempt's own (Take, Reserve,
+///   Activate, Confirm, Command, Undo, Released), 93 stay.
 /// - MEASUREMENT RESULT read: timeslot 3, number 0 and then 1, uplink 0 + 30 + 0, power 0; levels 30 + 30, qualities
 ///   0 + 0, one neighbour, 40 + 2 + 21: 157 + 158. Written: the report's 18 octets, 369, and the message's 34 octets,
 ///   547 and then 548: 916 + 917.
@@ -22,11 +23,12 @@ use std::process::Abort;
 /// - HANDOVER REQUIRED read: cause 12, response 1, cell 23 + 102 and then 23 + 103: 138 + 139. Written: the 14 octets,
 ///   230 and then 231.
 /// - A site read: 64 cells, and the carriers 0 to 3 of cell 0 and then 4 to 7 of cell 1: 70 + 86.
-const SUMS: [(&str, u64); 13] = [
+const SUMS: [(&str, u64); 14] = [
     ("chan_act.dec", 115),
     ("chan_act.enc", 259),
     ("call.octets", 284),
-    ("step.life", 20),
+    ("step.life", 24),
+    ("rewind.100", 186),
     ("meas_res.dec", 315),
     ("meas_res.enc", 1833),
     ("ho_command.dec", 3617),
