@@ -5,3 +5,6 @@ pub mod SiteFacts
 pub mod Blank
 pub mod Refusals
 pub mod Nine
+pub mod Positions
+pub mod Unique
+pub mod Lookups

@@ -27,3 +27,7 @@ most_neighbours = 32
 -- the most reports of a window
 abbrev pub most_reports : ℕ
 most_reports = 32
+
+-- the greatest carrier, an ARFCN (TS 45.005 clause 2)
+abbrev pub most_carrier : ℕ
+most_carrier = 1023

@@ -1,7 +1,7 @@
 //! The neighbour list of a cell, and the cells that a place in it and a colour name.
 ghost use Rattle.std.specs.Prelude.{◌≡◌, count_by};
 ghost use Rattle.std.specs.List.{position};
-ghost use Rattle.cell_table.specs.Neighbours.{stands_before, is_at, has_bsic, is_named, named_cell};
+ghost use Rattle.cell_table.specs.Searches.{stands_before, is_at, has_bsic, is_named, first_cell};
 
 use crate::limits::FIRST_OUTSIDE;
 use crate::tables::{Cell, CellIdentity, Tables};
@@ -63,7 +63,7 @@ fn outside_cell_named(cells: &[CellIdentity], ba: &[u16], place: u8, bsic: u8) -
 
 /// The cell, own or outside, that a place of the neighbour list and a base station identity code name.
 pub fn named_cell(tables: &Tables, ba: &[u16], place: u8, bsic: u8) -> Option<u8>
-    ensures value { result ≡ named_cell tables.now ba.now place bsic }
+    ensures value { result ≡ first_cell (is_named ba.now place bsic) tables.now }
 {
     match own_cell_named(tables.cells.as_slice(), ba, place, bsic) {
         Some(cell) => Some(cell as u8),
