@@ -8,3 +8,5 @@ pub mod Nine
 pub mod Positions
 pub mod Unique
 pub mod Lookups
+pub mod Ordered
+pub mod NeighbourFacts

@@ -273,7 +273,7 @@ within_any (n ∷ slots) tn limits named =
       | inr other ↦ within_any slots tn (All-tail (λ n. n < 8) n slots limits) (rw other at named)
     ]
 
-got : {A : Type 0} (P : A → Type 0) (xs : List A) (i : ℕ) (x : A) → All P xs → slice_get xs i ≡ Some x → P x
+pub got : {A : Type 0} (P : A → Type 0) (xs : List A) (i : ℕ) (x : A) → All P xs → slice_get xs i ≡ Some x → P x
 got P xs i x all at =
     let within = slice_get_within xs i x at in
     let same : get_or xs i x ≡ x = same_Some (get_or xs i x) x (sym (slice_get-get_or xs i x within) ∙ at) in

@@ -10,7 +10,7 @@ use Rattle.cell_table.specs.Site.{CellView, SiteView, identity_at}
 use Rattle.cell_table.specs.Rules.{has_twice, identities}
 
 -- where no element passes, none at a place does
-none_at : {A : Type 0} (p : A → Bool) (xs : List A) (i : ℕ) (x : A) → list_any p xs ≡ false → slice_get xs i ≡ Some x → p x ≡ false
+pub none_at : {A : Type 0} (p : A → Bool) (xs : List A) (i : ℕ) (x : A) → list_any p xs ≡ false → slice_get xs i ≡ Some x → p x ≡ false
 none_at p [] i x none there = absurd (none-some x there)
 none_at p (y ∷ xs) zero x none there = ap p (sym (same_Some y x there)) ∙ (or_parts (p y) (list_any p xs) none).0
 none_at p (y ∷ xs) (suc i) x none there = none_at p xs i x (or_parts (p y) (list_any p xs) none).1 there

@@ -1,6 +1,6 @@
 -- What the searches of the code answer, step by step. No public clause cites it: what they find is said in `Site` and
 -- `Neighbours`.
-use Rattle.std.specs.Prelude.{ℕ, ◌==◌, ◌+◌, ◌/◌, ◌%◌, Bool, ◌&&◌, ◌||◌, not, nat_lt, List, take, sum_by, count_by, length, Option, Some, None, option_map, slice_get, unwrap_or}
+use Rattle.std.specs.Prelude.{ℕ, ◌==◌, ◌+◌, ◌/◌, ◌%◌, Bool, ◌&&◌, ◌||◌, not, nat_lt, List, take, sum_by, count_by, length, Option, Some, None, option_map, option_and_then, slice_get, unwrap_or}
 use Rattle.std.specs.List.{list_any, position}
 use Rattle.channel_fsm.specs.declared.ChanId.{ChanId}
 use Rattle.cell_table.specs.declared.tables.CellIdentity.{CellIdentity}
@@ -35,6 +35,10 @@ has_bsic bsic c = (c.ncc == bsic / 8) && (c.bcc == bsic % 8)
 -- the cell has the code, and its carrier the place
 abbrev pub is_named : List ℕ → ℕ → ℕ → CellIdentity → Bool
 is_named ba place bsic c = has_bsic bsic c && is_at ba place c.bcch
+
+-- the first cell that the serving cell's neighbour list and a code name
+abbrev pub first_named : SiteView → ℕ → ℕ → ℕ → Option ℕ
+first_named site serving place bsic = option_and_then (λ ba. first_cell (is_named ba place bsic) site) (option_map (λ c. c.ba) (slice_get site.cells serving))
 
 -- how many traffic channels a TRX and a cell have
 abbrev pub trx_size : TrxView → ℕ

@@ -14,7 +14,7 @@ ghost use Rattle.cell_table.specs.Neighbours.{IsNamedCell};
 use crate::checks::broken_rule;
 use crate::fault::{Key, SiteFault};
 use crate::limits::FIRST_OUTSIDE;
-use crate::neighbours::named_cell;
+use crate::neighbours::neighbour_named;
 use crate::places::channels_before;
 use crate::reading::{cells_of, handover_at, outside_of};
 use crate::tables::{Cell, CellIdentity, Tables, Trx};
@@ -258,8 +258,7 @@ impl<A: Allocator + Copy> Site<A> {
         ensures value { (named : ℕ) → (result ≡ Some named) ↔
             IsNamedCell self.now cell position bsic named }
     {
-        let serving = self.tables.cells.get(cell as usize)?;
-        named_cell(&self.tables, serving.ba.as_slice(), position, bsic)
+        neighbour_named(&self.tables, cell, position, bsic)
     }
 
     /// The place of a traffic channel among those of the site, by cell, TRX and timeslot, counted from 0; `None` for
