@@ -10,3 +10,4 @@ pub mod Unique
 pub mod Lookups
 pub mod Ordered
 pub mod NeighbourFacts
+pub mod Counted

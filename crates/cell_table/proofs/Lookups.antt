@@ -55,6 +55,7 @@ not_missed test site cell is no_own no_outside = by (nat_lt cell 64) is.there
     own_by (Some c) at e =
         let fails = position_none (λ (own : CellView). test own.identity) site.cells cell c no_own at in
         false≢true (sym fails ∙ ap test (same_Some c.identity is.identity e) ∙ is.passes)
+
     by : (own : Bool) → (if own then option_map (λ (c : CellView). c.identity) (slice_get site.cells cell) else slice_get site.outside (cell - 64)) ≡ Some is.identity → ⊥
     by true e = own_by (slice_get site.cells cell) refl e
     by false e = false≢true (sym (position_none test site.outside (cell - 64) is.identity no_outside e) ∙ is.passes)
@@ -75,6 +76,7 @@ first_cell_is test alike site few once likes cell = (found test site few cell, b
         missed (Some place) outside a b e' = none-some place (sym e')
         missed None (Some place) a b e' = none-some (64 + place) (sym e')
         missed None None a b e' = not_missed test site cell is a b
+
     back : Passes test site cell → first_cell test site ≡ Some cell
     back is = by (first_cell test site) refl is
 
@@ -113,6 +115,7 @@ cell_of_parts site lac ci cell = (there, back)
           lac = ap (option_map (λ c. c.lac)) is.there ∙ ap (λ n. Some n) (equal is.identity.lac lac a);
           ci = ap (option_map (λ c. c.ci)) is.there ∙ ap (λ n. Some n) (equal is.identity.ci ci b);
         }
+
     back : IsCellOf site lac ci cell → Passes (has_codes lac ci) site cell
     back is =
         let (c, at, a) = identity_of_part site cell lac (λ c. c.lac) is.lac in
@@ -140,3 +143,7 @@ cell_of_is site limits lac ci cell =
     let (there, back) = first_cell_is (has_codes lac ci) same_codes site limits.within.few_cells (unbroken_parts site limits).0 (codes_alike lac ci) cell in
     let (parts, whole) = cell_of_parts site lac ci cell in
     (λ e. parts (there e), λ is. back (whole is))
+
+pub codes_name_one : (site : SiteView) → IsSite site → (lac ci one other : ℕ) → IsCellOf site lac ci one → IsCellOf site lac ci other → one ≡ other
+codes_name_one site limits lac ci one other is is' =
+    same_Some one other (sym ((cell_of_is site limits lac ci one).1 is) ∙ (cell_of_is site limits lac ci other).1 is')

@@ -23,6 +23,7 @@ never_before n = by (n == 0) refl
   where
     less : nat_lt n n ≡ false
     less = grind (arith, nat_tests)
+
     by : (b : Bool) → (n == 0) ≡ b → (not b && (b || nat_lt n n)) ≡ false
     by true e = refl
     by false e = less
@@ -58,6 +59,7 @@ is_there a (suc n) c least most = by (a == c) refl (λ further. is_there (a + 1)
   where
     apart : (a == c) ≡ false → a + 1 ≤ c
     apart e = grind (arith, nat_tests)
+
     by : (b : Bool) → (a == c) ≡ b → (a + 1 ≤ c → is_in (range_with_len (a + 1) n ++ 0 ∷ []) c ≡ true) → is_in (range_with_len a (suc n) ++ 0 ∷ []) c ≡ true
     by true e rest = or_left (a == c) _ e
     by false e rest = or_right (a == c) _ (rest (apart e))
@@ -98,11 +100,13 @@ is_at_is ba place carrier small once = (there, back)
   where
     counts : count_by (λ other. stands_before other carrier) ba ≡ count_by (λ n. stands_before n carrier && is_in ba n) all_carriers
     counts = count_in_order stands_before (λ other. stands_before other carrier) all_carriers ba carriers_in_order (carriers_there ba small) once
+
     there : is_at ba place carrier ≡ true → slice_get (neighbour_list ba) place ≡ Some carrier
     there e =
         let (one, many) = and_parts (is_in ba carrier) (count_by (λ other. stands_before other carrier) ba == place) e in
         let at = stands_at stands_before never_before (is_in ba) carrier all_carriers carriers_in_order (one_there ba carrier small one) one in
         ap (slice_get (neighbour_list ba)) (sym (equal _ place many) ∙ counts) ∙ at
+
     back : slice_get (neighbour_list ba) place ≡ Some carrier → is_at ba place carrier ≡ true
     back at =
         let after = comes_after stands_before never_before (is_in ba) carrier place all_carriers carriers_in_order at in
@@ -143,6 +147,7 @@ named_parts site ba place bsic cell small once = (there, back)
           network = ap (option_map (λ c. c.ncc)) is.there ∙ ap (λ n. Some n) (equal is.identity.ncc (bsic / 8) ncc);
           station = ap (option_map (λ c. c.bcc)) is.there ∙ ap (λ n. Some n) (equal is.identity.bcc (bsic % 8) bcc);
         }
+
     back : IsNamedIn site ba place bsic cell → Passes (is_named ba place bsic) site cell
     back is =
         let (c, at, ncc) = identity_of_part site cell (bsic / 8) (λ c. c.ncc) is.network in
@@ -175,19 +180,31 @@ named_is site limits serving place bsic cell = by (slice_get site.cells serving)
       where
         once : has_neighbour_twice own ≡ false
         once = cell_once site.cells serving own (unbroken_parts site limits).4 at
+
         small : All (λ c. c ≤ most_carrier) own.ba
         small = (got IsCell site.cells serving own limits.within.each_cell at).neighbour_range
+
         found : (first_cell (is_named own.ba place bsic) site ≡ Some cell) ↔ Passes (is_named own.ba place bsic) site cell
         found = first_cell_is (is_named own.ba place bsic) same_colour site limits.within.few_cells (unbroken_parts site limits).1 (named_alike own.ba place bsic small once) cell
+
         parts : Passes (is_named own.ba place bsic) site cell ↔ IsNamedIn site own.ba place bsic cell
         parts = named_parts site own.ba place bsic cell small once
+
         there : first_cell (is_named own.ba place bsic) site ≡ Some cell → IsNamedIn site own.ba place bsic cell
         there e = parts.0 (found.0 e)
+
         back : IsNamedIn site own.ba place bsic cell → first_cell (is_named own.ba place bsic) site ≡ Some cell
         back is = found.1 (parts.1 is)
+
         listed : neighbour_at site serving place ≡ slice_get (neighbour_list own.ba) place
         listed = ap (option_and_then (λ own. slice_get (neighbour_list own.ba) place)) at
+
         to : IsNamedIn site own.ba place bsic cell → IsNamedCell site serving place bsic cell
         to is = record { carrier = is.carrier ∙ sym listed; network = is.network; station = is.station }
+
         from : IsNamedCell site serving place bsic cell → IsNamedIn site own.ba place bsic cell
         from is = record { carrier = is.carrier ∙ listed; network = is.network; station = is.station }
+
+pub reports_name_one : (site : SiteView) → IsSite site → (serving place bsic one other : ℕ) → IsNamedCell site serving place bsic one → IsNamedCell site serving place bsic other → one ≡ other
+reports_name_one site limits serving place bsic one other is is' =
+    same_Some one other (sym ((named_is site limits serving place bsic one).1 is) ∙ (named_is site limits serving place bsic other).1 is')

@@ -69,6 +69,7 @@ is_other before x y order = by (x == y) refl
   where
     clash : x ≡ y → ⊥
     clash e = false≢true (sym order.1 ∙ ap (λ n. before n x) (sym e) ∙ ap (before x) e ∙ order.0)
+
     by : (b : Bool) → (x == y) ≡ b → (x == y) ≡ false
     by true here = absurd (clash (same x y here))
     by false other = other
@@ -78,7 +79,7 @@ more_here : (before : ℕ → ℕ → Bool) (f g : ℕ → Bool) (x : ℕ) (os :
     → count (λ n. f n && ((x == n) || g n)) (x ∷ os) ≡ cond (f x) 1 0 + count (λ n. f n && g n) (x ∷ os)
 more_here before f g x os sorted new =
     let rest = count_same (λ n. f n && ((x == n) || g n)) (λ n. f n && g n) os
-        (all_then (λ y. (before x y ≡ true) × (before y x ≡ false)) (λ y. (f y && ((x == y) || g y)) ≡ (f y && g y)) (λ y order. ap (λ b. f y && (b || g y)) (is_other before x y order)) os sorted.0) in
+    (all_then (λ y. (before x y ≡ true) × (before y x ≡ false)) (λ y. (f y && ((x == y) || g y)) ≡ (f y && g y)) (λ y order. ap (λ b. f y && (b || g y)) (is_other before x y order)) os sorted.0) in
     rw (equal x, and_true (f x), new, and_right (f x) false refl, zero-add (count (λ n. f n && g n) os)) (ap (λ n. cond (f x) 1 0 + n) rest)
 
 more_later : (f g : ℕ → Bool) (x o : ℕ) (os : List ℕ) → (o == x) ≡ false
@@ -116,8 +117,11 @@ count_in_order before f order some sorted all once =
 stands_here : (before : ℕ → ℕ → Bool) → ((n : ℕ) → before n n ≡ false) → (q : ℕ → Bool) (c : ℕ) (os : List ℕ) → IsInOrder before (c ∷ os)
     → count (λ n. before n c && q n) (c ∷ os) ≡ 0
 stands_here before none q c os sorted =
-    rw (none c, count_none (λ n. before n c && q n) os
-    (all_then (λ y. (before c y ≡ true) × (before y c ≡ false)) (λ y. (before y c && q y) ≡ false) (λ y order. ap (λ b. b && q y) order.1) os sorted.0)) refl
+    rw (
+      none c,
+      count_none (λ n. before n c && q n) os
+          (all_then (λ y. (before c y ≡ true) × (before y c ≡ false)) (λ y. (before y c && q y) ≡ false) (λ y order. ap (λ b. b && q y) order.1) os sorted.0),
+    ) refl
 
 stands_by : (before : ℕ → ℕ → Bool) (q : ℕ → Bool) (c o : ℕ) (os : List ℕ) → before o c ≡ true → (b : Bool)
     → slice_get (filter q os) (count (λ n. before n c && q n) os) ≡ Some c
@@ -132,6 +136,7 @@ stands before none q c (o ∷ os) sorted there passes = by (o == c) refl (λ res
   where
     here : IsInOrder before (c ∷ os) → slice_get (filter q (c ∷ os)) (count (λ n. before n c && q n) (c ∷ os)) ≡ Some c
     here from_here = ap (slice_get (filter q (c ∷ os))) (stands_here before none q c os from_here) ∙ ap (λ b. slice_get (cond b (c ∷ filter q os) (filter q os)) 0) passes
+
     by : (b : Bool) → (o == c) ≡ b → (is_in os c ≡ true → slice_get (filter q os) (count (λ n. before n c && q n) os) ≡ Some c)
         → slice_get (filter q (o ∷ os)) (count (λ n. before n c && q n) (o ∷ os)) ≡ Some c
     by true is rest = subst (λ k. IsInOrder before (k ∷ os) → slice_get (filter q (k ∷ os)) (count (λ n. before n c && q n) (k ∷ os)) ≡ Some c) (sym (same o c is)) here sorted
@@ -184,3 +189,10 @@ pub comes_after : (before : ℕ → ℕ → Bool) → ((n : ℕ) → before n n 
 comes_after before none q c place order sorted at =
     let is = comes before none q c place order sorted at in
     record { passes = is.passes; there = is.there; count = count-is (λ n. before n c && q n) order ∙ is.counted }
+
+-- tests that agree on a list count as many there, and one that passes nowhere none
+pub count_by_same : (p q : ℕ → Bool) (xs : List ℕ) → AllByRecursion (λ x. p x ≡ q x) xs → count_by p xs ≡ count_by q xs
+count_by_same p q xs all = count-is p xs ∙ count_same p q xs all ∙ sym (count-is q xs)
+
+pub count_by_none : (p : ℕ → Bool) (xs : List ℕ) → AllByRecursion (λ x. p x ≡ false) xs → count_by p xs ≡ 0
+count_by_none p xs all = count-is p xs ∙ count_none p xs all

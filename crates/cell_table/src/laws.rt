@@ -1,6 +1,6 @@
 //! Laws of what a site file says: their clauses are the statements, and their bodies are empty.
 ghost use Rattle.std.specs.Prelude.{◌≡◌};
-ghost use Rattle.cell_table.specs.Laws.{NineNameOneTwice, SameSitesAreEqual};
+ghost use Rattle.cell_table.specs.Laws.{NineNameOneTwice, SameSitesAreEqual, CodesNameOneCell, ReportsNameOneCell, PositionsAreCounted};
 ghost use Rattle.cell_table.specs.Limits.{most_cells, most_outside, first_outside, most_trx, timeslots_of_trx, most_neighbours, most_reports};
 
 use crate::limits::{
@@ -28,4 +28,21 @@ pub fn nine_timeslots_name_one_twice()
 /// What `==` of two sites answers says whether they are equal, every key of them.
 pub fn same_sites_are_equal()
     ensures law { SameSitesAreEqual }
+{}
+
+/// No two cells of a site, own or outside, have the same location area code and cell identity: what
+/// [`Site::cell_of`](crate::Site::cell_of) answers is the one cell that has them.
+pub fn codes_name_one_cell()
+    ensures law { CodesNameOneCell }
+{}
+
+/// No position in a neighbour list and base station identity code name two cells: what
+/// [`Site::by_bsic`](crate::Site::by_bsic) answers is the one cell that they name.
+pub fn reports_name_one_cell()
+    ensures law { ReportsNameOneCell }
+{}
+
+/// The position of a carrier in a neighbour list, which is sorted, is how many carriers of the BA list stand before it.
+pub fn positions_are_counted()
+    ensures law { PositionsAreCounted }
 {}

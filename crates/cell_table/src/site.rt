@@ -241,7 +241,8 @@ impl<A: Allocator + Copy> Site<A> {
         }
     }
 
-    /// The cell, own or outside, with this location area code and cell identity; `None` where there is none.
+    /// The cell, own or outside, with this location area code and cell identity, of which there is at most one; `None`
+    /// where there is none.
     pub fn cell_of(&self, lac: u16, ci: u16) -> Option<u8>
         ensures value { (cell : ℕ) → (result ≡ Some cell) ↔ IsCellOf self.now lac ci cell }
     {
@@ -261,8 +262,8 @@ impl<A: Allocator + Copy> Site<A> {
         neighbour_named(&self.tables, cell, position, bsic)
     }
 
-    /// The place of a traffic channel among those of the site, by cell, TRX and timeslot, counted from 0; `None` for
-    /// any other channel.
+    /// The place of a channel in the list of the site's traffic channels by cell, TRX and timeslot, counted from 0; `None`
+    /// for any other channel.
     pub fn index_of(&self, chan: ChanId) -> Option<usize>
         ensures value { result ≡ index_of self.now chan }
     {
