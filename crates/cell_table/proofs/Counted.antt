@@ -11,6 +11,8 @@ use Rattle.std.proofs.lemmas.List.Folds.{list_any-append}
 use Rattle.std.proofs.lemmas.List.Sums.{sum_by-cons, sum_by-append, length-filter}
 use Rattle.std.specs.List.{list_any, position, range_with_len, AllByRecursion}
 use Rattle.channel_fsm.specs.declared.ChanId.{ChanId}
+use Rattle.cell_table.specs.declared.fault.Key.TheVariants as key
+use Rattle.cell_table.specs.Ranges.{IsAllowed}
 use Rattle.cell_table.specs.Limits.{most_cells, most_trx, timeslots_of_trx}
 use Rattle.cell_table.specs.Site.{TrxView, CellView, SiteView, IsSite, IsCell, IsWithinLimits, timeslots, is_traffic, is_channel, all_channels, channels, index_of}
 use Rattle.cell_table.specs.Rules.{has_twice, has_slot_twice}
@@ -187,11 +189,11 @@ record AreSlots (slots : List ℕ) : Type 0 where
   range : AllByRecursion (λ n. is_in (range_with_len 0 timeslots_of_trx) n ≡ true) slots
   once : has_twice (λ m n. n == m) slots ≡ false
 
-are_in : (slots : List ℕ) → All (λ n. n < timeslots_of_trx) slots → AllByRecursion (λ n. is_in (range_with_len 0 timeslots_of_trx) n ≡ true) slots
+are_in : (slots : List ℕ) → All (IsAllowed key.Tch) slots → AllByRecursion (λ n. is_in (range_with_len 0 timeslots_of_trx) n ≡ true) slots
 are_in [] all = tt
 are_in (n ∷ slots) all =
-    let small = All-head (λ m. m < timeslots_of_trx) n slots all in
-    (in_range 0 timeslots_of_trx n (omega arith) (omega (arith, small)), are_in slots (All-tail (λ m. m < timeslots_of_trx) n slots all))
+    let small : n ≤ 7 = (All-head (IsAllowed key.Tch) n slots all).1 in
+    (in_range 0 timeslots_of_trx n (omega arith) (omega (arith, small)), are_in slots (All-tail (IsAllowed key.Tch) n slots all))
 
 all_count : (slots : List ℕ) → count_by (λ n. true) slots ≡ length slots
 all_count [] = refl
@@ -276,7 +278,7 @@ trx_slots : (site : SiteView) → IsSite site → (cell : ℕ) (c : CellView) �
 trx_slots site limits cell c at trx t at' =
     let is = got IsCell site.cells cell c limits.within.each_cell at in
     record {
-      range = are_in t.tch (got (λ (u : TrxView). All (λ tn. tn < timeslots_of_trx) u.tch) c.trx trx t is.timeslot_range at');
+      range = are_in t.tch (got (λ (u : TrxView). All (IsAllowed key.Tch) u.tch) c.trx trx t is.slots at');
       once = none_at (λ (u : TrxView). has_twice (λ m n. n == m) u.tch) c.trx trx t (none_at has_slot_twice site.cells cell c (unbroken_parts site limits).3 at) at';
     }
 
@@ -317,7 +319,7 @@ sizes site limits cell c at n = sum_range (λ trx. count_by (is_traffic site) (t
 cell_count : (site : SiteView) → IsSite site → (cell : ℕ) (c : CellView) → slice_get site.cells cell ≡ Some c → count_by (is_traffic site) (cell_channels cell) ≡ cell_size c
 unfolding cell_channels
 cell_count site limits cell c at =
-    let few = (got IsCell site.cells cell c limits.within.each_cell at).few_trx in
+    let few = (got IsCell site.cells cell c limits.within.each_cell at).trx_count.1 in
     flat_count (is_traffic site) (trx_channels cell) (range_with_len 0 most_trx) ∙ sizes site limits cell c at most_trx ∙ ap (sum_by trx_size) (take_all most_trx c.trx few)
 
 no_cell_count : (site : SiteView) → IsSite site → (cell : ℕ) → slice_get site.cells cell ≡ None → count_by (is_traffic site) (cell_channels cell) ≡ 0

@@ -140,7 +140,7 @@ unbroken_parts site limits = broken_parts _ _ _ _ _ (position has_no_traffic sit
 -- the cell of a location area code and a cell identity
 pub cell_of_is : (site : SiteView) → IsSite site → (lac ci cell : ℕ) → (first_cell (has_codes lac ci) site ≡ Some cell) ↔ IsCellOf site lac ci cell
 cell_of_is site limits lac ci cell =
-    let (there, back) = first_cell_is (has_codes lac ci) same_codes site limits.within.few_cells (unbroken_parts site limits).0 (codes_alike lac ci) cell in
+    let (there, back) = first_cell_is (has_codes lac ci) same_codes site limits.within.cell_count.1 (unbroken_parts site limits).0 (codes_alike lac ci) cell in
     let (parts, whole) = cell_of_parts site lac ci cell in
     (λ e. parts (there e), λ is. back (whole is))
 

@@ -182,10 +182,10 @@ named_is site limits serving place bsic cell = by (slice_get site.cells serving)
         once = cell_once site.cells serving own (unbroken_parts site limits).4 at
 
         small : All (λ c. c ≤ most_carrier) own.ba
-        small = (got IsCell site.cells serving own limits.within.each_cell at).neighbour_range
+        small = λ k d within. ((got IsCell site.cells serving own limits.within.each_cell at).neighbours k d within).1
 
         found : (first_cell (is_named own.ba place bsic) site ≡ Some cell) ↔ Passes (is_named own.ba place bsic) site cell
-        found = first_cell_is (is_named own.ba place bsic) same_colour site limits.within.few_cells (unbroken_parts site limits).1 (named_alike own.ba place bsic small once) cell
+        found = first_cell_is (is_named own.ba place bsic) same_colour site limits.within.cell_count.1 (unbroken_parts site limits).1 (named_alike own.ba place bsic small once) cell
 
         parts : Passes (is_named own.ba place bsic) site cell ↔ IsNamedIn site own.ba place bsic cell
         parts = named_parts site own.ba place bsic cell small once

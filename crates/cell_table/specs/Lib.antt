@@ -1,4 +1,5 @@
 pub mod Limits
+pub mod Ranges
 pub mod Views
 pub mod Rules
 pub mod Same

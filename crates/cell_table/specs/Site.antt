@@ -5,7 +5,9 @@ use Rattle.channel_fsm.specs.declared.ChanId.{ChanId}
 use Rattle.cell_table.specs.declared.tables.CellIdentity.{CellIdentity}
 use Rattle.cell_table.specs.declared.tables.HandoverRule.{HandoverRule}
 pub use Rattle.cell_table.specs.Views.{TrxView, CellView, SiteView, site_code}
-use Rattle.cell_table.specs.Limits.{most_cells, most_outside, first_outside, most_trx, timeslots_of_trx, most_neighbours, most_reports}
+use Rattle.cell_table.specs.declared.fault.Key.TheVariants as key
+use Rattle.cell_table.specs.Limits.{most_cells, first_outside, most_trx, timeslots_of_trx, most_neighbours}
+use Rattle.cell_table.specs.Ranges.{IsAllowed}
 use Rattle.cell_table.specs.Rules.{broken_rule}
 
 -- a TRX of an own cell
@@ -51,39 +53,37 @@ index_of site chan = position (is_channel chan) (channels site)
 abbrev pub names_broadcast : CellView → Bool
 names_broadcast cell = list_any (λ tn. tn == 0) (unwrap_or (option_map (λ t. t.tch) (slice_get cell.trx 0)) [])
 
--- The rule of candidates keeps its ranges.
+-- The rule of candidates has what its keys allow.
 pub record IsHandoverRule (rule : HandoverRule) : Type 0 where
-  pub some_window : 1 ≤ rule.window
-  pub window : rule.window ≤ most_reports
-  pub margin : rule.margin ≤ 63
-  pub minimum : rule.minimum ≤ 63
+  pub window : IsAllowed key.Window rule.window
+  pub margin : IsAllowed key.Margin rule.margin
+  pub minimum : IsAllowed key.Minimum rule.minimum
 
--- The colour of a cell fits a Cell Description (TS 44.018 clause 10.5.2.2).
+-- So has what identifies a cell: its colour fits a Cell Description (TS 44.018 clause 10.5.2.2).
 pub record IsIdentity (identity : CellIdentity) : Type 0 where
-  pub bcch : identity.bcch ≤ 1023
-  pub ncc : identity.ncc ≤ 7
-  pub bcc : identity.bcc ≤ 7
+  pub lac : IsAllowed key.Lac identity.lac
+  pub ci : IsAllowed key.Ci identity.ci
+  pub bcch : IsAllowed key.Bcch identity.bcch
+  pub ncc : IsAllowed key.Ncc identity.ncc
+  pub bcc : IsAllowed key.Bcc identity.bcc
 
--- A cell has 1 to 4 TRX with timeslots 0 to 7 (TS 45.002 clause 4.3.2), of which the first has the cell's BCCH carrier and
--- leaves the broadcast channel alone.
+-- So has a cell. Its first TRX has its BCCH carrier, and leaves the broadcast channel alone.
 pub record IsCell (cell : CellView) : Type 0 where
   pub identity : IsIdentity cell.identity
-  pub power : cell.power ≤ 31
+  pub power : IsAllowed key.Power cell.power
   pub few_neighbours : length cell.ba ≤ most_neighbours
-  pub neighbour_range : All (λ carrier. carrier ≤ 1023) cell.ba
-  pub some_trx : 1 ≤ length cell.trx
-  pub few_trx : length cell.trx ≤ most_trx
-  pub carrier_range : All (λ t. t.arfcn ≤ 1023) cell.trx
-  pub timeslot_range : All (λ t. All (λ tn. tn < timeslots_of_trx) t.tch) cell.trx
+  pub neighbours : All (IsAllowed key.Ba) cell.ba
+  pub trx_count : IsAllowed key.Trx (length cell.trx)
+  pub carriers : All (λ t. IsAllowed key.Arfcn t.arfcn) cell.trx
+  pub slots : All (λ t. All (IsAllowed key.Tch) t.tch) cell.trx
   pub first_carrier : option_map (λ t. t.arfcn) (slice_get cell.trx 0) ≡ Some cell.identity.bcch
   pub broadcast : names_broadcast cell ≡ false
 
--- A site has 1 to 64 cells and at most 64 of others, and each of its cells is one.
+-- A site has as many cells, own and outside, as their keys allow, and each of its cells is one.
 pub record IsWithin (site : SiteView) : Type 0 where
   pub handover : IsHandoverRule site.handover
-  pub some_cells : 1 ≤ length site.cells
-  pub few_cells : length site.cells ≤ most_cells
-  pub few_outside : length site.outside ≤ most_outside
+  pub cell_count : IsAllowed key.Cell (length site.cells)
+  pub outside_count : IsAllowed key.Outside (length site.outside)
   pub each_cell : All IsCell site.cells
   pub each_outside : All IsIdentity site.outside
 
