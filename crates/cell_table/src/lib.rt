@@ -7,7 +7,7 @@ pub mod laws;
 pub mod limits;
 mod neighbours;
 mod places;
-mod ranges;
+pub mod ranges;
 mod reading;
 mod site;
 mod tables;

@@ -34,7 +34,7 @@ impl Key {
     /// The numbers that the value of the key may be, or each entry where it is a list of numbers; of a key with tables,
     /// how many there may be.
     ///
-    /// The first TRX of a cell may have less: its `arfcn` is the cell's `bcch`, and its `tch` doesn't name timeslot 0.
+    /// The first TRX of a cell may have less at `arfcn` and `tch`: [`arfcn_range`], [`tch_range`].
     pub fn allowed(self) -> Allowed
         ensures table { result ≡ allowed self }
     {
@@ -54,8 +54,8 @@ impl Key {
     }
 }
 
-/// The carriers that a TRX may have.
-pub(crate) fn arfcn_range(bcch: u16, first: bool) -> Allowed
+/// The carriers that a TRX may have, the first of a cell with this BCCH carrier or another: the first has that carrier.
+pub fn arfcn_range(bcch: u16, first: bool) -> Allowed
     ensures value { result ≡ arfcn_range bcch first }
 {
     if first {
@@ -68,8 +68,9 @@ pub(crate) fn arfcn_range(bcch: u16, first: bool) -> Allowed
     }
 }
 
-/// The timeslots of a TRX that may carry traffic.
-pub(crate) fn tch_range(first: bool) -> Allowed
+/// The timeslots that may carry traffic in a TRX, the first of a cell or another: timeslot 0 of the first carries the
+/// cell's broadcast channels (TS 45.002 clause 7).
+pub fn tch_range(first: bool) -> Allowed
     ensures value { result ≡ tch_range first }
     ensures most { result.most < timeslots_of_trx }
 {

@@ -1,4 +1,4 @@
-use Rattle.std.proofs.Common.{◌≡◌, ◌↔◌, ◌∙◌, ap, subst, Some}
+use Rattle.std.proofs.Common.{◌≡◌, ◌↔◌, subst, Some}
 use Rattle.cell_table.specs.Neighbours.{IsNamedCell}
 use Rattle.cell_table.specs.Searches.{first_named}
 use Rattle.cell_table.proofs.NeighbourFacts.{named_is}
