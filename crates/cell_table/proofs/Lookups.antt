@@ -1,5 +1,5 @@
 -- What a search over own and outside cells finds: the one cell that passes.
-use Rattle.std.proofs.Common.{◌≡◌, ◌↔◌, ℕ, ◌+◌, ◌-◌, ◌<◌, ◌≤◌, nat_lt, Bool, true, false, ◌&&◌, ◌==◌, if◌then◌else◌, List, length, Option, Some, None, option_map, slice_get, refl, sym, ◌∙◌, ap, arith}
+use Rattle.std.proofs.Common.{◌≡◌, ◌↔◌, ℕ, ◌+◌, ◌-◌, ◌<◌, ◌≤◌, nat_lt, Bool, true, false, ◌==◌, if◌then◌else◌, length, Option, Some, None, option_map, slice_get, refl, sym, ◌∙◌, ap, arith}
 use Rattle.std.proofs.lemmas.Bool.{false≢true, and_parts, and_from}
 use Rattle.std.proofs.lemmas.Bool.Decides.{nat_tests}
 use Rattle.std.proofs.lemmas.Option.{same_Some, none-some, slice_get_within}
@@ -8,7 +8,7 @@ use Rattle.cell_table.specs.declared.tables.CellIdentity.{CellIdentity}
 use Rattle.cell_table.specs.Site.{CellView, SiteView, identity_at, IsSite, IsCellOf}
 use Rattle.cell_table.specs.Rules.{has_twice, identities, same_codes, same_colour, has_carrier_twice, has_slot_twice, has_neighbour_twice, has_no_traffic, first_broken, broken_rule}
 use Rattle.cell_table.specs.Searches.{first_cell, own_or_outside, has_codes}
-use Rattle.cell_table.proofs.Positions.{IsAt, position_is, position_none}
+use Rattle.cell_table.proofs.Positions.{position_is, position_none}
 use Rattle.cell_table.proofs.Unique.{one_cell}
 
 -- a cell of the site that passes a test

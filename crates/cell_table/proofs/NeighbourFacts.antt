@@ -1,5 +1,5 @@
 -- A carrier stands in a neighbour list where as many of the BA list stand before it, and a report names one cell.
-use Rattle.std.proofs.Common.{◌≡◌, ◌↔◌, ◌==◌, ℕ, zero, suc, ◌+◌, ◌<◌, ◌≤◌, ◌/◌, ◌%◌, Bool, true, false, ◌&&◌, ◌||◌, not, nat_lt, List, [], ◌∷◌, ◌++◌, count_by, filter, Option, Some, None, option_map, option_and_then, slice_get, All, refl, sym, ◌∙◌, ap, arith, lit≤}
+use Rattle.std.proofs.Common.{◌≡◌, ◌↔◌, ◌==◌, ℕ, zero, suc, ◌+◌, ◌<◌, ◌≤◌, ◌/◌, ◌%◌, Bool, true, false, ◌&&◌, ◌||◌, not, nat_lt, List, [], ◌∷◌, ◌++◌, count_by, Option, Some, None, option_map, option_and_then, slice_get, All, refl, sym, ◌∙◌, ap, arith, lit≤}
 use Rattle.std.proofs.lemmas.Bool.{false≢true, and_parts, and_from, or_left, or_right}
 use Rattle.std.proofs.lemmas.Bool.Decides.{nat_tests}
 use Rattle.std.proofs.lemmas.Option.{same_Some, none-some}
@@ -11,7 +11,7 @@ use Rattle.cell_table.specs.Site.{CellView, SiteView, identity_at, IsSite, IsCel
 use Rattle.cell_table.specs.Rules.{has_twice, same_colour, has_neighbour_twice}
 use Rattle.cell_table.specs.Neighbours.{all_carriers, neighbour_list, neighbour_at, IsNamedCell}
 use Rattle.cell_table.specs.Searches.{stands_before, is_at, has_bsic, is_named, first_cell, first_named}
-use Rattle.cell_table.proofs.Ordered.{is_in, IsInOrder, ComesAfter, count_in_order, stands_at, comes_after}
+use Rattle.cell_table.proofs.Ordered.{is_in, IsInOrder, count_in_order, stands_at, comes_after}
 use Rattle.cell_table.proofs.SiteFacts.{got}
 use Rattle.cell_table.proofs.Unique.{none_at}
 use Rattle.cell_table.proofs.Lookups.{Passes, first_cell_is, unbroken_parts, identity_of_part}

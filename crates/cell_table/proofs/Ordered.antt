@@ -1,5 +1,5 @@
 -- Numbers in the order of a list: as many stand before one as come before it.
-use Rattle.std.proofs.Common.{◌≡◌, ◌==◌, ℕ, zero, suc, ◌+◌, ◌<◌, ◌≤◌, Bool, true, false, cond, ◌&&◌, ◌||◌, List, [], ◌∷◌, ◌++◌, length, count_by, filter, Option, Some, None, slice_get, refl, sym, ◌∙◌, ap, subst, zero-add, one-add, arith}
+use Rattle.std.proofs.Common.{◌≡◌, ◌==◌, ℕ, zero, suc, ◌+◌, Bool, true, false, cond, ◌&&◌, ◌||◌, List, [], ◌∷◌, count_by, filter, Some, slice_get, refl, sym, ◌∙◌, ap, subst, zero-add, one-add, arith}
 use Rattle.std.proofs.lemmas.Bool.{false≢true, and_right, or_parts, or_left, or_right}
 use Rattle.std.proofs.lemmas.Bool.Decides.{nat_tests}
 use Rattle.std.proofs.lemmas.Option.{same_Some, none-some}

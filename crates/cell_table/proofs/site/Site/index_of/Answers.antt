@@ -1,4 +1,4 @@
-use Rattle.std.proofs.Common.{◌≡◌, ◌∙◌, ap, sym, subst, true, false, Some, None, rules}
+use Rattle.std.proofs.Common.{◌≡◌, ◌∙◌, ap, sym, true, false, Some, rules}
 use Rattle.cell_table.specs.Site.{is_traffic, index_of}
 use Rattle.cell_table.specs.Searches.{channels_before}
 use Rattle.cell_table.proofs.Counted.{no_index, index_is}
