@@ -1,12 +1,11 @@
 -- A text of white space and comments is an empty document, which lacks every key.
-use Rattle.std.proofs.Common.{◌≡◌, ◌≢◌, ℕ, List, None, Some, Result, Ok, Err, IfOk, IfErr, true, refl, sym, ◌∙◌, ap}
+use Rattle.std.proofs.Common.{◌≡◌, ◌≢◌, ℕ, List, Some, Ok, Err, IfOk, IfErr, true, refl, sym, ◌∙◌, ap}
 use Rattle.std.proofs.lemmas.Bool.{false≢true}
 use Rattle.std.specs.Result.{is_ok}
 use Rattle.toml.specs.Data.{no_members, table}
 use Rattle.toml.specs.Errors.{IsBlank}
 use Rattle.toml.specs.Parse.{parse_document, lines}
 use Rattle.cell_table.specs.declared.fault.Key.TheVariants as key
-use Rattle.cell_table.specs.declared.fault.SiteFault.{SiteFault}
 use Rattle.cell_table.specs.declared.fault.SiteFault.TheVariants.{Toml, Missing, Range, Twice, NoTraffic, NoMemory}
 use Rattle.cell_table.specs.Views.{SiteView}
 use Rattle.cell_table.specs.SiteFile.{handover_at, Read, site_of, read_site}

@@ -5,3 +5,9 @@ pub mod SiteFacts
 pub mod Blank
 pub mod Refusals
 pub mod Nine
+pub mod Positions
+pub mod Unique
+pub mod Lookups
+pub mod Ordered
+pub mod NeighbourFacts
+pub mod Counted

@@ -5,21 +5,26 @@ use Rattle.toml.specs.Data.{Data, get, as_array}
 use Rattle.cell_table.specs.declared.fault.Key.{Key}
 use Rattle.cell_table.specs.declared.fault.Key.TheVariants as key
 use Rattle.cell_table.specs.declared.fault.SiteFault.TheVariants.{Missing, Range}
-use Rattle.cell_table.specs.declared.tables.Allowed.{Allowed}
+use Rattle.cell_table.specs.declared.ranges.Allowed.{Allowed}
+use Rattle.cell_table.specs.Limits.{most_neighbours}
+use Rattle.cell_table.specs.Ranges.{up_to, allowed, arfcn_range, tch_range}
 use Rattle.cell_table.specs.Site.{SiteView}
 use Rattle.cell_table.specs.Rules.{broken_rule, first_broken, unbroken, checked}
-use Rattle.cell_table.specs.SiteFile.{Read, ◌>>=◌, is_allowed, allowed_number, number_of, number_at, value_at, array_of, entries_of, counted, all_tables, tables_of, is_table, key_name, up_to, handover_of, handover_at, identity_of, ba_of, arfcn_range, tch_range, first_nine, tch_of, trx_of, all_trx_of, cell_of, cells_of, outside_of, site_of}
+use Rattle.cell_table.specs.SiteFile.{Read, ◌>>=◌, is_allowed, allowed_number, number_of, number_within, number_at, value_at, array_of, entries_of, counted, all_tables, tables_of, is_table, key_name, handover_of, handover_at, identity_of, ba_of, first_nine, tch_of, trx_of, all_trx_of, cell_of, cells_of, outside_of, site_of}
 use Rattle.cell_table.proofs.Chains.{IsJudged, judged-ok, judged-bind, judged-ok_or, judged-if, judged-each}
 
 judged_value_at : (k : Key) (d : Data) → IsJudged (value_at k d)
 judged_value_at k d = judged-ok_or (get (key_name k) d) (Missing k) (λ e. cc)
 
-judged_number_of : (k : Key) (allowed : Allowed) (d : Data) → IsJudged (number_of k allowed d)
-judged_number_of k allowed d = judged-ok_or (allowed_number allowed d) (Range k) (λ e. cc)
+judged_number_of : (k : Key) (range : Allowed) (d : Data) → IsJudged (number_of k range d)
+judged_number_of k range d = judged-ok_or (allowed_number range d) (Range k) (λ e. cc)
 
-judged_number_at : (k : Key) (allowed : Allowed) (d : Data) → IsJudged (number_at k allowed d)
-unfolding number_at
-judged_number_at k allowed d = judged-bind (value_at k d) (λ v. number_of k allowed v) (judged_value_at k d) (λ v. judged_number_of k allowed v)
+judged_number_within : (k : Key) (range : Allowed) (d : Data) → IsJudged (number_within k range d)
+unfolding number_within
+judged_number_within k range d = judged-bind (value_at k d) (λ v. number_of k range v) (judged_value_at k d) (λ v. judged_number_of k range v)
+
+judged_number_at : (k : Key) (d : Data) → IsJudged (number_at k d)
+judged_number_at k d = judged_number_within k (allowed k) d
 
 judged_array_of : (k : Key) (d : Data) → IsJudged (array_of k d)
 judged_array_of k d = judged-ok_or (option_map entries_of (as_array d)) (Range k) (λ e. cc)
@@ -33,17 +38,17 @@ judged_counted k count ds = judged-if (is_allowed count (length ds)) (Ok ds) (Er
 judged_tables : (k : Key) (ds : List Data) → IsJudged (all_tables k ds)
 judged_tables k ds = judged-if (list_all is_table ds) (Ok ds) (Err (Range k)) (judged-ok ds) (judged_range k)
 
-judged_tables_of : (k : Key) (count : Allowed) (d : Data) → IsJudged (tables_of k count d)
+judged_tables_of : (k : Key) (d : Data) → IsJudged (tables_of k d)
 unfolding tables_of
-judged_tables_of k count d =
-    judged-bind (array_of k d) (λ ds. counted k count ds >>= (λ some. all_tables k some)) (judged_array_of k d)
-    (λ ds. judged-bind (counted k count ds) (λ some. all_tables k some) (judged_counted k count ds) (λ some. judged_tables k some))
+judged_tables_of k d =
+    judged-bind (array_of k d) (λ ds. counted k (allowed k) ds >>= (λ some. all_tables k some)) (judged_array_of k d)
+    (λ ds. judged-bind (counted k (allowed k) ds) (λ some. all_tables k some) (judged_counted k (allowed k) ds) (λ some. judged_tables k some))
 
 judged_handover_of : (d : Data) → IsJudged (handover_of d)
 unfolding handover_of
 judged_handover_of d =
-    judged-bind _ _ (judged_number_at key.Window (record { least = 1; most = 32 }) d) (λ window. judged-bind _ _ (judged_number_at key.Margin (up_to 63) d)
-    (λ margin. judged-bind _ _ (judged_number_at key.Minimum (up_to 63) d) (λ minimum. judged-ok _)))
+    judged-bind _ _ (judged_number_at key.Window d) (λ window. judged-bind _ _ (judged_number_at key.Margin d)
+    (λ margin. judged-bind _ _ (judged_number_at key.Minimum d) (λ minimum. judged-ok _)))
 
 judged_handover_at : (d : Data) → IsJudged (handover_at d)
 unfolding handover_at
@@ -52,15 +57,15 @@ judged_handover_at d = judged-bind _ _ (judged_value_at key.Handover d) (λ v. j
 judged_identity_of : (d : Data) → IsJudged (identity_of d)
 unfolding identity_of
 judged_identity_of d =
-    judged-bind _ _ (judged_number_at key.Lac (up_to 65535) d) (λ lac. judged-bind _ _ (judged_number_at key.Ci (up_to 65535) d)
-    (λ ci. judged-bind _ _ (judged_number_at key.Bcch (up_to 1023) d) (λ bcch. judged-bind _ _ (judged_number_at key.Ncc (up_to 7) d)
-    (λ ncc. judged-bind _ _ (judged_number_at key.Bcc (up_to 7) d) (λ bcc. judged-ok _)))))
+    judged-bind _ _ (judged_number_at key.Lac d) (λ lac. judged-bind _ _ (judged_number_at key.Ci d)
+    (λ ci. judged-bind _ _ (judged_number_at key.Bcch d) (λ bcch. judged-bind _ _ (judged_number_at key.Ncc d)
+    (λ ncc. judged-bind _ _ (judged_number_at key.Bcc d) (λ bcc. judged-ok _)))))
 
 judged_ba_of : (d : Data) → IsJudged (ba_of d)
 unfolding ba_of
 judged_ba_of d =
-    judged-bind _ _ (judged_value_at key.Ba d) (λ v. judged-bind _ _ (judged_array_of key.Ba v) (λ ds. judged-bind _ _ (judged_counted key.Ba (up_to 32) ds)
-    (λ carriers. judged-each (λ place. number_of key.Ba (up_to 1023)) (λ n d'. judged_number_of key.Ba (up_to 1023) d') 0 carriers)))
+    judged-bind _ _ (judged_value_at key.Ba d) (λ v. judged-bind _ _ (judged_array_of key.Ba v) (λ ds. judged-bind _ _ (judged_counted key.Ba (up_to most_neighbours) ds)
+    (λ carriers. judged-each (λ place. number_of key.Ba (allowed key.Ba)) (λ n d'. judged_number_of key.Ba (allowed key.Ba) d') 0 carriers)))
 
 judged_nine : (r : Read (List ℕ)) → IsJudged r → IsJudged (first_nine r)
 judged_nine (Ok xs) judged = judged-ok _
@@ -75,31 +80,31 @@ judged_tch_of first d =
 judged_trx_of : (bcch : ℕ) (first : Bool) (d : Data) → IsJudged (trx_of bcch first d)
 unfolding trx_of
 judged_trx_of bcch first d =
-    judged-bind _ _ (judged_number_at key.Arfcn (arfcn_range bcch first) d) (λ arfcn. judged-bind _ _ (judged_tch_of first d) (λ tch. judged-ok _))
+    judged-bind _ _ (judged_number_within key.Arfcn (arfcn_range bcch first) d) (λ arfcn. judged-bind _ _ (judged_tch_of first d) (λ tch. judged-ok _))
 
 judged_all_trx_of : (bcch : ℕ) (d : Data) → IsJudged (all_trx_of bcch d)
 unfolding all_trx_of
 judged_all_trx_of bcch d =
-    judged-bind _ _ (judged_value_at key.Trx d) (λ v. judged-bind _ _ (judged_tables_of key.Trx (record { least = 1; most = 4 }) v)
+    judged-bind _ _ (judged_value_at key.Trx d) (λ v. judged-bind _ _ (judged_tables_of key.Trx v)
     (λ ds. judged-each (λ place. trx_of bcch (place == 0)) (λ n d'. judged_trx_of bcch (n == 0) d') 0 ds))
 
 judged_cell_of : (d : Data) → IsJudged (cell_of d)
 unfolding cell_of
 judged_cell_of d =
-    judged-bind _ _ (judged_identity_of d) (λ identity. judged-bind _ _ (judged_number_at key.Power (up_to 31) d) (λ power. judged-bind _ _ (judged_ba_of d)
+    judged-bind _ _ (judged_identity_of d) (λ identity. judged-bind _ _ (judged_number_at key.Power d) (λ power. judged-bind _ _ (judged_ba_of d)
     (λ ba. judged-bind _ _ (judged_all_trx_of identity.bcch d) (λ trx. judged-ok _))))
 
 judged_cells_of : (d : Data) → IsJudged (cells_of d)
 unfolding cells_of
 judged_cells_of d =
-    judged-bind _ _ (judged_value_at key.Cell d) (λ v. judged-bind _ _ (judged_tables_of key.Cell (record { least = 1; most = 64 }) v)
+    judged-bind _ _ (judged_value_at key.Cell d) (λ v. judged-bind _ _ (judged_tables_of key.Cell v)
     (λ ds. judged-each (λ place. cell_of) (λ n d'. judged_cell_of d') 0 ds))
 
 judged_outside_of : (o : Option Data) → IsJudged (outside_of o)
 unfolding outside_of
 judged_outside_of None = judged-ok _
 judged_outside_of (Some v) =
-    judged-bind _ _ (judged_tables_of key.Outside (up_to 64) v) (λ ds. judged-each (λ place. identity_of) (λ n d'. judged_identity_of d') 0 ds)
+    judged-bind _ _ (judged_tables_of key.Outside v) (λ ds. judged-each (λ place. identity_of) (λ n d'. judged_identity_of d') 0 ds)
 
 judged_broken : (b1 b2 b3 b4 b5 : Bool) (silent : Option ℕ) (site : SiteView) → IsJudged (unbroken site (first_broken b1 b2 b3 b4 b5 silent))
 judged_broken true b2 b3 b4 b5 silent site = record { never = λ e. cc }

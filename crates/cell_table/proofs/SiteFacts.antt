@@ -11,49 +11,53 @@ use Rattle.cell_table.specs.declared.fault.Key.{Key}
 use Rattle.cell_table.specs.declared.fault.Key.TheVariants as key
 use Rattle.cell_table.specs.declared.fault.SiteFault.{SiteFault}
 use Rattle.cell_table.specs.declared.fault.SiteFault.TheVariants.{Range}
-use Rattle.cell_table.specs.declared.tables.Allowed.{Allowed}
+use Rattle.cell_table.specs.declared.ranges.Allowed.{Allowed}
+use Rattle.cell_table.specs.Limits.{most_carrier, most_neighbours, timeslots_of_trx}
+use Rattle.cell_table.specs.Ranges.{up_to, allowed, arfcn_range, tch_range, IsAllowed}
 use Rattle.cell_table.specs.declared.tables.CellIdentity.{CellIdentity}
 use Rattle.cell_table.specs.declared.tables.HandoverRule.{HandoverRule}
 use Rattle.cell_table.specs.Site.{TrxView, CellView, SiteView, IsCell, IsSite, IsHandoverRule, IsIdentity, IsWithinLimits, is_traffic}
 use Rattle.cell_table.specs.Rules.{broken_rule, unbroken, checked}
-use Rattle.cell_table.specs.SiteFile.{Read, ◌>>=◌, handover_of, is_table, each, is_allowed, natural_number, number_of, number_at, value_at, array_of, counted, all_tables, tables_of, key_name, up_to, handover_at, identity_of, ba_of, arfcn_range, tch_range, first_nine, tch_of, trx_of, all_trx_of, cell_of, cells_of, outside_of, site_of}
+use Rattle.cell_table.specs.SiteFile.{Read, ◌>>=◌, handover_of, is_table, each, is_allowed, natural_number, number_of, number_within, number_at, value_at, array_of, counted, all_tables, tables_of, key_name, handover_at, identity_of, ba_of, first_nine, tch_of, trx_of, all_trx_of, cell_of, cells_of, outside_of, site_of}
 use Rattle.cell_table.proofs.Chains.{bind_parts, ok_or_parts, where_passes_parts, passed, All-each, first-each, length-each}
 
 -- what was read within a range is a number of that range
-number_range : (k : Key) (allowed : Allowed) (d : Data) (n : ℕ) → number_of k allowed d ≡ Ok n → (allowed.least ≤ n) × (n ≤ allowed.most)
-number_range k allowed d n e =
-    let within = where_passes_parts (is_allowed allowed) (option_and_then natural_number (as_integer d)) n (ok_or_parts _ (Range k) n e) in
-    let (least, most) = and_parts (nat_le allowed.least n) (nat_le n allowed.most) within in
+number_range : (k : Key) (range : Allowed) (d : Data) (n : ℕ) → number_of k range d ≡ Ok n → (range.least ≤ n) × (n ≤ range.most)
+number_range k range d n e =
+    let within = where_passes_parts (is_allowed range) (option_and_then natural_number (as_integer d)) n (ok_or_parts _ (Range k) n e) in
+    let (least, most) = and_parts (nat_le range.least n) (nat_le n range.most) within in
     (grind (arith, nat_tests), grind (arith, nat_tests))
 
-number_at_range : (k : Key) (allowed : Allowed) (d : Data) (n : ℕ) → number_at k allowed d ≡ Ok n → (allowed.least ≤ n) × (n ≤ allowed.most)
-unfolding number_at
-number_at_range k allowed d n e =
-    bind_parts ((allowed.least ≤ n) × (n ≤ allowed.most)) (value_at k d) (λ value. number_of k allowed value) n e
-    (λ value there read. number_range k allowed value n read)
+number_within_range : (k : Key) (range : Allowed) (d : Data) (n : ℕ) → number_within k range d ≡ Ok n → (range.least ≤ n) × (n ≤ range.most)
+unfolding number_within
+number_within_range k range d n e =
+    bind_parts ((range.least ≤ n) × (n ≤ range.most)) (value_at k d) (λ value. number_of k range value) n e
+    (λ value there read. number_range k range value n read)
+
+number_allowed : (k : Key) (d : Data) (n : ℕ) → number_at k d ≡ Ok n → IsAllowed k n
+number_allowed k d n e = number_within_range k (allowed k) d n e
 
 handover_limits : (d : Data) (rule : HandoverRule) → handover_of d ≡ Ok rule → IsHandoverRule rule
 unfolding handover_of
 handover_limits d rule e =
-    bind_parts (IsHandoverRule rule) (number_at key.Window (record { least = 1; most = 32 }) d) (λ window. number_at key.Margin (up_to 63) d >>= (λ margin. number_at key.Minimum (up_to 63) d >>= (λ minimum. Ok (record { window = window; margin = margin; minimum = minimum })))) rule e
-    (λ window r1 e1. bind_parts (IsHandoverRule rule) (number_at key.Margin (up_to 63) d) (λ margin. number_at key.Minimum (up_to 63) d >>= (λ minimum. Ok (record { window = window; margin = margin; minimum = minimum }))) rule e1
-    (λ margin r2 e2. bind_parts (IsHandoverRule rule) (number_at key.Minimum (up_to 63) d) (λ minimum. Ok (record { window = window; margin = margin; minimum = minimum })) rule e2
+    bind_parts (IsHandoverRule rule) (number_at key.Window d) (λ window. number_at key.Margin d >>= (λ margin. number_at key.Minimum d >>= (λ minimum. Ok (record { window = window; margin = margin; minimum = minimum })))) rule e
+    (λ window r1 e1. bind_parts (IsHandoverRule rule) (number_at key.Margin d) (λ margin. number_at key.Minimum d >>= (λ minimum. Ok (record { window = window; margin = margin; minimum = minimum }))) rule e1
+    (λ margin r2 e2. bind_parts (IsHandoverRule rule) (number_at key.Minimum d) (λ minimum. Ok (record { window = window; margin = margin; minimum = minimum })) rule e2
     (λ minimum r3 e3.
     let is : record { window = window; margin = margin; minimum = minimum } ≡ rule = cc in
-    let w = number_at_range key.Window (record { least = 1; most = 32 }) d window r1 in
-    rw (← is) (record { some_window = w.0; window = w.1; margin = (number_at_range key.Margin (up_to 63) d margin r2).1; minimum = (number_at_range key.Minimum (up_to 63) d minimum r3).1 }))))
+    rw (← is) (record { window = number_allowed key.Window d window r1; margin = number_allowed key.Margin d margin r2; minimum = number_allowed key.Minimum d minimum r3 }))))
 
 identity_limits : (d : Data) (c : CellIdentity) → identity_of d ≡ Ok c → IsIdentity c
 unfolding identity_of
 identity_limits d c e =
-    bind_parts (IsIdentity c) (number_at key.Lac (up_to 65535) d) (λ lac. number_at key.Ci (up_to 65535) d >>= (λ ci. number_at key.Bcch (up_to 1023) d >>= (λ bcch. number_at key.Ncc (up_to 7) d >>= (λ ncc. number_at key.Bcc (up_to 7) d >>= (λ bcc. Ok (record { lac = lac; ci = ci; bcch = bcch; ncc = ncc; bcc = bcc })))))) c e
-    (λ lac r1 e1. bind_parts (IsIdentity c) (number_at key.Ci (up_to 65535) d) (λ ci. number_at key.Bcch (up_to 1023) d >>= (λ bcch. number_at key.Ncc (up_to 7) d >>= (λ ncc. number_at key.Bcc (up_to 7) d >>= (λ bcc. Ok (record { lac = lac; ci = ci; bcch = bcch; ncc = ncc; bcc = bcc }))))) c e1
-    (λ ci r2 e2. bind_parts (IsIdentity c) (number_at key.Bcch (up_to 1023) d) (λ bcch. number_at key.Ncc (up_to 7) d >>= (λ ncc. number_at key.Bcc (up_to 7) d >>= (λ bcc. Ok (record { lac = lac; ci = ci; bcch = bcch; ncc = ncc; bcc = bcc })))) c e2
-    (λ bcch r3 e3. bind_parts (IsIdentity c) (number_at key.Ncc (up_to 7) d) (λ ncc. number_at key.Bcc (up_to 7) d >>= (λ bcc. Ok (record { lac = lac; ci = ci; bcch = bcch; ncc = ncc; bcc = bcc }))) c e3
-    (λ ncc r4 e4. bind_parts (IsIdentity c) (number_at key.Bcc (up_to 7) d) (λ bcc. Ok (record { lac = lac; ci = ci; bcch = bcch; ncc = ncc; bcc = bcc })) c e4
+    bind_parts (IsIdentity c) (number_at key.Lac d) (λ lac. number_at key.Ci d >>= (λ ci. number_at key.Bcch d >>= (λ bcch. number_at key.Ncc d >>= (λ ncc. number_at key.Bcc d >>= (λ bcc. Ok (record { lac = lac; ci = ci; bcch = bcch; ncc = ncc; bcc = bcc })))))) c e
+    (λ lac r1 e1. bind_parts (IsIdentity c) (number_at key.Ci d) (λ ci. number_at key.Bcch d >>= (λ bcch. number_at key.Ncc d >>= (λ ncc. number_at key.Bcc d >>= (λ bcc. Ok (record { lac = lac; ci = ci; bcch = bcch; ncc = ncc; bcc = bcc }))))) c e1
+    (λ ci r2 e2. bind_parts (IsIdentity c) (number_at key.Bcch d) (λ bcch. number_at key.Ncc d >>= (λ ncc. number_at key.Bcc d >>= (λ bcc. Ok (record { lac = lac; ci = ci; bcch = bcch; ncc = ncc; bcc = bcc })))) c e2
+    (λ bcch r3 e3. bind_parts (IsIdentity c) (number_at key.Ncc d) (λ ncc. number_at key.Bcc d >>= (λ bcc. Ok (record { lac = lac; ci = ci; bcch = bcch; ncc = ncc; bcc = bcc }))) c e3
+    (λ ncc r4 e4. bind_parts (IsIdentity c) (number_at key.Bcc d) (λ bcc. Ok (record { lac = lac; ci = ci; bcch = bcch; ncc = ncc; bcc = bcc })) c e4
     (λ bcc r5 e5.
     let is : record { lac = lac; ci = ci; bcch = bcch; ncc = ncc; bcc = bcc } ≡ c = cc in
-    rw (← is) (record { bcch = (number_at_range key.Bcch (up_to 1023) d bcch r3).1; ncc = (number_at_range key.Ncc (up_to 7) d ncc r4).1; bcc = (number_at_range key.Bcc (up_to 7) d bcc r5).1 }))))))
+    rw (← is) (record { lac = number_allowed key.Lac d lac r1; ci = number_allowed key.Ci d ci r2; bcch = number_allowed key.Bcch d bcch r3; ncc = number_allowed key.Ncc d ncc r4; bcc = number_allowed key.Bcc d bcc r5 }))))))
 
 handover_at_limits : (d : Data) (rule : HandoverRule) → handover_at d ≡ Ok rule → IsHandoverRule rule
 unfolding handover_at
@@ -71,17 +75,17 @@ counted_parts k count ds some e =
     let (least, most) = and_parts (nat_le count.least (length ds)) (nat_le (length ds) count.most) fits in
     rw (← same) (grind (arith, nat_tests))
 
-ba_limits : (d : Data) (ba : List ℕ) → ba_of d ≡ Ok ba → (length ba ≤ 32) × All (λ carrier. carrier ≤ 1023) ba
+ba_limits : (d : Data) (ba : List ℕ) → ba_of d ≡ Ok ba → (length ba ≤ most_neighbours) × All (IsAllowed key.Ba) ba
 unfolding ba_of
 ba_limits d ba e =
-    let Fits : Type 0 = (length ba ≤ 32) × All (λ carrier. carrier ≤ 1023) ba in
-    bind_parts Fits (value_at key.Ba d) (λ value. array_of key.Ba value >>= (λ entries. counted key.Ba (up_to 32) entries >>= (λ carriers. each (λ place. number_of key.Ba (up_to 1023)) 0 carriers))) ba e
-    (λ value r1 e1. bind_parts Fits (array_of key.Ba value) (λ entries. counted key.Ba (up_to 32) entries >>= (λ carriers. each (λ place. number_of key.Ba (up_to 1023)) 0 carriers)) ba e1
-    (λ entries r2 e2. bind_parts Fits (counted key.Ba (up_to 32) entries) (λ carriers. each (λ place. number_of key.Ba (up_to 1023)) 0 carriers) ba e2
+    let Fits : Type 0 = (length ba ≤ most_neighbours) × All (IsAllowed key.Ba) ba in
+    bind_parts Fits (value_at key.Ba d) (λ value. array_of key.Ba value >>= (λ entries. counted key.Ba (up_to most_neighbours) entries >>= (λ carriers. each (λ place. number_of key.Ba (allowed key.Ba)) 0 carriers))) ba e
+    (λ value r1 e1. bind_parts Fits (array_of key.Ba value) (λ entries. counted key.Ba (up_to most_neighbours) entries >>= (λ carriers. each (λ place. number_of key.Ba (allowed key.Ba)) 0 carriers)) ba e1
+    (λ entries r2 e2. bind_parts Fits (counted key.Ba (up_to most_neighbours) entries) (λ carriers. each (λ place. number_of key.Ba (allowed key.Ba)) 0 carriers) ba e2
     (λ carriers r3 e3.
-    let as_many = length-each (λ place. number_of key.Ba (up_to 1023)) 0 carriers ba e3 in
-    let few = counted_parts key.Ba (up_to 32) entries carriers r3 in
-    (omega arith, All-each (λ place. number_of key.Ba (up_to 1023)) (λ carrier. carrier ≤ 1023) (λ n d' c read. (number_range key.Ba (up_to 1023) d' c read).1) 0 carriers ba e3))))
+    let as_many = length-each (λ place. number_of key.Ba (allowed key.Ba)) 0 carriers ba e3 in
+    let few = counted_parts key.Ba (up_to most_neighbours) entries carriers r3 in
+    (omega arith, All-each (λ place. number_of key.Ba (allowed key.Ba)) (IsAllowed key.Ba) (λ n d' c read. number_range key.Ba (allowed key.Ba) d' c read) 0 carriers ba e3))))
 
 nine_parts : (P : ℕ → Type 0) (r : Read (List ℕ)) (slots : List ℕ) → first_nine r ≡ Ok slots → ((xs : List ℕ) → r ≡ Ok xs → All P xs) → All P slots
 nine_parts P (Ok xs) slots e all = let same : take 9 xs ≡ slots = cc in rw (← same) (All-take P 9 xs (all xs refl))
@@ -103,7 +107,7 @@ trx_slots : (bcch : ℕ) (first : Bool) (d : Data) (t : TrxView) → trx_of bcch
 unfolding trx_of
 trx_slots bcch first d t e =
     let Within : ℕ → Type 0 = λ tn. ((tch_range first).least ≤ tn) × (tn ≤ (tch_range first).most) in
-    bind_parts (All Within t.tch) (number_at key.Arfcn (arfcn_range bcch first) d) (λ arfcn. tch_of first d >>= (λ tch. Ok (record { arfcn = arfcn; tch = tch }))) t e
+    bind_parts (All Within t.tch) (number_within key.Arfcn (arfcn_range bcch first) d) (λ arfcn. tch_of first d >>= (λ tch. Ok (record { arfcn = arfcn; tch = tch }))) t e
     (λ arfcn read rest. bind_parts (All Within t.tch) (tch_of first d) (λ tch. Ok (record { arfcn = arfcn; tch = tch })) t rest
     (λ tch told same. let is : record { arfcn = arfcn; tch = tch } ≡ t = cc in rw (← is) (tch_within first d tch told)))
 
@@ -113,13 +117,13 @@ trx_carrier : (bcch : ℕ) (first : Bool) (d : Data) (t : TrxView) → trx_of bc
 unfolding trx_of
 trx_carrier bcch first d t e =
     let Within : ℕ → Type 0 = λ n. ((arfcn_range bcch first).least ≤ n) × (n ≤ (arfcn_range bcch first).most) in
-    bind_parts (Within t.arfcn) (number_at key.Arfcn (arfcn_range bcch first) d) (λ arfcn. tch_of first d >>= (λ tch. Ok (record { arfcn = arfcn; tch = tch }))) t e
+    bind_parts (Within t.arfcn) (number_within key.Arfcn (arfcn_range bcch first) d) (λ arfcn. tch_of first d >>= (λ tch. Ok (record { arfcn = arfcn; tch = tch }))) t e
     (λ arfcn read rest. bind_parts (Within t.arfcn) (tch_of first d) (λ tch. Ok (record { arfcn = arfcn; tch = tch })) t rest
-    (λ tch told same. let is : record { arfcn = arfcn; tch = tch } ≡ t = cc in rw (← is) (number_at_range key.Arfcn (arfcn_range bcch first) d arfcn read)))
+    (λ tch told same. let is : record { arfcn = arfcn; tch = tch } ≡ t = cc in rw (← is) (number_within_range key.Arfcn (arfcn_range bcch first) d arfcn read)))
 
-carrier_most : (bcch : ℕ) (first : Bool) → bcch ≤ 1023 → (arfcn_range bcch first).most ≤ 1023
-carrier_most bcch true small = small
-carrier_most bcch false small = omega arith
+carrier_allowed : (bcch : ℕ) (first : Bool) (n : ℕ) → bcch ≤ most_carrier → ((arfcn_range bcch first).least ≤ n) × (n ≤ (arfcn_range bcch first).most) → IsAllowed key.Arfcn n
+carrier_allowed bcch true n small within = (omega arith, omega (arith, within.1, small))
+carrier_allowed bcch false n small within = within
 
 equal : (n m : ℕ) → (m ≤ n) × (n ≤ m) → n ≡ m
 equal n m both = omega (arith, both.0, both.1)
@@ -132,15 +136,14 @@ has_first : (trx : List TrxView) → 1 ≤ length trx → is_some (slice_get trx
 has_first [] some = absurd (omega arith)
 has_first (t ∷ trx) some = refl
 
-most_seven : (first : Bool) → (tch_range first).most ≡ 7
-most_seven true = refl
-most_seven false = refl
+slot_allowed : (first : Bool) (n : ℕ) → ((tch_range first).least ≤ n) × (n ≤ (tch_range first).most) → IsAllowed key.Tch n
+slot_allowed true n within = (omega arith, within.1)
+slot_allowed false n within = within
 
-trx_range : (bcch : ℕ) (first : Bool) (d : Data) (t : TrxView) → trx_of bcch first d ≡ Ok t → All (λ tn. tn < 8) t.tch
+trx_range : (bcch : ℕ) (first : Bool) (d : Data) (t : TrxView) → trx_of bcch first d ≡ Ok t → All (IsAllowed key.Tch) t.tch
 trx_range bcch first d t e =
     let slots = trx_slots bcch first d t e in
-    let most = most_seven first in
-    λ i x within. let at = slots i x within in omega (arith, at.1, most)
+    λ i x within. slot_allowed first (get_or t.tch i x) (slots i x within)
 
 no_zero : (slots : List ℕ) → All (λ tn. (1 ≤ tn) × (tn ≤ 7)) slots → list_any (λ tn. tn == 0) slots ≡ false
 no_zero [] all = refl
@@ -159,10 +162,11 @@ quiet None silent = refl
 quiet (Some t) silent = silent
 
 -- what was read in the place of tables is as many as are allowed
-tables_count : (k : Key) (count : Allowed) (d : Data) (entries : List Data) → tables_of k count d ≡ Ok entries → (count.least ≤ length entries) × (length entries ≤ count.most)
+tables_count : (k : Key) (d : Data) (entries : List Data) → tables_of k d ≡ Ok entries → IsAllowed k (length entries)
 unfolding tables_of
-tables_count k count d entries e =
-    let Fits : List Data → Type 0 = λ ds. (count.least ≤ length ds) × (length ds ≤ count.most) in
+tables_count k d entries e =
+    let count = allowed k in
+    let Fits : List Data → Type 0 = λ ds. IsAllowed k (length ds) in
     bind_parts (Fits entries) (array_of k d) (λ ds. counted k count ds >>= (λ some. all_tables k some)) entries e
     (λ ds array rest. bind_parts (Fits entries) (counted k count ds) (λ some. all_tables k some) entries rest
     (λ some few tables.
@@ -174,28 +178,26 @@ tables_count k count d entries e =
 
 -- the TRX of a cell
 record IsTrxList (bcch : ℕ) (trx : List TrxView) : Type 0 where
-  carrier_range : All (λ t. t.arfcn ≤ 1023) trx
+  carriers : All (λ t. IsAllowed key.Arfcn t.arfcn) trx
   first_carrier : option_map (λ t. t.arfcn) (slice_get trx 0) ≡ Some bcch
-  some_trx : 1 ≤ length trx
-  few_trx : length trx ≤ 4
-  timeslot_range : All (λ t. All (λ tn. tn < 8) t.tch) trx
+  trx_count : IsAllowed key.Trx (length trx)
+  slots : All (λ t. All (IsAllowed key.Tch) t.tch) trx
   broadcast : IfSome (slice_get trx 0) (λ t. list_any (λ tn. tn == 0) t.tch ≡ false)
 
-trx_list : (bcch : ℕ) (d : Data) (trx : List TrxView) → bcch ≤ 1023 → all_trx_of bcch d ≡ Ok trx → IsTrxList bcch trx
+trx_list : (bcch : ℕ) (d : Data) (trx : List TrxView) → bcch ≤ most_carrier → all_trx_of bcch d ≡ Ok trx → IsTrxList bcch trx
 unfolding all_trx_of
 trx_list bcch d trx small e =
-    bind_parts (IsTrxList bcch trx) (value_at key.Trx d) (λ value. tables_of key.Trx (record { least = 1; most = 4 }) value >>= (λ entries. each (λ place. trx_of bcch (place == 0)) 0 entries)) trx e
-    (λ value there rest. bind_parts (IsTrxList bcch trx) (tables_of key.Trx (record { least = 1; most = 4 }) value) (λ entries. each (λ place. trx_of bcch (place == 0)) 0 entries) trx rest
+    bind_parts (IsTrxList bcch trx) (value_at key.Trx d) (λ value. tables_of key.Trx value >>= (λ entries. each (λ place. trx_of bcch (place == 0)) 0 entries)) trx e
+    (λ value there rest. bind_parts (IsTrxList bcch trx) (tables_of key.Trx value) (λ entries. each (λ place. trx_of bcch (place == 0)) 0 entries) trx rest
     (λ entries tables told.
     let as_many = length-each (λ place. trx_of bcch (place == 0)) 0 entries trx told in
-    let (least, most) = tables_count key.Trx (record { least = 1; most = 4 }) value entries tables in
+    let (least, most) = tables_count key.Trx value entries tables in
     record {
-      carrier_range = All-each (λ place. trx_of bcch (place == 0)) (λ t. t.arfcn ≤ 1023) (λ n d' t read. let c = trx_carrier bcch (n == 0) d' t read in let m = carrier_most bcch (n == 0) small in omega (arith, c.1, m)) 0 entries trx told;
+      carriers = All-each (λ place. trx_of bcch (place == 0)) (λ t. IsAllowed key.Arfcn t.arfcn) (λ n d' t read. carrier_allowed bcch (n == 0) t.arfcn small (trx_carrier bcch (n == 0) d' t read)) 0 entries trx told;
       first_carrier = first_is (slice_get trx 0) bcch (has_first trx (omega arith))
           (first-each (λ place. trx_of bcch (place == 0)) (λ t. t.arfcn ≡ bcch) 0 (λ d' t read. equal t.arfcn bcch (trx_carrier bcch true d' t read)) entries trx told);
-      some_trx = omega arith;
-      few_trx = omega arith;
-      timeslot_range = All-each (λ place. trx_of bcch (place == 0)) (λ t. All (λ tn. tn < 8) t.tch) (λ n d' t read. trx_range bcch (n == 0) d' t read) 0 entries trx told;
+      trx_count = (omega (arith, least, as_many), omega (arith, most, as_many));
+      slots = All-each (λ place. trx_of bcch (place == 0)) (λ t. All (IsAllowed key.Tch) t.tch) (λ n d' t read. trx_range bcch (n == 0) d' t read) 0 entries trx told;
       broadcast = first-each (λ place. trx_of bcch (place == 0)) (λ t. list_any (λ tn. tn == 0) t.tch ≡ false) 0 (λ d' t read. no_zero t.tch (trx_slots bcch true d' t read)) entries trx told;
     }))
 
@@ -203,45 +205,43 @@ trx_list bcch d trx small e =
 cell_limits : (d : Data) (c : CellView) → cell_of d ≡ Ok c → IsCell c
 unfolding cell_of
 cell_limits d c e =
-    bind_parts (IsCell c) (identity_of d) (λ identity. number_at key.Power (up_to 31) d >>= (λ power. ba_of d >>= (λ ba. all_trx_of identity.bcch d >>= (λ trx. Ok (record { identity = identity; power = power; ba = ba; trx = trx }))))) c e
-    (λ identity r1 e1. bind_parts (IsCell c) (number_at key.Power (up_to 31) d) (λ power. ba_of d >>= (λ ba. all_trx_of identity.bcch d >>= (λ trx. Ok (record { identity = identity; power = power; ba = ba; trx = trx })))) c e1
+    bind_parts (IsCell c) (identity_of d) (λ identity. number_at key.Power d >>= (λ power. ba_of d >>= (λ ba. all_trx_of identity.bcch d >>= (λ trx. Ok (record { identity = identity; power = power; ba = ba; trx = trx }))))) c e
+    (λ identity r1 e1. bind_parts (IsCell c) (number_at key.Power d) (λ power. ba_of d >>= (λ ba. all_trx_of identity.bcch d >>= (λ trx. Ok (record { identity = identity; power = power; ba = ba; trx = trx })))) c e1
     (λ power r2 e2. bind_parts (IsCell c) (ba_of d) (λ ba. all_trx_of identity.bcch d >>= (λ trx. Ok (record { identity = identity; power = power; ba = ba; trx = trx }))) c e2
     (λ ba r3 e3. bind_parts (IsCell c) (all_trx_of identity.bcch d) (λ trx. Ok (record { identity = identity; power = power; ba = ba; trx = trx })) c e3
     (λ trx r4 e4.
     let is : record { identity = identity; power = power; ba = ba; trx = trx } ≡ c = cc in
     let named = identity_limits d identity r1 in
-    let facts = trx_list identity.bcch d trx named.bcch r4 in
+    let facts = trx_list identity.bcch d trx named.bcch.1 r4 in
     let list = ba_limits d ba r3 in
-    rw (← is) (record { identity = named; power = (number_at_range key.Power (up_to 31) d power r2).1; few_neighbours = list.0; neighbour_range = list.1; carrier_range = facts.carrier_range; first_carrier = facts.first_carrier; some_trx = facts.some_trx; few_trx = facts.few_trx; timeslot_range = facts.timeslot_range; broadcast = quiet (slice_get trx 0) facts.broadcast })))))
+    rw (← is) (record { identity = named; power = number_allowed key.Power d power r2; few_neighbours = list.0; neighbours = list.1; carriers = facts.carriers; first_carrier = facts.first_carrier; trx_count = facts.trx_count; slots = facts.slots; broadcast = quiet (slice_get trx 0) facts.broadcast })))))
 
 record IsCellList (cells : List CellView) : Type 0 where
-  some_cells : 1 ≤ length cells
-  few_cells : length cells ≤ 64
+  cell_count : IsAllowed key.Cell (length cells)
   each_cell : All IsCell cells
 
 cell_list : (d : Data) (cells : List CellView) → cells_of d ≡ Ok cells → IsCellList cells
 unfolding cells_of
 cell_list d cells e =
-    bind_parts (IsCellList cells) (value_at key.Cell d) (λ value. tables_of key.Cell (record { least = 1; most = 64 }) value >>= (λ entries. each (λ place. cell_of) 0 entries)) cells e
-    (λ value there rest. bind_parts (IsCellList cells) (tables_of key.Cell (record { least = 1; most = 64 }) value) (λ entries. each (λ place. cell_of) 0 entries) cells rest
+    bind_parts (IsCellList cells) (value_at key.Cell d) (λ value. tables_of key.Cell value >>= (λ entries. each (λ place. cell_of) 0 entries)) cells e
+    (λ value there rest. bind_parts (IsCellList cells) (tables_of key.Cell value) (λ entries. each (λ place. cell_of) 0 entries) cells rest
     (λ entries tables told.
     let as_many = length-each (λ place. cell_of) 0 entries cells told in
-    let (least, most) = tables_count key.Cell (record { least = 1; most = 64 }) value entries tables in
+    let (least, most) = tables_count key.Cell value entries tables in
     record {
-      some_cells = omega arith;
-      few_cells = omega arith;
+      cell_count = (omega (arith, least, as_many), omega (arith, most, as_many));
       each_cell = All-each (λ place. cell_of) IsCell (λ n d' c read. cell_limits d' c read) 0 entries cells told;
     }))
 
-outside_limits : (o : Option Data) (cells : List CellIdentity) → outside_of o ≡ Ok cells → (length cells ≤ 64) × All IsIdentity cells
+outside_limits : (o : Option Data) (cells : List CellIdentity) → outside_of o ≡ Ok cells → IsAllowed key.Outside (length cells) × All IsIdentity cells
 unfolding outside_of
-outside_limits None cells e = let is : [] ≡ cells = cc in rw (← is) (omega arith, All-nil IsIdentity)
+outside_limits None cells e = let is : [] ≡ cells = cc in rw (← is) ((omega arith, omega arith), All-nil IsIdentity)
 outside_limits (Some value) cells e =
-    bind_parts ((length cells ≤ 64) × All IsIdentity cells) (tables_of key.Outside (up_to 64) value) (λ entries. each (λ place. identity_of) 0 entries) cells e
+    bind_parts (IsAllowed key.Outside (length cells) × All IsIdentity cells) (tables_of key.Outside value) (λ entries. each (λ place. identity_of) 0 entries) cells e
     (λ entries tables told.
     let as_many = length-each (λ place. identity_of) 0 entries cells told in
-    let (least, most) = tables_count key.Outside (up_to 64) value entries tables in
-    (omega arith, All-each (λ place. identity_of) IsIdentity (λ n d' c read. identity_limits d' c read) 0 entries cells told))
+    let (least, most) = tables_count key.Outside value entries tables in
+    ((omega arith, omega (arith, most, as_many)), All-each (λ place. identity_of) IsIdentity (λ n d' c read. identity_limits d' c read) 0 entries cells told))
 
 unbroken_parts : (site : SiteView) (broken : Option SiteFault) (y : SiteView) → unbroken site broken ≡ Ok y → (site ≡ y) × (broken ≡ None)
 unbroken_parts site None y e = (cc, refl)
@@ -260,20 +260,20 @@ site_limits d site e =
     let own = cell_list d cells r2 in
     let others = outside_limits (get (key_name key.Outside) d) outside r3 in
     rw (← is) (record {
-      within = record { some_cells = own.some_cells; few_cells = own.few_cells; few_outside = others.0; each_outside = others.1; handover = handover_at_limits d handover r1; each_cell = own.each_cell };
+      within = record { cell_count = own.cell_count; outside_count = others.0; each_outside = others.1; handover = handover_at_limits d handover r1; each_cell = own.each_cell };
       rules = rules;
     }))))
 
-within_any : (slots : List ℕ) (tn : ℕ) → All (λ n. n < 8) slots → list_any (λ n. n == tn) slots ≡ true → tn < 8
+within_any : (slots : List ℕ) (tn : ℕ) → All (IsAllowed key.Tch) slots → list_any (λ n. n == tn) slots ≡ true → tn < timeslots_of_trx
 within_any [] tn limits named = absurd (false≢true named)
 within_any (n ∷ slots) tn limits named =
-    let here : n < 8 = All-head (λ n. n < 8) n slots limits in
+    let here : n ≤ 7 = (All-head (IsAllowed key.Tch) n slots limits).1 in
     elim (cases_Bool (n == tn)) [
       | inl same ↦ grind (arith, nat_tests)
-      | inr other ↦ within_any slots tn (All-tail (λ n. n < 8) n slots limits) (rw other at named)
+      | inr other ↦ within_any slots tn (All-tail (IsAllowed key.Tch) n slots limits) (rw other at named)
     ]
 
-got : {A : Type 0} (P : A → Type 0) (xs : List A) (i : ℕ) (x : A) → All P xs → slice_get xs i ≡ Some x → P x
+pub got : {A : Type 0} (P : A → Type 0) (xs : List A) (i : ℕ) (x : A) → All P xs → slice_get xs i ≡ Some x → P x
 got P xs i x all at =
     let within = slice_get_within xs i x at in
     let same : get_or xs i x ≡ x = same_Some (get_or xs i x) x (sym (slice_get-get_or xs i x within) ∙ at) in
@@ -284,17 +284,17 @@ trx_traffic : (cell : CellView) (trx tn : ℕ) (found : Option TrxView) → slic
 trx_traffic cell trx tn None at limits named = absurd (false≢true named)
 trx_traffic cell trx tn (Some t) at limits named =
     let within = slice_get_within cell.trx trx t at in
-    let few = limits.few_trx in
-    (omega arith, within_any t.tch tn (got (λ t. All (λ n. n < 8) t.tch) cell.trx trx t limits.timeslot_range at) named)
+    let few = limits.trx_count.1 in
+    (omega (arith, within, few), within_any t.tch tn (got (λ t. All (IsAllowed key.Tch) t.tch) cell.trx trx t limits.slots at) named)
 
 cell_traffic : (site : SiteView) (chan : ChanId) (cell : Option CellView) → slice_get site.cells chan.cell ≡ cell → IsSite site
     → list_any (λ n. n == chan.tn) (unwrap_or (option_map (λ t. t.tch) (option_and_then (λ c. slice_get c.trx chan.trx) cell)) []) ≡ true → IsWithinLimits chan
 cell_traffic site chan None at limits named = absurd (false≢true named)
 cell_traffic site chan (Some cell) at limits named =
     let within = slice_get_within site.cells chan.cell cell at in
-    let few = limits.within.few_cells in
+    let few = limits.within.cell_count.1 in
     let (trx, timeslot) = trx_traffic cell chan.trx chan.tn (slice_get cell.trx chan.trx) refl (got IsCell site.cells chan.cell cell limits.within.each_cell at) named in
-    record { cell = omega arith; trx = trx; timeslot = timeslot }
+    record { cell = omega (arith, within, few); trx = trx; timeslot = timeslot }
 
 -- a traffic channel of a site lies within the limits
 pub traffic_limits : (site : SiteView) (chan : ChanId) → IsSite site → is_traffic site chan ≡ true → IsWithinLimits chan

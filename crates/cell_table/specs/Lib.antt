@@ -1,9 +1,11 @@
 pub mod Limits
+pub mod Ranges
 pub mod Views
 pub mod Rules
 pub mod Same
 pub mod Site
 pub mod Neighbours
+pub mod Searches
 pub mod SiteFile
 pub mod Reading
 pub mod Laws

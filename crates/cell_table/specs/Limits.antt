@@ -1,4 +1,4 @@
--- How much a site may have.
+-- How much a site may have, and how great its numbers may be.
 use Rattle.std.specs.Prelude.{ℕ}
 
 -- the most own cells of a site, and the most cells of others
@@ -27,3 +27,23 @@ most_neighbours = 32
 -- the most reports of a window
 abbrev pub most_reports : ℕ
 most_reports = 32
+
+-- the greatest carrier, an ARFCN (TS 45.005 clause 2)
+abbrev pub most_carrier : ℕ
+most_carrier = 1023
+
+-- the greatest RXLEV (TS 45.008 clause 8.1.4)
+abbrev pub most_level : ℕ
+most_level = 63
+
+-- the greatest location area code and cell identity: each has two octets (TS 23.003 clauses 4.1 and 4.3.1)
+abbrev pub most_code : ℕ
+most_code = 65535
+
+-- the greatest network and base station colour code: each has three bits (TS 23.003 clause 4.3.2)
+abbrev pub most_colour : ℕ
+most_colour = 7
+
+-- the greatest power level (TS 45.005 clause 4.1.1)
+abbrev pub most_power : ℕ
+most_power = 31

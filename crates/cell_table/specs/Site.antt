@@ -1,11 +1,13 @@
 -- What a site is, and what is looked up in it.
-use Rattle.std.specs.Prelude.{ℕ, sum_by, count_by, ◌==◌, ◌<◌, ◌≤◌, ◌≡◌, ◌+◌, ◌-◌, ◌&&◌, Bool, true, false, nat_lt, if◌then◌else◌, List, [], length, take, All, Option, Some, None, slice_get, option_map, option_and_then, unwrap_or}
-use Rattle.std.specs.List.{list_any, position}
+use Rattle.std.specs.Prelude.{ℕ, ◌==◌, ◌<◌, ◌≤◌, ◌≡◌, ◌-◌, ◌&&◌, Bool, true, false, nat_lt, if◌then◌else◌, List, [], length, map, filter, flat_map, All, Option, Some, None, slice_get, option_map, option_and_then, unwrap_or}
+use Rattle.std.specs.List.{list_any, position, range_with_len}
 use Rattle.channel_fsm.specs.declared.ChanId.{ChanId}
 use Rattle.cell_table.specs.declared.tables.CellIdentity.{CellIdentity}
 use Rattle.cell_table.specs.declared.tables.HandoverRule.{HandoverRule}
 pub use Rattle.cell_table.specs.Views.{TrxView, CellView, SiteView, site_code}
-use Rattle.cell_table.specs.Limits.{most_cells, most_outside, first_outside, most_trx, timeslots_of_trx, most_neighbours, most_reports}
+use Rattle.cell_table.specs.declared.fault.Key.TheVariants as key
+use Rattle.cell_table.specs.Limits.{most_cells, first_outside, most_trx, timeslots_of_trx, most_neighbours}
+use Rattle.cell_table.specs.Ranges.{IsAllowed}
 use Rattle.cell_table.specs.Rules.{broken_rule}
 
 -- a TRX of an own cell
@@ -25,79 +27,63 @@ timeslots site cell trx = unwrap_or (option_map (λ t. t.tch) (trx_at site cell 
 abbrev pub is_traffic : SiteView → ChanId → Bool
 is_traffic site chan = list_any (λ tn. tn == chan.tn) (timeslots site chan.cell chan.trx)
 
--- the cell has this location area code and cell identity (TS 23.003 clause 4.3)
-abbrev pub has_codes : ℕ → ℕ → CellIdentity → Bool
-has_codes lac ci c = (c.lac == lac) && (c.ci == ci)
+-- the cell, own or outside, has this location area code and cell identity (TS 23.003 clause 4.3)
+pub record IsCellOf (site : SiteView) (area identity cell : ℕ) : Type 0 where
+  pub lac : option_map (λ c. c.lac) (identity_at site cell) ≡ Some area
+  pub ci : option_map (λ c. c.ci) (identity_at site cell) ≡ Some identity
 
--- an own cell before an outside one
-abbrev pub own_or_outside : Option ℕ → Option ℕ → Option ℕ
-own_or_outside (Some cell) outside = Some cell
-own_or_outside None outside = option_map (λ place. first_outside + place) outside
+-- every channel that a site can have, by cell, TRX and timeslot
+unfoldable pub all_channels : List ChanId
+all_channels =
+    flat_map (λ cell. flat_map (λ trx. map (λ tn. record { cell = cell; trx = trx; tn = tn }) (range_with_len 0 timeslots_of_trx)) (range_with_len 0 most_trx))
+    (range_with_len 0 most_cells)
 
--- the own cell with these codes, or else the outside cell with them
-abbrev pub cell_of : SiteView → ℕ → ℕ → Option ℕ
-cell_of site lac ci = own_or_outside (position (λ c. has_codes lac ci c.identity) site.cells) (position (has_codes lac ci) site.outside)
+-- the traffic channels of the site, by cell, TRX and timeslot
+abbrev pub channels : SiteView → List ChanId
+channels site = filter (is_traffic site) all_channels
 
--- how many traffic channels a TRX and a cell have
-abbrev pub trx_size : TrxView → ℕ
-trx_size t = length t.tch
+abbrev pub is_channel : ChanId → ChanId → Bool
+is_channel x y = (x.cell == y.cell) && ((x.trx == y.trx) && (x.tn == y.tn))
 
-abbrev pub cell_size : CellView → ℕ
-cell_size c = sum_by trx_size c.trx
-
--- how many traffic timeslots of a TRX come before one
-abbrev pub slots_before : ℕ → TrxView → ℕ
-slots_before tn t = count_by (λ n. nat_lt n tn) t.tch
-
--- how many traffic channels of a cell come before one, by TRX and timeslot
-abbrev pub before_in_cell : ChanId → CellView → ℕ
-before_in_cell chan c = sum_by trx_size (take chan.trx c.trx) + unwrap_or (option_map (slots_before chan.tn) (slice_get c.trx chan.trx)) 0
-
--- how many traffic channels of the cells come before one, by cell, TRX and timeslot
-abbrev pub channels_before : List CellView → ChanId → ℕ
-channels_before cells chan = sum_by cell_size (take chan.cell cells) + unwrap_or (option_map (before_in_cell chan) (slice_get cells chan.cell)) 0
-
--- the place of a traffic channel among those of the site: as many come before it
+-- the place of a channel among the traffic channels of the site
 abbrev pub index_of : SiteView → ChanId → Option ℕ
-index_of site chan = if is_traffic site chan then Some (channels_before site.cells chan) else None
+index_of site chan = position (is_channel chan) (channels site)
 
 -- the first TRX names timeslot 0, which carries the cell's broadcast channels (TS 45.002 clause 7) and never traffic
 abbrev pub names_broadcast : CellView → Bool
 names_broadcast cell = list_any (λ tn. tn == 0) (unwrap_or (option_map (λ t. t.tch) (slice_get cell.trx 0)) [])
 
--- The rule of candidates keeps its ranges.
+-- The rule of candidates has what its keys allow.
 pub record IsHandoverRule (rule : HandoverRule) : Type 0 where
-  pub some_window : 1 ≤ rule.window
-  pub window : rule.window ≤ most_reports
-  pub margin : rule.margin ≤ 63
-  pub minimum : rule.minimum ≤ 63
+  pub window : IsAllowed key.Window rule.window
+  pub margin : IsAllowed key.Margin rule.margin
+  pub minimum : IsAllowed key.Minimum rule.minimum
 
--- The colour of a cell fits a Cell Description (TS 44.018 clause 10.5.2.2).
+-- So has what identifies a cell: its colour fits a Cell Description (TS 44.018 clause 10.5.2.2).
 pub record IsIdentity (identity : CellIdentity) : Type 0 where
-  pub bcch : identity.bcch ≤ 1023
-  pub ncc : identity.ncc ≤ 7
-  pub bcc : identity.bcc ≤ 7
+  pub lac : IsAllowed key.Lac identity.lac
+  pub ci : IsAllowed key.Ci identity.ci
+  pub bcch : IsAllowed key.Bcch identity.bcch
+  pub ncc : IsAllowed key.Ncc identity.ncc
+  pub bcc : IsAllowed key.Bcc identity.bcc
 
--- A cell has 1 to 4 TRX with timeslots 0 to 7 (TS 45.002 clause 4.3.2), of which the first has the cell's BCCH carrier and
--- leaves the broadcast channel alone.
+-- So has a cell. Its first TRX has its BCCH carrier, and leaves the broadcast channel alone.
 pub record IsCell (cell : CellView) : Type 0 where
   pub identity : IsIdentity cell.identity
-  pub power : cell.power ≤ 31
+  pub power : IsAllowed key.Power cell.power
   pub few_neighbours : length cell.ba ≤ most_neighbours
-  pub neighbour_range : All (λ carrier. carrier ≤ 1023) cell.ba
-  pub some_trx : 1 ≤ length cell.trx
-  pub few_trx : length cell.trx ≤ most_trx
-  pub carrier_range : All (λ t. t.arfcn ≤ 1023) cell.trx
-  pub timeslot_range : All (λ t. All (λ tn. tn < timeslots_of_trx) t.tch) cell.trx
+  pub neighbours : All (IsAllowed key.Ba) cell.ba
+  pub trx_count : IsAllowed key.Trx (length cell.trx)
+  pub carriers : All (λ t. IsAllowed key.Arfcn t.arfcn) cell.trx
+  pub slots : All (λ t. All (IsAllowed key.Tch) t.tch) cell.trx
   pub first_carrier : option_map (λ t. t.arfcn) (slice_get cell.trx 0) ≡ Some cell.identity.bcch
   pub broadcast : names_broadcast cell ≡ false
 
--- A site has 1 to 64 cells and at most 64 of others, and each of its cells is one.
+-- A site has as many cells, own and outside, as their keys allow, and each of its cells is one.
 pub record IsWithin (site : SiteView) : Type 0 where
   pub handover : IsHandoverRule site.handover
-  pub some_cells : 1 ≤ length site.cells
-  pub few_cells : length site.cells ≤ most_cells
-  pub few_outside : length site.outside ≤ most_outside
+  pub cell_count : IsAllowed key.Cell (length site.cells)
+  pub outside_count : IsAllowed key.Outside (length site.outside)
   pub each_cell : All IsCell site.cells
   pub each_outside : All IsIdentity site.outside
 

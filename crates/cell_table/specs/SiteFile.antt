@@ -1,5 +1,5 @@
 -- What a site file says, read off the TOML document that it is: each check in its order, and the first that fails.
-use Rattle.std.specs.Prelude.{ℕ, suc, ◌-◌, ◌==◌, ℤ, pos, negsuc, nat_le, Bool, true, false, ◌&&◌, if◌then◌else◌, Option, Some, None, option_map, option_and_then, ok_or, is_some, Result, Ok, Err, List, [], ◌∷◌, length, take, codes}
+use Rattle.std.specs.Prelude.{ℕ, suc, ◌==◌, ℤ, pos, negsuc, nat_le, Bool, ◌&&◌, if◌then◌else◌, Option, Some, None, option_map, option_and_then, ok_or, is_some, Result, Ok, Err, List, [], ◌∷◌, length, take, codes}
 use Rattle.std.specs.List.{list_all}
 use Rattle.std.specs.Result.{result_map_both}
 use Rattle.toml.specs.Data.{Data, Items, no_items, item, table, get, as_array, as_integer, as_table}
@@ -11,9 +11,10 @@ use Rattle.cell_table.specs.declared.fault.SiteFault.{SiteFault}
 use Rattle.cell_table.specs.declared.fault.SiteFault.TheVariants.{Toml, Missing, Range}
 use Rattle.cell_table.specs.declared.tables.CellIdentity.{CellIdentity}
 use Rattle.cell_table.specs.declared.tables.HandoverRule.{HandoverRule}
-use Rattle.cell_table.specs.declared.tables.Allowed.{Allowed}
+use Rattle.cell_table.specs.declared.ranges.Allowed.{Allowed}
+use Rattle.cell_table.specs.Ranges.{up_to, allowed, arfcn_range, tch_range}
 use Rattle.cell_table.specs.Site.{TrxView, CellView, SiteView}
-use Rattle.cell_table.specs.Limits.{most_cells, most_outside, most_trx, timeslots_of_trx, most_neighbours, most_reports}
+use Rattle.cell_table.specs.Limits.{most_neighbours}
 use Rattle.cell_table.specs.Rules.{checked}
 
 -- what is read, or the first check that fails
@@ -49,17 +50,9 @@ key_name key.Outside = codes "outside"
 abbrev pub value_at : Key → Data → Read Data
 value_at key d = ok_or (get (key_name key) d) (Missing key)
 
--- from 0 to a number
-abbrev pub up_to : ℕ → Allowed
-up_to most = record { least = 0; most = most }
-
--- from 1 to a number
-abbrev pub from_one : ℕ → Allowed
-from_one most = record { least = 1; most = most }
-
 -- the number is one of those allowed
 abbrev pub is_allowed : Allowed → ℕ → Bool
-is_allowed allowed n = nat_le allowed.least n && nat_le n allowed.most
+is_allowed range n = nat_le range.least n && nat_le n range.most
 
 -- a natural number
 abbrev pub natural_number : ℤ → Option ℕ
@@ -72,17 +65,21 @@ where_passes test o = option_and_then (λ x. if test x then Some x else None) o
 
 -- the integer that a value is, where it is allowed
 abbrev pub allowed_number : Allowed → Data → Option ℕ
-allowed_number allowed d = where_passes (is_allowed allowed) (option_and_then natural_number (as_integer d))
+allowed_number range d = where_passes (is_allowed range) (option_and_then natural_number (as_integer d))
 
--- the value of a key, or an entry of it, is an integer within the range of the key
+-- the value of a key, or an entry of it, is an integer within a range
 abbrev pub number_of : Key → Allowed → Data → Read ℕ
-number_of key allowed d = ok_or (allowed_number allowed d) (Range key)
+number_of key range d = ok_or (allowed_number range d) (Range key)
 
--- the number at a key
-unfoldable pub number_at : Key → Allowed → Data → Read ℕ
-number_at key allowed d = do
+-- the number at a key, within a range
+unfoldable pub number_within : Key → Allowed → Data → Read ℕ
+number_within key range d = do
   value ← value_at key d
-  number_of key allowed value
+  number_of key range value
+
+-- the number at a key, one that the key allows
+abbrev pub number_at : Key → Data → Read ℕ
+number_at key d = number_within key (allowed key) d
 
 -- the entries of an array
 abbrev pub entries_of : Items → List Data
@@ -106,10 +103,10 @@ abbrev pub all_tables : Key → List Data → Read (List Data)
 all_tables key entries = if list_all is_table entries then Ok entries else Err (Range key)
 
 -- the value of a key is an array of tables, as many as are allowed
-unfoldable pub tables_of : Key → Allowed → Data → Read (List Data)
-tables_of key count d = do
+unfoldable pub tables_of : Key → Data → Read (List Data)
+tables_of key d = do
   entries ← array_of key d
-  entries ← counted key count entries
+  entries ← counted key (allowed key) entries
   all_tables key entries
 
 -- each entry as it is read at its place; the first check that fails, entry by entry
@@ -123,20 +120,20 @@ each read place (d ∷ ds) = do
 -- the table at `handover`: when a neighbour is a candidate
 unfoldable pub handover_of : Data → Read HandoverRule
 handover_of d = do
-  window ← number_at key.Window (from_one most_reports) d
-  margin ← number_at key.Margin (up_to 63) d
-  minimum ← number_at key.Minimum (up_to 63) d
+  window ← number_at key.Window d
+  margin ← number_at key.Margin d
+  minimum ← number_at key.Minimum d
   Ok (record { window = window; margin = margin; minimum = minimum })
 
 -- What every cell has: location area code and cell identity (TS 23.003 clause 4.3), and its colour: BCCH carrier,
 -- network and base station colour code (TS 23.003 clause 4.3.2).
 unfoldable pub identity_of : Data → Read CellIdentity
 identity_of d = do
-  lac ← number_at key.Lac (up_to 65535) d
-  ci ← number_at key.Ci (up_to 65535) d
-  bcch ← number_at key.Bcch (up_to 1023) d
-  ncc ← number_at key.Ncc (up_to 7) d
-  bcc ← number_at key.Bcc (up_to 7) d
+  lac ← number_at key.Lac d
+  ci ← number_at key.Ci d
+  bcch ← number_at key.Bcch d
+  ncc ← number_at key.Ncc d
+  bcc ← number_at key.Bcc d
   Ok (record { lac = lac; ci = ci; bcch = bcch; ncc = ncc; bcc = bcc })
 
 -- the BA list: no more carriers than it may have
@@ -145,17 +142,7 @@ ba_of d = do
   value ← value_at key.Ba d
   entries ← array_of key.Ba value
   carriers ← counted key.Ba (up_to most_neighbours) entries
-  each (λ place. number_of key.Ba (up_to 1023)) 0 carriers
-
--- the carrier of a TRX; the first has the cell's BCCH carrier
-abbrev pub arfcn_range : ℕ → Bool → Allowed
-arfcn_range bcch true = record { least = bcch; most = bcch }
-arfcn_range bcch false = up_to 1023
-
--- a timeslot; timeslot 0 of the first TRX carries the cell's broadcast channels (TS 45.002 clause 7) and never traffic
-abbrev pub tch_range : Bool → Allowed
-tch_range true = from_one (timeslots_of_trx - 1)
-tch_range false = up_to (timeslots_of_trx - 1)
+  each (λ place. number_of key.Ba (allowed key.Ba)) 0 carriers
 
 -- the first nine of what is read
 abbrev pub first_nine : Read (List ℕ) → Read (List ℕ)
@@ -172,7 +159,7 @@ tch_of first d = do
 -- a TRX of a cell, the first or another
 unfoldable pub trx_of : ℕ → Bool → Data → Read TrxView
 trx_of bcch first d = do
-  arfcn ← number_at key.Arfcn (arfcn_range bcch first) d
+  arfcn ← number_within key.Arfcn (arfcn_range bcch first) d
   tch ← tch_of first d
   Ok (record { arfcn = arfcn; tch = tch })
 
@@ -180,14 +167,14 @@ trx_of bcch first d = do
 unfoldable pub all_trx_of : ℕ → Data → Read (List TrxView)
 all_trx_of bcch d = do
   value ← value_at key.Trx d
-  entries ← tables_of key.Trx (from_one most_trx) value
+  entries ← tables_of key.Trx value
   each (λ place. trx_of bcch (place == 0)) 0 entries
 
 -- an own cell
 unfoldable pub cell_of : Data → Read CellView
 cell_of d = do
   identity ← identity_of d
-  power ← number_at key.Power (up_to 31) d
+  power ← number_at key.Power d
   ba ← ba_of d
   trx ← all_trx_of identity.bcch d
   Ok (record { identity = identity; power = power; ba = ba; trx = trx })
@@ -196,14 +183,14 @@ cell_of d = do
 unfoldable pub cells_of : Data → Read (List CellView)
 cells_of d = do
   value ← value_at key.Cell d
-  entries ← tables_of key.Cell (from_one most_cells) value
+  entries ← tables_of key.Cell value
   each (λ place. cell_of) 0 entries
 
 -- the cells of others; the key may be absent
 unfoldable pub outside_of : Option Data → Read (List CellIdentity)
 outside_of None = Ok []
 outside_of (Some value) = do
-  entries ← tables_of key.Outside (up_to most_outside) value
+  entries ← tables_of key.Outside value
   each (λ place. identity_of) 0 entries
 
 -- the table at `handover` has to be there

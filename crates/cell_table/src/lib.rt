@@ -7,9 +7,11 @@ pub mod laws;
 pub mod limits;
 mod neighbours;
 mod places;
+pub mod ranges;
 mod reading;
 mod site;
 mod tables;
 
 pub use fault::{Key, SiteFault, What};
+pub use ranges::Allowed;
 pub use site::Site;

@@ -1,4 +1,4 @@
-//! How much a site may have. Each limit stands here once, and once among the definitions
+//! How much a site may have, and how great its numbers may be. Each limit stands here once, and once among the definitions
 //! (law [`limits_are_those_defined`](crate::laws::limits_are_those_defined)).
 
 /// The most own cells of a site.
@@ -21,3 +21,18 @@ pub const MOST_NEIGHBOURS: usize = 32;
 
 /// The most reports of a window.
 pub const MOST_REPORTS: usize = 32;
+
+/// The greatest RXLEV (TS 45.008 clause 8.1.4).
+pub const MOST_LEVEL: u16 = 63;
+
+/// The greatest location area code and cell identity: each has two octets (TS 23.003 clauses 4.1 and 4.3.1).
+pub const MOST_CODE: u16 = 65535;
+
+/// The greatest carrier, an ARFCN (TS 45.005 clause 2).
+pub const MOST_CARRIER: u16 = 1023;
+
+/// The greatest network and base station colour code: each has three bits (TS 23.003 clause 4.3.2).
+pub const MOST_COLOUR: u16 = 7;
+
+/// The greatest power level (TS 45.005 clause 4.1.1).
+pub const MOST_POWER: u16 = 31;

@@ -1,7 +1,7 @@
 //! The neighbour list of a cell, and the cells that a place in it and a colour name.
-ghost use Rattle.std.specs.Prelude.{◌≡◌, count_by};
+ghost use Rattle.std.specs.Prelude.{◌≡◌, count_by, option_map, slice_get};
 ghost use Rattle.std.specs.List.{position};
-ghost use Rattle.cell_table.specs.Neighbours.{stands_before, is_at, has_bsic, is_named, named_cell};
+ghost use Rattle.cell_table.specs.Searches.{stands_before, is_at, has_bsic, is_named, first_cell, first_named};
 
 use crate::limits::FIRST_OUTSIDE;
 use crate::tables::{Cell, CellIdentity, Tables};
@@ -61,9 +61,9 @@ fn outside_cell_named(cells: &[CellIdentity], ba: &[u16], place: u8, bsic: u8) -
         .position(|cell| is_named(ba, place, bsic, *cell))
 }
 
-/// The cell, own or outside, that a place of the neighbour list and a base station identity code name.
-pub fn named_cell(tables: &Tables, ba: &[u16], place: u8, bsic: u8) -> Option<u8>
-    ensures value { result ≡ named_cell tables.now ba.now place bsic }
+/// The first cell, own or outside, that a place of a neighbour list and a base station identity code name.
+fn cell_named(tables: &Tables, ba: &[u16], place: u8, bsic: u8) -> Option<u8>
+    ensures value { result ≡ first_cell (is_named ba.now place bsic) tables.now }
 {
     match own_cell_named(tables.cells.as_slice(), ba, place, bsic) {
         Some(cell) => Some(cell as u8),
@@ -72,4 +72,22 @@ pub fn named_cell(tables: &Tables, ba: &[u16], place: u8, bsic: u8) -> Option<u8
             Some(FIRST_OUTSIDE + outside as u8)
         }
     }
+}
+
+/// The BA list of an own cell.
+fn ba_in(tables: &Tables, cell: u8) -> Option<&[u16]>
+    ensures value { option_map (λ found. found.now) result ≡
+        option_map (λ c. c.ba) (slice_get tables.now.cells cell) }
+{
+    let found = tables.cells.get(cell as usize)?;
+    Some(found.ba.as_slice())
+}
+
+/// The first cell, own or outside, that a place of the serving cell's neighbour list and a base station identity code
+/// name.
+pub fn neighbour_named(tables: &Tables, serving: u8, place: u8, bsic: u8) -> Option<u8>
+    ensures value { result ≡ first_named tables.now serving place bsic }
+{
+    let ba = ba_in(tables, serving)?;
+    cell_named(tables, ba, place, bsic)
 }

@@ -1,7 +1,7 @@
 //! How many traffic channels come before one.
 ghost use Rattle.std.specs.Prelude.{◌≡◌, ◌≤◌, length, sum_by, count_by, nat_lt};
 ghost use Rattle.cell_table.specs.Limits.{most_cells, most_trx};
-ghost use Rattle.cell_table.specs.Site.{trx_size, cell_size, before_in_cell, channels_before};
+ghost use Rattle.cell_table.specs.Searches.{trx_size, cell_size, before_in_cell, channels_before};
 
 use crate::tables::{Cell, Trx};
 use channel_fsm::ChanId;

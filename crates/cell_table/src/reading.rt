@@ -3,15 +3,15 @@ ghost use Rattle.std.specs.Prelude.{◌≡◌, ◌==◌, ◌<◌, ◌≤◌, Ok,
 ghost use Rattle.std.specs.List.{list_all};
 ghost use Rattle.toml.specs.View.{view};
 ghost use Rattle.toml.specs.Data.{get, as_array};
-ghost use Rattle.cell_table.specs.SiteFile.{Read, value_at, is_allowed, allowed_number, number_of, number_at, array_of, entries_of, counted, all_tables, tables_of, each, handover_of, handover_at, identity_of, ba_of, arfcn_range, tch_range, first_nine, tch_of, trx_of, all_trx_of, cell_of, cells_of, outside_of, site_of, key_name, is_table, up_to, from_one};
+ghost use Rattle.cell_table.specs.SiteFile.{Read, value_at, is_allowed, allowed_number, number_of, number_within, number_at, array_of, entries_of, counted, all_tables, tables_of, each, handover_of, handover_at, identity_of, ba_of, first_nine, tch_of, trx_of, all_trx_of, cell_of, cells_of, outside_of, site_of, key_name, is_table};
+ghost use Rattle.cell_table.specs.Ranges.{allowed, arfcn_range, tch_range, up_to};
 ghost use Rattle.cell_table.specs.Limits.{most_cells, most_outside, most_trx, timeslots_of_trx, most_neighbours};
 ghost use Rattle.cell_table.specs.Reading.{value_read, values_read, items_read};
 
 use crate::fault::{Key, SiteFault};
-use crate::limits::{
-    MOST_CELLS, MOST_NEIGHBOURS, MOST_OUTSIDE, MOST_REPORTS, MOST_TRX, TIMESLOTS_OF_TRX,
-};
-use crate::tables::{Allowed, Cell, CellIdentity, HandoverRule, Tables, Trx};
+use crate::limits::{MOST_CELLS, MOST_NEIGHBOURS, MOST_OUTSIDE, MOST_TRX};
+use crate::ranges::{Allowed, arfcn_range, tch_range, up_to};
+use crate::tables::{Cell, CellIdentity, HandoverRule, Tables, Trx};
 use arrayvec::ArrayVec;
 use toml::Value;
 
@@ -23,11 +23,11 @@ fn value_at<'a>(table: &'a Value, key: Key) -> Result<&'a Value, SiteFault>
 }
 
 /// The integer that a value is, where it is allowed.
-fn allowed_number(allowed: Allowed, value: &Value) -> Option<u16>
-    ensures read { result ≡ allowed_number allowed (view value.now) }
+fn allowed_number(range: Allowed, value: &Value) -> Option<u16>
+    ensures read { result ≡ allowed_number range (view value.now) }
 {
     match value.as_integer() {
-        Some(number) if i64::from(allowed.least) <= number && number <= i64::from(allowed.most) => {
+        Some(number) if i64::from(range.least) <= number && number <= i64::from(range.most) => {
             Some(number as u16)
         }
         _ => None,
@@ -35,34 +35,28 @@ fn allowed_number(allowed: Allowed, value: &Value) -> Option<u16>
 }
 
 /// The integer that the value of a key, or an entry of it, is.
-fn number_of(key: Key, allowed: Allowed, value: &Value) -> Result<u16, SiteFault>
-    ensures read { result ≡ number_of key allowed (view value.now) }
-    ensures most { IfOk result (λ n. n ≤ allowed.most) }
+fn number_of(key: Key, range: Allowed, value: &Value) -> Result<u16, SiteFault>
+    ensures read { result ≡ number_of key range (view value.now) }
+    ensures most { IfOk result (λ n. n ≤ range.most) }
 {
-    allowed_number(allowed, value).ok_or(SiteFault::Range(key))
+    allowed_number(range, value).ok_or(SiteFault::Range(key))
 }
 
-/// The integer at a key.
-#[tactic(auto, unfolding(crate::specs::SiteFile::number_at))]
-fn number_at(table: &Value, key: Key, allowed: Allowed) -> Result<u16, SiteFault>
-    ensures read { result ≡ number_at key allowed (view table.now) }
-    ensures most { IfOk result (λ n. n ≤ allowed.most) }
+/// The integer at a key, within a range.
+#[tactic(auto, unfolding(crate::specs::SiteFile::number_within))]
+fn number_within(table: &Value, key: Key, range: Allowed) -> Result<u16, SiteFault>
+    ensures read { result ≡ number_within key range (view table.now) }
+    ensures most { IfOk result (λ n. n ≤ range.most) }
 {
-    number_of(key, allowed, value_at(table, key)?)
+    number_of(key, range, value_at(table, key)?)
 }
 
-/// From 0 to a number.
-fn up_to(most: u16) -> Allowed
-    ensures { result ≡ up_to most }
+/// The integer at a key, one that the key allows.
+fn number_at(table: &Value, key: Key) -> Result<u16, SiteFault>
+    ensures read { result ≡ number_at key (view table.now) }
+    ensures most { IfOk result (λ n. n ≤ (allowed key).most) }
 {
-    Allowed { least: 0, most }
-}
-
-/// From 1 to a number.
-fn from_one(most: u16) -> Allowed
-    ensures { result ≡ from_one most }
-{
-    Allowed { least: 1, most }
+    number_within(table, key, key.allowed())
 }
 
 /// When a neighbour is a candidate, from the table at `handover`.
@@ -70,9 +64,9 @@ fn from_one(most: u16) -> Allowed
 fn handover_of(table: &Value) -> Result<HandoverRule, SiteFault>
     ensures read { result ≡ handover_of (view table.now) }
 {
-    let window = number_at(table, Key::Window, from_one(MOST_REPORTS as u16))? as u8;
-    let margin = number_at(table, Key::Margin, up_to(63))? as u8;
-    let minimum = number_at(table, Key::Minimum, up_to(63))? as u8;
+    let window = number_at(table, Key::Window)? as u8;
+    let margin = number_at(table, Key::Margin)? as u8;
+    let minimum = number_at(table, Key::Minimum)? as u8;
     Ok(HandoverRule {
         window,
         margin,
@@ -86,11 +80,11 @@ fn identity_of(cell: &Value) -> Result<CellIdentity, SiteFault>
     ensures read { result ≡ identity_of (view cell.now) }
 {
     Ok(CellIdentity {
-        lac: number_at(cell, Key::Lac, up_to(65535))?,
-        ci: number_at(cell, Key::Ci, up_to(65535))?,
-        bcch: number_at(cell, Key::Bcch, up_to(1023))?,
-        ncc: number_at(cell, Key::Ncc, up_to(7))? as u8,
-        bcc: number_at(cell, Key::Bcc, up_to(7))? as u8,
+        lac: number_at(cell, Key::Lac)?,
+        ci: number_at(cell, Key::Ci)?,
+        bcch: number_at(cell, Key::Bcch)?,
+        ncc: number_at(cell, Key::Ncc)? as u8,
+        bcc: number_at(cell, Key::Bcc)? as u8,
     })
 }
 
@@ -113,10 +107,10 @@ fn array_of(key: Key, value: &Value) -> Result<&[Value], SiteFault>
 }
 
 /// Whether a number is one of those allowed.
-fn is_allowed(allowed: Allowed, number: usize) -> bool
-    ensures value { result ≡ is_allowed allowed number }
+fn is_allowed(range: Allowed, number: usize) -> bool
+    ensures value { result ≡ is_allowed range number }
 {
-    usize::from(allowed.least) <= number && number <= usize::from(allowed.most)
+    usize::from(range.least) <= number && number <= usize::from(range.most)
 }
 
 /// The entries, where so many are allowed.
@@ -152,11 +146,11 @@ fn all_tables(key: Key, entries: &[Value]) -> Result<&[Value], SiteFault>
 
 /// The entries of the array of tables that the value of a key is, as many as are allowed.
 #[tactic(auto, unfolding(crate::specs::SiteFile::tables_of))]
-fn tables_of(key: Key, count: Allowed, value: &Value) -> Result<&[Value], SiteFault>
-    ensures read { values_read result ≡ tables_of key count (view value.now) }
-    ensures most { IfOk result (λ found. length found.now ≤ count.most) }
+fn tables_of(key: Key, value: &Value) -> Result<&[Value], SiteFault>
+    ensures read { values_read result ≡ tables_of key (view value.now) }
+    ensures most { IfOk result (λ found. length found.now ≤ (allowed key).most) }
 {
-    let entries = counted(key, count, array_of(key, value)?)?;
+    let entries = counted(key, key.allowed(), array_of(key, value)?)?;
     all_tables(key, entries)
 }
 
@@ -165,35 +159,9 @@ fn tables_of(key: Key, count: Allowed, value: &Value) -> Result<&[Value], SiteFa
 fn trx_of(bcch: u16, first: bool, entry: &Value) -> Result<Trx, SiteFault>
     ensures read { result ≡ trx_of bcch first (view entry.now) }
 {
-    let arfcn = number_at(entry, Key::Arfcn, arfcn_range(bcch, first))?;
+    let arfcn = number_within(entry, Key::Arfcn, arfcn_range(bcch, first))?;
     let tch = tch_of(first, entry)?;
     Ok(Trx { arfcn, tch })
-}
-
-/// The carriers that a TRX may have.
-fn arfcn_range(bcch: u16, first: bool) -> Allowed
-    ensures value { result ≡ arfcn_range bcch first }
-{
-    if first {
-        Allowed {
-            least: bcch,
-            most: bcch,
-        }
-    } else {
-        up_to(1023)
-    }
-}
-
-/// The timeslots of a TRX that may carry traffic.
-fn tch_range(first: bool) -> Allowed
-    ensures value { result ≡ tch_range first }
-    ensures most { result.most < timeslots_of_trx }
-{
-    if first {
-        from_one(TIMESLOTS_OF_TRX as u16 - 1)
-    } else {
-        up_to(TIMESLOTS_OF_TRX as u16 - 1)
-    }
 }
 
 /// The traffic timeslots of a TRX.
@@ -206,14 +174,14 @@ fn tch_of(first: bool, trx: &Value) -> Result<ArrayVec<u8, 9>, SiteFault>
 }
 
 /// The timeslots at the entries of `tch`, of which the first nine are kept.
-fn slots_of(allowed: Allowed, entries: &[Value]) -> Result<ArrayVec<u8, 9>, SiteFault>
-    requires { allowed.most < timeslots_of_trx }
+fn slots_of(range: Allowed, entries: &[Value]) -> Result<ArrayVec<u8, 9>, SiteFault>
+    requires { range.most < timeslots_of_trx }
     ensures read { items_read result ≡
-        first_nine (each (λ place. number_of Key.Tch allowed) 0 (map view entries.now)) }
+        first_nine (each (λ place. number_of Key.Tch range) 0 (map view entries.now)) }
 {
     let mut slots = ArrayVec::new();
     for entry in entries {
-        let slot = number_of(Key::Tch, allowed, entry)? as u8;
+        let slot = number_of(Key::Tch, range, entry)? as u8;
         if !slots.is_full() {
             slots.push(slot);
         }
@@ -234,11 +202,12 @@ fn ba_of(cell: &Value) -> Result<ArrayVec<u16, MOST_NEIGHBOURS>, SiteFault>
 fn carriers_of(entries: &[Value]) -> Result<ArrayVec<u16, MOST_NEIGHBOURS>, SiteFault>
     requires { length entries.now ≤ most_neighbours }
     ensures read { items_read result ≡
-        each (λ place. number_of Key.Ba (up_to 1023)) 0 (map view entries.now) }
+        each (λ place. number_of Key.Ba (allowed Key.Ba)) 0 (map view entries.now) }
 {
+    let range = Key::Ba.allowed();
     let mut carriers = ArrayVec::new();
     for entry in entries {
-        carriers.push(number_of(Key::Ba, up_to(1023), entry)?);
+        carriers.push(number_of(Key::Ba, range, entry)?);
     }
     Ok(carriers)
 }
@@ -261,8 +230,7 @@ fn each_trx(bcch: u16, entries: &[Value]) -> Result<ArrayVec<Trx, MOST_TRX>, Sit
 fn all_trx_of(bcch: u16, cell: &Value) -> Result<ArrayVec<Trx, MOST_TRX>, SiteFault>
     ensures read { items_read result ≡ all_trx_of bcch (view cell.now) }
 {
-    let count = from_one(MOST_TRX as u16);
-    let entries = tables_of(Key::Trx, count, value_at(cell, Key::Trx)?)?;
+    let entries = tables_of(Key::Trx, value_at(cell, Key::Trx)?)?;
     each_trx(bcch, entries)
 }
 
@@ -274,7 +242,7 @@ fn cell_of(entry: &Value) -> Result<Cell, SiteFault>
     let identity = identity_of(entry)?;
     Ok(Cell {
         identity,
-        power: number_at(entry, Key::Power, up_to(31))? as u8,
+        power: number_at(entry, Key::Power)? as u8,
         ba: ba_of(entry)?,
         trx: all_trx_of(identity.bcch, entry)?,
     })
@@ -297,8 +265,7 @@ fn each_cell(entries: &[Value]) -> Result<ArrayVec<Cell, MOST_CELLS>, SiteFault>
 pub fn cells_of(document: &Value) -> Result<ArrayVec<Cell, MOST_CELLS>, SiteFault>
     ensures read { items_read result ≡ cells_of (view document.now) }
 {
-    let count = from_one(MOST_CELLS as u16);
-    let entries = tables_of(Key::Cell, count, value_at(document, Key::Cell)?)?;
+    let entries = tables_of(Key::Cell, value_at(document, Key::Cell)?)?;
     each_cell(entries)
 }
 
@@ -320,7 +287,7 @@ pub fn outside_of(document: &Value) -> Result<ArrayVec<CellIdentity, MOST_OUTSID
     ensures read { items_read result ≡ outside_of (get (key_name Key.Outside) (view document.now)) }
 {
     match document.get(Key::Outside.name()) {
-        Some(value) => each_outside(tables_of(Key::Outside, up_to(MOST_OUTSIDE as u16), value)?),
+        Some(value) => each_outside(tables_of(Key::Outside, value)?),
         None => Ok(ArrayVec::new()),
     }
 }

@@ -1,19 +1,20 @@
 //! The site, and what is looked up in it.
-ghost use Rattle.std.specs.Prelude.{◌≡◌, ◌≢◌, ◌↔◌, IsTrue, Ok, Err, true, IfOk, IfErr, length, option_map, slice_get};
+ghost use Rattle.std.specs.Prelude.{◌≡◌, ◌≢◌, ◌↔◌, ℕ, IsTrue, Some, Ok, Err, true, IfOk, IfErr, length, option_map, slice_get};
 ghost use Rattle.std.specs.Result.{is_ok};
 ghost use Rattle.std.specs.List.{position};
 ghost use Rattle.toml.specs.View.{view};
-ghost use Rattle.cell_table.specs.Site.{IsSite, IsWithinLimits, TrafficLiesWithin, trx_at, identity_at, is_traffic, has_codes, cell_of, index_of};
+ghost use Rattle.cell_table.specs.Site.{IsSite, IsWithinLimits, TrafficLiesWithin, trx_at, identity_at, is_traffic, IsCellOf, index_of};
+ghost use Rattle.cell_table.specs.Searches.{has_codes, first_cell};
 ghost use Rattle.cell_table.specs.SiteFile.{site_of, read_site, IsBlankFile};
 ghost use Rattle.std.proofs.Common.{rules};
 ghost use Rattle.std.specs.Cmp.Rules.{comparing};
 ghost use Rattle.cell_table.specs.Same.{same_site};
-ghost use Rattle.cell_table.specs.Neighbours.{by_bsic};
+ghost use Rattle.cell_table.specs.Neighbours.{IsNamedCell};
 
 use crate::checks::broken_rule;
 use crate::fault::{Key, SiteFault};
 use crate::limits::FIRST_OUTSIDE;
-use crate::neighbours::named_cell;
+use crate::neighbours::neighbour_named;
 use crate::places::channels_before;
 use crate::reading::{cells_of, handover_at, outside_of};
 use crate::tables::{Cell, CellIdentity, Tables, Trx};
@@ -240,17 +241,12 @@ impl<A: Allocator + Copy> Site<A> {
         }
     }
 
-    /// The cell, own or outside, with this location area code and cell identity; `None` where there is none.
+    /// The cell, own or outside, with this location area code and cell identity, of which there is at most one; `None`
+    /// where there is none.
     pub fn cell_of(&self, lac: u16, ci: u16) -> Option<u8>
-        ensures value { result ≡ cell_of self.now lac ci }
+        ensures value { (cell : ℕ) → (result ≡ Some cell) ↔ IsCellOf self.now lac ci cell }
     {
-        match own_cell_with(self.tables.cells.as_slice(), lac, ci) {
-            Some(cell) => Some(cell as u8),
-            None => {
-                let place = outside_cell_with(self.tables.outside.as_slice(), lac, ci)?;
-                Some(FIRST_OUTSIDE + place as u8)
-            }
-        }
+        cell_with(&self.tables, lac, ci)
     }
 
     /// The cell, own or outside, that a mobile in an own cell names by a position in its neighbour list and a base
@@ -260,14 +256,14 @@ impl<A: Allocator + Copy> Site<A> {
     /// positions are counted from 0. The cell's `bcch` is the carrier at the position, its `ncc` the code's high and
     /// its `bcc` the low three bits (TS 23.003 clause 4.3.2); codes are 0 to 63, and no cell has one above.
     pub fn by_bsic(&self, cell: u8, position: u8, bsic: u8) -> Option<u8>
-        ensures value { result ≡ by_bsic self.now cell position bsic }
+        ensures value { (named : ℕ) → (result ≡ Some named) ↔
+            IsNamedCell self.now cell position bsic named }
     {
-        let serving = self.tables.cells.get(cell as usize)?;
-        named_cell(&self.tables, serving.ba.as_slice(), position, bsic)
+        neighbour_named(&self.tables, cell, position, bsic)
     }
 
-    /// The place of a traffic channel among those of the site, by cell, TRX and timeslot, counted from 0; `None` for
-    /// any other channel.
+    /// The place of a channel in the list of the site's traffic channels by cell, TRX and timeslot, counted from 0; `None`
+    /// for any other channel.
     pub fn index_of(&self, chan: ChanId) -> Option<usize>
         ensures value { result ≡ index_of self.now chan }
     {
@@ -320,6 +316,19 @@ fn trx_in(tables: &Tables, cell: u8, trx: u8) -> Option<&Trx>
 {
     let found = tables.cells.get(cell as usize)?;
     found.trx.get(trx as usize)
+}
+
+/// The first cell, own or outside, with a location area code and cell identity.
+fn cell_with(tables: &Tables, lac: u16, ci: u16) -> Option<u8>
+    ensures value { result ≡ first_cell (has_codes lac ci) tables.now }
+{
+    match own_cell_with(tables.cells.as_slice(), lac, ci) {
+        Some(cell) => Some(cell as u8),
+        None => {
+            let place = outside_cell_with(tables.outside.as_slice(), lac, ci)?;
+            Some(FIRST_OUTSIDE + place as u8)
+        }
+    }
 }
 
 /// The first own cell with a location area code and cell identity.

@@ -8,13 +8,6 @@ use crate::limits::{MOST_CELLS, MOST_NEIGHBOURS, MOST_OUTSIDE, MOST_TRX};
 use arrayvec::ArrayVec;
 use std::marker::Model;
 
-/// The numbers that a key may have, from the least to the most.
-#[derive(Clone, Copy, Debug, PartialEq, Eq)]
-pub struct Allowed {
-    pub least: u16,
-    pub most: u16,
-}
-
 /// When a neighbour is a candidate for a handover.
 #[derive(Clone, Copy, Debug, PartialEq, Eq)]
 pub struct HandoverRule {

@@ -1,9 +1,21 @@
 -- The states of a channel and its steps: activation and release by its station (TS 48.058 clause 4), and its use by calls.
-use Rattle.std.specs.Prelude.{ℕ, Option, Some, None, if◌then◌else◌, ◌==◌}
+use Rattle.std.specs.Prelude.{◌≡◌, ◌↔◌, ℕ, Option, Some, None, if◌then◌else◌, ◌==◌}
 use Rattle.channel_fsm.specs.declared.ChanState.{ChanState}
 use Rattle.channel_fsm.specs.declared.ChanState.TheVariants.{Free, Held, Pending, On, Off}
 use Rattle.channel_fsm.specs.declared.ChanEvent.{ChanEvent}
 use Rattle.channel_fsm.specs.declared.ChanEvent.TheVariants.{Take, Begin, Send, Confirm, Refuse, SwitchOff, Drop, Released}
+
+-- The table: a channel in the first state is in the second after the event. No other event is a step of a channel.
+pub data IsStep : ChanState → ChanEvent → ChanState → Type 0 where
+  take : {c : ℕ} → IsStep Free (Take c) (Held c)
+  begin : {c : ℕ} → IsStep Free (Begin c) (Pending c)
+  send : {c : ℕ} → IsStep (Held c) (Send c) (Pending c)
+  confirm : {c : ℕ} → IsStep (Pending c) Confirm (On c)
+  refuse : {c : ℕ} → IsStep (Pending c) Refuse (Held c)
+  switch_off_pending : {c : ℕ} → IsStep (Pending c) SwitchOff Off
+  switch_off_on : {c : ℕ} → IsStep (On c) SwitchOff Off
+  drop : {c : ℕ} → IsStep (Held c) Drop Free
+  release : IsStep Off Released Free
 
 -- the step of a free channel, and of no other
 abbrev pub from_free : ChanState → ChanState → Option ChanState
@@ -71,3 +83,7 @@ next_state state Refuse = refused state
 next_state state SwitchOff = switched_off state
 next_state state Drop = dropped state
 next_state state Released = released state
+
+-- What it answers is what the table says.
+abbrev pub NextIsTheTable : Type 0
+NextIsTheTable = (state : ChanState) (event : ChanEvent) (after : ChanState) → (next_state state event ≡ Some after) ↔ IsStep state event after

@@ -9,6 +9,7 @@ use ChanEvent::{Begin, Confirm, Drop, Refuse, Released, Send, SwitchOff, Take};
 use ChanState::{Free, Held, Off, On, Pending};
 use std::fmt;
 
+pub mod laws;
 #[cfg(test)]
 mod tests;
 

@@ -3,10 +3,8 @@
 //! No clause says what the line holds. What is refused, and by which check, is `Site::read`'s to say; here the text is
 //! read once more, for the line alone.
 use crate::run::LabFault;
-use cell_table::limits::{
-    FIRST_OUTSIDE, MOST_CELLS, MOST_NEIGHBOURS, MOST_OUTSIDE, MOST_REPORTS, MOST_TRX,
-    TIMESLOTS_OF_TRX,
-};
+use cell_table::limits::{FIRST_OUTSIDE, MOST_CELLS, MOST_NEIGHBOURS, MOST_OUTSIDE};
+use cell_table::ranges::{arfcn_range, tch_range};
 use cell_table::{Key, Site, SiteFault, What};
 use std::alloc::Global;
 use std::fmt;
@@ -90,34 +88,41 @@ fn entries(table: &Value, key: Key) -> &[Value] {
     }
 }
 
-/// The integers that a key, or an entry of it, may have. The first TRX has the cell's BCCH carrier, and no traffic on
-/// timeslot 0.
-fn numbers_of(key: Key, bcch: Option<i64>) -> Numbers {
-    let (what, least, most) = match key {
-        Key::Window => ("a number of reports", 1, MOST_REPORTS as i64),
-        Key::Margin | Key::Minimum => ("a level", 0, 63),
-        Key::Lac => ("a location area code", 0, 65535),
-        Key::Ci => ("a cell identity", 0, 65535),
-        Key::Bcch | Key::Ba => ("a carrier", 0, 1023),
-        Key::Ncc | Key::Bcc => ("a colour code", 0, 7),
-        Key::Power => ("a power level", 0, 31),
-        Key::Arfcn => ("a carrier", bcch.unwrap_or(0), bcch.unwrap_or(1023)),
-        Key::Tch => {
-            let least = i64::from(bcch.is_some());
-            ("a timeslot", least, TIMESLOTS_OF_TRX as i64 - 1)
-        }
-        Key::Cell => ("a number of tables", 1, MOST_CELLS as i64),
-        Key::Trx => ("a number of tables", 1, MOST_TRX as i64),
-        Key::Handover | Key::Outside => ("a number of tables", 0, MOST_OUTSIDE as i64),
+/// What the integers at a key are.
+fn words_of(key: Key) -> &'static str {
+    match key {
+        Key::Window => "a number of reports",
+        Key::Margin | Key::Minimum => "a level",
+        Key::Lac => "a location area code",
+        Key::Ci => "a cell identity",
+        Key::Bcch | Key::Ba | Key::Arfcn => "a carrier",
+        Key::Ncc | Key::Bcc => "a colour code",
+        Key::Power => "a power level",
+        Key::Tch => "a timeslot",
+        Key::Handover | Key::Cell | Key::Trx | Key::Outside => "a number of tables",
+    }
+}
+
+/// The integers that a key, or an entry of it, may have: for the first TRX of a cell with the cell's BCCH carrier. They
+/// are those that [`Site::read`] looks for.
+fn numbers_of(key: Key, bcch: Option<u16>) -> Numbers {
+    let allowed = match bcch {
+        Some(bcch) if key == Key::Arfcn => arfcn_range(bcch, true),
+        Some(_) if key == Key::Tch => tch_range(true),
+        Some(_) | None => key.allowed(),
     };
-    Numbers { what, least, most }
+    Numbers {
+        what: words_of(key),
+        least: i64::from(allowed.least),
+        most: i64::from(allowed.most),
+    }
 }
 
 /// What the value of a key may be; for the first TRX of a cell with the cell's BCCH carrier.
 #[derive(Clone, Copy)]
 struct Wanted {
     key: Key,
-    bcch: Option<i64>,
+    bcch: Option<u16>,
 }
 
 impl fmt::Display for Wanted {
@@ -195,11 +200,11 @@ fn fits(key: Key, value: &Value, numbers: &Numbers) -> bool {
 struct Found<'a> {
     place: Place,
     table: &'a Value,
-    bcch: Option<i64>,
+    bcch: Option<u16>,
 }
 
 /// Whether a table lacks a key, or has another value there than it may have.
-fn is_bad(table: &Value, key: Key, bcch: Option<i64>) -> bool {
+fn is_bad(table: &Value, key: Key, bcch: Option<u16>) -> bool {
     match table.get(key.name()) {
         Some(value) => !fits(key, value, &numbers_of(key, bcch)),
         None => true,
@@ -211,14 +216,15 @@ fn integer_at(table: &Value, key: Key) -> Option<i64> {
     table.get(key.name())?.as_integer()
 }
 
+/// The BCCH carrier of a cell.
+fn carrier_of(cell: &Value) -> Option<u16> {
+    u16::try_from(integer_at(cell, Key::Bcch)?).ok()
+}
+
 /// The first TRX of a cell with a mistake at a key.
 fn bad_trx(cell: &Value, number: usize, key: Key) -> Option<Found<'_>> {
     for (trx, table) in entries(cell, Key::Trx).iter().enumerate() {
-        let bcch = if trx == 0 {
-            integer_at(cell, Key::Bcch)
-        } else {
-            None
-        };
+        let bcch = if trx == 0 { carrier_of(cell) } else { None };
         if is_bad(table, key, bcch) {
             let place = Place::Trx(number, trx);
             return Some(Found { place, table, bcch });

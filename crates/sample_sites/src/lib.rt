@@ -1,7 +1,10 @@
 //! Site files for tests and for the bench, with channels that they name: each stands here once, whoever reads it.
 #![tactic(auto)]
 
+mod faulty;
+
 use channel_fsm::ChanId;
+pub use faulty::FAULTY;
 use std::alloc::{AllocError, Global};
 use std::fmt::Write;
 

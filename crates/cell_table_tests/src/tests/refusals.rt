@@ -1,253 +1,11 @@
 use super::{changed, fault_of};
-use cell_table::SiteFault::{Missing, NoTraffic, Range, Toml, Twice};
-use cell_table::{Key, Site, SiteFault, What};
+use cell_table::SiteFault::{Missing, NoMemory, NoTraffic, Range, Toml, Twice};
+use cell_table::{Key, Site, SiteFault};
 use refusing_heap::RefusingHeap;
-use std::alloc::Global;
+use sample_sites::FAULTY;
+use std::alloc::{AllocError, Global};
 use std::process::Abort;
 use std::test::Fail;
-
-/// A text of the site file, what stands in its place, and why the text is refused then.
-const CHANGES: &[(&str, &str, SiteFault)] = &[
-    // what isn't TOML
-    ("window = 2", "window = ", Toml),
-    ("window = 2", "window = 2\nwindow = 2", Toml),
-    ("window = 2", "window = 9223372036854775808", Toml),
-    ("[handover]", "[handover", Toml),
-    // when a neighbour is a candidate
-    ("[handover]", "[other]", Missing(Key::Handover)),
-    ("[handover]", "[[handover]]", Range(Key::Handover)),
-    ("[handover]", "handover = 1\n[other]", Range(Key::Handover)),
-    ("window = 2\n", "", Missing(Key::Window)),
-    ("window = 2", "window = 0", Range(Key::Window)),
-    ("window = 2", "window = 33", Range(Key::Window)),
-    ("window = 2", "window = -1", Range(Key::Window)),
-    ("window = 2", "window = 2.0", Range(Key::Window)),
-    ("window = 2", "window = true", Range(Key::Window)),
-    ("window = 2", "window = \"2\"", Range(Key::Window)),
-    ("margin = 3\n", "", Missing(Key::Margin)),
-    ("margin = 3", "margin = 64", Range(Key::Margin)),
-    ("minimum = 10\n", "", Missing(Key::Minimum)),
-    ("minimum = 10", "minimum = 64", Range(Key::Minimum)),
-    ("minimum = 10", "minimum = 1979-05-27", Range(Key::Minimum)),
-    // what every cell has
-    ("lac = 23\n", "", Missing(Key::Lac)),
-    ("lac = 23", "lac = 65536", Range(Key::Lac)),
-    ("ci = 100\n", "", Missing(Key::Ci)),
-    ("ci = 100", "ci = 65536", Range(Key::Ci)),
-    ("bcch = 60\n", "", Missing(Key::Bcch)),
-    ("bcch = 60", "bcch = 1024", Range(Key::Bcch)),
-    ("ncc = 1\n", "", Missing(Key::Ncc)),
-    ("ncc = 1", "ncc = 8", Range(Key::Ncc)),
-    ("bcc = 1\n", "", Missing(Key::Bcc)),
-    ("bcc = 1", "bcc = 8", Range(Key::Bcc)),
-    ("power = 5\n", "", Missing(Key::Power)),
-    ("power = 5", "power = 32", Range(Key::Power)),
-    // the BA list
-    ("ba = [62, 70, 871]\n", "", Missing(Key::Ba)),
-    ("ba = [62, 70, 871]", "ba = 3", Range(Key::Ba)),
-    ("ba = [62, 70, 871]", "ba = [\"x\"]", Range(Key::Ba)),
-    ("ba = [62, 70, 871]", "ba = [1024]", Range(Key::Ba)),
-    (
-        "ba = [62, 70, 871]",
-        "ba = [0, 0, 0, 0, 0, 0, 0, 0, 0, 0, 0, 0, 0, 0, 0, 0, 0, 0, 0, 0, 0, 0, 0, 0, 0, 0, 0, 0, 0, 0, 0, 0, 0]",
-        Range(Key::Ba),
-    ),
-    // the TRX
-    (
-        "trx = [{ arfcn = 60, tch = [2, 3] }]\n",
-        "",
-        Missing(Key::Trx),
-    ),
-    (
-        "trx = [{ arfcn = 60, tch = [2, 3] }]",
-        "trx = 1",
-        Range(Key::Trx),
-    ),
-    (
-        "trx = [{ arfcn = 60, tch = [2, 3] }]",
-        "trx = []",
-        Range(Key::Trx),
-    ),
-    (
-        "[{ arfcn = 60, tch = [2, 3] }]",
-        "{ arfcn = 60, tch = [2, 3] }",
-        Range(Key::Trx),
-    ),
-    (
-        "[{ arfcn = 60, tch = [2, 3] }]",
-        "[{ arfcn = 61, tch = [8] }, 3]",
-        Range(Key::Trx),
-    ),
-    (
-        "{ arfcn = 60, tch = [2, 3] }",
-        "{}, {}, {}, {}, {}",
-        Range(Key::Trx),
-    ),
-    ("arfcn = 60, ", "", Missing(Key::Arfcn)),
-    ("arfcn = 60, ", "arfcn = 61, ", Range(Key::Arfcn)),
-    ("arfcn = 871", "arfcn = 870", Range(Key::Arfcn)),
-    ("arfcn = 875", "arfcn = 1024", Range(Key::Arfcn)),
-    ("arfcn = 875, ", "", Missing(Key::Arfcn)),
-    (", tch = [2, 3]", "", Missing(Key::Tch)),
-    ("tch = [2, 3]", "tch = \"x\"", Range(Key::Tch)),
-    ("tch = [2, 3]", "tch = [\"x\"]", Range(Key::Tch)),
-    ("tch = [2, 3]", "tch = [2, 8]", Range(Key::Tch)),
-    ("tch = [2, 3]", "tch = [-1]", Range(Key::Tch)),
-    ("tch = [2, 3]", "tch = [0]", Range(Key::Tch)),
-    (
-        "tch = [2, 3]",
-        "tch = [1, 2, 3, 4, 5, 6, 7, 7, 7, 8]",
-        Range(Key::Tch),
-    ),
-    ("tch = [3]", "tch = [8]", Range(Key::Tch)),
-    // the cells of others
-    ("[[outside]]", "[outside]", Range(Key::Outside)),
-    (
-        "[[outside]]\nlac = 23\n",
-        "[[outside]]\n",
-        Missing(Key::Lac),
-    ),
-    ("ci = 102", "ci = -1", Range(Key::Ci)),
-    ("bcch = 62", "bcch = 1024", Range(Key::Bcch)),
-    ("ncc = 3\n", "", Missing(Key::Ncc)),
-    ("bcc = 0", "bcc = 8", Range(Key::Bcc)),
-    // what stands twice
-    ("ci = 101", "ci = 100", Twice(What::Identity)),
-    ("ci = 102", "ci = 100", Twice(What::Identity)),
-    ("ci = 102", "ci = 101", Twice(What::Identity)),
-    (
-        "bcch = 62\nncc = 3\nbcc = 0",
-        "bcch = 60\nncc = 1\nbcc = 1",
-        Twice(What::Colour),
-    ),
-    ("arfcn = 875", "arfcn = 871", Twice(What::Carrier)),
-    ("tch = [2, 3]", "tch = [3, 3]", Twice(What::Slot)),
-    (
-        "tch = [2, 3]",
-        "tch = [1, 2, 3, 4, 5, 6, 7, 7, 1]",
-        Twice(What::Slot),
-    ),
-    (
-        "tch = [2, 3]",
-        "tch = [1, 2, 3, 4, 5, 6, 7, 2]",
-        Twice(What::Slot),
-    ),
-    ("ba = [60]", "ba = [60, 60]", Twice(What::Neighbour)),
-    // a cell that can't carry a call
-    ("tch = [2, 3]", "tch = []", NoTraffic(0)),
-    ("tch = [3]", "tch = []", NoTraffic(1)),
-    // the first of several checks that fail
-    (
-        "window = 2\nmargin = 3\nminimum = 10",
-        "minimum = 64",
-        Missing(Key::Window),
-    ),
-    (
-        "margin = 3\nminimum = 10",
-        "margin = 64",
-        Range(Key::Margin),
-    ),
-    ("lac = 23\nci = 100", "ci = 65536", Missing(Key::Lac)),
-    (
-        "arfcn = 60, tch = [2, 3]",
-        "arfcn = 61, tch = [8]",
-        Range(Key::Arfcn),
-    ),
-    (
-        "arfcn = 875, tch = [3] }]",
-        "arfcn = 871, tch = [3, 3] }]\n[[outside]]",
-        Missing(Key::Lac),
-    ),
-    (
-        "tch = [3] }]\n[[outside]]\nlac = 23\nci = 102\nbcch = 62\nncc = 3\nbcc = 0",
-        "tch = [3, 3] }]\n[[outside]]\nlac = 23\nci = 101\nbcch = 871\nncc = 2\nbcc = 5",
-        Twice(What::Identity),
-    ),
-    (
-        "tch = [3] }]\n[[outside]]\nlac = 23\nci = 102\nbcch = 62\nncc = 3\nbcc = 0",
-        "tch = [3, 3] }]\n[[outside]]\nlac = 23\nci = 102\nbcch = 871\nncc = 2\nbcc = 5",
-        Twice(What::Colour),
-    ),
-    (
-        "ba = [60]\ntrx = [{ arfcn = 871, tch = [] }, { arfcn = 875, tch = [3] }]",
-        "ba = [60, 60]\ntrx = [{ arfcn = 871, tch = [3, 3] }, { arfcn = 871, tch = [3] }]",
-        Twice(What::Carrier),
-    ),
-    (
-        "ba = [60]\ntrx = [{ arfcn = 871, tch = [] }, { arfcn = 875, tch = [3] }]",
-        "ba = [60, 60]\ntrx = [{ arfcn = 871, tch = [3, 3] }, { arfcn = 875, tch = [3] }]",
-        Twice(What::Slot),
-    ),
-    (
-        "ba = [60]\ntrx = [{ arfcn = 871, tch = [] }, { arfcn = 875, tch = [3] }]",
-        "ba = [60, 60]\ntrx = [{ arfcn = 871, tch = [] }]",
-        Twice(What::Neighbour),
-    ),
-    // a key is looked at before those that stand behind it
-    ("ci = 100\nbcch = 60", "bcch = 1024", Missing(Key::Ci)),
-    ("bcch = 60\nncc = 1", "ncc = 8", Missing(Key::Bcch)),
-    ("ncc = 1\nbcc = 1", "bcc = 8", Missing(Key::Ncc)),
-    ("bcc = 1\npower = 5", "power = 32", Missing(Key::Bcc)),
-    (
-        "power = 5\nba = [62, 70, 871]",
-        "ba = 3",
-        Missing(Key::Power),
-    ),
-    (
-        "ba = [62, 70, 871]\ntrx = [{ arfcn = 60, tch = [2, 3] }]",
-        "trx = 1",
-        Missing(Key::Ba),
-    ),
-    (
-        "tch = [2, 3] }]\n[[cell]]\nlac = 23",
-        "tch = [8] }]\n[[cell]]",
-        Range(Key::Tch),
-    ),
-    (
-        "tch = [] }, { arfcn = 875, ",
-        "tch = [8] }, { ",
-        Range(Key::Tch),
-    ),
-    (
-        "tch = [3] }]\n[[outside]]\nlac = 23",
-        "tch = [8] }]\n[[outside]]",
-        Range(Key::Tch),
-    ),
-    // cell 0 breaks a later rule, cell 1 an earlier one
-    (
-        "tch = [2, 3] }]\n[[cell]]\nlac = 23\nci = 101\nbcch = 871\nncc = 2\nbcc = 5\npower = 5\nba = [60]\ntrx = [{ arfcn = 871, tch = [] }, { arfcn = 875",
-        "tch = [3, 3] }]\n[[cell]]\nlac = 23\nci = 101\nbcch = 871\nncc = 2\nbcc = 5\npower = 5\nba = [60]\ntrx = [{ arfcn = 871, tch = [] }, { arfcn = 871",
-        Twice(What::Carrier),
-    ),
-    (
-        "ba = [62, 70, 871]\ntrx = [{ arfcn = 60, tch = [2, 3] }]\n[[cell]]\nlac = 23\nci = 101\nbcch = 871\nncc = 2\nbcc = 5\npower = 5\nba = [60]\ntrx = [{ arfcn = 871, tch = [] }, { arfcn = 875, tch = [3] }]",
-        "ba = [62, 62]\ntrx = [{ arfcn = 60, tch = [2, 3] }]\n[[cell]]\nlac = 23\nci = 101\nbcch = 871\nncc = 2\nbcc = 5\npower = 5\nba = [60]\ntrx = [{ arfcn = 871, tch = [] }, { arfcn = 875, tch = [3, 3] }]",
-        Twice(What::Slot),
-    ),
-    (
-        "ncc = 3\nbcc = 0\n",
-        "ncc = 3\nbcc = 0\n[[outside]]\nlac = 23\nci = 102\nbcch = 63\nncc = 3\nbcc = 0\n",
-        Twice(What::Identity),
-    ),
-    (
-        "ncc = 3\nbcc = 0\n",
-        "ncc = 3\nbcc = 0\n[[outside]]\nlac = 23\nci = 103\nbcch = 62\nncc = 3\nbcc = 0\n",
-        Twice(What::Colour),
-    ),
-    // below the least number, and numbers of another kind
-    ("margin = 3", "margin = -1", Range(Key::Margin)),
-    ("minimum = 10", "minimum = -1", Range(Key::Minimum)),
-    ("lac = 23", "lac = -1", Range(Key::Lac)),
-    ("bcch = 60", "bcch = -1", Range(Key::Bcch)),
-    ("ncc = 1", "ncc = -1", Range(Key::Ncc)),
-    ("bcc = 1", "bcc = -1", Range(Key::Bcc)),
-    ("power = 5", "power = -1", Range(Key::Power)),
-    ("arfcn = 875", "arfcn = -1", Range(Key::Arfcn)),
-    ("ba = [62, 70, 871]", "ba = [-1]", Range(Key::Ba)),
-    ("ba = [62, 70, 871]", "ba = [62.0]", Range(Key::Ba)),
-    ("tch = [2, 3]", "tch = [true]", Range(Key::Tch)),
-    ("tch = [] }", "tch = [0] }", Range(Key::Tch)),
-];
 
 /// A text of the site file, and what may stand in its place.
 const ALLOWED: &[(&str, &str)] = &[
@@ -287,6 +45,9 @@ const ALLOWED: &[(&str, &str)] = &[
     ("bcc = 1", "bcc = 7"),
     ("bcch = 62", "bcch = 0"),
     ("bcch = 62", "bcch = 1023"),
+    ("margin = 3", "margin = 1"),
+    ("arfcn = 60, tch = [2, 3]", "arfcn = 60, tch = [1, 7]"),
+    ("tch = [3]", "tch = [7, 0]"),
     // what stands twice in two TRX or cells
     ("tch = [] }", "tch = [3] }"),
     ("ba = [60]", "ba = [60, 62]"),
@@ -335,11 +96,28 @@ const TEXTS: &[(&str, SiteFault)] = &[
 const NO_OUTSIDE: &str =
     "outside = []\n[handover]\nwindow = 2\nmargin = 3\nminimum = 10\n[[cell]]\nlac = 23\nci = 100\nbcch = 60\nncc = 1\nbcc = 1\npower = 5\nba = []\ntrx = [{ arfcn = 60, tch = [2] }]";
 
+/// Why a site is refused, as the program prints it behind `site`.
+fn said(alloc: Global, fault: SiteFault) -> Result<String, AllocError> {
+    match fault {
+        Toml => format!(in alloc; "1"),
+        Missing(key) => format!(in alloc; "2 {key}"),
+        Range(key) => format!(in alloc; "3 {key}"),
+        Twice(what) => format!(in alloc; "4 {what}"),
+        NoTraffic(cell) => format!(in alloc; "5 {cell}"),
+        NoMemory => format!(in alloc; "6"),
+    }
+}
+
 #[test]
 fn what_is_one_key_away_is_refused(rt: HostRuntime) -> Result<(), Fail> {
-    for (old, new, fault) in CHANGES {
+    for (old, new, printed) in FAULTY {
         let text = changed(&rt, rt.alloc(), *old, *new)?;
-        assert_eq!(rt; fault_of(rt.alloc(), &text), Some(*fault), "{old} -> {new}");
+        let fault = fault_of(rt.alloc(), &text).expect(&rt, *new);
+        assert_eq!(rt;
+            said(rt.alloc(), fault)?.as_str(),
+            *printed,
+            "{old} -> {new}"
+        );
     }
     Ok(())
 }
@@ -362,27 +140,17 @@ fn texts_without_a_site_are_refused(rt: HostRuntime) {
 }
 
 /// A text is refused without a request for memory.
-fn asks_for_none(
-    rt: &impl Abort,
-    scratch: Global,
-    heap: &RefusingHeap,
-    text: &str,
-    fault: SiteFault,
-) {
-    assert_eq!(rt;
-        Site::read(heap, scratch, text).err(),
-        Some(fault),
-        "{text}"
-    );
+fn asks_for_none(rt: &impl Abort, scratch: Global, heap: &RefusingHeap, text: &str) {
+    assert!(rt; Site::read(heap, scratch, text).is_err(), "{text}");
     assert_eq!(rt; heap.requests(), 0, "{text}");
 }
 
 #[test]
 fn no_memory_is_asked_for_a_text_without_a_site(rt: HostRuntime) -> Result<(), Fail> {
     let heap = RefusingHeap::refusing_from(rt.alloc(), 1);
-    for (old, new, fault) in CHANGES {
+    for (old, new, _) in FAULTY {
         let text = changed(&rt, rt.alloc(), *old, *new)?;
-        asks_for_none(&rt, rt.alloc(), &heap, &text, *fault);
+        asks_for_none(&rt, rt.alloc(), &heap, &text);
     }
     Ok(())
 }

@@ -1,5 +1,5 @@
 use Rattle.std.proofs.Common.{◌≡◌, ◌≤◌, ◌*◌, sum_by, take}
-use Rattle.cell_table.specs.Site.{cell_size}
+use Rattle.cell_table.specs.Searches.{cell_size}
 use Rattle.cell_table.proofs.places.cell_sizes.Given as goal
 
 abbrev pub invariant-loop-each : goal.invariant-loop-each

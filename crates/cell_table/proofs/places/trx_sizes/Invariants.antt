@@ -1,5 +1,5 @@
 use Rattle.std.proofs.Common.{◌≡◌, ◌≤◌, ◌*◌, sum_by, take}
-use Rattle.cell_table.specs.Site.{trx_size}
+use Rattle.cell_table.specs.Searches.{trx_size}
 use Rattle.cell_table.proofs.places.trx_sizes.Given as goal
 
 abbrev pub invariant-loop-each : goal.invariant-loop-each

@@ -1,21 +1,22 @@
 use Rattle.std.proofs.lemmas.Result.{err_from_is_err_and}
 use Rattle.std.proofs.Common.{sym, rules}
 use Rattle.cell_table.specs.declared.fault.Key.TheVariants as key
-use Rattle.cell_table.specs.SiteFile.{number_of, up_to}
+use Rattle.cell_table.specs.SiteFile.{number_of}
+use Rattle.cell_table.specs.Ranges.{allowed}
 use Rattle.cell_table.proofs.Each.{reading-push, reading-err, reading-end}
 use Rattle.cell_table.proofs.reading.carriers_of.Goals as goal
 
 pub loop-entry-preserved : goal.loop-entry-preserved
 loop-entry-preserved c =
     rw c.push.ensures.items
-    (reading-push (λ place. number_of key.Ba (up_to 1023)) c.args.entries.now c.loop-entry.entry-index c.entry-item.result c.loop-entry.carriers.items c.in_ok-number_of.field-0 c.loop-entry-test.true c.entry-item.is (search rules) c.loop-entry.invariant)
+    (reading-push (λ place. number_of key.Ba (allowed key.Ba)) c.args.entries.now c.loop-entry.entry-index c.entry-item.result c.loop-entry.carriers.items c.in_ok-number_of.field-0 c.loop-entry-test.true c.entry-item.is (search rules) c.loop-entry.invariant)
 
 pub returns-in_err-number_of : goal.returns-in_err-number_of
 returns-in_err-number_of c =
     let p = err_from_is_err_and c.from_residual.result c.from_residual.ensures.1 in
-    record { read = rw p.1 (sym (reading-err (λ place. number_of key.Ba (up_to 1023)) c.args.entries.now c.loop-entry.entry-index c.entry-item.result c.loop-entry.carriers.items _ c.loop-entry-test.true c.entry-item.is (search rules) c.loop-entry.invariant)) }
+    record { read = rw p.1 (sym (reading-err (λ place. number_of key.Ba (allowed key.Ba)) c.args.entries.now c.loop-entry.entry-index c.entry-item.result c.loop-entry.carriers.items _ c.loop-entry-test.true c.entry-item.is (search rules) c.loop-entry.invariant)) }
 
 pub returns : goal.returns
 returns c = record {
-  read = sym (reading-end (λ place. number_of key.Ba (up_to 1023)) c.args.entries.now c.loop-entry.entry-index c.loop-entry.carriers.items c.loop-entry-test.false c.loop-entry.invariant);
+  read = sym (reading-end (λ place. number_of key.Ba (allowed key.Ba)) c.args.entries.now c.loop-entry.entry-index c.loop-entry.carriers.items c.loop-entry-test.false c.loop-entry.invariant);
 }

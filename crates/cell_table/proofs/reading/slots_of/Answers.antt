@@ -16,25 +16,25 @@ is_nine n same = grind (arith, nat_tests)
 
 pub loop-entry-preserved : goal.loop-entry-preserved
 loop-entry-preserved c =
-    let says : number_of key.Tch c.args.allowed (view c.entry-item.result) ≡ Ok c.in_ok-slot.field-0 = search rules in
+    let says : number_of key.Tch c.args.range (view c.entry-item.result) ≡ Ok c.in_ok-slot.field-0 = search rules in
     elim c.if-not-is_full.branch [
       | then-not-is_full w ↦
           let fits : length c.loop-entry.slots.items ≤ 9 = c.loop-entry.invariant.count in
           let room : length c.loop-entry.slots.items < 9 = below_nine (length c.loop-entry.slots.items) fits (sym (w.if-not-is_full.ensures.value)) in
           rw (w.slots-is, w.push.ensures.items)
-          (nine-push (λ place. number_of key.Tch c.args.allowed) c.args.entries.now c.loop-entry.entry-index c.entry-item.result c.loop-entry.slots.items c.in_ok-slot.field-0 c.loop-entry-test.true c.entry-item.is says room c.loop-entry.invariant)
+          (nine-push (λ place. number_of key.Tch c.args.range) c.args.entries.now c.loop-entry.entry-index c.entry-item.result c.loop-entry.slots.items c.in_ok-slot.field-0 c.loop-entry-test.true c.entry-item.is says room c.loop-entry.invariant)
       | else-not-is_full w ↦
           let full : length c.loop-entry.slots.items ≡ 9 = is_nine (length c.loop-entry.slots.items) (sym (w.if-not-is_full.ensures.value)) in
           rw w.slots-is
-          (nine-full (λ place. number_of key.Tch c.args.allowed) c.args.entries.now c.loop-entry.entry-index c.entry-item.result c.loop-entry.slots.items c.in_ok-slot.field-0 c.loop-entry-test.true c.entry-item.is says full c.loop-entry.invariant)
+          (nine-full (λ place. number_of key.Tch c.args.range) c.args.entries.now c.loop-entry.entry-index c.entry-item.result c.loop-entry.slots.items c.in_ok-slot.field-0 c.loop-entry-test.true c.entry-item.is says full c.loop-entry.invariant)
     ]
 
 pub returns-in_err-slot : goal.returns-in_err-slot
 returns-in_err-slot c =
     let p = err_from_is_err_and c.from_residual.result c.from_residual.ensures.1 in
-    record { read = rw p.1 (sym (nine-err (λ place. number_of key.Tch c.args.allowed) c.args.entries.now c.loop-entry.entry-index c.entry-item.result c.loop-entry.slots.items _ c.loop-entry-test.true c.entry-item.is (search rules) c.loop-entry.invariant)) }
+    record { read = rw p.1 (sym (nine-err (λ place. number_of key.Tch c.args.range) c.args.entries.now c.loop-entry.entry-index c.entry-item.result c.loop-entry.slots.items _ c.loop-entry-test.true c.entry-item.is (search rules) c.loop-entry.invariant)) }
 
 pub returns : goal.returns
 returns c = record {
-  read = sym (nine-end (λ place. number_of key.Tch c.args.allowed) c.args.entries.now c.loop-entry.entry-index c.loop-entry.slots.items c.loop-entry-test.false c.loop-entry.invariant);
+  read = sym (nine-end (λ place. number_of key.Tch c.args.range) c.args.entries.now c.loop-entry.entry-index c.loop-entry.slots.items c.loop-entry-test.false c.loop-entry.invariant);
 }

@@ -4,4 +4,4 @@ use Rattle.cell_table.proofs.Each.{IsReadingNine}
 use Rattle.cell_table.proofs.reading.slots_of.Given as goal
 
 abbrev pub invariant-loop-entry : goal.invariant-loop-entry
-invariant-loop-entry l = IsReadingNine (λ place. number_of key.Tch l.fn.allowed) l.entries l.entry-index l.slots.items
+invariant-loop-entry l = IsReadingNine (λ place. number_of key.Tch l.fn.range) l.entries l.entry-index l.slots.items

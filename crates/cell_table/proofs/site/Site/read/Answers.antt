@@ -1,6 +1,6 @@
 use Rattle.std.proofs.Common.{◌≡◌, Some, Err, sym, ◌∙◌, ap, rules}
 use Rattle.toml.specs.Parse.{parse_document}
-use Rattle.toml.specs.View.{view, table_view}
+use Rattle.toml.specs.View.{table_view}
 use Rattle.toml.proofs.Views.{view-Table}
 use Rattle.cell_table.specs.declared.fault.Key.TheVariants as key
 use Rattle.cell_table.specs.declared.fault.SiteFault.TheVariants.{Toml, Missing}

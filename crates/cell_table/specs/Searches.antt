@@ -1,0 +1,60 @@
+-- What the searches of the code answer, step by step. No public clause cites it: what they find is said in `Site` and
+-- `Neighbours`.
+use Rattle.std.specs.Prelude.{ℕ, ◌==◌, ◌+◌, ◌/◌, ◌%◌, Bool, ◌&&◌, ◌||◌, not, nat_lt, List, take, sum_by, count_by, length, Option, Some, None, option_map, option_and_then, slice_get, unwrap_or}
+use Rattle.std.specs.List.{list_any, position}
+use Rattle.channel_fsm.specs.declared.ChanId.{ChanId}
+use Rattle.cell_table.specs.declared.tables.CellIdentity.{CellIdentity}
+use Rattle.cell_table.specs.Views.{TrxView, CellView, SiteView}
+use Rattle.cell_table.specs.Limits.{first_outside}
+
+-- an own cell before an outside one
+abbrev pub own_or_outside : Option ℕ → Option ℕ → Option ℕ
+own_or_outside (Some cell) outside = Some cell
+own_or_outside None outside = option_map (λ place. first_outside + place) outside
+
+-- the first cell that passes a test, own cells before outside ones
+abbrev pub first_cell : (CellIdentity → Bool) → SiteView → Option ℕ
+first_cell test site = own_or_outside (position (λ c. test c.identity) site.cells) (position test site.outside)
+
+-- the cell has these codes
+abbrev pub has_codes : ℕ → ℕ → CellIdentity → Bool
+has_codes lac ci c = (c.lac == lac) && (c.ci == ci)
+
+-- one carrier stands before another in a neighbour list
+abbrev pub stands_before : ℕ → ℕ → Bool
+stands_before carrier other = not (carrier == 0) && ((other == 0) || nat_lt carrier other)
+
+-- so many carriers of a BA list, of which it is one, stand before a carrier
+abbrev pub is_at : List ℕ → ℕ → ℕ → Bool
+is_at ba place carrier = list_any (λ other. other == carrier) ba && (count_by (λ other. stands_before other carrier) ba == place)
+
+-- the cell has the base station identity code
+abbrev pub has_bsic : ℕ → CellIdentity → Bool
+has_bsic bsic c = (c.ncc == bsic / 8) && (c.bcc == bsic % 8)
+
+-- the cell has the code, and its carrier the place
+abbrev pub is_named : List ℕ → ℕ → ℕ → CellIdentity → Bool
+is_named ba place bsic c = has_bsic bsic c && is_at ba place c.bcch
+
+-- the first cell that the serving cell's neighbour list and a code name
+abbrev pub first_named : SiteView → ℕ → ℕ → ℕ → Option ℕ
+first_named site serving place bsic = option_and_then (λ ba. first_cell (is_named ba place bsic) site) (option_map (λ c. c.ba) (slice_get site.cells serving))
+
+-- how many traffic channels a TRX and a cell have
+abbrev pub trx_size : TrxView → ℕ
+trx_size t = length t.tch
+
+abbrev pub cell_size : CellView → ℕ
+cell_size c = sum_by trx_size c.trx
+
+-- how many traffic timeslots of a TRX come before one
+abbrev pub slots_before : ℕ → TrxView → ℕ
+slots_before tn t = count_by (λ n. nat_lt n tn) t.tch
+
+-- how many traffic channels of a cell come before one
+abbrev pub before_in_cell : ChanId → CellView → ℕ
+before_in_cell chan c = sum_by trx_size (take chan.trx c.trx) + unwrap_or (option_map (slots_before chan.tn) (slice_get c.trx chan.trx)) 0
+
+-- how many traffic channels of the cells come before one
+abbrev pub channels_before : List CellView → ChanId → ℕ
+channels_before cells chan = sum_by cell_size (take chan.cell cells) + unwrap_or (option_map (before_in_cell chan) (slice_get cells chan.cell)) 0
