@@ -5,3 +5,4 @@ pub mod SiteFacts
 pub mod Blank
 pub mod Refusals
 pub mod Nine
+pub mod NameFacts

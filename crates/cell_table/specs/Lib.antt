@@ -4,6 +4,7 @@ pub mod Rules
 pub mod Same
 pub mod Site
 pub mod Neighbours
+pub mod NeighbourNames
 pub mod SiteFile
 pub mod Reading
 pub mod Laws
