@@ -65,11 +65,12 @@ pub name_is : (site : SiteView) → IsSite site → (cell neighbour place bsic :
 name_is site sound cell neighbour place bsic = (there (slice_get site.cells cell) (identity_at site neighbour) refl refl, back)
   where
     there : (o : Option CellView) (i : Option CellIdentity) → slice_get site.cells cell ≡ o → identity_at site neighbour ≡ i
-      → option_and_then {U = ℕ × ℕ} (λ serving. option_and_then (name_of serving.ba) i) o ≡ Some (place, bsic) → IsName site cell neighbour place bsic
+        → option_and_then {U = ℕ × ℕ} (λ serving. option_and_then (name_of serving.ba) i) o ≡ Some (place, bsic) → IsName site cell neighbour place bsic
     there None i own known e = absurd cc
     there (Some serving) None own known e = absurd cc
     there (Some serving) (Some identity) own known e =
         record { serving = serving; identity = identity; own = own; there = known; named = to_name serving.ba identity (identity_range site sound neighbour identity known) place bsic e }
+
     back : IsName site cell neighbour place bsic → neighbour_name site cell neighbour ≡ Some (place, bsic)
     back n =
         ap (λ o. option_and_then {U = ℕ × ℕ} (λ serving. option_and_then (name_of serving.ba) (identity_at site neighbour)) o) n.own

@@ -10,7 +10,9 @@ returns g c =
     let sound : IsSite site = subst IsSite c.self.view_is c.self.invariant in
     let same : c.deref.result.now ≡ site = c.deref.ensures ∙ c.self.view_is in
     let found : c.name_in.result ≡ neighbour_name site c.args.cell c.args.neighbour =
-      c.name_in.ensures.value ∙ ap (λ tables. neighbour_name tables c.args.cell c.args.neighbour) same in
-    record { name = λ place bsic.
-      let is = name_is site sound c.args.cell c.args.neighbour place bsic in
-      (λ e. is.0 (sym found ∙ e), λ n. found ∙ is.1 n) }
+    c.name_in.ensures.value ∙ ap (λ tables. neighbour_name tables c.args.cell c.args.neighbour) same in
+    record {
+      name = λ place bsic.
+          let is = name_is site sound c.args.cell c.args.neighbour place bsic in
+          (λ e. is.0 (sym found ∙ e), λ n. found ∙ is.1 n);
+    }
