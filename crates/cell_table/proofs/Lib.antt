@@ -6,3 +6,4 @@ pub mod Blank
 pub mod Refusals
 pub mod Nine
 pub mod NameFacts
+pub mod FoundNames
