@@ -36,6 +36,10 @@ pub enum Task {
     EncodeRequired,
     /// Reads a site file of 64 cells with four TRX each.
     ReadSite,
+    /// Adds a report to a window of 32.
+    AddReport,
+    /// Lists the candidates for a handover on a site of 64 cells, by a window of 32 reports.
+    ListCandidates,
 }
 
 /// A case: what is repeated, and on which octets.
@@ -52,7 +56,7 @@ pub struct Case {
 }
 
 /// Every case, in the order in which they are printed: name, task, octets, place.
-pub const CASES: [Case; 14] = [
+pub const CASES: [Case; 16] = [
     Case {
         name: "chan_act.dec",
         task: Task::DecodeActivation,
@@ -137,6 +141,18 @@ pub const CASES: [Case; 14] = [
         octets: &[0],
         place: 0,
     },
+    Case {
+        name: "window.add",
+        task: Task::AddReport,
+        octets: REPORT,
+        place: 2,
+    },
+    Case {
+        name: "candidates.64",
+        task: Task::ListCandidates,
+        octets: SIX_NEIGHBOURS,
+        place: 2,
+    },
 ];
 
 /// The first of these cases that has this name.
@@ -187,4 +203,16 @@ const REQUEST: &[u8] = &[
 /// HANDOVER REQUIRED for a better cell, that of area 23 and identity 102, with a response requested.
 const REQUIRED: &[u8] = &[
     0x00, 0x0C, 0x11, 0x04, 0x01, 0x0C, 0x1B, 0x1A, 0x05, 0x01, 0x00, 0x17, 0x00, 0x66,
+];
+
+/// MEASUREMENT REPORT with one neighbour of level 40 at position 2 with code 21, and serving levels of 30.
+const REPORT: &[u8] = &[
+    0x06, 0x15, 0x1E, 0x1E, 0x00, 0x68, 0x12, 0xA0, 0, 0, 0, 0, 0, 0, 0, 0, 0, 0,
+];
+
+/// MEASUREMENT REPORT with serving levels of 30, and neighbours of levels 63, 50, 50, 48, 40 and 20 at positions 0 to 5 with
+/// code 0.
+const SIX_NEIGHBOURS: &[u8] = &[
+    0x06, 0x15, 0x1E, 0x1E, 0x01, 0xBF, 0x00, 0x19, 0x04, 0x0C, 0x84, 0x06, 0x03, 0x02, 0x82, 0x00,
+    0xA1, 0x40,
 ];

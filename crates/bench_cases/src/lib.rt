@@ -11,6 +11,7 @@ mod life;
 mod measured;
 mod radio;
 mod repeated;
+mod reports;
 mod site;
 mod varying;
 pub mod words;
@@ -44,5 +45,7 @@ pub fn sum_of(alloc: Global, case: Case, count: u64, octets: &[u8]) -> Result<u6
         Task::DecodeRequired => read_each(&Subject::Required, alloc, &mut varying, count),
         Task::EncodeRequired => encode_messages(alloc, Subject::Required, &mut varying, count),
         Task::ReadSite => site::read_sites(alloc, &mut varying, count),
+        Task::AddReport => reports::add_reports(alloc, &mut varying, count),
+        Task::ListCandidates => reports::list_candidates(alloc, &mut varying, count),
     }
 }

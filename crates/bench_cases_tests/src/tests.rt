@@ -23,7 +23,10 @@ use std::process::Abort;
 /// - HANDOVER REQUIRED read: cause 12, response 1, cell 23 + 102 and then 23 + 103: 138 + 139. Written: the 14 octets,
 ///   230 and then 231.
 /// - A site read: 64 cells, and the carriers 0 to 3 of cell 0 and then 4 to 7 of cell 1: 70 + 86.
-const SUMS: [(&str, u64); 14] = [
+/// - A report added: lengths 1 + 2, and the serving cell's 30 + 31.
+/// - Candidates: the serving cell has 30 + 31 + .. + 61, 1,456; the first four neighbours have 32 times 63, 50, 50 and 48,
+///   2,016 + 1,600 + 1,600 + 1,536: 6,752; they are the cells 1 to 4 and then 2 to 5: 6,752 + 10 + 6,752 + 14.
+const SUMS: [(&str, u64); 16] = [
     ("chan_act.dec", 115),
     ("chan_act.enc", 259),
     ("call.octets", 284),
@@ -38,6 +41,8 @@ const SUMS: [(&str, u64); 14] = [
     ("ho_required.dec", 277),
     ("ho_required.enc", 461),
     ("site.read", 156),
+    ("window.add", 64),
+    ("candidates.64", 13_528),
 ];
 
 /// The case of this name.
@@ -71,8 +76,8 @@ fn other_octets_of_the_message(rt: HostRuntime) {
     assert_eq!(rt; sum_of(rt.alloc(), activation, 2, &octets), Ok(285));
 }
 
-/// The cases that read their octets as one message, whether to read it again or to write it.
-const READERS: [&str; 10] = [
+/// The cases that read their octets as one message, whether to read it again, to write it or to keep it.
+const READERS: [&str; 12] = [
     "chan_act.dec",
     "chan_act.enc",
     "meas_res.dec",
@@ -83,6 +88,8 @@ const READERS: [&str; 10] = [
     "ho_request.enc",
     "ho_required.dec",
     "ho_required.enc",
+    "window.add",
+    "candidates.64",
 ];
 
 const REQUEST: [&str; 2] = ["ho_request.dec", "ho_request.enc"];

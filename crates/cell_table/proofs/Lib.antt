@@ -11,3 +11,5 @@ pub mod Lookups
 pub mod Ordered
 pub mod NeighbourFacts
 pub mod Counted
+pub mod NameFacts
+pub mod FoundNames

@@ -6,6 +6,7 @@ pub mod Same
 pub mod Site
 pub mod Neighbours
 pub mod Searches
+pub mod NeighbourNames
 pub mod SiteFile
 pub mod Reading
 pub mod Laws

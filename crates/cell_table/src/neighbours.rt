@@ -14,7 +14,7 @@ fn stands_before(carrier: u16, other: u16) -> bool
 }
 
 /// How many carriers of a BA list stand before one in the neighbour list.
-fn count_before(ba: &[u16], carrier: u16) -> usize
+pub fn count_before(ba: &[u16], carrier: u16) -> usize
     ensures value { result ≡ count_by (λ other. stands_before other carrier) ba.now }
 {
     ba.iter()

@@ -11,6 +11,8 @@ ghost use Rattle.std.specs.Cmp.Rules.{comparing};
 ghost use Rattle.cell_table.specs.Same.{same_site};
 ghost use Rattle.cell_table.specs.Neighbours.{IsNamedCell};
 
+mod naming;
+
 use crate::checks::broken_rule;
 use crate::fault::{Key, SiteFault};
 use crate::limits::FIRST_OUTSIDE;

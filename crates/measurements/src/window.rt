@@ -1,6 +1,6 @@
 //! The last valid reports of a mobile.
-ghost use Rattle.std.specs.Prelude.{◌≡◌, ◌≤◌, [], ◌∷◌, ◌++◌, IfOk, IsTrue, ◌↔◌, length};
-ghost use Rattle.measurements.specs.Reports.{no_reports, last_valid, sum_used, sum_named};
+ghost use Rattle.std.specs.Prelude.{◌≡◌, ◌≤◌, [], ◌∷◌, ◌++◌, IfOk, IsTrue, false, ◌↔◌, length};
+ghost use Rattle.measurements.specs.Reports.{no_reports, is_valid, last_valid, sum_used, sum_named};
 
 use crate::levels::{neighbour_levels, serving_levels};
 use circular_buffer::HeapCircularBuffer;
@@ -43,6 +43,7 @@ impl<A: Allocator> Window<A> {
         ensures reports { self.new.reports ≡
             last_valid self.old.width (self.old.reports ++ report.now ∷ []) }
         ensures width { self.new.width ≡ self.old.width }
+        ensures invalid { is_valid report.now ≡ false → self.new ≡ self.old }
     {
         if report.head().valid {
             let _forgotten = self.reports.push_back(*report);

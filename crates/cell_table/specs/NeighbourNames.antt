@@ -1,0 +1,37 @@
+-- By which position and code a mobile names a neighbour of the cell that serves it.
+use Rattle.std.specs.Prelude.{ℕ, ◌≡◌, ◌==◌, ◌↔◌, ◌*◌, ◌+◌, IsTrue, if◌then◌else◌, List, Option, Some, None, option_map, option_and_then, slice_get, count_by}
+use Rattle.std.specs.List.{list_any}
+use Rattle.cell_table.specs.declared.tables.CellIdentity.{CellIdentity}
+use Rattle.cell_table.specs.Views.{CellView, SiteView}
+use Rattle.cell_table.specs.Site.{IsSite, identity_at}
+use Rattle.cell_table.specs.Neighbours.{stands_before, is_named, by_bsic}
+
+-- The carrier of a cell, own or outside, is at this place of the neighbour list of an own cell, and this is its base
+-- station identity code.
+pub record IsName (site : SiteView) (cell neighbour place bsic : ℕ) : Type 0 where
+  pub serving : CellView
+  pub identity : CellIdentity
+  pub own : slice_get site.cells cell ≡ Some serving
+  pub there : identity_at site neighbour ≡ Some identity
+  pub named : IsTrue (is_named serving.ba place bsic identity)
+
+-- the place of a carrier in the neighbour list that a BA list gives, where it is one of them
+abbrev pub place_of : List ℕ → ℕ → Option ℕ
+place_of ba carrier = if list_any (λ other. other == carrier) ba then Some (count_by (λ other. stands_before other carrier) ba) else None
+
+-- the base station identity code of a cell (TS 23.003 clause 4.3.2)
+abbrev pub bsic_of : CellIdentity → ℕ
+bsic_of c = c.ncc * 8 + c.bcc
+
+-- a cell's place and code
+abbrev pub name_of : List ℕ → CellIdentity → Option (ℕ × ℕ)
+name_of ba c = option_map (λ place. (place, bsic_of c)) (place_of ba c.bcch)
+
+-- the name of a cell, own or outside, in an own cell
+abbrev pub neighbour_name : SiteView → ℕ → ℕ → Option (ℕ × ℕ)
+neighbour_name site cell neighbour =
+    option_and_then (λ serving. option_and_then (name_of serving.ba) (identity_at site neighbour)) (slice_get site.cells cell)
+
+-- In a site a position and a code find the neighbour that they name, and no other.
+abbrev pub NamesAreFound : Type 0
+NamesAreFound = (site : SiteView) → IsSite site → (cell neighbour place bsic : ℕ) → (by_bsic site cell place bsic ≡ Some neighbour) ↔ IsName site cell neighbour place bsic

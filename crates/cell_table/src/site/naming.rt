@@ -1,0 +1,62 @@
+//! By which position and code a mobile names a neighbour of the cell that serves it.
+ghost use Rattle.std.specs.Prelude.{◌≡◌, ◌≤◌, ◌↔◌, ℕ, length};
+ghost use Rattle.cell_table.specs.Limits.{most_neighbours};
+ghost use Rattle.cell_table.specs.Site.{IsSite, IsIdentity};
+ghost use Rattle.cell_table.specs.NeighbourNames.{IsName, place_of, bsic_of, name_of, neighbour_name};
+
+use super::{Site, identity_in};
+use crate::neighbours::count_before;
+use crate::tables::{CellIdentity, Tables};
+use std::alloc::Allocator;
+
+/// The place of a carrier in the neighbour list that a BA list gives; `None` where it isn't one of them.
+fn place_of(ba: &[u16], carrier: u16) -> Option<u8>
+    requires { length ba.now ≤ most_neighbours }
+    ensures value { result ≡ place_of ba.now carrier }
+{
+    if !ba.contains(&carrier) {
+        return None;
+    }
+    Some(count_before(ba, carrier) as u8)
+}
+
+/// A cell's base station identity code.
+fn bsic_of(cell: CellIdentity) -> u8
+    requires { IsIdentity cell }
+    ensures value { result ≡ bsic_of cell }
+{
+    cell.ncc * 8 + cell.bcc
+}
+
+/// A cell's place in the neighbour list that a BA list gives, and its base station identity code.
+fn name_of(ba: &[u16], cell: CellIdentity) -> Option<(u8, u8)>
+    requires few { length ba.now ≤ most_neighbours }
+    requires range { IsIdentity cell }
+    ensures value { result ≡ name_of ba.now cell }
+{
+    Some((place_of(ba, cell.bcch)?, bsic_of(cell)))
+}
+
+/// The name of a cell, own or outside, in an own cell.
+fn name_in(tables: &Tables, cell: u8, neighbour: u8) -> Option<(u8, u8)>
+    requires { IsSite tables.now }
+    ensures value { result ≡ neighbour_name tables.now cell neighbour }
+{
+    let serving = tables.cells.get(cell as usize)?;
+    let named = identity_in(tables, neighbour)?;
+    name_of(serving.ba.as_slice(), named)
+}
+
+impl<A: Allocator + Copy> Site<A> {
+    /// By which position in its neighbour list and which base station identity code a mobile in an own cell names a
+    /// neighbour, an own or outside cell: what [`Site::by_bsic`] finds the neighbour by. `None` where the cell isn't an
+    /// own one, where there is no such neighbour, and where the neighbour's carrier isn't in the cell's `ba`.
+    ///
+    /// The position is 0 to 31, the code 0 to 63: eight times the neighbour's `ncc` and its `bcc`.
+    pub fn neighbour_name(&self, cell: u8, neighbour: u8) -> Option<(u8, u8)>
+        ensures name { (place bsic : ℕ) →
+            (result ≡ Some (place, bsic)) ↔ IsName self.now cell neighbour place bsic }
+    {
+        name_in(&self.tables, cell, neighbour)
+    }
+}
