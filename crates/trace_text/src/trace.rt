@@ -149,9 +149,9 @@ impl fmt::Display for RecordText {
     }
 }
 
-/// What the book replied.
+/// What the book replied, as it stands behind ` -> ` in an event's line.
 #[derive(Clone, Copy)]
-struct ReplyText(Reply);
+pub struct ReplyText(pub Reply);
 
 impl fmt::Display for ReplyText {
     fn fmt<W: fmt::Write>(&self, f: &mut fmt::Formatter<W>) -> fmt::Result {
