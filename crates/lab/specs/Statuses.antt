@@ -8,6 +8,7 @@ use Rattle.lab.specs.declared.run.LabFault.TheVariants as stopped
 -- the status after work that came to its end
 abbrev pub status_of : Status → ℕ
 status_of ended.Done = 0
+status_of ended.Differs = 1
 status_of ended.Refused = 2
 
 -- the status after work that did not

@@ -2,6 +2,7 @@
 ghost use Rattle.std.specs.Prelude.{◌≡◌, ◌<◌, ◌≤◌, length, string_bytes, None, IfOk, IfSome, IsSomeAnd};
 ghost use Rattle.lab.specs.Files.{longest_file};
 
+use crate::rewound::rewind_run;
 use crate::run::{LabFault, Status, lab_run};
 use crate::site_reason::say_reason;
 use std::alloc::Allocator;
@@ -51,6 +52,23 @@ fn text_of<R: Files + AllocGlobal, W: Write>(
     }
 }
 
+/// The texts of two files, the first of which is read first; nothing where one can't be read, and then the path of the
+/// first such was printed.
+fn texts_of<R: Files + AllocGlobal, W: Write>(
+    rt: &R,
+    first: &str,
+    second: &str,
+    out: &mut W,
+) -> Result<Option<(String, String)>, LabFault> {
+    let Some(first) = text_of(rt, first, out)? else {
+        return Ok(None);
+    };
+    let Some(second) = text_of(rt, second, out)? else {
+        return Ok(None);
+    };
+    Ok(Some((first, second)))
+}
+
 /// Runs the script of one file over the site of another, and prints the trace to `out`, as [`lab_run`] does of texts.
 ///
 /// The site's file is read first. Where a file isn't there, can't be read, isn't UTF-8 or has more than
@@ -64,13 +82,31 @@ pub fn run_files<R: Files + AllocGlobal, W: Write, E: Write>(
     errors: &mut E,
 ) -> Result<Status, LabFault> {
     let alloc = rt.alloc();
-    let Some(site_text) = text_of(rt, site, out)? else {
-        return Ok(Status::Refused);
-    };
-    let Some(script_text) = text_of(rt, script, out)? else {
+    let Some((site_text, script_text)) = texts_of(rt, site, script, out)? else {
         return Ok(Status::Refused);
     };
     let status = lab_run(alloc, alloc, &site_text, &script_text, out)?;
+    if status == Status::Refused {
+        say_reason(alloc, site, &site_text, errors)?;
+    }
+    Ok(status)
+}
+
+/// Takes an undone attempt out of the trace of one file, over the site of another, and prints what stays, as
+/// [`rewind_run`] does of texts. Files and the site are refused as [`run_files`] refuses them.
+pub fn rewind_files<R: Files + AllocGlobal, W: Write, E: Write>(
+    rt: &R,
+    site: &str,
+    trace: &str,
+    line: usize,
+    out: &mut W,
+    errors: &mut E,
+) -> Result<Status, LabFault> {
+    let alloc = rt.alloc();
+    let Some((site_text, trace_text)) = texts_of(rt, site, trace, out)? else {
+        return Ok(Status::Refused);
+    };
+    let status = rewind_run(alloc, alloc, &site_text, &trace_text, line, out)?;
     if status == Status::Refused {
         say_reason(alloc, site, &site_text, errors)?;
     }

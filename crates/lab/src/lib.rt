@@ -4,8 +4,10 @@
 #![tactic(auto)]
 
 pub mod decoded;
+pub mod entries;
 pub mod files;
 pub mod program;
+pub mod rewound;
 pub mod run;
 mod site_reason;
 pub mod words;

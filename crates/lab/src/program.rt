@@ -1,13 +1,13 @@
 //! What the program does with the words of its command line.
 use crate::decoded::decode_run;
-use crate::files::run_files;
+use crate::files::{rewind_files, run_files};
 use crate::run::{LabFault, Status};
 use crate::words::{Job, WordsFault, read_words};
 use std::io::Write;
 use std::rt::Files;
 
 /// Does what the words of a command line ask for, those after the program's own name: runs a script over a site
-/// ([`run_files`]), prints a message in words ([`decode_run`]), or shows help or the version. What it prints goes to
+/// ([`run_files`]), takes an undone attempt out of a trace ([`rewind_files`]), prints a message in words ([`decode_run`]), or shows help or the version. What it prints goes to
 /// `out`; why words or a site are refused goes to `errors`.
 ///
 /// No clause says what is printed, nor which words end how: that is shown by tests.
@@ -19,6 +19,7 @@ pub fn perform<R: Files + AllocGlobal, W: Write, E: Write>(
 ) -> Result<Status, LabFault> {
     match read_words(rt.alloc(), words) {
         Ok(Job::Run { site, script }) => run_files(rt, site, script, out, errors),
+        Ok(Job::Rewind { site, trace, line }) => rewind_files(rt, site, trace, line, out, errors),
         Ok(Job::Decode { link, text }) => decode_run(rt.alloc(), link, text, out),
         Ok(Job::Show(text)) => {
             write!(out, "{text}")?;

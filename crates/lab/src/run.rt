@@ -19,10 +19,12 @@ use trace_text::trace::{print_end, print_fault, print_handled, print_input};
 /// How the work ended.
 #[derive(Clone, Copy, Debug, PartialEq, Eq)]
 pub enum Status {
-    /// All inputs were handled, or the message, help or the version was printed.
+    /// All inputs were handled, an undone attempt left no trace, or the message, help or the version was printed.
     Done,
-    /// Something was refused, and what was printed says what: the words, a file, the site, a line of the script, or what
-    /// was to be decoded.
+    /// An undone attempt left a trace: the book without it differs from the whole one, or a reply does.
+    Differs,
+    /// Something was refused, and what was printed says what: the words, a file, the site, a line of the script or of the
+    /// trace, what was to be decoded, or what was to be taken out.
     Refused,
 }
 
@@ -63,6 +65,7 @@ fn status_of(status: Status) -> u8
 {
     match status {
         Status::Done => 0,
+        Status::Differs => 1,
         Status::Refused => 2,
     }
 }
@@ -77,7 +80,7 @@ fn status_after(fault: LabFault) -> u8
     }
 }
 
-/// The status that a program ends with: 0 where the work is done, 2 where something was refused or the output couldn't
+/// The status that a program ends with: 0 where the work is done, 1 where an undone attempt left a trace, 2 where something was refused or the output couldn't
 /// be written, 3 where memory was refused.
 pub fn exit_status(ended: Result<Status, LabFault>) -> u8
     ensures status { result ≡ exit_status_of ended }
@@ -160,7 +163,7 @@ fn run_script<A: Allocator + Copy, W: Write>(
 }
 
 /// Says why there is no site to run over: the number of the fault and what it is of.
-fn refuse_site<W: Write>(fault: SiteFault, out: &mut W) -> Result<Status, LabFault>
+pub(crate) fn refuse_site<W: Write>(fault: SiteFault, out: &mut W) -> Result<Status, LabFault>
     ensures done { result ≢ Ok Status.Done }
     ensures refused { result ≡ Ok Status.Refused → fault ≢ SiteFault.NoMemory }
     ensures memory { result ≡ Err LabFault.NoMemory → fault ≡ SiteFault.NoMemory }

@@ -3,16 +3,29 @@ ghost use Rattle.std.specs.Prelude.{◌≡◌};
 
 use crate::decoded::Link;
 use clap::error::ErrorKind;
-use clap::{Arg, ArgAction, ArgMatches, Command, Error};
+use clap::{Arg, ArgAction, ArgMatches, Command, Error, value_parser};
 use std::alloc::{AllocError, Global};
 
 /// What the command line asks for.
 #[derive(Drop)]
 pub enum Job<'a> {
     /// A script is run over a site: the paths of both files.
-    Run { site: &'a str, script: &'a str },
+    Run {
+        site: &'a str,
+        script: &'a str,
+    },
+    /// An undone attempt is taken out of a trace: the paths of the site and of the trace, and the line, counted from 1, in
+    /// which the attempt opens.
+    Rewind {
+        site: &'a str,
+        trace: &'a str,
+        line: usize,
+    },
     /// A message, written in hexadecimal, is printed in words.
-    Decode { link: Link, text: &'a str },
+    Decode {
+        link: Link,
+        text: &'a str,
+    },
     /// A text is shown: the help that was asked for, or the version.
     Show(String),
 }
@@ -65,6 +78,31 @@ fn run_command<'a>(alloc: Global) -> Result<Command<'a>, AllocError> {
         .arg(argument(alloc, "SCRIPT", "The script file"))
 }
 
+/// `rewind SITE TRACE LINE`
+fn rewind_command<'a>(alloc: Global) -> Result<Command<'a>, AllocError> {
+    Command::new(alloc, "rewind")
+        .about(
+            "Takes an undone attempt at handover out of a trace, and says whether it left a trace of its own",
+        )
+        .arg(argument(alloc, "SITE", "The site file"))?
+        .arg(argument(
+            alloc,
+            "TRACE",
+            "The trace, as run prints it from the empty book on",
+        ))?
+        .arg(line_argument(alloc))
+}
+
+/// `LINE`
+fn line_argument<'a>(alloc: Global) -> Arg<'a> {
+    argument(
+        alloc,
+        "LINE",
+        "The line of the trace, counted from 1, in which the attempt opens: one that begins with event take or event require",
+    )
+    .value_parser(value_parser!(usize).range(1..))
+}
+
 /// `decode LINK HEX`
 fn decode_command<'a>(alloc: Global) -> Result<Command<'a>, AllocError> {
     Command::new(alloc, "decode")
@@ -96,6 +134,7 @@ fn lab_command<'a>(alloc: Global) -> Result<Command<'a>, AllocError> {
         .bin_name("bsc_lab")?
         .subcommand_required(true)
         .subcommand(run_command(alloc)?)?
+        .subcommand(rewind_command(alloc)?)?
         .subcommand(decode_command(alloc)?)
 }
 
@@ -105,6 +144,11 @@ fn job_of<'a>(matches: &ArgMatches<'a>) -> Option<Job<'a>> {
         ("run", run) => Some(Job::Run {
             site: run.get_str("SITE")?,
             script: run.get_str("SCRIPT")?,
+        }),
+        ("rewind", rewind) => Some(Job::Rewind {
+            site: rewind.get_str("SITE")?,
+            trace: rewind.get_str("TRACE")?,
+            line: rewind.get_one::<usize>("LINE")?,
         }),
         ("decode", decode) => Some(Job::Decode {
             link: link(decode.get_str("LINK")?)?,

@@ -200,8 +200,8 @@ fn is_readable(line: &str) -> bool
 }
 
 /// A line without the carriage return that may end it.
-fn without_return(line: &str) -> &str
-    ensures { result.now ≡ strip_carriage_return line.now }
+pub fn without_return(line: &str) -> &str
+    ensures stripped { result.now ≡ strip_carriage_return line.now }
 {
     line.strip_suffix('\r').unwrap_or(line)
 }

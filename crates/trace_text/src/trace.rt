@@ -4,11 +4,10 @@
 use crate::bad::Bad;
 use crate::text::{HexText, OrDash};
 use channel_fsm::ChanState;
+use event_text::writing::EventText;
 use ho_procedure::exchange::{Handled, Inbound, Line, Outbound};
 use radio_book::book::Usage;
-use radio_book::event::{
-    Attempt, AttemptKind, CallRecord, Event, Kind, Refusal, Reply, Stage, Timer, Why,
-};
+use radio_book::event::{Attempt, AttemptKind, CallRecord, Event, Refusal, Reply, Stage};
 use std::alloc::Allocator;
 use std::fmt;
 use std::io::{self, Write};
@@ -55,62 +54,6 @@ impl<A: Allocator> fmt::Display for OutboundText<'_, A> {
             Outbound::Abis { cell, trx, bytes } => {
                 write!(f, "abis {cell} {trx} {}", HexText(bytes.as_slice()))
             }
-        }
-    }
-}
-
-/// Where the call of an attempt comes from, in small letters.
-#[derive(Clone, Copy)]
-struct KindText(Kind);
-
-impl fmt::Display for KindText {
-    fn fmt<W: fmt::Write>(&self, f: &mut fmt::Formatter<W>) -> fmt::Result {
-        f.write_str(match self.0 {
-            Kind::Internal => "internal",
-            Kind::Incoming => "incoming",
-        })
-    }
-}
-
-/// Why an attempt is taken back: `asked`, or the timer that expired in small letters.
-#[derive(Clone, Copy)]
-struct WhyText(Why);
-
-impl fmt::Display for WhyText {
-    fn fmt<W: fmt::Write>(&self, f: &mut fmt::Formatter<W>) -> fmt::Result {
-        f.write_str(match self.0 {
-            Why::Asked => "asked",
-            Why::Expired(Timer::T3103) => "t3103",
-            Why::Expired(Timer::T7) => "t7",
-            Why::Expired(Timer::T8) => "t8",
-        })
-    }
-}
-
-/// What was asked of the book: a word for the kind of event, and what it names.
-#[derive(Clone, Copy)]
-struct EventText(Event);
-
-impl fmt::Display for EventText {
-    fn fmt<W: fmt::Write>(&self, f: &mut fmt::Formatter<W>) -> fmt::Result {
-        match self.0 {
-            Event::Open(call, chan) => write!(f, "open {call} {chan}"),
-            Event::Clear(call) => write!(f, "clear {call}"),
-            Event::Look(call) => write!(f, "look {call}"),
-            Event::Take(call, kind, chan) => write!(f, "take {call} {} {chan}", KindText(kind)),
-            Event::Reserve(call, number) => write!(f, "reserve {call} {number}"),
-            Event::Activate(call) => write!(f, "activate {call}"),
-            Event::Undo(call, why) => write!(f, "undo {call} {}", WhyText(why)),
-            Event::Confirm(chan) => write!(f, "confirm {chan}"),
-            Event::Refuse(chan) => write!(f, "refuse {chan}"),
-            Event::Released(chan) => write!(f, "released {chan}"),
-            Event::Command(call) => write!(f, "command {call}"),
-            Event::Complete(call) => write!(f, "complete {call}"),
-            Event::Detect(chan) => write!(f, "detect {chan}"),
-            Event::Owner(chan) => write!(f, "owner {chan}"),
-            Event::Require(call) => write!(f, "require {call}"),
-            Event::Order(call) => write!(f, "order {call}"),
-            Event::Left(call) => write!(f, "left {call}"),
         }
     }
 }
@@ -206,9 +149,9 @@ impl fmt::Display for RecordText {
     }
 }
 
-/// What the book replied.
+/// What the book replied, as it stands behind ` -> ` in an event's line.
 #[derive(Clone, Copy)]
-struct ReplyText(Reply);
+pub struct ReplyText(pub Reply);
 
 impl fmt::Display for ReplyText {
     fn fmt<W: fmt::Write>(&self, f: &mut fmt::Formatter<W>) -> fmt::Result {

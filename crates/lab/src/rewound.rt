@@ -1,0 +1,168 @@
+//! An undone attempt, taken out of a trace.
+use crate::entries::{Entry, entries_of, first_other, first_unread};
+use crate::run::{LabFault, Status, refuse_site};
+use cell_table::Site;
+use radio_book::book::Book;
+use radio_book::event::{Event, Reply};
+use radio_book::rewind::{RewindFault, Rewound, rewind};
+use radio_book::run::run;
+use std::alloc::{AllocError, Allocator, Global};
+use std::io::Write;
+use std::sync::Arc;
+
+/// Refuses a line of the trace, and prints its number.
+fn refuse_line<W: Write>(number: usize, out: &mut W) -> Result<Status, LabFault> {
+    writeln!(out, "line {number}")?;
+    Ok(Status::Refused)
+}
+
+/// Refuses a line in which no undone attempt opens, and prints so.
+fn refuse_attempt<W: Write>(out: &mut W) -> Result<Status, LabFault> {
+    writeln!(out, "no attempt")?;
+    Ok(Status::Refused)
+}
+
+/// The events of entries, in their order.
+fn events_of<A: Allocator + Copy>(
+    alloc: A,
+    entries: &[Entry],
+) -> Result<Vec<Event, A>, AllocError> {
+    entries.iter().map(|entry| entry.event).collect(alloc)
+}
+
+/// Whether the others got the same replies alone as among all events.
+fn are_same_replies(whole: &[Reply], others: &[usize], without: &[Reply]) -> bool {
+    others.len() == without.len()
+        && others
+            .iter()
+            .zip(without.iter())
+            .all(|(place, reply)| whole.get(*place) == Some(reply))
+}
+
+/// Whether the attempt left no trace: both books are the same, and the others got the same replies.
+fn is_same<A: Allocator>(rewound: &Rewound<A>) -> bool {
+    rewound.whole == rewound.without
+        && are_same_replies(
+            &rewound.whole_replies,
+            &rewound.others,
+            &rewound.without_replies,
+        )
+}
+
+/// The number of the line of the first held refusal, counted from 1.
+fn held_line<A: Allocator>(rewound: &Rewound<A>, entries: &[Entry]) -> Option<usize> {
+    let entry = entries.get(rewound.held?)?;
+    Some(entry.line())
+}
+
+/// Prints what stays without the attempt, and whether it left a trace.
+fn print_rewound<A: Allocator, W: Write>(
+    rewound: &Rewound<A>,
+    entries: &[Entry],
+    out: &mut W,
+) -> Result<Status, LabFault> {
+    writeln!(out, "others {}", rewound.others.len())?;
+    let settled = if rewound.settled { "yes" } else { "no" };
+    writeln!(out, "settled {settled}")?;
+    match held_line(rewound, entries) {
+        Some(line) => writeln!(out, "held {line}")?,
+        None => writeln!(out, "held -")?,
+    }
+    if is_same(rewound) {
+        writeln!(out, "same")?;
+        Ok(Status::Done)
+    } else {
+        writeln!(out, "differs")?;
+        Ok(Status::Differs)
+    }
+}
+
+/// Takes out the attempt that opens in a line, and prints what stays.
+fn rewind_line<A: Allocator + Copy, W: Write>(
+    alloc: A,
+    book: &Book<A>,
+    entries: &[Entry],
+    events: &[Event],
+    line: usize,
+    out: &mut W,
+) -> Result<Status, LabFault> {
+    let Some(at) = entries.iter().position(|entry| entry.line() == line) else {
+        return refuse_attempt(out);
+    };
+    match rewind(alloc, book, events, at) {
+        Ok(rewound) => print_rewound(&rewound, entries, out),
+        Err(RewindFault::NoAttempt) => refuse_attempt(out),
+        Err(RewindFault::NoMemory) => Err(LabFault::NoMemory),
+    }
+}
+
+/// The number of the first line whose event has another reply than the book gives.
+fn first_foreign<A: Allocator + Copy>(
+    alloc: A,
+    book: &Book<A>,
+    trace: &str,
+    entries: &[Entry],
+    events: &[Event],
+) -> Result<Option<usize>, AllocError> {
+    let (_, replies) = run(alloc, book, events)?;
+    first_other(alloc, trace, entries, &replies)
+}
+
+/// Takes an attempt out of a trace whose lines can be read.
+fn rewind_entries<A: Allocator + Copy, W: Write>(
+    alloc: A,
+    book: &Book<A>,
+    trace: &str,
+    line: usize,
+    out: &mut W,
+) -> Result<Status, LabFault> {
+    let entries = entries_of(alloc, trace)?;
+    let events = events_of(alloc, &entries)?;
+    match first_foreign(alloc, book, trace, &entries, &events)? {
+        Some(number) => refuse_line(number, out),
+        None => rewind_line(alloc, book, &entries, &events, line, out),
+    }
+}
+
+/// Takes an attempt out of a trace over a site that was read.
+fn rewind_trace<A: Allocator + Copy, W: Write>(
+    alloc: A,
+    site: Site<A>,
+    trace: &str,
+    line: usize,
+    out: &mut W,
+) -> Result<Status, LabFault> {
+    if let Some(number) = first_unread(trace) {
+        return refuse_line(number, out);
+    }
+    let site = Arc::new(alloc, site).map_err(AllocError::from)?;
+    let book = Book::new(alloc, site)?;
+    rewind_entries(alloc, &book, trace, line, out)
+}
+
+/// Takes an undone attempt out of a trace, as [`lab_run`](crate::run::lab_run) prints it from the empty book on, and
+/// prints what stays to `out`.
+///
+/// The trace's lines that begin with `event ` are its events, of which the one in `line`, counted from 1, opened the
+/// attempt. Four lines are printed: `others` and how many events stay, `settled` and `yes` or `no`, `held` and the number
+/// of the line of the first held refusal or `-`, and `same` where the book after all events is the one after the others
+/// alone, and the others got the same replies, else `differs`. Then the answer is `Done` or `Differs`.
+///
+/// One line is printed, and the answer is `Refused`, where the site is refused as by `lab_run`; where a line can't be
+/// read (`line` and the number of the first such, of an event that isn't written as a trace has it, or of a trace of two
+/// controllers); where a reply isn't the one that the book gives (`line` and the number of the first such); where no
+/// undone attempt opens in the line (`no attempt`). `scratch` serves while the site is read, `alloc` for all else. Once
+/// memory was refused nothing more is printed.
+pub fn rewind_run<A: Allocator + Copy, W: Write>(
+    alloc: A,
+    scratch: Global,
+    site: &str,
+    trace: &str,
+    line: usize,
+    out: &mut W,
+) -> Result<Status, LabFault> {
+    match Site::read(alloc, scratch, site) {
+        Ok(site) => rewind_trace(alloc, site, trace, line, out),
+        Err(fault) => refuse_site(fault, out),
+    }
+}
