@@ -216,7 +216,10 @@ fn enter<A: Allocator + Copy>(
 ) -> Receipt
     requires room { vec_len history.old + 1 ≤ vec_capacity history.old }
     ensures receipt { result ≡ record {
-        place = length history.old.items; event = event; reply = reply } }
+      place = length history.old.items;
+      event = event;
+      reply = reply;
+    } }
     ensures history { history.new.items ≡ history.old.items ++ (event, reply) ∷ [] }
     ensures seat { seat.new ≡ Some result }
 {
