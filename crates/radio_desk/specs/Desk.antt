@@ -1,0 +1,56 @@
+-- A desk: a book, the one that it opened with, and the history of events with their replies that leads from this to that.
+-- Ours, of no standard.
+use Rattle.std.specs.Prelude.{◌≡◌, ℕ, List, [], ◌∷◌, ◌++◌, length, Option, Some, None, slice_get, refl}
+use Rattle.std.specs.Coded.{Coded, code_by, coded×, coded_ℕ, coded_list}
+use Rattle.radio_book.specs.declared.event.Event.{Event}
+use Rattle.radio_book.specs.declared.event.Reply.{Reply}
+use Rattle.radio_book.specs.contracts.event.Event.{the_row as event_row}
+use Rattle.radio_book.specs.contracts.event.Reply.{the_row as reply_row}
+use Rattle.radio_book.specs.State.{State, state_code}
+use Rattle.radio_book.specs.Table.{step, reply_to}
+use Rattle.radio_desk.specs.declared.seat.Receipt.{Receipt}
+
+pub record DeskState : Type 0 where
+  -- the book before the first entry, and after the last
+  pub opening : State
+  pub book : State
+  -- all events that were judged, refused ones too, with their replies
+  pub history : List (Event × Reply)
+  -- how many more entries the history takes without memory
+  pub room : ℕ
+
+abbrev pub desk_code : Coded DeskState
+desk_code =
+    code_by (State × (State × (List (Event × Reply) × ℕ)))
+    (coded× state_code (coded× state_code (coded× (coded_list (coded× event_row.coded reply_row.coded)) coded_ℕ)))
+    (λ d. (d.opening, (d.book, (d.history, d.room))))
+    (λ p. record { opening = p.0; book = p.1.0; history = p.1.1.0; room = p.1.1.1 })
+    (λ _. refl)
+
+-- at the receipt's place stands its event with its reply
+abbrev pub IsEntryOf : List (Event × Reply) → Receipt → Type 0
+IsEntryOf history r = slice_get history r.place ≡ Some (r.event, r.reply)
+
+-- the history holds the last receipt of a seat, if it has got one
+abbrev pub HoldsLast : List (Event × Reply) → Option Receipt → Type 0
+HoldsLast history None = Unit {0}
+HoldsLast history (Some r) = IsEntryOf history r
+
+-- the last receipt of a seat is of this place, and isn't the entry that the history has there
+abbrev pub IsForeign : List (Event × Reply) → Option Receipt → ℕ → Type 0
+IsForeign history None place = ⊥
+IsForeign history (Some r) place = (r.place ≡ place) × (IsEntryOf history r → ⊥)
+
+-- the book judged the receipt's event, and the entry of it joined the history
+pub record IsJudged (d : DeskState) (r : Receipt) (d' : DeskState) : Type 0 where
+  pub place : r.place ≡ length d.history
+  pub reply : r.reply ≡ reply_to d.book r.event
+  pub opening : d'.opening ≡ d.opening
+  pub history : d'.history ≡ d.history ++ (r.event, r.reply) ∷ []
+  pub book : d'.book ≡ step d.book r.event
+
+-- all of a desk is as it was; its history may have got more room
+pub record IsSameDesk (d d' : DeskState) : Type 0 where
+  pub opening : d'.opening ≡ d.opening
+  pub history : d'.history ≡ d.history
+  pub book : d'.book ≡ d.book

@@ -1,0 +1,234 @@
+//! The desk: an opening book, the history of what was asked since, and the book that it leads to.
+ghost use Rattle.std.specs.Prelude.{◌≡◌, ◌↔◌, ◌⊎◌, ◌+◌, ◌≤◌, ◌++◌, ◌∷◌, ℕ, [], length, vec_len, vec_capacity, Option, None, Some, Ok, Err, MatchOption, IfOk, IfSome, OnOk, OnErr, slice_get};
+ghost use Rattle.radio_book.specs.declared.event.Event.{Event};
+ghost use Rattle.radio_book.specs.Run.{Leads};
+ghost use Rattle.radio_book.specs.Table.{row, NeedsRoom};
+ghost use Rattle.radio_book.specs.Choice.{NoneFree, TakesFree, ReservesFree};
+ghost use Rattle.radio_desk.specs.Desk.{HoldsLast, IsForeign, IsJudged, IsSameDesk};
+
+use crate::entry::is_entry;
+use crate::seat::{Receipt, Seat};
+use radio_book::book::Book;
+use radio_book::event::{Event, Kind, Reply};
+use std::alloc::{AllocError, Allocator, Global};
+use std::marker::Model;
+use thiserror::Error;
+
+/// Why a desk judges nothing.
+#[derive(Clone, Copy, Debug, PartialEq, Eq, Error)]
+pub enum DeskFault {
+    /// The last receipt of the seat, of this place, isn't from this desk's history.
+    #[error("the receipt of place {0} is of another desk")]
+    Foreign(usize),
+    /// Memory was refused.
+    #[error("out of memory")]
+    NoMemory,
+}
+
+impl From<AllocError> for DeskFault {
+    ghost use Rattle.std.specs.Prelude.{◌≡◌};
+    ghost use Rattle.radio_desk.specs.declared.desk.DeskFault.TheVariants.{NoMemory};
+
+    ghost from_gives = { λ _ fault. fault ≡ NoMemory };
+
+    fn from(_: AllocError) -> DeskFault {
+        DeskFault::NoMemory
+    }
+}
+
+/// A book with its history: the book that it opened with, every event that was judged since with its reply, and the book
+/// that they lead to. Contracts see these three, and how many more entries the history takes without memory.
+#[derive(Drop)]
+pub struct Desk<A: Allocator = Global> {
+    opening: Book<A>,
+    history: Vec<(Event, Reply), A>,
+    book: Book<A>,
+}
+
+impl<A: Allocator> Model for Desk<A> {
+    ghost use Rattle.std.specs.Prelude.{◌-◌, vec_len, vec_capacity};
+    ghost use Rattle.radio_book.specs.Run.{Leads};
+    ghost use Rattle.radio_desk.specs.Desk.{DeskState, desk_code};
+
+    ghost Value = { DeskState };
+
+    ghost coded = { desk_code };
+
+    ghost view = { λ desk. record {
+      opening = desk.opening;
+      book = desk.book;
+      history = desk.history.items;
+      room = vec_capacity desk.history - vec_len desk.history;
+    } };
+
+    ghost invariant = { λ desk. Leads desk.opening desk.history.items desk.book };
+}
+
+impl<A: Allocator + Copy> Desk<A> {
+    /// A desk that opens with this book, at which nothing was asked yet. Memory is asked for, for the copy that is kept of
+    /// the book.
+    pub fn new(alloc: A, book: Book<A>) -> Result<Desk<A>, AllocError>
+        ensures opening { IfOk result (λ desk. desk.opening ≡ book) }
+        ensures book { IfOk result (λ desk. desk.book ≡ book) }
+        ensures history { IfOk result (λ desk. desk.history ≡ []) }
+    {
+        let opening = book.copy()?;
+        let history = Vec::new(alloc);
+        Ok(Desk {
+            opening,
+            history,
+            book,
+        })
+    }
+
+    /// How many events were judged. Its contract also hands out that the history leads from the opening book to the book.
+    pub fn len(&self) -> usize
+        ensures len { result ≡ length self.now.history }
+        ensures legal { Leads self.now.opening self.now.history self.now.book }
+    {
+        self.history.len()
+    }
+
+    /// The entry at a place, counted from 0. `None` past the last.
+    pub fn entry(&self, place: usize) -> Option<&(Event, Reply)>
+        ensures entry { MatchOption result (slice_get self.now.history place ≡ None)
+            (λ entry. slice_get self.now.history place ≡ Some entry.now) }
+    {
+        self.history.get(place)
+    }
+
+    /// The book that it opened with.
+    pub fn opening(&self) -> &Book<A>
+        ensures opening { result.now ≡ self.now.opening }
+    {
+        &self.opening
+    }
+
+    /// The book after all that was judged.
+    pub fn book(&self) -> &Book<A>
+        ensures book { result.now ≡ self.now.book }
+    {
+        &self.book
+    }
+
+    /// Judges an event as [`Book::step`] does, and keeps it with its reply, also where it is refused. The receipt is the
+    /// seat's last from then on.
+    ///
+    /// `Foreign`, which is looked at first, exactly where the history doesn't hold the seat's last receipt. After either
+    /// fault desk and seat are as they were; the history may have got room.
+    #[tactic(auto, using(crate::proofs::Leading::leads_more))]
+    pub fn judge(&mut self, seat: &mut Seat, event: Event) -> Result<Receipt, DeskFault>
+        ensures foreign { (place : ℕ) → (result ≡ Err (DeskFault.Foreign place)) ↔
+            IsForeign self.old.history seat.old place }
+        ensures held { OnOk result (HoldsLast self.old.history seat.old) }
+        ensures event { IfOk result (λ receipt. receipt.event ≡ event) }
+        ensures judged { IfOk result (λ receipt. IsJudged self.old receipt self.new) }
+        ensures seat { IfOk result (λ receipt. seat.new ≡ Some receipt) }
+        ensures unchanged { OnErr result (IsSameDesk self.old self.new × (seat.new ≡ seat.old)) }
+        ensures memory { result ≡ Err DeskFault.NoMemory →
+            (self.old.room ≡ 0) ⊎ NeedsRoom self.old.book (row self.old.book event) }
+    {
+        if let Some(place) = foreign_place(self.history.as_slice(), seat) {
+            return Err(DeskFault::Foreign(place));
+        }
+        self.history.reserve(1)?;
+        let reply = self.book.step(event)?;
+        Ok(enter(&mut self.history, seat, event, reply))
+    }
+
+    /// Judges a `Take` of some free channel of a cell, as [`Book::take_any`] chooses it. `None`, where the cell has none,
+    /// is no entry and changes nothing. Else as [`Desk::judge`].
+    #[tactic(auto, using(crate::proofs::Leading::leads_more))]
+    pub fn judge_take(
+        &mut self,
+        seat: &mut Seat,
+        call: u16,
+        kind: Kind,
+        cell: u8,
+    ) -> Result<Option<Receipt>, DeskFault>
+        ensures foreign { (place : ℕ) → (result ≡ Err (DeskFault.Foreign place)) ↔
+            IsForeign self.old.history seat.old place }
+        ensures held { OnOk result (HoldsLast self.old.history seat.old) }
+        ensures none { result ≡ Ok None → NoneFree self.old.book cell }
+        ensures kept { result ≡ Ok None → IsSameDesk self.old self.new × (seat.new ≡ seat.old) }
+        ensures event { IfOk result (λ answer. IfSome answer
+            (λ receipt. TakesFree self.old.book call kind cell receipt.event)) }
+        ensures judged { IfOk result (λ answer. IfSome answer
+            (λ receipt. IsJudged self.old receipt self.new)) }
+        ensures seat { IfOk result (λ answer. IfSome answer
+            (λ receipt. seat.new ≡ Some receipt)) }
+        ensures unchanged { OnErr result (IsSameDesk self.old self.new × (seat.new ≡ seat.old)) }
+        ensures memory { result ≡ Err DeskFault.NoMemory → (self.old.room ≡ 0) ⊎
+            ((e : Event) × TakesFree self.old.book call kind cell e ×
+            NeedsRoom self.old.book (row self.old.book e)) }
+    {
+        if let Some(place) = foreign_place(self.history.as_slice(), seat) {
+            return Err(DeskFault::Foreign(place));
+        }
+        self.history.reserve(1)?;
+        let Some((event, reply)) = self.book.take_any(call, kind, cell)? else {
+            return Ok(None);
+        };
+        Ok(Some(enter(&mut self.history, seat, event, reply)))
+    }
+
+    /// Judges a `Reserve` of some free reference, as [`Book::reserve_any`] chooses it. Else as [`Desk::judge`].
+    #[tactic(auto, using(crate::proofs::Leading::leads_more))]
+    pub fn judge_reserve(&mut self, seat: &mut Seat, call: u16) -> Result<Receipt, DeskFault>
+        ensures foreign { (place : ℕ) → (result ≡ Err (DeskFault.Foreign place)) ↔
+            IsForeign self.old.history seat.old place }
+        ensures held { OnOk result (HoldsLast self.old.history seat.old) }
+        ensures event { IfOk result (λ receipt. ReservesFree self.old.book call receipt.event) }
+        ensures judged { IfOk result (λ receipt. IsJudged self.old receipt self.new) }
+        ensures seat { IfOk result (λ receipt. seat.new ≡ Some receipt) }
+        ensures unchanged { OnErr result (IsSameDesk self.old self.new × (seat.new ≡ seat.old)) }
+        ensures memory { result ≡ Err DeskFault.NoMemory → (self.old.room ≡ 0) ⊎
+            ((e : Event) × ReservesFree self.old.book call e ×
+            NeedsRoom self.old.book (row self.old.book e)) }
+    {
+        if let Some(place) = foreign_place(self.history.as_slice(), seat) {
+            return Err(DeskFault::Foreign(place));
+        }
+        self.history.reserve(1)?;
+        let (event, reply) = self.book.reserve_any(call)?;
+        Ok(enter(&mut self.history, seat, event, reply))
+    }
+}
+
+/// The place of the seat's last receipt, where the history doesn't hold it.
+fn foreign_place(history: &[(Event, Reply)], seat: &Seat) -> Option<usize>
+    ensures { MatchOption result (HoldsLast history.now seat.now)
+        (λ place. IsForeign history.now seat.now place) }
+{
+    let last = seat.last()?;
+    match history.get(last.place) {
+        Some(entry) if is_entry(entry, last.event, last.reply) => None,
+        Some(_) | None => Some(last.place),
+    }
+}
+
+/// Appends an entry, for which there is room, and gives the seat its receipt.
+fn enter<A: Allocator + Copy>(
+    history: &mut Vec<(Event, Reply), A>,
+    seat: &mut Seat,
+    event: Event,
+    reply: Reply,
+) -> Receipt
+    requires room { vec_len history.old + 1 ≤ vec_capacity history.old }
+    ensures receipt { result ≡ record {
+      place = length history.old.items;
+      event = event;
+      reply = reply;
+    } }
+    ensures history { history.new.items ≡ history.old.items ++ (event, reply) ∷ [] }
+    ensures seat { seat.new ≡ Some result }
+{
+    let receipt = Receipt {
+        place: history.len(),
+        event,
+        reply,
+    };
+    history.push_reserved((event, reply));
+    seat.keep(receipt);
+    receipt
+}

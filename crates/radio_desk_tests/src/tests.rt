@@ -1,0 +1,184 @@
+mod foreign;
+mod memory;
+
+use cell_table::Site;
+use channel_fsm::{ChanId, ChanState};
+use radio_book::book::Book;
+use radio_book::event::Event::{
+    Activate, Clear, Command, Complete, Confirm, Detect, Left, Look, Open, Order, Owner, Refuse,
+    Released, Require, Reserve, Take, Undo,
+};
+use radio_book::event::Refusal::{ChannelBusy, NoCall, SameCell, WrongPhase};
+use radio_book::event::Reply::{Done, Owned, Record, Refused};
+use radio_book::event::{CallRecord, Event, Kind, Reply, Timer, Why};
+use radio_desk::desk::{Desk, DeskFault};
+use radio_desk::seat::{Receipt, Seat};
+use sample_sites::{HOME, OTHER, TARGET, THREE_CHANNELS};
+use std::alloc::{Allocator, Global};
+use std::process::Abort;
+use std::sync::Arc;
+use std::test::Fail;
+
+// What is asked at a desk.
+#[derive(Clone, Copy, Debug)]
+enum Ask {
+    Judge(Event),
+    JudgeTake(u16, Kind, u8),
+    JudgeReserve(u16),
+}
+
+use Ask::{Judge, JudgeReserve, JudgeTake};
+
+// The entry that an ask leads to. `None` where there is none.
+type Entry = Option<(Event, Reply)>;
+
+fn put<A: Allocator + Copy>(
+    desk: &mut Desk<A>,
+    seat: &mut Seat,
+    ask: Ask,
+) -> Result<Option<Receipt>, DeskFault> {
+    match ask {
+        Judge(event) => desk.judge(seat, event).map(Some),
+        JudgeTake(call, kind, cell) => desk.judge_take(seat, call, kind, cell),
+        JudgeReserve(call) => desk.judge_reserve(seat, call).map(Some),
+    }
+}
+
+fn desk_of<A: Allocator + Copy>(alloc: A, scratch: Global) -> Result<Desk<A>, Fail> {
+    let site = Site::read(alloc, scratch, THREE_CHANNELS)?;
+    let site = Arc::new(alloc, site)?;
+    let book = Book::new(alloc, site)?;
+    Ok(Desk::new(alloc, book)?)
+}
+
+// Call 1 comes to rest, moves to cell 1 and back; refused events are entries too, and a cell without a free channel isn't.
+const COURSE: [(Ask, Entry); 13] = [
+    (Judge(Open(1, HOME)), Some((Open(1, HOME), Done))),
+    (
+        Judge(Open(2, HOME)),
+        Some((Open(2, HOME), Refused(ChannelBusy(HOME)))),
+    ),
+    (Judge(Confirm(HOME)), Some((Confirm(HOME), Owned(1)))),
+    (JudgeReserve(1), Some((Reserve(1, 0), Refused(WrongPhase)))),
+    (JudgeTake(1, Kind::Internal, 7), None),
+    (
+        JudgeTake(1, Kind::Internal, 1),
+        Some((Take(1, Kind::Internal, TARGET), Done)),
+    ),
+    (JudgeTake(2, Kind::Incoming, 1), None),
+    (JudgeReserve(1), Some((Reserve(1, 0), Done))),
+    (Judge(Look(2)), Some((Look(2), Refused(NoCall)))),
+    (Judge(Activate(1)), Some((Activate(1), Done))),
+    (
+        JudgeTake(1, Kind::Internal, 0),
+        Some((Take(1, Kind::Internal, OTHER), Refused(WrongPhase))),
+    ),
+    (Judge(Confirm(TARGET)), Some((Confirm(TARGET), Owned(1)))),
+    (Judge(Command(1)), Some((Command(1), Done))),
+];
+
+// The receipt that the entry gets at a place.
+fn receipt_of(place: usize, entry: Entry) -> Option<Receipt> {
+    entry.map(|(event, reply)| Receipt {
+        place,
+        event,
+        reply,
+    })
+}
+
+fn play(
+    rt: &impl Abort,
+    desk: &mut Desk<Global>,
+    seat: &mut Seat,
+    course: &[(Ask, Entry)],
+) -> Result<(), Fail> {
+    for (ask, entry) in course {
+        let place = desk.len();
+        let last = seat.last();
+        let expected = receipt_of(place, *entry);
+        assert_eq!(rt; put(desk, seat, *ask)?, expected, "{ask:?}");
+        assert_eq!(rt; seat.last(), expected.or(last), "{ask:?}");
+        assert_eq!(rt; desk.entry(place).copied(), *entry, "{ask:?}");
+    }
+    Ok(())
+}
+
+#[test]
+fn each_answer_is_an_entry_and_the_last_receipt(rt: HostRuntime) -> Result<(), Fail> {
+    let mut desk = desk_of(rt.alloc(), rt.alloc())?;
+    let mut seat = Seat::new();
+    assert_eq!(rt; seat.last(), None);
+    assert_eq!(rt; desk.len(), 0);
+    play(&rt, &mut desk, &mut seat, &COURSE)?;
+    assert_eq!(rt; desk.len(), 11);
+    assert_eq!(rt; desk.entry(11).copied(), None);
+    Ok(())
+}
+
+fn books_of(rt: &impl Abort, desk: &Desk<Global>) {
+    let (opening, book) = (desk.opening().usage(), desk.book().usage());
+    assert_eq!(rt;
+        (
+            opening.channels,
+            opening.calls,
+            opening.references,
+            opening.timers
+        ),
+        (0, 0, 0, 0)
+    );
+    assert_eq!(rt;
+        (book.channels, book.calls, book.references, book.timers),
+        (2, 1, 1, 1)
+    );
+}
+
+#[test]
+fn the_opening_book_stays_and_the_book_goes_on(rt: HostRuntime) -> Result<(), Fail> {
+    let mut desk = desk_of(rt.alloc(), rt.alloc())?;
+    play(&rt, &mut desk, &mut Seat::new(), &COURSE)?;
+    books_of(&rt, &desk);
+    Ok(())
+}
+
+// Call 1 on its channel.
+const RESTING: CallRecord = CallRecord {
+    serving: Some(HOME),
+    attempt: None,
+};
+
+fn two_callers(rt: &impl Abort, desk: &mut Desk<Global>) -> Result<(), Fail> {
+    let (mut one, mut other) = (Seat::new(), Seat::new());
+    play(
+        rt,
+        desk,
+        &mut one,
+        &[(Judge(Open(1, HOME)), Some((Open(1, HOME), Done)))],
+    )?;
+    let looked = Record(RESTING, Some(ChanState::Pending(1)));
+    play(
+        rt,
+        desk,
+        &mut other,
+        &[(Judge(Look(1)), Some((Look(1), looked)))],
+    )?;
+    let same_cell = Refused(SameCell);
+    play(
+        rt,
+        desk,
+        &mut one,
+        &[(Judge(Confirm(HOME)), Some((Confirm(HOME), Owned(1))))],
+    )?;
+    let moved = Take(1, Kind::Internal, OTHER);
+    play(
+        rt,
+        desk,
+        &mut other,
+        &[(JudgeTake(1, Kind::Internal, 0), Some((moved, same_cell)))],
+    )
+}
+
+#[test]
+fn each_caller_sees_what_others_did(rt: HostRuntime) -> Result<(), Fail> {
+    let mut desk = desk_of(rt.alloc(), rt.alloc())?;
+    two_callers(&rt, &mut desk)
+}

@@ -1,0 +1,110 @@
+//! Memory is refused in each call of a desk.
+use super::{COURSE, Desk, DeskFault, HOME, Open, Receipt, Seat, desk_of, put};
+use cell_table::Site;
+use radio_book::book::{Book, Usage};
+use refusing_heap::RefusingHeap;
+use sample_sites::THREE_CHANNELS;
+use std::process::Abort;
+use std::sync::Arc;
+use std::test::Fail;
+
+// What a desk and a seat show, which takes no memory.
+fn shown(desk: &Desk<&RefusingHeap>, seat: &Seat) -> (usize, Usage, Usage, Option<Receipt>) {
+    (
+        desk.len(),
+        desk.opening().usage(),
+        desk.book().usage(),
+        seat.last(),
+    )
+}
+
+// Asks until memory is refused; then desk and seat are as they were. Whether it was.
+fn asks_all(rt: &impl Abort, heap: &RefusingHeap, desk: &mut Desk<&RefusingHeap>) -> bool {
+    let mut seat = Seat::new();
+    for (ask, _) in &COURSE {
+        let before = shown(desk, &seat);
+        let refused = heap.refused();
+        let answer = put(desk, &mut seat, *ask);
+        assert_eq!(rt;
+            answer == Err(DeskFault::NoMemory),
+            heap.refused() != refused,
+            "{ask:?}"
+        );
+        if answer.is_err() {
+            assert_eq!(rt; shown(desk, &seat), before, "{ask:?}");
+            return true;
+        }
+    }
+    false
+}
+
+// Asks the course of a desk whose heap refuses the n-th request after those that make the desk. Whether there was one.
+fn meets_refusal(rt: &(impl AllocGlobal + Abort), made: u64, n: u64) -> Result<bool, Fail> {
+    let heap = RefusingHeap::refusing_nth(rt.alloc(), made.saturating_add(n));
+    let mut desk = desk_of(&heap, rt.alloc())?;
+    Ok(asks_all(rt, &heap, &mut desk))
+}
+
+// How many requests make a desk.
+fn requests_of_a_desk(rt: &impl AllocGlobal) -> Result<u64, Fail> {
+    let heap = RefusingHeap::ample(rt.alloc());
+    let _desk = desk_of(&heap, rt.alloc())?;
+    Ok(heap.requests())
+}
+
+#[test]
+fn a_refused_request_changes_nothing(rt: HostRuntime) -> Result<(), Fail> {
+    let made = requests_of_a_desk(&rt)?;
+    let mut refused = 0u64;
+    for n in 1..100 {
+        if !meets_refusal(&rt, made, n)? {
+            break;
+        }
+        refused = n;
+    }
+    // The history, channels, calls and references each ask once at least.
+    assert!(rt; 4 <= refused && refused < 99, "{refused}");
+    Ok(())
+}
+
+// A book with a call, of which a copy takes memory.
+fn book_with_a_call<'a>(
+    rt: &impl AllocGlobal,
+    heap: &'a RefusingHeap,
+) -> Result<Book<&'a RefusingHeap>, Fail> {
+    let site = Site::read(heap, rt.alloc(), THREE_CHANNELS)?;
+    let site = Arc::new(heap, site)?;
+    let mut book = Book::new(heap, site)?;
+    book.step(Open(1, HOME))?;
+    Ok(book)
+}
+
+fn requests_of_a_book(rt: &impl AllocGlobal) -> Result<u64, Fail> {
+    let heap = RefusingHeap::ample(rt.alloc());
+    let _book = book_with_a_call(rt, &heap)?;
+    Ok(heap.requests())
+}
+
+// Makes a desk with a heap that refuses the n-th request after those of the book. Whether there was one.
+fn is_made_or_refused(rt: &(impl AllocGlobal + Abort), before: u64, n: u64) -> Result<bool, Fail> {
+    let heap = RefusingHeap::refusing_nth(rt.alloc(), before.saturating_add(n));
+    let book = book_with_a_call(rt, &heap)?;
+    let is_made = Desk::new(&heap, book).is_ok();
+    assert_eq!(rt; is_made, !heap.was_refused(), "{n}");
+    Ok(!is_made)
+}
+
+#[test]
+fn a_desk_is_made_unless_memory_is_refused(rt: HostRuntime) -> Result<(), Fail> {
+    let before = requests_of_a_book(&rt)?;
+    let mut refused = 0u64;
+    for n in 1..100 {
+        if !is_made_or_refused(&rt, before, n)? {
+            break;
+        }
+        refused = n;
+    }
+    // Channels and calls are copied.
+    assert!(rt; 2 <= refused && refused < 99, "{refused}");
+    Ok(())
+}
