@@ -12,4 +12,3 @@ pub mod Ordered
 pub mod NeighbourFacts
 pub mod Counted
 pub mod NameFacts
-pub mod FoundNames

@@ -2,14 +2,17 @@
 use Rattle.std.proofs.Common.{◌≡◌, ◌↔◌, ℕ, ◌+◌, ◌*◌, ◌/◌, ◌%◌, ◌≤◌, ◌==◌, ◌&&◌, Bool, true, false, IsTrue, if◌then◌else◌, List, Option, Some, None, option_map, option_and_then, slice_get, count_by, nat_lt, ◌-◌, All, refl, sym, ◌∙◌, ap, subst, arith}
 use Rattle.std.proofs.lemmas.Bool.{and_parts}
 use Rattle.std.proofs.lemmas.Bool.{eqb-true, eq-eqb}
-use Rattle.std.proofs.lemmas.Option.{same_Some, slice_get_within, get_or_from_slice_get}
+use Rattle.std.proofs.lemmas.Option.{none-some, same_Some, slice_get_within, get_or_from_slice_get}
 use Rattle.std.specs.List.{list_any}
 use Rattle.cell_table.specs.declared.tables.CellIdentity.{CellIdentity}
 use Rattle.cell_table.specs.Views.{CellView, SiteView}
 use Rattle.cell_table.specs.Limits.{first_outside}
 use Rattle.cell_table.specs.Site.{IsSite, IsCell, IsIdentity, identity_at}
-use Rattle.cell_table.specs.Neighbours.{stands_before, is_at, has_bsic, is_named}
-use Rattle.cell_table.specs.NeighbourNames.{IsName, place_of, bsic_of, name_of, neighbour_name}
+use Rattle.cell_table.specs.Neighbours.{IsNamedCell}
+use Rattle.cell_table.specs.Searches.{stands_before, is_at, has_bsic, is_named}
+use Rattle.cell_table.specs.NeighbourNames.{place_of, bsic_of, name_of, neighbour_name}
+use Rattle.cell_table.proofs.Lookups.{Passes}
+use Rattle.cell_table.proofs.NeighbourFacts.{named_in, not_served}
 
 -- the parts of a name that is there
 parts : (b : Bool) (n k place bsic : ℕ) → option_map {U = ℕ × ℕ} (λ p. (p, k)) (if b then Some n else None) ≡ Some (place, bsic) → (b ≡ true) × (n ≡ place) × (k ≡ bsic)
@@ -29,7 +32,7 @@ to_name ba c range place bsic e =
     let among = list_any (λ other. other == c.bcch) ba in
     let before = count_by (λ other. stands_before other c.bcch) ba in
     let (there, at, code) = parts among before (bsic_of c) place bsic e in
-    let bcc : c.bcc ≤ 7 = range.bcc in
+    let bcc : c.bcc ≤ 7 = range.bcc.1 in
     let high : c.ncc ≡ bsic / 8 = omega arith in
     let low : c.bcc ≡ bsic % 8 = omega arith in
     four (c.ncc == bsic / 8) (c.bcc == bsic % 8) among (before == place) (eq-eqb c.ncc (bsic / 8) high) (eq-eqb c.bcc (bsic % 8) low) there (eq-eqb before place at)
@@ -60,19 +63,32 @@ identity_range site sound cell c at = either (nat_lt cell first_outside) (slice_
     either true (Some v) there e = subst IsIdentity (same_Some v.identity c e) (All-get IsCell site.cells cell v sound.within.each_cell there).identity
     either false o there e = All-get IsIdentity site.outside (cell - first_outside) c sound.within.each_outside e
 
--- in a site a cell's place and code are the one name that it has
-pub name_is : (site : SiteView) → IsSite site → (cell neighbour place bsic : ℕ) → (neighbour_name site cell neighbour ≡ Some (place, bsic)) ↔ IsName site cell neighbour place bsic
-name_is site sound cell neighbour place bsic = (there (slice_get site.cells cell) (identity_at site neighbour) refl refl, back)
+-- in a site a cell's place and code are what a mobile names it by
+pub name_is : (site : SiteView) → IsSite site → (cell neighbour place bsic : ℕ) → (neighbour_name site cell neighbour ≡ Some (place, bsic)) ↔ IsNamedCell site cell place bsic neighbour
+name_is site sound cell neighbour place bsic = by (slice_get site.cells cell) refl
   where
-    there : (o : Option CellView) (i : Option CellIdentity) → slice_get site.cells cell ≡ o → identity_at site neighbour ≡ i
-        → option_and_then {U = ℕ × ℕ} (λ serving. option_and_then (name_of serving.ba) i) o ≡ Some (place, bsic) → IsName site cell neighbour place bsic
-    there None i own known e = absurd cc
-    there (Some serving) None own known e = absurd cc
-    there (Some serving) (Some identity) own known e =
-        record { serving = serving; identity = identity; own = own; there = known; named = to_name serving.ba identity (identity_range site sound neighbour identity known) place bsic e }
+    looked_up : (o : Option CellView) → slice_get site.cells cell ≡ o
+        → neighbour_name site cell neighbour ≡ option_and_then {U = ℕ × ℕ} (λ serving. option_and_then (name_of serving.ba) (identity_at site neighbour)) o
+    looked_up o own = ap (λ o. option_and_then {U = ℕ × ℕ} (λ serving. option_and_then (name_of serving.ba) (identity_at site neighbour)) o) own
 
-    back : IsName site cell neighbour place bsic → neighbour_name site cell neighbour ≡ Some (place, bsic)
-    back n =
-        ap (λ o. option_and_then {U = ℕ × ℕ} (λ serving. option_and_then (name_of serving.ba) (identity_at site neighbour)) o) n.own
-        ∙ ap (λ i. option_and_then {U = ℕ × ℕ} (name_of n.serving.ba) i) n.there
-        ∙ from_name n.serving.ba n.identity place bsic n.named
+    none : neighbour_name site cell neighbour ≡ None → neighbour_name site cell neighbour ≡ Some (place, bsic) → IsNamedCell site cell place bsic neighbour
+    none nothing e = absurd (none-some {A = ℕ × ℕ} (place, bsic) (sym nothing ∙ e))
+
+    there : (own : CellView) (i : Option CellIdentity) → identity_at site neighbour ≡ i → option_and_then {U = ℕ × ℕ} (name_of own.ba) i ≡ Some (place, bsic)
+        → Passes (is_named own.ba place bsic) site neighbour
+    there own None known e = absurd cc
+    there own (Some identity) known e =
+        record { identity = identity; there = known; passes = to_name own.ba identity (identity_range site sound neighbour identity known) place bsic e }
+
+    by : (o : Option CellView) → slice_get site.cells cell ≡ o → (neighbour_name site cell neighbour ≡ Some (place, bsic)) ↔ IsNamedCell site cell place bsic neighbour
+    by None own = (none (looked_up None own), λ is. absurd (not_served site cell place bsic neighbour own is))
+    by (Some serving) own = (λ e. names.0 (there serving (identity_at site neighbour) refl (sym (looked_up (Some serving) own) ∙ e)), back)
+      where
+        names : Passes (is_named serving.ba place bsic) site neighbour ↔ IsNamedCell site cell place bsic neighbour
+        names = named_in site sound cell place bsic neighbour serving own
+
+        back : IsNamedCell site cell place bsic neighbour → neighbour_name site cell neighbour ≡ Some (place, bsic)
+        back is =
+            let named = names.1 is in
+            looked_up (Some serving) own ∙ ap (λ i. option_and_then {U = ℕ × ℕ} (name_of serving.ba) i) named.there
+            ∙ from_name serving.ba named.identity place bsic named.passes

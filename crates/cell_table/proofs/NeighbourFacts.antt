@@ -165,45 +165,51 @@ named_parts site ba place bsic cell small once = (there, back)
 cell_once : (cells : List CellView) (i : ℕ) (c : CellView) → list_any has_neighbour_twice cells ≡ false → slice_get cells i ≡ Some c → has_neighbour_twice c ≡ false
 cell_once cells i c once at = none_at has_neighbour_twice cells i c once at
 
+-- a cell that isn't an own one has no neighbour list
+pub not_served : (site : SiteView) (serving place bsic cell : ℕ) → slice_get site.cells serving ≡ None → IsNamedCell site serving place bsic cell → ⊥
+not_served site serving place bsic cell at is =
+    let (c, there, ncc) = identity_of_part site cell (bsic / 8) (λ c. c.ncc) is.network in
+    let carrier : Some c.bcch ≡ None = ap (option_map (λ c. c.bcch)) (sym there) ∙ is.carrier ∙ ap (option_and_then (λ own. slice_get (neighbour_list own.ba) place)) at in
+    none-some c.bcch (sym carrier)
+
+ba_small : (site : SiteView) → IsSite site → (serving : ℕ) (own : CellView) → slice_get site.cells serving ≡ Some own → All (λ c. c ≤ most_carrier) own.ba
+ba_small site limits serving own at = λ k d within. ((got IsCell site.cells serving own limits.within.each_cell at).neighbours k d within).1
+
+ba_once : (site : SiteView) → IsSite site → (serving : ℕ) (own : CellView) → slice_get site.cells serving ≡ Some own → has_neighbour_twice own ≡ false
+ba_once site limits serving own at = cell_once site.cells serving own (unbroken_parts site limits).4 at
+
+-- a cell of the site passes the test of the serving cell's BA list exactly where a mobile names it so
+pub named_in : (site : SiteView) → IsSite site → (serving place bsic cell : ℕ) (own : CellView) → slice_get site.cells serving ≡ Some own
+    → Passes (is_named own.ba place bsic) site cell ↔ IsNamedCell site serving place bsic cell
+named_in site limits serving place bsic cell own at = (λ is. to (parts.0 is), λ is. parts.1 (from is))
+  where
+    parts : Passes (is_named own.ba place bsic) site cell ↔ IsNamedIn site own.ba place bsic cell
+    parts = named_parts site own.ba place bsic cell (ba_small site limits serving own at) (ba_once site limits serving own at)
+
+    listed : neighbour_at site serving place ≡ slice_get (neighbour_list own.ba) place
+    listed = ap (option_and_then (λ own. slice_get (neighbour_list own.ba) place)) at
+
+    to : IsNamedIn site own.ba place bsic cell → IsNamedCell site serving place bsic cell
+    to is = record { carrier = is.carrier ∙ sym listed; network = is.network; station = is.station }
+
+    from : IsNamedCell site serving place bsic cell → IsNamedIn site own.ba place bsic cell
+    from is = record { carrier = is.carrier ∙ listed; network = is.network; station = is.station }
+
 pub named_is : (site : SiteView) → IsSite site → (serving place bsic cell : ℕ) → (first_named site serving place bsic ≡ Some cell) ↔ IsNamedCell site serving place bsic cell
 named_is site limits serving place bsic cell = by (slice_get site.cells serving) refl
   where
     by : (o : Option CellView) → slice_get site.cells serving ≡ o → (first_named site serving place bsic ≡ Some cell) ↔ IsNamedCell site serving place bsic cell
-    by None at = (λ e. absurd (none-some cell (sym (ap (λ o. option_and_then (λ ba. first_cell (is_named ba place bsic) site) (option_map (λ (c : CellView). c.ba) o)) at) ∙ e)), none_named)
+    by None at = (λ e. absurd (none-some cell (sym (ap (λ o. option_and_then (λ ba. first_cell (is_named ba place bsic) site) (option_map (λ (c : CellView). c.ba) o)) at) ∙ e)), λ is. absurd (not_served site serving place bsic cell at is))
+    by (Some own) at = (λ e. in_list.0 (found.0 (sym searched ∙ e)), λ is. searched ∙ found.1 (in_list.1 is))
       where
-        none_named : IsNamedCell site serving place bsic cell → first_named site serving place bsic ≡ Some cell
-        none_named is =
-            let (c, there, ncc) = identity_of_part site cell (bsic / 8) (λ c. c.ncc) is.network in
-            let carrier : Some c.bcch ≡ None = ap (option_map (λ c. c.bcch)) (sym there) ∙ is.carrier ∙ ap (option_and_then (λ own. slice_get (neighbour_list own.ba) place)) at in
-            absurd (none-some c.bcch (sym carrier))
-    by (Some own) at = (λ e. to (there (sym (ap (λ o. option_and_then (λ ba. first_cell (is_named ba place bsic) site) (option_map (λ (c : CellView). c.ba) o)) at) ∙ e)), λ is. ap (λ o. option_and_then (λ ba. first_cell (is_named ba place bsic) site) (option_map (λ (c : CellView). c.ba) o)) at ∙ back (from is))
-      where
-        once : has_neighbour_twice own ≡ false
-        once = cell_once site.cells serving own (unbroken_parts site limits).4 at
-
-        small : All (λ c. c ≤ most_carrier) own.ba
-        small = λ k d within. ((got IsCell site.cells serving own limits.within.each_cell at).neighbours k d within).1
+        searched : first_named site serving place bsic ≡ first_cell (is_named own.ba place bsic) site
+        searched = ap (λ o. option_and_then (λ ba. first_cell (is_named ba place bsic) site) (option_map (λ (c : CellView). c.ba) o)) at
 
         found : (first_cell (is_named own.ba place bsic) site ≡ Some cell) ↔ Passes (is_named own.ba place bsic) site cell
-        found = first_cell_is (is_named own.ba place bsic) same_colour site limits.within.cell_count.1 (unbroken_parts site limits).1 (named_alike own.ba place bsic small once) cell
+        found = first_cell_is (is_named own.ba place bsic) same_colour site limits.within.cell_count.1 (unbroken_parts site limits).1 (named_alike own.ba place bsic (ba_small site limits serving own at) (ba_once site limits serving own at)) cell
 
-        parts : Passes (is_named own.ba place bsic) site cell ↔ IsNamedIn site own.ba place bsic cell
-        parts = named_parts site own.ba place bsic cell small once
-
-        there : first_cell (is_named own.ba place bsic) site ≡ Some cell → IsNamedIn site own.ba place bsic cell
-        there e = parts.0 (found.0 e)
-
-        back : IsNamedIn site own.ba place bsic cell → first_cell (is_named own.ba place bsic) site ≡ Some cell
-        back is = found.1 (parts.1 is)
-
-        listed : neighbour_at site serving place ≡ slice_get (neighbour_list own.ba) place
-        listed = ap (option_and_then (λ own. slice_get (neighbour_list own.ba) place)) at
-
-        to : IsNamedIn site own.ba place bsic cell → IsNamedCell site serving place bsic cell
-        to is = record { carrier = is.carrier ∙ sym listed; network = is.network; station = is.station }
-
-        from : IsNamedCell site serving place bsic cell → IsNamedIn site own.ba place bsic cell
-        from is = record { carrier = is.carrier ∙ listed; network = is.network; station = is.station }
+        in_list : Passes (is_named own.ba place bsic) site cell ↔ IsNamedCell site serving place bsic cell
+        in_list = named_in site limits serving place bsic cell own at
 
 pub reports_name_one : (site : SiteView) → IsSite site → (serving place bsic one other : ℕ) → IsNamedCell site serving place bsic one → IsNamedCell site serving place bsic other → one ≡ other
 reports_name_one site limits serving place bsic one other is is' =

@@ -1,19 +1,11 @@
--- By which position and code a mobile names a neighbour of the cell that serves it.
-use Rattle.std.specs.Prelude.{ℕ, ◌≡◌, ◌==◌, ◌↔◌, ◌*◌, ◌+◌, IsTrue, if◌then◌else◌, List, Option, Some, None, option_map, option_and_then, slice_get, count_by}
+-- By which position and code a mobile names a neighbour of the cell that serves it, step by step. No public clause cites
+-- it: what a name is stands in `Neighbours`.
+use Rattle.std.specs.Prelude.{ℕ, ◌==◌, ◌*◌, ◌+◌, if◌then◌else◌, List, Option, Some, None, option_map, option_and_then, slice_get, count_by}
 use Rattle.std.specs.List.{list_any}
 use Rattle.cell_table.specs.declared.tables.CellIdentity.{CellIdentity}
-use Rattle.cell_table.specs.Views.{CellView, SiteView}
-use Rattle.cell_table.specs.Site.{IsSite, identity_at}
-use Rattle.cell_table.specs.Neighbours.{stands_before, is_named, by_bsic}
-
--- The carrier of a cell, own or outside, is at this place of the neighbour list of an own cell, and this is its base
--- station identity code.
-pub record IsName (site : SiteView) (cell neighbour place bsic : ℕ) : Type 0 where
-  pub serving : CellView
-  pub identity : CellIdentity
-  pub own : slice_get site.cells cell ≡ Some serving
-  pub there : identity_at site neighbour ≡ Some identity
-  pub named : IsTrue (is_named serving.ba place bsic identity)
+use Rattle.cell_table.specs.Views.{SiteView}
+use Rattle.cell_table.specs.Site.{identity_at}
+use Rattle.cell_table.specs.Searches.{stands_before}
 
 -- the place of a carrier in the neighbour list that a BA list gives, where it is one of them
 abbrev pub place_of : List ℕ → ℕ → Option ℕ
@@ -31,7 +23,3 @@ name_of ba c = option_map (λ place. (place, bsic_of c)) (place_of ba c.bcch)
 abbrev pub neighbour_name : SiteView → ℕ → ℕ → Option (ℕ × ℕ)
 neighbour_name site cell neighbour =
     option_and_then (λ serving. option_and_then (name_of serving.ba) (identity_at site neighbour)) (slice_get site.cells cell)
-
--- In a site a position and a code find the neighbour that they name, and no other.
-abbrev pub NamesAreFound : Type 0
-NamesAreFound = (site : SiteView) → IsSite site → (cell neighbour place bsic : ℕ) → (by_bsic site cell place bsic ≡ Some neighbour) ↔ IsName site cell neighbour place bsic

@@ -5,7 +5,6 @@ mod checks;
 mod fault;
 pub mod laws;
 pub mod limits;
-pub mod names;
 mod neighbours;
 mod places;
 pub mod ranges;

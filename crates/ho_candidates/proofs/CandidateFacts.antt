@@ -1,11 +1,13 @@
 -- Which cells are no candidates, and the candidates below a cell.
-use Rattle.std.proofs.Common.{◌≡◌, ◌≢◌, ◌<◌, ◌≤◌, ◌+◌, ◌*◌, ◌-◌, ◌↔◌, ◌⊎◌, inl, inr, ℕ, zero, suc, Bool, true, false, max, nat_lt, if◌then◌else◌, List, [], length, Option, Some, None, option_map, slice_get, All, AllPairs, Contains, get_or, refl, sym, ◌∙◌, ap, subst, arith}
+use Rattle.std.proofs.Common.{◌≡◌, ◌≢◌, ◌<◌, ◌≤◌, ◌+◌, ◌*◌, ◌-◌, ◌/◌, ◌↔◌, ◌⊎◌, inl, inr, ℕ, zero, suc, Bool, true, false, max, nat_lt, if◌then◌else◌, List, [], length, Option, Some, None, option_map, slice_get, All, AllPairs, Contains, get_or, refl, sym, ◌∙◌, ap, subst, arith}
 use Rattle.std.proofs.lemmas.Option.{same_Some, slice_get_within}
 use Rattle.std.proofs.lemmas.List.Elements.{Contains-get_or}
 use Rattle.cell_table.specs.Limits.{first_outside}
 use Rattle.cell_table.specs.Views.{CellView, SiteView}
+use Rattle.cell_table.specs.declared.tables.CellIdentity.{CellIdentity}
 use Rattle.cell_table.specs.Site.{identity_at}
-use Rattle.cell_table.specs.NeighbourNames.{IsName}
+use Rattle.cell_table.proofs.Lookups.{identity_of_part}
+use Rattle.cell_table.specs.Neighbours.{IsNamedCell}
 use Rattle.measurements.specs.Reports.{Reports, sum_used, sum_named}
 use Rattle.ho_candidates.specs.declared.listed.Candidate.{Candidate}
 use Rattle.ho_candidates.specs.Order.{StandsBefore, HasOneMore}
@@ -13,15 +15,15 @@ use Rattle.ho_candidates.proofs.OrderFacts.{below_or_not}
 use Rattle.ho_candidates.specs.Candidates.{IsCandidate, NoCandidateIn, IsOnlyCandidateIn}
 
 -- a cell without a name
-pub none-nameless : (w : Reports) (site : SiteView) (serving other : ℕ) → ((place bsic : ℕ) → ¬ IsName site serving other place bsic) → NoCandidateIn w site serving other
-none-nameless w site serving other nameless c e is = nameless is.place is.bsic (subst (λ cell. IsName site serving cell is.place is.bsic) e is.name)
+pub none-nameless : (w : Reports) (site : SiteView) (serving other : ℕ) → ((place bsic : ℕ) → ¬ IsNamedCell site serving place bsic other) → NoCandidateIn w site serving other
+none-nameless w site serving other nameless c e is = nameless is.place is.bsic (subst (λ cell. IsNamedCell site serving is.place is.bsic cell) e is.name)
 
 -- a cell has this name alone
 abbrev HasOneName : SiteView → ℕ → ℕ → ℕ → ℕ → Type 0
-HasOneName site serving other place bsic = (p b : ℕ) → IsName site serving other p b → (place ≡ p) × (bsic ≡ b)
+HasOneName site serving other place bsic = (p b : ℕ) → IsNamedCell site serving p b other → (place ≡ p) × (bsic ≡ b)
 
 -- what a look-up answers is the one name
-pub one_name : (site : SiteView) (serving other place bsic : ℕ) → ((p b : ℕ) → IsName site serving other p b → ◌≡◌ {A = Option (ℕ × ℕ)} (Some (place, bsic)) (Some (p, b))) → HasOneName site serving other place bsic
+pub one_name : (site : SiteView) (serving other place bsic : ℕ) → ((p b : ℕ) → IsNamedCell site serving p b other → ◌≡◌ {A = Option (ℕ × ℕ)} (Some (place, bsic)) (Some (p, b))) → HasOneName site serving other place bsic
 one_name site serving other place bsic answer p b name =
     let there : ℕ × ℕ = (place, bsic) in
     let found : ℕ × ℕ = (p, b) in
@@ -32,7 +34,7 @@ one_name site serving other place bsic answer p b name =
 sum-by_name : (w : Reports) (site : SiteView) (serving other place bsic : ℕ) → HasOneName site serving other place bsic
     → (c : Candidate) → c.cell ≡ other → IsCandidate w site serving c → c.sum ≡ sum_named place bsic w.reports
 sum-by_name w site serving other place bsic one c e is =
-    let (same_place, same_bsic) = one is.place is.bsic (subst (λ cell. IsName site serving cell is.place is.bsic) e is.name) in
+    let (same_place, same_bsic) = one is.place is.bsic (subst (λ cell. IsNamedCell site serving is.place is.bsic cell) e is.name) in
     is.sum ∙ ap (λ p. sum_named p is.bsic w.reports) (sym same_place) ∙ ap (λ b. sum_named place b w.reports) (sym same_bsic)
 
 -- a cell is a candidate with one sum
@@ -54,15 +56,17 @@ none-weak w site serving other place bsic one weak c e is =
 
 -- every candidate has a number of the site
 pub candidate-within : (w : Reports) (site : SiteView) (serving : ℕ) (c : Candidate) → IsCandidate w site serving c → c.cell < first_outside + length site.outside
-candidate-within w site serving c is = either (below_or_not c.cell first_outside) is.name.there
+candidate-within w site serving c is =
+    let (identity, known, ncc) = identity_of_part site c.cell (is.bsic / 8) (λ i. i.ncc) is.name.network in
+    either identity (below_or_not c.cell first_outside) known
   where
-    either : ((nat_lt c.cell first_outside ≡ true) × (c.cell < first_outside)) ⊎ ((nat_lt c.cell first_outside ≡ false) × (first_outside ≤ c.cell))
-        → identity_at site c.cell ≡ Some is.name.identity → c.cell < first_outside + length site.outside
-    either (inl p) e = let low = p.1 in omega arith
-    either (inr p) e =
-        let at : slice_get site.outside (c.cell - first_outside) ≡ Some is.name.identity =
+    either : (identity : CellIdentity) → ((nat_lt c.cell first_outside ≡ true) × (c.cell < first_outside)) ⊎ ((nat_lt c.cell first_outside ≡ false) × (first_outside ≤ c.cell))
+        → identity_at site c.cell ≡ Some identity → c.cell < first_outside + length site.outside
+    either identity (inl p) e = let low = p.1 in omega arith
+    either identity (inr p) e =
+        let at : slice_get site.outside (c.cell - first_outside) ≡ Some identity =
         sym (ap (λ b. if b then option_map (λ v. v.identity) (slice_get site.cells c.cell) else slice_get site.outside (c.cell - first_outside)) p.0) ∙ e in
-        let within = slice_get_within site.outside (c.cell - first_outside) is.name.identity at in
+        let within = slice_get_within site.outside (c.cell - first_outside) identity at in
         let high = p.1 in
         omega arith
 

@@ -1,7 +1,7 @@
 -- Which cells a mobile may be handed over to, by its reports.
 use Rattle.std.specs.Prelude.{ℕ, ◌≡◌, ◌≢◌, ◌+◌, ◌*◌, ◌≤◌, length}
 use Rattle.cell_table.specs.Views.{SiteView}
-use Rattle.cell_table.specs.NeighbourNames.{IsName}
+use Rattle.cell_table.specs.Neighbours.{IsNamedCell}
 use Rattle.measurements.specs.Reports.{Reports, sum_used, sum_named}
 use Rattle.ho_candidates.specs.declared.listed.Candidate.{Candidate}
 
@@ -13,7 +13,7 @@ pub record IsCandidate (w : Reports) (site : SiteView) (serving : ℕ) (c : Cand
   pub bsic : ℕ
   pub full : length w.reports ≡ site.handover.window
   pub other : c.cell ≢ serving
-  pub name : IsName site serving c.cell place bsic
+  pub name : IsNamedCell site serving place bsic c.cell
   pub sum : c.sum ≡ sum_named place bsic w.reports
   pub margin : sum_used w.reports + site.handover.margin * site.handover.window ≤ c.sum
   pub minimum : site.handover.minimum * site.handover.window ≤ c.sum

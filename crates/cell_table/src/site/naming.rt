@@ -2,7 +2,8 @@
 ghost use Rattle.std.specs.Prelude.{◌≡◌, ◌≤◌, ◌↔◌, ℕ, length};
 ghost use Rattle.cell_table.specs.Limits.{most_neighbours};
 ghost use Rattle.cell_table.specs.Site.{IsSite, IsIdentity};
-ghost use Rattle.cell_table.specs.NeighbourNames.{IsName, place_of, bsic_of, name_of, neighbour_name};
+ghost use Rattle.cell_table.specs.NeighbourNames.{place_of, bsic_of, name_of, neighbour_name};
+ghost use Rattle.cell_table.specs.Neighbours.{IsNamedCell};
 
 use super::{Site, identity_in};
 use crate::neighbours::count_before;
@@ -55,7 +56,7 @@ impl<A: Allocator + Copy> Site<A> {
     /// The position is 0 to 31, the code 0 to 63: eight times the neighbour's `ncc` and its `bcc`.
     pub fn neighbour_name(&self, cell: u8, neighbour: u8) -> Option<(u8, u8)>
         ensures name { (place bsic : ℕ) →
-            (result ≡ Some (place, bsic)) ↔ IsName self.now cell neighbour place bsic }
+            (result ≡ Some (place, bsic)) ↔ IsNamedCell self.now cell place bsic neighbour }
     {
         name_in(&self.tables, cell, neighbour)
     }
