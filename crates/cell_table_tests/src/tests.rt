@@ -5,7 +5,8 @@ mod neighbours;
 mod refusals;
 mod sizes;
 
-use cell_table::{Key, Site, SiteFault, What};
+use cell_table::ranges::{arfcn_range, tch_range};
+use cell_table::{Allowed, Key, Site, SiteFault, What};
 use sample_sites::THREE_CHANNELS as SITE;
 use std::alloc::{AllocError, Global};
 use std::process::Abort;
@@ -19,6 +20,47 @@ fn changed(rt: &impl Abort, alloc: Global, old: &str, new: &str) -> Result<Strin
 /// How a text is read: nothing where it describes a site.
 fn fault_of(alloc: Global, text: &str) -> Option<SiteFault> {
     Site::read(alloc, alloc, text).err()
+}
+
+/// Each key with the least and the greatest number that it allows.
+const ALLOWED: &[(Key, u16, u16)] = &[
+    (Key::Handover, 1, 1),
+    (Key::Window, 1, 32),
+    (Key::Margin, 0, 63),
+    (Key::Minimum, 0, 63),
+    (Key::Cell, 1, 64),
+    (Key::Lac, 0, 65535),
+    (Key::Ci, 0, 65535),
+    (Key::Bcch, 0, 1023),
+    (Key::Ncc, 0, 7),
+    (Key::Bcc, 0, 7),
+    (Key::Power, 0, 31),
+    (Key::Ba, 0, 1023),
+    (Key::Trx, 1, 4),
+    (Key::Arfcn, 0, 1023),
+    (Key::Tch, 0, 7),
+    (Key::Outside, 0, 64),
+];
+
+#[test]
+fn each_key_has_its_range(rt: HostRuntime) {
+    for (key, least, most) in ALLOWED {
+        let Allowed {
+            least: low,
+            most: high,
+        } = key.allowed();
+        assert_eq!(rt; (low, high), (*least, *most), "{key}");
+    }
+    assert_eq!(rt;
+        arfcn_range(60, true),
+        Allowed {
+            least: 60,
+            most: 60
+        }
+    );
+    assert_eq!(rt; arfcn_range(60, false), Key::Arfcn.allowed());
+    assert_eq!(rt; tch_range(true), Allowed { least: 1, most: 7 });
+    assert_eq!(rt; tch_range(false), Key::Tch.allowed());
 }
 
 #[test]

@@ -1,6 +1,7 @@
 use super::SITE;
 use cell_table::Site;
 use channel_fsm::ChanId;
+use sample_sites::{MANY_CHANNELS, SCATTERED};
 use std::alloc::Global;
 use std::process::Abort;
 use std::test::Fail;
@@ -53,6 +54,32 @@ const CHANNELS: &[((u8, u8, u8), Option<usize>)] = &[
     ((255, 255, 255), None),
 ];
 
+/// The channels of a site whose TRX name their timeslots out of order, in one list by cell, TRX and timeslot.
+const SCATTERED_CHANNELS: &[((u8, u8, u8), Option<usize>)] = &[
+    ((0, 1, 3), Some(0)),
+    ((0, 1, 5), Some(1)),
+    ((0, 2, 2), Some(2)),
+    ((0, 2, 6), Some(3)),
+    ((0, 0, 3), None),
+    ((0, 1, 2), None),
+    ((0, 2, 3), None),
+    ((0, 3, 2), None),
+    ((1, 1, 3), None),
+];
+
+/// The same of two cells, each with seven channels on each of four TRX.
+const FIFTY_SIX_CHANNELS: &[((u8, u8, u8), Option<usize>)] = &[
+    ((0, 0, 1), Some(0)),
+    ((0, 0, 7), Some(6)),
+    ((0, 1, 1), Some(7)),
+    ((0, 3, 7), Some(27)),
+    ((1, 0, 1), Some(28)),
+    ((1, 2, 4), Some(45)),
+    ((1, 3, 7), Some(55)),
+    ((1, 3, 0), None),
+    ((2, 0, 1), None),
+];
+
 /// A location area code and cell identity, and the cell that has them.
 const CODES: &[(u16, u16, Option<u8>)] = &[
     (23, 100, Some(0)),
@@ -97,8 +124,8 @@ fn says_of_trx(rt: &impl Abort, site: &Site<Global>) {
     }
 }
 
-fn says_of_channels(rt: &impl Abort, site: &Site<Global>) {
-    for ((cell, trx, tn), wanted) in CHANNELS {
+fn numbers_channels(rt: &impl Abort, site: &Site<Global>, rows: &[((u8, u8, u8), Option<usize>)]) {
+    for ((cell, trx, tn), wanted) in rows {
         let chan = ChanId {
             cell: *cell,
             trx: *trx,
@@ -107,6 +134,9 @@ fn says_of_channels(rt: &impl Abort, site: &Site<Global>) {
         assert_eq!(rt; site.index_of(chan), *wanted, "{chan}");
         assert_eq!(rt; site.is_traffic(chan), wanted.is_some(), "{chan}");
     }
+}
+
+fn finds_cells(rt: &impl Abort, site: &Site<Global>) {
     for (lac, ci, wanted) in CODES {
         assert_eq!(rt; site.cell_of(*lac, *ci), *wanted, "{lac} {ci}");
     }
@@ -119,6 +149,16 @@ fn a_site_says_what_its_file_does(rt: HostRuntime) -> Result<(), Fail> {
     says_of_cells(&rt, &site);
     says_of_own(&rt, &site);
     says_of_trx(&rt, &site);
-    says_of_channels(&rt, &site);
+    numbers_channels(&rt, &site, CHANNELS);
+    finds_cells(&rt, &site);
+    Ok(())
+}
+
+#[test]
+fn channels_are_numbered_by_cell_trx_and_timeslot(rt: HostRuntime) -> Result<(), Fail> {
+    let site = Site::read(rt.alloc(), rt.alloc(), SCATTERED)?;
+    numbers_channels(&rt, &site, SCATTERED_CHANNELS);
+    let site = Site::read(rt.alloc(), rt.alloc(), MANY_CHANNELS)?;
+    numbers_channels(&rt, &site, FIFTY_SIX_CHANNELS);
     Ok(())
 }

@@ -25,6 +25,28 @@ const AS_IT_STANDS: &[Named] = &[
     ((2, 0, 24), None),
     ((64, 0, 24), None),
     ((255, 255, 255), None),
+    // the serving cell's own code, whose carrier isn't in its list
+    ((0, 0, 9), None),
+    ((0, 1, 9), None),
+    ((0, 2, 9), None),
+    ((1, 0, 21), None),
+];
+
+/// With `ba = [871, 60, 62]` in cell 0, whose own carrier is 60: the list names the cell itself too.
+const WITH_ITS_OWN_CARRIER: &[Named] = &[
+    ((0, 0, 9), Some(0)),
+    ((0, 1, 24), Some(64)),
+    ((0, 2, 21), Some(1)),
+    ((0, 1, 9), None),
+    ((0, 2, 9), None),
+];
+
+/// With carrier 60 in the outside cell, as cell 0 has: the code tells them apart.
+const WITH_ONE_CARRIER: &[Named] = &[
+    ((1, 0, 9), Some(0)),
+    ((1, 0, 24), Some(64)),
+    ((1, 0, 21), None),
+    ((0, 0, 24), None),
 ];
 
 /// With `ba = [0, 871, 62]` in cell 0.
@@ -58,6 +80,10 @@ fn reports_name_neighbours(rt: HostRuntime) -> Result<(), Fail> {
     let ba = "ba = [62, 70, 871]";
     let rest = "\ntrx = [{ arfcn = 60, tch = [2, 3] }]\n";
     names(&rt, rt.alloc(), SITE, AS_IT_STANDS);
+    let text = changed(&rt, rt.alloc(), ba, "ba = [871, 60, 62]")?;
+    names(&rt, rt.alloc(), text.as_str(), WITH_ITS_OWN_CARRIER);
+    let text = changed(&rt, rt.alloc(), "bcch = 62", "bcch = 60")?;
+    names(&rt, rt.alloc(), text.as_str(), WITH_ONE_CARRIER);
     let text = changed(&rt, rt.alloc(), ba, "ba = [0, 871, 62]")?;
     names(&rt, rt.alloc(), text.as_str(), WITH_CARRIER_0);
     let old = format!(in rt.alloc(); "{ba}{rest}")?;

@@ -1,7 +1,8 @@
 use super::SITE;
 use lab::files::run_files;
 use lab::run::Status;
-use sample_sites::changed;
+use sample_sites::{FAULTY, changed};
+use std::alloc::{AllocError, Global};
 use std::process::Abort;
 use std::rt::Files;
 use std::test::Fail;
@@ -206,6 +207,9 @@ const REASONS: &[(&str, &str, &str, &str)] = &[
 /// Where a refused site is written.
 const REFUSED_FILE: &str = "refused.toml";
 
+/// Where each of the table of refused sites is written.
+const FAULTY_FILE: &str = "faulty.toml";
+
 /// Asserts that a site is refused, what is printed, and what is said behind its file's name.
 fn says(
     rt: &(impl Files + AllocGlobal + Abort),
@@ -237,5 +241,57 @@ fn a_refused_site_is_explained_in_one_line(rt: HostRuntime) -> Result<(), Fail> 
         "TOML parse error at line 2, column 6: invalid value, expected a string, number, boolean, date-time, array or inline table",
     )?;
     fs::remove_file(&rt, REFUSED_FILE)?;
+    Ok(())
+}
+
+/// What a sentence has to have beside the number of a fault and its argument.
+fn wanted_words(alloc: Global, number: &str, named: &str) -> Result<String, AllocError> {
+    match number {
+        "2" => format!(in alloc; " {named} is missing: it has to be "),
+        "3" => format!(in alloc; " {named}: "),
+        "5" => format!(in alloc; " cell {named}: no trx has a timeslot at tch"),
+        _ => String::from_str(alloc, twice_words(named)),
+    }
+}
+
+/// The keys of what stands twice, as a sentence names them.
+fn twice_words(kind: &str) -> &'static str {
+    match kind {
+        "identity" => " have the same lac and ci",
+        "colour" => " have the same bcch, ncc and bcc",
+        "carrier" => ": arfcn ",
+        "slot" => ": tch: ",
+        "neighbour" => ": ba: ",
+        _ => "TOML parse error at line ",
+    }
+}
+
+/// Asserts that a site is refused as it is printed, and that one line says so with the same key, kind or cell.
+fn agrees(rt: &(impl Files + AllocGlobal + Abort), site: &str, printed: &str) -> Result<(), Fail> {
+    fs::write(rt, FAULTY_FILE, site)?;
+    let mut out = Vec::new(rt.alloc());
+    let mut errors = Vec::new(rt.alloc());
+    let ended = run_files(rt, FAULTY_FILE, "/dev/null", &mut out, &mut errors);
+    assert_eq!(rt; ended, Ok(Status::Refused), "{printed}");
+    let wanted = format!(in rt.alloc(); "site {printed}\n")?;
+    assert_eq!(rt; str::from_utf8(&out)?, wanted.as_str());
+    let (number, named) = printed.split_once(" ").unwrap_or((printed, ""));
+    let words = wanted_words(rt.alloc(), number, named)?;
+    let line = str::from_utf8(&errors)?;
+    assert!(rt;
+        line.starts_with("faulty.toml: ") && line.contains(words.as_str()),
+        "{printed}: {line}"
+    );
+    assert_eq!(rt; line.lines().count(), 1, "{line}");
+    Ok(())
+}
+
+#[test]
+fn the_line_names_what_is_printed(rt: HostRuntime) -> Result<(), Fail> {
+    for (old, new, printed) in FAULTY {
+        let site = changed(rt.alloc(), SITE, *old, *new)?;
+        agrees(&rt, &site.expect(&rt, *old), *printed)?;
+    }
+    fs::remove_file(&rt, FAULTY_FILE)?;
     Ok(())
 }
