@@ -1,7 +1,7 @@
 -- One more candidate in a list in order.
 use Rattle.std.proofs.Common.{◌≡◌, ◌<◌, ◌≤◌, ◌+◌, ◌↔◌, ◌⊎◌, inl, inr, ℕ, zero, suc, nat_lt, Bool, true, false, List, [], ◌∷◌, ◌++◌, length, get_or, take, drop, All, AllPairs, Contains, refl, sym, ◌∙◌, ap, subst, arith}
 use Rattle.std.proofs.lemmas.List.Kept.{AllPairs-cons}
-use Rattle.std.proofs.lemmas.List.Elements.{All-head, All-tail, All-cons, All-append, All-take, All-drop, Contains-append_left, Contains-append_right, Contains-append_cases}
+use Rattle.std.proofs.lemmas.List.Elements.{All-head, All-tail, All-cons, All-append, All-take, All-drop, All-contains, Contains-append_left, Contains-append_right, Contains-append_cases}
 use Rattle.std.proofs.lemmas.List.{take-append-drop, get_or-take, get_or-drop, length-take, length-drop}
 use Rattle.std.proofs.lemmas.Bool.{ltb-false}
 use Rattle.std.proofs.lemmas.Bool.Decides.{Decides-ltb}
@@ -89,3 +89,48 @@ put-members found c i x = (there, back)
     back : (x ≡ c) ⊎ Contains found x → Contains (take i found ++ c ∷ drop i found) x
     back (inl e) = Contains-append_right (take i found) (c ∷ drop i found) x (0, omega arith, sym e)
     back (inr p) = kept (Contains-append_cases (take i found) (drop i found) x (subst (λ xs. Contains xs x) (sym (take-append-drop i found)) p))
+
+-- In order there is one list.
+
+not_both : (x y : Candidate) → StandsBefore x y → StandsBefore y x → ⊥
+not_both x y (inl p) (inl q) = absurd (omega arith)
+not_both x y (inl p) (inr q) = let same = q.0 in absurd (omega arith)
+not_both x y (inr p) (inl q) = let same = p.0 in absurd (omega arith)
+not_both x y (inr p) (inr q) = let first = p.1 in let second = q.1 in absurd (omega arith)
+
+before_rest : (x : Candidate) (xs : List Candidate) (c : Candidate) → AllPairs StandsBefore (x ∷ xs) → Contains xs c → StandsBefore x c
+before_rest x xs c pairs there = All-contains (StandsBefore x) xs c (pairs-head StandsBefore x xs pairs) there
+
+first_of : (x : Candidate) (xs : List Candidate) → Contains (x ∷ xs) x
+first_of x xs = (0, omega arith, refl)
+
+nothing_in : (c : Candidate) → Contains [] c → ⊥
+nothing_in c (k, lt, e) = absurd (omega arith)
+
+same_first : (x y : Candidate) (xs ys : List Candidate) → AllPairs StandsBefore (x ∷ xs) → AllPairs StandsBefore (y ∷ ys)
+    → (x ≡ y) ⊎ Contains ys x → (y ≡ x) ⊎ Contains xs y → x ≡ y
+same_first x y xs ys pairs other (inl e) also = e
+same_first x y xs ys pairs other (inr p) (inl e) = sym e
+same_first x y xs ys pairs other (inr p) (inr q) = absurd (not_both y x (before_rest y ys x other p) (before_rest x xs y pairs q))
+
+-- what is behind the first of one list is behind that of the other
+rest_in_rest : (x y : Candidate) (xs ys : List Candidate) → AllPairs StandsBefore (x ∷ xs) → x ≡ y → ((c : Candidate) → Contains (x ∷ xs) c → Contains (y ∷ ys) c)
+    → (c : Candidate) → Contains xs c → Contains ys c
+rest_in_rest x y xs ys pairs e within c (k, lt, at) =
+    elim (first_or_rest y ys c (within c (suc k, omega arith, at))) [
+      | inl same ↦
+          let before : StandsBefore x c = before_rest x xs c pairs (k, lt, at) in
+          let itself : StandsBefore x x = subst (StandsBefore x) (same ∙ sym e) before in
+          absurd (not_both x x itself itself)
+      | inr p ↦ p
+    ]
+
+pub one_list : (xs ys : List Candidate) → AllPairs StandsBefore xs → AllPairs StandsBefore ys → ((c : Candidate) → Contains xs c ↔ Contains ys c) → xs ≡ ys
+one_list [] [] pairs other same = refl
+one_list [] (y ∷ ys) pairs other same = absurd (nothing_in y ((same y).1 (first_of y ys)))
+one_list (x ∷ xs) [] pairs other same = absurd (nothing_in x ((same x).0 (first_of x xs)))
+one_list (x ∷ xs) (y ∷ ys) pairs other same =
+    let e : x ≡ y = same_first x y xs ys pairs other (first_or_rest y ys x ((same x).0 (first_of x xs))) (first_or_rest x xs y ((same y).1 (first_of y ys))) in
+    let rest : xs ≡ ys = one_list xs ys (pairs-tail StandsBefore x xs pairs) (pairs-tail StandsBefore y ys other)
+    (λ c. (rest_in_rest x y xs ys pairs e (λ d. (same d).0) c, rest_in_rest y x ys xs other (sym e) (λ d. (same d).1) c)) in
+    λ i. e i ∷ rest i

@@ -2,6 +2,7 @@
 //! the base station controller).
 #![tactic(auto)]
 
+pub mod laws;
 mod listed;
 mod looked;
 
