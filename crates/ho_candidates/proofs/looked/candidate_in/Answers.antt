@@ -1,4 +1,4 @@
-use Rattle.std.proofs.Common.{◌≡◌, sym, ◌∙◌, ap, subst, ℕ, Some, None, IfNone, Option, arith, ◌<◌, max, ◌+◌, ◌*◌}
+use Rattle.std.proofs.Common.{rules, refl, ◌≡◌, sym, ◌∙◌, ap, subst, ℕ, Some, None, IfNone, Option, arith, ◌<◌, max, ◌+◌, ◌*◌}
 use Rattle.measurements.specs.Reports.{sum_used, sum_named}
 use Rattle.ho_candidates.specs.declared.listed.Candidate.{Candidate}
 use Rattle.ho_candidates.specs.Candidates.{NoCandidateIn}
@@ -36,3 +36,20 @@ returns-clause-only g c =
     let name = c.in_ok-place.ensures.name in
     let one = one_name site c.args.cell c.args.other place bsic (λ p b is. (name p b).1 is) in
     only-sum w site c.args.cell c.args.other place bsic c.sum_of-sum.result one c.sum_of-sum.ensures.sum
+
+pub returns-clause-found : goal.returns-clause-found
+returns-clause-found g c =
+    let place = c.in_ok-place.place in
+    let bsic = c.in_ok-place.bsic in
+    let least = c.requires.least in
+    let enough = c.if-sum-least.false in
+    record {
+      place = place;
+      bsic = bsic;
+      full = search rules;
+      other = search rules;
+      name = (c.in_ok-place.ensures.name place bsic).0 refl;
+      sum = c.sum_of-sum.ensures.sum;
+      margin = omega arith;
+      minimum = omega arith;
+    }
