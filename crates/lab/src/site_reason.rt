@@ -1,7 +1,10 @@
 //! Where in a site file the first mistake is, and what is allowed there: one line for a person.
 //!
-//! No clause says what the line holds. What is refused, and by which check, is `Site::read`'s to say; here the text is
-//! read once more, for the line alone.
+//! No clause says what the line holds. What is refused, and by which check, is `Site::read`'s to say. Its fault names the
+//! key and not the place, since every caller but a person needs no more, and a place would have to go through all the
+//! checks; so the text is read once more here, for the line alone, after a refusal that ends the run anyway. The line
+//! can't name another key than the fault: it starts from the fault of this second reading, of the same text, and looks
+//! for the first table with a mistake at that key.
 use crate::run::LabFault;
 use cell_table::limits::{FIRST_OUTSIDE, MOST_CELLS, MOST_NEIGHBOURS, MOST_OUTSIDE};
 use cell_table::ranges::{arfcn_range, tch_range};
@@ -531,10 +534,12 @@ fn say_key<W: Write>(
 /// Says why a text isn't TOML: line, column, and what was awaited there.
 fn say_toml<W: Write>(
     alloc: Global,
+    path: &str,
     fault: toml::de::Error,
     errors: &mut W,
 ) -> Result<(), LabFault> {
     let text = format!(in alloc; "{fault}")?;
+    write!(errors, "{path}")?;
     for line in text.lines() {
         write!(errors, ": {line}")?;
     }
@@ -543,7 +548,7 @@ fn say_toml<W: Write>(
 }
 
 /// Says in one line why the text of a site file gives no site: the file, where in it, and what is allowed there.
-/// Nothing is said of a text that gives one.
+/// Nothing is said of a text that gives one, nor where memory is refused, which is answered by `NoMemory`.
 pub fn say_reason<W: Write>(
     alloc: Global,
     path: &str,
@@ -560,10 +565,7 @@ pub fn say_reason<W: Write>(
     let document = match toml::table_from_str(alloc, text) {
         Ok(document) => Value::Table(document),
         Err(fault) if fault.is_memory() => return Err(LabFault::NoMemory),
-        Err(fault) => {
-            write!(errors, "{path}")?;
-            return say_toml(alloc, fault, errors);
-        }
+        Err(fault) => return say_toml(alloc, path, fault, errors),
     };
     write!(errors, "{path}: ")?;
     match fault {
