@@ -1,6 +1,7 @@
 mod equality;
 mod lookups;
 mod memory;
+mod names;
 mod neighbours;
 mod refusals;
 mod sizes;

@@ -1,5 +1,5 @@
-//! The cells that a mobile may be handed over to, by its measurement reports (TS 48.008 clause 3.1.5 leaves the choice to
-//! the base station controller).
+//! The cells that a mobile may be handed over to, by its measurement reports. When a cell is one, and in what order they
+//! come, is this project's own rule.
 #![tactic(auto)]
 
 pub mod laws;
