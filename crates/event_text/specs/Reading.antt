@@ -1,5 +1,5 @@
--- What the parts of the reader answer, each of its own text. What reading an event comes to is said by `Text` alone.
-use Rattle.std.specs.Prelude.{◌≡◌, ◌==◌, ◌&&◌, ◌||◌, ℕ, Bool, nat_lt, not, if◌then◌else◌, List, [], ◌∷◌, length, slice_index, codes, bytes_eq, Option, Some, None, option_map, option_and_then}
+-- How an event is read, part by part. What that comes to is said at the end.
+use Rattle.std.specs.Prelude.{◌≡◌, ◌↔◌, ◌==◌, ◌&&◌, ◌||◌, ℕ, Bool, nat_lt, not, if◌then◌else◌, List, [], ◌∷◌, length, slice_index, codes, bytes_eq, Option, Some, None, option_map, option_and_then}
 use Rattle.std.specs.List.{list_all}
 use Rattle.std.specs.Char.{is_ascii_digit}
 use Rattle.std.specs.Str.Parse.{digits_value}
@@ -11,6 +11,7 @@ use Rattle.radio_book.specs.declared.event.Why.{Why}
 use Rattle.radio_book.specs.declared.event.Why.TheVariants as why
 use Rattle.radio_book.specs.declared.event.Event.{Event}
 use Rattle.radio_book.specs.declared.event.Event.TheVariants as event
+use Rattle.event_text.specs.Text.{event_text, Fits}
 
 infixl 10 ◌>>=◌
 abbrev pub ◌>>=◌ : {A B : Type 0} → Option A → (A → Option B) → Option B
@@ -94,3 +95,7 @@ event_at word text = event_among kinds word text
 
 abbrev pub event_of : List ℕ → Option Event
 event_of text = cut_at 32 text >>= (λ p. event_at p.0 p.1)
+
+-- an event's text is read as that event, and no other text is
+abbrev pub ReadsTexts : Type 0
+ReadsTexts = (text : List ℕ) (e : Event) → Fits e → (event_of text ≡ Some e) ↔ (text ≡ event_text e)

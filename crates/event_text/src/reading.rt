@@ -168,6 +168,7 @@ fn event(word: &str, text: &str) -> Option<Event>
 pub fn read_event(text: &str) -> Option<Event>
     ensures read { (e : Event) → Fits e → (result ≡ Some e) ↔ (text.now ≡ event_text e) }
     ensures fits { IfSome result Fits }
+    ensures value { result ≡ said.event_of text.now }
 {
     let (word, text) = first_word(text)?;
     event(word, text)

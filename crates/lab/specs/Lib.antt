@@ -1,5 +1,7 @@
 pub mod Decoded
+pub mod Entries
 pub mod Files
+pub mod Rewound
 pub mod Statuses
 pub use Rattle.ho_procedure.specs.Plan
 pub use Rattle.ho_procedure.specs.Procedure

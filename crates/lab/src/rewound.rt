@@ -1,4 +1,11 @@
 //! An undone attempt, taken out of a trace.
+ghost use Rattle.std.specs.Prelude.{◌≡◌, ◌≢◌, ◌↔◌, ◌+◌, ◌<◌, ◌^◌, ℕ, Ok, Err, Some, None, IsTrue, IfOk, IfErr, OnOk, IfSome, slice_get};
+ghost use Rattle.cell_table.specs.SiteFile.{IsBlankFile};
+ghost use Rattle.radio_book.specs.State.{empty_book};
+ghost use Rattle.radio_book.specs.NoTrace.{LeavesNoTrace};
+ghost use Rattle.lab.specs.Entries as said;
+ghost use Rattle.lab.specs.Rewound.{IsAnsweredAlike, IsAlike, StandsIn, LeavesTrace, InEntries, InTrace};
+
 use crate::entries::{Entry, entries_of, first_other, first_unread};
 use crate::run::{LabFault, Status, refuse_site};
 use cell_table::Site;
@@ -11,13 +18,19 @@ use std::io::Write;
 use std::sync::Arc;
 
 /// Refuses a line of the trace, and prints its number.
-fn refuse_line<W: Write>(number: usize, out: &mut W) -> Result<Status, LabFault> {
+fn refuse_line<W: Write>(number: usize, out: &mut W) -> Result<Status, LabFault>
+    ensures refused { IfOk result (λ status. status ≡ Status.Refused) }
+    ensures write { IfErr result (λ fault. fault ≡ LabFault.Write) }
+{
     writeln!(out, "line {number}")?;
     Ok(Status::Refused)
 }
 
 /// Refuses a line in which no undone attempt opens, and prints so.
-fn refuse_attempt<W: Write>(out: &mut W) -> Result<Status, LabFault> {
+fn refuse_attempt<W: Write>(out: &mut W) -> Result<Status, LabFault>
+    ensures refused { IfOk result (λ status. status ≡ Status.Refused) }
+    ensures write { IfErr result (λ fault. fault ≡ LabFault.Write) }
+{
     writeln!(out, "no attempt")?;
     Ok(Status::Refused)
 }
@@ -31,7 +44,9 @@ fn events_of<A: Allocator + Copy>(
 }
 
 /// Whether the others got the same replies alone as among all events.
-fn are_same_replies(whole: &[Reply], others: &[usize], without: &[Reply]) -> bool {
+fn are_same_replies(whole: &[Reply], others: &[usize], without: &[Reply]) -> bool
+    ensures { IsTrue result ↔ IsAnsweredAlike whole.now others.now without.now }
+{
     others.len() == without.len()
         && others
             .iter()
@@ -40,7 +55,11 @@ fn are_same_replies(whole: &[Reply], others: &[usize], without: &[Reply]) -> boo
 }
 
 /// Whether the attempt left no trace: both books are the same, and the others got the same replies.
-fn is_same<A: Allocator>(rewound: &Rewound<A>) -> bool {
+fn is_same<A: Allocator>(rewound: &Rewound<A>) -> bool
+    ensures { IsTrue result ↔ IsAlike rewound.now.whole rewound.now.without
+        rewound.now.whole_replies.items rewound.now.others.items
+        rewound.now.without_replies.items }
+{
     rewound.whole == rewound.without
         && are_same_replies(
             &rewound.whole_replies,
@@ -50,7 +69,11 @@ fn is_same<A: Allocator>(rewound: &Rewound<A>) -> bool {
 }
 
 /// The number of the line of the first held refusal, counted from 1.
-fn held_line<A: Allocator>(rewound: &Rewound<A>, entries: &[Entry]) -> Option<usize> {
+fn held_line<A: Allocator>(rewound: &Rewound<A>, entries: &[Entry]) -> Option<usize>
+    ensures held { (at : ℕ) → rewound.now.held ≡ Some at → IfSome (slice_get entries.now at)
+        (λ entry. entry.index + 1 < 2 ^ 64 → result ≡ Some (entry.index + 1)) }
+    ensures none { rewound.now.held ≡ None → result ≡ None }
+{
     let entry = entries.get(rewound.held?)?;
     Some(entry.line())
 }
@@ -60,7 +83,16 @@ fn print_rewound<A: Allocator, W: Write>(
     rewound: &Rewound<A>,
     entries: &[Entry],
     out: &mut W,
-) -> Result<Status, LabFault> {
+) -> Result<Status, LabFault>
+    ensures done { result ≡ Ok Status.Done → IsAlike rewound.now.whole rewound.now.without
+        rewound.now.whole_replies.items rewound.now.others.items
+        rewound.now.without_replies.items }
+    ensures differs { result ≡ Ok Status.Differs → ¬ (IsAlike rewound.now.whole rewound.now.without
+        rewound.now.whole_replies.items rewound.now.others.items
+        rewound.now.without_replies.items) }
+    ensures refused { result ≢ Ok Status.Refused }
+    ensures memory { result ≢ Err LabFault.NoMemory }
+{
     writeln!(out, "others {}", rewound.others.len())?;
     let settled = if rewound.settled { "yes" } else { "no" };
     writeln!(out, "settled {settled}")?;
@@ -77,6 +109,14 @@ fn print_rewound<A: Allocator, W: Write>(
     }
 }
 
+/// The place of the entry in a line, counted from 1.
+fn place_of(entries: &[Entry], line: usize) -> Option<usize>
+    ensures { IfSome result (λ at. StandsIn entries.now line at) }
+{
+    let index = line.checked_sub(1)?;
+    entries.iter().position(|entry| entry.index == index)
+}
+
 /// Takes out the attempt that opens in a line, and prints what stays.
 fn rewind_line<A: Allocator + Copy, W: Write>(
     alloc: A,
@@ -85,8 +125,12 @@ fn rewind_line<A: Allocator + Copy, W: Write>(
     events: &[Event],
     line: usize,
     out: &mut W,
-) -> Result<Status, LabFault> {
-    let Some(at) = entries.iter().position(|entry| entry.line() == line) else {
+) -> Result<Status, LabFault>
+    requires events { events.now ≡ said.events_of entries.now }
+    ensures done { result ≡ Ok Status.Done → InEntries LeavesNoTrace book.now entries.now line }
+    ensures differs { result ≡ Ok Status.Differs → InEntries LeavesTrace book.now entries.now line }
+{
+    let Some(at) = place_of(entries, line) else {
         return refuse_attempt(out);
     };
     match rewind(alloc, book, events, at) {
@@ -115,7 +159,12 @@ fn rewind_entries<A: Allocator + Copy, W: Write>(
     trace: &str,
     line: usize,
     out: &mut W,
-) -> Result<Status, LabFault> {
+) -> Result<Status, LabFault>
+    ensures done { result ≡ Ok Status.Done →
+        InEntries LeavesNoTrace book.now (said.entries_of trace.now) line }
+    ensures differs { result ≡ Ok Status.Differs →
+        InEntries LeavesTrace book.now (said.entries_of trace.now) line }
+{
     let entries = entries_of(alloc, trace)?;
     let events = events_of(alloc, &entries)?;
     match first_foreign(alloc, book, trace, &entries, &events)? {
@@ -131,7 +180,13 @@ fn rewind_trace<A: Allocator + Copy, W: Write>(
     trace: &str,
     line: usize,
     out: &mut W,
-) -> Result<Status, LabFault> {
+) -> Result<Status, LabFault>
+    ensures readable { (result ≢ Ok Status.Refused) → OnOk result (said.first_unread trace.now ≡ None) }
+    ensures done { result ≡ Ok Status.Done →
+        InEntries LeavesNoTrace (empty_book site) (said.entries_of trace.now) line }
+    ensures differs { result ≡ Ok Status.Differs →
+        InEntries LeavesTrace (empty_book site) (said.entries_of trace.now) line }
+{
     if let Some(number) = first_unread(trace) {
         return refuse_line(number, out);
     }
@@ -160,7 +215,11 @@ pub fn rewind_run<A: Allocator + Copy, W: Write>(
     trace: &str,
     line: usize,
     out: &mut W,
-) -> Result<Status, LabFault> {
+) -> Result<Status, LabFault>
+    ensures done { result ≡ Ok Status.Done → InTrace LeavesNoTrace site.now trace.now line }
+    ensures differs { result ≡ Ok Status.Differs → InTrace LeavesTrace site.now trace.now line }
+    ensures memory { result ≡ Err LabFault.NoMemory → ¬ IsBlankFile site.now }
+{
     match Site::read(alloc, scratch, site) {
         Ok(site) => rewind_trace(alloc, site, trace, line, out),
         Err(fault) => refuse_site(fault, out),

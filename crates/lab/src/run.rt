@@ -165,6 +165,7 @@ fn run_script<A: Allocator + Copy, W: Write>(
 /// Says why there is no site to run over: the number of the fault and what it is of.
 pub(crate) fn refuse_site<W: Write>(fault: SiteFault, out: &mut W) -> Result<Status, LabFault>
     ensures done { result ≢ Ok Status.Done }
+    ensures differs { result ≢ Ok Status.Differs }
     ensures refused { result ≡ Ok Status.Refused → fault ≢ SiteFault.NoMemory }
     ensures memory { result ≡ Err LabFault.NoMemory → fault ≡ SiteFault.NoMemory }
 {

@@ -6,4 +6,4 @@ use Rattle.lab_script.proofs.script.without_return.Goals as goal
 pub returns : goal.returns
 returns c =
     let found = strip_suffix_char 13 c.args.line.now c.strip_suffix.result c.strip_suffix.ensures.cases (lit< tt) in
-    ap (λ (x : Bor (List ℕ)). x.now) c.unwrap_or.ensures ∙ stripped c.args.line c.strip_suffix.result found
+    record { stripped = ap (λ (x : Bor (List ℕ)). x.now) c.unwrap_or.ensures ∙ stripped c.args.line c.strip_suffix.result found }
