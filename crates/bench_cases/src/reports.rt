@@ -1,5 +1,5 @@
 //! Cases on measurement reports: one more in a window (TS 44.018 clause 10.5.2.20), and the candidates for a handover.
-ghost use Rattle.std.specs.Prelude.{◌≡◌, IfOk};
+ghost use Rattle.std.specs.Prelude.{◌≡◌, ◌<◌, IfOk};
 
 use crate::fault::Fault;
 use crate::radio::read_results;
@@ -45,7 +45,9 @@ pub fn add_reports(alloc: Global, octets: &mut Varying, count: u64) -> Result<u6
 }
 
 /// Appends the BA list of a cell: the carriers of the cells that come next, with cell 0 behind the last one.
-fn push_neighbours(text: &mut String, cell: u8) -> Result<(), AllocError> {
+fn push_neighbours(text: &mut String, cell: u8) -> Result<(), AllocError>
+    requires { cell < 64 }
+{
     for step in 1..NEIGHBOURS {
         write!(text, "{}, ", (cell + step) % CELLS)?;
     }
@@ -53,7 +55,9 @@ fn push_neighbours(text: &mut String, cell: u8) -> Result<(), AllocError> {
 }
 
 /// Appends a cell whose BCCH carrier is its number.
-fn push_cell(text: &mut String, cell: u8) -> Result<(), AllocError> {
+fn push_cell(text: &mut String, cell: u8) -> Result<(), AllocError>
+    requires { cell < 64 }
+{
     write!(
         text,
         "[[cell]]\nlac = 1\nci = {cell}\nbcch = {cell}\nncc = 0\nbcc = 0\npower = 0\nba = ["
