@@ -1,5 +1,5 @@
--- What the searches of the code answer, step by step. No public clause cites it: what they find is said in `Site` and
--- `Neighbours`.
+-- What the searches of the code answer, step by step. Of public clauses only the law `positions_are_counted` cites it: what
+-- they find is said in `Site` and `Neighbours`.
 use Rattle.std.specs.Prelude.{ℕ, ◌==◌, ◌+◌, ◌/◌, ◌%◌, Bool, ◌&&◌, ◌||◌, not, nat_lt, List, take, sum_by, count_by, length, Option, Some, None, option_map, option_and_then, slice_get, unwrap_or}
 use Rattle.std.specs.List.{list_any, position}
 use Rattle.channel_fsm.specs.declared.ChanId.{ChanId}

@@ -1,6 +1,6 @@
 -- A desk: a book, the one that it opened with, and the history of events with their replies that leads from this to that.
 -- Ours, of no standard.
-use Rattle.std.specs.Prelude.{◌≡◌, ℕ, List, [], ◌∷◌, ◌++◌, length, Option, Some, None, slice_get, refl}
+use Rattle.std.specs.Prelude.{◌≡◌, ◌≤◌, ℕ, List, [], ◌∷◌, ◌++◌, length, Option, Some, None, slice_get, refl}
 use Rattle.std.specs.Coded.{Coded, code_by, coded×, coded_ℕ, coded_list}
 use Rattle.radio_book.specs.declared.event.Event.{Event}
 use Rattle.radio_book.specs.declared.event.Reply.{Reply}
@@ -54,3 +54,4 @@ pub record IsSameDesk (d d' : DeskState) : Type 0 where
   pub opening : d'.opening ≡ d.opening
   pub history : d'.history ≡ d.history
   pub book : d'.book ≡ d.book
+  pub room : d.room ≤ d'.room

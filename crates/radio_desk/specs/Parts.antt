@@ -1,4 +1,4 @@
--- What an event and a refusal name: their kind, and what stands with it. Ours, of no standard.
+-- What an event and a refusal name: their kind, and what stands with it. No public clause cites it. Ours, of no standard.
 use Rattle.std.specs.Prelude.{◌≡◌, ℕ, zero, suc, refl}
 use Rattle.channel_fsm.specs.declared.ChanId.{ChanId}
 use Rattle.attempt_journal.specs.declared.Timer.{Timer}

@@ -196,3 +196,18 @@ fn a_receipt_of_a_place_past_the_end_is_foreign(rt: HostRuntime) -> Result<(), F
     let opening = desk_of(rt.alloc(), rt.alloc())?;
     past_the_end(&rt, &opening)
 }
+
+fn at_a_new_desk(rt: &(impl AllocGlobal + Abort), opening: &Desk<Global>) -> Result<(), Fail> {
+    let mut seat = Seat::new();
+    after(opening, rt.alloc(), &mut seat, &[Look(1)])?;
+    let mut desk = after(opening, rt.alloc(), &mut Seat::new(), &[])?;
+    assert_eq!(rt; desk.judge(&mut seat, Look(1)), Err(DeskFault::Foreign(0)));
+    assert_eq!(rt; desk.len(), 0);
+    Ok(())
+}
+
+#[test]
+fn a_receipt_is_foreign_at_a_new_desk(rt: HostRuntime) -> Result<(), Fail> {
+    let opening = desk_of(rt.alloc(), rt.alloc())?;
+    at_a_new_desk(&rt, &opening)
+}
