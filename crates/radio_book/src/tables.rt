@@ -8,7 +8,7 @@ ghost use Rattle.std.specs.Option.{option_map};
 ghost use Rattle.std.specs.FinMap as map;
 ghost use Rattle.channel_fsm.specs.Table.{next_state};
 ghost use Rattle.channel_fsm.specs.declared.ChanState.TheVariants as state;
-ghost use Rattle.radio_book.specs.Maps.{with_change, put};
+ghost use Rattle.radio_book.specs.Maps.{with_change};
 ghost use Rattle.radio_book.specs.Same.{is_same, is_same-IsEquivalence};
 ghost use Rattle.radio_book.specs.Entries.{call_table_code};
 ghost use Rattle.radio_book.specs.State.{or_free, channels_code, references_code};

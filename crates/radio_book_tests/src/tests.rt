@@ -4,6 +4,7 @@ mod handover;
 mod largest;
 mod memory;
 mod overlaps;
+mod random;
 mod rewinds;
 mod runs;
 mod taken_back;

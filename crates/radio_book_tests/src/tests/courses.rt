@@ -3,6 +3,7 @@ use super::book_of;
 use channel_fsm::{ChanId, ChanState};
 use radio_book::book::Book;
 use radio_book::event::{Attempt, AttemptKind, CallRecord, Event, Refusal, Reply, Stage};
+use radio_book::rewind::{Rewound, rewind};
 use radio_book::run::run;
 use std::alloc::{AllocError, Allocator, Global};
 use std::process::Abort;
@@ -30,6 +31,14 @@ use Told::{Comes, Done, Leaves, Moves, Owned, Refused, Rests, Waits};
 // How many channels, calls, references and timers a book holds.
 type Held = (usize, usize, usize, usize);
 
+// What stays of a course without the attempt that opens at a place and is undone. No release of its target is awaited in
+// the end, and the books are the same; the replies to the others are where no refusal is held, and only there.
+pub(super) struct Without {
+    pub(super) at: usize,
+    pub(super) others: &'static [usize],
+    pub(super) held: Option<usize>,
+}
+
 // Events with their replies, from the book of a site after some others, and what it holds in the end.
 pub(super) struct Course {
     pub(super) name: &'static str,
@@ -37,6 +46,8 @@ pub(super) struct Course {
     pub(super) before: &'static [Event],
     pub(super) steps: &'static [(Event, Told)],
     pub(super) held: Held,
+    // The attempts that can be taken out.
+    pub(super) undone: &'static [Without],
 }
 
 fn shows(serving: Option<ChanId>, state: Option<ChanState>, attempt: Option<Attempt>) -> Reply {
@@ -161,4 +172,52 @@ fn plays(
 pub(super) fn is_right(rt: &(impl AllocGlobal + Abort), course: &Course) -> Result<(), Fail> {
     let mut book = book_of(rt.alloc(), rt.alloc(), course.site)?;
     Ok(plays(rt, &mut book, course)?)
+}
+
+// Each of the others got the reply that it gets alone.
+fn replies_are_the_same(rewound: &Rewound<Global>) -> bool {
+    for (place, reply) in rewound.others.iter().zip(rewound.without_replies.iter()) {
+        if rewound.whole_replies.get(*place) != Some(reply) {
+            return false;
+        }
+    }
+    true
+}
+
+fn is_as_worked_out(
+    rt: &impl Abort,
+    rewound: &Rewound<Global>,
+    without: &Without,
+    name: &'static str,
+) {
+    let at = without.at;
+    assert!(rt; rewound.others.as_slice() == without.others, "{name}: {at}");
+    assert!(rt; rewound.settled, "{name}: {at}");
+    assert!(rt; rewound.held == without.held, "{name}: {at}");
+    assert!(rt; rewound.whole == rewound.without, "{name}: {at}");
+    let same = replies_are_the_same(rewound);
+    assert!(rt; same == without.held.is_none(), "{name}: {at}");
+}
+
+fn takes_each_out(
+    rt: &(impl AllocGlobal + Abort),
+    book: &Book<Global>,
+    events: &[Event],
+    course: &Course,
+) {
+    for without in course.undone {
+        match rewind(rt.alloc(), book, events, without.at) {
+            Ok(rewound) => is_as_worked_out(rt, &rewound, without, course.name),
+            Err(fault) => panic!(rt; "{}: {}: {fault}", course.name, without.at),
+        }
+    }
+}
+
+// Takes each attempt out of the course that was taken back in it.
+pub(super) fn is_without(rt: &(impl AllocGlobal + Abort), course: &Course) -> Result<(), Fail> {
+    let mut book = book_of(rt.alloc(), rt.alloc(), course.site)?;
+    prepare(rt, &mut book, course)?;
+    let events = events_of(rt.alloc(), course)?;
+    takes_each_out(rt, &book, events.as_slice(), course);
+    Ok(())
 }

@@ -1,6 +1,6 @@
 //! Attempts of several calls that overlap.
 use super::courses::Told::{Comes, Done, Leaves, Moves, Owned, Refused, Rests};
-use super::courses::{Course, is_right};
+use super::courses::{Course, Without, is_right, is_without};
 use channel_fsm::ChanId;
 use radio_book::event::Event::{
     Activate, Clear, Command, Complete, Confirm, Detect, Left, Look, Open, Order, Owner, Refuse,
@@ -13,7 +13,7 @@ use radio_book::event::{Event, Stage, Timer};
 use std::test::Fail;
 
 // Three cells with two channels each.
-const SIX_CHANNELS: &str = "[handover]
+pub(super) const SIX_CHANNELS: &str = "[handover]
 window = 1
 margin = 0
 minimum = 0
@@ -47,39 +47,39 @@ trx = [{ arfcn = 80, tch = [1, 2] }]
 ";
 
 // The channels of cell 0, where call 1 is served on the first,
-const NEAR_1: ChanId = ChanId {
+pub(super) const NEAR_1: ChanId = ChanId {
     cell: 0,
     trx: 0,
     tn: 1,
 };
 
-const NEAR_2: ChanId = ChanId {
+pub(super) const NEAR_2: ChanId = ChanId {
     cell: 0,
     trx: 0,
     tn: 2,
 };
 
 // of cell 1,
-const MIDDLE_1: ChanId = ChanId {
+pub(super) const MIDDLE_1: ChanId = ChanId {
     cell: 1,
     trx: 0,
     tn: 1,
 };
 
-const MIDDLE_2: ChanId = ChanId {
+pub(super) const MIDDLE_2: ChanId = ChanId {
     cell: 1,
     trx: 0,
     tn: 2,
 };
 
 // and of cell 2, where call 2 is served on the first.
-const FAR_1: ChanId = ChanId {
+pub(super) const FAR_1: ChanId = ChanId {
     cell: 2,
     trx: 0,
     tn: 1,
 };
 
-const FAR_2: ChanId = ChanId {
+pub(super) const FAR_2: ChanId = ChanId {
     cell: 2,
     trx: 0,
     tn: 2,
@@ -115,6 +115,18 @@ const COURSES: &[Course] = &[
             (Look(2), Rests(2, FAR_1)),
         ],
         held: (2, 2, 0, 0),
+        undone: &[
+            Without {
+                at: 0,
+                others: &[1, 3, 4, 6, 7, 8],
+                held: Some(3),
+            },
+            Without {
+                at: 1,
+                others: &[0, 2, 5, 7, 8],
+                held: None,
+            },
+        ],
     },
     Course {
         name: "one attempt runs out of time, the other is complete",
@@ -143,6 +155,11 @@ const COURSES: &[Course] = &[
             (Look(2), Rests(2, MIDDLE_2)),
         ],
         held: (2, 2, 0, 0),
+        undone: &[Without {
+            at: 0,
+            others: &[1, 3, 4, 7, 9, 10, 12, 14, 15, 16],
+            held: None,
+        }],
     },
     Course {
         name: "a channel goes from attempt to attempt",
@@ -162,6 +179,11 @@ const COURSES: &[Course] = &[
             (Look(2), Moves(2, FAR_1, Stage::Reserved, MIDDLE_1, Some(0))),
         ],
         held: (3, 2, 1, 0),
+        undone: &[Without {
+            at: 0,
+            others: &[1, 3, 4, 5, 6, 7],
+            held: Some(1),
+        }],
     },
     Course {
         name: "a target awaits its release while its number goes to another attempt",
@@ -185,6 +207,11 @@ const COURSES: &[Course] = &[
             (Look(2), Moves(2, FAR_1, Stage::Reserved, MIDDLE_2, Some(3))),
         ],
         held: (4, 3, 1, 0),
+        undone: &[Without {
+            at: 0,
+            others: &[3, 5, 6, 9, 10, 11],
+            held: Some(6),
+        }],
     },
     Course {
         name: "two calls change places",
@@ -209,6 +236,7 @@ const COURSES: &[Course] = &[
             (Look(2), Rests(2, NEAR_2)),
         ],
         held: (2, 2, 0, 0),
+        undone: &[],
     },
     Course {
         name: "a call comes to the cell to which others move",
@@ -235,6 +263,18 @@ const COURSES: &[Course] = &[
             (Look(2), Moves(2, FAR_1, Stage::Taken, MIDDLE_2, None)),
         ],
         held: (3, 2, 0, 0),
+        undone: &[
+            Without {
+                at: 0,
+                others: &[1, 3, 5, 6, 8, 10, 12, 14],
+                held: None,
+            },
+            Without {
+                at: 1,
+                others: &[0, 2, 4, 7, 9, 10, 11, 12, 13, 14],
+                held: None,
+            },
+        ],
     },
     Course {
         name: "a call leaves for another controller while another moves to its cell",
@@ -257,6 +297,7 @@ const COURSES: &[Course] = &[
             (Look(2), Moves(2, FAR_1, Stage::Confirmed, NEAR_2, Some(9))),
         ],
         held: (3, 2, 1, 0),
+        undone: &[],
     },
     Course {
         name: "two calls are to leave for another controller, and come back by their own timers",
@@ -282,6 +323,18 @@ const COURSES: &[Course] = &[
             (Look(2), Leaves(2, FAR_1, Stage::Required)),
         ],
         held: (2, 2, 0, 1),
+        undone: &[
+            Without {
+                at: 0,
+                others: &[1, 2, 4, 5, 7, 8, 9, 10],
+                held: None,
+            },
+            Without {
+                at: 1,
+                others: &[0, 3, 6, 7, 8, 9, 10],
+                held: None,
+            },
+        ],
     },
     Course {
         name: "three attempts are taken back in the order of their opening",
@@ -314,6 +367,23 @@ const COURSES: &[Course] = &[
             (Look(9), Refused(NoCall)),
         ],
         held: (2, 2, 0, 0),
+        undone: &[
+            Without {
+                at: 0,
+                others: &[1, 2, 3, 4, 6, 7, 9, 10, 11, 12, 13, 14, 15, 16, 17],
+                held: None,
+            },
+            Without {
+                at: 1,
+                others: &[0, 2, 4, 5, 6, 8, 9, 11, 13, 14, 15, 16, 17],
+                held: None,
+            },
+            Without {
+                at: 2,
+                others: &[0, 1, 3, 5, 7, 8, 10, 12, 14, 15, 16, 17],
+                held: None,
+            },
+        ],
     },
     Course {
         name: "a call tries again and again while another's attempt is open",
@@ -351,6 +421,18 @@ const COURSES: &[Course] = &[
             ),
         ],
         held: (4, 2, 2, 1),
+        undone: &[
+            Without {
+                at: 2,
+                others: &[0, 1, 4, 5, 6, 7, 8, 9, 10, 11, 12, 13, 14, 15, 16],
+                held: None,
+            },
+            Without {
+                at: 4,
+                others: &[0, 1, 2, 3, 7, 8, 9, 10, 11, 12, 13, 14, 15, 16],
+                held: None,
+            },
+        ],
     },
     Course {
         name: "a call ends between the steps of an attempt, and another comes to its channel",
@@ -374,6 +456,18 @@ const COURSES: &[Course] = &[
             (Look(1), Moves(1, NEAR_1, Stage::Taken, FAR_1, None)),
         ],
         held: (2, 1, 0, 0),
+        undone: &[
+            Without {
+                at: 0,
+                others: &[1, 4, 5, 6, 8, 9, 10, 11],
+                held: None,
+            },
+            Without {
+                at: 6,
+                others: &[0, 1, 2, 3, 4, 5, 7, 8, 10, 11],
+                held: Some(8),
+            },
+        ],
     },
     Course {
         name: "a call begins and moves while the station refuses another's target",
@@ -402,6 +496,18 @@ const COURSES: &[Course] = &[
             (Look(3), Rests(3, NEAR_2)),
         ],
         held: (3, 3, 0, 0),
+        undone: &[
+            Without {
+                at: 2,
+                others: &[0, 1, 3, 4, 5, 7, 12, 13],
+                held: None,
+            },
+            Without {
+                at: 4,
+                others: &[0, 1, 2, 3, 6, 8, 9, 10, 11, 12, 13],
+                held: None,
+            },
+        ],
     },
 ];
 
@@ -409,6 +515,14 @@ const COURSES: &[Course] = &[
 fn each_overlap_goes_as_worked_out(rt: HostRuntime) -> Result<(), Fail> {
     for course in COURSES {
         is_right(&rt, course)?;
+    }
+    Ok(())
+}
+
+#[test]
+fn each_attempt_that_is_taken_back_can_be_taken_out(rt: HostRuntime) -> Result<(), Fail> {
+    for course in COURSES {
+        is_without(&rt, course)?;
     }
     Ok(())
 }

@@ -34,6 +34,7 @@ const COURSES: &[Course] = &[
             (Look(2), Waits(2, OTHER)),
         ],
         held: (2, 2, 0, 0),
+        undone: &[],
     },
     Course {
         name: "the others alone",
@@ -45,6 +46,7 @@ const COURSES: &[Course] = &[
             (Look(2), Waits(2, OTHER)),
         ],
         held: (2, 2, 0, 0),
+        undone: &[],
     },
     Course {
         name: "a refused target awaits no release",
@@ -64,6 +66,7 @@ const COURSES: &[Course] = &[
             (Look(2), Waits(2, TARGET)),
         ],
         held: (2, 2, 0, 0),
+        undone: &[],
     },
     Course {
         name: "an acknowledgement after the undo",
@@ -84,6 +87,7 @@ const COURSES: &[Course] = &[
             (Look(1), Rests(1, HOME)),
         ],
         held: (1, 1, 0, 0),
+        undone: &[],
     },
     Course {
         name: "a call is refused for the target",
@@ -100,6 +104,7 @@ const COURSES: &[Course] = &[
             (Look(2), Refused(NoCall)),
         ],
         held: (1, 1, 0, 0),
+        undone: &[],
     },
     Course {
         name: "that call alone",
@@ -111,6 +116,7 @@ const COURSES: &[Course] = &[
             (Look(2), Waits(2, TARGET)),
         ],
         held: (2, 2, 0, 0),
+        undone: &[],
     },
     Course {
         name: "a reference is refused for the one of an attempt that comes",
@@ -126,6 +132,7 @@ const COURSES: &[Course] = &[
             (Look(9), Comes(Stage::Taken, HOME, None)),
         ],
         held: (1, 1, 0, 0),
+        undone: &[],
     },
     Course {
         name: "that attempt alone",
@@ -137,6 +144,7 @@ const COURSES: &[Course] = &[
             (Look(9), Comes(Stage::Reserved, HOME, Some(5))),
         ],
         held: (1, 1, 1, 0),
+        undone: &[],
     },
     Course {
         name: "a call begins while another is to leave",
@@ -151,6 +159,7 @@ const COURSES: &[Course] = &[
             (Look(2), Waits(2, OTHER)),
         ],
         held: (2, 2, 0, 0),
+        undone: &[],
     },
     Course {
         name: "an attempt that is complete can't be taken back",
@@ -167,6 +176,7 @@ const COURSES: &[Course] = &[
             (Look(1), Rests(1, TARGET)),
         ],
         held: (2, 1, 0, 0),
+        undone: &[],
     },
     Course {
         name: "the mobile is seen on the target alone",
@@ -183,6 +193,7 @@ const COURSES: &[Course] = &[
             (Look(1), Moves(1, HOME, Stage::Detected, TARGET, Some(0))),
         ],
         held: (2, 1, 1, 1),
+        undone: &[],
     },
 ];
 
