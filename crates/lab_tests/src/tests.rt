@@ -6,6 +6,7 @@ mod files;
 mod program;
 mod reasons;
 mod refusals;
+mod rewound;
 mod traces;
 mod words;
 

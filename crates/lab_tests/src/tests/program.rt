@@ -83,6 +83,7 @@ fn a_text_that_is_not_written_is_a_fault(rt: HostRuntime) {
 #[test]
 fn statuses(rt: HostRuntime) {
     assert_eq!(rt; exit_status(Ok(Status::Done)), 0);
+    assert_eq!(rt; exit_status(Ok(Status::Differs)), 1);
     assert_eq!(rt; exit_status(Ok(Status::Refused)), 2);
     assert_eq!(rt; exit_status(Err(LabFault::Write)), 2);
     assert_eq!(rt; exit_status(Err(LabFault::NoMemory)), 3);

@@ -1,0 +1,145 @@
+use super::SITE;
+use lab::rewound::rewind_run;
+use lab::run::{LabFault, Status};
+use refusing_heap::RefusingHeap;
+use std::alloc::{Allocator, Global};
+use std::process::Abort;
+use std::test::Fail;
+
+/// A handover that is taken back, and whose release is acknowledged.
+const UNDONE: &str = "in open 1 0 0 3
+event open 1 0/0/3 -> done
+out abis 0 0 0821010b0300060400010801
+event confirm 0/0/3 -> owned 1
+event look 1 -> record 0/0/3 on
+event take 1 internal 1/1/3 -> done
+event reserve 1 0 -> done
+event activate 1 -> done
+event undo 1 asked -> record 0/0/3 on internal sent 1/1/3 0
+event released 1/1/3 -> done
+end channels=1 calls=1 references=0 timers=0
+";
+
+/// The same, before the station has acknowledged.
+const AWAITED: &str = "event open 1 0/0/3 -> done
+event confirm 0/0/3 -> owned 1
+event take 1 internal 1/1/3 -> done
+event reserve 1 0 -> done
+event activate 1 -> done
+event undo 1 asked -> record 0/0/3 on internal sent 1/1/3 0
+";
+
+/// Call 2 is refused the channel that the attempt holds.
+const HELD: &str = "event open 1 0/0/3 -> done
+event confirm 0/0/3 -> owned 1
+event take 1 internal 1/1/3 -> done
+event open 2 1/1/3 -> refused 6 1/1/3
+event undo 1 asked -> record 0/0/3 on internal taken 1/1/3 -
+";
+
+/// A trace, a line, how it ends, and what is printed.
+const ROWS: &[(&str, usize, Status, &str)] = &[
+    (
+        UNDONE,
+        6,
+        Status::Done,
+        "others 3\nsettled yes\nheld -\nsame\n",
+    ),
+    (
+        AWAITED,
+        3,
+        Status::Differs,
+        "others 2\nsettled no\nheld -\ndiffers\n",
+    ),
+    (
+        HELD,
+        3,
+        Status::Differs,
+        "others 3\nsettled yes\nheld 4\ndiffers\n",
+    ),
+    // no attempt opens there
+    (UNDONE, 0, Status::Refused, "no attempt\n"),
+    (UNDONE, 1, Status::Refused, "no attempt\n"),
+    (UNDONE, 2, Status::Refused, "no attempt\n"),
+    (UNDONE, 100, Status::Refused, "no attempt\n"),
+    ("", 1, Status::Refused, "no attempt\n"),
+    // lines that can't be read, before replies are looked at
+    (
+        "event look 1 -> done\nevent look 01 -> done",
+        1,
+        Status::Refused,
+        "line 2\n",
+    ),
+    ("event look 1\n", 1, Status::Refused, "line 1\n"),
+    ("\n1: in clear 1\n", 1, Status::Refused, "line 2\n"),
+    (
+        "\n\n2: event look 1 -> refused 1\n",
+        1,
+        Status::Refused,
+        "line 3\n",
+    ),
+    // another reply than the book's
+    ("event look 1 -> done\n", 1, Status::Refused, "line 1\n"),
+    (
+        "event look 1 -> refused 1\r\nevent look 1 -> refused 1 \r\n",
+        1,
+        Status::Refused,
+        "line 2\n",
+    ),
+    (
+        "event look 1 -> refused 1\r\n",
+        1,
+        Status::Refused,
+        "no attempt\n",
+    ),
+];
+
+/// What an attempt's taking out printed, and how it ended.
+fn printed<A: Allocator + Copy>(
+    alloc: A,
+    scratch: Global,
+    trace: &str,
+    line: usize,
+) -> Result<(Result<Status, LabFault>, String), Fail> {
+    let mut out = Vec::new(scratch);
+    let status = rewind_run(alloc, scratch, SITE, trace, line, &mut out);
+    Ok((status, String::from_utf8(out)?))
+}
+
+#[test]
+fn undone_attempts_are_taken_out(rt: HostRuntime) -> Result<(), Fail> {
+    for (trace, line, ended, wanted) in ROWS {
+        let (status, text) = printed(rt.alloc(), rt.alloc(), *trace, *line)?;
+        assert_eq!(rt;
+            (status, text.as_str()),
+            (Ok(*ended), *wanted),
+            "{trace} {line}"
+        );
+    }
+    Ok(())
+}
+
+/// Whether a run over a heap that refuses this request met no refusal. A list is asked for in smaller pieces where a
+/// request for it is refused, so that a refused request may be made up for.
+fn runs_without(rt: &impl Abort, alloc: Global, n: u64) -> Result<bool, Fail> {
+    let heap = RefusingHeap::refusing_nth(alloc, n);
+    let (status, text) = printed(&heap, alloc, UNDONE, 6)?;
+    match status {
+        Ok(Status::Done) => assert_eq!(rt; text.as_str(), ROWS[0].3, "{n}"),
+        Err(LabFault::NoMemory) => assert!(rt; heap.was_refused() && text.is_empty(), "{n}"),
+        _ => assert!(rt; false, "{n}: {text}"),
+    }
+    Ok(!heap.was_refused())
+}
+
+#[test]
+fn each_request_of_a_rewind_is_refused(rt: HostRuntime) -> Result<(), Fail> {
+    for n in 1..1000 {
+        if runs_without(&rt, rt.alloc(), n)? {
+            assert!(rt; 10 < n, "{n} requests");
+            return Ok(());
+        }
+    }
+    assert!(rt; false, "a thousand requests");
+    Ok(())
+}
