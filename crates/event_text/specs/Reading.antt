@@ -98,4 +98,4 @@ event_of text = cut_at 32 text >>= (λ p. event_at p.0 p.1)
 
 -- an event's text is read as that event, and no other text is
 abbrev pub ReadsTexts : Type 0
-ReadsTexts = (text : List ℕ) (e : Event) → Fits e → (event_of text ≡ Some e) ↔ (text ≡ event_text e)
+ReadsTexts = (text : List ℕ) (e : Event) → (event_of text ≡ Some e) ↔ (Fits e × (text ≡ event_text e))
