@@ -44,8 +44,8 @@ pub behind_by_strip : (n text : List ℕ) (r : Option (Bor (List ℕ)))
     → option_map {U = List ℕ} (λ (x : Bor (List ℕ)). x.now) r ≡ behind n text
 behind_by_strip n text None h = rw (not_at_start n text h) refl
 behind_by_strip n text (Some x) h =
-    let starts : starts_with nat_eq text n ≡ true = sym (starts_text true n text (h.0, h.1, h.1.2)) in
-    rw (starts, h.2, h.1.0) refl
+    let starts : starts_with nat_eq text n ≡ true = sym (starts_text true n text (h.0, h.1, rw h.1.0 h.1.2)) in
+    rw starts (ap (λ (t : List ℕ). Some t) (h.2 ∙ ap (λ (k : ℕ). drop k text) h.1.0))
 
 position_from-suc : {X : Type 0} (p : X → Bool) (i : ℕ) (xs : List X) → position_from p (i + 1) xs ≡ option_map (λ n. n + 1) (position_from p i xs)
 position_from-suc p i [] = refl
