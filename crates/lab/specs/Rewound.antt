@@ -1,23 +1,15 @@
 -- An undone attempt, taken out of a trace.
-use Rattle.std.specs.Prelude.{◌≡◌, ◌+◌, ℕ, List, map, slice_get, Some, None}
+use Rattle.std.specs.Prelude.{◌≡◌, ◌+◌, ℕ, List, slice_get, Some, None}
 use Rattle.std.specs.Option.{option_map}
 use Rattle.cell_table.specs.SiteFile.{described_site}
 use Rattle.cell_table.specs.Site.{SiteView}
 use Rattle.radio_book.specs.declared.event.Event.{Event}
-use Rattle.radio_book.specs.declared.event.Reply.{Reply}
 use Rattle.radio_book.specs.State.{State, empty_book}
-use Rattle.radio_book.specs.Undone.{Undone, IsUndoneAt}
-use Rattle.radio_book.specs.NoTrace.{LeavesNoTrace}
+use Rattle.radio_book.specs.Run.{run_book}
+use Rattle.radio_book.specs.Undone.{Undone, IsUndoneAt, others, events_of}
 use Rattle.lab.specs.declared.entries.Entry.{Entry}
-use Rattle.lab.specs.Entries.{first_unread, entries_of, events_of}
-
--- each of the others, at its place among all events, got the reply that it got alone
-abbrev pub IsAnsweredAlike : List Reply → List ℕ → List Reply → Type 0
-IsAnsweredAlike whole others without = map (slice_get whole) others ≡ map Some without
-
--- both books are one, and the others were answered alike
-abbrev pub IsAlike : State → State → List Reply → List ℕ → List Reply → Type 0
-IsAlike whole without whole_replies others without_replies = (whole ≡ without) × IsAnsweredAlike whole_replies others without_replies
+use Rattle.lab.specs.Entries.{first_unread, entries_of}
+use Rattle.lab.specs.Entries as said
 
 -- at this place of the entries stands the one of this line, counted from 1
 abbrev pub StandsIn : List Entry → ℕ → ℕ → Type 0
@@ -27,12 +19,13 @@ StandsIn entries line at = option_map (λ (e : Entry). e.index + 1) (slice_get e
 abbrev pub OfTheUndone : (State → List Event → Undone → Type 0) → State → List Event → ℕ → Type 0
 OfTheUndone P b es at = (u : Undone) × IsUndoneAt b es at u × P b es u
 
-abbrev pub LeavesTrace : State → List Event → Undone → Type 0
-LeavesTrace b es u = ¬ LeavesNoTrace b es u
+-- all events and the others alone lead to one book
+abbrev pub LeadsToOneBook : State → List Event → Undone → Type 0
+LeadsToOneBook b es u = run_book b es ≡ run_book b (events_of (others u))
 
 -- of a list of entries, and a line, the undone attempt that opens there
 abbrev pub InEntries : (State → List Event → Undone → Type 0) → State → List Entry → ℕ → Type 0
-InEntries P b entries line = (at : ℕ) × StandsIn entries line at × OfTheUndone P b (events_of entries) at
+InEntries P b entries line = (at : ℕ) × StandsIn entries line at × OfTheUndone P b (said.events_of entries) at
 
 -- the texts describe a site and say events, and this holds of the undone attempt that opens in this line, from the empty book
 -- of the site on

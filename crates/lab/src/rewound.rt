@@ -1,10 +1,9 @@
 //! An undone attempt, taken out of a trace.
-ghost use Rattle.std.specs.Prelude.{◌≡◌, ◌≢◌, ◌↔◌, ◌+◌, ◌<◌, ◌^◌, ℕ, Ok, Err, Some, None, IsTrue, IfOk, IfErr, OnOk, IfSome, slice_get};
+ghost use Rattle.std.specs.Prelude.{◌≡◌, ◌≢◌, ◌+◌, ◌<◌, ◌^◌, ℕ, Ok, Err, Some, None, IsTrue, IfOk, IfErr, OnOk, IfSome, slice_get};
 ghost use Rattle.cell_table.specs.SiteFile.{IsBlankFile};
 ghost use Rattle.radio_book.specs.State.{empty_book};
-ghost use Rattle.radio_book.specs.NoTrace.{LeavesNoTrace};
 ghost use Rattle.lab.specs.Entries as said;
-ghost use Rattle.lab.specs.Rewound.{IsAnsweredAlike, IsAlike, StandsIn, LeavesTrace, InEntries, InTrace};
+ghost use Rattle.lab.specs.Rewound.{StandsIn, LeadsToOneBook, InEntries, InTrace};
 
 use crate::entries::{Entry, entries_of, first_other, first_unread};
 use crate::run::{LabFault, Status, refuse_site};
@@ -36,17 +35,14 @@ fn refuse_attempt<W: Write>(out: &mut W) -> Result<Status, LabFault>
 }
 
 /// The events of entries, in their order.
-fn events_of<A: Allocator + Copy>(
-    alloc: A,
-    entries: &[Entry],
-) -> Result<Vec<Event, A>, AllocError> {
+fn events_of<A: Allocator + Copy>(alloc: A, entries: &[Entry]) -> Result<Vec<Event, A>, AllocError>
+    ensures { IfOk result (λ events. events.items ≡ said.events_of entries.now) }
+{
     entries.iter().map(|entry| entry.event).collect(alloc)
 }
 
 /// Whether the others got the same replies alone as among all events.
-fn are_same_replies(whole: &[Reply], others: &[usize], without: &[Reply]) -> bool
-    ensures { IsTrue result ↔ IsAnsweredAlike whole.now others.now without.now }
-{
+fn are_same_replies(whole: &[Reply], others: &[usize], without: &[Reply]) -> bool {
     others.len() == without.len()
         && others
             .iter()
@@ -56,9 +52,7 @@ fn are_same_replies(whole: &[Reply], others: &[usize], without: &[Reply]) -> boo
 
 /// Whether the attempt left no trace: both books are the same, and the others got the same replies.
 fn is_same<A: Allocator>(rewound: &Rewound<A>) -> bool
-    ensures { IsTrue result ↔ IsAlike rewound.now.whole rewound.now.without
-        rewound.now.whole_replies.items rewound.now.others.items
-        rewound.now.without_replies.items }
+    ensures { IsTrue result → rewound.now.whole ≡ rewound.now.without }
 {
     rewound.whole == rewound.without
         && are_same_replies(
@@ -84,12 +78,7 @@ fn print_rewound<A: Allocator, W: Write>(
     entries: &[Entry],
     out: &mut W,
 ) -> Result<Status, LabFault>
-    ensures done { result ≡ Ok Status.Done → IsAlike rewound.now.whole rewound.now.without
-        rewound.now.whole_replies.items rewound.now.others.items
-        rewound.now.without_replies.items }
-    ensures differs { result ≡ Ok Status.Differs → ¬ (IsAlike rewound.now.whole rewound.now.without
-        rewound.now.whole_replies.items rewound.now.others.items
-        rewound.now.without_replies.items) }
+    ensures done { result ≡ Ok Status.Done → rewound.now.whole ≡ rewound.now.without }
     ensures refused { result ≢ Ok Status.Refused }
     ensures memory { result ≢ Err LabFault.NoMemory }
 {
@@ -127,8 +116,7 @@ fn rewind_line<A: Allocator + Copy, W: Write>(
     out: &mut W,
 ) -> Result<Status, LabFault>
     requires events { events.now ≡ said.events_of entries.now }
-    ensures done { result ≡ Ok Status.Done → InEntries LeavesNoTrace book.now entries.now line }
-    ensures differs { result ≡ Ok Status.Differs → InEntries LeavesTrace book.now entries.now line }
+    ensures done { result ≡ Ok Status.Done → InEntries LeadsToOneBook book.now entries.now line }
 {
     let Some(at) = place_of(entries, line) else {
         return refuse_attempt(out);
@@ -161,9 +149,7 @@ fn rewind_entries<A: Allocator + Copy, W: Write>(
     out: &mut W,
 ) -> Result<Status, LabFault>
     ensures done { result ≡ Ok Status.Done →
-        InEntries LeavesNoTrace book.now (said.entries_of trace.now) line }
-    ensures differs { result ≡ Ok Status.Differs →
-        InEntries LeavesTrace book.now (said.entries_of trace.now) line }
+        InEntries LeadsToOneBook book.now (said.entries_of trace.now) line }
 {
     let entries = entries_of(alloc, trace)?;
     let events = events_of(alloc, &entries)?;
@@ -183,9 +169,7 @@ fn rewind_trace<A: Allocator + Copy, W: Write>(
 ) -> Result<Status, LabFault>
     ensures readable { (result ≢ Ok Status.Refused) → OnOk result (said.first_unread trace.now ≡ None) }
     ensures done { result ≡ Ok Status.Done →
-        InEntries LeavesNoTrace (empty_book site) (said.entries_of trace.now) line }
-    ensures differs { result ≡ Ok Status.Differs →
-        InEntries LeavesTrace (empty_book site) (said.entries_of trace.now) line }
+        InEntries LeadsToOneBook (empty_book site) (said.entries_of trace.now) line }
 {
     if let Some(number) = first_unread(trace) {
         return refuse_line(number, out);
@@ -216,8 +200,7 @@ pub fn rewind_run<A: Allocator + Copy, W: Write>(
     line: usize,
     out: &mut W,
 ) -> Result<Status, LabFault>
-    ensures done { result ≡ Ok Status.Done → InTrace LeavesNoTrace site.now trace.now line }
-    ensures differs { result ≡ Ok Status.Differs → InTrace LeavesTrace site.now trace.now line }
+    ensures done { result ≡ Ok Status.Done → InTrace LeadsToOneBook site.now trace.now line }
     ensures memory { result ≡ Err LabFault.NoMemory → ¬ IsBlankFile site.now }
 {
     match Site::read(alloc, scratch, site) {
