@@ -1,4 +1,4 @@
-use super::SITE;
+use super::{ONE_CALL, SITE};
 use lab::rewound::rewind_run;
 use lab::run::{LabFault, Status};
 use refusing_heap::RefusingHeap;
@@ -106,15 +106,97 @@ fn printed<A: Allocator + Copy>(
     Ok((status, String::from_utf8(out)?))
 }
 
+/// The taking out of an attempt ends so, and prints this.
+fn is_rewound(
+    rt: &impl Abort,
+    alloc: Global,
+    trace: &str,
+    line: usize,
+    ended: Status,
+    wanted: &str,
+) -> Result<(), Fail> {
+    let (status, text) = printed(alloc, alloc, trace, line)?;
+    assert_eq!(rt; (status, text.as_str()), (Ok(ended), wanted), "{trace} {line}");
+    Ok(())
+}
+
 #[test]
 fn undone_attempts_are_taken_out(rt: HostRuntime) -> Result<(), Fail> {
     for (trace, line, ended, wanted) in ROWS {
-        let (status, text) = printed(rt.alloc(), rt.alloc(), *trace, *line)?;
-        assert_eq!(rt;
-            (status, text.as_str()),
-            (Ok(*ended), *wanted),
-            "{trace} {line}"
-        );
+        is_rewound(&rt, rt.alloc(), *trace, *line, *ended, *wanted)?;
+    }
+    Ok(())
+}
+
+/// Call 1 is on, and an attempt to move it to cell 1 opens in line 8 of the trace: the station is asked to activate the
+/// target.
+const ATTEMPT: &str = "open 1 0 0 3\nabis 0 0 0822010b081234\nhandover 1 1\n";
+
+/// How a script goes on behind [`ATTEMPT`], how the taking out of the attempt from its trace ends, and what is printed.
+const SCRIPTS: &[(&str, Status, &str)] = &[
+    // it is taken back, and the release acknowledged
+    (
+        "undo 1\nabis 1 1 0833010b\n",
+        Status::Done,
+        "others 3\nsettled yes\nheld -\nsame\n",
+    ),
+    // the station refuses the target, which another call has then: no release is awaited
+    (
+        "abis 1 1 0823010b1a0120\nopen 2 1 1 3\n",
+        Status::Done,
+        "others 4\nsettled yes\nheld -\nsame\n",
+    ),
+    // the station confirms a target that was given up; the second acknowledgement of its release is no part of the attempt
+    (
+        "undo 1\nabis 1 1 0822010b081234\nabis 1 1 0833010b\nabis 1 1 0833010b\n",
+        Status::Done,
+        "others 4\nsettled yes\nheld -\nsame\n",
+    ),
+    // call 2 is refused the target, in line 13, and would have got it
+    (
+        "open 2 1 1 3\nundo 1\nabis 1 1 0833010b\n",
+        Status::Differs,
+        "others 4\nsettled yes\nheld 13\ndiffers\n",
+    ),
+    // the station's acknowledgement is still to come
+    (
+        "undo 1\n",
+        Status::Differs,
+        "others 3\nsettled no\nheld -\ndiffers\n",
+    ),
+    // the call ends, and the attempt is undone with it
+    (
+        "clear 1\nabis 1 1 0833010b\nabis 0 0 0833010b\n",
+        Status::Done,
+        "others 5\nsettled yes\nheld -\nsame\n",
+    ),
+    // it is never undone
+    ("clear 2\n", Status::Refused, "no attempt\n"),
+];
+
+/// The trace of this script.
+fn trace_of(alloc: Global, script: &str) -> Result<String, Fail> {
+    let (_, trace) = super::printed(alloc, alloc, SITE, script)?;
+    Ok(trace)
+}
+
+#[test]
+fn attempts_are_taken_out_of_traces_that_were_printed(rt: HostRuntime) -> Result<(), Fail> {
+    for (rest, ended, wanted) in SCRIPTS {
+        let mut script = String::new(rt.alloc());
+        script.push_str(ATTEMPT)?;
+        script.push_str(*rest)?;
+        let trace = trace_of(rt.alloc(), &script)?;
+        is_rewound(&rt, rt.alloc(), &trace, 8, *ended, *wanted)?;
+    }
+    Ok(())
+}
+
+#[test]
+fn a_call_without_attempt_has_none(rt: HostRuntime) -> Result<(), Fail> {
+    let trace = trace_of(rt.alloc(), ONE_CALL.0)?;
+    for line in 0..15 {
+        is_rewound(&rt, rt.alloc(), &trace, line, Status::Refused, "no attempt\n")?;
     }
     Ok(())
 }

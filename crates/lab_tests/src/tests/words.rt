@@ -15,6 +15,16 @@ fn run_names_two_files(rt: HostRuntime) -> Result<(), Fail> {
     Ok(())
 }
 
+#[test]
+fn rewind_names_two_files_and_a_line(rt: HostRuntime) {
+    match read_words(rt.alloc(), &["rewind", "a.toml", "b.trace", "8"]) {
+        Ok(Job::Rewind { site, trace, line }) => {
+            assert_eq!(rt; (site, trace, line), ("a.toml", "b.trace", 8));
+        }
+        _ => assert!(rt; false, "a rewind"),
+    }
+}
+
 /// Words that ask for a message: its link, and its text.
 const DECODES: &[(&[&str], Link, &str)] = &[
     (&["decode", "rr", "062c00"], Link::Rr, "062c00"),
@@ -51,6 +61,8 @@ const SHOWS: &[(&[&str], &str)] = &[
     (&["decode", "--help"], "a the switching centre"),
     (&["decode", "--help"], "in hexadecimal"),
     (&["help", "decode"], "rr, a, abis"),
+    (&["rewind", "--help"], "The trace, as run prints it"),
+    (&["help", "rewind"], "counted from 1"),
     (&["--version"], "bsc_lab 0."),
     (&["-V"], "bsc_lab 0."),
 ];
@@ -71,6 +83,13 @@ const REFUSALS: &[(&[&str], &str)] = &[
     (&["decode", "", "062c00"], "'<LINK>' but none was supplied"),
     (&["decode", "rr", "06", "2c00"], "2c00"),
     (&["decode", "rr", "-0"], "'-0'"),
+    (&["rewind"], "were not provided:\n  <SITE>\n  <TRACE>\n  <LINE>\n"),
+    (&["rewind", "a", "b"], "were not provided:\n  <LINE>\n"),
+    (&["rewind", "a", "b", "0"], "'0'"),
+    (&["rewind", "a", "b", "-1"], "'-1'"),
+    (&["rewind", "a", "b", "two"], "'two'"),
+    (&["rewind", "a", "b", "1", "2"], "'2'"),
+    (&["rewind", "a", "b", "18446744073709551616"], "'18446744073709551616'"),
 ];
 
 /// What becomes of words that are answered by a text.
