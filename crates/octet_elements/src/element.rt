@@ -16,6 +16,7 @@ pub struct Leading<'a> {
 }
 
 /// The element that the octets begin with; `None` where they are empty or it is cut.
+#[inline(always)]
 pub fn leading_element<T: ElementTable>(octets: &[u8]) -> Option<Leading<'_>>
     ensures found { IfSome result (λ f. Fits T.form_of (f.identifier, f.value.now) ×
         (octets.now ≡ element_octets T.form_of (f.identifier, f.value.now) ++ f.rest.now)) }

@@ -44,7 +44,7 @@ impl<'a, T: ElementTable> Found<'a, T> {
 
     /// Reads elements to the end of the octets, or answers the offset of the first element that is cut. After
     /// an `Err` it is unspecified what was found.
-    #[inline]
+    #[inline(always)]
     pub fn read(&mut self, octets: &'a [u8]) -> Result<(), usize>
         requires { lookup T.known self.old ≡ noted T.known [] }
         ensures whole { OnOk result ((es : List Element) × AreElements T.form_of es octets.now ×
@@ -64,7 +64,7 @@ impl<'a, T: ElementTable> Found<'a, T> {
     }
 
     /// Keeps the value of one more element, where it is the first with its identifier.
-    #[inline]
+    #[inline(always)]
     fn note(&mut self, leading: Leading<'a>)
         requires { leading.place ≡ place_of leading.identifier T.known }
         ensures { (es : List Element) → lookup T.known self.old ≡ noted T.known es →
