@@ -116,7 +116,11 @@ fn is_rewound(
     wanted: &str,
 ) -> Result<(), Fail> {
     let (status, text) = printed(alloc, alloc, trace, line)?;
-    assert_eq!(rt; (status, text.as_str()), (Ok(ended), wanted), "{trace} {line}");
+    assert_eq!(rt;
+        (status, text.as_str()),
+        (Ok(ended), wanted),
+        "{trace} {line}"
+    );
     Ok(())
 }
 
@@ -196,7 +200,14 @@ fn attempts_are_taken_out_of_traces_that_were_printed(rt: HostRuntime) -> Result
 fn a_call_without_attempt_has_none(rt: HostRuntime) -> Result<(), Fail> {
     let trace = trace_of(rt.alloc(), ONE_CALL.0)?;
     for line in 0..15 {
-        is_rewound(&rt, rt.alloc(), &trace, line, Status::Refused, "no attempt\n")?;
+        is_rewound(
+            &rt,
+            rt.alloc(),
+            &trace,
+            line,
+            Status::Refused,
+            "no attempt\n",
+        )?;
     }
     Ok(())
 }

@@ -83,13 +83,19 @@ const REFUSALS: &[(&[&str], &str)] = &[
     (&["decode", "", "062c00"], "'<LINK>' but none was supplied"),
     (&["decode", "rr", "06", "2c00"], "2c00"),
     (&["decode", "rr", "-0"], "'-0'"),
-    (&["rewind"], "were not provided:\n  <SITE>\n  <TRACE>\n  <LINE>\n"),
+    (
+        &["rewind"],
+        "were not provided:\n  <SITE>\n  <TRACE>\n  <LINE>\n",
+    ),
     (&["rewind", "a", "b"], "were not provided:\n  <LINE>\n"),
     (&["rewind", "a", "b", "0"], "'0'"),
     (&["rewind", "a", "b", "-1"], "'-1'"),
     (&["rewind", "a", "b", "two"], "'two'"),
     (&["rewind", "a", "b", "1", "2"], "'2'"),
-    (&["rewind", "a", "b", "18446744073709551616"], "'18446744073709551616'"),
+    (
+        &["rewind", "a", "b", "18446744073709551616"],
+        "'18446744073709551616'",
+    ),
 ];
 
 /// What becomes of words that are answered by a text.
