@@ -18,7 +18,7 @@ pub enum Fault {
     #[error("usage: bsc_bench NAME N [OCTETS] | bsc_bench all N")]
     Words,
     /// Memory was refused.
-    #[error("out of memory")]
+    #[error("memory was refused")]
     NoMemory,
     /// The standard output took no more.
     #[error("the sum can't be printed")]

@@ -68,7 +68,7 @@ pub enum PlainFault {
     #[error("the octets are no message: {0}")]
     Undecoded(RslFault),
     /// Memory was refused. The book was asked some first events of the row, or none, and is where they lead.
-    #[error("out of memory")]
+    #[error("memory was refused")]
     NoMemory,
 }
 

@@ -32,7 +32,7 @@ pub enum Status {
 #[derive(Clone, Copy, Debug, PartialEq, Eq, Error)]
 pub enum LabFault {
     /// Memory was refused.
-    #[error("out of memory")]
+    #[error("memory was refused")]
     NoMemory,
     /// A write of the output failed.
     #[error("the output can't be written")]

@@ -21,7 +21,7 @@ pub enum ScriptFault {
     #[error("line {0} can't be read")]
     Line(usize),
     /// Memory was refused. Every line can be read.
-    #[error("out of memory")]
+    #[error("memory was refused")]
     NoMemory,
 }
 

@@ -21,7 +21,7 @@ pub enum DeskFault {
     #[error("the receipt of place {0} is of another desk")]
     Foreign(usize),
     /// Memory was refused.
-    #[error("out of memory")]
+    #[error("memory was refused")]
     NoMemory,
 }
 
