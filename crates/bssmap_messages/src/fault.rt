@@ -29,7 +29,7 @@ pub enum BssmapFault {
     #[error("torn at offset {0}")]
     Torn(usize),
     /// Memory ran out.
-    #[error("out of memory")]
+    #[error("memory was refused")]
     NoMemory,
 }
 

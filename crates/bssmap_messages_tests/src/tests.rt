@@ -288,17 +288,17 @@ const READINGS: &[(&[u8], Fields<'static>)] = &[
 fn is_read_as(
     rt: &(impl AllocGlobal + Abort),
     text: &[u8],
-    wanted: Fields<'static>,
+    expected: Fields<'static>,
 ) -> Result<(), Fail> {
     let message = decode(rt.alloc(), text)?;
-    assert!(rt; fields_of(&message) == wanted, "{text:?}");
+    assert!(rt; fields_of(&message) == expected, "{text:?}");
     Ok(())
 }
 
 #[test]
 fn reads_each_message(rt: HostRuntime) -> Result<(), Fail> {
-    for (text, wanted) in READINGS {
-        is_read_as(&rt, *text, *wanted)?;
+    for (text, expected) in READINGS {
+        is_read_as(&rt, *text, *expected)?;
     }
     Ok(())
 }
@@ -729,7 +729,7 @@ const FAULT_TEXTS: &[(BssmapFault, &str)] = &[
     (BssmapFault::Missing(5), "element 0x05 is missing"),
     (BssmapFault::BadElement(0x1A), "element 0x1a is bad"),
     (BssmapFault::Torn(12), "torn at offset 12"),
-    (BssmapFault::NoMemory, "out of memory"),
+    (BssmapFault::NoMemory, "memory was refused"),
 ];
 
 #[test]

@@ -20,7 +20,7 @@ pub enum RrFault {
     Element(ElementFault),
     /// Memory was refused. No call of this crate answers it, since a message holds no list; it is
     /// for callers that keep reading and writing under one type.
-    #[error("out of memory")]
+    #[error("memory was refused")]
     NoMemory,
 }
 

@@ -304,7 +304,7 @@ const TEXTS: [(RrFault, &str); 5] = [
     (RrFault::UnknownType(41), "unknown message type 0x29"),
     (RrFault::Short, "the message is cut"),
     (HOPPING, "the channel hops"),
-    (RrFault::NoMemory, "out of memory"),
+    (RrFault::NoMemory, "memory was refused"),
 ];
 
 #[test]

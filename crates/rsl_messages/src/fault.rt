@@ -28,7 +28,7 @@ pub enum RslFault {
     #[error("longer than 1,024 octets")]
     TooLong,
     /// Memory ran out.
-    #[error("out of memory")]
+    #[error("memory was refused")]
     NoMemory,
 }
 

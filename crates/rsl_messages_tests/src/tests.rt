@@ -192,9 +192,9 @@ const OTHER_READINGS: &[(&[u8], Fields<'static>)] = &[
 ];
 
 /// A text says the message with these fields.
-fn says(rt: &(impl AllocGlobal + Abort), text: &[u8], wanted: Fields<'static>) -> Result<(), Fail> {
+fn says(rt: &(impl AllocGlobal + Abort), text: &[u8], expected: Fields<'static>) -> Result<(), Fail> {
     let message = decode(rt.alloc(), text)?;
-    assert!(rt; fields_of(&message) == wanted, "{text:?}");
+    assert!(rt; fields_of(&message) == expected, "{text:?}");
     Ok(())
 }
 
@@ -203,8 +203,8 @@ fn reads_each_message(rt: HostRuntime) -> Result<(), Fail> {
     for sample in SAMPLES {
         says(&rt, sample.text, sample.says)?;
     }
-    for (text, wanted) in OTHER_READINGS {
-        says(&rt, *text, *wanted)?;
+    for (text, expected) in OTHER_READINGS {
+        says(&rt, *text, *expected)?;
     }
     reading_is_unique::<Global>();
     canonical_is_text::<Global>();
@@ -385,7 +385,7 @@ fn prints_faults(rt: HostRuntime) -> Result<(), Fail> {
         (RslFault::BadElement(0x1A), "element 0x1a is bad"),
         (RslFault::Torn(12), "torn at offset 12"),
         (RslFault::TooLong, "longer than 1,024 octets"),
-        (RslFault::NoMemory, "out of memory"),
+        (RslFault::NoMemory, "memory was refused"),
     ];
     for (fault, text) in rows {
         assert_eq!(rt; format!(in rt.alloc(); "{fault}")?.as_str(), text);

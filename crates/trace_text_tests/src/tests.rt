@@ -33,10 +33,10 @@ const FAULTS: &[(Bad, &str)] = &[
 
 #[test]
 fn faults_that_octets_never_have(rt: HostRuntime) -> Result<(), Fail> {
-    for (fault, wanted) in FAULTS {
+    for (fault, expected) in FAULTS {
         let mut out = Vec::new(rt.alloc());
         print_fault(&mut out, *fault)?;
-        assert_eq!(rt; str::from_utf8(&out)?, *wanted);
+        assert_eq!(rt; str::from_utf8(&out)?, *expected);
     }
     Ok(())
 }
@@ -184,11 +184,11 @@ fn is_printed(
     rt: &impl Abort,
     alloc: Global,
     handled: &Handled<Global>,
-    wanted: &str,
+    expected: &str,
 ) -> Result<(), Fail> {
     let mut out = Vec::new(alloc);
     print_handled(&mut out, handled)?;
-    assert_eq!(rt; str::from_utf8(&out)?, wanted);
+    assert_eq!(rt; str::from_utf8(&out)?, expected);
     Ok(())
 }
 
@@ -301,11 +301,11 @@ const LINES: &[(Line, &str)] = &[
 
 #[test]
 fn inputs_are_printed(rt: HostRuntime) -> Result<(), Fail> {
-    for (line, wanted) in LINES {
+    for (line, expected) in LINES {
         let input: Inbound<Global> = Inbound::Operator(*line);
         let mut out = Vec::new(rt.alloc());
         print_input(&mut out, &input)?;
-        assert_eq!(rt; str::from_utf8(&out)?, *wanted);
+        assert_eq!(rt; str::from_utf8(&out)?, *expected);
     }
     Ok(())
 }
@@ -320,7 +320,7 @@ fn each_count_is_printed_in_its_place(rt: HostRuntime) -> Result<(), Fail> {
     };
     let mut out = Vec::new(rt.alloc());
     print_end(&mut out, usage)?;
-    let wanted = "end channels=1 calls=2 references=3 timers=4\n";
-    assert_eq!(rt; str::from_utf8(&out)?, wanted);
+    let expected = "end channels=1 calls=2 references=3 timers=4\n";
+    assert_eq!(rt; str::from_utf8(&out)?, expected);
     Ok(())
 }
