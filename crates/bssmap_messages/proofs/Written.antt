@@ -8,7 +8,7 @@ use Rattle.octet_elements.specs.Elements.{Element, Fits, FitsAs, all_octets, ele
 use Rattle.octet_elements.proofs.Spelling.{IsFixedAs}
 use Rattle.octet_elements.specs.Lookup.{values_in}
 use Rattle.octet_elements.specs.Reading.{◌>>=◌}
-use Rattle.octet_elements.specs.Values.{pair, octets_in}
+use Rattle.octet_elements.specs.Values.{u16_of, octets_in}
 use Rattle.octet_elements.specs.declared.values.ValueFault.{ValueFault}
 use Rattle.octet_elements.proofs.Splits.{AreFixed}
 use Rattle.octet_elements.proofs.Texts.{written_says}
@@ -41,7 +41,7 @@ octets_again i (octet ∷ v) h = refl
 
 -- the cell that is read of what is written for a cell
 abbrev area_again : CellId → CellId
-area_again cell = record { lac = Some (pair (unwrap_or cell.lac 0 / 256) (unwrap_or cell.lac 0 % 256)); ci = pair (cell.ci / 256) (cell.ci % 256) }
+area_again cell = record { lac = Some (u16_of (unwrap_or cell.lac 0 / 256) (unwrap_or cell.lac 0 % 256)); ci = u16_of (cell.ci / 256) (cell.ci % 256) }
 
 same_cell : (o : Option ℕ) (ci : ℕ) → is_some o ≡ true → area_again (record { lac = o; ci = ci }) ≡ record { lac = o; ci = ci }
 same_cell None ci h = absurd cc

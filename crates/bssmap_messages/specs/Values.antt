@@ -3,7 +3,7 @@ use Rattle.std.specs.Prelude.{ℕ, ◌%◌, if◌then◌else◌, ◌==◌, Bool,
 use Rattle.std.specs.Option.{option_map, is_some}
 use Rattle.octet_elements.specs.Elements.{Element}
 use Rattle.octet_elements.specs.Rows.{Row}
-use Rattle.octet_elements.specs.Values.{pair, pair_octets}
+use Rattle.octet_elements.specs.Values.{u16_of, u16_octets}
 use Rattle.octet_elements.specs.declared.values.ValueFault.{ValueFault}
 use Rattle.octet_elements.specs.declared.values.ValueFault.TheVariants.{Absent, Bad}
 use Rattle.bssmap_messages.specs.declared.message.CellId.{CellId}
@@ -44,7 +44,7 @@ kept_classmark (in_octets.Two v) = Two v.now
 -- and network code of three octets, which isn't kept, location area code and cell identity; 1 the last two;
 -- 2 the cell identity alone.
 abbrev pub area_and_cell : List ℕ → Option CellId
-area_and_cell (a ∷ b ∷ c ∷ d ∷ []) = Some (record { lac = Some (pair a b); ci = pair c d })
+area_and_cell (a ∷ b ∷ c ∷ d ∷ []) = Some (record { lac = Some (u16_of a b); ci = u16_of c d })
 area_and_cell _ = None
 
 abbrev pub network_and_cell : List ℕ → Option CellId
@@ -52,7 +52,7 @@ network_and_cell (a ∷ b ∷ c ∷ v) = area_and_cell v
 network_and_cell _ = None
 
 abbrev pub cell_alone : List ℕ → Option CellId
-cell_alone (a ∷ b ∷ []) = Some (record { lac = None; ci = pair a b })
+cell_alone (a ∷ b ∷ []) = Some (record { lac = None; ci = u16_of a b })
 cell_alone _ = None
 
 abbrev pub cell_of : ℕ → List ℕ → Option CellId
@@ -97,7 +97,7 @@ cells_in (Some (d ∷ v)) = some_cells (cells_after d v)
 -- A cell is written with discriminator 1, by location area code and cell identity. What stands for a cell
 -- without a location area code is read as another cell.
 abbrev pub cell_octets : CellId → List ℕ
-cell_octets cell = pair_octets (unwrap_or cell.lac 0) ++ pair_octets cell.ci
+cell_octets cell = u16_octets (unwrap_or cell.lac 0) ++ u16_octets cell.ci
 
 abbrev pub cell_value : CellId → List ℕ
 cell_value cell = 1 ∷ cell_octets cell

@@ -2,13 +2,13 @@
 ghost use Rattle.std.specs.Prelude.{◌≡◌, ◌<◌, ◌↔◌, [], ◌∷◌, List, length, Some, Ok, Err, IsOk, IsTrue, IsSome, IfSome, IfNone, IfOk, IfErr};
 ghost use Rattle.std.specs.Option.{option_map};
 ghost use Rattle.bssmap_messages.specs.declared.message.CellId.{CellId};
-ghost use Rattle.octet_elements.specs.Values.{value_seen, pair};
+ghost use Rattle.octet_elements.specs.Values.{value_seen, u16_of};
 ghost use Rattle.bssmap_messages.specs.Values.{cells_after, only_cell, some_cells, cell_in, cells_in};
 
 use crate::message::CellId;
 use crate::table::{CELL_IDENTIFIER, CELL_IDENTIFIER_LIST};
 use octet_elements::ValueFault;
-use octet_elements::values::pair_of;
+use octet_elements::values::u16_of;
 use std::alloc::{AllocError, Allocator, Global};
 use std::marker::Model;
 
@@ -55,10 +55,10 @@ impl<A: Allocator> CellList<A> {
 
 /// The cell of a location area code and a cell identity.
 fn cell_in_area(area_high: u8, area_low: u8, high: u8, low: u8) -> CellId
-    ensures { result ≡ record { lac = Some (pair area_high area_low); ci = pair high low } }
+    ensures { result ≡ record { lac = Some (u16_of area_high area_low); ci = u16_of high low } }
 {
-    let lac = Some(pair_of(area_high, area_low));
-    let ci = pair_of(high, low);
+    let lac = Some(u16_of(area_high, area_low));
+    let ci = u16_of(high, low);
     CellId { lac, ci }
 }
 
@@ -87,7 +87,7 @@ fn leading_cell(discriminator: u8, octets: &[u8]) -> Option<(CellId, &[u8])>
             let [high, low, rest @ ..] = octets else {
                 return None;
             };
-            let ci = pair_of(*high, *low);
+            let ci = u16_of(*high, *low);
             Some((CellId { lac: None, ci }, rest))
         }
         _ => None,

@@ -4,9 +4,10 @@ ghost use Rattle.std.specs.List.{list_all};
 ghost use Rattle.octet_elements.specs.Elements.{Fits, all_octets, element_octets};
 ghost use Rattle.octet_elements.specs.Lookup.{lookup, values_in};
 ghost use Rattle.octet_elements.specs.Texts.{Answers};
+ghost use Rattle.octet_elements.specs.Writing.{HasRoom, Adds};
 ghost use Rattle.bssmap_messages.specs.Forms.{interface_a, known};
 ghost use Rattle.bssmap_messages.specs.Heads.{limit};
-ghost use Rattle.bssmap_messages.specs.Messages.{said, kind_of, elements_of};
+ghost use Rattle.bssmap_messages.specs.Messages.{said, kind_of, elements_of, handover_request, handover_required};
 ghost use Rattle.bssmap_messages.specs.Texts.{codec};
 ghost use Rattle.bssmap_messages.specs.Values.{cell_octets, cell_value, classmark_element, where_true};
 
@@ -19,7 +20,7 @@ use crate::table::{
     ENCRYPTION_INFORMATION, InterfaceA, LAYER_3_INFORMATION, RESPONSE_REQUEST, RR_CAUSE,
 };
 use crate::values::{channel_type, classmark, keep_classmark};
-use octet_elements::values::pair_octets;
+use octet_elements::values::u16_octets;
 use octet_elements::{
     Found, Octets, append_element, append_octet, append_octets, append_optional_octet, element_len,
     octet_len, optional_octet_len,
@@ -235,8 +236,8 @@ fn response_len(response: bool) -> usize
 fn cell_octets(cell: CellId) -> [u8; 4]
     ensures { result ≡ cell_octets cell }
 {
-    let [area_high, area_low] = pair_octets(cell.lac.unwrap_or(0));
-    let [high, low] = pair_octets(cell.ci);
+    let [area_high, area_low] = u16_octets(cell.lac.unwrap_or(0));
+    let [high, low] = u16_octets(cell.ci);
     [area_high, area_low, high, low]
 }
 
@@ -245,13 +246,8 @@ const AREA_AND_CELL: u8 = 1;
 
 /// Appends a cell identifier, for which the list has room.
 fn append_cell<A: Allocator>(out: &mut Vec<u8, A>, cell: CellId)
-    requires { vec_len out.old +
-        length (element_octets interface_a (CELL_IDENTIFIER, cell_value cell)) ≤ vec_capacity out.old }
-    ensures items { out.new.items ≡ out.old.items ++
-        element_octets interface_a (CELL_IDENTIFIER, cell_value cell) }
-    ensures len { vec_len out.new ≡ vec_len out.old +
-        length (element_octets interface_a (CELL_IDENTIFIER, cell_value cell)) }
-    ensures capacity { vec_capacity out.old ≤ vec_capacity out.new }
+    requires { HasRoom (element_octets interface_a (CELL_IDENTIFIER, cell_value cell)) out.old }
+    ensures { Adds (element_octets interface_a (CELL_IDENTIFIER, cell_value cell)) out.old out.new }
 {
     let [area_high, area_low, high, low] = cell_octets(cell);
     append_octets(
@@ -271,14 +267,8 @@ fn append_cell<A: Allocator>(out: &mut Vec<u8, A>, cell: CellId)
 /// Appends a classmark, for which the list has room.
 fn append_classmark<A: Allocator>(out: &mut Vec<u8, A>, classmark: &Classmark<A>)
     requires short { Fits interface_a (classmark_element classmark.now) }
-    requires room { vec_len out.old +
-        length (element_octets interface_a (classmark_element classmark.now)) ≤
-        vec_capacity out.old }
-    ensures items { out.new.items ≡ out.old.items ++
-        element_octets interface_a (classmark_element classmark.now) }
-    ensures len { vec_len out.new ≡ vec_len out.old +
-        length (element_octets interface_a (classmark_element classmark.now)) }
-    ensures capacity { vec_capacity out.old ≤ vec_capacity out.new }
+    requires room { HasRoom (element_octets interface_a (classmark_element classmark.now)) out.old }
+    ensures { Adds (element_octets interface_a (classmark_element classmark.now)) out.old out.new }
 {
     match classmark {
         Classmark::One(octet) => append_octet::<InterfaceA, A>(out, CLASSMARK_1, *octet),
@@ -298,13 +288,12 @@ fn append_request<A: Allocator + Copy>(
     serving: CellId,
     target: CellId,
 )
-    requires short { length (all_octets interface_a (elements_of
-        (Bssmap.HandoverRequest channel.now encryption.now classmark.now serving target))) < limit }
-    requires room { vec_len out.old + length (all_octets interface_a (elements_of
-        (Bssmap.HandoverRequest channel.now encryption.now classmark.now serving target))) ≤
-        vec_capacity out.old }
-    ensures items { out.new.items ≡ out.old.items ++ all_octets interface_a (elements_of
-        (Bssmap.HandoverRequest channel.now encryption.now classmark.now serving target)) }
+    requires short { length (all_octets interface_a
+        (handover_request.written (channel.now, (encryption.now, (classmark.now, (serving, target)))))) < limit }
+    requires room { HasRoom (all_octets interface_a
+        (handover_request.written (channel.now, (encryption.now, (classmark.now, (serving, target)))))) out.old }
+    ensures items { out.new.items ≡ out.old.items ++ all_octets interface_a
+        (handover_request.written (channel.now, (encryption.now, (classmark.now, (serving, target))))) }
     ensures capacity { vec_capacity out.old ≤ vec_capacity out.new }
 {
     append_element::<InterfaceA, A>(out, CHANNEL_TYPE, channel.as_slice());
@@ -328,13 +317,10 @@ fn append_cells<A: Allocator>(out: &mut Vec<u8, A>, cells: &[CellId])
 /// Appends the elements of a HANDOVER REQUIRED, for which the list has room.
 #[tactic(auto, using(crate::proofs::Lengths::required_length), unfolding(crate::specs::Messages::handover_required))]
 fn append_required<A: Allocator>(out: &mut Vec<u8, A>, cause: u8, response: bool, cells: &[CellId])
-    requires short { length (all_octets interface_a
-        (elements_of {A = A} (Bssmap.HandoverRequired cause response cells.now))) < limit }
-    requires room { vec_len out.old + length (all_octets interface_a
-        (elements_of {A = A} (Bssmap.HandoverRequired cause response cells.now))) ≤
-        vec_capacity out.old }
-    ensures items { out.new.items ≡ out.old.items ++ all_octets interface_a
-        (elements_of {A = A} (Bssmap.HandoverRequired cause response cells.now)) }
+    requires short { length (all_octets interface_a (handover_required.written (cause, (response, cells.now)))) < limit }
+    requires room { HasRoom (all_octets interface_a (handover_required.written (cause, (response, cells.now)))) out.old }
+    ensures items { out.new.items ≡ out.old.items ++
+        all_octets interface_a (handover_required.written (cause, (response, cells.now))) }
     ensures capacity { vec_capacity out.old ≤ vec_capacity out.new }
 {
     append_octet::<InterfaceA, A>(out, CAUSE, cause);
@@ -346,13 +332,8 @@ fn append_required<A: Allocator>(out: &mut Vec<u8, A>, cause: u8, response: bool
 
 /// Appends a response request where it is asked for; the list has room for it.
 fn append_response<A: Allocator>(out: &mut Vec<u8, A>, response: bool)
-    requires { vec_len out.old + length (all_octets interface_a (where_true RESPONSE_REQUEST response)) ≤
-        vec_capacity out.old }
-    ensures items { out.new.items ≡ out.old.items ++
-        all_octets interface_a (where_true RESPONSE_REQUEST response) }
-    ensures len { vec_len out.new ≡ vec_len out.old +
-        length (all_octets interface_a (where_true RESPONSE_REQUEST response)) }
-    ensures capacity { vec_capacity out.old ≤ vec_capacity out.new }
+    requires { HasRoom (all_octets interface_a (where_true RESPONSE_REQUEST response)) out.old }
+    ensures { Adds (all_octets interface_a (where_true RESPONSE_REQUEST response)) out.old out.new }
 {
     if response {
         append_octets(out, &[RESPONSE_REQUEST]);
@@ -363,10 +344,8 @@ fn append_response<A: Allocator>(out: &mut Vec<u8, A>, response: bool)
 #[tactic(auto, unfolding(crate::specs::Messages::layer_3_alone, crate::specs::Messages::handover_complete, crate::specs::Messages::handover_failure, crate::specs::Messages::handover_performed, crate::specs::Messages::cause_alone))]
 pub fn append_elements<A: Allocator + Copy>(message: &Bssmap<A>, out: &mut Vec<u8, A>)
     requires short { length (all_octets interface_a (elements_of message.now)) < limit }
-    requires room { vec_len out.old + length (all_octets interface_a (elements_of message.now)) ≤
-        vec_capacity out.old }
-    ensures items { out.new.items ≡ out.old.items ++
-        all_octets interface_a (elements_of message.now) }
+    requires room { HasRoom (all_octets interface_a (elements_of message.now)) out.old }
+    ensures items { out.new.items ≡ out.old.items ++ all_octets interface_a (elements_of message.now) }
     ensures capacity { vec_capacity out.old ≤ vec_capacity out.new }
 {
     match message {

@@ -4,7 +4,7 @@ use Rattle.std.specs.Prelude.{ℕ, List, [], ◌∷◌, ◌++◌, Option, Result
 use Rattle.octet_elements.specs.Elements.{Element}
 use Rattle.octet_elements.specs.Lookup.{Lookup}
 use Rattle.octet_elements.specs.Reading.{◌>>=◌}
-use Rattle.octet_elements.specs.Values.{octet_in, optional_octet_in, pair_in, pair_octets, octets_in, optional_octets_in, any_octets_in, where_some, where_value}
+use Rattle.octet_elements.specs.Values.{octet_in, optional_octet_in, u16_be_in, u16_octets, octets_in, optional_octets_in, any_octets_in, where_some, where_value}
 use Rattle.octet_elements.specs.declared.values.ValueFault.{ValueFault}
 
 -- one row, or some one after the other: what is read by the identifiers, and the elements that are written
@@ -21,8 +21,8 @@ abbrev pub optional_octet : ℕ → Row (Option ℕ)
 optional_octet i = record { read = λ found. optional_octet_in i (found.first i); written = λ octet. where_some i octet }
 
 -- mandatory: a number of two octets, the high one first
-abbrev pub pair : ℕ → Row ℕ
-pair i = record { read = λ found. pair_in i (found.first i); written = λ number. (i, pair_octets number) ∷ [] }
+abbrev pub u16_be : ℕ → Row ℕ
+u16_be i = record { read = λ found. u16_be_in i (found.first i); written = λ number. (i, u16_octets number) ∷ [] }
 
 -- mandatory: the whole value, at least one octet
 abbrev pub octets : ℕ → Row (List ℕ)

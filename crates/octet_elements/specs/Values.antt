@@ -24,18 +24,18 @@ optional_octet_in i (Some []) = Err (Bad i)
 optional_octet_in i (Some (octet ∷ v)) = Ok (Some octet)
 
 -- a number of two octets, the high one first
-abbrev pub pair : ℕ → ℕ → ℕ
-pair high low = 256 * high + low
+abbrev pub u16_of : ℕ → ℕ → ℕ
+u16_of high low = 256 * high + low
 
 -- the value's first two octets, a number with the high one first
-abbrev pub pair_in : ℕ → Option (List ℕ) → Result ℕ ValueFault
-pair_in i None = Err (Absent i)
-pair_in i (Some []) = Err (Bad i)
-pair_in i (Some (high ∷ [])) = Err (Bad i)
-pair_in i (Some (high ∷ low ∷ v)) = Ok (pair high low)
+abbrev pub u16_be_in : ℕ → Option (List ℕ) → Result ℕ ValueFault
+u16_be_in i None = Err (Absent i)
+u16_be_in i (Some []) = Err (Bad i)
+u16_be_in i (Some (high ∷ [])) = Err (Bad i)
+u16_be_in i (Some (high ∷ low ∷ v)) = Ok (u16_of high low)
 
-abbrev pub pair_octets : ℕ → List ℕ
-pair_octets n = n / 256 ∷ n % 256 ∷ []
+abbrev pub u16_octets : ℕ → List ℕ
+u16_octets n = n / 256 ∷ n % 256 ∷ []
 
 -- the whole value, which has at least one octet
 abbrev pub octets_in : ℕ → Option (List ℕ) → Result (List ℕ) ValueFault

@@ -8,3 +8,13 @@ pub record Appends {A E : Type 0} (text : List ℕ) (old new : Vec ℕ A) (resul
   pub err : OnErr result (new.items ≡ old.items)
   pub room : vec_len old + length text ≤ vec_capacity old → IsOk result
   pub capacity : vec_capacity old ≤ vec_capacity new
+
+-- there is room for the text behind what the list has
+abbrev pub HasRoom : {A : Type 0} → List ℕ → Vec ℕ A → Type 0
+HasRoom text out = vec_len out + length text ≤ vec_capacity out
+
+-- The text is added to a list that has room for it, and no room is given up.
+pub record Adds {A : Type 0} (text : List ℕ) (old new : Vec ℕ A) : Type 0 where
+  pub items : new.items ≡ old.items ++ text
+  pub len : vec_len new ≡ vec_len old + length text
+  pub capacity : vec_capacity old ≤ vec_capacity new

@@ -2,11 +2,13 @@
 ghost use Rattle.std.specs.Prelude.{◌≡◌, ◌<◌, List, ◌∷◌, [], ◌++◌, length, IfOk, OnOk, IfErr, Ok, Err};
 ghost use Rattle.octet_elements.specs.Elements.{Element, AreElements, IsTornAt};
 ghost use Rattle.octet_elements.specs.Lookup.{place_of, noted, lookup};
-ghost use Rattle.octet_elements.specs.Values.{value_seen, octet_in, optional_octet_in, pair_in, octets_in, optional_octets_in, any_octets_in};
+ghost use Rattle.octet_elements.specs.Values.{value_seen, octet_in, optional_octet_in, u16_be_in, octets_in, optional_octets_in, any_octets_in};
 
 use crate::element::{Leading, leading_element};
 use crate::form::{DOUBLED, ElementTable, PLACES};
-use crate::values::{ValueFault, any_octets, octet, octets, optional_octet, optional_octets, pair};
+use crate::values::{
+    ValueFault, any_octets, octet, octets, optional_octet, optional_octets, u16_be,
+};
 use std::marker::{Model, PhantomData};
 
 /// The values that were found in a body, by identifier.
@@ -124,10 +126,10 @@ impl<'a, T: ElementTable> Found<'a, T> {
 
     /// The first two octets of the element with this identifier, a number with the high one first.
     #[inline]
-    pub fn pair(&self, identifier: u8) -> Result<u16, ValueFault>
-        ensures said { result ≡ pair_in identifier ((lookup T.known self.now).first identifier) }
+    pub fn u16_be(&self, identifier: u8) -> Result<u16, ValueFault>
+        ensures said { result ≡ u16_be_in identifier ((lookup T.known self.now).first identifier) }
     {
-        pair(identifier, self.first(identifier))
+        u16_be(identifier, self.first(identifier))
     }
 
     /// The whole value of the element with this identifier, which has at least one octet.

@@ -3,8 +3,8 @@ use crate::form::{ElementTable, Form, PLACES};
 use crate::found::Found;
 use crate::octets::Octets;
 use crate::values::{
-    ValueFault, any_octets, octet, octets, optional_octet, optional_octets, pair, pair_octets,
-    pair_of,
+    ValueFault, any_octets, octet, octets, optional_octet, optional_octets, u16_be, u16_octets,
+    u16_of,
 };
 use crate::write::{append_element, append_octets, element_len};
 use std::alloc::Global;
@@ -65,7 +65,7 @@ fn reads_by_identifier(rt: HostRuntime) -> Result<(), Fail> {
     found.read(&[1, 1, 2, 5, 0])?;
     assert_eq!(rt; found.octet(1), Ok(1));
     assert_eq!(rt; found.optional_octet(9), Ok(None));
-    assert_eq!(rt; found.pair(1), Ok(258));
+    assert_eq!(rt; found.u16_be(1), Ok(258));
     assert_eq!(rt; found.octets(5), Err(ValueFault::Bad(5)));
     assert_eq!(rt; found.optional_octets(1), Ok(Some([1, 2].as_slice())));
     assert_eq!(rt; found.any_octets(5), Ok([].as_slice()));
@@ -158,14 +158,14 @@ fn reads_the_first_octet(rt: HostRuntime) {
 }
 
 #[test]
-fn reads_and_writes_pairs(rt: HostRuntime) {
-    assert_eq!(rt; pair(7, ABSENT), Err(ValueFault::Absent(7)));
-    assert_eq!(rt; pair(7, EMPTY), Err(ValueFault::Bad(7)));
-    assert_eq!(rt; pair(7, SHORT), Err(ValueFault::Bad(7)));
-    assert_eq!(rt; pair(7, LONG), Ok(258));
-    assert_eq!(rt; pair_of(255, 254), 65_534);
-    assert_eq!(rt; pair_octets(258), [1, 2]);
-    assert_eq!(rt; pair_octets(65_534), [255, 254]);
+fn reads_and_writes_u16(rt: HostRuntime) {
+    assert_eq!(rt; u16_be(7, ABSENT), Err(ValueFault::Absent(7)));
+    assert_eq!(rt; u16_be(7, EMPTY), Err(ValueFault::Bad(7)));
+    assert_eq!(rt; u16_be(7, SHORT), Err(ValueFault::Bad(7)));
+    assert_eq!(rt; u16_be(7, LONG), Ok(258));
+    assert_eq!(rt; u16_of(255, 254), 65_534);
+    assert_eq!(rt; u16_octets(258), [1, 2]);
+    assert_eq!(rt; u16_octets(65_534), [255, 254]);
 }
 
 #[test]

@@ -2,7 +2,7 @@
 //!
 //! A reader gets the value of the element with an identifier, or nothing where the element isn't there.
 ghost use Rattle.std.specs.Prelude.{◌≡◌, Some, Ok, Err, IfOk, IfErr};
-ghost use Rattle.octet_elements.specs.Values.{value_seen, octet_in, optional_octet_in, pair, pair_in, pair_octets, octets_in, optional_octets_in, any_octets_in};
+ghost use Rattle.octet_elements.specs.Values.{value_seen, octet_in, optional_octet_in, u16_of, u16_be_in, u16_octets, octets_in, optional_octets_in, any_octets_in};
 
 /// What is wrong with an element of a message whose elements are all whole.
 #[derive(Clone, Copy, PartialEq, Eq, Debug)]
@@ -38,28 +38,28 @@ pub fn optional_octet(identifier: u8, value: Option<&[u8]>) -> Result<Option<u8>
 
 /// The number of two octets, the high one first.
 #[inline]
-pub fn pair_of(high: u8, low: u8) -> u16
-    ensures value { result ≡ pair high low }
+pub fn u16_of(high: u8, low: u8) -> u16
+    ensures value { result ≡ u16_of high low }
 {
     256 * u16::from(high) + u16::from(low)
 }
 
 /// The value's first two octets, a number with the high one first.
 #[inline]
-pub fn pair(identifier: u8, value: Option<&[u8]>) -> Result<u16, ValueFault>
-    ensures said { result ≡ pair_in identifier (value_seen value.entry) }
+pub fn u16_be(identifier: u8, value: Option<&[u8]>) -> Result<u16, ValueFault>
+    ensures said { result ≡ u16_be_in identifier (value_seen value.entry) }
 {
     match value {
         None => Err(ValueFault::Absent(identifier)),
-        Some([high, low, ..]) => Ok(pair_of(*high, *low)),
+        Some([high, low, ..]) => Ok(u16_of(*high, *low)),
         Some(_) => Err(ValueFault::Bad(identifier)),
     }
 }
 
 /// A number as two octets, the high one first.
 #[inline]
-pub fn pair_octets(number: u16) -> [u8; 2]
-    ensures octets { result ≡ pair_octets number }
+pub fn u16_octets(number: u16) -> [u8; 2]
+    ensures octets { result ≡ u16_octets number }
 {
     [(number / 256) as u8, (number % 256) as u8]
 }

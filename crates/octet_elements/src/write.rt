@@ -1,17 +1,16 @@
 //! Writing into a list that has room.
-ghost use Rattle.std.specs.Prelude.{◌≡◌, ◌+◌, ◌≤◌, ◌++◌, ◌∷◌, [], length, vec_len, vec_capacity};
+ghost use Rattle.std.specs.Prelude.{◌≡◌, ◌∷◌, [], length};
 ghost use Rattle.octet_elements.specs.Elements.{element_octets, all_octets, Fits};
 ghost use Rattle.octet_elements.specs.Values.{where_some};
+ghost use Rattle.octet_elements.specs.Writing.{HasRoom, Adds};
 
 use crate::form::{ElementTable, Form};
 use std::alloc::Allocator;
 
 /// Appends octets for which the list has room.
 pub fn append_octets<A: Allocator>(out: &mut Vec<u8, A>, octets: &[u8])
-    requires { vec_len out.old + length octets.now ≤ vec_capacity out.old }
-    ensures items { out.new.items ≡ out.old.items ++ octets.now }
-    ensures len { vec_len out.new ≡ vec_len out.old + length octets.now }
-    ensures capacity { vec_capacity out.old ≤ vec_capacity out.new }
+    requires { HasRoom octets.now out.old }
+    ensures { Adds octets.now out.old out.new }
 {
     if out.extend_from_slice(octets).is_err() {
         unreachable!()
@@ -25,13 +24,8 @@ pub fn append_element<T: ElementTable, A: Allocator>(
     value: &[u8],
 )
     requires fits { Fits T.form_of (identifier, value.now) }
-    requires room { vec_len out.old + length (element_octets T.form_of (identifier, value.now)) ≤
-        vec_capacity out.old }
-    ensures items { out.new.items ≡ out.old.items ++
-        element_octets T.form_of (identifier, value.now) }
-    ensures len { vec_len out.new ≡ vec_len out.old + length
-        (element_octets T.form_of (identifier, value.now)) }
-    ensures capacity { vec_capacity out.old ≤ vec_capacity out.new }
+    requires room { HasRoom (element_octets T.form_of (identifier, value.now)) out.old }
+    ensures { Adds (element_octets T.form_of (identifier, value.now)) out.old out.new }
 {
     match T::form_for(identifier) {
         Form::Fixed(_) => append_octets(out, &[identifier]),
@@ -47,13 +41,8 @@ pub fn append_element<T: ElementTable, A: Allocator>(
 /// Appends an element whose value is one octet; the list has room for it.
 #[inline]
 pub fn append_octet<T: ElementTable, A: Allocator>(out: &mut Vec<u8, A>, identifier: u8, octet: u8)
-    requires { vec_len out.old + length (element_octets T.form_of (identifier, octet ∷ [])) ≤
-        vec_capacity out.old }
-    ensures items { out.new.items ≡ out.old.items ++
-        element_octets T.form_of (identifier, octet ∷ []) }
-    ensures len { vec_len out.new ≡ vec_len out.old +
-        length (element_octets T.form_of (identifier, octet ∷ [])) }
-    ensures capacity { vec_capacity out.old ≤ vec_capacity out.new }
+    requires { HasRoom (element_octets T.form_of (identifier, octet ∷ [])) out.old }
+    ensures { Adds (element_octets T.form_of (identifier, octet ∷ [])) out.old out.new }
 {
     // One array for each form: appending once is shorter than appending the head and then the value.
     match T::form_for(identifier) {
@@ -70,13 +59,8 @@ pub fn append_optional_octet<T: ElementTable, A: Allocator>(
     identifier: u8,
     octet: Option<u8>,
 )
-    requires { vec_len out.old + length (all_octets T.form_of (where_some identifier octet)) ≤
-        vec_capacity out.old }
-    ensures items { out.new.items ≡ out.old.items ++
-        all_octets T.form_of (where_some identifier octet) }
-    ensures len { vec_len out.new ≡ vec_len out.old +
-        length (all_octets T.form_of (where_some identifier octet)) }
-    ensures capacity { vec_capacity out.old ≤ vec_capacity out.new }
+    requires { HasRoom (all_octets T.form_of (where_some identifier octet)) out.old }
+    ensures { Adds (all_octets T.form_of (where_some identifier octet)) out.old out.new }
 {
     if let Some(octet) = octet {
         append_octet::<T, A>(out, identifier, octet);

@@ -6,8 +6,8 @@ use Rattle.std.specs.List.{AllByRecursion}
 use Rattle.octet_elements.specs.Elements.{Fits, FitsAs, first_of, all_octets, octets_by_form, nth}
 use Rattle.octet_elements.specs.Lookup.{values_in}
 use Rattle.octet_elements.specs.Reading.{◌>>=◌}
-use Rattle.octet_elements.specs.Rows.{octet, optional_octet, pair, octets, any_octets, optional_octets, ◌▸◌}
-use Rattle.octet_elements.specs.Values.{optional_octet_in, pair_in, pair_octets, octets_in, optional_octets_in, where_some, where_value}
+use Rattle.octet_elements.specs.Rows.{octet, optional_octet, u16_be, octets, any_octets, optional_octets, ◌▸◌}
+use Rattle.octet_elements.specs.Values.{optional_octet_in, u16_be_in, u16_octets, octets_in, optional_octets_in, where_some, where_value}
 use Rattle.octet_elements.specs.declared.form.Form.TheVariants.{Fixed}
 use Rattle.octet_elements.specs.declared.values.ValueFault.TheVariants.{Bad}
 use Rattle.octet_elements.proofs.Rows.{went_on, both_read, each_read}
@@ -43,8 +43,8 @@ optional_again : (i : ℕ) (o : Option ℕ) → optional_octet_in i (first_of i 
 optional_again i None = refl
 optional_again i (Some n) = ap (λ b. optional_octet_in i (nth 0 (cond b ((n ∷ []) ∷ []) []))) (eq-eqb i i refl)
 
-pair_again : (i n : ℕ) → pair_in i (Some (pair_octets n)) ≡ Ok n
-pair_again i n = let same : 256 * (n / 256) + n % 256 ≡ n = omega arith in ap Ok same
+u16_again : (i n : ℕ) → u16_be_in i (Some (u16_octets n)) ≡ Ok n
+u16_again i n = let same : 256 * (n / 256) + n % 256 ≡ n = omega arith in ap Ok same
 
 -- A reader that goes on has read what was written, and it fits.
 channel_fits : (channel : ChanBits) → (read : ChanBits) × (channel_in (Some (channel_octet channel ∷ [])) ≡ Ok read) → channel.tn < 8
@@ -169,7 +169,7 @@ canonical_of {A} (DataIndication channel link layer3) h within = let v : Rsl A =
 canonical_of {A} (ChannelActivation channel activation mode reference) h within = let v : Rsl A = ChannelActivation channel activation mode reference in
     text_of v within (refl, (refl, (h.2, octet_fits HANDOVER_REFERENCE reference refl))) (λ i. activation_again channel activation mode reference h.0 h.1 i >>= λ (channel, (activation, (mode, reference))). Ok (ChannelActivation channel activation mode reference))
 canonical_of {A} (ChannelActivationAck channel frame) h within = let v : Rsl A = ChannelActivationAck channel frame in
-    text_of v within (refl, (refl, tt)) (λ i. both_read channel_number (pair FRAME_NUMBER) (values_in (elements_of v)) channel frame (channel_again channel h) (pair_again FRAME_NUMBER frame) i >>= λ (channel, frame). Ok (ChannelActivationAck channel frame))
+    text_of v within (refl, (refl, tt)) (λ i. both_read channel_number (u16_be FRAME_NUMBER) (values_in (elements_of v)) channel frame (channel_again channel h) (u16_again FRAME_NUMBER frame) i >>= λ (channel, frame). Ok (ChannelActivationAck channel frame))
 canonical_of {A} (ChannelActivationNack channel cause) h within = let v : Rsl A = ChannelActivationNack channel cause in
     text_of v within (refl, (omega arith, tt)) (λ i. both_read channel_number (octet CAUSE) (values_in (elements_of v)) channel cause (channel_again channel h) refl i >>= λ (channel, cause). Ok (ChannelActivationNack channel cause))
 canonical_of {A} (ConnectionFailureIndication channel cause) h within = let v : Rsl A = ConnectionFailureIndication channel cause in
@@ -220,7 +220,7 @@ are_writable {A} (ChannelActivationAck channel frame) each says =
     let found = values_in (activation_ack_rows.written (channel, frame)) in
     let go : ChanBits × ℕ → Said A = λ (channel, frame). Ok (ChannelActivationAck channel frame) in
     let read = went_on (activation_ack_rows.read found) go (ChannelActivationAck channel frame) says in
-    channel_fits channel (each_read channel_number (pair FRAME_NUMBER) found read.0 read.1).0
+    channel_fits channel (each_read channel_number (u16_be FRAME_NUMBER) found read.0 read.1).0
 are_writable {A} (ChannelActivationNack channel cause) each says =
     let found = values_in (cause_rows.written (channel, cause)) in
     let go : ChanBits × ℕ → Said A = λ (channel, cause). Ok (ChannelActivationNack channel cause) in

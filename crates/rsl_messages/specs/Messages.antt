@@ -3,7 +3,7 @@ use Rattle.std.specs.Prelude.{◌⊎◌, ℕ, ◌<◌, List, [], ◌∷◌, leng
 use Rattle.octet_elements.specs.Elements.{Element}
 use Rattle.octet_elements.specs.Lookup.{Lookup}
 use Rattle.octet_elements.specs.Reading.{◌>>=◌}
-use Rattle.octet_elements.specs.Rows.{Row, octet, optional_octet, pair, octets, optional_octets, any_octets, ◌▸◌}
+use Rattle.octet_elements.specs.Rows.{Row, octet, optional_octet, u16_be, octets, optional_octets, any_octets, ◌▸◌}
 use Rattle.octet_elements.specs.declared.values.ValueFault.{ValueFault}
 use Rattle.rsl_messages.specs.declared.head.MessageKind.{MessageKind}
 use Rattle.rsl_messages.specs.declared.head.MessageKind.TheVariants as kind
@@ -29,7 +29,7 @@ activation_rows = channel_number ▸ octet ACTIVATION_TYPE ▸ octets CHANNEL_MO
 
 -- CHANNEL ACTIVATION ACKNOWLEDGE (clause 8.4.2): frame number (9.3.8).
 abbrev pub activation_ack_rows : Row (ChanBits × ℕ)
-activation_ack_rows = channel_number ▸ pair FRAME_NUMBER
+activation_ack_rows = channel_number ▸ u16_be FRAME_NUMBER
 
 -- CHANNEL ACTIVATION NEGATIVE ACKNOWLEDGE (clause 8.4.3) and CONNECTION FAILURE INDICATION (8.4.4): cause
 -- (9.3.26), of which the first octet counts.

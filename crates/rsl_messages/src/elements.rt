@@ -1,9 +1,10 @@
 //! The elements of each message: how they are read, and beside it how they are written.
-ghost use Rattle.std.specs.Prelude.{◌≡◌, ◌+◌, ◌-◌, ◌^◌, ◌<◌, ◌≤◌, ◌++◌, min, length, Ok, Err, IfOk, IfSome, vec_len, vec_capacity};
+ghost use Rattle.std.specs.Prelude.{◌≡◌, ◌+◌, ◌-◌, ◌^◌, ◌<◌, ◌≤◌, min, length, Ok, Err, IfOk, IfSome};
 ghost use Rattle.std.specs.Option.{option_map};
 ghost use Rattle.octet_elements.specs.Elements.{all_octets};
 ghost use Rattle.octet_elements.specs.Lookup.{lookup};
 ghost use Rattle.octet_elements.specs.Texts.{Answers};
+ghost use Rattle.octet_elements.specs.Writing.{HasRoom, Adds};
 ghost use Rattle.rsl_messages.specs.Forms.{abis, known, CHANNEL_NUMBER};
 ghost use Rattle.rsl_messages.specs.Messages.{said, elements_of, data_rows, activation_rows, activation_ack_rows, cause_rows, detection_rows, measurement_rows};
 ghost use Rattle.rsl_messages.specs.Texts.{codec, limit, HasCanonical};
@@ -16,7 +17,7 @@ use crate::table::{
     ACCESS_DELAY, ACTIVATION_TYPE, Abis, CAUSE, CHANNEL_MODE, CHANNEL_NUMBER, FRAME_NUMBER,
     HANDOVER_REFERENCE, LAYER3, LINK_IDENTIFIER, POWER, RESULT_NUMBER, UPLINK_MEASUREMENTS,
 };
-use octet_elements::values::pair_octets;
+use octet_elements::values::u16_octets;
 use octet_elements::{
     Found, Octets, ValueFault, append_element, append_octet, append_optional_octet, element_len,
     octet_len, optional_octet_len,
@@ -60,7 +61,7 @@ pub fn read_elements<A: Allocator + Copy>(
         MessageKind::ChannelActivation => read_activation(alloc, found),
         MessageKind::ChannelActivationAck => Ok(Rsl::ChannelActivationAck {
             channel: channel(found)?,
-            frame: found.pair(FRAME_NUMBER)?,
+            frame: found.u16_be(FRAME_NUMBER)?,
         }),
         MessageKind::ChannelActivationNack => Ok(Rsl::ChannelActivationNack {
             channel: channel(found)?,
@@ -87,10 +88,8 @@ pub fn read_elements<A: Allocator + Copy>(
 /// Appends the elements of a message, for which the list has room.
 pub fn append_elements<A: Allocator>(message: &Rsl<A>, out: &mut Vec<u8, A>)
     requires canonical { HasCanonical message.now }
-    requires room { vec_len out.old + length (all_octets abis (elements_of message.now)) ≤
-        vec_capacity out.old }
-    ensures items { out.new.items ≡ out.old.items ++ all_octets abis (elements_of message.now) }
-    ensures capacity { vec_capacity out.old ≤ vec_capacity out.new }
+    requires room { HasRoom (all_octets abis (elements_of message.now)) out.old }
+    ensures { Adds (all_octets abis (elements_of message.now)) out.old out.new }
 {
     match message {
         Rsl::DataRequest {
@@ -154,11 +153,8 @@ fn read_data_indication<A: Allocator + Copy>(alloc: A, found: &Found<'_, Abis>) 
 fn append_data<A: Allocator>(out: &mut Vec<u8, A>, channel: ChanBits, link: u8, layer3: &[u8])
     requires channel { channel.tn < 8 }
     requires layer3 { length layer3.now ≤ limit }
-    requires room { vec_len out.old + length (all_octets abis
-        (data_rows.written (channel, (link, layer3.now)))) ≤ vec_capacity out.old }
-    ensures items { out.new.items ≡ out.old.items ++
-        all_octets abis (data_rows.written (channel, (link, layer3.now))) }
-    ensures capacity { vec_capacity out.old ≤ vec_capacity out.new }
+    requires room { HasRoom (all_octets abis (data_rows.written (channel, (link, layer3.now)))) out.old }
+    ensures { Adds (all_octets abis (data_rows.written (channel, (link, layer3.now)))) out.old out.new }
 {
     append_octet::<Abis, A>(out, CHANNEL_NUMBER, channel_octet(channel));
     append_octet::<Abis, A>(out, LINK_IDENTIFIER, link);
@@ -193,11 +189,10 @@ fn append_activation<A: Allocator>(
 )
     requires channel { channel.tn < 8 }
     requires mode { length mode.now < 256 }
-    requires room { vec_len out.old + length (all_octets abis
-        (activation_rows.written (channel, (activation, (mode.now, reference))))) ≤ vec_capacity out.old }
-    ensures items { out.new.items ≡ out.old.items ++
-        all_octets abis (activation_rows.written (channel, (activation, (mode.now, reference)))) }
-    ensures capacity { vec_capacity out.old ≤ vec_capacity out.new }
+    requires room { HasRoom (all_octets abis
+        (activation_rows.written (channel, (activation, (mode.now, reference))))) out.old }
+    ensures { Adds (all_octets abis
+        (activation_rows.written (channel, (activation, (mode.now, reference))))) out.old out.new }
 {
     append_octet::<Abis, A>(out, CHANNEL_NUMBER, channel_octet(channel));
     append_octet::<Abis, A>(out, ACTIVATION_TYPE, activation);
@@ -208,24 +203,18 @@ fn append_activation<A: Allocator>(
 /// Appends the elements of a CHANNEL ACTIVATION ACKNOWLEDGE.
 fn append_ack<A: Allocator>(out: &mut Vec<u8, A>, channel: ChanBits, frame: u16)
     requires channel { channel.tn < 8 }
-    requires room { vec_len out.old + length (all_octets abis
-        (activation_ack_rows.written (channel, frame))) ≤ vec_capacity out.old }
-    ensures items { out.new.items ≡ out.old.items ++
-        all_octets abis (activation_ack_rows.written (channel, frame)) }
-    ensures capacity { vec_capacity out.old ≤ vec_capacity out.new }
+    requires room { HasRoom (all_octets abis (activation_ack_rows.written (channel, frame))) out.old }
+    ensures { Adds (all_octets abis (activation_ack_rows.written (channel, frame))) out.old out.new }
 {
     append_octet::<Abis, A>(out, CHANNEL_NUMBER, channel_octet(channel));
-    append_element::<Abis, A>(out, FRAME_NUMBER, &pair_octets(frame));
+    append_element::<Abis, A>(out, FRAME_NUMBER, &u16_octets(frame));
 }
 
 /// Appends the elements of a message with a cause.
 fn append_cause<A: Allocator>(out: &mut Vec<u8, A>, channel: ChanBits, cause: u8)
     requires channel { channel.tn < 8 }
-    requires room { vec_len out.old + length (all_octets abis
-        (cause_rows.written (channel, cause))) ≤ vec_capacity out.old }
-    ensures items { out.new.items ≡ out.old.items ++
-        all_octets abis (cause_rows.written (channel, cause)) }
-    ensures capacity { vec_capacity out.old ≤ vec_capacity out.new }
+    requires room { HasRoom (all_octets abis (cause_rows.written (channel, cause))) out.old }
+    ensures { Adds (all_octets abis (cause_rows.written (channel, cause))) out.old out.new }
 {
     append_octet::<Abis, A>(out, CHANNEL_NUMBER, channel_octet(channel));
     append_octet::<Abis, A>(out, CAUSE, cause);
@@ -234,11 +223,8 @@ fn append_cause<A: Allocator>(out: &mut Vec<u8, A>, channel: ChanBits, cause: u8
 /// Appends the elements of a HANDOVER DETECTION.
 fn append_detection<A: Allocator>(out: &mut Vec<u8, A>, channel: ChanBits, delay: Option<u8>)
     requires channel { channel.tn < 8 }
-    requires room { vec_len out.old + length (all_octets abis
-        (detection_rows.written (channel, delay))) ≤ vec_capacity out.old }
-    ensures items { out.new.items ≡ out.old.items ++
-        all_octets abis (detection_rows.written (channel, delay)) }
-    ensures capacity { vec_capacity out.old ≤ vec_capacity out.new }
+    requires room { HasRoom (all_octets abis (detection_rows.written (channel, delay))) out.old }
+    ensures { Adds (all_octets abis (detection_rows.written (channel, delay))) out.old out.new }
 {
     append_octet::<Abis, A>(out, CHANNEL_NUMBER, channel_octet(channel));
     append_optional_octet::<Abis, A>(out, ACCESS_DELAY, delay);
@@ -279,11 +265,10 @@ fn append_measurement<A: Allocator>(
     requires channel { channel.tn < 8 }
     requires uplink { length uplink.now < 256 }
     requires layer3 { IfSome layer3 (λ l. length l.now ≤ limit) }
-    requires room { vec_len out.old + length (all_octets abis
-        (measurement_rows.written (channel, (number, (uplink.now, (power, option_map (λ l. l.now) layer3)))))) ≤ vec_capacity out.old }
-    ensures items { out.new.items ≡ out.old.items ++
-        all_octets abis (measurement_rows.written (channel, (number, (uplink.now, (power, option_map (λ l. l.now) layer3.entry))))) }
-    ensures capacity { vec_capacity out.old ≤ vec_capacity out.new }
+    requires room { HasRoom (all_octets abis (measurement_rows.written
+        (channel, (number, (uplink.now, (power, option_map (λ l. l.now) layer3)))))) out.old }
+    ensures { Adds (all_octets abis (measurement_rows.written
+        (channel, (number, (uplink.now, (power, option_map (λ l. l.now) layer3.entry)))))) out.old out.new }
 {
     append_octet::<Abis, A>(out, CHANNEL_NUMBER, channel_octet(channel));
     append_octet::<Abis, A>(out, RESULT_NUMBER, number);

@@ -192,7 +192,11 @@ const OTHER_READINGS: &[(&[u8], Fields<'static>)] = &[
 ];
 
 /// A text says the message with these fields.
-fn says(rt: &(impl AllocGlobal + Abort), text: &[u8], expected: Fields<'static>) -> Result<(), Fail> {
+fn says(
+    rt: &(impl AllocGlobal + Abort),
+    text: &[u8],
+    expected: Fields<'static>,
+) -> Result<(), Fail> {
     let message = decode(rt.alloc(), text)?;
     assert!(rt; fields_of(&message) == expected, "{text:?}");
     Ok(())
