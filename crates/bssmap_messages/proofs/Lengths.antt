@@ -6,7 +6,8 @@ use Rattle.bssmap_messages.specs.declared.message.Classmark.{Classmark}
 use Rattle.bssmap_messages.specs.declared.message.Classmark.TheVariants.{One, Two}
 use Rattle.bssmap_messages.specs.Forms.{interface_a}
 use Rattle.bssmap_messages.specs.Forms.{CAUSE, CELL_IDENTIFIER, CELL_IDENTIFIER_LIST, CHANNEL_TYPE, ENCRYPTION_INFORMATION, RESPONSE_REQUEST}
-use Rattle.bssmap_messages.specs.Values.{cell_octets, cell_value, cells_value, classmark_element, where_true}
+use Rattle.bssmap_messages.specs.Values.{cell_octets, cell_value, cells_value, classmark_element}
+use Rattle.octet_elements.specs.Values.{where_true}
 
 pub cells_length : (cells : List CellId) → length (flat_map cell_octets cells) ≡ 4 * length cells
 cells_length [] = refl

@@ -4,7 +4,7 @@ use Rattle.std.specs.Prelude.{ℕ, ◌+◌, ◌<◌, Bool, List, [], length, Opt
 use Rattle.std.specs.List.{list_all}
 use Rattle.octet_elements.specs.Elements.{Element}
 use Rattle.octet_elements.specs.Lookup.{Lookup}
-use Rattle.octet_elements.specs.Rows.{Row, octet, optional_octet, octets, ◌▸◌}
+use Rattle.octet_elements.specs.Rows.{Row, octet, optional_octet, octets, presence, ◌▸◌}
 use Rattle.octet_elements.specs.declared.values.ValueFault.{ValueFault}
 use Rattle.bssmap_messages.specs.declared.head.MessageKind.{MessageKind}
 use Rattle.bssmap_messages.specs.declared.head.MessageKind.TheVariants as kind
@@ -13,7 +13,7 @@ use Rattle.bssmap_messages.specs.declared.message.Classmark.{Classmark}
 use Rattle.bssmap_messages.specs.declared.message.Bssmap.{Bssmap}
 use Rattle.bssmap_messages.specs.declared.message.Bssmap.TheVariants.{HandoverRequest, HandoverRequired, HandoverRequestAck, HandoverCommand, HandoverComplete, HandoverFailure, HandoverPerformed, HandoverRequiredReject, HandoverDetect, ClearCommand, ClearComplete, ClearRequest}
 use Rattle.bssmap_messages.specs.Forms.{CAUSE, ENCRYPTION_INFORMATION, RR_CAUSE, LAYER_3_INFORMATION, RESPONSE_REQUEST}
-use Rattle.bssmap_messages.specs.Values.{channel_type, classmark_information, cell_identifier, second_cell_identifier, cell_identifier_list, presence, classmark_length}
+use Rattle.bssmap_messages.specs.Values.{channel_type, classmark_information, cell_identifier, second_cell_identifier, cell_identifier_list, classmark_length}
 
 -- the message type (clause 3.2.2.1)
 abbrev pub type_of : MessageKind → ℕ

@@ -1,6 +1,6 @@
 -- What the value of an element says, how it is written, and its row in a message (TS 48.008 clause 3.2.2).
-use Rattle.std.specs.Prelude.{ℕ, ◌%◌, if◌then◌else◌, ◌==◌, Bool, true, false, List, [], ◌∷◌, ◌++◌, Option, Some, None, flat_map, length, unwrap_or, Result, Ok, Err}
-use Rattle.std.specs.Option.{option_map, is_some}
+use Rattle.std.specs.Prelude.{ℕ, ◌%◌, if◌then◌else◌, ◌==◌, List, [], ◌∷◌, ◌++◌, Option, Some, None, flat_map, length, unwrap_or, Result, Ok, Err}
+use Rattle.std.specs.Option.{option_map}
 use Rattle.octet_elements.specs.Elements.{Element}
 use Rattle.octet_elements.specs.Rows.{Row}
 use Rattle.octet_elements.specs.Values.{u16_of, u16_octets}
@@ -115,11 +115,6 @@ abbrev pub classmark_length : {A : Type 0} → Classmark A → ℕ
 classmark_length (One octet) = 0
 classmark_length (Two v) = length v
 
--- an element alone, that is written where it is asked for
-abbrev pub where_true : ℕ → Bool → List Element
-where_true i true = (i, []) ∷ []
-where_true i false = []
-
 -- mandatory: the channel type
 abbrev pub channel_type : Row (List ℕ)
 channel_type = record { read = λ found. channel_type_in (found.first CHANNEL_TYPE); written = λ channel. (CHANNEL_TYPE, channel) ∷ [] }
@@ -139,7 +134,3 @@ second_cell_identifier = record { read = λ found. cell_in (found.second CELL_ID
 -- mandatory: the cell identifier list
 abbrev pub cell_identifier_list : Row (List CellId)
 cell_identifier_list = record { read = λ found. cells_in (found.first CELL_IDENTIFIER_LIST); written = λ cells. (CELL_IDENTIFIER_LIST, cells_value cells) ∷ [] }
-
--- optional: an identifier alone, which says that it is there
-abbrev pub presence : ℕ → Row Bool
-presence i = record { read = λ found. Ok (is_some (found.first i)); written = λ there. where_true i there }

@@ -9,7 +9,7 @@ ghost use Rattle.bssmap_messages.specs.Forms.{interface_a, known};
 ghost use Rattle.bssmap_messages.specs.Heads.{limit};
 ghost use Rattle.bssmap_messages.specs.Messages.{said, kind_of, elements_of, handover_request, handover_required};
 ghost use Rattle.bssmap_messages.specs.Texts.{codec};
-ghost use Rattle.bssmap_messages.specs.Values.{cell_octets, cell_value, classmark_element, where_true};
+ghost use Rattle.bssmap_messages.specs.Values.{cell_octets, cell_value, classmark_element};
 
 use crate::cells::{cell, cells, read_cells};
 use crate::fault::BssmapFault;
@@ -22,8 +22,8 @@ use crate::table::{
 use crate::values::{channel_type, classmark, keep_classmark};
 use octet_elements::values::u16_octets;
 use octet_elements::{
-    Found, Octets, append_element, append_octet, append_octets, append_optional_octet, element_len,
-    octet_len, optional_octet_len,
+    Found, Octets, append_element, append_octet, append_octets, append_optional_octet,
+    append_presence, octet_len, optional_octet_len, presence_len,
 };
 use std::alloc::Allocator;
 
@@ -193,7 +193,7 @@ pub fn elements_len<A: Allocator>(message: &Bssmap<A>) -> usize
                 .saturating_mul(CELL_LEN)
                 .saturating_add(1),
         )
-        .saturating_add(response_len(*response))
+        .saturating_add(presence_len::<InterfaceA>(RESPONSE_REQUEST, *response))
         .saturating_add(octet_len::<InterfaceA>(CAUSE)),
         Bssmap::HandoverRequestAck { layer3 } | Bssmap::HandoverCommand { layer3 } => {
             counted_len(layer3.as_slice().len())
@@ -218,17 +218,6 @@ fn classmark_len<A: Allocator>(classmark: &Classmark<A>) -> usize
     match classmark {
         Classmark::One(_) => octet_len::<InterfaceA>(CLASSMARK_1),
         Classmark::Two(octets) => counted_len(octets.as_slice().len()),
-    }
-}
-
-/// How many octets a response request takes.
-fn response_len(response: bool) -> usize
-    ensures { result ≡ length (all_octets interface_a (where_true RESPONSE_REQUEST response)) }
-{
-    if response {
-        element_len::<InterfaceA>(RESPONSE_REQUEST, &[])
-    } else {
-        0
     }
 }
 
@@ -324,20 +313,10 @@ fn append_required<A: Allocator>(out: &mut Vec<u8, A>, cause: u8, response: bool
     ensures capacity { vec_capacity out.old ≤ vec_capacity out.new }
 {
     append_octet::<InterfaceA, A>(out, CAUSE, cause);
-    append_response(out, response);
+    append_presence::<InterfaceA, A>(out, RESPONSE_REQUEST, response);
     let len = 1 + CELL_LEN * cells.len();
     append_octets(out, &[CELL_IDENTIFIER_LIST, len as u8, AREA_AND_CELL]);
     append_cells(out, cells);
-}
-
-/// Appends a response request where it is asked for; the list has room for it.
-fn append_response<A: Allocator>(out: &mut Vec<u8, A>, response: bool)
-    requires { HasRoom (all_octets interface_a (where_true RESPONSE_REQUEST response)) out.old }
-    ensures { Adds (all_octets interface_a (where_true RESPONSE_REQUEST response)) out.old out.new }
-{
-    if response {
-        append_octets(out, &[RESPONSE_REQUEST]);
-    }
 }
 
 /// Appends the elements of a message, for which the list has room.

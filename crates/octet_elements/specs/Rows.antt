@@ -1,10 +1,10 @@
 -- The rows of a message's table: what the value of an element says, and how the element is written
 -- (TS 48.058 clause 8, TS 48.008 clause 3.2.1).
-use Rattle.std.specs.Prelude.{ℕ, List, [], ◌∷◌, ◌++◌, Option, Result, Ok}
+use Rattle.std.specs.Prelude.{ℕ, Bool, List, [], ◌∷◌, ◌++◌, Option, is_some, Result, Ok}
 use Rattle.octet_elements.specs.Elements.{Element}
 use Rattle.octet_elements.specs.Lookup.{Lookup}
 use Rattle.octet_elements.specs.Reading.{◌>>=◌}
-use Rattle.octet_elements.specs.Values.{octet_in, optional_octet_in, u16_be_in, u16_octets, octets_in, optional_octets_in, any_octets_in, where_some, where_value}
+use Rattle.octet_elements.specs.Values.{octet_in, optional_octet_in, u16_be_in, u16_octets, octets_in, optional_octets_in, any_octets_in, where_some, where_value, where_true}
 use Rattle.octet_elements.specs.declared.values.ValueFault.{ValueFault}
 
 -- one row, or some one after the other: what is read by the identifiers, and the elements that are written
@@ -35,6 +35,10 @@ optional_octets i = record { read = λ found. optional_octets_in i (found.first 
 -- mandatory: the whole value, which may be empty
 abbrev pub any_octets : ℕ → Row (List ℕ)
 any_octets i = record { read = λ found. any_octets_in i (found.first i); written = λ value. (i, value) ∷ [] }
+
+-- optional: an identifier alone, which says that it is there
+abbrev pub presence : ℕ → Row Bool
+presence i = record { read = λ found. Ok (is_some (found.first i)); written = λ there. where_true i there }
 
 infixr 5 ◌▸◌
 -- A row and then others: the first fault counts, and they are written in this order.

@@ -1,6 +1,6 @@
 -- What the value of an element says, and how it is written, alike on Abis (TS 48.058 clause 9.3) and on A
 -- (TS 48.008 clause 3.2.2).
-use Rattle.std.specs.Prelude.{ℕ, ◌+◌, ◌*◌, ◌/◌, ◌%◌, List, [], ◌∷◌, Option, Some, None, Result, Ok, Err}
+use Rattle.std.specs.Prelude.{ℕ, ◌+◌, ◌*◌, ◌/◌, ◌%◌, Bool, true, false, List, [], ◌∷◌, Option, Some, None, Result, Ok, Err}
 use Rattle.std.specs.Borrow.{Bor}
 use Rattle.std.specs.Option.{option_map}
 use Rattle.octet_elements.specs.Elements.{Element}
@@ -63,3 +63,8 @@ where_some i (Some octet) = (i, octet ∷ []) ∷ []
 abbrev pub where_value : ℕ → Option (List ℕ) → List Element
 where_value i None = []
 where_value i (Some v) = (i, v) ∷ []
+
+-- an element without a value that is written where it is asked for
+abbrev pub where_true : ℕ → Bool → List Element
+where_true i true = (i, []) ∷ []
+where_true i false = []

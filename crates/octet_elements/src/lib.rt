@@ -24,6 +24,6 @@ pub use laws::{spelling_is_unique, split_is_unique};
 pub use octets::Octets;
 pub use values::ValueFault;
 pub use write::{
-    append_element, append_octet, append_octets, append_optional_octet, element_len, octet_len,
-    optional_octet_len,
+    append_element, append_octet, append_octets, append_optional_octet, append_presence,
+    element_len, octet_len, optional_octet_len, presence_len,
 };

@@ -1,7 +1,7 @@
 //! Writing into a list that has room.
 ghost use Rattle.std.specs.Prelude.{◌≡◌, ◌∷◌, [], length};
 ghost use Rattle.octet_elements.specs.Elements.{element_octets, all_octets, Fits};
-ghost use Rattle.octet_elements.specs.Values.{where_some};
+ghost use Rattle.octet_elements.specs.Values.{where_some, where_true};
 ghost use Rattle.octet_elements.specs.Writing.{HasRoom, Adds};
 
 use crate::form::{ElementTable, Form};
@@ -67,6 +67,22 @@ pub fn append_optional_octet<T: ElementTable, A: Allocator>(
     }
 }
 
+/// Appends an element without a value, where it is asked for; the list has room for it.
+#[inline]
+pub fn append_presence<T: ElementTable, A: Allocator>(
+    out: &mut Vec<u8, A>,
+    identifier: u8,
+    there: bool,
+)
+    requires fits { Fits T.form_of (identifier, []) }
+    requires room { HasRoom (all_octets T.form_of (where_true identifier there)) out.old }
+    ensures { Adds (all_octets T.form_of (where_true identifier there)) out.old out.new }
+{
+    if there {
+        append_element::<T, A>(out, identifier, &[]);
+    }
+}
+
 /// How many octets an element takes.
 #[inline]
 pub fn element_len<T: ElementTable>(identifier: u8, value: &[u8]) -> usize
@@ -95,5 +111,17 @@ pub fn optional_octet_len<T: ElementTable>(identifier: u8, octet: Option<u8>) ->
     match octet {
         None => 0,
         Some(octet) => element_len::<T>(identifier, &[octet]),
+    }
+}
+
+/// How many octets an element without a value takes, where it is asked for.
+#[inline]
+pub fn presence_len<T: ElementTable>(identifier: u8, there: bool) -> usize
+    ensures { result ≡ length (all_octets T.form_of (where_true identifier there)) }
+{
+    if there {
+        element_len::<T>(identifier, &[])
+    } else {
+        0
     }
 }

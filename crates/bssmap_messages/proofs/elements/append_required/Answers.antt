@@ -9,7 +9,7 @@ append_cells-requires g c = let long = required_length c.args.cause c.args.respo
 
 pub returns-clause-items : goal.returns-clause-items
 unfolding handover_required
-returns-clause-items g c = required_appended _ _ _ _ _ c.args.cause (1 + 4 * length c.args.cells.now) c.args.response c.args.cells.now c.append_octet.ensures.items c.append_response.ensures.items c.append_octets.ensures.items c.append_cells.ensures.items (omega arith)
+returns-clause-items g c = required_appended _ _ _ _ _ c.args.cause (1 + 4 * length c.args.cells.now) c.args.response c.args.cells.now c.append_octet.ensures.items c.append_presence.ensures.items c.append_octets.ensures.items c.append_cells.ensures.items (omega arith)
 
 pub overflow_cast-len : goal.overflow_cast-len
 unfolding handover_required

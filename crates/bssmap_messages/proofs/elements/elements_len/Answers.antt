@@ -18,5 +18,5 @@ returns-in-HandoverRequired g c =
     let arm = c.in-HandoverRequired in
     let long = required_length arm.cause arm.response arm.cells in
     let cells : length c.as_slice-in-HandoverRequired.result.now ≡ length arm.cells = ap length c.as_slice-in-HandoverRequired.ensures.cells in
-    let response = c.response_len.ensures in
+    let response = c.presence_len.ensures in
     rw arm.is (omega arith)
