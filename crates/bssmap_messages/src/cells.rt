@@ -2,7 +2,7 @@
 ghost use Rattle.std.specs.Prelude.{◌≡◌, ◌<◌, ◌↔◌, [], ◌∷◌, List, length, Some, Ok, Err, IsOk, IsTrue, IsSome, IfSome, IfNone, IfOk, IfErr};
 ghost use Rattle.std.specs.Option.{option_map};
 ghost use Rattle.bssmap_messages.specs.declared.message.CellId.{CellId};
-ghost use Rattle.octet_elements.specs.Values.{value_seen, u16_of};
+ghost use Rattle.octet_elements.specs.Values.{value_seen};
 ghost use Rattle.bssmap_messages.specs.Values.{cells_after, only_cell, some_cells, cell_in, cells_in};
 
 use crate::message::CellId;
@@ -53,15 +53,6 @@ impl<A: Allocator> CellList<A> {
     }
 }
 
-/// The cell of a location area code and a cell identity.
-fn cell_in_area(area_high: u8, area_low: u8, high: u8, low: u8) -> CellId
-    ensures { result ≡ record { lac = Some (u16_of area_high area_low); ci = u16_of high low } }
-{
-    let lac = Some(u16_of(area_high, area_low));
-    let ci = u16_of(high, low);
-    CellId { lac, ci }
-}
-
 /// The cell that the octets after a discriminator begin with, and the rest.
 fn leading_cell(discriminator: u8, octets: &[u8]) -> Option<(CellId, &[u8])>
     ensures found { IfSome result (λ f. cells_after discriminator octets.now ≡ option_map
@@ -70,23 +61,14 @@ fn leading_cell(discriminator: u8, octets: &[u8]) -> Option<(CellId, &[u8])>
     ensures none { IfNone result (IfSome (cells_after discriminator octets.now)
         (λ cells. cells ≡ [])) }
 {
-    match discriminator % 16 {
-        0 => {
-            let [_, _, _, area_high, area_low, high, low, rest @ ..] = octets else {
-                return None;
-            };
-            Some((cell_in_area(*area_high, *area_low, *high, *low), rest))
+    match (discriminator % 16, octets) {
+        (0, [_, _, _, area_high, area_low, high, low, rest @ ..])
+        | (1, [area_high, area_low, high, low, rest @ ..]) => {
+            let lac = Some(u16_of(*area_high, *area_low));
+            let ci = u16_of(*high, *low);
+            Some((CellId { lac, ci }, rest))
         }
-        1 => {
-            let [area_high, area_low, high, low, rest @ ..] = octets else {
-                return None;
-            };
-            Some((cell_in_area(*area_high, *area_low, *high, *low), rest))
-        }
-        2 => {
-            let [high, low, rest @ ..] = octets else {
-                return None;
-            };
+        (2, [high, low, rest @ ..]) => {
             let ci = u16_of(*high, *low);
             Some((CellId { lac: None, ci }, rest))
         }

@@ -52,16 +52,14 @@ fn carried(octets: &[u8]) -> Result<(u8, &[u8]), BssmapFault>
     ensures carries { IfOk result (λ c. Carries octets.now (c.0 ∷ c.1.now)) }
     ensures fault { IfErr result (HasHeadFault octets.now) }
 {
-    let [0, rest @ ..] = octets else {
-        return Err(BssmapFault::NotBssmap);
-    };
-    let [length, message_type, body @ ..] = rest else {
-        return Err(BssmapFault::Length);
-    };
-    if usize::from(*length) != 1 + body.len() || body.len() >= LIMIT {
-        return Err(BssmapFault::Length);
+    match octets {
+        [0, length, message_type, body @ ..]
+            if usize::from(*length) == 1 + body.len() && body.len() < LIMIT => {
+            Ok((*message_type, body))
+        }
+        [0, ..] => Err(BssmapFault::Length),
+        _ => Err(BssmapFault::NotBssmap),
     }
-    Ok((*message_type, body))
 }
 
 /// Which message the octets are, and the body after the head.
