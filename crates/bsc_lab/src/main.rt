@@ -1,8 +1,8 @@
-//! A laboratory of a GSM base station controller: runs a script over a site and prints the trace, or prints a message
-//! in words.
+//! A laboratory of a GSM base station controller: runs a script over a site and prints the trace, takes an undone attempt
+//! out of a trace and says whether the rest comes to the same, or prints a message in words.
 //!
-//! Statuses: 0 done, 2 the words, a file, the site, a line of the script or a message refused or the output not to be
-//! written, 3 memory refused.
+//! Statuses: 0 done, 1 an undone attempt without which the rest differs, 2 the words, a file, the site, a line of the
+//! script or of the trace, an attempt or a message refused or the output not to be written, 3 memory refused.
 #![tactic(auto)]
 
 use lab::program::perform;

@@ -1,8 +1,8 @@
 -- Facts of the lines of a trace.
-use Rattle.std.proofs.Common.{◌≡◌, ◌≢◌, ℕ, ◌+◌, ◌<◌, ◌≤◌, ◌==◌, ◌&&◌, suc, zero, List, [], ◌∷◌, ◌++◌, Bool, true, false, not, if◌then◌else◌, Option, Some, None, option_map, refl, sym, ap, ◌∙◌, arith, rules, length, get_or, take, drop, nat_eq, Bor, MatchOption, map}
+use Rattle.std.proofs.Common.{◌≡◌, ◌≢◌, ℕ, ◌+◌, ◌<◌, ◌≤◌, ◌==◌, suc, zero, List, [], ◌∷◌, ◌++◌, Bool, true, false, Option, Some, None, option_map, refl, sym, ap, ◌∙◌, arith, length, take, drop, nat_eq, Bor, MatchOption, map}
 use Rattle.std.specs.List.{starts_with, position_from, slice_split}
 use Rattle.std.specs.Str.Lines.{strip_carriage_return}
-use Rattle.std.specs.Str.Pattern.{FindsText, FindsTextPrefix, LacksTextAt, HasTextAt}
+use Rattle.std.specs.Str.Pattern.{FindsText, FindsTextPrefix, LacksTextAt}
 use Rattle.std.proofs.lemmas.List.{length-append}
 use Rattle.std.proofs.lemmas.List.Prefix.{front_rest}
 use Rattle.std.proofs.lemmas.Str.Pattern.{starts_text}

@@ -93,6 +93,7 @@ fn abis_fault(fault: RslFault) -> Result<Bad, LabFault>
 /// Prints a radio resource message, or why the octets are none.
 fn decode_rr<W: Write>(octets: &[u8], out: &mut W) -> Result<Status, LabFault>
     ensures done { result ≡ Ok Status.Done → IsRrMessage octets.now }
+    ensures differs { result ≢ Ok Status.Differs }
     ensures refused { result ≡ Ok Status.Refused → IsRrMessage octets.now → ⊥ }
     ensures memory { result ≡ Err LabFault.NoMemory → ⊥ }
 {
@@ -112,6 +113,7 @@ fn decode_bssmap<A: Allocator + Copy, W: Write>(
     out: &mut W,
 ) -> Result<Status, LabFault>
     ensures done { result ≡ Ok Status.Done → IsBssmapMessage A octets.now }
+    ensures differs { result ≢ Ok Status.Differs }
     ensures refused { result ≡ Ok Status.Refused → IsBssmapMessage A octets.now → ⊥ }
     ensures memory { result ≡ Err LabFault.NoMemory → IsBssmapMessage A octets.now }
 {
@@ -131,6 +133,7 @@ fn decode_abis<A: Allocator + Copy, W: Write>(
     out: &mut W,
 ) -> Result<Status, LabFault>
     ensures done { result ≡ Ok Status.Done → IsAbisMessage A octets.now }
+    ensures differs { result ≢ Ok Status.Differs }
     ensures refused { result ≡ Ok Status.Refused → IsAbisMessage A octets.now → ⊥ }
     ensures memory { result ≡ Err LabFault.NoMemory → IsAbisMessage A octets.now }
 {
@@ -155,6 +158,7 @@ pub fn decode_run<A: Allocator + Copy, W: Write>(
     out: &mut W,
 ) -> Result<Status, LabFault>
     ensures done { result ≡ Ok Status.Done → IsMessageText A link text.now }
+    ensures differs { result ≢ Ok Status.Differs }
     ensures refused { result ≡ Ok Status.Refused → IsMessageText A link text.now → ⊥ }
     ensures memory { result ≡ Err LabFault.NoMemory → is_some (octets_of text.now) ≡ true }
 {

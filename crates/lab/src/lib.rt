@@ -1,6 +1,6 @@
-//! The laboratory of the base station controller: runs of a script, messages in words, and the command line. The
-//! controller's inputs and outputs, its procedure, the reader of scripts and the trace have crates of their own, whose
-//! modules are exported here too.
+//! The laboratory of the base station controller: runs of a script, undone attempts taken out of a trace, messages in
+//! words, and the command line. The controller's inputs and outputs, its procedure, the reader of scripts and the trace
+//! have crates of their own, whose modules are exported here too.
 #![tactic(auto)]
 
 pub mod decoded;

@@ -7,7 +7,8 @@ use std::io::Write;
 use std::rt::Files;
 
 /// Does what the words of a command line ask for, those after the program's own name: runs a script over a site
-/// ([`run_files`]), takes an undone attempt out of a trace ([`rewind_files`]), prints a message in words ([`decode_run`]), or shows help or the version. What it prints goes to
+/// ([`run_files`]), takes an undone attempt out of a trace and says whether the rest comes to the same
+/// ([`rewind_files`]), prints a message in words ([`decode_run`]), or shows help or the version. What it prints goes to
 /// `out`; why words or a site are refused goes to `errors`.
 ///
 /// No clause says what is printed, nor which words end how: that is shown by tests.

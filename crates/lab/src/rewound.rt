@@ -1,9 +1,10 @@
 //! An undone attempt, taken out of a trace.
-ghost use Rattle.std.specs.Prelude.{◌≡◌, ◌≢◌, ◌+◌, ◌<◌, ◌^◌, ℕ, Ok, Err, Some, None, IsTrue, IfOk, IfErr, OnOk, IfSome, slice_get};
+ghost use Rattle.std.specs.Prelude.{◌≡◌, ◌≢◌, ◌↔◌, ◌+◌, ◌<◌, ◌^◌, ℕ, Ok, Err, Some, None, IsTrue, IfOk, IfErr, OnOk, IfSome, IfNone, slice_get};
 ghost use Rattle.cell_table.specs.SiteFile.{IsBlankFile};
 ghost use Rattle.radio_book.specs.State.{empty_book};
+ghost use Rattle.radio_book.specs.NoTrace.{LeavesNoTrace};
 ghost use Rattle.lab.specs.Entries as said;
-ghost use Rattle.lab.specs.Rewound.{StandsIn, LeadsToOneBook, InEntries, InTrace};
+ghost use Rattle.lab.specs.Rewound.{AreSameReplies, IsSame, StandsIn, LeavesATrace, NoneOpens, InEntries, InTrace};
 
 use crate::entries::{Entry, entries_of, first_other, first_unread};
 use crate::run::{LabFault, Status, refuse_site};
@@ -12,6 +13,7 @@ use radio_book::book::Book;
 use radio_book::event::{Event, Reply};
 use radio_book::rewind::{RewindFault, Rewound, rewind};
 use radio_book::run::run;
+use radio_desk::entry::is_same_reply;
 use std::alloc::{AllocError, Allocator, Global};
 use std::io::Write;
 use std::sync::Arc;
@@ -41,18 +43,35 @@ fn events_of<A: Allocator + Copy>(alloc: A, entries: &[Entry]) -> Result<Vec<Eve
     entries.iter().map(|entry| entry.event).collect(alloc)
 }
 
+/// Whether this reply stands at a place.
+fn is_reply_at(replies: &[Reply], place: usize, reply: &Reply) -> bool
+    ensures same { IsTrue result ↔ (slice_get replies.now place ≡ Some reply.now) }
+{
+    match replies.get(place) {
+        Some(found) => is_same_reply(found, reply),
+        None => false,
+    }
+}
+
 /// Whether the others got the same replies alone as among all events.
-fn are_same_replies(whole: &[Reply], others: &[usize], without: &[Reply]) -> bool {
-    others.len() == without.len()
-        && others
-            .iter()
-            .zip(without.iter())
-            .all(|(place, reply)| whole.get(*place) == Some(reply))
+fn are_same_replies(whole: &[Reply], others: &[usize], without: &[Reply]) -> bool
+    ensures same { IsTrue result ↔ AreSameReplies whole.now others.now without.now }
+{
+    let mut others = others;
+    let mut without = without;
+    while let ([place, places @ ..], [reply, replies @ ..]) = (others, without) {
+        if !is_reply_at(whole, *place, reply) {
+            return false;
+        }
+        others = places;
+        without = replies;
+    }
+    others.is_empty() && without.is_empty()
 }
 
 /// Whether the attempt left no trace: both books are the same, and the others got the same replies.
 fn is_same<A: Allocator>(rewound: &Rewound<A>) -> bool
-    ensures { IsTrue result → rewound.now.whole ≡ rewound.now.without }
+    ensures same { IsTrue result ↔ IsSame rewound.now }
 {
     rewound.whole == rewound.without
         && are_same_replies(
@@ -78,7 +97,8 @@ fn print_rewound<A: Allocator, W: Write>(
     entries: &[Entry],
     out: &mut W,
 ) -> Result<Status, LabFault>
-    ensures done { result ≡ Ok Status.Done → rewound.now.whole ≡ rewound.now.without }
+    ensures done { result ≡ Ok Status.Done → IsSame rewound.now }
+    ensures differs { result ≡ Ok Status.Differs → IsSame rewound.now → ⊥ }
     ensures refused { result ≢ Ok Status.Refused }
     ensures memory { result ≢ Err LabFault.NoMemory }
 {
@@ -100,7 +120,8 @@ fn print_rewound<A: Allocator, W: Write>(
 
 /// The place of the entry in a line, counted from 1.
 fn place_of(entries: &[Entry], line: usize) -> Option<usize>
-    ensures { IfSome result (λ at. StandsIn entries.now line at) }
+    ensures place { IfSome result (λ at. StandsIn entries.now line at) }
+    ensures none { IfNone result ((at : ℕ) → StandsIn entries.now line at → ⊥) }
 {
     let index = line.checked_sub(1)?;
     entries.iter().position(|entry| entry.index == index)
@@ -116,7 +137,9 @@ fn rewind_line<A: Allocator + Copy, W: Write>(
     out: &mut W,
 ) -> Result<Status, LabFault>
     requires events { events.now ≡ said.events_of entries.now }
-    ensures done { result ≡ Ok Status.Done → InEntries LeadsToOneBook book.now entries.now line }
+    ensures done { result ≡ Ok Status.Done → InEntries LeavesNoTrace book.now entries.now line }
+    ensures differs { result ≡ Ok Status.Differs → InEntries LeavesATrace book.now entries.now line }
+    ensures refused { result ≡ Ok Status.Refused → NoneOpens book.now entries.now line }
 {
     let Some(at) = place_of(entries, line) else {
         return refuse_attempt(out);
@@ -149,7 +172,9 @@ fn rewind_entries<A: Allocator + Copy, W: Write>(
     out: &mut W,
 ) -> Result<Status, LabFault>
     ensures done { result ≡ Ok Status.Done →
-        InEntries LeadsToOneBook book.now (said.entries_of trace.now) line }
+        InEntries LeavesNoTrace book.now (said.entries_of trace.now) line }
+    ensures differs { result ≡ Ok Status.Differs →
+        InEntries LeavesATrace book.now (said.entries_of trace.now) line }
 {
     let entries = entries_of(alloc, trace)?;
     let events = events_of(alloc, &entries)?;
@@ -169,7 +194,10 @@ fn rewind_trace<A: Allocator + Copy, W: Write>(
 ) -> Result<Status, LabFault>
     ensures readable { (result ≢ Ok Status.Refused) → OnOk result (said.first_unread trace.now ≡ None) }
     ensures done { result ≡ Ok Status.Done →
-        InEntries LeadsToOneBook (empty_book site) (said.entries_of trace.now) line }
+        InEntries LeavesNoTrace (empty_book site) (said.entries_of trace.now) line }
+    ensures differs { result ≡ Ok Status.Differs →
+        InEntries LeavesATrace (empty_book site) (said.entries_of trace.now) line }
+    ensures memory { result ≡ Err LabFault.NoMemory → said.first_unread trace.now ≡ None }
 {
     if let Some(number) = first_unread(trace) {
         return refuse_line(number, out);
@@ -200,7 +228,8 @@ pub fn rewind_run<A: Allocator + Copy, W: Write>(
     line: usize,
     out: &mut W,
 ) -> Result<Status, LabFault>
-    ensures done { result ≡ Ok Status.Done → InTrace LeadsToOneBook site.now trace.now line }
+    ensures done { result ≡ Ok Status.Done → InTrace LeavesNoTrace site.now trace.now line }
+    ensures differs { result ≡ Ok Status.Differs → InTrace LeavesATrace site.now trace.now line }
     ensures memory { result ≡ Err LabFault.NoMemory → ¬ IsBlankFile site.now }
 {
     match Site::read(alloc, scratch, site) {

@@ -21,7 +21,7 @@ use trace_text::trace::{print_end, print_fault, print_handled, print_input};
 pub enum Status {
     /// All inputs were handled, an undone attempt left no trace, or the message, help or the version was printed.
     Done,
-    /// An undone attempt left a trace: the book without it differs from the whole one, or a reply does.
+    /// An undone attempt left a trace: without it the book is another, or a reply to an event that stays.
     Differs,
     /// Something was refused, and what was printed says what: the words, a file, the site, a line of the script or of the
     /// trace, what was to be decoded, or what was to be taken out.
@@ -80,8 +80,8 @@ fn status_after(fault: LabFault) -> u8
     }
 }
 
-/// The status that a program ends with: 0 where the work is done, 1 where an undone attempt left a trace, 2 where something was refused or the output couldn't
-/// be written, 3 where memory was refused.
+/// The status that a program ends with: 0 where the work is done, 1 where an undone attempt left a trace, 2 where
+/// something was refused or the output couldn't be written, 3 where memory was refused.
 pub fn exit_status(ended: Result<Status, LabFault>) -> u8
     ensures status { result ≡ exit_status_of ended }
 {
@@ -153,6 +153,7 @@ fn run_script<A: Allocator + Copy, W: Write>(
     out: &mut W,
 ) -> Result<Status, LabFault>
     ensures done { result ≡ Ok Status.Done → first_unread script.now ≡ None }
+    ensures differs { result ≢ Ok Status.Differs }
     ensures refused { result ≡ Ok Status.Refused → IsSome (first_unread script.now) }
     ensures memory { result ≡ Err LabFault.NoMemory → first_unread script.now ≡ None }
 {
@@ -186,8 +187,8 @@ pub(crate) fn refuse_site<W: Write>(fault: SiteFault, out: &mut W) -> Result<Sta
 /// it isn't TOML, `site 2` and the key where a key is missing, `site 3` and the key where a value is of another kind or
 /// out of its range, `site 4` and the kind where something stands twice, `site 5` and the cell where it has no traffic
 /// channel. A script prints `line` and the number of its first line that can't be read, counted from 1. Then nothing
-/// else is printed and the answer is `Refused`. `scratch` serves while the site is read, `alloc` for all else. Once memory was
-/// refused nothing more is printed; a site of white space and comments alone is refused without any.
+/// else is printed and the answer is `Refused`. `scratch` serves while the site is read, `alloc` for all else. Once
+/// memory was refused nothing more is printed; a site of white space and comments alone is refused without any.
 pub fn lab_run<A: Allocator + Copy, W: Write>(
     alloc: A,
     scratch: Global,
@@ -197,6 +198,7 @@ pub fn lab_run<A: Allocator + Copy, W: Write>(
 ) -> Result<Status, LabFault>
     ensures done { result ≡ Ok Status.Done → IsSome (described_site site.now) ×
         (first_unread script.now ≡ None) }
+    ensures differs { result ≢ Ok Status.Differs }
     ensures refused { result ≡ Ok Status.Refused →
         (described_site site.now ≡ None) ⊎ IsSome (first_unread script.now) }
     ensures memory { result ≡ Err LabFault.NoMemory → ¬ IsBlankFile site.now }

@@ -82,7 +82,7 @@ fn run_command<'a>(alloc: Global) -> Result<Command<'a>, AllocError> {
 fn rewind_command<'a>(alloc: Global) -> Result<Command<'a>, AllocError> {
     Command::new(alloc, "rewind")
         .about(
-            "Takes an undone attempt at handover out of a trace, and says whether it left a trace of its own",
+            "Takes an undone attempt at handover out of a trace, and says whether the rest comes to the same",
         )
         .arg(argument(alloc, "SITE", "The site file"))?
         .arg(argument(

@@ -1,4 +1,4 @@
-use Rattle.std.proofs.Common.{lit<, rules, tests, not, ap, sym, ◌∙◌, ◌+◌, ◌==◌, option_map}
+use Rattle.std.proofs.Common.{lit<, rules, tests, ap, sym, ◌∙◌, ◌+◌, ◌==◌, option_map}
 use Rattle.std.specs.List.{slice_split}
 use Rattle.std.specs.Str.Lines.{strip_carriage_return}
 use Rattle.std.proofs.lemmas.Iterator.Adapters.{position_from-zero}
