@@ -1,0 +1,2 @@
+mod KeyFacts
+mod MapFacts
