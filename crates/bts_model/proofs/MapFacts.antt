@@ -1,5 +1,5 @@
 -- What a tree's entries, seen as a finite map, have at a key, and what one more entry makes of the map.
-use Rattle.std.proofs.Common.{◌≡◌, cond, List, [], ◌∷◌, Some, Option, Result, Ok, Err, OnErr, refl, sym, ap, ◌∙◌}
+use Rattle.std.proofs.Common.{◌≡◌, cond, List, [], ◌∷◌, Some, Option, refl, sym, ap, ◌∙◌}
 use Rattle.std.specs.declared.cmp.Ordering.{Ordering}
 use Rattle.std.specs.Cmp.{IsTotalOrder, eq_by_cmp_equiv}
 use Rattle.std.specs.FinMap as map
@@ -20,8 +20,3 @@ module _ {K X : Type 0} {R : K → K → Ordering} (o : IsTotalOrder R) (exact :
   insert_listed es fs k v answers = same_map o exact _ _ (λ q.
       get_listed o fs q ∙ answers q ∙ ap (λ b. cond b (Some v) (lookup (is_at (R q)) es)) ((eq_by_cmp_equiv o).symm k q)
       ∙ sym (get-insert o (map.from_entries es) k v q ∙ ap (cond (is_at (R q) k) (Some v)) (get_listed o es q)))
-
--- a fact of an error, from one that holds anyway
-pub err_holds : {X E P : Type 0} (answer : Result X E) → P → OnErr answer P
-err_holds (Ok value) fact = tt
-err_holds (Err error) fact = fact

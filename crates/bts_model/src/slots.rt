@@ -1,5 +1,5 @@
 //! What is known of each channel.
-ghost use Rattle.std.specs.Prelude.{◌≡◌, OnOk, OnErr, None};
+ghost use Rattle.std.specs.Prelude.{◌≡◌, OnOk, OnErr, IsSome, None};
 ghost use Rattle.std.specs.FinMap as map;
 ghost use Rattle.bts_model.specs.World.{slot_in, slots_code, changed};
 
@@ -82,7 +82,7 @@ impl<A: Allocator + Copy> Slots<A> {
     pub fn change(&mut self, place: Place, slot: Option<Slot>) -> Result<(), AllocError>
         ensures ok { OnOk result (self.new ≡ changed self.old place slot) }
         ensures err { OnErr result (self.new ≡ self.old) }
-        ensures new_key { OnErr result (map.get self.old place ≡ None) }
+        ensures new_key { OnErr result (IsSome slot × (map.get self.old place ≡ None)) }
     {
         match slot {
             Some(slot) => self.put(place, slot),

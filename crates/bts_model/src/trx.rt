@@ -79,12 +79,7 @@ fn push_cell<A: Allocator + Copy>(
     Ok(())
 }
 
-fn trx_of<A: Allocator + Copy>(
-    controller: usize,
-    site: &Site<A>,
-    cell: u8,
-    trx: u8,
-) -> Option<Trx>
+fn trx_of<A: Allocator + Copy>(controller: usize, site: &Site<A>, cell: u8, trx: u8) -> Option<Trx>
     ensures { result ≡ trx_of controller site.now cell trx }
 {
     Some(Trx {

@@ -1,5 +1,5 @@
 //! The simulated world.
-ghost use Rattle.std.specs.Prelude.{◌≡◌, ◌≢◌, ◌<◌, ◌⊎◌, Option, [], true, map, IsTrue, IfOk, OnErr, None, Some};
+ghost use Rattle.std.specs.Prelude.{◌≡◌, ◌≢◌, ◌↔◌, ◌<◌, ◌⊎◌, Option, [], true, map, IsTrue, IsSome, IfOk, OnErr, None};
 ghost use Rattle.std.specs.FinMap as finite;
 ghost use Rattle.rsl_messages.specs.Messages.{HasOctets};
 ghost use Rattle.rsl_messages.specs.Texts.{IsTextOf};
@@ -132,7 +132,9 @@ impl<A: Allocator + Copy> World<A> {
                 self.pass_on(place, *link, layer3.as_slice())
             }
             Rsl::ChannelActivation {
-                channel, reference, ..
+                channel,
+                reference,
+                ..
             } => self.activate(place_in(controller, cell, trx, *channel), *reference),
             Rsl::RfChannelRelease { channel } => {
                 self.release(place_in(controller, cell, trx, *channel))
@@ -183,7 +185,7 @@ impl<A: Allocator + Copy> World<A> {
         ensures unchanged { OnErr result (self.new ≡ self.old) }
         ensures channel { OnErr result (has_channel self.old place ≡ true) }
         ensures memory { OnErr result ((hold_of self.old.holds place reaction.answer ≡ None) ⊎
-            (finite.get self.old.slots place ≡ None)) }
+            (IsSome reaction.slot × (finite.get self.old.slots place ≡ None))) }
     {
         if !self.has_channel(place) {
             return Ok(self.nothing());
@@ -241,13 +243,7 @@ impl<A: Allocator + Copy> World<A> {
             map out_of (answers_to self.now.trxs self.now.slots place message.now)) }
     {
         let alloc = *self.holds.allocator();
-        answers_to(
-            alloc,
-            self.trxs.as_slice(),
-            &self.slots,
-            place,
-            message,
-        )
+        answers_to(alloc, self.trxs.as_slice(), &self.slots, place, message)
     }
 
     /// What comes of an act at a channel.
@@ -307,7 +303,27 @@ fn message_in<A: Allocator + Copy>(alloc: A, octets: &[u8]) -> Result<Option<Rsl
 {
     match decode(alloc, octets) {
         Ok(message) => Ok(Some(message)),
-        Err(RslFault::NoMemory) => Err(AllocError),
-        Err(_) => Ok(None),
+        Err(fault) => {
+            if is_memory(fault) {
+                Err(AllocError)
+            } else {
+                Ok(None)
+            }
+        }
+    }
+}
+
+/// Memory was refused.
+fn is_memory(fault: RslFault) -> bool
+    ensures { IsTrue result ↔ (fault ≡ RslFault.NoMemory) }
+{
+    match fault {
+        RslFault::NoMemory => true,
+        RslFault::NotRsl
+        | RslFault::UnknownType(_)
+        | RslFault::Missing(_)
+        | RslFault::BadElement(_)
+        | RslFault::Torn(_)
+        | RslFault::TooLong => false,
     }
 }

@@ -1,7 +1,8 @@
 use Rattle.std.proofs.Common.{sym, ap, ◌∙◌}
 use Rattle.std.specs.FinMap as map
 use Rattle.bts_model.proofs.KeyFacts.{place_total, place_exact}
-use Rattle.bts_model.proofs.MapFacts.{get_listed, insert_listed, err_holds}
+use Rattle.bts_model.proofs.MapFacts.{get_listed, insert_listed}
+use Rattle.bts_model.proofs.Results.{err_holds}
 use Rattle.bts_model.proofs.slots.Slots.put.Goals as goal
 
 pub returns-in_err-insert-clause-new_key : goal.returns-in_err-insert-clause-new_key
