@@ -1,9 +1,9 @@
 -- What a tree's entries, seen as a finite map, have at a key, and what one more entry makes of the map.
-use Rattle.std.proofs.Common.{◌≡◌, cond, List, [], ◌∷◌, Some, Option, refl, sym, ap, ◌∙◌}
+use Rattle.std.proofs.Common.{◌≡◌, cond, List, [], ◌∷◌, Some, refl, sym, ap, ◌∙◌}
 use Rattle.std.specs.declared.cmp.Ordering.{Ordering}
 use Rattle.std.specs.Cmp.{IsTotalOrder, eq_by_cmp_equiv}
 use Rattle.std.specs.FinMap as map
-use Rattle.std.specs.FinMap.{FinMap, IsAntisymmetric, same_map, find, get-insert, get-from_entries}
+use Rattle.std.specs.FinMap.{IsAntisymmetric, same_map, find, get-insert, get-from_entries}
 use Rattle.std.specs.Map.{lookup}
 use Rattle.std.specs.BTreeMap.{is_at}
 

@@ -1,10 +1,9 @@
 -- The messages by which a station gives an answer (TS 48.058 clause 8).
-use Rattle.std.specs.Prelude.{ℕ, List, [], ◌∷◌, Option, Some}
+use Rattle.std.specs.Prelude.{ℕ, List, Some}
 use Rattle.rr_messages.specs.declared.message.Rr.{Rr}
 use Rattle.rr_messages.specs.declared.message.Rr.TheVariants.{HandoverComplete, HandoverFailure}
 use Rattle.rr_messages.specs.Rr.{rr_text}
 use Rattle.rsl_messages.specs.declared.message.ChanBits.{ChanBits}
-use Rattle.rsl_messages.specs.declared.message.Rsl.{Rsl}
 use Rattle.rsl_messages.specs.declared.message.Rsl.TheVariants.{DataIndication, ChannelActivationAck, ChannelActivationNack, HandoverDetection, RfChannelReleaseAck}
 use Rattle.rsl_messages.specs.Texts.{canonical_text}
 use Rattle.bts_model.specs.declared.place.Place.{Place}

@@ -1,5 +1,5 @@
 -- What is heard of a mobile that gets a message (TS 44.018 clause 3.4.4).
-use Rattle.std.specs.Prelude.{ℕ, Bool, true, false, ◌==◌, ◌&&◌, List, [], ◌∷◌, Option, Some, None, option_map, find}
+use Rattle.std.specs.Prelude.{ℕ, Bool, false, ◌==◌, ◌&&◌, List, [], ◌∷◌, Option, Some, None, option_map, find}
 use Rattle.std.specs.FinMap as map
 use Rattle.rr_elements.specs.CellDescription.{Cell}
 use Rattle.rr_elements.specs.ChanDescription.{Chan}

@@ -1,5 +1,5 @@
 -- What a script asks of a channel, and what comes of it. Ours, of no standard.
-use Rattle.std.specs.Prelude.{◌≡◌, ◌≢◌, ℕ, Bool, true, if◌then◌else◌, List, [], ◌∷◌, ◌++◌, Some, None}
+use Rattle.std.specs.Prelude.{◌≡◌, ◌≢◌, true, if◌then◌else◌, [], ◌∷◌, ◌++◌, Some, None}
 use Rattle.std.specs.FinMap as map
 use Rattle.bts_model.specs.declared.place.Place.{Place}
 use Rattle.bts_model.specs.declared.setting.Act.{Act}

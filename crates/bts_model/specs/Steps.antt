@@ -10,7 +10,6 @@ use Rattle.bts_model.specs.declared.place.Place.{Place}
 use Rattle.bts_model.specs.declared.answer.Answer.{Answer}
 use Rattle.bts_model.specs.declared.answer.Answer.TheVariants.{ReleaseAck}
 use Rattle.bts_model.specs.declared.answer.StationOut.{StationOut}
-use Rattle.bts_model.specs.declared.slots.Slot.{Slot}
 use Rattle.bts_model.specs.declared.station.Reaction.{Reaction}
 use Rattle.bts_model.specs.World.{WorldState, slot_in, has_channel, with_slot}
 use Rattle.bts_model.specs.Answers.{out_of}

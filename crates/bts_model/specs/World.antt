@@ -1,7 +1,7 @@
 -- What a simulated world is: TRX, what is known of their channels, and what stations keep back. Ours, of no standard.
-use Rattle.std.specs.Prelude.{ℕ, Bool, false, nat_lt, ◌&&◌, List, [], Option, Some, None, unwrap_or, refl}
+use Rattle.std.specs.Prelude.{Bool, false, nat_lt, ◌&&◌, List, [], Option, Some, None, unwrap_or, refl}
 use Rattle.std.specs.List.{list_any}
-use Rattle.std.specs.Coded.{Coded, code_by, coded×, coded_ℕ, coded_list}
+use Rattle.std.specs.Coded.{Coded, code_by, coded×, coded_list}
 use Rattle.std.specs.FinMap as map
 use Rattle.cell_table.specs.Views.{SiteView}
 use Rattle.bts_model.specs.declared.place.Place.{Place}
