@@ -1,7 +1,7 @@
 //! The TRX of the controllers.
-ghost use Rattle.std.specs.Prelude.{◌≡◌, ◌<◌, ◌++◌, ℕ, List, [], map, length, IfOk, OnOk, OnErr, IsOk, nat_lt, ◌&&◌};
+ghost use Rattle.std.specs.Prelude.{◌≡◌, ◌<◌, ◌++◌, [], map, IfOk, OnOk, IsOk, ◌&&◌};
 ghost use Rattle.std.specs.List.{list_any};
-ghost use Rattle.bts_model.specs.Trxs.{trx_of, trxs_of_cell, trxs_of_site, trxs_of, first_trxs, first_cells, first_sites, trx_count, is_on};
+ghost use Rattle.bts_model.specs.Trxs.{trx_of, trxs_of_cell, trxs_of_site, trxs_of, is_on};
 
 use crate::place::Place;
 use cell_table::Site;

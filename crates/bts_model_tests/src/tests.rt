@@ -55,23 +55,30 @@ const TARGET: ChanId = ChanId {
 const ACTIVATE: &[u8] = &[
     0x08, 0x21, 0x01, 0x0B, 0x03, 0x00, 0x06, 0x04, 0x00, 0x01, 0x08, 0x01,
 ];
+
 const ACTIVATE_2: &[u8] = &[
     0x08, 0x21, 0x01, 0x0A, 0x03, 0x00, 0x06, 0x04, 0x00, 0x01, 0x08, 0x01,
 ];
+
 const ACTIVATE_42: &[u8] = &[
     0x08, 0x21, 0x01, 0x0B, 0x03, 0x02, 0x06, 0x04, 0x00, 0x01, 0x08, 0x01, 0x09, 0x2A,
 ];
 
 // RF CHANNEL RELEASE of timeslots 3 and 2.
 const RELEASE: &[u8] = &[0x08, 0x2E, 0x01, 0x0B];
+
 const RELEASE_2: &[u8] = &[0x08, 0x2E, 0x01, 0x0A];
 
 // What a station says of timeslots 3 and 2: CHANNEL ACTIVATION ACKNOWLEDGE with frame 0, NEGATIVE ACKNOWLEDGE with cause
 // 20, RF CHANNEL RELEASE ACKNOWLEDGE.
 const ACK: &[u8] = &[0x08, 0x22, 0x01, 0x0B, 0x08, 0x00, 0x00];
+
 const ACK_2: &[u8] = &[0x08, 0x22, 0x01, 0x0A, 0x08, 0x00, 0x00];
+
 const NACK: &[u8] = &[0x08, 0x23, 0x01, 0x0B, 0x1A, 0x01, 0x20];
+
 const RELEASED: &[u8] = &[0x08, 0x33, 0x01, 0x0B];
+
 const RELEASED_2: &[u8] = &[0x08, 0x33, 0x01, 0x0A];
 
 // DATA REQUEST on timeslot 3 with a HANDOVER COMMAND to the target, reference 42.
@@ -82,9 +89,11 @@ const COMMAND: &[u8] = &[
 
 // HANDOVER DETECTION with delay 0, and DATA INDICATIONs with HANDOVER COMPLETE 0 and HANDOVER FAILURE 1, all of timeslot 3.
 const DETECTION: &[u8] = &[0x08, 0x27, 0x01, 0x0B, 0x11, 0x00];
+
 const COMPLETE: &[u8] = &[
     0x03, 0x02, 0x01, 0x0B, 0x02, 0x00, 0x0B, 0x00, 0x03, 0x06, 0x2C, 0x00,
 ];
+
 const FAILURE: &[u8] = &[
     0x03, 0x02, 0x01, 0x0B, 0x02, 0x00, 0x0B, 0x00, 0x03, 0x06, 0x28, 0x01,
 ];
@@ -126,7 +135,11 @@ fn hold_outs<A: Allocator + Copy>(
     outs: &[StationOut<A>],
     wanted: &[Out],
 ) {
-    assert!(rt; outs.len() == wanted.len(), "{asked:?}: {} messages", outs.len());
+    assert!(rt;
+        outs.len() == wanted.len(),
+        "{asked:?}: {} messages",
+        outs.len()
+    );
     for (out, (controller, cell, trx, octets)) in outs.iter().zip(wanted) {
         assert!(rt; out.controller == *controller, "{asked:?}");
         assert!(rt; out.cell == *cell && out.trx == *trx, "{asked:?}");

@@ -1,7 +1,7 @@
 //! Octets that are no message for a station, and channels that the world lacks.
 use super::{
-    ACK, ACTIVATE, Act, COMMAND, ChanId, HOME, Habit, NACK, RELEASE, RELEASED, Row, Send, Set, play,
-    world_of,
+    ACK, ACTIVATE, Act, COMMAND, ChanId, HOME, Habit, NACK, RELEASE, RELEASED, Row, Send, Set,
+    play, world_of,
 };
 use std::test::Fail;
 
@@ -21,41 +21,80 @@ const BROKEN: &[Row] = &[
     (Send(0, 0, 0, TOO_LONG), &[]),
     // DATA REQUEST with what is no radio resource message: call control, cut, of no type, with a hopping channel
     (
-        Send(0, 0, 0, &[0x03, 0x01, 0x01, 0x0B, 0x02, 0x00, 0x0B, 0x00, 0x02, 0x05, 0x2B]),
+        Send(
+            0,
+            0,
+            0,
+            &[
+                0x03, 0x01, 0x01, 0x0B, 0x02, 0x00, 0x0B, 0x00, 0x02, 0x05, 0x2B,
+            ],
+        ),
         &[],
     ),
     (
-        Send(0, 0, 0, &[0x03, 0x01, 0x01, 0x0B, 0x02, 0x00, 0x0B, 0x00, 0x01, 0x06]),
+        Send(
+            0,
+            0,
+            0,
+            &[0x03, 0x01, 0x01, 0x0B, 0x02, 0x00, 0x0B, 0x00, 0x01, 0x06],
+        ),
         &[],
     ),
     (
-        Send(0, 0, 0, &[0x03, 0x01, 0x01, 0x0B, 0x02, 0x00, 0x0B, 0x00, 0x02, 0x06, 0xFF]),
+        Send(
+            0,
+            0,
+            0,
+            &[
+                0x03, 0x01, 0x01, 0x0B, 0x02, 0x00, 0x0B, 0x00, 0x02, 0x06, 0xFF,
+            ],
+        ),
         &[],
     ),
     (
-        Send(0, 0, 0, &[
-            0x03, 0x01, 0x01, 0x0B, 0x02, 0x00, 0x0B, 0x00, 0x09, 0x06, 0x2B, 0xD5, 0x67, 0x0B, 0xB3,
-            0x6B, 0x2A, 0x05,
-        ]),
+        Send(
+            0,
+            0,
+            0,
+            &[
+                0x03, 0x01, 0x01, 0x0B, 0x02, 0x00, 0x0B, 0x00, 0x09, 0x06, 0x2B, 0xD5, 0x67, 0x0B,
+                0xB3, 0x6B, 0x2A, 0x05,
+            ],
+        ),
         &[],
     ),
     // messages for the mobile that it doesn't answer: CHANNEL RELEASE, HANDOVER COMPLETE, HANDOVER FAILURE
     (
-        Send(0, 0, 0, &[
-            0x03, 0x01, 0x01, 0x0B, 0x02, 0x00, 0x0B, 0x00, 0x03, 0x06, 0x0D, 0x00,
-        ]),
+        Send(
+            0,
+            0,
+            0,
+            &[
+                0x03, 0x01, 0x01, 0x0B, 0x02, 0x00, 0x0B, 0x00, 0x03, 0x06, 0x0D, 0x00,
+            ],
+        ),
         &[],
     ),
     (
-        Send(0, 0, 0, &[
-            0x03, 0x01, 0x01, 0x0B, 0x02, 0x00, 0x0B, 0x00, 0x03, 0x06, 0x2C, 0x00,
-        ]),
+        Send(
+            0,
+            0,
+            0,
+            &[
+                0x03, 0x01, 0x01, 0x0B, 0x02, 0x00, 0x0B, 0x00, 0x03, 0x06, 0x2C, 0x00,
+            ],
+        ),
         &[],
     ),
     (
-        Send(0, 0, 0, &[
-            0x03, 0x01, 0x01, 0x0B, 0x02, 0x00, 0x0B, 0x00, 0x03, 0x06, 0x28, 0x01,
-        ]),
+        Send(
+            0,
+            0,
+            0,
+            &[
+                0x03, 0x01, 0x01, 0x0B, 0x02, 0x00, 0x0B, 0x00, 0x03, 0x06, 0x28, 0x01,
+            ],
+        ),
         &[],
     ),
     // messages that a station sends, and doesn't get: the acknowledgements, NEGATIVE ACKNOWLEDGE, CONNECTION FAILURE
@@ -63,18 +102,31 @@ const BROKEN: &[Row] = &[
     (Send(0, 0, 0, ACK), &[]),
     (Send(0, 0, 0, RELEASED), &[]),
     (Send(0, 0, 0, NACK), &[]),
-    (Send(0, 0, 0, &[0x08, 0x24, 0x01, 0x0B, 0x1A, 0x01, 0x01]), &[]),
+    (
+        Send(0, 0, 0, &[0x08, 0x24, 0x01, 0x0B, 0x1A, 0x01, 0x01]),
+        &[],
+    ),
     (Send(0, 0, 0, &[0x08, 0x27, 0x01, 0x0B, 0x11, 0x00]), &[]),
     (
-        Send(0, 0, 0, &[
-            0x03, 0x02, 0x01, 0x0B, 0x02, 0x00, 0x0B, 0x00, 0x03, 0x06, 0x2C, 0x00,
-        ]),
+        Send(
+            0,
+            0,
+            0,
+            &[
+                0x03, 0x02, 0x01, 0x0B, 0x02, 0x00, 0x0B, 0x00, 0x03, 0x06, 0x2C, 0x00,
+            ],
+        ),
         &[],
     ),
     (
-        Send(0, 0, 0, &[
-            0x08, 0x28, 0x01, 0x0B, 0x1B, 0x00, 0x19, 0x03, 0x00, 0x1E, 0x00, 0x04, 0x00,
-        ]),
+        Send(
+            0,
+            0,
+            0,
+            &[
+                0x08, 0x28, 0x01, 0x0B, 0x1B, 0x00, 0x19, 0x03, 0x00, 0x1E, 0x00, 0x04, 0x00,
+            ],
+        ),
         &[],
     ),
     // nothing of all that changed the channel
@@ -93,16 +145,19 @@ const NO_TRX: ChanId = ChanId {
     trx: 1,
     tn: 3,
 };
+
 const NO_CELL: ChanId = ChanId {
     cell: 2,
     trx: 0,
     tn: 3,
 };
+
 const OUTSIDE: ChanId = ChanId {
     cell: 64,
     trx: 0,
     tn: 3,
 };
+
 const NO_TIMESLOT: ChanId = ChanId {
     cell: 0,
     trx: 0,
@@ -134,7 +189,9 @@ const LACKING: &[Row] = &[
 ];
 
 #[test]
-fn what_is_asked_of_a_channel_that_the_world_lacks_comes_to_nothing(rt: HostRuntime) -> Result<(), Fail> {
+fn what_is_asked_of_a_channel_that_the_world_lacks_comes_to_nothing(
+    rt: HostRuntime,
+) -> Result<(), Fail> {
     play(&rt, 1, LACKING)
 }
 

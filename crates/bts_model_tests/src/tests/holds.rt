@@ -1,7 +1,7 @@
 //! Holds: what is kept, and when it is sent.
 use super::{
     ACK, ACK_2, ACTIVATE, ACTIVATE_2, Act, COMMAND, FAILURE, HOME, Habit, NACK, OTHER, RELEASE,
-    RELEASED, RELEASED_2, RELEASE_2, Row, Send, Set, play,
+    RELEASE_2, RELEASED, RELEASED_2, Row, Send, Set, play,
 };
 use std::test::Fail;
 

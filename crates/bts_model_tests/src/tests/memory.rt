@@ -1,7 +1,7 @@
 //! Memory is refused in each call of a world.
 use super::{
     ACK, ACTIVATE, ACTIVATE_42, Act, COMMAND, COMPLETE, DETECTION, FAILURE, HOME, Habit, NACK,
-    RELEASE, RELEASED, Row, Send, Set, TARGET, put, hold_outs, world_of,
+    RELEASE, RELEASED, Row, Send, Set, TARGET, hold_outs, put, world_of,
 };
 use bts_model::World;
 use cell_table::Site;

@@ -9,6 +9,7 @@ use std::test::Fail;
 const ACTIVATE_7: &[u8] = &[
     0x08, 0x21, 0x01, 0x0F, 0x03, 0x00, 0x06, 0x04, 0x00, 0x01, 0x08, 0x01,
 ];
+
 const ACK_7: &[u8] = &[0x08, 0x22, 0x01, 0x0F, 0x08, 0x00, 0x00];
 
 const ACTIVATIONS: &[Row] = &[
@@ -70,6 +71,8 @@ const REFUSALS: &[Row] = &[
 ];
 
 #[test]
-fn a_refusal_is_used_up_by_the_next_activation_of_an_inactive_channel(rt: HostRuntime) -> Result<(), Fail> {
+fn a_refusal_is_used_up_by_the_next_activation_of_an_inactive_channel(
+    rt: HostRuntime,
+) -> Result<(), Fail> {
     play(&rt, 2, REFUSALS)
 }
