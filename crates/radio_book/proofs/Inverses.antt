@@ -6,6 +6,7 @@ use Rattle.std.specs.FinMap.{FinMap}
 use Rattle.channel_fsm.specs.declared.ChanId.{ChanId}
 use Rattle.channel_fsm.specs.declared.ChanState.{ChanState}
 use Rattle.channel_fsm.specs.declared.ChanState.TheVariants.{Held, Pending, On, Off}
+use Rattle.radio_book.specs.declared.event.CallRecord.{CallRecord}
 use Rattle.radio_book.specs.declared.event.Reference.{Reference}
 use Rattle.radio_book.specs.declared.event.AttemptKind.{AttemptKind}
 use Rattle.radio_book.specs.declared.event.AttemptKind.TheVariants.{Internal, Incoming, Outgoing}
@@ -22,11 +23,11 @@ use Rattle.radio_book.specs.State.{State, apply, or_free, state_of, record_of}
 use Rattle.radio_book.specs.Table.{left_state, resting_record, reference_at, reference_held, undo_change}
 use Rattle.radio_book.specs.Sound.{IsSound, IsStageOf, HasTarget, HasReference, armed_in}
 use Rattle.radio_book.specs.Stages.{stage_row, opening_inverse}
-use Rattle.radio_book.specs.Journal.{InversesUndo, journal_of, reference_removal_of_call, record_change, timer_change, back_one_stage, run_inverse, run_back}
+use Rattle.radio_book.specs.Journal.{InversesUndo, journal_of, reference_removal_of_call, record_change, timer_change, disarming, back_one_stage, run_inverse, run_back}
 use Rattle.std.specs.Ordering.{nat_cmp}
 use Rattle.std.specs.Cmp.{nat_cmp_total}
 use Rattle.std.specs.FinMap.{nat_cmp-IsAntisymmetric}
-use Rattle.radio_book.proofs.MapFacts.{state_same, record_same, put_put_same, put_again}
+use Rattle.radio_book.proofs.MapFacts.{get_put_same, state_same, record_same, put_put_same, put_again}
 use Rattle.radio_book.proofs.Frame.{attempting, attempt_of, call_of}
 
 -- the channels after the first inverse and the one that frees the target
@@ -142,22 +143,22 @@ module _ (c : ℕ) (s : Option ChanId) (k : AttemptKind) (t : ChanId) where
   abbrev without_timer_of : State → State
   without_timer_of b = record { site = b.site; channels = b.channels; calls = b.calls; references = b.references; timers = put b.timers c None }
 
-  commanded_undone : (b : State) (n : Option ℕ) → record_of b c ≡ Some (attempting s k Commanded (Some t) n) → state_of b t ≡ On c → HasReference (stage_row Commanded).has_reference n →
+  commanded_undone : (b : State) (n : Option ℕ) → record_of b c ≡ Some (attempting s k Commanded (Some t) n) → state_of b t ≡ On c → HasReference (stage_row Commanded).has_reference n → map.get b.timers c ≡ Some T3103 →
       run_back c (journal_of (Some (record { kind = k; stage = Commanded; target = Some t; reference = n }))) b ≡ undone b c s k Commanded t n (rested_timers k (put b.timers c None) c)
-  commanded_undone b n e is has =
-      let disarmed : run_inverse c (Disarm T3103) b ≡ without_timer_of b = λ i. record { site = b.site; channels = b.channels; calls = b.calls; references = b.references; timers = with_change b.timers (timer_change c None (e i)) } in
+  commanded_undone b n e is has armed =
+      let disarmed : run_inverse c (Disarm T3103) b ≡ without_timer_of b = λ i. record { site = b.site; channels = b.channels; calls = b.calls; references = b.references; timers = with_change b.timers (disarming c T3103 (armed i) (e i)) } in
       let back : run_inverse c Uncommand (without_timer_of b) ≡ moved_back (without_timer_of b) Confirmed n = λ i. record { site = b.site; channels = b.channels; calls = with_change b.calls (record_change c back_one_stage (e i)); references = b.references; timers = put b.timers c None } in
       ap (λ x. run_back c (journal_of (Some (record { kind = k; stage = Confirmed; target = Some t; reference = n }))) (run_inverse c Uncommand x)) disarmed
       ∙ ap (run_back c (journal_of (Some (record { kind = k; stage = Confirmed; target = Some t; reference = n })))) back
       ∙ confirmed_undone (moved_back (without_timer_of b) Confirmed n) n (record_same b.calls c (Some (attempting s k Confirmed (Some t) n))) is has
       ∙ covered b Commanded Confirmed n (rested_timers k (put b.timers c None) c)
 
-  detected_undone : (b : State) (n : Option ℕ) → record_of b c ≡ Some (attempting s k Detected (Some t) n) → state_of b t ≡ On c → HasReference (stage_row Detected).has_reference n →
+  detected_undone : (b : State) (n : Option ℕ) → record_of b c ≡ Some (attempting s k Detected (Some t) n) → state_of b t ≡ On c → HasReference (stage_row Detected).has_reference n → map.get b.timers c ≡ Some T3103 →
       run_back c (journal_of (Some (record { kind = k; stage = Detected; target = Some t; reference = n }))) b ≡ undone b c s k Detected t n (rested_timers k (put b.timers c None) c)
-  detected_undone b n e is has =
+  detected_undone b n e is has armed =
       let back : run_inverse c Undetect b ≡ moved_back b Commanded n = λ i. record { site = b.site; channels = b.channels; calls = with_change b.calls (record_change c back_one_stage (e i)); references = b.references; timers = b.timers } in
       ap (run_back c (journal_of (Some (record { kind = k; stage = Commanded; target = Some t; reference = n })))) back
-      ∙ commanded_undone (moved_back b Commanded n) n (record_same b.calls c (Some (attempting s k Commanded (Some t) n))) is has
+      ∙ commanded_undone (moved_back b Commanded n) n (record_same b.calls c (Some (attempting s k Commanded (Some t) n))) is has armed
       ∙ covered b Detected Commanded n (rested_timers k (put b.timers c None) c)
 
 -- once the opening was taken back no timer is left: where none was armed, and where it was disarmed
@@ -177,28 +178,36 @@ undone_by_table b c s k g o n armed = apply (undo_change c (attempting s k g o n
 
 -- the call moves to another controller: it has no target, and its attempt opened by no inverse but Settle
 module _ (b : State) (c : ℕ) (s : Option ChanId) (n : Option ℕ) where
-  required_undone : record_of b c ≡ Some (attempting s Outgoing Required None n) →
+  required_undone : record_of b c ≡ Some (attempting s Outgoing Required None n) → map.get b.timers c ≡ Some T7 →
       run_back c (journal_of (Some (record { kind = Outgoing; stage = Required; target = None; reference = n }))) b ≡ undone_by_table b c s Outgoing Required None n (Some T7)
-  required_undone e = λ i. record {
+  required_undone e armed = λ i. record {
     site = b.site;
     channels = b.channels;
     calls = with_change b.calls (record_change c (λ r. record r { attempt = None }) (e i));
     references = b.references;
-    timers = with_change b.timers (timer_change c None (e i));
+    timers = with_change b.timers (disarming c T7 (armed i) (e i));
   }
 
-  ordered_undone : record_of b c ≡ Some (attempting s Outgoing Ordered None n) →
+  -- T7 is armed again in place of T8
+  abbrev armed_again : Option Timer → Option CallRecord → FinMap nat_cmp Timer
+  armed_again armed found = with_change (with_change b.timers (disarming c T8 armed found)) (timer_change c (Some T7) found)
+
+  ordered_undone : record_of b c ≡ Some (attempting s Outgoing Ordered None n) → map.get b.timers c ≡ Some T8 →
       run_back c (journal_of (Some (record { kind = Outgoing; stage = Ordered; target = None; reference = n }))) b ≡ undone_by_table b c s Outgoing Ordered None n (Some T8)
-  ordered_undone e =
-      let timers = put_put_same nat_cmp_total nat_cmp-IsAntisymmetric (put b.timers c None) c (Some T7) None ∙ put_put_same nat_cmp_total nat_cmp-IsAntisymmetric b.timers c None None in
-      (λ i. record {
+  ordered_undone e armed =
+      let again = get_put_same nat_cmp_total (put b.timers c None) c (Some T7) in
+      let timers =
+      (λ i. with_change (armed_again (armed i) (e i)) (disarming c T7 (map.get (armed_again (armed i) (e i)) c) (e i)))
+      ∙ ap (λ m. with_change (put (put b.timers c None) c (Some T7)) (disarming c T7 m (Some (attempting s Outgoing Ordered None n)))) again
+      ∙ put_put_same nat_cmp_total nat_cmp-IsAntisymmetric (put b.timers c None) c (Some T7) None
+      ∙ put_put_same nat_cmp_total nat_cmp-IsAntisymmetric b.timers c None None in
+      λ i. record {
         site = b.site;
         channels = b.channels;
         calls = with_change b.calls (record_change c (λ r. record r { attempt = None }) (e i));
         references = b.references;
-        timers = with_change (with_change (with_change b.timers (timer_change c None (e i))) (timer_change c (Some T7) (e i))) (timer_change c None (e i));
-      })
-      ∙ (λ i. record { site = b.site; channels = b.channels; calls = put b.calls c (Some (record { serving = s; attempt = None })); references = b.references; timers = timers i })
+        timers = timers i;
+      }
 
 module _ (b : State) (c : ℕ) (s : Option ChanId) (k : AttemptKind) (t : ChanId) (n : Option ℕ) where
   -- with the timers that are left
@@ -212,27 +221,27 @@ module _ (b : State) (c : ℕ) (s : Option ChanId) (k : AttemptKind) (t : ChanId
   by_stage Sent e is has m = sent_undone c s k t b n e is has ∙ with_timers Sent _ _ (none_left k b.timers c m)
   by_stage Refused e is has m = refused_undone c s k t b n e is has ∙ with_timers Refused _ _ (none_left k b.timers c m)
   by_stage Confirmed e is has m = confirmed_undone c s k t b n e is has ∙ with_timers Confirmed _ _ (none_left k b.timers c m)
-  by_stage Commanded e is has m = commanded_undone c s k t b n e is has ∙ with_timers Commanded _ _ (disarmed_left k b.timers c)
-  by_stage Detected e is has m = detected_undone c s k t b n e is has ∙ with_timers Detected _ _ (disarmed_left k b.timers c)
+  by_stage Commanded e is has m = commanded_undone c s k t b n e is has m ∙ with_timers Commanded _ _ (disarmed_left k b.timers c)
+  by_stage Detected e is has m = detected_undone c s k t b n e is has m ∙ with_timers Detected _ _ (disarmed_left k b.timers c)
   by_stage Required e is has m = absurd is
   by_stage Ordered e is has m = absurd is
 
 -- an outgoing attempt, by its stage
-by_outgoing_stage : (b : State) (c : ℕ) (s : Option ChanId) (k : AttemptKind) (g : Stage) (n : Option ℕ) → record_of b c ≡ Some (attempting s k g None n) → HasTarget c (stage_row g).target None (state_of b) → IsStageOf k (stage_row g).target →
+by_outgoing_stage : (b : State) (c : ℕ) (s : Option ChanId) (k : AttemptKind) (g : Stage) (n : Option ℕ) → record_of b c ≡ Some (attempting s k g None n) → HasTarget c (stage_row g).target None (state_of b) → IsStageOf k (stage_row g).target → map.get b.timers c ≡ (stage_row g).timer →
     run_back c (journal_of (Some (record { kind = k; stage = g; target = None; reference = n }))) b ≡ undone_by_table b c s k g None n (stage_row g).timer
-by_outgoing_stage b c s k Taken n e is kind = absurd is
-by_outgoing_stage b c s k Reserved n e is kind = absurd is
-by_outgoing_stage b c s k Sent n e is kind = absurd is
-by_outgoing_stage b c s k Refused n e is kind = absurd is
-by_outgoing_stage b c s k Confirmed n e is kind = absurd is
-by_outgoing_stage b c s k Commanded n e is kind = absurd is
-by_outgoing_stage b c s k Detected n e is kind = absurd is
-by_outgoing_stage b c s Internal Required n e is kind = absurd kind
-by_outgoing_stage b c s Incoming Required n e is kind = absurd kind
-by_outgoing_stage b c s Outgoing Required n e is kind = required_undone b c s n e
-by_outgoing_stage b c s Internal Ordered n e is kind = absurd kind
-by_outgoing_stage b c s Incoming Ordered n e is kind = absurd kind
-by_outgoing_stage b c s Outgoing Ordered n e is kind = ordered_undone b c s n e
+by_outgoing_stage b c s k Taken n e is kind armed = absurd is
+by_outgoing_stage b c s k Reserved n e is kind armed = absurd is
+by_outgoing_stage b c s k Sent n e is kind armed = absurd is
+by_outgoing_stage b c s k Refused n e is kind armed = absurd is
+by_outgoing_stage b c s k Confirmed n e is kind armed = absurd is
+by_outgoing_stage b c s k Commanded n e is kind armed = absurd is
+by_outgoing_stage b c s k Detected n e is kind armed = absurd is
+by_outgoing_stage b c s Internal Required n e is kind armed = absurd kind
+by_outgoing_stage b c s Incoming Required n e is kind armed = absurd kind
+by_outgoing_stage b c s Outgoing Required n e is kind armed = required_undone b c s n e armed
+by_outgoing_stage b c s Internal Ordered n e is kind armed = absurd kind
+by_outgoing_stage b c s Incoming Ordered n e is kind armed = absurd kind
+by_outgoing_stage b c s Outgoing Ordered n e is kind armed = ordered_undone b c s n e armed
 
 -- for the parts of an attempt
 by_parts : (b : State) → IsSound b → (c : ℕ) (s : Option ChanId) (k : AttemptKind) (g : Stage) (o : Option ChanId) (n : Option ℕ) → record_of b c ≡ Some (attempting s k g o n) →
@@ -244,7 +253,7 @@ by_parts b sound c s k g o n e =
   where
     by : (o : Option ChanId) → record_of b c ≡ Some (attempting s k g o n) → HasTarget c (stage_row g).target o (state_of b) →
         run_back c (journal_of (Some (record { kind = k; stage = g; target = o; reference = n }))) b ≡ undone_by_table b c s k g o n (stage_row g).timer
-    by None e is = by_outgoing_stage b c s k g n e is (sound.stage_of_kind c _ (record { kind = k; stage = g; target = None; reference = n }) e refl)
+    by None e is = by_outgoing_stage b c s k g n e is (sound.stage_of_kind c _ (record { kind = k; stage = g; target = None; reference = n }) e refl) (sound.timers c ∙ ap armed_in e)
     by (Some t) e is = by_stage b c s k t n g e is (sound.reference_by_stage c _ (record { kind = k; stage = g; target = Some t; reference = n }) e refl) (sound.timers c ∙ ap armed_in e)
 
 pub inverses_undo : InversesUndo

@@ -1,5 +1,5 @@
 -- The stored inverses of an attempt, and what running them does. Ours, of no standard.
-use Rattle.std.specs.Prelude.{◌≡◌, ℕ, List, [], ◌∷◌, Option, Some, None}
+use Rattle.std.specs.Prelude.{◌≡◌, ℕ, if◌then◌else◌, List, [], ◌∷◌, Option, Some, None}
 use Rattle.std.specs.Option.{option_map}
 use Rattle.std.specs.FinMap as map
 use Rattle.channel_fsm.specs.declared.ChanId.{ChanId}
@@ -16,7 +16,7 @@ use Rattle.attempt_journal.specs.declared.Timer.{Timer}
 use Rattle.radio_book.specs.Stages.{stage_row, opening_inverse}
 use Rattle.radio_book.specs.Channels.{channel_step}
 use Rattle.radio_book.specs.State.{State, Change, apply, state_of, record_of}
-use Rattle.radio_book.specs.Table.{no_change, undo_change, reference_held}
+use Rattle.radio_book.specs.Table.{no_change, undo_change, reference_held, is_armed}
 use Rattle.radio_book.specs.Sound.{IsSound}
 
 -- Only a stage that has a reference reads this, and has one in a sound book; so the 0 never counts.
@@ -66,6 +66,10 @@ record_change c f found = option_map (λ r. (c, Some (f r))) found
 abbrev pub timer_change : ℕ → Option Timer → Option CallRecord → Option (Entry ℕ Timer)
 timer_change c m found = option_map (λ r. (c, m)) found
 
+-- this timer of a call is gone; another one that is armed stays
+abbrev pub disarming : ℕ → Timer → Option Timer → Option CallRecord → Option (Entry ℕ Timer)
+disarming c m armed found = if is_armed m armed then timer_change c None found else None
+
 -- what one inverse of a call changes
 abbrev pub inverse_change : ℕ → Inverse → State → Change
 inverse_change c (FreeChannel x) b = record no_change { channel = channel_step x chan.Drop (state_of b x) }
@@ -76,7 +80,7 @@ inverse_change c Settle b = record no_change { call = record_change c (λ r. rec
 inverse_change c Forget b = record no_change { call = Some (c, None); timer = Some (c, None) }
 inverse_change c Uncommand b = record no_change { call = record_change c back_one_stage (record_of b c) }
 inverse_change c Undetect b = record no_change { call = record_change c back_one_stage (record_of b c) }
-inverse_change c (Disarm m) b = record no_change { timer = timer_change c None (record_of b c) }
+inverse_change c (Disarm m) b = record no_change { timer = disarming c m (map.get b.timers c) (record_of b c) }
 inverse_change c (Rearm m) b = record no_change { timer = timer_change c (Some m) (record_of b c) }
 
 abbrev pub run_inverse : ℕ → Inverse → State → State

@@ -2,6 +2,7 @@ mod courses;
 mod equality;
 mod handover;
 mod largest;
+mod long;
 mod memory;
 mod overlaps;
 mod random;

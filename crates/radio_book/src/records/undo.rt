@@ -5,9 +5,9 @@ ghost use Rattle.radio_book.specs.declared.event.Why.TheVariants.{Asked, Expired
 ghost use Rattle.radio_book.specs.declared.event.Event.TheVariants as event;
 ghost use Rattle.attempt_journal.specs.declared.Inverse.TheVariants as inverse;
 ghost use Rattle.radio_book.specs.Sound.{IsSound};
-ghost use Rattle.radio_book.specs.State.{apply, state_of, record_of};
-ghost use Rattle.radio_book.specs.Table.{step, reply_to, book_after, reply_of, undo_attempt, is_armed, no_change};
-ghost use Rattle.radio_book.specs.Journal.{run_inverse, run_back, timer_change};
+ghost use Rattle.radio_book.specs.State.{state_of, record_of};
+ghost use Rattle.radio_book.specs.Table.{step, reply_to, book_after, reply_of, undo_attempt, is_armed};
+ghost use Rattle.radio_book.specs.Journal.{run_inverse, run_back};
 
 use crate::entry::CallEntry;
 use crate::event::{Refusal, Reply, Timer, Why};
@@ -40,15 +40,15 @@ impl<A: Allocator + Copy> Records<A> {
         }
     }
 
-    fn undo_expired(&mut self, call: u16, timer: Timer) -> Reply
+    fn undo_expired(&mut self, call: u16, expired: Timer) -> Reply
         requires { IsSound self.old }
-        ensures reply { result ≡ reply_to self.old (event.Undo call (Expired timer)) }
-        ensures book { self.new ≡ step self.old (event.Undo call (Expired timer)) }
+        ensures reply { result ≡ reply_to self.old (event.Undo call (Expired expired)) }
+        ensures book { self.new ≡ step self.old (event.Undo call (Expired expired)) }
     {
         let Some(entry) = self.calls.entry(call) else {
             return Reply::Refused(Refusal::NoCall);
         };
-        if !is_armed(timer, entry.timer()) {
+        if !is_armed(expired, entry.timer()) {
             return Reply::Refused(Refusal::NotArmed);
         }
         self.take_back(call, entry, Refusal::NotArmed)
@@ -92,8 +92,8 @@ impl<A: Allocator + Copy> Records<A> {
             Inverse::Settle => self.settle(call),
             Inverse::Forget => self.calls.remove(call),
             Inverse::Uncommand | Inverse::Undetect => self.go_back(call),
-            Inverse::Disarm(_) => self.set_timer(call, None),
-            Inverse::Rearm(timer) => self.set_timer(call, Some(timer)),
+            Inverse::Disarm(timer) => self.disarm(call, timer),
+            Inverse::Rearm(timer) => self.rearm(call, timer),
         }
     }
 
@@ -129,14 +129,25 @@ impl<A: Allocator + Copy> Records<A> {
         entry.go_back();
     }
 
-    fn set_timer(&mut self, call: u16, timer: Option<Timer>)
-        ensures { self.new ≡ apply (record no_change
-            { timer = timer_change call timer (record_of self.old call) }) self.old }
+    fn disarm(&mut self, call: u16, timer: Timer)
+        ensures { self.new ≡ run_inverse call (inverse.Disarm timer) self.old }
     {
         let Some(entry) = self.calls.entry_mut(call) else {
             return;
         };
-        entry.set_timer(timer);
+        if !is_armed(timer, entry.timer()) {
+            return;
+        }
+        entry.set_timer(None);
+    }
+
+    fn rearm(&mut self, call: u16, timer: Timer)
+        ensures { self.new ≡ run_inverse call (inverse.Rearm timer) self.old }
+    {
+        let Some(entry) = self.calls.entry_mut(call) else {
+            return;
+        };
+        entry.set_timer(Some(timer));
     }
 }
 

@@ -1,6 +1,6 @@
 use Rattle.std.proofs.Common.{rules, ap}
 use Rattle.radio_book.proofs.EntryFacts.{timed}
-use Rattle.radio_book.proofs.records.Records.set_timer.Goals as goal
+use Rattle.radio_book.proofs.records.Records.rearm.Goals as goal
 
 pub returns : goal.returns
 returns g c =
