@@ -1,0 +1,5 @@
+mod KeyFacts
+mod MapFacts
+mod Results
+mod ReleaseFacts
+mod KeptFacts

@@ -1,0 +1,9 @@
+pub mod Keys
+pub mod Trxs
+pub mod World
+pub mod Answers
+pub mod Holds
+pub mod Stations
+pub mod Mobiles
+pub mod Steps
+pub mod Settings

@@ -1,0 +1,81 @@
+-- What is heard of a mobile that gets a message (TS 44.018 clause 3.4.4).
+use Rattle.std.specs.Prelude.{ℕ, Bool, false, ◌==◌, ◌&&◌, List, [], ◌∷◌, Option, Some, None, option_map, find}
+use Rattle.std.specs.FinMap as map
+use Rattle.rr_elements.specs.CellDescription.{Cell}
+use Rattle.rr_elements.specs.ChanDescription.{Chan}
+use Rattle.rr_messages.specs.declared.message.Rr.{Rr}
+use Rattle.rr_messages.specs.declared.message.Rr.TheVariants.{HandoverCommand, HandoverComplete, HandoverFailure, ChannelRelease, PhysicalInformation, MeasurementReport}
+use Rattle.rr_messages.specs.Rr.{IsRrText}
+use Rattle.bts_model.specs.declared.place.Place.{Place}
+use Rattle.bts_model.specs.declared.trx.Trx.{Trx}
+use Rattle.bts_model.specs.declared.answer.Answer.{Answer}
+use Rattle.bts_model.specs.declared.answer.Answer.TheVariants.{Detection, Complete, Failure}
+use Rattle.bts_model.specs.declared.setting.Habit.{Habit}
+use Rattle.bts_model.specs.declared.setting.Habit.TheVariants.{Arrive, Return, Vanish}
+use Rattle.bts_model.specs.declared.slots.Activity.{Activity}
+use Rattle.bts_model.specs.declared.slots.Activity.TheVariants.{Inactive, Active}
+use Rattle.bts_model.specs.declared.slots.Slot.{Slot}
+use Rattle.bts_model.specs.declared.mobile.Destination.{Destination}
+use Rattle.bts_model.specs.Keys.{place_cmp}
+use Rattle.bts_model.specs.World.{slot_in}
+
+-- where a HANDOVER COMMAND sends a mobile (TS 44.018 clause 9.1.15)
+abbrev pub destination_of : Cell → Chan → ℕ → Destination
+destination_of cell channel reference = record { bcch = cell.arfcn; ncc = cell.ncc; bcc = cell.bcc; carrier = channel.carrier; tn = channel.tn; reference = reference }
+
+-- the channel is active with this handover reference
+abbrev pub is_active_with : Activity → ℕ → Bool
+is_active_with Inactive reference = false
+is_active_with (Active None) reference = false
+is_active_with (Active (Some own)) reference = own == reference
+
+-- a timeslot of a TRX
+abbrev pub place_on : Trx → ℕ → Place
+place_on t tn = record { controller = t.controller; cell = t.cell; trx = t.trx; tn = tn }
+
+-- the destination is on this TRX: its cell has the colour, it has the carrier, and its timeslot is active with the reference
+abbrev pub is_there : map.FinMap place_cmp Slot → Destination → Trx → Bool
+is_there slots d t =
+    (t.bcch == d.bcch)
+    && ((t.ncc == d.ncc)
+    && ((t.bcc == d.bcc)
+    && ((t.carrier == d.carrier) && is_active_with (slot_in slots (place_on t d.tn)).activity d.reference)))
+
+-- the channel to which a mobile goes: the first controller's lowest cell that has it
+abbrev pub target_of : List Trx → map.FinMap place_cmp Slot → Destination → Option Place
+target_of trxs slots d = option_map (λ t. place_on t d.tn) (find (is_there slots d) trxs)
+
+-- What is heard of a mobile on channel x that is to arrive: the station of the target detects it (clause 3.4.4.2.2), and it
+-- says on the target that it came; where there is no target it comes back, and says on x that it failed (3.4.4.4).
+abbrev pub arriving : Place → Option Place → List (Place × Answer)
+arriving x None = (x, Failure) ∷ []
+arriving x (Some y) = (y, Detection) ∷ (y, Complete) ∷ []
+
+-- the same by its habit
+abbrev pub by_habit : Habit → Place → Option Place → List (Place × Answer)
+by_habit Arrive x target = arriving x target
+by_habit Return x target = (x, Failure) ∷ []
+by_habit Vanish x target = []
+
+-- there is a mobile on an active channel alone
+abbrev pub on_active : Activity → List (Place × Answer) → List (Place × Answer)
+on_active Inactive heard = []
+on_active (Active own) heard = heard
+
+-- what is heard after a HANDOVER COMMAND on a channel
+abbrev pub commanded : List Trx → map.FinMap place_cmp Slot → Place → Destination → List (Place × Answer)
+commanded trxs slots x d = on_active (slot_in slots x).activity (by_habit (slot_in slots x).habit x (target_of trxs slots d))
+
+-- What is heard after any message. PHYSICAL INFORMATION is seen by the mobile alone (clause 3.4.4.2.2).
+abbrev pub answers_to : List Trx → map.FinMap place_cmp Slot → Place → Rr → List (Place × Answer)
+answers_to trxs slots x (HandoverCommand cell channel reference power) = commanded trxs slots x (destination_of cell channel reference)
+answers_to trxs slots x (HandoverComplete cause) = []
+answers_to trxs slots x (HandoverFailure cause) = []
+answers_to trxs slots x (ChannelRelease cause) = []
+answers_to trxs slots x (PhysicalInformation advance) = []
+answers_to trxs slots x (MeasurementReport results) = []
+
+-- what the layer 3 octets say to a mobile, if anything
+abbrev pub IsHeard : List ℕ → Option Rr → Type 0
+IsHeard octets (Some message) = IsRrText message octets
+IsHeard octets None = (message : Rr) → IsRrText message octets → ⊥

@@ -1,0 +1,104 @@
+-- What comes of octets that a controller sends a TRX (TS 48.058 clause 8).
+use Rattle.std.specs.Prelude.{◌≡◌, ℕ, true, ◌==◌, if◌then◌else◌, List, [], ◌∷◌, map, Option, Some, None, slice_set}
+use Rattle.rr_messages.specs.declared.message.Rr.{Rr}
+use Rattle.rsl_messages.specs.declared.message.ChanBits.{ChanBits}
+use Rattle.rsl_messages.specs.declared.message.Rsl.{Rsl}
+use Rattle.rsl_messages.specs.declared.message.Rsl.TheVariants.{DataRequest, DataIndication, ChannelActivation, ChannelActivationAck, ChannelActivationNack, ConnectionFailureIndication, HandoverDetection, MeasurementResult, RfChannelRelease, RfChannelReleaseAck}
+use Rattle.rsl_messages.specs.Texts.{IsTextOf}
+use Rattle.rsl_messages.specs.Messages.{HasOctets}
+use Rattle.bts_model.specs.declared.place.Place.{Place}
+use Rattle.bts_model.specs.declared.answer.Answer.{Answer}
+use Rattle.bts_model.specs.declared.answer.Answer.TheVariants.{ReleaseAck}
+use Rattle.bts_model.specs.declared.answer.StationOut.{StationOut}
+use Rattle.bts_model.specs.declared.station.Reaction.{Reaction}
+use Rattle.bts_model.specs.World.{WorldState, slot_in, has_channel, with_slot}
+use Rattle.bts_model.specs.Answers.{out_of}
+use Rattle.bts_model.specs.Holds.{hold_of}
+use Rattle.bts_model.specs.Stations.{at_activation, at_release}
+use Rattle.bts_model.specs.Mobiles.{answers_to, IsHeard}
+
+-- the world after it, and what stations send
+pub record Outcome : Type 0 where
+  pub world : WorldState
+  pub answers : List (Place × Answer)
+
+abbrev pub silent : WorldState → Outcome
+silent w = record { world = w; answers = [] }
+
+-- nothing comes of it
+abbrev pub unmoved : WorldState → Outcome
+unmoved w = silent w
+
+-- this is the world after it, and these are the messages
+abbrev pub Gives : {A : Type 0} → Outcome → WorldState → List (StationOut A) → Type 0
+Gives o w outs = (w ≡ o.world) × (outs ≡ map out_of o.answers)
+
+-- an answer is sent, or kept by this hold
+abbrev pub answered : WorldState → Place → Answer → Option ℕ → Outcome
+answered w x answer None = record { world = w; answers = (x, answer) ∷ [] }
+answered w x answer (Some n) = silent (record w { holds = slice_set w.holds n (record { place = x; kept = Some answer }) })
+
+-- what comes of a station's reaction
+abbrev pub reacted : WorldState → Place → Reaction → Outcome
+reacted w x r = answered (with_slot w x r.slot) x r.answer (hold_of w.holds x r.answer)
+
+-- what is heard of the mobile on a channel, to which a message comes on the main channel (link identifier 0)
+abbrev pub passed_on : WorldState → Place → ℕ → Option Rr → Outcome
+passed_on w x link None = unmoved w
+passed_on w x link (Some message) = if link == 0 then record { world = w; answers = answers_to w.trxs w.slots x message } else unmoved w
+
+-- nothing comes of what is asked of a channel that the world lacks
+abbrev pub at_channel : WorldState → Place → Outcome → Outcome
+at_channel w x o = if has_channel w x then o else unmoved w
+
+-- the channel of a TRX of a cell of a controller that a message names
+abbrev pub place_in : ℕ → ℕ → ℕ → ChanBits → Place
+place_in k cell trx channel = record { controller = k; cell = cell; trx = trx; tn = channel.tn }
+
+-- What comes of a message. A station is asked to activate or to release a channel, or to pass a message on to the mobile
+-- there; what else may stand on Abis isn't for it.
+abbrev pub Comes : {A : Type 0} → WorldState → ℕ → ℕ → ℕ → Rsl A → WorldState → List (StationOut A) → Type 0
+Comes w k cell trx (DataRequest channel link layer3) w' outs =
+    (heard : Option Rr) × IsHeard layer3 heard × Gives (at_channel w (place_in k cell trx channel) (passed_on w (place_in k cell trx channel) link heard)) w' outs
+Comes w k cell trx (DataIndication channel link layer3) w' outs = Gives (unmoved w) w' outs
+Comes w k cell trx (ChannelActivation channel activation mode reference) w' outs =
+    Gives (at_channel w (place_in k cell trx channel) (reacted w (place_in k cell trx channel) (at_activation (slot_in w.slots (place_in k cell trx channel)) reference))) w' outs
+Comes w k cell trx (ChannelActivationAck channel frame) w' outs = Gives (unmoved w) w' outs
+Comes w k cell trx (ChannelActivationNack channel cause) w' outs = Gives (unmoved w) w' outs
+Comes w k cell trx (ConnectionFailureIndication channel cause) w' outs = Gives (unmoved w) w' outs
+Comes w k cell trx (HandoverDetection channel delay) w' outs = Gives (unmoved w) w' outs
+Comes w k cell trx (MeasurementResult channel number uplink power layer3) w' outs = Gives (unmoved w) w' outs
+Comes w k cell trx (RfChannelRelease channel) w' outs =
+    Gives (at_channel w (place_in k cell trx channel) (reacted w (place_in k cell trx channel) (at_release (slot_in w.slots (place_in k cell trx channel))))) w' outs
+Comes w k cell trx (RfChannelReleaseAck channel) w' outs = Gives (unmoved w) w' outs
+
+-- the message that octets say to a station, if any
+abbrev pub IsSaid : {A : Type 0} → List ℕ → Option (Rsl A) → Type 0
+IsSaid octets (Some message) = IsTextOf message octets
+IsSaid {A} octets None = (message : Rsl A) → IsTextOf message octets → ⊥
+
+-- what comes of the message that octets say; nothing where they say none
+abbrev pub ComesIf : {A : Type 0} → WorldState → ℕ → ℕ → ℕ → Option (Rsl A) → WorldState → List (StationOut A) → Type 0
+ComesIf w k cell trx None w' outs = Gives (unmoved w) w' outs
+ComesIf w k cell trx (Some message) w' outs = Comes w k cell trx message w' outs
+
+-- what comes of octets
+abbrev pub Steps : {A : Type 0} → WorldState → ℕ → ℕ → ℕ → List ℕ → WorldState → List (StationOut A) → Type 0
+Steps {A} w k cell trx octets w' outs = (said : Option (Rsl A)) × IsSaid octets said × ComesIf w k cell trx said w' outs
+
+-- Memory may be needed for a message that keeps octets, and to acknowledge a release at once. What else is sent follows
+-- messages that keep octets.
+abbrev pub NeedsMemory : {A : Type 0} → WorldState → ℕ → ℕ → ℕ → Rsl A → Type 0
+NeedsMemory w k cell trx (DataRequest channel link layer3) = Unit {0}
+NeedsMemory w k cell trx (DataIndication channel link layer3) = Unit {0}
+NeedsMemory w k cell trx (ChannelActivation channel activation mode reference) = Unit {0}
+NeedsMemory w k cell trx (ChannelActivationAck channel frame) = ⊥
+NeedsMemory w k cell trx (ChannelActivationNack channel cause) = ⊥
+NeedsMemory w k cell trx (ConnectionFailureIndication channel cause) = ⊥
+NeedsMemory w k cell trx (HandoverDetection channel delay) = ⊥
+NeedsMemory w k cell trx (MeasurementResult channel number uplink power layer3) = HasOctets {A = Unit} (MeasurementResult channel number uplink power layer3)
+NeedsMemory w k cell trx (RfChannelRelease channel) = (has_channel w (place_in k cell trx channel) ≡ true) × (hold_of w.holds (place_in k cell trx channel) ReleaseAck ≡ None)
+NeedsMemory w k cell trx (RfChannelReleaseAck channel) = ⊥
+
+abbrev pub StepNeedsMemory : (A : Type 0) → WorldState → ℕ → ℕ → ℕ → List ℕ → Type 0
+StepNeedsMemory A w k cell trx octets = (message : Rsl A) × IsTextOf message octets × NeedsMemory w k cell trx message

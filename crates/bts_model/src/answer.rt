@@ -1,0 +1,116 @@
+//! What stations and mobiles answer, and its octets.
+ghost use Rattle.std.specs.Prelude.{◌≡◌, ◌<◌, ◌≤◌, ◌++◌, ◌∷◌, [], length, IfOk, OnOk};
+ghost use Rattle.rsl_messages.specs.Texts.{HasCanonical, canonical_text};
+ghost use Rattle.rr_messages.specs.Rr.{rr_text};
+ghost use Rattle.bts_model.specs.Answers.{octets_of, indication_octets, out_of};
+
+use crate::place::Place;
+use rr_elements::RrCause;
+use rr_messages::Rr;
+use rsl_messages::{ChanBits, Octets, Rsl, encode};
+use std::alloc::{AllocError, Allocator, Global};
+
+/// What a station says of a channel, or passes on from the mobile on it.
+#[derive(Clone, Copy)]
+pub enum Answer {
+    ActivationAck,
+    ActivationNack,
+    ReleaseAck,
+    /// A mobile reached the channel.
+    Detection,
+    /// The mobile that reached the channel says so.
+    Complete,
+    /// The mobile stayed on the channel, or came back to it.
+    Failure,
+}
+
+/// A message on Abis that a station sends its controller.
+#[derive(Debug, Drop)]
+pub struct StationOut<A: Allocator = Global> {
+    /// The place of the controller's site in the list that the world was made of.
+    pub controller: usize,
+    pub cell: u8,
+    pub trx: u8,
+    /// The message (TS 48.058 clause 8).
+    pub bytes: Octets<A>,
+}
+
+/// What stations send, or an allocation failure.
+pub type Outs<A> = Result<Vec<StationOut<A>, A>, AllocError>;
+
+/// Appends an answer about a channel.
+pub fn send<A: Allocator + Copy>(
+    alloc: A,
+    outs: &mut Vec<StationOut<A>, A>,
+    place: Place,
+    answer: Answer,
+) -> Result<(), AllocError>
+    requires { place.tn < 8 }
+    ensures { OnOk result (outs.new.items ≡ outs.old.items ++ out_of (place, answer) ∷ []) }
+{
+    let message = message_of(alloc, ChanBits { tn: place.tn }, answer)?;
+    let octets = encode(alloc, &message)?;
+    outs.push(StationOut {
+        controller: place.controller,
+        cell: place.cell,
+        trx: place.trx,
+        bytes: Octets::new(alloc, octets.as_slice())?,
+    })?;
+    Ok(())
+}
+
+/// One answer.
+pub fn one_answer<A: Allocator + Copy>(alloc: A, place: Place, answer: Answer) -> Outs<A>
+    requires { place.tn < 8 }
+    ensures { IfOk result (λ outs. outs.items ≡ out_of (place, answer) ∷ []) }
+{
+    let mut outs = Vec::new(alloc);
+    send(alloc, &mut outs, place, answer)?;
+    Ok(outs)
+}
+
+/// The message by which a station gives an answer: its own, or DATA INDICATION on the main channel for the mobile's.
+fn message_of<A: Allocator + Copy>(
+    alloc: A,
+    channel: ChanBits,
+    answer: Answer,
+) -> Result<Rsl<A>, AllocError>
+    requires { channel.tn < 8 }
+    ensures text { IfOk result (λ message. canonical_text message ≡ octets_of channel answer) }
+    ensures canonical { IfOk result HasCanonical }
+{
+    match answer {
+        Answer::ActivationAck => Ok(Rsl::ChannelActivationAck { channel, frame: 0 }),
+        Answer::ActivationNack => Ok(Rsl::ChannelActivationNack {
+            channel,
+            cause: 0x20,
+        }),
+        Answer::ReleaseAck => Ok(Rsl::RfChannelReleaseAck { channel }),
+        Answer::Detection => Ok(Rsl::HandoverDetection {
+            channel,
+            delay: Some(0),
+        }),
+        Answer::Complete => from_mobile(alloc, channel, &Rr::HandoverComplete(RrCause(0))),
+        Answer::Failure => from_mobile(alloc, channel, &Rr::HandoverFailure(RrCause(1))),
+    }
+}
+
+/// DATA INDICATION on the main channel, with a message of the mobile (TS 48.058 clause 8.3.2).
+fn from_mobile<A: Allocator + Copy>(
+    alloc: A,
+    channel: ChanBits,
+    message: &Rr,
+) -> Result<Rsl<A>, AllocError>
+    requires channel { channel.tn < 8 }
+    requires short { length (rr_text message.now) ≤ 251 }
+    ensures text { IfOk result (λ indication. canonical_text indication ≡
+        indication_octets channel message.now) }
+    ensures canonical { IfOk result HasCanonical }
+{
+    let octets = rr_messages::encode(alloc, message)?;
+    Ok(Rsl::DataIndication {
+        channel,
+        link: 0,
+        layer3: Octets::new(alloc, octets.as_slice())?,
+    })
+}

@@ -1,0 +1,17 @@
+//! Simulated base stations and the mobiles in their cells. What a controller sends on Abis (TS 48.058) goes to them, and
+//! their answers come back as octets.
+#![tactic(auto)]
+
+mod answer;
+mod hold;
+mod mobile;
+mod place;
+mod setting;
+mod slots;
+mod station;
+mod trx;
+mod world;
+
+pub use answer::StationOut;
+pub use setting::{Act, Habit, Setting};
+pub use world::World;

@@ -1,0 +1,56 @@
+//! What a script says of a channel.
+ghost use Rattle.std.specs.Prelude.{◌≡◌};
+
+use crate::place::Place;
+
+/// What a mobile does with a HANDOVER COMMAND (TS 44.018 clause 3.4.4).
+#[derive(Clone, Copy, Debug, PartialEq, Eq)]
+pub enum Habit {
+    /// It goes to the channel that the command names, where that waits for it, and returns else.
+    Arrive,
+    /// It stays on its channel: HANDOVER FAILURE.
+    Return,
+    /// It is heard of no more.
+    Vanish,
+}
+
+/// What a script asks of a channel.
+#[derive(Clone, Copy, Debug, PartialEq, Eq)]
+pub enum Act {
+    /// The station refuses the next activation of the channel while that is inactive. Said twice it counts once.
+    Refuse,
+    /// The station keeps the next acknowledgement of an activation or a release of the channel; said again, one more.
+    Hold,
+    /// The station sends what it has kept of the channel, in order, and keeps nothing more.
+    Release,
+    /// The habit of mobiles on the channel.
+    Mobile(Habit),
+}
+
+/// What a script asks, and of which channel. A channel that the world lacks is passed over.
+#[derive(Clone, Copy, Debug, PartialEq, Eq)]
+pub struct Setting {
+    /// The place of the controller's site in the list that the world was made of.
+    pub controller: usize,
+    pub cell: u8,
+    pub trx: u8,
+    /// The timeslot, 0 to 7.
+    pub tn: u8,
+    pub act: Act,
+}
+
+impl Setting {
+    ghost use Rattle.bts_model.specs.Settings.{place_of};
+
+    /// The channel that it names.
+    pub(crate) fn place(self) -> Place
+        ensures { result ≡ place_of self }
+    {
+        Place {
+            controller: self.controller,
+            cell: self.cell,
+            trx: self.trx,
+            tn: self.tn,
+        }
+    }
+}

@@ -1,0 +1,92 @@
+//! What is known of each channel.
+ghost use Rattle.std.specs.Prelude.{◌≡◌, OnOk, OnErr, IsSome, None};
+ghost use Rattle.std.specs.FinMap as map;
+ghost use Rattle.bts_model.specs.World.{slot_in, slots_code, changed};
+
+use crate::place::Place;
+use crate::setting::Habit;
+use std::alloc::{AllocError, Allocator, Global};
+use std::collections::BTreeMap;
+use std::marker::Model;
+
+/// Whether a station has a channel active.
+#[derive(Clone, Copy)]
+pub enum Activity {
+    Inactive,
+    /// It is active since a CHANNEL ACTIVATION, with the handover reference that this had, if any.
+    Active(Option<u8>),
+}
+
+/// What is known of a channel.
+#[derive(Clone, Copy)]
+pub struct Slot {
+    pub activity: Activity,
+    /// The next activation while it is inactive is refused.
+    pub refuses: bool,
+    /// The habit of a mobile on it.
+    pub habit: Habit,
+}
+
+/// What is known of each channel; one that has no entry is inactive, refuses nothing, and its mobile arrives.
+#[derive(Drop)]
+pub struct Slots<A: Allocator = Global> {
+    entries: BTreeMap<Place, Slot, A>,
+}
+
+impl<A: Allocator> Model for Slots<A> {
+    ghost use Rattle.std.specs.FinMap as map;
+    ghost use Rattle.bts_model.specs.Keys.{place_cmp};
+    ghost use Rattle.bts_model.specs.World.{slots_code};
+    ghost use Rattle.bts_model.specs.declared.slots.Slot.{Slot};
+
+    ghost Value = { map.FinMap place_cmp Slot };
+
+    ghost coded = { slots_code };
+
+    ghost view = { λ table. map.from_entries table.entries.entries };
+}
+
+impl<A: Allocator + Copy> Slots<A> {
+    pub fn new(alloc: A) -> Slots<A>
+        ensures { result ≡ map.empty }
+    {
+        Slots {
+            entries: BTreeMap::new(alloc),
+        }
+    }
+
+    pub fn get(&self, place: Place) -> Slot
+        ensures { result ≡ slot_in self.now place }
+    {
+        match self.entries.get(&place) {
+            Some(slot) => *slot,
+            None => Slot {
+                activity: Activity::Inactive,
+                refuses: false,
+                habit: Habit::Arrive,
+            },
+        }
+    }
+
+    /// Memory is asked for where the channel has no entry yet, and only there.
+    pub fn put(&mut self, place: Place, slot: Slot) -> Result<(), AllocError>
+        ensures ok { OnOk result (self.new ≡ map.insert self.old place slot) }
+        ensures err { OnErr result (self.new ≡ self.old) }
+        ensures new_key { OnErr result (map.get self.old place ≡ None) }
+    {
+        self.entries.insert(place, slot)?;
+        Ok(())
+    }
+
+    /// The same where the channel changes.
+    pub fn change(&mut self, place: Place, slot: Option<Slot>) -> Result<(), AllocError>
+        ensures ok { OnOk result (self.new ≡ changed self.old place slot) }
+        ensures err { OnErr result (self.new ≡ self.old) }
+        ensures new_key { OnErr result (IsSome slot × (map.get self.old place ≡ None)) }
+    {
+        match slot {
+            Some(slot) => self.put(place, slot),
+            None => Ok(()),
+        }
+    }
+}

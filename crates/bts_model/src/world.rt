@@ -1,0 +1,329 @@
+//! The simulated world.
+ghost use Rattle.std.specs.Prelude.{◌≡◌, ◌≢◌, ◌↔◌, ◌<◌, ◌⊎◌, Option, [], true, map, IsTrue, IsSome, IfOk, OnErr, None};
+ghost use Rattle.std.specs.FinMap as finite;
+ghost use Rattle.rsl_messages.specs.Messages.{HasOctets};
+ghost use Rattle.rsl_messages.specs.Texts.{IsTextOf};
+ghost use Rattle.rsl_messages.specs.declared.message.Rsl.{Rsl};
+ghost use Rattle.bts_model.specs.World.{fresh_world, has_channel, slot_in, world_code};
+ghost use Rattle.rr_messages.specs.declared.message.Rr.{Rr};
+ghost use Rattle.bts_model.specs.Answers.{out_of};
+ghost use Rattle.bts_model.specs.Holds.{hold_of};
+ghost use Rattle.bts_model.specs.Mobiles.{answers_to, IsHeard};
+ghost use Rattle.bts_model.specs.Stations.{at_activation, at_release};
+ghost use Rattle.bts_model.specs.Settings.{set, SetNeedsMemory, acted, ActNeedsMemory};
+ghost use Rattle.bts_model.specs.Steps.{Gives, Comes, Steps, IsSaid, NeedsMemory, StepNeedsMemory, at_channel, reacted, passed_on, place_in};
+
+use crate::answer::{Answer, Outs, StationOut, one_answer};
+use crate::hold::{Hold, all_kept, end_holds, hold_of};
+use crate::mobile::{answers_to, heard_in};
+use crate::place::Place;
+use crate::setting::{Act, Setting};
+use crate::slots::{Slot, Slots};
+use crate::station::{Reaction, at_activation, at_release};
+use crate::trx::{Trx, has_trx, trxs_of};
+use cell_table::Site;
+use rr_messages::Rr;
+use rsl_messages::{ChanBits, Rsl, RslFault, decode};
+use std::alloc::{AllocError, Allocator, Global};
+use std::marker::Model;
+use std::sync::Arc;
+
+/// The base stations of some controllers, and the mobiles on their channels.
+///
+/// A station acknowledges each activation of an inactive channel, unless a refusal was asked for, and refuses each of an
+/// active one; it acknowledges each release. A mobile that gets a HANDOVER COMMAND on an active channel goes by its
+/// habit. Answers come at once, but an acknowledgement for which a hold waits is kept.
+#[derive(Drop)]
+pub struct World<A: Allocator = Global> {
+    trxs: Vec<Trx, A>,
+    slots: Slots<A>,
+    holds: Vec<Hold, A>,
+}
+
+impl<A: Allocator> Model for World<A> {
+    ghost use Rattle.bts_model.specs.World.{WorldState, world_code};
+
+    ghost Value = { WorldState };
+
+    ghost coded = { world_code };
+
+    ghost view = { λ world. record {
+      trxs = world.trxs.items;
+      slots = world.slots;
+      holds = world.holds.items;
+    } };
+}
+
+impl<A: Allocator + Copy> World<A> {
+    /// The world of the sites of these controllers. No channel is active, and nothing was asked of any.
+    pub fn new(alloc: A, sites: &[Arc<Site<A>, A>]) -> Result<World<A>, AllocError>
+        ensures fresh { IfOk result (λ world. world ≡ fresh_world
+            (map (λ site. site.value) sites.now)) }
+        ensures memory { OnErr result (sites.now ≢ []) }
+    {
+        Ok(World {
+            trxs: trxs_of(alloc, sites)?,
+            slots: Slots::new(alloc),
+            holds: Vec::new(alloc),
+        })
+    }
+
+    /// What comes of octets that a controller sends to a TRX of a cell: the messages that stations send then, in order.
+    /// Octets that are no message, and messages about a channel that the world lacks, come to nothing.
+    ///
+    /// Where memory is refused, the world is as it was.
+    pub fn step(&mut self, controller: usize, cell: u8, trx: u8, octets: &[u8]) -> Outs<A>
+        ensures step { IfOk result (λ outs. Steps self.old controller cell trx octets.now
+            self.new outs.items) }
+        ensures unchanged { OnErr result (self.new ≡ self.old) }
+        ensures memory { OnErr result (StepNeedsMemory A self.old controller cell trx octets.now) }
+    {
+        let alloc = *self.holds.allocator();
+        match message_in(alloc, octets)? {
+            Some(message) => self.receive(controller, cell, trx, &message),
+            None => Ok(self.nothing()),
+        }
+    }
+
+    /// What comes of a setting: the messages that stations send then, in order. Only [`Act::Release`] has any.
+    ///
+    /// Where memory is refused, the world is as it was.
+    pub fn set(&mut self, setting: Setting) -> Outs<A>
+        ensures set { IfOk result (λ outs. Gives (set self.old setting) self.new outs.items) }
+        ensures unchanged { OnErr result (self.new ≡ self.old) }
+        ensures memory { OnErr result (SetNeedsMemory self.old setting) }
+    {
+        let place = setting.place();
+        if self.has_channel(place) {
+            self.act(place, setting.act)
+        } else {
+            Ok(self.nothing())
+        }
+    }
+
+    /// No messages.
+    fn nothing(&self) -> Vec<StationOut<A>, A>
+        ensures { result.items ≡ [] }
+    {
+        Vec::new(*self.holds.allocator())
+    }
+
+    /// Whether the world has the channel.
+    fn has_channel(&self, place: Place) -> bool
+        ensures { result ≡ has_channel self.now place }
+    {
+        place.tn < 8 && has_trx(self.trxs.as_slice(), place)
+    }
+
+    /// What comes of a message to a TRX.
+    fn receive(&mut self, controller: usize, cell: u8, trx: u8, message: &Rsl<A>) -> Outs<A>
+        ensures comes { IfOk result (λ outs. Comes self.old controller cell trx message.now
+            self.new outs.items) }
+        ensures unchanged { OnErr result (self.new ≡ self.old) }
+        ensures memory { OnErr result (NeedsMemory self.old controller cell trx message.now) }
+    {
+        match message {
+            Rsl::DataRequest {
+                channel,
+                link,
+                layer3,
+            } => {
+                let place = place_in(controller, cell, trx, *channel);
+                self.pass_on(place, *link, layer3.as_slice())
+            }
+            Rsl::ChannelActivation {
+                channel,
+                reference,
+                ..
+            } => self.activate(place_in(controller, cell, trx, *channel), *reference),
+            Rsl::RfChannelRelease { channel } => {
+                self.release(place_in(controller, cell, trx, *channel))
+            }
+            Rsl::DataIndication { .. }
+            | Rsl::ChannelActivationAck { .. }
+            | Rsl::ChannelActivationNack { .. }
+            | Rsl::ConnectionFailureIndication { .. }
+            | Rsl::HandoverDetection { .. }
+            | Rsl::MeasurementResult { .. }
+            | Rsl::RfChannelReleaseAck { .. } => Ok(self.nothing()),
+        }
+    }
+
+    /// What is known of a channel.
+    fn slot(&self, place: Place) -> Slot
+        ensures { result ≡ slot_in self.now.slots place }
+    {
+        self.slots.get(place)
+    }
+
+    /// CHANNEL ACTIVATION.
+    fn activate(&mut self, place: Place, reference: Option<u8>) -> Outs<A>
+        ensures gives { IfOk result (λ outs. Gives (at_channel self.old place (reacted self.old place
+            (at_activation (slot_in self.old.slots place) reference))) self.new outs.items) }
+        ensures unchanged { OnErr result (self.new ≡ self.old) }
+    {
+        let reaction = at_activation(self.slot(place), reference);
+        self.react(place, reaction)
+    }
+
+    /// RF CHANNEL RELEASE.
+    fn release(&mut self, place: Place) -> Outs<A>
+        ensures gives { IfOk result (λ outs. Gives (at_channel self.old place (reacted self.old place
+            (at_release (slot_in self.old.slots place)))) self.new outs.items) }
+        ensures unchanged { OnErr result (self.new ≡ self.old) }
+        ensures channel { OnErr result (has_channel self.old place ≡ true) }
+        ensures hold { OnErr result (hold_of self.old.holds place Answer.ReleaseAck ≡ None) }
+    {
+        let reaction = at_release(self.slot(place));
+        self.react(place, reaction)
+    }
+
+    /// What comes of a station's reaction.
+    fn react(&mut self, place: Place, reaction: Reaction) -> Outs<A>
+        ensures gives { IfOk result (λ outs. Gives
+            (at_channel self.old place (reacted self.old place reaction)) self.new outs.items) }
+        ensures unchanged { OnErr result (self.new ≡ self.old) }
+        ensures channel { OnErr result (has_channel self.old place ≡ true) }
+        ensures memory { OnErr result ((hold_of self.old.holds place reaction.answer ≡ None) ⊎
+            (IsSome reaction.slot × (finite.get self.old.slots place ≡ None))) }
+    {
+        if !self.has_channel(place) {
+            return Ok(self.nothing());
+        }
+        match hold_of(self.holds.as_slice(), place, reaction.answer) {
+            None => {
+                let outs = one_answer(*self.holds.allocator(), place, reaction.answer)?;
+                self.slots.change(place, reaction.slot)?;
+                Ok(outs)
+            }
+            Some(hold) => {
+                self.slots.change(place, reaction.slot)?;
+                self.holds[hold] = Hold {
+                    place,
+                    kept: Some(reaction.answer),
+                };
+                Ok(self.nothing())
+            }
+        }
+    }
+
+    /// What is heard of the mobile on a channel to which octets are passed on.
+    fn pass_on(&self, place: Place, link: u8, octets: &[u8]) -> Outs<A>
+        ensures gives { IfOk result (λ outs. (heard : Option Rr) × IsHeard octets.now heard ×
+            Gives (at_channel self.now place (passed_on self.now place link heard)) self.now outs.items) }
+    {
+        let heard = heard_in(octets);
+        self.tell(place, link, heard)
+    }
+
+    /// The same of what the octets say.
+    fn tell(&self, place: Place, link: u8, heard: Option<Rr>) -> Outs<A>
+        ensures { IfOk result (λ outs. Gives
+            (at_channel self.now place (passed_on self.now place link heard)) self.now outs.items) }
+    {
+        if !self.has_channel(place) {
+            return Ok(self.nothing());
+        }
+        match heard {
+            None => Ok(self.nothing()),
+            Some(message) => {
+                if link == 0 {
+                    self.answers_to(place, &message)
+                } else {
+                    Ok(self.nothing())
+                }
+            }
+        }
+    }
+
+    /// What is heard of the mobile on a channel that gets a message.
+    fn answers_to(&self, place: Place, message: &Rr) -> Outs<A>
+        requires { place.tn < 8 }
+        ensures { IfOk result (λ outs. outs.items ≡
+            map out_of (answers_to self.now.trxs self.now.slots place message.now)) }
+    {
+        let alloc = *self.holds.allocator();
+        answers_to(alloc, self.trxs.as_slice(), &self.slots, place, message)
+    }
+
+    /// What comes of an act at a channel.
+    fn act(&mut self, place: Place, act: Act) -> Outs<A>
+        requires { place.tn < 8 }
+        ensures gives { IfOk result (λ outs. Gives (acted self.old place act) self.new outs.items) }
+        ensures unchanged { OnErr result (self.new ≡ self.old) }
+        ensures memory { OnErr result (ActNeedsMemory self.old place act) }
+    {
+        match act {
+            Act::Refuse => {
+                let slot = Slot {
+                    refuses: true,
+                    ..self.slot(place)
+                };
+                self.slots.put(place, slot)?;
+                Ok(self.nothing())
+            }
+            Act::Hold => {
+                self.holds.push(Hold { place, kept: None })?;
+                Ok(self.nothing())
+            }
+            Act::Release => {
+                let outs = all_kept(*self.holds.allocator(), self.holds.as_slice(), place)?;
+                end_holds(&mut self.holds, place);
+                Ok(outs)
+            }
+            Act::Mobile(habit) => {
+                let slot = Slot {
+                    habit,
+                    ..self.slot(place)
+                };
+                self.slots.put(place, slot)?;
+                Ok(self.nothing())
+            }
+        }
+    }
+}
+
+/// The channel of a TRX that a message names.
+fn place_in(controller: usize, cell: u8, trx: u8, channel: ChanBits) -> Place
+    ensures { result ≡ place_in controller cell trx channel }
+{
+    Place {
+        controller,
+        cell,
+        trx,
+        tn: channel.tn,
+    }
+}
+
+/// The message that octets say to a station, if any.
+fn message_in<A: Allocator + Copy>(alloc: A, octets: &[u8]) -> Result<Option<Rsl<A>>, AllocError>
+    ensures said { IfOk result (IsSaid octets.now) }
+    ensures memory { OnErr result ((message : Rsl A) × IsTextOf message octets.now ×
+        HasOctets message) }
+{
+    match decode(alloc, octets) {
+        Ok(message) => Ok(Some(message)),
+        Err(fault) => {
+            if is_memory(fault) {
+                Err(AllocError)
+            } else {
+                Ok(None)
+            }
+        }
+    }
+}
+
+/// Memory was refused.
+fn is_memory(fault: RslFault) -> bool
+    ensures { IsTrue result ↔ (fault ≡ RslFault.NoMemory) }
+{
+    match fault {
+        RslFault::NoMemory => true,
+        RslFault::NotRsl
+        | RslFault::UnknownType(_)
+        | RslFault::Missing(_)
+        | RslFault::BadElement(_)
+        | RslFault::Torn(_)
+        | RslFault::TooLong => false,
+    }
+}
