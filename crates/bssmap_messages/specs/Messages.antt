@@ -61,16 +61,13 @@ cause_alone = octet CAUSE
 
 -- HANDOVER DETECT (clause 3.2.1.40) and CLEAR COMPLETE (3.2.1.22) have no elements.
 
--- what the elements of a message say, or the first fault in the order of its rows
-abbrev pub Said : Type 0 → Type 0
-Said A = Result (Bssmap A) ValueFault
-
 -- the message of these fields
 abbrev pub value_of : {X V : Type 0} → (X → V) → Result X ValueFault → Result V ValueFault
 value_of message (Ok fields) = Ok (message fields)
 value_of message (Err fault) = Err fault
 
-abbrev pub said : {A : Type 0} → MessageKind → Lookup → Said A
+-- what the elements of a message say, or the first fault in the order of its rows
+abbrev pub said : {A : Type 0} → MessageKind → Lookup → Result (Bssmap A) ValueFault
 said kind.HandoverRequest found = value_of (λ (channel, (encryption, (classmark, (serving, target)))). HandoverRequest channel encryption classmark serving target) (handover_request.read found)
 said kind.HandoverRequired found = value_of (λ (cause, (response, cells)). HandoverRequired cause response cells) (handover_required.read found)
 said kind.HandoverRequestAck found = value_of HandoverRequestAck (layer_3_alone.read found)
@@ -84,34 +81,26 @@ said kind.ClearCommand found = value_of ClearCommand (cause_alone.read found)
 said kind.ClearComplete found = Ok ClearComplete
 said kind.ClearRequest found = value_of ClearRequest (cause_alone.read found)
 
--- the elements of a message in the order in which they are written
-abbrev pub elements_of : {A : Type 0} → Bssmap A → List Element
-elements_of (HandoverRequest channel encryption classmark serving target) = handover_request.written (channel, (encryption, (classmark, (serving, target))))
-elements_of (HandoverRequired cause response cells) = handover_required.written (cause, (response, cells))
-elements_of (HandoverRequestAck layer3) = layer_3_alone.written layer3
-elements_of (HandoverCommand layer3) = layer_3_alone.written layer3
-elements_of (HandoverComplete rr) = handover_complete.written rr
-elements_of (HandoverFailure cause rr) = handover_failure.written (cause, rr)
-elements_of (HandoverPerformed cause cell) = handover_performed.written (cause, cell)
-elements_of (HandoverRequiredReject cause) = cause_alone.written cause
-elements_of HandoverDetect = []
-elements_of (ClearCommand cause) = cause_alone.written cause
-elements_of ClearComplete = []
-elements_of (ClearRequest cause) = cause_alone.written cause
+-- which message it is, and its elements in the order in which they are written
+abbrev pub written : {A : Type 0} → Bssmap A → MessageKind × List Element
+written (HandoverRequest channel encryption classmark serving target) = (kind.HandoverRequest, handover_request.written (channel, (encryption, (classmark, (serving, target)))))
+written (HandoverRequired cause response cells) = (kind.HandoverRequired, handover_required.written (cause, (response, cells)))
+written (HandoverRequestAck layer3) = (kind.HandoverRequestAck, layer_3_alone.written layer3)
+written (HandoverCommand layer3) = (kind.HandoverCommand, layer_3_alone.written layer3)
+written (HandoverComplete rr) = (kind.HandoverComplete, handover_complete.written rr)
+written (HandoverFailure cause rr) = (kind.HandoverFailure, handover_failure.written (cause, rr))
+written (HandoverPerformed cause cell) = (kind.HandoverPerformed, handover_performed.written (cause, cell))
+written (HandoverRequiredReject cause) = (kind.HandoverRequiredReject, cause_alone.written cause)
+written HandoverDetect = (kind.HandoverDetect, [])
+written (ClearCommand cause) = (kind.ClearCommand, cause_alone.written cause)
+written ClearComplete = (kind.ClearComplete, [])
+written (ClearRequest cause) = (kind.ClearRequest, cause_alone.written cause)
 
 abbrev pub kind_of : {A : Type 0} → Bssmap A → MessageKind
-kind_of (HandoverRequest channel encryption classmark serving target) = kind.HandoverRequest
-kind_of (HandoverRequired cause response cells) = kind.HandoverRequired
-kind_of (HandoverRequestAck layer3) = kind.HandoverRequestAck
-kind_of (HandoverCommand layer3) = kind.HandoverCommand
-kind_of (HandoverComplete rr) = kind.HandoverComplete
-kind_of (HandoverFailure cause rr) = kind.HandoverFailure
-kind_of (HandoverPerformed cause cell) = kind.HandoverPerformed
-kind_of (HandoverRequiredReject cause) = kind.HandoverRequiredReject
-kind_of HandoverDetect = kind.HandoverDetect
-kind_of (ClearCommand cause) = kind.ClearCommand
-kind_of ClearComplete = kind.ClearComplete
-kind_of (ClearRequest cause) = kind.ClearRequest
+kind_of v = (written v).0
+
+abbrev pub elements_of : {A : Type 0} → Bssmap A → List Element
+elements_of v = (written v).1
 
 -- The message keeps a list that isn't empty, for which reading it may ask for memory.
 abbrev pub KeepsList : {A : Type 0} → Bssmap A → Type 0

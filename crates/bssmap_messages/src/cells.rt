@@ -33,14 +33,9 @@ impl<A: Allocator + Copy> CellList<A> {
         ensures cells { IfOk result (λ o. o ≡ cells.now) }
         ensures empty { cells.now ≡ [] → IsOk result }
     {
-        if cells.is_empty() {
-            return Ok(CellList {
-                cells: Vec::new(alloc),
-            });
-        }
-        Ok(CellList {
-            cells: Vec::from_slice(alloc, cells)?,
-        })
+        let mut list = Vec::new(alloc);
+        list.extend_from_slice(cells)?;
+        Ok(CellList { cells: list })
     }
 }
 
@@ -92,13 +87,9 @@ pub fn cell(value: Option<&[u8]>) -> Result<CellId, ValueFault>
 fn only_cell(discriminator: u8, octets: &[u8]) -> Result<CellId, ValueFault>
     ensures { result ≡ only_cell (cells_after discriminator octets.now) }
 {
-    let Some((cell, rest)) = leading_cell(discriminator, octets) else {
-        return Err(ValueFault::Bad(CELL_IDENTIFIER));
-    };
-    if rest.is_empty() {
-        Ok(cell)
-    } else {
-        Err(ValueFault::Bad(CELL_IDENTIFIER))
+    match leading_cell(discriminator, octets) {
+        Some((cell, rest)) if rest.is_empty() => Ok(cell),
+        _ => Err(ValueFault::Bad(CELL_IDENTIFIER)),
     }
 }
 

@@ -29,6 +29,7 @@ use std::alloc::Allocator;
 
 /// HANDOVER REQUEST. Memory is asked for once the elements are read.
 #[tactic(auto, unfolding(crate::specs::Messages::handover_request))]
+#[inline(always)]
 fn read_request<A: Allocator + Copy>(
     alloc: A,
     found: &Found<'_, InterfaceA>,
@@ -52,6 +53,7 @@ fn read_request<A: Allocator + Copy>(
 
 /// HANDOVER REQUIRED. Memory is asked for once the elements are read.
 #[tactic(auto, unfolding(crate::specs::Messages::handover_required))]
+#[inline(always)]
 fn read_required<A: Allocator + Copy>(
     alloc: A,
     found: &Found<'_, InterfaceA>,
@@ -72,6 +74,7 @@ fn read_required<A: Allocator + Copy>(
 
 /// What the elements of a message of this kind say, element by element.
 #[tactic(auto, unfolding(crate::specs::Messages::layer_3_alone, crate::specs::Messages::handover_complete, crate::specs::Messages::handover_failure, crate::specs::Messages::handover_performed, crate::specs::Messages::cause_alone))]
+#[inline(always)]
 pub fn read_elements<A: Allocator + Copy>(
     alloc: A,
     kind: MessageKind,
@@ -233,24 +236,13 @@ fn cell_octets(cell: CellId) -> [u8; 4]
 /// The discriminator of location area code and cell identity.
 const AREA_AND_CELL: u8 = 1;
 
-/// Appends a cell identifier, for which the list has room.
+/// Appends a cell identifier, whose value has five octets; the list has room for it.
 fn append_cell<A: Allocator>(out: &mut Vec<u8, A>, cell: CellId)
     requires { HasRoom (element_octets interface_a (CELL_IDENTIFIER, cell_value cell)) out.old }
     ensures { Adds (element_octets interface_a (CELL_IDENTIFIER, cell_value cell)) out.old out.new }
 {
-    let [area_high, area_low, high, low] = cell_octets(cell);
-    append_octets(
-        out,
-        &[
-            CELL_IDENTIFIER,
-            1 + CELL_LEN as u8,
-            AREA_AND_CELL,
-            area_high,
-            area_low,
-            high,
-            low,
-        ],
-    );
+    let [a, b, c, d] = cell_octets(cell);
+    append_octets(out, &[CELL_IDENTIFIER, 5, AREA_AND_CELL, a, b, c, d]);
 }
 
 /// Appends a classmark, for which the list has room.

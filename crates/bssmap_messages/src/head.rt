@@ -1,6 +1,6 @@
 //! Discriminator, length and type.
-ghost use Rattle.std.specs.Prelude.{◌≡◌, ◌∷◌, IfOk, IfErr, IfSome, IfNone};
-ghost use Rattle.bssmap_messages.specs.Heads.{Carries, Begins, HasHeadFault};
+ghost use Rattle.std.specs.Prelude.{◌≡◌, IfOk, IfErr, IfSome, IfNone};
+ghost use Rattle.bssmap_messages.specs.Heads.{Begins, HasHeadFault};
 ghost use Rattle.bssmap_messages.specs.Messages.{type_of};
 
 use crate::fault::BssmapFault;
@@ -47,27 +47,18 @@ fn kind_for(message_type: u8) -> Option<MessageKind>
     }
 }
 
-/// What the discriminator and the length octet carry: a type and a body.
-fn carried(octets: &[u8]) -> Result<(u8, &[u8]), BssmapFault>
-    ensures carries { IfOk result (λ c. Carries octets.now (c.0 ∷ c.1.now)) }
-    ensures fault { IfErr result (HasHeadFault octets.now) }
-{
-    match octets {
-        [0, length, message_type, body @ ..]
-            if usize::from(*length) == 1 + body.len() && body.len() < LIMIT => {
-            Ok((*message_type, body))
-        }
-        [0, ..] => Err(BssmapFault::Length),
-        _ => Err(BssmapFault::NotBssmap),
-    }
-}
-
 /// Which message the octets are, and the body after the head.
 pub fn read_head(octets: &[u8]) -> Result<(MessageKind, &[u8]), BssmapFault>
     ensures found { IfOk result (λ h. Begins h.0 octets.now h.1.now) }
     ensures fault { IfErr result (HasHeadFault octets.now) }
 {
-    let (message_type, body) = carried(octets)?;
-    let kind = kind_for(message_type).ok_or(BssmapFault::UnknownType(message_type))?;
-    Ok((kind, body))
+    match octets {
+        [0, length, message_type, body @ ..]
+            if usize::from(*length) == 1 + body.len() && body.len() < LIMIT => {
+            let kind = kind_for(*message_type).ok_or(BssmapFault::UnknownType(*message_type))?;
+            Ok((kind, body))
+        }
+        [0, ..] => Err(BssmapFault::Length),
+        _ => Err(BssmapFault::NotBssmap),
+    }
 }

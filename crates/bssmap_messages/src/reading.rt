@@ -29,14 +29,12 @@ fn read_message<A: Allocator + Copy>(alloc: A, octets: &[u8]) -> Result<Bssmap<A
 ///
 /// The order of the elements doesn't matter, nor do those that the message has no use for. Where one
 /// comes again the first is read; of the cell identifiers of a HANDOVER REQUEST the first is the serving
-/// cell and the second the target cell.
+/// cell and the second the target cell. An `Err` is the first fault in the order that [`BssmapFault`] says.
 #[inline(always)]
 pub fn decode<A: Allocator + Copy>(alloc: A, octets: &[u8]) -> Result<Bssmap<A>, BssmapFault>
     ensures text { IfOk result (λ v. IsTextOf v octets.now) }
     ensures exact { (v : Bssmap A) → IsTextOf v octets.now → result ≢ Err BssmapFault.NoMemory →
         result ≡ Ok v }
-
-    // It is the first fault in the order that `BssmapFault` says.
     ensures fault { IfErr result (HasFault A octets.now) }
     ensures memory { result ≡ Err BssmapFault.NoMemory →
         (v : Bssmap A) × IsTextOf v octets.now × KeepsList v }

@@ -32,16 +32,6 @@ impl ElementTable for InterfaceA {
     ghost known = { known };
 
     #[inline(always)]
-    fn form_for(identifier: u8) -> Form {
-        Self::rule_for(identifier).0
-    }
-
-    #[inline(always)]
-    fn place_for(identifier: u8) -> usize {
-        Self::rule_for(identifier).1
-    }
-
-    #[inline(always)]
     fn rule_for(identifier: u8) -> (Form, usize) {
         match identifier {
             CELL_IDENTIFIER => (Form::Counted, 0),

@@ -26,21 +26,25 @@ pub trait ElementTable {
 
     ghost known: { List ℕ };
 
-    /// The form of the elements with this identifier.
-    fn form_for(identifier: u8) -> Form
-        ensures { result ≡ form_of identifier };
-
-    /// The place of this identifier among those that the codec knows, from 0; [`PLACES`] where it isn't
-    /// one of them.
-    fn place_for(identifier: u8) -> usize
-        ensures { result ≡ place_of identifier known };
-
-    /// Form and place at once, for a codec that tells them by one look at the identifier.
-    #[inline(always)]
+    /// The form of the elements with this identifier, and its place among those that the codec knows, from 0;
+    /// [`PLACES`] where it isn't one of them.
     fn rule_for(identifier: u8) -> (Form, usize)
         ensures form { result.0 ≡ form_of identifier }
-        ensures place { result.1 ≡ place_of identifier known }
+        ensures place { result.1 ≡ place_of identifier known };
+
+    /// The form of the elements with this identifier.
+    #[inline(always)]
+    fn form_for(identifier: u8) -> Form
+        ensures { result ≡ form_of identifier }
     {
-        (Self::form_for(identifier), Self::place_for(identifier))
+        Self::rule_for(identifier).0
+    }
+
+    /// The place of this identifier.
+    #[inline(always)]
+    fn place_for(identifier: u8) -> usize
+        ensures { result ≡ place_of identifier known }
+    {
+        Self::rule_for(identifier).1
     }
 }

@@ -21,21 +21,14 @@ impl ElementTable for Sample {
 
     ghost known = { 5 ∷ 1 ∷ 9 ∷ [] };
 
-    fn form_for(identifier: u8) -> Form {
+    fn rule_for(identifier: u8) -> (Form, usize) {
         match identifier {
-            1 => Form::Fixed(2),
-            2 => Form::Fixed(0),
-            3 => Form::LongCounted,
-            _ => Form::Counted,
-        }
-    }
-
-    fn place_for(identifier: u8) -> usize {
-        match identifier {
-            5 => 0,
-            1 => 1,
-            9 => 2,
-            _ => PLACES,
+            1 => (Form::Fixed(2), 1),
+            2 => (Form::Fixed(0), PLACES),
+            3 => (Form::LongCounted, PLACES),
+            5 => (Form::Counted, 0),
+            9 => (Form::Counted, 2),
+            _ => (Form::Counted, PLACES),
         }
     }
 }

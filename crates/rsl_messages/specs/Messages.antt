@@ -61,30 +61,24 @@ said kind.MeasurementResult found = measurement_rows.read found >>= λ (channel,
 said kind.RfChannelRelease found = channel_number.read found >>= λ channel. Ok (RfChannelRelease channel)
 said kind.RfChannelReleaseAck found = channel_number.read found >>= λ channel. Ok (RfChannelReleaseAck channel)
 
--- the elements of a message as they are written
-abbrev pub elements_of : {A : Type 0} → Rsl A → List Element
-elements_of (DataRequest channel link layer3) = data_rows.written (channel, (link, layer3))
-elements_of (DataIndication channel link layer3) = data_rows.written (channel, (link, layer3))
-elements_of (ChannelActivation channel activation mode reference) = activation_rows.written (channel, (activation, (mode, reference)))
-elements_of (ChannelActivationAck channel frame) = activation_ack_rows.written (channel, frame)
-elements_of (ChannelActivationNack channel cause) = cause_rows.written (channel, cause)
-elements_of (ConnectionFailureIndication channel cause) = cause_rows.written (channel, cause)
-elements_of (HandoverDetection channel delay) = detection_rows.written (channel, delay)
-elements_of (MeasurementResult channel number uplink power layer3) = measurement_rows.written (channel, (number, (uplink, (power, layer3))))
-elements_of (RfChannelRelease channel) = channel_number.written channel
-elements_of (RfChannelReleaseAck channel) = channel_number.written channel
+-- which message it is, and its elements as they are written
+abbrev pub written : {A : Type 0} → Rsl A → MessageKind × List Element
+written (DataRequest channel link layer3) = (kind.DataRequest, data_rows.written (channel, (link, layer3)))
+written (DataIndication channel link layer3) = (kind.DataIndication, data_rows.written (channel, (link, layer3)))
+written (ChannelActivation channel activation mode reference) = (kind.ChannelActivation, activation_rows.written (channel, (activation, (mode, reference))))
+written (ChannelActivationAck channel frame) = (kind.ChannelActivationAck, activation_ack_rows.written (channel, frame))
+written (ChannelActivationNack channel cause) = (kind.ChannelActivationNack, cause_rows.written (channel, cause))
+written (ConnectionFailureIndication channel cause) = (kind.ConnectionFailureIndication, cause_rows.written (channel, cause))
+written (HandoverDetection channel delay) = (kind.HandoverDetection, detection_rows.written (channel, delay))
+written (MeasurementResult channel number uplink power layer3) = (kind.MeasurementResult, measurement_rows.written (channel, (number, (uplink, (power, layer3)))))
+written (RfChannelRelease channel) = (kind.RfChannelRelease, channel_number.written channel)
+written (RfChannelReleaseAck channel) = (kind.RfChannelReleaseAck, channel_number.written channel)
 
 abbrev pub kind_of : {A : Type 0} → Rsl A → MessageKind
-kind_of (DataRequest channel link layer3) = kind.DataRequest
-kind_of (DataIndication channel link layer3) = kind.DataIndication
-kind_of (ChannelActivation channel activation mode reference) = kind.ChannelActivation
-kind_of (ChannelActivationAck channel frame) = kind.ChannelActivationAck
-kind_of (ChannelActivationNack channel cause) = kind.ChannelActivationNack
-kind_of (ConnectionFailureIndication channel cause) = kind.ConnectionFailureIndication
-kind_of (HandoverDetection channel delay) = kind.HandoverDetection
-kind_of (MeasurementResult channel number uplink power layer3) = kind.MeasurementResult
-kind_of (RfChannelRelease channel) = kind.RfChannelRelease
-kind_of (RfChannelReleaseAck channel) = kind.RfChannelReleaseAck
+kind_of v = (written v).0
+
+abbrev pub elements_of : {A : Type 0} → Rsl A → List Element
+elements_of v = (written v).1
 
 -- The message keeps an octet list that isn't empty, for which reading it may ask for memory.
 abbrev pub HasOctets : {A : Type 0} → Rsl A → Type 0

@@ -36,16 +36,6 @@ impl ElementTable for Abis {
     ghost known = { known };
 
     #[inline(always)]
-    fn form_for(identifier: u8) -> Form {
-        Self::rule_for(identifier).0
-    }
-
-    #[inline(always)]
-    fn place_for(identifier: u8) -> usize {
-        Self::rule_for(identifier).1
-    }
-
-    #[inline(always)]
     fn rule_for(identifier: u8) -> (Form, usize) {
         match identifier {
             CHANNEL_NUMBER => (Form::Fixed(1), 0),
