@@ -7,66 +7,15 @@ mod tables;
 use cell_table::Site;
 use ho_candidates::{Candidate, candidates};
 use measurements::Window;
-use rr_elements::{ElementFault, MeasHead, MeasResults, Ncell};
+use sample_reports::{Said, report};
 use std::alloc::{Allocator, Global};
 use std::process::Abort;
-
-/// The most neighbours of a report.
-const MOST: usize = 6;
-
-/// What a report says, its fields not yet known to fit their bits: DTX-USED, RXLEV-FULL, RXLEV-SUB, whether it is
-/// valid, and the level, position and code of each neighbour, at most six.
-#[derive(Clone, Copy)]
-struct Said {
-    dtx: bool,
-    full: u8,
-    sub: u8,
-    valid: bool,
-    neighbours: &'static [(u8, u8, u8)],
-}
 
 /// A window: which cell serves, and the reports that it is given; then the candidates, cells and sums.
 struct Row {
     cell: u8,
     reports: &'static [Said],
     wanted: &'static [(u8, u32)],
-}
-
-fn neighbour_at(neighbours: &[(u8, u8, u8)], place: usize) -> Ncell {
-    let (level, position, bsic) = neighbours.get(place).copied().unwrap_or((0, 0, 0));
-    Ncell {
-        level,
-        position,
-        bsic,
-    }
-}
-
-fn head_of(said: Said, count: u8) -> MeasHead {
-    MeasHead {
-        ba: false,
-        dtx: said.dtx,
-        full: said.full,
-        ba3g: false,
-        valid: said.valid,
-        sub: said.sub,
-        si23: false,
-        qfull: 0,
-        qsub: 0,
-        count,
-    }
-}
-
-fn report(said: Said) -> Result<MeasResults, ElementFault> {
-    let count = said.neighbours.len().min(MOST);
-    let places = [
-        neighbour_at(said.neighbours, 0),
-        neighbour_at(said.neighbours, 1),
-        neighbour_at(said.neighbours, 2),
-        neighbour_at(said.neighbours, 3),
-        neighbour_at(said.neighbours, 4),
-        neighbour_at(said.neighbours, 5),
-    ];
-    MeasResults::new(head_of(said, count as u8), &places[..count])
 }
 
 fn add_all<A: Allocator>(rt: &impl Abort, window: &mut Window<A>, reports: &[Said])

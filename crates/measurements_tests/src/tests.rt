@@ -1,19 +1,8 @@
 use measurements::Window;
 use refusing_heap::RefusingHeap;
-use rr_elements::{ElementFault, MeasHead, MeasResults, Ncell};
+use sample_reports::{Said, report};
 use std::alloc::{Allocator, Global};
 use std::process::Abort;
-
-// What a report says, its fields not yet known to fit their bits: DTX-USED, RXLEV-FULL, RXLEV-SUB, whether it is valid,
-// and the level, position and code of each neighbour.
-#[derive(Clone, Copy)]
-struct Said {
-    dtx: bool,
-    full: u8,
-    sub: u8,
-    valid: bool,
-    neighbours: &'static [(u8, u8, u8)],
-}
 
 const SERVING: Said = Said {
     dtx: false,
@@ -22,37 +11,6 @@ const SERVING: Said = Said {
     valid: true,
     neighbours: &[],
 };
-
-fn neighbour_at(neighbours: &[(u8, u8, u8)], place: usize) -> Ncell {
-    let (level, position, bsic) = neighbours.get(place).copied().unwrap_or((0, 0, 0));
-    Ncell {
-        level,
-        position,
-        bsic,
-    }
-}
-
-// At most two neighbours.
-fn report(said: Said) -> Result<MeasResults, ElementFault> {
-    let count = said.neighbours.len().min(2);
-    let head = MeasHead {
-        ba: false,
-        dtx: said.dtx,
-        full: said.full,
-        ba3g: false,
-        valid: said.valid,
-        sub: said.sub,
-        si23: false,
-        qfull: 0,
-        qsub: 0,
-        count: count as u8,
-    };
-    let places = [
-        neighbour_at(said.neighbours, 0),
-        neighbour_at(said.neighbours, 1),
-    ];
-    MeasResults::new(head, &places[..count])
-}
 
 fn add_all<A: Allocator>(rt: &impl Abort, window: &mut Window<A>, reports: &[Said]) {
     for said in reports {

@@ -2,28 +2,10 @@ use refusing_heap::RefusingHeap;
 use rr_elements::{
     CellDescription, ChanDescription, ElementFault, MeasHead, MeasResults, Ncell, Power, RrCause,
 };
+use sample_reports::{HEAD, NEIGHBOUR};
 use std::alloc::{AllocError, Allocator, Global};
 use std::process::Abort;
 use std::test::Fail;
-
-const HEAD: MeasHead = MeasHead {
-    ba: false,
-    dtx: false,
-    full: 30,
-    ba3g: false,
-    valid: true,
-    sub: 30,
-    si23: false,
-    qfull: 0,
-    qsub: 0,
-    count: 1,
-};
-
-const NEIGHBOUR: Ncell = Ncell {
-    level: 40,
-    position: 2,
-    bsic: 21,
-};
 
 /// Results of one neighbour: level 40, position 2, code 21.
 const ONE: [u8; 16] = [

@@ -3,6 +3,7 @@ use rr_elements::{
     CellDescription, ChanDescription, ElementFault, MeasHead, MeasResults, Ncell, Power, RrCause,
 };
 use rr_messages::{Rr, RrFault, decode, encode, encode_into};
+use sample_reports::{HEAD, NEIGHBOUR};
 use std::alloc::Global;
 use std::process::Abort;
 use std::test::Fail;
@@ -10,25 +11,6 @@ use std::test::Fail;
 const REPORT: [u8; 18] = [
     0x06, 0x15, 0x1E, 0x1E, 0x00, 0x68, 0x12, 0xA0, 0, 0, 0, 0, 0, 0, 0, 0, 0, 0,
 ];
-
-const HEAD: MeasHead = MeasHead {
-    ba: false,
-    dtx: false,
-    full: 30,
-    ba3g: false,
-    valid: true,
-    sub: 30,
-    si23: false,
-    qfull: 0,
-    qsub: 0,
-    count: 1,
-};
-
-const NEIGHBOUR: Ncell = Ncell {
-    level: 40,
-    position: 2,
-    bsic: 21,
-};
 
 // What a message says, its fields not yet known to fit their bits.
 #[derive(Clone, Copy)]

@@ -128,6 +128,93 @@ ba = []
 trx = [{ arfcn = 70, tch = [1, 2, 3, 4, 5, 6, 7] }, { arfcn = 71, tch = [1, 2, 3, 4, 5, 6, 7] }, { arfcn = 72, tch = [1, 2, 3, 4, 5, 6, 7] }, { arfcn = 73, tch = [1, 2, 3, 4, 5, 6, 7] }]
 ";
 
+/// Three cells with two channels each.
+pub const SIX_CHANNELS: &str = "[handover]
+window = 1
+margin = 0
+minimum = 0
+[[cell]]
+lac = 1
+ci = 0
+bcch = 60
+ncc = 1
+bcc = 1
+power = 5
+ba = []
+trx = [{ arfcn = 60, tch = [1, 2] }]
+[[cell]]
+lac = 1
+ci = 1
+bcch = 70
+ncc = 1
+bcc = 1
+power = 5
+ba = []
+trx = [{ arfcn = 70, tch = [1, 2] }]
+[[cell]]
+lac = 1
+ci = 2
+bcch = 80
+ncc = 1
+bcc = 1
+power = 5
+ba = []
+trx = [{ arfcn = 80, tch = [1, 2] }]
+";
+
+/// Three cells, two of them on one carrier, and three of others, one of them on carrier 0. The neighbour list of cell 0
+/// is 10, 20, 30, 0, that of cell 2 is 10, 20: each has its own carrier too.
+pub const CROWDED: &str = "[handover]
+window = 3
+margin = 2
+minimum = 8
+[[cell]]
+lac = 1
+ci = 0
+bcch = 10
+ncc = 1
+bcc = 2
+power = 5
+ba = [0, 30, 20, 10]
+trx = [{ arfcn = 10, tch = [1] }]
+[[cell]]
+lac = 1
+ci = 1
+bcch = 20
+ncc = 0
+bcc = 0
+power = 5
+ba = [10]
+trx = [{ arfcn = 20, tch = [1] }]
+[[cell]]
+lac = 1
+ci = 2
+bcch = 20
+ncc = 7
+bcc = 7
+power = 5
+ba = [20, 10]
+trx = [{ arfcn = 20, tch = [1] }]
+[[outside]]
+lac = 2
+ci = 0
+bcch = 0
+ncc = 3
+bcc = 4
+[[outside]]
+lac = 2
+ci = 1
+bcch = 30
+ncc = 0
+bcc = 1
+[[outside]]
+lac = 2
+ci = 2
+bcch = 40
+ncc = 0
+bcc = 1
+";
+
 /// A cell, and one of another controller with the same location area code and cell identity, which is refused.
 pub const SAME_IDENTITY: &str = "[handover]
 window = 2

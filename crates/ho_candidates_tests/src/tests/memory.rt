@@ -1,8 +1,9 @@
-use super::{Said, add_all, width_of};
+use super::{add_all, width_of};
 use cell_table::Site;
 use ho_candidates::candidates;
 use measurements::Window;
 use refusing_heap::RefusingHeap;
+use sample_reports::Said;
 use sample_sites::THREE_CHANNELS;
 use std::process::Abort;
 

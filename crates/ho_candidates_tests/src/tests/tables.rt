@@ -1,5 +1,6 @@
-use super::{Row, Said, hold_all};
-use sample_sites::{THREE_CHANNELS, changed};
+use super::{Row, hold_all};
+use sample_reports::Said;
+use sample_sites::{CROWDED, THREE_CHANNELS, changed};
 use std::process::Abort;
 
 const QUIET: Said = Said {
@@ -269,59 +270,6 @@ const ONE_REPORT: &[Row] = &[
         wanted: &[(1, 0), (64, 0)],
     },
 ];
-
-/// Three cells, two of them on one carrier, and three of others, one of them on carrier 0. The neighbour list of cell 0
-/// is 10, 20, 30, 0, that of cell 2 is 10, 20: each has its own carrier too.
-const CROWDED: &str = "[handover]
-window = 3
-margin = 2
-minimum = 8
-[[cell]]
-lac = 1
-ci = 0
-bcch = 10
-ncc = 1
-bcc = 2
-power = 5
-ba = [0, 30, 20, 10]
-trx = [{ arfcn = 10, tch = [1] }]
-[[cell]]
-lac = 1
-ci = 1
-bcch = 20
-ncc = 0
-bcc = 0
-power = 5
-ba = [10]
-trx = [{ arfcn = 20, tch = [1] }]
-[[cell]]
-lac = 1
-ci = 2
-bcch = 20
-ncc = 7
-bcc = 7
-power = 5
-ba = [20, 10]
-trx = [{ arfcn = 20, tch = [1] }]
-[[outside]]
-lac = 2
-ci = 0
-bcch = 0
-ncc = 3
-bcc = 4
-[[outside]]
-lac = 2
-ci = 1
-bcch = 30
-ncc = 0
-bcc = 1
-[[outside]]
-lac = 2
-ci = 2
-bcch = 40
-ncc = 0
-bcc = 1
-";
 
 /// In cell 0: itself by (0, 10), cell 1 by (1, 0), cell 2 by (1, 63), cell 65 by (2, 1), cell 64 by (3, 28).
 const FROM_CELL_0: Said = Said {

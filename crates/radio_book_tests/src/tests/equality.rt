@@ -7,6 +7,7 @@ use radio_book::event::Event::{
 use radio_book::event::Reply::Refused;
 use radio_book::event::{Event, Kind, Why};
 use refusing_heap::RefusingHeap;
+use sample_sites::changed;
 use std::alloc::{AllocError, Allocator, Global};
 use std::process::Abort;
 use std::test::Fail;
@@ -151,42 +152,13 @@ fn books_are_equal_where_they_hold_the_same(rt: HostRuntime) -> Result<(), Fail>
     Ok(())
 }
 
-// One cell with one traffic timeslot, and the same with another margin.
-const NARROW: &str = "[handover]
-window = 1
-margin = 0
-minimum = 0
-[[cell]]
-lac = 1
-ci = 0
-bcch = 60
-ncc = 1
-bcc = 1
-power = 5
-ba = []
-trx = [{ arfcn = 60, tch = [3] }]
-";
-
-const WIDE: &str = "[handover]
-window = 1
-margin = 1
-minimum = 0
-[[cell]]
-lac = 1
-ci = 0
-bcch = 60
-ncc = 1
-bcc = 1
-power = 5
-ba = []
-trx = [{ arfcn = 60, tch = [3] }]
-";
-
 #[test]
 fn books_of_sites_that_differ_are_not_equal(rt: HostRuntime) -> Result<(), Fail> {
-    let narrow = book_of(rt.alloc(), rt.alloc(), NARROW)?;
-    let again = book_of(rt.alloc(), rt.alloc(), NARROW)?;
-    let wide = book_of(rt.alloc(), rt.alloc(), WIDE)?;
+    let text = changed(rt.alloc(), THREE_CHANNELS, "margin = 3", "margin = 4")?;
+    let text = text.expect(&rt, "the site's margin");
+    let narrow = book_of(rt.alloc(), rt.alloc(), THREE_CHANNELS)?;
+    let again = book_of(rt.alloc(), rt.alloc(), THREE_CHANNELS)?;
+    let wide = book_of(rt.alloc(), rt.alloc(), &text)?;
     assert!(rt; narrow == again);
     assert!(rt; narrow != wide);
     Ok(())

@@ -10,41 +10,8 @@ use radio_book::event::Kind::{Incoming, Internal};
 use radio_book::event::Refusal::{ChannelBusy, NoCall, NotArmed, RefBusy, Unexpected, WrongPhase};
 use radio_book::event::Why::{Asked, Expired};
 use radio_book::event::{Event, Stage, Timer};
+use sample_sites::SIX_CHANNELS;
 use std::test::Fail;
-
-// Three cells with two channels each.
-pub(super) const SIX_CHANNELS: &str = "[handover]
-window = 1
-margin = 0
-minimum = 0
-[[cell]]
-lac = 1
-ci = 0
-bcch = 60
-ncc = 1
-bcc = 1
-power = 5
-ba = []
-trx = [{ arfcn = 60, tch = [1, 2] }]
-[[cell]]
-lac = 1
-ci = 1
-bcch = 70
-ncc = 1
-bcc = 1
-power = 5
-ba = []
-trx = [{ arfcn = 70, tch = [1, 2] }]
-[[cell]]
-lac = 1
-ci = 2
-bcch = 80
-ncc = 1
-bcc = 1
-power = 5
-ba = []
-trx = [{ arfcn = 80, tch = [1, 2] }]
-";
 
 // The channels of cell 0, where call 1 is served on the first,
 pub(super) const NEAR_1: ChanId = ChanId {

@@ -2,7 +2,7 @@
 ghost use Rattle.std.specs.Prelude.{◌<◌};
 
 use super::book_of;
-use super::overlaps::{FAR_1, FAR_2, MIDDLE_1, MIDDLE_2, NEAR_1, NEAR_2, SIX_CHANNELS};
+use super::overlaps::{FAR_1, FAR_2, MIDDLE_1, MIDDLE_2, NEAR_1, NEAR_2};
 use channel_fsm::{ChanId, ChanState};
 use radio_book::book::Book;
 use radio_book::event::Event::{
@@ -13,6 +13,7 @@ use radio_book::event::Kind::{Incoming, Internal};
 use radio_book::event::{Attempt, CallRecord, Event, Reply, Stage, Timer, Why};
 use radio_book::rewind::{RewindFault, Rewound, rewind};
 use radio_book::run::run;
+use sample_sites::SIX_CHANNELS;
 use std::alloc::{AllocError, Global};
 use std::process::Abort;
 use std::test::Fail;
