@@ -8,7 +8,7 @@ use cell_table::Site;
 use ho_candidates::{Candidate, candidates};
 use measurements::Window;
 use rr_elements::{ElementFault, MeasHead, MeasResults, Ncell};
-use std::alloc::{Allocator, Global};
+use std::alloc::Allocator;
 use std::process::Abort;
 
 /// The most neighbours of a report.

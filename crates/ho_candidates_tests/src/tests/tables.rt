@@ -1,6 +1,5 @@
 use super::{Row, Said, hold_all};
 use sample_sites::{THREE_CHANNELS, changed};
-use std::process::Abort;
 
 const QUIET: Said = Said {
     dtx: false,
