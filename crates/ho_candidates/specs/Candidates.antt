@@ -1,4 +1,4 @@
--- Which cells a mobile may be handed over to, by its reports.
+-- Which cells a mobile may be handed over to, by its reports. Ours, of no standard.
 use Rattle.std.specs.Prelude.{ℕ, ◌≡◌, ◌≢◌, ◌+◌, ◌*◌, ◌≤◌, length}
 use Rattle.cell_table.specs.Views.{SiteView}
 use Rattle.cell_table.specs.Neighbours.{IsNamedCell}

@@ -8,7 +8,7 @@ use cell_table::Site;
 use ho_candidates::{Candidate, candidates};
 use measurements::Window;
 use sample_reports::{Said, report};
-use std::alloc::{Allocator, Global};
+use std::alloc::Allocator;
 use std::process::Abort;
 
 /// A window: which cell serves, and the reports that it is given; then the candidates, cells and sums.

@@ -1,7 +1,6 @@
 use super::{Row, hold_all};
 use sample_reports::Said;
 use sample_sites::{CROWDED, THREE_CHANNELS, changed};
-use std::process::Abort;
 
 const QUIET: Said = Said {
     dtx: false,

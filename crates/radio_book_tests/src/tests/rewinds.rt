@@ -3,10 +3,10 @@ use super::{HOME, OTHER, TARGET, THREE_CHANNELS, book_of};
 use channel_fsm::ChanState;
 use radio_book::book::Book;
 use radio_book::event::Event::{
-    Activate, Command, Complete, Confirm, Look, Open, Order, Owner, Refuse, Released, Require,
-    Reserve, Take, Undo,
+    Activate, Command, Complete, Confirm, Left, Look, Open, Order, Owner, Refuse, Released,
+    Require, Reserve, Take, Undo,
 };
-use radio_book::event::Refusal::{CallExists, ChannelBusy, RefBusy, Unexpected};
+use radio_book::event::Refusal::{CallExists, ChannelBusy, NoCall, RefBusy, Unexpected};
 use radio_book::event::Reply::{Done, Owned, Refused};
 use radio_book::event::{Attempt, AttemptKind, CallRecord, Event, Kind, Reply, Stage, Timer, Why};
 use radio_book::rewind::{RewindFault, Rewound, rewind};
@@ -28,10 +28,9 @@ struct Row {
     // The replies to the others, among all events and alone.
     whole: &'static [Reply],
     without: &'static [Reply],
-    // Whether the books are the same.
-    same: bool,
-    // Looks at the book without the attempt.
+    // Looks at the book without the attempt, and at the one after all events where that differs.
     looks: &'static [(Event, Reply)],
+    differs: &'static [(Event, Reply)],
 }
 
 // Call 1 is steady on its channel.
@@ -74,6 +73,27 @@ const COMES_WITH_FIVE: Reply = Reply::Record(
     None,
 );
 
+const COMES: Reply = Reply::Record(
+    CallRecord {
+        serving: None,
+        attempt: Some(Attempt {
+            kind: AttemptKind::Incoming,
+            stage: Stage::Taken,
+            target: Some(HOME),
+            reference: None,
+        }),
+    },
+    None,
+);
+
+const MOVED: Reply = Reply::Record(
+    CallRecord {
+        serving: Some(TARGET),
+        attempt: None,
+    },
+    Some(ChanState::On(1)),
+);
+
 // An attempt of call 1 is undone, while call 2 begins.
 const TAKEN_BACK: &[Event] = &[
     Take(1, Kind::Internal, TARGET),
@@ -93,6 +113,30 @@ const REFUSED_FOR_THE_TARGET: &[Event] = &[
     Undo(1, Why::Asked),
 ];
 
+// Call 1 comes to its target, and a later attempt of it is undone.
+const COMPLETED_AND_UNDONE: &[Event] = &[
+    Take(1, Kind::Internal, TARGET),
+    Reserve(1, 0),
+    Activate(1),
+    Confirm(TARGET),
+    Command(1),
+    Complete(1),
+    Take(1, Kind::Internal, OTHER),
+    Undo(1, Why::Asked),
+];
+
+// Call 1 leaves for another controller, begins anew, and a later attempt of it is undone.
+const LEFT_AND_UNDONE: &[Event] = &[
+    Require(1),
+    Order(1),
+    Left(1),
+    Released(HOME),
+    Open(1, HOME),
+    Confirm(HOME),
+    Require(1),
+    Undo(1, Why::Asked),
+];
+
 const ROWS: &[Row] = &[
     Row {
         name: "a call begins between the steps of an attempt",
@@ -104,8 +148,8 @@ const ROWS: &[Row] = &[
         held: None,
         whole: &[Done],
         without: &[Done],
-        same: true,
         looks: &[(Look(1), RESTS), (Look(2), WAITS_ON_OTHER)],
+        differs: &[],
     },
     Row {
         name: "a refused target awaits no release",
@@ -124,8 +168,8 @@ const ROWS: &[Row] = &[
         held: None,
         whole: &[Done],
         without: &[Done],
-        same: true,
         looks: &[(Look(1), RESTS), (Look(2), WAITS_ON_TARGET)],
+        differs: &[],
     },
     Row {
         name: "what a station says of the target while its release is awaited is left out",
@@ -145,8 +189,8 @@ const ROWS: &[Row] = &[
         held: None,
         whole: &[Refused(Unexpected(TARGET))],
         without: &[Refused(Unexpected(TARGET))],
-        same: true,
         looks: &[(Look(1), RESTS)],
+        differs: &[],
     },
     Row {
         name: "the release is awaited still",
@@ -167,8 +211,13 @@ const ROWS: &[Row] = &[
         held: Some(5),
         whole: &[RESTS, Refused(ChannelBusy(TARGET)), Owned(1)],
         without: &[RESTS, Done, Owned(1)],
-        same: false,
         looks: &[(Look(1), RESTS), (Look(2), WAITS_ON_TARGET)],
+        differs: &[
+            (Look(1), RESTS),
+            (Look(2), Refused(NoCall)),
+            (Open(2, TARGET), Refused(ChannelBusy(TARGET))),
+            (Released(TARGET), Done),
+        ],
     },
     Row {
         name: "a call is refused for the target",
@@ -180,8 +229,12 @@ const ROWS: &[Row] = &[
         held: Some(1),
         whole: &[Refused(ChannelBusy(TARGET))],
         without: &[Done],
-        same: false,
         looks: &[(Look(1), RESTS), (Look(2), WAITS_ON_TARGET)],
+        differs: &[
+            (Look(1), RESTS),
+            (Look(2), Refused(NoCall)),
+            (Open(2, TARGET), Done),
+        ],
     },
     Row {
         name: "a call is refused for the target, twice",
@@ -198,8 +251,12 @@ const ROWS: &[Row] = &[
         held: Some(1),
         whole: &[Refused(ChannelBusy(TARGET)), Refused(ChannelBusy(TARGET))],
         without: &[Done, Refused(CallExists)],
-        same: false,
         looks: &[(Look(1), RESTS), (Look(2), WAITS_ON_TARGET)],
+        differs: &[
+            (Look(1), RESTS),
+            (Look(2), Refused(NoCall)),
+            (Open(2, TARGET), Done),
+        ],
     },
     Row {
         name: "a reference is refused for the one of an attempt that comes",
@@ -217,8 +274,12 @@ const ROWS: &[Row] = &[
         held: Some(3),
         whole: &[Done, Refused(RefBusy(0, 5))],
         without: &[Done, Done],
-        same: false,
-        looks: &[(Look(9), COMES_WITH_FIVE)],
+        looks: &[(Look(8), Refused(NoCall)), (Look(9), COMES_WITH_FIVE)],
+        differs: &[
+            (Look(8), Refused(NoCall)),
+            (Look(9), COMES),
+            (Reserve(9, 5), Done),
+        ],
     },
     Row {
         name: "a call begins while another is to leave",
@@ -230,8 +291,8 @@ const ROWS: &[Row] = &[
         held: None,
         whole: &[Done],
         without: &[Done],
-        same: true,
         looks: &[(Look(1), RESTS), (Look(2), WAITS_ON_OTHER)],
+        differs: &[],
     },
     Row {
         name: "a refusal for the channel of another call is not held",
@@ -247,8 +308,8 @@ const ROWS: &[Row] = &[
         held: None,
         whole: &[Refused(ChannelBusy(HOME))],
         without: &[Refused(ChannelBusy(HOME))],
-        same: true,
         looks: &[(Look(1), RESTS)],
+        differs: &[],
     },
     Row {
         name: "a reference is not held after the undo",
@@ -268,8 +329,8 @@ const ROWS: &[Row] = &[
         held: None,
         whole: &[Done, Done, Done, Refused(RefBusy(0, 5))],
         without: &[Done, Done, Done, Refused(RefBusy(0, 5))],
-        same: true,
         looks: &[],
+        differs: &[],
     },
     Row {
         name: "steps of the call itself stay while the release is awaited",
@@ -289,8 +350,8 @@ const ROWS: &[Row] = &[
         held: None,
         whole: &[RESTS, Done],
         without: &[RESTS, Done],
-        same: true,
         looks: &[],
+        differs: &[],
     },
     Row {
         name: "what a station says of the target stays where no release is awaited",
@@ -307,8 +368,8 @@ const ROWS: &[Row] = &[
         held: None,
         whole: &[Done, Owned(2)],
         without: &[Done, Owned(2)],
-        same: true,
         looks: &[(Look(1), RESTS)],
+        differs: &[],
     },
     Row {
         name: "an attempt is taken back by a timer, and its call opens in the list",
@@ -326,8 +387,34 @@ const ROWS: &[Row] = &[
         held: None,
         whole: &[Done, Owned(1)],
         without: &[Done, Owned(1)],
-        same: true,
         looks: &[(Look(1), RESTS)],
+        differs: &[],
+    },
+    Row {
+        name: "an attempt is taken back after another that was completed",
+        before: STEADY,
+        events: COMPLETED_AND_UNDONE,
+        at: 6,
+        others: &[0, 1, 2, 3, 4, 5],
+        settled: true,
+        held: None,
+        whole: &[Done, Done, Done, Owned(1), Done, Done],
+        without: &[Done, Done, Done, Owned(1), Done, Done],
+        looks: &[(Look(1), MOVED)],
+        differs: &[],
+    },
+    Row {
+        name: "a call is to leave again, once it has left and begun anew",
+        before: STEADY,
+        events: LEFT_AND_UNDONE,
+        at: 6,
+        others: &[0, 1, 2, 3, 4, 5],
+        settled: true,
+        held: None,
+        whole: &[Done, Done, Done, Done, Done, Owned(1)],
+        without: &[Done, Done, Done, Done, Done, Owned(1)],
+        looks: &[(Look(1), RESTS)],
+        differs: &[],
     },
 ];
 
@@ -363,6 +450,15 @@ const MISSING: &[Missing] = &[
     Missing {
         events: COMPLETED,
         at: 99,
+    },
+    // It was completed, or the call left, before a later one was undone.
+    Missing {
+        events: COMPLETED_AND_UNDONE,
+        at: 0,
+    },
+    Missing {
+        events: LEFT_AND_UNDONE,
+        at: 0,
     },
     // No attempt opens with a call, nor with a refused Take, nor with an Undo.
     Missing {
@@ -412,13 +508,29 @@ fn all_stand(rt: &impl Abort, replies: &[Reply], places: &[usize], wanted: &[Rep
 fn looks_so<A: Allocator + Copy>(
     rt: &impl Abort,
     book: &mut Book<A>,
-    row: &Row,
+    looks: &[(Event, Reply)],
+    name: &str,
 ) -> Result<(), AllocError> {
-    for (event, reply) in row.looks {
+    for (event, reply) in looks {
         let got = book.step(*event)?;
-        assert!(rt; got == *reply, "{}: {event:?}", row.name);
+        assert!(rt; got == *reply, "{name}: {event:?}");
     }
     Ok(())
+}
+
+fn both_look_so<A: Allocator + Copy>(
+    rt: &impl Abort,
+    without: &mut Book<A>,
+    whole: &mut Book<A>,
+    row: &Row,
+) -> Result<(), AllocError> {
+    looks_so(rt, without, row.looks, row.name)?;
+    let looks = if row.differs.is_empty() {
+        row.looks
+    } else {
+        row.differs
+    };
+    looks_so(rt, whole, looks, row.name)
 }
 
 fn is_as_worked_out<A: Allocator + Copy>(
@@ -427,15 +539,17 @@ fn is_as_worked_out<A: Allocator + Copy>(
     row: &Row,
 ) -> Result<(), AllocError> {
     let name = row.name;
+    let same = row.differs.is_empty();
     assert!(rt; rewound.others.as_slice() == row.others, "{name}");
     assert!(rt; rewound.settled == row.settled, "{name}");
     assert!(rt; rewound.held == row.held, "{name}");
-    assert!(rt; (rewound.whole == rewound.without) == row.same, "{name}");
+    assert!(rt; (rewound.whole == rewound.without) == same, "{name}");
     assert!(rt; rewound.whole_replies.len() == row.events.len(), "{name}");
     assert!(rt; rewound.without_replies.as_slice() == row.without, "{name}");
     all_stand(rt, &rewound.whole_replies, row.others, row.whole, name);
     let mut without = rewound.without;
-    looks_so(rt, &mut without, row)
+    let mut whole = rewound.whole;
+    both_look_so(rt, &mut without, &mut whole, row)
 }
 
 fn rewinds(rt: &(impl AllocGlobal + Abort), row: &Row) -> Result<(), Fail> {

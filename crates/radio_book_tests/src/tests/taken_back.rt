@@ -2,8 +2,8 @@
 use super::Answer::Says;
 use super::Ask::Step;
 use super::{
-    ACTIVATE, Answer, Ask, CONFIRM, DONE, HOME, RESERVE, RESTING, Row, STEADY, TARGET,
-    THREE_CHANNELS, book_of, moving, outgoing, play,
+    ACTIVATE, Answer, Ask, CONFIRM, DONE, RESERVE, RESTING, Row, STEADY, TARGET, THREE_CHANNELS,
+    book_of, moving, outgoing, play,
 };
 use channel_fsm::ChanState;
 use radio_book::book::{Book, Usage};

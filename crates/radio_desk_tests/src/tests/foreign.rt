@@ -4,7 +4,7 @@ use super::{
     JudgeReserve, JudgeTake, Kind, Left, Look, OTHER, Open, Order, Owner, Refuse, Released,
     Require, Reserve, Seat, TARGET, Take, Timer, Undo, Why, desk_of, put,
 };
-use std::alloc::{AllocError, Global};
+use std::alloc::Global;
 use std::process::Abort;
 use std::test::Fail;
 
