@@ -3,3 +3,4 @@ pub mod Values
 pub mod Messages
 pub mod Heads
 pub mod Texts
+pub mod Target

@@ -18,7 +18,7 @@ mod writing;
 pub use cells::CellList;
 pub use fault::BssmapFault;
 pub use laws::{canonical_is_text, reading_is_unique};
-pub use message::{Bssmap, CellId, Classmark};
+pub use message::{Bssmap, CellId, Classmark, target_of};
 pub use octet_elements::Octets;
 pub use reading::decode;
 pub use writing::{encode, encode_into, fits};

@@ -1,4 +1,8 @@
 //! The messages.
+ghost use Rattle.std.specs.Prelude.{◌≡◌};
+ghost use Rattle.std.specs.Option.{option_map};
+ghost use Rattle.bssmap_messages.specs.Target.{target_of};
+
 use crate::cells::CellList;
 use octet_elements::Octets;
 use std::alloc::{Allocator, Global};
@@ -86,4 +90,24 @@ pub enum Bssmap<A: Allocator = Global> {
     ClearRequest {
         cause: u8,
     },
+}
+
+/// The cell that a HANDOVER REQUEST is for; `None` for every other message. It takes no memory.
+pub fn target_of<A: Allocator>(message: &Bssmap<A>) -> Option<&CellId>
+    ensures target { option_map (λ cell. cell.now) result ≡ target_of message.now }
+{
+    match message {
+        Bssmap::HandoverRequest { target, .. } => Some(target),
+        Bssmap::HandoverRequired { .. }
+        | Bssmap::HandoverRequestAck { .. }
+        | Bssmap::HandoverCommand { .. }
+        | Bssmap::HandoverComplete { .. }
+        | Bssmap::HandoverFailure { .. }
+        | Bssmap::HandoverPerformed { .. }
+        | Bssmap::HandoverRequiredReject { .. }
+        | Bssmap::HandoverDetect
+        | Bssmap::ClearCommand { .. }
+        | Bssmap::ClearComplete
+        | Bssmap::ClearRequest { .. } => None,
+    }
 }

@@ -1,6 +1,6 @@
 use bssmap_messages::{
     Bssmap, BssmapFault, CellId, CellList, Classmark, Octets, canonical_is_text, decode, encode,
-    encode_into, fits, reading_is_unique,
+    encode_into, fits, reading_is_unique, target_of,
 };
 use refusing_heap::RefusingHeap;
 use std::alloc::Global;
@@ -299,6 +299,41 @@ fn is_read_as(
 fn reads_each_message(rt: HostRuntime) -> Result<(), Fail> {
     for (text, expected) in READINGS {
         is_read_as(&rt, *text, *expected)?;
+    }
+    Ok(())
+}
+
+/// Each message, and the cell that it is for.
+const TARGETS: &[(&[u8], Option<CellId>)] = &[
+    (REQUEST, Some(CELL_101)),
+    (REQUEST_2, Some(CELL_101)),
+    (REQUIRED, None),
+    (REQUEST_ACK, None),
+    (COMMAND, None),
+    (COMPLETE, None),
+    (FAILURE, None),
+    (PERFORMED, None),
+    (REQUIRED_REJECT, None),
+    (DETECT, None),
+    (CLEAR_COMMAND, None),
+    (CLEAR_COMPLETE, None),
+    (CLEAR_REQUEST, None),
+];
+
+fn has_target(
+    rt: &(impl AllocGlobal + Abort),
+    text: &[u8],
+    target: Option<CellId>,
+) -> Result<(), Fail> {
+    let message = decode(rt.alloc(), text)?;
+    assert!(rt; target_of(&message).copied() == target, "{text:?}");
+    Ok(())
+}
+
+#[test]
+fn a_request_alone_is_for_a_cell(rt: HostRuntime) -> Result<(), Fail> {
+    for (text, target) in TARGETS {
+        has_target(&rt, *text, *target)?;
     }
     Ok(())
 }

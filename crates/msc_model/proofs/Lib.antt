@@ -1,0 +1,2 @@
+mod LayerThree
+mod Written
