@@ -6,8 +6,8 @@ use Rattle.rr_messages.specs.declared.fault.RrFault.{RrFault}
 use Rattle.rr_messages.specs.declared.fault.RrFault.TheVariants as rr
 use Rattle.bssmap_messages.specs.declared.fault.BssmapFault.{BssmapFault}
 use Rattle.bssmap_messages.specs.declared.fault.BssmapFault.TheVariants as bssmap
-use Rattle.ho_procedure.specs.declared.exchange.PlainFault.{PlainFault}
-use Rattle.ho_procedure.specs.declared.exchange.PlainFault.TheVariants as plain
+use Rattle.plain_procedure.specs.declared.exchange.PlainFault.{PlainFault}
+use Rattle.plain_procedure.specs.declared.exchange.PlainFault.TheVariants as plain
 use Rattle.cell_table.specs.declared.fault.SiteFault.{SiteFault}
 use Rattle.cell_table.specs.declared.fault.SiteFault.TheVariants as site
 use Rattle.bench_cases.specs.declared.fault.Fault.{Fault}

@@ -4,7 +4,7 @@ ghost use Rattle.bench_cases.specs.Statuses.{status_of};
 
 use bssmap_messages::BssmapFault;
 use cell_table::SiteFault;
-use ho_procedure::exchange::PlainFault;
+use plain_procedure::exchange::PlainFault;
 use rr_messages::RrFault;
 use rsl_messages::RslFault;
 use std::alloc::AllocError;

@@ -12,6 +12,6 @@ pub mod run;
 mod site_reason;
 pub mod words;
 
-pub use ho_procedure::{exchange, procedure};
 pub use lab_script::script;
+pub use plain_procedure::{exchange, procedure};
 pub use trace_text::{bad, trace};

@@ -5,9 +5,9 @@ ghost use Rattle.lab_script.specs.Script.{first_unread};
 ghost use Rattle.lab.specs.Statuses.{status_of, status_after, exit_status_of};
 
 use cell_table::{Site, SiteFault};
-use ho_procedure::exchange::{Inbound, PlainFault};
-use ho_procedure::procedure::handle_plain;
 use lab_script::script::{ScriptFault, read_script};
+use plain_procedure::exchange::{Inbound, PlainFault};
+use plain_procedure::procedure::handle_plain;
 use radio_book::book::Book;
 use std::alloc::{AllocError, Allocator, Global};
 use std::io::{self, Write};

@@ -8,10 +8,10 @@ use Rattle.std.specs.Str.Parse.{digits_value}
 use Rattle.std.specs.Str.Lines.{strip_carriage_return}
 use Rattle.hex.specs.Hex.{decode_of}
 use Rattle.channel_fsm.specs.declared.ChanId.{ChanId}
-use Rattle.ho_procedure.specs.declared.exchange.Line.{Line}
-use Rattle.ho_procedure.specs.declared.exchange.Line.TheVariants.{Open, Handover, Undo, Clear}
-use Rattle.ho_procedure.specs.declared.exchange.Inbound.{Inbound}
-use Rattle.ho_procedure.specs.declared.exchange.Inbound.TheVariants.{Abis, Operator}
+use Rattle.plain_procedure.specs.declared.exchange.Line.{Line}
+use Rattle.plain_procedure.specs.declared.exchange.Line.TheVariants.{Open, Handover, Undo, Clear}
+use Rattle.plain_procedure.specs.declared.exchange.Inbound.{Inbound}
+use Rattle.plain_procedure.specs.declared.exchange.Inbound.TheVariants.{Abis, Operator}
 
 -- the words of a text: one blank stands between any two
 abbrev pub words_of : List ℕ → List (List ℕ)

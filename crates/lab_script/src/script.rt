@@ -9,7 +9,7 @@ ghost use Rattle.std.specs.Str.Lines.{strip_carriage_return};
 ghost use Rattle.lab_script.specs.Script as said;
 
 use channel_fsm::ChanId;
-use ho_procedure::exchange::{Inbound, Line};
+use plain_procedure::exchange::{Inbound, Line};
 use rsl_messages::Octets;
 use std::alloc::{AllocError, Allocator};
 use thiserror::Error;

@@ -1,6 +1,6 @@
 use channel_fsm::ChanId;
-use ho_procedure::exchange::{Inbound, Line};
 use lab_script::script::{ScriptFault, first_unread, is_octets, read_script};
+use plain_procedure::exchange::{Inbound, Line};
 use refusing_heap::RefusingHeap;
 use std::alloc::Global;
 use std::process::Abort;

@@ -5,7 +5,7 @@ use crate::bad::Bad;
 use crate::text::{HexText, OrDash};
 use channel_fsm::ChanState;
 use event_text::writing::EventText;
-use ho_procedure::exchange::{Handled, Inbound, Line, Outbound};
+use plain_procedure::exchange::{Handled, Inbound, Line, Outbound};
 use radio_book::book::Usage;
 use radio_book::event::{Attempt, AttemptKind, CallRecord, Event, Refusal, Reply, Stage};
 use std::alloc::Allocator;

@@ -1,7 +1,7 @@
 //! Printed texts, which no clause says.
 use bssmap_messages::BssmapFault;
 use channel_fsm::{ChanId, ChanState};
-use ho_procedure::exchange::{Handled, Inbound, Line};
+use plain_procedure::exchange::{Handled, Inbound, Line};
 use radio_book::book::Usage;
 use radio_book::event::{
     Attempt, AttemptKind, CallRecord, Event, Kind, Refusal, Reply, Stage, Timer, Why,
