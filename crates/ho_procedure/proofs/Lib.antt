@@ -1,0 +1,10 @@
+mod WindowFacts
+mod MessageFacts
+pub mod Going
+pub mod Reporting
+pub mod Ranking
+pub mod Seated
+pub mod Handled
+pub mod Asking
+pub mod Nameable
+pub mod Trying

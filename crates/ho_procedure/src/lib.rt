@@ -1,0 +1,20 @@
+//! The procedure of a base station controller: what goes into a controller and comes out of it, and what it asks of
+//! its book and sends for each input.
+#![tactic(auto)]
+
+mod buffers;
+mod commands;
+pub mod controller;
+mod decoding;
+pub mod exchange;
+mod following;
+pub mod naming;
+mod outbox;
+mod records;
+mod rows;
+mod sending;
+pub mod solo;
+mod texts;
+pub mod view;
+mod windows;
+mod work;
