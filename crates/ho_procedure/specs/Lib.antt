@@ -1,3 +1,1 @@
-pub mod Plan
-pub mod Procedure
-pub mod Handling
+pub mod Choices

@@ -3,4 +3,5 @@
 #![tactic(auto)]
 
 pub mod exchange;
-pub mod procedure;
+pub mod solo;
+pub mod view;
