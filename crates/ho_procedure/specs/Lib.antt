@@ -1,3 +1,3 @@
-pub mod Plan
-pub mod Procedure
-pub mod Handling
+pub mod Sent
+pub mod Messages
+pub mod Owed

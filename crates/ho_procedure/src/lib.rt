@@ -2,5 +2,7 @@
 //! its book and sends for each input.
 #![tactic(auto)]
 
+mod buffers;
 pub mod exchange;
-pub mod procedure;
+mod outbox;
+mod texts;
