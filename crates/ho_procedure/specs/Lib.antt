@@ -1,1 +1,4 @@
 pub mod Choices
+pub mod Sent
+pub mod Messages
+pub mod Owed

@@ -2,6 +2,9 @@
 //! its book and sends for each input.
 #![tactic(auto)]
 
+mod buffers;
 pub mod exchange;
+mod outbox;
 pub mod solo;
+mod texts;
 pub mod view;
