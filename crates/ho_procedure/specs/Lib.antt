@@ -1,3 +1,4 @@
-pub mod Plan
-pub mod Procedure
-pub mod Handling
+pub mod Choices
+pub mod Sent
+pub mod Messages
+pub mod Owed

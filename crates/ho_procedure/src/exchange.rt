@@ -1,11 +1,11 @@
 //! What goes into a controller, and what comes out of it.
-ghost use Rattle.std.specs.Prelude.{◌≡◌};
-ghost use Rattle.ho_procedure.specs.Handling.{IsFresh};
-
+use attempt_journal::Timer;
+use bssmap_messages::BssmapFault;
 use channel_fsm::ChanId;
-use radio_book::event::{Event, Reply};
-use rsl_messages::{Octets, RslFault};
-use std::alloc::{AllocError, Allocator, Global};
+use octet_elements::Octets;
+use rr_messages::RrFault;
+use rsl_messages::RslFault;
+use std::alloc::{Allocator, Global};
 use thiserror::Error;
 
 /// What an operator asks for. A call is named by its number, 0 to 65535.
@@ -21,11 +21,15 @@ pub enum Line {
     Clear { call: u16 },
 }
 
-/// What a controller is given.
+/// What a controller is given. A call is named by its number, 0 to 65535.
 #[derive(Drop)]
 pub enum Inbound<A: Allocator = Global> {
     /// A message on Abis from a TRX of a cell (TS 48.058).
     Abis { cell: u8, trx: u8, bytes: Octets<A> },
+    /// A message on A about a call (TS 48.008).
+    A { call: u16, bytes: Octets<A> },
+    /// A timer that guards a call's handover ran out.
+    Expiry { call: u16, timer: Timer },
     /// What an operator asks for.
     Operator(Line),
 }
@@ -35,49 +39,42 @@ pub enum Inbound<A: Allocator = Global> {
 pub enum Outbound<A: Allocator = Global> {
     /// A message on Abis to a TRX of a cell (TS 48.058).
     Abis { cell: u8, trx: u8, bytes: Octets<A> },
+    /// A message on A about a call (TS 48.008).
+    A { call: u16, bytes: Octets<A> },
 }
 
-/// What the handling of one input came to.
-#[derive(Drop)]
-pub struct Handled<A: Allocator = Global> {
-    /// The events that were asked of the book, each with its reply.
-    pub events: Vec<(Event, Reply), A>,
-    /// The cell in which a handover found no free channel.
-    pub none_free: Option<u8>,
-    /// The messages that are sent.
-    pub out: Vec<Outbound<A>, A>,
+/// Which text can't be read.
+#[derive(Clone, Copy, Debug, PartialEq, Eq)]
+pub enum Link {
+    /// A message on Abis (TS 48.058).
+    Abis,
+    /// A message on A (TS 48.008).
+    A,
+    /// The radio resource message (TS 44.018) inside a message on Abis.
+    Rr,
 }
 
-impl<A: Allocator + Copy> Handled<A> {
-    /// Nothing was asked and nothing is sent.
-    pub fn new(alloc: A) -> Handled<A>
-        ensures fresh { IsFresh result }
-    {
-        Handled {
-            events: Vec::new(alloc),
-            none_free: None,
-            out: Vec::new(alloc),
-        }
-    }
+/// Why a text can't be read.
+#[derive(Clone, Copy, Debug, PartialEq, Eq, Error)]
+pub enum Bad {
+    /// It is no message on Abis.
+    #[error("{0}")]
+    Rsl(RslFault),
+    /// It is no message on A.
+    #[error("{0}")]
+    Bssmap(BssmapFault),
+    /// It is no radio resource message.
+    #[error("{0}")]
+    Rr(RrFault),
 }
 
 /// Why an input was not handled to its end.
-#[derive(Clone, Copy, Debug, PartialEq, Eq, Error)]
-pub enum PlainFault {
-    /// The octets are no message. The book is as it was.
-    #[error("the octets are no message: {0}")]
-    Undecoded(RslFault),
-    /// Memory was refused. The book was asked some first events of the row, or none, and is where they lead.
-    #[error("memory was refused")]
-    NoMemory,
-}
-
-impl From<AllocError> for PlainFault {
-    ghost use Rattle.ho_procedure.specs.declared.exchange.PlainFault.TheVariants.{NoMemory};
-
-    ghost from_gives = { λ _ fault. fault ≡ NoMemory };
-
-    fn from(_: AllocError) -> PlainFault {
-        PlainFault::NoMemory
-    }
+#[derive(Drop)]
+pub enum Fault<A: Allocator = Global> {
+    /// A text can't be read. Nothing was asked of the view, and nothing is sent.
+    Undecoded(Link, Bad),
+    /// Memory was refused. What was asked so far stands, and the caller sends these messages, which it owes.
+    NoMemory(Vec<Outbound<A>, A>),
+    /// The view's desk isn't the one that gave the receipt of this place. The same of the messages.
+    Desk(usize, Vec<Outbound<A>, A>),
 }

@@ -2,5 +2,9 @@
 //! its book and sends for each input.
 #![tactic(auto)]
 
+mod buffers;
 pub mod exchange;
-pub mod procedure;
+mod outbox;
+pub mod solo;
+mod texts;
+pub mod view;

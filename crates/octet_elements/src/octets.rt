@@ -36,6 +36,15 @@ impl<A: Allocator + Copy> Octets<A> {
 }
 
 impl<A: Allocator> Octets<A> {
+    /// The list of these octets, which are moved: no memory is asked for.
+    pub fn from_vec(octets: Vec<u8, A>) -> Self
+        ensures octets { result ≡ octets.items }
+    {
+        Octets { items: octets }
+    }
+}
+
+impl<A: Allocator> Octets<A> {
     /// Its octets.
     pub fn as_slice(&self) -> &[u8]
         ensures octets { result.now ≡ self.now }

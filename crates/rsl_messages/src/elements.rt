@@ -150,7 +150,7 @@ fn read_data_indication<A: Allocator + Copy>(alloc: A, found: &Found<'_, Abis>) 
 }
 
 /// Appends the elements of a DATA message.
-fn append_data<A: Allocator>(out: &mut Vec<u8, A>, channel: ChanBits, link: u8, layer3: &[u8])
+pub fn append_data<A: Allocator>(out: &mut Vec<u8, A>, channel: ChanBits, link: u8, layer3: &[u8])
     requires channel { channel.tn < 8 }
     requires layer3 { length layer3.now ≤ limit }
     requires room { HasRoom (all_octets abis (data_rows.written (channel, (link, layer3.now)))) out.old }
@@ -180,7 +180,7 @@ fn read_activation<A: Allocator + Copy>(alloc: A, found: &Found<'_, Abis>) -> Re
 }
 
 /// Appends the elements of a CHANNEL ACTIVATION.
-fn append_activation<A: Allocator>(
+pub fn append_activation<A: Allocator>(
     out: &mut Vec<u8, A>,
     channel: ChanBits,
     activation: u8,

@@ -18,4 +18,4 @@ pub use laws::{canonical_is_text, reading_is_unique};
 pub use message::{ChanBits, Rsl};
 pub use octet_elements::Octets;
 pub use reading::decode;
-pub use writing::{encode, encode_into, fits};
+pub use writing::{encode, encode_activation_into, encode_data_request_into, encode_into, fits};

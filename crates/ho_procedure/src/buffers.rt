@@ -1,0 +1,63 @@
+//! Buffers in which messages are written.
+ghost use Rattle.std.specs.Prelude.{◌≡◌, ◌+◌, ◌≤◌, ◌<◌, All, OnOk};
+ghost use Rattle.ho_procedure.specs.Owed.{IsSpare, longest};
+
+use std::alloc::{AllocError, Allocator, Global};
+use std::marker::Model;
+
+/// How many octets the longest message has that isn't passed on unread.
+const LONGEST: usize = 27;
+
+/// Buffers that have no octet yet, each with room for any message of the procedure that isn't passed on unread. Contracts
+/// see how many they are.
+#[derive(Drop)]
+pub(crate) struct Buffers<A: Allocator = Global> {
+    spare: Vec<Vec<u8, A>, A>,
+    alloc: A,
+}
+
+impl<A: Allocator> Model for Buffers<A> {
+    ghost use Rattle.std.specs.Prelude.{ℕ, All, vec_len};
+    ghost use Rattle.ho_procedure.specs.Owed.{IsSpare};
+
+    ghost Value = { ℕ };
+
+    ghost view = { λ buffers. vec_len buffers.spare };
+
+    ghost invariant = { λ buffers. All IsSpare buffers.spare.items };
+}
+
+impl<A: Allocator + Copy> Buffers<A> {
+    pub(crate) fn new(alloc: A) -> Buffers<A>
+        ensures { result ≡ 0 }
+    {
+        Buffers {
+            spare: Vec::new(alloc),
+            alloc,
+        }
+    }
+
+    /// Makes so many buffers, if there are fewer.
+    pub(crate) fn make(&mut self, count: usize) -> Result<(), AllocError>
+        ensures ok { OnOk result (count ≤ self.new) }
+        ensures kept { self.old ≤ self.new }
+    {
+        for _ in self.spare.len()..count {
+            let buffer = Vec::with_capacity(self.alloc, LONGEST)?;
+            self.spare.push(buffer)?;
+        }
+        Ok(())
+    }
+
+    /// A buffer.
+    pub(crate) fn take(&mut self) -> Vec<u8, A>
+        requires { 0 < self.old }
+        ensures spare { IsSpare result }
+        ensures count { self.new + 1 ≡ self.old }
+    {
+        match self.spare.pop() {
+            Some(buffer) => buffer,
+            None => unreachable!(),
+        }
+    }
+}
