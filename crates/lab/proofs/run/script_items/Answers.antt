@@ -2,7 +2,7 @@ use Rattle.std.proofs.Common.{◌≡◌, ◌↔◌, ℕ, Option, Some, None, Res
 use Rattle.lab_script.specs.Script.{first_unread}
 use Rattle.lab_script.specs.declared.script.ScriptFault.{ScriptFault}
 use Rattle.lab_script.specs.declared.script.ScriptFault.TheVariants.{Line, NoMemory}
-use Rattle.lab.proofs.run.script_inputs.Goals as goal
+use Rattle.lab.proofs.run.script_items.Goals as goal
 
 -- where memory was refused, every line could be read
 all_read : {X : Type 0} (unread : Option ℕ) (answer : Result X ScriptFault) → ((n : ℕ) → (answer ≡ Err (Line n)) ↔ (unread ≡ Some n)) → answer ≡ Err NoMemory → unread ≡ None
