@@ -3,4 +3,5 @@ pub mod Entries
 pub mod Files
 pub mod Rewound
 pub mod Statuses
+pub mod Turns
 pub use Rattle.lab_script.specs.Script

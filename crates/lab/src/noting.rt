@@ -1,38 +1,50 @@
-//! A view of a desk that notes what it was asked, for a trace.
-use cell_table::Site;
+//! A view of a desk that notes where it found no free channel, for a trace.
+ghost use Rattle.std.specs.Prelude.{◌≡◌, ◌∷◌, ◌++◌, [], ℕ, List, Err, IfOk, OnErr, MatchOption};
+
 use ho_procedure::solo::Solo;
 use ho_procedure::view::DeskView;
 use radio_book::event::{Event, Kind};
 use radio_desk::desk::{Desk, DeskFault};
 use radio_desk::seat::Receipt;
 use std::alloc::{Allocator, Global};
-use trace_text::trace::Step;
 
-/// A desk of one's own, and the steps that were asked of it, in their order: each event with its reply, and each cell
-/// without a free channel.
+/// A channel of a cell was asked for, and none was free.
+#[derive(Clone, Copy, Debug, PartialEq, Eq)]
+pub(crate) struct NoneFree {
+    /// How many events had been asked before.
+    pub(crate) place: usize,
+    pub(crate) cell: u8,
+}
+
+/// A desk of one's own, which keeps the events that were asked, and each cell that was found without a free channel, in
+/// their order.
 #[derive(Drop)]
 pub(crate) struct Noting<A: Allocator = Global> {
     solo: Solo<A>,
-    steps: Vec<Step, A>,
+    none_free: Vec<NoneFree, A>,
 }
 
 impl<A: Allocator + Copy> Noting<A> {
-    /// A desk at which nothing was asked yet.
-    pub(crate) fn new(alloc: A, desk: Desk<A>) -> Noting<A> {
+    /// A desk; nothing is noted yet.
+    pub(crate) fn new(alloc: A, desk: Desk<A>) -> Noting<A>
+        ensures { result.solo ≡ desk }
+    {
         Noting {
             solo: Solo::new(desk),
-            steps: Vec::new(alloc),
+            none_free: Vec::new(alloc),
         }
     }
 
     /// The desk.
-    pub(crate) fn desk(&self) -> &Desk<A> {
+    pub(crate) fn desk(&self) -> &Desk<A>
+        ensures { result.now ≡ self.now.solo }
+    {
         self.solo.desk()
     }
 
-    /// What was asked, in its order.
-    pub(crate) fn steps(&self) -> &[Step] {
-        self.steps.as_slice()
+    /// The cells that were found without a free channel.
+    pub(crate) fn none_free(&self) -> &[NoneFree] {
+        self.none_free.as_slice()
     }
 }
 
@@ -46,38 +58,22 @@ impl<A: Allocator + Copy> DeskView for Noting<A> {
     ghost may_be_foreign = { λ noting. ⊥ };
 
     fn judge(&mut self, event: Event) -> Result<Receipt, DeskFault> {
-        self.steps.reserve(1)?;
-        let receipt = self.solo.judge(event)?;
-        self.steps
-            .push_reserved(Step::Asked(receipt.event, receipt.reply));
-        Ok(receipt)
+        self.solo.judge(event)
     }
 
-    fn judge_take(
-        &mut self,
-        call: u16,
-        kind: Kind,
-        cell: u8,
-    ) -> Result<Option<Receipt>, DeskFault> {
-        self.steps.reserve(1)?;
+    fn judge_take(&mut self, call: u16, kind: Kind, cell: u8) -> Result<Option<Receipt>, DeskFault> {
+        self.none_free.reserve(1)?;
         match self.solo.judge_take(call, kind, cell)? {
-            Some(receipt) => {
-                self.steps
-                    .push_reserved(Step::Asked(receipt.event, receipt.reply));
-                Ok(Some(receipt))
-            }
+            Some(receipt) => Ok(Some(receipt)),
             None => {
-                self.steps.push_reserved(Step::NoneFree(cell));
+                let place = self.solo.desk().len();
+                self.none_free.push_reserved(NoneFree { place, cell });
                 Ok(None)
             }
         }
     }
 
     fn judge_reserve(&mut self, call: u16) -> Result<Receipt, DeskFault> {
-        self.steps.reserve(1)?;
-        let receipt = self.solo.judge_reserve(call)?;
-        self.steps
-            .push_reserved(Step::Asked(receipt.event, receipt.reply));
-        Ok(receipt)
+        self.solo.judge_reserve(call)
     }
 }

@@ -1,8 +1,12 @@
 //! One input, and what came of it.
-use crate::noting::Noting;
-use crate::run::LabFault;
+ghost use Rattle.std.specs.Prelude.{◌≡◌, ◌++◌, ◌∷◌, [], drop, IfOk, OnOk, option_map, slice_get};
+ghost use Rattle.lab.specs.Turns.{asked_in};
+
+use crate::noting::{NoneFree, Noting};
 use ho_procedure::controller::Controller;
 use ho_procedure::exchange::{Bad, Fault, Inbound, Outbound};
+use radio_book::event::{Event, Reply};
+use radio_desk::desk::Desk;
 use rsl_messages::Octets;
 use std::alloc::{AllocError, Allocator, Global};
 use std::io::{self, Write};
@@ -36,7 +40,9 @@ pub(crate) struct Turn<A: Allocator = Global> {
 }
 
 /// The same input once more.
-fn copy_of<A: Allocator + Copy>(alloc: A, input: &Inbound<A>) -> Result<Inbound<A>, AllocError> {
+fn copy_of<A: Allocator + Copy>(alloc: A, input: &Inbound<A>) -> Result<Inbound<A>, AllocError>
+    ensures { IfOk result (λ copy. copy ≡ input.now) }
+{
     match input {
         Inbound::Abis { cell, trx, bytes } => Ok(Inbound::Abis {
             cell: *cell,
@@ -55,13 +61,52 @@ fn copy_of<A: Allocator + Copy>(alloc: A, input: &Inbound<A>) -> Result<Inbound<
     }
 }
 
-/// The steps from a place on.
+/// Appends the cells without a free channel that were found when so many events had been asked.
+fn push_none_free<A: Allocator + Copy>(
+    steps: &mut Vec<Step, A>,
+    found: &[NoneFree],
+    place: usize,
+) -> Result<(), AllocError>
+    ensures { OnOk result (asked_in steps.new.items ≡ asked_in steps.old.items) }
+{
+    for none in found {
+        if none.place == place {
+            steps.push(Step::NoneFree(none.cell))?;
+        }
+    }
+    Ok(())
+}
+
+/// Appends an event with its reply.
+fn push_asked<A: Allocator + Copy>(
+    steps: &mut Vec<Step, A>,
+    event: Event,
+    reply: Reply,
+) -> Result<(), AllocError>
+    ensures { OnOk result (asked_in steps.new.items ≡
+        asked_in steps.old.items ++ (event, reply) ∷ []) }
+{
+    steps.push(Step::Asked(event, reply))
+}
+
+/// What was asked of a desk from its `first` event on, with the cells without a free channel that were found there.
 fn steps_from<A: Allocator + Copy>(
     alloc: A,
-    steps: &[Step],
+    desk: &Desk<A>,
+    found: &[NoneFree],
     first: usize,
-) -> Result<Vec<Step, A>, AllocError> {
-    steps[first..].to_vec(alloc)
+) -> Result<Vec<Step, A>, AllocError>
+    ensures { IfOk result (λ steps. asked_in steps.items ≡ drop first desk.now.history) }
+{
+    let mut steps = Vec::new(alloc);
+    for place in first..desk.len() {
+        push_none_free(&mut steps, found, place)?;
+        if let Some((event, reply)) = desk.entry(place) {
+            push_asked(&mut steps, *event, *reply)?;
+        }
+    }
+    push_none_free(&mut steps, found, desk.len())?;
+    Ok(steps)
 }
 
 /// Handles an input.
@@ -85,10 +130,13 @@ pub(crate) fn turn<A: Allocator + Copy>(
     source: Source,
     input: Inbound<A>,
 ) -> Result<Turn<A>, AllocError> {
-    let first = controller.view().steps().len();
+    let first = controller.view().desk().len();
+    let found = controller.view().none_free().len();
     let given = copy_of(alloc, &input)?;
     let answer = answer(controller, given)?;
-    let steps = steps_from(alloc, controller.view().steps(), first)?;
+    let view = controller.view();
+    let found = view.none_free().get(found..).unwrap_or(&[]);
+    let steps = steps_from(alloc, view.desk(), found, first)?;
     Ok(Turn {
         source,
         input,
