@@ -3,8 +3,16 @@
 #![tactic(auto)]
 
 mod buffers;
+mod command;
+pub mod controller;
+mod decoding;
 pub mod exchange;
 mod outbox;
+mod records;
+mod rows;
+mod sending;
 pub mod solo;
 mod texts;
 pub mod view;
+mod windows;
+mod work;
