@@ -3,6 +3,10 @@
 #![tactic(auto)]
 
 mod buffers;
+mod commands;
+mod decoding;
 pub mod exchange;
+pub mod naming;
 mod outbox;
 mod texts;
+mod windows;
