@@ -3,10 +3,11 @@
 #![tactic(auto)]
 
 mod buffers;
-mod command;
+mod commands;
 pub mod controller;
 mod decoding;
 pub mod exchange;
+pub mod naming;
 mod outbox;
 mod records;
 mod rows;
