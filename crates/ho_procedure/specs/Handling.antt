@@ -21,7 +21,8 @@ use Rattle.ho_procedure.specs.Sent.{Sent, all_sent}
 use Rattle.ho_procedure.specs.Windows.{Kept}
 use Rattle.ho_procedure.specs.Going.{last_reports}
 use Rattle.ho_procedure.specs.Plan.{Plan, Step, Until, At, Asking, Ends, LeadsUntil, ChoicesAt, entries_of, messages_of, reports_after}
-use Rattle.ho_procedure.specs.Procedure.{line_plan, expiry_plan, abis_plan, a_plan, chan_of}
+use Rattle.ho_procedure.specs.Naming.{chan_of}
+use Rattle.ho_procedure.specs.Procedure.{line_plan, expiry_plan, abis_plan, a_plan}
 
 -- The row of an input: of the message that its octets are a text of, of the timer that ran out, or of the operator's line.
 abbrev pub IsRow : {A : Type 0} → SiteView → (ℕ → List Results) → Inbound A → Plan → Type 0

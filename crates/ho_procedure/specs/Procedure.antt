@@ -30,7 +30,6 @@ use Rattle.rr_messages.specs.declared.message.Rr.{Rr}
 use Rattle.rr_messages.specs.declared.message.Rr.TheVariants as rr
 use Rattle.measurements.specs.Reports.{is_valid, last_valid}
 use Rattle.ho_candidates.specs.declared.listed.Candidate.{Candidate}
-use Rattle.rsl_messages.specs.declared.message.ChanBits.{ChanBits}
 use Rattle.rsl_messages.specs.declared.message.Rsl.{Rsl}
 use Rattle.rsl_messages.specs.declared.message.Rsl.TheVariants as rsl
 use Rattle.bssmap_messages.specs.declared.message.CellId.{CellId}
@@ -216,12 +215,16 @@ abbrev pub if_command : Option Rr → (Rr → Plan) → Plan
 if_command None next = Ends
 if_command (Some m) next = next m
 
-abbrev pub internal_command : SiteView → ℕ → ChanId → Option ChanId → Attempt → Plan
-internal_command site c x serving a =
-    if_named serving (λ s. if_command (option_and_then (command_to site x) a.reference) (λ m. Asks (event.Command c) (if_done (Sends (to_mobile s m) Ends))))
+abbrev pub if_reference : Option ℕ → (ℕ → Plan) → Plan
+if_reference None next = Ends
+if_reference (Some n) next = next n
+
+abbrev pub internal_command : SiteView → ℕ → ChanId → Option ChanId → Option ℕ → Plan
+internal_command site c x serving reference =
+    if_named serving (λ s. if_reference reference (λ n. if_command (command_to site x n) (λ m. Asks (event.Command c) (if_done (Sends (to_mobile s m) Ends)))))
 
 abbrev pub command_plan : SiteView → ℕ → ChanId → Option ChanId → Attempt → AttemptKind → Plan
-command_plan site c x serving a Internal = internal_command site c x serving a
+command_plan site c x serving a Internal = internal_command site c x serving a.reference
 command_plan site c x serving a Incoming = Ends
 command_plan site c x serving a Outgoing = Ends
 
@@ -354,26 +357,6 @@ line_plan site (line.Open c x) = open_plan c x
 line_plan site (line.Handover c cell) = handover_plan site c cell
 line_plan site (line.Undo c) = undo_plan c
 line_plan site (line.Clear c) = clear_plan c
-
--- the channel that a message from a TRX of a cell names (TS 48.058 clause 9.3.1)
-
-abbrev pub chan_at : ℕ → ℕ → ChanBits → ChanId
-chan_at cell trx channel = record { cell = cell; trx = trx; tn = channel.tn }
-
-abbrev pub channel_in : {A : Type 0} → Rsl A → ChanBits
-channel_in (rsl.DataRequest channel link layer3) = channel
-channel_in (rsl.DataIndication channel link layer3) = channel
-channel_in (rsl.ChannelActivation channel activation mode reference) = channel
-channel_in (rsl.ChannelActivationAck channel frame) = channel
-channel_in (rsl.ChannelActivationNack channel cause) = channel
-channel_in (rsl.ConnectionFailureIndication channel cause) = channel
-channel_in (rsl.HandoverDetection channel delay) = channel
-channel_in (rsl.MeasurementResult channel number uplink power layer3) = channel
-channel_in (rsl.RfChannelRelease channel) = channel
-channel_in (rsl.RfChannelReleaseAck channel) = channel
-
-abbrev pub chan_of : {A : Type 0} → ℕ → ℕ → Rsl A → ChanId
-chan_of cell trx message = chan_at cell trx (channel_in message)
 
 -- what a mobile says on the main channel
 abbrev pub mobile_plan : SiteView → ChanId → Option Rr → Plan

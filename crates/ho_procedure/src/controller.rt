@@ -3,12 +3,13 @@ ghost use Rattle.std.specs.Prelude.{◌≡◌, ◌⊎◌, ◌≤◌, ℕ, List, 
 ghost use Rattle.ho_procedure.specs.Choices.{Entry, Choice};
 ghost use Rattle.ho_procedure.specs.Sent.{all_sent};
 ghost use Rattle.ho_procedure.specs.Handling.{Stops, IsRow, IsUndecoded, KeepsOctets, Handles, owed_in, IsUndecodedFault, IsDeskFault};
-ghost use Rattle.ho_procedure.specs.Procedure.{chan_of, line_plan, abis_plan, a_plan, mobile_plan, measured_plan};
+ghost use Rattle.ho_procedure.specs.Procedure.{line_plan, abis_plan, a_plan, mobile_plan, measured_plan};
 ghost use Rattle.ho_procedure.specs.Plan.{Plan, Ends, At, Asking};
 ghost use Rattle.ho_procedure.specs.Going.{Goes, IsForeign, last_reports};
 
 use crate::decoding::{Unread, decode_a, decode_abis};
 use crate::exchange::{Bad, Fault, Inbound, Line, Link, Outbound};
+use crate::naming::chan_of;
 use crate::outbox::Outbox;
 use crate::rows::calls::{clear, clear_command, open};
 use crate::rows::handovers::{expire, handover, undo};
@@ -127,29 +128,6 @@ impl<D: DeskView + Drop, A: Allocator + Copy> Controller<D, A> {
             Err(DeskFault::NoMemory) => Err(Fault::NoMemory(owed)),
             Err(DeskFault::Foreign(place)) => Err(Fault::Desk(place, owed)),
         }
-    }
-}
-
-/// The channel that a message from a TRX of a cell names (TS 48.058 clause 9.3.1).
-pub fn chan_of<A: Allocator>(cell: u8, trx: u8, message: &Rsl<A>) -> ChanId
-    ensures chan { result ≡ chan_of cell trx message.now }
-{
-    let channel = match message {
-        Rsl::DataRequest { channel, .. }
-        | Rsl::DataIndication { channel, .. }
-        | Rsl::ChannelActivation { channel, .. }
-        | Rsl::ChannelActivationAck { channel, .. }
-        | Rsl::ChannelActivationNack { channel, .. }
-        | Rsl::ConnectionFailureIndication { channel, .. }
-        | Rsl::HandoverDetection { channel, .. }
-        | Rsl::MeasurementResult { channel, .. }
-        | Rsl::RfChannelRelease { channel }
-        | Rsl::RfChannelReleaseAck { channel } => *channel,
-    };
-    ChanId {
-        cell,
-        trx,
-        tn: channel.tn,
     }
 }
 

@@ -1,13 +1,17 @@
 //! What a row reads in a record.
-ghost use Rattle.std.specs.Prelude.{◌≡◌, true, IfOk, Option, Some, None};
+ghost use Rattle.std.specs.Prelude.{◌≡◌, IfSome, IsSome};
 ghost use Rattle.radio_book.specs.Sound.{target_in};
 ghost use Rattle.radio_book.specs.Table.{is_target};
 ghost use Rattle.ho_procedure.specs.Messages.{is_nameable};
-ghost use Rattle.ho_procedure.specs.Procedure.{is_named, is_serving, is_switched_on, is_commanded, is_own, names_target, names_serving, names_releases, is_on};
+ghost use Rattle.ho_procedure.specs.Procedure.{is_named, is_serving, is_switched_on, is_commanded, is_own, names_target, names_serving, names_releases, is_on, traffic_cell};
 
+use crate::commands::cell_id_at;
 use crate::work::Shown;
+use bssmap_messages::CellId;
+use cell_table::Site;
 use channel_fsm::{ChanId, ChanState};
 use radio_book::event::{Attempt, AttemptKind, CallRecord, Stage};
+use std::alloc::Allocator;
 
 /// A message can name the timeslot of the channel.
 pub(crate) fn is_nameable(chan: ChanId) -> bool
@@ -136,4 +140,15 @@ pub(crate) fn is_on(state: Option<ChanState>) -> bool
         | Some(ChanState::Off)
         | None => false,
     }
+}
+
+/// The cell of a traffic channel of the site, as messages on A name it.
+pub(crate) fn traffic_cell<A: Allocator + Copy>(site: &Site<A>, chan: ChanId) -> Option<CellId>
+    ensures cell { result ≡ traffic_cell site.now chan }
+    ensures area { IfSome result (λ cell. IsSome cell.lac) }
+{
+    if !site.is_traffic(chan) {
+        return None;
+    }
+    cell_id_at(site, chan.cell)
 }

@@ -208,3 +208,28 @@ impl<D: DeskView + Drop, A: Allocator + Copy> Work<D, A> {
         self.windows.note(call, report);
     }
 }
+
+impl<D: DeskView + Drop, A: Allocator + Copy> Work<D, A> {
+    /// The candidates that the last reports of a call make of the cells.
+    #[tactic(auto, using(crate::proofs::Going::ranked, crate::proofs::Going::waits))]
+    pub(crate) fn rank(
+        &self,
+        site: &Site<A>,
+        call: u16,
+        serving: u8,
+    ) -> Result<Vec<Candidate, A>, DeskFault>
+        requires { self.now.windows.width ≡ site.now.handover.window }
+        ensures goes { IfOk result (λ found. (next : List Candidate → Plan) →
+            Passes D.log D.choice_at self.now
+            (Ranks site.now (last_reports self.now.windows call) serving next) self.now
+            (next found.items)) }
+        ensures err { OnErr result ((p : Plan) → IsAsking p →
+            Goes D.log D.choice_at self.now p self.now Asking) }
+        ensures no_memory { OnErr result (result ≡ Err DeskFault.NoMemory) }
+    {
+        let Some(window) = self.windows.window(call) else {
+            return Ok(Vec::new(self.alloc));
+        };
+        Ok(candidates(self.alloc, window, site, serving)?)
+    }
+}

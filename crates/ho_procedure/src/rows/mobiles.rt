@@ -7,8 +7,7 @@ ghost use Rattle.ho_procedure.specs.Procedure.{try_plan, rank_plan, report_plan,
 
 use super::handovers::{go_on_taken, undo};
 use super::parts::{look, owner};
-use crate::command::traffic_cell;
-use crate::records::{is_commanded, is_nameable, is_on, is_serving, is_target, names_target};
+use crate::records::{is_commanded, is_nameable, is_on, is_serving, is_target, names_target, traffic_cell};
 use crate::view::DeskView;
 use crate::work::Work;
 use cell_table::Site;

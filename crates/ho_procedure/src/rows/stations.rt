@@ -5,7 +5,7 @@ ghost use Rattle.ho_procedure.specs.Going.{Goes, Passes, IsForeign};
 ghost use Rattle.ho_procedure.specs.Procedure.{internal_command, confirm_rest, confirm_plan, refuse_plan, released_plan, connection_failure_plan, detect_plan};
 
 use super::parts::{look, owner};
-use crate::command::command_to;
+use crate::commands::command_to;
 use crate::records::{is_nameable, is_serving, is_target, is_target_in};
 use crate::view::DeskView;
 use crate::work::Work;
@@ -27,13 +27,13 @@ fn command<D: DeskView + Drop, A: Allocator + Copy>(
     call: u16,
     target: ChanId,
     serving: Option<ChanId>,
-    attempt: Attempt,
+    reference: Option<u8>,
 ) -> Result<(), DeskFault>
     requires { 1 ≤ work.old.owed.room }
     ensures row { OnOk result (Goes D.log D.choice_at work.old
-        (internal_command site.now call target serving attempt) work.new (At Ends)) }
+        (internal_command site.now call target serving reference) work.new (At Ends)) }
     ensures stops { OnErr result (Goes D.log D.choice_at work.old
-        (internal_command site.now call target serving attempt) work.new Asking) }
+        (internal_command site.now call target serving reference) work.new Asking) }
     ensures foreign { IfErr result (λ f. IsForeign f → D.may_be_foreign work.old.view) }
     ensures foreign_kept { D.may_be_foreign work.new.view → D.may_be_foreign work.old.view }
 {
@@ -43,7 +43,10 @@ fn command<D: DeskView + Drop, A: Allocator + Copy>(
     if !is_nameable(serving) {
         return Ok(());
     }
-    let Some(command) = command_to(site, target, attempt.reference) else {
+    let Some(reference) = reference else {
+        return Ok(());
+    };
+    let Some(command) = command_to(site, target, reference) else {
         return Ok(());
     };
     let Reply::Done = work.ask(Event::Command(call))? else {
@@ -78,7 +81,7 @@ fn confirm_rest<D: DeskView + Drop, A: Allocator + Copy>(
         return Ok(());
     }
     match attempt.kind {
-        AttemptKind::Internal => command(work, site, call, chan, serving, attempt),
+        AttemptKind::Internal => command(work, site, call, chan, serving, attempt.reference),
         AttemptKind::Incoming | AttemptKind::Outgoing => Ok(()),
     }
 }
