@@ -305,7 +305,7 @@ fn append_cells<A: Allocator>(out: &mut Vec<u8, A>, cells: &[CellId])
 
 /// Appends the elements of a HANDOVER REQUIRED, for which the list has room.
 #[tactic(auto, using(crate::proofs::Lengths::required_length), unfolding(crate::specs::Messages::handover_required))]
-fn append_required<A: Allocator>(out: &mut Vec<u8, A>, cause: u8, response: bool, cells: &[CellId])
+pub fn append_required<A: Allocator>(out: &mut Vec<u8, A>, cause: u8, response: bool, cells: &[CellId])
     requires short { length (all_octets interface_a (handover_required.written (cause, (response, cells.now)))) < limit }
     requires room { HasRoom (all_octets interface_a (handover_required.written (cause, (response, cells.now)))) out.old }
     ensures items { out.new.items ≡ out.old.items ++

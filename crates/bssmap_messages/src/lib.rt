@@ -21,4 +21,4 @@ pub use laws::{canonical_is_text, reading_is_unique};
 pub use message::{Bssmap, CellId, Classmark};
 pub use octet_elements::Octets;
 pub use reading::decode;
-pub use writing::{encode, encode_into, fits};
+pub use writing::{encode, encode_into, encode_request_ack_into, encode_required_into, fits};

@@ -1,13 +1,14 @@
 //! Writing a message.
-ghost use Rattle.std.specs.Prelude.{◌≡◌, ◌↔◌, IsTrue, IfOk};
+ghost use Rattle.std.specs.Prelude.{◌≡◌, ◌↔◌, ◌<◌, ◌≤◌, ◌∷◌, [], IsTrue, IsSome, IfOk, length};
 ghost use Rattle.octet_elements.specs.Writing.{Appends};
 ghost use Rattle.bssmap_messages.specs.Messages.{kind_of, type_of};
 ghost use Rattle.bssmap_messages.specs.Texts.{HasCanonical, canonical_text};
 
-use crate::elements::{append_elements, can_be_said, elements_len};
+use crate::elements::{append_elements, append_required, can_be_said, elements_len};
 use crate::head::LIMIT;
-use crate::message::Bssmap;
-use octet_elements::append_octets;
+use crate::message::{Bssmap, CellId};
+use crate::table::{InterfaceA, LAYER_3_INFORMATION, RESPONSE_REQUEST};
+use octet_elements::{append_element, append_octets, presence_len};
 use std::alloc::{AllocError, Allocator};
 
 /// Whether the message has a canonical text.
@@ -50,6 +51,46 @@ pub fn encode_into<A: Allocator + Copy>(
     out.reserve(2 + len)?;
     append_octets(out, &[0, len as u8, message_type(message)]);
     append_elements(message, out);
+    Ok(())
+}
+
+/// Appends the canonical text of a HANDOVER REQUEST ACKNOWLEDGE (TS 48.008 clause 3.2.1.10) whose radio resource message,
+/// from 1 to 250 octets, is lent. A list with room for it is not moved: no memory is asked for.
+#[tactic(auto, unfolding(crate::specs::Messages::layer_3_alone))]
+pub fn encode_request_ack_into<A: Allocator + Copy>(
+    layer3: &[u8],
+    out: &mut Vec<u8, A>,
+) -> Result<(), AllocError>
+    requires some { 0 < length layer3.now }
+    requires short { length layer3.now ≤ 250 }
+    ensures appends { Appends (canonical_text {A = A} (Bssmap.HandoverRequestAck layer3.now))
+        out.old out.new result }
+{
+    let body = 3 + layer3.len();
+    out.reserve(2 + body)?;
+    append_octets(out, &[0, body as u8, 0x12]);
+    append_element::<InterfaceA, A>(out, LAYER_3_INFORMATION, layer3);
+    Ok(())
+}
+
+/// Appends the canonical text of a HANDOVER REQUIRED (TS 48.008 clause 3.2.1.9) for one cell, which has a location area
+/// code. A list with room for it is not moved: no memory is asked for.
+#[tactic(auto, unfolding(crate::specs::Messages::handover_required))]
+pub fn encode_required_into<A: Allocator + Copy>(
+    cause: u8,
+    response: bool,
+    cell: CellId,
+    out: &mut Vec<u8, A>,
+) -> Result<(), AllocError>
+    requires area { IsSome cell.lac }
+    ensures appends { Appends
+        (canonical_text {A = A} (Bssmap.HandoverRequired cause response (cell ∷ [])))
+        out.old out.new result }
+{
+    let body = 11 + presence_len::<InterfaceA>(RESPONSE_REQUEST, response);
+    out.reserve(2 + body)?;
+    append_octets(out, &[0, body as u8, 0x11]);
+    append_required(out, cause, response, &[cell]);
     Ok(())
 }
 

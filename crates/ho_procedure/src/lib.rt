@@ -3,8 +3,17 @@
 #![tactic(auto)]
 
 mod buffers;
+mod commands;
+pub mod controller;
+mod decoding;
 pub mod exchange;
+pub mod naming;
 mod outbox;
+mod records;
+mod rows;
+mod sending;
 pub mod solo;
 mod texts;
 pub mod view;
+mod windows;
+mod work;

@@ -1,0 +1,74 @@
+-- What the octets of an input are.
+use Rattle.std.specs.Prelude.{◌≡◌, ◌≢◌, ℕ, ◌==◌, if◌then◌else◌, List, Option, Some, None, MatchOption}
+use Rattle.rr_messages.specs.declared.message.Rr.{Rr}
+use Rattle.rr_messages.specs.declared.fault.RrFault.{RrFault}
+use Rattle.rr_messages.specs.Rr.{IsRrText, HasRrFault}
+use Rattle.rsl_messages.specs.declared.message.Rsl.{Rsl}
+use Rattle.rsl_messages.specs.declared.message.Rsl.TheVariants.{DataRequest, DataIndication, ChannelActivation, ChannelActivationAck, ChannelActivationNack, ConnectionFailureIndication, HandoverDetection, MeasurementResult, RfChannelRelease, RfChannelReleaseAck}
+use Rattle.rsl_messages.specs.declared.fault.RslFault.TheVariants as rsl_fault
+use Rattle.rsl_messages.specs.Texts as abis
+use Rattle.bssmap_messages.specs.declared.fault.BssmapFault.TheVariants as bssmap_fault
+use Rattle.bssmap_messages.specs.Texts as interface_a
+use Rattle.ho_procedure.specs.declared.exchange.Link.{Link}
+use Rattle.ho_procedure.specs.declared.exchange.Link.TheVariants as link
+use Rattle.ho_procedure.specs.declared.exchange.Bad.{Bad}
+use Rattle.ho_procedure.specs.declared.exchange.Bad.TheVariants as bad
+use Rattle.ho_procedure.specs.declared.decoding.Unread.{Unread}
+use Rattle.ho_procedure.specs.declared.decoding.Unread.TheVariants as unread
+
+-- Where a message on Abis has a radio resource message of the mobile inside: a DATA INDICATION (TS 48.058 clause 8.3.2) on
+-- the main channel, SAPI 0, link 0 (clause 9.3.2), and a MEASUREMENT RESULT (clause 8.4.8) with L3 information. What
+-- comes on another link isn't read.
+abbrev pub text_inside : {A : Type 0} → Rsl A → Option (List ℕ)
+text_inside (DataIndication channel link layer3) = if link == 0 then Some layer3 else None
+text_inside (MeasurementResult channel number uplink power layer3) = layer3
+text_inside (DataRequest channel link layer3) = None
+text_inside (ChannelActivation channel activation mode reference) = None
+text_inside (ChannelActivationAck channel frame) = None
+text_inside (ChannelActivationNack channel cause) = None
+text_inside (ConnectionFailureIndication channel cause) = None
+text_inside (HandoverDetection channel delay) = None
+text_inside (RfChannelRelease channel) = None
+text_inside (RfChannelReleaseAck channel) = None
+
+-- this is the message inside, where there is a text of one
+abbrev pub IsInside : Option (List ℕ) → Option Rr → Type 0
+IsInside None rr = rr ≡ None
+IsInside (Some text) None = ⊥
+IsInside (Some text) (Some v) = IsRrText v text
+
+-- the text, where there is one, has this fault
+abbrev pub IsFaultOf : Option (List ℕ) → RrFault → Type 0
+IsFaultOf None f = ⊥
+IsFaultOf (Some text) f = HasRrFault text f
+
+-- the octets are a text of the message on Abis, with this radio resource message inside
+abbrev pub IsAbis : {A : Type 0} → List ℕ → Rsl A → Option Rr → Type 0
+IsAbis octets message rr = abis.IsTextOf message octets × IsInside (text_inside message) rr
+
+-- the octets are a text of a message on Abis, and the text inside has this fault
+abbrev pub HasFaultInside : (A : Type 0) → List ℕ → RrFault → Type 0
+HasFaultInside A octets f = (message : Rsl A) × abis.IsTextOf message octets × IsFaultOf (text_inside message) f
+
+-- The octets of a message on Abis can't be read, where memory isn't refused: they have this fault, or the text inside has.
+abbrev pub IsUnreadAbis : (A : Type 0) → List ℕ → Link → Bad → Type 0
+IsUnreadAbis A octets link.Abis (bad.Rsl f) = (f ≢ rsl_fault.NoMemory) × abis.HasFault A octets f
+IsUnreadAbis A octets link.Rr (bad.Rr f) = HasFaultInside A octets f
+IsUnreadAbis A octets link.Abis (bad.Bssmap f) = ⊥
+IsUnreadAbis A octets link.Abis (bad.Rr f) = ⊥
+IsUnreadAbis A octets link.A b = ⊥
+IsUnreadAbis A octets link.Rr (bad.Rsl f) = ⊥
+IsUnreadAbis A octets link.Rr (bad.Bssmap f) = ⊥
+
+-- Octets weren't read, by what it means that they can't be, and that memory was refused.
+abbrev pub IsUnread : (Link → Bad → Type 0) → Type 0 → Unread → Type 0
+IsUnread CantBeRead MayRefuse (unread.Undecoded l b) = CantBeRead l b
+IsUnread CantBeRead MayRefuse unread.NoMemory = MayRefuse
+
+-- The octets of a message on A can't be read, where memory isn't refused: they have this fault.
+abbrev pub IsUnreadA : (A : Type 0) → List ℕ → Link → Bad → Type 0
+IsUnreadA A octets link.A (bad.Bssmap f) = (f ≢ bssmap_fault.NoMemory) × interface_a.HasFault A octets f
+IsUnreadA A octets link.A (bad.Rsl f) = ⊥
+IsUnreadA A octets link.A (bad.Rr f) = ⊥
+IsUnreadA A octets link.Abis b = ⊥
+IsUnreadA A octets link.Rr b = ⊥

@@ -1,0 +1,123 @@
+//! What the octets of an input are.
+ghost use Rattle.std.specs.Prelude.{◌≡◌, ◌≢◌, Ok, Err, IfOk, IfErr, OnErr, OnOk};
+ghost use Rattle.std.specs.Option.{option_map};
+ghost use Rattle.rsl_messages.specs.declared.message.Rsl.{Rsl};
+ghost use Rattle.rsl_messages.specs.Messages.{HasOctets};
+ghost use Rattle.rsl_messages.specs.Texts as abis;
+ghost use Rattle.bssmap_messages.specs.declared.message.Bssmap.{Bssmap};
+ghost use Rattle.bssmap_messages.specs.Messages.{KeepsList};
+ghost use Rattle.bssmap_messages.specs.Texts as interface_a;
+ghost use Rattle.ho_procedure.specs.declared.exchange.Link.{Link};
+ghost use Rattle.ho_procedure.specs.declared.exchange.Bad.{Bad};
+ghost use Rattle.ho_procedure.specs.Decoding.{text_inside, IsInside, IsAbis, IsUnreadAbis, IsUnreadA, IsUnread, IsFaultOf};
+
+use crate::exchange::{Bad, Link};
+use bssmap_messages::{Bssmap, BssmapFault};
+use rr_messages::{Rr, RrFault};
+use rsl_messages::{Rsl, RslFault};
+use std::alloc::Allocator;
+
+/// The main channel, SAPI 0 (TS 48.058 clause 9.3.2).
+const MAIN_CHANNEL: u8 = 0;
+
+/// Why octets weren't read.
+#[derive(Clone, Copy, PartialEq, Eq)]
+pub(crate) enum Unread {
+    /// They, or the text inside, are no message.
+    Undecoded(Link, Bad),
+    /// Memory was refused.
+    NoMemory,
+}
+
+/// The octets of a message on Abis: the message, and the radio resource message of the mobile inside, where it has one
+/// that is read.
+pub(crate) fn decode_abis<A: Allocator + Copy>(
+    alloc: A,
+    octets: &[u8],
+) -> Result<(Rsl<A>, Option<Rr>), Unread>
+    ensures text { IfOk result (λ d. IsAbis octets.now d.0 d.1) }
+    ensures unread { IfErr result (IsUnread (IsUnreadAbis A octets.now)
+        ((v : Rsl A) × abis.IsTextOf v octets.now × HasOctets v)) }
+{
+    match rsl_messages::decode(alloc, octets) {
+        Ok(message) => match inside(&message) {
+            Ok(rr) => Ok((message, rr)),
+            Err(fault) => Err(Unread::Undecoded(Link::Rr, Bad::Rr(fault))),
+        },
+        Err(fault) => Err(unread_abis(fault)),
+    }
+}
+
+/// The octets of a message on A.
+pub(crate) fn decode_a<A: Allocator + Copy>(alloc: A, octets: &[u8]) -> Result<Bssmap<A>, Unread>
+    ensures text { IfOk result (λ v. interface_a.IsTextOf v octets.now) }
+    ensures unread { IfErr result (IsUnread (IsUnreadA A octets.now)
+        ((v : Bssmap A) × interface_a.IsTextOf v octets.now × KeepsList v)) }
+{
+    match bssmap_messages::decode(alloc, octets) {
+        Ok(message) => Ok(message),
+        Err(fault) => Err(unread_a(fault)),
+    }
+}
+
+/// The radio resource message inside a message on Abis, where it has one that is read.
+fn inside<A: Allocator + Copy>(message: &Rsl<A>) -> Result<Option<Rr>, RrFault>
+    ensures text { IfOk result (IsInside (text_inside message.now)) }
+    ensures fault { IfErr result (IsFaultOf (text_inside message.now)) }
+{
+    match message {
+        Rsl::DataIndication {
+            link: MAIN_CHANNEL,
+            layer3,
+            ..
+        } => Ok(Some(rr_messages::decode(layer3.as_slice())?)),
+        Rsl::MeasurementResult {
+            layer3: Some(layer3),
+            ..
+        } => Ok(Some(rr_messages::decode(layer3.as_slice())?)),
+        Rsl::DataIndication { .. }
+        | Rsl::MeasurementResult { .. }
+        | Rsl::DataRequest { .. }
+        | Rsl::ChannelActivation { .. }
+        | Rsl::ChannelActivationAck { .. }
+        | Rsl::ChannelActivationNack { .. }
+        | Rsl::ConnectionFailureIndication { .. }
+        | Rsl::HandoverDetection { .. }
+        | Rsl::RfChannelRelease { .. }
+        | Rsl::RfChannelReleaseAck { .. } => Ok(None),
+    }
+}
+
+/// A fault on Abis.
+fn unread_abis(fault: RslFault) -> Unread
+    ensures { IsUnread
+        (λ l b. (l ≡ Link.Abis) × (b ≡ Bad.Rsl fault) × (fault ≢ RslFault.NoMemory))
+        (fault ≡ RslFault.NoMemory) result }
+{
+    match fault {
+        RslFault::NoMemory => Unread::NoMemory,
+        RslFault::NotRsl
+        | RslFault::UnknownType(_)
+        | RslFault::Missing(_)
+        | RslFault::BadElement(_)
+        | RslFault::Torn(_)
+        | RslFault::TooLong => Unread::Undecoded(Link::Abis, Bad::Rsl(fault)),
+    }
+}
+
+/// A fault on A.
+fn unread_a(fault: BssmapFault) -> Unread
+    ensures { IsUnread
+        (λ l b. (l ≡ Link.A) × (b ≡ Bad.Bssmap fault) × (fault ≢ BssmapFault.NoMemory))
+        (fault ≡ BssmapFault.NoMemory) result }
+{
+    match fault {
+        BssmapFault::NoMemory => Unread::NoMemory,
+        BssmapFault::NotBssmap
+        | BssmapFault::Length
+        | BssmapFault::UnknownType(_)
+        | BssmapFault::Missing(_)
+        | BssmapFault::BadElement(_)
+        | BssmapFault::Torn(_) => Unread::Undecoded(Link::A, Bad::Bssmap(fault)),
+    }
+}

@@ -1,0 +1,28 @@
+//! The channel that a message names.
+ghost use Rattle.std.specs.Prelude.{◌≡◌};
+ghost use Rattle.ho_procedure.specs.Naming.{chan_of};
+
+use channel_fsm::ChanId;
+use rsl_messages::Rsl;
+use std::alloc::Allocator;
+
+/// The channel that a message from a TRX of a cell names (TS 48.058 clause 9.3.1). It takes no memory.
+pub fn chan_of<A: Allocator>(cell: u8, trx: u8, message: &Rsl<A>) -> ChanId
+    ensures channel { result ≡ chan_of cell trx message.now }
+{
+    let (Rsl::DataRequest { channel, .. }
+    | Rsl::DataIndication { channel, .. }
+    | Rsl::ChannelActivation { channel, .. }
+    | Rsl::ChannelActivationAck { channel, .. }
+    | Rsl::ChannelActivationNack { channel, .. }
+    | Rsl::ConnectionFailureIndication { channel, .. }
+    | Rsl::HandoverDetection { channel, .. }
+    | Rsl::MeasurementResult { channel, .. }
+    | Rsl::RfChannelRelease { channel }
+    | Rsl::RfChannelReleaseAck { channel }) = message;
+    ChanId {
+        cell,
+        trx,
+        tn: channel.tn,
+    }
+}
