@@ -1,7 +1,7 @@
 //! The course of a script: a controller on one thread, and the simulated stations around it.
 use crate::noting::Noting;
 use crate::run::LabFault;
-use crate::turn::{Answer, Source, Turn, print_turn, turn};
+use crate::turn::{Answer, Source, Turn, print_turn, take_turn};
 use bts_model::{Setting, StationOut, World};
 use cell_table::Site;
 use ho_procedure::controller::Controller;
@@ -23,7 +23,7 @@ type Waiting<A> = VecDeque<Inbound<A>, A>;
 
 /// A controller, the simulated stations around it once a script attached them, and what came of each input.
 #[derive(Drop)]
-pub(crate) struct Course<A: Allocator = Global> {
+pub(crate) struct Course<A: Allocator + Copy = Global> {
     site: Arc<Site<A>, A>,
     controller: Controller<Noting<A>, A>,
     world: Option<World<A>>,
@@ -76,10 +76,10 @@ impl<A: Allocator + Copy> Course<A> {
         out: &mut W,
     ) -> Result<(), LabFault> {
         self.turns.reserve(1)?;
-        let turn = turn(self.alloc, &mut self.controller, source, input)?;
+        let turn = take_turn(self.alloc, &mut self.controller, source, input)?;
         print_turn(out, &turn)?;
         if let Some(world) = &mut self.world {
-            answer(world, &turn.answer, waiting)?;
+            pass_answer(world, &turn.answer, waiting)?;
         }
         self.turns.push_reserved(turn);
         Ok(())
@@ -153,7 +153,7 @@ fn pass_on<A: Allocator + Copy>(
 }
 
 /// What stations answer to what the controller answered waits.
-fn answer<A: Allocator + Copy>(
+fn pass_answer<A: Allocator + Copy>(
     world: &mut World<A>,
     answer: &Answer<A>,
     waiting: &mut Waiting<A>,

@@ -86,7 +86,7 @@ fn push_asked<A: Allocator + Copy>(
     ensures { OnOk result (asked_in steps.new.items ≡
         asked_in steps.old.items ++ (event, reply) ∷ []) }
 {
-    steps.push(Step::Asked(event, reply))
+    Ok(steps.push(Step::Asked(event, reply))?)
 }
 
 /// What was asked of a desk from its `first` event on, with the cells without a free channel that were found there.
@@ -110,7 +110,7 @@ fn steps_from<A: Allocator + Copy>(
 }
 
 /// Handles an input.
-fn answer<A: Allocator + Copy>(
+fn handled<A: Allocator + Copy>(
     controller: &mut Controller<Noting<A>, A>,
     input: Inbound<A>,
 ) -> Result<Answer<A>, AllocError> {
@@ -124,7 +124,7 @@ fn answer<A: Allocator + Copy>(
 }
 
 /// Handles an input, and says what came of it.
-pub(crate) fn turn<A: Allocator + Copy>(
+pub(crate) fn take_turn<A: Allocator + Copy>(
     alloc: A,
     controller: &mut Controller<Noting<A>, A>,
     source: Source,
@@ -133,7 +133,7 @@ pub(crate) fn turn<A: Allocator + Copy>(
     let first = controller.view().desk().len();
     let found = controller.view().none_free().len();
     let given = copy_of(alloc, &input)?;
-    let answer = answer(controller, given)?;
+    let answer = handled(controller, given)?;
     let view = controller.view();
     let found = view.none_free().get(found..).unwrap_or(&[]);
     let steps = steps_from(alloc, view.desk(), found, first)?;

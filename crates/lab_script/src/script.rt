@@ -102,7 +102,7 @@ fn simulated<A: Allocator>(line: &str) -> Option<Item<A>>
 }
 
 /// What a line gives.
-fn item<A: Allocator + Copy>(alloc: A, line: &str) -> Result<Option<Item<A>>, AllocError>
+fn read_item<A: Allocator + Copy>(alloc: A, line: &str) -> Result<Option<Item<A>>, AllocError>
     ensures value { IfOk result (λ item. item ≡ said.item_of line.now) }
     ensures memory { IsErr result → is_some (said.item_of {A = A} line.now) ≡ true }
 {
@@ -243,7 +243,7 @@ fn add_item<A: Allocator + Copy>(
     ensures memory { IsErr result → is_some (said.item_of {A = A}
         (strip_carriage_return line.now)) ≡ true }
 {
-    if let Some(item) = item(alloc, without_return(line))? {
+    if let Some(item) = read_item(alloc, without_return(line))? {
         items.push(item)?;
     }
     Ok(())
