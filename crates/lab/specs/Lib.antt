@@ -4,4 +4,5 @@ pub mod Files
 pub mod Rewound
 pub mod Statuses
 pub mod Turns
+pub mod Course
 pub use Rattle.lab_script.specs.Script

@@ -1,4 +1,8 @@
 //! The course of a script: a controller on one thread, and the simulated stations around it.
+ghost use Rattle.std.specs.Prelude.{◌≡◌, [], ◌∷◌, IfOk, OnOk};
+ghost use Rattle.lab.specs.Turns.{listed, inputs_in};
+ghost use Rattle.lab.specs.Course.{Went, IsOpening};
+
 use crate::noting::Noting;
 use crate::run::LabFault;
 use crate::turn::{Answer, Source, Turn, print_turn, take_turn};
@@ -33,7 +37,10 @@ pub(crate) struct Course<A: Allocator + Copy = Global> {
 
 impl<A: Allocator + Copy> Course<A> {
     /// A controller of the site that was given nothing yet, over an empty book.
-    pub(crate) fn new(alloc: A, site: Arc<Site<A>, A>) -> Result<Course<A>, AllocError> {
+    pub(crate) fn new(alloc: A, site: Arc<Site<A>, A>) -> Result<Course<A>, AllocError>
+        ensures opening { IfOk result (λ course. IsOpening site.value course.controller) }
+        ensures turns { IfOk result (λ course. course.turns.items ≡ []) }
+    {
         let book = Book::new(alloc, site.clone()?)?;
         let view = Noting::new(alloc, Desk::new(alloc, book)?);
         Ok(Course {
@@ -51,7 +58,9 @@ impl<A: Allocator + Copy> Course<A> {
     }
 
     /// From here on simulated stations answer, unless they do already.
-    fn attach(&mut self) -> Result<(), AllocError> {
+    fn attach(&mut self) -> Result<(), AllocError>
+        ensures { OnOk result (Went [] self.old self.new) }
+    {
         if self.world.is_none() {
             let sites = [self.site.clone()?];
             self.world = Some(World::new(self.alloc, &sites)?);
@@ -60,7 +69,9 @@ impl<A: Allocator + Copy> Course<A> {
     }
 
     /// Asks something of a simulated station or of a mobile. What is sent then waits.
-    fn set(&mut self, setting: Setting, waiting: &mut Waiting<A>) -> Result<(), AllocError> {
+    fn set(&mut self, setting: Setting, waiting: &mut Waiting<A>) -> Result<(), AllocError>
+        ensures { OnOk result (Went [] self.old self.new) }
+    {
         match &mut self.world {
             Some(world) => queue(waiting, world.set(setting)?),
             None => Ok(()),
@@ -74,7 +85,9 @@ impl<A: Allocator + Copy> Course<A> {
         input: Inbound<A>,
         waiting: &mut Waiting<A>,
         out: &mut W,
-    ) -> Result<(), LabFault> {
+    ) -> Result<(), LabFault>
+        ensures { OnOk result (Went (listed source input) self.old self.new) }
+    {
         self.turns.reserve(1)?;
         let turn = take_turn(self.alloc, &mut self.controller, source, input)?;
         print_turn(out, &turn)?;
@@ -86,7 +99,9 @@ impl<A: Allocator + Copy> Course<A> {
     }
 
     /// Handles what waits, and what is answered to that, until nothing is left.
-    fn settle<W: Write>(&mut self, mut waiting: Waiting<A>, out: &mut W) -> Result<(), LabFault> {
+    fn settle<W: Write>(&mut self, mut waiting: Waiting<A>, out: &mut W) -> Result<(), LabFault>
+        ensures { OnOk result (Went [] self.old self.new) }
+    {
         for _ in 0..MOST_ANSWERS {
             let Some(input) = waiting.pop_front() else {
                 return Ok(());
@@ -100,7 +115,9 @@ impl<A: Allocator + Copy> Course<A> {
     }
 
     /// Does what a line of a script gives.
-    fn follow<W: Write>(&mut self, item: Item<A>, out: &mut W) -> Result<(), LabFault> {
+    fn follow<W: Write>(&mut self, item: Item<A>, out: &mut W) -> Result<(), LabFault>
+        ensures { OnOk result (Went (inputs_in (item ∷ [])) self.old self.new) }
+    {
         let mut waiting = VecDeque::new(self.alloc);
         match item {
             Item::Input(input) => self.handle(Source::Script, input, &mut waiting, out)?,
@@ -115,7 +132,9 @@ impl<A: Allocator + Copy> Course<A> {
         &mut self,
         items: Vec<Item<A>, A>,
         out: &mut W,
-    ) -> Result<(), LabFault> {
+    ) -> Result<(), LabFault>
+        ensures { OnOk result (Went (inputs_in items.items) self.old self.new) }
+    {
         for item in items {
             self.follow(item, out)?;
         }

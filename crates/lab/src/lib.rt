@@ -7,12 +7,12 @@ mod course;
 pub mod decoded;
 pub mod entries;
 pub mod files;
-mod noting;
+pub mod noting;
 pub mod program;
 pub mod rewound;
 pub mod run;
 mod site_reason;
-mod turn;
+pub mod turn;
 pub mod words;
 
 pub use ho_procedure::exchange;

@@ -1,5 +1,7 @@
 //! A view of a desk that notes where it found no free channel, for a trace.
 ghost use Rattle.std.specs.Prelude.{◌≡◌, ◌∷◌, ◌++◌, [], ℕ, List, Err, IfOk, OnErr, MatchOption};
+ghost use Rattle.channel_fsm.specs.declared.ChanId.{ChanId};
+ghost use Rattle.ho_procedure.specs.Choices.{Entry, Choice, NoneFree, Chosen};
 
 use ho_procedure::solo::Solo;
 use ho_procedure::view::DeskView;
@@ -7,27 +9,37 @@ use radio_book::event::{Event, Kind};
 use radio_desk::desk::{Desk, DeskFault};
 use radio_desk::seat::Receipt;
 use std::alloc::{Allocator, Global};
+use std::marker::Model;
 
 /// A channel of a cell was asked for, and none was free.
 #[derive(Clone, Copy, Debug, PartialEq, Eq)]
-pub(crate) struct NoneFree {
+pub struct NoneFree {
     /// How many events had been asked before.
-    pub(crate) place: usize,
-    pub(crate) cell: u8,
+    pub place: usize,
+    pub cell: u8,
 }
 
-/// A desk of one's own, which keeps the events that were asked, and each cell that was found without a free channel, in
-/// their order.
+/// A desk of one's own, and each cell that was found without a free channel, in their order. Contracts see it as the desk.
 #[derive(Drop)]
-pub(crate) struct Noting<A: Allocator = Global> {
+pub struct Noting<A: Allocator = Global> {
     solo: Solo<A>,
     none_free: Vec<NoneFree, A>,
 }
 
+impl<A: Allocator> Model for Noting<A> {
+    ghost use Rattle.radio_desk.specs.Desk.{DeskState, desk_code};
+
+    ghost Value = { DeskState };
+
+    ghost coded = { desk_code };
+
+    ghost view = { λ noting. noting.solo };
+}
+
 impl<A: Allocator + Copy> Noting<A> {
     /// A desk; nothing is noted yet.
-    pub(crate) fn new(alloc: A, desk: Desk<A>) -> Noting<A>
-        ensures { result.solo ≡ desk }
+    pub fn new(alloc: A, desk: Desk<A>) -> Noting<A>
+        ensures desk { result ≡ desk }
     {
         Noting {
             solo: Solo::new(desk),
@@ -36,14 +48,14 @@ impl<A: Allocator + Copy> Noting<A> {
     }
 
     /// The desk.
-    pub(crate) fn desk(&self) -> &Desk<A>
-        ensures { result.now ≡ self.now.solo }
+    pub fn desk(&self) -> &Desk<A>
+        ensures desk { result.now ≡ self.now }
     {
         self.solo.desk()
     }
 
     /// The cells that were found without a free channel.
-    pub(crate) fn none_free(&self) -> &[NoneFree] {
+    pub fn none_free(&self) -> &[NoneFree] {
         self.none_free.as_slice()
     }
 }
@@ -51,9 +63,9 @@ impl<A: Allocator + Copy> Noting<A> {
 impl<A: Allocator + Copy> DeskView for Noting<A> {
     ghost use Rattle.ho_procedure.specs.Choices.{AllowsAfter};
 
-    ghost log = { λ noting. noting.solo.history };
+    ghost log = { λ noting. noting.history };
 
-    ghost choice_at = { λ noting log choice. AllowsAfter noting.solo.opening log choice };
+    ghost choice_at = { λ noting log choice. AllowsAfter noting.opening log choice };
 
     ghost may_be_foreign = { λ noting. ⊥ };
 

@@ -1,7 +1,9 @@
 //! A controller that is driven by a script, on one thread.
-ghost use Rattle.std.specs.Prelude.{◌≡◌, ◌≢◌, ◌⊎◌, Ok, Err, None, IsSome, IfOk};
+ghost use Rattle.std.specs.Prelude.{◌≡◌, ◌≢◌, ◌⊎◌, Ok, Err, None, IsSome, IfOk, IfSome};
 ghost use Rattle.cell_table.specs.SiteFile.{described_site, IsBlankFile};
-ghost use Rattle.lab_script.specs.Script.{first_unread};
+ghost use Rattle.lab_script.specs.Script.{first_unread, items_of};
+ghost use Rattle.lab.specs.Turns.{inputs_in};
+ghost use Rattle.lab.specs.Course.{Played, IsPlayed};
 ghost use Rattle.lab.specs.Statuses.{status_of, status_after, exit_status_of};
 
 use crate::course::Course;
@@ -95,7 +97,8 @@ fn run_items<A: Allocator + Copy, W: Write>(
     items: Vec<Item<A>, A>,
     out: &mut W,
 ) -> Result<Status, LabFault>
-    ensures { IfOk result (λ status. status ≡ Status.Done) }
+    ensures done { IfOk result (λ status. status ≡ Status.Done) }
+    ensures played { IfOk result (λ _. Played A site (inputs_in items.items)) }
 {
     let site = Arc::new(alloc, site).map_err(AllocError::from)?;
     let mut course = Course::new(alloc, site)?;
@@ -111,6 +114,7 @@ fn script_items<A: Allocator + Copy, W: Write>(
     out: &mut W,
 ) -> Result<Option<Vec<Item<A>, A>>, LabFault>
     ensures read { IfOk result (λ items. IsSome items → first_unread script.now ≡ None) }
+    ensures items { IfOk result (λ items. IfSome items (λ found. found.items ≡ items_of script.now)) }
     ensures refused { IfOk result (λ items. items ≡ None → IsSome (first_unread script.now)) }
     ensures memory { result ≡ Err LabFault.NoMemory → first_unread script.now ≡ None }
 {
@@ -132,6 +136,7 @@ fn run_script<A: Allocator + Copy, W: Write>(
     out: &mut W,
 ) -> Result<Status, LabFault>
     ensures done { result ≡ Ok Status.Done → first_unread script.now ≡ None }
+    ensures played { result ≡ Ok Status.Done → Played A site (inputs_in (items_of script.now)) }
     ensures differs { result ≢ Ok Status.Differs }
     ensures refused { result ≡ Ok Status.Refused → IsSome (first_unread script.now) }
     ensures memory { result ≡ Err LabFault.NoMemory → first_unread script.now ≡ None }
@@ -175,8 +180,7 @@ pub fn lab_run<A: Allocator + Copy, W: Write>(
     script: &str,
     out: &mut W,
 ) -> Result<Status, LabFault>
-    ensures done { result ≡ Ok Status.Done → IsSome (described_site site.now) ×
-        (first_unread script.now ≡ None) }
+    ensures played { result ≡ Ok Status.Done → IsPlayed A site.now script.now }
     ensures differs { result ≢ Ok Status.Differs }
     ensures refused { result ≡ Ok Status.Refused →
         (described_site site.now ≡ None) ⊎ IsSome (first_unread script.now) }

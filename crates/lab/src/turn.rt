@@ -1,6 +1,8 @@
 //! One input, and what came of it.
-ghost use Rattle.std.specs.Prelude.{◌≡◌, ◌++◌, ◌∷◌, [], drop, IfOk, OnOk, option_map, slice_get};
-ghost use Rattle.lab.specs.Turns.{asked_in};
+ghost use Rattle.std.specs.Prelude.{◌≡◌, ◌++◌, ◌∷◌, [], List, drop, IfOk, OnOk, OnErr};
+ghost use Rattle.ho_procedure.specs.Sent.{Sent};
+ghost use Rattle.ho_procedure.specs.Handling.{Stops};
+ghost use Rattle.lab.specs.Turns.{asked_in, history_of, choice_at, Answers, IsTurn};
 
 use crate::noting::{NoneFree, Noting};
 use ho_procedure::controller::Controller;
@@ -14,7 +16,7 @@ use trace_text::trace::{Step, print_fault, print_input, print_sent, print_steps}
 
 /// Where an input comes from.
 #[derive(Clone, Copy, Debug, PartialEq, Eq)]
-pub(crate) enum Source {
+pub enum Source {
     /// A line of the script gives it.
     Script,
     /// A simulated station sends it.
@@ -23,7 +25,7 @@ pub(crate) enum Source {
 
 /// What a controller answered to an input.
 #[derive(Drop)]
-pub(crate) enum Answer<A: Allocator = Global> {
+pub enum Answer<A: Allocator = Global> {
     /// It sent these messages.
     Sent(Vec<Outbound<A>, A>),
     /// The octets are no message.
@@ -32,11 +34,11 @@ pub(crate) enum Answer<A: Allocator = Global> {
 
 /// An input, what the controller asked of its book, and what it answered.
 #[derive(Drop)]
-pub(crate) struct Turn<A: Allocator = Global> {
-    pub(crate) source: Source,
-    pub(crate) input: Inbound<A>,
-    pub(crate) steps: Vec<Step, A>,
-    pub(crate) answer: Answer<A>,
+pub struct Turn<A: Allocator = Global> {
+    pub source: Source,
+    pub input: Inbound<A>,
+    pub steps: Vec<Step, A>,
+    pub answer: Answer<A>,
 }
 
 /// The same input once more.
@@ -113,23 +115,33 @@ fn steps_from<A: Allocator + Copy>(
 fn handled<A: Allocator + Copy>(
     controller: &mut Controller<Noting<A>, A>,
     input: Inbound<A>,
-) -> Result<Answer<A>, AllocError> {
+) -> Result<Answer<A>, AllocError>
+    ensures answers { IfOk result (λ answer. Answers controller.old input answer controller.new) }
+    ensures stops { OnErr result ((owed : List Sent) × Stops {A = A} history_of choice_at
+        controller.old.2 controller.old.0 controller.old.1 input
+        controller.new.0 controller.new.1 owed) }
+    ensures site { controller.new.2 ≡ controller.old.2 }
+{
     match controller.handle(input) {
         Ok(sent) => Ok(Answer::Sent(sent)),
         Err(Fault::Undecoded(_, bad)) => Ok(Answer::Undecoded(bad)),
         Err(Fault::NoMemory(_)) => Err(AllocError),
-        // a view of its own desk is never told that its receipts are foreign
-        Err(Fault::Desk(..)) => Err(AllocError),
+        // the desk of a view of its own knows all of its receipts
+        Err(Fault::Desk(..)) => unreachable!(),
     }
 }
 
 /// Handles an input, and says what came of it.
-pub(crate) fn take_turn<A: Allocator + Copy>(
+pub fn take_turn<A: Allocator + Copy>(
     alloc: A,
     controller: &mut Controller<Noting<A>, A>,
     source: Source,
     input: Inbound<A>,
-) -> Result<Turn<A>, AllocError> {
+) -> Result<Turn<A>, AllocError>
+    ensures turn { IfOk result (λ turn. IsTurn controller.old turn controller.new) }
+    ensures source { IfOk result (λ turn. turn.source ≡ source) }
+    ensures input { IfOk result (λ turn. turn.input ≡ input) }
+{
     let first = controller.view().desk().len();
     let found = controller.view().none_free().len();
     let given = copy_of(alloc, &input)?;
@@ -146,7 +158,7 @@ pub(crate) fn take_turn<A: Allocator + Copy>(
 }
 
 /// Prints what came of an input.
-pub(crate) fn print_turn<A: Allocator, W: Write>(out: &mut W, turn: &Turn<A>) -> io::Result<()> {
+pub fn print_turn<A: Allocator, W: Write>(out: &mut W, turn: &Turn<A>) -> io::Result<()> {
     print_input(out, &turn.input)?;
     print_steps(out, &turn.steps)?;
     match &turn.answer {

@@ -1,7 +1,9 @@
 //! Scripts with simulated stations and mobiles. Traces are worked out by hand from the tables of the procedure and of the
 //! stations.
-use super::{SITE, prints};
+use super::{SITE, printed, prints};
 use lab::run::Status;
+use std::alloc::{AllocError, Global};
+use std::process::Abort;
 use std::test::Fail;
 
 /// A mobile arrives.
@@ -212,4 +214,41 @@ fn simulated_stations_answer(rt: HostRuntime) -> Result<(), Fail> {
         prints(&rt, rt.alloc(), SITE, *script, Status::Done, *trace)?;
     }
     Ok(())
+}
+
+/// A call that begins and ends while both acknowledgements are held; its release is acknowledged by hand.
+const HELD: &str = "hold 0 0 3\nhold 0 0 3\nopen 1 0 0 3\nclear 1\nabis 0 0 0833010b\n";
+
+/// So many such calls; then all that was held is let go.
+fn held_script(alloc: Global, calls: u16) -> Result<String, AllocError> {
+    let mut script = String::from_str(alloc, "sim\n")?;
+    for _ in 0..calls {
+        script.push_str(HELD)?;
+    }
+    script.push_str("let 0 0 3\n")?;
+    Ok(script)
+}
+
+/// How many lines of a text are this one.
+fn lines_that_are(text: &str, wanted: &str) -> usize {
+    text.split('\n').filter(|line| *line == wanted).count()
+}
+
+/// Of so many calls that held two acknowledgements each, five thousand activations and five thousand releases are handled;
+/// the rest is cut off or not.
+fn is_cut(rt: &impl Abort, alloc: Global, calls: u16, cut: usize) -> Result<(), Fail> {
+    let script = held_script(alloc, calls)?;
+    let (status, text) = printed(alloc, alloc, SITE, &script)?;
+    assert!(rt; status == Ok(Status::Done));
+    assert!(rt; lines_that_are(&text, "in abis 0 0 0822010b080000") == 5000);
+    assert!(rt; lines_that_are(&text, "sim limit") == cut);
+    let end = "\nend channels=0 calls=0 references=0 timers=0\n";
+    assert!(rt; text.ends_with(end));
+    Ok(())
+}
+
+#[test]
+fn ten_thousand_answers_to_one_line_are_handled(rt: HostRuntime) -> Result<(), Fail> {
+    is_cut(&rt, rt.alloc(), 5000, 0)?;
+    is_cut(&rt, rt.alloc(), 5001, 1)
 }
