@@ -1,3 +1,5 @@
 pub mod Going
 pub mod Reporting
+pub mod Ranking
+pub mod Handled
 pub mod Asking

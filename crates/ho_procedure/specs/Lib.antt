@@ -8,4 +8,5 @@ pub mod Windows
 pub mod Plan
 pub mod Procedure
 pub mod Going
+pub mod Following
 pub mod Handling

@@ -7,6 +7,7 @@ mod commands;
 pub mod controller;
 mod decoding;
 pub mod exchange;
+mod following;
 pub mod naming;
 mod outbox;
 mod records;

@@ -79,6 +79,7 @@ fn is_accepted(reply: Reply) -> bool
 }
 
 /// Drops the reports of a call, once an event says so.
+#[tactic(auto, using(crate::proofs::Reporting::but_one))]
 fn drop_reports<A: Allocator>(windows: &mut Windows<A>, event: Event, reply: Reply)
     ensures reports { (call : ℕ) → last_reports windows.new call ≡
         dropped_if (is_accepted reply) (call_dropped event) call (last_reports windows.old call) }
@@ -193,7 +194,7 @@ impl<D: DeskView + Drop, A: Allocator + Copy> Work<D, A> {
     }
 
     /// Notes a report of a call.
-    #[tactic(auto, using(crate::proofs::Going::noted, crate::proofs::Reporting::noted_reports))]
+    #[tactic(auto, using(crate::proofs::Going::noted, crate::proofs::Reporting::but_one))]
     pub(crate) fn note(&mut self, call: u16, report: &MeasResults)
         requires { IsTrue self.old.windows.is_ready }
         ensures goes { (next : Plan) → Passes D.log D.choice_at self.old
@@ -211,7 +212,7 @@ impl<D: DeskView + Drop, A: Allocator + Copy> Work<D, A> {
 
 impl<D: DeskView + Drop, A: Allocator + Copy> Work<D, A> {
     /// The candidates that the last reports of a call make of the cells.
-    #[tactic(auto, using(crate::proofs::Going::ranked, crate::proofs::Going::waits))]
+    #[tactic(auto, using(crate::proofs::Going::ranked, crate::proofs::Going::waits, crate::proofs::Ranking::are_candidates, crate::proofs::Ranking::no_candidates))]
     pub(crate) fn rank(
         &self,
         site: &Site<A>,
@@ -227,6 +228,7 @@ impl<D: DeskView + Drop, A: Allocator + Copy> Work<D, A> {
             Goes D.log D.choice_at self.now p self.now Asking) }
         ensures no_memory { OnErr result (result ≡ Err DeskFault.NoMemory) }
     {
+        let _cells = site.cells();
         let Some(window) = self.windows.window(call) else {
             return Ok(Vec::new(self.alloc));
         };
