@@ -1,11 +1,30 @@
 -- Facts of the lines of a script.
-use Rattle.std.proofs.Common.{◌≡◌, ◌≢◌, ℕ, ◌+◌, ◌-◌, ◌<◌, ◌∷◌, ◌++◌, List, [], Bool, true, Option, Some, None, refl, sym, ap, ◌∙◌, arith, rules, length, take, get_or, is_some, option_map, map, length-append, unwrap_or, suc, zero, ◌==◌, Bor, MatchOption}
+use Rattle.std.proofs.Common.{◌||◌, ◌≡◌, ◌≢◌, ℕ, ◌+◌, ◌-◌, ◌<◌, ◌∷◌, ◌++◌, List, [], Bool, true, Option, Some, None, refl, sym, ap, ◌∙◌, arith, rules, length, take, get_or, is_some, option_map, map, length-append, unwrap_or, suc, zero, ◌==◌, Bor, MatchOption}
 use Rattle.std.specs.List.{filter_map, position_from, slice_split, cons_option}
 use Rattle.std.specs.Str.Lines.{strip_carriage_return}
 use Rattle.std.proofs.lemmas.List.{map-append, get_or-map, length-map}
 use Rattle.std.proofs.lemmas.List.Elements.{filter_map-append}
 use Rattle.std.proofs.Math.Seq.{take-suc, take-length, take-append_seam, get_or-append_seam}
-use Rattle.lab_script.specs.Script.{first_line, item_of, items_of}
+use Rattle.std.specs.Option.{option_or}
+use Rattle.ho_procedure.specs.declared.exchange.Inbound.{Inbound}
+use Rattle.lab_script.specs.declared.script.Item.TheVariants.{Input}
+use Rattle.lab_script.specs.Script.{first_line, input_of, simulated, item_of, items_of}
+
+-- an input is given
+pub some_item : (A : Type 0) (line : List ℕ) → is_some (input_of {A = A} line) ≡ true → is_some (item_of {A = A} line) ≡ true
+some_item A line s = by_input (input_of {A = A} line) s
+  where
+    by_input : (i : Option (Inbound A)) → is_some i ≡ true → is_some (option_or (option_map Input i) (simulated {A = A} line)) ≡ true
+    by_input (Some x) s = refl
+    by_input None s = absurd (search rules)
+
+-- an input or what the simulated stations are told is given
+pub gives_either : (line : List ℕ) → is_some (item_of {A = Unit {0}} line) ≡ is_some (input_of {A = Unit {0}} line) || is_some (simulated {A = Unit {0}} line)
+gives_either line = by_input (input_of {A = Unit {0}} line)
+  where
+    by_input : (i : Option (Inbound (Unit {0}))) → is_some (option_or (option_map Input i) (simulated {A = Unit {0}} line)) ≡ is_some i || is_some (simulated {A = Unit {0}} line)
+    by_input (Some x) = refl
+    by_input None = refl
 
 pub strip_carriage_return-append : (front : List ℕ) → strip_carriage_return (front ++ (13 ∷ [])) ≡ front
 strip_carriage_return-append front =

@@ -143,11 +143,18 @@ fn is_setting(line: &str) -> bool
     setting_line(line).is_some()
 }
 
+/// Whether a line is one for the simulated stations.
+fn is_simulated(line: &str) -> bool
+    ensures { result ≡ is_some (said.simulated {A = Unit} line.now) }
+{
+    is_sim(line) || is_setting(line)
+}
+
 /// Whether a line gives something.
 fn gives(line: &str) -> bool
     ensures { result ≡ is_some (said.item_of {A = Unit} line.now) }
 {
-    is_input(line) || is_sim(line) || is_setting(line)
+    is_input(line) || is_simulated(line)
 }
 
 /// Whether a line gives something or is passed over.
