@@ -3,7 +3,6 @@ use Rattle.std.specs.Prelude.{ℕ, Bool, true, false, nat_lt, if◌then◌else�
 use Rattle.channel_fsm.specs.declared.ChanId.{ChanId}
 use Rattle.cell_table.specs.declared.tables.CellIdentity.{CellIdentity}
 use Rattle.cell_table.specs.Site.{SiteView, CellView, TrxView, is_traffic, identity_at}
-use Rattle.rr_elements.specs.declared.cause.RrCause.{RrCause}
 use Rattle.rr_messages.specs.declared.message.Rr.{Rr}
 use Rattle.rr_messages.specs.declared.message.Rr.TheVariants.{HandoverCommand, ChannelRelease}
 use Rattle.rr_messages.specs.Rr.{rr_text}
@@ -66,7 +65,7 @@ command_to site x n =
 
 -- CHANNEL RELEASE (clause 9.1.7) with its RR cause (10.5.2.31): 0 normal event, 1 abnormal release
 abbrev pub channel_release : ChanId → ℕ → Sent
-channel_release x cause = to_mobile x (ChannelRelease (RrCause cause))
+channel_release x cause = to_mobile x (ChannelRelease (record { 0 = cause }))
 
 -- Messages on A (TS 48.008).
 

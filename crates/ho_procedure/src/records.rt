@@ -41,20 +41,20 @@ pub(crate) fn is_target(chan: ChanId, target: Option<ChanId>) -> bool
 }
 
 /// The channel is the target of the call's attempt.
-pub(crate) fn is_target_in(chan: ChanId, record: CallRecord) -> bool
-    ensures { result ≡ is_target chan (target_in record) }
+pub(crate) fn is_target_in(chan: ChanId, shown: CallRecord) -> bool
+    ensures { result ≡ is_target chan (target_in shown) }
 {
-    match record.attempt {
+    match shown.attempt {
         Some(attempt) => is_target(chan, attempt.target),
         None => false,
     }
 }
 
 /// The call is served on the channel.
-pub(crate) fn is_serving(chan: ChanId, record: CallRecord) -> bool
-    ensures { result ≡ is_serving chan record }
+pub(crate) fn is_serving(chan: ChanId, shown: CallRecord) -> bool
+    ensures { result ≡ is_serving chan shown }
 {
-    is_target(chan, record.serving)
+    is_target(chan, shown.serving)
 }
 
 /// The activation of the target was sent, and not refused.
