@@ -1,5 +1,6 @@
 pub mod Going
 pub mod Reporting
 pub mod Ranking
+pub mod Seated
 pub mod Handled
 pub mod Asking

@@ -12,7 +12,9 @@ pub are_candidates : (site : SiteView) (w : Reports) (reports : List Results) (s
     → w.width ≡ site.handover.window → w.reports ≡ reports → ((c : Candidate) → Contains found c ↔ IsCandidate w site serving c) → AllPairs StandsBefore found
     → AreCandidates site reports serving found
 are_candidates site w reports serving found wide same members order =
-    let is : w ≡ record { reports = reports; width = site.handover.window } = cc in
+    let parts : w ≡ record { reports = w.reports; width = w.width } = refl in
+    let is : w ≡ record { reports = reports; width = site.handover.window } =
+        parts ∙ ap (λ n. record { reports = w.reports; width = n }) wide ∙ ap (λ rs. record { reports = rs; width = site.handover.window }) same in
     record { members = λ c. subst (λ v. Contains found c ↔ IsCandidate v site serving c) is (members c); order = order }
 
 -- without reports there is none

@@ -219,9 +219,12 @@ abbrev pub if_reference : Option ℕ → (ℕ → Plan) → Plan
 if_reference None next = Ends
 if_reference (Some n) next = next n
 
+unfoldable pub send_command : ℕ → ChanId → Rr → Plan
+send_command c s m = Asks (event.Command c) (if_done (Sends (to_mobile s m) Ends))
+
 abbrev pub internal_command : SiteView → ℕ → ChanId → Option ChanId → Option ℕ → Plan
 internal_command site c x serving reference =
-    if_named serving (λ s. if_reference reference (λ n. if_command (command_to site x n) (λ m. Asks (event.Command c) (if_done (Sends (to_mobile s m) Ends)))))
+    if_named serving (λ s. if_reference reference (λ n. if_command (command_to site x n) (λ m. send_command c s m)))
 
 abbrev pub command_plan : SiteView → ℕ → ChanId → Option ChanId → Attempt → AttemptKind → Plan
 command_plan site c x serving a Internal = internal_command site c x serving a.reference

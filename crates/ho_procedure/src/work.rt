@@ -136,6 +136,7 @@ impl<D: DeskView + Drop, A: Allocator + Copy> Work<D, A> {
         ensures reports { IfOk result (λ reply. (call : ℕ) → last_reports self.new.windows call ≡
             dropped_if (is_accepted reply) (call_dropped event) call
             (last_reports self.old.windows call)) }
+        ensures kept { OnErr result (self.new.windows ≡ self.old.windows) }
         ensures width { self.new.windows.width ≡ self.old.windows.width }
         ensures ready { self.old.windows.is_ready ≡ true → self.new.windows.is_ready ≡ true }
         ensures foreign { IfErr result (λ f. IsForeign f → D.may_be_foreign self.old.view) }
