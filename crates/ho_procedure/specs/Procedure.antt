@@ -102,8 +102,11 @@ is_commanded stage.Required = false
 is_commanded stage.Ordered = false
 
 -- An operator opens a call: CHANNEL ACTIVATION (TS 48.058 clause 4.1).
+unfoldable pub opened_plan : ChanId → Plan
+opened_plan x = if is_nameable x then Sends (activation x) Ends else Ends
+
 unfoldable pub open_plan : ℕ → ChanId → Plan
-open_plan c x = Asks (event.Open c x) (if_done (if is_nameable x then Sends (activation x) Ends else Ends))
+open_plan c x = Asks (event.Open c x) (if_done (opened_plan x))
 
 -- A handover begins (TS 44.018 clause 3.4.4): a channel is taken, a reference reserved, CHANNEL ACTIVATION sent
 -- (TS 48.058 clause 4.1). For an outside cell nothing is asked.
