@@ -1,0 +1,2 @@
+mod WindowFacts
+mod MessageFacts
