@@ -1,6 +1,12 @@
+pub mod Choices
 pub mod Sent
 pub mod Messages
 pub mod Owed
 pub mod Decoding
 pub mod Naming
 pub mod Windows
+pub mod Plan
+pub mod Procedure
+pub mod Going
+pub mod Following
+pub mod Handling

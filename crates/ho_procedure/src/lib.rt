@@ -4,9 +4,17 @@
 
 mod buffers;
 mod commands;
+pub mod controller;
 mod decoding;
 pub mod exchange;
+mod following;
 pub mod naming;
 mod outbox;
+mod records;
+mod rows;
+mod sending;
+pub mod solo;
 mod texts;
+pub mod view;
 mod windows;
+mod work;

@@ -1,0 +1,48 @@
+-- What is chosen where a view chooses: a free channel of a cell (TS 48.058 clause 4), a free Handover Reference
+-- (TS 44.018 clause 10.5.2.15).
+use Rattle.std.specs.Prelude.{ℕ, List}
+use Rattle.radio_book.specs.declared.event.Event.{Event}
+use Rattle.radio_book.specs.declared.event.Event.TheVariants.{Open, Clear, Look, Take, Reserve, Activate, Command, Complete, Undo, Confirm, Refuse, Detect, Released, Owner, Require, Order, Left}
+use Rattle.radio_book.specs.declared.event.Reply.{Reply}
+use Rattle.radio_book.specs.State.{State, record_of}
+use Rattle.radio_book.specs.Run.{Leads}
+use Rattle.radio_book.specs.Choice.{IsFreeIn, MayReserve, taken_channel}
+use Rattle.radio_book.specs.Choice as free
+
+-- an event that was asked, and its reply
+abbrev pub Entry : Type 0
+Entry = Event × Reply
+
+-- No channel of a cell is chosen, or this Take or Reserve is.
+pub data Choice : Type 0 where
+  NoneFree : ℕ → Choice
+  Chosen : Event → Choice
+
+-- the book has what is chosen: the channel is free, or the number is in the cell of the taken channel
+abbrev pub IsThere : State → Event → Type 0
+IsThere b (Take c k x) = IsFreeIn b x.cell x
+IsThere b (Reserve c n) = MayReserve b (taken_channel (record_of b c)) n
+IsThere b (Open c x) = ⊥
+IsThere b (Clear c) = ⊥
+IsThere b (Look c) = ⊥
+IsThere b (Activate c) = ⊥
+IsThere b (Command c) = ⊥
+IsThere b (Complete c) = ⊥
+IsThere b (Undo c why) = ⊥
+IsThere b (Confirm x) = ⊥
+IsThere b (Refuse x) = ⊥
+IsThere b (Detect x) = ⊥
+IsThere b (Released x) = ⊥
+IsThere b (Owner x) = ⊥
+IsThere b (Require c) = ⊥
+IsThere b (Order c) = ⊥
+IsThere b (Left c) = ⊥
+
+-- the book allows the choice
+abbrev pub Allows : State → Choice → Type 0
+Allows b (NoneFree cell) = free.NoneFree b cell
+Allows b (Chosen e) = IsThere b e
+
+-- so does the book that a log leads to
+abbrev pub AllowsAfter : State → List Entry → Choice → Type 0
+AllowsAfter opening log choice = (b : State) × Leads opening log b × Allows b choice

@@ -1,0 +1,37 @@
+-- What comes of an input's row where it isn't followed to its end.
+use Rattle.std.specs.Prelude.{◌≡◌, ◌⊎◌, List}
+use Rattle.ho_procedure.specs.declared.exchange.Link.{Link}
+use Rattle.ho_procedure.specs.declared.exchange.Bad.{Bad}
+use Rattle.ho_procedure.specs.declared.following.Stop.{Stop}
+use Rattle.ho_procedure.specs.declared.following.Stop.TheVariants as stop
+use Rattle.ho_procedure.specs.declared.decoding.Unread.{Unread}
+use Rattle.ho_procedure.specs.declared.decoding.Unread.TheVariants as unread
+use Rattle.ho_procedure.specs.declared.work.Work.{Work}
+use Rattle.ho_procedure.specs.Choices.{Entry, Choice}
+use Rattle.ho_procedure.specs.Plan.{Plan, Asking}
+use Rattle.ho_procedure.specs.Going.{Goes}
+
+-- a row of the input was followed up to a step that asks
+abbrev pub StopsInRow : {D A : Type 0} → (D → List Entry) → (D → List Entry → Choice → Type 0) → Work D A → (Plan → Type 0) → Work D A → Type 0
+StopsInRow log may w IsRow w' = (p : Plan) × IsRow p × Goes log may w p w' Asking
+
+-- Octets that can't be read, or whose memory was refused, leave all as it was; else the row was followed so far.
+abbrev pub Stopped : {D A : Type 0} → (D → List Entry) → (D → List Entry → Choice → Type 0) → Work D A → (Plan → Type 0) → (Link → Bad → Type 0) → Type 0 → Work D A → Stop → Type 0
+Stopped log may w IsRow CantBeRead MayRefuse w' (stop.Unread l b) = CantBeRead l b × (w' ≡ w)
+Stopped log may w IsRow CantBeRead MayRefuse w' stop.NoMemory = StopsInRow log may w IsRow w' ⊎ (MayRefuse × (w' ≡ w))
+Stopped log may w IsRow CantBeRead MayRefuse w' (stop.Foreign place) = StopsInRow log may w IsRow w'
+
+abbrev pub IsForeignStop : Stop → Type 0
+IsForeignStop (stop.Unread l b) = ⊥
+IsForeignStop stop.NoMemory = ⊥
+IsForeignStop (stop.Foreign place) = Unit {0}
+
+-- it isn't octets that can't be read
+abbrev pub IsDeskStop : Stop → Type 0
+IsDeskStop (stop.Unread l b) = ⊥
+IsDeskStop stop.NoMemory = Unit {0}
+IsDeskStop (stop.Foreign place) = Unit {0}
+
+abbrev pub IsStopOf : Unread → Stop → Type 0
+IsStopOf (unread.Undecoded l b) s = s ≡ stop.Unread l b
+IsStopOf unread.NoMemory s = s ≡ stop.NoMemory

@@ -1,0 +1,57 @@
+-- What the work on a row comes to.
+use Rattle.std.specs.Prelude.{◌≡◌, ℕ, List, [], ◌∷◌, ◌++◌, Option, Some, None}
+use Rattle.channel_fsm.specs.declared.ChanState.{ChanState}
+use Rattle.rr_elements.specs.MeasResults.{Results}
+use Rattle.radio_book.specs.declared.event.CallRecord.{CallRecord}
+use Rattle.radio_desk.specs.declared.desk.DeskFault.{DeskFault}
+use Rattle.radio_desk.specs.declared.desk.DeskFault.TheVariants.{Foreign, NoMemory}
+use Rattle.ho_procedure.specs.declared.work.Work.{Work}
+use Rattle.ho_procedure.specs.declared.work.Course.{Course}
+use Rattle.ho_procedure.specs.declared.work.Course.TheVariants.{On, Over}
+use Rattle.ho_procedure.specs.declared.work.Shown.{Shown}
+use Rattle.ho_procedure.specs.Choices.{Entry, Choice}
+use Rattle.ho_procedure.specs.Windows.{Kept, reports_of}
+use Rattle.ho_procedure.specs.Plan.{Plan, Ends, Step, Until, LeadsUntil, ChoicesAt, entries_of, messages_of, reports_after}
+
+-- the last reports of a call
+abbrev pub last_reports : Kept → ℕ → List Results
+last_reports windows call = (reports_of windows call).reports
+
+-- Some trace leads from the one plan to the other: its entries are what the view's log gained, its messages what is owed
+-- since, its choices what the view may choose, and the reports of each call are those after it.
+pub record Run {D A : Type 0} (log : D → List Entry) (may : D → List Entry → Choice → Type 0) (w : Work D A) (p : Plan) (w' : Work D A) (u : Until) : Type 0 where
+  pub trace : List Step
+  pub leads : LeadsUntil p trace u
+  pub entries : log w'.view ≡ log w.view ++ entries_of trace
+  pub messages : w'.owed.items ≡ w.owed.items ++ messages_of trace
+  pub choices : ChoicesAt (may w.view) (log w.view) trace
+  pub reports : (call : ℕ) → last_reports w'.windows call ≡ reports_after call trace (last_reports w.windows call)
+  pub width : w'.windows.width ≡ w.windows.width
+  pub choice_kept : (es : List Entry) → (choice : Choice) → may w'.view es choice → may w.view es choice
+
+-- the same, closed: a caller needs no more than that it may be put together
+unfoldable pub Goes : {D A : Type 0} → (D → List Entry) → (D → List Entry → Choice → Type 0) → Work D A → Plan → Work D A → Until → Type 0
+Goes log may w p w' u = Run log may w p w' u
+
+-- Whatever goes on from the second goes on so from the first.
+abbrev pub Passes : {D A : Type 0} → (D → List Entry) → (D → List Entry → Choice → Type 0) → Work D A → Plan → Work D A → Plan → Type 0
+Passes {D} {A} log may w p w' q = (w'' : Work D A) → (u : Until) → Goes log may w' q w'' u → Goes log may w p w'' u
+
+-- what a row goes on with, where there is a call, or a record, to go on with
+abbrev pub then_of : (ℕ → Plan) → Option ℕ → Plan
+then_of next None = Ends
+then_of next (Some c) = next c
+
+abbrev pub then_shown : (CallRecord → Option ChanState → Plan) → Option Shown → Plan
+then_shown next None = Ends
+then_shown next (Some x) = next x.record x.state
+
+-- where a row goes on it has this plan, and where it is over none
+abbrev pub then : Plan → Course → Plan
+then tail On = tail
+then tail Over = Ends
+
+-- the desk doesn't know the view's last receipt
+abbrev pub IsForeign : DeskFault → Type 0
+IsForeign (Foreign place) = Unit {0}
+IsForeign NoMemory = ⊥

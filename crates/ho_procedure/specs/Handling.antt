@@ -1,0 +1,79 @@
+-- What the handling of an input comes to.
+use Rattle.std.specs.Prelude.{◌≡◌, ◌⊎◌, ℕ, List, [], ◌++◌, Option}
+use Rattle.cell_table.specs.Site.{SiteView}
+use Rattle.rr_elements.specs.MeasResults.{Results}
+use Rattle.rr_messages.specs.declared.message.Rr.{Rr}
+use Rattle.rsl_messages.specs.declared.message.Rsl.{Rsl}
+use Rattle.rsl_messages.specs.Messages as abis_messages
+use Rattle.rsl_messages.specs.Texts as abis
+use Rattle.bssmap_messages.specs.declared.message.Bssmap.{Bssmap}
+use Rattle.bssmap_messages.specs.Messages as a_messages
+use Rattle.bssmap_messages.specs.Texts as interface_a
+use Rattle.ho_procedure.specs.declared.exchange.Inbound.{Inbound}
+use Rattle.ho_procedure.specs.declared.exchange.Inbound.TheVariants as inbound
+use Rattle.ho_procedure.specs.declared.exchange.Link.{Link}
+use Rattle.ho_procedure.specs.declared.exchange.Bad.{Bad}
+use Rattle.ho_procedure.specs.declared.exchange.Fault.{Fault}
+use Rattle.ho_procedure.specs.declared.exchange.Fault.TheVariants.{Undecoded, NoMemory, Desk}
+use Rattle.ho_procedure.specs.Choices.{Entry, Choice}
+use Rattle.ho_procedure.specs.Decoding.{IsAbis, IsUnreadAbis, IsUnreadA}
+use Rattle.ho_procedure.specs.Sent.{Sent, all_sent}
+use Rattle.ho_procedure.specs.Windows.{Kept}
+use Rattle.ho_procedure.specs.Going.{last_reports}
+use Rattle.ho_procedure.specs.Plan.{Plan, Step, Until, At, Asking, Ends, LeadsUntil, ChoicesAt, entries_of, messages_of, reports_after}
+use Rattle.ho_procedure.specs.Naming.{chan_of}
+use Rattle.ho_procedure.specs.Procedure.{line_plan, expiry_plan, abis_plan, a_plan}
+
+-- The row of an input: of the message that its octets are a text of, of the timer that ran out, or of the operator's line.
+abbrev pub IsRow : {A : Type 0} → SiteView → (ℕ → List Results) → Inbound A → Plan → Type 0
+IsRow {A} site reports (inbound.Abis cell trx octets) p =
+    (message : Rsl A) × (inside : Option Rr) × IsAbis octets message inside × (p ≡ abis_plan site reports (chan_of cell trx message) message inside)
+IsRow {A} site reports (inbound.A call octets) p = (message : Bssmap A) × interface_a.IsTextOf message octets × (p ≡ a_plan call message)
+IsRow site reports (inbound.Expiry call timer) p = p ≡ expiry_plan call timer
+IsRow site reports (inbound.Operator line) p = p ≡ line_plan site line
+
+-- the octets of the input, or the text inside, have this fault
+abbrev pub IsUndecoded : {A : Type 0} → Inbound A → Link → Bad → Type 0
+IsUndecoded {A} (inbound.Abis cell trx octets) link bad = IsUnreadAbis A octets link bad
+IsUndecoded {A} (inbound.A call octets) link bad = IsUnreadA A octets link bad
+IsUndecoded (inbound.Expiry call timer) link bad = ⊥
+IsUndecoded (inbound.Operator line) link bad = ⊥
+
+-- the octets are a text of a message that keeps octets, for which memory is asked
+abbrev pub KeepsOctets : {A : Type 0} → Inbound A → Type 0
+KeepsOctets {A} (inbound.Abis cell trx octets) = (message : Rsl A) × abis.IsTextOf message octets × abis_messages.HasOctets message
+KeepsOctets {A} (inbound.A call octets) = (message : Bssmap A) × interface_a.IsTextOf message octets × a_messages.KeepsList message
+KeepsOctets (inbound.Expiry call timer) = ⊥
+KeepsOctets (inbound.Operator line) = ⊥
+
+-- Some trace follows a plan so far: its entries are what the view's log gained, its messages these, its choices what the
+-- view may choose, and the reports of each call are those after it.
+pub record Handles {D : Type 0} (log : D → List Entry) (may : D → List Entry → Choice → Type 0) (v : D) (windows : Kept) (p : Plan) (v' : D) (windows' : Kept) (out : List Sent) (u : Until) : Type 0 where
+  pub trace : List Step
+  pub leads : LeadsUntil p trace u
+  pub entries : log v' ≡ log v ++ entries_of trace
+  pub messages : out ≡ messages_of trace
+  pub choices : ChoicesAt (may v) (log v) trace
+  pub reports : (call : ℕ) → last_reports windows' call ≡ reports_after call trace (last_reports windows call)
+
+-- What the handling comes to where memory was refused, or the view's desk didn't know its last receipt: the row was followed
+-- up to a step that asks; or nothing was asked yet, and the message keeps octets, whose memory was refused.
+abbrev pub Stops : {A D : Type 0} → (D → List Entry) → (D → List Entry → Choice → Type 0) → SiteView → D → Kept → Inbound A → D → Kept → List Sent → Type 0
+Stops log may site v windows input v' windows' out =
+    ((p : Plan) × IsRow site (last_reports windows) input p × Handles log may v windows p v' windows' out Asking) ⊎ (KeepsOctets input × (v' ≡ v) × (windows' ≡ windows) × (out ≡ []))
+
+-- the messages that are owed after a fault
+abbrev pub owed_in : {A : Type 0} → Fault A → List Sent
+owed_in (Undecoded link bad) = []
+owed_in (NoMemory out) = all_sent out.items
+owed_in (Desk place out) = all_sent out.items
+
+abbrev pub IsUndecodedFault : {A : Type 0} → Fault A → Type 0
+IsUndecodedFault (Undecoded link bad) = Unit {0}
+IsUndecodedFault (NoMemory out) = ⊥
+IsUndecodedFault (Desk place out) = ⊥
+
+abbrev pub IsDeskFault : {A : Type 0} → Fault A → Type 0
+IsDeskFault (Undecoded link bad) = ⊥
+IsDeskFault (NoMemory out) = ⊥
+IsDeskFault (Desk place out) = Unit {0}

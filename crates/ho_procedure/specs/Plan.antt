@@ -1,0 +1,168 @@
+-- Plans: what a controller asks of the book and what it sends, each step by the replies before it.
+use Rattle.std.specs.Prelude.{◌≡◌, ◌⊎◌, ◌↔◌, ℕ, ◌==◌, if◌then◌else◌, Bool, true, false, List, [], ◌∷◌, ◌++◌, AllPairs, Contains, Option, Some, None}
+use Rattle.channel_fsm.specs.declared.ChanId.{ChanId}
+use Rattle.channel_fsm.specs.declared.ChanState.{ChanState}
+use Rattle.cell_table.specs.Site.{SiteView}
+use Rattle.rr_elements.specs.MeasResults.{Results}
+use Rattle.ho_candidates.specs.declared.listed.Candidate.{Candidate}
+use Rattle.ho_candidates.specs.Candidates.{IsCandidate}
+use Rattle.ho_candidates.specs.Order.{StandsBefore}
+use Rattle.radio_book.specs.declared.event.Kind.{Kind}
+use Rattle.radio_book.specs.declared.event.Event.{Event}
+use Rattle.radio_book.specs.declared.event.Event.TheVariants.{Open, Clear, Look, Take, Reserve, Activate, Command, Complete, Undo, Confirm, Refuse, Detect, Released, Owner, Require, Order, Left}
+use Rattle.radio_book.specs.declared.event.CallRecord.{CallRecord}
+use Rattle.radio_book.specs.declared.event.Reply.{Reply}
+use Rattle.radio_book.specs.declared.event.Reply.TheVariants.{Done, Record, Owned, Refused}
+use Rattle.ho_procedure.specs.Choices.{Entry, Choice, NoneFree, Chosen}
+use Rattle.ho_procedure.specs.Sent.{Sent}
+
+-- What is done with one input, step by step: an event is asked, and the reply decides the next step; some free channel of
+-- a cell is taken, or none is free; some free reference is reserved; a message is sent; a call has these last reports
+-- from now on; the candidates that such reports make of the cells are gone through in their order.
+pub data Plan : Type 0 where
+  Ends : Plan
+  Asks : Event → (Reply → Plan) → Plan
+  Takes : ℕ → Kind → ℕ → Plan → (ChanId → Reply → Plan) → Plan
+  Reserves : ℕ → (ℕ → Reply → Plan) → Plan
+  Sends : Sent → Plan → Plan
+  Notes : ℕ → List Results → Plan → Plan
+  Ranks : SiteView → List Results → ℕ → (List Candidate → Plan) → Plan
+
+-- what happened at a step
+pub data Step : Type 0 where
+  Asked : Event → Reply → Step
+  Chose : Event → Reply → Step
+  FoundNone : ℕ → Step
+  Posted : Sent → Step
+  Noted : ℕ → List Results → Step
+  Ranked : List Candidate → Step
+
+-- the candidates that these reports make of the cells, in their order
+pub record AreCandidates (site : SiteView) (reports : List Results) (serving : ℕ) (found : List Candidate) : Type 0 where
+  pub members : (c : Candidate) → Contains found c ↔ IsCandidate (record { reports = reports; width = site.handover.window }) site serving c
+  pub order : AllPairs StandsBefore found
+
+-- a step leads from the one plan to the other
+abbrev pub Moves : Plan → Step → Plan → Type 0
+Moves Ends s q = ⊥
+Moves (Asks e next) s q = (r : Reply) × (s ≡ Asked e r) × (q ≡ next r)
+Moves (Takes c k cell none next) s q =
+    ((s ≡ FoundNone cell) × (q ≡ none)) ⊎ ((x : ChanId) × (r : Reply) × (x.cell ≡ cell) × (s ≡ Chose (Take c k x) r) × (q ≡ next x r))
+Moves (Reserves c next) s q = (n : ℕ) × (r : Reply) × (s ≡ Chose (Reserve c n) r) × (q ≡ next n r)
+Moves (Sends m next) s q = (s ≡ Posted m) × (q ≡ next)
+Moves (Notes c reports next) s q = (s ≡ Noted c reports) × (q ≡ next)
+Moves (Ranks site reports serving next) s q = (found : List Candidate) × AreCandidates site reports serving found × (s ≡ Ranked found) × (q ≡ next found)
+
+-- The trace is a beginning of the first plan's, and the second plan is what is left.
+abbrev pub Leads : Plan → List Step → Plan → Type 0
+Leads p [] q = p ≡ q
+Leads p (s ∷ t) q = (next : Plan) × Moves p s next × Leads next t q
+
+-- the trace follows the plan to its end
+abbrev pub Follows : Plan → List Step → Type 0
+Follows p t = Leads p t Ends
+
+-- The plan's next step is one for which memory may be refused, or which a desk may not know: it is no message, and nothing
+-- that is noted.
+abbrev pub IsAsking : Plan → Type 0
+IsAsking Ends = ⊥
+IsAsking (Asks e next) = Unit {0}
+IsAsking (Takes c k cell none next) = Unit {0}
+IsAsking (Reserves c next) = Unit {0}
+IsAsking (Sends m next) = ⊥
+IsAsking (Notes c reports next) = ⊥
+IsAsking (Ranks site reports serving next) = Unit {0}
+
+-- how far a trace leads: to a plan, or to some plan that asks next
+pub data Until : Type 0 where
+  At : Plan → Until
+  Asking : Until
+
+abbrev pub LeadsUntil : Plan → List Step → Until → Type 0
+LeadsUntil p t (At q) = Leads p t q
+LeadsUntil p t Asking = (q : Plan) × Leads p t q × IsAsking q
+
+-- the events of a trace with their replies
+abbrev pub entries_in : Step → List Entry
+entries_in (Asked e r) = (e, r) ∷ []
+entries_in (Chose e r) = (e, r) ∷ []
+entries_in (FoundNone cell) = []
+entries_in (Posted m) = []
+entries_in (Noted c reports) = []
+entries_in (Ranked found) = []
+
+abbrev pub entries_of : List Step → List Entry
+entries_of [] = []
+entries_of (s ∷ t) = entries_in s ++ entries_of t
+
+-- its messages
+abbrev pub messages_in : Step → List Sent
+messages_in (Asked e r) = []
+messages_in (Chose e r) = []
+messages_in (FoundNone cell) = []
+messages_in (Posted m) = m ∷ []
+messages_in (Noted c reports) = []
+messages_in (Ranked found) = []
+
+abbrev pub messages_of : List Step → List Sent
+messages_of [] = []
+messages_of (s ∷ t) = messages_in s ++ messages_of t
+
+-- the choices of a trace, each made after the entries before it
+abbrev pub ChoiceIn : (Choice → Type 0) → Step → Type 0
+ChoiceIn may (Asked e r) = Unit {0}
+ChoiceIn may (Chose e r) = may (Chosen e)
+ChoiceIn may (FoundNone cell) = may (NoneFree cell)
+ChoiceIn may (Posted m) = Unit {0}
+ChoiceIn may (Noted c reports) = Unit {0}
+ChoiceIn may (Ranked found) = Unit {0}
+
+abbrev pub ChoicesAt : (List Entry → Choice → Type 0) → List Entry → List Step → Type 0
+ChoicesAt may log [] = Unit {0}
+ChoicesAt may log (s ∷ t) = ChoiceIn (may log) s × ChoicesAt may (log ++ entries_in s) t
+
+-- an event is accepted where its reply isn't a refusal
+abbrev pub is_accepted : Reply → Bool
+is_accepted Done = true
+is_accepted (Record r s) = true
+is_accepted (Owned c) = true
+is_accepted (Refused refusal) = false
+
+-- The call whose reports are dropped once the event is accepted: one that begins, that is served on another channel from
+-- now on or none, or whose attempt is taken back.
+abbrev pub call_dropped : Event → Option ℕ
+call_dropped (Open c x) = Some c
+call_dropped (Clear c) = Some c
+call_dropped (Complete c) = Some c
+call_dropped (Undo c why) = Some c
+call_dropped (Left c) = Some c
+call_dropped (Look c) = None
+call_dropped (Take c k x) = None
+call_dropped (Reserve c n) = None
+call_dropped (Activate c) = None
+call_dropped (Command c) = None
+call_dropped (Confirm x) = None
+call_dropped (Refuse x) = None
+call_dropped (Detect x) = None
+call_dropped (Released x) = None
+call_dropped (Owner x) = None
+call_dropped (Require c) = None
+call_dropped (Order c) = None
+
+abbrev pub dropped_if : Bool → Option ℕ → ℕ → List Results → List Results
+dropped_if accepted None call reports = reports
+dropped_if accepted (Some c) call reports = if accepted then (if c == call then [] else reports) else reports
+
+-- the last reports of a call after a step
+abbrev pub reports_by : ℕ → Step → List Results → List Results
+reports_by call (Asked e r) reports = dropped_if (is_accepted r) (call_dropped e) call reports
+reports_by call (Chose e r) reports = reports
+reports_by call (FoundNone cell) reports = reports
+reports_by call (Posted m) reports = reports
+reports_by call (Noted c now) reports = if c == call then now else reports
+reports_by call (Ranked found) reports = reports
+
+-- and after a trace
+abbrev pub reports_after : ℕ → List Step → List Results → List Results
+reports_after call [] reports = reports
+reports_after call (s ∷ t) reports = reports_after call t (reports_by call s reports)

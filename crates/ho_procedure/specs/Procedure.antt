@@ -1,0 +1,411 @@
+-- The procedure: for each input, what the controller asks of the book and what it sends, by the replies. A row ends at a
+-- reply that it doesn't name, and at a record that lacks what the rest of the row needs.
+use Rattle.std.specs.Prelude.{ℕ, ◌==◌, Bool, true, false, if◌then◌else◌, not, ◌&&◌, ◌||◌, nat_lt, List, [], ◌∷◌, ◌++◌, length, Option, Some, None, is_some, option_and_then}
+use Rattle.channel_fsm.specs.declared.ChanId.{ChanId}
+use Rattle.channel_fsm.specs.declared.ChanState.{ChanState}
+use Rattle.channel_fsm.specs.declared.ChanState.TheVariants.{Free, Held, Pending, On, Off}
+use Rattle.attempt_journal.specs.declared.Timer.{Timer}
+use Rattle.attempt_journal.specs.declared.Timer.TheVariants.{T3103, T7, T8}
+use Rattle.radio_book.specs.declared.event.Kind.TheVariants as kind
+use Rattle.radio_book.specs.declared.event.AttemptKind.{AttemptKind}
+use Rattle.radio_book.specs.declared.event.AttemptKind.TheVariants.{Internal, Incoming, Outgoing}
+use Rattle.radio_book.specs.declared.event.Stage.{Stage}
+use Rattle.radio_book.specs.declared.event.Stage.TheVariants as stage
+use Rattle.radio_book.specs.declared.event.Why.TheVariants.{Asked, Expired}
+use Rattle.radio_book.specs.declared.event.Attempt.{Attempt}
+use Rattle.radio_book.specs.declared.event.CallRecord.{CallRecord}
+use Rattle.radio_book.specs.declared.event.Event.{Event}
+use Rattle.radio_book.specs.declared.event.Event.TheVariants as event
+use Rattle.radio_book.specs.declared.event.Refusal.{Refusal}
+use Rattle.radio_book.specs.declared.event.Refusal.TheVariants.{NoCall, CallExists, WrongPhase, NoChannel, SameCell, ChannelBusy, RefBusy, Unexpected, NotArmed}
+use Rattle.radio_book.specs.declared.event.Reply.{Reply}
+use Rattle.radio_book.specs.declared.event.Reply.TheVariants.{Done, Record, Owned, Refused}
+use Rattle.radio_book.specs.Sound.{target_in}
+use Rattle.radio_book.specs.Table.{is_target}
+use Rattle.radio_book.specs.Stages.{stage_row}
+use Rattle.cell_table.specs.Site.{SiteView, is_traffic}
+use Rattle.rr_elements.specs.declared.cause.RrCause.{RrCause}
+use Rattle.rr_elements.specs.MeasResults.{Results}
+use Rattle.rr_messages.specs.declared.message.Rr.{Rr}
+use Rattle.rr_messages.specs.declared.message.Rr.TheVariants as rr
+use Rattle.measurements.specs.Reports.{is_valid, last_valid}
+use Rattle.ho_candidates.specs.declared.listed.Candidate.{Candidate}
+use Rattle.rsl_messages.specs.declared.message.Rsl.{Rsl}
+use Rattle.rsl_messages.specs.declared.message.Rsl.TheVariants as rsl
+use Rattle.bssmap_messages.specs.declared.message.CellId.{CellId}
+use Rattle.bssmap_messages.specs.declared.message.Bssmap.{Bssmap}
+use Rattle.bssmap_messages.specs.declared.message.Bssmap.TheVariants as bssmap
+use Rattle.ho_procedure.specs.declared.exchange.Line.{Line}
+use Rattle.ho_procedure.specs.declared.exchange.Line.TheVariants as line
+use Rattle.ho_procedure.specs.Messages.{is_nameable, activation, target_activation, release, to_mobile, command_to, channel_release, cell_id_at, clear_request, clear_complete, handover_performed}
+use Rattle.ho_procedure.specs.Plan.{Plan, Ends, Asks, Takes, Reserves, Sends, Notes, Ranks}
+
+-- A plan goes on at one reply, and ends at any other.
+
+abbrev pub if_done : Plan → Reply → Plan
+if_done next Done = next
+if_done next (Record r s) = Ends
+if_done next (Owned c) = Ends
+if_done next (Refused refusal) = Ends
+
+abbrev pub if_owned : (ℕ → Plan) → Reply → Plan
+if_owned next Done = Ends
+if_owned next (Record r s) = Ends
+if_owned next (Owned c) = next c
+if_owned next (Refused refusal) = Ends
+
+abbrev pub if_record : (CallRecord → Option ChanState → Plan) → Reply → Plan
+if_record next Done = Ends
+if_record next (Record r s) = next r s
+if_record next (Owned c) = Ends
+if_record next (Refused refusal) = Ends
+
+-- a plan that ends at every reply
+abbrev pub nothing_more : Reply → Plan
+nothing_more reply = Ends
+
+-- a station's event, by the call that it concerns
+unfoldable pub owned : Event → (ℕ → Plan) → Plan
+owned e next = Asks e (if_owned next)
+
+-- a call, by what the book has of it
+unfoldable pub looked : ℕ → (CallRecord → Option ChanState → Plan) → Plan
+looked c next = Asks (event.Look c) (if_record next)
+
+-- a channel that a message is to name: there is one, and its timeslot can be named (TS 48.058 clause 9.3.1)
+abbrev pub is_named : Option ChanId → Bool
+is_named None = false
+is_named (Some x) = is_nameable x
+
+abbrev pub if_named : Option ChanId → (ChanId → Plan) → Plan
+if_named None next = Ends
+if_named (Some x) next = if is_nameable x then next x else Ends
+
+-- the channel is the call's serving channel
+abbrev pub is_serving : ChanId → CallRecord → Bool
+is_serving x r = is_target x r.serving
+
+-- a target is switched on from its activation on, until the station refused it
+abbrev pub is_switched_on : Stage → Bool
+is_switched_on s = (stage_row s).switched_on
+
+-- the mobile was sent to the target, and hasn't said what came of it
+abbrev pub is_commanded : Stage → Bool
+is_commanded stage.Taken = false
+is_commanded stage.Reserved = false
+is_commanded stage.Sent = false
+is_commanded stage.Refused = false
+is_commanded stage.Confirmed = false
+is_commanded stage.Commanded = true
+is_commanded stage.Detected = true
+is_commanded stage.Required = false
+is_commanded stage.Ordered = false
+
+-- An operator opens a call: CHANNEL ACTIVATION (TS 48.058 clause 4.1).
+unfoldable pub open_plan : ℕ → ChanId → Plan
+open_plan c x = Asks (event.Open c x) (if_done (if is_nameable x then Sends (activation x) Ends else Ends))
+
+-- A handover begins (TS 44.018 clause 3.4.4): a channel is taken, a reference reserved, CHANNEL ACTIVATION sent
+-- (TS 48.058 clause 4.1). For an outside cell nothing is asked.
+
+unfoldable pub activate_plan : ℕ → ChanId → ℕ → Plan
+activate_plan c x n = Asks (event.Activate c) (if_done (Sends (target_activation x n) Ends))
+
+unfoldable pub taken_plan : ℕ → ChanId → Reply → Plan
+taken_plan c x = if_done (if is_nameable x then Reserves c (λ n. if_done (activate_plan c x n)) else Ends)
+
+-- where the cell has no free channel, this plan is next
+unfoldable pub start_plan : SiteView → ℕ → ℕ → Plan → Plan
+start_plan site c cell none = if nat_lt cell (length site.cells) then Takes c kind.Internal cell none (taken_plan c) else Ends
+
+-- An operator asks for a handover.
+abbrev pub handover_plan : SiteView → ℕ → ℕ → Plan
+handover_plan site c cell = start_plan site c cell Ends
+
+-- RF CHANNEL RELEASE of an attempt's target (TS 48.058 clause 4.6), where it was switched on
+unfoldable pub release_target : Option Attempt → Plan → Plan
+release_target None tail = tail
+release_target (Some a) tail = if is_switched_on a.stage then if_named a.target (λ t. Sends (release t) tail) else tail
+
+-- An attempt is taken back, and its target released.
+unfoldable pub undo_plan : ℕ → Plan
+undo_plan c = Asks (event.Undo c Asked) (if_record (λ r s. release_target r.attempt Ends))
+
+-- CLEAR REQUEST (TS 48.008 clause 3.1.9.1), radio interface message failure
+abbrev pub expiry_rest : ℕ → Timer → Plan
+expiry_rest c T3103 = Sends (clear_request c 0) Ends
+expiry_rest c T7 = Ends
+expiry_rest c T8 = Sends (clear_request c 0) Ends
+
+-- A timer ran out (TS 44.018 clause 11.1.2, TS 48.008 clause 3.1.5): its attempt is taken back.
+unfoldable pub expiry_plan : ℕ → Timer → Plan
+expiry_plan c m = Asks (event.Undo c (Expired m)) (if_record (λ r s. release_target r.attempt (expiry_rest c m)))
+
+-- A call of this controller keeps its record after an undo; one that comes from another controller has none then.
+abbrev pub is_own_kind : AttemptKind → Bool
+is_own_kind Internal = true
+is_own_kind Incoming = false
+is_own_kind Outgoing = true
+
+abbrev pub is_own : Option Attempt → Bool
+is_own None = true
+is_own (Some a) = is_own_kind a.kind
+
+-- a message can name the target, where it was switched on
+abbrev pub names_target : Option Attempt → Bool
+names_target None = true
+names_target (Some a) = not (is_switched_on a.stage) || is_named a.target
+
+-- a message can name the serving channel, unless it is held: then the station knows nothing of it
+abbrev pub names_serving : CallRecord → Option ChanState → Bool
+names_serving r None = is_named r.serving
+names_serving r (Some Free) = is_named r.serving
+names_serving r (Some (Held d)) = true
+names_serving r (Some (Pending d)) = is_named r.serving
+names_serving r (Some (On d)) = is_named r.serving
+names_serving r (Some Off) = is_named r.serving
+
+-- the record names all that is released when its call is cleared
+abbrev pub names_releases : CallRecord → Option ChanState → Bool
+names_releases r s = names_target r.attempt && (not (is_own r.attempt) || names_serving r s)
+
+-- RF CHANNEL RELEASE of a channel (TS 48.058 clause 4.6); the mobile is told before where a cause is given: CHANNEL
+-- RELEASE (TS 44.018 clause 3.4.13.1)
+
+abbrev pub release_plan : Option ChanId → Plan → Plan
+release_plan x tail = if_named x (λ x. Sends (release x) tail)
+
+abbrev pub told_release_plan : Option ℕ → Option ChanId → Plan → Plan
+told_release_plan None x tail = release_plan x tail
+told_release_plan (Some cause) x tail = if_named x (λ x. Sends (channel_release x cause) (Sends (release x) tail))
+
+-- the serving channel is released, unless it was held; a mobile is told only where it was on
+unfoldable pub release_serving : Option ℕ → CallRecord → Option ChanState → Plan → Plan
+release_serving cause r None tail = release_plan r.serving tail
+release_serving cause r (Some Free) tail = release_plan r.serving tail
+release_serving cause r (Some (Held d)) tail = tail
+release_serving cause r (Some (Pending d)) tail = release_plan r.serving tail
+release_serving cause r (Some (On d)) tail = told_release_plan cause r.serving tail
+release_serving cause r (Some Off) tail = release_plan r.serving tail
+
+-- the call is cleared, and its serving channel released
+unfoldable pub clear_serving : ℕ → Option ℕ → CallRecord → Option ChanState → Plan → Plan
+clear_serving c cause r s tail = Asks (event.Clear c) (if_done (release_serving cause r s tail))
+
+-- the target is released, and then a call of this controller is cleared
+unfoldable pub clear_undone : ℕ → Option ℕ → CallRecord → Option ChanState → Plan → Plan
+clear_undone c cause r s tail = release_target r.attempt (if is_own r.attempt then clear_serving c cause r s tail else tail)
+
+abbrev pub clear_named : ℕ → Option ℕ → CallRecord → Option ChanState → Plan → Plan
+clear_named c cause r s tail = if names_releases r s then clear_undone c cause r s tail else Ends
+
+-- what follows the look at a call that is cleared: an attempt that is open is taken back first
+unfoldable pub clear_rest : ℕ → Option ℕ → CallRecord → Option ChanState → Plan → Plan
+clear_rest c cause r s tail =
+    if names_releases r s then (if is_some r.attempt then Asks (event.Undo c Asked) (if_record (λ r s. clear_named c cause r s tail)) else clear_undone c cause r s tail) else Ends
+
+-- An operator clears a call.
+unfoldable pub clear_plan : ℕ → Plan
+clear_plan c = looked c (λ r s. clear_rest c None r s Ends)
+
+-- CHANNEL ACTIVATION ACKNOWLEDGE (TS 48.058 clause 8.4.2) of a target: HANDOVER COMMAND to the mobile on its old channel
+-- (TS 44.018 clause 3.4.4.1)
+
+abbrev pub if_command : Option Rr → (Rr → Plan) → Plan
+if_command None next = Ends
+if_command (Some m) next = next m
+
+abbrev pub if_reference : Option ℕ → (ℕ → Plan) → Plan
+if_reference None next = Ends
+if_reference (Some n) next = next n
+
+unfoldable pub send_command : ℕ → ChanId → Rr → Plan
+send_command c s m = Asks (event.Command c) (if_done (Sends (to_mobile s m) Ends))
+
+abbrev pub internal_command : SiteView → ℕ → ChanId → Option ChanId → Option ℕ → Plan
+internal_command site c x serving reference =
+    if_named serving (λ s. if_reference reference (λ n. if_command (command_to site x n) (λ m. send_command c s m)))
+
+abbrev pub command_plan : SiteView → ℕ → ChanId → Option ChanId → Attempt → AttemptKind → Plan
+command_plan site c x serving a Internal = internal_command site c x serving a.reference
+command_plan site c x serving a Incoming = Ends
+command_plan site c x serving a Outgoing = Ends
+
+unfoldable pub confirm_rest : SiteView → ℕ → ChanId → Option ChanId → Option Attempt → Plan
+confirm_rest site c x serving None = Ends
+confirm_rest site c x serving (Some a) = if is_target x a.target then command_plan site c x serving a a.kind else Ends
+
+unfoldable pub confirm_plan : SiteView → ChanId → Plan
+confirm_plan site x = owned (event.Confirm x) (λ c. looked c (λ r s. confirm_rest site c x r.serving r.attempt))
+
+-- CHANNEL ACTIVATION NEGATIVE ACKNOWLEDGE (TS 48.058 clause 8.4.3): an attempt to a refused target is taken back; for a
+-- refused serving channel CLEAR REQUEST, equipment failure
+unfoldable pub refuse_plan : ChanId → Plan
+refuse_plan x =
+    owned (event.Refuse x)
+    (λ c. looked c (λ r s. if is_target x (target_in r) then Asks (event.Undo c Asked) nothing_more else (if is_serving x r then Sends (clear_request c 0x20) Ends else Ends)))
+
+-- RF CHANNEL RELEASE ACKNOWLEDGE (TS 48.058 clause 8.4.19)
+unfoldable pub released_plan : ChanId → Plan
+released_plan x = Asks (event.Released x) nothing_more
+
+-- CONNECTION FAILURE INDICATION (TS 48.058 clause 8.4.4) of the serving channel of a call without an attempt: CLEAR
+-- REQUEST, radio interface failure
+unfoldable pub connection_failure_plan : ChanId → Plan
+connection_failure_plan x =
+    owned (event.Owner x) (λ c. looked c (λ r s. if is_serving x r && not (is_some r.attempt) then Sends (clear_request c 1) Ends else Ends))
+
+-- HANDOVER DETECTION (TS 48.058 clause 8.4.7)
+unfoldable pub detect_plan : ChanId → Plan
+detect_plan x = owned (event.Detect x) (λ c. looked c (λ r s. Ends))
+
+-- MEASUREMENT REPORT (TS 44.018 clause 9.1.21) in a MEASUREMENT RESULT (TS 48.058 clause 8.4.8): where the call is served
+-- on the channel, the report counts; a valid one starts a handover to the first candidate that has a free channel
+
+abbrev pub is_on : Option ChanState → Bool
+is_on None = false
+is_on (Some Free) = false
+is_on (Some (Held d)) = false
+is_on (Some (Pending d)) = false
+is_on (Some (On d)) = true
+is_on (Some Off) = false
+
+unfoldable pub try_plan : SiteView → ℕ → List Candidate → Plan
+try_plan site c [] = Ends
+try_plan site c (k ∷ ks) = start_plan site c k.cell (try_plan site c ks)
+
+-- the call's last reports are these from now on
+unfoldable pub rank_plan : SiteView → ℕ → ℕ → List Results → Results → Option Attempt → Plan
+rank_plan site c cell reports m attempt =
+    Notes c reports (if is_valid m && not (is_some attempt) then Ranks site reports cell (try_plan site c) else Ends)
+
+-- the last reports that count, with one more
+abbrev pub with_report : SiteView → List Results → Results → List Results
+with_report site reports m = last_valid site.handover.window (reports ++ m ∷ [])
+
+unfoldable pub report_plan : SiteView → (ℕ → List Results) → ChanId → Results → Plan
+report_plan site reports x m =
+    owned (event.Owner x) (λ c. looked c (λ r s. if is_serving x r && is_on s then rank_plan site c x.cell (with_report site (reports c) m) m r.attempt else Ends))
+
+-- HANDOVER COMPLETE (TS 44.018 clause 3.4.4.2) on the target: the old channel is released, and HANDOVER PERFORMED sent
+-- (TS 48.008 clause 3.1.7)
+
+abbrev pub if_cell : Option CellId → (CellId → Plan) → Plan
+if_cell None next = Ends
+if_cell (Some cell) next = next cell
+
+-- the cell of a traffic channel of the site
+abbrev pub traffic_cell : SiteView → ChanId → Option CellId
+traffic_cell site x = if is_traffic site x then cell_id_at site x.cell else None
+
+abbrev pub internal_complete : SiteView → ℕ → ChanId → Option ChanId → Plan
+internal_complete site c x serving =
+    if_named serving (λ s. if_cell (traffic_cell site x) (λ cell. Asks (event.Complete c) (if_done (Sends (release s) (Sends (handover_performed c cell) Ends)))))
+
+abbrev pub complete_by : SiteView → ℕ → ChanId → Option ChanId → AttemptKind → Plan
+complete_by site c x serving Internal = internal_complete site c x serving
+complete_by site c x serving Incoming = Ends
+complete_by site c x serving Outgoing = Ends
+
+unfoldable pub complete_rest : SiteView → ℕ → ChanId → Option ChanId → Option Attempt → Plan
+complete_rest site c x serving None = Ends
+complete_rest site c x serving (Some a) = if is_target x a.target && is_commanded a.stage then complete_by site c x serving a.kind else Ends
+
+unfoldable pub complete_plan : SiteView → ChanId → Plan
+complete_plan site x = owned (event.Owner x) (λ c. looked c (λ r s. complete_rest site c x r.serving r.attempt))
+
+-- HANDOVER FAILURE (TS 44.018 clause 3.4.4.4) on the old channel: the attempt is taken back
+
+abbrev pub return_by : ℕ → Attempt → AttemptKind → Plan
+return_by c a Internal = if is_commanded a.stage && names_target (Some a) then undo_plan c else Ends
+return_by c a Incoming = Ends
+return_by c a Outgoing = Ends
+
+unfoldable pub return_rest : ℕ → Option Attempt → Plan
+return_rest c None = Ends
+return_rest c (Some a) = return_by c a a.kind
+
+unfoldable pub return_plan : ChanId → Plan
+return_plan x = owned (event.Owner x) (λ c. looked c (λ r s. if is_serving x r then return_rest c r.attempt else Ends))
+
+-- CLEAR COMMAND (TS 48.008 clause 3.1.9): the call is cleared as by an operator, and a mobile that is on is told why:
+-- normal event for call control (cause 09), else abnormal release; CLEAR COMPLETE comes last
+
+abbrev pub release_cause : ℕ → ℕ
+release_cause cause = if cause == 9 then 0 else 1
+
+abbrev pub if_no_call : Plan → Refusal → Plan
+if_no_call next NoCall = next
+if_no_call next CallExists = Ends
+if_no_call next WrongPhase = Ends
+if_no_call next NoChannel = Ends
+if_no_call next SameCell = Ends
+if_no_call next (ChannelBusy x) = Ends
+if_no_call next (RefBusy cell n) = Ends
+if_no_call next (Unexpected x) = Ends
+if_no_call next NotArmed = Ends
+
+unfoldable pub clear_command_rest : ℕ → ℕ → Reply → Plan
+clear_command_rest c cause Done = Ends
+clear_command_rest c cause (Record r s) = clear_rest c (Some (release_cause cause)) r s (Sends (clear_complete c) Ends)
+clear_command_rest c cause (Owned d) = Ends
+clear_command_rest c cause (Refused refusal) = if_no_call (Sends (clear_complete c) Ends) refusal
+
+unfoldable pub clear_command_plan : ℕ → ℕ → Plan
+clear_command_plan c cause = Asks (event.Look c) (clear_command_rest c cause)
+
+-- the row of each line of the operator
+abbrev pub line_plan : SiteView → Line → Plan
+line_plan site (line.Open c x) = open_plan c x
+line_plan site (line.Handover c cell) = handover_plan site c cell
+line_plan site (line.Undo c) = undo_plan c
+line_plan site (line.Clear c) = clear_plan c
+
+-- what a mobile says on the main channel
+abbrev pub mobile_plan : SiteView → ChanId → Option Rr → Plan
+mobile_plan site x None = Ends
+mobile_plan site x (Some (rr.HandoverComplete cause)) = complete_plan site x
+mobile_plan site x (Some (rr.HandoverFailure cause)) = return_plan x
+mobile_plan site x (Some (rr.HandoverCommand cell channel reference power)) = Ends
+mobile_plan site x (Some (rr.ChannelRelease cause)) = Ends
+mobile_plan site x (Some (rr.PhysicalInformation advance)) = Ends
+mobile_plan site x (Some (rr.MeasurementReport m)) = Ends
+
+-- what a mobile says in a measurement result
+abbrev pub measured_plan : SiteView → (ℕ → List Results) → ChanId → Option Rr → Plan
+measured_plan site reports x None = Ends
+measured_plan site reports x (Some (rr.MeasurementReport m)) = report_plan site reports x m
+measured_plan site reports x (Some (rr.HandoverComplete cause)) = Ends
+measured_plan site reports x (Some (rr.HandoverFailure cause)) = Ends
+measured_plan site reports x (Some (rr.HandoverCommand cell channel reference power)) = Ends
+measured_plan site reports x (Some (rr.ChannelRelease cause)) = Ends
+measured_plan site reports x (Some (rr.PhysicalInformation advance)) = Ends
+
+-- The row of each message from a TRX of a cell, by the channel that it names and the radio resource message inside; for a
+-- message that isn't expected nothing is asked.
+abbrev pub abis_plan : {A : Type 0} → SiteView → (ℕ → List Results) → ChanId → Rsl A → Option Rr → Plan
+abis_plan site reports x (rsl.ChannelActivationAck channel frame) inside = confirm_plan site x
+abis_plan site reports x (rsl.ChannelActivationNack channel cause) inside = refuse_plan x
+abis_plan site reports x (rsl.RfChannelReleaseAck channel) inside = released_plan x
+abis_plan site reports x (rsl.ConnectionFailureIndication channel cause) inside = connection_failure_plan x
+abis_plan site reports x (rsl.HandoverDetection channel delay) inside = detect_plan x
+abis_plan site reports x (rsl.MeasurementResult channel number uplink power layer3) inside = measured_plan site reports x inside
+abis_plan site reports x (rsl.DataIndication channel link layer3) inside = mobile_plan site x inside
+abis_plan site reports x (rsl.DataRequest channel link layer3) inside = Ends
+abis_plan site reports x (rsl.ChannelActivation channel activation mode reference) inside = Ends
+abis_plan site reports x (rsl.RfChannelRelease channel) inside = Ends
+
+-- the row of each message on A about a call; for one that isn't expected nothing is asked
+abbrev pub a_plan : {A : Type 0} → ℕ → Bssmap A → Plan
+a_plan c (bssmap.ClearCommand cause) = clear_command_plan c cause
+a_plan c (bssmap.HandoverRequest channel encryption classmark serving target) = Ends
+a_plan c (bssmap.HandoverRequired cause response cells) = Ends
+a_plan c (bssmap.HandoverRequestAck layer3) = Ends
+a_plan c (bssmap.HandoverCommand layer3) = Ends
+a_plan c (bssmap.HandoverComplete cause) = Ends
+a_plan c (bssmap.HandoverFailure cause inner) = Ends
+a_plan c (bssmap.HandoverPerformed cause cell) = Ends
+a_plan c (bssmap.HandoverRequiredReject cause) = Ends
+a_plan c bssmap.HandoverDetect = Ends
+a_plan c bssmap.ClearComplete = Ends
+a_plan c (bssmap.ClearRequest cause) = Ends

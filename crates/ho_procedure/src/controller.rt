@@ -1,0 +1,114 @@
+//! The controller: what it does for each input.
+ghost use Rattle.std.specs.Prelude.{◌≡◌, ◌⊎◌, ℕ, List, [], IfOk, IfErr, Err};
+ghost use Rattle.ho_procedure.specs.Choices.{Entry, Choice};
+ghost use Rattle.ho_procedure.specs.Sent.{all_sent};
+ghost use Rattle.ho_procedure.specs.Handling.{Stops, IsRow, IsUndecoded, Handles, owed_in, IsUndecodedFault, IsDeskFault};
+ghost use Rattle.ho_procedure.specs.Plan.{Plan, Ends, At};
+ghost use Rattle.ho_procedure.specs.Going.{last_reports};
+
+use crate::exchange::{Bad, Fault, Inbound, Link, Outbound};
+use crate::following::{Stop, follow};
+use crate::outbox::Outbox;
+use crate::view::DeskView;
+use crate::windows::Windows;
+use crate::work::Work;
+use cell_table::Site;
+use std::alloc::{Allocator, Global};
+use std::marker::Model;
+use std::sync::Arc;
+
+/// What a controller does, over any view of a desk. Contracts see its view, the last reports of each call, and its site.
+#[derive(Drop)]
+pub struct Controller<D: DeskView + Drop, A: Allocator = Global> {
+    site: Arc<Site<A>, A>,
+    work: Work<D, A>,
+}
+
+impl<D: DeskView + Drop, A: Allocator> Model for Controller<D, A> {
+    ghost use Rattle.std.specs.Prelude.{◌≡◌, []};
+    ghost use Rattle.cell_table.specs.Site.{SiteView};
+    ghost use Rattle.ho_procedure.specs.Windows.{Kept};
+
+    ghost Value = { D × Kept × SiteView };
+
+    ghost view = { λ c. (c.work.view, c.work.windows, c.site.value) };
+
+    ghost invariant = { λ c. (c.work.owed.items ≡ []) ×
+        (c.work.windows.width ≡ c.site.value.handover.window) };
+}
+
+impl<D: DeskView + Drop, A: Allocator + Copy> Controller<D, A> {
+    /// A controller of a site that asks this view. It has no report of any call.
+    pub fn new(alloc: A, view: D, site: Arc<Site<A>, A>) -> Controller<D, A>
+        ensures view { result.0 ≡ view }
+        ensures reports { (call : ℕ) → last_reports result.1 call ≡ [] }
+        ensures site { result.2 ≡ site.value }
+    {
+        let _cells = site.cells();
+        let width = usize::from(site.window());
+        Controller {
+            site,
+            work: Work {
+                view,
+                owed: Outbox::new(alloc),
+                windows: Windows::new(alloc, width),
+                alloc,
+            },
+        }
+    }
+
+    /// Its view.
+    pub fn view(&self) -> &D
+        ensures view { result.now ≡ self.now.0 }
+    {
+        &self.work.view
+    }
+
+    /// Its view, once nothing more is handled.
+    pub fn into_view(self) -> D
+        ensures view { result ≡ self.0 }
+    {
+        let Controller { site: _, work } = self;
+        let Work {
+            view,
+            owed: _,
+            windows: _,
+            alloc: _,
+        } = work;
+        view
+    }
+
+    /// Handles an input by its row: asks the view, and answers the messages that are sent, in their order.
+    ///
+    /// `Undecoded`: the octets, or the radio resource message inside, can't be read; nothing was asked. `NoMemory`: memory was
+    /// refused; `Desk`: the view answered that its desk doesn't know its last receipt. After these two the row was followed up
+    /// to some step at which it asks, and the fault has the messages up to there, which the caller sends.
+    #[tactic(auto, using(crate::proofs::Handled::handled, crate::proofs::Handled::kept, crate::proofs::Handled::width_kept, crate::proofs::Handled::stops_of, crate::proofs::Handled::stopped_kept, crate::proofs::Handled::stopped_width))]
+    pub fn handle(&mut self, input: Inbound<A>) -> Result<Vec<Outbound<A>, A>, Fault<A>>
+        ensures ok { IfOk result (λ out. (p : Plan) ×
+            IsRow {A = A} self.old.2 (last_reports self.old.1) input p ×
+            Handles D.log D.choice_at self.old.0 self.old.1 p self.new.0 self.new.1
+            (all_sent out.items) (At Ends)) }
+        ensures undecoded { (link : Link) → (bad : Bad) →
+            result ≡ Err (Fault.Undecoded link bad) → IsUndecoded {A = A} input link bad }
+        ensures unchanged { IfErr result (λ f. IsUndecodedFault f →
+            (self.new.0 ≡ self.old.0) × (self.new.1 ≡ self.old.1)) }
+        ensures stops { IfErr result (λ f. IsUndecodedFault f ⊎
+            Stops {A = A} D.log D.choice_at self.old.2 self.old.0 self.old.1 input
+            self.new.0 self.new.1 (owed_in f)) }
+        ensures site { self.new.2 ≡ self.old.2 }
+        ensures foreign { IfErr result (λ f. IsDeskFault f → D.may_be_foreign self.old.0) }
+        ensures choice_kept { (es : List Entry) → (choice : Choice) →
+            D.choice_at self.new.0 es choice → D.choice_at self.old.0 es choice }
+        ensures foreign_kept { D.may_be_foreign self.new.0 → D.may_be_foreign self.old.0 }
+    {
+        let done = follow(&mut self.work, &self.site, input);
+        let owed = self.work.owed.take();
+        match done {
+            Ok(()) => Ok(owed),
+            Err(Stop::Unread(link, bad)) => Err(Fault::Undecoded(link, bad)),
+            Err(Stop::NoMemory) => Err(Fault::NoMemory(owed)),
+            Err(Stop::Foreign(place)) => Err(Fault::Desk(place, owed)),
+        }
+    }
+}

@@ -1,0 +1,154 @@
+//! What a row reads in a record.
+ghost use Rattle.std.specs.Prelude.{◌≡◌, IfSome, IsSome};
+ghost use Rattle.radio_book.specs.Sound.{target_in};
+ghost use Rattle.radio_book.specs.Table.{is_target};
+ghost use Rattle.ho_procedure.specs.Messages.{is_nameable};
+ghost use Rattle.ho_procedure.specs.Procedure.{is_named, is_serving, is_switched_on, is_commanded, is_own, names_target, names_serving, names_releases, is_on, traffic_cell};
+
+use crate::commands::cell_id_at;
+use crate::work::Shown;
+use bssmap_messages::CellId;
+use cell_table::Site;
+use channel_fsm::{ChanId, ChanState};
+use radio_book::event::{Attempt, AttemptKind, CallRecord, Stage};
+use std::alloc::Allocator;
+
+/// A message can name the timeslot of the channel.
+pub(crate) fn is_nameable(chan: ChanId) -> bool
+    ensures { result ≡ is_nameable chan }
+{
+    chan.tn < 8
+}
+
+/// There is a channel, and a message can name it.
+pub(crate) fn is_named(chan: Option<ChanId>) -> bool
+    ensures { result ≡ is_named chan }
+{
+    match chan {
+        Some(chan) => is_nameable(chan),
+        None => false,
+    }
+}
+
+/// The channel is this one.
+pub(crate) fn is_target(chan: ChanId, target: Option<ChanId>) -> bool
+    ensures { result ≡ is_target chan target }
+{
+    match target {
+        Some(target) => target == chan,
+        None => false,
+    }
+}
+
+/// The channel is the target of the call's attempt.
+pub(crate) fn is_target_in(chan: ChanId, shown: CallRecord) -> bool
+    ensures { result ≡ is_target chan (target_in shown) }
+{
+    match shown.attempt {
+        Some(attempt) => is_target(chan, attempt.target),
+        None => false,
+    }
+}
+
+/// The call is served on the channel.
+pub(crate) fn is_serving(chan: ChanId, shown: CallRecord) -> bool
+    ensures { result ≡ is_serving chan shown }
+{
+    is_target(chan, shown.serving)
+}
+
+/// The activation of the target was sent, and not refused.
+pub(crate) fn is_switched_on(stage: Stage) -> bool
+    ensures { result ≡ is_switched_on stage }
+{
+    match stage {
+        Stage::Sent | Stage::Confirmed | Stage::Commanded | Stage::Detected => true,
+        Stage::Taken | Stage::Reserved | Stage::Refused | Stage::Required | Stage::Ordered => false,
+    }
+}
+
+/// The mobile was sent to the target, and hasn't said what came of it.
+pub(crate) fn is_commanded(stage: Stage) -> bool
+    ensures { result ≡ is_commanded stage }
+{
+    match stage {
+        Stage::Commanded | Stage::Detected => true,
+        Stage::Taken
+        | Stage::Reserved
+        | Stage::Sent
+        | Stage::Refused
+        | Stage::Confirmed
+        | Stage::Required
+        | Stage::Ordered => false,
+    }
+}
+
+/// The call is one of this controller, which keeps its record once an attempt was taken back.
+pub(crate) fn is_own(attempt: Option<Attempt>) -> bool
+    ensures { result ≡ is_own attempt }
+{
+    match attempt {
+        Some(attempt) => match attempt.kind {
+            AttemptKind::Internal | AttemptKind::Outgoing => true,
+            AttemptKind::Incoming => false,
+        },
+        None => true,
+    }
+}
+
+/// A message can name the target, where it was switched on.
+pub(crate) fn names_target(attempt: Option<Attempt>) -> bool
+    ensures { result ≡ names_target attempt }
+{
+    match attempt {
+        Some(attempt) => !is_switched_on(attempt.stage) || is_named(attempt.target),
+        None => true,
+    }
+}
+
+/// A message can name the serving channel, unless it is held.
+fn names_serving(shown: Shown) -> bool
+    ensures { result ≡ names_serving shown.record shown.state }
+{
+    match shown.state {
+        Some(ChanState::Held(_)) => true,
+        Some(ChanState::Free)
+        | Some(ChanState::Pending(_))
+        | Some(ChanState::On(_))
+        | Some(ChanState::Off)
+        | None => is_named(shown.record.serving),
+    }
+}
+
+/// The record names all that is released when its call is cleared.
+pub(crate) fn names_releases(shown: Shown) -> bool
+    ensures { result ≡ names_releases shown.record shown.state }
+{
+    let serving_is_named = !is_own(shown.record.attempt) || names_serving(shown);
+    names_target(shown.record.attempt) && serving_is_named
+}
+
+/// The channel is active for its call.
+pub(crate) fn is_on(state: Option<ChanState>) -> bool
+    ensures { result ≡ is_on state }
+{
+    match state {
+        Some(ChanState::On(_)) => true,
+        Some(ChanState::Free)
+        | Some(ChanState::Held(_))
+        | Some(ChanState::Pending(_))
+        | Some(ChanState::Off)
+        | None => false,
+    }
+}
+
+/// The cell of a traffic channel of the site, as messages on A name it.
+pub(crate) fn traffic_cell<A: Allocator + Copy>(site: &Site<A>, chan: ChanId) -> Option<CellId>
+    ensures cell { result ≡ traffic_cell site.now chan }
+    ensures area { IfSome result (λ cell. IsSome cell.lac) }
+{
+    if !site.is_traffic(chan) {
+        return None;
+    }
+    cell_id_at(site, chan.cell)
+}

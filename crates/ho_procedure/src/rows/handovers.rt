@@ -1,0 +1,145 @@
+//! Rows that begin a handover and take it back.
+ghost use Rattle.std.specs.Prelude.{◌≡◌, ◌≤◌, ℕ, OnOk, OnErr, IfErr, ◌<◌};
+ghost use Rattle.ho_procedure.specs.Plan.{Plan, Ends, At, Asking};
+ghost use Rattle.ho_procedure.specs.Going.{Goes, Passes, IsForeign};
+ghost use Rattle.ho_procedure.specs.Procedure.{activate_plan, taken_plan, handover_plan, undo_plan, expiry_plan};
+
+use super::parts::release_target;
+use crate::records::is_nameable;
+use crate::view::DeskView;
+use crate::work::{Course, Work};
+use attempt_journal::Timer;
+use cell_table::Site;
+use channel_fsm::ChanId;
+use radio_book::event::{Event, Kind, Reply, Why};
+use radio_desk::desk::DeskFault;
+use std::alloc::Allocator;
+
+/// A cause on A (TS 48.008 clause 3.2.2.5).
+const RADIO_INTERFACE_MESSAGE_FAILURE: u8 = 0;
+
+/// The channel of an attempt with a reference is activated.
+#[tactic(auto, using(crate::proofs::Asking::row_steps), unfolding(crate::specs::Procedure::activate_plan))]
+fn activate<D: DeskView + Drop, A: Allocator + Copy>(
+    work: &mut Work<D, A>,
+    call: u16,
+    target: ChanId,
+    reference: u8,
+) -> Result<(), DeskFault>
+    requires room { 1 ≤ work.old.owed.room }
+    requires timeslot { target.tn < 8 }
+    ensures row { OnOk result (Goes D.log D.choice_at work.old
+        (activate_plan call target reference) work.new (At Ends)) }
+    ensures stops { OnErr result (Goes D.log D.choice_at work.old
+        (activate_plan call target reference) work.new Asking) }
+    ensures foreign { IfErr result (λ f. IsForeign f → D.may_be_foreign work.old.view) }
+    ensures foreign_kept { D.may_be_foreign work.new.view → D.may_be_foreign work.old.view }
+{
+    let Reply::Done = work.ask(Event::Activate(call))? else {
+        return Ok(());
+    };
+    work.send_target_activation(target, reference);
+    Ok(())
+}
+
+/// What follows the take of a channel: a reference is reserved, and the channel activated.
+#[tactic(auto, using(crate::proofs::Asking::row_steps), unfolding(crate::specs::Procedure::taken_plan, crate::specs::Procedure::activate_plan))]
+pub(super) fn go_on_taken<D: DeskView + Drop, A: Allocator + Copy>(
+    work: &mut Work<D, A>,
+    call: u16,
+    target: ChanId,
+    reply: Reply,
+) -> Result<(), DeskFault>
+    requires { 1 ≤ work.old.owed.room }
+    ensures row { OnOk result (Goes D.log D.choice_at work.old
+        (taken_plan call target reply) work.new (At Ends)) }
+    ensures stops { OnErr result (Goes D.log D.choice_at work.old
+        (taken_plan call target reply) work.new Asking) }
+    ensures foreign { IfErr result (λ f. IsForeign f → D.may_be_foreign work.old.view) }
+    ensures foreign_kept { D.may_be_foreign work.new.view → D.may_be_foreign work.old.view }
+{
+    let Reply::Done = reply else {
+        return Ok(());
+    };
+    if !is_nameable(target) {
+        return Ok(());
+    }
+    let (reference, Reply::Done) = work.reserve(call)? else {
+        return Ok(());
+    };
+    activate(work, call, target, reference)
+}
+
+/// A call is to move to a cell.
+#[tactic(auto, using(crate::proofs::Asking::row_steps), unfolding(crate::specs::Procedure::start_plan))]
+pub(crate) fn handover<D: DeskView + Drop, A: Allocator + Copy>(
+    work: &mut Work<D, A>,
+    site: &Site<A>,
+    call: u16,
+    cell: u8,
+) -> Result<(), DeskFault>
+    ensures row { OnOk result (Goes D.log D.choice_at work.old
+        (handover_plan site.now call cell) work.new (At Ends)) }
+    ensures stops { OnErr result (Goes D.log D.choice_at work.old
+        (handover_plan site.now call cell) work.new Asking) }
+    ensures foreign { IfErr result (λ f. IsForeign f → D.may_be_foreign work.old.view) }
+    ensures foreign_kept { D.may_be_foreign work.new.view → D.may_be_foreign work.old.view }
+{
+    if cell >= site.cells() {
+        return Ok(());
+    }
+    work.make_room(1)?;
+    match work.take(call, Kind::Internal, cell)? {
+        Some((target, reply)) => go_on_taken(work, call, target, reply),
+        None => Ok(()),
+    }
+}
+
+/// An attempt is taken back, and its target released.
+#[tactic(auto, using(crate::proofs::Asking::row_steps), unfolding(crate::specs::Procedure::undo_plan))]
+pub(crate) fn undo<D: DeskView + Drop, A: Allocator + Copy>(
+    work: &mut Work<D, A>,
+    call: u16,
+) -> Result<(), DeskFault>
+    ensures row { OnOk result (Goes D.log D.choice_at work.old
+        (undo_plan call) work.new (At Ends)) }
+    ensures stops { OnErr result (Goes D.log D.choice_at work.old
+        (undo_plan call) work.new Asking) }
+    ensures foreign { IfErr result (λ f. IsForeign f → D.may_be_foreign work.old.view) }
+    ensures foreign_kept { D.may_be_foreign work.new.view → D.may_be_foreign work.old.view }
+{
+    work.make_room(1)?;
+    let Reply::Record(record, _) = work.ask(Event::Undo(call, Why::Asked))? else {
+        return Ok(());
+    };
+    let _ = release_target(work, record.attempt);
+    Ok(())
+}
+
+/// A timer ran out: its attempt is taken back, and its target released.
+#[tactic(auto, using(crate::proofs::Asking::row_steps), unfolding(crate::specs::Procedure::expiry_plan))]
+pub(crate) fn expire<D: DeskView + Drop, A: Allocator + Copy>(
+    work: &mut Work<D, A>,
+    call: u16,
+    timer: Timer,
+) -> Result<(), DeskFault>
+    ensures row { OnOk result (Goes D.log D.choice_at work.old
+        (expiry_plan call timer) work.new (At Ends)) }
+    ensures stops { OnErr result (Goes D.log D.choice_at work.old
+        (expiry_plan call timer) work.new Asking) }
+    ensures foreign { IfErr result (λ f. IsForeign f → D.may_be_foreign work.old.view) }
+    ensures foreign_kept { D.may_be_foreign work.new.view → D.may_be_foreign work.old.view }
+{
+    work.make_room(2)?;
+    let Reply::Record(record, _) = work.ask(Event::Undo(call, Why::Expired(timer)))? else {
+        return Ok(());
+    };
+    let Course::On = release_target(work, record.attempt) else {
+        return Ok(());
+    };
+    match timer {
+        Timer::T3103 | Timer::T8 => work.send_clear_request(call, RADIO_INTERFACE_MESSAGE_FAILURE),
+        Timer::T7 => {}
+    }
+    Ok(())
+}

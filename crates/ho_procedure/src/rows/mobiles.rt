@@ -1,0 +1,246 @@
+//! Rows of the messages of mobiles.
+ghost use Rattle.std.specs.Prelude.{◌≡◌, ◌≤◌, ◌<◌, ◌++◌, ◌∷◌, [], ℕ, drop, List, OnOk, OnErr, IfErr, IsTrue};
+ghost use Rattle.measurements.specs.Reports.{last_valid};
+ghost use Rattle.ho_procedure.specs.Plan.{Plan, Ends, At, Asking};
+ghost use Rattle.ho_procedure.specs.Going.{Goes, Passes, IsForeign, last_reports};
+ghost use Rattle.ho_procedure.specs.Procedure.{try_plan, rank_plan, report_plan, with_report, internal_complete, complete_rest, complete_plan, return_rest, return_plan};
+
+use super::handovers::{go_on_taken, undo};
+use super::parts::{look, owner};
+use crate::records::{is_commanded, is_nameable, is_on, is_serving, is_target, names_target, traffic_cell};
+use crate::view::DeskView;
+use crate::work::Work;
+use cell_table::Site;
+use channel_fsm::ChanId;
+use ho_candidates::Candidate;
+use radio_book::event::{Attempt, AttemptKind, Event, Kind, Reply};
+use radio_desk::desk::DeskFault;
+use rr_elements::MeasResults;
+use std::alloc::Allocator;
+
+/// A handover starts to the first of these cells that has a free channel.
+#[tactic(auto, using(crate::proofs::Asking::row_steps, std::proofs::lemmas::List::drop_all), unfolding(crate::specs::Procedure::try_plan, crate::specs::Procedure::start_plan))]
+fn try_cells<D: DeskView + Drop, A: Allocator + Copy>(
+    work: &mut Work<D, A>,
+    site: &Site<A>,
+    call: u16,
+    candidates: &[Candidate],
+) -> Result<(), DeskFault>
+    ensures row { OnOk result (Goes D.log D.choice_at work.old
+        (try_plan site.now call candidates.now) work.new (At Ends)) }
+    ensures stops { OnErr result (Goes D.log D.choice_at work.old
+        (try_plan site.now call candidates.now) work.new Asking) }
+    ensures foreign { IfErr result (λ f. IsForeign f → D.may_be_foreign work.old.view) }
+    ensures foreign_kept { D.may_be_foreign work.new.view → D.may_be_foreign work.old.view }
+{
+    for candidate in candidates {
+        if candidate.cell >= site.cells() {
+            return Ok(());
+        }
+        work.make_room(1)?;
+        if let Some((target, reply)) = work.take(call, Kind::Internal, candidate.cell)? {
+            return go_on_taken(work, call, target, reply);
+        }
+    }
+    Ok(())
+}
+
+/// A report is noted; a valid one may start a handover.
+#[tactic(auto, using(crate::proofs::Asking::row_steps), unfolding(crate::specs::Procedure::rank_plan))]
+fn note_report<D: DeskView + Drop, A: Allocator + Copy>(
+    work: &mut Work<D, A>,
+    site: &Site<A>,
+    call: u16,
+    cell: u8,
+    report: &MeasResults,
+    attempt: Option<Attempt>,
+) -> Result<(), DeskFault>
+    requires ready { IsTrue work.old.windows.is_ready }
+    requires width { work.old.windows.width ≡ site.now.handover.window }
+    ensures row { OnOk result (Goes D.log D.choice_at work.old
+        (rank_plan site.now call cell
+        (with_report site.now (last_reports work.old.windows call) report.now) report.now attempt) work.new (At Ends)) }
+    ensures stops { OnErr result (Goes D.log D.choice_at work.old
+        (rank_plan site.now call cell
+        (with_report site.now (last_reports work.old.windows call) report.now) report.now attempt) work.new Asking) }
+    ensures foreign { IfErr result (λ f. IsForeign f → D.may_be_foreign work.old.view) }
+    ensures foreign_kept { D.may_be_foreign work.new.view → D.may_be_foreign work.old.view }
+{
+    work.note(call, report);
+    if !report.head().valid || attempt.is_some() {
+        return Ok(());
+    }
+    let candidates = work.rank(site, call, cell)?;
+    try_cells(work, site, call, candidates.as_slice())
+}
+
+/// MEASUREMENT REPORT of the mobile on a channel.
+#[tactic(auto, using(crate::proofs::Asking::row_steps), unfolding(crate::specs::Procedure::report_plan))]
+pub(crate) fn report<D: DeskView + Drop, A: Allocator + Copy>(
+    work: &mut Work<D, A>,
+    site: &Site<A>,
+    chan: ChanId,
+    report: &MeasResults,
+) -> Result<(), DeskFault>
+    requires { work.old.windows.width ≡ site.now.handover.window }
+    ensures row { OnOk result (Goes D.log D.choice_at work.old
+        (report_plan site.now
+        (last_reports work.old.windows) chan report.now) work.new (At Ends)) }
+    ensures stops { OnErr result (Goes D.log D.choice_at work.old
+        (report_plan site.now
+        (last_reports work.old.windows) chan report.now) work.new Asking) }
+    ensures foreign { IfErr result (λ f. IsForeign f → D.may_be_foreign work.old.view) }
+    ensures foreign_kept { D.may_be_foreign work.new.view → D.may_be_foreign work.old.view }
+{
+    work.make_window()?;
+    let Some(call) = owner(work, Event::Owner(chan))? else {
+        return Ok(());
+    };
+    let Some(shown) = look(work, call)? else {
+        return Ok(());
+    };
+    if !(is_serving(chan, shown.record) && is_on(shown.state)) {
+        return Ok(());
+    }
+    note_report(work, site, call, chan.cell, report, shown.record.attempt)
+}
+
+/// A call is served on its target: the old channel is released.
+#[tactic(auto, using(crate::proofs::Asking::row_steps))]
+fn complete_internal<D: DeskView + Drop, A: Allocator + Copy>(
+    work: &mut Work<D, A>,
+    site: &Site<A>,
+    call: u16,
+    target: ChanId,
+    serving: Option<ChanId>,
+) -> Result<(), DeskFault>
+    ensures row { OnOk result (Goes D.log D.choice_at work.old
+        (internal_complete site.now call target serving) work.new (At Ends)) }
+    ensures stops { OnErr result (Goes D.log D.choice_at work.old
+        (internal_complete site.now call target serving) work.new Asking) }
+    ensures foreign { IfErr result (λ f. IsForeign f → D.may_be_foreign work.old.view) }
+    ensures foreign_kept { D.may_be_foreign work.new.view → D.may_be_foreign work.old.view }
+{
+    let Some(old) = serving else {
+        return Ok(());
+    };
+    if !is_nameable(old) {
+        return Ok(());
+    }
+    let Some(cell) = traffic_cell(site, target) else {
+        return Ok(());
+    };
+    work.make_room(2)?;
+    let Reply::Done = work.ask(Event::Complete(call))? else {
+        return Ok(());
+    };
+    work.send_release(old);
+    work.send_handover_performed(call, cell);
+    Ok(())
+}
+
+/// What follows the look at a call, on a channel of which a mobile has come.
+#[tactic(auto, using(crate::proofs::Asking::row_steps), unfolding(crate::specs::Procedure::complete_rest))]
+fn complete_rest<D: DeskView + Drop, A: Allocator + Copy>(
+    work: &mut Work<D, A>,
+    site: &Site<A>,
+    call: u16,
+    chan: ChanId,
+    serving: Option<ChanId>,
+    attempt: Option<Attempt>,
+) -> Result<(), DeskFault>
+    ensures row { OnOk result (Goes D.log D.choice_at work.old
+        (complete_rest site.now call chan serving attempt) work.new (At Ends)) }
+    ensures stops { OnErr result (Goes D.log D.choice_at work.old
+        (complete_rest site.now call chan serving attempt) work.new Asking) }
+    ensures foreign { IfErr result (λ f. IsForeign f → D.may_be_foreign work.old.view) }
+    ensures foreign_kept { D.may_be_foreign work.new.view → D.may_be_foreign work.old.view }
+{
+    let Some(attempt) = attempt else {
+        return Ok(());
+    };
+    if !(is_target(chan, attempt.target) && is_commanded(attempt.stage)) {
+        return Ok(());
+    }
+    match attempt.kind {
+        AttemptKind::Internal => complete_internal(work, site, call, chan, serving),
+        AttemptKind::Incoming | AttemptKind::Outgoing => Ok(()),
+    }
+}
+
+/// HANDOVER COMPLETE of the mobile on a channel.
+#[tactic(auto, using(crate::proofs::Asking::row_steps), unfolding(crate::specs::Procedure::complete_plan))]
+pub(crate) fn complete<D: DeskView + Drop, A: Allocator + Copy>(
+    work: &mut Work<D, A>,
+    site: &Site<A>,
+    chan: ChanId,
+) -> Result<(), DeskFault>
+    ensures row { OnOk result (Goes D.log D.choice_at work.old
+        (complete_plan site.now chan) work.new (At Ends)) }
+    ensures stops { OnErr result (Goes D.log D.choice_at work.old
+        (complete_plan site.now chan) work.new Asking) }
+    ensures foreign { IfErr result (λ f. IsForeign f → D.may_be_foreign work.old.view) }
+    ensures foreign_kept { D.may_be_foreign work.new.view → D.may_be_foreign work.old.view }
+{
+    let Some(call) = owner(work, Event::Owner(chan))? else {
+        return Ok(());
+    };
+    let Some(shown) = look(work, call)? else {
+        return Ok(());
+    };
+    complete_rest(work, site, call, chan, shown.record.serving, shown.record.attempt)
+}
+
+/// What follows the look at a call, whose mobile is back on its serving channel.
+#[tactic(auto, using(crate::proofs::Asking::row_steps), unfolding(crate::specs::Procedure::return_rest))]
+fn return_rest<D: DeskView + Drop, A: Allocator + Copy>(
+    work: &mut Work<D, A>,
+    call: u16,
+    attempt: Option<Attempt>,
+) -> Result<(), DeskFault>
+    ensures row { OnOk result (Goes D.log D.choice_at work.old
+        (return_rest call attempt) work.new (At Ends)) }
+    ensures stops { OnErr result (Goes D.log D.choice_at work.old
+        (return_rest call attempt) work.new Asking) }
+    ensures foreign { IfErr result (λ f. IsForeign f → D.may_be_foreign work.old.view) }
+    ensures foreign_kept { D.may_be_foreign work.new.view → D.may_be_foreign work.old.view }
+{
+    let Some(attempt) = attempt else {
+        return Ok(());
+    };
+    match attempt.kind {
+        AttemptKind::Internal => {
+            if is_commanded(attempt.stage) && names_target(Some(attempt)) {
+                undo(work, call)
+            } else {
+                Ok(())
+            }
+        }
+        AttemptKind::Incoming | AttemptKind::Outgoing => Ok(()),
+    }
+}
+
+/// HANDOVER FAILURE of the mobile on a channel.
+#[tactic(auto, using(crate::proofs::Asking::row_steps), unfolding(crate::specs::Procedure::return_plan))]
+pub(crate) fn return_to<D: DeskView + Drop, A: Allocator + Copy>(
+    work: &mut Work<D, A>,
+    chan: ChanId,
+) -> Result<(), DeskFault>
+    ensures row { OnOk result (Goes D.log D.choice_at work.old
+        (return_plan chan) work.new (At Ends)) }
+    ensures stops { OnErr result (Goes D.log D.choice_at work.old
+        (return_plan chan) work.new Asking) }
+    ensures foreign { IfErr result (λ f. IsForeign f → D.may_be_foreign work.old.view) }
+    ensures foreign_kept { D.may_be_foreign work.new.view → D.may_be_foreign work.old.view }
+{
+    let Some(call) = owner(work, Event::Owner(chan))? else {
+        return Ok(());
+    };
+    let Some(shown) = look(work, call)? else {
+        return Ok(());
+    };
+    if !is_serving(chan, shown.record) {
+        return Ok(());
+    }
+    return_rest(work, call, shown.record.attempt)
+}

@@ -1,0 +1,90 @@
+//! Parts that several rows have.
+ghost use Rattle.std.specs.Prelude.{◌≡◌, ◌≤◌, ◌+◌, ℕ, List, Option, None, true, Ok, IfOk, IfErr, OnErr};
+ghost use Rattle.channel_fsm.specs.declared.ChanState.{ChanState};
+ghost use Rattle.radio_book.specs.declared.event.CallRecord.{CallRecord};
+ghost use Rattle.ho_procedure.specs.Plan.{Plan, Asking, call_dropped};
+ghost use Rattle.ho_procedure.specs.Going.{Goes, Passes, IsForeign, last_reports, then, then_of, then_shown};
+ghost use Rattle.ho_procedure.specs.Procedure.{owned, looked, release_target};
+
+use crate::records::{is_nameable, is_switched_on};
+use crate::view::DeskView;
+use crate::work::{Course, Shown, Work};
+use radio_book::event::{Attempt, Event, Reply};
+use radio_desk::desk::DeskFault;
+use std::alloc::Allocator;
+
+/// The call that an event of a station concerns, where the book says so.
+#[tactic(auto, using(crate::proofs::Asking::row_steps), unfolding(crate::specs::Procedure::owned))]
+pub(super) fn owner<D: DeskView + Drop, A: Allocator + Copy>(
+    work: &mut Work<D, A>,
+    event: Event,
+) -> Result<Option<u16>, DeskFault>
+    ensures goes { IfOk result (λ found. (next : ℕ → Plan) → Passes D.log D.choice_at work.old
+        (owned event next) work.new (then_of next found)) }
+    ensures stops { OnErr result ((next : ℕ → Plan) → Goes D.log D.choice_at work.old
+        (owned event next) work.new Asking) }
+    ensures owed { work.new.owed ≡ work.old.owed }
+    ensures reports { call_dropped event ≡ None → (call : ℕ) →
+        last_reports work.new.windows call ≡ last_reports work.old.windows call }
+    ensures width { work.new.windows.width ≡ work.old.windows.width }
+    ensures ready { work.old.windows.is_ready ≡ true → work.new.windows.is_ready ≡ true }
+    ensures foreign { IfErr result (λ f. IsForeign f → D.may_be_foreign work.old.view) }
+    ensures foreign_kept { D.may_be_foreign work.new.view → D.may_be_foreign work.old.view }
+{
+    match work.ask(event)? {
+        Reply::Owned(call) => Ok(Some(call)),
+        Reply::Done | Reply::Record(..) | Reply::Refused(_) => Ok(None),
+    }
+}
+
+/// What the book has of a call, where it has it.
+#[tactic(auto, using(crate::proofs::Asking::row_steps), unfolding(crate::specs::Procedure::looked))]
+pub(super) fn look<D: DeskView + Drop, A: Allocator + Copy>(
+    work: &mut Work<D, A>,
+    call: u16,
+) -> Result<Option<Shown>, DeskFault>
+    ensures goes { IfOk result (λ found. (next : CallRecord → Option ChanState → Plan) →
+        Passes D.log D.choice_at work.old (looked call next) work.new (then_shown next found)) }
+    ensures stops { OnErr result ((next : CallRecord → Option ChanState → Plan) →
+        Goes D.log D.choice_at work.old (looked call next) work.new Asking) }
+    ensures owed { work.new.owed ≡ work.old.owed }
+    ensures reports { (other : ℕ) →
+        last_reports work.new.windows other ≡ last_reports work.old.windows other }
+    ensures width { work.new.windows.width ≡ work.old.windows.width }
+    ensures ready { work.old.windows.is_ready ≡ true → work.new.windows.is_ready ≡ true }
+    ensures foreign { IfErr result (λ f. IsForeign f → D.may_be_foreign work.old.view) }
+    ensures foreign_kept { D.may_be_foreign work.new.view → D.may_be_foreign work.old.view }
+{
+    match work.ask(Event::Look(call))? {
+        Reply::Record(record, state) => Ok(Some(Shown { record, state })),
+        Reply::Done | Reply::Owned(_) | Reply::Refused(_) => Ok(None),
+    }
+}
+
+/// The target of an attempt is released, where it was switched on.
+#[tactic(auto, using(crate::proofs::Asking::row_steps), unfolding(crate::specs::Procedure::release_target))]
+pub(super) fn release_target<D: DeskView + Drop, A: Allocator + Copy>(
+    work: &mut Work<D, A>,
+    attempt: Option<Attempt>,
+) -> Course
+    requires { 1 ≤ work.old.owed.room }
+    ensures goes { (tail : Plan) → Passes D.log D.choice_at work.old
+        (release_target attempt tail) work.new (then tail result) }
+    ensures room { work.old.owed.room ≤ work.new.owed.room + 1 }
+    ensures foreign_kept { D.may_be_foreign work.new.view → D.may_be_foreign work.old.view }
+{
+    let Some(attempt) = attempt else {
+        return Course::On;
+    };
+    if !is_switched_on(attempt.stage) {
+        return Course::On;
+    }
+    let Some(target) = attempt.target else {
+        return Course::Over;
+    };
+    if !is_nameable(target) {
+        return Course::Over;
+    }
+    work.send_release(target);
+    Course::On
+}

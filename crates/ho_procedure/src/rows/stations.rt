@@ -1,0 +1,224 @@
+//! Rows of the messages of stations.
+ghost use Rattle.std.specs.Prelude.{◌≡◌, ◌≤◌, ◌<◌, ℕ, OnOk, OnErr, IfErr};
+ghost use Rattle.ho_procedure.specs.Plan.{Plan, Ends, At, Asking};
+ghost use Rattle.ho_procedure.specs.Going.{Goes, Passes, IsForeign};
+ghost use Rattle.ho_procedure.specs.Procedure.{send_command, internal_command, confirm_rest, confirm_plan, refuse_plan, released_plan, connection_failure_plan, detect_plan};
+
+use super::parts::{look, owner};
+use crate::commands::command_to;
+use crate::records::{is_nameable, is_serving, is_target, is_target_in};
+use crate::view::DeskView;
+use crate::work::Work;
+use cell_table::Site;
+use channel_fsm::ChanId;
+use radio_book::event::{Attempt, AttemptKind, Event, Reply, Why};
+use radio_desk::desk::DeskFault;
+use rr_messages::Rr;
+use std::alloc::Allocator;
+
+/// Causes on A (TS 48.008 clause 3.2.2.5).
+const RADIO_INTERFACE_FAILURE: u8 = 0x01;
+const EQUIPMENT_FAILURE: u8 = 0x20;
+
+/// The mobile is sent by this command.
+#[tactic(auto, using(crate::proofs::Asking::row_steps), unfolding(crate::specs::Procedure::send_command))]
+fn send_command<D: DeskView + Drop, A: Allocator + Copy>(
+    work: &mut Work<D, A>,
+    call: u16,
+    serving: ChanId,
+    command: &Rr,
+) -> Result<(), DeskFault>
+    requires room { 1 ≤ work.old.owed.room }
+    requires timeslot { serving.tn < 8 }
+    ensures row { OnOk result (Goes D.log D.choice_at work.old
+        (send_command call serving command.now) work.new (At Ends)) }
+    ensures stops { OnErr result (Goes D.log D.choice_at work.old
+        (send_command call serving command.now) work.new Asking) }
+    ensures foreign { IfErr result (λ f. IsForeign f → D.may_be_foreign work.old.view) }
+    ensures foreign_kept { D.may_be_foreign work.new.view → D.may_be_foreign work.old.view }
+{
+    let Reply::Done = work.ask(Event::Command(call))? else {
+        return Ok(());
+    };
+    work.send_to_mobile(serving, command);
+    Ok(())
+}
+
+/// The mobile is sent to the target.
+#[tactic(auto, using(crate::proofs::Asking::row_steps))]
+fn command<D: DeskView + Drop, A: Allocator + Copy>(
+    work: &mut Work<D, A>,
+    site: &Site<A>,
+    call: u16,
+    target: ChanId,
+    serving: Option<ChanId>,
+    reference: Option<u8>,
+) -> Result<(), DeskFault>
+    requires { 1 ≤ work.old.owed.room }
+    ensures row { OnOk result (Goes D.log D.choice_at work.old
+        (internal_command site.now call target serving reference) work.new (At Ends)) }
+    ensures stops { OnErr result (Goes D.log D.choice_at work.old
+        (internal_command site.now call target serving reference) work.new Asking) }
+    ensures foreign { IfErr result (λ f. IsForeign f → D.may_be_foreign work.old.view) }
+    ensures foreign_kept { D.may_be_foreign work.new.view → D.may_be_foreign work.old.view }
+{
+    let Some(serving) = serving else {
+        return Ok(());
+    };
+    if !is_nameable(serving) {
+        return Ok(());
+    }
+    let Some(reference) = reference else {
+        return Ok(());
+    };
+    let Some(command) = command_to(site, target, reference) else {
+        return Ok(());
+    };
+    send_command(work, call, serving, &command)
+}
+
+/// What follows the look at a call, a channel of which was activated.
+#[tactic(auto, using(crate::proofs::Asking::row_steps), unfolding(crate::specs::Procedure::confirm_rest))]
+fn confirm_rest<D: DeskView + Drop, A: Allocator + Copy>(
+    work: &mut Work<D, A>,
+    site: &Site<A>,
+    call: u16,
+    chan: ChanId,
+    serving: Option<ChanId>,
+    attempt: Option<Attempt>,
+) -> Result<(), DeskFault>
+    requires { 1 ≤ work.old.owed.room }
+    ensures row { OnOk result (Goes D.log D.choice_at work.old
+        (confirm_rest site.now call chan serving attempt) work.new (At Ends)) }
+    ensures stops { OnErr result (Goes D.log D.choice_at work.old
+        (confirm_rest site.now call chan serving attempt) work.new Asking) }
+    ensures foreign { IfErr result (λ f. IsForeign f → D.may_be_foreign work.old.view) }
+    ensures foreign_kept { D.may_be_foreign work.new.view → D.may_be_foreign work.old.view }
+{
+    let Some(attempt) = attempt else {
+        return Ok(());
+    };
+    if !is_target(chan, attempt.target) {
+        return Ok(());
+    }
+    match attempt.kind {
+        AttemptKind::Internal => command(work, site, call, chan, serving, attempt.reference),
+        AttemptKind::Incoming | AttemptKind::Outgoing => Ok(()),
+    }
+}
+
+/// A station activated a channel.
+#[tactic(auto, using(crate::proofs::Asking::row_steps), unfolding(crate::specs::Procedure::confirm_plan))]
+pub(crate) fn confirm<D: DeskView + Drop, A: Allocator + Copy>(
+    work: &mut Work<D, A>,
+    site: &Site<A>,
+    chan: ChanId,
+) -> Result<(), DeskFault>
+    ensures row { OnOk result (Goes D.log D.choice_at work.old
+        (confirm_plan site.now chan) work.new (At Ends)) }
+    ensures stops { OnErr result (Goes D.log D.choice_at work.old
+        (confirm_plan site.now chan) work.new Asking) }
+    ensures foreign { IfErr result (λ f. IsForeign f → D.may_be_foreign work.old.view) }
+    ensures foreign_kept { D.may_be_foreign work.new.view → D.may_be_foreign work.old.view }
+{
+    work.make_room(1)?;
+    let Some(call) = owner(work, Event::Confirm(chan))? else {
+        return Ok(());
+    };
+    let Some(shown) = look(work, call)? else {
+        return Ok(());
+    };
+    confirm_rest(work, site, call, chan, shown.record.serving, shown.record.attempt)
+}
+
+/// A station refused to activate a channel.
+#[tactic(auto, using(crate::proofs::Asking::row_steps), unfolding(crate::specs::Procedure::refuse_plan))]
+pub(crate) fn refuse<D: DeskView + Drop, A: Allocator + Copy>(
+    work: &mut Work<D, A>,
+    chan: ChanId,
+) -> Result<(), DeskFault>
+    ensures row { OnOk result (Goes D.log D.choice_at work.old
+        (refuse_plan chan) work.new (At Ends)) }
+    ensures stops { OnErr result (Goes D.log D.choice_at work.old
+        (refuse_plan chan) work.new Asking) }
+    ensures foreign { IfErr result (λ f. IsForeign f → D.may_be_foreign work.old.view) }
+    ensures foreign_kept { D.may_be_foreign work.new.view → D.may_be_foreign work.old.view }
+{
+    work.make_room(1)?;
+    let Some(call) = owner(work, Event::Refuse(chan))? else {
+        return Ok(());
+    };
+    let Some(shown) = look(work, call)? else {
+        return Ok(());
+    };
+    if is_target_in(chan, shown.record) {
+        work.ask(Event::Undo(call, Why::Asked))?;
+        return Ok(());
+    }
+    if is_serving(chan, shown.record) {
+        work.send_clear_request(call, EQUIPMENT_FAILURE);
+    }
+    Ok(())
+}
+
+/// A station released a channel.
+#[tactic(auto, using(crate::proofs::Asking::row_steps), unfolding(crate::specs::Procedure::released_plan))]
+pub(crate) fn release<D: DeskView + Drop, A: Allocator + Copy>(
+    work: &mut Work<D, A>,
+    chan: ChanId,
+) -> Result<(), DeskFault>
+    ensures row { OnOk result (Goes D.log D.choice_at work.old
+        (released_plan chan) work.new (At Ends)) }
+    ensures stops { OnErr result (Goes D.log D.choice_at work.old
+        (released_plan chan) work.new Asking) }
+    ensures foreign { IfErr result (λ f. IsForeign f → D.may_be_foreign work.old.view) }
+    ensures foreign_kept { D.may_be_foreign work.new.view → D.may_be_foreign work.old.view }
+{
+    work.ask(Event::Released(chan))?;
+    Ok(())
+}
+
+/// A station lost the mobile on a channel.
+#[tactic(auto, using(crate::proofs::Asking::row_steps), unfolding(crate::specs::Procedure::connection_failure_plan))]
+pub(crate) fn fail<D: DeskView + Drop, A: Allocator + Copy>(
+    work: &mut Work<D, A>,
+    chan: ChanId,
+) -> Result<(), DeskFault>
+    ensures row { OnOk result (Goes D.log D.choice_at work.old
+        (connection_failure_plan chan) work.new (At Ends)) }
+    ensures stops { OnErr result (Goes D.log D.choice_at work.old
+        (connection_failure_plan chan) work.new Asking) }
+    ensures foreign { IfErr result (λ f. IsForeign f → D.may_be_foreign work.old.view) }
+    ensures foreign_kept { D.may_be_foreign work.new.view → D.may_be_foreign work.old.view }
+{
+    let Some(call) = owner(work, Event::Owner(chan))? else {
+        return Ok(());
+    };
+    work.make_room(1)?;
+    let Some(shown) = look(work, call)? else {
+        return Ok(());
+    };
+    if is_serving(chan, shown.record) && shown.record.attempt.is_none() {
+        work.send_clear_request(call, RADIO_INTERFACE_FAILURE);
+    }
+    Ok(())
+}
+
+/// A station sees the mobile on the channel that it was sent to.
+#[tactic(auto, using(crate::proofs::Asking::row_steps), unfolding(crate::specs::Procedure::detect_plan))]
+pub(crate) fn detect<D: DeskView + Drop, A: Allocator + Copy>(
+    work: &mut Work<D, A>,
+    chan: ChanId,
+) -> Result<(), DeskFault>
+    ensures row { OnOk result (Goes D.log D.choice_at work.old
+        (detect_plan chan) work.new (At Ends)) }
+    ensures stops { OnErr result (Goes D.log D.choice_at work.old
+        (detect_plan chan) work.new Asking) }
+    ensures foreign { IfErr result (λ f. IsForeign f → D.may_be_foreign work.old.view) }
+    ensures foreign_kept { D.may_be_foreign work.new.view → D.may_be_foreign work.old.view }
+{
+    if let Some(call) = owner(work, Event::Detect(chan))? {
+        let _ = look(work, call)?;
+    }
+    Ok(())
+}

@@ -1,0 +1,76 @@
+//! A desk of one's own.
+ghost use Rattle.std.specs.Prelude.{◌≡◌, ◌∷◌, ◌++◌, [], ℕ, List, Err, IfOk, OnErr, MatchOption};
+ghost use Rattle.channel_fsm.specs.declared.ChanId.{ChanId};
+ghost use Rattle.ho_procedure.specs.Choices.{Entry, Choice, NoneFree, Chosen};
+
+use crate::view::DeskView;
+use radio_book::event::{Event, Kind};
+use radio_desk::desk::{Desk, DeskFault};
+use radio_desk::seat::{Receipt, Seat};
+use std::alloc::{Allocator, Global};
+use std::marker::Model;
+
+/// A desk with its only seat. Contracts see it as the desk.
+///
+/// It says that no channel of a cell is free only where the desk's book has none, chooses what is free there, and its
+/// desk never finds its seat foreign.
+#[derive(Drop)]
+pub struct Solo<A: Allocator = Global> {
+    desk: Desk<A>,
+    seat: Seat,
+}
+
+impl<A: Allocator> Model for Solo<A> {
+    ghost use Rattle.radio_desk.specs.Desk.{DeskState, desk_code, HoldsLast};
+
+    ghost Value = { DeskState };
+
+    ghost coded = { desk_code };
+
+    ghost view = { λ solo. solo.desk };
+
+    ghost invariant = { λ solo. HoldsLast solo.desk.history solo.seat };
+}
+
+impl<A: Allocator> Solo<A> {
+    /// A desk, with a new seat.
+    pub fn new(desk: Desk<A>) -> Solo<A>
+        ensures desk { result ≡ desk }
+    {
+        Solo {
+            desk,
+            seat: Seat::new(),
+        }
+    }
+
+    /// Its desk.
+    pub fn desk(&self) -> &Desk<A>
+        ensures desk { result.now ≡ self.now }
+    {
+        &self.desk
+    }
+}
+
+impl<A: Allocator + Copy> DeskView for Solo<A> {
+    ghost use Rattle.ho_procedure.specs.Choices.{AllowsAfter};
+
+    ghost log = { λ solo. solo.history };
+
+    ghost choice_at = { λ solo log choice. AllowsAfter solo.opening log choice };
+
+    ghost may_be_foreign = { λ solo. ⊥ };
+
+    fn judge(&mut self, event: Event) -> Result<Receipt, DeskFault> {
+        self.desk.judge(&mut self.seat, event)
+    }
+
+    fn judge_take(&mut self, call: u16, kind: Kind, cell: u8) -> Result<Option<Receipt>, DeskFault> {
+        let _entries = self.desk.len();
+        self.desk.judge_take(&mut self.seat, call, kind, cell)
+    }
+
+    fn judge_reserve(&mut self, call: u16) -> Result<Receipt, DeskFault> {
+        let _entries = self.desk.len();
+        self.desk.judge_reserve(&mut self.seat, call)
+    }
+}

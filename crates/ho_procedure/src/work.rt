@@ -1,0 +1,238 @@
+//! The steps of a row, each with the plan that it leads from and to.
+ghost use Rattle.std.specs.Prelude.{◌≡◌, ◌≤◌, ◌++◌, ◌∷◌, [], ℕ, List, true, IsTrue, IfOk, IfErr, OnOk, OnErr, Err, MatchOption};
+ghost use Rattle.channel_fsm.specs.declared.ChanId.{ChanId};
+ghost use Rattle.ho_candidates.specs.declared.listed.Candidate.{Candidate};
+ghost use Rattle.radio_book.specs.declared.event.Reply.{Reply};
+ghost use Rattle.measurements.specs.Reports.{last_valid};
+ghost use Rattle.ho_procedure.specs.Plan.{Plan, Asks, Takes, Reserves, Notes, Ranks, IsAsking, Asking, is_accepted, call_dropped, dropped_if};
+ghost use Rattle.ho_procedure.specs.Going.{Goes, Passes, IsForeign, last_reports};
+
+use crate::outbox::Outbox;
+use crate::view::DeskView;
+use crate::windows::Windows;
+use cell_table::Site;
+use channel_fsm::{ChanId, ChanState};
+use ho_candidates::{Candidate, candidates};
+use radio_book::event::{CallRecord, Event, Kind, Reply};
+use radio_desk::desk::DeskFault;
+use rr_elements::MeasResults;
+use std::alloc::Allocator;
+
+/// How a part of a row ended.
+#[derive(Clone, Copy)]
+pub(crate) enum Course {
+    /// The row goes on.
+    On,
+    /// The row is over.
+    Over,
+}
+
+/// What the book has of a call.
+#[derive(Clone, Copy)]
+pub(crate) struct Shown {
+    pub(crate) record: CallRecord,
+    /// The state of the serving channel.
+    pub(crate) state: Option<ChanState>,
+}
+
+/// A view that is asked, the messages that are owed, and the reports of each call.
+#[derive(Drop)]
+pub(crate) struct Work<D: DeskView + Drop, A: Allocator> {
+    pub(crate) view: D,
+    pub(crate) owed: Outbox<A>,
+    pub(crate) windows: Windows<A>,
+    pub(crate) alloc: A,
+}
+
+/// The call whose reports an accepted event drops.
+fn call_dropped(event: Event) -> Option<u16>
+    ensures { result ≡ call_dropped event }
+{
+    match event {
+        Event::Open(call, _)
+        | Event::Clear(call)
+        | Event::Complete(call)
+        | Event::Undo(call, _)
+        | Event::Left(call) => Some(call),
+        Event::Look(_)
+        | Event::Take(..)
+        | Event::Reserve(..)
+        | Event::Activate(_)
+        | Event::Command(_)
+        | Event::Confirm(_)
+        | Event::Refuse(_)
+        | Event::Detect(_)
+        | Event::Released(_)
+        | Event::Owner(_)
+        | Event::Require(_)
+        | Event::Order(_) => None,
+    }
+}
+
+fn is_accepted(reply: Reply) -> bool
+    ensures { result ≡ is_accepted reply }
+{
+    match reply {
+        Reply::Done | Reply::Record(..) | Reply::Owned(_) => true,
+        Reply::Refused(_) => false,
+    }
+}
+
+/// Drops the reports of a call, once an event says so.
+#[tactic(auto, using(crate::proofs::Reporting::but_one))]
+fn drop_reports<A: Allocator>(windows: &mut Windows<A>, event: Event, reply: Reply)
+    ensures reports { (call : ℕ) → last_reports windows.new call ≡
+        dropped_if (is_accepted reply) (call_dropped event) call (last_reports windows.old call) }
+    ensures width { windows.new.width ≡ windows.old.width }
+    ensures ready { windows.old.is_ready ≡ true → windows.new.is_ready ≡ true }
+{
+    if let Some(call) = call_dropped(event) {
+        if is_accepted(reply) {
+            windows.clear(call);
+        }
+    }
+}
+
+impl<D: DeskView + Drop, A: Allocator + Copy> Work<D, A> {
+    /// Makes room for this many messages more.
+    #[tactic(auto, using(crate::proofs::Going::idles, crate::proofs::Going::waits))]
+    pub(crate) fn make_room(&mut self, messages: usize) -> Result<(), DeskFault>
+        ensures ok { OnOk result ((p : Plan) → Passes D.log D.choice_at self.old p self.new p) }
+        ensures room { OnOk result (messages ≤ self.new.owed.room) }
+        ensures err { OnErr result ((p : Plan) → IsAsking p →
+            Goes D.log D.choice_at self.old p self.new Asking) }
+        ensures no_memory { OnErr result (result ≡ Err DeskFault.NoMemory) }
+        ensures windows { self.new.windows ≡ self.old.windows }
+        ensures foreign_kept { D.may_be_foreign self.new.view → D.may_be_foreign self.old.view }
+    {
+        Ok(self.owed.make_room(messages)?)
+    }
+
+    /// Makes room for the reports of one more call.
+    #[tactic(auto, using(crate::proofs::Going::idles, crate::proofs::Going::waits))]
+    pub(crate) fn make_window(&mut self) -> Result<(), DeskFault>
+        ensures ok { OnOk result ((p : Plan) → Passes D.log D.choice_at self.old p self.new p) }
+        ensures ready { OnOk result (IsTrue self.new.windows.is_ready) }
+        ensures err { OnErr result ((p : Plan) → IsAsking p →
+            Goes D.log D.choice_at self.old p self.new Asking) }
+        ensures no_memory { OnErr result (result ≡ Err DeskFault.NoMemory) }
+        ensures reports { (call : ℕ) →
+            last_reports self.new.windows call ≡ last_reports self.old.windows call }
+        ensures width { self.new.windows.width ≡ self.old.windows.width }
+        ensures owed { self.new.owed ≡ self.old.owed }
+        ensures foreign_kept { D.may_be_foreign self.new.view → D.may_be_foreign self.old.view }
+    {
+        Ok(self.windows.make_room()?)
+    }
+
+    /// Asks an event.
+    #[tactic(auto, using(crate::proofs::Going::asked, crate::proofs::Going::waits))]
+    pub(crate) fn ask(&mut self, event: Event) -> Result<Reply, DeskFault>
+        ensures ok { IfOk result (λ reply. (next : Reply → Plan) →
+            Passes D.log D.choice_at self.old (Asks event next) self.new (next reply)) }
+        ensures err { OnErr result ((p : Plan) → IsAsking p →
+            Goes D.log D.choice_at self.old p self.new Asking) }
+        ensures owed { self.new.owed ≡ self.old.owed }
+        ensures reports { IfOk result (λ reply. (call : ℕ) → last_reports self.new.windows call ≡
+            dropped_if (is_accepted reply) (call_dropped event) call
+            (last_reports self.old.windows call)) }
+        ensures kept { OnErr result (self.new.windows ≡ self.old.windows) }
+        ensures width { self.new.windows.width ≡ self.old.windows.width }
+        ensures ready { self.old.windows.is_ready ≡ true → self.new.windows.is_ready ≡ true }
+        ensures foreign { IfErr result (λ f. IsForeign f → D.may_be_foreign self.old.view) }
+        ensures foreign_kept { D.may_be_foreign self.new.view → D.may_be_foreign self.old.view }
+    {
+        let receipt = self.view.judge(event)?;
+        drop_reports(&mut self.windows, event, receipt.reply);
+        Ok(receipt.reply)
+    }
+
+    /// Takes some free channel of a cell, or finds that none is free.
+    #[tactic(auto, using(crate::proofs::Going::took, crate::proofs::Going::found_none, crate::proofs::Going::waits))]
+    pub(crate) fn take(
+        &mut self,
+        call: u16,
+        kind: Kind,
+        cell: u8,
+    ) -> Result<Option<(ChanId, Reply)>, DeskFault>
+        ensures ok { IfOk result (λ answer. MatchOption answer
+            ((none : Plan) → (next : ChanId → Reply → Plan) →
+            Passes D.log D.choice_at self.old (Takes call kind cell none next) self.new none)
+            (λ taken. (none : Plan) → (next : ChanId → Reply → Plan) →
+            Passes D.log D.choice_at self.old (Takes call kind cell none next) self.new
+            (next taken.0 taken.1))) }
+        ensures err { OnErr result ((p : Plan) → IsAsking p →
+            Goes D.log D.choice_at self.old p self.new Asking) }
+        ensures owed { self.new.owed ≡ self.old.owed }
+        ensures foreign { IfErr result (λ f. IsForeign f → D.may_be_foreign self.old.view) }
+        ensures foreign_kept { D.may_be_foreign self.new.view → D.may_be_foreign self.old.view }
+    {
+        let Some(receipt) = self.view.judge_take(call, kind, cell)? else {
+            return Ok(None);
+        };
+        let Event::Take(_, _, chan) = receipt.event else {
+            unreachable!()
+        };
+        Ok(Some((chan, receipt.reply)))
+    }
+
+    /// Reserves some free handover reference.
+    #[tactic(auto, using(crate::proofs::Going::reserved, crate::proofs::Going::waits))]
+    pub(crate) fn reserve(&mut self, call: u16) -> Result<(u8, Reply), DeskFault>
+        ensures ok { IfOk result (λ answer. (next : ℕ → Reply → Plan) →
+            Passes D.log D.choice_at self.old (Reserves call next) self.new (next answer.0 answer.1)) }
+        ensures err { OnErr result ((p : Plan) → IsAsking p →
+            Goes D.log D.choice_at self.old p self.new Asking) }
+        ensures owed { self.new.owed ≡ self.old.owed }
+        ensures foreign { IfErr result (λ f. IsForeign f → D.may_be_foreign self.old.view) }
+        ensures foreign_kept { D.may_be_foreign self.new.view → D.may_be_foreign self.old.view }
+    {
+        let receipt = self.view.judge_reserve(call)?;
+        let Event::Reserve(_, number) = receipt.event else {
+            unreachable!()
+        };
+        Ok((number, receipt.reply))
+    }
+
+    /// Notes a report of a call.
+    #[tactic(auto, using(crate::proofs::Going::noted, crate::proofs::Reporting::but_one))]
+    pub(crate) fn note(&mut self, call: u16, report: &MeasResults)
+        requires { IsTrue self.old.windows.is_ready }
+        ensures goes { (next : Plan) → Passes D.log D.choice_at self.old
+            (Notes call (last_valid self.old.windows.width
+            (last_reports self.old.windows call ++ report.now ∷ [])) next) self.new next }
+        ensures reports { last_reports self.new.windows call ≡ last_valid self.old.windows.width
+            (last_reports self.old.windows call ++ report.now ∷ []) }
+        ensures width { self.new.windows.width ≡ self.old.windows.width }
+        ensures owed { self.new.owed ≡ self.old.owed }
+        ensures foreign_kept { D.may_be_foreign self.new.view → D.may_be_foreign self.old.view }
+    {
+        self.windows.note(call, report);
+    }
+}
+
+impl<D: DeskView + Drop, A: Allocator + Copy> Work<D, A> {
+    /// The candidates that the last reports of a call make of the cells.
+    #[tactic(auto, using(crate::proofs::Going::ranked, crate::proofs::Going::waits, crate::proofs::Ranking::are_candidates, crate::proofs::Ranking::no_candidates))]
+    pub(crate) fn rank(
+        &self,
+        site: &Site<A>,
+        call: u16,
+        serving: u8,
+    ) -> Result<Vec<Candidate, A>, DeskFault>
+        requires { self.now.windows.width ≡ site.now.handover.window }
+        ensures goes { IfOk result (λ found. (next : List Candidate → Plan) →
+            Passes D.log D.choice_at self.now
+            (Ranks site.now (last_reports self.now.windows call) serving next) self.now
+            (next found.items)) }
+        ensures err { OnErr result ((p : Plan) → IsAsking p →
+            Goes D.log D.choice_at self.now p self.now Asking) }
+        ensures no_memory { OnErr result (result ≡ Err DeskFault.NoMemory) }
+    {
+        let _cells = site.cells();
+        let Some(window) = self.windows.window(call) else {
+            return Ok(Vec::new(self.alloc));
+        };
+        Ok(candidates(self.alloc, window, site, serving)?)
+    }
+}
