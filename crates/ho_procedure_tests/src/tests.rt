@@ -17,13 +17,13 @@ use reports::{
     REPORTS_OF_TARGET, REPORTS_PENDING, TWO_NEIGHBOURS,
 };
 use rows::{
-    ACTIVATED, ACTIVATED_AGAIN, CLEAR_COMMAND, CLEAR_COMMAND_AGAIN, CLEAR_COMMAND_COMMANDED, CLEARS,
-    CLEARS_COMMANDED, CLEARS_MOVED, CLEARS_NOTHING, CLEARS_PENDING, COMPLETES, COMPLETES_AT_HOME,
-    COMPLETES_ELSEWHERE, COMPLETES_TOO_EARLY, DETECTS, DETECTS_NOBODY, EXPIRES, EXPIRES_AGAIN,
-    EXPIRES_OTHERWISE, FAILS, FAILS_COMMANDED, FAILS_NOBODY, Given, OPENS, OPENS_AGAIN,
-    OPENS_TARGET, REFUSED_AT_ONCE, REFUSES_NOTHING, RELEASED, RELEASED_AGAIN, RETURNS,
-    RETURNS_FROM_NOWHERE, Row, STARTS, STARTS_AGAIN, STARTS_AT_HOME, STARTS_NOTHING, STARTS_NOWHERE,
-    Sent, TARGET_ACTIVATED, TARGET_REFUSES, UNDOES, UNDOES_NOTHING, WITHOUT_A_ROW,
+    ACTIVATED, ACTIVATED_AGAIN, CLEAR_COMMAND, CLEAR_COMMAND_AGAIN, CLEAR_COMMAND_COMMANDED,
+    CLEARS, CLEARS_COMMANDED, CLEARS_MOVED, CLEARS_NOTHING, CLEARS_PENDING, COMPLETES,
+    COMPLETES_AT_HOME, COMPLETES_ELSEWHERE, COMPLETES_TOO_EARLY, DETECTS, DETECTS_NOBODY, EXPIRES,
+    EXPIRES_AGAIN, EXPIRES_OTHERWISE, FAILS, FAILS_COMMANDED, FAILS_NOBODY, Given, OPENS,
+    OPENS_AGAIN, OPENS_TARGET, REFUSED_AT_ONCE, REFUSES_NOTHING, RELEASED, RELEASED_AGAIN, RETURNS,
+    RETURNS_FROM_NOWHERE, Row, STARTS, STARTS_AGAIN, STARTS_AT_HOME, STARTS_NOTHING,
+    STARTS_NOWHERE, Sent, TARGET_ACTIVATED, TARGET_REFUSES, UNDOES, UNDOES_NOTHING, WITHOUT_A_ROW,
 };
 use rr_elements::ElementFault;
 use rr_messages::RrFault;
@@ -45,7 +45,10 @@ const PLAYED: &[(&[Row], (usize, usize, usize, usize))] = &[
         &[OPENS, OPENS_AGAIN, CLEARS_PENDING, RELEASED, RELEASED_AGAIN],
         (0, 0, 0, 0),
     ),
-    (&[CLEARS_NOTHING, FAILS_NOBODY, REFUSES_NOTHING], (0, 0, 0, 0)),
+    (
+        &[CLEARS_NOTHING, FAILS_NOBODY, REFUSES_NOTHING],
+        (0, 0, 0, 0),
+    ),
     (REFUSED_AT_ONCE, (0, 0, 0, 0)),
     // a handover arrives
     (
@@ -182,10 +185,7 @@ const PLAYED: &[(&[Row], (usize, usize, usize, usize))] = &[
         ],
         (1, 1, 0, 0),
     ),
-    (
-        &[OPENS, ACTIVATED, STARTS, REPORTS_OF_TARGET],
-        (2, 1, 1, 0),
-    ),
+    (&[OPENS, ACTIVATED, STARTS, REPORTS_OF_TARGET], (2, 1, 1, 0)),
     // a report of the old cell is forgotten in the new one, and one before an undo after it
     (
         &[
@@ -289,7 +289,7 @@ fn inbound<A: Allocator + Copy>(
 /// A controller of a site, whose book is empty.
 fn opened<A: Allocator + Copy>(alloc: A, scratch: Global, text: &str) -> Result<Radio<A>, Fail> {
     let site = Arc::new(alloc, Site::read(alloc, scratch, text)?)?;
-    let book = Book::new(alloc, site.clone())?;
+    let book = Book::new(alloc, site.clone()?)?;
     let desk = Desk::new(alloc, book)?;
     Ok(Controller::new(alloc, Solo::new(desk), site))
 }
@@ -407,11 +407,7 @@ fn played(
 }
 
 /// What the book of a site has after these rows.
-fn usage_after(
-    rt: &(impl AllocGlobal + Abort),
-    site: &str,
-    rows: &[Row],
-) -> Result<Usage, Fail> {
+fn usage_after(rt: &(impl AllocGlobal + Abort), site: &str, rows: &[Row]) -> Result<Usage, Fail> {
     let mut radio = opened(rt.alloc(), rt.alloc(), site)?;
     played(rt, rt.alloc(), &mut radio, rows)
 }

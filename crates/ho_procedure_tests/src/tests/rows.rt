@@ -352,7 +352,10 @@ pub const EXPIRES: Row = Row {
 /// The timer isn't armed.
 pub const EXPIRES_AGAIN: Row = Row {
     given: Expiry(1, Timer::T3103),
-    events: &[(Undo(1, Why::Expired(Timer::T3103)), Refused(Refusal::NotArmed))],
+    events: &[(
+        Undo(1, Why::Expired(Timer::T3103)),
+        Refused(Refusal::NotArmed),
+    )],
     out: &[],
 };
 
