@@ -1,3 +1,5 @@
+mod WindowFacts
+mod MessageFacts
 pub mod Going
 pub mod Reporting
 pub mod Ranking
