@@ -1,5 +1,8 @@
+mod WindowFacts
+mod MessageFacts
 pub mod Going
 pub mod Reporting
 pub mod Ranking
+pub mod Seated
 pub mod Handled
 pub mod Asking

@@ -1,5 +1,5 @@
 -- The candidates that reports make of the cells.
-use Rattle.std.proofs.Common.{◌≡◌, ◌↔◌, ◌≤◌, ℕ, List, [], AllPairs, Contains, length, refl, sym, ◌∙◌, ap, subst, arith}
+use Rattle.std.proofs.Common.{◌≡◌, ◌↔◌, ◌≤◌, ℕ, List, [], AllPairs, Contains, length, Result, Ok, Err, IfOk, refl, sym, ◌∙◌, ap, subst, arith}
 use Rattle.cell_table.specs.Site.{SiteView}
 use Rattle.rr_elements.specs.MeasResults.{Results}
 use Rattle.measurements.specs.Reports.{Reports}
@@ -12,7 +12,9 @@ pub are_candidates : (site : SiteView) (w : Reports) (reports : List Results) (s
     → w.width ≡ site.handover.window → w.reports ≡ reports → ((c : Candidate) → Contains found c ↔ IsCandidate w site serving c) → AllPairs StandsBefore found
     → AreCandidates site reports serving found
 are_candidates site w reports serving found wide same members order =
-    let is : w ≡ record { reports = reports; width = site.handover.window } = cc in
+    let parts : w ≡ record { reports = w.reports; width = w.width } = refl in
+    let is : w ≡ record { reports = reports; width = site.handover.window } =
+        parts ∙ ap (λ n. record { reports = w.reports; width = n }) wide ∙ ap (λ rs. record { reports = rs; width = site.handover.window }) same in
     record { members = λ c. subst (λ v. Contains found c ↔ IsCandidate v site serving c) is (members c); order = order }
 
 -- without reports there is none
@@ -24,3 +26,9 @@ no_candidates site reports serving none some = record { members = λ c. (λ h. a
 
     empty : (c : Candidate) → ¬ IsCandidate (record { reports = reports; width = site.handover.window }) site serving c
     empty c k = let full : length reports ≡ site.handover.window = k.full in let zero : length reports ≡ 0 = ap length none in omega arith
+
+pub all_candidates : {V E : Type 0} (items : V → List Candidate) (site : SiteView) (w : Reports) (serving : ℕ) (result : Result V E) → w.width ≡ site.handover.window
+    → IfOk result (λ found. (c : Candidate) → Contains (items found) c ↔ IsCandidate w site serving c) → IfOk result (λ found. AllPairs StandsBefore (items found))
+    → IfOk result (λ found. AreCandidates site w.reports serving (items found))
+all_candidates items site w serving (Ok found) wide members order = are_candidates site w w.reports serving (items found) wide refl members order
+all_candidates items site w serving (Err f) wide members order = tt

@@ -102,8 +102,11 @@ is_commanded stage.Required = false
 is_commanded stage.Ordered = false
 
 -- An operator opens a call: CHANNEL ACTIVATION (TS 48.058 clause 4.1).
+unfoldable pub opened_plan : ChanId → Plan
+opened_plan x = if is_nameable x then Sends (activation x) Ends else Ends
+
 unfoldable pub open_plan : ℕ → ChanId → Plan
-open_plan c x = Asks (event.Open c x) (if_done (if is_nameable x then Sends (activation x) Ends else Ends))
+open_plan c x = Asks (event.Open c x) (if_done (opened_plan x))
 
 -- A handover begins (TS 44.018 clause 3.4.4): a channel is taken, a reference reserved, CHANNEL ACTIVATION sent
 -- (TS 48.058 clause 4.1). For an outside cell nothing is asked.
@@ -219,9 +222,12 @@ abbrev pub if_reference : Option ℕ → (ℕ → Plan) → Plan
 if_reference None next = Ends
 if_reference (Some n) next = next n
 
+unfoldable pub send_command : ℕ → ChanId → Rr → Plan
+send_command c s m = Asks (event.Command c) (if_done (Sends (to_mobile s m) Ends))
+
 abbrev pub internal_command : SiteView → ℕ → ChanId → Option ChanId → Option ℕ → Plan
 internal_command site c x serving reference =
-    if_named serving (λ s. if_reference reference (λ n. if_command (command_to site x n) (λ m. Asks (event.Command c) (if_done (Sends (to_mobile s m) Ends)))))
+    if_named serving (λ s. if_reference reference (λ n. if_command (command_to site x n) (λ m. send_command c s m)))
 
 abbrev pub command_plan : SiteView → ℕ → ChanId → Option ChanId → Attempt → AttemptKind → Plan
 command_plan site c x serving a Internal = internal_command site c x serving a.reference

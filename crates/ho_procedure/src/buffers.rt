@@ -1,6 +1,6 @@
 //! Buffers in which messages are written.
-ghost use Rattle.std.specs.Prelude.{◌≡◌, ◌+◌, ◌≤◌, ◌<◌, All, OnOk};
-ghost use Rattle.ho_procedure.specs.Owed.{IsSpare, longest};
+ghost use Rattle.std.specs.Prelude.{◌≡◌, ◌+◌, ◌≤◌, ◌<◌, All, OnOk, vec_len};
+ghost use Rattle.ho_procedure.specs.Owed.{IsSpare};
 
 use std::alloc::{AllocError, Allocator, Global};
 use std::marker::Model;
@@ -42,11 +42,7 @@ impl<A: Allocator + Copy> Buffers<A> {
         ensures ok { OnOk result (count ≤ self.new) }
         ensures kept { self.old ≤ self.new }
     {
-        for _ in self.spare.len()..count {
-            let buffer = Vec::with_capacity(self.alloc, LONGEST)?;
-            self.spare.push(buffer)?;
-        }
-        Ok(())
+        fill(self.alloc, &mut self.spare, count)
     }
 
     /// A buffer.
@@ -60,4 +56,22 @@ impl<A: Allocator + Copy> Buffers<A> {
             None => unreachable!(),
         }
     }
+}
+
+/// Adds buffers until there are so many.
+fn fill<A: Allocator + Copy>(
+    alloc: A,
+    spare: &mut Vec<Vec<u8, A>, A>,
+    count: usize,
+) -> Result<(), AllocError>
+    requires spare { All IsSpare spare.old.items }
+    ensures spare { All IsSpare spare.new.items }
+    ensures ok { OnOk result (count ≤ vec_len spare.new) }
+    ensures kept { vec_len spare.old ≤ vec_len spare.new }
+{
+    while spare.len() < count {
+        let buffer = Vec::with_capacity(alloc, LONGEST)?;
+        spare.push(buffer)?;
+    }
+    Ok(())
 }

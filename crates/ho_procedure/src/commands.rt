@@ -38,7 +38,12 @@ pub(crate) fn command_to<S: Allocator + Copy>(
         bcc: site.bcc(target.cell)?,
         power: site.power(target.cell)?,
     };
-    command(cell, site.arfcn(target.cell, target.trx)?, target.tn, reference)
+    command(
+        cell,
+        site.arfcn(target.cell, target.trx)?,
+        target.tn,
+        reference,
+    )
 }
 
 /// HANDOVER COMMAND to a timeslot of a carrier of a cell.

@@ -68,7 +68,14 @@ impl<D: DeskView + Drop, A: Allocator + Copy> Controller<D, A> {
     pub fn into_view(self) -> D
         ensures view { result ≡ self.0 }
     {
-        self.work.view
+        let Controller { site: _, work } = self;
+        let Work {
+            view,
+            owed: _,
+            windows: _,
+            alloc: _,
+        } = work;
+        view
     }
 
     /// Handles an input by its row: asks the view, and answers the messages that are sent, in their order.

@@ -5,12 +5,15 @@ ghost use Rattle.ho_procedure.specs.Messages.{activation, target_activation, rel
 
 use crate::buffers::Buffers;
 use crate::exchange::Outbound;
-use crate::texts::{put_a, put_abis, write_a, write_abis, write_rr};
-use bssmap_messages::{Bssmap, CellId, encode_request_ack_into, encode_required_into};
+use crate::texts::{
+    put_a, put_abis, write_a, write_abis, write_data_request, write_request_ack, write_required,
+    write_rr,
+};
+use bssmap_messages::{Bssmap, CellId};
 use channel_fsm::ChanId;
 use rr_elements::RrCause;
 use rr_messages::Rr;
-use rsl_messages::{ChanBits, Rsl, encode_activation_into, encode_data_request_into};
+use rsl_messages::{ChanBits, Rsl, encode_activation_into};
 use std::alloc::{AllocError, Allocator, Global};
 use std::marker::Model;
 use std::mem;
@@ -76,7 +79,6 @@ impl<A: Allocator + Copy> Outbox<A> {
     pub(crate) fn make_room(&mut self, more: usize) -> Result<(), AllocError>
         ensures ok { OnOk result (more ≤ self.new.room) }
         ensures items { self.new.items ≡ self.old.items }
-        ensures room { self.old.room ≤ self.new.room }
         ensures unread_room { self.new.unread_room ≡ self.old.unread_room }
     {
         self.messages.reserve(more)?;
@@ -91,7 +93,6 @@ impl<A: Allocator + Copy> Outbox<A> {
         ensures ok { OnOk result (1 ≤ self.new.room) }
         ensures unread_room { OnOk result (octets ≤ self.new.unread_room) }
         ensures items { self.new.items ≡ self.old.items }
-        ensures room { self.old.room ≤ self.new.room }
     {
         self.make_room(1)?;
         self.wide.reserve(DATA_REQUEST_HEAD + octets)
@@ -165,9 +166,7 @@ impl<A: Allocator + Copy> Outbox<A> {
         let mut text = self.buffers.take();
         write_rr(message, &mut self.inner);
         let channel = ChanBits { tn: chan.tn };
-        if encode_data_request_into(channel, 0, self.inner.as_slice(), &mut text).is_err() {
-            unreachable!()
-        }
+        write_data_request(channel, self.inner.as_slice(), &mut text);
         self.inner.clear();
         put_abis(&mut self.messages, chan, text);
     }
@@ -194,9 +193,7 @@ impl<A: Allocator + Copy> Outbox<A> {
     {
         let mut text = mem::replace(&mut self.wide, Vec::new(self.alloc));
         let channel = ChanBits { tn: chan.tn };
-        if encode_data_request_into(channel, 0, layer3, &mut text).is_err() {
-            unreachable!()
-        }
+        write_data_request(channel, layer3, &mut text);
         put_abis(&mut self.messages, chan, text);
     }
 
@@ -230,7 +227,13 @@ impl<A: Allocator + Copy> Outbox<A> {
         ensures room { self.old.room ≤ self.new.room + 1 }
     {
         let mut text = self.buffers.take();
-        write_a(&Bssmap::HandoverPerformed { cause: BETTER_CELL, cell }, &mut text);
+        write_a(
+            &Bssmap::HandoverPerformed {
+                cause: BETTER_CELL,
+                cell,
+            },
+            &mut text,
+        );
         put_a(&mut self.messages, call, text);
     }
 
@@ -242,9 +245,7 @@ impl<A: Allocator + Copy> Outbox<A> {
         ensures room { self.old.room ≤ self.new.room + 1 }
     {
         let mut text = self.buffers.take();
-        if encode_required_into(BETTER_CELL, true, cell, &mut text).is_err() {
-            unreachable!()
-        }
+        write_required(BETTER_CELL, cell, &mut text);
         put_a(&mut self.messages, call, text);
     }
 
@@ -256,9 +257,7 @@ impl<A: Allocator + Copy> Outbox<A> {
     {
         let mut text = self.buffers.take();
         write_rr(message, &mut self.inner);
-        if encode_request_ack_into(self.inner.as_slice(), &mut text).is_err() {
-            unreachable!()
-        }
+        write_request_ack(self.inner.as_slice(), &mut text);
         self.inner.clear();
         put_a(&mut self.messages, call, text);
     }

@@ -1,5 +1,5 @@
 //! Messages in the buffers that they are sent in.
-ghost use Rattle.std.specs.Prelude.{◌≡◌, ◌∷◌, ◌++◌, ◌+◌, ◌≤◌, ◌<◌, [], length, vec_len, vec_capacity};
+ghost use Rattle.std.specs.Prelude.{◌≡◌, ◌∷◌, ◌++◌, ◌+◌, ◌≤◌, ◌<◌, [], true, IsSome, length, vec_len, vec_capacity};
 ghost use Rattle.rr_messages.specs.Rr.{rr_text};
 ghost use Rattle.rsl_messages.specs.Texts as abis;
 ghost use Rattle.rsl_messages.specs.Messages as abis_messages;
@@ -9,11 +9,11 @@ ghost use Rattle.ho_procedure.specs.Sent.{OnAbis, OnA, all_sent};
 ghost use Rattle.ho_procedure.specs.Owed.{IsSpare, longest, longest_rr};
 
 use crate::exchange::Outbound;
-use bssmap_messages::Bssmap;
+use bssmap_messages::{Bssmap, CellId, encode_request_ack_into, encode_required_into};
 use channel_fsm::ChanId;
 use octet_elements::Octets;
 use rr_messages::Rr;
-use rsl_messages::Rsl;
+use rsl_messages::{ChanBits, Rsl, encode_data_request_into};
 use std::alloc::Allocator;
 
 /// Writes a message on Abis into a buffer.
@@ -52,6 +52,50 @@ pub(crate) fn write_rr<A: Allocator + Copy>(message: &Rr, text: &mut Vec<u8, A>)
     ensures capacity { vec_capacity text.old ≤ vec_capacity text.new }
 {
     if rr_messages::encode_into(message, text).is_err() {
+        unreachable!()
+    }
+}
+
+/// Writes a DATA REQUEST on the main channel, SAPI 0, into a list with room for it.
+pub(crate) fn write_data_request<A: Allocator>(
+    channel: ChanBits,
+    layer3: &[u8],
+    text: &mut Vec<u8, A>,
+)
+    requires channel { channel.tn < 8 }
+    requires some { 0 < length layer3.now }
+    requires short { length layer3.now ≤ 1015 }
+    requires empty { vec_len text.old ≡ 0 }
+    requires room { 9 + length layer3.now ≤ vec_capacity text.old }
+    ensures { text.new.items ≡ abis.canonical_text {A = Unit}
+        (Rsl.DataRequest channel 0 layer3.now) }
+{
+    if encode_data_request_into(channel, 0, layer3, text).is_err() {
+        unreachable!()
+    }
+}
+
+/// Writes a HANDOVER REQUEST ACKNOWLEDGE with a message for the mobile into a buffer.
+pub(crate) fn write_request_ack<A: Allocator + Copy>(layer3: &[u8], text: &mut Vec<u8, A>)
+    requires some { 0 < length layer3.now }
+    requires short { length layer3.now ≤ longest_rr }
+    requires spare { IsSpare text.old }
+    ensures { text.new.items ≡ interface_a.canonical_text {A = Unit}
+        (Bssmap.HandoverRequestAck layer3.now) }
+{
+    if encode_request_ack_into(layer3, text).is_err() {
+        unreachable!()
+    }
+}
+
+/// Writes a HANDOVER REQUIRED for a cell, with a response request, into a buffer.
+pub(crate) fn write_required<A: Allocator + Copy>(cause: u8, cell: CellId, text: &mut Vec<u8, A>)
+    requires area { IsSome cell.lac }
+    requires spare { IsSpare text.old }
+    ensures { text.new.items ≡ interface_a.canonical_text {A = Unit}
+        (Bssmap.HandoverRequired cause true (cell ∷ [])) }
+{
+    if encode_required_into(cause, true, cell, text).is_err() {
         unreachable!()
     }
 }

@@ -4,7 +4,7 @@ ghost use Rattle.channel_fsm.specs.declared.ChanId.{ChanId};
 ghost use Rattle.ho_candidates.specs.declared.listed.Candidate.{Candidate};
 ghost use Rattle.radio_book.specs.declared.event.Reply.{Reply};
 ghost use Rattle.measurements.specs.Reports.{last_valid};
-ghost use Rattle.ho_procedure.specs.Plan.{Plan, Asks, Takes, Reserves, Notes, Ranks, IsAsking, Asking, is_accepted, call_dropped, dropped_if};
+ghost use Rattle.ho_procedure.specs.Plan.{Plan, AreCandidates, Asks, Takes, Reserves, Notes, Ranks, IsAsking, Asking, is_accepted, call_dropped, dropped_if};
 ghost use Rattle.ho_procedure.specs.Going.{Goes, Passes, IsForeign, last_reports};
 
 use crate::outbox::Outbox;
@@ -13,10 +13,11 @@ use crate::windows::Windows;
 use cell_table::Site;
 use channel_fsm::{ChanId, ChanState};
 use ho_candidates::{Candidate, candidates};
+use measurements::Window;
 use radio_book::event::{CallRecord, Event, Kind, Reply};
 use radio_desk::desk::DeskFault;
 use rr_elements::MeasResults;
-use std::alloc::Allocator;
+use std::alloc::{AllocError, Allocator};
 
 /// How a part of a row ended.
 #[derive(Clone, Copy)]
@@ -136,6 +137,7 @@ impl<D: DeskView + Drop, A: Allocator + Copy> Work<D, A> {
         ensures reports { IfOk result (λ reply. (call : ℕ) → last_reports self.new.windows call ≡
             dropped_if (is_accepted reply) (call_dropped event) call
             (last_reports self.old.windows call)) }
+        ensures kept { OnErr result (self.new.windows ≡ self.old.windows) }
         ensures width { self.new.windows.width ≡ self.old.windows.width }
         ensures ready { self.old.windows.is_ready ≡ true → self.new.windows.is_ready ≡ true }
         ensures foreign { IfErr result (λ f. IsForeign f → D.may_be_foreign self.old.view) }
@@ -212,7 +214,7 @@ impl<D: DeskView + Drop, A: Allocator + Copy> Work<D, A> {
 
 impl<D: DeskView + Drop, A: Allocator + Copy> Work<D, A> {
     /// The candidates that the last reports of a call make of the cells.
-    #[tactic(auto, using(crate::proofs::Going::ranked, crate::proofs::Going::waits, crate::proofs::Ranking::are_candidates, crate::proofs::Ranking::no_candidates))]
+    #[tactic(auto, using(crate::proofs::Going::ranked, crate::proofs::Going::waits, crate::proofs::Ranking::no_candidates))]
     pub(crate) fn rank(
         &self,
         site: &Site<A>,
@@ -232,6 +234,21 @@ impl<D: DeskView + Drop, A: Allocator + Copy> Work<D, A> {
         let Some(window) = self.windows.window(call) else {
             return Ok(Vec::new(self.alloc));
         };
-        Ok(candidates(self.alloc, window, site, serving)?)
+        Ok(candidates_by(self.alloc, window, site, serving)?)
     }
+}
+
+/// The candidates that the reports in a window make of the cells.
+#[tactic(auto, using(crate::proofs::Ranking::are_candidates))]
+fn candidates_by<A: Allocator + Copy>(
+    alloc: A,
+    window: &Window<A>,
+    site: &Site<A>,
+    serving: u8,
+) -> Result<Vec<Candidate, A>, AllocError>
+    requires { window.now.width ≡ site.now.handover.window }
+    ensures { IfOk result (λ found.
+        AreCandidates site.now window.now.reports serving found.items) }
+{
+    candidates(alloc, window, site, serving)
 }

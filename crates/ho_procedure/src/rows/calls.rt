@@ -2,7 +2,7 @@
 ghost use Rattle.std.specs.Prelude.{◌≡◌, ◌≤◌, ◌<◌, ◌+◌, ℕ, Ok, IfOk, OnOk, OnErr, IfErr, Option, Some, None};
 ghost use Rattle.ho_procedure.specs.Plan.{Plan, Ends, At, Asking};
 ghost use Rattle.ho_procedure.specs.Going.{Goes, Passes, IsForeign, then};
-ghost use Rattle.ho_procedure.specs.Procedure.{open_plan, release_serving, release_plan, told_release_plan, clear_serving, clear_undone, clear_named, clear_rest, clear_plan, clear_command_rest, clear_command_plan, release_cause};
+ghost use Rattle.ho_procedure.specs.Procedure.{opened_plan, open_plan, release_serving, release_plan, told_release_plan, clear_serving, clear_undone, clear_named, clear_rest, clear_plan, clear_command_rest, clear_command_plan, release_cause};
 
 use super::parts::{look, release_target};
 use crate::records::{is_nameable, is_own, names_releases};
@@ -15,6 +15,18 @@ use std::alloc::Allocator;
 
 /// A cause on A (TS 48.008 clause 3.2.2.5).
 const CALL_CONTROL: u8 = 9;
+
+/// The channel of a call that begins is activated.
+#[tactic(auto, using(crate::proofs::Asking::row_steps), unfolding(crate::specs::Procedure::opened_plan))]
+fn activate<D: DeskView + Drop, A: Allocator + Copy>(work: &mut Work<D, A>, chan: ChanId)
+    requires { 1 ≤ work.old.owed.room }
+    ensures row { Goes D.log D.choice_at work.old (opened_plan chan) work.new (At Ends) }
+    ensures foreign_kept { D.may_be_foreign work.new.view → D.may_be_foreign work.old.view }
+{
+    if is_nameable(chan) {
+        work.send_activation(chan);
+    }
+}
 
 /// A call begins on a channel, which is activated.
 #[tactic(auto, using(crate::proofs::Asking::row_steps), unfolding(crate::specs::Procedure::open_plan))]
@@ -34,9 +46,7 @@ pub(crate) fn open<D: DeskView + Drop, A: Allocator + Copy>(
     let Reply::Done = work.ask(Event::Open(call, chan))? else {
         return Ok(());
     };
-    if is_nameable(chan) {
-        work.send_activation(chan);
-    }
+    activate(work, chan);
     Ok(())
 }
 

@@ -2,7 +2,7 @@
 ghost use Rattle.std.specs.Prelude.{◌≡◌, ◌≤◌, ◌<◌, ℕ, OnOk, OnErr, IfErr};
 ghost use Rattle.ho_procedure.specs.Plan.{Plan, Ends, At, Asking};
 ghost use Rattle.ho_procedure.specs.Going.{Goes, Passes, IsForeign};
-ghost use Rattle.ho_procedure.specs.Procedure.{internal_command, confirm_rest, confirm_plan, refuse_plan, released_plan, connection_failure_plan, detect_plan};
+ghost use Rattle.ho_procedure.specs.Procedure.{send_command, internal_command, confirm_rest, confirm_plan, refuse_plan, released_plan, connection_failure_plan, detect_plan};
 
 use super::parts::{look, owner};
 use crate::commands::command_to;
@@ -13,11 +13,36 @@ use cell_table::Site;
 use channel_fsm::ChanId;
 use radio_book::event::{Attempt, AttemptKind, Event, Reply, Why};
 use radio_desk::desk::DeskFault;
+use rr_messages::Rr;
 use std::alloc::Allocator;
 
 /// Causes on A (TS 48.008 clause 3.2.2.5).
 const RADIO_INTERFACE_FAILURE: u8 = 0x01;
 const EQUIPMENT_FAILURE: u8 = 0x20;
+
+/// The mobile is sent by this command.
+#[tactic(auto, using(crate::proofs::Asking::row_steps), unfolding(crate::specs::Procedure::send_command))]
+fn send_command<D: DeskView + Drop, A: Allocator + Copy>(
+    work: &mut Work<D, A>,
+    call: u16,
+    serving: ChanId,
+    command: &Rr,
+) -> Result<(), DeskFault>
+    requires room { 1 ≤ work.old.owed.room }
+    requires timeslot { serving.tn < 8 }
+    ensures row { OnOk result (Goes D.log D.choice_at work.old
+        (send_command call serving command.now) work.new (At Ends)) }
+    ensures stops { OnErr result (Goes D.log D.choice_at work.old
+        (send_command call serving command.now) work.new Asking) }
+    ensures foreign { IfErr result (λ f. IsForeign f → D.may_be_foreign work.old.view) }
+    ensures foreign_kept { D.may_be_foreign work.new.view → D.may_be_foreign work.old.view }
+{
+    let Reply::Done = work.ask(Event::Command(call))? else {
+        return Ok(());
+    };
+    work.send_to_mobile(serving, command);
+    Ok(())
+}
 
 /// The mobile is sent to the target.
 #[tactic(auto, using(crate::proofs::Asking::row_steps))]
@@ -49,11 +74,7 @@ fn command<D: DeskView + Drop, A: Allocator + Copy>(
     let Some(command) = command_to(site, target, reference) else {
         return Ok(());
     };
-    let Reply::Done = work.ask(Event::Command(call))? else {
-        return Ok(());
-    };
-    work.send_to_mobile(serving, &command);
-    Ok(())
+    send_command(work, call, serving, &command)
 }
 
 /// What follows the look at a call, a channel of which was activated.

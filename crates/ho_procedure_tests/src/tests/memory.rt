@@ -12,13 +12,13 @@ use std::alloc::Global;
 use std::process::Abort;
 use std::test::Fail;
 
-/// What came before, an input that takes memory, and how many requests it makes for it at least: one for each table of
-/// the book that gets its first entry, for the history's first entries, for what a message keeps, for the list of messages,
-/// for a buffer of each and for the list of them.
+/// What came before, an input, and how many requests for memory it makes at least: one for each table of the book that
+/// gets its first entry, for the first entries of the history, for each list that a message keeps, for the list of messages
+/// and for a buffer of each; none where a buffer is left from before.
 const REQUESTS: &[(&[Row], Row, u64)] = &[
-    (&[], OPENS, 6),
+    (&[], OPENS, 5),
     (&[OPENS], ACTIVATED, 1),
-    (&[OPENS, ACTIVATED], STARTS, 4),
+    (&[OPENS, ACTIVATED], STARTS, 2),
     (&[OPENS, ACTIVATED, STARTS], UNDOES, 1),
     (&[OPENS, ACTIVATED], CLEARS, 1),
     (&[OPENS, ACTIVATED, STARTS], TARGET_ACTIVATED, 1),
@@ -29,21 +29,21 @@ const REQUESTS: &[(&[Row], Row, u64)] = &[
     (
         &[OPENS, ACTIVATED, STARTS, TARGET_ACTIVATED, DETECTS],
         COMPLETES,
-        2,
+        1,
     ),
     (
         &[OPENS, ACTIVATED, STARTS, TARGET_ACTIVATED, DETECTS],
         EXPIRES,
-        2,
+        1,
     ),
-    (&[OPENS, ACTIVATED, STARTS, TARGET_ACTIVATED], RETURNS, 2),
-    (&[OPENS, ACTIVATED], REPORTS, 2),
-    (&[OPENS, ACTIVATED, REPORTS], REPORTS_AGAIN, 4),
-    (&[OPENS, ACTIVATED], CLEAR_COMMAND, 3),
+    (&[OPENS, ACTIVATED, STARTS, TARGET_ACTIVATED], RETURNS, 1),
+    (&[OPENS, ACTIVATED], REPORTS, 3),
+    (&[OPENS, ACTIVATED, REPORTS], REPORTS_AGAIN, 3),
+    (&[OPENS, ACTIVATED], CLEAR_COMMAND, 2),
     (
         &[OPENS, ACTIVATED, STARTS, TARGET_ACTIVATED],
         CLEAR_COMMAND_COMMANDED,
-        4,
+        3,
     ),
 ];
 
@@ -73,11 +73,7 @@ fn requests_after<'a>(
     Ok(heap.requests())
 }
 
-fn requests_before(
-    rt: &(impl AllocGlobal + Abort),
-    before: &[Row],
-    row: Row,
-) -> Result<u64, Fail> {
+fn requests_before(rt: &(impl AllocGlobal + Abort), before: &[Row], row: Row) -> Result<u64, Fail> {
     let heap = RefusingHeap::ample(rt.alloc());
     let mut radio = opened(&heap, rt.alloc(), THREE_CHANNELS)?;
     requests_after(rt, &heap, rt.alloc(), &mut radio, before, row)

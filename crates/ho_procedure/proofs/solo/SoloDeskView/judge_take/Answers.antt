@@ -1,0 +1,11 @@
+use Rattle.ho_procedure.proofs.Seated.{not_foreign, kept_allowed, take_opens, take_chooses}
+use Rattle.ho_procedure.proofs.solo.SoloDeskView.judge_take.Goals as goal
+
+pub returns-clause-ok : goal.returns-clause-ok
+returns-clause-ok g c = rw (← c.self.view_is) (take_chooses _ _ _ _ _ _ _ c.len-entries.ensures.legal c.judge_take.ensures.none c.judge_take.ensures.kept c.judge_take.ensures.event c.judge_take.ensures.judged)
+
+pub returns-clause-foreign : goal.returns-clause-foreign
+returns-clause-foreign g c place is = not_foreign _ _ place c.self.invariant ((c.judge_take.ensures.foreign place).0 is)
+
+pub returns-clause-choice_kept : goal.returns-clause-choice_kept
+returns-clause-choice_kept g c = rw (← c.self.view_is) (kept_allowed _ _ (take_opens _ _ _ _ _ c.judge_take.ensures.judged c.judge_take.ensures.kept c.judge_take.ensures.unchanged))
