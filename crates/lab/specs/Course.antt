@@ -15,7 +15,7 @@ pub record IsOpening (site : SiteView) (s : Position) : Type 0 where
   pub opening : s.0.opening ≡ empty_book site
   pub history : s.0.history ≡ []
   pub reports : (call : ℕ) → last_reports s.1 call ≡ []
-  pub site : s.2 ≡ site
+  pub of_site : s.2 ≡ site
 
 -- turns were added by which the controller came where it is, and these are the inputs that a script gave them
 pub record Went {A : Type 0} (inputs : List (Inbound A)) (c c' : Course A) : Type 0 where

@@ -1,7 +1,5 @@
 //! A view of a desk that notes where it found no free channel, for a trace.
-ghost use Rattle.std.specs.Prelude.{◌≡◌, ◌∷◌, ◌++◌, [], ℕ, List, Err, IfOk, OnErr, MatchOption};
-ghost use Rattle.channel_fsm.specs.declared.ChanId.{ChanId};
-ghost use Rattle.ho_procedure.specs.Choices.{Entry, Choice, NoneFree, Chosen};
+ghost use Rattle.std.specs.Prelude.{◌≡◌};
 
 use ho_procedure::solo::Solo;
 use ho_procedure::view::DeskView;
