@@ -88,6 +88,11 @@ idles {D} {A} log may w w' p v o n i w'' u g =
     let f : Run log may w p w' (At p) = record { trace = []; leads = refl; entries = ap log v ∙ sym (append-nil (log w.view)); messages = o ∙ sym (append-nil w.owed.items); choices = tt; reports = n; width = i; choice_kept = λ es choice h. let P : D → Type 0 = λ x. may x es choice in subst P v h } in
     joined f g
 
+-- what was followed to a plan goes on from there
+pub continues : {D A : Type 0} (log : D → List Entry) (may : D → List Entry → Choice → Type 0) (w w' : Work D A) (p q : Plan) → Goes log may w p w' (At q) → Passes log may w p w' q
+unfolding Goes
+continues log may w w' p q f w'' u g = joined f g
+
 -- one step is done
 pub moved : {D A : Type 0} (log : D → List Entry) (may : D → List Entry → Choice → Type 0) (w w' : Work D A) (p : Plan) (s : Step) (q : Plan)
     → Moves p s q → log w'.view ≡ log w.view ++ entries_in s → w'.owed.items ≡ w.owed.items ++ messages_in s → ChoiceIn (may w.view (log w.view)) s

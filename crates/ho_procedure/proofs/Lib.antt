@@ -6,4 +6,4 @@ pub mod Ranking
 pub mod Seated
 pub mod Handled
 pub mod Asking
-pub mod Naming
+pub mod Nameable

@@ -1,7 +1,7 @@
 use Rattle.std.proofs.Common.{refl, rules}
 use Rattle.ho_procedure.specs.Plan.{Ends}
 use Rattle.ho_procedure.proofs.Going.{stays}
-use Rattle.ho_procedure.proofs.Naming.{opened}
+use Rattle.ho_procedure.proofs.Nameable.{opened}
 use Rattle.ho_procedure.proofs.rows.calls.activate.Goals as goal
 
 pub returns-then-is_nameable-clause-row : goal.returns-then-is_nameable-clause-row
