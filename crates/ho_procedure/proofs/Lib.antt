@@ -7,3 +7,4 @@ pub mod Seated
 pub mod Handled
 pub mod Asking
 pub mod Nameable
+pub mod Trying
