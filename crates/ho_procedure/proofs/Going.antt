@@ -64,7 +64,7 @@ joined {D} {A} {log} {may} {w} {w'} {w''} {p} {q} {u} f g = record {
   choices = choices-append (may w.view) (may w'.view) (log w.view) (log w'.view) f.trace g.trace f.choice_kept f.entries f.choices g.choices;
   reports = λ call. g.reports call ∙ ap (λ x. reports_after call g.trace x) (f.reports call) ∙ sym (reports_after-append call f.trace g.trace (last_reports w.windows call));
   width = g.width ∙ f.width;
-  choice_kept = λ es choice h. f.choice_kept es choice (g.choice_kept es choice h)
+  choice_kept = λ es choice h. f.choice_kept es choice (g.choice_kept es choice h);
 }
 
 -- nothing is done

@@ -30,7 +30,7 @@ handled log may w w' p u out f none is = record {
   entries = f.entries;
   messages = is ∙ f.messages ∙ ap (λ x. x ++ messages_of f.trace) none;
   choices = f.choices;
-  reports = f.reports
+  reports = f.reports;
 }
 
 pub kept : {D A : Type 0} (log : D → List Entry) (may : D → List Entry → Choice → Type 0) (w w' : Work D A) (p : Plan) (u : Until)

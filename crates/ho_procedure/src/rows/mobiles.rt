@@ -7,7 +7,9 @@ ghost use Rattle.ho_procedure.specs.Procedure.{try_plan, rank_plan, report_plan,
 
 use super::handovers::{start, undo};
 use super::parts::{look, owner};
-use crate::records::{is_commanded, is_nameable, is_on, is_serving, is_target, names_target, traffic_cell};
+use crate::records::{
+    is_commanded, is_nameable, is_on, is_serving, is_target, names_target, traffic_cell,
+};
 use crate::view::DeskView;
 use crate::work::{Course, Work};
 use cell_table::Site;
@@ -184,7 +186,14 @@ pub(crate) fn complete<D: DeskView + Drop, A: Allocator + Copy>(
     let Some(shown) = look(work, call)? else {
         return Ok(());
     };
-    complete_rest(work, site, call, chan, shown.record.serving, shown.record.attempt)
+    complete_rest(
+        work,
+        site,
+        call,
+        chan,
+        shown.record.serving,
+        shown.record.attempt,
+    )
 }
 
 /// What follows the look at a call, whose mobile is back on its serving channel.
