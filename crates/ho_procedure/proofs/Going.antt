@@ -64,7 +64,7 @@ joined {D} {A} {log} {may} {w} {w'} {w''} {p} {q} {u} f g = record {
   choices = choices-append (may w.view) (may w'.view) (log w.view) (log w'.view) f.trace g.trace f.choice_kept f.entries f.choices g.choices;
   reports = λ call. g.reports call ∙ ap (λ x. reports_after call g.trace x) (f.reports call) ∙ sym (reports_after-append call f.trace g.trace (last_reports w.windows call));
   width = g.width ∙ f.width;
-  choice_kept = λ es choice h. f.choice_kept es choice (g.choice_kept es choice h)
+  choice_kept = λ es choice h. f.choice_kept es choice (g.choice_kept es choice h);
 }
 
 -- nothing is done
@@ -87,6 +87,11 @@ unfolding Goes
 idles {D} {A} log may w w' p v o n i w'' u g =
     let f : Run log may w p w' (At p) = record { trace = []; leads = refl; entries = ap log v ∙ sym (append-nil (log w.view)); messages = o ∙ sym (append-nil w.owed.items); choices = tt; reports = n; width = i; choice_kept = λ es choice h. let P : D → Type 0 = λ x. may x es choice in subst P v h } in
     joined f g
+
+-- what was followed to a plan goes on from there
+pub continues : {D A : Type 0} (log : D → List Entry) (may : D → List Entry → Choice → Type 0) (w w' : Work D A) (p q : Plan) → Goes log may w p w' (At q) → Passes log may w p w' q
+unfolding Goes
+continues log may w w' p q f w'' u g = joined f g
 
 -- one step is done
 pub moved : {D A : Type 0} (log : D → List Entry) (may : D → List Entry → Choice → Type 0) (w w' : Work D A) (p : Plan) (s : Step) (q : Plan)

@@ -1,5 +1,5 @@
 -- What is handled where nothing was owed before.
-use Rattle.std.proofs.Common.{◌≡◌, ◌⊎◌, inl, inr, ℕ, List, [], ◌∷◌, ◌++◌, refl, sym, ◌∙◌, ap, subst}
+use Rattle.std.proofs.Common.{◌≡◌, ◌⊎◌, inl, inr, ℕ, List, [], ◌∷◌, ◌++◌, Result, Ok, Err, OnOk, IfErr, refl, sym, ◌∙◌, ap, subst}
 use Rattle.ho_procedure.specs.Choices.{Entry, Choice}
 use Rattle.ho_procedure.specs.Sent.{Sent}
 use Rattle.ho_procedure.specs.declared.work.Work.{Work}
@@ -9,7 +9,7 @@ use Rattle.ho_procedure.specs.declared.exchange.Link.{Link}
 use Rattle.ho_procedure.specs.declared.exchange.Bad.{Bad}
 use Rattle.ho_procedure.specs.declared.following.Stop.{Stop}
 use Rattle.ho_procedure.specs.declared.following.Stop.TheVariants as stop
-use Rattle.ho_procedure.specs.Plan.{Plan, Until, Asking, messages_of}
+use Rattle.ho_procedure.specs.Plan.{Plan, Ends, Until, At, Asking, messages_of}
 use Rattle.ho_procedure.specs.Going.{Run, Goes, last_reports}
 use Rattle.ho_procedure.specs.Following.{Stopped, IsDeskStop}
 use Rattle.ho_procedure.specs.Handling.{Handles, Stops, IsRow, IsUndecoded, KeepsOctets}
@@ -30,7 +30,7 @@ handled log may w w' p u out f none is = record {
   entries = f.entries;
   messages = is ∙ f.messages ∙ ap (λ x. x ++ messages_of f.trace) none;
   choices = f.choices;
-  reports = f.reports
+  reports = f.reports;
 }
 
 pub kept : {D A : Type 0} (log : D → List Entry) (may : D → List Entry → Choice → Type 0) (w w' : Work D A) (p : Plan) (u : Until)
@@ -65,3 +65,9 @@ stopped_width log may w IsRow CantBeRead MayRefuse w' (stop.Unread l b) f = ap (
 stopped_width log may w IsRow CantBeRead MayRefuse w' stop.NoMemory (inl f) = width_kept log may w w' f.0 Asking f.2
 stopped_width log may w IsRow CantBeRead MayRefuse w' stop.NoMemory (inr f) = ap (λ x. x.windows.width) f.1
 stopped_width log may w IsRow CantBeRead MayRefuse w' (stop.Foreign place) f = width_kept log may w w' f.0 Asking f.2
+
+pub follow_kept : {A D X : Type 0} (log : D → List Entry) (may : D → List Entry → Choice → Type 0) (w w' : Work D A) (IsRow : Plan → Type 0) (CantBeRead : Link → Bad → Type 0) (MayRefuse : Type 0) (result : Result X Stop)
+    → OnOk result ((p : Plan) × IsRow p × Goes log may w p w' (At Ends)) → IfErr result (Stopped log may w IsRow CantBeRead MayRefuse w')
+    → (es : List Entry) → (choice : Choice) → may w'.view es choice → may w.view es choice
+follow_kept log may w w' IsRow CantBeRead MayRefuse (Ok x) ok err es choice h = kept log may w w' ok.0 (At Ends) ok.2 es choice h
+follow_kept log may w w' IsRow CantBeRead MayRefuse (Err s) ok err es choice h = stopped_kept log may w IsRow CantBeRead MayRefuse w' s err es choice h

@@ -6,3 +6,5 @@ pub mod Ranking
 pub mod Seated
 pub mod Handled
 pub mod Asking
+pub mod Nameable
+pub mod Trying

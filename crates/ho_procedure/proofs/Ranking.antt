@@ -14,7 +14,7 @@ pub are_candidates : (site : SiteView) (w : Reports) (reports : List Results) (s
 are_candidates site w reports serving found wide same members order =
     let parts : w ≡ record { reports = w.reports; width = w.width } = refl in
     let is : w ≡ record { reports = reports; width = site.handover.window } =
-        parts ∙ ap (λ n. record { reports = w.reports; width = n }) wide ∙ ap (λ rs. record { reports = rs; width = site.handover.window }) same in
+    parts ∙ ap (λ n. record { reports = w.reports; width = n }) wide ∙ ap (λ rs. record { reports = rs; width = site.handover.window }) same in
     record { members = λ c. subst (λ v. Contains found c ↔ IsCandidate v site serving c) is (members c); order = order }
 
 -- without reports there is none

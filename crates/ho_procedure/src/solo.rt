@@ -64,7 +64,12 @@ impl<A: Allocator + Copy> DeskView for Solo<A> {
         self.desk.judge(&mut self.seat, event)
     }
 
-    fn judge_take(&mut self, call: u16, kind: Kind, cell: u8) -> Result<Option<Receipt>, DeskFault> {
+    fn judge_take(
+        &mut self,
+        call: u16,
+        kind: Kind,
+        cell: u8,
+    ) -> Result<Option<Receipt>, DeskFault> {
         let _entries = self.desk.len();
         self.desk.judge_take(&mut self.seat, call, kind, cell)
     }

@@ -97,6 +97,7 @@ impl<A: Allocator> Windows<A> {
     /// The reports of a call, where it has any.
     pub(crate) fn window(&self, call: u16) -> Option<&Window<A>>
         ensures reports { IfSome result (λ window. window.now ≡ reports_of self.now call) }
+        ensures width { IfSome result (λ window. window.now.width ≡ self.now.width) }
         ensures none { IfNone result (reports_of self.now call ≡ no_reports self.now.width) }
     {
         let place = self.place_of(call)?;

@@ -1,8 +1,8 @@
 //! Rows that begin a handover and take it back.
-ghost use Rattle.std.specs.Prelude.{◌≡◌, ◌≤◌, ℕ, OnOk, OnErr, IfErr, ◌<◌};
+ghost use Rattle.std.specs.Prelude.{◌≡◌, ◌≤◌, ℕ, OnOk, OnErr, IfErr, IfOk, ◌<◌};
 ghost use Rattle.ho_procedure.specs.Plan.{Plan, Ends, At, Asking};
-ghost use Rattle.ho_procedure.specs.Going.{Goes, Passes, IsForeign};
-ghost use Rattle.ho_procedure.specs.Procedure.{activate_plan, taken_plan, handover_plan, undo_plan, expiry_plan};
+ghost use Rattle.ho_procedure.specs.Going.{Goes, Passes, IsForeign, then};
+ghost use Rattle.ho_procedure.specs.Procedure.{activate_plan, start_plan, taken_plan, handover_plan, undo_plan, expiry_plan};
 
 use super::parts::release_target;
 use crate::records::is_nameable;
@@ -44,7 +44,7 @@ fn activate<D: DeskView + Drop, A: Allocator + Copy>(
 
 /// What follows the take of a channel: a reference is reserved, and the channel activated.
 #[tactic(auto, using(crate::proofs::Asking::row_steps), unfolding(crate::specs::Procedure::taken_plan, crate::specs::Procedure::activate_plan))]
-pub(super) fn go_on_taken<D: DeskView + Drop, A: Allocator + Copy>(
+fn go_on_taken<D: DeskView + Drop, A: Allocator + Copy>(
     work: &mut Work<D, A>,
     call: u16,
     target: ChanId,
@@ -70,8 +70,34 @@ pub(super) fn go_on_taken<D: DeskView + Drop, A: Allocator + Copy>(
     activate(work, call, target, reference)
 }
 
+/// A handover starts to a cell; where it has no free channel, the row goes on.
+#[tactic(auto, using(crate::proofs::Asking::row_steps, crate::proofs::Going::continues), unfolding(crate::specs::Procedure::start_plan))]
+pub(super) fn start<D: DeskView + Drop, A: Allocator + Copy>(
+    work: &mut Work<D, A>,
+    site: &Site<A>,
+    call: u16,
+    cell: u8,
+) -> Result<Course, DeskFault>
+    ensures goes { IfOk result (λ course. (tail : Plan) → Passes D.log D.choice_at work.old
+        (start_plan site.now call cell tail) work.new (then tail course)) }
+    ensures stops { OnErr result ((tail : Plan) → Goes D.log D.choice_at work.old
+        (start_plan site.now call cell tail) work.new Asking) }
+    ensures foreign { IfErr result (λ f. IsForeign f → D.may_be_foreign work.old.view) }
+    ensures foreign_kept { D.may_be_foreign work.new.view → D.may_be_foreign work.old.view }
+{
+    if cell >= site.cells() {
+        return Ok(Course::Over);
+    }
+    work.make_room(1)?;
+    let Some((target, reply)) = work.take(call, Kind::Internal, cell)? else {
+        return Ok(Course::On);
+    };
+    go_on_taken(work, call, target, reply)?;
+    Ok(Course::Over)
+}
+
 /// A call is to move to a cell.
-#[tactic(auto, using(crate::proofs::Asking::row_steps), unfolding(crate::specs::Procedure::start_plan))]
+#[tactic(auto, using(crate::proofs::Asking::row_steps))]
 pub(crate) fn handover<D: DeskView + Drop, A: Allocator + Copy>(
     work: &mut Work<D, A>,
     site: &Site<A>,
@@ -85,14 +111,8 @@ pub(crate) fn handover<D: DeskView + Drop, A: Allocator + Copy>(
     ensures foreign { IfErr result (λ f. IsForeign f → D.may_be_foreign work.old.view) }
     ensures foreign_kept { D.may_be_foreign work.new.view → D.may_be_foreign work.old.view }
 {
-    if cell >= site.cells() {
-        return Ok(());
-    }
-    work.make_room(1)?;
-    match work.take(call, Kind::Internal, cell)? {
-        Some((target, reply)) => go_on_taken(work, call, target, reply),
-        None => Ok(()),
-    }
+    let _ = start(work, site, call, cell)?;
+    Ok(())
 }
 
 /// An attempt is taken back, and its target released.

@@ -5,21 +5,23 @@ ghost use Rattle.ho_procedure.specs.Plan.{Plan, Ends, At, Asking};
 ghost use Rattle.ho_procedure.specs.Going.{Goes, Passes, IsForeign, last_reports};
 ghost use Rattle.ho_procedure.specs.Procedure.{try_plan, rank_plan, report_plan, with_report, internal_complete, complete_rest, complete_plan, return_rest, return_plan};
 
-use super::handovers::{go_on_taken, undo};
+use super::handovers::{start, undo};
 use super::parts::{look, owner};
-use crate::records::{is_commanded, is_nameable, is_on, is_serving, is_target, names_target, traffic_cell};
+use crate::records::{
+    is_commanded, is_nameable, is_on, is_serving, is_target, names_target, traffic_cell,
+};
 use crate::view::DeskView;
-use crate::work::Work;
+use crate::work::{Course, Work};
 use cell_table::Site;
 use channel_fsm::ChanId;
 use ho_candidates::Candidate;
-use radio_book::event::{Attempt, AttemptKind, Event, Kind, Reply};
+use radio_book::event::{Attempt, AttemptKind, Event, Reply};
 use radio_desk::desk::DeskFault;
 use rr_elements::MeasResults;
 use std::alloc::Allocator;
 
 /// A handover starts to the first of these cells that has a free channel.
-#[tactic(auto, using(crate::proofs::Asking::row_steps, std::proofs::lemmas::List::drop_all), unfolding(crate::specs::Procedure::try_plan, crate::specs::Procedure::start_plan))]
+#[tactic(auto, using(crate::proofs::Asking::row_steps, std::proofs::lemmas::List::drop_all), unfolding(crate::specs::Procedure::try_plan))]
 fn try_cells<D: DeskView + Drop, A: Allocator + Copy>(
     work: &mut Work<D, A>,
     site: &Site<A>,
@@ -34,13 +36,9 @@ fn try_cells<D: DeskView + Drop, A: Allocator + Copy>(
     ensures foreign_kept { D.may_be_foreign work.new.view → D.may_be_foreign work.old.view }
 {
     for candidate in candidates {
-        if candidate.cell >= site.cells() {
+        let Course::On = start(work, site, call, candidate.cell)? else {
             return Ok(());
-        }
-        work.make_room(1)?;
-        if let Some((target, reply)) = work.take(call, Kind::Internal, candidate.cell)? {
-            return go_on_taken(work, call, target, reply);
-        }
+        };
     }
     Ok(())
 }
@@ -188,7 +186,14 @@ pub(crate) fn complete<D: DeskView + Drop, A: Allocator + Copy>(
     let Some(shown) = look(work, call)? else {
         return Ok(());
     };
-    complete_rest(work, site, call, chan, shown.record.serving, shown.record.attempt)
+    complete_rest(
+        work,
+        site,
+        call,
+        chan,
+        shown.record.serving,
+        shown.record.attempt,
+    )
 }
 
 /// What follows the look at a call, whose mobile is back on its serving channel.

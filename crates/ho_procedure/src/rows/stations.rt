@@ -18,6 +18,7 @@ use std::alloc::Allocator;
 
 /// Causes on A (TS 48.008 clause 3.2.2.5).
 const RADIO_INTERFACE_FAILURE: u8 = 0x01;
+
 const EQUIPMENT_FAILURE: u8 = 0x20;
 
 /// The mobile is sent by this command.
@@ -128,7 +129,14 @@ pub(crate) fn confirm<D: DeskView + Drop, A: Allocator + Copy>(
     let Some(shown) = look(work, call)? else {
         return Ok(());
     };
-    confirm_rest(work, site, call, chan, shown.record.serving, shown.record.attempt)
+    confirm_rest(
+        work,
+        site,
+        call,
+        chan,
+        shown.record.serving,
+        shown.record.attempt,
+    )
 }
 
 /// A station refused to activate a channel.
