@@ -71,7 +71,12 @@ impl<A: Allocator + Copy> DeskView for Noting<A> {
         self.solo.judge(event)
     }
 
-    fn judge_take(&mut self, call: u16, kind: Kind, cell: u8) -> Result<Option<Receipt>, DeskFault> {
+    fn judge_take(
+        &mut self,
+        call: u16,
+        kind: Kind,
+        cell: u8,
+    ) -> Result<Option<Receipt>, DeskFault> {
         self.none_free.reserve(1)?;
         match self.solo.judge_take(call, kind, cell)? {
             Some(receipt) => Ok(Some(receipt)),
