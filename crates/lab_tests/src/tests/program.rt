@@ -28,12 +28,7 @@ const LINES: &[(&[&str], u8, &str, &str)] = &[
     ),
     (&["decode", "rr", "06ff"], 2, "fault rr 2 255\n", ""),
     (&["decode", "abis", "0g"], 2, "hex\n", ""),
-    (
-        &["run", "no site", "no script"],
-        2,
-        "file no site\n",
-        "no site: No such file",
-    ),
+    (&["run", "no site", "no script"], 2, "file no site\n", ""),
     (
         &["run", "/dev/null", "/dev/null"],
         2,
