@@ -36,34 +36,36 @@ fn file_text<R: Files + AllocGlobal>(rt: &R, path: &str) -> io::Result<Option<St
     whole_text(rt.alloc(), File::open(rt, path)?)
 }
 
-/// The text of a file; nothing where it can't be read, and then its path was printed.
-fn text_of<R: Files + AllocGlobal, W: Write>(
+/// The text of a file; nothing where it can't be read, and then its path was printed, and on `errors` why.
+fn text_of<R: Files + AllocGlobal, W: Write, E: Write>(
     rt: &R,
     path: &str,
     out: &mut W,
+    errors: &mut E,
 ) -> Result<Option<String>, LabFault> {
     match file_text(rt, path) {
-        Ok(Some(text)) => Ok(Some(text)),
-        Err(error) if error.kind() == io::ErrorKind::OutOfMemory => Err(LabFault::NoMemory),
-        Ok(None) | Err(_) => {
-            writeln!(out, "file {path}")?;
-            Ok(None)
-        }
+        Ok(Some(text)) => return Ok(Some(text)),
+        Ok(None) => writeln!(errors, "{path}: the file has more than 64 MiB")?,
+        Err(error) if error.kind() == io::ErrorKind::OutOfMemory => return Err(LabFault::NoMemory),
+        Err(error) => writeln!(errors, "{path}: {error}")?,
     }
+    writeln!(out, "file {path}")?;
+    Ok(None)
 }
 
 /// The texts of two files, the first of which is read first; nothing where one can't be read, and then the path of the
-/// first such was printed.
-fn texts_of<R: Files + AllocGlobal, W: Write>(
+/// first such was printed, and on `errors` why.
+fn texts_of<R: Files + AllocGlobal, W: Write, E: Write>(
     rt: &R,
     first: &str,
     second: &str,
     out: &mut W,
+    errors: &mut E,
 ) -> Result<Option<(String, String)>, LabFault> {
-    let Some(first) = text_of(rt, first, out)? else {
+    let Some(first) = text_of(rt, first, out, errors)? else {
         return Ok(None);
     };
-    let Some(second) = text_of(rt, second, out)? else {
+    let Some(second) = text_of(rt, second, out, errors)? else {
         return Ok(None);
     };
     Ok(Some((first, second)))
@@ -72,8 +74,8 @@ fn texts_of<R: Files + AllocGlobal, W: Write>(
 /// Runs the script of one file over the site of another, and prints the trace to `out`, as [`lab_run`] does of texts.
 ///
 /// The site's file is read first. Where a file isn't there, can't be read, isn't UTF-8 or has more than
-/// [`LONGEST_FILE`] octets, `file` and its path are printed and nothing else, and the answer is `Refused`. Where the
-/// site is refused, one line on `errors` says where in its file, and what is allowed there.
+/// [`LONGEST_FILE`] octets, `file` and its path are printed and nothing else, and the answer is `Refused`; one line on
+/// `errors` says why. Where the site is refused, one line on `errors` says where in its file, and what is allowed there.
 pub fn run_files<R: Files + AllocGlobal, W: Write, E: Write>(
     rt: &R,
     site: &str,
@@ -82,7 +84,7 @@ pub fn run_files<R: Files + AllocGlobal, W: Write, E: Write>(
     errors: &mut E,
 ) -> Result<Status, LabFault> {
     let alloc = rt.alloc();
-    let Some((site_text, script_text)) = texts_of(rt, site, script, out)? else {
+    let Some((site_text, script_text)) = texts_of(rt, site, script, out, errors)? else {
         return Ok(Status::Refused);
     };
     let status = lab_run(alloc, alloc, &site_text, &script_text, out)?;
@@ -103,7 +105,7 @@ pub fn rewind_files<R: Files + AllocGlobal, W: Write, E: Write>(
     errors: &mut E,
 ) -> Result<Status, LabFault> {
     let alloc = rt.alloc();
-    let Some((site_text, trace_text)) = texts_of(rt, site, trace, out)? else {
+    let Some((site_text, trace_text)) = texts_of(rt, site, trace, out, errors)? else {
         return Ok(Status::Refused);
     };
     let status = rewind_run(alloc, alloc, &site_text, &trace_text, line, out)?;

@@ -6,28 +6,61 @@ use std::rt::Files;
 use std::test::Fail;
 use std::{fs, str};
 
-/// A site's file and a script's, and what is printed of them: one isn't there, is a folder, isn't UTF-8, has no end.
-const REFUSED: &[(&str, &str, &str)] = &[
-    ("no such file", "/dev/null", "file no such file\n"),
-    ("", "/dev/null", "file \n"),
-    ("/", "/dev/null", "file /\n"),
-    ("/proc/self/exe", "/dev/null", "file /proc/self/exe\n"),
-    ("/dev/zero", "/dev/null", "file /dev/zero\n"),
+/// A site's file and a script's, what is printed of them, and a part of what is said of an error: one isn't there, is a
+/// folder, isn't UTF-8, has no end.
+const REFUSED: &[(&str, &str, &str, &str)] = &[
+    (
+        "no such file",
+        "/dev/null",
+        "file no such file\n",
+        "no such file: No such file or directory",
+    ),
+    ("", "/dev/null", "file \n", ": No such file or directory"),
+    ("/", "/dev/null", "file /\n", "/: Is a directory"),
+    (
+        "/proc/self/exe",
+        "/dev/null",
+        "file /proc/self/exe\n",
+        "/proc/self/exe: stream did not contain valid UTF-8",
+    ),
+    (
+        "/dev/zero",
+        "/dev/null",
+        "file /dev/zero\n",
+        "/dev/zero: the file has more than 64 MiB",
+    ),
     // the site's file is read first, and both before the site is looked at
-    ("no site", "no script", "file no site\n"),
-    ("/dev/null", "no such file", "file no such file\n"),
-    ("/dev/null", "/", "file /\n"),
-    ("/dev/null", "/proc/self/exe", "file /proc/self/exe\n"),
-    ("/dev/null", "/dev/null", "site 2 handover\n"),
+    ("no site", "no script", "file no site\n", "no site: "),
+    (
+        "/dev/null",
+        "no such file",
+        "file no such file\n",
+        "no such file: ",
+    ),
+    ("/dev/null", "/", "file /\n", "/: "),
+    (
+        "/dev/null",
+        "/proc/self/exe",
+        "file /proc/self/exe\n",
+        "/proc/self/exe: ",
+    ),
+    (
+        "/dev/null",
+        "/dev/null",
+        "site 2 handover\n",
+        "/dev/null: handover is missing",
+    ),
 ];
 
-/// Asserts how a run over two files ends, and what it prints.
+/// Asserts how a run over two files ends, what it prints, and that what it says of an error begins so: nothing where
+/// nothing is to be said.
 fn run_ends(
     rt: &(impl Files + AllocGlobal + Abort),
     site: &str,
     script: &str,
     wanted: Status,
     text: &str,
+    said: &str,
 ) -> Result<(), Fail> {
     let mut out = Vec::new(rt.alloc());
     let mut errors = Vec::new(rt.alloc());
@@ -37,13 +70,16 @@ fn run_ends(
         (Ok(wanted), text),
         "{site} {script}"
     );
+    let line = str::from_utf8(&errors)?;
+    let is_said = line.starts_with(said) && line.is_empty() == said.is_empty();
+    assert!(rt; is_said, "{site} {script}: {line}");
     Ok(())
 }
 
 #[test]
 fn files_that_cannot_be_read_are_named(rt: HostRuntime) -> Result<(), Fail> {
-    for (site, script, text) in REFUSED {
-        run_ends(&rt, *site, *script, Status::Refused, *text)?;
+    for (site, script, text, said) in REFUSED {
+        run_ends(&rt, *site, *script, Status::Refused, *text, *said)?;
     }
     Ok(())
 }
@@ -61,7 +97,7 @@ fn run_over(
     text: &str,
 ) -> Result<(), Fail> {
     fs::write(rt, SCRIPT_FILE, script)?;
-    run_ends(rt, SITE_FILE, SCRIPT_FILE, wanted, text)
+    run_ends(rt, SITE_FILE, SCRIPT_FILE, wanted, text, "")
 }
 
 #[test]
@@ -78,9 +114,9 @@ fn files_are_run(rt: HostRuntime) -> Result<(), Fail> {
 /// the site is looked at, and 64 MiB are the most that a file may have.
 const LONG_FILE: &str = "long.txt";
 
-const LENGTHS: &[(usize, &str)] = &[
-    (64 << 20, "site 2 handover\n"),
-    ((64 << 20) + 1, "file long.txt\n"),
+const LENGTHS: &[(usize, &str, &str)] = &[
+    (64 << 20, "site 2 handover\n", "/dev/null: handover is"),
+    ((64 << 20) + 1, "file long.txt\n", "long.txt: the file has"),
 ];
 
 /// Writes a file of so many octets.
@@ -91,9 +127,9 @@ fn write_long(rt: &(impl Files + AllocGlobal), octets: usize) -> Result<(), Fail
 
 #[test]
 fn a_file_may_have_64_mebibytes(rt: HostRuntime) -> Result<(), Fail> {
-    for (octets, text) in LENGTHS {
+    for (octets, text, said) in LENGTHS {
         write_long(&rt, *octets)?;
-        run_ends(&rt, "/dev/null", LONG_FILE, Status::Refused, *text)?;
+        run_ends(&rt, "/dev/null", LONG_FILE, Status::Refused, *text, *said)?;
     }
     Ok(fs::remove_file(&rt, LONG_FILE)?)
 }

@@ -28,7 +28,12 @@ const LINES: &[(&[&str], u8, &str, &str)] = &[
     ),
     (&["decode", "rr", "06ff"], 2, "fault rr 2 255\n", ""),
     (&["decode", "abis", "0g"], 2, "hex\n", ""),
-    (&["run", "no site", "no script"], 2, "file no site\n", ""),
+    (
+        &["run", "no site", "no script"],
+        2,
+        "file no site\n",
+        "no site: No such file",
+    ),
     (
         &["run", "/dev/null", "/dev/null"],
         2,
