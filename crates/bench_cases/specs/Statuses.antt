@@ -6,8 +6,8 @@ use Rattle.rr_messages.specs.declared.fault.RrFault.{RrFault}
 use Rattle.rr_messages.specs.declared.fault.RrFault.TheVariants as rr
 use Rattle.bssmap_messages.specs.declared.fault.BssmapFault.{BssmapFault}
 use Rattle.bssmap_messages.specs.declared.fault.BssmapFault.TheVariants as bssmap
-use Rattle.plain_procedure.specs.declared.exchange.PlainFault.{PlainFault}
-use Rattle.plain_procedure.specs.declared.exchange.PlainFault.TheVariants as plain
+use Rattle.ho_procedure.specs.declared.exchange.Fault.{Fault as Stopped}
+use Rattle.ho_procedure.specs.declared.exchange.Fault.TheVariants as stopped
 use Rattle.cell_table.specs.declared.fault.SiteFault.{SiteFault}
 use Rattle.cell_table.specs.declared.fault.SiteFault.TheVariants as site
 use Rattle.bench_cases.specs.declared.fault.Fault.{Fault}
@@ -35,10 +35,11 @@ abbrev pub of_a : BssmapFault → Fault
 of_a bssmap.NoMemory = NoMemory
 of_a _ = Words
 
--- the same of a fault of the procedure
-abbrev pub of_procedure : PlainFault → Fault
-of_procedure plain.NoMemory = NoMemory
-of_procedure _ = Words
+-- the same of a fault of the procedure; a desk that isn't the controller's own can't be asked
+abbrev pub of_procedure : {A : Type 0} → Stopped A → Fault
+of_procedure (stopped.NoMemory owed) = NoMemory
+of_procedure (stopped.Undecoded link bad) = Words
+of_procedure (stopped.Desk place owed) = Setting
 
 -- what a refused site comes to: the setting is refused
 abbrev pub of_site : SiteFault → Fault

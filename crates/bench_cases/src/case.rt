@@ -13,6 +13,10 @@ pub enum Task {
     /// A whole call by the procedure: its opening, the CHANNEL ACTIVATION ACKNOWLEDGE (TS 48.058 clause 8.4.2), its
     /// clearing and the RF CHANNEL RELEASE ACKNOWLEDGE.
     CallByOctets,
+    /// A whole handover by the procedure, beside 1,024 other calls on 64 cells: its begin, the CHANNEL ACTIVATION
+    /// ACKNOWLEDGE, the HANDOVER DETECTION (TS 48.058 clause 8.4.7), the HANDOVER COMPLETE (TS 44.018 clause 9.1.16) and
+    /// the RF CHANNEL RELEASE ACKNOWLEDGE of the old channel.
+    HandoverByOctets,
     /// A call's life, from its opening to the release of its channel, with a handover to another cell: twelve events of
     /// the radio book, beside 1,024 other calls on 64 cells.
     LiveByStep,
@@ -56,7 +60,7 @@ pub struct Case {
 }
 
 /// Every case, in the order in which they are printed: name, task, octets, place.
-pub const CASES: [Case; 16] = [
+pub const CASES: [Case; 17] = [
     Case {
         name: "chan_act.dec",
         task: Task::DecodeActivation,
@@ -73,6 +77,12 @@ pub const CASES: [Case; 16] = [
         name: "call.octets",
         task: Task::CallByOctets,
         octets: ACKNOWLEDGEMENT,
+        place: 6,
+    },
+    Case {
+        name: "handover.octets",
+        task: Task::HandoverByOctets,
+        octets: ACKNOWLEDGEMENT_1,
         place: 6,
     },
     Case {
@@ -181,6 +191,9 @@ const ACTIVATION: &[u8] = &[
 
 /// CHANNEL ACTIVATION ACKNOWLEDGE of timeslot 3 with frame number 4660.
 const ACKNOWLEDGEMENT: &[u8] = &[0x08, 0x22, 0x01, 0x0B, 0x08, 0x12, 0x34];
+
+/// The same of timeslot 1.
+const ACKNOWLEDGEMENT_1: &[u8] = &[0x08, 0x22, 0x01, 0x09, 0x08, 0x12, 0x34];
 
 /// MEASUREMENT RESULT of timeslot 3 with number 0 and three octets of uplink measurements; its report has one
 /// neighbour of level 40 at position 2 with code 21, and serving levels of 30.

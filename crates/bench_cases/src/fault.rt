@@ -4,10 +4,10 @@ ghost use Rattle.bench_cases.specs.Statuses.{status_of};
 
 use bssmap_messages::BssmapFault;
 use cell_table::SiteFault;
-use plain_procedure::exchange::PlainFault;
+use ho_procedure::exchange::Fault as Stopped;
 use rr_messages::RrFault;
 use rsl_messages::RslFault;
-use std::alloc::AllocError;
+use std::alloc::{AllocError, Allocator};
 use std::io;
 use thiserror::Error;
 
@@ -90,15 +90,16 @@ impl From<BssmapFault> for Fault {
     }
 }
 
-impl From<PlainFault> for Fault {
+impl<A: Allocator> From<Stopped<A>> for Fault {
     ghost use Rattle.bench_cases.specs.Statuses.{of_procedure};
 
     ghost from_gives = { λ cause fault. fault ≡ of_procedure cause };
 
-    fn from(cause: PlainFault) -> Self {
+    fn from(cause: Stopped<A>) -> Self {
         match cause {
-            PlainFault::NoMemory => Self::NoMemory,
-            PlainFault::Undecoded(_) => Self::Words,
+            Stopped::NoMemory(_) => Self::NoMemory,
+            Stopped::Undecoded(_, _) => Self::Words,
+            Stopped::Desk(_, _) => Self::Setting,
         }
     }
 }

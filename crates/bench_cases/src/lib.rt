@@ -6,7 +6,9 @@ mod abis;
 mod bssmap;
 mod call;
 pub mod case;
+mod controlled;
 pub mod fault;
+mod handover;
 mod life;
 mod measured;
 mod radio;
@@ -34,6 +36,7 @@ pub fn sum_of(alloc: Global, case: Case, count: u64, octets: &[u8]) -> Result<u6
         Task::DecodeActivation => read_each(&Activations, alloc, &mut varying, count),
         Task::EncodeActivation => abis::encode_activations(alloc, &mut varying, count),
         Task::CallByOctets => call::call_by_octets(alloc, &mut varying, count),
+        Task::HandoverByOctets => handover::handover_by_octets(alloc, &mut varying, count),
         Task::LiveByStep => life::live_by_steps(alloc, &mut varying, count),
         Task::RewindList => life::rewind_lists(alloc, &mut varying, count),
         Task::DecodeMeasurement => read_each(&Measurements, alloc, &mut varying, count),

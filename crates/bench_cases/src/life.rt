@@ -13,10 +13,10 @@ use std::alloc::{AllocError, Global};
 use std::sync::Arc;
 
 /// How many cells the site has.
-const CELLS: u8 = 64;
+pub(crate) const CELLS: u8 = 64;
 
 /// How many other calls each cell carries.
-const OTHERS: u8 = 16;
+pub(crate) const OTHERS: u8 = 16;
 
 /// How many calls begin between the opening of an attempt and its undo.
 const MEANWHILE: u8 = 45;
@@ -25,11 +25,11 @@ const MEANWHILE: u8 = 45;
 const OPENING: usize = 2;
 
 /// The call whose life it is. The others have the numbers from 0 to 1,023.
-const CALL: u16 = 5000;
+pub(crate) const CALL: u16 = 5000;
 
 /// The traffic channel of a cell at this place, counted from 0. Each TRX has eight timeslots, and timeslot 0 of
 /// the first carries no traffic.
-fn chan_at(cell: u8, place: u8) -> ChanId
+pub(crate) fn chan_at(cell: u8, place: u8) -> ChanId
     requires { place < 23 }
 {
     let slot = place + 1;
@@ -93,6 +93,15 @@ fn settle_cells(book: &mut Book) -> Result<(), Fault> {
         settle_cell(book, cell)?;
     }
     Ok(())
+}
+
+/// The book of 64 cells in which the call and 1,024 others are steady, the call on the first channel of cell 0 that the
+/// others leave free.
+pub(crate) fn busy_book(alloc: Global) -> Result<Book, Fault> {
+    let mut book = quiet_book(alloc)?;
+    settle_cells(&mut book)?;
+    settle(&mut book, CALL, chan_at(0, OTHERS))?;
+    Ok(book)
 }
 
 /// A whole life of twelve events, with a handover to another cell. The sum is the number of those that the book accepts.

@@ -11,6 +11,9 @@ use std::process::Abort;
 ///   octets, 129 and then 130.
 /// - A whole call: the octets that are sent, 76 of `08 21 01 0B 03 00 06 04 00 01 08 01` and 66 of `08 2E 01 0B`: 142
 ///   in each iteration.
+/// - A whole handover: the octets that are sent, 85 of `08 21 01 09 03 02 06 04 00 01 08 01 09 00`, 102 of `03 01 01 09 02
+///   00 0B 00 09 06 2B 00 03 09 00 05 00 00` (carriers 3 and 5 of cell 1), 64 of `08 2E 01 09` and 64 of `00 0B 17 04 01
+///   0C 05 05 01 00 01 00 01` (cell 1): 315; then 85 + 108 (carriers 6 and 8 of cell 2) + 64 + 65 (cell 2): 322.
 /// - A life: twelve events that are accepted. Of the hundred events of a list seven are the attempt's own (Take, Reserve,
 ///   Activate, Confirm, Command, Undo, Released), 93 stay.
 /// - MEASUREMENT RESULT read: timeslot 3, number 0 and then 1, uplink 0 + 30 + 0, power 0; levels 30 + 30, qualities
@@ -26,10 +29,11 @@ use std::process::Abort;
 /// - A report added: lengths 1 + 2, and the serving cell's 30 + 31.
 /// - Candidates: the serving cell has 30 + 31 + .. + 61, 1,456; the first four neighbours have 32 times 63, 50, 50 and 48,
 ///   2,016 + 1,600 + 1,600 + 1,536: 6,752; they are the cells 1 to 4 and then 2 to 5: 6,752 + 10 + 6,752 + 14.
-const SUMS: [(&str, u64); 16] = [
+const SUMS: [(&str, u64); 17] = [
     ("chan_act.dec", 115),
     ("chan_act.enc", 259),
     ("call.octets", 284),
+    ("handover.octets", 637),
     ("step.life", 24),
     ("rewind.100", 186),
     ("meas_res.dec", 315),
@@ -109,7 +113,7 @@ fn octets_of_no_such_message(rt: HostRuntime) {
     refuse(&rt, &READERS, &[8, 0x2E, 1, 0x0B]);
     refuse(&rt, &READERS, &[6, 0x2C, 0]);
     refuse(&rt, &READERS, &[]);
-    refuse(&rt, &["call.octets"], &[]);
+    refuse(&rt, &["call.octets", "handover.octets"], &[]);
     refuse(&rt, &REQUEST, case(&rt, "ho_required.dec").octets);
     refuse(&rt, &REQUIRED, case(&rt, "ho_request.dec").octets);
 }

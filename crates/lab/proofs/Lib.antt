@@ -1,1 +1,4 @@
 pub mod EntryLemmas
+pub mod CourseFacts
+pub mod StepFacts
+pub mod TurnFacts

@@ -3,7 +3,6 @@ pub mod Entries
 pub mod Files
 pub mod Rewound
 pub mod Statuses
-pub use Rattle.plain_procedure.specs.Plan
-pub use Rattle.plain_procedure.specs.Procedure
-pub use Rattle.plain_procedure.specs.Handling
+pub mod Turns
+pub mod Course
 pub use Rattle.lab_script.specs.Script

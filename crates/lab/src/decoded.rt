@@ -1,17 +1,17 @@
 //! One message in words, its name and its fields, from its octets in hexadecimal.
 ghost use Rattle.std.specs.Prelude.{◌≡◌, ◌≢◌, Ok, Err, IfOk, IfErr, IfSome, IfNone, IsErr, is_some, true};
 ghost use Rattle.hex.specs.Hex.{decode_of};
-ghost use Rattle.lab_script.specs.Script.{octets_of};
+ghost use Rattle.lab_script.specs.Words.{octets_of};
 ghost use Rattle.lab.specs.Decoded.{IsRrMessage, IsBssmapMessage, IsAbisMessage, IsMessageText};
 
 use crate::run::{LabFault, Status};
 use bssmap_messages::BssmapFault;
+use ho_procedure::exchange::Bad;
 use lab_script::script::is_octets;
 use rsl_messages::RslFault;
 use std::alloc::{AllocError, Allocator};
 use std::io::Write;
 use trace_text::abis::AbisText;
-use trace_text::bad::Bad;
 use trace_text::bssmap::BssmapText;
 use trace_text::rr::RrText;
 use trace_text::trace::print_fault;

@@ -3,15 +3,18 @@
 //! have crates of their own, whose modules are exported here too.
 #![tactic(auto)]
 
+mod course;
 pub mod decoded;
 pub mod entries;
 pub mod files;
+pub mod noting;
 pub mod program;
 pub mod rewound;
 pub mod run;
 mod site_reason;
+pub mod turn;
 pub mod words;
 
+pub use ho_procedure::exchange;
 pub use lab_script::script;
-pub use plain_procedure::{exchange, procedure};
 pub use trace_text::{bad, trace};

@@ -1,20 +1,19 @@
 //! A controller that is driven by a script, on one thread.
-ghost use Rattle.std.specs.Prelude.{◌≡◌, ◌≢◌, ◌⊎◌, Ok, Err, None, IsSome, IfOk};
+ghost use Rattle.std.specs.Prelude.{◌≡◌, ◌≢◌, ◌⊎◌, Ok, Err, None, IsSome, IfOk, IfSome};
 ghost use Rattle.cell_table.specs.SiteFile.{described_site, IsBlankFile};
-ghost use Rattle.lab_script.specs.Script.{first_unread};
+ghost use Rattle.lab_script.specs.Script.{first_unread, items_of};
+ghost use Rattle.lab.specs.Turns.{inputs_in};
+ghost use Rattle.lab.specs.Course.{Played, IsPlayed};
 ghost use Rattle.lab.specs.Statuses.{status_of, status_after, exit_status_of};
 
+use crate::course::Course;
 use cell_table::{Site, SiteFault};
-use lab_script::script::{ScriptFault, read_script};
-use plain_procedure::exchange::{Inbound, PlainFault};
-use plain_procedure::procedure::handle_plain;
-use radio_book::book::Book;
+use lab_script::script::{Item, ScriptFault, read_script};
 use std::alloc::{AllocError, Allocator, Global};
 use std::io::{self, Write};
 use std::sync::Arc;
 use thiserror::Error;
-use trace_text::bad::Bad;
-use trace_text::trace::{print_end, print_fault, print_handled, print_input};
+use trace_text::trace::print_end;
 
 /// How the work ended.
 #[derive(Clone, Copy, Debug, PartialEq, Eq)]
@@ -91,52 +90,36 @@ pub fn exit_status(ended: Result<Status, LabFault>) -> u8
     }
 }
 
-/// Handles one input, and prints what came of it.
-fn run_input<A: Allocator + Copy, W: Write>(
-    alloc: A,
-    book: &mut Book<A>,
-    input: Inbound<A>,
-    out: &mut W,
-) -> Result<(), LabFault> {
-    print_input(out, &input)?;
-    match handle_plain(alloc, book, input) {
-        Ok(handled) => print_handled(out, &handled)?,
-        Err(PlainFault::Undecoded(fault)) => print_fault(out, Bad::Rsl(fault))?,
-        Err(PlainFault::NoMemory) => return Err(LabFault::NoMemory),
-    }
-    Ok(())
-}
-
-/// Handles the inputs in their order over an empty book of the site, and prints the trace.
-fn run_inputs<A: Allocator + Copy, W: Write>(
+/// Follows what the lines of a script give over an empty book of the site, and prints the trace.
+fn run_items<A: Allocator + Copy, W: Write>(
     alloc: A,
     site: Site<A>,
-    inputs: Vec<Inbound<A>, A>,
+    items: Vec<Item<A>, A>,
     out: &mut W,
 ) -> Result<Status, LabFault>
-    ensures { IfOk result (λ status. status ≡ Status.Done) }
+    ensures done { IfOk result (λ status. status ≡ Status.Done) }
+    ensures played { IfOk result (λ _. Played A site (inputs_in items.items)) }
 {
     let site = Arc::new(alloc, site).map_err(AllocError::from)?;
-    let mut book = Book::new(alloc, site)?;
-    for input in inputs {
-        run_input(alloc, &mut book, input, out)?;
-    }
-    print_end(out, book.usage())?;
+    let mut course = Course::new(alloc, site)?;
+    course.run(items, out)?;
+    print_end(out, course.usage())?;
     Ok(Status::Done)
 }
 
-/// The inputs of a script; nothing where a line can't be read, whose number was printed.
-fn script_inputs<A: Allocator + Copy, W: Write>(
+/// What the lines of a script give; nothing where a line can't be read, whose number was printed.
+fn script_items<A: Allocator + Copy, W: Write>(
     alloc: A,
     script: &str,
     out: &mut W,
-) -> Result<Option<Vec<Inbound<A>, A>>, LabFault>
-    ensures read { IfOk result (λ inputs. IsSome inputs → first_unread script.now ≡ None) }
-    ensures refused { IfOk result (λ inputs. inputs ≡ None → IsSome (first_unread script.now)) }
+) -> Result<Option<Vec<Item<A>, A>>, LabFault>
+    ensures read { IfOk result (λ items. IsSome items → first_unread script.now ≡ None) }
+    ensures items { IfOk result (λ items. IfSome items (λ found. found.items ≡ items_of script.now)) }
+    ensures refused { IfOk result (λ items. items ≡ None → IsSome (first_unread script.now)) }
     ensures memory { result ≡ Err LabFault.NoMemory → first_unread script.now ≡ None }
 {
     match read_script(alloc, script) {
-        Ok(inputs) => Ok(Some(inputs)),
+        Ok(items) => Ok(Some(items)),
         Err(ScriptFault::Line(number)) => {
             writeln!(out, "line {number}")?;
             Ok(None)
@@ -153,12 +136,13 @@ fn run_script<A: Allocator + Copy, W: Write>(
     out: &mut W,
 ) -> Result<Status, LabFault>
     ensures done { result ≡ Ok Status.Done → first_unread script.now ≡ None }
+    ensures played { result ≡ Ok Status.Done → Played A site (inputs_in (items_of script.now)) }
     ensures differs { result ≢ Ok Status.Differs }
     ensures refused { result ≡ Ok Status.Refused → IsSome (first_unread script.now) }
     ensures memory { result ≡ Err LabFault.NoMemory → first_unread script.now ≡ None }
 {
-    match script_inputs(alloc, script, out)? {
-        Some(inputs) => run_inputs(alloc, site, inputs, out),
+    match script_items(alloc, script, out)? {
+        Some(items) => run_items(alloc, site, items, out),
         None => Ok(Status::Refused),
     }
 }
@@ -196,8 +180,7 @@ pub fn lab_run<A: Allocator + Copy, W: Write>(
     script: &str,
     out: &mut W,
 ) -> Result<Status, LabFault>
-    ensures done { result ≡ Ok Status.Done → IsSome (described_site site.now) ×
-        (first_unread script.now ≡ None) }
+    ensures played { result ≡ Ok Status.Done → IsPlayed A site.now script.now }
     ensures differs { result ≢ Ok Status.Differs }
     ensures refused { result ≡ Ok Status.Refused →
         (described_site site.now ≡ None) ⊎ IsSome (first_unread script.now) }

@@ -1,1 +1,5 @@
+pub mod Words
+pub mod Operators
+pub mod Received
+pub mod Stations
 pub mod Script

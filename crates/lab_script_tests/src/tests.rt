@@ -1,6 +1,8 @@
+use attempt_journal::Timer;
+use bts_model::{Act, Habit, Setting};
 use channel_fsm::ChanId;
-use lab_script::script::{ScriptFault, first_unread, is_octets, read_script};
-use plain_procedure::exchange::{Inbound, Line};
+use ho_procedure::exchange::{Inbound, Line};
+use lab_script::script::{Item, ScriptFault, first_unread, is_octets, read_script};
 use refusing_heap::RefusingHeap;
 use std::alloc::Global;
 use std::process::Abort;
@@ -44,9 +46,24 @@ const NO_LINES: &[&str] = &[
     "abis 256 0 08",
     "abis 0 256 08",
     "  # a comment",
-    "expire 1 T7",
-    "a 1 00",
-    "sim",
+    "expire 1",
+    "expire 1 ",
+    "expire 1 t7",
+    "expire 1 T9",
+    "expire 1 T7 ",
+    "expire 1 T3103 T7",
+    "expire T7 1",
+    "expire 65536 T7",
+    "a 1",
+    "a 1 ",
+    "a 1 0",
+    "a 1 0g",
+    "a 65536 00",
+    "a 0 0 00",
+    "A 1 00",
+    "sim ",
+    "sim 1",
+    "Sim",
     "refuse 0 0 3",
     "hold 0 0 3",
     "let 0 0 3",
@@ -61,16 +78,37 @@ const UNREAD: &[(&str, usize)] = &[
     ("undo", 1),
     ("open 1 0 0 3\n\n# a comment\nundo x\nundo y\n", 4),
     ("\r\nundo 1\n\t \nundo 1 \n", 4),
+    // what needs the simulated stations stands before `sim`, or is none of their lines
+    ("open 1 0 0 3\nhold 0 0 3\nsim\n", 2),
+    ("hold 0 0 3\nundo x\nsim\n", 1),
+    ("undo x\nhold 0 0 3\n", 1),
+    ("# sim\nlet 0 0 3\n", 2),
+    ("sim \nlet 0 0 3\n", 1),
+    ("sim\nrefuse 0 0 8\n", 2),
+    ("sim\nrefuse 0 0\n", 2),
+    ("sim\nrefuse 0 256 3\n", 2),
+    ("sim\nhold 256 0 3\n", 2),
+    ("sim\nlet 0 0 3 3\n", 2),
+    ("sim\nmobile 0 0 3\n", 2),
+    ("sim\nmobile 0 0 3 stay\n", 2),
+    ("sim\nmobile 0 0 3 arrive \n", 2),
+    ("sim\nmobile 0 0 8 arrive\n", 2),
+    ("sim\nmobile arrive\n", 2),
+    ("sim\nrefuse 0 0 3\nsim\nhangup 1\n", 4),
 ];
 
 /// What a line gives, with octets that nobody owns.
 #[derive(Clone, Copy, Debug, PartialEq, Eq)]
 enum Gives<'a> {
     Operator(Line),
+    Expiry(u16, Timer),
     Abis(u8, u8, &'a [u8]),
+    A(u16, &'a [u8]),
+    Attach,
+    Set(Setting),
 }
 
-use Gives::{Abis, Operator};
+use Gives::{A, Abis, Attach, Expiry, Operator, Set};
 
 /// Scripts, and what their lines give.
 const READ: &[(&str, &[Gives<'static>])] = &[
@@ -107,12 +145,101 @@ const READ: &[(&str, &[Gives<'static>])] = &[
             Abis(255, 1, &[0x08]),
         ],
     ),
+    (
+        "expire 0001 T3103\nexpire 65535 T7\r\nexpire 0 T8\na 65535 00\na 1 0004200401fF\n",
+        &[
+            Expiry(1, Timer::T3103),
+            Expiry(65535, Timer::T7),
+            Expiry(0, Timer::T8),
+            A(65535, &[0x00]),
+            A(1, &[0x00, 0x04, 0x20, 0x04, 0x01, 0xFF]),
+        ],
+    ),
+    (
+        "sim\r\nrefuse 0 1 2\nhold 255 254 7\n\nsim\nlet 3 02 001\nclear 9\n",
+        &[
+            Attach,
+            Set(REFUSE),
+            Set(HOLD),
+            Attach,
+            Set(LET),
+            Operator(Line::Clear { call: 9 }),
+        ],
+    ),
+    (
+        "undo 1\nsim\nmobile 0 0 3 arrive\nmobile 0 0 3 return\nmobile 1 2 3 vanish",
+        &[
+            Operator(Line::Undo { call: 1 }),
+            Attach,
+            Set(ARRIVE),
+            Set(RETURN),
+            Set(VANISH),
+        ],
+    ),
 ];
 
-fn given_by<'a>(input: &'a Inbound<Global>) -> Gives<'a> {
+const REFUSE: Setting = Setting {
+    controller: 0,
+    cell: 0,
+    trx: 1,
+    tn: 2,
+    act: Act::Refuse,
+};
+
+const HOLD: Setting = Setting {
+    controller: 0,
+    cell: 255,
+    trx: 254,
+    tn: 7,
+    act: Act::Hold,
+};
+
+const LET: Setting = Setting {
+    controller: 0,
+    cell: 3,
+    trx: 2,
+    tn: 1,
+    act: Act::Release,
+};
+
+const ARRIVE: Setting = Setting {
+    controller: 0,
+    cell: 0,
+    trx: 0,
+    tn: 3,
+    act: Act::Mobile(Habit::Arrive),
+};
+
+const RETURN: Setting = Setting {
+    controller: 0,
+    cell: 0,
+    trx: 0,
+    tn: 3,
+    act: Act::Mobile(Habit::Return),
+};
+
+const VANISH: Setting = Setting {
+    controller: 0,
+    cell: 1,
+    trx: 2,
+    tn: 3,
+    act: Act::Mobile(Habit::Vanish),
+};
+
+fn input_of<'a>(input: &'a Inbound<Global>) -> Gives<'a> {
     match input {
         Inbound::Operator(line) => Operator(*line),
+        Inbound::Expiry { call, timer } => Expiry(*call, *timer),
         Inbound::Abis { cell, trx, bytes } => Abis(*cell, *trx, bytes.as_slice()),
+        Inbound::A { call, bytes } => A(*call, bytes.as_slice()),
+    }
+}
+
+fn given_by<'a>(item: &'a Item<Global>) -> Gives<'a> {
+    match item {
+        Item::Input(input) => input_of(input),
+        Item::Attach => Attach,
+        Item::Set(setting) => Set(*setting),
     }
 }
 
@@ -124,16 +251,16 @@ fn is_read(
     wanted: &[Gives<'static>],
 ) -> Result<(), Fail> {
     assert_eq!(rt; first_unread(script), None, "{script}");
-    let inputs = read_script(alloc, script)?;
-    assert_eq!(rt; inputs.len(), wanted.len(), "{script}");
-    for (input, wanted) in inputs.iter().zip(wanted.iter()) {
-        assert_eq!(rt; given_by(input), *wanted, "{script}");
+    let items = read_script(alloc, script)?;
+    assert_eq!(rt; items.len(), wanted.len(), "{script}");
+    for (item, wanted) in items.iter().zip(wanted.iter()) {
+        assert_eq!(rt; given_by(item), *wanted, "{script}");
     }
     Ok(())
 }
 
 #[test]
-fn lines_give_inputs(rt: HostRuntime) -> Result<(), Fail> {
+fn lines_give_items(rt: HostRuntime) -> Result<(), Fail> {
     for (script, wanted) in READ {
         is_read(&rt, rt.alloc(), *script, *wanted)?;
     }
@@ -184,7 +311,7 @@ fn octets_are_pairs_of_hexadecimal_digits(rt: HostRuntime) {
 /// Whether a script was read over a heap that refuses this request, and met no refusal.
 fn reads_without(rt: &impl Abort, alloc: Global, n: u64) -> bool {
     let heap = RefusingHeap::refusing_nth(alloc, n);
-    let fault = read_script(&heap, "undo 1\nabis 0 0 0833010b\n").err();
+    let fault = read_script(&heap, "undo 1\nabis 0 0 0833010b\na 1 000121\nsim\n").err();
     let wanted = if heap.was_refused() {
         Some(ScriptFault::NoMemory)
     } else {
@@ -203,6 +330,6 @@ fn each_request_for_memory_is_refused(rt: HostRuntime) {
         }
         tried = n;
     }
-    // the list of inputs, and the octets of a message
-    assert!(rt; 2 <= tried && tried < 99, "{tried} requests");
+    // the list of items, and the octets of each message
+    assert!(rt; 3 <= tried && tried < 99, "{tried} requests");
 }

@@ -3,10 +3,12 @@
 mod decoded;
 mod failing;
 mod files;
+mod four_cells;
 mod program;
 mod reasons;
 mod refusals;
 mod rewound;
+mod simulated;
 mod traces;
 mod words;
 

@@ -1,25 +1,20 @@
 //! Why octets are no message, as it is printed.
 use bssmap_messages::BssmapFault;
+use ho_procedure::exchange::Bad;
 use rr_elements::ElementFault;
 use rr_messages::RrFault;
 use rsl_messages::RslFault;
 use std::fmt;
 
-/// Why octets are no message of the link that they came from. It prints as the link, the number of the fault and the
-/// fault's argument, where it has one: `abis 5 2` for an element that is cut at offset 2.
-#[derive(Clone, Copy, Debug, PartialEq, Eq)]
-pub enum Bad {
-    /// On the radio path (TS 44.018), printed as `rr`.
-    Rr(RrFault),
-    /// On A (TS 48.008), printed as `a`.
-    Bssmap(BssmapFault),
-    /// On Abis (TS 48.058), printed as `abis`.
-    Rsl(RslFault),
-}
+/// Why octets are no message, as the link that they came from, the number of the fault and the fault's argument, where it
+/// has one: `abis 5 2` for an element that is cut at offset 2. The links are `rr` (the radio path, TS 44.018), `a` (TS
+/// 48.008) and `abis` (TS 48.058).
+#[derive(Clone, Copy)]
+pub struct BadText(pub Bad);
 
-impl fmt::Display for Bad {
+impl fmt::Display for BadText {
     fn fmt<W: fmt::Write>(&self, f: &mut fmt::Formatter<W>) -> fmt::Result {
-        let (link, (number, argument)) = match *self {
+        let (link, (number, argument)) = match self.0 {
             Bad::Rr(fault) => ("rr", rr_fault(fault)),
             Bad::Bssmap(fault) => ("a", bssmap_fault(fault)),
             Bad::Rsl(fault) => ("abis", rsl_fault(fault)),

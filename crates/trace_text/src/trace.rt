@@ -1,16 +1,36 @@
 //! The trace: what a controller was given, what it asked of its book, and what it sent, as lines of text.
 //!
 //! `docs/PROGRAM.md` lists the lines and their words.
-use crate::bad::Bad;
+use crate::bad::BadText;
 use crate::text::{HexText, OrDash};
 use channel_fsm::ChanState;
 use event_text::writing::EventText;
-use plain_procedure::exchange::{Handled, Inbound, Line, Outbound};
+use ho_procedure::exchange::{Bad, Inbound, Line, Outbound};
 use radio_book::book::Usage;
-use radio_book::event::{Attempt, AttemptKind, CallRecord, Event, Refusal, Reply, Stage};
+use radio_book::event::{Attempt, AttemptKind, CallRecord, Event, Refusal, Reply, Stage, Timer};
 use std::alloc::Allocator;
 use std::fmt;
 use std::io::{self, Write};
+
+/// What a controller asked of its book.
+#[derive(Clone, Copy, Debug, PartialEq, Eq)]
+pub enum Step {
+    /// An event, and its reply.
+    Asked(Event, Reply),
+    /// A free channel of this cell, and there was none.
+    NoneFree(u8),
+}
+
+impl fmt::Display for Step {
+    fn fmt<W: fmt::Write>(&self, f: &mut fmt::Formatter<W>) -> fmt::Result {
+        match *self {
+            Step::Asked(event, reply) => {
+                write!(f, "event {} -> {}", EventText(event), ReplyText(reply))
+            }
+            Step::NoneFree(cell) => write!(f, "none free {cell}"),
+        }
+    }
+}
 
 /// The line of a script that asks for something.
 #[derive(Clone, Copy)]
@@ -29,6 +49,20 @@ impl fmt::Display for LineText {
     }
 }
 
+/// The name of a timer in a line of a script.
+#[derive(Clone, Copy)]
+struct TimerText(Timer);
+
+impl fmt::Display for TimerText {
+    fn fmt<W: fmt::Write>(&self, f: &mut fmt::Formatter<W>) -> fmt::Result {
+        f.write_str(match self.0 {
+            Timer::T3103 => "T3103",
+            Timer::T7 => "T7",
+            Timer::T8 => "T8",
+        })
+    }
+}
+
 /// The line of a script that gives an input.
 #[derive(Drop)]
 struct InboundText<'a, A: Allocator>(&'a Inbound<A>);
@@ -39,12 +73,14 @@ impl<A: Allocator> fmt::Display for InboundText<'_, A> {
             Inbound::Abis { cell, trx, bytes } => {
                 write!(f, "abis {cell} {trx} {}", HexText(bytes.as_slice()))
             }
+            Inbound::A { call, bytes } => write!(f, "a {call} {}", HexText(bytes.as_slice())),
+            Inbound::Expiry { call, timer } => write!(f, "expire {call} {}", TimerText(*timer)),
             Inbound::Operator(line) => write!(f, "{}", LineText(*line)),
         }
     }
 }
 
-/// A message that is sent: `abis CELL TRX HEX`.
+/// A message that is sent: `abis CELL TRX HEX` or `a CALL HEX`.
 #[derive(Drop)]
 struct OutboundText<'a, A: Allocator>(&'a Outbound<A>);
 
@@ -54,6 +90,7 @@ impl<A: Allocator> fmt::Display for OutboundText<'_, A> {
             Outbound::Abis { cell, trx, bytes } => {
                 write!(f, "abis {cell} {trx} {}", HexText(bytes.as_slice()))
             }
+            Outbound::A { call, bytes } => write!(f, "a {call} {}", HexText(bytes.as_slice())),
         }
     }
 }
@@ -169,30 +206,30 @@ pub fn print_input<A: Allocator, W: Write>(out: &mut W, input: &Inbound<A>) -> i
     writeln!(out, "in {}", InboundText(input))
 }
 
-/// Prints what the handling of an input came to: the events in their order, a cell without a free channel, and the
-/// messages in their order.
-pub fn print_handled<A: Allocator, W: Write>(out: &mut W, handled: &Handled<A>) -> io::Result<()> {
-    print_events(out, &handled.events)?;
-    if let Some(cell) = handled.none_free {
-        writeln!(out, "none free {cell}")?;
-    }
-    for message in &handled.out {
-        writeln!(out, "out {}", OutboundText(message))?;
+/// Prints what was asked of the book, in its order.
+pub fn print_steps<W: Write>(out: &mut W, steps: &[Step]) -> io::Result<()> {
+    for step in steps {
+        writeln!(out, "{step}")?;
     }
     Ok(())
 }
 
-/// Prints the events in their order, each with its reply.
-fn print_events<W: Write>(out: &mut W, events: &[(Event, Reply)]) -> io::Result<()> {
-    for (event, reply) in events {
-        writeln!(out, "event {} -> {}", EventText(*event), ReplyText(*reply))?;
+/// Prints the messages that are sent, in their order.
+pub fn print_sent<A: Allocator, W: Write>(out: &mut W, sent: &[Outbound<A>]) -> io::Result<()> {
+    for message in sent {
+        writeln!(out, "out {}", OutboundText(message))?;
     }
     Ok(())
 }
 
 /// Prints why octets are no message of their link.
 pub fn print_fault<W: Write>(out: &mut W, fault: Bad) -> io::Result<()> {
-    writeln!(out, "fault {fault}")
+    writeln!(out, "fault {}", BadText(fault))
+}
+
+/// Prints that so many answers of the simulated stations were handled for one line that the rest are dropped.
+pub fn print_limit<W: Write>(out: &mut W) -> io::Result<()> {
+    writeln!(out, "sim limit")
 }
 
 /// Prints what the book holds at the end.

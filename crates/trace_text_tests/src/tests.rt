@@ -1,20 +1,21 @@
 //! Printed texts, which no clause says.
 use bssmap_messages::BssmapFault;
 use channel_fsm::{ChanId, ChanState};
-use plain_procedure::exchange::{Handled, Inbound, Line};
+use ho_procedure::exchange::{Bad, Inbound, Line, Outbound};
 use radio_book::book::Usage;
 use radio_book::event::{
     Attempt, AttemptKind, CallRecord, Event, Kind, Refusal, Reply, Stage, Timer, Why,
 };
 use rr_elements::ElementFault;
 use rr_messages::RrFault;
-use rsl_messages::RslFault;
+use rsl_messages::{Octets, RslFault};
 use std::alloc::Global;
 use std::process::Abort;
 use std::str;
 use std::test::Fail;
-use trace_text::bad::Bad;
-use trace_text::trace::{print_end, print_fault, print_handled, print_input};
+use trace_text::trace::{
+    Step, print_end, print_fault, print_input, print_limit, print_sent, print_steps,
+};
 
 /// Faults that octets on their way through a reader never have.
 const FAULTS: &[(Bad, &str)] = &[
@@ -84,6 +85,10 @@ const EVENTS: &[(Event, &str)] = &[
     (Event::Confirm(FIRST), "event confirm 0/0/2 -> done\n"),
     (Event::Refuse(FIRST), "event refuse 0/0/2 -> done\n"),
     (Event::Released(FIRST), "event released 0/0/2 -> done\n"),
+    (Event::Command(1), "event command 1 -> done\n"),
+    (Event::Complete(1), "event complete 1 -> done\n"),
+    (Event::Detect(TARGET), "event detect 63/3/7 -> done\n"),
+    (Event::Owner(TARGET), "event owner 63/3/7 -> done\n"),
 ];
 
 /// Replies, and the lines of an event that has them.
@@ -151,6 +156,10 @@ const STAGES: &[(Stage, &str)] = &[
     (Stage::Sent, "sent"),
     (Stage::Refused, "refused"),
     (Stage::Confirmed, "confirmed"),
+    (Stage::Commanded, "commanded"),
+    (Stage::Detected, "detected"),
+    (Stage::Required, "required"),
+    (Stage::Ordered, "ordered"),
 ];
 
 /// Attempts without and with a channel and a reference, as a record prints them behind their stage.
@@ -179,19 +188,6 @@ const PLACES: &[(AttemptKind, Option<ChanId>, Option<u8>, &str, &str)] = &[
     ),
 ];
 
-/// What the handling of an input came to prints this.
-fn is_printed(
-    rt: &impl Abort,
-    alloc: Global,
-    handled: &Handled<Global>,
-    expected: &str,
-) -> Result<(), Fail> {
-    let mut out = Vec::new(alloc);
-    print_handled(&mut out, handled)?;
-    assert_eq!(rt; str::from_utf8(&out)?, expected);
-    Ok(())
-}
-
 /// An event with its reply prints this line.
 fn prints(
     rt: &impl Abort,
@@ -200,9 +196,10 @@ fn prints(
     reply: Reply,
     line: &str,
 ) -> Result<(), Fail> {
-    let mut handled = Handled::new(alloc);
-    handled.events.push((event, reply))?;
-    is_printed(rt, alloc, &handled, line)
+    let mut out = Vec::new(alloc);
+    print_steps(&mut out, &[Step::Asked(event, reply)])?;
+    assert_eq!(rt; str::from_utf8(&out)?, line);
+    Ok(())
 }
 
 #[test]
@@ -307,6 +304,81 @@ fn inputs_are_printed(rt: HostRuntime) -> Result<(), Fail> {
         print_input(&mut out, &input)?;
         assert_eq!(rt; str::from_utf8(&out)?, *expected);
     }
+    Ok(())
+}
+
+/// Timers that run out, as an input prints them.
+const EXPIRIES: &[(u16, Timer, &str)] = &[
+    (1, Timer::T3103, "in expire 1 T3103\n"),
+    (65535, Timer::T7, "in expire 65535 T7\n"),
+    (0, Timer::T8, "in expire 0 T8\n"),
+];
+
+#[test]
+fn expiries_are_printed(rt: HostRuntime) -> Result<(), Fail> {
+    for (call, timer, expected) in EXPIRIES {
+        let input: Inbound<Global> = Inbound::Expiry {
+            call: *call,
+            timer: *timer,
+        };
+        let mut out = Vec::new(rt.alloc());
+        print_input(&mut out, &input)?;
+        assert_eq!(rt; str::from_utf8(&out)?, *expected);
+    }
+    Ok(())
+}
+
+const CLEAR_REQUEST: &[u8] = &[0x00, 0x04, 0x22, 0x04, 0x01, 0xAF];
+
+#[test]
+fn messages_are_printed_with_their_call_or_station(rt: HostRuntime) -> Result<(), Fail> {
+    let alloc = rt.alloc();
+    let mut out = Vec::new(alloc);
+    let bytes = Octets::new(alloc, CLEAR_REQUEST)?;
+    print_input(&mut out, &Inbound::A { call: 65535, bytes })?;
+    let bytes = Octets::new(alloc, &[0x08])?;
+    let message = Inbound::Abis {
+        cell: 255,
+        trx: 3,
+        bytes,
+    };
+    print_input(&mut out, &message)?;
+    let expected = "in a 65535 0004220401af\nin abis 255 3 08\n";
+    assert_eq!(rt; str::from_utf8(&out)?, expected);
+    Ok(())
+}
+
+#[test]
+fn sent_messages_are_printed_in_their_order(rt: HostRuntime) -> Result<(), Fail> {
+    let alloc = rt.alloc();
+    let mut out = Vec::new(alloc);
+    let on_a = Outbound::A {
+        call: 1,
+        bytes: Octets::new(alloc, CLEAR_REQUEST)?,
+    };
+    let on_abis = Outbound::Abis {
+        cell: 63,
+        trx: 3,
+        bytes: Octets::new(alloc, &[0x08, 0x2E, 0x01, 0x0B])?,
+    };
+    print_sent(&mut out, &[on_a, on_abis])?;
+    let expected = "out a 1 0004220401af\nout abis 63 3 082e010b\n";
+    assert_eq!(rt; str::from_utf8(&out)?, expected);
+    Ok(())
+}
+
+#[test]
+fn a_cell_without_a_free_channel_stands_among_the_events(rt: HostRuntime) -> Result<(), Fail> {
+    let steps = [
+        Step::Asked(Event::Look(1), Reply::Done),
+        Step::NoneFree(63),
+        Step::Asked(Event::Activate(1), Reply::Done),
+    ];
+    let mut out = Vec::new(rt.alloc());
+    print_steps(&mut out, &steps)?;
+    print_limit(&mut out)?;
+    let expected = "event look 1 -> done\nnone free 63\nevent activate 1 -> done\nsim limit\n";
+    assert_eq!(rt; str::from_utf8(&out)?, expected);
     Ok(())
 }
 

@@ -17,7 +17,9 @@ const REFUSALS: &[(&str, &str, &str)] = &[
     (NO_CELL, "no line", "site 2 cell\n"),
     (SAME_IDENTITY, "no line", "site 4 identity\n"),
     (NO_TRAFFIC, "no line", "site 5 0\n"),
-    (SITE, "expire 1 T7", "line 1\n"),
+    (SITE, "expire 1 T9", "line 1\n"),
+    (SITE, "hold 0 0 3\nsim\n", "line 1\n"),
+    (SITE, "sim\nopen 1 0 0 3\nhangup 1\n", "line 3\n"),
     // nothing runs before all lines are read
     (
         SITE,

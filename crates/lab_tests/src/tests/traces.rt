@@ -25,6 +25,63 @@ const CONFIRMED: Step = (
     ],
 );
 
+/// The station refuses the channel of call 2.
+const REFUSED: Step = (
+    "abis 0 0 0823010a1a0120",
+    &[
+        "event refuse 0/0/2 -> owned 2",
+        "event look 2 -> record 0/0/2 held",
+        "out a 2 000422040120",
+    ],
+);
+
+/// A handover of call 1 to cell 1 begins.
+const BEGUN: Step = (
+    "handover 1 1",
+    &[
+        "event take 1 internal 1/1/3 -> done",
+        "event reserve 1 0 -> done",
+        "event activate 1 -> done",
+        "out abis 1 1 0821010b03020604000108010900",
+    ],
+);
+
+/// Its target is confirmed, and the mobile commanded to it.
+const COMMANDED: Step = (
+    "abis 1 1 0822010b080000",
+    &[
+        "event confirm 1/1/3 -> owned 1",
+        "event look 1 -> record 0/0/3 on internal confirmed 1/1/3 0",
+        "event command 1 -> done",
+        "out abis 0 0 0301010b02000b0009062bd5670ba36b0005",
+    ],
+);
+
+/// The mobile is detected there.
+const DETECTED: Step = (
+    "abis 1 1 0827010b1102",
+    &[
+        "event detect 1/1/3 -> owned 1",
+        "event look 1 -> record 0/0/3 on internal detected 1/1/3 0",
+    ],
+);
+
+/// A report that comes to nothing.
+const SEEN: &[&str] = &[
+    "event owner 0/0/3 -> owned 1",
+    "event look 1 -> record 0/0/3 on",
+];
+
+/// A report by which call 1 is to move to cell 1.
+const MOVED: &[&str] = &[
+    "event owner 0/0/3 -> owned 1",
+    "event look 1 -> record 0/0/3 on",
+    "event take 1 internal 1/1/3 -> done",
+    "event reserve 1 0 -> done",
+    "event activate 1 -> done",
+    "out abis 1 1 0821010b03020604000108010900",
+];
+
 /// Scripts by their lines, each with what it prints, and what is in use at the end.
 const TRACES: &[(&[Step], &str)] = &[
     // no line prints the end alone
@@ -39,13 +96,7 @@ const TRACES: &[(&[Step], &str)] = &[
                     "out abis 0 0 0821010a0300060400010801",
                 ],
             ),
-            (
-                "abis 0 0 0823010a1a0120",
-                &[
-                    "event refuse 0/0/2 -> owned 2",
-                    "event look 2 -> record 0/0/2 held",
-                ],
-            ),
+            REFUSED,
             (
                 "clear 2",
                 &["event look 2 -> record 0/0/2 held", "event clear 2 -> done"],
@@ -98,15 +149,7 @@ const TRACES: &[(&[Step], &str)] = &[
         &[
             OPENS,
             CONFIRMED,
-            (
-                "handover 1 1",
-                &[
-                    "event take 1 internal 1/1/3 -> done",
-                    "event reserve 1 0 -> done",
-                    "event activate 1 -> done",
-                    "out abis 1 1 0821010b03020604000108010900",
-                ],
-            ),
+            BEGUN,
             (
                 "undo 1",
                 &[
@@ -157,6 +200,217 @@ const TRACES: &[(&[Step], &str)] = &[
                 &["event take 1 internal 0/0/2 -> refused 5"],
             ),
             ("handover 1 2", &[]),
+        ],
+        "channels=1 calls=1 references=0 timers=0",
+    ),
+    // a station refuses a call, and the centre ends it
+    (
+        &[
+            (
+                "open 2 0 0 2",
+                &[
+                    "event open 2 0/0/2 -> done",
+                    "out abis 0 0 0821010a0300060400010801",
+                ],
+            ),
+            REFUSED,
+            (
+                "a 2 000420040120",
+                &[
+                    "event look 2 -> record 0/0/2 held",
+                    "event clear 2 -> done",
+                    "out a 2 000121",
+                ],
+            ),
+        ],
+        "channels=0 calls=0 references=0 timers=0",
+    ),
+    // a handover to the end
+    (
+        &[
+            OPENS,
+            CONFIRMED,
+            BEGUN,
+            COMMANDED,
+            DETECTED,
+            (
+                "abis 1 1 0302010b02000b0003062c00",
+                &[
+                    "event owner 1/1/3 -> owned 1",
+                    "event look 1 -> record 0/0/3 on internal detected 1/1/3 0",
+                    "event complete 1 -> done",
+                    "out abis 0 0 082e010b",
+                    "out a 1 000b1704010c05050100170065",
+                ],
+            ),
+            ("abis 0 0 0833010b", &["event released 0/0/3 -> done"]),
+        ],
+        "channels=1 calls=1 references=0 timers=0",
+    ),
+    // the mobile is late: its timer runs out, once
+    (
+        &[
+            OPENS,
+            CONFIRMED,
+            BEGUN,
+            COMMANDED,
+            DETECTED,
+            (
+                "expire 1 T3103",
+                &[
+                    "event undo 1 t3103 -> record 0/0/3 on internal detected 1/1/3 0",
+                    "out abis 1 1 082e010b",
+                    "out a 1 000422040100",
+                ],
+            ),
+            ("expire 1 T3103", &["event undo 1 t3103 -> refused 9"]),
+            ("expire 1 T7", &["event undo 1 t7 -> refused 9"]),
+            ("expire 9 T8", &["event undo 9 t8 -> refused 1"]),
+            ("abis 1 1 0833010b", &["event released 1/1/3 -> done"]),
+        ],
+        "channels=1 calls=1 references=0 timers=0",
+    ),
+    // the mobile comes back
+    (
+        &[
+            OPENS,
+            CONFIRMED,
+            BEGUN,
+            COMMANDED,
+            (
+                "abis 0 0 0302010b02000b0003062801",
+                &[
+                    "event owner 0/0/3 -> owned 1",
+                    "event look 1 -> record 0/0/3 on internal commanded 1/1/3 0",
+                    "event undo 1 asked -> record 0/0/3 on internal commanded 1/1/3 0",
+                    "out abis 1 1 082e010b",
+                ],
+            ),
+            ("abis 1 1 0833010b", &["event released 1/1/3 -> done"]),
+        ],
+        "channels=1 calls=1 references=0 timers=0",
+    ),
+    // a channel fails
+    (
+        &[
+            OPENS,
+            CONFIRMED,
+            (
+                "abis 0 0 0824010b1a0101",
+                &[
+                    "event owner 0/0/3 -> owned 1",
+                    "event look 1 -> record 0/0/3 on",
+                    "out a 1 000422040101",
+                ],
+            ),
+        ],
+        "channels=1 calls=1 references=0 timers=0",
+    ),
+    // the centre ends a call, twice
+    (
+        &[
+            OPENS,
+            CONFIRMED,
+            (
+                "a 1 000420040109",
+                &[
+                    "event look 1 -> record 0/0/3 on",
+                    "event clear 1 -> done",
+                    "out abis 0 0 0301010b02000b0003060d00",
+                    "out abis 0 0 082e010b",
+                    "out a 1 000121",
+                ],
+            ),
+            (
+                "a 1 000420040109",
+                &["event look 1 -> refused 1", "out a 1 000121"],
+            ),
+        ],
+        "channels=1 calls=0 references=0 timers=0",
+    ),
+    // a neighbour that is strong enough in two reports
+    (
+        &[
+            OPENS,
+            CONFIRMED,
+            (
+                "abis 0 0 0828010b1b001903001e0004000b001206151e1e006812a000000000000000000000",
+                SEEN,
+            ),
+            (
+                "abis 0 0 0828010b1b001903001e0004000b001206151e1e006812a000000000000000000000",
+                MOVED,
+            ),
+        ],
+        "channels=2 calls=1 references=1 timers=0",
+    ),
+    // one that is just strong enough, and one that isn't
+    (
+        &[
+            OPENS,
+            CONFIRMED,
+            (
+                "abis 0 0 0828010b1b001903001e0004000b001206151e1e006112a000000000000000000000",
+                SEEN,
+            ),
+            (
+                "abis 0 0 0828010b1b001903001e0004000b001206151e1e006112a000000000000000000000",
+                MOVED,
+            ),
+        ],
+        "channels=2 calls=1 references=1 timers=0",
+    ),
+    (
+        &[
+            OPENS,
+            CONFIRMED,
+            (
+                "abis 0 0 0828010b1b001903001e0004000b001206151e1e006012a000000000000000000000",
+                SEEN,
+            ),
+            (
+                "abis 0 0 0828010b1b001903001e0004000b001206151e1e006012a000000000000000000000",
+                SEEN,
+            ),
+        ],
+        "channels=1 calls=1 references=0 timers=0",
+    ),
+    // faults on A, and of the message inside of one on Abis
+    (
+        &[
+            ("a 1 00051b", &["fault a 2"]),
+            (
+                "a 9 0012100b030108010a01011d3305050100170066",
+                &["fault a 4 5"],
+            ),
+            ("a 1 04", &["fault a 1"]),
+            ("abis 0 0 0302010b02000b000206ff", &["fault rr 2 255"]),
+            ("abis 0 0 0302010b02000b00020528", &["fault rr 1"]),
+        ],
+        "channels=0 calls=0 references=0 timers=0",
+    ),
+    // what nobody waits for
+    (
+        &[
+            OPENS,
+            ("a 1 00011b", &[]),
+            ("a 1 000121", &[]),
+            ("abis 0 0 0302010b02030b0003062c00", &[]),
+            (
+                "abis 0 0 0302010b02000b0003062c00",
+                &[
+                    "event owner 0/0/3 -> owned 1",
+                    "event look 1 -> record 0/0/3 pending",
+                ],
+            ),
+            (
+                "abis 0 0 0827010b1102",
+                &["event detect 0/0/3 -> refused 8 0/0/3"],
+            ),
+            (
+                "abis 2 0 0833010b",
+                &["event released 2/0/3 -> refused 8 2/0/3"],
+            ),
         ],
         "channels=1 calls=1 references=0 timers=0",
     ),

@@ -1,6 +1,6 @@
 use Rattle.std.proofs.Common.{◌≡◌, ◌≢◌, ℕ, Ok, true, is_some, List, [], ◌∷◌, length, sym, ap, ◌∙◌, arith, rules}
 use Rattle.hex.specs.Hex.{decode_of, decode_pairs}
-use Rattle.lab_script.specs.Script.{octets_of}
+use Rattle.lab_script.specs.Words.{octets_of}
 use Rattle.lab.specs.Decoded.{IsBssmapMessage, IsAbisMessage}
 use Rattle.lab.proofs.decoded.decode_run.Goals as goal
 

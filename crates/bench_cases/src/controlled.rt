@@ -1,0 +1,50 @@
+//! What the cases on a whole controller share.
+use crate::fault::Fault;
+use crate::varying::octets_sum;
+use channel_fsm::ChanId;
+use ho_procedure::controller::Controller;
+use ho_procedure::exchange::{Inbound, Outbound};
+use ho_procedure::solo::Solo;
+use radio_book::book::Book;
+use radio_desk::desk::Desk;
+use rsl_messages::Octets;
+use std::alloc::{AllocError, Global};
+
+/// A controller at a desk of its own.
+pub(crate) type Single = Controller<Solo, Global>;
+
+/// The controller of a book, at a desk that opens with it.
+pub(crate) fn controller_of(alloc: Global, book: Book) -> Result<Single, AllocError> {
+    let site = book.site().clone()?;
+    let view = Solo::new(Desk::new(alloc, book)?);
+    Ok(Controller::new(alloc, view, site))
+}
+
+/// The sum of the octets of a message.
+fn message_sum(message: &Outbound) -> u64 {
+    match message {
+        Outbound::Abis { bytes, .. } | Outbound::A { bytes, .. } => octets_sum(bytes.as_slice()),
+    }
+}
+
+/// Handles one input. The sum is that of the octets of all messages that are sent.
+pub(crate) fn handle(controller: &mut Single, input: Inbound) -> Result<u64, Fault> {
+    let sent = controller.handle(input)?;
+    let mut sum = 0u64;
+    for message in &sent {
+        sum = sum.wrapping_add(message_sum(message));
+    }
+    Ok(sum)
+}
+
+/// Handles what a station sends on a channel's TRX.
+pub(crate) fn hear(
+    alloc: Global,
+    controller: &mut Single,
+    chan: ChanId,
+    octets: &[u8],
+) -> Result<u64, Fault> {
+    let bytes = Octets::new(alloc, octets)?;
+    let ChanId { cell, trx, .. } = chan;
+    handle(controller, Inbound::Abis { cell, trx, bytes })
+}

@@ -1,0 +1,168 @@
+//! One input, and what came of it.
+ghost use Rattle.std.specs.Prelude.{◌≡◌, ◌++◌, ◌∷◌, [], List, drop, IfOk, OnOk, OnErr};
+ghost use Rattle.ho_procedure.specs.Sent.{Sent};
+ghost use Rattle.ho_procedure.specs.Handling.{Stops};
+ghost use Rattle.lab.specs.Turns.{asked_in, history_of, choice_at, Answers, IsTurn};
+
+use crate::noting::{NoneFree, Noting};
+use ho_procedure::controller::Controller;
+use ho_procedure::exchange::{Bad, Fault, Inbound, Outbound};
+use radio_book::event::{Event, Reply};
+use radio_desk::desk::Desk;
+use rsl_messages::Octets;
+use std::alloc::{AllocError, Allocator, Global};
+use std::io::{self, Write};
+use trace_text::trace::{Step, print_fault, print_input, print_sent, print_steps};
+
+/// Where an input comes from.
+#[derive(Clone, Copy, Debug, PartialEq, Eq)]
+pub enum Source {
+    /// A line of the script gives it.
+    Script,
+    /// A simulated station sends it.
+    Station,
+}
+
+/// What a controller answered to an input.
+#[derive(Drop)]
+pub enum Answer<A: Allocator = Global> {
+    /// It sent these messages.
+    Sent(Vec<Outbound<A>, A>),
+    /// The octets are no message.
+    Undecoded(Bad),
+}
+
+/// An input, what the controller asked of its book, and what it answered.
+#[derive(Drop)]
+pub struct Turn<A: Allocator = Global> {
+    pub source: Source,
+    pub input: Inbound<A>,
+    pub steps: Vec<Step, A>,
+    pub answer: Answer<A>,
+}
+
+/// The same input once more.
+fn copy_of<A: Allocator + Copy>(alloc: A, input: &Inbound<A>) -> Result<Inbound<A>, AllocError>
+    ensures { IfOk result (λ copy. copy ≡ input.now) }
+{
+    match input {
+        Inbound::Abis { cell, trx, bytes } => Ok(Inbound::Abis {
+            cell: *cell,
+            trx: *trx,
+            bytes: Octets::new(alloc, bytes.as_slice())?,
+        }),
+        Inbound::A { call, bytes } => Ok(Inbound::A {
+            call: *call,
+            bytes: Octets::new(alloc, bytes.as_slice())?,
+        }),
+        Inbound::Expiry { call, timer } => Ok(Inbound::Expiry {
+            call: *call,
+            timer: *timer,
+        }),
+        Inbound::Operator(line) => Ok(Inbound::Operator(*line)),
+    }
+}
+
+/// Appends the cells without a free channel that were found when so many events had been asked.
+fn push_none_free<A: Allocator + Copy>(
+    steps: &mut Vec<Step, A>,
+    found: &[NoneFree],
+    place: usize,
+) -> Result<(), AllocError>
+    ensures { OnOk result (asked_in steps.new.items ≡ asked_in steps.old.items) }
+{
+    for none in found {
+        if none.place == place {
+            steps.push(Step::NoneFree(none.cell))?;
+        }
+    }
+    Ok(())
+}
+
+/// Appends an event with its reply.
+fn push_asked<A: Allocator + Copy>(
+    steps: &mut Vec<Step, A>,
+    event: Event,
+    reply: Reply,
+) -> Result<(), AllocError>
+    ensures { OnOk result (asked_in steps.new.items ≡
+        asked_in steps.old.items ++ (event, reply) ∷ []) }
+{
+    Ok(steps.push(Step::Asked(event, reply))?)
+}
+
+/// What was asked of a desk from its `first` event on, with the cells without a free channel that were found there.
+fn steps_from<A: Allocator + Copy>(
+    alloc: A,
+    desk: &Desk<A>,
+    found: &[NoneFree],
+    first: usize,
+) -> Result<Vec<Step, A>, AllocError>
+    ensures { IfOk result (λ steps. asked_in steps.items ≡ drop first desk.now.history) }
+{
+    let mut steps = Vec::new(alloc);
+    for place in first..desk.len() {
+        push_none_free(&mut steps, found, place)?;
+        if let Some((event, reply)) = desk.entry(place) {
+            push_asked(&mut steps, *event, *reply)?;
+        }
+    }
+    push_none_free(&mut steps, found, desk.len())?;
+    Ok(steps)
+}
+
+/// Handles an input.
+fn handled<A: Allocator + Copy>(
+    controller: &mut Controller<Noting<A>, A>,
+    input: Inbound<A>,
+) -> Result<Answer<A>, AllocError>
+    ensures answers { IfOk result (λ answer. Answers controller.old input answer controller.new) }
+    ensures stops { OnErr result ((owed : List Sent) × Stops {A = A} history_of choice_at
+        controller.old.2 controller.old.0 controller.old.1 input
+        controller.new.0 controller.new.1 owed) }
+    ensures site { controller.new.2 ≡ controller.old.2 }
+{
+    match controller.handle(input) {
+        Ok(sent) => Ok(Answer::Sent(sent)),
+        Err(Fault::Undecoded(_, bad)) => Ok(Answer::Undecoded(bad)),
+        Err(Fault::NoMemory(_)) => Err(AllocError),
+        // the desk of a view of its own knows all of its receipts
+        Err(Fault::Desk(..)) => unreachable!(),
+    }
+}
+
+/// Handles an input, and says what came of it.
+pub fn take_turn<A: Allocator + Copy>(
+    alloc: A,
+    controller: &mut Controller<Noting<A>, A>,
+    source: Source,
+    input: Inbound<A>,
+) -> Result<Turn<A>, AllocError>
+    ensures turn { IfOk result (λ turn. IsTurn controller.old turn controller.new) }
+    ensures source { IfOk result (λ turn. turn.source ≡ source) }
+    ensures input { IfOk result (λ turn. turn.input ≡ input) }
+{
+    let first = controller.view().desk().len();
+    let found = controller.view().none_free().len();
+    let given = copy_of(alloc, &input)?;
+    let answer = handled(controller, given)?;
+    let view = controller.view();
+    let found = view.none_free().get(found..).unwrap_or(&[]);
+    let steps = steps_from(alloc, view.desk(), found, first)?;
+    Ok(Turn {
+        source,
+        input,
+        steps,
+        answer,
+    })
+}
+
+/// Prints what came of an input.
+pub fn print_turn<A: Allocator, W: Write>(out: &mut W, turn: &Turn<A>) -> io::Result<()> {
+    print_input(out, &turn.input)?;
+    print_steps(out, &turn.steps)?;
+    match &turn.answer {
+        Answer::Sent(sent) => print_sent(out, sent),
+        Answer::Undecoded(bad) => print_fault(out, *bad),
+    }
+}

@@ -1,0 +1,223 @@
+-- Facts of the words and numbers of a line.
+use Rattle.std.proofs.Common.{◌≡◌, ◌≢◌, ℕ, ◌<◌, ◌^◌, ◌%◌, ◌∷◌, List, [], Bool, true, false, Option, Some, None, Result, Ok, Err, refl, sym, ap, ◌∙◌, arith, rules, length, is_some, option_map, ◌==◌, Bor, MatchOption, bytes_eq, codes}
+use Rattle.std.specs.Char.{is_ascii_digit, is_ascii_hexdigit}
+use Rattle.std.specs.List.{list_all, join_with_byte, onto_first, position_or_len, before_first, after_first}
+use Rattle.std.specs.Result.{result_ok}
+use Rattle.std.specs.Str.Parse.{digits_value, ParsesUnsigned}
+use Rattle.std.proofs.lemmas.List.Splits.{slice_split-cons_no, slice_split_first, join_with_byte-slice_split}
+use Rattle.std.proofs.lemmas.List.Sums.{AllPass-from_list_all, list_all-from_AllPass}
+use Rattle.std.proofs.lemmas.Str.Parse.{IsNumeralModel, numerals_by_value, parse_digits}
+use Rattle.hex.proofs.HexLemmas.{decode_of-digits, decode_of-ok}
+use Rattle.hex.specs.declared.error.FromHexError.{FromHexError}
+use Rattle.hex.specs.Hex.{decode_of, is_hex_digit}
+use Rattle.channel_fsm.specs.declared.ChanId.{ChanId}
+use Rattle.bts_model.specs.declared.setting.Act.TheVariants.{Mobile}
+use Rattle.lab_script.specs.Words.{words_of, number_below, octets_of, channel_at, channel_of}
+use Rattle.lab_script.specs.Operators.{handover_at, handover_of, call_of, timer_of, expiry_at, expiry_of}
+use Rattle.lab_script.specs.Received.{abis_at, abis_of, a_at, a_of}
+use Rattle.lab_script.specs.Stations.{habit_of, setting_at, mobile_of}
+
+-- a text of digits alone is a numeral
+numerals : IsNumeralModel (λ ds. list_all is_ascii_digit ds ≡ true) (digits_value 10)
+numerals = numerals_by_value _ (search rules)
+
+-- a value with the digits alone, as `parse` and `ok` give it
+pub number_from_parse : {E : Type 0} (limit k : ℕ) (bs : List ℕ) (r : Result ℕ E) → ParsesUnsigned k 10 bs r → 2 ^ k ≡ limit
+    → list_all is_ascii_digit bs ≡ true → result_ok r ≡ number_below limit bs
+number_from_parse {E = E} limit k bs (Ok x) h e p = let own = parse_digits numerals {E = E} k bs (Ok x) h p in grind (arith, own)
+number_from_parse {E = E} limit k bs (Err x) h e p = let own = parse_digits numerals {E = E} k bs (Err x) h p in grind (arith, own)
+
+hex_digit_same : (c : ℕ) → is_ascii_hexdigit c ≡ is_hex_digit c
+hex_digit_same c = grind arith
+
+list_all_same : (p q : ℕ → Bool) (xs : List ℕ) → ((x : ℕ) → p x ≡ q x) → list_all p xs ≡ list_all q xs
+list_all_same p q [] h = refl
+list_all_same p q (x ∷ xs) h = rw (h x, list_all_same p q xs h) refl
+
+-- digits of an even number can be decoded, and no other text of that length
+octets_test : (s : List ℕ) → length s ≢ 0 → length s % 2 ≡ 0 → list_all is_hex_digit s ≡ is_some (octets_of s)
+octets_test s some even = by_test s (list_all is_hex_digit s) refl some even
+  where
+    by_test : (s : List ℕ) (b : Bool) → list_all is_hex_digit s ≡ b → length s ≢ 0 → length s % 2 ≡ 0 → b ≡ is_some (octets_of s)
+    by_test s true e some even =
+        let (bytes, decoded) = decode_of-digits s even (AllPass-from_list_all is_hex_digit s e) in
+        rw decoded (search rules)
+    by_test s false e some even = refused s (decode_of s) refl e some even
+      where
+        refused : (s : List ℕ) (r : Result (List ℕ) FromHexError) → decode_of s ≡ r → list_all is_hex_digit s ≡ false → length s ≢ 0 → length s % 2 ≡ 0 → false ≡ is_some (octets_of s)
+        refused s (Ok bytes) d e some even =
+            let (_, digits, _, _) = decode_of-ok s bytes d in
+            let both : true ≡ false = sym (list_all-from_AllPass is_hex_digit s digits) ∙ e in
+            absurd (search rules)
+        refused s (Err fault) d e some even = rw d (search rules)
+
+pub octets_from_digits : (s : List ℕ) → length s ≢ 0 → length s % 2 ≡ 0 → list_all is_ascii_hexdigit s ≡ is_some (octets_of s)
+octets_from_digits s some even = list_all_same is_ascii_hexdigit is_hex_digit s hex_digit_same ∙ octets_test s some even
+
+-- an octet before a text of one word
+longer_word : (b : ℕ) (text : List ℕ) → (b == 32) ≡ false → words_of text ≡ text ∷ [] → words_of (b ∷ text) ≡ (b ∷ text) ∷ []
+longer_word b text no_blank one = slice_split-cons_no (λ c. c == 32) b text no_blank ∙ ap (onto_first b) one
+
+-- a text without a blank is one word
+uncut : (text : List ℕ) → position_or_len (λ b. b == 32) text ≡ length text → words_of text ≡ text ∷ []
+uncut [] h = refl
+uncut (b ∷ text) h =
+    let no_blank : (b == 32) ≡ false = grind (arith, h) in
+    longer_word b text no_blank (uncut text (grind (arith, h, no_blank)))
+
+-- a text is cut at its first blank
+pub cut_words : (text : List ℕ) (r : Option (Bor (List ℕ) × Bor (List ℕ)))
+    → MatchOption r (position_or_len (λ b. b == 32) text ≡ length text) (λ x. (position_or_len (λ b. b == 32) text < length text) × (x.0.now ≡ before_first (λ b. b == 32) text) × (x.1.now ≡ after_first (λ b. b == 32) text))
+    → MatchOption r (words_of text ≡ text ∷ []) (λ x. words_of text ≡ x.0.now ∷ words_of x.1.now)
+cut_words text None h = uncut text h
+cut_words text (Some x) h = slice_split_first (λ b. b == 32) text 0 h.0 ∙ rw (h.1, h.2) refl
+
+-- a text of digits is one word
+one_word : (p : ℕ → Bool) → p 32 ≡ false → (text : List ℕ) → list_all p text ≡ true → words_of text ≡ text ∷ []
+one_word p blank [] h = refl
+one_word p blank (b ∷ text) h =
+    let (first, rest) : (p b ≡ true) × (list_all p text ≡ true) = grind (arith, h) in
+    longer_word b text (no_blank (b == 32) refl first) (one_word p blank text rest)
+  where
+    no_blank : (is_blank : Bool) → (b == 32) ≡ is_blank → p b ≡ true → (b == 32) ≡ false
+    no_blank true e first = let found : b ≡ 32 = grind (arith, e) in absurd (search (rules, sym first ∙ (ap p found ∙ blank)))
+    no_blank false e first = e
+
+-- a text that is a name without a blank is one word
+one_name : (name : List ℕ) → words_of name ≡ name ∷ [] → (text : List ℕ) → bytes_eq text name ≡ true → words_of text ≡ text ∷ []
+one_name name one text e = let same : text ≡ name = search (rules, e) in rw same one
+
+-- what a text gives by its one word, where another has none
+abbrev pub lone : {X : Type 0} → (List ℕ → Option X) → List (List ℕ) → Option X
+lone read (word ∷ []) = read word
+lone read words = None
+
+pub lone_word : {X : Type 0} (read : List ℕ → Option X) (text : List ℕ) → (words_of text ≢ text ∷ [] → read text ≡ None) → lone read (words_of text) ≡ read text
+lone_word read text more = by_words (words_of text) refl
+  where
+    by_words : (words : List (List ℕ)) → words_of text ≡ words → lone read words ≡ read text
+    by_words [] e = sym (more (λ one. let none : [] ≡ text ∷ [] = sym e ∙ one in absurd cc))
+    by_words (word ∷ []) e =
+        let joined : word ≡ text = sym (ap (join_with_byte 32) e) ∙ join_with_byte-slice_split 32 text in
+        ap read joined
+    by_words (word ∷ next ∷ rest) e = sym (more (λ one. let none : word ∷ next ∷ rest ≡ text ∷ [] = sym e ∙ one in absurd cc))
+
+-- a number is one word
+pub lone_number : (limit : ℕ) (text : List ℕ) → lone (number_below limit) (words_of text) ≡ number_below limit text
+lone_number limit text = lone_word (number_below limit) text (λ more. by_digits (list_all is_ascii_digit text) refl more)
+  where
+    by_digits : (digits : Bool) → list_all is_ascii_digit text ≡ digits → words_of text ≢ text ∷ [] → number_below limit text ≡ None
+    by_digits true e more = absurd (more (one_word is_ascii_digit refl text e))
+    by_digits false e more = rw e (search rules)
+
+-- octets in hexadecimal are one word
+pub lone_octets : (text : List ℕ) → lone octets_of (words_of text) ≡ octets_of text
+lone_octets text = lone_word octets_of text (λ more. by_octets (decode_of text) refl more)
+  where
+    by_octets : (octets : Result (List ℕ) FromHexError) → decode_of text ≡ octets → words_of text ≢ text ∷ [] → octets_of text ≡ None
+    by_octets (Ok octets) e more =
+        let (_, digits, _, _) = decode_of-ok text octets e in
+        absurd (more (one_word is_hex_digit refl text (list_all-from_AllPass is_hex_digit text digits)))
+    by_octets (Err fault) e more = rw e (search rules)
+
+-- a name from a list without blanks is one word
+pub lone_timer : (text : List ℕ) → lone timer_of (words_of text) ≡ timer_of text
+lone_timer text = lone_word timer_of text (λ more. named more (bytes_eq text (codes "T3103")) refl (bytes_eq text (codes "T7")) refl (bytes_eq text (codes "T8")) refl)
+  where
+    named : words_of text ≢ text ∷ [] → (a : Bool) → bytes_eq text (codes "T3103") ≡ a → (b : Bool) → bytes_eq text (codes "T7") ≡ b → (c : Bool) → bytes_eq text (codes "T8") ≡ c → timer_of text ≡ None
+    named more true e b f c g = absurd (more (one_name (codes "T3103") refl text e))
+    named more false e true f c g = absurd (more (one_name (codes "T7") refl text f))
+    named more false e false f true g = absurd (more (one_name (codes "T8") refl text g))
+    named more false e false f false g = rw (e, f, g) refl
+
+pub lone_habit : (text : List ℕ) → lone habit_of (words_of text) ≡ habit_of text
+lone_habit text = lone_word habit_of text (λ more. named more (bytes_eq text (codes "arrive")) refl (bytes_eq text (codes "return")) refl (bytes_eq text (codes "vanish")) refl)
+  where
+    named : words_of text ≢ text ∷ [] → (a : Bool) → bytes_eq text (codes "arrive") ≡ a → (b : Bool) → bytes_eq text (codes "return") ≡ b → (c : Bool) → bytes_eq text (codes "vanish") ≡ c → habit_of text ≡ None
+    named more true e b f c g = absurd (more (one_name (codes "arrive") refl text e))
+    named more false e true f c g = absurd (more (one_name (codes "return") refl text f))
+    named more false e false f true g = absurd (more (one_name (codes "vanish") refl text g))
+    named more false e false f false g = rw (e, f, g) refl
+
+-- The forms of lines, where what stands after the last blank is handed over as a text.
+pub channel_words : (cell trx tn : List ℕ) → channel_of (cell ∷ trx ∷ words_of tn) ≡ channel_at (number_below 256 cell) (number_below 256 trx) (number_below 8 tn)
+channel_words cell trx tn = by_words (words_of tn) ∙ ap (channel_at (number_below 256 cell) (number_below 256 trx)) (lone_number 8 tn)
+  where
+    nothing : (cell trx : Option ℕ) → channel_at cell trx None ≡ None
+    nothing (Some cell) (Some trx) = refl
+    nothing (Some cell) None = refl
+    nothing None trx = refl
+
+    by_words : (words : List (List ℕ)) → channel_of (cell ∷ trx ∷ words) ≡ channel_at (number_below 256 cell) (number_below 256 trx) (lone (number_below 8) words)
+    by_words [] = sym (nothing _ _)
+    by_words (word ∷ []) = refl
+    by_words (word ∷ next ∷ rest) = sym (nothing _ _)
+
+pub handover_words : (call cell : List ℕ) → handover_of (call ∷ words_of cell) ≡ handover_at (number_below 65536 call) (number_below 256 cell)
+handover_words call cell = by_words (words_of cell) ∙ ap (handover_at (number_below 65536 call)) (lone_number 256 cell)
+  where
+    nothing : (call : Option ℕ) → handover_at call None ≡ None
+    nothing (Some call) = refl
+    nothing None = refl
+
+    by_words : (words : List (List ℕ)) → handover_of (call ∷ words) ≡ handover_at (number_below 65536 call) (lone (number_below 256) words)
+    by_words [] = sym (nothing _)
+    by_words (word ∷ []) = refl
+    by_words (word ∷ next ∷ rest) = sym (nothing _)
+
+pub call_words : (call : List ℕ) → call_of (words_of call) ≡ number_below 65536 call
+call_words call = by_words (words_of call) ∙ lone_number 65536 call
+  where
+    by_words : (words : List (List ℕ)) → call_of words ≡ lone (number_below 65536) words
+    by_words [] = refl
+    by_words (word ∷ []) = refl
+    by_words (word ∷ next ∷ rest) = refl
+
+pub abis_words : (cell trx octets : List ℕ) → abis_of (cell ∷ trx ∷ words_of octets) ≡ abis_at (number_below 256 cell) (number_below 256 trx) (octets_of octets)
+abis_words cell trx octets = by_words (words_of octets) ∙ ap (abis_at (number_below 256 cell) (number_below 256 trx)) (lone_octets octets)
+  where
+    nothing : (cell trx : Option ℕ) → abis_at cell trx None ≡ None
+    nothing (Some cell) (Some trx) = refl
+    nothing (Some cell) None = refl
+    nothing None trx = refl
+
+    by_words : (words : List (List ℕ)) → abis_of (cell ∷ trx ∷ words) ≡ abis_at (number_below 256 cell) (number_below 256 trx) (lone octets_of words)
+    by_words [] = sym (nothing _ _)
+    by_words (word ∷ []) = refl
+    by_words (word ∷ next ∷ rest) = sym (nothing _ _)
+
+pub expiry_words : (call timer : List ℕ) → expiry_of (call ∷ words_of timer) ≡ expiry_at (number_below 65536 call) (timer_of timer)
+expiry_words call timer = by_words (words_of timer) ∙ ap (expiry_at (number_below 65536 call)) (lone_timer timer)
+  where
+    nothing : (call : Option ℕ) → expiry_at call None ≡ None
+    nothing (Some call) = refl
+    nothing None = refl
+
+    by_words : (words : List (List ℕ)) → expiry_of (call ∷ words) ≡ expiry_at (number_below 65536 call) (lone timer_of words)
+    by_words [] = sym (nothing _)
+    by_words (word ∷ []) = refl
+    by_words (word ∷ next ∷ rest) = sym (nothing _)
+
+pub a_words : (call octets : List ℕ) → a_of (call ∷ words_of octets) ≡ a_at (number_below 65536 call) (octets_of octets)
+a_words call octets = by_words (words_of octets) ∙ ap (a_at (number_below 65536 call)) (lone_octets octets)
+  where
+    nothing : (call : Option ℕ) → a_at call None ≡ None
+    nothing (Some call) = refl
+    nothing None = refl
+
+    by_words : (words : List (List ℕ)) → a_of (call ∷ words) ≡ a_at (number_below 65536 call) (lone octets_of words)
+    by_words [] = sym (nothing _)
+    by_words (word ∷ []) = refl
+    by_words (word ∷ next ∷ rest) = sym (nothing _)
+
+pub mobile_words : (cell trx tn habit : List ℕ) → mobile_of (cell ∷ trx ∷ tn ∷ words_of habit) ≡ setting_at (channel_at (number_below 256 cell) (number_below 256 trx) (number_below 8 tn)) (option_map Mobile (habit_of habit))
+mobile_words cell trx tn habit = by_words (words_of habit) ∙ ap (λ h. setting_at (channel_at (number_below 256 cell) (number_below 256 trx) (number_below 8 tn)) (option_map Mobile h)) (lone_habit habit)
+  where
+    nothing : (x : Option ChanId) → setting_at x None ≡ None
+    nothing (Some x) = refl
+    nothing None = refl
+
+    by_words : (words : List (List ℕ)) → mobile_of (cell ∷ trx ∷ tn ∷ words) ≡ setting_at (channel_at (number_below 256 cell) (number_below 256 trx) (number_below 8 tn)) (option_map Mobile (lone habit_of words))
+    by_words [] = sym (nothing _)
+    by_words (word ∷ []) = refl
+    by_words (word ∷ next ∷ rest) = sym (nothing _)

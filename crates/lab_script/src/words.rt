@@ -1,0 +1,101 @@
+//! Words of lines: keywords, numbers, channels, octets.
+ghost use Rattle.std.specs.Prelude.{◌≡◌, ◌∷◌, [], MatchOption, is_some, IfOk, IfSome};
+ghost use Rattle.std.specs.Char.{is_ascii_digit, is_ascii_hexdigit};
+ghost use Rattle.std.specs.List.{list_all};
+ghost use Rattle.lab_script.specs.Words as said;
+
+use channel_fsm::ChanId;
+use rsl_messages::Octets;
+use std::alloc::{AllocError, Allocator};
+
+/// The first word of a text, and what stands after its blank; `None` where the text is one word.
+pub(crate) fn first_word(text: &str) -> Option<(&str, &str)>
+    ensures { MatchOption result (said.words_of text.now ≡ text.now ∷ [])
+        (λ cut. said.words_of text.now ≡ cut.0.now ∷ said.words_of cut.1.now) }
+{
+    text.split_once(' ')
+}
+
+/// Whether the text has decimal digits alone.
+fn is_digits(text: &str) -> bool
+    ensures { result ≡ list_all is_ascii_digit text.now }
+{
+    text.bytes().all(|byte| byte.is_ascii_digit())
+}
+
+/// The number from 0 to 65535 that the digits of a text write.
+pub(crate) fn call_number(text: &str) -> Option<u16>
+    ensures { result ≡ said.number_below 65536 text.now }
+{
+    if is_digits(text) {
+        text.parse().ok()
+    } else {
+        None
+    }
+}
+
+/// The number from 0 to 255 that the digits of a text write.
+pub(crate) fn octet(text: &str) -> Option<u8>
+    ensures { result ≡ said.number_below 256 text.now }
+{
+    if is_digits(text) {
+        text.parse().ok()
+    } else {
+        None
+    }
+}
+
+/// The timeslot, 0 to 7, that the digits of a text write.
+fn timeslot(text: &str) -> Option<u8>
+    ensures { result ≡ said.number_below 8 text.now }
+{
+    match octet(text) {
+        Some(tn) if tn < 8 => Some(tn),
+        _ => None,
+    }
+}
+
+/// The channel of three words.
+pub(crate) fn channel_at(cell: &str, trx: &str, tn: &str) -> Option<ChanId>
+    ensures { result ≡ said.channel_at (said.number_below 256 cell.now)
+        (said.number_below 256 trx.now) (said.number_below 8 tn.now) }
+{
+    Some(ChanId {
+        cell: octet(cell)?,
+        trx: octet(trx)?,
+        tn: timeslot(tn)?,
+    })
+}
+
+/// `CELL TRX TN`
+pub(crate) fn channel(text: &str) -> Option<ChanId>
+    ensures { result ≡ said.channel_of (said.words_of text.now) }
+{
+    let (cell, text) = first_word(text)?;
+    let (trx, tn) = first_word(text)?;
+    channel_at(cell, trx, tn)
+}
+
+/// Whether the text has hexadecimal digits alone.
+fn is_hex_digits(text: &str) -> bool
+    ensures { result ≡ list_all is_ascii_hexdigit text.now }
+{
+    text.bytes().all(|byte| byte.is_ascii_hexdigit())
+}
+
+/// Whether the text is one octet or more, each in two hexadecimal digits.
+pub fn is_octets(text: &str) -> bool
+    ensures read { result ≡ is_some (said.octets_of text.now) }
+{
+    !text.is_empty() && text.len() % 2 == 0 && is_hex_digits(text)
+}
+
+/// The octets that a text of hexadecimal digits writes.
+pub(crate) fn octets<A: Allocator + Copy>(alloc: A, text: &str) -> Result<Octets<A>, AllocError>
+    ensures { IfOk result (λ octets. IfSome (said.octets_of text.now) (λ written. octets ≡ written)) }
+{
+    match hex::decode(alloc, text) {
+        Ok(octets) => Octets::new(alloc, &octets),
+        Err(_) => Err(AllocError),
+    }
+}

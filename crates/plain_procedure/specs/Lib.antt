@@ -1,3 +1,0 @@
-pub mod Plan
-pub mod Procedure
-pub mod Handling

@@ -1,6 +1,0 @@
-//! The procedure of a base station controller: what goes into a controller and comes out of it, and what it asks of
-//! its book and sends for each input.
-#![tactic(auto)]
-
-pub mod exchange;
-pub mod procedure;
