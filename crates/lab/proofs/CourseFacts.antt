@@ -1,11 +1,13 @@
 -- Facts of turns, and of the course of a script.
-use Rattle.std.proofs.Common.{◌≡◌, ◌++◌, ◌∷◌, List, [], refl, sym, ap, ◌∙◌, append_assoc, rules}
+use Rattle.std.proofs.Common.{◌≡◌, ◌++◌, ◌∷◌, List, [], refl, sym, ap, ◌∙◌, append_assoc, append-nil, rules}
+use Rattle.cell_table.specs.Site.{SiteView}
 use Rattle.ho_procedure.specs.declared.exchange.Inbound.{Inbound}
 use Rattle.lab_script.specs.declared.script.Item.{Item}
+use Rattle.lab.specs.declared.turn.Source.{Source}
 use Rattle.lab.specs.declared.turn.Turn.{Turn}
 use Rattle.lab.specs.declared.course.Course.{Course}
 use Rattle.lab.specs.Turns.{Position, AreTurns, IsTurn, listed, scripted, input_in, inputs_in}
-use Rattle.lab.specs.Course.{Went}
+use Rattle.lab.specs.Course.{Went, IsOpening, Played}
 
 turns_joined : {A : Type 0} (s : Position) (ts : List (Turn A)) (m : Position) (us : List (Turn A)) (s' : Position) → AreTurns s ts m → AreTurns m us s' → AreTurns s (ts ++ us) s'
 turns_joined s [] m us s' h k = rw (sym h) k
@@ -25,8 +27,13 @@ pub went_nowhere : {A : Type 0} (c c' : Course A) → c'.controller ≡ c.contro
 went_nowhere c c' same noted = record { turns = []; noted = noted ∙ search rules; run = same; scripted = refl }
 
 -- one input was handled
-pub went_once : {A : Type 0} (c c' : Course A) (t : Turn A) (inputs : List (Inbound A)) → IsTurn c.controller t c'.controller → c'.turns.items ≡ c.turns.items ++ t ∷ [] → listed t.source t.input ≡ inputs → Went inputs c c'
-went_once c c' t inputs turn noted given = record { turns = t ∷ []; noted = noted; run = (c'.controller, turn, refl); scripted = search rules ∙ given }
+pub went_once : {A : Type 0} (c c' : Course A) (t : Turn A) (source : Source) (input : Inbound A) → IsTurn c.controller t c'.controller → c'.turns.items ≡ c.turns.items ++ t ∷ [] → t.source ≡ source → t.input ≡ input → Went (listed source input) c c'
+went_once c c' t source input turn noted of given = record {
+  turns = t ∷ [];
+  noted = noted;
+  run = (c'.controller, turn, refl);
+  scripted = append-nil (listed t.source t.input) ∙ rw (of, given) refl;
+}
 
 -- and then more
 pub went_on : {A : Type 0} (inputs more : List (Inbound A)) (c c' c'' : Course A) → Went inputs c c' → Went more c' c'' → Went (inputs ++ more) c c''
@@ -35,4 +42,15 @@ went_on inputs more c c' c'' h k = record {
   noted = k.noted ∙ (ap (λ front. front ++ k.turns) h.noted ∙ append_assoc c.turns.items h.turns k.turns);
   run = turns_joined _ h.turns _ k.turns _ h.run k.run;
   scripted = scripted_joined h.turns k.turns ∙ rw (h.scripted, k.scripted) refl;
+}
+
+-- from an empty book on, all was handled
+pub all_played : {A : Type 0} (site : SiteView) (inputs : List (Inbound A)) (c c' : Course A) → IsOpening site c.controller → Went inputs c c' → Played A site inputs
+all_played site inputs c c' opening h = record {
+  first = c.controller;
+  opening = opening;
+  turns = h.turns;
+  last = c'.controller;
+  run = h.run;
+  scripted = h.scripted;
 }

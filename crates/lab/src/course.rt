@@ -61,10 +61,11 @@ impl<A: Allocator + Copy> Course<A> {
     fn attach(&mut self) -> Result<(), AllocError>
         ensures { OnOk result (Went [] self.old self.new) }
     {
-        if self.world.is_none() {
-            let sites = [self.site.clone()?];
-            self.world = Some(World::new(self.alloc, &sites)?);
+        if self.world.is_some() {
+            return Ok(());
         }
+        let sites = [self.site.clone()?];
+        self.world = Some(World::new(self.alloc, &sites)?);
         Ok(())
     }
 
@@ -91,9 +92,7 @@ impl<A: Allocator + Copy> Course<A> {
         self.turns.reserve(1)?;
         let turn = take_turn(self.alloc, &mut self.controller, source, input)?;
         print_turn(out, &turn)?;
-        if let Some(world) = &mut self.world {
-            pass_answer(world, &turn.answer, waiting)?;
-        }
+        pass_answer(&mut self.world, &turn.answer, waiting)?;
         self.turns.push_reserved(turn);
         Ok(())
     }
@@ -108,22 +107,31 @@ impl<A: Allocator + Copy> Course<A> {
             };
             self.handle(Source::Station, input, &mut waiting, out)?;
         }
-        if !waiting.is_empty() {
-            print_limit(out)?;
-        }
-        Ok(())
+        say_limit(&waiting, out)
     }
 
-    /// Does what a line of a script gives.
+    /// Does what a line of a script gives. What simulated stations answer waits.
+    fn begin<W: Write>(
+        &mut self,
+        item: Item<A>,
+        waiting: &mut Waiting<A>,
+        out: &mut W,
+    ) -> Result<(), LabFault>
+        ensures { OnOk result (Went (inputs_in (item ∷ [])) self.old self.new) }
+    {
+        match item {
+            Item::Input(input) => self.handle(Source::Script, input, waiting, out),
+            Item::Attach => Ok(self.attach()?),
+            Item::Set(setting) => Ok(self.set(setting, waiting)?),
+        }
+    }
+
+    /// Does what a line of a script gives, until nothing of it is left.
     fn follow<W: Write>(&mut self, item: Item<A>, out: &mut W) -> Result<(), LabFault>
         ensures { OnOk result (Went (inputs_in (item ∷ [])) self.old self.new) }
     {
         let mut waiting = VecDeque::new(self.alloc);
-        match item {
-            Item::Input(input) => self.handle(Source::Script, input, &mut waiting, out)?,
-            Item::Attach => self.attach()?,
-            Item::Set(setting) => self.set(setting, &mut waiting)?,
-        }
+        self.begin(item, &mut waiting, out)?;
         self.settle(waiting, out)
     }
 
@@ -171,12 +179,26 @@ fn pass_on<A: Allocator + Copy>(
     Ok(())
 }
 
-/// What stations answer to what the controller answered waits.
+/// Says that what still waits is dropped, where there is any.
+fn say_limit<A: Allocator + Copy, W: Write>(
+    waiting: &Waiting<A>,
+    out: &mut W,
+) -> Result<(), LabFault> {
+    if !waiting.is_empty() {
+        print_limit(out)?;
+    }
+    Ok(())
+}
+
+/// What stations, where they are there, answer to what the controller answered waits.
 fn pass_answer<A: Allocator + Copy>(
-    world: &mut World<A>,
+    world: &mut Option<World<A>>,
     answer: &Answer<A>,
     waiting: &mut Waiting<A>,
 ) -> Result<(), AllocError> {
+    let Some(world) = world else {
+        return Ok(());
+    };
     match answer {
         Answer::Sent(sent) => pass_on(world, sent, waiting),
         Answer::Undecoded(_) => Ok(()),

@@ -1,5 +1,5 @@
 //! One input, and what came of it.
-ghost use Rattle.std.specs.Prelude.{◌≡◌, ◌++◌, ◌∷◌, [], List, drop, IfOk, OnOk, OnErr};
+ghost use Rattle.std.specs.Prelude.{◌≡◌, ◌+◌, ◌++◌, ◌∷◌, [], List, drop, IfOk, OnOk, OnErr};
 ghost use Rattle.ho_procedure.specs.Sent.{Sent};
 ghost use Rattle.ho_procedure.specs.Handling.{Stops};
 ghost use Rattle.lab.specs.Turns.{asked_in, history_of, choice_at, Answers, IsTurn};
@@ -64,6 +64,7 @@ fn copy_of<A: Allocator + Copy>(alloc: A, input: &Inbound<A>) -> Result<Inbound<
 }
 
 /// Appends the cells without a free channel that were found when so many events had been asked.
+#[tactic(auto, using(crate::proofs::StepFacts::none_more))]
 fn push_none_free<A: Allocator + Copy>(
     steps: &mut Vec<Step, A>,
     found: &[NoneFree],
@@ -80,6 +81,7 @@ fn push_none_free<A: Allocator + Copy>(
 }
 
 /// Appends an event with its reply.
+#[tactic(auto, using(crate::proofs::StepFacts::asked_more))]
 fn push_asked<A: Allocator + Copy>(
     steps: &mut Vec<Step, A>,
     event: Event,
@@ -89,6 +91,22 @@ fn push_asked<A: Allocator + Copy>(
         asked_in steps.old.items ++ (event, reply) ∷ []) }
 {
     Ok(steps.push(Step::Asked(event, reply))?)
+}
+
+/// Appends what stands in a desk's history at a place, if anything does: so much less of the history is left.
+#[tactic(auto, using(crate::proofs::StepFacts::entry_noted, crate::proofs::StepFacts::past_noted))]
+fn push_entry<A: Allocator + Copy>(
+    steps: &mut Vec<Step, A>,
+    desk: &Desk<A>,
+    place: usize,
+) -> Result<(), AllocError>
+    ensures { OnOk result (asked_in steps.new.items ++ drop (place + 1) desk.now.history ≡
+        asked_in steps.old.items ++ drop place desk.now.history) }
+{
+    match desk.entry(place) {
+        Some((event, reply)) => push_asked(steps, *event, *reply),
+        None => Ok(()),
+    }
 }
 
 /// What was asked of a desk from its `first` event on, with the cells without a free channel that were found there.
@@ -103,9 +121,7 @@ fn steps_from<A: Allocator + Copy>(
     let mut steps = Vec::new(alloc);
     for place in first..desk.len() {
         push_none_free(&mut steps, found, place)?;
-        if let Some((event, reply)) = desk.entry(place) {
-            push_asked(&mut steps, *event, *reply)?;
-        }
+        push_entry(&mut steps, desk, place)?;
     }
     push_none_free(&mut steps, found, desk.len())?;
     Ok(steps)
