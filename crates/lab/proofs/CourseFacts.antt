@@ -1,5 +1,5 @@
 -- Facts of turns, and of the course of a script.
-use Rattle.std.proofs.Common.{◌≡◌, ◌++◌, ◌∷◌, List, [], refl, sym, ap, ◌∙◌, append_assoc, append-nil, rules}
+use Rattle.std.proofs.Common.{◌≡◌, ◌++◌, ◌∷◌, List, [], refl, sym, ap, ◌∙◌, append_assoc, append-nil, subst, rules, Result, Ok, Err, OnOk}
 use Rattle.cell_table.specs.Site.{SiteView}
 use Rattle.ho_procedure.specs.declared.exchange.Inbound.{Inbound}
 use Rattle.lab_script.specs.declared.script.Item.{Item}
@@ -43,6 +43,11 @@ went_on inputs more c c' c'' h k = record {
   run = turns_joined _ h.turns _ k.turns _ h.run k.run;
   scripted = scripted_joined h.turns k.turns ∙ rw (h.scripted, k.scripted) refl;
 }
+
+-- and then none of a script
+pub went_past : {A X E : Type 0} (inputs : List (Inbound A)) (c c' c'' : Course A) (r : Result X E) → Went inputs c c' → OnOk r (Went [] c' c'') → OnOk r (Went inputs c c'')
+went_past inputs c c' c'' (Ok x) h k = subst (λ (all : List (Inbound _)). Went all c c'') (append-nil inputs) (went_on inputs [] c c' c'' h k)
+went_past inputs c c' c'' (Err f) h k = tt
 
 -- from an empty book on, all was handled
 pub all_played : {A : Type 0} (site : SiteView) (inputs : List (Inbound A)) (c c' : Course A) → IsOpening site c.controller → Went inputs c c' → Played A site inputs

@@ -1,12 +1,21 @@
-use Rattle.std.proofs.Common.{refl, sym, ap, ◌∙◌, []}
+use Rattle.std.proofs.Common.{sym, ◌∙◌, [], ◌∷◌, subst}
 use Rattle.std.proofs.lemmas.Iterator.Adapters.{YieldsList-from_vec}
-use Rattle.std.proofs.lemmas.Iterator.Consumers.{YieldsList-at, YieldsList-end}
+use Rattle.std.proofs.lemmas.Iterator.Consumers.{YieldsList-end}
+use Rattle.std.proofs.lemmas.List.{map-id}
 use Rattle.lab.specs.Turns.{inputs_in}
+use Rattle.lab.specs.Course.{Went}
 use Rattle.lab.proofs.CourseFacts.{went_on, inputs_joined}
 use Rattle.lab.proofs.course.Course.run.Goals as goal
 
 pub loop-item-preserved : goal.loop-item-preserved
-loop-item-preserved g c = ?
+loop-item-preserved g c = record {
+  can_next = tt;
+  is_finite = tt;
+  went = rw (inputs_joined c.loop-item.yielded (c.in-Some.item ∷ [])) (went_on _ _ _ _ _ c.loop-item.invariant.went c.in_ok-follow.ensures);
+}
 
 pub returns : goal.returns
-returns g c = ?
+returns g c =
+    let given = c.into_iter-item-iterator.ensures.into_iter_gives in
+    let all = YieldsList-end (YieldsList-from_vec {s = c.into_iter-item-iterator.result} c.args.items.items given.0 (given.1 ∙ c.args.items.ok.0)) c.loop-item.yielded _ c.loop-item.yielded_by c.next.result c.next.new.self c.in-None.is c.next.ensures.steps in
+    subst (λ items. Went (inputs_in items) c.args.self.now c.loop-item.self) (sym (map-id c.loop-item.yielded) ∙ all.0) c.loop-item.invariant.went
