@@ -18,12 +18,14 @@ use reports::{
 };
 use rows::{
     ACTIVATED, ACTIVATED_AGAIN, CLEAR_COMMAND, CLEAR_COMMAND_AGAIN, CLEAR_COMMAND_COMMANDED,
-    CLEARS, CLEARS_COMMANDED, CLEARS_MOVED, CLEARS_NOTHING, CLEARS_PENDING, COMPLETES,
-    COMPLETES_AT_HOME, COMPLETES_ELSEWHERE, COMPLETES_TOO_EARLY, DETECTS, DETECTS_NOBODY, EXPIRES,
-    EXPIRES_AGAIN, EXPIRES_OTHERWISE, FAILS, FAILS_COMMANDED, FAILS_NOBODY, Given, OPENS,
-    OPENS_AGAIN, OPENS_TARGET, REFUSED_AT_ONCE, REFUSES_NOTHING, RELEASED, RELEASED_AGAIN, RETURNS,
+    CLEAR_COMMAND_HELD, CLEARS, CLEARS_COMMANDED, CLEARS_MOVED, CLEARS_NOTHING, CLEARS_PENDING,
+    COMPLETES, COMPLETES_AT_HOME, COMPLETES_ELSEWHERE, COMPLETES_TOO_EARLY, COMPLETES_UNSEEN,
+    DETECTS, DETECTS_NOBODY, EXPIRES, EXPIRES_AGAIN, EXPIRES_OTHERWISE, FAILS, FAILS_AT_TARGET,
+    FAILS_COMMANDED, FAILS_NOBODY, Given, OPENS, OPENS_AGAIN, OPENS_OTHER, OPENS_TARGET,
+    REFUSED_AT_ONCE, REFUSES_NOTHING, RELEASED, RELEASED_AGAIN, RETURNS, RETURNS_AT_TARGET,
     RETURNS_FROM_NOWHERE, Row, STARTS, STARTS_AGAIN, STARTS_AT_HOME, STARTS_NOTHING,
-    STARTS_NOWHERE, Sent, TARGET_ACTIVATED, TARGET_REFUSES, UNDOES, UNDOES_NOTHING, WITHOUT_A_ROW,
+    STARTS_NOWHERE, Sent, TARGET_ACTIVATED, TARGET_ACTIVATED_TOO_LATE, TARGET_REFUSES,
+    TARGET_RELEASED, UNDOES, UNDOES_COMMANDED, UNDOES_NOTHING, WITHOUT_A_ROW,
 };
 use rr_elements::ElementFault;
 use rr_messages::RrFault;
@@ -49,7 +51,10 @@ const PLAYED: &[(&[Row], (usize, usize, usize, usize))] = &[
         &[CLEARS_NOTHING, FAILS_NOBODY, REFUSES_NOTHING],
         (0, 0, 0, 0),
     ),
-    (REFUSED_AT_ONCE, (0, 0, 0, 0)),
+    (
+        &[OPENS_OTHER, REFUSED_AT_ONCE, CLEAR_COMMAND_HELD],
+        (0, 0, 0, 0),
+    ),
     // a handover arrives
     (
         &[
@@ -62,6 +67,10 @@ const PLAYED: &[(&[Row], (usize, usize, usize, usize))] = &[
             RELEASED,
         ],
         (1, 1, 0, 0),
+    ),
+    (
+        &[OPENS, ACTIVATED, STARTS, TARGET_ACTIVATED, COMPLETES_UNSEEN],
+        (2, 1, 0, 0),
     ),
     // it returns
     (
@@ -82,7 +91,22 @@ const PLAYED: &[(&[Row], (usize, usize, usize, usize))] = &[
         (2, 1, 0, 0),
     ),
     // it is taken back, and the target acknowledges too late
-    (&[OPENS, ACTIVATED, STARTS, UNDOES], (2, 1, 0, 0)),
+    (
+        &[
+            OPENS,
+            ACTIVATED,
+            STARTS,
+            UNDOES,
+            TARGET_ACTIVATED_TOO_LATE,
+            TARGET_RELEASED,
+        ],
+        (1, 1, 0, 0),
+    ),
+    // it is taken back once the mobile was sent
+    (
+        &[OPENS, ACTIVATED, STARTS, TARGET_ACTIVATED, UNDOES_COMMANDED],
+        (2, 1, 0, 0),
+    ),
     // its target is refused
     (&[OPENS, ACTIVATED, STARTS, TARGET_REFUSES], (1, 1, 0, 0)),
     // it doesn't begin
@@ -113,6 +137,8 @@ const PLAYED: &[(&[Row], (usize, usize, usize, usize))] = &[
             COMPLETES_AT_HOME,
             COMPLETES_ELSEWHERE,
             FAILS_COMMANDED,
+            FAILS_AT_TARGET,
+            RETURNS_AT_TARGET,
         ],
         (2, 1, 1, 1),
     ),

@@ -1,14 +1,21 @@
 //! Allocation failures while an input is handled.
-use super::reports::{REPORTS, REPORTS_AGAIN};
+use super::reports::{
+    MEASURES, REPORTS, REPORTS_AGAIN, REPORTS_BOTH, REPORTS_BOTH_AGAIN, REPORTS_MOVING,
+    TWO_NEIGHBOURS,
+};
 use super::rows::{
-    ACTIVATED, CLEAR_COMMAND, CLEAR_COMMAND_COMMANDED, CLEARS, COMPLETES, DETECTS, EXPIRES, FAILS,
-    OPENS, RELEASED, RETURNS, Row, STARTS, TARGET_ACTIVATED, TARGET_REFUSES, UNDOES,
+    ACTIVATED, CLEAR_COMMAND, CLEAR_COMMAND_AGAIN, CLEAR_COMMAND_COMMANDED, CLEAR_COMMAND_HELD,
+    CLEARS, CLEARS_COMMANDED, CLEARS_PENDING, COMPLETES, COMPLETES_UNSEEN, DETECTS, EXPIRES,
+    EXPIRES_AGAIN, FAILS, OPENS, OPENS_OTHER, OPENS_TARGET, REFUSED_AT_ONCE, RELEASED, RETURNS,
+    Row, STARTS, TARGET_ACTIVATED, TARGET_REFUSES, UNDOES, UNDOES_COMMANDED,
 };
 use super::{Radio, are_first_messages, comes_to, entries, inbound, opened, play};
 use ho_procedure::exchange::{Fault, Inbound};
+use radio_book::event::{Event, Reply};
+use radio_book::run::run;
 use refusing_heap::RefusingHeap;
 use sample_sites::THREE_CHANNELS;
-use std::alloc::Global;
+use std::alloc::{AllocError, Global};
 use std::process::Abort;
 use std::test::Fail;
 
@@ -45,7 +52,40 @@ const REQUESTS: &[(&[Row], Row, u64)] = &[
         CLEAR_COMMAND_COMMANDED,
         3,
     ),
+    (
+        &[OPENS, ACTIVATED, STARTS, TARGET_ACTIVATED],
+        UNDOES_COMMANDED,
+        1,
+    ),
+    (
+        &[OPENS, ACTIVATED, STARTS, TARGET_ACTIVATED],
+        CLEARS_COMMANDED,
+        1,
+    ),
+    (
+        &[OPENS, ACTIVATED, STARTS, TARGET_ACTIVATED],
+        COMPLETES_UNSEEN,
+        1,
+    ),
+    (
+        &[OPENS, ACTIVATED, STARTS, TARGET_ACTIVATED, DETECTS, EXPIRES],
+        EXPIRES_AGAIN,
+        1,
+    ),
+    (&[OPENS], CLEARS_PENDING, 2),
+    (&[OPENS_OTHER], REFUSED_AT_ONCE, 2),
+    (&[OPENS_OTHER, REFUSED_AT_ONCE], CLEAR_COMMAND_HELD, 2),
+    (&[OPENS, ACTIVATED, CLEAR_COMMAND], CLEAR_COMMAND_AGAIN, 1),
+    (&[OPENS, ACTIVATED], MEASURES, 1),
+    (&[OPENS, ACTIVATED, STARTS], REPORTS_MOVING, 3),
 ];
+
+/// The same where the first candidate has no free channel.
+const SECOND_CANDIDATE: &[(&[Row], Row, u64)] = &[(
+    &[OPENS, ACTIVATED, OPENS_TARGET, REPORTS_BOTH],
+    REPORTS_BOTH_AGAIN,
+    4,
+)];
 
 /// An input to a controller after some rows.
 fn input_after<'a>(
@@ -73,10 +113,71 @@ fn requests_after<'a>(
     Ok(heap.requests())
 }
 
-fn requests_before(rt: &(impl AllocGlobal + Abort), before: &[Row], row: Row) -> Result<u64, Fail> {
+fn requests_before(
+    rt: &(impl AllocGlobal + Abort),
+    site: &str,
+    before: &[Row],
+    row: Row,
+) -> Result<u64, Fail> {
     let heap = RefusingHeap::ample(rt.alloc());
-    let mut radio = opened(&heap, rt.alloc(), THREE_CHANNELS)?;
+    let mut radio = opened(&heap, rt.alloc(), site)?;
     requests_after(rt, &heap, rt.alloc(), &mut radio, before, row)
+}
+
+/// Adds the events of the first of these entries, so many at most.
+fn push_events(
+    events: &mut Vec<Event>,
+    entries: &[(Event, Reply)],
+    count: usize,
+) -> Result<(), AllocError> {
+    for (event, _) in entries.iter().take(count) {
+        events.push(*event)?;
+    }
+    Ok(())
+}
+
+/// All events of the rows before, and so many of a row.
+fn events_of(
+    alloc: Global,
+    before: &[Row],
+    row: Row,
+    count: usize,
+) -> Result<Vec<Event>, AllocError> {
+    let mut events = Vec::new(alloc);
+    for row in before {
+        push_events(&mut events, row.events, row.events.len())?;
+    }
+    push_events(&mut events, row.events, count)?;
+    Ok(events)
+}
+
+/// The book is what these events lead to.
+fn is_run(
+    rt: &impl Abort,
+    heap: &RefusingHeap,
+    radio: &Radio<&RefusingHeap>,
+    events: &[Event],
+) -> Result<(), Fail> {
+    let desk = radio.view().desk();
+    let (book, _) = run(heap, desk.opening(), events)?;
+    assert!(rt; book == *desk.book(), "{events:?}");
+    Ok(())
+}
+
+/// The events asked from this place on are a beginning of the row's, and the book is what they lead to.
+fn is_beginning(
+    rt: &impl Abort,
+    scratch: Global,
+    heap: &RefusingHeap,
+    radio: &Radio<&RefusingHeap>,
+    place: usize,
+    before: &[Row],
+    row: Row,
+) -> Result<(), Fail> {
+    let asked = entries(rt, radio, place, row);
+    assert!(rt; asked <= row.events.len(), "{:?}", row.given);
+    let events = events_of(scratch, before, row, asked)?;
+    is_run(rt, heap, radio, events.as_slice())
 }
 
 /// Handles an input. Where memory is refused, the events are the first of the row, and the messages too.
@@ -86,6 +187,7 @@ fn handle<'a>(
     heap: &'a RefusingHeap,
     radio: &mut Radio<&'a RefusingHeap>,
     input: Inbound<&'a RefusingHeap>,
+    before: &[Row],
     row: Row,
 ) -> Result<(), Fail> {
     let place = radio.view().desk().len();
@@ -96,9 +198,8 @@ fn handle<'a>(
         }
         Err(Fault::NoMemory(out)) => {
             assert!(rt; heap.was_refused(), "{:?}", row.given);
-            let asked = entries(rt, radio, place, row);
-            assert!(rt; asked <= row.events.len(), "{:?}", row.given);
-            are_first_messages(rt, scratch, out.as_slice(), row)
+            are_first_messages(rt, scratch, out.as_slice(), row)?;
+            is_beginning(rt, scratch, heap, radio, place, before, row)
         }
         Err(Fault::Undecoded(..) | Fault::Desk(..)) => {
             assert!(rt; false, "{:?}", row.given);
@@ -116,28 +217,34 @@ fn handle_after<'a>(
     row: Row,
 ) -> Result<(), Fail> {
     let input = input_after(rt, heap, scratch, radio, before, row)?;
-    handle(rt, scratch, heap, radio, input, row)
+    handle(rt, scratch, heap, radio, input, before, row)
 }
 
 /// Whether an input met the refusal of a request.
 fn meets_refusal(
     rt: &(impl AllocGlobal + Abort),
+    site: &str,
     before: &[Row],
     row: Row,
     request: u64,
 ) -> Result<bool, Fail> {
     let heap = RefusingHeap::refusing_nth(rt.alloc(), request);
-    let mut radio = opened(&heap, rt.alloc(), THREE_CHANNELS)?;
+    let mut radio = opened(&heap, rt.alloc(), site)?;
     handle_after(rt, rt.alloc(), &heap, &mut radio, before, row)?;
     Ok(heap.was_refused())
 }
 
 /// How many requests for memory were refused in turn before the input was handled.
-fn refusals_of(rt: &(impl AllocGlobal + Abort), before: &[Row], row: Row) -> Result<u64, Fail> {
-    let first = requests_before(rt, before, row)?;
+fn refusals_of(
+    rt: &(impl AllocGlobal + Abort),
+    site: &str,
+    before: &[Row],
+    row: Row,
+) -> Result<u64, Fail> {
+    let first = requests_before(rt, site, before, row)?;
     let mut tried = 0u64;
     for n in 1..100 {
-        if !meets_refusal(rt, before, row, first.saturating_add(n))? {
+        if !meets_refusal(rt, site, before, row, first.saturating_add(n))? {
             break;
         }
         tried = n;
@@ -145,10 +252,14 @@ fn refusals_of(rt: &(impl AllocGlobal + Abort), before: &[Row], row: Row) -> Res
     Ok(tried)
 }
 
-#[test]
-fn refused_memory_is_answered(rt: HostRuntime) -> Result<(), Fail> {
-    for (before, row, at_least) in REQUESTS {
-        let tried = refusals_of(&rt, *before, *row)?;
+/// Each request for memory is answered, of each of these inputs.
+fn are_answered(
+    rt: &(impl AllocGlobal + Abort),
+    site: &str,
+    table: &[(&[Row], Row, u64)],
+) -> Result<(), Fail> {
+    for (before, row, at_least) in table {
+        let tried = refusals_of(rt, site, *before, *row)?;
         assert!(rt;
             *at_least <= tried && tried < 99,
             "{:?}: {tried} requests",
@@ -156,4 +267,14 @@ fn refused_memory_is_answered(rt: HostRuntime) -> Result<(), Fail> {
         );
     }
     Ok(())
+}
+
+#[test]
+fn refused_memory_is_answered(rt: HostRuntime) -> Result<(), Fail> {
+    are_answered(&rt, THREE_CHANNELS, REQUESTS)
+}
+
+#[test]
+fn refused_memory_is_answered_while_candidates_are_tried(rt: HostRuntime) -> Result<(), Fail> {
+    are_answered(&rt, TWO_NEIGHBOURS, SECOND_CANDIDATE)
 }

@@ -250,6 +250,20 @@ pub const TARGET_ACTIVATED: Row = Row {
     out: &[OnAbis(0, 0, "0301010b02000b0009062bd5670ba36b0005")],
 };
 
+/// The target is active once the attempt was taken back.
+pub const TARGET_ACTIVATED_TOO_LATE: Row = Row {
+    given: Abis(1, 1, "0822010b080000"),
+    events: &[(Confirm(TARGET), Refused(Refusal::Unexpected(TARGET)))],
+    out: &[],
+};
+
+/// The target is released.
+pub const TARGET_RELEASED: Row = Row {
+    given: Abis(1, 1, "0833010b"),
+    events: &[(Released(TARGET), Done)],
+    out: &[],
+};
+
 /// The target is refused: the attempt is taken back.
 pub const TARGET_REFUSES: Row = Row {
     given: Abis(1, 1, "0823010b1a0120"),
@@ -266,6 +280,12 @@ pub const UNDOES: Row = Row {
     given: Operator(Line::Undo { call: 1 }),
     events: &[(Undo(1, Why::Asked), SENT)],
     out: &[OnAbis(1, 1, "082e010b")],
+};
+
+/// The attempt is taken back after the mobile was sent.
+pub const UNDOES_COMMANDED: Row = Row {
+    events: &[(Undo(1, Why::Asked), COMMANDED)],
+    ..UNDOES
 };
 
 /// There is nothing to take back.
@@ -303,6 +323,16 @@ pub const COMPLETES: Row = Row {
     ],
 };
 
+/// The mobile has moved, and its station didn't see it come.
+pub const COMPLETES_UNSEEN: Row = Row {
+    events: &[
+        (Owner(TARGET), Owned(1)),
+        (Look(1), COMMANDED),
+        (Complete(1), Done),
+    ],
+    ..COMPLETES
+};
+
 /// The mobile says on its old channel that it has moved.
 pub const COMPLETES_AT_HOME: Row = Row {
     given: Abis(0, 0, "0302010b02000b0003062c00"),
@@ -333,6 +363,13 @@ pub const RETURNS: Row = Row {
         (Undo(1, Why::Asked), COMMANDED),
     ],
     out: &[OnAbis(1, 1, "082e010b")],
+};
+
+/// The mobile says so on the target, where nothing comes of it.
+pub const RETURNS_AT_TARGET: Row = Row {
+    given: Abis(1, 1, "0302010b02000b0003062801"),
+    events: &[(Owner(TARGET), Owned(1)), (Look(1), COMMANDED)],
+    out: &[],
 };
 
 /// It never went.
@@ -366,27 +403,29 @@ pub const EXPIRES_OTHERWISE: Row = Row {
     out: &[],
 };
 
-/// Call 2 begins, its channel is refused, and it is cleared.
-pub const REFUSED_AT_ONCE: &[Row] = &[
-    Row {
-        given: Operator(Line::Open {
-            call: 2,
-            chan: OTHER,
-        }),
-        events: &[(Open(2, OTHER), Done)],
-        out: &[OnAbis(0, 0, "0821010a0300060400010801")],
-    },
-    Row {
-        given: Abis(0, 0, "0823010a1a0120"),
-        events: &[(Refuse(OTHER), Owned(2)), (Look(2), HELD)],
-        out: &[OnA(2, "000422040120")],
-    },
-    Row {
-        given: A(2, "000420040120"),
-        events: &[(Look(2), HELD), (Clear(2), Done)],
-        out: &[OnA(2, "000121")],
-    },
-];
+/// Call 2 begins.
+pub const OPENS_OTHER: Row = Row {
+    given: Operator(Line::Open {
+        call: 2,
+        chan: OTHER,
+    }),
+    events: &[(Open(2, OTHER), Done)],
+    out: &[OnAbis(0, 0, "0821010a0300060400010801")],
+};
+
+/// Its channel is refused.
+pub const REFUSED_AT_ONCE: Row = Row {
+    given: Abis(0, 0, "0823010a1a0120"),
+    events: &[(Refuse(OTHER), Owned(2)), (Look(2), HELD)],
+    out: &[OnA(2, "000422040120")],
+};
+
+/// The centre ends it, and there is no channel to release.
+pub const CLEAR_COMMAND_HELD: Row = Row {
+    given: A(2, "000420040120"),
+    events: &[(Look(2), HELD), (Clear(2), Done)],
+    out: &[OnA(2, "000121")],
+};
 
 /// No channel waits to be refused.
 pub const REFUSES_NOTHING: Row = Row {
@@ -406,6 +445,13 @@ pub const FAILS: Row = Row {
 pub const FAILS_COMMANDED: Row = Row {
     given: Abis(0, 0, "0824010b1a0101"),
     events: &[(Owner(HOME), Owned(1)), (Look(1), COMMANDED)],
+    out: &[],
+};
+
+/// The target's connection fails while the mobile is sent there.
+pub const FAILS_AT_TARGET: Row = Row {
+    given: Abis(1, 1, "0824010b1a0101"),
+    events: &[(Owner(TARGET), Owned(1)), (Look(1), COMMANDED)],
     out: &[],
 };
 
