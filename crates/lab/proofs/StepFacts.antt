@@ -1,5 +1,5 @@
 -- Facts of what was asked of a desk, from a place on.
-use Rattle.std.proofs.Common.{◌≡◌, ◌+◌, ◌++◌, ◌∷◌, ℕ, zero, suc, List, [], Option, Some, None, drop, refl, sym, ap, ◌∙◌, append_assoc, add-one, rules, slice_get}
+use Rattle.std.proofs.Common.{◌≡◌, ◌+◌, ◌++◌, ◌∷◌, ℕ, zero, suc, List, [], Some, None, drop, refl, ap, append_assoc, add-one, rules, slice_get}
 use Rattle.radio_book.specs.declared.event.Event.{Event}
 use Rattle.radio_book.specs.declared.event.Reply.{Reply}
 use Rattle.trace_text.specs.declared.trace.Step.{Step}

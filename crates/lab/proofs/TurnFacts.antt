@@ -1,5 +1,5 @@
 -- Facts of one turn.
-use Rattle.std.proofs.Common.{◌≡◌, ◌++◌, ◌∷◌, ℕ, List, [], drop, length, refl, sym, ap, ◌∙◌, append-nil, rules}
+use Rattle.std.proofs.Common.{◌≡◌, ◌++◌, ◌∷◌, ℕ, List, [], drop, length, refl, sym, ap, ◌∙◌, append-nil}
 use Rattle.ho_procedure.specs.declared.exchange.Inbound.{Inbound}
 use Rattle.trace_text.specs.declared.trace.Step.{Step}
 use Rattle.lab.specs.declared.turn.Answer.{Answer}

@@ -1,5 +1,5 @@
 -- The course of a script. Ours, of no standard.
-use Rattle.std.specs.Prelude.{◌≡◌, ◌++◌, ℕ, List, [], ◌∷◌, Some, None}
+use Rattle.std.specs.Prelude.{◌≡◌, ◌++◌, ℕ, List, [], Some, None}
 use Rattle.cell_table.specs.Site.{SiteView}
 use Rattle.cell_table.specs.SiteFile.{described_site}
 use Rattle.radio_book.specs.State.{empty_book}
