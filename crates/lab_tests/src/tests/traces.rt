@@ -182,6 +182,10 @@ const TRACES: &[(&[Step], &str)] = &[
         ],
         "channels=2 calls=2 references=0 timers=0",
     ),
+];
+
+/// The same of what is refused, and of handovers.
+const MOVES: &[(&[Step], &str)] = &[
     // refusals are printed with their arguments
     (
         &[
@@ -290,6 +294,10 @@ const TRACES: &[(&[Step], &str)] = &[
         ],
         "channels=1 calls=1 references=0 timers=0",
     ),
+];
+
+/// The same of calls that the centre ends, of reports, and of faults.
+const REPORTS: &[(&[Step], &str)] = &[
     // a channel fails
     (
         &[
@@ -467,12 +475,27 @@ fn is_traced(rt: &impl Abort, alloc: Global, steps: &[Step], in_use: &str) -> Re
     prints(rt, alloc, SITE, &script, Status::Done, &trace)
 }
 
-#[test]
-fn lines_are_traced(rt: HostRuntime) -> Result<(), Fail> {
-    for (steps, in_use) in TRACES {
-        is_traced(&rt, rt.alloc(), *steps, *in_use)?;
+/// All scripts of a table print what they say.
+fn are_traced(rt: &impl Abort, alloc: Global, traces: &[(&[Step], &str)]) -> Result<(), Fail> {
+    for (steps, in_use) in traces {
+        is_traced(rt, alloc, *steps, *in_use)?;
     }
     Ok(())
+}
+
+#[test]
+fn lines_are_traced(rt: HostRuntime) -> Result<(), Fail> {
+    are_traced(&rt, rt.alloc(), TRACES)
+}
+
+#[test]
+fn handovers_are_traced(rt: HostRuntime) -> Result<(), Fail> {
+    are_traced(&rt, rt.alloc(), MOVES)
+}
+
+#[test]
+fn reports_are_traced(rt: HostRuntime) -> Result<(), Fail> {
+    are_traced(&rt, rt.alloc(), REPORTS)
 }
 
 /// A script in other forms than those that are printed.
