@@ -40,8 +40,10 @@ use std::test::Fail;
 pub type Radio<A> = Controller<Solo<A>, A>;
 
 /// Rows that are played over an empty book, and how many channels, calls, references and timers it has then.
-const PLAYED: &[(&[Row], (usize, usize, usize, usize))] = &[
-    // a call begins and ends
+type Played = (&'static [Row], (usize, usize, usize, usize));
+
+/// A call begins and ends.
+const CALLS: &[Played] = &[
     (&[OPENS, ACTIVATED, CLEARS, RELEASED], (0, 0, 0, 0)),
     (
         &[OPENS, OPENS_AGAIN, CLEARS_PENDING, RELEASED, RELEASED_AGAIN],
@@ -55,6 +57,10 @@ const PLAYED: &[(&[Row], (usize, usize, usize, usize))] = &[
         &[OPENS_OTHER, REFUSED_AT_ONCE, CLEAR_COMMAND_HELD],
         (0, 0, 0, 0),
     ),
+];
+
+/// A handover arrives, returns, or its timer runs out.
+const MOVES: &[Played] = &[
     // a handover arrives
     (
         &[
@@ -90,6 +96,10 @@ const PLAYED: &[(&[Row], (usize, usize, usize, usize))] = &[
         ],
         (2, 1, 0, 0),
     ),
+];
+
+/// A handover is taken back or refused.
+const TAKEN_BACK: &[Played] = &[
     // it is taken back, and the target acknowledges too late
     (
         &[
@@ -109,6 +119,10 @@ const PLAYED: &[(&[Row], (usize, usize, usize, usize))] = &[
     ),
     // its target is refused
     (&[OPENS, ACTIVATED, STARTS, TARGET_REFUSES], (1, 1, 0, 0)),
+];
+
+/// A handover doesn't begin, or a message comes at another time than its own.
+const IDLE: &[Played] = &[
     // it doesn't begin
     (
         &[
@@ -142,6 +156,10 @@ const PLAYED: &[(&[Row], (usize, usize, usize, usize))] = &[
         ],
         (2, 1, 1, 1),
     ),
+];
+
+/// A connection fails, or the centre ends a call; and messages that nobody expects.
+const ENDS: &[Played] = &[
     // a connection fails
     (&[OPENS, ACTIVATED, FAILS], (1, 1, 0, 0)),
     // a call ends in a handover, and after one
@@ -184,6 +202,10 @@ const PLAYED: &[(&[Row], (usize, usize, usize, usize))] = &[
     ),
     // nobody expects these
     (WITHOUT_A_ROW, (0, 0, 0, 0)),
+];
+
+/// Reports begin a handover.
+const REPORTED: &[Played] = &[
     // reports begin a handover, once there are two
     (
         &[OPENS, ACTIVATED, REPORTS, REPORTS_AGAIN, REPORTS_MOVING],
@@ -212,6 +234,10 @@ const PLAYED: &[(&[Row], (usize, usize, usize, usize))] = &[
         (1, 1, 0, 0),
     ),
     (&[OPENS, ACTIVATED, STARTS, REPORTS_OF_TARGET], (2, 1, 1, 0)),
+];
+
+/// Reports are forgotten.
+const FORGOTTEN: &[Played] = &[
     // a report of the old cell is forgotten in the new one, and one before an undo after it
     (
         &[
@@ -438,10 +464,10 @@ fn usage_after(rt: &(impl AllocGlobal + Abort), site: &str, rows: &[Row]) -> Res
     played(rt, rt.alloc(), &mut radio, rows)
 }
 
-#[test]
-fn rows_are_played(rt: HostRuntime) -> Result<(), Fail> {
-    for (rows, (channels, calls, references, timers)) in PLAYED {
-        let usage = usage_after(&rt, THREE_CHANNELS, *rows)?;
+/// The book has what a table says after each of its lists of rows. (A table has one test: the prover takes them apart.)
+fn are_played(rt: &(impl AllocGlobal + Abort), table: &[Played]) -> Result<(), Fail> {
+    for (rows, (channels, calls, references, timers)) in table {
+        let usage = usage_after(rt, THREE_CHANNELS, *rows)?;
         let wanted = Usage {
             channels: *channels,
             calls: *calls,
@@ -451,6 +477,41 @@ fn rows_are_played(rt: HostRuntime) -> Result<(), Fail> {
         assert_eq!(rt; usage, wanted);
     }
     Ok(())
+}
+
+#[test]
+fn calls_begin_and_end(rt: HostRuntime) -> Result<(), Fail> {
+    are_played(&rt, CALLS)
+}
+
+#[test]
+fn handovers_are_played(rt: HostRuntime) -> Result<(), Fail> {
+    are_played(&rt, MOVES)
+}
+
+#[test]
+fn handovers_are_taken_back(rt: HostRuntime) -> Result<(), Fail> {
+    are_played(&rt, TAKEN_BACK)
+}
+
+#[test]
+fn what_comes_at_another_time_does_nothing(rt: HostRuntime) -> Result<(), Fail> {
+    are_played(&rt, IDLE)
+}
+
+#[test]
+fn calls_are_ended(rt: HostRuntime) -> Result<(), Fail> {
+    are_played(&rt, ENDS)
+}
+
+#[test]
+fn reports_begin_handovers(rt: HostRuntime) -> Result<(), Fail> {
+    are_played(&rt, REPORTED)
+}
+
+#[test]
+fn reports_are_forgotten(rt: HostRuntime) -> Result<(), Fail> {
+    are_played(&rt, FORGOTTEN)
 }
 
 #[test]

@@ -54,7 +54,9 @@ fn is_foreign(
 ) -> Result<(), Fail> {
     match controller.handle(inbound(alloc, alloc, row.given)?) {
         Err(Fault::Desk(place, out)) => assert_eq!(rt; (place, out.len()), (7, 0)),
-        Ok(_) | Err(Fault::NoMemory(_) | Fault::Undecoded(..)) => assert!(rt; false),
+        Ok(_out) => assert!(rt; false),
+        Err(Fault::NoMemory(_out)) => assert!(rt; false),
+        Err(Fault::Undecoded(_link, _bad)) => assert!(rt; false),
     }
     Ok(())
 }

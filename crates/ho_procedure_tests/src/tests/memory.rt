@@ -152,10 +152,10 @@ fn events_of(
 }
 
 /// The book is what these events lead to.
-fn is_run(
+fn is_run<'a>(
     rt: &impl Abort,
-    heap: &RefusingHeap,
-    radio: &Radio<&RefusingHeap>,
+    heap: &'a RefusingHeap,
+    radio: &Radio<&'a RefusingHeap>,
     events: &[Event],
 ) -> Result<(), Fail> {
     let desk = radio.view().desk();
@@ -165,11 +165,11 @@ fn is_run(
 }
 
 /// The events asked from this place on are a beginning of the row's, and the book is what they lead to.
-fn is_beginning(
+fn is_beginning<'a>(
     rt: &impl Abort,
     scratch: Global,
-    heap: &RefusingHeap,
-    radio: &Radio<&RefusingHeap>,
+    heap: &'a RefusingHeap,
+    radio: &Radio<&'a RefusingHeap>,
     place: usize,
     before: &[Row],
     row: Row,
