@@ -1,0 +1,13 @@
+//! Lines of octet texts: where a line's octets, its first word and its note stand, which octets a text writes, and lines
+//! that are read one by one from a reader and answered, in memory of a fixed size.
+#![tactic(auto)]
+
+mod answers;
+mod octets;
+mod parts;
+mod reader;
+
+pub use answers::{Counts, LinesFault, Messages, answer_lines};
+pub use octets::read_octets;
+pub use parts::{is_blank, text_and_note, without_return, word_and_rest};
+pub use reader::{Found, LONGEST_LINE, next_line};
