@@ -3,10 +3,12 @@
 //! have crates of their own, whose modules are exported here too.
 #![tactic(auto)]
 
+pub mod check;
 mod course;
 pub mod decoded;
 pub mod entries;
 pub mod files;
+pub mod lines;
 pub mod noting;
 pub mod program;
 pub mod rewound;

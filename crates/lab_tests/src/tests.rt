@@ -1,9 +1,11 @@
 //! What no clause says: the printed texts on the whole way from two files to a trace and from octets to a message in
 //! words, what is refused, allocation failures and failing writes.
+mod checked;
 mod decoded;
 mod failing;
 mod files;
 mod four_cells;
+mod lines;
 mod program;
 mod reasons;
 mod refusals;
