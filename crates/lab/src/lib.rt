@@ -6,6 +6,7 @@
 pub mod check;
 mod course;
 pub mod decoded;
+pub mod encoded;
 pub mod entries;
 pub mod files;
 pub mod lines;

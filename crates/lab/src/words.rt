@@ -36,6 +36,11 @@ pub enum Job<'a> {
         link: Option<Link>,
         path: &'a str,
     },
+    /// The octets of a message in words are printed in hexadecimal.
+    Encode {
+        link: Link,
+        text: &'a str,
+    },
     /// A text is shown: the help that was asked for, or the version.
     Show(String),
 }
@@ -149,6 +154,28 @@ with its number. Without LINK each line begins with its own, as in: abis 08 2e 0
 
 Statuses: 0 all are messages, 2 one was refused or a file can't be read, 3 memory was refused.";
 
+/// `encode LINK TEXT`
+fn encode_command<'a>(alloc: Global) -> Result<Command<'a>, AllocError> {
+    let link = argument(alloc, "LINK", "Where the message comes from").value_parser(LINKS);
+    Command::new(alloc, "encode")
+        .about("Prints a message in octets, as in: encode abis 'RF CHANNEL RELEASE tn=3'")
+        .after_help(ENCODE_HELP)
+        .arg(link)?
+        .arg(argument(
+            alloc,
+            "TEXT",
+            "The message's name and its fields, as decode prints them",
+        ))
+}
+
+/// What stands behind the help of `encode`.
+const ENCODE_HELP: &str = "\
+Links: rr is the radio path (TS 44.018), a the switching centre (TS 48.008), abis the base station
+(TS 48.058). The fields may stand in any order.
+
+Statuses: 0 the octets are printed, 2 the text is refused, as standard error says, 3 memory was
+refused.";
+
 /// An argument that has to be given by its place, unless a file is.
 fn unless_from<'a>(alloc: Global, name: &'a str, help: &'a str) -> Result<Arg<'a>, AllocError> {
     Arg::new(alloc, name)
@@ -193,7 +220,8 @@ fn lab_command<'a>(alloc: Global) -> Result<Command<'a>, AllocError> {
         .subcommand(run_command(alloc)?)?
         .subcommand(rewind_command(alloc)?)?
         .subcommand(check_command(alloc)?)?
-        .subcommand(decode_command(alloc)?)
+        .subcommand(decode_command(alloc)?)?
+        .subcommand(encode_command(alloc)?)
 }
 
 /// The job of `decode`.
@@ -227,6 +255,10 @@ fn job_of<'a>(matches: &ArgMatches<'a>) -> Option<Job<'a>> {
             site: check.get_str("SITE")?,
         }),
         ("decode", decode) => decode_job(decode),
+        ("encode", encode) => Some(Job::Encode {
+            link: link(encode.get_str("LINK")?)?,
+            text: encode.get_str("TEXT")?,
+        }),
         _ => None,
     }
 }

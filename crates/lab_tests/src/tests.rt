@@ -2,6 +2,7 @@
 //! words, what is refused, allocation failures and failing writes.
 mod checked;
 mod decoded;
+mod encoded;
 mod failing;
 mod files;
 mod four_cells;

@@ -16,6 +16,16 @@ fn run_names_two_files(rt: HostRuntime) -> Result<(), Fail> {
 }
 
 #[test]
+fn encode_names_a_link_and_a_text(rt: HostRuntime) {
+    match read_words(rt.alloc(), &["encode", "a", "CLEAR COMPLETE"]) {
+        Ok(Job::Encode { link, text }) => {
+            assert_eq!(rt; (link, text), (Link::A, "CLEAR COMPLETE"));
+        }
+        _ => assert!(rt; false, "a message"),
+    }
+}
+
+#[test]
 fn check_names_a_file(rt: HostRuntime) {
     match read_words(rt.alloc(), &["check", "a.toml"]) {
         Ok(Job::Check { site }) => assert_eq!(rt; site, "a.toml"),
@@ -97,6 +107,7 @@ const SHOWS: &[(&[&str], &str)] = &[
     (&["help", "decode"], "rr, a, abis"),
     (&["check", "--help"], "The site file"),
     (&["help", "check"], "neighbour carrier that no cell has"),
+    (&["encode", "--help"], "as decode prints them"),
     (&["rewind", "--help"], "The trace, as run prints it"),
     (&["help", "rewind"], "counted from 1"),
     (&["--version"], "bsc_lab 0."),
@@ -112,6 +123,9 @@ const REFUSALS: &[(&[&str], &str)] = &[
     (&["runn", "a.toml", "b.txt"], "runn"),
     (&["--verbose"], "--verbose"),
     (&["run", "--peer", "c.toml", "a.toml", "b.txt"], "--peer"),
+    (&["encode"], "were not provided:\n  <LINK>\n  <TEXT>\n"),
+    (&["encode", "rr"], "were not provided:\n  <TEXT>\n"),
+    (&["encode", "x", "CLEAR COMPLETE"], "'x'"),
     (&["check"], "were not provided:\n  <SITE>\n"),
     (&["check", "a.toml", "b.toml"], "b.toml"),
     (&["decode"], "were not provided:\n  <LINK>\n  <HEX>\n"),
