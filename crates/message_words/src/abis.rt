@@ -81,7 +81,10 @@ fn detection<A: Allocator>(fields: Fields<'_>) -> Result<Rsl<A>, TextFault<'_>> 
     })
 }
 
-fn result<A: Allocator + Copy>(alloc: A, fields: Fields<'_>) -> Result<Rsl<A>, TextFault<'_>> {
+fn measurement_result<A: Allocator + Copy>(
+    alloc: A,
+    fields: Fields<'_>,
+) -> Result<Rsl<A>, TextFault<'_>> {
     fields.have(&["tn", "number", "uplink", "power", "layer3"])?;
     let channel = channel(fields)?;
     let number = fields.octet("number")?;
@@ -122,7 +125,7 @@ fn message<A: Allocator + Copy>(alloc: A, text: &str) -> Result<Rsl<A>, TextFaul
         "CHANNEL ACTIVATION NACK" => activation_nack(fields),
         "CONNECTION FAILURE INDICATION" => connection_failure(fields),
         "HANDOVER DETECTION" => detection(fields),
-        "MEASUREMENT RESULT" => result(alloc, fields),
+        "MEASUREMENT RESULT" => measurement_result(alloc, fields),
         "RF CHANNEL RELEASE" => release(fields),
         "RF CHANNEL RELEASE ACK" => release_ack(fields),
         _ => Err(TextFault::Name(name)),
