@@ -20,7 +20,7 @@ use Rattle.ho_procedure.specs.Decoding.{IsAbis, IsUnreadAbis, IsUnreadA}
 use Rattle.ho_procedure.specs.Sent.{Sent, all_sent}
 use Rattle.ho_procedure.specs.Windows.{Kept}
 use Rattle.ho_procedure.specs.Going.{last_reports}
-use Rattle.ho_procedure.specs.Plan.{Plan, Step, Until, At, Asking, Ends, LeadsUntil, ChoicesAt, entries_of, messages_of, reports_after}
+use Rattle.ho_procedure.specs.Plan.{Plan, Step, Until, Asking, LeadsUntil, ChoicesAt, entries_of, messages_of, reports_after}
 use Rattle.ho_procedure.specs.Naming.{chan_of}
 use Rattle.ho_procedure.specs.Procedure.{line_plan, expiry_plan, abis_plan, a_plan}
 

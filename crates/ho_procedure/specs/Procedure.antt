@@ -1,6 +1,6 @@
 -- The procedure: for each input, what the controller asks of the book and what it sends, by the replies. A row ends at a
 -- reply that it doesn't name, and at a record that lacks what the rest of the row needs.
-use Rattle.std.specs.Prelude.{ℕ, ◌==◌, ◌%◌, Bool, true, false, if◌then◌else◌, not, ◌&&◌, ◌||◌, nat_lt, List, [], ◌∷◌, ◌++◌, length, Option, Some, None, is_some, option_and_then}
+use Rattle.std.specs.Prelude.{ℕ, ◌==◌, ◌%◌, Bool, true, false, if◌then◌else◌, not, ◌&&◌, ◌||◌, nat_lt, List, [], ◌∷◌, ◌++◌, length, Option, Some, None, is_some}
 use Rattle.std.specs.List.{position}
 use Rattle.channel_fsm.specs.declared.ChanId.{ChanId}
 use Rattle.channel_fsm.specs.declared.ChanState.{ChanState}
@@ -26,7 +26,6 @@ use Rattle.radio_book.specs.Table.{is_target}
 use Rattle.radio_book.specs.Stages.{stage_row}
 use Rattle.cell_table.specs.declared.tables.CellIdentity.{CellIdentity}
 use Rattle.cell_table.specs.Site.{SiteView, is_traffic}
-use Rattle.rr_elements.specs.declared.cause.RrCause.{RrCause}
 use Rattle.rr_elements.specs.MeasResults.{Results}
 use Rattle.rr_messages.specs.declared.message.Rr.{Rr}
 use Rattle.rr_messages.specs.declared.message.Rr.TheVariants as rr
