@@ -1,5 +1,5 @@
 -- What the handling of an input comes to.
-use Rattle.std.specs.Prelude.{◌≡◌, ◌⊎◌, ℕ, List, [], ◌++◌, Option}
+use Rattle.std.specs.Prelude.{◌≡◌, ◌⊎◌, ℕ, List, [], ◌++◌, Option, Result, Ok, Err}
 use Rattle.cell_table.specs.Site.{SiteView}
 use Rattle.rr_elements.specs.MeasResults.{Results}
 use Rattle.rr_messages.specs.declared.message.Rr.{Rr}
@@ -77,3 +77,10 @@ abbrev pub IsDeskFault : {A : Type 0} → Fault A → Type 0
 IsDeskFault (Undecoded link bad) = ⊥
 IsDeskFault (NoMemory out) = ⊥
 IsDeskFault (Desk place out) = Unit {0}
+
+-- The answer to octets with this fault: the fault, or refused memory, where it may be refused.
+abbrev pub IsRefusedFor : {A X : Type 0} → Link → Bad → Type 0 → Result X (Fault A) → Type 0
+IsRefusedFor link bad MayRefuse (Ok out) = ⊥
+IsRefusedFor link bad MayRefuse (Err (Undecoded l b)) = (l ≡ link) × (b ≡ bad)
+IsRefusedFor link bad MayRefuse (Err (NoMemory out)) = MayRefuse × (all_sent out.items ≡ [])
+IsRefusedFor link bad MayRefuse (Err (Desk place out)) = ⊥
