@@ -180,7 +180,7 @@ const SCRIPTS: &[(&str, Status, &str)] = &[
 
 /// The trace of this script.
 fn trace_of(alloc: Global, script: &str) -> Result<String, Fail> {
-    let (_, trace) = super::printed(alloc, alloc, SITE, script)?;
+    let (_, trace) = super::printed(alloc, alloc, SITE, None, script)?;
     Ok(trace)
 }
 
