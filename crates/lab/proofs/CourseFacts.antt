@@ -1,5 +1,5 @@
 -- Facts of turns, and of the course of a script.
-use Rattle.std.proofs.Common.{◌≡◌, ◌++◌, ◌∷◌, ◌<◌, ◌&&◌, ℕ, zero, suc, Bool, true, List, [], Option, Some, None, length, get_or, is_some, refl, sym, ap, ◌∙◌, append_assoc, append-nil, subst, rules, arith, Result, Ok, Err, OnOk}
+use Rattle.std.proofs.Common.{◌≡◌, ◌++◌, ◌∷◌, ◌<◌, ◌&&◌, ℕ, zero, suc, Bool, true, false, List, [], Option, Some, None, length, get_or, is_some, refl, sym, ap, ◌∙◌, append_assoc, append-nil, subst, rules, arith, Result, Ok, Err, OnOk, IfOk}
 use Rattle.std.specs.List.{list_all}
 use Rattle.cell_table.specs.Site.{SiteView}
 use Rattle.ho_procedure.specs.declared.exchange.Inbound.{Inbound}
@@ -34,6 +34,15 @@ first_took all s' t side turn = record { before = all.first; after = s'; there =
 -- its peer did
 pub peer_took : {A : Type 0} (first s s' : Position) (t : Turn A) → t.side ≡ Peer → IsTurn s t s' → IsTurnOf (first ∷ option_list (Some s)) t (first ∷ option_list (Some s'))
 peer_took first s s' t side turn = record { before = s; after = s'; there = rw side refl; turn = turn; others = rw side refl }
+
+-- the same of what may have failed
+pub first_taken : {A E : Type 0} (all : Controllers A) (s' : Position) (r : Result (Turn A) E) → IfOk r (λ t. t.side ≡ First) → IfOk r (λ t. IsTurn all.first t s') → IfOk r (λ t. IsTurnOf (positions_of all) t (s' ∷ option_list all.peer))
+first_taken all s' (Ok t) side turn = first_took all s' t side turn
+first_taken all s' (Err e) side turn = tt
+
+pub peer_taken : {A E : Type 0} (all : Controllers A) (s s' : Position) (r : Result (Turn A) E) → all.peer ≡ Some s → IfOk r (λ t. t.side ≡ Peer) → IfOk r (λ t. IsTurn s t s') → IfOk r (λ t. IsTurnOf (positions_of all) t (all.first ∷ option_list (Some s')))
+peer_taken all s s' (Ok t) is side turn = rw is (peer_took all.first s s' t side turn)
+peer_taken all s s' (Err e) is side turn = tt
 
 -- nothing was handled
 pub went_nowhere : {A : Type 0} (c c' : Course A) → c'.controllers ≡ c.controllers → c'.turns.items ≡ c.turns.items → Went [] c c'
@@ -72,15 +81,15 @@ pub went_past : {A X E : Type 0} (inputs : List (Side × Inbound A)) (c c' c'' :
 went_past inputs c c' c'' (Ok x) h k = subst (λ (all : List (Side × Inbound _)). Went all c c'') (append-nil inputs) (went_on inputs [] c c' c'' h k)
 went_past inputs c c' c'' (Err f) h k = tt
 
+both : (a b : Bool) → (a && b) ≡ true → (a ≡ true) × (b ≡ true)
+both true b h = (refl, h)
+both false b h = absurd (search (rules, h))
+
 -- each of the items is for a controller that is there
 pub there_at : {A : Type 0} (has : Bool) (items : List (Item A)) (k : ℕ) (d : Item A) → AreThere has items → k < length items → is_item_there has (get_or items k d) ≡ true
 there_at has [] k d all l = absurd (omega arith)
-there_at has (item ∷ items) zero d all l =
-    let (first, rest) : (is_item_there has item ≡ true) × AreThere has items = search (rules, all) in
-    first
-there_at has (item ∷ items) (suc k) d all l =
-    let (first, rest) : (is_item_there has item ≡ true) × AreThere has items = search (rules, all) in
-    there_at has items k d rest (omega arith)
+there_at has (item ∷ items) zero d all l = (both (is_item_there has item) _ all).0
+there_at has (item ∷ items) (suc k) d all l = there_at has items k d (both (is_item_there has item) _ all).1 (omega arith)
 
 -- from empty books on, all was handled
 pub all_played : {A : Type 0} (sites : List SiteView) (inputs : List (Side × Inbound A)) (c c' : Course A) → AreOpenings sites (positions_of c.controllers) → Went inputs c c' → Played A sites inputs

@@ -120,7 +120,7 @@ impl<A: Allocator + Copy> Controllers<A> {
         source: Source,
         input: Inbound<A>,
     ) -> Result<Turn<A>, AllocError>
-        requires there { is_some self.now.peer ≡ true }
+        requires there { is_some self.old.peer ≡ true }
         ensures turn { IfOk result (λ turn. IsTurnOf (positions_of self.old) turn (positions_of self.new)) }
         ensures peer { is_some self.new.peer ≡ is_some self.old.peer }
         ensures side { IfOk result (λ turn. turn.side ≡ Side.Peer) }
@@ -142,7 +142,7 @@ impl<A: Allocator + Copy> Controllers<A> {
         source: Source,
         input: Inbound<A>,
     ) -> Result<Turn<A>, AllocError>
-        requires there { is_there (is_some self.now.peer) side ≡ true }
+        requires there { is_there (is_some self.old.peer) side ≡ true }
         ensures turn { IfOk result (λ turn. IsTurnOf (positions_of self.old) turn (positions_of self.new)) }
         ensures peer { is_some self.new.peer ≡ is_some self.old.peer }
         ensures side { IfOk result (λ turn. turn.side ≡ side) }

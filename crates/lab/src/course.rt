@@ -107,7 +107,7 @@ impl<A: Allocator + Copy> Course<A> {
         waiting: &mut Waiting<A>,
         out: &mut W,
     ) -> Result<(), LabFault>
-        requires there { is_there (has_peer self.now) side ≡ true }
+        requires there { is_there (has_peer self.old) side ≡ true }
         ensures { OnOk result (Went (listed source side input) self.old self.new) }
     {
         self.turns.reserve(1)?;
@@ -155,20 +155,21 @@ impl<A: Allocator + Copy> Course<A> {
         waiting: &mut Waiting<A>,
         out: &mut W,
     ) -> Result<(), LabFault>
-        requires there { is_item_there (has_peer self.now) item ≡ true }
+        requires there { is_item_there (has_peer self.old) item ≡ true }
         ensures { OnOk result (Went (inputs_in (item ∷ [])) self.old self.new) }
     {
-        match item.given {
-            Given::Input(input) => self.handle(item.side, Source::Script, input, waiting, out),
+        let Item { side, given } = item;
+        match given {
+            Given::Input(input) => self.handle(side, Source::Script, input, waiting, out),
             Given::Attach => Ok(self.attach()?),
             Given::Set(setting) => Ok(self.set(setting, waiting)?),
-            Given::HangUp(call) => Ok(self.hang_up(item.side, call, waiting)?),
+            Given::HangUp(call) => Ok(self.hang_up(side, call, waiting)?),
         }
     }
 
     /// Does what a line of a script gives, until nothing of it is left.
     fn follow<W: Write>(&mut self, item: Item<A>, out: &mut W) -> Result<(), LabFault>
-        requires there { is_item_there (has_peer self.now) item ≡ true }
+        requires there { is_item_there (has_peer self.old) item ≡ true }
         ensures { OnOk result (Went (inputs_in (item ∷ [])) self.old self.new) }
     {
         let mut waiting = VecDeque::new(self.alloc);
@@ -182,7 +183,7 @@ impl<A: Allocator + Copy> Course<A> {
         items: Vec<Item<A>, A>,
         out: &mut W,
     ) -> Result<(), LabFault>
-        requires there { AreThere (has_peer self.now) items.items }
+        requires there { AreThere (has_peer self.old) items.items }
         ensures { OnOk result (Went (inputs_in items.items) self.old self.new) }
     {
         for item in items {

@@ -1,6 +1,7 @@
 //! One controller or two that are driven by a script, on one thread.
 ghost use Rattle.std.specs.Prelude.{◌≡◌, ◌≢◌, ◌⊎◌, ◌∷◌, Ok, Err, None, Some, IsSome, IsSomeAnd, IfOk, IfErr, IfSome, is_some, option_map, map};
 ghost use Rattle.cell_table.specs.SiteFile.{described_site, IsBlankFile};
+ghost use Rattle.cell_table.specs.declared.fault.Key.TheVariants.{Handover};
 ghost use Rattle.lab_script.specs.Script.{first_unread, items_of, AreThere};
 ghost use Rattle.lab.specs.Turns.{inputs_in};
 ghost use Rattle.lab.specs.Course.{Played, IsPlayed, AreOpenings, positions_of, has_peer, option_list};
@@ -220,12 +221,11 @@ fn read_sites<A: Allocator + Copy>(
     ensures refused { IfErr result (λ fault. fault ≢ SiteFault.NoMemory →
         (described_site site.now ≡ None) ⊎
         IsSomeAnd (texts_of peer) (λ text. described_site text ≡ None)) }
-    ensures memory { result ≡ Err SiteFault.NoMemory → ¬ IsBlankFile site.now }
+    ensures blank { IsBlankFile site.now → result ≡ Err (SiteFault.Missing Handover) }
 {
-    Ok(Sites {
-        first: Site::read(alloc, scratch, site)?,
-        peer: read_peer(alloc, scratch, peer)?,
-    })
+    let first = Site::read(alloc, scratch, site)?;
+    let peer = read_peer(alloc, scratch, peer)?;
+    Ok(Sites { first, peer })
 }
 
 /// Says why there is no site to run over: the number of the fault and what it is of.

@@ -196,6 +196,16 @@ fn attempts_are_taken_out_of_traces_that_were_printed(rt: HostRuntime) -> Result
     Ok(())
 }
 
+/// An attempt to move call 1 to another controller opens in line 8 of the trace, and is taken back.
+const LEAVING: &str = "open 1 0 0 3\nabis 0 0 0822010b081234\nhandover 1 64\nundo 1\n";
+
+#[test]
+fn an_attempt_to_leave_is_taken_out(rt: HostRuntime) -> Result<(), Fail> {
+    let trace = trace_of(rt.alloc(), LEAVING)?;
+    let wanted = "others 3\nsettled yes\nheld -\nsame\n";
+    is_rewound(&rt, rt.alloc(), &trace, 8, Status::Done, wanted)
+}
+
 #[test]
 fn a_call_without_attempt_has_none(rt: HostRuntime) -> Result<(), Fail> {
     let trace = trace_of(rt.alloc(), ONE_CALL.0)?;
