@@ -15,6 +15,14 @@ loop-item-preserved g c = record {
   went = rw (inputs_joined c.loop-item.yielded (c.in-Some.item ∷ [])) (went_on _ _ _ _ _ c.loop-item.invariant.went c.in_ok-follow.ensures);
 }
 
+pub follow-requires : goal.follow-requires
+follow-requires g c =
+    let given = c.into_iter-item-iterator.ensures.into_iter_gives in
+    let turn = YieldsList-turn (YieldsList-from_vec {s = c.into_iter-item-iterator.result} c.args.items.items given.0 (given.1 ∙ c.args.items.ok.0)) c.loop-item.yielded _ c.loop-item.yielded_by c.next.result c.next.new.self c.in-Some.item c.in-Some.is c.next.ensures.steps in
+    let has = has_peer c.args.self.now in
+    let there = there_at has c.args.items.items (length c.loop-item.yielded) c.in-Some.item c.requires.there turn.0 in
+    record { there = ap (λ h. is_item_there h c.in-Some.item) c.loop-item.invariant.went.peer ∙ (ap (is_item_there has) turn.1 ∙ there) }
+
 pub returns : goal.returns
 returns g c =
     let given = c.into_iter-item-iterator.ensures.into_iter_gives in
