@@ -66,7 +66,7 @@ impl Model for Journal {
 impl Journal {
     /// No inverse.
     pub fn new() -> Journal
-        ensures { result ≡ [] }
+        ensures empty { result ≡ [] }
     {
         Journal {
             inverses: [Inverse::Settle; 7],
@@ -76,7 +76,7 @@ impl Journal {
 
     /// The same inverses again.
     pub fn copy(&self) -> Journal
-        ensures { result ≡ self.now }
+        ensures same { result ≡ self.now }
     {
         Journal {
             inverses: self.inverses,
@@ -92,16 +92,17 @@ impl Journal {
         self.pushed
     }
 
+    /// Whether it has no inverse.
     pub fn is_empty(&self) -> bool
-        ensures { IsTrue result ↔ (self.now ≡ []) }
+        ensures empty { IsTrue result ↔ (self.now ≡ []) }
     {
         self.pushed == 0
     }
 
     /// Adds an inverse behind the others, of which there are less than seven.
     pub fn push(&mut self, inverse: Inverse)
-        requires { length self.old < 7 }
-        ensures { self.new ≡ self.old ++ inverse ∷ [] }
+        requires room { length self.old < 7 }
+        ensures pushed { self.new ≡ self.old ++ inverse ∷ [] }
     {
         let next = self.pushed;
         self.inverses[next] = inverse;

@@ -87,7 +87,7 @@ pub enum ChanEvent {
 /// | `Drop` | `Held(c)` | `Free` |
 /// | `Released` | `Off` | `Free` |
 pub fn next(state: ChanState, event: ChanEvent) -> Option<ChanState>
-    ensures { result ≡ next_state state event }
+    ensures table { result ≡ next_state state event }
 {
     match (state, event) {
         (Free, Take(call)) => Some(Held(call)),

@@ -66,7 +66,7 @@ pub fn candidates<A: Allocator, W: Allocator, S: Allocator + Copy>(
     site: &Site<S>,
     cell: u8,
 ) -> Result<Vec<Candidate, A>, AllocError>
-    requires { window.now.width ≡ site.now.handover.window }
+    requires width { window.now.width ≡ site.now.handover.window }
     ensures members { IfOk result (λ found. (candidate : Candidate) →
         Contains found.items candidate ↔ IsCandidate window.now site.now cell candidate) }
     ensures order { IfOk result (λ found. AllPairs StandsBefore found.items) }

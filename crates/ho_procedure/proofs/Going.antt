@@ -10,7 +10,7 @@ use Rattle.radio_book.specs.declared.event.Event.TheVariants.{Take, Reserve}
 use Rattle.radio_book.specs.declared.event.Reply.{Reply}
 use Rattle.ho_procedure.specs.Choices.{Entry, Choice, NoneFree, Chosen}
 use Rattle.ho_procedure.specs.Sent.{Sent}
-use Rattle.ho_procedure.specs.Plan.{Plan, Ends, Asks, Takes, Reserves, Sends, Notes, Ranks, Step, Asked, Chose, FoundNone, Posted, Noted, Ranked, AreCandidates, Moves, Leads, IsAsking, Until, At, Asking, LeadsUntil, entries_in, entries_of, messages_in, messages_of, ChoiceIn, ChoicesAt, is_accepted, call_dropped, dropped_if, reports_by, reports_after}
+use Rattle.ho_procedure.specs.Plan.{Plan, Asks, Takes, Reserves, Sends, Notes, Ranks, Step, Asked, Chose, FoundNone, Posted, Noted, Ranked, AreCandidates, Moves, Leads, IsAsking, Until, At, Asking, LeadsUntil, entries_in, entries_of, messages_in, messages_of, ChoiceIn, ChoicesAt, is_accepted, call_dropped, dropped_if, reports_by, reports_after}
 use Rattle.ho_procedure.specs.declared.work.Work.{Work}
 use Rattle.ho_procedure.specs.Going.{Run, Goes, Passes, last_reports}
 

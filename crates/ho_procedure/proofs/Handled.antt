@@ -1,5 +1,5 @@
 -- What is handled where nothing was owed before.
-use Rattle.std.proofs.Common.{◌≡◌, ◌⊎◌, inl, inr, ℕ, List, [], ◌∷◌, ◌++◌, Result, Ok, Err, OnOk, IfErr, refl, sym, ◌∙◌, ap, subst}
+use Rattle.std.proofs.Common.{◌≡◌, inl, inr, List, [], ◌++◌, Result, Ok, Err, OnOk, IfErr, ◌∙◌, ap, subst}
 use Rattle.ho_procedure.specs.Choices.{Entry, Choice}
 use Rattle.ho_procedure.specs.Sent.{Sent}
 use Rattle.ho_procedure.specs.declared.work.Work.{Work}
@@ -10,7 +10,7 @@ use Rattle.ho_procedure.specs.declared.exchange.Bad.{Bad}
 use Rattle.ho_procedure.specs.declared.following.Stop.{Stop}
 use Rattle.ho_procedure.specs.declared.following.Stop.TheVariants as stop
 use Rattle.ho_procedure.specs.Plan.{Plan, Ends, Until, At, Asking, messages_of}
-use Rattle.ho_procedure.specs.Going.{Run, Goes, last_reports}
+use Rattle.ho_procedure.specs.Going.{Goes, last_reports}
 use Rattle.ho_procedure.specs.Following.{Stopped, IsDeskStop}
 use Rattle.ho_procedure.specs.Handling.{Handles, Stops, IsRow, IsUndecoded, KeepsOctets}
 

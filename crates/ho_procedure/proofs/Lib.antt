@@ -8,3 +8,5 @@ pub mod Handled
 pub mod Asking
 pub mod Nameable
 pub mod Trying
+pub mod LayerThree
+pub mod CellNames

@@ -1,7 +1,6 @@
 -- How long the messages on A are.
-use Rattle.std.proofs.Common.{◌≡◌, ℕ, ◌+◌, ◌≤◌, List, [], ◌∷◌, length, length-append, Bool, true, Option, Some, None, arith}
+use Rattle.std.proofs.Common.{◌≡◌, ℕ, ◌+◌, ◌≤◌, List, [], ◌∷◌, length, length-append, true, Option, Some, None, arith}
 use Rattle.bssmap_messages.specs.declared.message.CellId.{CellId}
-use Rattle.bssmap_messages.specs.declared.message.Bssmap.{Bssmap}
 use Rattle.bssmap_messages.specs.declared.message.Bssmap.TheVariants.{HandoverRequired, HandoverRequestAck, HandoverComplete, HandoverFailure, HandoverPerformed, ClearRequest}
 use Rattle.bssmap_messages.specs.Messages.{handover_required, layer_3_alone, handover_complete, handover_failure, handover_performed, cause_alone}
 use Rattle.bssmap_messages.specs.Texts.{canonical_text}

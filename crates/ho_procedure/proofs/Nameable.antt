@@ -1,5 +1,5 @@
 -- Channels that messages can name.
-use Rattle.std.proofs.Common.{◌≡◌, ◌<◌, ℕ, true, nat_lt, refl, arith}
+use Rattle.std.proofs.Common.{◌≡◌, ◌<◌, true, nat_lt, refl, arith}
 use Rattle.std.proofs.lemmas.Bool.Decides.{nat_tests}
 use Rattle.channel_fsm.specs.declared.ChanId.{ChanId}
 use Rattle.ho_procedure.specs.Plan.{Ends, Sends}

@@ -1,5 +1,5 @@
 -- The candidates that reports make of the cells.
-use Rattle.std.proofs.Common.{◌≡◌, ◌↔◌, ◌≤◌, ℕ, List, [], AllPairs, Contains, length, Result, Ok, Err, IfOk, refl, sym, ◌∙◌, ap, subst, arith}
+use Rattle.std.proofs.Common.{◌≡◌, ◌↔◌, ◌≤◌, ℕ, List, [], AllPairs, Contains, length, Result, Ok, Err, IfOk, refl, ◌∙◌, ap, subst, arith}
 use Rattle.cell_table.specs.Site.{SiteView}
 use Rattle.rr_elements.specs.MeasResults.{Results}
 use Rattle.measurements.specs.Reports.{Reports}

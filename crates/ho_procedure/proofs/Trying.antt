@@ -1,12 +1,12 @@
 -- Candidates that are tried in turn.
-use Rattle.std.proofs.Common.{◌≡◌, ◌<◌, ℕ, suc, List, ◌∷◌, length, drop, get_or, sym, ap, subst}
+use Rattle.std.proofs.Common.{◌≡◌, ◌<◌, ℕ, suc, List, length, drop, get_or, sym, ap, subst}
 use Rattle.std.proofs.Math.Seq.{drop-cons}
 use Rattle.cell_table.specs.Site.{SiteView}
 use Rattle.ho_candidates.specs.declared.listed.Candidate.{Candidate}
 use Rattle.ho_procedure.specs.Choices.{Entry, Choice}
 use Rattle.ho_procedure.specs.declared.work.Work.{Work}
 use Rattle.ho_procedure.specs.declared.work.Course.{Course}
-use Rattle.ho_procedure.specs.declared.work.Course.TheVariants.{On, Over}
+use Rattle.ho_procedure.specs.declared.work.Course.TheVariants.{Over}
 use Rattle.ho_procedure.specs.Plan.{Plan, Ends, At}
 use Rattle.ho_procedure.specs.Going.{Goes, Passes, then}
 use Rattle.ho_procedure.specs.Procedure.{start_plan, try_plan}

@@ -1,5 +1,7 @@
 -- What comes of an input's row where it isn't followed to its end.
-use Rattle.std.specs.Prelude.{◌≡◌, ◌⊎◌, List}
+use Rattle.std.specs.Prelude.{◌≡◌, ◌⊎◌, ◌<◌, ◌≤◌, List, length}
+use Rattle.bssmap_messages.specs.declared.message.Bssmap.{Bssmap}
+use Rattle.bssmap_messages.specs.declared.message.Bssmap.TheVariants as bssmap
 use Rattle.ho_procedure.specs.declared.exchange.Link.{Link}
 use Rattle.ho_procedure.specs.declared.exchange.Bad.{Bad}
 use Rattle.ho_procedure.specs.declared.following.Stop.{Stop}
@@ -35,3 +37,18 @@ IsDeskStop (stop.Foreign place) = Unit {0}
 abbrev pub IsStopOf : Unread → Stop → Type 0
 IsStopOf (unread.Undecoded l b) s = s ≡ stop.Unread l b
 IsStopOf unread.NoMemory s = s ≡ stop.NoMemory
+
+-- what a message on A has for the mobile can be passed on in a DATA REQUEST, unread
+abbrev pub CanBePassedOn : {A : Type 0} → Bssmap A → Type 0
+CanBePassedOn (bssmap.HandoverCommand layer3) = (0 < length layer3) × (length layer3 ≤ 1015)
+CanBePassedOn (bssmap.HandoverRequest channel encryption classmark serving target) = Unit {0}
+CanBePassedOn (bssmap.HandoverRequired cause response cells) = Unit {0}
+CanBePassedOn (bssmap.HandoverRequestAck layer3) = Unit {0}
+CanBePassedOn (bssmap.HandoverComplete cause) = Unit {0}
+CanBePassedOn (bssmap.HandoverFailure cause inner) = Unit {0}
+CanBePassedOn (bssmap.HandoverPerformed cause cell) = Unit {0}
+CanBePassedOn (bssmap.HandoverRequiredReject cause) = Unit {0}
+CanBePassedOn bssmap.HandoverDetect = Unit {0}
+CanBePassedOn (bssmap.ClearCommand cause) = Unit {0}
+CanBePassedOn bssmap.ClearComplete = Unit {0}
+CanBePassedOn (bssmap.ClearRequest cause) = Unit {0}

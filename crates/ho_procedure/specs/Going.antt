@@ -1,5 +1,5 @@
 -- What the work on a row comes to.
-use Rattle.std.specs.Prelude.{◌≡◌, ℕ, List, [], ◌∷◌, ◌++◌, Option, Some, None}
+use Rattle.std.specs.Prelude.{◌≡◌, ℕ, List, ◌++◌, Option, Some, None}
 use Rattle.channel_fsm.specs.declared.ChanState.{ChanState}
 use Rattle.rr_elements.specs.MeasResults.{Results}
 use Rattle.radio_book.specs.declared.event.CallRecord.{CallRecord}

@@ -20,7 +20,7 @@ use Rattle.ho_procedure.specs.Decoding.{IsAbis, IsUnreadAbis, IsUnreadA}
 use Rattle.ho_procedure.specs.Sent.{Sent, all_sent}
 use Rattle.ho_procedure.specs.Windows.{Kept}
 use Rattle.ho_procedure.specs.Going.{last_reports}
-use Rattle.ho_procedure.specs.Plan.{Plan, Step, Until, At, Asking, Ends, LeadsUntil, ChoicesAt, entries_of, messages_of, reports_after}
+use Rattle.ho_procedure.specs.Plan.{Plan, Step, Until, Asking, LeadsUntil, ChoicesAt, entries_of, messages_of, reports_after}
 use Rattle.ho_procedure.specs.Naming.{chan_of}
 use Rattle.ho_procedure.specs.Procedure.{line_plan, expiry_plan, abis_plan, a_plan}
 
@@ -28,7 +28,7 @@ use Rattle.ho_procedure.specs.Procedure.{line_plan, expiry_plan, abis_plan, a_pl
 abbrev pub IsRow : {A : Type 0} → SiteView → (ℕ → List Results) → Inbound A → Plan → Type 0
 IsRow {A} site reports (inbound.Abis cell trx octets) p =
     (message : Rsl A) × (inside : Option Rr) × IsAbis octets message inside × (p ≡ abis_plan site reports (chan_of cell trx message) message inside)
-IsRow {A} site reports (inbound.A call octets) p = (message : Bssmap A) × interface_a.IsTextOf message octets × (p ≡ a_plan call message)
+IsRow {A} site reports (inbound.A call octets) p = (message : Bssmap A) × interface_a.IsTextOf message octets × (p ≡ a_plan site call message)
 IsRow site reports (inbound.Expiry call timer) p = p ≡ expiry_plan call timer
 IsRow site reports (inbound.Operator line) p = p ≡ line_plan site line
 

@@ -1,7 +1,6 @@
 -- Plans: what a controller asks of the book and what it sends, each step by the replies before it.
 use Rattle.std.specs.Prelude.{◌≡◌, ◌⊎◌, ◌↔◌, ℕ, ◌==◌, if◌then◌else◌, Bool, true, false, List, [], ◌∷◌, ◌++◌, AllPairs, Contains, Option, Some, None}
 use Rattle.channel_fsm.specs.declared.ChanId.{ChanId}
-use Rattle.channel_fsm.specs.declared.ChanState.{ChanState}
 use Rattle.cell_table.specs.Site.{SiteView}
 use Rattle.rr_elements.specs.MeasResults.{Results}
 use Rattle.ho_candidates.specs.declared.listed.Candidate.{Candidate}
@@ -10,7 +9,6 @@ use Rattle.ho_candidates.specs.Order.{StandsBefore}
 use Rattle.radio_book.specs.declared.event.Kind.{Kind}
 use Rattle.radio_book.specs.declared.event.Event.{Event}
 use Rattle.radio_book.specs.declared.event.Event.TheVariants.{Open, Clear, Look, Take, Reserve, Activate, Command, Complete, Undo, Confirm, Refuse, Detect, Released, Owner, Require, Order, Left}
-use Rattle.radio_book.specs.declared.event.CallRecord.{CallRecord}
 use Rattle.radio_book.specs.declared.event.Reply.{Reply}
 use Rattle.radio_book.specs.declared.event.Reply.TheVariants.{Done, Record, Owned, Refused}
 use Rattle.ho_procedure.specs.Choices.{Entry, Choice, NoneFree, Chosen}

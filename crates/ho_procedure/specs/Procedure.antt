@@ -1,6 +1,7 @@
 -- The procedure: for each input, what the controller asks of the book and what it sends, by the replies. A row ends at a
 -- reply that it doesn't name, and at a record that lacks what the rest of the row needs.
-use Rattle.std.specs.Prelude.{ℕ, ◌==◌, Bool, true, false, if◌then◌else◌, not, ◌&&◌, ◌||◌, nat_lt, List, [], ◌∷◌, ◌++◌, length, Option, Some, None, is_some, option_and_then}
+use Rattle.std.specs.Prelude.{ℕ, ◌==◌, ◌%◌, Bool, true, false, if◌then◌else◌, not, ◌&&◌, ◌||◌, nat_lt, List, [], ◌∷◌, ◌++◌, length, Option, Some, None, is_some}
+use Rattle.std.specs.List.{position}
 use Rattle.channel_fsm.specs.declared.ChanId.{ChanId}
 use Rattle.channel_fsm.specs.declared.ChanState.{ChanState}
 use Rattle.channel_fsm.specs.declared.ChanState.TheVariants.{Free, Held, Pending, On, Off}
@@ -23,8 +24,8 @@ use Rattle.radio_book.specs.declared.event.Reply.TheVariants.{Done, Record, Owne
 use Rattle.radio_book.specs.Sound.{target_in}
 use Rattle.radio_book.specs.Table.{is_target}
 use Rattle.radio_book.specs.Stages.{stage_row}
+use Rattle.cell_table.specs.declared.tables.CellIdentity.{CellIdentity}
 use Rattle.cell_table.specs.Site.{SiteView, is_traffic}
-use Rattle.rr_elements.specs.declared.cause.RrCause.{RrCause}
 use Rattle.rr_elements.specs.MeasResults.{Results}
 use Rattle.rr_messages.specs.declared.message.Rr.{Rr}
 use Rattle.rr_messages.specs.declared.message.Rr.TheVariants as rr
@@ -37,7 +38,7 @@ use Rattle.bssmap_messages.specs.declared.message.Bssmap.{Bssmap}
 use Rattle.bssmap_messages.specs.declared.message.Bssmap.TheVariants as bssmap
 use Rattle.ho_procedure.specs.declared.exchange.Line.{Line}
 use Rattle.ho_procedure.specs.declared.exchange.Line.TheVariants as line
-use Rattle.ho_procedure.specs.Messages.{is_nameable, activation, target_activation, release, to_mobile, command_to, channel_release, cell_id_at, clear_request, clear_complete, handover_performed}
+use Rattle.ho_procedure.specs.Messages.{is_nameable, activation, target_activation, release, to_mobile, data_request, command_to, channel_release, cell_id_at, clear_request, clear_complete, handover_performed, handover_required, handover_request_ack, handover_detect, handover_complete, handover_failure}
 use Rattle.ho_procedure.specs.Plan.{Plan, Ends, Asks, Takes, Reserves, Sends, Notes, Ranks}
 
 -- A plan goes on at one reply, and ends at any other.
@@ -101,6 +102,43 @@ is_commanded stage.Detected = true
 is_commanded stage.Required = false
 is_commanded stage.Ordered = false
 
+-- HANDOVER REQUIRED was sent, and the switching centre hasn't answered
+abbrev pub is_required : Stage → Bool
+is_required stage.Taken = false
+is_required stage.Reserved = false
+is_required stage.Sent = false
+is_required stage.Refused = false
+is_required stage.Confirmed = false
+is_required stage.Commanded = false
+is_required stage.Detected = false
+is_required stage.Required = true
+is_required stage.Ordered = false
+
+-- the mobile was sent to another controller's cell, and hasn't come back
+abbrev pub is_ordered : Stage → Bool
+is_ordered stage.Taken = false
+is_ordered stage.Reserved = false
+is_ordered stage.Sent = false
+is_ordered stage.Refused = false
+is_ordered stage.Confirmed = false
+is_ordered stage.Commanded = false
+is_ordered stage.Detected = false
+is_ordered stage.Required = false
+is_ordered stage.Ordered = true
+
+-- the same of an attempt, where one is open
+abbrev pub awaits_order : Option Attempt → Bool
+awaits_order None = false
+awaits_order (Some a) = is_required a.stage
+
+abbrev pub awaits_leaving : Option Attempt → Bool
+awaits_leaving None = false
+awaits_leaving (Some a) = is_ordered a.stage
+
+-- HANDOVER FAILURE (TS 48.008 clause 3.1.5.2), with a cause of this controller: the call can't come
+unfoldable pub turn_away : ℕ → ℕ → Plan
+turn_away c cause = Sends (handover_failure c cause None) Ends
+
 -- An operator opens a call: CHANNEL ACTIVATION (TS 48.058 clause 4.1).
 unfoldable pub opened_plan : ChanId → Plan
 opened_plan x = if is_nameable x then Sends (activation x) Ends else Ends
@@ -108,8 +146,8 @@ opened_plan x = if is_nameable x then Sends (activation x) Ends else Ends
 unfoldable pub open_plan : ℕ → ChanId → Plan
 open_plan c x = Asks (event.Open c x) (if_done (opened_plan x))
 
--- A handover begins (TS 44.018 clause 3.4.4): a channel is taken, a reference reserved, CHANNEL ACTIVATION sent
--- (TS 48.058 clause 4.1). For an outside cell nothing is asked.
+-- A handover to an own cell begins (TS 44.018 clause 3.4.4): a channel is taken, a reference reserved, CHANNEL ACTIVATION
+-- sent (TS 48.058 clause 4.1).
 
 unfoldable pub activate_plan : ℕ → ChanId → ℕ → Plan
 activate_plan c x n = Asks (event.Activate c) (if_done (Sends (target_activation x n) Ends))
@@ -117,22 +155,45 @@ activate_plan c x n = Asks (event.Activate c) (if_done (Sends (target_activation
 unfoldable pub taken_plan : ℕ → ChanId → Reply → Plan
 taken_plan c x = if_done (if is_nameable x then Reserves c (λ n. if_done (activate_plan c x n)) else Ends)
 
--- where the cell has no free channel, this plan is next
+-- A handover to an outside cell begins: HANDOVER REQUIRED (TS 48.008 clause 3.1.5.1).
+
+abbrev pub if_cell : Option CellId → (CellId → Plan) → Plan
+if_cell None next = Ends
+if_cell (Some cell) next = next cell
+
+unfoldable pub require_plan : ℕ → CellId → Plan
+require_plan c cell = Asks (event.Require c) (if_done (Sends (handover_required c cell) Ends))
+
+-- A handover begins to a cell of the site. Where an own cell has no free channel, this plan is next.
 unfoldable pub start_plan : SiteView → ℕ → ℕ → Plan → Plan
-start_plan site c cell none = if nat_lt cell (length site.cells) then Takes c kind.Internal cell none (taken_plan c) else Ends
+start_plan site c cell none = if nat_lt cell (length site.cells) then Takes c kind.Internal cell none (taken_plan c) else if_cell (cell_id_at site cell) (require_plan c)
 
 -- An operator asks for a handover.
 abbrev pub handover_plan : SiteView → ℕ → ℕ → Plan
 handover_plan site c cell = start_plan site c cell Ends
 
--- RF CHANNEL RELEASE of an attempt's target (TS 48.058 clause 4.6), where it was switched on
+-- RF CHANNEL RELEASE of an attempt's target (TS 48.058 clause 4.7), where it was switched on
 unfoldable pub release_target : Option Attempt → Plan → Plan
 release_target None tail = tail
 release_target (Some a) tail = if is_switched_on a.stage then if_named a.target (λ t. Sends (release t) tail) else tail
 
 -- An attempt is taken back, and its target released.
+unfoldable pub take_back : ℕ → (Option Attempt → Plan) → Plan
+take_back c next = Asks (event.Undo c Asked) (if_record (λ r s. release_target r.attempt (next r.attempt)))
+
+-- the switching centre is told that a call can't come from another controller: equipment failure
+abbrev pub failure_by : ℕ → AttemptKind → Plan
+failure_by c Internal = Ends
+failure_by c Incoming = turn_away c 0x20
+failure_by c Outgoing = Ends
+
+abbrev pub failure_of : ℕ → Option Attempt → Plan
+failure_of c None = Ends
+failure_of c (Some a) = failure_by c a.kind
+
+-- An operator takes an attempt back.
 unfoldable pub undo_plan : ℕ → Plan
-undo_plan c = Asks (event.Undo c Asked) (if_record (λ r s. release_target r.attempt Ends))
+undo_plan c = take_back c (failure_of c)
 
 -- CLEAR REQUEST (TS 48.008 clause 3.1.9.1), radio interface message failure
 abbrev pub expiry_rest : ℕ → Timer → Plan
@@ -172,7 +233,7 @@ names_serving r (Some Off) = is_named r.serving
 abbrev pub names_releases : CallRecord → Option ChanState → Bool
 names_releases r s = names_target r.attempt && (not (is_own r.attempt) || names_serving r s)
 
--- RF CHANNEL RELEASE of a channel (TS 48.058 clause 4.6); the mobile is told before where a cause is given: CHANNEL
+-- RF CHANNEL RELEASE of a channel (TS 48.058 clause 4.7); the mobile is told before where a cause is given: CHANNEL
 -- RELEASE (TS 44.018 clause 3.4.13.1)
 
 abbrev pub release_plan : Option ChanId → Plan → Plan
@@ -212,7 +273,7 @@ unfoldable pub clear_plan : ℕ → Plan
 clear_plan c = looked c (λ r s. clear_rest c None r s Ends)
 
 -- CHANNEL ACTIVATION ACKNOWLEDGE (TS 48.058 clause 8.4.2) of a target: HANDOVER COMMAND to the mobile on its old channel
--- (TS 44.018 clause 3.4.4.1)
+-- (TS 44.018 clause 3.4.4.1), or to the switching centre in a HANDOVER REQUEST ACKNOWLEDGE (TS 48.008 clause 3.1.5.2)
 
 abbrev pub if_command : Option Rr → (Rr → Plan) → Plan
 if_command None next = Ends
@@ -229,9 +290,16 @@ abbrev pub internal_command : SiteView → ℕ → ChanId → Option ChanId → 
 internal_command site c x serving reference =
     if_named serving (λ s. if_reference reference (λ n. if_command (command_to site x n) (λ m. send_command c s m)))
 
+unfoldable pub acknowledge : ℕ → Rr → Plan
+acknowledge c m = Asks (event.Command c) (if_done (Sends (handover_request_ack c m) Ends))
+
+abbrev pub incoming_command : SiteView → ℕ → ChanId → Option ℕ → Plan
+incoming_command site c x reference = if_reference reference (λ n. if_command (command_to site x n) (acknowledge c))
+
+-- an attempt that leaves has no target here
 abbrev pub command_plan : SiteView → ℕ → ChanId → Option ChanId → Attempt → AttemptKind → Plan
 command_plan site c x serving a Internal = internal_command site c x serving a.reference
-command_plan site c x serving a Incoming = Ends
+command_plan site c x serving a Incoming = incoming_command site c x a.reference
 command_plan site c x serving a Outgoing = Ends
 
 unfoldable pub confirm_rest : SiteView → ℕ → ChanId → Option ChanId → Option Attempt → Plan
@@ -241,12 +309,16 @@ confirm_rest site c x serving (Some a) = if is_target x a.target then command_pl
 unfoldable pub confirm_plan : SiteView → ChanId → Plan
 confirm_plan site x = owned (event.Confirm x) (λ c. looked c (λ r s. confirm_rest site c x r.serving r.attempt))
 
--- CHANNEL ACTIVATION NEGATIVE ACKNOWLEDGE (TS 48.058 clause 8.4.3): an attempt to a refused target is taken back; for a
--- refused serving channel CLEAR REQUEST, equipment failure
+-- CHANNEL ACTIVATION NEGATIVE ACKNOWLEDGE (TS 48.058 clause 8.4.3): an attempt to a refused target is taken back, and where
+-- the call was to come, HANDOVER FAILURE sent; for a refused serving channel CLEAR REQUEST, equipment failure
+
+unfoldable pub refused_target : ℕ → Plan
+refused_target c = Asks (event.Undo c Asked) (if_record (λ r s. failure_of c r.attempt))
+
 unfoldable pub refuse_plan : ChanId → Plan
 refuse_plan x =
     owned (event.Refuse x)
-    (λ c. looked c (λ r s. if is_target x (target_in r) then Asks (event.Undo c Asked) nothing_more else (if is_serving x r then Sends (clear_request c 0x20) Ends else Ends)))
+    (λ c. looked c (λ r s. if is_target x (target_in r) then refused_target c else (if is_serving x r then Sends (clear_request c 0x20) Ends else Ends)))
 
 -- RF CHANNEL RELEASE ACKNOWLEDGE (TS 48.058 clause 8.4.19)
 unfoldable pub released_plan : ChanId → Plan
@@ -258,9 +330,23 @@ unfoldable pub connection_failure_plan : ChanId → Plan
 connection_failure_plan x =
     owned (event.Owner x) (λ c. looked c (λ r s. if is_serving x r && not (is_some r.attempt) then Sends (clear_request c 1) Ends else Ends))
 
--- HANDOVER DETECTION (TS 48.058 clause 8.4.7)
+-- HANDOVER DETECTION (TS 48.058 clause 8.4.7): of a call that comes the switching centre is told by HANDOVER DETECT
+-- (TS 48.008 clause 3.1.5.3)
+
+unfoldable pub tell_detected : ℕ → Plan
+tell_detected c = Sends (handover_detect c) Ends
+
+abbrev pub detected_by : ℕ → AttemptKind → Plan
+detected_by c Internal = Ends
+detected_by c Incoming = tell_detected c
+detected_by c Outgoing = Ends
+
+unfoldable pub detect_rest : ℕ → Option Attempt → Plan
+detect_rest c None = Ends
+detect_rest c (Some a) = detected_by c a.kind
+
 unfoldable pub detect_plan : ChanId → Plan
-detect_plan x = owned (event.Detect x) (λ c. looked c (λ r s. Ends))
+detect_plan x = owned (event.Detect x) (λ c. looked c (λ r s. detect_rest c r.attempt))
 
 -- MEASUREMENT REPORT (TS 44.018 clause 9.1.21) in a MEASUREMENT RESULT (TS 48.058 clause 8.4.8): where the call is served
 -- on the channel, the report counts; a valid one starts a handover to the first candidate that has a free channel
@@ -290,12 +376,9 @@ unfoldable pub report_plan : SiteView → (ℕ → List Results) → ChanId → 
 report_plan site reports x m =
     owned (event.Owner x) (λ c. looked c (λ r s. if is_serving x r && is_on s then rank_plan site c x.cell (with_report site (reports c) m) m r.attempt else Ends))
 
--- HANDOVER COMPLETE (TS 44.018 clause 3.4.4.2) on the target: the old channel is released, and HANDOVER PERFORMED sent
--- (TS 48.008 clause 3.1.7)
-
-abbrev pub if_cell : Option CellId → (CellId → Plan) → Plan
-if_cell None next = Ends
-if_cell (Some cell) next = next cell
+-- HANDOVER COMPLETE (TS 44.018 clause 3.4.4.3) on the target: the old channel is released, and HANDOVER PERFORMED sent
+-- (TS 48.008 clause 3.1.7); or HANDOVER COMPLETE with the mobile's RR cause, where the call comes from another controller
+-- (TS 48.008 clause 3.1.5.3)
 
 -- the cell of a traffic channel of the site
 abbrev pub traffic_cell : SiteView → ChanId → Option CellId
@@ -305,34 +388,46 @@ abbrev pub internal_complete : SiteView → ℕ → ChanId → Option ChanId →
 internal_complete site c x serving =
     if_named serving (λ s. if_cell (traffic_cell site x) (λ cell. Asks (event.Complete c) (if_done (Sends (release s) (Sends (handover_performed c cell) Ends)))))
 
-abbrev pub complete_by : SiteView → ℕ → ChanId → Option ChanId → AttemptKind → Plan
-complete_by site c x serving Internal = internal_complete site c x serving
-complete_by site c x serving Incoming = Ends
-complete_by site c x serving Outgoing = Ends
+unfoldable pub incoming_complete : ℕ → ℕ → Plan
+incoming_complete c cause = Asks (event.Complete c) (if_done (Sends (handover_complete c cause) Ends))
 
-unfoldable pub complete_rest : SiteView → ℕ → ChanId → Option ChanId → Option Attempt → Plan
-complete_rest site c x serving None = Ends
-complete_rest site c x serving (Some a) = if is_target x a.target && is_commanded a.stage then complete_by site c x serving a.kind else Ends
+abbrev pub complete_by : SiteView → ℕ → ℕ → ChanId → Option ChanId → AttemptKind → Plan
+complete_by site c cause x serving Internal = internal_complete site c x serving
+complete_by site c cause x serving Incoming = incoming_complete c cause
+complete_by site c cause x serving Outgoing = Ends
 
-unfoldable pub complete_plan : SiteView → ChanId → Plan
-complete_plan site x = owned (event.Owner x) (λ c. looked c (λ r s. complete_rest site c x r.serving r.attempt))
+unfoldable pub complete_rest : SiteView → ℕ → ℕ → ChanId → Option ChanId → Option Attempt → Plan
+complete_rest site c cause x serving None = Ends
+complete_rest site c cause x serving (Some a) = if is_target x a.target && is_commanded a.stage then complete_by site c cause x serving a.kind else Ends
 
--- HANDOVER FAILURE (TS 44.018 clause 3.4.4.4) on the old channel: the attempt is taken back
+unfoldable pub complete_plan : SiteView → ChanId → ℕ → Plan
+complete_plan site x cause = owned (event.Owner x) (λ c. looked c (λ r s. complete_rest site c cause x r.serving r.attempt))
 
-abbrev pub return_by : ℕ → Attempt → AttemptKind → Plan
-return_by c a Internal = if is_commanded a.stage && names_target (Some a) then undo_plan c else Ends
-return_by c a Incoming = Ends
-return_by c a Outgoing = Ends
+-- HANDOVER FAILURE (TS 44.018 clause 3.4.4.4) on the old channel: the attempt is taken back. Where the mobile was sent to
+-- another controller's cell, the switching centre gets HANDOVER FAILURE with its RR cause (TS 48.008 clause 3.1.5.3): radio
+-- interface failure, reversion to old channel.
 
-unfoldable pub return_rest : ℕ → Option Attempt → Plan
-return_rest c None = Ends
-return_rest c (Some a) = return_by c a a.kind
+unfoldable pub tell_returned : ℕ → ℕ → Plan
+tell_returned c cause = Sends (handover_failure c 0x0A (Some cause)) Ends
 
-unfoldable pub return_plan : ChanId → Plan
-return_plan x = owned (event.Owner x) (λ c. looked c (λ r s. if is_serving x r then return_rest c r.attempt else Ends))
+unfoldable pub outgoing_return : ℕ → ℕ → Plan
+outgoing_return c cause = Asks (event.Undo c Asked) (if_record (λ r s. tell_returned c cause))
+
+abbrev pub return_by : ℕ → ℕ → Attempt → AttemptKind → Plan
+return_by c cause a Internal = if is_commanded a.stage && names_target (Some a) then take_back c (λ attempt. Ends) else Ends
+return_by c cause a Incoming = Ends
+return_by c cause a Outgoing = if is_ordered a.stage then outgoing_return c cause else Ends
+
+unfoldable pub return_rest : ℕ → ℕ → Option Attempt → Plan
+return_rest c cause None = Ends
+return_rest c cause (Some a) = return_by c cause a a.kind
+
+unfoldable pub return_plan : ChanId → ℕ → Plan
+return_plan x cause = owned (event.Owner x) (λ c. looked c (λ r s. if is_serving x r then return_rest c cause r.attempt else Ends))
 
 -- CLEAR COMMAND (TS 48.008 clause 3.1.9): the call is cleared as by an operator, and a mobile that is on is told why:
--- normal event for call control (cause 09), else abnormal release; CLEAR COMPLETE comes last
+-- normal event for call control (cause 09), else abnormal release. A call whose mobile was sent to another controller has
+-- left, and its channel is released. CLEAR COMPLETE comes last.
 
 abbrev pub release_cause : ℕ → ℕ
 release_cause cause = if cause == 9 then 0 else 1
@@ -348,14 +443,84 @@ if_no_call next (RefBusy cell n) = Ends
 if_no_call next (Unexpected x) = Ends
 if_no_call next NotArmed = Ends
 
+unfoldable pub left_channel : ℕ → ChanId → Plan
+left_channel c x = Asks (event.Left c) (if_done (Sends (release x) (Sends (clear_complete c) Ends)))
+
+unfoldable pub left_plan : ℕ → Option ChanId → Plan
+left_plan c serving = if_named serving (left_channel c)
+
+unfoldable pub clear_call : ℕ → ℕ → CallRecord → Option ChanState → Plan
+clear_call c cause r s = clear_rest c (Some (release_cause cause)) r s (Sends (clear_complete c) Ends)
+
 unfoldable pub clear_command_rest : ℕ → ℕ → Reply → Plan
 clear_command_rest c cause Done = Ends
-clear_command_rest c cause (Record r s) = clear_rest c (Some (release_cause cause)) r s (Sends (clear_complete c) Ends)
+clear_command_rest c cause (Record r s) = if awaits_leaving r.attempt then left_plan c r.serving else clear_call c cause r s
 clear_command_rest c cause (Owned d) = Ends
 clear_command_rest c cause (Refused refusal) = if_no_call (Sends (clear_complete c) Ends) refusal
 
 unfoldable pub clear_command_plan : ℕ → ℕ → Plan
 clear_command_plan c cause = Asks (event.Look c) (clear_command_rest c cause)
+
+-- HANDOVER REQUEST (TS 48.008 clause 3.1.5.2): a call is to come from another controller. It is turned away with no radio
+-- resource available where it wants another channel than a full-rate one for speech, or its cell has no free channel; with
+-- ciphering algorithm not supported where it must be ciphered; with invalid message contents where the cell isn't an own
+-- one.
+
+-- the channel type asks for speech (clause 3.2.2.11: the low four bits of its first octet)
+abbrev pub is_speech : List ℕ → Bool
+is_speech [] = false
+is_speech (indicator ∷ rest) = indicator % 16 == 1
+
+-- it asks for a half-rate channel alone (its second octet)
+abbrev pub is_half_rate : List ℕ → Bool
+is_half_rate [] = false
+is_half_rate (indicator ∷ []) = false
+is_half_rate (indicator ∷ rate ∷ rest) = rate == 9
+
+-- the encryption information permits a call that isn't ciphered (clause 3.2.2.10: bit 1 of its first octet)
+abbrev pub permits_clear : List ℕ → Bool
+permits_clear [] = false
+permits_clear (algorithms ∷ rest) = algorithms % 2 == 1
+
+-- a cell identifier names a cell, by cell identity alone where it has no location area code (clause 3.2.2.17)
+abbrev pub is_in_area : Option ℕ → ℕ → Bool
+is_in_area None lac = true
+is_in_area (Some area) lac = lac == area
+
+abbrev pub names : CellId → CellIdentity → Bool
+names id cell = (cell.ci == id.ci) && is_in_area id.lac cell.lac
+
+-- the first own cell that it names
+abbrev pub own_cell : SiteView → CellId → Option ℕ
+own_cell site id = position (λ cell. names id cell.identity) site.cells
+
+unfoldable pub admit_plan : ℕ → Option ℕ → Plan
+admit_plan c None = turn_away c 0x51
+admit_plan c (Some cell) = Takes c kind.Incoming cell (turn_away c 0x21) (taken_plan c)
+
+unfoldable pub request_rest : SiteView → ℕ → List ℕ → List ℕ → CellId → Plan
+request_rest site c channel encryption target =
+    if not (is_speech channel) || is_half_rate channel then turn_away c 0x21 else (if not (permits_clear encryption) then turn_away c 0x40 else admit_plan c (own_cell site target))
+
+abbrev pub if_new : Plan → Reply → Plan
+if_new next Done = Ends
+if_new next (Record r s) = Ends
+if_new next (Owned c) = Ends
+if_new next (Refused refusal) = if_no_call next refusal
+
+unfoldable pub request_plan : SiteView → ℕ → List ℕ → List ℕ → CellId → Plan
+request_plan site c channel encryption target = Asks (event.Look c) (if_new (request_rest site c channel encryption target))
+
+-- HANDOVER COMMAND (TS 48.008 clause 3.1.5.3) where HANDOVER REQUIRED was sent: the message inside goes to the mobile unread
+unfoldable pub order_channel : ℕ → List ℕ → ChanId → Plan
+order_channel c layer3 x = Asks (event.Order c) (if_done (Sends (data_request x layer3) Ends))
+
+unfoldable pub order_plan : ℕ → List ℕ → Plan
+order_plan c layer3 = looked c (λ r s. if awaits_order r.attempt then if_named r.serving (order_channel c layer3) else Ends)
+
+-- HANDOVER REQUIRED REJECT (TS 48.008 clause 3.1.5.1) where HANDOVER REQUIRED was sent: the attempt is taken back
+unfoldable pub reject_plan : ℕ → Plan
+reject_plan c = looked c (λ r s. if awaits_order r.attempt then Asks (event.Undo c Asked) nothing_more else Ends)
 
 -- the row of each line of the operator
 abbrev pub line_plan : SiteView → Line → Plan
@@ -367,8 +532,8 @@ line_plan site (line.Clear c) = clear_plan c
 -- what a mobile says on the main channel
 abbrev pub mobile_plan : SiteView → ChanId → Option Rr → Plan
 mobile_plan site x None = Ends
-mobile_plan site x (Some (rr.HandoverComplete cause)) = complete_plan site x
-mobile_plan site x (Some (rr.HandoverFailure cause)) = return_plan x
+mobile_plan site x (Some (rr.HandoverComplete cause)) = complete_plan site x cause.0
+mobile_plan site x (Some (rr.HandoverFailure cause)) = return_plan x cause.0
 mobile_plan site x (Some (rr.HandoverCommand cell channel reference power)) = Ends
 mobile_plan site x (Some (rr.ChannelRelease cause)) = Ends
 mobile_plan site x (Some (rr.PhysicalInformation advance)) = Ends
@@ -399,16 +564,16 @@ abis_plan site reports x (rsl.ChannelActivation channel activation mode referenc
 abis_plan site reports x (rsl.RfChannelRelease channel) inside = Ends
 
 -- the row of each message on A about a call; for one that isn't expected nothing is asked
-abbrev pub a_plan : {A : Type 0} → ℕ → Bssmap A → Plan
-a_plan c (bssmap.ClearCommand cause) = clear_command_plan c cause
-a_plan c (bssmap.HandoverRequest channel encryption classmark serving target) = Ends
-a_plan c (bssmap.HandoverRequired cause response cells) = Ends
-a_plan c (bssmap.HandoverRequestAck layer3) = Ends
-a_plan c (bssmap.HandoverCommand layer3) = Ends
-a_plan c (bssmap.HandoverComplete cause) = Ends
-a_plan c (bssmap.HandoverFailure cause inner) = Ends
-a_plan c (bssmap.HandoverPerformed cause cell) = Ends
-a_plan c (bssmap.HandoverRequiredReject cause) = Ends
-a_plan c bssmap.HandoverDetect = Ends
-a_plan c bssmap.ClearComplete = Ends
-a_plan c (bssmap.ClearRequest cause) = Ends
+abbrev pub a_plan : {A : Type 0} → SiteView → ℕ → Bssmap A → Plan
+a_plan site c (bssmap.ClearCommand cause) = clear_command_plan c cause
+a_plan site c (bssmap.HandoverRequest channel encryption classmark serving target) = request_plan site c channel encryption target
+a_plan site c (bssmap.HandoverCommand layer3) = order_plan c layer3
+a_plan site c (bssmap.HandoverRequiredReject cause) = reject_plan c
+a_plan site c (bssmap.HandoverRequired cause response cells) = Ends
+a_plan site c (bssmap.HandoverRequestAck layer3) = Ends
+a_plan site c (bssmap.HandoverComplete cause) = Ends
+a_plan site c (bssmap.HandoverFailure cause inner) = Ends
+a_plan site c (bssmap.HandoverPerformed cause cell) = Ends
+a_plan site c bssmap.HandoverDetect = Ends
+a_plan site c bssmap.ClearComplete = Ends
+a_plan site c (bssmap.ClearRequest cause) = Ends

@@ -1,5 +1,5 @@
 //! The command that sends a mobile to another channel, and how cells are named on A.
-ghost use Rattle.std.specs.Prelude.{◌≡◌, ◌<◌, ◌^◌, Some, false};
+ghost use Rattle.std.specs.Prelude.{◌≡◌, ◌<◌, ◌^◌, Some, false, IfSome, IsSome};
 ghost use Rattle.ho_procedure.specs.Messages.{command_to, cell_id_at};
 ghost use Rattle.rr_messages.specs.declared.message.Rr.TheVariants.{HandoverCommand};
 
@@ -69,7 +69,8 @@ fn command(cell: TargetCell, carrier: u16, tn: u8, reference: u8) -> Option<Rr>
 
 /// A cell, own or outside, as messages on A name it (TS 48.008 clause 3.2.2.17); `None` where the site lacks it.
 pub(crate) fn cell_id_at<S: Allocator + Copy>(site: &Site<S>, cell: u8) -> Option<CellId>
-    ensures { result ≡ cell_id_at site.now cell }
+    ensures cell { result ≡ cell_id_at site.now cell }
+    ensures area { IfSome result (λ cell. IsSome cell.lac) }
 {
     Some(CellId {
         lac: Some(site.lac(cell)?),

@@ -13,12 +13,13 @@ ghost use Rattle.ho_procedure.specs.Procedure.{line_plan, abis_plan, a_plan, mob
 ghost use Rattle.ho_procedure.specs.Plan.{Plan, Ends, At, Asking};
 ghost use Rattle.ho_procedure.specs.Going.{Goes, IsForeign, last_reports};
 ghost use Rattle.ho_procedure.specs.Handling.{IsRow, IsUndecoded, KeepsOctets};
-ghost use Rattle.ho_procedure.specs.Following.{Stopped, IsForeignStop, IsDeskStop, IsStopOf};
+ghost use Rattle.ho_procedure.specs.Following.{Stopped, IsForeignStop, IsDeskStop, IsStopOf, CanBePassedOn};
 
 use crate::decoding::{Unread, decode_a, decode_abis};
 use crate::exchange::{Bad, Inbound, Line, Link};
 use crate::naming::chan_of;
 use crate::rows::calls::{clear, clear_command, open};
+use crate::rows::centre::{order, reject, request};
 use crate::rows::handovers::{expire, handover, undo};
 use crate::rows::mobiles::{complete, report, return_to};
 use crate::rows::stations::{confirm, detect, fail, refuse, release};
@@ -99,8 +100,8 @@ fn follow_mobile<D: DeskView + Drop, A: Allocator + Copy>(
     ensures foreign_kept { D.may_be_foreign work.new.view → D.may_be_foreign work.old.view }
 {
     match inside {
-        Some(Rr::HandoverComplete(_)) => complete(work, site, chan),
-        Some(Rr::HandoverFailure(_)) => return_to(work, chan),
+        Some(Rr::HandoverComplete(cause)) => complete(work, site, chan, cause.0),
+        Some(Rr::HandoverFailure(cause)) => return_to(work, chan, cause.0),
         Some(
             Rr::HandoverCommand { .. }
             | Rr::ChannelRelease(_)
@@ -179,26 +180,36 @@ fn follow_abis<D: DeskView + Drop, A: Allocator + Copy>(
 #[tactic(auto, using(crate::proofs::Going::stays))]
 fn follow_a<D: DeskView + Drop, A: Allocator + Copy>(
     work: &mut Work<D, A>,
+    site: &Site<A>,
     call: u16,
     message: &Bssmap<A>,
 ) -> Result<(), DeskFault>
+    requires { CanBePassedOn message.now }
     ensures row { OnOk result (Goes D.log D.choice_at work.old
-        (a_plan call message.now) work.new (At Ends)) }
+        (a_plan site.now call message.now) work.new (At Ends)) }
     ensures stops { OnErr result (Goes D.log D.choice_at work.old
-        (a_plan call message.now) work.new Asking) }
+        (a_plan site.now call message.now) work.new Asking) }
     ensures foreign { IfErr result (λ f. IsForeign f → D.may_be_foreign work.old.view) }
     ensures foreign_kept { D.may_be_foreign work.new.view → D.may_be_foreign work.old.view }
 {
     match message {
         Bssmap::ClearCommand { cause } => clear_command(work, call, *cause),
-        Bssmap::HandoverRequest { .. }
-        | Bssmap::HandoverRequired { .. }
+        Bssmap::HandoverRequest {
+            channel,
+            encryption,
+            target,
+            ..
+        } => {
+            let channel = channel.as_slice();
+            request(work, site, call, channel, encryption.as_slice(), *target)
+        }
+        Bssmap::HandoverCommand { layer3 } => order(work, call, layer3.as_slice()),
+        Bssmap::HandoverRequiredReject { .. } => reject(work, call),
+        Bssmap::HandoverRequired { .. }
         | Bssmap::HandoverRequestAck { .. }
-        | Bssmap::HandoverCommand { .. }
         | Bssmap::HandoverComplete { .. }
         | Bssmap::HandoverFailure { .. }
         | Bssmap::HandoverPerformed { .. }
-        | Bssmap::HandoverRequiredReject { .. }
         | Bssmap::HandoverDetect
         | Bssmap::ClearComplete
         | Bssmap::ClearRequest { .. } => Ok(()),
@@ -240,18 +251,19 @@ fn follow_abis_octets<D: DeskView + Drop, A: Allocator + Copy>(
 }
 
 /// Follows the row of what came on A about a call.
-#[tactic(auto, using(crate::proofs::Handled::stopped))]
+#[tactic(auto, using(crate::proofs::Handled::stopped, crate::proofs::LayerThree::passed_on))]
 fn follow_a_octets<D: DeskView + Drop, A: Allocator + Copy>(
     work: &mut Work<D, A>,
+    site: &Site<A>,
     call: u16,
     octets: &[u8],
 ) -> Result<(), Stop>
     ensures ok { OnOk result ((p : Plan) × ((message : Bssmap A) ×
-        interface_a.IsTextOf message octets.now × (p ≡ a_plan call message)) ×
+        interface_a.IsTextOf message octets.now × (p ≡ a_plan site.now call message)) ×
         Goes D.log D.choice_at work.old p work.new (At Ends)) }
     ensures stops { IfErr result (Stopped D.log D.choice_at work.old
         (λ p. (message : Bssmap A) × interface_a.IsTextOf message octets.now ×
-        (p ≡ a_plan call message))
+        (p ≡ a_plan site.now call message))
         (IsUnreadA A octets.now)
         ((message : Bssmap A) × interface_a.IsTextOf message octets.now × KeepsList message)
         work.new) }
@@ -262,7 +274,7 @@ fn follow_a_octets<D: DeskView + Drop, A: Allocator + Copy>(
         Ok(message) => message,
         Err(unread) => return Err(unread_stop(unread)),
     };
-    match follow_a(work, call, &message) {
+    match follow_a(work, site, call, &message) {
         Ok(()) => Ok(()),
         Err(fault) => Err(stop_of(fault)),
     }
@@ -289,7 +301,7 @@ pub(crate) fn follow<D: DeskView + Drop, A: Allocator + Copy>(
         Inbound::Abis { cell, trx, bytes } => {
             return follow_abis_octets(work, site, cell, trx, bytes.as_slice());
         }
-        Inbound::A { call, bytes } => return follow_a_octets(work, call, bytes.as_slice()),
+        Inbound::A { call, bytes } => return follow_a_octets(work, site, call, bytes.as_slice()),
         Inbound::Expiry { call, timer } => expire(work, call, timer),
         Inbound::Operator(line) => follow_line(work, site, line),
     };

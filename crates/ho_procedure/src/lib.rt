@@ -11,6 +11,7 @@ mod following;
 pub mod naming;
 mod outbox;
 mod records;
+mod requests;
 mod rows;
 mod sending;
 pub mod solo;

@@ -3,7 +3,7 @@ ghost use Rattle.std.specs.Prelude.{◌≡◌, IfSome, IsSome};
 ghost use Rattle.radio_book.specs.Sound.{target_in};
 ghost use Rattle.radio_book.specs.Table.{is_target};
 ghost use Rattle.ho_procedure.specs.Messages.{is_nameable};
-ghost use Rattle.ho_procedure.specs.Procedure.{is_named, is_serving, is_switched_on, is_commanded, is_own, names_target, names_serving, names_releases, is_on, traffic_cell};
+ghost use Rattle.ho_procedure.specs.Procedure.{is_named, is_serving, is_switched_on, is_commanded, is_required, is_ordered, awaits_order, awaits_leaving, is_own, names_target, names_serving, names_releases, is_on, traffic_cell};
 
 use crate::commands::cell_id_at;
 use crate::work::Shown;
@@ -80,6 +80,60 @@ pub(crate) fn is_commanded(stage: Stage) -> bool
         | Stage::Confirmed
         | Stage::Required
         | Stage::Ordered => false,
+    }
+}
+
+/// HANDOVER REQUIRED was sent, and the switching centre hasn't answered.
+fn is_required(stage: Stage) -> bool
+    ensures { result ≡ is_required stage }
+{
+    match stage {
+        Stage::Required => true,
+        Stage::Taken
+        | Stage::Reserved
+        | Stage::Sent
+        | Stage::Refused
+        | Stage::Confirmed
+        | Stage::Commanded
+        | Stage::Detected
+        | Stage::Ordered => false,
+    }
+}
+
+/// The mobile was sent to another controller's cell, and hasn't come back.
+pub(crate) fn is_ordered(stage: Stage) -> bool
+    ensures { result ≡ is_ordered stage }
+{
+    match stage {
+        Stage::Ordered => true,
+        Stage::Taken
+        | Stage::Reserved
+        | Stage::Sent
+        | Stage::Refused
+        | Stage::Confirmed
+        | Stage::Commanded
+        | Stage::Detected
+        | Stage::Required => false,
+    }
+}
+
+/// The attempt waits for the switching centre to order the handover.
+pub(crate) fn awaits_order(attempt: Option<Attempt>) -> bool
+    ensures { result ≡ awaits_order attempt }
+{
+    match attempt {
+        Some(attempt) => is_required(attempt.stage),
+        None => false,
+    }
+}
+
+/// The attempt waits for the call to have left.
+pub(crate) fn awaits_leaving(attempt: Option<Attempt>) -> bool
+    ensures { result ≡ awaits_leaving attempt }
+{
+    match attempt {
+        Some(attempt) => is_ordered(attempt.stage),
+        None => false,
     }
 }
 

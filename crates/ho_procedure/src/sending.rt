@@ -1,6 +1,6 @@
 //! The messages of a row, each with the plan that it leads from and to.
-ghost use Rattle.std.specs.Prelude.{◌≡◌, ◌≤◌, ◌<◌, ◌+◌, IsSome};
-ghost use Rattle.ho_procedure.specs.Messages.{activation, target_activation, release, to_mobile, channel_release, clear_request, clear_complete, handover_performed};
+ghost use Rattle.std.specs.Prelude.{◌≡◌, ◌≤◌, ◌<◌, ◌+◌, IsSome, length};
+ghost use Rattle.ho_procedure.specs.Messages.{activation, target_activation, release, to_mobile, channel_release, data_request, clear_request, clear_complete, handover_performed, handover_required, handover_request_ack, handover_detect, handover_complete, handover_failure};
 ghost use Rattle.ho_procedure.specs.Plan.{Plan, Sends};
 ghost use Rattle.ho_procedure.specs.Going.{Passes};
 
@@ -112,5 +112,76 @@ impl<D: DeskView + Drop, A: Allocator + Copy> Work<D, A> {
         ensures foreign_kept { D.may_be_foreign self.new.view → D.may_be_foreign self.old.view }
     {
         self.owed.handover_performed(call, cell);
+    }
+
+    /// HANDOVER REQUIRED for this cell, which has a location area code.
+    #[tactic(auto, using(crate::proofs::Going::posted))]
+    pub(crate) fn send_handover_required(&mut self, call: u16, cell: CellId)
+        requires room { 1 ≤ self.old.owed.room }
+        requires area { IsSome cell.lac }
+        ensures goes { (next : Plan) → Passes D.log D.choice_at self.old
+            (Sends (handover_required call cell) next) self.new next }
+        ensures foreign_kept { D.may_be_foreign self.new.view → D.may_be_foreign self.old.view }
+    {
+        self.owed.handover_required(call, cell);
+    }
+
+    /// HANDOVER REQUEST ACKNOWLEDGE with a message to the mobile.
+    #[tactic(auto, using(crate::proofs::Going::posted))]
+    pub(crate) fn send_handover_request_ack(&mut self, call: u16, message: &Rr)
+        requires { 1 ≤ self.old.owed.room }
+        ensures goes { (next : Plan) → Passes D.log D.choice_at self.old
+            (Sends (handover_request_ack call message.now) next) self.new next }
+        ensures foreign_kept { D.may_be_foreign self.new.view → D.may_be_foreign self.old.view }
+    {
+        self.owed.handover_request_ack(call, message);
+    }
+
+    /// HANDOVER DETECT.
+    #[tactic(auto, using(crate::proofs::Going::posted))]
+    pub(crate) fn send_handover_detect(&mut self, call: u16)
+        requires { 1 ≤ self.old.owed.room }
+        ensures goes { (next : Plan) → Passes D.log D.choice_at self.old
+            (Sends (handover_detect call) next) self.new next }
+        ensures foreign_kept { D.may_be_foreign self.new.view → D.may_be_foreign self.old.view }
+    {
+        self.owed.handover_detect(call);
+    }
+
+    /// HANDOVER COMPLETE with the mobile's RR cause.
+    #[tactic(auto, using(crate::proofs::Going::posted))]
+    pub(crate) fn send_handover_complete(&mut self, call: u16, rr: u8)
+        requires { 1 ≤ self.old.owed.room }
+        ensures goes { (next : Plan) → Passes D.log D.choice_at self.old
+            (Sends (handover_complete call rr) next) self.new next }
+        ensures foreign_kept { D.may_be_foreign self.new.view → D.may_be_foreign self.old.view }
+    {
+        self.owed.handover_complete(call, rr);
+    }
+
+    /// HANDOVER FAILURE, with the mobile's RR cause where it gave one.
+    #[tactic(auto, using(crate::proofs::Going::posted))]
+    pub(crate) fn send_handover_failure(&mut self, call: u16, cause: u8, rr: Option<u8>)
+        requires { 1 ≤ self.old.owed.room }
+        ensures goes { (next : Plan) → Passes D.log D.choice_at self.old
+            (Sends (handover_failure call cause rr) next) self.new next }
+        ensures foreign_kept { D.may_be_foreign self.new.view → D.may_be_foreign self.old.view }
+    {
+        self.owed.handover_failure(call, cause, rr);
+    }
+
+    /// DATA REQUEST on the main channel in which octets are passed on unread.
+    #[tactic(auto, using(crate::proofs::Going::posted))]
+    pub(crate) fn send_data_request(&mut self, chan: ChanId, layer3: &[u8])
+        requires room { 1 ≤ self.old.owed.room }
+        requires timeslot { chan.tn < 8 }
+        requires some { 0 < length layer3.now }
+        requires unread_room { length layer3.now ≤ self.old.owed.unread_room }
+        requires short { length layer3.now ≤ 1015 }
+        ensures goes { (next : Plan) → Passes D.log D.choice_at self.old
+            (Sends (data_request chan layer3.now) next) self.new next }
+        ensures foreign_kept { D.may_be_foreign self.new.view → D.may_be_foreign self.old.view }
+    {
+        self.owed.data_request(chan, layer3);
     }
 }

@@ -109,6 +109,21 @@ impl<D: DeskView + Drop, A: Allocator + Copy> Work<D, A> {
         Ok(self.owed.make_room(messages)?)
     }
 
+    /// Makes room for one message in which so many octets are passed on unread.
+    #[tactic(auto, using(crate::proofs::Going::idles, crate::proofs::Going::waits))]
+    pub(crate) fn make_unread_room(&mut self, octets: usize) -> Result<(), DeskFault>
+        requires { octets ≤ 1015 }
+        ensures ok { OnOk result ((p : Plan) → Passes D.log D.choice_at self.old p self.new p) }
+        ensures room { OnOk result (1 ≤ self.new.owed.room) }
+        ensures unread_room { OnOk result (octets ≤ self.new.owed.unread_room) }
+        ensures err { OnErr result ((p : Plan) → IsAsking p →
+            Goes D.log D.choice_at self.old p self.new Asking) }
+        ensures no_memory { OnErr result (result ≡ Err DeskFault.NoMemory) }
+        ensures foreign_kept { D.may_be_foreign self.new.view → D.may_be_foreign self.old.view }
+    {
+        Ok(self.owed.make_unread_room(octets)?)
+    }
+
     /// Makes room for the reports of one more call.
     #[tactic(auto, using(crate::proofs::Going::idles, crate::proofs::Going::waits))]
     pub(crate) fn make_window(&mut self) -> Result<(), DeskFault>

@@ -1,4 +1,5 @@
 pub mod EntryLemmas
 pub mod CourseFacts
+pub mod SiteFacts
 pub mod StepFacts
 pub mod TurnFacts

@@ -1,14 +1,20 @@
 -- The course of a script. Ours, of no standard.
-use Rattle.std.specs.Prelude.{◌≡◌, ◌++◌, ℕ, List, [], Some, None}
+use Rattle.std.specs.Prelude.{◌≡◌, ◌++◌, ℕ, Bool, List, map, [], ◌∷◌, Option, Some, None, is_some}
 use Rattle.cell_table.specs.Site.{SiteView}
 use Rattle.cell_table.specs.SiteFile.{described_site}
 use Rattle.radio_book.specs.State.{empty_book}
 use Rattle.ho_procedure.specs.declared.exchange.Inbound.{Inbound}
 use Rattle.ho_procedure.specs.Going.{last_reports}
+use Rattle.lab_script.specs.declared.side.Side.{Side}
 use Rattle.lab_script.specs.Script.{first_unread, items_of}
 use Rattle.lab.specs.declared.turn.Turn.{Turn}
+use Rattle.lab.specs.declared.controllers.Controllers.{Controllers}
 use Rattle.lab.specs.declared.course.Course.{Course}
 use Rattle.lab.specs.Turns.{Position, AreTurns, scripted, inputs_in}
+
+abbrev pub option_list : {X : Type 0} → Option X → List X
+option_list None = []
+option_list (Some x) = x ∷ []
 
 -- a controller of the site over an empty book, which was given nothing yet
 pub record IsOpening (site : SiteView) (s : Position) : Type 0 where
@@ -17,26 +23,41 @@ pub record IsOpening (site : SiteView) (s : Position) : Type 0 where
   pub reports : (call : ℕ) → last_reports s.1 call ≡ []
   pub of_site : s.2 ≡ site
 
--- turns were added by which the controller came where it is, and these are the inputs that a script gave them
-pub record Went {A : Type 0} (inputs : List (Inbound A)) (c c' : Course A) : Type 0 where
+-- one such of each site
+abbrev pub AreOpenings : List SiteView → List Position → Type 0
+AreOpenings [] [] = Unit {0}
+AreOpenings [] (s ∷ ss) = ⊥
+AreOpenings (site ∷ sites) [] = ⊥
+AreOpenings (site ∷ sites) (s ∷ ss) = IsOpening site s × AreOpenings sites ss
+
+-- the controllers: the first, and its peer where there is one
+abbrev pub positions_of : {A : Type 0} → Controllers A → List Position
+positions_of all = all.first ∷ option_list all.peer
+
+abbrev pub has_peer : {A : Type 0} → Course A → Bool
+has_peer c = is_some c.controllers.peer
+
+-- turns were added by which the controllers came where they are, and these are the inputs that a script gave them
+pub record Went {A : Type 0} (inputs : List (Side × Inbound A)) (c c' : Course A) : Type 0 where
   pub turns : List (Turn A)
   pub noted : c'.turns.items ≡ c.turns.items ++ turns
-  pub run : AreTurns c.controller turns c'.controller
+  pub run : AreTurns (positions_of c.controllers) turns (positions_of c'.controllers)
+  pub peer : has_peer c' ≡ has_peer c
   pub scripted : scripted turns ≡ inputs
 
--- Turn by turn, from a controller of the site over an empty book on, everything was handled that these inputs are, in their
--- order, and between them what simulated stations sent.
-pub record Played (A : Type 0) (site : SiteView) (inputs : List (Inbound A)) : Type 0 where
-  pub first : Position
-  pub opening : IsOpening site first
+-- Turn by turn, from controllers of the sites over empty books on, everything was handled that these inputs are, in their
+-- order and each by the controller that it names, and between them what simulators sent.
+pub record Played (A : Type 0) (sites : List SiteView) (inputs : List (Side × Inbound A)) : Type 0 where
+  pub first : List Position
+  pub openings : AreOpenings sites first
   pub turns : List (Turn A)
-  pub last : Position
+  pub last : List Position
   pub run : AreTurns first turns last
   pub scripted : scripted turns ≡ inputs
 
--- the texts are a site and a script, and all inputs of the script were handled
-pub record IsPlayed (A : Type 0) (site script : List ℕ) : Type 0 where
-  pub site_view : SiteView
-  pub described : described_site site ≡ Some site_view
-  pub readable : first_unread script ≡ None
-  pub played : Played A site_view (inputs_in (items_of script))
+-- the texts are a site, a peer's where one is given, and a script for them, and all inputs of the script were handled
+pub record IsPlayed (A : Type 0) (site : List ℕ) (peer : Option (List ℕ)) (script : List ℕ) : Type 0 where
+  pub sites : List SiteView
+  pub described : map described_site (site ∷ option_list peer) ≡ map Some sites
+  pub readable : first_unread (is_some peer) script ≡ None
+  pub played : Played A sites (inputs_in (items_of script))

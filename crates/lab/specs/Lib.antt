@@ -2,6 +2,7 @@ pub mod Decoded
 pub mod Entries
 pub mod Files
 pub mod Rewound
+pub mod Sites
 pub mod Statuses
 pub mod Turns
 pub mod Course

@@ -1,5 +1,5 @@
 -- Inputs, and what came of each. Ours, of no standard.
-use Rattle.std.specs.Prelude.{◌≡◌, ◌++◌, List, [], ◌∷◌, Option, Some, None}
+use Rattle.std.specs.Prelude.{◌≡◌, ◌++◌, ℕ, List, [], ◌∷◌, Option, Some, None, slice_get, slice_set}
 use Rattle.std.specs.List.{filter_map}
 use Rattle.cell_table.specs.Site.{SiteView}
 use Rattle.radio_desk.specs.Desk.{DeskState}
@@ -13,10 +13,13 @@ use Rattle.ho_procedure.specs.Going.{last_reports}
 use Rattle.ho_procedure.specs.Sent.{all_sent}
 use Rattle.ho_procedure.specs.Plan.{Plan, Ends, At}
 use Rattle.ho_procedure.specs.Handling.{IsRow, IsUndecoded, Handles}
+use Rattle.lab_script.specs.declared.side.Side.{Side}
+use Rattle.lab_script.specs.declared.script.Given.{Given}
+use Rattle.lab_script.specs.declared.script.Given.TheVariants.{Input, Attach, Set, HangUp}
 use Rattle.lab_script.specs.declared.script.Item.{Item}
-use Rattle.lab_script.specs.declared.script.Item.TheVariants.{Input, Attach, Set}
+use Rattle.lab_script.specs.Sides.{number_of}
 use Rattle.lab.specs.declared.turn.Source.{Source}
-use Rattle.lab.specs.declared.turn.Source.TheVariants.{Script, Station}
+use Rattle.lab.specs.declared.turn.Source.TheVariants.{Script, Simulator}
 use Rattle.lab.specs.declared.turn.Answer.{Answer}
 use Rattle.lab.specs.declared.turn.Answer.TheVariants.{Sent, Undecoded}
 use Rattle.lab.specs.declared.turn.Turn.{Turn}
@@ -52,27 +55,36 @@ pub record IsTurn {A : Type 0} (s : Position) (t : Turn A) (s' : Position) : Typ
   pub asked : s'.0.history ≡ s.0.history ++ asked_in t.steps.items
   pub site : s'.2 ≡ s.2
 
--- turn by turn
-abbrev pub AreTurns : {A : Type 0} → Position → List (Turn A) → Position → Type 0
-AreTurns s [] s' = s' ≡ s
-AreTurns s (t ∷ turns) s' = (m : Position) × IsTurn s t m × AreTurns m turns s'
+-- of some controllers, of which the first is the first, the one that the turn names answers so; every other stays as it is
+pub record IsTurnOf {A : Type 0} (all : List Position) (t : Turn A) (all' : List Position) : Type 0 where
+  pub before : Position
+  pub after : Position
+  pub there : slice_get all (number_of t.side) ≡ Some before
+  pub turn : IsTurn before t after
+  pub others : all' ≡ slice_set all (number_of t.side) after
 
--- the input of a turn, where a script gave it
-abbrev pub listed : {A : Type 0} → Source → Inbound A → List (Inbound A)
-listed Script input = input ∷ []
-listed Station input = []
+-- turn by turn
+abbrev pub AreTurns : {A : Type 0} → List Position → List (Turn A) → List Position → Type 0
+AreTurns all [] all' = all' ≡ all
+AreTurns all (t ∷ turns) all' = (m : List Position) × IsTurnOf all t m × AreTurns m turns all'
+
+-- the input of a turn, and the controller that it is for, where a script gave it
+abbrev pub listed : {A : Type 0} → Source → Side → Inbound A → List (Side × Inbound A)
+listed Script side input = (side, input) ∷ []
+listed Simulator side input = []
 
 -- the inputs that a script gave, in their order
-abbrev pub scripted : {A : Type 0} → List (Turn A) → List (Inbound A)
+abbrev pub scripted : {A : Type 0} → List (Turn A) → List (Side × Inbound A)
 scripted [] = []
-scripted (t ∷ turns) = listed t.source t.input ++ scripted turns
+scripted (t ∷ turns) = listed t.source t.side t.input ++ scripted turns
 
 -- the inputs among what a script gives
-abbrev pub input_in : {A : Type 0} → Item A → List (Inbound A)
-input_in (Input input) = input ∷ []
-input_in Attach = []
-input_in (Set setting) = []
+abbrev pub input_in : {A : Type 0} → Side → Given A → List (Side × Inbound A)
+input_in side (Input input) = (side, input) ∷ []
+input_in side Attach = []
+input_in side (Set setting) = []
+input_in side (HangUp call) = []
 
-abbrev pub inputs_in : {A : Type 0} → List (Item A) → List (Inbound A)
+abbrev pub inputs_in : {A : Type 0} → List (Item A) → List (Side × Inbound A)
 inputs_in [] = []
-inputs_in (item ∷ items) = input_in item ++ inputs_in items
+inputs_in (item ∷ items) = input_in item.side item.given ++ inputs_in items

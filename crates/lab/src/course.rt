@@ -1,71 +1,81 @@
-//! The course of a script: a controller on one thread, and the simulated stations around it.
-ghost use Rattle.std.specs.Prelude.{◌≡◌, [], ◌∷◌, IfOk, OnOk};
+//! The course of a script: one controller or two on one thread, and the simulators around them.
+ghost use Rattle.std.specs.Prelude.{◌≡◌, [], ◌∷◌, true, is_some, option_map, IfOk, OnOk};
+ghost use Rattle.lab_script.specs.Sides.{is_there};
+ghost use Rattle.lab_script.specs.Script.{AreThere, is_item_there};
 ghost use Rattle.lab.specs.Turns.{listed, inputs_in};
-ghost use Rattle.lab.specs.Course.{Went, IsOpening};
+ghost use Rattle.lab.specs.Course.{Went, AreOpenings, positions_of, has_peer, option_list};
 
-use crate::noting::Noting;
+use crate::controllers::Controllers;
 use crate::run::LabFault;
-use crate::turn::{Answer, Source, Turn, print_turn, take_turn};
-use bts_model::{Setting, StationOut, World};
+use crate::simulators::{Arrival, Simulators, Waiting};
+use crate::turn::{Answer, Source, Turn, print_turn};
+use bts_model::Setting;
 use cell_table::Site;
-use ho_procedure::controller::Controller;
-use ho_procedure::exchange::{Inbound, Outbound};
-use lab_script::script::Item;
-use radio_book::book::{Book, Usage};
-use radio_desk::desk::Desk;
+use ho_procedure::exchange::Inbound;
+use lab_script::script::{Given, Item, Side};
 use std::alloc::{AllocError, Allocator, Global};
 use std::collections::VecDeque;
-use std::io::Write;
+use std::io::{self, Write};
 use std::sync::Arc;
 use trace_text::trace::print_limit;
 
-/// How many answers of simulated stations are handled for one line of a script.
+/// How many answers of simulators are handled for one line of a script.
 const MOST_ANSWERS: u16 = 10_000;
 
-/// Messages of simulated stations that wait for the controller, the first that came in front.
-type Waiting<A> = VecDeque<Inbound<A>, A>;
-
-/// A controller, the simulated stations around it once a script attached them, and what came of each input.
+/// Controllers, the simulators around them once a script attached them, and what came of each input.
 #[derive(Drop)]
 pub(crate) struct Course<A: Allocator + Copy = Global> {
-    site: Arc<Site<A>, A>,
-    controller: Controller<Noting<A>, A>,
-    world: Option<World<A>>,
+    sites: Vec<Arc<Site<A>, A>, A>,
+    controllers: Controllers<A>,
+    simulators: Option<Simulators<A>>,
     turns: Vec<Turn<A>, A>,
     alloc: A,
 }
 
+/// The sites of one controller or two.
+fn sites_of<A: Allocator + Copy>(
+    alloc: A,
+    site: Arc<Site<A>, A>,
+    peer: Option<Arc<Site<A>, A>>,
+) -> Result<Vec<Arc<Site<A>, A>, A>, AllocError> {
+    let mut sites = Vec::new(alloc);
+    sites.push(site)?;
+    if let Some(peer) = peer {
+        sites.push(peer)?;
+    }
+    Ok(sites)
+}
+
 impl<A: Allocator + Copy> Course<A> {
-    /// A controller of the site that was given nothing yet, over an empty book.
-    pub(crate) fn new(alloc: A, site: Arc<Site<A>, A>) -> Result<Course<A>, AllocError>
-        ensures opening { IfOk result (λ course. IsOpening site.value course.controller) }
+    /// Controllers that were given nothing yet, over empty books, of a site and of a peer's where there is one.
+    pub(crate) fn new(
+        alloc: A,
+        site: Arc<Site<A>, A>,
+        peer: Option<Arc<Site<A>, A>>,
+    ) -> Result<Course<A>, AllocError>
+        ensures openings { IfOk result (λ course. AreOpenings
+            (site.value ∷ option_list (option_map (λ peer. peer.value) peer))
+            (positions_of course.controllers)) }
+        ensures peer { IfOk result (λ course. has_peer course ≡ is_some peer) }
         ensures turns { IfOk result (λ course. course.turns.items ≡ []) }
     {
-        let book = Book::new(alloc, site.clone()?)?;
-        let view = Noting::new(alloc, Desk::new(alloc, book)?);
         Ok(Course {
-            controller: Controller::new(alloc, view, site.clone()?),
-            site,
-            world: None,
+            controllers: Controllers::new(alloc, &site, &peer)?,
+            sites: sites_of(alloc, site, peer)?,
+            simulators: None,
             turns: Vec::new(alloc),
             alloc,
         })
     }
 
-    /// What the book holds.
-    pub(crate) fn usage(&self) -> Usage {
-        self.controller.view().desk().book().usage()
-    }
-
-    /// From here on simulated stations answer, unless they do already.
+    /// From here on simulators answer, unless they do already.
     fn attach(&mut self) -> Result<(), AllocError>
         ensures { OnOk result (Went [] self.old self.new) }
     {
-        if self.world.is_some() {
+        if self.simulators.is_some() {
             return Ok(());
         }
-        let sites = [self.site.clone()?];
-        self.world = Some(World::new(self.alloc, &sites)?);
+        self.simulators = Some(Simulators::new(self.alloc, self.sites.as_slice())?);
         Ok(())
     }
 
@@ -73,28 +83,56 @@ impl<A: Allocator + Copy> Course<A> {
     fn set(&mut self, setting: Setting, waiting: &mut Waiting<A>) -> Result<(), AllocError>
         ensures { OnOk result (Went [] self.old self.new) }
     {
-        match &mut self.world {
-            Some(world) => queue(waiting, world.set(setting)?),
+        match &mut self.simulators {
+            Some(simulators) => simulators.set(setting, waiting),
             None => Ok(()),
         }
     }
 
-    /// Handles an input, and prints what came of it. What simulated stations answer waits behind all else.
+    /// The simulated switching centre hangs up a call. What it sends then waits.
+    fn hang_up(&self, side: Side, call: u16, waiting: &mut Waiting<A>) -> Result<(), AllocError> {
+        match &self.simulators {
+            Some(simulators) => simulators.hang_up(side, call, waiting),
+            None => Ok(()),
+        }
+    }
+
+    /// A controller that is there handles an input, and what came of it is printed. What simulators answer waits behind
+    /// all else.
     fn handle<W: Write>(
         &mut self,
+        side: Side,
         source: Source,
         input: Inbound<A>,
         waiting: &mut Waiting<A>,
         out: &mut W,
     ) -> Result<(), LabFault>
-        ensures { OnOk result (Went (listed source input) self.old self.new) }
+        requires there { is_there (has_peer self.old) side ≡ true }
+        ensures { OnOk result (Went (listed source side input) self.old self.new) }
     {
         self.turns.reserve(1)?;
-        let turn = take_turn(self.alloc, &mut self.controller, source, input)?;
-        print_turn(out, &turn)?;
-        pass_answer(&mut self.world, &turn.answer, waiting)?;
+        let turn = self.controllers.take_turn(self.alloc, side, source, input)?;
+        print_turn(out, self.controllers.mark(side), &turn)?;
+        pass_answer(&mut self.simulators, &turn, waiting)?;
         self.turns.push_reserved(turn);
         Ok(())
+    }
+
+    /// Handles what a simulator sends. The simulators know the controllers that are there and no other: what were for
+    /// another is passed over.
+    fn arrive<W: Write>(
+        &mut self,
+        arrival: Arrival<A>,
+        waiting: &mut Waiting<A>,
+        out: &mut W,
+    ) -> Result<(), LabFault>
+        ensures { OnOk result (Went [] self.old self.new) }
+    {
+        if self.controllers.has(arrival.side) {
+            self.handle(arrival.side, Source::Simulator, arrival.input, waiting, out)
+        } else {
+            Ok(())
+        }
     }
 
     /// Handles what waits, and what is answered to that, until nothing is left.
@@ -102,32 +140,36 @@ impl<A: Allocator + Copy> Course<A> {
         ensures { OnOk result (Went [] self.old self.new) }
     {
         for _ in 0..MOST_ANSWERS {
-            let Some(input) = waiting.pop_front() else {
+            let Some(arrival) = waiting.pop_front() else {
                 return Ok(());
             };
-            self.handle(Source::Station, input, &mut waiting, out)?;
+            self.arrive(arrival, &mut waiting, out)?;
         }
         say_limit(&waiting, out)
     }
 
-    /// Does what a line of a script gives. What simulated stations answer waits.
+    /// Does what a line of a script gives. What simulators answer waits.
     fn begin<W: Write>(
         &mut self,
         item: Item<A>,
         waiting: &mut Waiting<A>,
         out: &mut W,
     ) -> Result<(), LabFault>
+        requires there { is_item_there (has_peer self.old) item ≡ true }
         ensures { OnOk result (Went (inputs_in (item ∷ [])) self.old self.new) }
     {
-        match item {
-            Item::Input(input) => self.handle(Source::Script, input, waiting, out),
-            Item::Attach => Ok(self.attach()?),
-            Item::Set(setting) => Ok(self.set(setting, waiting)?),
+        let Item { side, given } = item;
+        match given {
+            Given::Input(input) => self.handle(side, Source::Script, input, waiting, out),
+            Given::Attach => Ok(self.attach()?),
+            Given::Set(setting) => Ok(self.set(setting, waiting)?),
+            Given::HangUp(call) => Ok(self.hang_up(side, call, waiting)?),
         }
     }
 
     /// Does what a line of a script gives, until nothing of it is left.
     fn follow<W: Write>(&mut self, item: Item<A>, out: &mut W) -> Result<(), LabFault>
+        requires there { is_item_there (has_peer self.old) item ≡ true }
         ensures { OnOk result (Went (inputs_in (item ∷ [])) self.old self.new) }
     {
         let mut waiting = VecDeque::new(self.alloc);
@@ -141,6 +183,7 @@ impl<A: Allocator + Copy> Course<A> {
         items: Vec<Item<A>, A>,
         out: &mut W,
     ) -> Result<(), LabFault>
+        requires there { AreThere (has_peer self.old) items.items }
         ensures { OnOk result (Went (inputs_in items.items) self.old self.new) }
     {
         for item in items {
@@ -148,35 +191,11 @@ impl<A: Allocator + Copy> Course<A> {
         }
         Ok(())
     }
-}
 
-/// Messages of stations wait behind those that wait already.
-fn queue<A: Allocator + Copy>(
-    waiting: &mut Waiting<A>,
-    messages: Vec<StationOut<A>, A>,
-) -> Result<(), AllocError> {
-    for message in messages {
-        waiting.push_back(Inbound::Abis {
-            cell: message.cell,
-            trx: message.trx,
-            bytes: message.bytes,
-        })?;
+    /// Prints the trace's end.
+    pub(crate) fn print_ends<W: Write>(&self, out: &mut W) -> io::Result<()> {
+        self.controllers.print_ends(out)
     }
-    Ok(())
-}
-
-/// What the controller sent on Abis goes to the stations; what they answer waits. Messages on A go nowhere.
-fn pass_on<A: Allocator + Copy>(
-    world: &mut World<A>,
-    sent: &[Outbound<A>],
-    waiting: &mut Waiting<A>,
-) -> Result<(), AllocError> {
-    for message in sent {
-        if let Outbound::Abis { cell, trx, bytes } = message {
-            queue(waiting, world.step(0, *cell, *trx, bytes.as_slice())?)?;
-        }
-    }
-    Ok(())
 }
 
 /// Says that what still waits is dropped, where there is any.
@@ -190,17 +209,17 @@ fn say_limit<A: Allocator + Copy, W: Write>(
     Ok(())
 }
 
-/// What stations, where they are there, answer to what the controller answered waits.
+/// What simulators, where they are there, answer to what came of an input waits.
 fn pass_answer<A: Allocator + Copy>(
-    world: &mut Option<World<A>>,
-    answer: &Answer<A>,
+    simulators: &mut Option<Simulators<A>>,
+    turn: &Turn<A>,
     waiting: &mut Waiting<A>,
 ) -> Result<(), AllocError> {
-    let Some(world) = world else {
+    let Some(simulators) = simulators else {
         return Ok(());
     };
-    match answer {
-        Answer::Sent(sent) => pass_on(world, sent, waiting),
+    match &turn.answer {
+        Answer::Sent(sent) => simulators.pass_on(turn.side, sent, waiting),
         Answer::Undecoded(_) => Ok(()),
     }
 }

@@ -14,7 +14,7 @@ use std::io::Write;
 use trace_text::abis::AbisText;
 use trace_text::bssmap::BssmapText;
 use trace_text::rr::RrText;
-use trace_text::trace::print_fault;
+use trace_text::trace::{Mark, print_fault};
 
 /// Where a message comes from.
 #[derive(Clone, Copy, Debug, PartialEq, Eq)]
@@ -62,7 +62,7 @@ fn refuse_octets<W: Write>(out: &mut W, fault: Bad) -> Result<Status, LabFault>
     ensures refused { IfOk result (λ status. status ≡ Status.Refused) }
     ensures write { IfErr result (λ fault. fault ≡ LabFault.Write) }
 {
-    print_fault(out, fault)?;
+    print_fault(out, Mark::Alone, fault)?;
     Ok(Status::Refused)
 }
 

@@ -5,7 +5,7 @@ ghost use Rattle.lab.specs.Files.{longest_file};
 use crate::rewound::rewind_run;
 use crate::run::{LabFault, Status, lab_run};
 use crate::site_reason::say_reason;
-use std::alloc::Allocator;
+use std::alloc::{Allocator, Global};
 use std::fs::File;
 use std::io::{self, Read, Write};
 use std::rt::Files;
@@ -71,25 +71,88 @@ fn texts_of<R: Files + AllocGlobal, W: Write, E: Write>(
     Ok(Some((first, second)))
 }
 
-/// Runs the script of one file over the site of another, and prints the trace to `out`, as [`lab_run`] does of texts.
+/// The texts of a run's files.
+#[derive(Drop)]
+struct RunTexts {
+    site: String,
+    peer: Option<String>,
+    script: String,
+}
+
+impl RunTexts {
+    /// The text of the peer's site.
+    fn peer(&self) -> Option<&str> {
+        self.peer.as_ref().map(|text| text.as_str())
+    }
+}
+
+/// The texts of a run's files, of which the site's is read first, then the peer's, where one is named, then the script;
+/// nothing where one can't be read, and then the path of the first such was printed, and on `errors` why.
+fn run_texts<R: Files + AllocGlobal, W: Write, E: Write>(
+    rt: &R,
+    site: &str,
+    peer: Option<&str>,
+    script: &str,
+    out: &mut W,
+    errors: &mut E,
+) -> Result<Option<RunTexts>, LabFault> {
+    let Some(site) = text_of(rt, site, out, errors)? else {
+        return Ok(None);
+    };
+    let peer = match peer {
+        Some(path) => {
+            let Some(text) = text_of(rt, path, out, errors)? else {
+                return Ok(None);
+            };
+            Some(text)
+        }
+        None => None,
+    };
+    let Some(script) = text_of(rt, script, out, errors)? else {
+        return Ok(None);
+    };
+    Ok(Some(RunTexts { site, peer, script }))
+}
+
+/// Says why the first of the sites of a run that is refused is.
+fn say_reasons<E: Write>(
+    alloc: Global,
+    site: &str,
+    peer: Option<&str>,
+    texts: &RunTexts,
+    errors: &mut E,
+) -> Result<(), LabFault> {
+    if say_reason(alloc, site, &texts.site, errors)? {
+        return Ok(());
+    }
+    if let (Some(path), Some(text)) = (peer, texts.peer()) {
+        say_reason(alloc, path, text, errors)?;
+    }
+    Ok(())
+}
+
+/// Runs the script of one file over the site of another, or over two where a peer's is named, and prints the trace to
+/// `out`, as [`lab_run`] does of texts.
 ///
-/// The site's file is read first. Where a file isn't there, can't be read, isn't UTF-8 or has more than
-/// [`LONGEST_FILE`] octets, `file` and its path are printed and nothing else, and the answer is `Refused`; one line on
-/// `errors` says why. Where the site is refused, one line on `errors` says where in its file, and what is allowed there.
+/// The site's file is read first, then the peer's, then the script's. Where a file isn't there, can't be read, isn't
+/// UTF-8 or has more than [`LONGEST_FILE`] octets, `file` and its path are printed and nothing else, and the answer is
+/// `Refused`; one line on `errors` says why. Where a site is refused, one line on `errors` says where in its file, and
+/// what is allowed there.
 pub fn run_files<R: Files + AllocGlobal, W: Write, E: Write>(
     rt: &R,
     site: &str,
+    peer: Option<&str>,
     script: &str,
     out: &mut W,
     errors: &mut E,
 ) -> Result<Status, LabFault> {
     let alloc = rt.alloc();
-    let Some((site_text, script_text)) = texts_of(rt, site, script, out, errors)? else {
+    let Some(texts) = run_texts(rt, site, peer, script, out, errors)? else {
         return Ok(Status::Refused);
     };
-    let status = lab_run(alloc, alloc, &site_text, &script_text, out)?;
+    let status = lab_run(alloc, alloc, &texts.site, texts.peer(), &texts.script, out)?;
     if status == Status::Refused {
-        say_reason(alloc, site, &site_text, errors)?;
+        say_reasons(alloc, site, peer, &texts, errors)?;
     }
     Ok(status)
 }

@@ -3,6 +3,7 @@
 //! have crates of their own, whose modules are exported here too.
 #![tactic(auto)]
 
+mod controllers;
 mod course;
 pub mod decoded;
 pub mod entries;
@@ -11,6 +12,7 @@ pub mod noting;
 pub mod program;
 pub mod rewound;
 pub mod run;
+mod simulators;
 mod site_reason;
 pub mod turn;
 pub mod words;

@@ -1,9 +1,11 @@
-//! A controller that is driven by a script, on one thread.
-ghost use Rattle.std.specs.Prelude.{◌≡◌, ◌≢◌, ◌⊎◌, Ok, Err, None, IsSome, IfOk, IfSome};
+//! One controller or two that are driven by a script, on one thread.
+ghost use Rattle.std.specs.Prelude.{◌≡◌, ◌≢◌, ◌⊎◌, ◌∷◌, Ok, Err, None, Some, IsSome, IsSomeAnd, IfOk, IfErr, IfSome, is_some, option_map, map};
 ghost use Rattle.cell_table.specs.SiteFile.{described_site, IsBlankFile};
-ghost use Rattle.lab_script.specs.Script.{first_unread, items_of};
+ghost use Rattle.cell_table.specs.declared.fault.Key.TheVariants.{Handover};
+ghost use Rattle.lab_script.specs.Script.{first_unread, items_of, AreThere};
 ghost use Rattle.lab.specs.Turns.{inputs_in};
-ghost use Rattle.lab.specs.Course.{Played, IsPlayed};
+ghost use Rattle.lab.specs.Course.{Played, IsPlayed, AreOpenings, positions_of, has_peer, option_list};
+ghost use Rattle.lab.specs.Sites.{views_of, texts_of};
 ghost use Rattle.lab.specs.Statuses.{status_of, status_after, exit_status_of};
 
 use crate::course::Course;
@@ -13,7 +15,6 @@ use std::alloc::{AllocError, Allocator, Global};
 use std::io::{self, Write};
 use std::sync::Arc;
 use thiserror::Error;
-use trace_text::trace::print_end;
 
 /// How the work ended.
 #[derive(Clone, Copy, Debug, PartialEq, Eq)]
@@ -90,20 +91,58 @@ pub fn exit_status(ended: Result<Status, LabFault>) -> u8
     }
 }
 
-/// Follows what the lines of a script give over an empty book of the site, and prints the trace.
+/// The site of a controller, and its peer's where there is one.
+#[derive(Drop)]
+struct Sites<A: Allocator + Copy = Global> {
+    first: Site<A>,
+    peer: Option<Site<A>>,
+}
+
+/// A site that several share.
+fn shared<A: Allocator + Copy>(alloc: A, site: Site<A>) -> Result<Arc<Site<A>, A>, AllocError>
+    ensures { IfOk result (λ shared. shared.value ≡ site) }
+{
+    Arc::new(alloc, site).map_err(AllocError::from)
+}
+
+/// The peer's, where there is one.
+fn shared_peer<A: Allocator + Copy>(
+    alloc: A,
+    site: Option<Site<A>>,
+) -> Result<Option<Arc<Site<A>, A>>, AllocError>
+    ensures { IfOk result (λ peer. option_map (λ shared. shared.value) peer ≡ site) }
+{
+    match site {
+        Some(site) => Ok(Some(shared(alloc, site)?)),
+        None => Ok(None),
+    }
+}
+
+/// Controllers of the sites that were given nothing yet.
+fn fresh_course<A: Allocator + Copy>(alloc: A, sites: Sites<A>) -> Result<Course<A>, AllocError>
+    ensures openings { IfOk result (λ course. AreOpenings (views_of sites)
+        (positions_of course.controllers)) }
+    ensures peer { IfOk result (λ course. has_peer course ≡ is_some sites.peer) }
+{
+    let first = shared(alloc, sites.first)?;
+    let peer = shared_peer(alloc, sites.peer)?;
+    Course::new(alloc, first, peer)
+}
+
+/// Follows what the lines of a script give over empty books of the sites, and prints the trace.
 fn run_items<A: Allocator + Copy, W: Write>(
     alloc: A,
-    site: Site<A>,
+    sites: Sites<A>,
     items: Vec<Item<A>, A>,
     out: &mut W,
 ) -> Result<Status, LabFault>
+    requires there { AreThere (is_some sites.peer) items.items }
     ensures done { IfOk result (λ status. status ≡ Status.Done) }
-    ensures played { IfOk result (λ _. Played A site (inputs_in items.items)) }
+    ensures played { IfOk result (λ _. Played A (views_of sites) (inputs_in items.items)) }
 {
-    let site = Arc::new(alloc, site).map_err(AllocError::from)?;
-    let mut course = Course::new(alloc, site)?;
+    let mut course = fresh_course(alloc, sites)?;
     course.run(items, out)?;
-    print_end(out, course.usage())?;
+    course.print_ends(out)?;
     Ok(Status::Done)
 }
 
@@ -111,14 +150,16 @@ fn run_items<A: Allocator + Copy, W: Write>(
 fn script_items<A: Allocator + Copy, W: Write>(
     alloc: A,
     script: &str,
+    has_peer: bool,
     out: &mut W,
 ) -> Result<Option<Vec<Item<A>, A>>, LabFault>
-    ensures read { IfOk result (λ items. IsSome items → first_unread script.now ≡ None) }
+    ensures read { IfOk result (λ items. IsSome items → first_unread has_peer script.now ≡ None) }
     ensures items { IfOk result (λ items. IfSome items (λ found. found.items ≡ items_of script.now)) }
-    ensures refused { IfOk result (λ items. items ≡ None → IsSome (first_unread script.now)) }
-    ensures memory { result ≡ Err LabFault.NoMemory → first_unread script.now ≡ None }
+    ensures sides { IfOk result (λ items. IfSome items (λ found. AreThere has_peer found.items)) }
+    ensures refused { IfOk result (λ items. items ≡ None → IsSome (first_unread has_peer script.now)) }
+    ensures memory { result ≡ Err LabFault.NoMemory → first_unread has_peer script.now ≡ None }
 {
-    match read_script(alloc, script) {
+    match read_script(alloc, script, has_peer) {
         Ok(items) => Ok(Some(items)),
         Err(ScriptFault::Line(number)) => {
             writeln!(out, "line {number}")?;
@@ -128,23 +169,63 @@ fn script_items<A: Allocator + Copy, W: Write>(
     }
 }
 
-/// Runs a script over a site that was read.
+/// Runs a script over sites that were read.
 fn run_script<A: Allocator + Copy, W: Write>(
     alloc: A,
-    site: Site<A>,
+    sites: Sites<A>,
     script: &str,
     out: &mut W,
 ) -> Result<Status, LabFault>
-    ensures done { result ≡ Ok Status.Done → first_unread script.now ≡ None }
-    ensures played { result ≡ Ok Status.Done → Played A site (inputs_in (items_of script.now)) }
+    ensures done { result ≡ Ok Status.Done → first_unread (is_some sites.peer) script.now ≡ None }
+    ensures played { result ≡ Ok Status.Done → Played A (views_of sites) (inputs_in (items_of script.now)) }
     ensures differs { result ≢ Ok Status.Differs }
-    ensures refused { result ≡ Ok Status.Refused → IsSome (first_unread script.now) }
-    ensures memory { result ≡ Err LabFault.NoMemory → first_unread script.now ≡ None }
+    ensures refused { result ≡ Ok Status.Refused →
+        IsSome (first_unread (is_some sites.peer) script.now) }
+    ensures memory { result ≡ Err LabFault.NoMemory →
+        first_unread (is_some sites.peer) script.now ≡ None }
 {
-    match script_items(alloc, script, out)? {
-        Some(items) => run_items(alloc, site, items, out),
+    let has_peer = sites.peer.is_some();
+    match script_items(alloc, script, has_peer, out)? {
+        Some(items) => run_items(alloc, sites, items, out),
         None => Ok(Status::Refused),
     }
+}
+
+/// The peer's site, where its text is given.
+fn read_peer<A: Allocator + Copy>(
+    alloc: A,
+    scratch: Global,
+    text: Option<&str>,
+) -> Result<Option<Site<A>>, SiteFault>
+    ensures described { IfOk result (λ site. option_map described_site (texts_of text) ≡
+        option_map Some site) }
+    ensures refused { IfErr result (λ fault. fault ≢ SiteFault.NoMemory →
+        IsSomeAnd (texts_of text) (λ text. described_site text ≡ None)) }
+{
+    match text {
+        Some(text) => Ok(Some(Site::read(alloc, scratch, text)?)),
+        None => Ok(None),
+    }
+}
+
+/// The sites of one controller or two. That of the first is looked at first.
+fn read_sites<A: Allocator + Copy>(
+    alloc: A,
+    scratch: Global,
+    site: &str,
+    peer: Option<&str>,
+) -> Result<Sites<A>, SiteFault>
+    ensures described { IfOk result (λ sites. map described_site
+        (site.now ∷ option_list (texts_of peer)) ≡ map Some (views_of sites)) }
+    ensures peer { IfOk result (λ sites. is_some sites.peer ≡ is_some (texts_of peer)) }
+    ensures refused { IfErr result (λ fault. fault ≢ SiteFault.NoMemory →
+        (described_site site.now ≡ None) ⊎
+        IsSomeAnd (texts_of peer) (λ text. described_site text ≡ None)) }
+    ensures blank { IsBlankFile site.now → result ≡ Err (SiteFault.Missing Handover) }
+{
+    let first = Site::read(alloc, scratch, site)?;
+    let peer = read_peer(alloc, scratch, peer)?;
+    Ok(Sites { first, peer })
 }
 
 /// Says why there is no site to run over: the number of the fault and what it is of.
@@ -165,29 +246,34 @@ pub(crate) fn refuse_site<W: Write>(fault: SiteFault, out: &mut W) -> Result<Sta
     Ok(Status::Refused)
 }
 
-/// Runs a script over a site, both given as texts, and prints the trace to `out`.
+/// Runs a script over a site, or over two where a peer's is given, all given as texts, and prints the trace to `out`.
 ///
-/// The site is read first, then all lines of the script. A text that describes no site prints one line: `site 1` where
-/// it isn't TOML, `site 2` and the key where a key is missing, `site 3` and the key where a value is of another kind or
-/// out of its range, `site 4` and the kind where something stands twice, `site 5` and the cell where it has no traffic
-/// channel. A script prints `line` and the number of its first line that can't be read, counted from 1. Then nothing
-/// else is printed and the answer is `Refused`. `scratch` serves while the site is read, `alloc` for all else. Once
-/// memory was refused nothing more is printed; a site of white space and comments alone is refused without any.
+/// With a peer there are two controllers, each with a book of its own, and each line that one of them prints begins with
+/// `1: ` or `2: `. The site is read first, then the peer's, then all lines of the script. A text that describes no site
+/// prints one line: `site 1` where it isn't TOML, `site 2` and the key where a key is missing, `site 3` and the key where a
+/// value is of another kind or out of its range, `site 4` and the kind where something stands twice, `site 5` and the cell
+/// where it has no traffic channel. A script prints `line` and the number of its first line that can't be read, counted
+/// from 1. Then nothing else is printed and the answer is `Refused`. `scratch` serves while the sites are read, `alloc`
+/// for all else. Once memory was refused nothing more is printed; a site of white space and comments alone is refused
+/// without any.
 pub fn lab_run<A: Allocator + Copy, W: Write>(
     alloc: A,
     scratch: Global,
     site: &str,
+    peer: Option<&str>,
     script: &str,
     out: &mut W,
 ) -> Result<Status, LabFault>
-    ensures played { result ≡ Ok Status.Done → IsPlayed A site.now script.now }
+    ensures played { result ≡ Ok Status.Done → IsPlayed A site.now (texts_of peer) script.now }
     ensures differs { result ≢ Ok Status.Differs }
     ensures refused { result ≡ Ok Status.Refused →
-        (described_site site.now ≡ None) ⊎ IsSome (first_unread script.now) }
+        (described_site site.now ≡ None)
+        ⊎ IsSomeAnd (texts_of peer) (λ text. described_site text ≡ None)
+        ⊎ IsSome (first_unread (is_some peer) script.now) }
     ensures memory { result ≡ Err LabFault.NoMemory → ¬ IsBlankFile site.now }
 {
-    match Site::read(alloc, scratch, site) {
-        Ok(site) => run_script(alloc, site, script, out),
+    match read_sites(alloc, scratch, site, peer) {
+        Ok(sites) => run_script(alloc, sites, script, out),
         Err(fault) => refuse_site(fault, out),
     }
 }

@@ -547,31 +547,18 @@ fn say_toml<W: Write>(
     Ok(())
 }
 
-/// Says in one line why the text of a site file gives no site: the file, where in it, and what is allowed there.
-/// Nothing is said of a text that gives one, nor where memory is refused, which is answered by `NoMemory`.
-pub fn say_reason<W: Write>(
-    alloc: Global,
+/// Says in one line why a document that is TOML gives no site.
+fn say_fault<W: Write>(
     path: &str,
-    text: &str,
+    document: &Value,
+    fault: SiteFault,
     errors: &mut W,
 ) -> Result<(), LabFault> {
-    let fault = match Site::read(alloc, alloc, text) {
-        Ok(_) => return Ok(()),
-        Err(fault) => fault,
-    };
-    if matches!(fault, SiteFault::NoMemory) {
-        return Err(LabFault::NoMemory);
-    }
-    let document = match toml::table_from_str(alloc, text) {
-        Ok(document) => Value::Table(document),
-        Err(fault) if fault.is_memory() => return Err(LabFault::NoMemory),
-        Err(fault) => return say_toml(alloc, path, fault, errors),
-    };
     write!(errors, "{path}: ")?;
     match fault {
-        SiteFault::Missing(key) => say_key(&document, key, true, errors),
-        SiteFault::Range(key) => say_key(&document, key, false, errors),
-        SiteFault::Twice(what) => say_twice(&document, what, errors),
+        SiteFault::Missing(key) => say_key(document, key, true, errors),
+        SiteFault::Range(key) => say_key(document, key, false, errors),
+        SiteFault::Twice(what) => say_twice(document, what, errors),
         SiteFault::NoTraffic(cell) => {
             writeln!(
                 errors,
@@ -581,4 +568,28 @@ pub fn say_reason<W: Write>(
         }
         SiteFault::Toml | SiteFault::NoMemory => Ok(()),
     }
+}
+
+/// Says in one line why the text of a site file gives no site: the file, where in it, and what is allowed there.
+/// Nothing is said of a text that gives one, nor where memory is refused, which is answered by `NoMemory`. The answer is
+/// whether something was said.
+pub fn say_reason<W: Write>(
+    alloc: Global,
+    path: &str,
+    text: &str,
+    errors: &mut W,
+) -> Result<bool, LabFault> {
+    let fault = match Site::read(alloc, alloc, text) {
+        Ok(_) => return Ok(false),
+        Err(fault) => fault,
+    };
+    if matches!(fault, SiteFault::NoMemory) {
+        return Err(LabFault::NoMemory);
+    }
+    match toml::table_from_str(alloc, text) {
+        Ok(document) => say_fault(path, &Value::Table(document), fault, errors)?,
+        Err(fault) if fault.is_memory() => return Err(LabFault::NoMemory),
+        Err(fault) => say_toml(alloc, path, fault, errors)?,
+    }
+    Ok(true)
 }

@@ -7,20 +7,21 @@ ghost use Rattle.lab.specs.Turns.{asked_in, history_of, choice_at, Answers, IsTu
 use crate::noting::{NoneFree, Noting};
 use ho_procedure::controller::Controller;
 use ho_procedure::exchange::{Bad, Fault, Inbound, Outbound};
+use lab_script::script::Side;
 use radio_book::event::{Event, Reply};
 use radio_desk::desk::Desk;
 use rsl_messages::Octets;
 use std::alloc::{AllocError, Allocator, Global};
 use std::io::{self, Write};
-use trace_text::trace::{Step, print_fault, print_input, print_sent, print_steps};
+use trace_text::trace::{Mark, Step, print_fault, print_input, print_sent, print_steps};
 
 /// Where an input comes from.
 #[derive(Clone, Copy, Debug, PartialEq, Eq)]
 pub enum Source {
     /// A line of the script gives it.
     Script,
-    /// A simulated station sends it.
-    Station,
+    /// A simulated station, or the simulated switching centre, sends it.
+    Simulator,
 }
 
 /// What a controller answered to an input.
@@ -35,6 +36,8 @@ pub enum Answer<A: Allocator = Global> {
 /// An input, what the controller asked of its book, and what it answered.
 #[derive(Drop)]
 pub struct Turn<A: Allocator = Global> {
+    /// The controller.
+    pub side: Side,
     pub source: Source,
     pub input: Inbound<A>,
     pub steps: Vec<Step, A>,
@@ -147,14 +150,16 @@ fn handled<A: Allocator + Copy>(
     }
 }
 
-/// Handles an input, and says what came of it.
+/// The controller of a side handles an input; says what came of it.
 pub fn take_turn<A: Allocator + Copy>(
     alloc: A,
     controller: &mut Controller<Noting<A>, A>,
+    side: Side,
     source: Source,
     input: Inbound<A>,
 ) -> Result<Turn<A>, AllocError>
     ensures turn { IfOk result (λ turn. IsTurn controller.old turn controller.new) }
+    ensures side { IfOk result (λ turn. turn.side ≡ side) }
     ensures source { IfOk result (λ turn. turn.source ≡ source) }
     ensures input { IfOk result (λ turn. turn.input ≡ input) }
 {
@@ -166,6 +171,7 @@ pub fn take_turn<A: Allocator + Copy>(
     let found = view.none_free().get(found..).unwrap_or(&[]);
     let steps = steps_from(alloc, view.desk(), found, first)?;
     Ok(Turn {
+        side,
         source,
         input,
         steps,
@@ -173,12 +179,16 @@ pub fn take_turn<A: Allocator + Copy>(
     })
 }
 
-/// Prints what came of an input.
-pub fn print_turn<A: Allocator, W: Write>(out: &mut W, turn: &Turn<A>) -> io::Result<()> {
-    print_input(out, &turn.input)?;
-    print_steps(out, &turn.steps)?;
+/// Prints what came of an input, each line behind its controller's mark.
+pub fn print_turn<A: Allocator, W: Write>(
+    out: &mut W,
+    mark: Mark,
+    turn: &Turn<A>,
+) -> io::Result<()> {
+    print_input(out, mark, &turn.input)?;
+    print_steps(out, mark, &turn.steps)?;
     match &turn.answer {
-        Answer::Sent(sent) => print_sent(out, sent),
-        Answer::Undecoded(bad) => print_fault(out, *bad),
+        Answer::Sent(sent) => print_sent(out, mark, sent),
+        Answer::Undecoded(bad) => print_fault(out, mark, *bad),
     }
 }

@@ -9,9 +9,10 @@ use std::alloc::{AllocError, Global};
 /// What the command line asks for.
 #[derive(Drop)]
 pub enum Job<'a> {
-    /// A script is run over a site: the paths of both files.
+    /// A script is run over a site, or over two where a peer's is named: the paths of the files.
     Run {
         site: &'a str,
+        peer: Option<&'a str>,
         script: &'a str,
     },
     /// An undone attempt is taken out of a trace: the paths of the site and of the trace, and the line, counted from 1, in
@@ -70,12 +71,24 @@ fn argument<'a>(alloc: Global, name: &'a str, help: &'a str) -> Arg<'a> {
         .help(help)
 }
 
-/// `run SITE SCRIPT`
+/// `--peer SITE`
+fn peer_argument<'a>(alloc: Global) -> Arg<'a> {
+    Arg::new(alloc, "PEER")
+        .long("peer")
+        .value_name("SITE")
+        .action(ArgAction::Set)
+        .help(
+            "The site file of a second controller: each line of the trace then begins with 1: or 2:, and lines of the script that begin with 2: are for that one",
+        )
+}
+
+/// `run SITE SCRIPT [--peer SITE]`
 fn run_command<'a>(alloc: Global) -> Result<Command<'a>, AllocError> {
     Command::new(alloc, "run")
         .about("Runs a script over a site and prints the trace")
         .arg(argument(alloc, "SITE", "The site file"))?
-        .arg(argument(alloc, "SCRIPT", "The script file"))
+        .arg(argument(alloc, "SCRIPT", "The script file"))?
+        .arg(peer_argument(alloc))
 }
 
 /// `rewind SITE TRACE LINE`
@@ -143,6 +156,7 @@ fn job_of<'a>(matches: &ArgMatches<'a>) -> Option<Job<'a>> {
     match matches.subcommand()? {
         ("run", run) => Some(Job::Run {
             site: run.get_str("SITE")?,
+            peer: run.get_str("PEER"),
             script: run.get_str("SCRIPT")?,
         }),
         ("rewind", rewind) => Some(Job::Rewind {

@@ -1,2 +1,3 @@
 pub mod WordLemmas
 pub mod ScriptLemmas
+pub mod SideLemmas

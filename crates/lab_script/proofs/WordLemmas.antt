@@ -12,6 +12,7 @@ use Rattle.hex.specs.declared.error.FromHexError.{FromHexError}
 use Rattle.hex.specs.Hex.{decode_of, is_hex_digit}
 use Rattle.channel_fsm.specs.declared.ChanId.{ChanId}
 use Rattle.bts_model.specs.declared.setting.Act.TheVariants.{Mobile}
+use Rattle.lab_script.specs.declared.side.Side.{Side}
 use Rattle.lab_script.specs.Words.{words_of, number_below, octets_of, channel_at, channel_of}
 use Rattle.lab_script.specs.Operators.{handover_at, handover_of, call_of, timer_of, expiry_at, expiry_of}
 use Rattle.lab_script.specs.Received.{abis_at, abis_of, a_at, a_of}
@@ -210,14 +211,14 @@ a_words call octets = by_words (words_of octets) ∙ ap (a_at (number_below 6553
     by_words (word ∷ []) = refl
     by_words (word ∷ next ∷ rest) = sym (nothing _)
 
-pub mobile_words : (cell trx tn habit : List ℕ) → mobile_of (cell ∷ trx ∷ tn ∷ words_of habit) ≡ setting_at (channel_at (number_below 256 cell) (number_below 256 trx) (number_below 8 tn)) (option_map Mobile (habit_of habit))
-mobile_words cell trx tn habit = by_words (words_of habit) ∙ ap (λ h. setting_at (channel_at (number_below 256 cell) (number_below 256 trx) (number_below 8 tn)) (option_map Mobile h)) (lone_habit habit)
+pub mobile_words : (side : Side) (cell trx tn habit : List ℕ) → mobile_of side (cell ∷ trx ∷ tn ∷ words_of habit) ≡ setting_at side (channel_at (number_below 256 cell) (number_below 256 trx) (number_below 8 tn)) (option_map Mobile (habit_of habit))
+mobile_words side cell trx tn habit = by_words (words_of habit) ∙ ap (λ h. setting_at side (channel_at (number_below 256 cell) (number_below 256 trx) (number_below 8 tn)) (option_map Mobile h)) (lone_habit habit)
   where
-    nothing : (x : Option ChanId) → setting_at x None ≡ None
+    nothing : (x : Option ChanId) → setting_at side x None ≡ None
     nothing (Some x) = refl
     nothing None = refl
 
-    by_words : (words : List (List ℕ)) → mobile_of (cell ∷ trx ∷ tn ∷ words) ≡ setting_at (channel_at (number_below 256 cell) (number_below 256 trx) (number_below 8 tn)) (option_map Mobile (lone habit_of words))
+    by_words : (words : List (List ℕ)) → mobile_of side (cell ∷ trx ∷ tn ∷ words) ≡ setting_at side (channel_at (number_below 256 cell) (number_below 256 trx) (number_below 8 tn)) (option_map Mobile (lone habit_of words))
     by_words [] = sym (nothing _)
     by_words (word ∷ []) = refl
     by_words (word ∷ next ∷ rest) = sym (nothing _)

@@ -1,4 +1,5 @@
 pub mod Words
+pub mod Sides
 pub mod Operators
 pub mod Received
 pub mod Stations

@@ -1,4 +1,5 @@
-//! Scripts: texts that say, line by line, what a controller is given, and what is asked of simulated stations.
+//! Scripts: texts that say, line by line, what one controller or two are given, and what is asked of what is simulated
+//! around them.
 //!
 //! `docs/PROGRAM.md` lists the lines and the ranges of their numbers; [`Item`] is what they give.
 
@@ -6,11 +7,14 @@ ghost use Rattle.std.specs.Prelude.{◌≡◌, ◌≢◌, ◌↔◌, ℕ, Some, 
 ghost use Rattle.std.specs.List.{filter_map};
 ghost use Rattle.std.specs.Str.Lines.{strip_carriage_return};
 ghost use Rattle.lab_script.specs.Words.{words_of};
+ghost use Rattle.lab_script.specs.Sides.{text_of};
 ghost use Rattle.lab_script.specs.Script as said;
 
 use crate::operator::{expiry_line, operator_line};
 use crate::received::{a_line, abis_line};
-use crate::stations::{is_sim, setting_line};
+pub use crate::side::Side;
+use crate::side::{cut_side, is_for_peer};
+use crate::stations::{hangup_line, is_sim, setting_line};
 pub use crate::words::is_octets;
 use crate::words::octets;
 use bts_model::Setting;
@@ -18,15 +22,26 @@ use ho_procedure::exchange::Inbound;
 use std::alloc::{AllocError, Allocator, Global};
 use thiserror::Error;
 
+/// What is given.
+#[derive(Drop)]
+pub enum Given<A: Allocator = Global> {
+    /// An input of the controller.
+    Input(Inbound<A>),
+    /// From here on simulated stations, mobiles and a simulated switching centre answer all controllers. Said again it
+    /// changes nothing.
+    Attach,
+    /// Something is asked of a simulated station or of a mobile of the controller.
+    Set(Setting),
+    /// The simulated switching centre hangs up this call of the controller.
+    HangUp(u16),
+}
+
 /// What a line of a script gives.
 #[derive(Drop)]
-pub enum Item<A: Allocator = Global> {
-    /// The controller is given something.
-    Input(Inbound<A>),
-    /// From here on simulated stations and mobiles answer the controller. Said again it changes nothing.
-    Attach,
-    /// Something is asked of a simulated station or of a mobile.
-    Set(Setting),
+pub struct Item<A: Allocator = Global> {
+    /// The controller that the line is for.
+    pub side: Side,
+    pub given: Given<A>,
 }
 
 /// Why a script is not read.
@@ -79,7 +94,7 @@ fn received<A: Allocator + Copy>(alloc: A, line: &str) -> Result<Option<Inbound<
     }
 }
 
-/// The input that a line gives.
+/// The input that a line's text gives.
 fn input<A: Allocator + Copy>(alloc: A, line: &str) -> Result<Option<Inbound<A>>, AllocError>
     ensures value { IfOk result (λ input. input ≡ said.input_of line.now) }
     ensures memory { IsErr result → is_some (said.input_of {A = A} line.now) ≡ true }
@@ -90,14 +105,40 @@ fn input<A: Allocator + Copy>(alloc: A, line: &str) -> Result<Option<Inbound<A>>
     }
 }
 
-/// What a line is for the simulated stations.
-fn simulated<A: Allocator>(line: &str) -> Option<Item<A>>
+/// What a line's text asks of the simulators of a controller.
+fn simulated_on<A: Allocator>(side: Side, text: &str) -> Option<Given<A>>
+    ensures { result ≡ said.simulated_on side text.now }
+{
+    if let Some(setting) = setting_line(side, text) {
+        return Some(Given::Set(setting));
+    }
+    Some(Given::HangUp(hangup_line(text)?))
+}
+
+/// What a line is for the simulators.
+fn simulated<A: Allocator>(line: &str) -> Option<Given<A>>
     ensures { result ≡ said.simulated line.now }
 {
     if is_sim(line) {
-        Some(Item::Attach)
-    } else {
-        Some(Item::Set(setting_line(line)?))
+        return Some(Given::Attach);
+    }
+    let (side, text) = cut_side(line);
+    simulated_on(side, text)
+}
+
+/// What a line says.
+fn given_by<A: Allocator + Copy>(
+    alloc: A,
+    line: &str,
+    text: &str,
+) -> Result<Option<Given<A>>, AllocError>
+    requires text { text.now ≡ text_of line.now }
+    ensures value { IfOk result (λ given. given ≡ said.given_by line.now) }
+    ensures memory { IsErr result → is_some (said.given_by {A = A} line.now) ≡ true }
+{
+    match input(alloc, text)? {
+        Some(input) => Ok(Some(Given::Input(input))),
+        None => Ok(simulated(line)),
     }
 }
 
@@ -106,9 +147,10 @@ fn read_item<A: Allocator + Copy>(alloc: A, line: &str) -> Result<Option<Item<A>
     ensures value { IfOk result (λ item. item ≡ said.item_of line.now) }
     ensures memory { IsErr result → is_some (said.item_of {A = A} line.now) ≡ true }
 {
-    match input(alloc, line)? {
-        Some(input) => Ok(Some(Item::Input(input))),
-        None => Ok(simulated(line)),
+    let (side, text) = cut_side(line);
+    match given_by(alloc, line, text)? {
+        Some(given) => Ok(Some(Item { side, given })),
+        None => Ok(None),
     }
 }
 
@@ -126,42 +168,65 @@ fn is_blank(line: &str) -> bool
     line.bytes().all(|byte| byte == b' ' || byte == b'\t')
 }
 
-/// Whether a line gives the controller something.
-fn is_input(line: &str) -> bool
-    ensures { result ≡ is_some (said.input_of {A = Unit} line.now) }
+/// Whether a line's text gives a controller something.
+fn is_input(text: &str) -> bool
+    ensures { result ≡ is_some (said.input_of {A = Unit} text.now) }
 {
-    operator_line(line).is_some()
-        || expiry_line(line).is_some()
-        || abis_line(line).is_some()
-        || a_line(line).is_some()
+    operator_line(text).is_some()
+        || expiry_line(text).is_some()
+        || abis_line(text).is_some()
+        || a_line(text).is_some()
 }
 
-/// Whether a line asks something of a simulated station or of a mobile.
-fn is_setting(line: &str) -> bool
-    ensures { result ≡ said.is_setting line.now }
+/// Whether a line's text asks something of the simulators of a controller.
+fn is_simulated_on(side: Side, text: &str) -> bool
+    ensures { result ≡ is_some (said.simulated_on {A = Unit} side text.now) }
 {
-    setting_line(line).is_some()
+    setting_line(side, text).is_some() || hangup_line(text).is_some()
 }
 
-/// Whether a line is one for the simulated stations.
+/// Whether a line asks something of the simulators.
+fn needs_sim(line: &str) -> bool
+    ensures { result ≡ said.needs_sim line.now }
+{
+    let (side, text) = cut_side(line);
+    is_simulated_on(side, text)
+}
+
+/// Whether a line is one for the simulators.
 fn is_simulated(line: &str) -> bool
     ensures { result ≡ is_some (said.simulated {A = Unit} line.now) }
 {
-    is_sim(line) || is_setting(line)
+    is_sim(line) || needs_sim(line)
+}
+
+/// Whether what a line says to its controller is an input.
+fn gives_input(line: &str) -> bool
+    ensures { result ≡ is_some (said.input_of {A = Unit} (text_of line.now)) }
+{
+    let (_, text) = cut_side(line);
+    is_input(text)
 }
 
 /// Whether a line gives something.
 fn gives(line: &str) -> bool
-    ensures { result ≡ is_some (said.item_of {A = Unit} line.now) }
+    ensures { result ≡ is_some (said.given_by {A = Unit} line.now) }
 {
-    is_input(line) || is_simulated(line)
+    gives_input(line) || is_simulated(line)
 }
 
-/// Whether a line gives something or is passed over.
-fn is_line(line: &str) -> bool
-    ensures { result ≡ said.is_line line.now }
+/// Whether a line is for a controller that is there.
+fn is_addressed(has_peer: bool, line: &str) -> bool
+    ensures { result ≡ said.is_addressed has_peer line.now }
 {
-    is_comment(line) || is_blank(line) || gives(line)
+    has_peer || !is_for_peer(line)
+}
+
+/// Whether a line gives something to a controller that is there, or is passed over.
+fn is_line(has_peer: bool, line: &str) -> bool
+    ensures { result ≡ said.is_line has_peer line.now }
+{
+    is_comment(line) || is_blank(line) || (is_addressed(has_peer, line) && gives(line))
 }
 
 /// A line without the carriage return that may end it.
@@ -172,31 +237,33 @@ pub fn without_return(line: &str) -> &str
 }
 
 /// Whether a line, which a carriage return may end, is none.
-fn ends_no_line(line: &str) -> bool
-    ensures { result ≡ not (said.is_line (strip_carriage_return line.now)) }
+fn ends_no_line(has_peer: bool, line: &str) -> bool
+    ensures { result ≡ not (said.is_line has_peer (strip_carriage_return line.now)) }
 {
-    !is_line(without_return(line))
+    !is_line(has_peer, without_return(line))
 }
 
 /// The number of the first that is no line, counted from 1.
-fn first_no_line(text: &str) -> Option<usize>
-    ensures { result ≡ said.first_line (λ line. not (said.is_line line)) text.now }
-{
-    let index = text.split('\n').position(|line| ends_no_line(line))?;
-    Some(index + 1)
-}
-
-/// The number of the first line that asks something of a simulated station or of a mobile.
-fn first_setting(text: &str) -> Option<usize>
-    ensures { result ≡ said.first_line said.is_setting text.now }
+fn first_no_line(has_peer: bool, text: &str) -> Option<usize>
+    ensures { result ≡ said.first_line (λ line. not (said.is_line has_peer line)) text.now }
 {
     let index = text
         .split('\n')
-        .position(|line| is_setting(without_return(line)))?;
+        .position(|line| ends_no_line(has_peer, line))?;
     Some(index + 1)
 }
 
-/// The number of the first line that attaches the simulated stations.
+/// The number of the first line that asks something of the simulators.
+fn first_needing(text: &str) -> Option<usize>
+    ensures { result ≡ said.first_line said.needs_sim text.now }
+{
+    let index = text
+        .split('\n')
+        .position(|line| needs_sim(without_return(line)))?;
+    Some(index + 1)
+}
+
+/// The number of the first line that attaches the simulators.
 fn first_sim(text: &str) -> Option<usize>
     ensures { result ≡ said.first_line said.is_sim text.now }
 {
@@ -228,14 +295,14 @@ fn unless_lower(one: Option<usize>, other: Option<usize>) -> Option<usize>
     }
 }
 
-/// The number of the first line that can't be read, counted from 1: that is none, or that asks something of simulated
-/// stations where no line before it attaches them.
-pub fn first_unread(text: &str) -> Option<usize>
-    ensures line { result ≡ said.first_unread text.now }
+/// The number of the first line that can't be read, counted from 1: that is none, that is for the peer where there is
+/// none, or that asks something of simulators where no line before it attaches them.
+pub fn first_unread(text: &str, has_peer: bool) -> Option<usize>
+    ensures line { result ≡ said.first_unread has_peer text.now }
 {
     lower(
-        first_no_line(text),
-        unless_lower(first_setting(text), first_sim(text)),
+        first_no_line(has_peer, text),
+        unless_lower(first_needing(text), first_sim(text)),
     )
 }
 
@@ -268,18 +335,21 @@ fn items<A: Allocator + Copy>(alloc: A, text: &str) -> Result<Vec<Item<A>, A>, A
     Ok(items)
 }
 
-/// What a script gives, in the order of its lines. All lines are looked at before any memory is asked for.
+/// What a script gives one controller, or it and its peer, in the order of its lines. All lines are looked at before any
+/// memory is asked for.
 pub fn read_script<A: Allocator + Copy>(
     alloc: A,
     text: &str,
+    has_peer: bool,
 ) -> Result<Vec<Item<A>, A>, ScriptFault>
     ensures items { IfOk result (λ items. items.items ≡ said.items_of text.now) }
-    ensures readable { OnOk result (said.first_unread text.now ≡ None) }
+    ensures sides { IfOk result (λ items. said.AreThere has_peer items.items) }
+    ensures readable { OnOk result (said.first_unread has_peer text.now ≡ None) }
     ensures line { (number : ℕ) → (result ≡ Err (ScriptFault.Line number)) ↔
-        (said.first_unread text.now ≡ Some number) }
+        (said.first_unread has_peer text.now ≡ Some number) }
     ensures memory { result ≡ Err ScriptFault.NoMemory → said.items_of {A = A} text.now ≢ [] }
 {
-    if let Some(line) = first_unread(text) {
+    if let Some(line) = first_unread(text, has_peer) {
         return Err(ScriptFault::Line(line));
     }
     Ok(items(alloc, text)?)

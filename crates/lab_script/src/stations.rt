@@ -1,9 +1,11 @@
-//! Lines for simulated stations and mobiles.
+//! Lines for simulated stations and mobiles, and for the simulated switching centre.
 ghost use Rattle.std.specs.Prelude.{◌≡◌, bytes_eq, codes};
 ghost use Rattle.lab_script.specs.Words.{words_of};
+ghost use Rattle.lab_script.specs.Operators.{call_of};
 ghost use Rattle.lab_script.specs.Stations as said;
 
-use crate::words::{channel, channel_at, first_word};
+use crate::side::Side;
+use crate::words::{call_number, channel, channel_at, first_word};
 use bts_model::{Act, Habit, Setting};
 use channel_fsm::ChanId;
 
@@ -26,12 +28,12 @@ fn habit(text: &str) -> Option<Habit>
     }
 }
 
-/// An act at a channel of the one controller.
-fn setting(chan: ChanId, act: Act) -> Setting
-    ensures { result ≡ said.setting chan act }
+/// An act at a channel of a controller.
+fn setting(side: Side, chan: ChanId, act: Act) -> Setting
+    ensures { result ≡ said.setting side chan act }
 {
     Setting {
-        controller: 0,
+        controller: side.number(),
         cell: chan.cell,
         trx: chan.trx,
         tn: chan.tn,
@@ -40,13 +42,13 @@ fn setting(chan: ChanId, act: Act) -> Setting
 }
 
 /// `CELL TRX TN HABIT`
-fn mobile(text: &str) -> Option<Setting>
-    ensures { result ≡ said.mobile_of (words_of text.now) }
+fn mobile(side: Side, text: &str) -> Option<Setting>
+    ensures { result ≡ said.mobile_of side (words_of text.now) }
 {
     let (cell, text) = first_word(text)?;
     let (trx, text) = first_word(text)?;
     let (tn, name) = first_word(text)?;
-    Some(setting(channel_at(cell, trx, tn)?, Act::Mobile(habit(name)?)))
+    Some(setting(side, channel_at(cell, trx, tn)?, Act::Mobile(habit(name)?)))
 }
 
 /// The act of this keyword, which a channel follows.
@@ -61,14 +63,31 @@ fn act(keyword: &str) -> Option<Act>
     }
 }
 
-/// What a line asks of a simulated station or of a mobile.
-pub(crate) fn setting_line(line: &str) -> Option<Setting>
-    ensures { result ≡ said.setting_line (words_of line.now) }
+/// What a line asks of a simulated station or of a mobile of a controller.
+pub(crate) fn setting_line(side: Side, line: &str) -> Option<Setting>
+    ensures { result ≡ said.setting_line side (words_of line.now) }
 {
     let (keyword, text) = first_word(line)?;
     if keyword == "mobile" {
-        mobile(text)
+        mobile(side, text)
     } else {
-        Some(setting(channel(text)?, act(keyword)?))
+        Some(setting(side, channel(text)?, act(keyword)?))
+    }
+}
+
+/// `CALL`
+fn call(text: &str) -> Option<u16>
+    ensures { result ≡ call_of (words_of text.now) }
+{
+    call_number(text)
+}
+
+/// The call that a line tells the switching centre to hang up.
+pub(crate) fn hangup_line(line: &str) -> Option<u16>
+    ensures { result ≡ said.hangup_line (words_of line.now) }
+{
+    match first_word(line)? {
+        ("hangup", text) => call(text),
+        _ => None,
     }
 }

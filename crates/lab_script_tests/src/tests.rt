@@ -2,13 +2,13 @@ use attempt_journal::Timer;
 use bts_model::{Act, Habit, Setting};
 use channel_fsm::ChanId;
 use ho_procedure::exchange::{Inbound, Line};
-use lab_script::script::{Item, ScriptFault, first_unread, is_octets, read_script};
+use lab_script::script::{Given, Item, ScriptFault, Side, first_unread, is_octets, read_script};
 use refusing_heap::RefusingHeap;
 use std::alloc::Global;
 use std::process::Abort;
 use std::test::Fail;
 
-/// Lines that can't be read.
+/// Lines that can't be read, with a peer or without.
 const NO_LINES: &[&str] = &[
     "opan 1 0 0 3",
     "Open 1 0 0 3",
@@ -69,11 +69,27 @@ const NO_LINES: &[&str] = &[
     "let 0 0 3",
     "mobile 0 0 3 arrive",
     "hangup 1",
-    "2: undo 1",
+    "hangup",
+    "2: ",
+    "2:",
+    "2:undo 1",
+    "2 : undo 1",
+    "2:  undo 1",
+    "2: undo 1 ",
+    "2: # a comment",
+    "2: sim",
+    "2: 2: undo 1",
+    "2: hangup 1",
+    "2: hold 0 0 3",
+    "2: open 1 0 0 8",
+    "1: undo 1",
+    "1: sim",
+    "3: undo 1",
+    " 2: undo 1",
     "\u{a0}",
 ];
 
-/// Scripts, and the first line that can't be read.
+/// Scripts, and the first line that can't be read, with a peer or without.
 const UNREAD: &[(&str, usize)] = &[
     ("undo", 1),
     ("open 1 0 0 3\n\n# a comment\nundo x\nundo y\n", 4),
@@ -94,7 +110,28 @@ const UNREAD: &[(&str, usize)] = &[
     ("sim\nmobile 0 0 3 arrive \n", 2),
     ("sim\nmobile 0 0 8 arrive\n", 2),
     ("sim\nmobile arrive\n", 2),
-    ("sim\nrefuse 0 0 3\nsim\nhangup 1\n", 4),
+    ("sim\nrefuse 0 0 3\nsim\nhangup\n", 4),
+    ("sim\nhangup 65536\n", 2),
+    ("sim\nhangup 1 2\n", 2),
+    ("sim\nhangup +1\n", 2),
+    ("undo 1\nhangup 1\nsim\n", 2),
+    ("2: sim\nhangup 1\n", 1),
+];
+
+/// Scripts, and their first line that can't be read without a peer. With one they can be read.
+const WITH_PEER: &[(&str, usize)] = &[
+    ("2: undo 1", 1),
+    ("undo 1\n\n2: clear 1\r\n", 3),
+    ("sim\n2: hangup 1\n", 2),
+    ("sim\n2: hold 0 0 3\n2: let 0 0 3\n", 2),
+    ("# 2: undo 1\n2: a 1 00\n", 2),
+];
+
+/// Scripts that can't be read, with a peer: what is for that needs the simulators as what is for the first does.
+const UNREAD_WITH_PEER: &[(&str, usize)] = &[
+    ("2: undo 1\n2: hold 0 0 3\nsim\n", 2),
+    ("2: hangup 1\nundo x\nsim\n", 1),
+    ("2: undo 1\n2: undo x\n", 2),
 ];
 
 /// What a line gives, with octets that nobody owns.
@@ -106,11 +143,12 @@ enum Gives<'a> {
     A(u16, &'a [u8]),
     Attach,
     Set(Setting),
+    HangUp(u16),
 }
 
-use Gives::{A, Abis, Attach, Expiry, Operator, Set};
+use Gives::{A, Abis, Attach, Expiry, HangUp, Operator, Set};
 
-/// Scripts, and what their lines give.
+/// Scripts, and what their lines give the one controller.
 const READ: &[(&str, &[Gives<'static>])] = &[
     ("", &[]),
     ("# a comment\r\n \t\n\n#\n", &[]),
@@ -176,7 +214,28 @@ const READ: &[(&str, &[Gives<'static>])] = &[
             Set(VANISH),
         ],
     ),
+    (
+        "sim\nhangup 0001\r\nhangup 65535\nhangup 0",
+        &[Attach, HangUp(1), HangUp(65535), HangUp(0)],
+    ),
 ];
+
+/// A script with a peer: the controller that each line is for, and what the line gives.
+const OF_TWO: (&str, &[(Side, Gives<'static>)]) = (
+    "undo 1\n2: undo 1\r\nsim\n2: expire 2 T8\n2: abis 255 1 08\n\n2: a 7 0000\n2: hold 255 254 7\nhold 255 254 7\n2: hangup 9\nhangup 9\n",
+    &[
+        (Side::First, Operator(Line::Undo { call: 1 })),
+        (Side::Peer, Operator(Line::Undo { call: 1 })),
+        (Side::First, Attach),
+        (Side::Peer, Expiry(2, Timer::T8)),
+        (Side::Peer, Abis(255, 1, &[0x08])),
+        (Side::Peer, A(7, &[0x00, 0x00])),
+        (Side::Peer, Set(PEER_HOLD)),
+        (Side::First, Set(HOLD)),
+        (Side::Peer, HangUp(9)),
+        (Side::First, HangUp(9)),
+    ],
+);
 
 const REFUSE: Setting = Setting {
     controller: 0,
@@ -188,6 +247,15 @@ const REFUSE: Setting = Setting {
 
 const HOLD: Setting = Setting {
     controller: 0,
+    cell: 255,
+    trx: 254,
+    tn: 7,
+    act: Act::Hold,
+};
+
+/// The second controller has the number 1.
+const PEER_HOLD: Setting = Setting {
+    controller: 1,
     cell: 255,
     trx: 254,
     tn: 7,
@@ -236,25 +304,27 @@ fn input_of<'a>(input: &'a Inbound<Global>) -> Gives<'a> {
 }
 
 fn given_by<'a>(item: &'a Item<Global>) -> Gives<'a> {
-    match item {
-        Item::Input(input) => input_of(input),
-        Item::Attach => Attach,
-        Item::Set(setting) => Set(*setting),
+    match &item.given {
+        Given::Input(input) => input_of(input),
+        Given::Attach => Attach,
+        Given::Set(setting) => Set(*setting),
+        Given::HangUp(call) => HangUp(*call),
     }
 }
 
-/// A script gives just this.
+/// A script without a peer gives the one controller just this.
 fn is_read(
     rt: &impl Abort,
     alloc: Global,
     script: &str,
     wanted: &[Gives<'static>],
 ) -> Result<(), Fail> {
-    assert_eq!(rt; first_unread(script), None, "{script}");
-    let items = read_script(alloc, script)?;
+    assert_eq!(rt; first_unread(script, false), None, "{script}");
+    let items = read_script(alloc, script, false)?;
     assert_eq!(rt; items.len(), wanted.len(), "{script}");
     for (item, wanted) in items.iter().zip(wanted.iter()) {
         assert_eq!(rt; given_by(item), *wanted, "{script}");
+        assert_eq!(rt; item.side, Side::First, "{script}");
     }
     Ok(())
 }
@@ -268,19 +338,48 @@ fn lines_give_items(rt: HostRuntime) -> Result<(), Fail> {
 }
 
 #[test]
+fn lines_of_two_controllers_give_items(rt: HostRuntime) -> Result<(), Fail> {
+    let (script, wanted) = OF_TWO;
+    let items = read_script(rt.alloc(), script, true)?;
+    assert_eq!(rt; items.len(), wanted.len());
+    for (item, (side, gives)) in items.iter().zip(wanted.iter()) {
+        assert_eq!(rt; item.side, *side);
+        assert_eq!(rt; given_by(item), *gives);
+    }
+    Ok(())
+}
+
+/// This is the first line of a script that can't be read.
+fn is_unread(rt: &impl Abort, alloc: Global, script: &str, has_peer: bool, number: usize) {
+    assert_eq!(rt; first_unread(script, has_peer), Some(number), "{script}");
+    let answer = read_script(alloc, script, has_peer).err();
+    assert_eq!(rt; answer, Some(ScriptFault::Line(number)), "{script}");
+}
+
+#[test]
 fn a_line_that_is_none(rt: HostRuntime) {
     for line in NO_LINES {
-        let answer = read_script(rt.alloc(), *line).err();
-        assert_eq!(rt; answer, Some(ScriptFault::Line(1)), "{line}");
+        is_unread(&rt, rt.alloc(), *line, false, 1);
+        is_unread(&rt, rt.alloc(), *line, true, 1);
     }
 }
 
 #[test]
 fn the_first_line_that_is_none(rt: HostRuntime) {
     for (script, number) in UNREAD {
-        assert_eq!(rt; first_unread(*script), Some(*number), "{script}");
-        let answer = read_script(rt.alloc(), *script).err();
-        assert_eq!(rt; answer, Some(ScriptFault::Line(*number)), "{script}");
+        is_unread(&rt, rt.alloc(), *script, false, *number);
+        is_unread(&rt, rt.alloc(), *script, true, *number);
+    }
+}
+
+#[test]
+fn a_line_for_a_peer_that_is_not_there(rt: HostRuntime) {
+    for (script, number) in WITH_PEER {
+        is_unread(&rt, rt.alloc(), *script, false, *number);
+        assert_eq!(rt; first_unread(*script, true), None, "{script}");
+    }
+    for (script, number) in UNREAD_WITH_PEER {
+        is_unread(&rt, rt.alloc(), *script, true, *number);
     }
 }
 
@@ -311,7 +410,8 @@ fn octets_are_pairs_of_hexadecimal_digits(rt: HostRuntime) {
 /// Whether a script was read over a heap that refuses this request, and met no refusal.
 fn reads_without(rt: &impl Abort, alloc: Global, n: u64) -> bool {
     let heap = RefusingHeap::refusing_nth(alloc, n);
-    let fault = read_script(&heap, "undo 1\nabis 0 0 0833010b\na 1 000121\nsim\n").err();
+    let script = "undo 1\nabis 0 0 0833010b\n2: a 1 000121\nsim\n2: hangup 1\n";
+    let fault = read_script(&heap, script, true).err();
     let wanted = if heap.was_refused() {
         Some(ScriptFault::NoMemory)
     } else {

@@ -1,9 +1,13 @@
 //! What no clause says: the printed texts on the whole way from two files to a trace and from octets to a message in
 //! words, what is refused, allocation failures and failing writes.
+mod crossing;
 mod decoded;
+mod external;
 mod failing;
 mod files;
 mod four_cells;
+mod hangup;
+mod peer;
 mod program;
 mod reasons;
 mod refusals;
@@ -37,19 +41,39 @@ end channels=0 calls=0 references=0 timers=0
 ",
 );
 
-/// What a run printed, and how it ended.
+/// What a run over a site, and over a peer's where there is one, printed, and how it ended.
 fn printed<A: Allocator + Copy>(
     alloc: A,
     scratch: Global,
     site: &str,
+    peer: Option<&str>,
     script: &str,
 ) -> Result<(Result<Status, LabFault>, String), Fail> {
     let mut out = Vec::new(scratch);
-    let status = lab_run(alloc, scratch, site, script, &mut out);
+    let status = lab_run(alloc, scratch, site, peer, script, &mut out);
     Ok((status, String::from_utf8(out)?))
 }
 
-/// A run ends so and prints this.
+/// A run over these sites ends so and prints this.
+fn prints_of(
+    rt: &impl Abort,
+    alloc: Global,
+    site: &str,
+    peer: Option<&str>,
+    script: &str,
+    ended: Status,
+    wanted: &str,
+) -> Result<(), Fail> {
+    let (status, text) = printed(alloc, alloc, site, peer, script)?;
+    assert_eq!(rt;
+        (status, text.as_str()),
+        (Ok(ended), wanted),
+        "{site} {script}"
+    );
+    Ok(())
+}
+
+/// A run over one site ends so and prints this.
 fn prints(
     rt: &impl Abort,
     alloc: Global,
@@ -58,11 +82,5 @@ fn prints(
     ended: Status,
     wanted: &str,
 ) -> Result<(), Fail> {
-    let (status, text) = printed(alloc, alloc, site, script)?;
-    assert_eq!(rt;
-        (status, text.as_str()),
-        (Ok(ended), wanted),
-        "{site} {script}"
-    );
-    Ok(())
+    prints_of(rt, alloc, site, None, script, ended, wanted)
 }

@@ -5,6 +5,6 @@ ghost use Rattle.rr_elements.specs.MeasResults.{Results};
 
 /// An empty window to which reports are added, one after the other, keeps the last valid ones of all of them.
 pub fn added_reports_are_the_last_valid()
-    ensures { (width : ℕ) (reports : List Results) →
+    ensures law { (width : ℕ) (reports : List Results) →
         added width [] reports ≡ last_valid width reports }
 {}

@@ -67,7 +67,7 @@ impl<A: Allocator> Window<A> {
 
     /// Whether there is no report.
     pub fn is_empty(&self) -> bool
-        ensures { IsTrue result ↔ (self.now.reports ≡ []) }
+        ensures empty { IsTrue result ↔ (self.now.reports ≡ []) }
     {
         self.reports.is_empty()
     }

@@ -1,4 +1,4 @@
-//! The trace: what a controller was given, what it asked of its book, and what it sent, as lines of text.
+//! The trace: what one controller or two were given, what each asked of its book, and what it sent, as lines of text.
 //!
 //! `docs/PROGRAM.md` lists the lines and their words.
 use crate::bad::BadText;
@@ -11,6 +11,27 @@ use radio_book::event::{Attempt, AttemptKind, CallRecord, Event, Refusal, Reply,
 use std::alloc::Allocator;
 use std::fmt;
 use std::io::{self, Write};
+
+/// What stands in front of a controller's lines.
+#[derive(Clone, Copy, Debug, PartialEq, Eq)]
+pub enum Mark {
+    /// Nothing: there is one controller.
+    Alone,
+    /// `1: `: the first of two.
+    First,
+    /// `2: `: its peer.
+    Peer,
+}
+
+impl fmt::Display for Mark {
+    fn fmt<W: fmt::Write>(&self, f: &mut fmt::Formatter<W>) -> fmt::Result {
+        f.write_str(match self {
+            Mark::Alone => "",
+            Mark::First => "1: ",
+            Mark::Peer => "2: ",
+        })
+    }
+}
 
 /// What a controller asked of its book.
 #[derive(Clone, Copy, Debug, PartialEq, Eq)]
@@ -202,41 +223,49 @@ impl fmt::Display for ReplyText {
 }
 
 /// Prints that an input is handled.
-pub fn print_input<A: Allocator, W: Write>(out: &mut W, input: &Inbound<A>) -> io::Result<()> {
-    writeln!(out, "in {}", InboundText(input))
+pub fn print_input<A: Allocator, W: Write>(
+    out: &mut W,
+    mark: Mark,
+    input: &Inbound<A>,
+) -> io::Result<()> {
+    writeln!(out, "{mark}in {}", InboundText(input))
 }
 
 /// Prints what was asked of the book, in its order.
-pub fn print_steps<W: Write>(out: &mut W, steps: &[Step]) -> io::Result<()> {
+pub fn print_steps<W: Write>(out: &mut W, mark: Mark, steps: &[Step]) -> io::Result<()> {
     for step in steps {
-        writeln!(out, "{step}")?;
+        writeln!(out, "{mark}{step}")?;
     }
     Ok(())
 }
 
 /// Prints the messages that are sent, in their order.
-pub fn print_sent<A: Allocator, W: Write>(out: &mut W, sent: &[Outbound<A>]) -> io::Result<()> {
+pub fn print_sent<A: Allocator, W: Write>(
+    out: &mut W,
+    mark: Mark,
+    sent: &[Outbound<A>],
+) -> io::Result<()> {
     for message in sent {
-        writeln!(out, "out {}", OutboundText(message))?;
+        writeln!(out, "{mark}out {}", OutboundText(message))?;
     }
     Ok(())
 }
 
 /// Prints why octets are no message of their link.
-pub fn print_fault<W: Write>(out: &mut W, fault: Bad) -> io::Result<()> {
-    writeln!(out, "fault {}", BadText(fault))
+pub fn print_fault<W: Write>(out: &mut W, mark: Mark, fault: Bad) -> io::Result<()> {
+    writeln!(out, "{mark}fault {}", BadText(fault))
 }
 
-/// Prints that so many answers of the simulated stations were handled for one line that the rest are dropped.
+/// Prints that so many answers of what is simulated were handled for one line that the rest are dropped.
 pub fn print_limit<W: Write>(out: &mut W) -> io::Result<()> {
     writeln!(out, "sim limit")
 }
 
 /// Prints what the book holds at the end.
-pub fn print_end<W: Write>(out: &mut W, usage: Usage) -> io::Result<()> {
+pub fn print_end<W: Write>(out: &mut W, mark: Mark, usage: Usage) -> io::Result<()> {
     writeln!(
         out,
-        "end channels={} calls={} references={} timers={}",
+        "{mark}end channels={} calls={} references={} timers={}",
         usage.channels, usage.calls, usage.references, usage.timers
     )
 }

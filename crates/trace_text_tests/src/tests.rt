@@ -9,12 +9,12 @@ use radio_book::event::{
 use rr_elements::ElementFault;
 use rr_messages::RrFault;
 use rsl_messages::{Octets, RslFault};
-use std::alloc::Global;
+use std::alloc::{AllocError, Global};
 use std::process::Abort;
 use std::str;
 use std::test::Fail;
 use trace_text::trace::{
-    Step, print_end, print_fault, print_input, print_limit, print_sent, print_steps,
+    Mark, Step, print_end, print_fault, print_input, print_limit, print_sent, print_steps,
 };
 
 /// Faults that octets on their way through a reader never have.
@@ -36,7 +36,7 @@ const FAULTS: &[(Bad, &str)] = &[
 fn faults_that_octets_never_have(rt: HostRuntime) -> Result<(), Fail> {
     for (fault, expected) in FAULTS {
         let mut out = Vec::new(rt.alloc());
-        print_fault(&mut out, *fault)?;
+        print_fault(&mut out, Mark::Alone, *fault)?;
         assert_eq!(rt; str::from_utf8(&out)?, *expected);
     }
     Ok(())
@@ -197,7 +197,7 @@ fn prints(
     line: &str,
 ) -> Result<(), Fail> {
     let mut out = Vec::new(alloc);
-    print_steps(&mut out, &[Step::Asked(event, reply)])?;
+    print_steps(&mut out, Mark::Alone, &[Step::Asked(event, reply)])?;
     assert_eq!(rt; str::from_utf8(&out)?, line);
     Ok(())
 }
@@ -301,7 +301,7 @@ fn inputs_are_printed(rt: HostRuntime) -> Result<(), Fail> {
     for (line, expected) in LINES {
         let input: Inbound<Global> = Inbound::Operator(*line);
         let mut out = Vec::new(rt.alloc());
-        print_input(&mut out, &input)?;
+        print_input(&mut out, Mark::Alone, &input)?;
         assert_eq!(rt; str::from_utf8(&out)?, *expected);
     }
     Ok(())
@@ -322,7 +322,7 @@ fn expiries_are_printed(rt: HostRuntime) -> Result<(), Fail> {
             timer: *timer,
         };
         let mut out = Vec::new(rt.alloc());
-        print_input(&mut out, &input)?;
+        print_input(&mut out, Mark::Alone, &input)?;
         assert_eq!(rt; str::from_utf8(&out)?, *expected);
     }
     Ok(())
@@ -335,14 +335,14 @@ fn messages_are_printed_with_their_call_or_station(rt: HostRuntime) -> Result<()
     let alloc = rt.alloc();
     let mut out = Vec::new(alloc);
     let bytes = Octets::new(alloc, CLEAR_REQUEST)?;
-    print_input(&mut out, &Inbound::A { call: 65535, bytes })?;
+    print_input(&mut out, Mark::Alone, &Inbound::A { call: 65535, bytes })?;
     let bytes = Octets::new(alloc, &[0x08])?;
     let message = Inbound::Abis {
         cell: 255,
         trx: 3,
         bytes,
     };
-    print_input(&mut out, &message)?;
+    print_input(&mut out, Mark::Alone, &message)?;
     let expected = "in a 65535 0004220401af\nin abis 255 3 08\n";
     assert_eq!(rt; str::from_utf8(&out)?, expected);
     Ok(())
@@ -361,7 +361,7 @@ fn sent_messages_are_printed_in_their_order(rt: HostRuntime) -> Result<(), Fail>
         trx: 3,
         bytes: Octets::new(alloc, &[0x08, 0x2E, 0x01, 0x0B])?,
     };
-    print_sent(&mut out, &[on_a, on_abis])?;
+    print_sent(&mut out, Mark::Alone, &[on_a, on_abis])?;
     let expected = "out a 1 0004220401af\nout abis 63 3 082e010b\n";
     assert_eq!(rt; str::from_utf8(&out)?, expected);
     Ok(())
@@ -375,7 +375,7 @@ fn a_cell_without_a_free_channel_stands_among_the_events(rt: HostRuntime) -> Res
         Step::Asked(Event::Activate(1), Reply::Done),
     ];
     let mut out = Vec::new(rt.alloc());
-    print_steps(&mut out, &steps)?;
+    print_steps(&mut out, Mark::Alone, &steps)?;
     print_limit(&mut out)?;
     let expected = "event look 1 -> done\nnone free 63\nevent activate 1 -> done\nsim limit\n";
     assert_eq!(rt; str::from_utf8(&out)?, expected);
@@ -391,8 +391,68 @@ fn each_count_is_printed_in_its_place(rt: HostRuntime) -> Result<(), Fail> {
         timers: 4,
     };
     let mut out = Vec::new(rt.alloc());
-    print_end(&mut out, usage)?;
+    print_end(&mut out, Mark::Alone, usage)?;
     let expected = "end channels=1 calls=2 references=3 timers=4\n";
+    assert_eq!(rt; str::from_utf8(&out)?, expected);
+    Ok(())
+}
+
+/// Marks, and what is printed behind each of one step and of the end.
+const MARKS: &[(Mark, &str)] = &[
+    (
+        Mark::Alone,
+        "in undo 1\nnone free 1\nfault abis 1\nend channels=1 calls=2 references=3 timers=4\n",
+    ),
+    (
+        Mark::First,
+        "1: in undo 1\n1: none free 1\n1: fault abis 1\n1: end channels=1 calls=2 references=3 timers=4\n",
+    ),
+    (
+        Mark::Peer,
+        "2: in undo 1\n2: none free 1\n2: fault abis 1\n2: end channels=1 calls=2 references=3 timers=4\n",
+    ),
+];
+
+/// Lines of one controller, marked.
+fn print_marked(out: &mut Vec<u8>, mark: Mark) -> Result<(), Fail> {
+    let input: Inbound<Global> = Inbound::Operator(Line::Undo { call: 1 });
+    let usage = Usage {
+        channels: 1,
+        calls: 2,
+        references: 3,
+        timers: 4,
+    };
+    print_input(out, mark, &input)?;
+    print_steps(out, mark, &[Step::NoneFree(1)])?;
+    print_fault(out, mark, Bad::Rsl(RslFault::NotRsl))?;
+    Ok(print_end(out, mark, usage)?)
+}
+
+#[test]
+fn each_line_of_a_controller_is_marked(rt: HostRuntime) -> Result<(), Fail> {
+    for (mark, expected) in MARKS {
+        let mut out = Vec::new(rt.alloc());
+        print_marked(&mut out, *mark)?;
+        assert_eq!(rt; str::from_utf8(&out)?, *expected);
+    }
+    Ok(())
+}
+
+/// CLEAR REQUEST about a call.
+fn clear_request(alloc: Global, call: u16) -> Result<Outbound<Global>, AllocError> {
+    Ok(Outbound::A {
+        call,
+        bytes: Octets::new(alloc, CLEAR_REQUEST)?,
+    })
+}
+
+#[test]
+fn marked_messages_stand_one_behind_the_other(rt: HostRuntime) -> Result<(), Fail> {
+    let mut out = Vec::new(rt.alloc());
+    let first = clear_request(rt.alloc(), 1)?;
+    let second = clear_request(rt.alloc(), 2)?;
+    print_sent(&mut out, Mark::Peer, &[first, second])?;
+    let expected = "2: out a 1 0004220401af\n2: out a 2 0004220401af\n";
     assert_eq!(rt; str::from_utf8(&out)?, expected);
     Ok(())
 }

@@ -2,10 +2,10 @@
 ghost use Rattle.std.specs.Prelude.{◌≡◌, ◌≤◌, ◌<◌, ◌+◌, ℕ, Ok, IfOk, OnOk, OnErr, IfErr, Option, Some, None};
 ghost use Rattle.ho_procedure.specs.Plan.{Plan, Ends, At, Asking};
 ghost use Rattle.ho_procedure.specs.Going.{Goes, Passes, IsForeign, then};
-ghost use Rattle.ho_procedure.specs.Procedure.{opened_plan, open_plan, release_serving, release_plan, told_release_plan, clear_serving, clear_undone, clear_named, clear_rest, clear_plan, clear_command_rest, clear_command_plan, release_cause};
+ghost use Rattle.ho_procedure.specs.Procedure.{opened_plan, open_plan, release_serving, release_plan, told_release_plan, clear_serving, clear_undone, clear_named, clear_rest, clear_plan, left_channel, left_plan, clear_call, clear_command_rest, clear_command_plan, release_cause};
 
 use super::parts::{look, release_target};
-use crate::records::{is_nameable, is_own, names_releases};
+use crate::records::{awaits_leaving, is_nameable, is_own, names_releases};
 use crate::view::DeskView;
 use crate::work::{Course, Shown, Work};
 use channel_fsm::{ChanId, ChanState};
@@ -232,6 +232,77 @@ fn release_cause(cause: u8) -> u8
     if cause == CALL_CONTROL { 0 } else { 1 }
 }
 
+/// A call has left: its channel is released.
+#[tactic(auto, using(crate::proofs::Asking::row_steps), unfolding(crate::specs::Procedure::left_channel))]
+fn leave_channel<D: DeskView + Drop, A: Allocator + Copy>(
+    work: &mut Work<D, A>,
+    call: u16,
+    serving: ChanId,
+) -> Result<(), DeskFault>
+    requires room { 2 ≤ work.old.owed.room }
+    requires timeslot { serving.tn < 8 }
+    ensures row { OnOk result (Goes D.log D.choice_at work.old
+        (left_channel call serving) work.new (At Ends)) }
+    ensures stops { OnErr result (Goes D.log D.choice_at work.old
+        (left_channel call serving) work.new Asking) }
+    ensures foreign { IfErr result (λ f. IsForeign f → D.may_be_foreign work.old.view) }
+    ensures foreign_kept { D.may_be_foreign work.new.view → D.may_be_foreign work.old.view }
+{
+    let Reply::Done = work.ask(Event::Left(call))? else {
+        return Ok(());
+    };
+    work.send_release(serving);
+    work.send_clear_complete(call);
+    Ok(())
+}
+
+/// The same, where a message can name its channel.
+#[tactic(auto, using(crate::proofs::Asking::row_steps), unfolding(crate::specs::Procedure::left_plan))]
+fn leave<D: DeskView + Drop, A: Allocator + Copy>(
+    work: &mut Work<D, A>,
+    call: u16,
+    serving: Option<ChanId>,
+) -> Result<(), DeskFault>
+    requires { 2 ≤ work.old.owed.room }
+    ensures row { OnOk result (Goes D.log D.choice_at work.old
+        (left_plan call serving) work.new (At Ends)) }
+    ensures stops { OnErr result (Goes D.log D.choice_at work.old
+        (left_plan call serving) work.new Asking) }
+    ensures foreign { IfErr result (λ f. IsForeign f → D.may_be_foreign work.old.view) }
+    ensures foreign_kept { D.may_be_foreign work.new.view → D.may_be_foreign work.old.view }
+{
+    let Some(serving) = serving else {
+        return Ok(());
+    };
+    if !is_nameable(serving) {
+        return Ok(());
+    }
+    leave_channel(work, call, serving)
+}
+
+/// A call is cleared on command, and CLEAR COMPLETE says so.
+#[tactic(auto, using(crate::proofs::Asking::row_steps), unfolding(crate::specs::Procedure::clear_call))]
+fn clear_call<D: DeskView + Drop, A: Allocator + Copy>(
+    work: &mut Work<D, A>,
+    call: u16,
+    cause: u8,
+    shown: Shown,
+) -> Result<(), DeskFault>
+    requires { 4 ≤ work.old.owed.room }
+    ensures row { OnOk result (Goes D.log D.choice_at work.old
+        (clear_call call cause shown.record shown.state) work.new (At Ends)) }
+    ensures stops { OnErr result (Goes D.log D.choice_at work.old
+        (clear_call call cause shown.record shown.state) work.new Asking) }
+    ensures foreign { IfErr result (λ f. IsForeign f → D.may_be_foreign work.old.view) }
+    ensures foreign_kept { D.may_be_foreign work.new.view → D.may_be_foreign work.old.view }
+{
+    let Course::On = clear_rest(work, call, Some(release_cause(cause)), shown)? else {
+        return Ok(());
+    };
+    work.send_clear_complete(call);
+    Ok(())
+}
+
 /// What follows the look of a CLEAR COMMAND.
 #[tactic(auto, using(crate::proofs::Asking::row_steps), unfolding(crate::specs::Procedure::clear_command_rest))]
 fn clear_command_rest<D: DeskView + Drop, A: Allocator + Copy>(
@@ -250,12 +321,11 @@ fn clear_command_rest<D: DeskView + Drop, A: Allocator + Copy>(
 {
     match reply {
         Reply::Record(record, state) => {
-            let cause = Some(release_cause(cause));
-            let Course::On = clear_rest(work, call, cause, Shown { record, state })? else {
-                return Ok(());
-            };
-            work.send_clear_complete(call);
-            Ok(())
+            if awaits_leaving(record.attempt) {
+                leave(work, call, record.serving)
+            } else {
+                clear_call(work, call, cause, Shown { record, state })
+            }
         }
         Reply::Refused(Refusal::NoCall) => {
             work.send_clear_complete(call);

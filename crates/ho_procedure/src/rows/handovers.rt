@@ -1,14 +1,16 @@
 //! Rows that begin a handover and take it back.
-ghost use Rattle.std.specs.Prelude.{◌≡◌, ◌≤◌, ℕ, OnOk, OnErr, IfErr, IfOk, ◌<◌};
+ghost use Rattle.std.specs.Prelude.{◌≡◌, ◌≤◌, ℕ, OnOk, OnErr, IfErr, IfOk, IsSome, ◌<◌};
 ghost use Rattle.ho_procedure.specs.Plan.{Plan, Ends, At, Asking};
 ghost use Rattle.ho_procedure.specs.Going.{Goes, Passes, IsForeign, then};
-ghost use Rattle.ho_procedure.specs.Procedure.{activate_plan, start_plan, taken_plan, handover_plan, undo_plan, expiry_plan};
+ghost use Rattle.ho_procedure.specs.Procedure.{activate_plan, start_plan, taken_plan, require_plan, handover_plan, take_back, undo_plan, expiry_plan};
 
-use super::parts::release_target;
+use super::parts::{release_target, tell_failure};
+use crate::commands::cell_id_at;
 use crate::records::is_nameable;
 use crate::view::DeskView;
 use crate::work::{Course, Work};
 use attempt_journal::Timer;
+use bssmap_messages::CellId;
 use cell_table::Site;
 use channel_fsm::ChanId;
 use radio_book::event::{Event, Kind, Reply, Why};
@@ -44,7 +46,7 @@ fn activate<D: DeskView + Drop, A: Allocator + Copy>(
 
 /// What follows the take of a channel: a reference is reserved, and the channel activated.
 #[tactic(auto, using(crate::proofs::Asking::row_steps), unfolding(crate::specs::Procedure::taken_plan, crate::specs::Procedure::activate_plan))]
-fn go_on_taken<D: DeskView + Drop, A: Allocator + Copy>(
+pub(super) fn go_on_taken<D: DeskView + Drop, A: Allocator + Copy>(
     work: &mut Work<D, A>,
     call: u16,
     target: ChanId,
@@ -70,7 +72,30 @@ fn go_on_taken<D: DeskView + Drop, A: Allocator + Copy>(
     activate(work, call, target, reference)
 }
 
-/// A handover starts to a cell; where it has no free channel, the row goes on.
+/// The switching centre is asked for a handover to a cell of another controller.
+#[tactic(auto, using(crate::proofs::Asking::row_steps), unfolding(crate::specs::Procedure::require_plan))]
+fn require<D: DeskView + Drop, A: Allocator + Copy>(
+    work: &mut Work<D, A>,
+    call: u16,
+    cell: CellId,
+) -> Result<(), DeskFault>
+    requires area { IsSome cell.lac }
+    ensures row { OnOk result (Goes D.log D.choice_at work.old
+        (require_plan call cell) work.new (At Ends)) }
+    ensures stops { OnErr result (Goes D.log D.choice_at work.old
+        (require_plan call cell) work.new Asking) }
+    ensures foreign { IfErr result (λ f. IsForeign f → D.may_be_foreign work.old.view) }
+    ensures foreign_kept { D.may_be_foreign work.new.view → D.may_be_foreign work.old.view }
+{
+    work.make_room(1)?;
+    let Reply::Done = work.ask(Event::Require(call))? else {
+        return Ok(());
+    };
+    work.send_handover_required(call, cell);
+    Ok(())
+}
+
+/// A handover starts to a cell; where an own one has no free channel, the row goes on.
 #[tactic(auto, using(crate::proofs::Asking::row_steps, crate::proofs::Going::continues), unfolding(crate::specs::Procedure::start_plan))]
 pub(super) fn start<D: DeskView + Drop, A: Allocator + Copy>(
     work: &mut Work<D, A>,
@@ -86,6 +111,9 @@ pub(super) fn start<D: DeskView + Drop, A: Allocator + Copy>(
     ensures foreign_kept { D.may_be_foreign work.new.view → D.may_be_foreign work.old.view }
 {
     if cell >= site.cells() {
+        if let Some(outside) = cell_id_at(site, cell) {
+            require(work, call, outside)?;
+        }
         return Ok(Course::Over);
     }
     work.make_room(1)?;
@@ -115,8 +143,8 @@ pub(crate) fn handover<D: DeskView + Drop, A: Allocator + Copy>(
     Ok(())
 }
 
-/// An attempt is taken back, and its target released.
-#[tactic(auto, using(crate::proofs::Asking::row_steps), unfolding(crate::specs::Procedure::undo_plan))]
+/// An operator takes an attempt back: its target is released, and where the call was to come, the switching centre told.
+#[tactic(auto, using(crate::proofs::Asking::row_steps), unfolding(crate::specs::Procedure::undo_plan, crate::specs::Procedure::take_back))]
 pub(crate) fn undo<D: DeskView + Drop, A: Allocator + Copy>(
     work: &mut Work<D, A>,
     call: u16,
@@ -128,11 +156,14 @@ pub(crate) fn undo<D: DeskView + Drop, A: Allocator + Copy>(
     ensures foreign { IfErr result (λ f. IsForeign f → D.may_be_foreign work.old.view) }
     ensures foreign_kept { D.may_be_foreign work.new.view → D.may_be_foreign work.old.view }
 {
-    work.make_room(1)?;
+    work.make_room(2)?;
     let Reply::Record(record, _) = work.ask(Event::Undo(call, Why::Asked))? else {
         return Ok(());
     };
-    let _ = release_target(work, record.attempt);
+    let Course::On = release_target(work, record.attempt) else {
+        return Ok(());
+    };
+    tell_failure(work, call, record.attempt);
     Ok(())
 }
 

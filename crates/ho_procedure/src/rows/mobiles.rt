@@ -3,22 +3,25 @@ ghost use Rattle.std.specs.Prelude.{◌≡◌, ◌≤◌, ◌<◌, ◌++◌, ◌
 ghost use Rattle.measurements.specs.Reports.{last_valid};
 ghost use Rattle.ho_procedure.specs.Plan.{Plan, Ends, At, Asking};
 ghost use Rattle.ho_procedure.specs.Going.{Goes, Passes, IsForeign, last_reports};
-ghost use Rattle.ho_procedure.specs.Procedure.{try_plan, rank_plan, report_plan, with_report, internal_complete, complete_rest, complete_plan, return_rest, return_plan};
+ghost use Rattle.ho_procedure.specs.Procedure.{try_plan, rank_plan, report_plan, with_report, internal_complete, incoming_complete, complete_rest, complete_plan, take_back, tell_returned, outgoing_return, return_rest, return_plan};
 
-use super::handovers::{start, undo};
-use super::parts::{look, owner};
+use super::handovers::start;
+use super::parts::{look, owner, release_target};
 use crate::records::{
-    is_commanded, is_nameable, is_on, is_serving, is_target, names_target, traffic_cell,
+    is_commanded, is_nameable, is_on, is_ordered, is_serving, is_target, names_target, traffic_cell,
 };
 use crate::view::DeskView;
 use crate::work::{Course, Work};
 use cell_table::Site;
 use channel_fsm::ChanId;
 use ho_candidates::Candidate;
-use radio_book::event::{Attempt, AttemptKind, Event, Reply};
+use radio_book::event::{Attempt, AttemptKind, Event, Reply, Why};
 use radio_desk::desk::DeskFault;
 use rr_elements::MeasResults;
 use std::alloc::Allocator;
+
+/// A cause on A, with reversion to the old channel (TS 48.008 clause 3.2.2.5).
+const RADIO_INTERFACE_FAILURE: u8 = 0x0A;
 
 /// A handover starts to the first of these cells that has a free channel.
 #[tactic(auto, using(crate::proofs::Asking::row_steps, std::proofs::lemmas::List::drop_all), unfolding(crate::specs::Procedure::try_plan))]
@@ -137,20 +140,43 @@ fn complete_internal<D: DeskView + Drop, A: Allocator + Copy>(
     Ok(())
 }
 
+/// A call that came is served on its target: the switching centre is told, with the mobile's RR cause.
+#[tactic(auto, using(crate::proofs::Asking::row_steps), unfolding(crate::specs::Procedure::incoming_complete))]
+fn complete_incoming<D: DeskView + Drop, A: Allocator + Copy>(
+    work: &mut Work<D, A>,
+    call: u16,
+    cause: u8,
+) -> Result<(), DeskFault>
+    ensures row { OnOk result (Goes D.log D.choice_at work.old
+        (incoming_complete call cause) work.new (At Ends)) }
+    ensures stops { OnErr result (Goes D.log D.choice_at work.old
+        (incoming_complete call cause) work.new Asking) }
+    ensures foreign { IfErr result (λ f. IsForeign f → D.may_be_foreign work.old.view) }
+    ensures foreign_kept { D.may_be_foreign work.new.view → D.may_be_foreign work.old.view }
+{
+    work.make_room(1)?;
+    let Reply::Done = work.ask(Event::Complete(call))? else {
+        return Ok(());
+    };
+    work.send_handover_complete(call, cause);
+    Ok(())
+}
+
 /// What follows the look at a call, on a channel of which a mobile has come.
 #[tactic(auto, using(crate::proofs::Asking::row_steps), unfolding(crate::specs::Procedure::complete_rest))]
 fn complete_rest<D: DeskView + Drop, A: Allocator + Copy>(
     work: &mut Work<D, A>,
     site: &Site<A>,
     call: u16,
+    cause: u8,
     chan: ChanId,
     serving: Option<ChanId>,
     attempt: Option<Attempt>,
 ) -> Result<(), DeskFault>
     ensures row { OnOk result (Goes D.log D.choice_at work.old
-        (complete_rest site.now call chan serving attempt) work.new (At Ends)) }
+        (complete_rest site.now call cause chan serving attempt) work.new (At Ends)) }
     ensures stops { OnErr result (Goes D.log D.choice_at work.old
-        (complete_rest site.now call chan serving attempt) work.new Asking) }
+        (complete_rest site.now call cause chan serving attempt) work.new Asking) }
     ensures foreign { IfErr result (λ f. IsForeign f → D.may_be_foreign work.old.view) }
     ensures foreign_kept { D.may_be_foreign work.new.view → D.may_be_foreign work.old.view }
 {
@@ -162,21 +188,23 @@ fn complete_rest<D: DeskView + Drop, A: Allocator + Copy>(
     }
     match attempt.kind {
         AttemptKind::Internal => complete_internal(work, site, call, chan, serving),
-        AttemptKind::Incoming | AttemptKind::Outgoing => Ok(()),
+        AttemptKind::Incoming => complete_incoming(work, call, cause),
+        AttemptKind::Outgoing => Ok(()),
     }
 }
 
-/// HANDOVER COMPLETE of the mobile on a channel.
+/// HANDOVER COMPLETE of the mobile on a channel, with its RR cause.
 #[tactic(auto, using(crate::proofs::Asking::row_steps), unfolding(crate::specs::Procedure::complete_plan))]
 pub(crate) fn complete<D: DeskView + Drop, A: Allocator + Copy>(
     work: &mut Work<D, A>,
     site: &Site<A>,
     chan: ChanId,
+    cause: u8,
 ) -> Result<(), DeskFault>
     ensures row { OnOk result (Goes D.log D.choice_at work.old
-        (complete_plan site.now chan) work.new (At Ends)) }
+        (complete_plan site.now chan cause) work.new (At Ends)) }
     ensures stops { OnErr result (Goes D.log D.choice_at work.old
-        (complete_plan site.now chan) work.new Asking) }
+        (complete_plan site.now chan cause) work.new Asking) }
     ensures foreign { IfErr result (λ f. IsForeign f → D.may_be_foreign work.old.view) }
     ensures foreign_kept { D.may_be_foreign work.new.view → D.may_be_foreign work.old.view }
 {
@@ -190,10 +218,68 @@ pub(crate) fn complete<D: DeskView + Drop, A: Allocator + Copy>(
         work,
         site,
         call,
+        cause,
         chan,
         shown.record.serving,
         shown.record.attempt,
     )
+}
+
+/// The attempt of a call whose mobile is back is taken back, and its target released.
+#[tactic(auto, using(crate::proofs::Asking::row_steps), unfolding(crate::specs::Procedure::take_back))]
+fn return_internal<D: DeskView + Drop, A: Allocator + Copy>(
+    work: &mut Work<D, A>,
+    call: u16,
+) -> Result<(), DeskFault>
+    ensures row { OnOk result (Goes D.log D.choice_at work.old
+        (take_back call (λ attempt. Ends)) work.new (At Ends)) }
+    ensures stops { OnErr result (Goes D.log D.choice_at work.old
+        (take_back call (λ attempt. Ends)) work.new Asking) }
+    ensures foreign { IfErr result (λ f. IsForeign f → D.may_be_foreign work.old.view) }
+    ensures foreign_kept { D.may_be_foreign work.new.view → D.may_be_foreign work.old.view }
+{
+    work.make_room(1)?;
+    let Reply::Record(record, _) = work.ask(Event::Undo(call, Why::Asked))? else {
+        return Ok(());
+    };
+    let _ = release_target(work, record.attempt);
+    Ok(())
+}
+
+/// The switching centre is told that the mobile is back, with its RR cause.
+#[tactic(auto, using(crate::proofs::Asking::row_steps), unfolding(crate::specs::Procedure::tell_returned))]
+fn tell_returned<D: DeskView + Drop, A: Allocator + Copy>(
+    work: &mut Work<D, A>,
+    call: u16,
+    cause: u8,
+)
+    requires { 1 ≤ work.old.owed.room }
+    ensures row { Goes D.log D.choice_at work.old (tell_returned call cause) work.new (At Ends) }
+    ensures foreign_kept { D.may_be_foreign work.new.view → D.may_be_foreign work.old.view }
+{
+    work.send_handover_failure(call, RADIO_INTERFACE_FAILURE, Some(cause));
+}
+
+/// The same of a call whose mobile was sent to another controller's cell.
+#[tactic(auto, using(crate::proofs::Asking::row_steps), unfolding(crate::specs::Procedure::outgoing_return))]
+fn return_outgoing<D: DeskView + Drop, A: Allocator + Copy>(
+    work: &mut Work<D, A>,
+    call: u16,
+    cause: u8,
+) -> Result<(), DeskFault>
+    ensures row { OnOk result (Goes D.log D.choice_at work.old
+        (outgoing_return call cause) work.new (At Ends)) }
+    ensures stops { OnErr result (Goes D.log D.choice_at work.old
+        (outgoing_return call cause) work.new Asking) }
+    ensures foreign { IfErr result (λ f. IsForeign f → D.may_be_foreign work.old.view) }
+    ensures foreign_kept { D.may_be_foreign work.new.view → D.may_be_foreign work.old.view }
+{
+    work.make_room(1)?;
+    let Reply::Record(..) = work.ask(Event::Undo(call, Why::Asked))? else {
+        return Ok(());
+    };
+    tell_returned(work, call, cause);
+    Ok(())
 }
 
 /// What follows the look at a call, whose mobile is back on its serving channel.
@@ -201,12 +287,13 @@ pub(crate) fn complete<D: DeskView + Drop, A: Allocator + Copy>(
 fn return_rest<D: DeskView + Drop, A: Allocator + Copy>(
     work: &mut Work<D, A>,
     call: u16,
+    cause: u8,
     attempt: Option<Attempt>,
 ) -> Result<(), DeskFault>
     ensures row { OnOk result (Goes D.log D.choice_at work.old
-        (return_rest call attempt) work.new (At Ends)) }
+        (return_rest call cause attempt) work.new (At Ends)) }
     ensures stops { OnErr result (Goes D.log D.choice_at work.old
-        (return_rest call attempt) work.new Asking) }
+        (return_rest call cause attempt) work.new Asking) }
     ensures foreign { IfErr result (λ f. IsForeign f → D.may_be_foreign work.old.view) }
     ensures foreign_kept { D.may_be_foreign work.new.view → D.may_be_foreign work.old.view }
 {
@@ -216,25 +303,33 @@ fn return_rest<D: DeskView + Drop, A: Allocator + Copy>(
     match attempt.kind {
         AttemptKind::Internal => {
             if is_commanded(attempt.stage) && names_target(Some(attempt)) {
-                undo(work, call)
+                return_internal(work, call)
             } else {
                 Ok(())
             }
         }
-        AttemptKind::Incoming | AttemptKind::Outgoing => Ok(()),
+        AttemptKind::Outgoing => {
+            if is_ordered(attempt.stage) {
+                return_outgoing(work, call, cause)
+            } else {
+                Ok(())
+            }
+        }
+        AttemptKind::Incoming => Ok(()),
     }
 }
 
-/// HANDOVER FAILURE of the mobile on a channel.
+/// HANDOVER FAILURE of the mobile on a channel, with its RR cause.
 #[tactic(auto, using(crate::proofs::Asking::row_steps), unfolding(crate::specs::Procedure::return_plan))]
 pub(crate) fn return_to<D: DeskView + Drop, A: Allocator + Copy>(
     work: &mut Work<D, A>,
     chan: ChanId,
+    cause: u8,
 ) -> Result<(), DeskFault>
     ensures row { OnOk result (Goes D.log D.choice_at work.old
-        (return_plan chan) work.new (At Ends)) }
+        (return_plan chan cause) work.new (At Ends)) }
     ensures stops { OnErr result (Goes D.log D.choice_at work.old
-        (return_plan chan) work.new Asking) }
+        (return_plan chan cause) work.new Asking) }
     ensures foreign { IfErr result (λ f. IsForeign f → D.may_be_foreign work.old.view) }
     ensures foreign_kept { D.may_be_foreign work.new.view → D.may_be_foreign work.old.view }
 {
@@ -247,5 +342,5 @@ pub(crate) fn return_to<D: DeskView + Drop, A: Allocator + Copy>(
     if !is_serving(chan, shown.record) {
         return Ok(());
     }
-    return_rest(work, call, shown.record.attempt)
+    return_rest(work, call, cause, shown.record.attempt)
 }

@@ -2,16 +2,19 @@
 ghost use Rattle.std.specs.Prelude.{◌≡◌, ◌≤◌, ◌+◌, ℕ, List, Option, None, true, Ok, IfOk, IfErr, OnErr};
 ghost use Rattle.channel_fsm.specs.declared.ChanState.{ChanState};
 ghost use Rattle.radio_book.specs.declared.event.CallRecord.{CallRecord};
-ghost use Rattle.ho_procedure.specs.Plan.{Plan, Asking, call_dropped};
+ghost use Rattle.ho_procedure.specs.Plan.{Plan, Ends, At, Asking, call_dropped};
 ghost use Rattle.ho_procedure.specs.Going.{Goes, Passes, IsForeign, last_reports, then, then_of, then_shown};
-ghost use Rattle.ho_procedure.specs.Procedure.{owned, looked, release_target};
+ghost use Rattle.ho_procedure.specs.Procedure.{owned, looked, release_target, turn_away, failure_of};
 
 use crate::records::{is_nameable, is_switched_on};
 use crate::view::DeskView;
 use crate::work::{Course, Shown, Work};
-use radio_book::event::{Attempt, Event, Reply};
+use radio_book::event::{Attempt, AttemptKind, Event, Reply};
 use radio_desk::desk::DeskFault;
 use std::alloc::Allocator;
+
+/// A cause on A (TS 48.008 clause 3.2.2.5).
+const EQUIPMENT_FAILURE: u8 = 0x20;
 
 /// The call that an event of a station concerns, where the book says so.
 #[tactic(auto, using(crate::proofs::Asking::row_steps), unfolding(crate::specs::Procedure::owned))]
@@ -87,4 +90,38 @@ pub(super) fn release_target<D: DeskView + Drop, A: Allocator + Copy>(
     }
     work.send_release(target);
     Course::On
+}
+
+/// HANDOVER FAILURE with a cause of this controller: a call can't come from another one.
+#[tactic(auto, using(crate::proofs::Asking::row_steps), unfolding(crate::specs::Procedure::turn_away))]
+pub(super) fn turn_away<D: DeskView + Drop, A: Allocator + Copy>(
+    work: &mut Work<D, A>,
+    call: u16,
+    cause: u8,
+)
+    requires { 1 ≤ work.old.owed.room }
+    ensures row { Goes D.log D.choice_at work.old (turn_away call cause) work.new (At Ends) }
+    ensures foreign_kept { D.may_be_foreign work.new.view → D.may_be_foreign work.old.view }
+{
+    work.send_handover_failure(call, cause, None);
+}
+
+/// The switching centre is told that an attempt to come from another controller was taken back.
+#[tactic(auto, using(crate::proofs::Asking::row_steps))]
+pub(super) fn tell_failure<D: DeskView + Drop, A: Allocator + Copy>(
+    work: &mut Work<D, A>,
+    call: u16,
+    attempt: Option<Attempt>,
+)
+    requires { 1 ≤ work.old.owed.room }
+    ensures row { Goes D.log D.choice_at work.old (failure_of call attempt) work.new (At Ends) }
+    ensures foreign_kept { D.may_be_foreign work.new.view → D.may_be_foreign work.old.view }
+{
+    let Some(attempt) = attempt else {
+        return;
+    };
+    match attempt.kind {
+        AttemptKind::Incoming => turn_away(work, call, EQUIPMENT_FAILURE),
+        AttemptKind::Internal | AttemptKind::Outgoing => {}
+    }
 }

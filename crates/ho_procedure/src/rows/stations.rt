@@ -2,9 +2,9 @@
 ghost use Rattle.std.specs.Prelude.{◌≡◌, ◌≤◌, ◌<◌, ℕ, OnOk, OnErr, IfErr};
 ghost use Rattle.ho_procedure.specs.Plan.{Plan, Ends, At, Asking};
 ghost use Rattle.ho_procedure.specs.Going.{Goes, Passes, IsForeign};
-ghost use Rattle.ho_procedure.specs.Procedure.{send_command, internal_command, confirm_rest, confirm_plan, refuse_plan, released_plan, connection_failure_plan, detect_plan};
+ghost use Rattle.ho_procedure.specs.Procedure.{send_command, internal_command, acknowledge, incoming_command, confirm_rest, confirm_plan, refused_target, refuse_plan, released_plan, connection_failure_plan, tell_detected, detect_rest, detect_plan};
 
-use super::parts::{look, owner};
+use super::parts::{look, owner, tell_failure};
 use crate::commands::command_to;
 use crate::records::{is_nameable, is_serving, is_target, is_target_in};
 use crate::view::DeskView;
@@ -78,6 +78,54 @@ fn command<D: DeskView + Drop, A: Allocator + Copy>(
     send_command(work, call, serving, &command)
 }
 
+/// A call that comes has its channel: the switching centre gets the command for its mobile.
+#[tactic(auto, using(crate::proofs::Asking::row_steps), unfolding(crate::specs::Procedure::acknowledge))]
+fn acknowledge<D: DeskView + Drop, A: Allocator + Copy>(
+    work: &mut Work<D, A>,
+    call: u16,
+    command: &Rr,
+) -> Result<(), DeskFault>
+    requires { 1 ≤ work.old.owed.room }
+    ensures row { OnOk result (Goes D.log D.choice_at work.old
+        (acknowledge call command.now) work.new (At Ends)) }
+    ensures stops { OnErr result (Goes D.log D.choice_at work.old
+        (acknowledge call command.now) work.new Asking) }
+    ensures foreign { IfErr result (λ f. IsForeign f → D.may_be_foreign work.old.view) }
+    ensures foreign_kept { D.may_be_foreign work.new.view → D.may_be_foreign work.old.view }
+{
+    let Reply::Done = work.ask(Event::Command(call))? else {
+        return Ok(());
+    };
+    work.send_handover_request_ack(call, command);
+    Ok(())
+}
+
+/// The mobile of a call that comes is to be sent to the target.
+#[tactic(auto, using(crate::proofs::Asking::row_steps))]
+fn command_incoming<D: DeskView + Drop, A: Allocator + Copy>(
+    work: &mut Work<D, A>,
+    site: &Site<A>,
+    call: u16,
+    target: ChanId,
+    reference: Option<u8>,
+) -> Result<(), DeskFault>
+    requires { 1 ≤ work.old.owed.room }
+    ensures row { OnOk result (Goes D.log D.choice_at work.old
+        (incoming_command site.now call target reference) work.new (At Ends)) }
+    ensures stops { OnErr result (Goes D.log D.choice_at work.old
+        (incoming_command site.now call target reference) work.new Asking) }
+    ensures foreign { IfErr result (λ f. IsForeign f → D.may_be_foreign work.old.view) }
+    ensures foreign_kept { D.may_be_foreign work.new.view → D.may_be_foreign work.old.view }
+{
+    let Some(reference) = reference else {
+        return Ok(());
+    };
+    let Some(command) = command_to(site, target, reference) else {
+        return Ok(());
+    };
+    acknowledge(work, call, &command)
+}
+
 /// What follows the look at a call, a channel of which was activated.
 #[tactic(auto, using(crate::proofs::Asking::row_steps), unfolding(crate::specs::Procedure::confirm_rest))]
 fn confirm_rest<D: DeskView + Drop, A: Allocator + Copy>(
@@ -104,7 +152,8 @@ fn confirm_rest<D: DeskView + Drop, A: Allocator + Copy>(
     }
     match attempt.kind {
         AttemptKind::Internal => command(work, site, call, chan, serving, attempt.reference),
-        AttemptKind::Incoming | AttemptKind::Outgoing => Ok(()),
+        AttemptKind::Incoming => command_incoming(work, site, call, chan, attempt.reference),
+        AttemptKind::Outgoing => Ok(()),
     }
 }
 
@@ -139,6 +188,27 @@ pub(crate) fn confirm<D: DeskView + Drop, A: Allocator + Copy>(
     )
 }
 
+/// The target of an attempt was refused: the attempt is taken back.
+#[tactic(auto, using(crate::proofs::Asking::row_steps), unfolding(crate::specs::Procedure::refused_target))]
+fn refuse_target<D: DeskView + Drop, A: Allocator + Copy>(
+    work: &mut Work<D, A>,
+    call: u16,
+) -> Result<(), DeskFault>
+    requires { 1 ≤ work.old.owed.room }
+    ensures row { OnOk result (Goes D.log D.choice_at work.old
+        (refused_target call) work.new (At Ends)) }
+    ensures stops { OnErr result (Goes D.log D.choice_at work.old
+        (refused_target call) work.new Asking) }
+    ensures foreign { IfErr result (λ f. IsForeign f → D.may_be_foreign work.old.view) }
+    ensures foreign_kept { D.may_be_foreign work.new.view → D.may_be_foreign work.old.view }
+{
+    let Reply::Record(record, _) = work.ask(Event::Undo(call, Why::Asked))? else {
+        return Ok(());
+    };
+    tell_failure(work, call, record.attempt);
+    Ok(())
+}
+
 /// A station refused to activate a channel.
 #[tactic(auto, using(crate::proofs::Asking::row_steps), unfolding(crate::specs::Procedure::refuse_plan))]
 pub(crate) fn refuse<D: DeskView + Drop, A: Allocator + Copy>(
@@ -160,8 +230,7 @@ pub(crate) fn refuse<D: DeskView + Drop, A: Allocator + Copy>(
         return Ok(());
     };
     if is_target_in(chan, shown.record) {
-        work.ask(Event::Undo(call, Why::Asked))?;
-        return Ok(());
+        return refuse_target(work, call);
     }
     if is_serving(chan, shown.record) {
         work.send_clear_request(call, EQUIPMENT_FAILURE);
@@ -212,6 +281,36 @@ pub(crate) fn fail<D: DeskView + Drop, A: Allocator + Copy>(
     Ok(())
 }
 
+/// The switching centre is told that the mobile of a call that comes is seen.
+#[tactic(auto, using(crate::proofs::Asking::row_steps), unfolding(crate::specs::Procedure::tell_detected))]
+fn tell_detected<D: DeskView + Drop, A: Allocator + Copy>(work: &mut Work<D, A>, call: u16)
+    requires { 1 ≤ work.old.owed.room }
+    ensures row { Goes D.log D.choice_at work.old (tell_detected call) work.new (At Ends) }
+    ensures foreign_kept { D.may_be_foreign work.new.view → D.may_be_foreign work.old.view }
+{
+    work.send_handover_detect(call);
+}
+
+/// What follows the look at a call whose mobile is seen on its target.
+#[tactic(auto, using(crate::proofs::Asking::row_steps), unfolding(crate::specs::Procedure::detect_rest))]
+fn detect_rest<D: DeskView + Drop, A: Allocator + Copy>(
+    work: &mut Work<D, A>,
+    call: u16,
+    attempt: Option<Attempt>,
+)
+    requires { 1 ≤ work.old.owed.room }
+    ensures row { Goes D.log D.choice_at work.old (detect_rest call attempt) work.new (At Ends) }
+    ensures foreign_kept { D.may_be_foreign work.new.view → D.may_be_foreign work.old.view }
+{
+    let Some(attempt) = attempt else {
+        return;
+    };
+    match attempt.kind {
+        AttemptKind::Incoming => tell_detected(work, call),
+        AttemptKind::Internal | AttemptKind::Outgoing => {}
+    }
+}
+
 /// A station sees the mobile on the channel that it was sent to.
 #[tactic(auto, using(crate::proofs::Asking::row_steps), unfolding(crate::specs::Procedure::detect_plan))]
 pub(crate) fn detect<D: DeskView + Drop, A: Allocator + Copy>(
@@ -225,8 +324,13 @@ pub(crate) fn detect<D: DeskView + Drop, A: Allocator + Copy>(
     ensures foreign { IfErr result (λ f. IsForeign f → D.may_be_foreign work.old.view) }
     ensures foreign_kept { D.may_be_foreign work.new.view → D.may_be_foreign work.old.view }
 {
-    if let Some(call) = owner(work, Event::Detect(chan))? {
-        let _ = look(work, call)?;
-    }
+    work.make_room(1)?;
+    let Some(call) = owner(work, Event::Detect(chan))? else {
+        return Ok(());
+    };
+    let Some(shown) = look(work, call)? else {
+        return Ok(());
+    };
+    detect_rest(work, call, shown.record.attempt);
     Ok(())
 }

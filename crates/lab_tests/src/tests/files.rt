@@ -62,9 +62,22 @@ fn run_ends(
     text: &str,
     said: &str,
 ) -> Result<(), Fail> {
+    run_of_ends(rt, site, None, script, wanted, text, said)
+}
+
+/// The same of a run over the files of a site, of a peer's where one is named, and of a script.
+fn run_of_ends(
+    rt: &(impl Files + AllocGlobal + Abort),
+    site: &str,
+    peer: Option<&str>,
+    script: &str,
+    wanted: Status,
+    text: &str,
+    said: &str,
+) -> Result<(), Fail> {
     let mut out = Vec::new(rt.alloc());
     let mut errors = Vec::new(rt.alloc());
-    let ended = run_files(rt, site, script, &mut out, &mut errors);
+    let ended = run_files(rt, site, peer, script, &mut out, &mut errors);
     assert_eq!(rt;
         (ended, str::from_utf8(&out)?),
         (Ok(wanted), text),
@@ -132,4 +145,89 @@ fn a_file_may_have_64_mebibytes(rt: HostRuntime) -> Result<(), Fail> {
         run_ends(&rt, "/dev/null", LONG_FILE, Status::Refused, *text, *said)?;
     }
     Ok(fs::remove_file(&rt, LONG_FILE)?)
+}
+
+/// A site's file, a peer's and a script's, one of which is refused: what is printed, and the begin of what is said. Files
+/// are read in this order, and all before a site is looked at.
+const PEERS_REFUSED: &[(&str, &str, &str, &str, &str)] = &[
+    (
+        "no site",
+        "no peer",
+        "no script",
+        "file no site\n",
+        "no site: ",
+    ),
+    (
+        "/dev/null",
+        "no peer",
+        "no script",
+        "file no peer\n",
+        "no peer: ",
+    ),
+    ("/dev/null", "/", "no script", "file /\n", "/: "),
+    (
+        "/dev/null",
+        "/dev/null",
+        "no script",
+        "file no script\n",
+        "no script: ",
+    ),
+    (
+        "/dev/null",
+        "/dev/null",
+        "/dev/null",
+        "site 2 handover\n",
+        "/dev/null: handover is missing",
+    ),
+];
+
+#[test]
+fn a_peers_file_is_read_behind_the_sites(rt: HostRuntime) -> Result<(), Fail> {
+    for (site, peer, script, text, said) in PEERS_REFUSED {
+        run_of_ends(
+            &rt,
+            *site,
+            Some(*peer),
+            *script,
+            Status::Refused,
+            *text,
+            *said,
+        )?;
+    }
+    Ok(())
+}
+
+/// Where the site of a run over two is written.
+const FIRST_FILE: &str = "first.toml";
+
+/// A run over two files, of which the first has a site.
+fn run_with_peer(
+    rt: &(impl Files + AllocGlobal + Abort),
+    peer: &str,
+    wanted: Status,
+    text: &str,
+    said: &str,
+) -> Result<(), Fail> {
+    run_of_ends(rt, FIRST_FILE, Some(peer), "/dev/null", wanted, text, said)
+}
+
+#[test]
+fn the_file_of_a_refused_peer_is_named(rt: HostRuntime) -> Result<(), Fail> {
+    fs::write(&rt, FIRST_FILE, SITE)?;
+    run_with_peer(
+        &rt,
+        "/dev/null",
+        Status::Refused,
+        "site 2 handover\n",
+        "/dev/null: handover is missing",
+    )?;
+    run_with_peer(
+        &rt,
+        FIRST_FILE,
+        Status::Done,
+        "1: end channels=0 calls=0 references=0 timers=0\n2: end channels=0 calls=0 references=0 timers=0\n",
+        "",
+    )?;
+    fs::remove_file(&rt, FIRST_FILE)?;
+    Ok(())
 }

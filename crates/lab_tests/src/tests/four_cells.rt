@@ -102,7 +102,7 @@ fn lines_with(text: &str, front: &str) -> usize {
 }
 
 /// Two hundred lines: ten calls begin on four cells, go round them, and end. Some handovers fail on the way: the mobile
-/// returns or vanishes, the station refuses, or the operator takes them back while an answer is held.
+/// returns, the station refuses, or the operator takes them back while an answer is held or once the mobile vanished.
 const LONG: &str = "sim
 open 1 0 0 1
 open 2 1 0 1
@@ -125,7 +125,7 @@ handover 5 1
 handover 6 2
 mobile 2 0 2 vanish
 handover 7 3
-expire 7 T3103
+undo 7
 mobile 2 0 2 arrive
 handover 8 0
 hold 1 0 1
@@ -150,7 +150,7 @@ handover 7 0
 handover 8 1
 mobile 0 0 3 vanish
 handover 9 1
-expire 9 T3103
+undo 9
 mobile 0 0 3 arrive
 handover 10 0
 hold 0 0 4
@@ -175,7 +175,7 @@ handover 9 1
 handover 10 1
 mobile 3 0 2 vanish
 handover 1 0
-expire 1 T3103
+undo 1
 mobile 3 0 2 arrive
 handover 2 0
 hold 1 0 4
@@ -200,7 +200,7 @@ handover 1 1
 handover 2 1
 mobile 0 0 4 vanish
 handover 3 1
-expire 3 T3103
+undo 3
 mobile 0 0 4 arrive
 handover 4 3
 hold 0 0 1
@@ -225,7 +225,7 @@ handover 3 1
 handover 4 0
 mobile 2 0 4 vanish
 handover 5 3
-expire 5 T3103
+undo 5
 mobile 2 0 4 arrive
 handover 6 2
 hold 1 0 1
@@ -250,7 +250,7 @@ handover 5 3
 handover 6 3
 mobile 0 0 1 vanish
 handover 7 1
-expire 7 T3103
+undo 7
 mobile 0 0 1 arrive
 handover 8 1
 hold 3 0 4
@@ -275,7 +275,7 @@ handover 7 1
 handover 8 3
 mobile 2 0 3 vanish
 handover 9 3
-expire 9 T3103
+undo 9
 mobile 2 0 3 arrive
 handover 10 1
 hold 3 0 3
@@ -312,7 +312,7 @@ const UNDONE: usize = 35;
 
 #[test]
 fn two_hundred_lines_leave_nothing(rt: HostRuntime) -> Result<(), Fail> {
-    let (status, text) = printed(rt.alloc(), rt.alloc(), FOUR_CELLS, LONG)?;
+    let (status, text) = printed(rt.alloc(), rt.alloc(), FOUR_CELLS, None, LONG)?;
     assert!(rt; status == Ok(Status::Done));
     assert!(rt; lines_with(&text, "event complete ") == ARRIVALS);
     assert!(rt; lines_with(&text, "event undo ") == UNDONE);

@@ -19,7 +19,8 @@ const REFUSALS: &[(&str, &str, &str)] = &[
     (NO_TRAFFIC, "no line", "site 5 0\n"),
     (SITE, "expire 1 T9", "line 1\n"),
     (SITE, "hold 0 0 3\nsim\n", "line 1\n"),
-    (SITE, "sim\nopen 1 0 0 3\nhangup 1\n", "line 3\n"),
+    (SITE, "open 1 0 0 3\nhangup 1\nsim\n", "line 2\n"),
+    (SITE, "sim\nopen 1 0 0 3\n2: undo 1\n", "line 3\n"),
     // nothing runs before all lines are read
     (
         SITE,
@@ -72,7 +73,7 @@ fn prints_unless(
 
 /// Whether a run over a heap met no refusal.
 fn runs_over(rt: &impl Abort, alloc: Global, heap: &RefusingHeap) -> Result<bool, Fail> {
-    let (status, text) = printed(heap, alloc, SITE, ONE_CALL.0)?;
+    let (status, text) = printed(heap, alloc, SITE, None, ONE_CALL.0)?;
     let fault = if heap.was_refused() {
         Some(LabFault::NoMemory)
     } else {
@@ -112,7 +113,7 @@ fn writes_all(
     before: u64,
 ) -> Result<bool, Fail> {
     let mut out = Failing::after(alloc, before);
-    let status = lab_run(alloc, alloc, site, script, &mut out);
+    let status = lab_run(alloc, alloc, site, None, script, &mut out);
     let fault = if out.failed {
         Some(LabFault::Write)
     } else {

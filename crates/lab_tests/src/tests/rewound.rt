@@ -180,7 +180,7 @@ const SCRIPTS: &[(&str, Status, &str)] = &[
 
 /// The trace of this script.
 fn trace_of(alloc: Global, script: &str) -> Result<String, Fail> {
-    let (_, trace) = super::printed(alloc, alloc, SITE, script)?;
+    let (_, trace) = super::printed(alloc, alloc, SITE, None, script)?;
     Ok(trace)
 }
 
@@ -194,6 +194,16 @@ fn attempts_are_taken_out_of_traces_that_were_printed(rt: HostRuntime) -> Result
         is_rewound(&rt, rt.alloc(), &trace, 8, *ended, *wanted)?;
     }
     Ok(())
+}
+
+/// An attempt to move call 1 to another controller opens in line 8 of the trace, and is taken back.
+const LEAVING: &str = "open 1 0 0 3\nabis 0 0 0822010b081234\nhandover 1 64\nundo 1\n";
+
+#[test]
+fn an_attempt_to_leave_is_taken_out(rt: HostRuntime) -> Result<(), Fail> {
+    let trace = trace_of(rt.alloc(), LEAVING)?;
+    let wanted = "others 3\nsettled yes\nheld -\nsame\n";
+    is_rewound(&rt, rt.alloc(), &trace, 8, Status::Done, wanted)
 }
 
 #[test]

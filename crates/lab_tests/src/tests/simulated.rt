@@ -1,5 +1,6 @@
-//! Scripts with simulated stations and mobiles. Traces are worked out by hand from the tables of the procedure and of the
-//! stations.
+//! Scripts with simulated stations and mobiles. Traces are worked out by hand from the tables of the procedure, of the
+//! stations and of the switching centre.
+use super::peer::PEER;
 use super::{SITE, printed, prints};
 use lab::run::Status;
 use std::alloc::{AllocError, Global};
@@ -70,7 +71,7 @@ end channels=1 calls=1 references=0 timers=0
 ",
 );
 
-/// It is heard of no more, and its timer runs out.
+/// It is heard of no more, and its timer runs out: the centre ends the call.
 const VANISHES: (&str, &str) = (
     "sim\nopen 1 0 0 3\nmobile 0 0 3 vanish\nhandover 1 1\nexpire 1 T3103\n",
     "in open 1 0 0 3
@@ -95,13 +96,21 @@ out abis 1 1 082e010b
 out a 1 000422040100
 in abis 1 1 0833010b
 event released 1/1/3 -> done
-end channels=1 calls=1 references=0 timers=0
+in a 1 000420040100
+event look 1 -> record 0/0/3 on
+event clear 1 -> done
+out abis 0 0 0301010b02000b0003060d01
+out abis 0 0 082e010b
+out a 1 000121
+in abis 0 0 0833010b
+event released 0/0/3 -> done
+end channels=0 calls=0 references=0 timers=0
 ",
 );
 
-/// A station refuses a target, and then a call.
+/// A station refuses a target, and then a call, which the centre ends.
 const REFUSES: (&str, &str) = (
-    "sim\nopen 1 0 0 3\nrefuse 1 1 3\nhandover 1 1\nrefuse 0 0 2\nopen 2 0 0 2\na 2 000420040120\n",
+    "sim\nopen 1 0 0 3\nrefuse 1 1 3\nhandover 1 1\nrefuse 0 0 2\nopen 2 0 0 2\n",
     "in open 1 0 0 3
 event open 1 0/0/3 -> done
 out abis 0 0 0821010b0300060400010801
@@ -238,7 +247,7 @@ fn lines_that_are(text: &str, wanted: &str) -> usize {
 /// the rest is cut off or not.
 fn is_cut(rt: &impl Abort, alloc: Global, calls: u16, cut: usize) -> Result<(), Fail> {
     let script = held_script(alloc, calls)?;
-    let (status, text) = printed(alloc, alloc, SITE, &script)?;
+    let (status, text) = printed(alloc, alloc, SITE, None, &script)?;
     assert!(rt; status == Ok(Status::Done));
     assert!(rt; lines_that_are(&text, "in abis 0 0 0822010b080000") == 5000);
     assert!(rt; lines_that_are(&text, "sim limit") == cut);
@@ -251,4 +260,14 @@ fn is_cut(rt: &impl Abort, alloc: Global, calls: u16, cut: usize) -> Result<(), 
 fn ten_thousand_answers_to_one_line_are_handled(rt: HostRuntime) -> Result<(), Fail> {
     is_cut(&rt, rt.alloc(), 5000, 0)?;
     is_cut(&rt, rt.alloc(), 5001, 1)
+}
+
+#[test]
+fn the_limit_has_no_mark(rt: HostRuntime) -> Result<(), Fail> {
+    let script = held_script(rt.alloc(), 5001)?;
+    let (status, text) = printed(rt.alloc(), rt.alloc(), SITE, Some(PEER), &script)?;
+    assert!(rt; status == Ok(Status::Done));
+    assert!(rt; lines_that_are(&text, "1: in abis 0 0 0822010b080000") == 5000);
+    assert!(rt; lines_that_are(&text, "sim limit") == 1);
+    Ok(())
 }

@@ -5,10 +5,10 @@ use std::process::Abort;
 use std::test::Fail;
 
 /// A line of a script, in the form in which it is printed behind `in`, and the lines that are printed then.
-type Step = (&'static str, &'static [&'static str]);
+pub(super) type Step = (&'static str, &'static [&'static str]);
 
 /// Call 1 begins.
-const OPENS: Step = (
+pub(super) const OPENS: Step = (
     "open 1 0 0 3",
     &[
         "event open 1 0/0/3 -> done",
@@ -17,7 +17,7 @@ const OPENS: Step = (
 );
 
 /// Its channel is confirmed.
-const CONFIRMED: Step = (
+pub(super) const CONFIRMED: Step = (
     "abis 0 0 0822010b081234",
     &[
         "event confirm 0/0/3 -> owned 1",
@@ -470,7 +470,12 @@ fn texts_of(alloc: Global, steps: &[Step], in_use: &str) -> Result<(String, Stri
 }
 
 /// A script of these steps prints what they say.
-fn is_traced(rt: &impl Abort, alloc: Global, steps: &[Step], in_use: &str) -> Result<(), Fail> {
+pub(super) fn is_traced(
+    rt: &impl Abort,
+    alloc: Global,
+    steps: &[Step],
+    in_use: &str,
+) -> Result<(), Fail> {
     let (script, trace) = texts_of(alloc, steps, in_use)?;
     prints(rt, alloc, SITE, &script, Status::Done, &trace)
 }

@@ -4,15 +4,40 @@ use std::alloc::Global;
 use std::process::Abort;
 use std::test::Fail;
 
+/// Words that ask for a run: the files of its site, of its peer's site, and of its script.
+const RUNS: &[(&[&str], &str, Option<&str>, &str)] = &[
+    (&["run", "a.toml", "b.txt"], "a.toml", None, "b.txt"),
+    (
+        &["run", "a.toml", "b.txt", "--peer", "c.toml"],
+        "a.toml",
+        Some("c.toml"),
+        "b.txt",
+    ),
+    (
+        &["run", "--peer", "c.toml", "a.toml", "b.txt"],
+        "a.toml",
+        Some("c.toml"),
+        "b.txt",
+    ),
+    (
+        &["run", "a.toml", "--peer=c.toml", "b.txt"],
+        "a.toml",
+        Some("c.toml"),
+        "b.txt",
+    ),
+];
+
 #[test]
-fn run_names_two_files(rt: HostRuntime) -> Result<(), Fail> {
-    match read_words(rt.alloc(), &["run", "a.toml", "b.txt"]) {
-        Ok(Job::Run { site, script }) => {
-            assert_eq!(rt; (site, script), ("a.toml", "b.txt"));
+fn run_names_its_files(rt: HostRuntime) {
+    for (words, wanted_site, wanted_peer, wanted_script) in RUNS {
+        match read_words(rt.alloc(), *words) {
+            Ok(Job::Run { site, peer, script }) => {
+                assert_eq!(rt; (site, script), (*wanted_site, *wanted_script));
+                assert_eq!(rt; peer, *wanted_peer);
+            }
+            _ => assert!(rt; false, "a run"),
         }
-        _ => assert!(rt; false, "a run"),
     }
-    Ok(())
 }
 
 #[test]
@@ -55,6 +80,8 @@ const SHOWS: &[(&[&str], &str)] = &[
     (&["help"], "Runs a script over a site"),
     (&["run", "--help"], "The site file"),
     (&["help", "run"], "The script file"),
+    (&["help", "run"], "--peer <SITE>"),
+    (&["run", "--help"], "The site file of a second controller"),
     (&["--help"], "decode abis 082e010b"),
     (&["decode", "--help"], "decode abis 082e010b"),
     (&["decode", "--help"], "rr is the radio path"),
@@ -75,7 +102,14 @@ const REFUSALS: &[(&[&str], &str)] = &[
     (&["run", "a.toml", "b.txt", "c.txt"], "c.txt"),
     (&["runn", "a.toml", "b.txt"], "runn"),
     (&["--verbose"], "--verbose"),
-    (&["run", "--peer", "c.toml", "a.toml", "b.txt"], "--peer"),
+    (&["run", "a.toml", "b.txt", "--peer"], "--peer"),
+    (
+        &[
+            "run", "a.toml", "b.txt", "--peer", "c.toml", "--peer", "d.toml",
+        ],
+        "--peer",
+    ),
+    (&["rewind", "a", "b", "1", "--peer", "c.toml"], "--peer"),
     (&["decode"], "were not provided:\n  <LINK>\n  <HEX>\n"),
     (&["decode", "rr"], "were not provided:\n  <HEX>\n"),
     (&["decode", "A", "00"], "'A'"),

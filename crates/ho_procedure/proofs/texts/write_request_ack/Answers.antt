@@ -1,4 +1,4 @@
-use Rattle.std.proofs.Common.{rules, arith, ◌+◌, ◌≤◌, ◌∷◌, [], true, length, vec_len, vec_capacity}
+use Rattle.std.proofs.Common.{rules, arith, ◌+◌, ◌≤◌, length, vec_len, vec_capacity}
 use Rattle.bssmap_messages.specs.declared.message.Bssmap.TheVariants.{HandoverRequestAck}
 use Rattle.bssmap_messages.specs.Texts.{canonical_text}
 use Rattle.ho_procedure.proofs.MessageFacts.{request_ack_length}

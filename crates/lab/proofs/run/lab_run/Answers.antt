@@ -5,5 +5,5 @@ use Rattle.lab.proofs.run.lab_run.Goals as goal
 
 pub returns-in-Ok-clause-memory : goal.returns-in-Ok-clause-memory
 returns-in-Ok-clause-memory g c no_memory blank =
-    let bad : Err (Missing key.Handover) ≡ Ok c.in-Ok.site = sym (c.read.ensures.blank blank) ∙ c.in-Ok.is in
+    let bad : Err (Missing key.Handover) ≡ Ok c.in-Ok.sites = sym (c.read_sites.ensures.blank blank) ∙ c.in-Ok.is in
     cc

@@ -18,4 +18,4 @@ returns-in_ok-writeln-in-Err-Line-clause-refused g c =
 
 pub returns-in-Err-NoMemory-clause-memory : goal.returns-in-Err-NoMemory-clause-memory
 returns-in-Err-NoMemory-clause-memory g c =
-    λ _. all_read (first_unread c.args.script.now) c.read_script.result c.read_script.ensures.line (c.in-Err-NoMemory.is ∙ ap Err c.in-Err-NoMemory.field-0-is)
+    λ _. all_read (first_unread c.args.has_peer c.args.script.now) c.read_script.result c.read_script.ensures.line (c.in-Err-NoMemory.is ∙ ap Err c.in-Err-NoMemory.field-0-is)

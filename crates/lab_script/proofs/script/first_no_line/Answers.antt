@@ -10,12 +10,12 @@ use Rattle.lab_script.proofs.script.first_no_line.Goals as goal
 
 pub returns-in_err-index : goal.returns-in_err-index
 returns-in_err-index c =
-    let found = position_from_yields_List (λ line. not (is_line (strip_carriage_return line))) _ _ c.position.result c.position.ensures.ran (YieldsList-from_str_split 10 c.args.text.now (lit< tt) c.split.ensures.text c.split.ensures.has_more c.split.ensures.pattern) (λ x b q k. search (rules, tests)) in
-    let number = first_line-position (λ line. not (is_line line)) c.args.text.now c.position.result (found ∙ position_from-zero (λ line. not (is_line (strip_carriage_return line))) (slice_split (λ b. b == 10) c.args.text.now)) in
+    let found = position_from_yields_List (λ line. not (is_line c.args.has_peer (strip_carriage_return line))) _ _ c.position.result c.position.ensures.ran (YieldsList-from_str_split 10 c.args.text.now (lit< tt) c.split.ensures.text c.split.ensures.has_more c.split.ensures.pattern) (λ x b q k. search (rules, tests)) in
+    let number = first_line-position (λ line. not (is_line c.args.has_peer line)) c.args.text.now c.position.result (found ∙ position_from-zero (λ line. not (is_line c.args.has_peer (strip_carriage_return line))) (slice_split (λ b. b == 10) c.args.text.now)) in
     c.from_residual.ensures ∙ (ap (option_map (λ n. n + 1)) (sym c.in_err-index.was) ∙ number)
 
 pub returns : goal.returns
 returns c =
-    let found = position_from_yields_List (λ line. not (is_line (strip_carriage_return line))) _ _ c.position.result c.position.ensures.ran (YieldsList-from_str_split 10 c.args.text.now (lit< tt) c.split.ensures.text c.split.ensures.has_more c.split.ensures.pattern) (λ x b q k. search (rules, tests)) in
-    let number = first_line-position (λ line. not (is_line line)) c.args.text.now c.position.result (found ∙ position_from-zero (λ line. not (is_line (strip_carriage_return line))) (slice_split (λ b. b == 10) c.args.text.now)) in
+    let found = position_from_yields_List (λ line. not (is_line c.args.has_peer (strip_carriage_return line))) _ _ c.position.result c.position.ensures.ran (YieldsList-from_str_split 10 c.args.text.now (lit< tt) c.split.ensures.text c.split.ensures.has_more c.split.ensures.pattern) (λ x b q k. search (rules, tests)) in
+    let number = first_line-position (λ line. not (is_line c.args.has_peer line)) c.args.text.now c.position.result (found ∙ position_from-zero (λ line. not (is_line c.args.has_peer (strip_carriage_return line))) (slice_split (λ b. b == 10) c.args.text.now)) in
     ap (option_map (λ n. n + 1)) (sym c.in_ok-index.was) ∙ number

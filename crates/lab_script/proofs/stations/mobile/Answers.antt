@@ -6,9 +6,9 @@ use Rattle.lab_script.proofs.stations.mobile.Goals as goal
 pub returns-in_err-channel_at : goal.returns-in_err-channel_at
 returns-in_err-channel_at c =
     let words : words_of c.args.text.now ≡ c.in_ok-cell.cell.now ∷ c.in_ok-trx.trx.now ∷ c.in_ok-tn.tn.now ∷ words_of c.in_ok-tn.name.now = search rules in
-    rw (words, mobile_words c.in_ok-cell.cell.now c.in_ok-trx.trx.now c.in_ok-tn.tn.now c.in_ok-tn.name.now) (search rules)
+    rw (words, mobile_words c.args.side c.in_ok-cell.cell.now c.in_ok-trx.trx.now c.in_ok-tn.tn.now c.in_ok-tn.name.now) (search rules)
 
 pub returns-in_err-habit : goal.returns-in_err-habit
 returns-in_err-habit c =
     let words : words_of c.args.text.now ≡ c.in_ok-cell.cell.now ∷ c.in_ok-trx.trx.now ∷ c.in_ok-tn.tn.now ∷ words_of c.in_ok-tn.name.now = search rules in
-    rw (words, mobile_words c.in_ok-cell.cell.now c.in_ok-trx.trx.now c.in_ok-tn.tn.now c.in_ok-tn.name.now) (search rules)
+    rw (words, mobile_words c.args.side c.in_ok-cell.cell.now c.in_ok-trx.trx.now c.in_ok-tn.tn.now c.in_ok-tn.name.now) (search rules)

@@ -2,4 +2,4 @@ use Rattle.measurements.proofs.KeptLemmas.{added-all}
 use Rattle.measurements.proofs.laws.added_reports_are_the_last_valid.Goals as goal
 
 pub returns : goal.returns
-returns c = added-all
+returns c = record { law = added-all }

@@ -1,10 +1,11 @@
-use Rattle.std.proofs.Common.{sym, ◌∙◌, [], ◌∷◌, subst}
+use Rattle.std.proofs.Common.{sym, ◌∙◌, ap, rules, refl, length, ◌≡◌, true, [], ◌∷◌, subst}
 use Rattle.std.proofs.lemmas.Iterator.Adapters.{YieldsList-from_vec}
-use Rattle.std.proofs.lemmas.Iterator.Consumers.{YieldsList-end}
+use Rattle.std.proofs.lemmas.Iterator.Consumers.{YieldsList-turn, YieldsList-end}
 use Rattle.std.proofs.lemmas.List.{map-id}
+use Rattle.lab_script.specs.Script.{AreThere, is_item_there}
 use Rattle.lab.specs.Turns.{inputs_in}
-use Rattle.lab.specs.Course.{Went}
-use Rattle.lab.proofs.CourseFacts.{went_on, inputs_joined}
+use Rattle.lab.specs.Course.{Went, has_peer}
+use Rattle.lab.proofs.CourseFacts.{went_on, inputs_joined, there_at}
 use Rattle.lab.proofs.course.Course.run.Goals as goal
 
 pub loop-item-preserved : goal.loop-item-preserved
@@ -13,6 +14,14 @@ loop-item-preserved g c = record {
   is_finite = tt;
   went = rw (inputs_joined c.loop-item.yielded (c.in-Some.item ∷ [])) (went_on _ _ _ _ _ c.loop-item.invariant.went c.in_ok-follow.ensures);
 }
+
+pub follow-requires : goal.follow-requires
+follow-requires g c =
+    let given = c.into_iter-item-iterator.ensures.into_iter_gives in
+    let turn = YieldsList-turn (YieldsList-from_vec {s = c.into_iter-item-iterator.result} c.args.items.items given.0 (given.1 ∙ c.args.items.ok.0)) c.loop-item.yielded _ c.loop-item.yielded_by c.next.result c.next.new.self c.in-Some.item c.in-Some.is c.next.ensures.steps in
+    let has = has_peer c.args.self.now in
+    let there = there_at has c.args.items.items (length c.loop-item.yielded) c.in-Some.item c.requires.there turn.0 in
+    record { there = ap (λ h. is_item_there h c.in-Some.item) c.loop-item.invariant.went.peer ∙ (ap (is_item_there has) turn.1 ∙ there) }
 
 pub returns : goal.returns
 returns g c =

@@ -3,4 +3,4 @@ use Rattle.lab.proofs.CourseFacts.{went_on}
 use Rattle.lab.proofs.course.Course.settle.Goals as goal
 
 pub loop-preserved : goal.loop-preserved
-loop-preserved g c = went_on [] [] _ _ _ c.loop.invariant c.in_ok-handle.ensures
+loop-preserved g c = went_on [] [] _ _ _ c.loop.invariant c.in_ok-arrive.ensures

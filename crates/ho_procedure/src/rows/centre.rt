@@ -1,0 +1,184 @@
+//! Rows of the messages of the switching centre about a handover between controllers.
+ghost use Rattle.std.specs.Prelude.{◌≡◌, ◌≤◌, ◌<◌, OnOk, OnErr, IfErr, length};
+ghost use Rattle.ho_procedure.specs.Plan.{Ends, At, Asking};
+ghost use Rattle.ho_procedure.specs.Going.{Goes, IsForeign};
+ghost use Rattle.ho_procedure.specs.Procedure.{admit_plan, request_rest, request_plan, order_channel, order_plan, reject_plan};
+
+use super::handovers::go_on_taken;
+use super::parts::{look, turn_away};
+use crate::records::{awaits_order, is_nameable};
+use crate::requests::{is_half_rate, is_speech, own_cell, permits_clear};
+use crate::view::DeskView;
+use crate::work::Work;
+use bssmap_messages::CellId;
+use cell_table::Site;
+use channel_fsm::ChanId;
+use radio_book::event::{Event, Kind, Refusal, Reply, Why};
+use radio_desk::desk::DeskFault;
+use std::alloc::Allocator;
+
+/// Causes on A (TS 48.008 clause 3.2.2.5).
+const NO_RADIO_RESOURCE_AVAILABLE: u8 = 0x21;
+
+const CIPHERING_ALGORITHM_NOT_SUPPORTED: u8 = 0x40;
+
+const INVALID_MESSAGE_CONTENTS: u8 = 0x51;
+
+/// A call is to come to this own cell, where there is one.
+#[tactic(auto, using(crate::proofs::Asking::row_steps), unfolding(crate::specs::Procedure::admit_plan))]
+fn admit<D: DeskView + Drop, A: Allocator + Copy>(
+    work: &mut Work<D, A>,
+    call: u16,
+    cell: Option<u8>,
+) -> Result<(), DeskFault>
+    requires { 1 ≤ work.old.owed.room }
+    ensures row { OnOk result (Goes D.log D.choice_at work.old
+        (admit_plan call cell) work.new (At Ends)) }
+    ensures stops { OnErr result (Goes D.log D.choice_at work.old
+        (admit_plan call cell) work.new Asking) }
+    ensures foreign { IfErr result (λ f. IsForeign f → D.may_be_foreign work.old.view) }
+    ensures foreign_kept { D.may_be_foreign work.new.view → D.may_be_foreign work.old.view }
+{
+    let Some(cell) = cell else {
+        turn_away(work, call, INVALID_MESSAGE_CONTENTS);
+        return Ok(());
+    };
+    let Some((target, reply)) = work.take(call, Kind::Incoming, cell)? else {
+        turn_away(work, call, NO_RADIO_RESOURCE_AVAILABLE);
+        return Ok(());
+    };
+    go_on_taken(work, call, target, reply)
+}
+
+/// What follows the look of a HANDOVER REQUEST: a new call is admitted or turned away.
+#[tactic(auto, using(crate::proofs::Asking::row_steps), unfolding(crate::specs::Procedure::request_rest))]
+fn request_rest<D: DeskView + Drop, A: Allocator + Copy>(
+    work: &mut Work<D, A>,
+    site: &Site<A>,
+    call: u16,
+    channel: &[u8],
+    encryption: &[u8],
+    target: CellId,
+) -> Result<(), DeskFault>
+    requires { 1 ≤ work.old.owed.room }
+    ensures row { OnOk result (Goes D.log D.choice_at work.old
+        (request_rest site.now call channel.now encryption.now target) work.new (At Ends)) }
+    ensures stops { OnErr result (Goes D.log D.choice_at work.old
+        (request_rest site.now call channel.now encryption.now target) work.new Asking) }
+    ensures foreign { IfErr result (λ f. IsForeign f → D.may_be_foreign work.old.view) }
+    ensures foreign_kept { D.may_be_foreign work.new.view → D.may_be_foreign work.old.view }
+{
+    if !is_speech(channel) || is_half_rate(channel) {
+        turn_away(work, call, NO_RADIO_RESOURCE_AVAILABLE);
+        return Ok(());
+    }
+    if !permits_clear(encryption) {
+        turn_away(work, call, CIPHERING_ALGORITHM_NOT_SUPPORTED);
+        return Ok(());
+    }
+    admit(work, call, own_cell(site, target))
+}
+
+/// HANDOVER REQUEST: a call is to come from another controller, on a channel of this type, with this encryption
+/// information, to this cell.
+#[tactic(auto, using(crate::proofs::Asking::row_steps), unfolding(crate::specs::Procedure::request_plan))]
+pub(crate) fn request<D: DeskView + Drop, A: Allocator + Copy>(
+    work: &mut Work<D, A>,
+    site: &Site<A>,
+    call: u16,
+    channel: &[u8],
+    encryption: &[u8],
+    target: CellId,
+) -> Result<(), DeskFault>
+    ensures row { OnOk result (Goes D.log D.choice_at work.old
+        (request_plan site.now call channel.now encryption.now target) work.new (At Ends)) }
+    ensures stops { OnErr result (Goes D.log D.choice_at work.old
+        (request_plan site.now call channel.now encryption.now target) work.new Asking) }
+    ensures foreign { IfErr result (λ f. IsForeign f → D.may_be_foreign work.old.view) }
+    ensures foreign_kept { D.may_be_foreign work.new.view → D.may_be_foreign work.old.view }
+{
+    work.make_room(1)?;
+    let Reply::Refused(Refusal::NoCall) = work.ask(Event::Look(call))? else {
+        return Ok(());
+    };
+    request_rest(work, site, call, channel, encryption, target)
+}
+
+/// A call is ordered to another controller's cell: its mobile gets what the switching centre has for it.
+#[tactic(auto, using(crate::proofs::Asking::row_steps), unfolding(crate::specs::Procedure::order_channel))]
+fn order_channel<D: DeskView + Drop, A: Allocator + Copy>(
+    work: &mut Work<D, A>,
+    call: u16,
+    layer3: &[u8],
+    serving: ChanId,
+) -> Result<(), DeskFault>
+    requires timeslot { serving.tn < 8 }
+    requires some { 0 < length layer3.now }
+    requires short { length layer3.now ≤ 1015 }
+    ensures row { OnOk result (Goes D.log D.choice_at work.old
+        (order_channel call layer3.now serving) work.new (At Ends)) }
+    ensures stops { OnErr result (Goes D.log D.choice_at work.old
+        (order_channel call layer3.now serving) work.new Asking) }
+    ensures foreign { IfErr result (λ f. IsForeign f → D.may_be_foreign work.old.view) }
+    ensures foreign_kept { D.may_be_foreign work.new.view → D.may_be_foreign work.old.view }
+{
+    work.make_unread_room(layer3.len())?;
+    let Reply::Done = work.ask(Event::Order(call))? else {
+        return Ok(());
+    };
+    work.send_data_request(serving, layer3);
+    Ok(())
+}
+
+/// HANDOVER COMMAND: the mobile of a call for which HANDOVER REQUIRED was sent is sent to another controller's cell.
+#[tactic(auto, using(crate::proofs::Asking::row_steps), unfolding(crate::specs::Procedure::order_plan))]
+pub(crate) fn order<D: DeskView + Drop, A: Allocator + Copy>(
+    work: &mut Work<D, A>,
+    call: u16,
+    layer3: &[u8],
+) -> Result<(), DeskFault>
+    requires some { 0 < length layer3.now }
+    requires short { length layer3.now ≤ 1015 }
+    ensures row { OnOk result (Goes D.log D.choice_at work.old
+        (order_plan call layer3.now) work.new (At Ends)) }
+    ensures stops { OnErr result (Goes D.log D.choice_at work.old
+        (order_plan call layer3.now) work.new Asking) }
+    ensures foreign { IfErr result (λ f. IsForeign f → D.may_be_foreign work.old.view) }
+    ensures foreign_kept { D.may_be_foreign work.new.view → D.may_be_foreign work.old.view }
+{
+    let Some(shown) = look(work, call)? else {
+        return Ok(());
+    };
+    if !awaits_order(shown.record.attempt) {
+        return Ok(());
+    }
+    let Some(serving) = shown.record.serving else {
+        return Ok(());
+    };
+    if !is_nameable(serving) {
+        return Ok(());
+    }
+    order_channel(work, call, layer3, serving)
+}
+
+/// HANDOVER REQUIRED REJECT: the attempt to leave for another controller's cell is taken back.
+#[tactic(auto, using(crate::proofs::Asking::row_steps), unfolding(crate::specs::Procedure::reject_plan))]
+pub(crate) fn reject<D: DeskView + Drop, A: Allocator + Copy>(
+    work: &mut Work<D, A>,
+    call: u16,
+) -> Result<(), DeskFault>
+    ensures row { OnOk result (Goes D.log D.choice_at work.old
+        (reject_plan call) work.new (At Ends)) }
+    ensures stops { OnErr result (Goes D.log D.choice_at work.old
+        (reject_plan call) work.new Asking) }
+    ensures foreign { IfErr result (λ f. IsForeign f → D.may_be_foreign work.old.view) }
+    ensures foreign_kept { D.may_be_foreign work.new.view → D.may_be_foreign work.old.view }
+{
+    let Some(shown) = look(work, call)? else {
+        return Ok(());
+    };
+    if awaits_order(shown.record.attempt) {
+        work.ask(Event::Undo(call, Why::Asked))?;
+    }
+    Ok(())
+}
