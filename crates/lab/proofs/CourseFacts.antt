@@ -54,6 +54,11 @@ went_nowhere c c' same noted = record {
   scripted = refl;
 }
 
+-- what holds in any case holds where all went well
+pub where_ok : {X E P : Type 0} (r : Result X E) → P → OnOk r P
+where_ok (Ok x) h = h
+where_ok (Err e) h = tt
+
 -- one input was handled
 pub went_once : {A : Type 0} (c c' : Course A) (t : Turn A) (source : Source) (side : Side) (input : Inbound A)
     → IsTurnOf (positions_of c.controllers) t (positions_of c'.controllers) → c'.turns.items ≡ c.turns.items ++ t ∷ [] → has_peer c' ≡ has_peer c

@@ -1,5 +1,5 @@
 -- Facts of the sites of one controller or two.
-use Rattle.std.proofs.Common.{◌≡◌, ◌∷◌, ℕ, List, [], map, Option, Some, None, option_map, refl, rules}
+use Rattle.std.proofs.Common.{◌≡◌, ◌∷◌, ℕ, List, [], map, Option, Some, None, option_map, is_some, refl, rules}
 use Rattle.cell_table.specs.Site.{SiteView}
 use Rattle.cell_table.specs.SiteFile.{described_site}
 use Rattle.lab.specs.Course.{option_list}
@@ -14,3 +14,10 @@ sites_described site (Some t) first None e f = absurd (search (rules, f))
 sites_described site (Some t) first (Some v) e f =
     let same : described_site t ≡ Some v = search (rules, f) in
     rw (e, same) refl
+
+-- where a text describes a site, there is one
+pub there_of : (peer : Option (List ℕ)) (other : Option SiteView) → option_map described_site peer ≡ option_map Some other → is_some other ≡ is_some peer
+there_of None None f = refl
+there_of None (Some v) f = absurd (search (rules, f))
+there_of (Some t) None f = absurd (search (rules, f))
+there_of (Some t) (Some v) f = refl

@@ -197,10 +197,10 @@ fn read_peer<A: Allocator + Copy>(
     scratch: Global,
     text: Option<&str>,
 ) -> Result<Option<Site<A>>, SiteFault>
-    ensures described { IfOk result (λ site. option_map described_site (texts_of text) ≡
+    ensures described { IfOk result (λ site. option_map described_site (texts_of text.entry) ≡
         option_map Some site) }
     ensures refused { IfErr result (λ fault. fault ≢ SiteFault.NoMemory →
-        IsSomeAnd (texts_of text) (λ text. described_site text ≡ None)) }
+        IsSomeAnd (texts_of text.entry) (λ text. described_site text ≡ None)) }
 {
     match text {
         Some(text) => Ok(Some(Site::read(alloc, scratch, text)?)),
@@ -216,11 +216,11 @@ fn read_sites<A: Allocator + Copy>(
     peer: Option<&str>,
 ) -> Result<Sites<A>, SiteFault>
     ensures described { IfOk result (λ sites. map described_site
-        (site.now ∷ option_list (texts_of peer)) ≡ map Some (views_of sites)) }
-    ensures peer { IfOk result (λ sites. is_some sites.peer ≡ is_some (texts_of peer)) }
+        (site.now ∷ option_list (texts_of peer.entry)) ≡ map Some (views_of sites)) }
+    ensures peer { IfOk result (λ sites. is_some sites.peer ≡ is_some (texts_of peer.entry)) }
     ensures refused { IfErr result (λ fault. fault ≢ SiteFault.NoMemory →
         (described_site site.now ≡ None) ⊎
-        IsSomeAnd (texts_of peer) (λ text. described_site text ≡ None)) }
+        IsSomeAnd (texts_of peer.entry) (λ text. described_site text ≡ None)) }
     ensures blank { IsBlankFile site.now → result ≡ Err (SiteFault.Missing Handover) }
 {
     let first = Site::read(alloc, scratch, site)?;
@@ -264,12 +264,12 @@ pub fn lab_run<A: Allocator + Copy, W: Write>(
     script: &str,
     out: &mut W,
 ) -> Result<Status, LabFault>
-    ensures played { result ≡ Ok Status.Done → IsPlayed A site.now (texts_of peer) script.now }
+    ensures played { result ≡ Ok Status.Done → IsPlayed A site.now (texts_of peer.entry) script.now }
     ensures differs { result ≢ Ok Status.Differs }
     ensures refused { result ≡ Ok Status.Refused →
         (described_site site.now ≡ None)
-        ⊎ IsSomeAnd (texts_of peer) (λ text. described_site text ≡ None)
-        ⊎ IsSome (first_unread (is_some peer) script.now) }
+        ⊎ IsSomeAnd (texts_of peer.entry) (λ text. described_site text ≡ None)
+        ⊎ IsSome (first_unread (is_some peer.entry) script.now) }
     ensures memory { result ≡ Err LabFault.NoMemory → ¬ IsBlankFile site.now }
 {
     match read_sites(alloc, scratch, site, peer) {
