@@ -5,8 +5,11 @@ use Rattle.std.proofs.lemmas.List.{map-id}
 use Rattle.lab_script.specs.Script.{AreThere, is_item_there}
 use Rattle.lab.specs.Turns.{inputs_in}
 use Rattle.lab.specs.Course.{Went, has_peer}
-use Rattle.lab.proofs.CourseFacts.{went_on, inputs_joined, there_at}
+use Rattle.lab.proofs.CourseFacts.{went_on, stayed, inputs_joined, there_at}
 use Rattle.lab.proofs.course.Course.run.Goals as goal
+
+pub loop-item-init : goal.loop-item-init
+loop-item-init g c = record { can_next = tt; is_finite = tt; went = stayed c.args.self.now }
 
 pub loop-item-preserved : goal.loop-item-preserved
 loop-item-preserved g c = record {
