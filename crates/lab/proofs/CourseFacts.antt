@@ -1,11 +1,9 @@
 -- Facts of turns, and of the course of a script.
-use Rattle.std.proofs.Common.{◌≡◌, ◌++◌, ◌∷◌, ◌<◌, ◌&&◌, ℕ, zero, suc, Bool, true, false, List, [], Option, Some, None, length, get_or, is_some, refl, sym, ap, ◌∙◌, append_assoc, append-nil, subst, rules, arith, Result, Ok, Err, OnOk, IfOk}
-use Rattle.std.specs.List.{list_all}
+use Rattle.std.proofs.Common.{◌≡◌, ◌++◌, ◌∷◌, ◌<◌, ◌&&◌, ℕ, zero, suc, Bool, true, false, List, [], Some, length, get_or, is_some, refl, sym, ap, ◌∙◌, append_assoc, append-nil, subst, rules, arith, Result, Ok, Err, OnOk, IfOk}
 use Rattle.cell_table.specs.Site.{SiteView}
 use Rattle.ho_procedure.specs.declared.exchange.Inbound.{Inbound}
 use Rattle.lab_script.specs.declared.side.Side.{Side}
 use Rattle.lab_script.specs.declared.side.Side.TheVariants.{First, Peer}
-use Rattle.lab_script.specs.declared.script.Given.{Given}
 use Rattle.lab_script.specs.declared.script.Item.{Item}
 use Rattle.lab_script.specs.Script.{AreThere, is_item_there}
 use Rattle.lab.specs.declared.controllers.Controllers.{Controllers}
@@ -55,18 +53,9 @@ went_nowhere c c' same noted = record {
   scripted = refl;
 }
 
--- what holds in any case holds where all went well
-pub where_ok : {X E P : Type 0} (r : Result X E) → P → OnOk r P
-where_ok (Ok x) h = h
-where_ok (Err e) h = tt
-
+-- nothing was done
 pub stayed : {A : Type 0} (c : Course A) → Went [] c c
 stayed c = went_nowhere c c refl refl
-
--- what a line gives was done, once it is known what that is
-pub begun : {A X E : Type 0} (side : Side) (given known : Given A) (r : Result X E) (c c' : Course A) → given ≡ known → OnOk r (Went (input_in side known) c c') → OnOk r (Went (input_in side given ++ []) c c')
-begun side given known r c c' is h =
-    subst (λ inputs. OnOk r (Went inputs c c')) (ap (input_in side) (sym is) ∙ sym (append-nil (input_in side given))) h
 
 -- one input was handled
 pub went_once : {A : Type 0} (c c' : Course A) (t : Turn A) (source : Source) (side : Side) (input : Inbound A)

@@ -1,5 +1,5 @@
 -- Inputs, and what came of each. Ours, of no standard.
-use Rattle.std.specs.Prelude.{◌≡◌, ◌++◌, ℕ, List, [], ◌∷◌, Option, Some, None, slice_get, slice_set}
+use Rattle.std.specs.Prelude.{◌≡◌, ◌++◌, List, [], ◌∷◌, Option, Some, None, slice_get, slice_set}
 use Rattle.std.specs.List.{filter_map}
 use Rattle.cell_table.specs.Site.{SiteView}
 use Rattle.radio_desk.specs.Desk.{DeskState}

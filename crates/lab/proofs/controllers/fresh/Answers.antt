@@ -1,4 +1,4 @@
-use Rattle.std.proofs.Common.{◌≡◌, ap, ◌∙◌, rules}
+use Rattle.std.proofs.Common.{◌≡◌, ap, ◌∙◌}
 use Rattle.radio_book.specs.State.{empty_book}
 use Rattle.radio_desk.specs.Desk.{DeskState}
 use Rattle.lab.proofs.controllers.fresh.Goals as goal

@@ -1,4 +1,4 @@
-use Rattle.std.proofs.Common.{◌≡◌, Result, Ok, Err, MatchResult, IfOk, is_ok, true, false, sym, ap, ◌∙◌}
+use Rattle.std.proofs.Common.{◌≡◌, Result, Ok, Err, MatchResult, IfOk, is_ok, true, false}
 use Rattle.lab.proofs.run.shared.Goals as goal
 
 -- what is made keeps its value where the fault alone is made another

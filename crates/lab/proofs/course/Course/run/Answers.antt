@@ -1,8 +1,8 @@
-use Rattle.std.proofs.Common.{sym, ◌∙◌, ap, rules, refl, length, ◌≡◌, true, [], ◌∷◌, subst}
+use Rattle.std.proofs.Common.{sym, ◌∙◌, ap, length, [], ◌∷◌, subst}
 use Rattle.std.proofs.lemmas.Iterator.Adapters.{YieldsList-from_vec}
 use Rattle.std.proofs.lemmas.Iterator.Consumers.{YieldsList-turn, YieldsList-end}
 use Rattle.std.proofs.lemmas.List.{map-id}
-use Rattle.lab_script.specs.Script.{AreThere, is_item_there}
+use Rattle.lab_script.specs.Script.{is_item_there}
 use Rattle.lab.specs.Turns.{inputs_in}
 use Rattle.lab.specs.Course.{Went, has_peer}
 use Rattle.lab.proofs.CourseFacts.{went_on, stayed, inputs_joined, there_at}
