@@ -1,16 +1,15 @@
 -- Octets begin with one head, or have one fault in it.
-use Rattle.std.proofs.Common.{◌≡◌, ◌⊎◌, ℕ, List, ◌∷◌, Option, Some, None, Result, Ok, Err, IfOk, IfErr, refl, sym, ◌∙◌, ap, subst, cond, eqb, length, inl, inr}
+use Rattle.std.proofs.Common.{◌≡◌, ◌⊎◌, ℕ, ◌+◌, List, ◌∷◌, Option, Some, None, Result, Ok, Err, IfOk, IfErr, refl, sym, ◌∙◌, ap, cond, eqb, length, inl, inr}
 use Rattle.octet_elements.specs.Texts.{HeadsAreUnique, Says, HasBodyFault}
 use Rattle.octet_elements.specs.declared.values.ValueFault.{ValueFault}
 use Rattle.octet_elements.specs.declared.values.ValueFault.TheVariants.{Absent, Bad}
-use Rattle.octet_elements.proofs.Texts.{refused}
 use Rattle.bssmap_messages.specs.declared.fault.BssmapFault.{BssmapFault}
 use Rattle.bssmap_messages.specs.declared.fault.BssmapFault.TheVariants as fault
 use Rattle.bssmap_messages.specs.declared.head.MessageKind.{MessageKind}
 use Rattle.bssmap_messages.specs.declared.head.MessageKind.TheVariants as kind
 use Rattle.bssmap_messages.specs.declared.message.Bssmap.{Bssmap}
 use Rattle.bssmap_messages.specs.Heads.{Carries, Begins, HasHeadFault}
-use Rattle.bssmap_messages.specs.Messages.{type_of, KeepsList}
+use Rattle.bssmap_messages.specs.Messages.{type_of}
 use Rattle.bssmap_messages.specs.Texts.{codec, IsTextOf, HasFault}
 use Rattle.bssmap_messages.specs.Values.{fault_of}
 
@@ -94,13 +93,13 @@ heads A = record {
   either = λ octets f k body p q. bad_head octets f k body (head_is octets f p) q;
 }
 
-no_value_fault : (e : ValueFault) → fault.NoMemory ≡ fault_of e → ⊥
-no_value_fault (Absent i) same = cc
-no_value_fault (Bad i) same = cc
+-- no fault but refused memory is said so
+pub not_by_value : (e : ValueFault) → fault.NoMemory ≡ fault_of e → ⊥
+not_by_value (Absent i) same = cc
+not_by_value (Bad i) same = cc
 
--- memory is refused only for a text whose message keeps a list
-pub memory_refused : (A : Type 0) (octets : List ℕ) (r : Result (Bssmap A) BssmapFault) → r ≡ Err fault.NoMemory → IfErr r (HasFault A octets) → (v : Bssmap A) × IsTextOf v octets × KeepsList v
-memory_refused A octets r memory h = refused (codec A) octets (λ early. early) (λ at same. cc) no_value_fault (subst (λ r. IfErr r (HasFault A octets)) memory h)
+pub not_torn : (at : ℕ) → fault.NoMemory ≡ fault.Torn (3 + at) → ⊥
+not_torn at same = cc
 
 -- what is read of the body behind a head is read of the octets
 pub text_read : {A : Type 0} (k : MessageKind) (octets body : List ℕ) (r : Result (Bssmap A) BssmapFault) → Begins k octets body → IfOk r (λ v. Says (codec A) k body (Ok v)) → IfOk r (λ v. IsTextOf v octets)

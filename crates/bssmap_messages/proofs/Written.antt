@@ -7,7 +7,7 @@ use Rattle.octet_elements.specs.declared.form.Form.TheVariants.{Fixed, Counted, 
 use Rattle.octet_elements.specs.Elements.{Element, Fits, FitsAs, all_octets, element_octets, octets_by_form}
 use Rattle.octet_elements.proofs.Spelling.{IsFixedAs}
 use Rattle.octet_elements.specs.Lookup.{values_in}
-use Rattle.octet_elements.specs.Reading.{◌>>=◌}
+use Rattle.octet_elements.specs.Rows.{◌>>=◌}
 use Rattle.octet_elements.specs.Values.{u16_of, octets_in}
 use Rattle.octet_elements.specs.declared.values.ValueFault.{ValueFault}
 use Rattle.octet_elements.proofs.Splits.{AreFixed}

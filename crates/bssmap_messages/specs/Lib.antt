@@ -3,4 +3,3 @@ pub mod Values
 pub mod Messages
 pub mod Heads
 pub mod Texts
-pub mod Target

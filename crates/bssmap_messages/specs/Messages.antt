@@ -1,10 +1,10 @@
 -- The messages (TS 48.008 clause 3.2.1): of each its type, and row by row its elements, as they are read and
 -- as they are written.
-use Rattle.std.specs.Prelude.{ℕ, ◌+◌, ◌<◌, Bool, List, [], length, Option, Result, Ok, Err, IsTrue, IsSome, is_some}
+use Rattle.std.specs.Prelude.{ℕ, ◌+◌, ◌<◌, Bool, List, [], length, Option, Some, None, Result, Ok, Err, IsTrue, IsSome, is_some}
 use Rattle.std.specs.List.{list_all}
 use Rattle.octet_elements.specs.Elements.{Element}
 use Rattle.octet_elements.specs.Lookup.{Lookup}
-use Rattle.octet_elements.specs.Rows.{Row, octet, optional_octet, octets, presence, ◌▸◌}
+use Rattle.octet_elements.specs.Rows.{Row, Entry, octet, optional_octet, octets, presence, ◌▸◌}
 use Rattle.octet_elements.specs.declared.values.ValueFault.{ValueFault}
 use Rattle.bssmap_messages.specs.declared.head.MessageKind.{MessageKind}
 use Rattle.bssmap_messages.specs.declared.head.MessageKind.TheVariants as kind
@@ -59,14 +59,13 @@ handover_performed = octet CAUSE ▸ cell_identifier
 unfoldable pub cause_alone : Row ℕ
 cause_alone = octet CAUSE
 
--- HANDOVER DETECT (clause 3.2.1.40) and CLEAR COMPLETE (3.2.1.22) have no elements.
-
 -- the message of these fields
 abbrev pub value_of : {X V : Type 0} → (X → V) → Result X ValueFault → Result V ValueFault
 value_of message (Ok fields) = Ok (message fields)
 value_of message (Err fault) = Err fault
 
--- what the elements of a message say, or the first fault in the order of its rows
+-- What the elements of a message say, or the first fault in the order of its rows. HANDOVER DETECT (clause 3.2.1.40)
+-- and CLEAR COMPLETE (3.2.1.22) have no elements.
 abbrev pub said : {A : Type 0} → MessageKind → Lookup → Result (Bssmap A) ValueFault
 said kind.HandoverRequest found = value_of (λ (channel, (encryption, (classmark, (serving, target)))). HandoverRequest channel encryption classmark serving target) (handover_request.read found)
 said kind.HandoverRequired found = value_of (λ (cause, (response, cells)). HandoverRequired cause response cells) (handover_required.read found)
@@ -81,54 +80,59 @@ said kind.ClearCommand found = value_of ClearCommand (cause_alone.read found)
 said kind.ClearComplete found = Ok ClearComplete
 said kind.ClearRequest found = value_of ClearRequest (cause_alone.read found)
 
--- which message it is, and its elements in the order in which they are written
-abbrev pub written : {A : Type 0} → Bssmap A → MessageKind × List Element
-written (HandoverRequest channel encryption classmark serving target) = (kind.HandoverRequest, handover_request.written (channel, (encryption, (classmark, (serving, target)))))
-written (HandoverRequired cause response cells) = (kind.HandoverRequired, handover_required.written (cause, (response, cells)))
-written (HandoverRequestAck layer3) = (kind.HandoverRequestAck, layer_3_alone.written layer3)
-written (HandoverCommand layer3) = (kind.HandoverCommand, layer_3_alone.written layer3)
-written (HandoverComplete rr) = (kind.HandoverComplete, handover_complete.written rr)
-written (HandoverFailure cause rr) = (kind.HandoverFailure, handover_failure.written (cause, rr))
-written (HandoverPerformed cause cell) = (kind.HandoverPerformed, handover_performed.written (cause, cell))
-written (HandoverRequiredReject cause) = (kind.HandoverRequiredReject, cause_alone.written cause)
-written HandoverDetect = (kind.HandoverDetect, [])
-written (ClearCommand cause) = (kind.ClearCommand, cause_alone.written cause)
-written ClearComplete = (kind.ClearComplete, [])
-written (ClearRequest cause) = (kind.ClearRequest, cause_alone.written cause)
+-- The messages: which one it is and its elements; a list that isn't empty, for which reading it may ask for memory; and
+-- whether it is what its elements say once they are written: octets are long enough, there is a cell, and each cell has
+-- a location area code.
+abbrev pub entry_of : {A : Type 0} → Bssmap A → Entry MessageKind
+entry_of (HandoverRequest channel encryption classmark serving target) = record { kind = kind.HandoverRequest;
+  elements = handover_request.written (channel, (encryption, (classmark, (serving, target))));
+  Keeps = 0 < length channel + length encryption + classmark_length classmark;
+  CanBeSaid = (1 < length channel) × (0 < length encryption) × IsSome serving.lac × IsSome target.lac }
+entry_of (HandoverRequired cause response cells) = record { kind = kind.HandoverRequired;
+  elements = handover_required.written (cause, (response, cells)); Keeps = 0 < length cells;
+  CanBeSaid = (0 < length cells) × IsTrue (list_all (λ cell. is_some cell.lac) cells) }
+entry_of (HandoverRequestAck layer3) = record { kind = kind.HandoverRequestAck;
+  elements = layer_3_alone.written layer3; Keeps = 0 < length layer3; CanBeSaid = 0 < length layer3 }
+entry_of (HandoverCommand layer3) = record { kind = kind.HandoverCommand; elements = layer_3_alone.written layer3;
+  Keeps = 0 < length layer3; CanBeSaid = 0 < length layer3 }
+entry_of (HandoverComplete rr) = record { kind = kind.HandoverComplete; elements = handover_complete.written rr;
+  Keeps = ⊥; CanBeSaid = Unit {0} }
+entry_of (HandoverFailure cause rr) = record { kind = kind.HandoverFailure;
+  elements = handover_failure.written (cause, rr); Keeps = ⊥; CanBeSaid = Unit {0} }
+entry_of (HandoverPerformed cause cell) = record { kind = kind.HandoverPerformed;
+  elements = handover_performed.written (cause, cell); Keeps = ⊥; CanBeSaid = IsSome cell.lac }
+entry_of (HandoverRequiredReject cause) = record { kind = kind.HandoverRequiredReject;
+  elements = cause_alone.written cause; Keeps = ⊥; CanBeSaid = Unit {0} }
+entry_of HandoverDetect = record { kind = kind.HandoverDetect; elements = []; Keeps = ⊥; CanBeSaid = Unit {0} }
+entry_of (ClearCommand cause) = record { kind = kind.ClearCommand; elements = cause_alone.written cause; Keeps = ⊥;
+  CanBeSaid = Unit {0} }
+entry_of ClearComplete = record { kind = kind.ClearComplete; elements = []; Keeps = ⊥; CanBeSaid = Unit {0} }
+entry_of (ClearRequest cause) = record { kind = kind.ClearRequest; elements = cause_alone.written cause; Keeps = ⊥;
+  CanBeSaid = Unit {0} }
 
 abbrev pub kind_of : {A : Type 0} → Bssmap A → MessageKind
-kind_of v = (written v).0
+kind_of v = (entry_of v).kind
 
 abbrev pub elements_of : {A : Type 0} → Bssmap A → List Element
-elements_of v = (written v).1
+elements_of v = (entry_of v).elements
 
--- The message keeps a list that isn't empty, for which reading it may ask for memory.
 abbrev pub KeepsList : {A : Type 0} → Bssmap A → Type 0
-KeepsList (HandoverRequest channel encryption classmark serving target) = 0 < length channel + length encryption + classmark_length classmark
-KeepsList (HandoverRequired cause response cells) = 0 < length cells
-KeepsList (HandoverRequestAck layer3) = 0 < length layer3
-KeepsList (HandoverCommand layer3) = 0 < length layer3
-KeepsList (HandoverComplete rr) = ⊥
-KeepsList (HandoverFailure cause rr) = ⊥
-KeepsList (HandoverPerformed cause cell) = ⊥
-KeepsList (HandoverRequiredReject cause) = ⊥
-KeepsList HandoverDetect = ⊥
-KeepsList (ClearCommand cause) = ⊥
-KeepsList ClearComplete = ⊥
-KeepsList (ClearRequest cause) = ⊥
+KeepsList v = (entry_of v).Keeps
 
--- The message is what its elements say once they are written: octets are long enough, there is a cell, and each
--- cell has a location area code.
 abbrev pub CanBeSaid : {A : Type 0} → Bssmap A → Type 0
-CanBeSaid (HandoverRequest channel encryption classmark serving target) = (1 < length channel) × (0 < length encryption) × IsSome serving.lac × IsSome target.lac
-CanBeSaid (HandoverRequired cause response cells) = (0 < length cells) × IsTrue (list_all (λ cell. is_some cell.lac) cells)
-CanBeSaid (HandoverRequestAck layer3) = 0 < length layer3
-CanBeSaid (HandoverCommand layer3) = 0 < length layer3
-CanBeSaid (HandoverComplete rr) = Unit {0}
-CanBeSaid (HandoverFailure cause rr) = Unit {0}
-CanBeSaid (HandoverPerformed cause cell) = IsSome cell.lac
-CanBeSaid (HandoverRequiredReject cause) = Unit {0}
-CanBeSaid HandoverDetect = Unit {0}
-CanBeSaid (ClearCommand cause) = Unit {0}
-CanBeSaid ClearComplete = Unit {0}
-CanBeSaid (ClearRequest cause) = Unit {0}
+CanBeSaid v = (entry_of v).CanBeSaid
+
+-- the second cell identifier of a HANDOVER REQUEST (TS 48.008 clause 3.2.1.8); no other message has a target
+abbrev pub target_of : {A : Type 0} → Bssmap A → Option CellId
+target_of (HandoverRequest channel encryption classmark serving target) = Some target
+target_of (HandoverRequired cause response cells) = None
+target_of (HandoverRequestAck layer3) = None
+target_of (HandoverCommand layer3) = None
+target_of (HandoverComplete rr) = None
+target_of (HandoverFailure cause rr) = None
+target_of (HandoverPerformed cause cell) = None
+target_of (HandoverRequiredReject cause) = None
+target_of HandoverDetect = None
+target_of (ClearCommand cause) = None
+target_of ClearComplete = None
+target_of (ClearRequest cause) = None

@@ -3,7 +3,6 @@
 use Rattle.std.specs.Prelude.{ℕ, ◌+◌, ◌≤◌, ◌↔◌, List, ◌∷◌, length}
 use Rattle.octet_elements.specs.Elements.{all_octets}
 use Rattle.octet_elements.specs.Texts as texts
-use Rattle.octet_elements.specs.Texts.{Codec}
 use Rattle.bssmap_messages.specs.declared.fault.BssmapFault.{BssmapFault}
 use Rattle.bssmap_messages.specs.declared.fault.BssmapFault.TheVariants.{Torn, NoMemory}
 use Rattle.bssmap_messages.specs.declared.head.MessageKind.{MessageKind}
@@ -14,7 +13,7 @@ use Rattle.bssmap_messages.specs.Values.{fault_of}
 use Rattle.bssmap_messages.specs.Messages.{said, type_of, kind_of, elements_of, KeepsList, CanBeSaid}
 
 -- The body of a message follows three octets of head.
-abbrev pub codec : (A : Type 0) → Codec MessageKind (Bssmap A) BssmapFault
+abbrev pub codec : (A : Type 0) → texts.Codec MessageKind (Bssmap A) BssmapFault
 codec A = record {
   forms = interface_a;
   Begins = Begins;
@@ -45,10 +44,6 @@ canonical_text v = 0 ∷ length (written_octets v) ∷ written_octets v
 -- the message has a canonical text
 abbrev pub HasCanonical : {A : Type 0} → Bssmap A → Type 0
 HasCanonical v = IsTextOf v (canonical_text v)
-
--- octets have one reading
-abbrev pub ReadingIsUnique : (A : Type 0) → Type 0
-ReadingIsUnique A = texts.ReadingIsUnique (codec A)
 
 -- Just the messages whose fields can be said, in at most 253 octets behind the length octet, have a canonical text.
 abbrev pub CanonicalIsText : (A : Type 0) → Type 0

@@ -27,15 +27,14 @@ use octet_elements::{
 };
 use std::alloc::Allocator;
 
+/// The message that elements say, or their first fault.
+type Read<A> = Result<Bssmap<A>, BssmapFault>;
+
 /// HANDOVER REQUEST. Memory is asked for once the elements are read.
 #[tactic(auto, unfolding(crate::specs::Messages::handover_request))]
 #[inline(always)]
-fn read_request<A: Allocator + Copy>(
-    alloc: A,
-    found: &Found<'_, InterfaceA>,
-) -> Result<Bssmap<A>, BssmapFault>
-    ensures { Answers (codec A) result
-        (said MessageKind.HandoverRequest (lookup known found.now)) }
+fn read_request<A: Allocator + Copy>(alloc: A, found: &Found<'_, InterfaceA>) -> Read<A>
+    ensures { Answers (codec A) result (said MessageKind.HandoverRequest (lookup known found.now)) }
 {
     let channel = channel_type(found.first(CHANNEL_TYPE))?;
     let encryption = found.octets(ENCRYPTION_INFORMATION)?;
@@ -54,21 +53,16 @@ fn read_request<A: Allocator + Copy>(
 /// HANDOVER REQUIRED. Memory is asked for once the elements are read.
 #[tactic(auto, unfolding(crate::specs::Messages::handover_required))]
 #[inline(always)]
-fn read_required<A: Allocator + Copy>(
-    alloc: A,
-    found: &Found<'_, InterfaceA>,
-) -> Result<Bssmap<A>, BssmapFault>
-    ensures { Answers (codec A) result
-        (said MessageKind.HandoverRequired (lookup known found.now)) }
+fn read_required<A: Allocator + Copy>(alloc: A, found: &Found<'_, InterfaceA>) -> Read<A>
+    ensures { Answers (codec A) result (said MessageKind.HandoverRequired (lookup known found.now)) }
 {
     let cause = found.octet(CAUSE)?;
     let response = found.first(RESPONSE_REQUEST).is_some();
     let (discriminator, octets) = cells(found.first(CELL_IDENTIFIER_LIST))?;
-    let cells = read_cells(alloc, discriminator, octets)?;
     Ok(Bssmap::HandoverRequired {
         cause,
         response,
-        cells,
+        cells: read_cells(alloc, discriminator, octets)?,
     })
 }
 
@@ -189,15 +183,12 @@ pub fn elements_len<A: Allocator>(message: &Bssmap<A>) -> usize
             response,
             cells,
             ..
-        } => counted_len(
-            cells
-                .as_slice()
-                .len()
-                .saturating_mul(CELL_LEN)
-                .saturating_add(1),
-        )
-        .saturating_add(presence_len::<InterfaceA>(RESPONSE_REQUEST, *response))
-        .saturating_add(octet_len::<InterfaceA>(CAUSE)),
+        } => {
+            let cells_len = cells.as_slice().len().saturating_mul(CELL_LEN);
+            counted_len(cells_len.saturating_add(1))
+                .saturating_add(presence_len::<InterfaceA>(RESPONSE_REQUEST, *response))
+                .saturating_add(octet_len::<InterfaceA>(CAUSE))
+        }
         Bssmap::HandoverRequestAck { layer3 } | Bssmap::HandoverCommand { layer3 } => {
             counted_len(layer3.as_slice().len())
         }

@@ -1,7 +1,7 @@
 //! The messages.
 ghost use Rattle.std.specs.Prelude.{◌≡◌};
 ghost use Rattle.std.specs.Option.{option_map};
-ghost use Rattle.bssmap_messages.specs.Target.{target_of};
+ghost use Rattle.bssmap_messages.specs.Messages.{target_of};
 
 use crate::cells::CellList;
 use octet_elements::Octets;

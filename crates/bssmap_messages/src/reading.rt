@@ -1,7 +1,7 @@
 //! Reading a message.
-ghost use Rattle.std.specs.Prelude.{◌≡◌, ◌≢◌, Ok, Err, IfOk, IfErr};
-ghost use Rattle.bssmap_messages.specs.Messages.{KeepsList};
-ghost use Rattle.bssmap_messages.specs.Texts.{IsTextOf, HasFault};
+ghost use Rattle.std.specs.Prelude.{IfOk, IfErr};
+ghost use Rattle.octet_elements.specs.Texts.{Decodes};
+ghost use Rattle.bssmap_messages.specs.Texts.{codec, IsTextOf, HasFault};
 
 use crate::elements::read_elements;
 use crate::fault::BssmapFault;
@@ -32,12 +32,7 @@ fn read_message<A: Allocator + Copy>(alloc: A, octets: &[u8]) -> Result<Bssmap<A
 /// cell and the second the target cell. An `Err` is the first fault in the order that [`BssmapFault`] says.
 #[inline(always)]
 pub fn decode<A: Allocator + Copy>(alloc: A, octets: &[u8]) -> Result<Bssmap<A>, BssmapFault>
-    ensures text { IfOk result (λ v. IsTextOf v octets.now) }
-    ensures exact { (v : Bssmap A) → IsTextOf v octets.now → result ≢ Err BssmapFault.NoMemory →
-        result ≡ Ok v }
-    ensures fault { IfErr result (HasFault A octets.now) }
-    ensures memory { result ≡ Err BssmapFault.NoMemory →
-        (v : Bssmap A) × IsTextOf v octets.now × KeepsList v }
+    ensures { Decodes (codec A) octets.now result }
 {
     read_message(alloc, octets)
 }

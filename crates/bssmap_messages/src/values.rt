@@ -1,6 +1,6 @@
 //! What the value of an element says.
-ghost use Rattle.std.specs.Prelude.{◌≡◌, ◌<◌, Ok, Err, IfOk, IfErr, OnErr};
-ghost use Rattle.octet_elements.specs.Values.{value_seen};
+ghost use Rattle.std.specs.Prelude.{◌≡◌, ◌<◌, IfOk, OnErr};
+ghost use Rattle.octet_elements.specs.Values.{value_seen, Gives};
 ghost use Rattle.bssmap_messages.specs.Values.{channel_type_in, classmark_in, classmark_length, kept_classmark};
 
 use crate::message::Classmark;
@@ -10,8 +10,7 @@ use std::alloc::{AllocError, Allocator};
 
 /// The channel type, which has at least two octets.
 pub fn channel_type(value: Option<&[u8]>) -> Result<&[u8], ValueFault>
-    ensures ok { IfOk result (λ v. channel_type_in (value_seen value.entry) ≡ Ok v.now) }
-    ensures err { IfErr result (λ e. channel_type_in (value_seen value.entry) ≡ Err e) }
+    ensures { Gives result (λ v. v.now) (channel_type_in (value_seen value.entry)) }
 {
     match value {
         None => Err(ValueFault::Absent(CHANNEL_TYPE)),
@@ -34,10 +33,8 @@ pub fn classmark<'a, A: Allocator>(
     one: Option<&[u8]>,
     two: Option<&'a [u8]>,
 ) -> Result<ClassmarkValue<'a>, ValueFault>
-    ensures ok { IfOk result (λ c. classmark_in {A = A} (value_seen one.entry)
-        (value_seen two.entry) ≡ Ok (kept_classmark c)) }
-    ensures err { IfErr result (λ e. classmark_in {A = A} (value_seen one.entry)
-        (value_seen two.entry) ≡ Err e) }
+    ensures { Gives result (kept_classmark {A = A})
+        (classmark_in {A = A} (value_seen one.entry) (value_seen two.entry)) }
 {
     match (one, two) {
         (Some([octet, ..]), _) => Ok(ClassmarkValue::One(*octet)),

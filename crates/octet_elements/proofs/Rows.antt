@@ -1,7 +1,7 @@
 -- What rows read, and what it tells of each row.
 use Rattle.std.proofs.Common.{◌≡◌, Result, Ok, Err, refl}
 use Rattle.octet_elements.specs.Lookup.{Lookup}
-use Rattle.octet_elements.specs.Reading.{◌>>=◌}
+use Rattle.octet_elements.specs.Rows.{◌>>=◌}
 use Rattle.octet_elements.specs.Rows.{Row, ◌▸◌}
 
 -- what goes on has read something

@@ -3,7 +3,7 @@ use Rattle.std.proofs.Common.{IfOk, IfErr, ◌≢◌, ◌≡◌, ℕ, List, Resu
 use Rattle.octet_elements.specs.Elements.{Element, Forms, AreElements, AreTorn, IsTornAt, Fits, all_octets}
 use Rattle.std.specs.List.{AllByRecursion}
 use Rattle.octet_elements.specs.Lookup.{values_in}
-use Rattle.octet_elements.specs.Texts.{Codec, Says, IsTextOf, Answers, GoesWith, HasBodyFault, HasFault, ReadingIsUnique, HeadsAreUnique}
+use Rattle.octet_elements.specs.Texts.{Codec, Says, IsTextOf, Decodes, Answers, GoesWith, HasBodyFault, HasFault, ReadingIsUnique, HeadsAreUnique}
 use Rattle.octet_elements.specs.declared.values.ValueFault.{ValueFault}
 use Rattle.octet_elements.proofs.Splits.{same_elements, whole_not_torn, same_tear, AreFixed, same_written}
 
@@ -87,3 +87,12 @@ refused c octets early torn fault (inl bad) = absurd (early bad)
 refused c octets early torn fault (inr (kind, body, head, inl (at, is, same))) = absurd (torn at same)
 refused c octets early torn fault (inr (kind, body, head, inr (Ok v, says, by))) = (v, record { kind = kind; body = body; head = head; says = says }, by.1)
 refused c octets early torn fault (inr (kind, body, head, inr (Err e, says, by))) = absurd (fault e by)
+
+-- A decoder that answers a text's value or the octets' fault does all that a decoder is to do.
+pub decoded : {Kind V F : Type 0} (c : Codec Kind V F) → HeadsAreUnique c → (octets : List ℕ) (r : Result V F) → (c.HasHeadFault octets c.no_memory → ⊥) → ((at : ℕ) → c.no_memory ≢ c.torn at) → ((e : ValueFault) → c.no_memory ≢ c.fault_of e) → IfOk r (λ v. IsTextOf c v octets) → IfErr r (HasFault c octets) → Decodes c octets r
+decoded c heads octets r early torn by_value text fault = record {
+  text = text;
+  exact = λ v h memory. exactly c heads r octets v text fault h memory;
+  fault = fault;
+  memory = λ memory. refused c octets early torn by_value (subst (λ r. IfErr r (HasFault c octets)) memory fault);
+}

@@ -1,6 +1,5 @@
 pub mod Elements
 pub mod Lookup
-pub mod Reading
 pub mod Rows
 pub mod Texts
 pub mod Values

@@ -1,11 +1,16 @@
 -- The rows of a message's table: what the value of an element says, and how the element is written
 -- (TS 48.058 clause 8, TS 48.008 clause 3.2.1).
-use Rattle.std.specs.Prelude.{ℕ, Bool, List, [], ◌∷◌, ◌++◌, Option, is_some, Result, Ok}
+use Rattle.std.specs.Prelude.{ℕ, Bool, List, [], ◌∷◌, ◌++◌, Option, is_some, Result, Ok, Err}
 use Rattle.octet_elements.specs.Elements.{Element}
 use Rattle.octet_elements.specs.Lookup.{Lookup}
-use Rattle.octet_elements.specs.Reading.{◌>>=◌}
 use Rattle.octet_elements.specs.Values.{octet_in, optional_octet_in, u16_be_in, u16_octets, octets_in, optional_octets_in, any_octets_in, where_some, where_value, where_true}
 use Rattle.octet_elements.specs.declared.values.ValueFault.{ValueFault}
+
+infixl 10 ◌>>=◌
+-- the next part is read from what was read before it: the first fault counts
+abbrev pub ◌>>=◌ : {A B F : Type 0} → Result A F → (A → Result B F) → Result B F
+(Ok x) >>= f = f x
+(Err e) >>= f = Err e
 
 -- one row, or some one after the other: what is read by the identifiers, and the elements that are written
 pub record Row (X : Type 0) : Type 0 where
@@ -47,3 +52,11 @@ a ▸ b = record {
   read = λ found. a.read found >>= λ x. b.read found >>= λ y. Ok (x, y);
   written = λ fields. a.written fields.0 ++ b.written fields.1;
 }
+
+-- What a codec's table has of a message: which one it is, its elements in the order in which they are written, whether
+-- it keeps a list that isn't empty, for which reading it may ask for memory, and whether its fields can be said.
+pub record Entry (Kind : Type 0) : Type 1 where
+  pub kind : Kind
+  pub elements : List Element
+  pub Keeps : Type 0
+  pub CanBeSaid : Type 0

@@ -1,6 +1,6 @@
 -- Which octets are the text of a message, and what is wrong with all others, where a message is a head
 -- and then elements.
-use Rattle.std.specs.Prelude.{◌≡◌, ◌⊎◌, ℕ, List, Result, Ok, Err}
+use Rattle.std.specs.Prelude.{◌≡◌, ◌≢◌, ◌⊎◌, ℕ, List, Result, Ok, Err, IfOk, IfErr}
 use Rattle.octet_elements.specs.Elements.{Element, Forms, AreElements, IsTornAt}
 use Rattle.octet_elements.specs.Lookup.{Lookup, values_in}
 use Rattle.octet_elements.specs.declared.values.ValueFault.{ValueFault}
@@ -53,6 +53,14 @@ HasFault {Kind = Kind} c octets f = c.HasHeadFault octets f ⊎ ((kind : Kind) �
 abbrev pub Answers : {Kind V F : Type 0} → Codec Kind V F → Result V F → Result V ValueFault → Type 0
 Answers c (Ok v) said = said ≡ Ok v
 Answers c (Err f) said = GoesWith c said f
+
+-- What a decoder answers: the value of a text, and each text's where memory isn't refused; to all other octets their
+-- first fault. Memory is refused only for a text whose value keeps a list.
+pub record Decodes {Kind V F : Type 0} (c : Codec Kind V F) (octets : List ℕ) (result : Result V F) : Type 0 where
+  pub text : IfOk result (λ v. IsTextOf c v octets)
+  pub exact : (v : V) → IsTextOf c v octets → result ≢ Err c.no_memory → result ≡ Ok v
+  pub fault : IfErr result (HasFault c octets)
+  pub memory : result ≡ Err c.no_memory → (v : V) × IsTextOf c v octets × c.KeepsList v
 
 -- Octets have one reading: a text has one value, and no fault but refused memory; no octets have two faults.
 pub record ReadingIsUnique {Kind V F : Type 0} (c : Codec Kind V F) : Type 0 where

@@ -1,6 +1,6 @@
 -- What the value of an element says, and how it is written, alike on Abis (TS 48.058 clause 9.3) and on A
 -- (TS 48.008 clause 3.2.2).
-use Rattle.std.specs.Prelude.{ℕ, ◌+◌, ◌*◌, ◌/◌, ◌%◌, Bool, true, false, List, [], ◌∷◌, Option, Some, None, Result, Ok, Err}
+use Rattle.std.specs.Prelude.{◌≡◌, ℕ, ◌+◌, ◌*◌, ◌/◌, ◌%◌, Bool, true, false, List, [], ◌∷◌, Option, Some, None, Result, Ok, Err, IfOk, IfErr}
 use Rattle.std.specs.Borrow.{Bor}
 use Rattle.std.specs.Option.{option_map}
 use Rattle.octet_elements.specs.Elements.{Element}
@@ -10,6 +10,11 @@ use Rattle.octet_elements.specs.declared.values.ValueFault.TheVariants.{Absent, 
 -- a value that is passed by reference
 abbrev pub value_seen : Option (Bor (List ℕ)) → Option (List ℕ)
 value_seen value = option_map (λ v. v.now) value
+
+-- what is read without being copied is what the value says, or the fault is
+pub record Gives {V W F : Type 0} (result : Result V F) (seen : V → W) (said : Result W F) : Type 0 where
+  pub ok : IfOk result (λ v. said ≡ Ok (seen v))
+  pub err : IfErr result (λ e. said ≡ Err e)
 
 -- the value's first octet
 abbrev pub octet_in : ℕ → Option (List ℕ) → Result ℕ ValueFault

@@ -1,8 +1,8 @@
 //! One pass over the elements of a body, which keeps the values that a codec uses.
-ghost use Rattle.std.specs.Prelude.{◌≡◌, ◌<◌, List, ◌∷◌, [], ◌++◌, length, IfOk, OnOk, IfErr, Ok, Err};
+ghost use Rattle.std.specs.Prelude.{◌≡◌, ◌<◌, List, ◌∷◌, [], ◌++◌, length, OnOk, IfErr};
 ghost use Rattle.octet_elements.specs.Elements.{Element, AreElements, IsTornAt};
 ghost use Rattle.octet_elements.specs.Lookup.{place_of, noted, lookup};
-ghost use Rattle.octet_elements.specs.Values.{value_seen, octet_in, optional_octet_in, u16_be_in, octets_in, optional_octets_in, any_octets_in};
+ghost use Rattle.octet_elements.specs.Values.{value_seen, Gives, octet_in, optional_octet_in, u16_be_in, octets_in, optional_octets_in, any_octets_in};
 
 use crate::element::{Leading, leading_element};
 use crate::form::{DOUBLED, ElementTable, PLACES};
@@ -135,10 +135,8 @@ impl<'a, T: ElementTable> Found<'a, T> {
     /// The whole value of the element with this identifier, which has at least one octet.
     #[inline]
     pub fn octets(&self, identifier: u8) -> Result<&'a [u8], ValueFault>
-        ensures ok { IfOk result (λ v. octets_in identifier ((lookup T.known self.now).first identifier) ≡
-            Ok v.now) }
-        ensures err { IfErr result (λ e. octets_in identifier ((lookup T.known self.now).first identifier) ≡
-            Err e) }
+        ensures { Gives result (λ v. v.now) (octets_in identifier
+            ((lookup T.known self.now).first identifier)) }
     {
         octets(identifier, self.first(identifier))
     }
@@ -146,10 +144,8 @@ impl<'a, T: ElementTable> Found<'a, T> {
     /// The whole value of the element with this identifier, which has at least one octet, where it is there.
     #[inline]
     pub fn optional_octets(&self, identifier: u8) -> Result<Option<&'a [u8]>, ValueFault>
-        ensures ok { IfOk result (λ v. optional_octets_in identifier
-            ((lookup T.known self.now).first identifier) ≡ Ok (value_seen v)) }
-        ensures err { IfErr result (λ e. optional_octets_in identifier
-            ((lookup T.known self.now).first identifier) ≡ Err e) }
+        ensures { Gives result value_seen (optional_octets_in identifier
+            ((lookup T.known self.now).first identifier)) }
     {
         optional_octets(identifier, self.first(identifier))
     }
@@ -157,10 +153,8 @@ impl<'a, T: ElementTable> Found<'a, T> {
     /// The whole value of the element with this identifier, which may be empty.
     #[inline]
     pub fn any_octets(&self, identifier: u8) -> Result<&'a [u8], ValueFault>
-        ensures ok { IfOk result (λ v. any_octets_in identifier ((lookup T.known self.now).first identifier) ≡
-            Ok v.now) }
-        ensures err { IfErr result (λ e. any_octets_in identifier
-            ((lookup T.known self.now).first identifier) ≡ Err e) }
+        ensures { Gives result (λ v. v.now) (any_octets_in identifier
+            ((lookup T.known self.now).first identifier)) }
     {
         any_octets(identifier, self.first(identifier))
     }

@@ -1,8 +1,8 @@
 //! What the value of an element says, alike on Abis and on A.
 //!
 //! A reader gets the value of the element with an identifier, or nothing where the element isn't there.
-ghost use Rattle.std.specs.Prelude.{◌≡◌, Some, Ok, Err, IfOk, IfErr};
-ghost use Rattle.octet_elements.specs.Values.{value_seen, octet_in, optional_octet_in, u16_of, u16_be_in, u16_octets, octets_in, optional_octets_in, any_octets_in};
+ghost use Rattle.std.specs.Prelude.{◌≡◌};
+ghost use Rattle.octet_elements.specs.Values.{value_seen, Gives, octet_in, optional_octet_in, u16_of, u16_be_in, u16_octets, octets_in, optional_octets_in, any_octets_in};
 
 /// What is wrong with an element of a message whose elements are all whole.
 #[derive(Clone, Copy, PartialEq, Eq, Debug)]
@@ -64,49 +64,34 @@ pub fn u16_octets(number: u16) -> [u8; 2]
     [(number / 256) as u8, (number % 256) as u8]
 }
 
-/// The value, unless it is empty.
-#[inline]
-fn some_octets(identifier: u8, value: &[u8]) -> Result<&[u8], ValueFault>
-    ensures ok { IfOk result (λ v. octets_in identifier (Some value.now) ≡ Ok v.now) }
-    ensures err { IfErr result (λ e. octets_in identifier (Some value.now) ≡ Err e) }
-{
-    if value.is_empty() {
-        return Err(ValueFault::Bad(identifier));
-    }
-    Ok(value)
-}
-
 /// The whole value, which has at least one octet.
 #[inline]
 pub fn octets(identifier: u8, value: Option<&[u8]>) -> Result<&[u8], ValueFault>
-    ensures ok { IfOk result (λ v. octets_in identifier (value_seen value.entry) ≡ Ok v.now) }
-    ensures err { IfErr result (λ e. octets_in identifier (value_seen value.entry) ≡ Err e) }
+    ensures { Gives result (λ v. v.now) (octets_in identifier (value_seen value.entry)) }
 {
     match value {
         None => Err(ValueFault::Absent(identifier)),
-        Some(value) => some_octets(identifier, value),
+        Some(value) if !value.is_empty() => Ok(value),
+        Some(_) => Err(ValueFault::Bad(identifier)),
     }
 }
 
 /// The whole value, which has at least one octet, where the element is there.
 #[inline]
 pub fn optional_octets(identifier: u8, value: Option<&[u8]>) -> Result<Option<&[u8]>, ValueFault>
-    ensures ok { IfOk result (λ v. optional_octets_in identifier (value_seen value.entry) ≡
-        Ok (value_seen v)) }
-    ensures err { IfErr result (λ e. optional_octets_in identifier (value_seen value.entry) ≡
-        Err e) }
+    ensures { Gives result value_seen (optional_octets_in identifier (value_seen value.entry)) }
 {
     match value {
         None => Ok(None),
-        Some(value) => Ok(Some(some_octets(identifier, value)?)),
+        Some(value) if !value.is_empty() => Ok(Some(value)),
+        Some(_) => Err(ValueFault::Bad(identifier)),
     }
 }
 
 /// The whole value, which may be empty.
 #[inline]
 pub fn any_octets(identifier: u8, value: Option<&[u8]>) -> Result<&[u8], ValueFault>
-    ensures ok { IfOk result (λ v. any_octets_in identifier (value_seen value.entry) ≡ Ok v.now) }
-    ensures err { IfErr result (λ e. any_octets_in identifier (value_seen value.entry) ≡ Err e) }
+    ensures { Gives result (λ v. v.now) (any_octets_in identifier (value_seen value.entry)) }
 {
     value.ok_or(ValueFault::Absent(identifier))
 }

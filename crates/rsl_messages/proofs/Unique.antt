@@ -1,12 +1,11 @@
 -- Octets begin with one head, or have one fault before the body.
-use Rattle.std.proofs.Common.{◌≡◌, ◌⊎◌, ℕ, ◌<◌, ◌≤◌, ◌/◌, List, [], ◌∷◌, length, Option, Some, None, refl, sym, ◌∙◌, subst, ap, arith, cond, eqb, inl, inr, Result, Err, IfErr}
+use Rattle.std.proofs.Common.{◌≡◌, ◌⊎◌, ℕ, ◌+◌, ◌<◌, ◌≤◌, ◌/◌, List, [], ◌∷◌, length, Option, Some, None, refl, sym, ◌∙◌, subst, ap, arith, cond, eqb, inl, inr}
 use Rattle.octet_elements.specs.Texts.{HeadsAreUnique}
 use Rattle.octet_elements.specs.declared.values.ValueFault.{ValueFault}
 use Rattle.octet_elements.specs.declared.values.ValueFault.TheVariants.{Absent, Bad}
-use Rattle.octet_elements.proofs.Texts.{refused, reading_is_unique}
+use Rattle.octet_elements.proofs.Texts.{reading_is_unique}
 use Rattle.rsl_messages.specs.Values.{fault_of}
 use Rattle.rsl_messages.specs.declared.message.Rsl.{Rsl}
-use Rattle.rsl_messages.specs.Messages.{HasOctets}
 use Rattle.rsl_messages.specs.declared.fault.RslFault.{RslFault}
 use Rattle.rsl_messages.specs.declared.fault.RslFault.TheVariants as fault
 use Rattle.rsl_messages.specs.declared.head.MessageKind.{MessageKind}
@@ -115,17 +114,17 @@ heads A = record {
   either = λ octets f k body p q. fault_or_head octets f k body p q.0 q.1;
 }
 
-no_value_fault : (e : ValueFault) → fault.NoMemory ≡ fault_of e → ⊥
-no_value_fault (Absent i) same = cc
-no_value_fault (Bad i) same = cc
+-- no fault but refused memory is said so
+pub not_by_value : (e : ValueFault) → fault.NoMemory ≡ fault_of e → ⊥
+not_by_value (Absent i) same = cc
+not_by_value (Bad i) same = cc
 
-not_early : (octets : List ℕ) → HasEarlyFault octets fault.NoMemory → ⊥
+pub not_torn : (at : ℕ) → fault.NoMemory ≡ fault.Torn (2 + at) → ⊥
+not_torn at same = cc
+
+pub not_early : (octets : List ℕ) → HasEarlyFault octets fault.NoMemory → ⊥
 not_early octets (inl (long, same)) = cc
 not_early octets (inr (short, head)) = head
-
--- memory is refused only for a text whose message keeps octets
-pub memory_refused : (A : Type 0) (octets : List ℕ) (r : Result (Rsl A) RslFault) → r ≡ Err fault.NoMemory → IfErr r (HasFault A octets) → (v : Rsl A) × IsTextOf v octets × HasOctets v
-memory_refused A octets r memory h = refused (codec A) octets (not_early octets) (λ at same. cc) no_value_fault (subst (λ r. IfErr r (HasFault A octets)) memory h)
 
 -- a text has no fault but refused memory
 pub no_fault : {A : Type 0} (v : Rsl A) (octets : List ℕ) (f : RslFault) → IsTextOf v octets → HasFault A octets f → f ≡ fault.NoMemory

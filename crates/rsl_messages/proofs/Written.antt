@@ -5,7 +5,7 @@ use borrow.Author.Tests.{eq-eqb}
 use Rattle.std.specs.List.{AllByRecursion}
 use Rattle.octet_elements.specs.Elements.{Fits, FitsAs, first_of, all_octets, octets_by_form, nth}
 use Rattle.octet_elements.specs.Lookup.{values_in}
-use Rattle.octet_elements.specs.Reading.{◌>>=◌}
+use Rattle.octet_elements.specs.Rows.{◌>>=◌}
 use Rattle.octet_elements.specs.Rows.{octet, optional_octet, u16_be, octets, any_octets, optional_octets, ◌▸◌}
 use Rattle.octet_elements.specs.Values.{optional_octet_in, u16_be_in, u16_octets, octets_in, optional_octets_in, where_some, where_value}
 use Rattle.octet_elements.specs.declared.form.Form.TheVariants.{Fixed}

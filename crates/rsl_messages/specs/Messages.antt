@@ -2,8 +2,7 @@
 use Rattle.std.specs.Prelude.{◌⊎◌, ℕ, ◌<◌, List, [], ◌∷◌, length, Result, Ok, IsSome, IfSome, Option}
 use Rattle.octet_elements.specs.Elements.{Element}
 use Rattle.octet_elements.specs.Lookup.{Lookup}
-use Rattle.octet_elements.specs.Reading.{◌>>=◌}
-use Rattle.octet_elements.specs.Rows.{Row, octet, optional_octet, u16_be, octets, optional_octets, any_octets, ◌▸◌}
+use Rattle.octet_elements.specs.Rows.{Row, Entry, ◌>>=◌, octet, optional_octet, u16_be, octets, optional_octets, any_octets, ◌▸◌}
 use Rattle.octet_elements.specs.declared.values.ValueFault.{ValueFault}
 use Rattle.rsl_messages.specs.declared.head.MessageKind.{MessageKind}
 use Rattle.rsl_messages.specs.declared.head.MessageKind.TheVariants as kind
@@ -61,48 +60,44 @@ said kind.MeasurementResult found = measurement_rows.read found >>= λ (channel,
 said kind.RfChannelRelease found = channel_number.read found >>= λ channel. Ok (RfChannelRelease channel)
 said kind.RfChannelReleaseAck found = channel_number.read found >>= λ channel. Ok (RfChannelReleaseAck channel)
 
--- which message it is, and its elements as they are written
-abbrev pub written : {A : Type 0} → Rsl A → MessageKind × List Element
-written (DataRequest channel link layer3) = (kind.DataRequest, data_rows.written (channel, (link, layer3)))
-written (DataIndication channel link layer3) = (kind.DataIndication, data_rows.written (channel, (link, layer3)))
-written (ChannelActivation channel activation mode reference) = (kind.ChannelActivation, activation_rows.written (channel, (activation, (mode, reference))))
-written (ChannelActivationAck channel frame) = (kind.ChannelActivationAck, activation_ack_rows.written (channel, frame))
-written (ChannelActivationNack channel cause) = (kind.ChannelActivationNack, cause_rows.written (channel, cause))
-written (ConnectionFailureIndication channel cause) = (kind.ConnectionFailureIndication, cause_rows.written (channel, cause))
-written (HandoverDetection channel delay) = (kind.HandoverDetection, detection_rows.written (channel, delay))
-written (MeasurementResult channel number uplink power layer3) = (kind.MeasurementResult, measurement_rows.written (channel, (number, (uplink, (power, layer3)))))
-written (RfChannelRelease channel) = (kind.RfChannelRelease, channel_number.written channel)
-written (RfChannelReleaseAck channel) = (kind.RfChannelReleaseAck, channel_number.written channel)
+-- The messages: which one it is and its elements; an octet list that isn't empty, for which reading it may ask for
+-- memory; and whether its fields can be said: a timeslot below 8, a mode of 1 to 255 octets, uplink measurements of at
+-- most 255, a layer 3 message of one octet at least.
+abbrev pub entry_of : {A : Type 0} → Rsl A → Entry MessageKind
+entry_of (DataRequest channel link layer3) = record { kind = kind.DataRequest;
+  elements = data_rows.written (channel, (link, layer3)); Keeps = 0 < length layer3;
+  CanBeSaid = (channel.tn < 8) × (0 < length layer3) }
+entry_of (DataIndication channel link layer3) = record { kind = kind.DataIndication;
+  elements = data_rows.written (channel, (link, layer3)); Keeps = 0 < length layer3;
+  CanBeSaid = (channel.tn < 8) × (0 < length layer3) }
+entry_of (ChannelActivation channel activation mode reference) = record { kind = kind.ChannelActivation;
+  elements = activation_rows.written (channel, (activation, (mode, reference))); Keeps = 0 < length mode;
+  CanBeSaid = (channel.tn < 8) × (0 < length mode) × (length mode < 256) }
+entry_of (ChannelActivationAck channel frame) = record { kind = kind.ChannelActivationAck;
+  elements = activation_ack_rows.written (channel, frame); Keeps = ⊥; CanBeSaid = channel.tn < 8 }
+entry_of (ChannelActivationNack channel cause) = record { kind = kind.ChannelActivationNack;
+  elements = cause_rows.written (channel, cause); Keeps = ⊥; CanBeSaid = channel.tn < 8 }
+entry_of (ConnectionFailureIndication channel cause) = record { kind = kind.ConnectionFailureIndication;
+  elements = cause_rows.written (channel, cause); Keeps = ⊥; CanBeSaid = channel.tn < 8 }
+entry_of (HandoverDetection channel delay) = record { kind = kind.HandoverDetection;
+  elements = detection_rows.written (channel, delay); Keeps = ⊥; CanBeSaid = channel.tn < 8 }
+entry_of (MeasurementResult channel number uplink power layer3) = record { kind = kind.MeasurementResult;
+  elements = measurement_rows.written (channel, (number, (uplink, (power, layer3))));
+  Keeps = (0 < length uplink) ⊎ IsSome layer3;
+  CanBeSaid = (channel.tn < 8) × (length uplink < 256) × IfSome layer3 (λ l. 0 < length l) }
+entry_of (RfChannelRelease channel) = record { kind = kind.RfChannelRelease;
+  elements = channel_number.written channel; Keeps = ⊥; CanBeSaid = channel.tn < 8 }
+entry_of (RfChannelReleaseAck channel) = record { kind = kind.RfChannelReleaseAck;
+  elements = channel_number.written channel; Keeps = ⊥; CanBeSaid = channel.tn < 8 }
 
 abbrev pub kind_of : {A : Type 0} → Rsl A → MessageKind
-kind_of v = (written v).0
+kind_of v = (entry_of v).kind
 
 abbrev pub elements_of : {A : Type 0} → Rsl A → List Element
-elements_of v = (written v).1
+elements_of v = (entry_of v).elements
 
--- The message keeps an octet list that isn't empty, for which reading it may ask for memory.
 abbrev pub HasOctets : {A : Type 0} → Rsl A → Type 0
-HasOctets (DataRequest channel link layer3) = 0 < length layer3
-HasOctets (DataIndication channel link layer3) = 0 < length layer3
-HasOctets (ChannelActivation channel activation mode reference) = 0 < length mode
-HasOctets (ChannelActivationAck channel frame) = ⊥
-HasOctets (ChannelActivationNack channel cause) = ⊥
-HasOctets (ConnectionFailureIndication channel cause) = ⊥
-HasOctets (HandoverDetection channel delay) = ⊥
-HasOctets (MeasurementResult channel number uplink power layer3) = (0 < length uplink) ⊎ IsSome layer3
-HasOctets (RfChannelRelease channel) = ⊥
-HasOctets (RfChannelReleaseAck channel) = ⊥
+HasOctets v = (entry_of v).Keeps
 
--- The fields of the message can be said: a timeslot below 8, a mode of 1 to 255 octets, uplink measurements of
--- at most 255, a layer 3 message of one octet at least.
 abbrev pub CanBeSaid : {A : Type 0} → Rsl A → Type 0
-CanBeSaid (DataRequest channel link layer3) = (channel.tn < 8) × (0 < length layer3)
-CanBeSaid (DataIndication channel link layer3) = (channel.tn < 8) × (0 < length layer3)
-CanBeSaid (ChannelActivation channel activation mode reference) = (channel.tn < 8) × (0 < length mode) × (length mode < 256)
-CanBeSaid (ChannelActivationAck channel frame) = channel.tn < 8
-CanBeSaid (ChannelActivationNack channel cause) = channel.tn < 8
-CanBeSaid (ConnectionFailureIndication channel cause) = channel.tn < 8
-CanBeSaid (HandoverDetection channel delay) = channel.tn < 8
-CanBeSaid (MeasurementResult channel number uplink power layer3) = (channel.tn < 8) × (length uplink < 256) × IfSome layer3 (λ l. 0 < length l)
-CanBeSaid (RfChannelRelease channel) = channel.tn < 8
-CanBeSaid (RfChannelReleaseAck channel) = channel.tn < 8
+CanBeSaid v = (entry_of v).CanBeSaid

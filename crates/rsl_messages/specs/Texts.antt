@@ -49,10 +49,6 @@ canonical_text v = (head_of (kind_of v)).0 ∷ (head_of (kind_of v)).1 ∷ all_o
 abbrev pub HasCanonical : {A : Type 0} → Rsl A → Type 0
 HasCanonical v = IsTextOf v (canonical_text v)
 
--- Octets have one reading: a text has one value, and no fault but refused memory; no octets have two faults.
-abbrev pub ReadingIsUnique : (A : Type 0) → Type 0
-ReadingIsUnique A = texts.ReadingIsUnique (codec A)
-
 -- Just the messages whose fields can be said, in at most 1,024 octets, have a canonical text.
 abbrev pub CanonicalIsText : (A : Type 0) → Type 0
 CanonicalIsText A = (v : Rsl A) → (CanBeSaid v × (length (canonical_text v) ≤ limit)) ↔ HasCanonical v

@@ -5,7 +5,7 @@ ghost use Rattle.octet_elements.specs.Elements.{all_octets};
 ghost use Rattle.octet_elements.specs.Lookup.{lookup};
 ghost use Rattle.octet_elements.specs.Texts.{Answers};
 ghost use Rattle.octet_elements.specs.Writing.{HasRoom, Adds};
-ghost use Rattle.rsl_messages.specs.Forms.{abis, known, CHANNEL_NUMBER};
+ghost use Rattle.rsl_messages.specs.Forms.{abis, known};
 ghost use Rattle.rsl_messages.specs.Messages.{said, elements_of, data_rows, activation_rows, activation_ack_rows, cause_rows, detection_rows, measurement_rows};
 ghost use Rattle.rsl_messages.specs.Texts.{codec, limit, HasCanonical};
 ghost use Rattle.rsl_messages.specs.Values.{channel_in, channel_octet};

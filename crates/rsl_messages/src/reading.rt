@@ -1,7 +1,6 @@
 //! Reading a message.
-ghost use Rattle.std.specs.Prelude.{◌≡◌, ◌≢◌, Ok, Err, ◌≤◌, ◌+◌, length, IfOk, IfErr};
-ghost use Rattle.octet_elements.specs.Texts.{Says, HasBodyFault};
-ghost use Rattle.rsl_messages.specs.Messages.{HasOctets};
+ghost use Rattle.std.specs.Prelude.{Ok, ◌≤◌, length, IfOk, IfErr};
+ghost use Rattle.octet_elements.specs.Texts.{Says, HasBodyFault, Decodes};
 ghost use Rattle.rsl_messages.specs.Texts.{codec, limit, IsTextOf, HasFault};
 
 use crate::elements::read_elements;
@@ -49,17 +48,10 @@ fn read_message<A: Allocator + Copy>(alloc: A, octets: &[u8]) -> Result<Rsl<A>, 
 /// Reads a message.
 ///
 /// The elements may stand in any order. A repeated one is taken at its first place, and one that the
-/// message has no use for is passed over.
+/// message has no use for is passed over. An `Err` is the first fault in the order that [`RslFault`] says.
 #[inline(always)]
 pub fn decode<A: Allocator + Copy>(alloc: A, octets: &[u8]) -> Result<Rsl<A>, RslFault>
-    ensures text { IfOk result (λ v. IsTextOf v octets.now) }
-    ensures exact { (v : Rsl A) → IsTextOf v octets.now → result ≢ Err RslFault.NoMemory →
-        result ≡ Ok v }
-
-    // It is the first fault in the order that `docs/CODECS.md` has: `TooLong`, the head's, the body's.
-    ensures fault { IfErr result (HasFault A octets.now) }
-    ensures memory { result ≡ Err RslFault.NoMemory →
-        (v : Rsl A) × IsTextOf v octets.now × HasOctets v }
+    ensures { Decodes (codec A) octets.now result }
 {
     read_message(alloc, octets)
 }
