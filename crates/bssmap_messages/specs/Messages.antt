@@ -4,7 +4,7 @@ use Rattle.std.specs.Prelude.{ℕ, ◌+◌, ◌<◌, Bool, List, [], length, Opt
 use Rattle.std.specs.List.{list_all}
 use Rattle.octet_elements.specs.Elements.{Element}
 use Rattle.octet_elements.specs.Lookup.{Lookup}
-use Rattle.octet_elements.specs.Rows.{Row, Entry, octet, optional_octet, octets, presence, ◌▸◌}
+use Rattle.octet_elements.specs.Rows.{Row, Entry, entry, octet, optional_octet, octets, presence, ◌▸◌}
 use Rattle.octet_elements.specs.declared.values.ValueFault.{ValueFault}
 use Rattle.bssmap_messages.specs.declared.head.MessageKind.{MessageKind}
 use Rattle.bssmap_messages.specs.declared.head.MessageKind.TheVariants as kind
@@ -84,31 +84,23 @@ said kind.ClearRequest found = value_of ClearRequest (cause_alone.read found)
 -- whether it is what its elements say once they are written: octets are long enough, there is a cell, and each cell has
 -- a location area code.
 abbrev pub entry_of : {A : Type 0} → Bssmap A → Entry MessageKind
-entry_of (HandoverRequest channel encryption classmark serving target) = record { kind = kind.HandoverRequest;
-  elements = handover_request.written (channel, (encryption, (classmark, (serving, target))));
-  Keeps = 0 < length channel + length encryption + classmark_length classmark;
-  CanBeSaid = (1 < length channel) × (0 < length encryption) × IsSome serving.lac × IsSome target.lac }
-entry_of (HandoverRequired cause response cells) = record { kind = kind.HandoverRequired;
-  elements = handover_required.written (cause, (response, cells)); Keeps = 0 < length cells;
-  CanBeSaid = (0 < length cells) × IsTrue (list_all (λ cell. is_some cell.lac) cells) }
-entry_of (HandoverRequestAck layer3) = record { kind = kind.HandoverRequestAck;
-  elements = layer_3_alone.written layer3; Keeps = 0 < length layer3; CanBeSaid = 0 < length layer3 }
-entry_of (HandoverCommand layer3) = record { kind = kind.HandoverCommand; elements = layer_3_alone.written layer3;
-  Keeps = 0 < length layer3; CanBeSaid = 0 < length layer3 }
-entry_of (HandoverComplete rr) = record { kind = kind.HandoverComplete; elements = handover_complete.written rr;
-  Keeps = ⊥; CanBeSaid = Unit {0} }
-entry_of (HandoverFailure cause rr) = record { kind = kind.HandoverFailure;
-  elements = handover_failure.written (cause, rr); Keeps = ⊥; CanBeSaid = Unit {0} }
-entry_of (HandoverPerformed cause cell) = record { kind = kind.HandoverPerformed;
-  elements = handover_performed.written (cause, cell); Keeps = ⊥; CanBeSaid = IsSome cell.lac }
-entry_of (HandoverRequiredReject cause) = record { kind = kind.HandoverRequiredReject;
-  elements = cause_alone.written cause; Keeps = ⊥; CanBeSaid = Unit {0} }
-entry_of HandoverDetect = record { kind = kind.HandoverDetect; elements = []; Keeps = ⊥; CanBeSaid = Unit {0} }
-entry_of (ClearCommand cause) = record { kind = kind.ClearCommand; elements = cause_alone.written cause; Keeps = ⊥;
-  CanBeSaid = Unit {0} }
-entry_of ClearComplete = record { kind = kind.ClearComplete; elements = []; Keeps = ⊥; CanBeSaid = Unit {0} }
-entry_of (ClearRequest cause) = record { kind = kind.ClearRequest; elements = cause_alone.written cause; Keeps = ⊥;
-  CanBeSaid = Unit {0} }
+entry_of (HandoverRequest channel encryption classmark serving target) = entry kind.HandoverRequest (handover_request.written (channel, (encryption, (classmark, (serving, target)))))
+    (0 < length channel + length encryption + classmark_length classmark) ((1 < length channel) × (0 < length encryption) × IsSome serving.lac × IsSome target.lac)
+entry_of (HandoverRequired cause response cells) = entry kind.HandoverRequired (handover_required.written (cause, (response, cells)))
+    (0 < length cells) ((0 < length cells) × IsTrue (list_all (λ cell. is_some cell.lac) cells))
+entry_of (HandoverRequestAck layer3) = entry kind.HandoverRequestAck (layer_3_alone.written layer3)
+    (0 < length layer3) (0 < length layer3)
+entry_of (HandoverCommand layer3) = entry kind.HandoverCommand (layer_3_alone.written layer3)
+    (0 < length layer3) (0 < length layer3)
+entry_of (HandoverComplete rr) = entry kind.HandoverComplete (handover_complete.written rr) ⊥ (Unit {0})
+entry_of (HandoverFailure cause rr) = entry kind.HandoverFailure (handover_failure.written (cause, rr)) ⊥ (Unit {0})
+entry_of (HandoverPerformed cause cell) = entry kind.HandoverPerformed (handover_performed.written (cause, cell))
+    ⊥ (IsSome cell.lac)
+entry_of (HandoverRequiredReject cause) = entry kind.HandoverRequiredReject (cause_alone.written cause) ⊥ (Unit {0})
+entry_of HandoverDetect = entry kind.HandoverDetect [] ⊥ (Unit {0})
+entry_of (ClearCommand cause) = entry kind.ClearCommand (cause_alone.written cause) ⊥ (Unit {0})
+entry_of ClearComplete = entry kind.ClearComplete [] ⊥ (Unit {0})
+entry_of (ClearRequest cause) = entry kind.ClearRequest (cause_alone.written cause) ⊥ (Unit {0})
 
 abbrev pub kind_of : {A : Type 0} → Bssmap A → MessageKind
 kind_of v = (entry_of v).kind

@@ -60,3 +60,6 @@ pub record Entry (Kind : Type 0) : Type 1 where
   pub elements : List Element
   pub Keeps : Type 0
   pub CanBeSaid : Type 0
+
+abbrev pub entry : {Kind : Type 0} → Kind → List Element → Type 0 → Type 0 → Entry Kind
+entry kind elements Keeps CanBeSaid = record { kind = kind; elements = elements; Keeps = Keeps; CanBeSaid = CanBeSaid }

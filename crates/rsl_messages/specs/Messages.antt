@@ -2,7 +2,7 @@
 use Rattle.std.specs.Prelude.{◌⊎◌, ℕ, ◌<◌, List, [], ◌∷◌, length, Result, Ok, IsSome, IfSome, Option}
 use Rattle.octet_elements.specs.Elements.{Element}
 use Rattle.octet_elements.specs.Lookup.{Lookup}
-use Rattle.octet_elements.specs.Rows.{Row, Entry, ◌>>=◌, octet, optional_octet, u16_be, octets, optional_octets, any_octets, ◌▸◌}
+use Rattle.octet_elements.specs.Rows.{Row, Entry, entry, ◌>>=◌, octet, optional_octet, u16_be, octets, optional_octets, any_octets, ◌▸◌}
 use Rattle.octet_elements.specs.declared.values.ValueFault.{ValueFault}
 use Rattle.rsl_messages.specs.declared.head.MessageKind.{MessageKind}
 use Rattle.rsl_messages.specs.declared.head.MessageKind.TheVariants as kind
@@ -64,31 +64,25 @@ said kind.RfChannelReleaseAck found = channel_number.read found >>= λ channel. 
 -- memory; and whether its fields can be said: a timeslot below 8, a mode of 1 to 255 octets, uplink measurements of at
 -- most 255, a layer 3 message of one octet at least.
 abbrev pub entry_of : {A : Type 0} → Rsl A → Entry MessageKind
-entry_of (DataRequest channel link layer3) = record { kind = kind.DataRequest;
-  elements = data_rows.written (channel, (link, layer3)); Keeps = 0 < length layer3;
-  CanBeSaid = (channel.tn < 8) × (0 < length layer3) }
-entry_of (DataIndication channel link layer3) = record { kind = kind.DataIndication;
-  elements = data_rows.written (channel, (link, layer3)); Keeps = 0 < length layer3;
-  CanBeSaid = (channel.tn < 8) × (0 < length layer3) }
-entry_of (ChannelActivation channel activation mode reference) = record { kind = kind.ChannelActivation;
-  elements = activation_rows.written (channel, (activation, (mode, reference))); Keeps = 0 < length mode;
-  CanBeSaid = (channel.tn < 8) × (0 < length mode) × (length mode < 256) }
-entry_of (ChannelActivationAck channel frame) = record { kind = kind.ChannelActivationAck;
-  elements = activation_ack_rows.written (channel, frame); Keeps = ⊥; CanBeSaid = channel.tn < 8 }
-entry_of (ChannelActivationNack channel cause) = record { kind = kind.ChannelActivationNack;
-  elements = cause_rows.written (channel, cause); Keeps = ⊥; CanBeSaid = channel.tn < 8 }
-entry_of (ConnectionFailureIndication channel cause) = record { kind = kind.ConnectionFailureIndication;
-  elements = cause_rows.written (channel, cause); Keeps = ⊥; CanBeSaid = channel.tn < 8 }
-entry_of (HandoverDetection channel delay) = record { kind = kind.HandoverDetection;
-  elements = detection_rows.written (channel, delay); Keeps = ⊥; CanBeSaid = channel.tn < 8 }
-entry_of (MeasurementResult channel number uplink power layer3) = record { kind = kind.MeasurementResult;
-  elements = measurement_rows.written (channel, (number, (uplink, (power, layer3))));
-  Keeps = (0 < length uplink) ⊎ IsSome layer3;
-  CanBeSaid = (channel.tn < 8) × (length uplink < 256) × IfSome layer3 (λ l. 0 < length l) }
-entry_of (RfChannelRelease channel) = record { kind = kind.RfChannelRelease;
-  elements = channel_number.written channel; Keeps = ⊥; CanBeSaid = channel.tn < 8 }
-entry_of (RfChannelReleaseAck channel) = record { kind = kind.RfChannelReleaseAck;
-  elements = channel_number.written channel; Keeps = ⊥; CanBeSaid = channel.tn < 8 }
+entry_of (DataRequest channel link layer3) = entry kind.DataRequest (data_rows.written (channel, (link, layer3)))
+    (0 < length layer3) ((channel.tn < 8) × (0 < length layer3))
+entry_of (DataIndication channel link layer3) = entry kind.DataIndication (data_rows.written (channel, (link, layer3)))
+    (0 < length layer3) ((channel.tn < 8) × (0 < length layer3))
+entry_of (ChannelActivation channel activation mode reference) = entry kind.ChannelActivation (activation_rows.written (channel, (activation, (mode, reference))))
+    (0 < length mode) ((channel.tn < 8) × (0 < length mode) × (length mode < 256))
+entry_of (ChannelActivationAck channel frame) = entry kind.ChannelActivationAck (activation_ack_rows.written (channel, frame))
+    ⊥ (channel.tn < 8)
+entry_of (ChannelActivationNack channel cause) = entry kind.ChannelActivationNack (cause_rows.written (channel, cause))
+    ⊥ (channel.tn < 8)
+entry_of (ConnectionFailureIndication channel cause) = entry kind.ConnectionFailureIndication (cause_rows.written (channel, cause))
+    ⊥ (channel.tn < 8)
+entry_of (HandoverDetection channel delay) = entry kind.HandoverDetection (detection_rows.written (channel, delay))
+    ⊥ (channel.tn < 8)
+entry_of (MeasurementResult channel number uplink power layer3) = entry kind.MeasurementResult (measurement_rows.written (channel, (number, (uplink, (power, layer3)))))
+    ((0 < length uplink) ⊎ IsSome layer3) ((channel.tn < 8) × (length uplink < 256) × IfSome layer3 (λ l. 0 < length l))
+entry_of (RfChannelRelease channel) = entry kind.RfChannelRelease (channel_number.written channel) ⊥ (channel.tn < 8)
+entry_of (RfChannelReleaseAck channel) = entry kind.RfChannelReleaseAck (channel_number.written channel)
+    ⊥ (channel.tn < 8)
 
 abbrev pub kind_of : {A : Type 0} → Rsl A → MessageKind
 kind_of v = (entry_of v).kind
