@@ -1,6 +1,5 @@
 -- Octets that can't be read are never anything else.
 use Rattle.std.proofs.Common.{◌≡◌, ◌≢◌, ◌⊎◌, inl, inr, ℕ, List, Option, Some, None, Result, Ok, Err, OnOk, IfErr, refl, sym, ◌∙◌, ap, subst}
-use Rattle.octet_elements.specs.Texts.{ReadingIsUnique}
 use Rattle.rr_elements.specs.Faults.{FaultIsUnique}
 use Rattle.rr_messages.specs.declared.message.Rr.{Rr}
 use Rattle.rr_messages.specs.declared.fault.RrFault.{RrFault}
@@ -38,9 +37,9 @@ IsStoppedFor l b MayRefuse (stop.Foreign place) = ⊥
 
 -- what the codecs say of their texts
 pub record Laws (A : Type 0) : Type 0 where
-  pub abis : abis.ReadingIsUnique A
-  pub interface_a : interface_a.ReadingIsUnique A
-  pub rr : FaultIsUnique IsRrText HasRrFault
+  pub on_abis : abis.ReadingIsUnique A
+  pub on_a : interface_a.ReadingIsUnique A
+  pub inside : FaultIsUnique IsRrText HasRrFault
 
 -- a text inside that is read has no fault
 inside_read : (text : Option (List ℕ)) (rr : Option Rr) (f : RrFault) → FaultIsUnique IsRrText HasRrFault → IsInside text rr → IsFaultOf text f → ⊥
@@ -54,10 +53,10 @@ inside_fault (Some text) f g laws one other = laws.fault text f g one other
 
 -- octets that are read can't be unread
 read_abis : {A : Type 0} (octets : List ℕ) (message : Rsl A) (rr : Option Rr) (l : Link) (b : Bad) → Laws A → IsAbis octets message rr → IsUnreadAbis A octets l b → ⊥
-read_abis octets message rr link.Abis (bad.Rsl f) laws is u = u.0 (laws.abis.text message octets f is.0 u.1)
+read_abis octets message rr link.Abis (bad.Rsl f) laws is u = u.0 (laws.on_abis.text message octets f is.0 u.1)
 read_abis octets message rr link.Rr (bad.Rr f) laws is u =
-    let same : u.0 ≡ message = laws.abis.value u.0 message octets u.1 is.0 in
-    inside_read (text_inside message) rr f laws.rr is.1 (subst (λ m. IsFaultOf (text_inside m) f) same u.2)
+    let same : u.0 ≡ message = laws.on_abis.value u.0 message octets u.1 is.0 in
+    inside_read (text_inside message) rr f laws.inside is.1 (subst (λ m. IsFaultOf (text_inside m) f) same u.2)
 read_abis octets message rr link.Abis (bad.Bssmap f) laws is u = u
 read_abis octets message rr link.Abis (bad.Rr f) laws is u = u
 read_abis octets message rr link.A b laws is u = u
@@ -65,7 +64,7 @@ read_abis octets message rr link.Rr (bad.Rsl f) laws is u = u
 read_abis octets message rr link.Rr (bad.Bssmap f) laws is u = u
 
 read_a : {A : Type 0} (octets : List ℕ) (message : Bssmap A) (l : Link) (b : Bad) → Laws A → interface_a.IsTextOf message octets → IsUnreadA A octets l b → ⊥
-read_a octets message link.A (bad.Bssmap f) laws is u = u.0 (laws.interface_a.text message octets f is u.1)
+read_a octets message link.A (bad.Bssmap f) laws is u = u.0 (laws.on_a.text message octets f is u.1)
 read_a octets message link.A (bad.Rsl f) laws is u = u
 read_a octets message link.A (bad.Rr f) laws is u = u
 read_a octets message link.Abis b laws is u = u
@@ -97,12 +96,12 @@ reason_of octets link.Rr (bad.Rsl f) u = absurd u
 reason_of octets link.Rr (bad.Bssmap f) u = absurd u
 
 same_reason : {A : Type 0} (octets : List ℕ) (l m : Link) (b d : Bad) → Laws A → Outer A octets l b ⊎ Inner A octets l b → Outer A octets m d ⊎ Inner A octets m d → (l ≡ m) × (b ≡ d)
-same_reason octets l m b d laws (inl u) (inl v) = (u.on ∙ sym v.on, u.is ∙ ap bad.Rsl (laws.abis.fault octets u.reason v.reason u.fault v.fault) ∙ sym v.is)
-same_reason octets l m b d laws (inl u) (inr v) = absurd (u.known (laws.abis.text v.message octets u.reason v.text u.fault))
-same_reason octets l m b d laws (inr u) (inl v) = absurd (v.known (laws.abis.text u.message octets v.reason u.text v.fault))
+same_reason octets l m b d laws (inl u) (inl v) = (u.on ∙ sym v.on, u.is ∙ ap bad.Rsl (laws.on_abis.fault octets u.reason v.reason u.fault v.fault) ∙ sym v.is)
+same_reason octets l m b d laws (inl u) (inr v) = absurd (u.known (laws.on_abis.text v.message octets u.reason v.text u.fault))
+same_reason octets l m b d laws (inr u) (inl v) = absurd (v.known (laws.on_abis.text u.message octets v.reason u.text v.fault))
 same_reason octets l m b d laws (inr u) (inr v) =
-    let same : v.message ≡ u.message = laws.abis.value v.message u.message octets v.text u.text in
-    let inside = inside_fault (text_inside u.message) u.reason v.reason laws.rr u.fault (subst (λ message. IsFaultOf (text_inside message) v.reason) same v.fault) in
+    let same : v.message ≡ u.message = laws.on_abis.value v.message u.message octets v.text u.text in
+    let inside = inside_fault (text_inside u.message) u.reason v.reason laws.inside u.fault (subst (λ message. IsFaultOf (text_inside message) v.reason) same v.fault) in
     (u.on ∙ sym v.on, u.is ∙ ap bad.Rr inside ∙ sym v.is)
 
 -- why octets on A can't be read
@@ -120,7 +119,7 @@ reason_on_a octets link.Abis b u = absurd u
 reason_on_a octets link.Rr b u = absurd u
 
 same_on_a : {A : Type 0} (octets : List ℕ) (l m : Link) (b d : Bad) → Laws A → OnA A octets l b → OnA A octets m d → (l ≡ m) × (b ≡ d)
-same_on_a octets l m b d laws u v = (u.on ∙ sym v.on, u.is ∙ ap bad.Bssmap (laws.interface_a.fault octets u.reason v.reason u.fault v.fault) ∙ sym v.is)
+same_on_a octets l m b d laws u v = (u.on ∙ sym v.on, u.is ∙ ap bad.Bssmap (laws.on_a.fault octets u.reason v.reason u.fault v.fault) ∙ sym v.is)
 
 -- an input that has a row can be read
 pub row_read : {A : Type 0} (site : SiteView) (reports : ℕ → List Results) (input : Inbound A) (p : Plan) → Laws A → IsRow site reports input p → (l : Link) → (b : Bad) → IsUndecoded input l b → ⊥
