@@ -13,8 +13,8 @@ abbrev pub call_control : ℕ
 call_control = 0x09
 
 -- radio interface failure, reversion to old channel
-abbrev pub back_on_old_channel : ℕ
-back_on_old_channel = 0x0A
+abbrev pub reversion_to_old_channel : ℕ
+reversion_to_old_channel = 0x0A
 
 abbrev pub better_cell : ℕ
 better_cell = 0x0C

@@ -38,7 +38,7 @@ use Rattle.bssmap_messages.specs.declared.message.Bssmap.TheVariants as bssmap
 use Rattle.ho_procedure.specs.declared.exchange.Line.{Line}
 use Rattle.ho_procedure.specs.declared.exchange.Line.TheVariants as line
 use Rattle.ho_procedure.specs.Messages.{is_nameable, activation, target_activation, release, to_mobile, data_request, command_to, channel_release, cell_id_at, clear_request, clear_complete, handover_performed, handover_required, handover_request_ack, handover_detect, handover_complete, handover_failure}
-use Rattle.ho_procedure.specs.Causes.{radio_interface_message_failure, radio_interface_failure, call_control, back_on_old_channel, equipment_failure, no_radio_resource_available, ciphering_algorithm_not_supported, invalid_message_contents, normal_event, abnormal_release}
+use Rattle.ho_procedure.specs.Causes.{radio_interface_message_failure, radio_interface_failure, call_control, reversion_to_old_channel, equipment_failure, no_radio_resource_available, ciphering_algorithm_not_supported, invalid_message_contents, normal_event, abnormal_release}
 use Rattle.ho_procedure.specs.Windows.{with_report}
 use Rattle.ho_procedure.specs.Plan.{Plan, Ends, Asks, Takes, Reserves, Sends, Notes, Ranks}
 
@@ -385,7 +385,7 @@ complete_plan site x cause = owned (event.Owner x) (λ c. looked c (λ r s. comp
 -- interface failure, reversion to old channel.
 
 unfoldable pub tell_returned : ℕ → ℕ → Plan
-tell_returned c cause = Sends (handover_failure c back_on_old_channel (Some cause)) Ends
+tell_returned c cause = Sends (handover_failure c reversion_to_old_channel (Some cause)) Ends
 
 unfoldable pub outgoing_return : ℕ → ℕ → Plan
 outgoing_return c cause = Asks (event.Undo c Asked) (if_record (λ r s. tell_returned c cause))

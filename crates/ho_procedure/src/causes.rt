@@ -7,7 +7,7 @@ pub(crate) const RADIO_INTERFACE_FAILURE: u8 = 0x01;
 
 pub(crate) const CALL_CONTROL: u8 = 0x09;
 /// Radio interface failure, reversion to old channel.
-pub(crate) const BACK_ON_OLD_CHANNEL: u8 = 0x0A;
+pub(crate) const REVERSION_TO_OLD_CHANNEL: u8 = 0x0A;
 
 pub(crate) const BETTER_CELL: u8 = 0x0C;
 

@@ -7,7 +7,7 @@ ghost use Rattle.ho_procedure.specs.Procedure.{try_plan, rank_plan, report_plan,
 
 use super::handovers::start;
 use super::parts::{look, owner, release_target};
-use crate::causes::BACK_ON_OLD_CHANNEL;
+use crate::causes::REVERSION_TO_OLD_CHANNEL;
 use crate::records::{
     is_commanded, is_nameable, is_on, is_ordered, is_serving, is_target, names_target, traffic_cell,
 };
@@ -257,7 +257,7 @@ fn tell_returned<D: DeskView + Drop, A: Allocator + Copy>(
     ensures row { Goes D.log D.choice_at work.old (tell_returned call cause) work.new (At Ends) }
     ensures foreign_kept { D.may_be_foreign work.new.view → D.may_be_foreign work.old.view }
 {
-    work.send_handover_failure(call, BACK_ON_OLD_CHANNEL, Some(cause));
+    work.send_handover_failure(call, REVERSION_TO_OLD_CHANNEL, Some(cause));
 }
 
 /// The same of a call whose mobile was sent to another controller's cell.
