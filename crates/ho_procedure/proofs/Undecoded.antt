@@ -141,3 +141,15 @@ refused_by log may site w w' input (stop.Unread m d) l b laws stopped u = undeco
 refused_by log may site w w' input stop.NoMemory l b laws (inl row) u = absurd (row_read site (last_reports w.windows) input row.0 laws row.1 l b u)
 refused_by log may site w w' input stop.NoMemory l b laws (inr refused) u = refused
 refused_by log may site w w' input (stop.Foreign place) l b laws row u = absurd (row_read site (last_reports w.windows) input row.0 laws row.1 l b u)
+
+-- a row that was followed so far, where the input can't be read
+abbrev pub EndsFor : {A D X : Type 0} → Inbound A → Work D A → Work D A → Link → Bad → Result X Stop → Type 0
+EndsFor input w w' l b (Ok x) = ⊥
+EndsFor input w w' l b (Err s) = IsStoppedFor l b (KeepsOctets input × (w' ≡ w)) s
+
+pub ended : {A D X : Type 0} (log : D → List Entry) (may : D → List Entry → Choice → Type 0) (site : SiteView) (w w' : Work D A) (input : Inbound A) (result : Result X Stop) (l : Link) (b : Bad) → Laws A
+    → OnOk result ((p : Plan) × IsRow site (last_reports w.windows) input p × Goes log may w p w' (At Ends))
+    → IfErr result (Stopped log may w (IsRow site (last_reports w.windows) input) (IsUndecoded input) (KeepsOctets input) w')
+    → IsUndecoded input l b → EndsFor input w w' l b result
+ended log may site w w' input (Ok x) l b laws ok err u = row_read site (last_reports w.windows) input ok.0 laws ok.1 l b u
+ended log may site w w' input (Err s) l b laws ok err u = refused_by log may site w w' input s l b laws err u

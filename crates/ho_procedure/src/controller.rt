@@ -107,7 +107,7 @@ impl<D: DeskView + Drop, A: Allocator + Copy> Controller<D, A> {
     {
         rsl_messages::reading_is_unique::<A>();
         bssmap_messages::reading_is_unique::<A>();
-        rr_messages::one_fault();
+        rr_messages::laws::one_fault();
         let done = follow(&mut self.work, &self.site, input);
         let owed = self.work.owed.take();
         match done {

@@ -1,5 +1,21 @@
+use Rattle.std.proofs.Common.{◌∙◌, ap, subst}
 use Rattle.ho_procedure.proofs.Handled.{follow_kept}
+use Rattle.ho_procedure.proofs.Undecoded.{EndsFor, ended}
 use Rattle.ho_procedure.proofs.controller.Controller.handle.Goals as goal
+use Rattle.ho_procedure.proofs.controller.Controller.handle.Goals.{in-Ok, in-Err-Unread, in-Err-NoMemory, in-Err-Foreign}
 
 pub returns-clause-choice_kept : goal.returns-clause-choice_kept
 returns-clause-choice_kept g c = rw (← c.self.view_is) (follow_kept _ _ _ _ _ _ _ _ c.follow-done.ensures.ok c.follow-done.ensures.stops)
+
+pub returns-clause-exact : goal.returns-clause-exact
+returns-clause-exact g c link bad u =
+    let laws = record { on_abis = c.reading_is_unique.ensures.unique; on_a = c.reading_is_unique-2.ensures.unique; inside = c.one_fault.ensures.unique } in
+    let end = ended _ _ c.deref.result.now c.self.inside.work c.follow-done.new.work c.args.input c.follow-done.result link bad laws c.follow-done.ensures.ok c.follow-done.ensures.stops u in
+    elim c.match-done.branch [
+      | in-Ok v ↦ absurd (subst (EndsFor c.args.input c.self.inside.work c.follow-done.new.work link bad) v.in-Ok.is end)
+      | in-Err-Unread v ↦ rw v.result-is (subst (EndsFor c.args.input c.self.inside.work c.follow-done.new.work link bad) v.in-Err-Unread.is end)
+      | in-Err-NoMemory v ↦
+          let refused = subst (EndsFor c.args.input c.self.inside.work c.follow-done.new.work link bad) v.in-Err-NoMemory.is end in
+          rw v.result-is (refused.0, c.take-owed.ensures.taken ∙ ap (λ w. w.owed.items) refused.1 ∙ c.self.invariant.0)
+      | in-Err-Foreign v ↦ absurd (subst (EndsFor c.args.input c.self.inside.work c.follow-done.new.work link bad) v.in-Err-Foreign.is end)
+    ]
