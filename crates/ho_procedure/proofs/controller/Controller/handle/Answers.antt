@@ -9,8 +9,9 @@ returns-clause-choice_kept g c = rw (← c.self.view_is) (follow_kept _ _ _ _ _ 
 
 pub returns-clause-exact : goal.returns-clause-exact
 returns-clause-exact g c link bad u =
-    let laws = record { on_abis = c.reading_is_unique.ensures.unique; on_a = c.reading_is_unique-2.ensures.unique; inside = c.one_fault.ensures.unique } in
-    let end = ended _ _ c.deref.result.now c.self.inside.work c.follow-done.new.work c.args.input c.follow-done.result link bad laws c.follow-done.ensures.ok c.follow-done.ensures.stops u in
+    let end = ended _ _ c.deref.result.now c.self.inside.work c.follow-done.new.work c.args.input c.follow-done.result link bad
+        (record { on_abis = c.reading_is_unique.ensures.unique; on_a = c.reading_is_unique-2.ensures.unique; inside = c.one_fault.ensures.unique })
+        c.follow-done.ensures.ok c.follow-done.ensures.stops u in
     elim c.match-done.branch [
       | in-Ok v ↦ absurd (subst (EndsFor c.args.input c.self.inside.work c.follow-done.new.work link bad) v.in-Ok.is end)
       | in-Err-Unread v ↦ rw v.result-is (subst (EndsFor c.args.input c.self.inside.work c.follow-done.new.work link bad) v.in-Err-Unread.is end)
