@@ -142,10 +142,13 @@ refused_by log may site w w' input stop.NoMemory l b laws (inl row) u = absurd (
 refused_by log may site w w' input stop.NoMemory l b laws (inr refused) u = refused
 refused_by log may site w w' input (stop.Foreign place) l b laws row u = absurd (row_read site (last_reports w.windows) input row.0 laws row.1 l b u)
 
+abbrev pub StopsFor : {A D : Type 0} → Inbound A → Work D A → Work D A → Link → Bad → Stop → Type 0
+StopsFor input w w' l b s = IsStoppedFor l b (KeepsOctets input × (w' ≡ w)) s
+
 -- a row that was followed so far, where the input can't be read
 abbrev pub EndsFor : {A D X : Type 0} → Inbound A → Work D A → Work D A → Link → Bad → Result X Stop → Type 0
 EndsFor input w w' l b (Ok x) = ⊥
-EndsFor input w w' l b (Err s) = IsStoppedFor l b (KeepsOctets input × (w' ≡ w)) s
+EndsFor input w w' l b (Err s) = StopsFor input w w' l b s
 
 pub ended : {A D X : Type 0} (log : D → List Entry) (may : D → List Entry → Choice → Type 0) (site : SiteView) (w w' : Work D A) (input : Inbound A) (result : Result X Stop) (l : Link) (b : Bad) → Laws A
     → OnOk result ((p : Plan) × IsRow site (last_reports w.windows) input p × Goes log may w p w' (At Ends))
