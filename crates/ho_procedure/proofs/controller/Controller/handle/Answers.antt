@@ -14,9 +14,14 @@ returns-clause-exact g c link bad u =
     c.follow-done.ensures.ok c.follow-done.ensures.stops u in
     elim c.match-done.branch [
       | in-Ok v ↦ absurd (subst (EndsFor c.args.input c.self.inside.work c.follow-done.new.work link bad) v.in-Ok.is end)
-      | in-Err-Unread v ↦ rw v.result-is (subst (StopsFor c.args.input c.self.inside.work c.follow-done.new.work link bad) v.in-Err-Unread.field-0-is (subst (EndsFor c.args.input c.self.inside.work c.follow-done.new.work link bad) v.in-Err-Unread.is end))
+      | in-Err-Unread v ↦
+          let stopped = subst (EndsFor c.args.input c.self.inside.work c.follow-done.new.work link bad) v.in-Err-Unread.is end in
+          rw v.result-is (subst (StopsFor c.args.input c.self.inside.work c.follow-done.new.work link bad) (rw v.in-Err-Unread.is at v.in-Err-Unread.field-0-is) stopped)
       | in-Err-NoMemory v ↦
-          let refused = subst (StopsFor c.args.input c.self.inside.work c.follow-done.new.work link bad) v.in-Err-NoMemory.field-0-is (subst (EndsFor c.args.input c.self.inside.work c.follow-done.new.work link bad) v.in-Err-NoMemory.is end) in
+          let stopped = subst (EndsFor c.args.input c.self.inside.work c.follow-done.new.work link bad) v.in-Err-NoMemory.is end in
+          let refused = subst (StopsFor c.args.input c.self.inside.work c.follow-done.new.work link bad) (rw v.in-Err-NoMemory.is at v.in-Err-NoMemory.field-0-is) stopped in
           rw v.result-is (refused.0, c.take-owed.ensures.taken ∙ ap (λ w. w.owed.items) refused.1 ∙ c.self.invariant.0)
-      | in-Err-Foreign v ↦ absurd (subst (StopsFor c.args.input c.self.inside.work c.follow-done.new.work link bad) v.in-Err-Foreign.field-0-is (subst (EndsFor c.args.input c.self.inside.work c.follow-done.new.work link bad) v.in-Err-Foreign.is end))
+      | in-Err-Foreign v ↦
+          let stopped = subst (EndsFor c.args.input c.self.inside.work c.follow-done.new.work link bad) v.in-Err-Foreign.is end in
+          absurd (subst (StopsFor c.args.input c.self.inside.work c.follow-done.new.work link bad) (rw v.in-Err-Foreign.is at v.in-Err-Foreign.field-0-is) stopped)
     ]
