@@ -10,3 +10,4 @@ pub mod Nameable
 pub mod Trying
 pub mod LayerThree
 pub mod CellNames
+pub mod Undecoded

@@ -10,7 +10,7 @@ use Rattle.std.specs.List.{find, position, position_or_len}
 use Rattle.std.specs.Option.{option_map_or, option_or}
 use Rattle.rr_elements.specs.MeasResults.{Results}
 use Rattle.measurements.specs.Reports.{Reports, no_reports, last_valid}
-use Rattle.ho_procedure.specs.Windows.{Entry, AreKept, IsNoted, is_of, reports_in, with_report}
+use Rattle.ho_procedure.specs.Windows.{Entry, AreKept, IsNoted, is_of, reports_in, reports_with}
 
 -- where a search finds a place, and where it finds none
 place_of : (b : Bool) (n i : ℕ) → cond b (Some n) None ≡ Some i → n ≡ i
@@ -118,7 +118,7 @@ noted_same width old new place call r kept at noted =
     let d : Entry = (0, no_reports width) in
     let e : Entry = get_or old place d in
     let there = position-Some (is_of call) old place d at in
-    let now : find (is_of call) new ≡ Some (e.0, with_report r e.1) = ap (find (is_of call)) (noted d) ∙ find-set (is_of call) old place (e.0, with_report r e.1) (sym (first_place (is_of call) old place at)) there.0 there.1 in
+    let now : find (is_of call) new ≡ Some (e.0, reports_with r e.1) = ap (find (is_of call)) (noted d) ∙ find-set (is_of call) old place (e.0, reports_with r e.1) (sym (first_place (is_of call) old place at)) there.0 there.1 in
     let before : e.1 ≡ reports_in width old call = reports_there width old call place d at in
     let wide : e.1.width ≡ width = All-get_or (λ e. e.1.width ≡ width) old place d there.0 kept.wide in
     ap (λ o. (answer width o).reports) now ∙ ap (λ n. last_valid n (e.1.reports ++ r ∷ [])) wide ∙ ap (λ w. last_valid width (w.reports ++ r ∷ [])) before
@@ -129,7 +129,7 @@ noted_other width old new place call other r at noted h =
     let e : Entry = get_or old place d in
     let there = position-Some (is_of call) old place d at in
     let not_it : eqb e.0 other ≡ false = other_of e.0 there.1 in
-    ap (answer width) (ap (find (is_of other)) (noted d) ∙ set_other (is_of other) old place (e.0, with_report r e.1) d not_it not_it)
+    ap (answer width) (ap (find (is_of other)) (noted d) ∙ set_other (is_of other) old place (e.0, reports_with r e.1) d not_it not_it)
   where
     other_of : (n : ℕ) → eqb n call ≡ true → eqb n other ≡ false
     other_of n e = apart other call n (λ same. h (sym same)) e

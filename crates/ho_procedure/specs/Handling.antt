@@ -1,5 +1,5 @@
 -- What the handling of an input comes to.
-use Rattle.std.specs.Prelude.{◌≡◌, ◌⊎◌, ℕ, List, [], ◌++◌, Option}
+use Rattle.std.specs.Prelude.{◌≡◌, ◌⊎◌, ℕ, List, [], ◌++◌, Option, Result, Ok, Err}
 use Rattle.cell_table.specs.Site.{SiteView}
 use Rattle.rr_elements.specs.MeasResults.{Results}
 use Rattle.rr_messages.specs.declared.message.Rr.{Rr}
@@ -77,3 +77,11 @@ abbrev pub IsDeskFault : {A : Type 0} → Fault A → Type 0
 IsDeskFault (Undecoded link bad) = ⊥
 IsDeskFault (NoMemory out) = ⊥
 IsDeskFault (Desk place out) = Unit {0}
+
+-- The answer where the octets of the input, or the text inside, have this fault: the fault. Or memory was refused, for which
+-- the message keeps octets, and nothing is owed.
+abbrev pub AnswersFault : {A X : Type 0} → Inbound A → Link → Bad → Result X (Fault A) → Type 0
+AnswersFault input link bad (Ok out) = ⊥
+AnswersFault input link bad (Err (Undecoded l b)) = (l ≡ link) × (b ≡ bad)
+AnswersFault input link bad (Err (NoMemory out)) = KeepsOctets input × (all_sent out.items ≡ [])
+AnswersFault input link bad (Err (Desk place out)) = ⊥

@@ -1,5 +1,6 @@
 pub mod Choices
 pub mod Sent
+pub mod Causes
 pub mod Messages
 pub mod Owed
 pub mod Decoding

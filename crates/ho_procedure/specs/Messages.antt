@@ -14,6 +14,7 @@ use Rattle.bssmap_messages.specs.declared.message.CellId.{CellId}
 use Rattle.bssmap_messages.specs.declared.message.Bssmap.{Bssmap}
 use Rattle.bssmap_messages.specs.declared.message.Bssmap.TheVariants.{HandoverRequired, HandoverRequestAck, HandoverComplete, HandoverFailure, HandoverPerformed, HandoverDetect, ClearComplete, ClearRequest}
 use Rattle.bssmap_messages.specs.Texts as interface_a
+use Rattle.ho_procedure.specs.Causes.{better_cell}
 use Rattle.ho_procedure.specs.Sent.{Sent, OnAbis, OnA}
 
 -- Messages on Abis (TS 48.058).
@@ -63,7 +64,7 @@ abbrev pub command_to : SiteView → ChanId → ℕ → Option Rr
 command_to site x n =
     if is_traffic site x then option_and_then (λ cell. option_map (λ trx. handover_command cell trx x n) (slice_get cell.trx x.trx)) (slice_get site.cells x.cell) else None
 
--- CHANNEL RELEASE (clause 9.1.7) with its RR cause (10.5.2.31): 0 normal event, 1 abnormal release
+-- CHANNEL RELEASE (clause 9.1.7) with its RR cause (10.5.2.31)
 abbrev pub channel_release : ChanId → ℕ → Sent
 channel_release x cause = to_mobile x (ChannelRelease (record { 0 = cause }))
 
@@ -90,11 +91,11 @@ clear_complete c = about_call c ClearComplete
 
 -- HANDOVER PERFORMED (clause 3.2.1.25): cause better cell, and the new cell
 abbrev pub handover_performed : ℕ → CellId → Sent
-handover_performed c cell = about_call c (HandoverPerformed 0x0C cell)
+handover_performed c cell = about_call c (HandoverPerformed better_cell cell)
 
 -- HANDOVER REQUIRED (clause 3.2.1.9): cause better cell, with a response request, and one cell
 abbrev pub handover_required : ℕ → CellId → Sent
-handover_required c cell = about_call c (HandoverRequired 0x0C true (cell ∷ []))
+handover_required c cell = about_call c (HandoverRequired better_cell true (cell ∷ []))
 
 -- HANDOVER REQUEST ACKNOWLEDGE (clause 3.2.1.10) with the message for the mobile
 abbrev pub handover_request_ack : ℕ → Rr → Sent

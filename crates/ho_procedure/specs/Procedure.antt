@@ -1,6 +1,6 @@
 -- The procedure: for each input, what the controller asks of the book and what it sends, by the replies. A row ends at a
 -- reply that it doesn't name, and at a record that lacks what the rest of the row needs.
-use Rattle.std.specs.Prelude.{ℕ, ◌==◌, ◌%◌, Bool, true, false, if◌then◌else◌, not, ◌&&◌, ◌||◌, nat_lt, List, [], ◌∷◌, ◌++◌, length, Option, Some, None, is_some}
+use Rattle.std.specs.Prelude.{ℕ, ◌==◌, ◌%◌, Bool, true, false, if◌then◌else◌, not, ◌&&◌, ◌||◌, nat_lt, List, [], ◌∷◌, length, Option, Some, None, is_some}
 use Rattle.std.specs.List.{position}
 use Rattle.channel_fsm.specs.declared.ChanId.{ChanId}
 use Rattle.channel_fsm.specs.declared.ChanState.{ChanState}
@@ -11,7 +11,6 @@ use Rattle.radio_book.specs.declared.event.Kind.TheVariants as kind
 use Rattle.radio_book.specs.declared.event.AttemptKind.{AttemptKind}
 use Rattle.radio_book.specs.declared.event.AttemptKind.TheVariants.{Internal, Incoming, Outgoing}
 use Rattle.radio_book.specs.declared.event.Stage.{Stage}
-use Rattle.radio_book.specs.declared.event.Stage.TheVariants as stage
 use Rattle.radio_book.specs.declared.event.Why.TheVariants.{Asked, Expired}
 use Rattle.radio_book.specs.declared.event.Attempt.{Attempt}
 use Rattle.radio_book.specs.declared.event.CallRecord.{CallRecord}
@@ -22,14 +21,14 @@ use Rattle.radio_book.specs.declared.event.Refusal.TheVariants.{NoCall, CallExis
 use Rattle.radio_book.specs.declared.event.Reply.{Reply}
 use Rattle.radio_book.specs.declared.event.Reply.TheVariants.{Done, Record, Owned, Refused}
 use Rattle.radio_book.specs.Sound.{target_in}
-use Rattle.radio_book.specs.Table.{is_target}
+use Rattle.radio_book.specs.Table.{is_target, is_armed}
 use Rattle.radio_book.specs.Stages.{stage_row}
 use Rattle.cell_table.specs.declared.tables.CellIdentity.{CellIdentity}
 use Rattle.cell_table.specs.Site.{SiteView, is_traffic}
 use Rattle.rr_elements.specs.MeasResults.{Results}
 use Rattle.rr_messages.specs.declared.message.Rr.{Rr}
 use Rattle.rr_messages.specs.declared.message.Rr.TheVariants as rr
-use Rattle.measurements.specs.Reports.{is_valid, last_valid}
+use Rattle.measurements.specs.Reports.{is_valid}
 use Rattle.ho_candidates.specs.declared.listed.Candidate.{Candidate}
 use Rattle.rsl_messages.specs.declared.message.Rsl.{Rsl}
 use Rattle.rsl_messages.specs.declared.message.Rsl.TheVariants as rsl
@@ -39,6 +38,8 @@ use Rattle.bssmap_messages.specs.declared.message.Bssmap.TheVariants as bssmap
 use Rattle.ho_procedure.specs.declared.exchange.Line.{Line}
 use Rattle.ho_procedure.specs.declared.exchange.Line.TheVariants as line
 use Rattle.ho_procedure.specs.Messages.{is_nameable, activation, target_activation, release, to_mobile, data_request, command_to, channel_release, cell_id_at, clear_request, clear_complete, handover_performed, handover_required, handover_request_ack, handover_detect, handover_complete, handover_failure}
+use Rattle.ho_procedure.specs.Causes.{radio_interface_message_failure, radio_interface_failure, call_control, reversion_to_old_channel, equipment_failure, no_radio_resource_available, ciphering_algorithm_not_supported, invalid_message_contents, normal_event, abnormal_release}
+use Rattle.ho_procedure.specs.Windows.{with_report}
 use Rattle.ho_procedure.specs.Plan.{Plan, Ends, Asks, Takes, Reserves, Sends, Notes, Ranks}
 
 -- A plan goes on at one reply, and ends at any other.
@@ -90,41 +91,21 @@ is_serving x r = is_target x r.serving
 abbrev pub is_switched_on : Stage → Bool
 is_switched_on s = (stage_row s).switched_on
 
--- the mobile was sent to the target, and hasn't said what came of it
+-- this timer guards an attempt in the stage
+abbrev pub is_guarded_by : Timer → Stage → Bool
+is_guarded_by m s = is_armed m (stage_row s).timer
+
+-- the mobile was sent to the target, and hasn't said what came of it (TS 44.018 clause 11.1.2)
 abbrev pub is_commanded : Stage → Bool
-is_commanded stage.Taken = false
-is_commanded stage.Reserved = false
-is_commanded stage.Sent = false
-is_commanded stage.Refused = false
-is_commanded stage.Confirmed = false
-is_commanded stage.Commanded = true
-is_commanded stage.Detected = true
-is_commanded stage.Required = false
-is_commanded stage.Ordered = false
+is_commanded s = is_guarded_by T3103 s
 
--- HANDOVER REQUIRED was sent, and the switching centre hasn't answered
+-- HANDOVER REQUIRED was sent, and the switching centre hasn't answered (TS 48.008 clause 3.1.5.1)
 abbrev pub is_required : Stage → Bool
-is_required stage.Taken = false
-is_required stage.Reserved = false
-is_required stage.Sent = false
-is_required stage.Refused = false
-is_required stage.Confirmed = false
-is_required stage.Commanded = false
-is_required stage.Detected = false
-is_required stage.Required = true
-is_required stage.Ordered = false
+is_required s = is_guarded_by T7 s
 
--- the mobile was sent to another controller's cell, and hasn't come back
+-- the mobile was sent to another controller's cell, and hasn't come back (TS 48.008 clause 3.1.5.3)
 abbrev pub is_ordered : Stage → Bool
-is_ordered stage.Taken = false
-is_ordered stage.Reserved = false
-is_ordered stage.Sent = false
-is_ordered stage.Refused = false
-is_ordered stage.Confirmed = false
-is_ordered stage.Commanded = false
-is_ordered stage.Detected = false
-is_ordered stage.Required = false
-is_ordered stage.Ordered = true
+is_ordered s = is_guarded_by T8 s
 
 -- the same of an attempt, where one is open
 abbrev pub awaits_order : Option Attempt → Bool
@@ -181,10 +162,10 @@ release_target (Some a) tail = if is_switched_on a.stage then if_named a.target 
 unfoldable pub take_back : ℕ → (Option Attempt → Plan) → Plan
 take_back c next = Asks (event.Undo c Asked) (if_record (λ r s. release_target r.attempt (next r.attempt)))
 
--- the switching centre is told that a call can't come from another controller: equipment failure
+-- the switching centre is told that a call can't come from another controller
 abbrev pub failure_by : ℕ → AttemptKind → Plan
 failure_by c Internal = Ends
-failure_by c Incoming = turn_away c 0x20
+failure_by c Incoming = turn_away c equipment_failure
 failure_by c Outgoing = Ends
 
 abbrev pub failure_of : ℕ → Option Attempt → Plan
@@ -195,11 +176,11 @@ failure_of c (Some a) = failure_by c a.kind
 unfoldable pub undo_plan : ℕ → Plan
 undo_plan c = take_back c (failure_of c)
 
--- CLEAR REQUEST (TS 48.008 clause 3.1.9.1), radio interface message failure
+-- CLEAR REQUEST (TS 48.008 clause 3.1.9.1)
 abbrev pub expiry_rest : ℕ → Timer → Plan
-expiry_rest c T3103 = Sends (clear_request c 0) Ends
+expiry_rest c T3103 = Sends (clear_request c radio_interface_message_failure) Ends
 expiry_rest c T7 = Ends
-expiry_rest c T8 = Sends (clear_request c 0) Ends
+expiry_rest c T8 = Sends (clear_request c radio_interface_message_failure) Ends
 
 -- A timer ran out (TS 44.018 clause 11.1.2, TS 48.008 clause 3.1.5): its attempt is taken back.
 unfoldable pub expiry_plan : ℕ → Timer → Plan
@@ -318,7 +299,7 @@ refused_target c = Asks (event.Undo c Asked) (if_record (λ r s. failure_of c r.
 unfoldable pub refuse_plan : ChanId → Plan
 refuse_plan x =
     owned (event.Refuse x)
-    (λ c. looked c (λ r s. if is_target x (target_in r) then refused_target c else (if is_serving x r then Sends (clear_request c 0x20) Ends else Ends)))
+    (λ c. looked c (λ r s. if is_target x (target_in r) then refused_target c else (if is_serving x r then Sends (clear_request c equipment_failure) Ends else Ends)))
 
 -- RF CHANNEL RELEASE ACKNOWLEDGE (TS 48.058 clause 8.4.19)
 unfoldable pub released_plan : ChanId → Plan
@@ -328,7 +309,7 @@ released_plan x = Asks (event.Released x) nothing_more
 -- REQUEST, radio interface failure
 unfoldable pub connection_failure_plan : ChanId → Plan
 connection_failure_plan x =
-    owned (event.Owner x) (λ c. looked c (λ r s. if is_serving x r && not (is_some r.attempt) then Sends (clear_request c 1) Ends else Ends))
+    owned (event.Owner x) (λ c. looked c (λ r s. if is_serving x r && not (is_some r.attempt) then Sends (clear_request c radio_interface_failure) Ends else Ends))
 
 -- HANDOVER DETECTION (TS 48.058 clause 8.4.7): of a call that comes the switching centre is told by HANDOVER DETECT
 -- (TS 48.008 clause 3.1.5.3)
@@ -368,13 +349,9 @@ unfoldable pub rank_plan : SiteView → ℕ → ℕ → List Results → Results
 rank_plan site c cell reports m attempt =
     Notes c reports (if is_valid m && not (is_some attempt) then Ranks site reports cell (try_plan site c) else Ends)
 
--- the last reports that count, with one more
-abbrev pub with_report : SiteView → List Results → Results → List Results
-with_report site reports m = last_valid site.handover.window (reports ++ m ∷ [])
-
 unfoldable pub report_plan : SiteView → (ℕ → List Results) → ChanId → Results → Plan
 report_plan site reports x m =
-    owned (event.Owner x) (λ c. looked c (λ r s. if is_serving x r && is_on s then rank_plan site c x.cell (with_report site (reports c) m) m r.attempt else Ends))
+    owned (event.Owner x) (λ c. looked c (λ r s. if is_serving x r && is_on s then rank_plan site c x.cell (with_report site.handover.window (reports c) m) m r.attempt else Ends))
 
 -- HANDOVER COMPLETE (TS 44.018 clause 3.4.4.3) on the target: the old channel is released, and HANDOVER PERFORMED sent
 -- (TS 48.008 clause 3.1.7); or HANDOVER COMPLETE with the mobile's RR cause, where the call comes from another controller
@@ -408,7 +385,7 @@ complete_plan site x cause = owned (event.Owner x) (λ c. looked c (λ r s. comp
 -- interface failure, reversion to old channel.
 
 unfoldable pub tell_returned : ℕ → ℕ → Plan
-tell_returned c cause = Sends (handover_failure c 0x0A (Some cause)) Ends
+tell_returned c cause = Sends (handover_failure c reversion_to_old_channel (Some cause)) Ends
 
 unfoldable pub outgoing_return : ℕ → ℕ → Plan
 outgoing_return c cause = Asks (event.Undo c Asked) (if_record (λ r s. tell_returned c cause))
@@ -430,7 +407,7 @@ return_plan x cause = owned (event.Owner x) (λ c. looked c (λ r s. if is_servi
 -- left, and its channel is released. CLEAR COMPLETE comes last.
 
 abbrev pub release_cause : ℕ → ℕ
-release_cause cause = if cause == 9 then 0 else 1
+release_cause cause = if cause == call_control then normal_event else abnormal_release
 
 abbrev pub if_no_call : Plan → Refusal → Plan
 if_no_call next NoCall = next
@@ -495,12 +472,12 @@ abbrev pub own_cell : SiteView → CellId → Option ℕ
 own_cell site id = position (λ cell. names id cell.identity) site.cells
 
 unfoldable pub admit_plan : ℕ → Option ℕ → Plan
-admit_plan c None = turn_away c 0x51
-admit_plan c (Some cell) = Takes c kind.Incoming cell (turn_away c 0x21) (taken_plan c)
+admit_plan c None = turn_away c invalid_message_contents
+admit_plan c (Some cell) = Takes c kind.Incoming cell (turn_away c no_radio_resource_available) (taken_plan c)
 
 unfoldable pub request_rest : SiteView → ℕ → List ℕ → List ℕ → CellId → Plan
 request_rest site c channel encryption target =
-    if not (is_speech channel) || is_half_rate channel then turn_away c 0x21 else (if not (permits_clear encryption) then turn_away c 0x40 else admit_plan c (own_cell site target))
+    if not (is_speech channel) || is_half_rate channel then turn_away c no_radio_resource_available else (if not (permits_clear encryption) then turn_away c ciphering_algorithm_not_supported else admit_plan c (own_cell site target))
 
 abbrev pub if_new : Plan → Reply → Plan
 if_new next Done = Ends

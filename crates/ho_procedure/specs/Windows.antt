@@ -24,13 +24,16 @@ reports_in width entries call = option_map_or (λ e. e.1) (find (is_of call) ent
 abbrev pub reports_of : Kept → ℕ → Reports
 reports_of w call = reports_in w.width w.entries call
 
--- the reports once one was added
-abbrev pub with_report : Results → Reports → Reports
-with_report report w = record { reports = last_valid w.width (w.reports ++ report ∷ []); width = w.width }
+-- the last reports that count, with one more
+abbrev pub with_report : ℕ → List Results → Results → List Results
+with_report width reports report = last_valid width (reports ++ report ∷ [])
+
+abbrev pub reports_with : Results → Reports → Reports
+reports_with report w = record { reports = with_report w.width w.reports report; width = w.width }
 
 -- the report was added at this place
 abbrev pub IsNoted : ℕ → Results → List Entry → List Entry → Type 0
-IsNoted place report old new = (d : Entry) → new ≡ slice_set old place ((slice_index_or old place d).0, with_report report (slice_index_or old place d).1)
+IsNoted place report old new = (d : Entry) → new ≡ slice_set old place ((slice_index_or old place d).0, reports_with report (slice_index_or old place d).1)
 
 -- the reports of each call are those that they were
 abbrev pub SameReports : Kept → Kept → Type 0

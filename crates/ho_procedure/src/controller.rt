@@ -2,7 +2,7 @@
 ghost use Rattle.std.specs.Prelude.{◌≡◌, ◌⊎◌, ℕ, List, [], IfOk, IfErr, Err};
 ghost use Rattle.ho_procedure.specs.Choices.{Entry, Choice};
 ghost use Rattle.ho_procedure.specs.Sent.{all_sent};
-ghost use Rattle.ho_procedure.specs.Handling.{Stops, IsRow, IsUndecoded, Handles, owed_in, IsUndecodedFault, IsDeskFault};
+ghost use Rattle.ho_procedure.specs.Handling.{Stops, IsRow, IsUndecoded, AnswersFault, Handles, owed_in, IsUndecodedFault, IsDeskFault};
 ghost use Rattle.ho_procedure.specs.Plan.{Plan, Ends, At};
 ghost use Rattle.ho_procedure.specs.Going.{last_reports};
 
@@ -80,7 +80,8 @@ impl<D: DeskView + Drop, A: Allocator + Copy> Controller<D, A> {
 
     /// Handles an input by its row: asks the view, and answers the messages that are sent, in their order.
     ///
-    /// `Undecoded`: the octets, or the radio resource message inside, can't be read; nothing was asked. `NoMemory`: memory was
+    /// `Undecoded`: the octets, or the radio resource message inside, can't be read; nothing was asked. It is answered to all
+    /// octets that can't be, unless memory is refused for what their message keeps. `NoMemory`: memory was
     /// refused; `Desk`: the view answered that its desk doesn't know its last receipt. After these two the row was followed up
     /// to some step at which it asks, and the fault has the messages up to there, which the caller sends.
     #[tactic(auto, using(crate::proofs::Handled::handled, crate::proofs::Handled::kept, crate::proofs::Handled::width_kept, crate::proofs::Handled::stops_of, crate::proofs::Handled::stopped_kept, crate::proofs::Handled::stopped_width))]
@@ -91,6 +92,8 @@ impl<D: DeskView + Drop, A: Allocator + Copy> Controller<D, A> {
             (all_sent out.items) (At Ends)) }
         ensures undecoded { (link : Link) → (bad : Bad) →
             result ≡ Err (Fault.Undecoded link bad) → IsUndecoded {A = A} input link bad }
+        ensures exact { (link : Link) → (bad : Bad) → IsUndecoded {A = A} input link bad →
+            AnswersFault {A = A} input link bad result }
         ensures unchanged { IfErr result (λ f. IsUndecodedFault f →
             (self.new.0 ≡ self.old.0) × (self.new.1 ≡ self.old.1)) }
         ensures stops { IfErr result (λ f. IsUndecodedFault f ⊎
@@ -102,6 +105,9 @@ impl<D: DeskView + Drop, A: Allocator + Copy> Controller<D, A> {
             D.choice_at self.new.0 es choice → D.choice_at self.old.0 es choice }
         ensures foreign_kept { D.may_be_foreign self.new.0 → D.may_be_foreign self.old.0 }
     {
+        rsl_messages::reading_is_unique::<A>();
+        bssmap_messages::reading_is_unique::<A>();
+        rr_messages::laws::one_fault();
         let done = follow(&mut self.work, &self.site, input);
         let owed = self.work.owed.take();
         match done {

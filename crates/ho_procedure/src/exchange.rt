@@ -6,6 +6,7 @@ use octet_elements::Octets;
 use rr_messages::RrFault;
 use rsl_messages::RslFault;
 use std::alloc::{Allocator, Global};
+use std::fmt;
 use thiserror::Error;
 
 /// What an operator asks for. A call is named by its number, 0 to 65535.
@@ -35,7 +36,7 @@ pub enum Inbound<A: Allocator = Global> {
 }
 
 /// What a controller sends.
-#[derive(Drop)]
+#[derive(Debug, Drop)]
 pub enum Outbound<A: Allocator = Global> {
     /// A message on Abis to a TRX of a cell (TS 48.058).
     Abis { cell: u8, trx: u8, bytes: Octets<A> },
@@ -54,6 +55,17 @@ pub enum Link {
     Rr,
 }
 
+impl fmt::Display for Link {
+    fn fmt<W: fmt::Write>(&self, f: &mut fmt::Formatter<W>) -> fmt::Result {
+        let name = match self {
+            Link::Abis => "message on Abis",
+            Link::A => "message on A",
+            Link::Rr => "radio resource message",
+        };
+        write!(f, "{name}")
+    }
+}
+
 /// Why a text can't be read.
 #[derive(Clone, Copy, Debug, PartialEq, Eq, Error)]
 pub enum Bad {
@@ -69,12 +81,15 @@ pub enum Bad {
 }
 
 /// Why an input was not handled to its end.
-#[derive(Drop)]
+#[derive(Debug, Drop, Error)]
 pub enum Fault<A: Allocator = Global> {
     /// A text can't be read. Nothing was asked of the view, and nothing is sent.
+    #[error("the {0} can't be read: {1}")]
     Undecoded(Link, Bad),
     /// Memory was refused. What was asked so far stands, and the caller sends these messages, which it owes.
+    #[error("memory was refused")]
     NoMemory(Vec<Outbound<A>, A>),
     /// The view's desk isn't the one that gave the receipt of this place. The same of the messages.
+    #[error("the receipt of place {0} is of another desk")]
     Desk(usize, Vec<Outbound<A>, A>),
 }

@@ -3,6 +3,7 @@
 #![tactic(auto)]
 
 mod buffers;
+mod causes;
 mod commands;
 pub mod controller;
 mod decoding;

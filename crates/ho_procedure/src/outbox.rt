@@ -4,6 +4,7 @@ ghost use Rattle.ho_procedure.specs.Sent.{all_sent};
 ghost use Rattle.ho_procedure.specs.Messages.{activation, target_activation, release, to_mobile, channel_release, data_request, clear_request, clear_complete, handover_performed, handover_required, handover_request_ack, handover_detect, handover_complete, handover_failure};
 
 use crate::buffers::Buffers;
+use crate::causes::BETTER_CELL;
 use crate::exchange::Outbound;
 use crate::texts::{
     put_a, put_abis, write_a, write_abis, write_data_request, write_request_ack, write_required,
@@ -23,9 +24,6 @@ const LONGEST_RR: usize = 18;
 
 /// How many octets a DATA REQUEST has beside the message inside.
 const DATA_REQUEST_HEAD: usize = 9;
-
-/// The cause of a handover to a better cell (TS 48.008 clause 3.2.2.5).
-const BETTER_CELL: u8 = 0x0C;
 
 /// The mode of a full-rate speech channel: no discontinuous transmission, speech, Bm, version 1
 /// (TS 48.058 clause 9.3.6).

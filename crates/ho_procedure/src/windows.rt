@@ -1,8 +1,8 @@
 //! The reports that are kept of each call.
-ghost use Rattle.std.specs.Prelude.{◌≡◌, ◌≤◌, ◌<◌, ◌∷◌, ◌++◌, [], ℕ, true, not, filter, None, IsTrue, OnOk, IfSome, IfNone, vec_len, vec_capacity};
-ghost use Rattle.measurements.specs.Reports.{no_reports, last_valid};
+ghost use Rattle.std.specs.Prelude.{◌≡◌, ◌≤◌, ◌<◌, ℕ, true, not, filter, None, IsTrue, OnOk, IfSome, IfNone, vec_len, vec_capacity};
+ghost use Rattle.measurements.specs.Reports.{no_reports};
 ghost use Rattle.std.specs.List.{position};
-ghost use Rattle.ho_procedure.specs.Windows.{reports_of, is_of, IsNoted, SameReports, SameReportsBut};
+ghost use Rattle.ho_procedure.specs.Windows.{reports_of, is_of, with_report, IsNoted, SameReports, SameReportsBut};
 
 use measurements::Window;
 use rr_elements::MeasResults;
@@ -73,8 +73,8 @@ impl<A: Allocator> Windows<A> {
     /// Adds a report of a call. An invalid one changes nothing; where the call's window is full, the oldest goes.
     pub(crate) fn note(&mut self, call: u16, report: &MeasResults)
         requires { IsTrue self.old.is_ready }
-        ensures noted { (reports_of self.new call).reports ≡ last_valid self.old.width
-            ((reports_of self.old call).reports ++ report.now ∷ []) }
+        ensures noted { (reports_of self.new call).reports ≡ with_report self.old.width
+            (reports_of self.old call).reports report.now }
         ensures others { SameReportsBut call self.old self.new }
         ensures width { self.new.width ≡ self.old.width }
     {
@@ -117,8 +117,8 @@ impl<A: Allocator> Windows<A> {
     fn begin(&mut self, call: u16, report: &MeasResults)
         requires ready { IsTrue self.old.is_ready }
         requires new { position (is_of call) self.old.entries ≡ None }
-        ensures noted { (reports_of self.new call).reports ≡ last_valid self.old.width
-            ((reports_of self.old call).reports ++ report.now ∷ []) }
+        ensures noted { (reports_of self.new call).reports ≡ with_report self.old.width
+            (reports_of self.old call).reports report.now }
         ensures others { SameReportsBut call self.old self.new }
         ensures width { self.new.width ≡ self.old.width }
     {

@@ -1,9 +1,9 @@
 //! The steps of a row, each with the plan that it leads from and to.
-ghost use Rattle.std.specs.Prelude.{◌≡◌, ◌≤◌, ◌++◌, ◌∷◌, [], ℕ, List, true, IsTrue, IfOk, IfErr, OnOk, OnErr, Err, MatchOption};
+ghost use Rattle.std.specs.Prelude.{◌≡◌, ◌≤◌, ℕ, List, true, IsTrue, IfOk, IfErr, OnOk, OnErr, Err, MatchOption};
 ghost use Rattle.channel_fsm.specs.declared.ChanId.{ChanId};
 ghost use Rattle.ho_candidates.specs.declared.listed.Candidate.{Candidate};
 ghost use Rattle.radio_book.specs.declared.event.Reply.{Reply};
-ghost use Rattle.measurements.specs.Reports.{last_valid};
+ghost use Rattle.ho_procedure.specs.Windows.{with_report};
 ghost use Rattle.ho_procedure.specs.Plan.{Plan, AreCandidates, Asks, Takes, Reserves, Notes, Ranks, IsAsking, Asking, is_accepted, call_dropped, dropped_if};
 ghost use Rattle.ho_procedure.specs.Going.{Goes, Passes, IsForeign, last_reports};
 
@@ -215,10 +215,10 @@ impl<D: DeskView + Drop, A: Allocator + Copy> Work<D, A> {
     pub(crate) fn note(&mut self, call: u16, report: &MeasResults)
         requires { IsTrue self.old.windows.is_ready }
         ensures goes { (next : Plan) → Passes D.log D.choice_at self.old
-            (Notes call (last_valid self.old.windows.width
-            (last_reports self.old.windows call ++ report.now ∷ [])) next) self.new next }
-        ensures reports { last_reports self.new.windows call ≡ last_valid self.old.windows.width
-            (last_reports self.old.windows call ++ report.now ∷ []) }
+            (Notes call (with_report self.old.windows.width
+            (last_reports self.old.windows call) report.now) next) self.new next }
+        ensures reports { last_reports self.new.windows call ≡ with_report self.old.windows.width
+            (last_reports self.old.windows call) report.now }
         ensures width { self.new.windows.width ≡ self.old.windows.width }
         ensures owed { self.new.owed ≡ self.old.owed }
         ensures foreign_kept { D.may_be_foreign self.new.view → D.may_be_foreign self.old.view }

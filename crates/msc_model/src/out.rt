@@ -12,6 +12,7 @@ use std::alloc::{AllocError, Allocator, Global};
 pub struct CentreOut<A: Allocator = Global> {
     /// The place of the controller's site in the list that the centre was made of.
     pub controller: usize,
+    /// The call of the controller that the message is about, by its number there.
     pub call: u16,
     /// The message (TS 48.008 clause 3.2.1).
     pub bytes: Octets<A>,

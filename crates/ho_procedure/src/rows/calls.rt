@@ -5,6 +5,7 @@ ghost use Rattle.ho_procedure.specs.Going.{Goes, Passes, IsForeign, then};
 ghost use Rattle.ho_procedure.specs.Procedure.{opened_plan, open_plan, release_serving, release_plan, told_release_plan, clear_serving, clear_undone, clear_named, clear_rest, clear_plan, left_channel, left_plan, clear_call, clear_command_rest, clear_command_plan, release_cause};
 
 use super::parts::{look, release_target};
+use crate::causes::{ABNORMAL_RELEASE, CALL_CONTROL, NORMAL_EVENT};
 use crate::records::{awaits_leaving, is_nameable, is_own, names_releases};
 use crate::view::DeskView;
 use crate::work::{Course, Shown, Work};
@@ -12,9 +13,6 @@ use channel_fsm::{ChanId, ChanState};
 use radio_book::event::{Event, Refusal, Reply, Why};
 use radio_desk::desk::DeskFault;
 use std::alloc::Allocator;
-
-/// A cause on A (TS 48.008 clause 3.2.2.5).
-const CALL_CONTROL: u8 = 9;
 
 /// The channel of a call that begins is activated.
 #[tactic(auto, using(crate::proofs::Asking::row_steps), unfolding(crate::specs::Procedure::opened_plan))]
@@ -229,7 +227,11 @@ pub(crate) fn clear<D: DeskView + Drop, A: Allocator + Copy>(
 fn release_cause(cause: u8) -> u8
     ensures { result ≡ release_cause cause }
 {
-    if cause == CALL_CONTROL { 0 } else { 1 }
+    if cause == CALL_CONTROL {
+        NORMAL_EVENT
+    } else {
+        ABNORMAL_RELEASE
+    }
 }
 
 /// A call has left: its channel is released.

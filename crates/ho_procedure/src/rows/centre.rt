@@ -6,6 +6,9 @@ ghost use Rattle.ho_procedure.specs.Procedure.{admit_plan, request_rest, request
 
 use super::handovers::go_on_taken;
 use super::parts::{look, turn_away};
+use crate::causes::{
+    CIPHERING_ALGORITHM_NOT_SUPPORTED, INVALID_MESSAGE_CONTENTS, NO_RADIO_RESOURCE_AVAILABLE,
+};
 use crate::records::{awaits_order, is_nameable};
 use crate::requests::{is_half_rate, is_speech, own_cell, permits_clear};
 use crate::view::DeskView;
@@ -16,13 +19,6 @@ use channel_fsm::ChanId;
 use radio_book::event::{Event, Kind, Refusal, Reply, Why};
 use radio_desk::desk::DeskFault;
 use std::alloc::Allocator;
-
-/// Causes on A (TS 48.008 clause 3.2.2.5).
-const NO_RADIO_RESOURCE_AVAILABLE: u8 = 0x21;
-
-const CIPHERING_ALGORITHM_NOT_SUPPORTED: u8 = 0x40;
-
-const INVALID_MESSAGE_CONTENTS: u8 = 0x51;
 
 /// A call is to come to this own cell, where there is one.
 #[tactic(auto, using(crate::proofs::Asking::row_steps), unfolding(crate::specs::Procedure::admit_plan))]

@@ -5,6 +5,7 @@ ghost use Rattle.ho_procedure.specs.Going.{Goes, Passes, IsForeign, then};
 ghost use Rattle.ho_procedure.specs.Procedure.{activate_plan, start_plan, taken_plan, require_plan, handover_plan, take_back, undo_plan, expiry_plan};
 
 use super::parts::{release_target, tell_failure};
+use crate::causes::RADIO_INTERFACE_MESSAGE_FAILURE;
 use crate::commands::cell_id_at;
 use crate::records::is_nameable;
 use crate::view::DeskView;
@@ -16,9 +17,6 @@ use channel_fsm::ChanId;
 use radio_book::event::{Event, Kind, Reply, Why};
 use radio_desk::desk::DeskFault;
 use std::alloc::Allocator;
-
-/// A cause on A (TS 48.008 clause 3.2.2.5).
-const RADIO_INTERFACE_MESSAGE_FAILURE: u8 = 0;
 
 /// The channel of an attempt with a reference is activated.
 #[tactic(auto, using(crate::proofs::Asking::row_steps), unfolding(crate::specs::Procedure::activate_plan))]

@@ -1,12 +1,13 @@
 //! Rows of the messages of mobiles.
-ghost use Rattle.std.specs.Prelude.{◌≡◌, ◌≤◌, ◌<◌, ◌++◌, ◌∷◌, [], ℕ, drop, List, OnOk, OnErr, IfErr, IsTrue};
-ghost use Rattle.measurements.specs.Reports.{last_valid};
+ghost use Rattle.std.specs.Prelude.{◌≡◌, ◌≤◌, ◌<◌, ℕ, drop, List, OnOk, OnErr, IfErr, IsTrue};
+ghost use Rattle.ho_procedure.specs.Windows.{with_report};
 ghost use Rattle.ho_procedure.specs.Plan.{Plan, Ends, At, Asking};
 ghost use Rattle.ho_procedure.specs.Going.{Goes, Passes, IsForeign, last_reports};
-ghost use Rattle.ho_procedure.specs.Procedure.{try_plan, rank_plan, report_plan, with_report, internal_complete, incoming_complete, complete_rest, complete_plan, take_back, tell_returned, outgoing_return, return_rest, return_plan};
+ghost use Rattle.ho_procedure.specs.Procedure.{try_plan, rank_plan, report_plan, internal_complete, incoming_complete, complete_rest, complete_plan, take_back, tell_returned, outgoing_return, return_rest, return_plan};
 
 use super::handovers::start;
 use super::parts::{look, owner, release_target};
+use crate::causes::REVERSION_TO_OLD_CHANNEL;
 use crate::records::{
     is_commanded, is_nameable, is_on, is_ordered, is_serving, is_target, names_target, traffic_cell,
 };
@@ -19,9 +20,6 @@ use radio_book::event::{Attempt, AttemptKind, Event, Reply, Why};
 use radio_desk::desk::DeskFault;
 use rr_elements::MeasResults;
 use std::alloc::Allocator;
-
-/// A cause on A, with reversion to the old channel (TS 48.008 clause 3.2.2.5).
-const RADIO_INTERFACE_FAILURE: u8 = 0x0A;
 
 /// A handover starts to the first of these cells that has a free channel.
 #[tactic(auto, using(crate::proofs::Asking::row_steps, std::proofs::lemmas::List::drop_all), unfolding(crate::specs::Procedure::try_plan))]
@@ -60,10 +58,12 @@ fn note_report<D: DeskView + Drop, A: Allocator + Copy>(
     requires width { work.old.windows.width ≡ site.now.handover.window }
     ensures row { OnOk result (Goes D.log D.choice_at work.old
         (rank_plan site.now call cell
-        (with_report site.now (last_reports work.old.windows call) report.now) report.now attempt) work.new (At Ends)) }
+        (with_report site.now.handover.window (last_reports work.old.windows call) report.now)
+        report.now attempt) work.new (At Ends)) }
     ensures stops { OnErr result (Goes D.log D.choice_at work.old
         (rank_plan site.now call cell
-        (with_report site.now (last_reports work.old.windows call) report.now) report.now attempt) work.new Asking) }
+        (with_report site.now.handover.window (last_reports work.old.windows call) report.now)
+        report.now attempt) work.new Asking) }
     ensures foreign { IfErr result (λ f. IsForeign f → D.may_be_foreign work.old.view) }
     ensures foreign_kept { D.may_be_foreign work.new.view → D.may_be_foreign work.old.view }
 {
@@ -257,7 +257,7 @@ fn tell_returned<D: DeskView + Drop, A: Allocator + Copy>(
     ensures row { Goes D.log D.choice_at work.old (tell_returned call cause) work.new (At Ends) }
     ensures foreign_kept { D.may_be_foreign work.new.view → D.may_be_foreign work.old.view }
 {
-    work.send_handover_failure(call, RADIO_INTERFACE_FAILURE, Some(cause));
+    work.send_handover_failure(call, REVERSION_TO_OLD_CHANNEL, Some(cause));
 }
 
 /// The same of a call whose mobile was sent to another controller's cell.

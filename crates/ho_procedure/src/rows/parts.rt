@@ -6,15 +6,13 @@ ghost use Rattle.ho_procedure.specs.Plan.{Plan, Ends, At, Asking, call_dropped};
 ghost use Rattle.ho_procedure.specs.Going.{Goes, Passes, IsForeign, last_reports, then, then_of, then_shown};
 ghost use Rattle.ho_procedure.specs.Procedure.{owned, looked, release_target, turn_away, failure_of};
 
+use crate::causes::EQUIPMENT_FAILURE;
 use crate::records::{is_nameable, is_switched_on};
 use crate::view::DeskView;
 use crate::work::{Course, Shown, Work};
 use radio_book::event::{Attempt, AttemptKind, Event, Reply};
 use radio_desk::desk::DeskFault;
 use std::alloc::Allocator;
-
-/// A cause on A (TS 48.008 clause 3.2.2.5).
-const EQUIPMENT_FAILURE: u8 = 0x20;
 
 /// The call that an event of a station concerns, where the book says so.
 #[tactic(auto, using(crate::proofs::Asking::row_steps), unfolding(crate::specs::Procedure::owned))]

@@ -5,6 +5,7 @@ ghost use Rattle.ho_procedure.specs.Going.{Goes, Passes, IsForeign};
 ghost use Rattle.ho_procedure.specs.Procedure.{send_command, internal_command, acknowledge, incoming_command, confirm_rest, confirm_plan, refused_target, refuse_plan, released_plan, connection_failure_plan, tell_detected, detect_rest, detect_plan};
 
 use super::parts::{look, owner, tell_failure};
+use crate::causes::{EQUIPMENT_FAILURE, RADIO_INTERFACE_FAILURE};
 use crate::commands::command_to;
 use crate::records::{is_nameable, is_serving, is_target, is_target_in};
 use crate::view::DeskView;
@@ -15,11 +16,6 @@ use radio_book::event::{Attempt, AttemptKind, Event, Reply, Why};
 use radio_desk::desk::DeskFault;
 use rr_messages::Rr;
 use std::alloc::Allocator;
-
-/// Causes on A (TS 48.008 clause 3.2.2.5).
-const RADIO_INTERFACE_FAILURE: u8 = 0x01;
-
-const EQUIPMENT_FAILURE: u8 = 0x20;
 
 /// The mobile is sent by this command.
 #[tactic(auto, using(crate::proofs::Asking::row_steps), unfolding(crate::specs::Procedure::send_command))]
