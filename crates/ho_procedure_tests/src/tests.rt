@@ -1,3 +1,4 @@
+mod crossing;
 mod foreign;
 mod incoming;
 mod memory;
