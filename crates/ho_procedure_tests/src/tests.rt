@@ -5,6 +5,7 @@ mod memory;
 mod outgoing;
 mod reports;
 mod rows;
+mod texts;
 
 use bssmap_messages::BssmapFault;
 use cell_table::Site;
