@@ -22,7 +22,15 @@ fn activation_sum(message: &Rsl) -> Result<u64, Fault> {
                 .wrapping_add(octets_sum(mode.as_slice()))
                 .wrapping_add(u64::from(reference.unwrap_or(0))),
         ),
-        _ => Err(Fault::Words),
+        Rsl::DataRequest { .. }
+        | Rsl::DataIndication { .. }
+        | Rsl::ChannelActivationAck { .. }
+        | Rsl::ChannelActivationNack { .. }
+        | Rsl::ConnectionFailureIndication { .. }
+        | Rsl::HandoverDetection { .. }
+        | Rsl::MeasurementResult { .. }
+        | Rsl::RfChannelRelease { .. }
+        | Rsl::RfChannelReleaseAck { .. } => Err(Fault::Words),
     }
 }
 

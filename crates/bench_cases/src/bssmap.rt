@@ -37,39 +37,67 @@ fn classmark_sum(classmark: &Classmark) -> u64 {
     }
 }
 
-/// The fields of the message that the case is on, added up: each octet of an octet list, 1 where a response is
-/// requested, location area code and cell identity of each cell.
-fn fields_sum(subject: Subject, message: &Bssmap) -> Result<u64, Fault> {
-    match (subject, message) {
-        (
-            Subject::Request,
-            Bssmap::HandoverRequest {
-                classmark,
-                channel,
-                encryption,
-                serving,
-                target,
-            },
-        ) => Ok(
+/// The fields of a HANDOVER REQUEST, added up: each octet of an octet list, location area code and cell identity of each cell.
+fn request_sum(message: &Bssmap) -> Result<u64, Fault> {
+    match message {
+        Bssmap::HandoverRequest {
+            classmark,
+            channel,
+            encryption,
+            serving,
+            target,
+        } => Ok(
             octets_sum(channel.as_slice())
                 .wrapping_add(octets_sum(encryption.as_slice()))
                 .wrapping_add(classmark_sum(classmark))
                 .wrapping_add(cell_sum(*serving))
                 .wrapping_add(cell_sum(*target)),
         ),
-        (
-            Subject::Required,
-            Bssmap::HandoverRequired {
-                cause,
-                response,
-                cells,
-            },
-        ) => Ok(
+        Bssmap::HandoverRequired { .. }
+        | Bssmap::HandoverRequestAck { .. }
+        | Bssmap::HandoverCommand { .. }
+        | Bssmap::HandoverComplete { .. }
+        | Bssmap::HandoverFailure { .. }
+        | Bssmap::HandoverPerformed { .. }
+        | Bssmap::HandoverRequiredReject { .. }
+        | Bssmap::HandoverDetect
+        | Bssmap::ClearCommand { .. }
+        | Bssmap::ClearComplete
+        | Bssmap::ClearRequest { .. } => Err(Fault::Words),
+    }
+}
+
+/// The same of a HANDOVER REQUIRED, with 1 where a response is requested.
+fn required_sum(message: &Bssmap) -> Result<u64, Fault> {
+    match message {
+        Bssmap::HandoverRequired {
+            cause,
+            response,
+            cells,
+        } => Ok(
             cells_sum(cells.as_slice())
                 .wrapping_add(u64::from(*cause))
                 .wrapping_add(u64::from(*response)),
         ),
-        _ => Err(Fault::Words),
+        Bssmap::HandoverRequest { .. }
+        | Bssmap::HandoverRequestAck { .. }
+        | Bssmap::HandoverCommand { .. }
+        | Bssmap::HandoverComplete { .. }
+        | Bssmap::HandoverFailure { .. }
+        | Bssmap::HandoverPerformed { .. }
+        | Bssmap::HandoverRequiredReject { .. }
+        | Bssmap::HandoverDetect
+        | Bssmap::ClearCommand { .. }
+        | Bssmap::ClearComplete
+        | Bssmap::ClearRequest { .. } => Err(Fault::Words),
+    }
+}
+
+/// The fields of the message that the case is on, added up.
+fn fields_sum(subject: Subject, message: &Bssmap) -> Result<u64, Fault> {
+    match subject {
+        Subject::Request => request_sum(message),
+        Subject::Required => required_sum(message),
     }
 }
 

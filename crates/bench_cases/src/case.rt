@@ -17,6 +17,9 @@ pub enum Task {
     /// ACKNOWLEDGE, the HANDOVER DETECTION (TS 48.058 clause 8.4.7), the HANDOVER COMPLETE (TS 44.018 clause 9.1.16) and
     /// the RF CHANNEL RELEASE ACKNOWLEDGE of the old channel.
     HandoverByOctets,
+    /// A whole handover from one controller to another, each beside 1,024 other calls on 64 cells: the procedure's part in
+    /// both, with what the stations and the switching centre send.
+    ExternalByOctets,
     /// A call's life, from its opening to the release of its channel, with a handover to another cell: twelve events of
     /// the radio book, beside 1,024 other calls on 64 cells.
     LiveByStep,
@@ -60,7 +63,7 @@ pub struct Case {
 }
 
 /// Every case, in the order in which they are printed: name, task, octets, place.
-pub const CASES: [Case; 17] = [
+pub const CASES: [Case; 18] = [
     Case {
         name: "chan_act.dec",
         task: Task::DecodeActivation,
@@ -82,6 +85,12 @@ pub const CASES: [Case; 17] = [
     Case {
         name: "handover.octets",
         task: Task::HandoverByOctets,
+        octets: ACKNOWLEDGEMENT_1,
+        place: 6,
+    },
+    Case {
+        name: "ho_external.octets",
+        task: Task::ExternalByOctets,
         octets: ACKNOWLEDGEMENT_1,
         place: 6,
     },

@@ -48,3 +48,14 @@ pub(crate) fn hear(
     let ChanId { cell, trx, .. } = chan;
     handle(controller, Inbound::Abis { cell, trx, bytes })
 }
+
+/// Handles what the switching centre sends about a call.
+pub(crate) fn hear_centre(
+    alloc: Global,
+    controller: &mut Single,
+    call: u16,
+    octets: &[u8],
+) -> Result<u64, Fault> {
+    let bytes = Octets::new(alloc, octets)?;
+    handle(controller, Inbound::A { call, bytes })
+}

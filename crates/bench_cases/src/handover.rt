@@ -3,21 +3,21 @@ ghost use Rattle.std.specs.Prelude.{◌<◌};
 
 use crate::controlled::{Single, controller_of, handle, hear};
 use crate::fault::Fault;
-use crate::life::{CALL, CELLS, OTHERS, busy_book, chan_at};
+use crate::life::{CALL, CELLS, OTHERS, busy_book, chan_at, site_text};
 use crate::varying::Varying;
 use ho_procedure::exchange::{Inbound, Line};
 use std::alloc::Global;
 
 /// HANDOVER DETECTION (TS 48.058 clause 8.4.7) of timeslot 1, with access delay 2.
-const DETECTION: [u8; 6] = [0x08, 0x27, 0x01, 0x09, 0x11, 0x02];
+pub(crate) const DETECTION: [u8; 6] = [0x08, 0x27, 0x01, 0x09, 0x11, 0x02];
 
 /// DATA INDICATION (TS 48.058 clause 8.3.2) of timeslot 1 with a HANDOVER COMPLETE (TS 44.018 clause 9.1.16).
-const COMPLETE: [u8; 12] = [
+pub(crate) const COMPLETE: [u8; 12] = [
     0x03, 0x02, 0x01, 0x09, 0x02, 0x00, 0x0B, 0x00, 0x03, 0x06, 0x2C, 0x00,
 ];
 
 /// RF CHANNEL RELEASE ACKNOWLEDGE of timeslot 1.
-const RELEASED: [u8; 4] = [0x08, 0x33, 0x01, 0x09];
+pub(crate) const RELEASED: [u8; 4] = [0x08, 0x33, 0x01, 0x09];
 
 /// The call moves from this cell to the next. Its channel in each is the first that the others leave free, timeslot 1 of
 /// TRX 2. The target is acknowledged by these octets.
@@ -69,6 +69,7 @@ fn moves(
 /// all messages that are sent: a CHANNEL ACTIVATION, a DATA REQUEST with the HANDOVER COMMAND, an RF CHANNEL RELEASE and a
 /// HANDOVER PERFORMED for each. The desk keeps its history.
 pub fn handover_by_octets(alloc: Global, octets: &mut Varying, count: u64) -> Result<u64, Fault> {
-    let mut controller = controller_of(alloc, busy_book(alloc)?)?;
+    let text = site_text(alloc, 0)?;
+    let mut controller = controller_of(alloc, busy_book(alloc, text.as_str())?)?;
     moves(alloc, &mut controller, octets, count)
 }

@@ -7,6 +7,7 @@ mod bssmap;
 mod call;
 pub mod case;
 mod controlled;
+mod external;
 pub mod fault;
 mod handover;
 mod life;
@@ -37,6 +38,7 @@ pub fn sum_of(alloc: Global, case: Case, count: u64, octets: &[u8]) -> Result<u6
         Task::EncodeActivation => abis::encode_activations(alloc, &mut varying, count),
         Task::CallByOctets => call::call_by_octets(alloc, &mut varying, count),
         Task::HandoverByOctets => handover::handover_by_octets(alloc, &mut varying, count),
+        Task::ExternalByOctets => external::external_by_octets(alloc, &mut varying, count),
         Task::LiveByStep => life::live_by_steps(alloc, &mut varying, count),
         Task::RewindList => life::rewind_lists(alloc, &mut varying, count),
         Task::DecodeMeasurement => read_each(&Measurements, alloc, &mut varying, count),

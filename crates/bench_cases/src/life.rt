@@ -81,9 +81,14 @@ pub fn book_of(alloc: Global, text: &str) -> Result<Book, Fault> {
     Ok(Book::new(alloc, site)?)
 }
 
+/// The site file of 64 cells with three TRX each, and of so many cells of others.
+pub(crate) fn site_text(alloc: Global, outside: u16) -> Result<String, AllocError> {
+    site_of_cells(alloc, u16::from(CELLS), 3, outside)
+}
+
 /// The book of 64 cells with three TRX each in which nothing is in use.
 fn quiet_book(alloc: Global) -> Result<Book, Fault> {
-    let text = site_of_cells(alloc, u16::from(CELLS), 3, 0)?;
+    let text = site_text(alloc, 0)?;
     book_of(alloc, text.as_str())
 }
 
@@ -95,11 +100,16 @@ fn settle_cells(book: &mut Book) -> Result<(), Fault> {
     Ok(())
 }
 
-/// The book of 64 cells in which the call and 1,024 others are steady, the call on the first channel of cell 0 that the
-/// others leave free.
-pub(crate) fn busy_book(alloc: Global) -> Result<Book, Fault> {
-    let mut book = quiet_book(alloc)?;
+/// The book of a site file of 64 cells in which 1,024 other calls are steady.
+pub(crate) fn crowded_book(alloc: Global, text: &str) -> Result<Book, Fault> {
+    let mut book = book_of(alloc, text)?;
     settle_cells(&mut book)?;
+    Ok(book)
+}
+
+/// The same with the call, which is steady on the first channel of cell 0 that the others leave free.
+pub(crate) fn busy_book(alloc: Global, text: &str) -> Result<Book, Fault> {
+    let mut book = crowded_book(alloc, text)?;
     settle(&mut book, CALL, chan_at(0, OTHERS))?;
     Ok(book)
 }
@@ -143,8 +153,8 @@ fn lives(book: &mut Book, octets: &mut Varying, count: u64) -> Result<u64, Fault
 /// the first octet names, modulo 64, and towards the next cell. The sum is the number of events that the book accepts,
 /// twelve for each life.
 pub fn live_by_steps(alloc: Global, octets: &mut Varying, count: u64) -> Result<u64, Fault> {
-    let mut book = quiet_book(alloc)?;
-    settle_cells(&mut book)?;
+    let text = site_text(alloc, 0)?;
+    let mut book = crowded_book(alloc, text.as_str())?;
     lives(&mut book, octets, count)
 }
 

@@ -18,7 +18,16 @@ fn report_of(message: &Rsl) -> Result<Rr, Fault> {
             layer3: Some(layer3),
             ..
         } => Ok(Rr::MeasurementReport(read_results(layer3.as_slice())?)),
-        _ => Err(Fault::Words),
+        Rsl::MeasurementResult { layer3: None, .. }
+        | Rsl::DataRequest { .. }
+        | Rsl::DataIndication { .. }
+        | Rsl::ChannelActivation { .. }
+        | Rsl::ChannelActivationAck { .. }
+        | Rsl::ChannelActivationNack { .. }
+        | Rsl::ConnectionFailureIndication { .. }
+        | Rsl::HandoverDetection { .. }
+        | Rsl::RfChannelRelease { .. }
+        | Rsl::RfChannelReleaseAck { .. } => Err(Fault::Words),
     }
 }
 
@@ -41,7 +50,16 @@ fn result_sum(message: &Rsl) -> Result<u64, Fault> {
                     .wrapping_add(results_sum(&results)),
             )
         }
-        _ => Err(Fault::Words),
+        Rsl::MeasurementResult { layer3: None, .. }
+        | Rsl::DataRequest { .. }
+        | Rsl::DataIndication { .. }
+        | Rsl::ChannelActivation { .. }
+        | Rsl::ChannelActivationAck { .. }
+        | Rsl::ChannelActivationNack { .. }
+        | Rsl::ConnectionFailureIndication { .. }
+        | Rsl::HandoverDetection { .. }
+        | Rsl::RfChannelRelease { .. }
+        | Rsl::RfChannelReleaseAck { .. } => Err(Fault::Words),
     }
 }
 

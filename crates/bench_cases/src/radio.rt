@@ -22,7 +22,11 @@ fn command_sum(message: &Rr) -> Result<u64, Fault> {
             let access = u64::from(*reference) + u64::from(power.level());
             Ok(carriers + colours + slot + access)
         }
-        _ => Err(Fault::Words),
+        Rr::HandoverComplete(_)
+        | Rr::HandoverFailure(_)
+        | Rr::ChannelRelease(_)
+        | Rr::PhysicalInformation(_)
+        | Rr::MeasurementReport(_) => Err(Fault::Words),
     }
 }
 
@@ -63,7 +67,11 @@ pub fn encode_commands(alloc: Global, octets: &mut Varying, count: u64) -> Resul
 pub fn read_results(octets: &[u8]) -> Result<MeasResults, Fault> {
     match decode(octets)? {
         Rr::MeasurementReport(results) => Ok(results),
-        _ => Err(Fault::Words),
+        Rr::HandoverCommand { .. }
+        | Rr::HandoverComplete(_)
+        | Rr::HandoverFailure(_)
+        | Rr::ChannelRelease(_)
+        | Rr::PhysicalInformation(_) => Err(Fault::Words),
     }
 }
 

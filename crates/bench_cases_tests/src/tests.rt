@@ -14,6 +14,10 @@ use std::process::Abort;
 /// - A whole handover: the octets that are sent, 85 of `08 21 01 09 03 02 06 04 00 01 08 01 09 00`, 102 of `03 01 01 09 02
 ///   00 0B 00 09 06 2B 00 03 09 00 05 00 00` (carriers 3 and 5 of cell 1), 64 of `08 2E 01 09` and 64 of `00 0B 17 04 01
 ///   0C 05 05 01 00 01 00 01` (cell 1): 315; then 85 + 108 (carriers 6 and 8 of cell 2) + 64 + 65 (cell 2): 322.
+/// - A whole handover to another controller: 107 of `00 0C 11 04 01 0C 1B 1A 05 01 00 02 00 00` (cell 0 of area 2), 85 of the
+///   same CHANNEL ACTIVATION, 130 of `00 0C 12 17 09 06 2B 08 00 09 00 02 00 00` (its colour codes 1 and 0, carriers 0 and
+///   2), 104 of `03 01 01 09 02 00 0B 00 09 06 2B 08 00 09 00 02 00 00`, 28 of `00 01 1B`, 44 of `00 03 14 15 00`, 64 of
+///   `08 2E 01 09` and 34 of `00 01 21`: 596; then back to area 1 (106) and colour codes 0 and 0 (122 and 96): 579.
 /// - A life: twelve events that are accepted. Of the hundred events of a list seven are the attempt's own (Take, Reserve,
 ///   Activate, Confirm, Command, Undo, Released), 93 stay.
 /// - MEASUREMENT RESULT read: timeslot 3, number 0 and then 1, uplink 0 + 30 + 0, power 0; levels 30 + 30, qualities
@@ -29,11 +33,12 @@ use std::process::Abort;
 /// - A report added: lengths 1 + 2, and the serving cell's 30 + 31.
 /// - Candidates: the serving cell has 30 + 31 + .. + 61, 1,456; the first four neighbours have 32 times 63, 50, 50 and 48,
 ///   2,016 + 1,600 + 1,600 + 1,536: 6,752; they are the cells 1 to 4 and then 2 to 5: 6,752 + 10 + 6,752 + 14.
-const SUMS: [(&str, u64); 17] = [
+const SUMS: [(&str, u64); 18] = [
     ("chan_act.dec", 115),
     ("chan_act.enc", 259),
     ("call.octets", 284),
     ("handover.octets", 637),
+    ("ho_external.octets", 1175),
     ("step.life", 24),
     ("rewind.100", 186),
     ("meas_res.dec", 315),
@@ -96,6 +101,9 @@ const READERS: [&str; 12] = [
     "candidates.64",
 ];
 
+/// The cases in which a controller hears a CHANNEL ACTIVATION ACKNOWLEDGE.
+const CONTROLLED: [&str; 3] = ["call.octets", "handover.octets", "ho_external.octets"];
+
 const REQUEST: [&str; 2] = ["ho_request.dec", "ho_request.enc"];
 
 const REQUIRED: [&str; 2] = ["ho_required.dec", "ho_required.enc"];
@@ -113,7 +121,7 @@ fn octets_of_no_such_message(rt: HostRuntime) {
     refuse(&rt, &READERS, &[8, 0x2E, 1, 0x0B]);
     refuse(&rt, &READERS, &[6, 0x2C, 0]);
     refuse(&rt, &READERS, &[]);
-    refuse(&rt, &["call.octets", "handover.octets"], &[]);
+    refuse(&rt, &CONTROLLED, &[]);
     refuse(&rt, &REQUEST, case(&rt, "ho_required.dec").octets);
     refuse(&rt, &REQUIRED, case(&rt, "ho_request.dec").octets);
 }

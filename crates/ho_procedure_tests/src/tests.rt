@@ -1,7 +1,11 @@
+mod crossing;
 mod foreign;
+mod incoming;
 mod memory;
+mod outgoing;
 mod reports;
 mod rows;
+mod texts;
 
 use bssmap_messages::BssmapFault;
 use cell_table::Site;
@@ -290,6 +294,16 @@ const UNREAD: &[(Given, Link, Bad)] = &[
         Given::A(9, "0012100b030108010a01011d3305050100170066"),
         Link::A,
         Bad::Bssmap(BssmapFault::Missing(5)),
+    ),
+    (
+        Given::A(1, "000113"),
+        Link::A,
+        Bad::Bssmap(BssmapFault::Missing(0x17)),
+    ),
+    (
+        Given::A(1, "00011a"),
+        Link::A,
+        Bad::Bssmap(BssmapFault::Missing(4)),
     ),
     (
         Given::Abis(0, 0, "0302010b02000b000106"),

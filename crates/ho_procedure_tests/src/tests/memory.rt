@@ -9,7 +9,9 @@ use super::rows::{
     EXPIRES_AGAIN, FAILS, OPENS, OPENS_OTHER, OPENS_TARGET, REFUSED_AT_ONCE, RELEASED, RETURNS,
     Row, STARTS, TARGET_ACTIVATED, TARGET_REFUSES, UNDOES, UNDOES_COMMANDED,
 };
-use super::{Radio, are_first_messages, comes_to, entries, inbound, opened, play};
+use super::{
+    Radio, are_first_messages, comes_to, entries, inbound, incoming, opened, outgoing, play,
+};
 use ho_procedure::exchange::{Fault, Inbound};
 use radio_book::event::{Event, Reply};
 use radio_book::run::run;
@@ -78,6 +80,89 @@ const REQUESTS: &[(&[Row], Row, u64)] = &[
     (&[OPENS, ACTIVATED, CLEAR_COMMAND], CLEAR_COMMAND_AGAIN, 1),
     (&[OPENS, ACTIVATED], MEASURES, 1),
     (&[OPENS, ACTIVATED, STARTS], REPORTS_MOVING, 3),
+];
+
+/// The same of a call that comes from another controller.
+const INCOMING: &[(&[Row], Row, u64)] = &[
+    (&[], incoming::COMES, 8),
+    (&[], incoming::COMES_FOR_DATA, 5),
+    (&[OPENS_TARGET], incoming::COMES_TO_NO_CHANNEL, 4),
+    (&[incoming::COMES], incoming::ACKNOWLEDGED, 2),
+    (&[incoming::COMES], incoming::REFUSES, 2),
+    (&[incoming::COMES], incoming::UNDOES_SENT, 3),
+    (&[incoming::COMES], incoming::CLEARS_SENT, 2),
+    (
+        &[incoming::COMES, incoming::ACKNOWLEDGED],
+        incoming::SEEN,
+        2,
+    ),
+    (
+        &[incoming::COMES, incoming::ACKNOWLEDGED],
+        incoming::EXPIRES,
+        3,
+    ),
+    (
+        &[incoming::COMES, incoming::ACKNOWLEDGED],
+        incoming::CLEAR_COMMAND_COMMANDED,
+        3,
+    ),
+    (
+        &[incoming::COMES, incoming::ACKNOWLEDGED],
+        incoming::ARRIVES_UNSEEN_WITH_CAUSE,
+        3,
+    ),
+    (
+        &[incoming::COMES, incoming::ACKNOWLEDGED, incoming::SEEN],
+        incoming::ARRIVES,
+        3,
+    ),
+];
+
+/// The same of a call that leaves for another controller. To reject it asks for none.
+const OUTGOING: &[(&[Row], Row, u64)] = &[
+    (&[OPENS, ACTIVATED], outgoing::LEAVES, 1),
+    (&[OPENS, ACTIVATED, outgoing::LEAVES], outgoing::ORDERS, 4),
+    (&[OPENS, ACTIVATED, outgoing::LEAVES], outgoing::REJECTS, 0),
+    (
+        &[OPENS, ACTIVATED, outgoing::LEAVES],
+        outgoing::EXPIRES_T7,
+        1,
+    ),
+    (
+        &[OPENS, ACTIVATED, outgoing::LEAVES],
+        outgoing::UNDOES_REQUIRED,
+        1,
+    ),
+    (
+        &[OPENS, ACTIVATED, outgoing::LEAVES],
+        outgoing::CLEAR_COMMAND_REQUIRED,
+        3,
+    ),
+    (
+        &[OPENS, ACTIVATED, outgoing::REPORTS],
+        outgoing::REPORTS_AGAIN,
+        4,
+    ),
+    (
+        &[OPENS, ACTIVATED, outgoing::LEAVES, outgoing::ORDERS],
+        outgoing::RETURNS,
+        2,
+    ),
+    (
+        &[OPENS, ACTIVATED, outgoing::LEAVES, outgoing::ORDERS],
+        outgoing::EXPIRES_T8,
+        1,
+    ),
+    (
+        &[OPENS, ACTIVATED, outgoing::LEAVES, outgoing::ORDERS],
+        outgoing::CLEARS_ORDERED,
+        1,
+    ),
+    (
+        &[OPENS, ACTIVATED, outgoing::LEAVES, outgoing::ORDERS],
+        outgoing::HAS_LEFT,
+        2,
+    ),
 ];
 
 /// The same where the first candidate has no free channel.
@@ -272,6 +357,16 @@ fn are_answered(
 #[test]
 fn refused_memory_is_answered(rt: HostRuntime) -> Result<(), Fail> {
     are_answered(&rt, THREE_CHANNELS, REQUESTS)
+}
+
+#[test]
+fn refused_memory_is_answered_while_a_call_comes(rt: HostRuntime) -> Result<(), Fail> {
+    are_answered(&rt, THREE_CHANNELS, INCOMING)
+}
+
+#[test]
+fn refused_memory_is_answered_while_a_call_leaves(rt: HostRuntime) -> Result<(), Fail> {
+    are_answered(&rt, THREE_CHANNELS, OUTGOING)
 }
 
 #[test]

@@ -53,11 +53,13 @@ const AT_HOME: CallRecord = CallRecord {
     attempt: None,
 };
 
-const STEADY: Reply = Record(AT_HOME, Some(ChanState::On(1)));
+/// What the book has of it there.
+pub const STEADY: Reply = Record(AT_HOME, Some(ChanState::On(1)));
 
 const PENDING: Reply = Record(AT_HOME, Some(ChanState::Pending(1)));
 
-const SENT: Reply = Record(
+/// The same with its attempt.
+pub const SENT: Reply = Record(
     CallRecord {
         attempt: Some(ATTEMPT),
         ..AT_HOME
