@@ -1,1 +1,2 @@
+pub mod FarEnds
 pub mod Sums

@@ -1,5 +1,5 @@
 -- Which addresses and ports tell a message's link. Ours, of no standard.
-use Rattle.std.specs.Prelude.{ℕ, ◌+◌, ◌*◌, ◌/◌, ◌%◌, ◌^◌}
+use Rattle.std.specs.Prelude.{◌≡◌, ◌<◌, ℕ, ◌+◌, ◌*◌, ◌/◌, ◌%◌, ◌^◌}
 use Rattle.capture.specs.declared.path.Side.{Side}
 use Rattle.capture.specs.declared.path.Side.TheVariants.{First, Peer}
 use Rattle.capture.specs.declared.path.Link.{Link}
@@ -27,7 +27,7 @@ near p = address 0 0 (number_of p.side)
 -- call's number: 10.(100 N + first digit).(the next two).(the last two).
 abbrev pub far : Side → Link → ℕ
 far side (Abis cell trx) = address (number_of side) cell trx
-far side (A call) = address (100 * number_of side + call / 10000) (call / 100 % 100) (call % 100)
+far side (A call) = address (100 * number_of side + call / 100 / 100) (call / 100 % 100) (call % 100)
 
 -- the ports that IPA's protocols have: 3003 of Abis, 5000 of A
 abbrev pub port_of : Link → ℕ
@@ -47,3 +47,12 @@ behind Received s len = record { sent = s.sent; received = (s.received + len) % 
 -- a stream that nothing was sent in: both ends begin behind a handshake whose sequence numbers were 0
 abbrev pub begun : Stream
 begun = record { sent = 1; received = 1 }
+
+-- a link's numbers are those that its types have
+abbrev pub Fits : Link → Type 0
+Fits (Abis cell trx) = (cell < 256) × (trx < 256)
+Fits (A call) = call < 65536
+
+-- no two links of the controllers have the same other end
+abbrev pub FarIsUnique : Type 0
+FarIsUnique = (s t : Side) (k l : Link) → Fits k → Fits l → far s k ≡ far t l → (s ≡ t) × (k ≡ l)

@@ -1,5 +1,5 @@
 //! A capture file in the making.
-ghost use Rattle.std.specs.Prelude.{◌≡◌, ◌≤◌, ◌<◌, ◌↔◌, ◌×◌, ℕ, length, Err, IfOk, OnOk, OnErr};
+ghost use Rattle.std.specs.Prelude.{◌≡◌, ◌≤◌, ◌<◌, ◌↔◌, length, Err, IfOk, OnOk, OnErr};
 ghost use Rattle.capture.specs.Ends.{begun};
 ghost use Rattle.capture.specs.Frames.{frame, limit};
 ghost use Rattle.capture.specs.Packet.{file_header};

@@ -8,10 +8,12 @@
 mod capture;
 mod checksum;
 mod frame;
+mod laws;
 mod numbers;
 mod packet;
 mod path;
 mod segment;
 
 pub use capture::{Capture, CaptureFault};
+pub use laws::far_is_unique;
 pub use path::{Link, Path, Side, Way};

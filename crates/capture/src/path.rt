@@ -72,7 +72,7 @@ pub fn far(side: Side, link: Link) -> u32
     match link {
         Link::Abis { cell, trx } => address(number, cell, trx),
         Link::A { call } => address(
-            100 * number + (call / 10_000) as u8,
+            100 * number + (call / 100 / 100) as u8,
             (call / 100 % 100) as u8,
             (call % 100) as u8,
         ),

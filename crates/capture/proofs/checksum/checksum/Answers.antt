@@ -1,8 +1,8 @@
-use Rattle.std.proofs.Common.{◌≡◌, ◌∙◌, ap, sym, ◌-◌, ◌++◌}
+use Rattle.std.proofs.Common.{◌≡◌, ap, ◌-◌, ◌++◌}
 use Rattle.capture.specs.Checksum.{words, ones_sum, checksum}
 use Rattle.capture.proofs.Sums.{words-append, ones_sum-append}
 use Rattle.capture.proofs.checksum.checksum.Goals as goal
 
 pub returns : goal.returns
 unfolding checksum
-returns c = ?
+returns c = rw (words-append c.args.head.now c.args.octets.now c.args.even) (rw ones_sum-append (search rules))
