@@ -1,2 +1,3 @@
+pub mod Checks
 pub mod FarEnds
 pub mod Sums

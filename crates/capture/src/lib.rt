@@ -15,5 +15,5 @@ mod path;
 mod segment;
 
 pub use capture::{Capture, CaptureFault};
-pub use laws::far_is_unique;
+pub use laws::{checks_succeed, far_is_unique};
 pub use path::{Link, Path, Side, Way};
