@@ -22,9 +22,14 @@ fn lane_x(lane: u32) -> u32 {
     lane.saturating_mul(LANE).saturating_add(MARGIN)
 }
 
-/// Where a row's line stands.
+/// So many rows stand between two lines with the names of the lanes.
+const PAGE: u32 = 40;
+
+/// Where a row's line stands. Before each page but the first the names of the lanes have a row of their own.
 fn row_y(row: u32) -> u32 {
-    row.saturating_mul(ROW).saturating_add(HEAD)
+    row.saturating_add(row / PAGE)
+        .saturating_mul(ROW)
+        .saturating_add(HEAD)
 }
 
 /// How many there are, where a `u32` has it.
@@ -46,11 +51,15 @@ impl fmt::Display for Chart<'_> {
         for band in self.bands {
             print_band(f, band, width)?;
         }
-        let mut lane = 0;
-        for name in self.lanes {
-            print_lane(f, lane_x(lane), end, *name)?;
-            lane = lane.saturating_add(1);
+        print_lanes(f, self.lanes, end)?;
+        for page in 0..count(self.rows).div_ceil(PAGE) {
+            print_names(
+                f,
+                self.lanes,
+                row_y(page.saturating_mul(PAGE)).saturating_sub(36),
+            )?;
         }
+        print_names(f, self.lanes, end.saturating_add(8))?;
         let mut row = 0;
         for what in self.rows {
             print_row(f, row_y(row), what)?;
@@ -95,20 +104,27 @@ fn print_band<W: fmt::Write>(
     print_text(f, x, y, "end", band.text)
 }
 
-/// A lane: its name above, a line, its name below.
-fn print_lane<W: fmt::Write>(
-    f: &mut fmt::Formatter<W>,
-    x: u32,
-    end: u32,
-    name: &str,
-) -> fmt::Result {
+/// The lines of the lanes.
+fn print_lanes<W: fmt::Write>(f: &mut fmt::Formatter<W>, lanes: &[&str], end: u32) -> fmt::Result {
     let (top, bottom) = (HEAD - 30, end.saturating_sub(8));
-    writeln!(
-        f,
-        "<line x1=\"{x}\" y1=\"{top}\" x2=\"{x}\" y2=\"{bottom}\" stroke=\"#000\"/>"
-    )?;
-    print_text(f, x, HEAD - 36, "middle", name)?;
-    print_text(f, x, end.saturating_add(8), "middle", name)
+    for lane in 0..count(lanes) {
+        let x = lane_x(lane);
+        writeln!(
+            f,
+            "<line x1=\"{x}\" y1=\"{top}\" x2=\"{x}\" y2=\"{bottom}\" stroke=\"#000\"/>"
+        )?;
+    }
+    Ok(())
+}
+
+/// The names of the lanes at this height.
+fn print_names<W: fmt::Write>(f: &mut fmt::Formatter<W>, lanes: &[&str], y: u32) -> fmt::Result {
+    let mut lane = 0;
+    for name in lanes {
+        print_text(f, lane_x(lane), y, "middle", *name)?;
+        lane = lane.saturating_add(1);
+    }
+    Ok(())
 }
 
 /// A row at this height.

@@ -70,13 +70,13 @@ const SVG: &str =
 <rect x=\"10\" y=\"78\" width=\"1000\" height=\"78\" fill=\"url(#hatch)\" stroke=\"#000\" stroke-dasharray=\"6 4\"/>
 <text x=\"1004\" y=\"92\" text-anchor=\"end\">undone</text>
 <line x1=\"240\" y1=\"40\" x2=\"240\" y2=\"192\" stroke=\"#000\"/>
-<text x=\"240\" y=\"34\" text-anchor=\"middle\">TRX 0/0</text>
-<text x=\"240\" y=\"208\" text-anchor=\"middle\">TRX 0/0</text>
 <line x1=\"500\" y1=\"40\" x2=\"500\" y2=\"192\" stroke=\"#000\"/>
-<text x=\"500\" y=\"34\" text-anchor=\"middle\">controller</text>
-<text x=\"500\" y=\"208\" text-anchor=\"middle\">controller</text>
 <line x1=\"760\" y1=\"40\" x2=\"760\" y2=\"192\" stroke=\"#000\"/>
+<text x=\"240\" y=\"34\" text-anchor=\"middle\">TRX 0/0</text>
+<text x=\"500\" y=\"34\" text-anchor=\"middle\">controller</text>
 <text x=\"760\" y=\"34\" text-anchor=\"middle\">centre &lt;1&gt;</text>
+<text x=\"240\" y=\"208\" text-anchor=\"middle\">TRX 0/0</text>
+<text x=\"500\" y=\"208\" text-anchor=\"middle\">controller</text>
 <text x=\"760\" y=\"208\" text-anchor=\"middle\">centre &lt;1&gt;</text>
 <text x=\"16\" y=\"70\" text-anchor=\"start\">in open 1 0 0 3</text>
 <line x1=\"500\" y1=\"96\" x2=\"240\" y2=\"96\" stroke=\"#000\" marker-end=\"url(#head)\"/>
@@ -119,5 +119,26 @@ fn lanes_and_rows_that_are_not_there_are_drawn_at_the_edge(rt: HostRuntime) -> R
     let svg = chart.to_string(rt.alloc())?;
     assert!(rt; svg.as_str().contains("<text x=\"4294967295\" y=\"70\""));
     assert!(rt; svg.as_str().ends_with("</svg>\n"));
+    Ok(())
+}
+
+#[test]
+fn names_stand_again_behind_forty_rows(rt: HostRuntime) -> Result<(), Fail> {
+    let rows = [Row::Heading("row"); 41];
+    let chart = Chart {
+        lanes: &["lane"],
+        rows: &rows,
+        bands: &[],
+    };
+    let svg = chart.to_string(rt.alloc())?;
+    for line in [
+        "<text x=\"240\" y=\"34\" text-anchor=\"middle\">lane</text>\n",
+        "<text x=\"240\" y=\"1100\" text-anchor=\"middle\">lane</text>\n",
+        "<text x=\"16\" y=\"1084\" text-anchor=\"start\">row</text>\n",
+        "<text x=\"16\" y=\"1136\" text-anchor=\"start\">row</text>\n",
+        "<text x=\"240\" y=\"1170\" text-anchor=\"middle\">lane</text>\n</svg>\n",
+    ] {
+        assert!(rt; svg.as_str().contains(line), "{line}");
+    }
     Ok(())
 }
