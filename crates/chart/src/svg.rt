@@ -52,7 +52,7 @@ impl fmt::Display for Chart<'_> {
             print_band(f, band, width)?;
         }
         print_lanes(f, self.lanes, end)?;
-        for page in 0..count(self.rows).div_ceil(PAGE) {
+        for page in 0..count(self.rows).div_ceil(PAGE).max(1) {
             print_names(
                 f,
                 self.lanes,
