@@ -136,7 +136,7 @@ fn names_stand_again_behind_forty_rows(rt: HostRuntime) -> Result<(), Fail> {
         "<text x=\"240\" y=\"1100\" text-anchor=\"middle\">lane</text>\n",
         "<text x=\"16\" y=\"1084\" text-anchor=\"start\">row</text>\n",
         "<text x=\"16\" y=\"1136\" text-anchor=\"start\">row</text>\n",
-        "<text x=\"240\" y=\"1170\" text-anchor=\"middle\">lane</text>\n</svg>\n",
+        "<text x=\"240\" y=\"1170\" text-anchor=\"middle\">lane</text>\n",
     ] {
         assert!(rt; svg.as_str().contains(line), "{line}");
     }
