@@ -7,7 +7,7 @@ pub words-append : (xs ys : List ℕ) → length xs % 2 ≡ 0 → words (xs ++ y
 unfolding words
 words-append [] ys even = refl
 words-append (a ∷ []) ys even = absurd (omega arith)
-words-append (a ∷ b ∷ xs) ys even = ap (λ ws. a * 256 + b ∷ ws) (words-append xs ys (omega arith))
+words-append (a ∷ b ∷ xs) ys even = ap (λ ws. (a * 256 + b) ∷ ws) (words-append xs ys (omega arith))
 
 -- a sum goes on behind the first numbers
 pub ones_sum-append : (before : ℕ) (xs ys : List ℕ) → ones_sum before (xs ++ ys) ≡ ones_sum (ones_sum before xs) ys

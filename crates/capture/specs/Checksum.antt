@@ -6,8 +6,8 @@ use Rattle.capture.specs.Numbers.{two}
 -- adjacent octets are paired to numbers of 16 bits; a last one alone is paired with 0
 unfoldable pub words : List ℕ → List ℕ
 words [] = []
-words (high ∷ []) = high * 256 ∷ []
-words (high ∷ low ∷ octets) = high * 256 + low ∷ words octets
+words (high ∷ []) = (high * 256) ∷ []
+words (high ∷ low ∷ octets) = (high * 256 + low) ∷ words octets
 
 -- addition in 16 bits of ones' complement: a carry out of the highest bit is added at the lowest
 unfoldable pub ones_add : ℕ → ℕ → ℕ
