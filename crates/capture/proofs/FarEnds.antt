@@ -1,5 +1,5 @@
 -- The other ends of links have addresses of their own.
-use Rattle.std.proofs.Common.{◌≡◌, ◌<◌, ap, absurd, refl, ℕ, ◌+◌, ◌*◌, ◌/◌, ◌%◌, arith}
+use Rattle.std.proofs.Common.{◌≡◌, ◌<◌, ap, refl, ℕ, ◌+◌, ◌*◌, ◌/◌, ◌%◌, arith}
 use Rattle.capture.specs.declared.path.Side.{Side}
 use Rattle.capture.specs.declared.path.Side.TheVariants.{First, Peer}
 use Rattle.capture.specs.declared.path.Link.{Link}

@@ -1,5 +1,5 @@
 -- Sums over octets one behind the other.
-use Rattle.std.proofs.Common.{◌≡◌, ◌∙◌, ap, absurd, refl, ℕ, ◌+◌, ◌*◌, ◌%◌, List, [], ◌∷◌, ◌++◌, length, arith}
+use Rattle.std.proofs.Common.{◌≡◌, ◌∙◌, ap, refl, ℕ, ◌+◌, ◌*◌, ◌%◌, List, [], ◌∷◌, ◌++◌, length, arith}
 use Rattle.capture.specs.Checksum.{words, ones_add, ones_sum}
 
 -- octets in front that are an even number are paired among themselves

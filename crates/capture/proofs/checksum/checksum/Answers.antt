@@ -1,4 +1,4 @@
-use Rattle.std.proofs.Common.{◌≡◌, ap, ◌-◌, ◌++◌}
+use Rattle.std.proofs.Common.{rules, ◌≡◌, ap, ◌-◌, ◌++◌}
 use Rattle.capture.specs.Checksum.{words, ones_sum, checksum}
 use Rattle.capture.proofs.Sums.{words-append, ones_sum-append}
 use Rattle.capture.proofs.checksum.checksum.Goals as goal
