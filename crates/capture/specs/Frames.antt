@@ -24,7 +24,7 @@ abbrev pub bssap : List ℕ
 bssap = 66 ∷ 254 ∷ []
 
 -- a message as it lies in the stream of its link: on Abis as IPA's protocol 0, on A in unitdata as IPA's protocol FD
-abbrev pub frame : Link → List ℕ → List ℕ
+unfoldable pub frame : Link → List ℕ → List ℕ
 frame (Abis cell trx) message = ipa 0 message
 frame (A call) message = ipa 253 (unitdata bssap bssap message)
 

@@ -15,5 +15,5 @@ abbrev pub packet_header : ℕ → ℕ → List ℕ
 packet_header seconds len = four seconds ++ four 0 ++ four len ++ four len
 
 -- a datagram that was seen at this second
-abbrev pub packet : ℕ → Segment → List ℕ → List ℕ
+unfoldable pub packet : ℕ → Segment → List ℕ → List ℕ
 packet seconds s load = packet_header seconds (total_len load) ++ datagram s load

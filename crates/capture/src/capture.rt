@@ -72,6 +72,7 @@ impl<A: Allocator + Copy> Capture<A> {
     }
 
     /// Adds the packet of a message in its frame. Where memory is refused nothing changes.
+    #[tactic(auto, using(crate::proofs::FrameLens::length-packet))]
     fn add_frame(
         &mut self,
         seconds: u32,
@@ -98,6 +99,7 @@ impl<A: Allocator + Copy> Capture<A> {
     }
 
     /// Adds a message that was seen at this second. It is added whole, or nothing changes.
+    #[tactic(auto, using(crate::proofs::FrameLens::frame_fits))]
     pub fn add(
         &mut self,
         seconds: u32,

@@ -46,6 +46,7 @@ fn a_frame<A: Allocator>(alloc: A, message: &[u8]) -> Result<Vec<u8, A>, AllocEr
 }
 
 /// A message as it lies in the TCP stream of its link.
+#[tactic(auto, unfolding(crate::specs::Frames::frame))]
 pub fn frame<A: Allocator>(alloc: A, link: Link, message: &[u8]) -> Result<Vec<u8, A>, AllocError>
     requires short { length message.now ≤ limit link }
     ensures frame { IfOk result (λ f. f.items ≡ frame link message.now) }

@@ -27,6 +27,7 @@ fn packet_header(seconds: u32, len: u32) -> [u8; 16]
 }
 
 /// Appends a segment as a packet that was seen at this second. The list has room for it.
+#[tactic(auto, unfolding(crate::specs::Packet::packet))]
 pub fn append_packet<A: Allocator>(
     out: &mut Vec<u8, A>,
     seconds: u32,

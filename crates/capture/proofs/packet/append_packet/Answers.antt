@@ -4,4 +4,5 @@ use Rattle.capture.specs.Packet.{file_header, packet_header, packet}
 use Rattle.capture.proofs.packet.append_packet.Goals as goal
 
 pub returns : goal.returns
+unfolding packet
 returns g c = ?
