@@ -12,6 +12,6 @@ unfolding frame
 frame_fits (Abis cell trx) message short = omega arith
 frame_fits (A call) message short = omega arith
 
-pub length-packet : (seconds : ℕ) (s : Segment) (load : List ℕ) → length (packet seconds s load) ≡ 56 + length load
+pub packet_len : (seconds : ℕ) (s : Segment) (load : List ℕ) → length (packet seconds s load) ≡ 56 + length load
 unfolding packet
-length-packet seconds s load = omega arith
+packet_len seconds s load = omega arith

@@ -1,5 +1,5 @@
 -- Sums over octets one behind the other.
-use Rattle.std.proofs.Common.{◌≡◌, ◌∙◌, ap, refl, ℕ, ◌+◌, ◌*◌, ◌%◌, List, [], ◌∷◌, ◌++◌, length, arith}
+use Rattle.std.proofs.Common.{◌≡◌, ◌∙◌, ◌<◌, ◌≤◌, ap, refl, get_or, drop, ℕ, ◌+◌, ◌*◌, ◌%◌, List, [], ◌∷◌, ◌++◌, length, arith}
 use Rattle.capture.specs.Checksum.{words, ones_add, ones_sum}
 
 -- octets in front that are an even number are paired among themselves
@@ -14,3 +14,23 @@ pub ones_sum-append : (before : ℕ) (xs ys : List ℕ) → ones_sum before (xs 
 unfolding ones_sum
 ones_sum-append before [] ys = refl
 ones_sum-append before (x ∷ xs) ys = ones_sum-append (ones_add before x) xs ys
+
+-- the sum over octets, of which there are two or more: the first two are added, and then the rest
+pub sum_step : (before : ℕ) (s : List ℕ) → 2 ≤ length s → ones_sum before (words s) ≡ ones_sum (ones_add before (get_or s 0 0 * 256 + get_or s 1 0)) (words (drop 2 s))
+unfolding words ones_sum
+sum_step before [] some = absurd (omega arith)
+sum_step before (a ∷ []) some = absurd (omega arith)
+sum_step before (a ∷ b ∷ s) some = refl
+
+-- of one octet
+pub sum_one : (before : ℕ) (s : List ℕ) → 1 ≤ length s → length s < 2 → ones_sum before (words s) ≡ ones_add before (get_or s 0 0 * 256)
+unfolding words ones_sum
+sum_one before [] some one = absurd (omega arith)
+sum_one before (a ∷ []) some one = refl
+sum_one before (a ∷ b ∷ s) some one = absurd (omega arith)
+
+-- of none
+pub sum_none : (before : ℕ) (s : List ℕ) → length s < 1 → ones_sum before (words s) ≡ before
+unfolding words ones_sum
+sum_none before [] none = refl
+sum_none before (a ∷ s) none = absurd (omega arith)

@@ -72,7 +72,7 @@ impl<A: Allocator + Copy> Capture<A> {
     }
 
     /// Adds the packet of a message in its frame. Where memory is refused nothing changes.
-    #[tactic(auto, using(crate::proofs::FrameLens::length-packet))]
+    #[tactic(auto, using(crate::proofs::FrameLens::packet_len))]
     fn add_frame(
         &mut self,
         seconds: u32,
