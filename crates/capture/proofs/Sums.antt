@@ -1,5 +1,6 @@
 -- Sums over octets one behind the other.
-use Rattle.std.proofs.Common.{◌≡◌, ◌∙◌, ◌<◌, ◌≤◌, ap, refl, get_or, drop, ℕ, ◌+◌, ◌*◌, ◌%◌, List, [], ◌∷◌, ◌++◌, length, arith}
+use Rattle.std.proofs.Common.{◌≡◌, ◌∙◌, ◌<◌, ◌≤◌, ap, sym, refl, get_or, take, drop, ℕ, ◌+◌, ◌-◌, ◌*◌, ◌%◌, List, [], ◌∷◌, ◌++◌, length, arith}
+use Rattle.std.proofs.lemmas.List.{take_rest}
 use Rattle.capture.specs.Checksum.{words, ones_add, ones_sum}
 
 -- octets in front that are an even number are paired among themselves
@@ -16,11 +17,11 @@ ones_sum-append before [] ys = refl
 ones_sum-append before (x ∷ xs) ys = ones_sum-append (ones_add before x) xs ys
 
 -- the sum over octets, of which there are two or more: the first two are added, and then the rest
-pub sum_step : (before : ℕ) (s : List ℕ) → 2 ≤ length s → ones_sum before (words s) ≡ ones_sum (ones_add before (get_or s 0 0 * 256 + get_or s 1 0)) (words (drop 2 s))
+pub sum_step : (before : ℕ) (s : List ℕ) → 2 ≤ length s → ones_sum before (words s) ≡ ones_sum (ones_add before (get_or s 0 0 * 256 + get_or s 1 0)) (words (take (length s - 2) (drop 2 s)))
 unfolding words ones_sum
 sum_step before [] some = absurd (omega arith)
 sum_step before (a ∷ []) some = absurd (omega arith)
-sum_step before (a ∷ b ∷ s) some = refl
+sum_step before (a ∷ b ∷ s) some = ap (λ rest. ones_sum (ones_add before (a * 256 + b)) (words rest)) (sym (take_rest (a ∷ b ∷ s) 2))
 
 -- of one octet
 pub sum_one : (before : ℕ) (s : List ℕ) → 1 ≤ length s → length s < 2 → ones_sum before (words s) ≡ ones_add before (get_or s 0 0 * 256)
