@@ -46,7 +46,7 @@ add_complement a p = grind (arith, nat_tests)
 
 -- the sum over octets of which two, behind an even number, are a number of sixteen bits: that number may come last
 sum_with : (front back : List ℕ) (n : ℕ) → n < 65536 → AreOctets front → AreOctets back → length front % 2 ≡ 0
-    → ones_sum 0 (words (front ++ two n ++ back)) ≡ ones_add (ones_sum (ones_sum 0 (words front)) (words back)) n
+    → ones_sum 0 (words (front ++ (two n ++ back))) ≡ ones_add (ones_sum (ones_sum 0 (words front)) (words back)) n
 unfolding words ones_sum
 sum_with front back n small fit fits even =
     let whole : n / 256 * 256 + n % 256 ≡ n = omega arith in
@@ -60,7 +60,7 @@ unfolding checksum
 checks front back fit fits even =
     let first = sum_fits 0 (words front) (omega arith) (words_fit front fit) in
     let small = sum_fits (ones_sum 0 (words front)) (words back) first (words_fit back fits) in
-    let same : ones_sum 0 (words (front ++ two 0 ++ back)) ≡ ones_sum (ones_sum 0 (words front)) (words back) =
+    let same : ones_sum 0 (words (front ++ (two 0 ++ back))) ≡ ones_sum (ones_sum 0 (words front)) (words back) =
     sum_with front back 0 (omega arith) fit fits even ∙ add_none (ones_sum (ones_sum 0 (words front)) (words back)) small in
     rw same (sum_with front back (65535 - ones_sum (ones_sum 0 (words front)) (words back)) (omega arith) fit fits even
     ∙ add_complement (ones_sum (ones_sum 0 (words front)) (words back)) small)

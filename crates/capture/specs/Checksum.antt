@@ -33,4 +33,4 @@ AreOctets octets = AllByRecursion (λ octet. octet < 256) octets
 abbrev pub ChecksSucceed : Type 0
 ChecksSucceed =
     (front back : List ℕ) → AreOctets front → AreOctets back → length front % 2 ≡ 0
-    → Succeeds (front ++ two (checksum (front ++ two 0 ++ back)) ++ back)
+    → Succeeds (front ++ (two (checksum (front ++ (two 0 ++ back))) ++ back))
