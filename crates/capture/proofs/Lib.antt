@@ -1,0 +1,4 @@
+pub mod Checks
+pub mod FarEnds
+pub mod FrameLens
+pub mod Sums

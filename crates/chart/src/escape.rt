@@ -1,0 +1,25 @@
+//! Texts inside XML.
+use std::fmt;
+
+/// A text as it stands in XML (XML 1.0 clauses 2.2 and 2.4), also inside quotes: what would be read as markup is named,
+/// and a control character, of which XML has but three, is a `?`.
+#[derive(Clone, Copy, Debug)]
+pub struct Escaped<'a>(pub &'a str);
+
+impl fmt::Display for Escaped<'_> {
+    fn fmt<W: fmt::Write>(&self, f: &mut fmt::Formatter<W>) -> fmt::Result {
+        for character in self.0.chars() {
+            match character {
+                '&' => f.write_str("&amp;")?,
+                '<' => f.write_str("&lt;")?,
+                '>' => f.write_str("&gt;")?,
+                '"' => f.write_str("&quot;")?,
+                '\'' => f.write_str("&apos;")?,
+                '\u{FFFE}' | '\u{FFFF}' => f.write_char('?')?,
+                _ if character.is_control() => f.write_char('?')?,
+                _ => f.write_char(character)?,
+            }
+        }
+        Ok(())
+    }
+}
