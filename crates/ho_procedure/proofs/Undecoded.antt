@@ -1,5 +1,6 @@
 -- Octets that can't be read are never anything else.
 use Rattle.std.proofs.Common.{◌≡◌, ◌≢◌, ◌⊎◌, inl, inr, ℕ, List, Option, Some, None, Result, Ok, Err, OnOk, IfErr, refl, sym, ◌∙◌, ap, subst}
+use Rattle.octet_elements.specs.Texts.{ReadingIsUnique}
 use Rattle.rr_elements.specs.Faults.{FaultIsUnique}
 use Rattle.rr_messages.specs.declared.message.Rr.{Rr}
 use Rattle.rr_messages.specs.declared.fault.RrFault.{RrFault}
@@ -37,8 +38,8 @@ IsStoppedFor l b MayRefuse (stop.Foreign place) = ⊥
 
 -- what the codecs say of their texts
 pub record Laws (A : Type 0) : Type 0 where
-  pub on_abis : abis.ReadingIsUnique A
-  pub on_a : interface_a.ReadingIsUnique A
+  pub on_abis : ReadingIsUnique (abis.codec A)
+  pub on_a : ReadingIsUnique (interface_a.codec A)
   pub inside : FaultIsUnique IsRrText HasRrFault
 
 -- a text inside that is read has no fault

@@ -10,9 +10,13 @@ use Rattle.bssmap_messages.specs.declared.head.MessageKind.{MessageKind}
 use Rattle.bssmap_messages.specs.declared.head.MessageKind.TheVariants as kind
 use Rattle.bssmap_messages.specs.declared.message.Bssmap.{Bssmap}
 use Rattle.bssmap_messages.specs.declared.message.Bssmap.TheVariants.{HandoverRequest, HandoverRequired, HandoverRequestAck, HandoverCommand, HandoverComplete, HandoverFailure, HandoverPerformed, HandoverRequiredReject, HandoverDetect, ClearCommand, ClearComplete, ClearRequest}
-use Rattle.bssmap_messages.specs.Forms.{interface_a, LAYER_3_INFORMATION}
+use Rattle.bssmap_messages.specs.Forms.{interface_a}
 use Rattle.bssmap_messages.specs.Messages.{said, value_of, handover_request, handover_required, layer_3_alone, handover_complete, handover_failure, handover_performed, cause_alone}
 use Rattle.bssmap_messages.specs.Texts.{IsTextOf}
+
+-- the identifier of the layer 3 information (TS 48.008 clause 3.2.2.24)
+abbrev layer_3_information : ℕ
+layer_3_information = 0x17
 
 -- the first element with the identifier, or one of the others
 abbrev IsFirst : ℕ → Element → Type 0
@@ -54,7 +58,7 @@ acknowledged A (Ok v) layer3 h = let same : v ≡ layer3 = cc in ap Ok same
 acknowledged A (Err e) layer3 h = absurd cc
 
 -- an acknowledgement is said by its layer 3 information
-said_by : {A : Type 0} (k : MessageKind) (found : Lookup) (layer3 : List ℕ) → said {A = A} k found ≡ Ok (HandoverRequestAck layer3) → octets_in LAYER_3_INFORMATION (found.first LAYER_3_INFORMATION) ≡ Ok layer3
+said_by : {A : Type 0} (k : MessageKind) (found : Lookup) (layer3 : List ℕ) → said {A = A} k found ≡ Ok (HandoverRequestAck layer3) → octets_in layer_3_information (found.first layer_3_information) ≡ Ok layer3
 unfolding layer_3_alone
 said_by {A} kind.HandoverRequest found layer3 h = absurd (never {V = Bssmap A} (λ (channel, (encryption, (classmark, (serving, target)))). HandoverRequest channel encryption classmark serving target) (handover_request.read found) (HandoverRequestAck layer3) (λ x e. cc) h)
 said_by {A} kind.HandoverRequired found layer3 h = absurd (never {V = Bssmap A} (λ (cause, (response, cells)). HandoverRequired cause response cells) (handover_required.read found) (HandoverRequestAck layer3) (λ x e. cc) h)
@@ -72,8 +76,8 @@ said_by {A} kind.ClearRequest found layer3 h = absurd (never {V = Bssmap A} Clea
 pub short_layer_3 : {A : Type 0} (layer3 octets : List ℕ) → IsTextOf {A = A} (HandoverRequestAck layer3) octets → (0 < length layer3) × (length layer3 ≤ 250)
 short_layer_3 {A} layer3 octets h =
     let read = said_by {A = A} h.kind (values_in h.says.elements) layer3 h.says.says in
-    let value = some_octets LAYER_3_INFORMATION (first_of LAYER_3_INFORMATION h.says.elements) layer3 read in
-    let less = shorter LAYER_3_INFORMATION refl h.says.elements layer3 value.0 in
+    let value = some_octets layer_3_information (first_of layer_3_information h.says.elements) layer3 read in
+    let less = shorter layer_3_information refl h.says.elements layer3 value.0 in
     let body : length h.body ≡ length (all_octets interface_a h.says.elements) = ap length h.says.split.spelling in
     let within = h.head.within in
     (value.1, omega arith)
