@@ -18,8 +18,8 @@ abbrev pub unitdata : List ℕ → List ℕ → List ℕ → List ℕ
 unitdata called calling load =
     9 ∷ 0 ∷ 3 ∷ (3 + length called) ∷ (3 + length called + length calling) ∷ counted called ++ counted calling ++ counted load
 
--- A subsystem's address (Q.713 clause 3.5): the indicator says that it has a subsystem number alone, by which it is
--- routed; 254 is BSSAP (TS 29.006 and 48.006).
+-- A subsystem's address (Q.713 clause 3.4): the indicator says that it has a subsystem number alone, by which it is
+-- routed; 254 is BSSAP (TS 23.003 clause 8, TS 48.006).
 abbrev pub bssap : List ℕ
 bssap = 66 ∷ 254 ∷ []
 
