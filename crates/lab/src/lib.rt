@@ -3,11 +3,13 @@
 //! have crates of their own, whose modules are exported here too.
 #![tactic(auto)]
 
+pub mod check;
 mod controllers;
 mod course;
 pub mod decoded;
 pub mod entries;
 pub mod files;
+pub mod lines;
 pub mod noting;
 pub mod program;
 pub mod rewound;

@@ -1,5 +1,6 @@
 //! What no clause says: the printed texts on the whole way from two files to a trace and from octets to a message in
 //! words, what is refused, allocation failures and failing writes.
+mod checked;
 mod crossing;
 mod decoded;
 mod external;
@@ -7,6 +8,7 @@ mod failing;
 mod files;
 mod four_cells;
 mod hangup;
+mod lines;
 mod peer;
 mod program;
 mod reasons;

@@ -6,6 +6,9 @@ use std::rt::Files;
 use std::str;
 use std::test::Fail;
 
+/// What stands on standard input of command lines that don't read it.
+const STDIN: &[u8] = b"rr 062c00";
+
 /// The words of a command line, the status that it ends with, what it prints, and a part of what it says of an error.
 const LINES: &[(&[&str], u8, &str, &str)] = &[
     (
@@ -61,7 +64,7 @@ fn ends(
 ) -> Result<(), Fail> {
     let mut out = Vec::new(rt.alloc());
     let mut errors = Vec::new(rt.alloc());
-    let status = exit_status(perform(rt, words, &mut out, &mut errors));
+    let status = exit_status(perform(rt, words, STDIN, &mut out, &mut errors));
     assert_eq!(rt; (status, str::from_utf8(&out)?), (wanted, text), "{part}");
     says(rt, str::from_utf8(&errors)?, part);
     Ok(())
@@ -80,7 +83,7 @@ fn a_text_that_is_not_written_is_a_fault(rt: HostRuntime) {
     for words in [&["--version"], &["runn"]] {
         let mut out = Failing::after(rt.alloc(), 0);
         let mut errors = Failing::after(rt.alloc(), 0);
-        let ended = perform(&rt, words, &mut out, &mut errors);
+        let ended = perform(&rt, words, STDIN, &mut out, &mut errors);
         assert_eq!(rt; ended, Err(LabFault::Write));
     }
 }
