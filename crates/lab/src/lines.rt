@@ -1,10 +1,12 @@
 //! Messages in words, line by line from a file or from standard input.
 //!
-//! No clause says what is printed: which octets a line writes, and which message they are, is said in `octet_lines` and
-//! `decoded_lines`, and the rest is shown by tests.
+//! No clause says what is printed, which is shown by tests: which lines are messages is said in `decoded_lines`.
+ghost use Rattle.std.specs.Prelude.{◌≡◌, ◌≢◌, Ok, IfSome};
+ghost use Rattle.decoded_lines.specs.Answers.{AreGood};
+
 use crate::run::{LabFault, Status};
 use decoded_lines::{LinesFault, Link, answer_lines};
-use std::alloc::Global;
+use std::alloc::Allocator;
 use std::fs::File;
 use std::io::{self, BufReader, Read, Write};
 use std::rt::Files;
@@ -18,7 +20,10 @@ fn refuse_file<W: Write, E: Write>(
     error: io::Error,
     out: &mut W,
     errors: &mut E,
-) -> Result<Status, LabFault> {
+) -> Result<Status, LabFault>
+    ensures done { result ≢ Ok Status.Done }
+    ensures differs { result ≢ Ok Status.Differs }
+{
     if error.kind() == io::ErrorKind::OutOfMemory {
         return Err(LabFault::NoMemory);
     }
@@ -28,14 +33,17 @@ fn refuse_file<W: Write, E: Write>(
 }
 
 /// Answers the lines of a reader to its end, and says how many there were.
-fn answer<I: Read + Drop, W: Write, E: Write>(
-    alloc: Global,
+fn answer<A: Allocator + Copy, I: Read + Drop, W: Write, E: Write>(
+    alloc: A,
     link: Option<Link>,
     path: &str,
     input: I,
     out: &mut W,
     errors: &mut E,
-) -> Result<Status, LabFault> {
+) -> Result<Status, LabFault>
+    ensures done { result ≡ Ok Status.Done → IfSome (I.remaining input) (AreGood A link) }
+    ensures differs { result ≢ Ok Status.Differs }
+{
     // a buffer lacks nothing but memory
     let mut reader = BufReader::new(alloc, input).map_err(|_| LabFault::NoMemory)?;
     let counts = match answer_lines(alloc, link, &mut reader, out) {
