@@ -1,0 +1,2 @@
+mod OctetLemmas
+mod ReadingLemmas
