@@ -3,7 +3,7 @@ ghost use Rattle.std.specs.Prelude.{◌≡◌, ◌≢◌, ◌+◌, Ok, Err, Some
 ghost use Rattle.octet_lines.specs.Lines.{is_blank};
 ghost use Rattle.decoded_lines.specs.Answers.{WritesMessage, TextSays, LineSays};
 
-use crate::messages::{Link, link_named, print_message};
+use crate::messages::{Link, PrintFault, link_named, print_message};
 use octet_lines::{Found, next_line, read_octets, said_in, word_and_rest};
 use std::alloc::{AllocError, Allocator};
 use std::io::{self, BufRead, Write};
@@ -36,6 +36,19 @@ impl From<io::Error> for LinesFault {
 
     fn from(_: io::Error) -> LinesFault {
         LinesFault::Write
+    }
+}
+
+impl From<PrintFault> for LinesFault {
+    ghost use Rattle.decoded_lines.specs.Answers.{lines_fault_of};
+
+    ghost from_gives = { λ print fault. fault ≡ lines_fault_of print };
+
+    fn from(fault: PrintFault) -> LinesFault {
+        match fault {
+            PrintFault::NoMemory => LinesFault::NoMemory,
+            PrintFault::Write => LinesFault::Write,
+        }
     }
 }
 
@@ -78,7 +91,7 @@ fn answer_octets<A: Allocator + Copy, W: Write>(
     ensures refused { result ≡ Ok false → WritesMessage A link text.now → ⊥ }
 {
     match read_octets(alloc, text)? {
-        Some(octets) => print_message(alloc, link, &octets, out),
+        Some(octets) => Ok(print_message(alloc, link, &octets, out)?),
         None => refuse(out, "hex"),
     }
 }

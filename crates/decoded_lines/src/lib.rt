@@ -5,4 +5,4 @@ mod answers;
 mod messages;
 
 pub use answers::{Counts, LinesFault, answer_lines};
-pub use messages::{Link, link_named};
+pub use messages::{Link, PrintFault, link_named, print_message};

@@ -1,13 +1,12 @@
 //! The links that messages come from, and messages in words.
-ghost use Rattle.std.specs.Prelude.{◌≡◌, ◌≢◌, Ok, Err, true, false, IfOk, IfErr, IfSome, IsNone};
+ghost use Rattle.std.specs.Prelude.{◌≡◌, ◌≢◌, [], Ok, Err, true, false, IfOk, IfErr, IfSome, IsNone};
 ghost use Rattle.decoded_lines.specs.Messages.{link_name, IsRrMessage, IsBssmapMessage, IsAbisMessage, IsMessage};
 
-use crate::answers::LinesFault;
 use bssmap_messages::BssmapFault;
 use ho_procedure::exchange::Bad;
 use rsl_messages::RslFault;
 use std::alloc::Allocator;
-use std::io::Write;
+use std::io::{self, Write};
 use trace_text::abis::AbisText;
 use trace_text::bad::BadText;
 use trace_text::bssmap::BssmapText;
@@ -22,6 +21,25 @@ pub enum Link {
     A,
     /// Abis, between a base station controller and a base station (TS 48.058).
     Abis,
+}
+
+/// Why a message isn't printed.
+#[derive(Clone, Copy, Debug, PartialEq, Eq)]
+pub enum PrintFault {
+    /// Memory was refused.
+    NoMemory,
+    /// A write failed.
+    Write,
+}
+
+impl From<io::Error> for PrintFault {
+    ghost use Rattle.decoded_lines.specs.declared.messages.PrintFault.TheVariants.{Write};
+
+    ghost from_gives = { λ _ fault. fault ≡ Write };
+
+    fn from(_: io::Error) -> PrintFault {
+        PrintFault::Write
+    }
 }
 
 /// The link of this name.
@@ -42,19 +60,19 @@ pub fn link_named(name: &[u8]) -> Option<Link>
 }
 
 /// Prints why octets are no message.
-fn refuse<W: Write>(fault: Bad, out: &mut W) -> Result<bool, LinesFault>
+fn refuse<W: Write>(fault: Bad, out: &mut W) -> Result<bool, PrintFault>
     ensures refused { result ≢ Ok true }
-    ensures memory { result ≢ Err LinesFault.NoMemory }
+    ensures memory { result ≢ Err PrintFault.NoMemory }
 {
     write!(out, "fault {}", BadText(fault))?;
     Ok(false)
 }
 
 /// Prints a radio resource message, or why the octets are none.
-fn print_rr<W: Write>(octets: &[u8], out: &mut W) -> Result<bool, LinesFault>
+fn print_rr<W: Write>(octets: &[u8], out: &mut W) -> Result<bool, PrintFault>
     ensures message { result ≡ Ok true → IsRrMessage octets.now }
     ensures refused { result ≡ Ok false → IsRrMessage octets.now → ⊥ }
-    ensures memory { result ≢ Err LinesFault.NoMemory }
+    ensures memory { result ≢ Err PrintFault.NoMemory }
 {
     match rr_messages::decode(octets) {
         Ok(message) => {
@@ -66,25 +84,25 @@ fn print_rr<W: Write>(octets: &[u8], out: &mut W) -> Result<bool, LinesFault>
 }
 
 /// Why octets are no message on A, unless memory was refused.
-fn bssmap_fault(fault: BssmapFault) -> Result<Bad, LinesFault>
+fn bssmap_fault(fault: BssmapFault) -> Result<Bad, PrintFault>
     ensures fault { IfOk result (λ bad. (fault ≢ BssmapFault.NoMemory) × (bad ≡ Bad.Bssmap fault)) }
     ensures memory { IfErr result (λ answer. (fault ≡ BssmapFault.NoMemory) ×
-        (answer ≡ LinesFault.NoMemory)) }
+        (answer ≡ PrintFault.NoMemory)) }
 {
     match fault {
-        BssmapFault::NoMemory => Err(LinesFault::NoMemory),
+        BssmapFault::NoMemory => Err(PrintFault::NoMemory),
         _ => Ok(Bad::Bssmap(fault)),
     }
 }
 
 /// Why octets are no message on Abis, unless memory was refused.
-fn abis_fault(fault: RslFault) -> Result<Bad, LinesFault>
+fn abis_fault(fault: RslFault) -> Result<Bad, PrintFault>
     ensures fault { IfOk result (λ bad. (fault ≢ RslFault.NoMemory) × (bad ≡ Bad.Rsl fault)) }
     ensures memory { IfErr result (λ answer. (fault ≡ RslFault.NoMemory) ×
-        (answer ≡ LinesFault.NoMemory)) }
+        (answer ≡ PrintFault.NoMemory)) }
 {
     match fault {
-        RslFault::NoMemory => Err(LinesFault::NoMemory),
+        RslFault::NoMemory => Err(PrintFault::NoMemory),
         _ => Ok(Bad::Rsl(fault)),
     }
 }
@@ -94,10 +112,10 @@ fn print_bssmap<A: Allocator + Copy, W: Write>(
     alloc: A,
     octets: &[u8],
     out: &mut W,
-) -> Result<bool, LinesFault>
+) -> Result<bool, PrintFault>
     ensures message { result ≡ Ok true → IsBssmapMessage A octets.now }
     ensures refused { result ≡ Ok false → IsBssmapMessage A octets.now → ⊥ }
-    ensures memory { result ≡ Err LinesFault.NoMemory → IsBssmapMessage A octets.now }
+    ensures memory { result ≡ Err PrintFault.NoMemory → IsBssmapMessage A octets.now }
 {
     match bssmap_messages::decode(alloc, octets) {
         Ok(message) => {
@@ -113,10 +131,10 @@ fn print_abis<A: Allocator + Copy, W: Write>(
     alloc: A,
     octets: &[u8],
     out: &mut W,
-) -> Result<bool, LinesFault>
+) -> Result<bool, PrintFault>
     ensures message { result ≡ Ok true → IsAbisMessage A octets.now }
     ensures refused { result ≡ Ok false → IsAbisMessage A octets.now → ⊥ }
-    ensures memory { result ≡ Err LinesFault.NoMemory → IsAbisMessage A octets.now }
+    ensures memory { result ≡ Err PrintFault.NoMemory → IsAbisMessage A octets.now }
 {
     match rsl_messages::decode(alloc, octets) {
         Ok(message) => {
@@ -127,18 +145,20 @@ fn print_abis<A: Allocator + Copy, W: Write>(
     }
 }
 
-/// Prints a message of a link in words, or why the octets are none, without a line feed; whether they are one.
+/// Prints a message of a link in words, or why the octets are none (`fault`, the link, and the number of the fault with
+/// its argument), without a line feed; whether they are one.
 ///
-/// `NoMemory` is answered only to octets that are a message.
-pub(crate) fn print_message<A: Allocator + Copy, W: Write>(
+/// `NoMemory` is answered only to octets that are a message, and that are some.
+pub fn print_message<A: Allocator + Copy, W: Write>(
     alloc: A,
     link: Link,
     octets: &[u8],
     out: &mut W,
-) -> Result<bool, LinesFault>
+) -> Result<bool, PrintFault>
     ensures message { result ≡ Ok true → IsMessage A link octets.now }
     ensures refused { result ≡ Ok false → IsMessage A link octets.now → ⊥ }
-    ensures memory { result ≡ Err LinesFault.NoMemory → IsMessage A link octets.now }
+    ensures memory { result ≡ Err PrintFault.NoMemory → IsMessage A link octets.now }
+    ensures some { result ≡ Err PrintFault.NoMemory → octets.now ≢ [] }
 {
     match link {
         Link::Rr => print_rr(octets, out),
