@@ -1,7 +1,9 @@
 //! Answers to lines of octet texts, one by one.
-ghost use Rattle.std.specs.Prelude.{◌≡◌, ◌≢◌, ◌+◌, Ok, Err, Some, None, true, false, OnOk, IfOk, is_none};
+ghost use Rattle.std.specs.Prelude.{◌≡◌, ◌≢◌, ◌≤◌, length, Ok, Some, None, true, false, OnOk, IfOk, IfSome, is_none};
+ghost use Rattle.std.specs.Io.KnownBytes.{IsAtEnd};
 ghost use Rattle.octet_lines.specs.Lines.{is_blank};
-ghost use Rattle.decoded_lines.specs.Answers.{WritesMessage, TextSays, LineSays};
+ghost use Rattle.octet_lines.specs.Reading.{longest_line};
+ghost use Rattle.decoded_lines.specs.Answers.{WritesMessage, TextSays, LineSays, IsCounted, CountsFirst, AreGood};
 
 use crate::messages::{Link, PrintFault, link_named, print_message};
 use octet_lines::{Found, next_line, read_octets, said_in, word_and_rest};
@@ -63,7 +65,10 @@ pub struct Counts {
 
 impl Counts {
     /// One line more, which says a message or was refused.
-    fn add(&mut self, is_message: bool) {
+    fn add(&mut self, is_message: bool)
+        ensures kept { is_message ≡ true → self.new.refused ≡ self.old.refused }
+        ensures more { is_message ≡ false → self.new.refused ≢ 0 }
+    {
         if is_message {
             self.messages = self.messages.saturating_add(1);
         } else {
@@ -152,6 +157,54 @@ fn unread(error: io::Error) -> LinesFault {
     }
 }
 
+/// Answers a line, and counts it.
+fn count_line<A: Allocator + Copy, W: Write>(
+    alloc: A,
+    link: Option<Link>,
+    number: u64,
+    line: &[u8],
+    counts: &mut Counts,
+    out: &mut W,
+) -> Result<(), LinesFault>
+    requires { length line.now ≤ longest_line }
+    ensures counted { OnOk result
+        (IsCounted A link line.now counts.old.refused counts.new.refused) }
+{
+    if let Some(is_message) = answer_line(alloc, link, number, line, out)? {
+        counts.add(is_message);
+    }
+    Ok(())
+}
+
+/// Reads the next line, answers and counts it; whether there was one.
+fn answer_next<A: Allocator + Copy, R: BufRead, W: Write>(
+    alloc: A,
+    link: Option<Link>,
+    number: u64,
+    reader: &mut R,
+    line: &mut Vec<u8, A>,
+    counts: &mut Counts,
+    out: &mut W,
+) -> Result<bool, LinesFault>
+    ensures line { result ≡ Ok true → CountsFirst A link (R.remaining reader.old)
+        (R.remaining reader.new) counts.old.refused counts.new.refused }
+    ensures end { result ≡ Ok false → IsAtEnd (R.remaining reader.old) }
+    ensures kept { result ≡ Ok false → counts.new.refused ≡ counts.old.refused }
+{
+    match next_line(reader, line).map_err(|error| unread(error))? {
+        Found::End => Ok(false),
+        Found::TooLong => {
+            writeln!(out, "{number} long")?;
+            counts.add(false);
+            Ok(true)
+        }
+        Found::Line => {
+            count_line(alloc, link, number, line, counts, out)?;
+            Ok(true)
+        }
+    }
+}
+
 /// Reads lines to their end and answers each by one line: its number, counted from 1, what its octets say or why it is
 /// refused, and its note, which is what stands behind its first `#`. Lines of blanks and tabs alone, and those of a note
 /// alone, have no answer.
@@ -165,25 +218,21 @@ pub fn answer_lines<A: Allocator + Copy, R: BufRead, W: Write>(
     link: Option<Link>,
     reader: &mut R,
     out: &mut W,
-) -> Result<Counts, LinesFault> {
+) -> Result<Counts, LinesFault>
+    ensures all { IfOk result (λ counts. counts.refused ≡ 0 →
+        IfSome (R.remaining reader.old) (AreGood A link)) }
+    ensures one { IfOk result (λ counts. counts.refused ≢ 0 →
+        IfSome (R.remaining reader.old) (λ octets. AreGood A link octets → ⊥)) }
+{
     let mut line = Vec::new(alloc);
     let mut counts = Counts {
         messages: 0,
         refused: 0,
     };
     for number in 1..u64::MAX {
-        match next_line(reader, &mut line).map_err(|error| unread(error))? {
-            Found::End => return Ok(counts),
-            Found::TooLong => {
-                writeln!(out, "{number} long")?;
-                counts.add(false);
-            }
-            Found::Line => {
-                if let Some(is_message) = answer_line(alloc, link, number, &line, out)? {
-                    counts.add(is_message);
-                }
-            }
+        if !answer_next(alloc, link, number, reader, &mut line, &mut counts, out)? {
+            return Ok(counts);
         }
     }
-    Ok(counts)
+    Err(LinesFault::Read(io::Error::from(io::ErrorKind::Other)))
 }

@@ -1,2 +1,2 @@
 mod OctetLemmas
-mod ReadingLemmas
+pub mod ReadingLemmas

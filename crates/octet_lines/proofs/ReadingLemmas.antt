@@ -1,7 +1,8 @@
 -- Lines of what a reader has left.
-use Rattle.std.proofs.Common.{◌≡◌, ◌≢◌, ◌⊎◌, inl, inr, ℕ, zero, suc, ◌+◌, ◌<◌, ◌≤◌, Bool, true, false, cond, not, List, [], ◌∷◌, ◌++◌, Option, Some, None, IfSome, refl, sym, ap, subst, ◌∙◌, append_assoc, append-nil, arith, rules, length, take, drop, length-append, length-take, length-take-le, take_all, take_at, take-take, drop_at, take-append-drop, nat_lt}
+use Rattle.std.proofs.Common.{◌≡◌, ◌≢◌, ◌⊎◌, inl, inr, ℕ, zero, suc, ◌+◌, ◌<◌, ◌≤◌, Bool, true, false, cond, not, List, [], ◌∷◌, ◌++◌, Option, Some, None, IfSome, All, refl, sym, ap, subst, ◌∙◌, append_assoc, append-nil, arith, rules, length, take, drop, length-append, length-take, length-take-le, take_all, take_at, take-take, drop_at, take-append-drop, nat_lt}
 use Rattle.std.proofs.lemmas.List.{take-append-le, drop-drop, nil_from_length}
 use Rattle.std.proofs.lemmas.List.Folds.{list_any-append}
+use Rattle.std.proofs.lemmas.List.Elements.{All-nil, All-cons}
 use Rattle.std.proofs.lemmas.Bool.{cases_Bool}
 use Rattle.std.proofs.lemmas.Bool.Decides.{nat_tests}
 use Rattle.std.proofs.KnownBytes.{Consumes-kept, Consumes-trans, starts_with_rest}
@@ -13,7 +14,7 @@ use Rattle.octet_lines.specs.declared.reader.Found.TheVariants as found
 use Rattle.octet_lines.specs.declared.reader.Part.TheVariants as part
 
 -- where one passes, the first that does has a place
-place_within : (f : ℕ → Bool) (xs : List ℕ) → list_any f xs ≡ true → position_or_len f xs < length xs
+pub place_within : (f : ℕ → Bool) (xs : List ℕ) → list_any f xs ≡ true → position_or_len f xs < length xs
 place_within f [] some = absurd cc
 place_within f (x ∷ xs) some = elim (cases_Bool (f x)) [
   | inl e ↦ rw e (omega arith)
@@ -26,6 +27,18 @@ place_behind f [] ys none = omega arith
 place_behind f (x ∷ xs) ys none = elim (cases_Bool (f x)) [
   | inl e ↦ absurd (let b : true ≡ false = rw e at none in cc)
   | inr e ↦ let more : list_any f xs ≡ false = rw e at none in rw e (omega (arith, place_behind f xs ys more))
+]
+
+-- where none passes, the place is behind all
+pub place_none : (f : ℕ → Bool) (xs : List ℕ) → list_any f xs ≡ false → position_or_len f xs ≡ length xs
+place_none f xs none = omega (arith, place_behind f xs [] none, ap (position_or_len f) (append-nil xs))
+
+-- and each of them doesn't
+pub none_passes : (f : ℕ → Bool) (xs : List ℕ) → list_any f xs ≡ false → All (λ x. f x ≡ false) xs
+none_passes f [] none = All-nil (λ x. f x ≡ false)
+none_passes f (x ∷ xs) none = elim (cases_Bool (f x)) [
+  | inl e ↦ absurd (let b : true ≡ false = rw e at none in cc)
+  | inr e ↦ let more : list_any f xs ≡ false = rw e at none in All-cons (λ x. f x ≡ false) x xs e (none_passes f xs more)
 ]
 
 -- what follows one that passes changes no place
@@ -44,7 +57,7 @@ found_place f xs place e = elim (cases_Bool (list_any f xs)) [
       let is : Some (position_or_len f xs) ≡ Some place = rw within at e in
       (some, cc)
   | inr none ↦
-      let past : position_or_len f xs ≡ length xs = omega (arith, place_behind f xs [] none, ap (position_or_len f) (append-nil xs)) in
+      let past : position_or_len f xs ≡ length xs = place_none f xs none in
       let without : nat_lt (position_or_len f xs) (length xs) ≡ false = grind (arith, nat_tests) in
       let is : None ≡ Some place = rw without at e in
       absurd cc
