@@ -6,7 +6,8 @@ use Rattle.std.proofs.lemmas.List.Splits.{slice_split_first, slice_split_none}
 use Rattle.std.proofs.lemmas.Bool.{cases_Bool}
 use Rattle.std.specs.List.{list_any, position_or_len, slice_split}
 use Rattle.std.specs.Io.KnownBytes.{IsAtEnd}
-use Rattle.octet_lines.specs.Reading.{is_feed, first_line, behind_line}
+use Rattle.octet_lines.specs.declared.reader.Found.TheVariants as found
+use Rattle.octet_lines.specs.Reading.{is_feed, longest_line, first_line, behind_line, Gives}
 use Rattle.octet_lines.proofs.ReadingLemmas.{place_within, place_none, none_passes}
 use Rattle.decoded_lines.specs.declared.messages.Link.{Link}
 use Rattle.decoded_lines.specs.Answers.{IsGood, AreGood, IsCounted, CountsFirst}
@@ -80,6 +81,24 @@ follows_next A given (Some octets) (Some ys) next before with_it (left, is, to, 
     let same : ys ≡ left = cc in
     let on = counted_on A given octets left before with_it to from (subst (λ (l : List ℕ). IsCounted A given (first_line l) before with_it) same counted) in
     (behind_line left, behind ∙ ap (λ l. Some (behind_line l)) same, on.0, on.1)
+
+-- the first line, as it was read
+pub counts_line : (A : Type 0) (given : Option Link) (old new : Option (List ℕ)) (line : List ℕ) (before with_it : ℕ)
+    → Gives found.Line old new line → IsCounted A given line before with_it → CountsFirst A given old new before with_it
+counts_line A given None new line before with_it gives counted = tt
+counts_line A given (Some octets) new line before with_it (some, short, is, left) counted =
+    (some, subst (λ (l : List ℕ). IsCounted A given l before with_it) is counted, left)
+
+-- a line that is too long
+pub counts_long : (A : Type 0) (given : Option Link) (old new : Option (List ℕ)) (line : List ℕ) (before with_it : ℕ)
+    → Gives found.TooLong old new line → with_it ≢ 0 → CountsFirst A given old new before with_it
+counts_long A given None new line before with_it gives more = tt
+counts_long A given (Some octets) new line before with_it (long, is, left) more =
+    (λ none. some octets long none, inr (λ good. absurd (omega (arith, good.0, long)), more), left)
+  where
+    some : (xs : List ℕ) → longest_line < length (first_line xs) → xs ≢ []
+    some [] long' none = absurd (omega (arith, long'))
+    some (x ∷ xs) long' none = absurd cc
 
 -- no line is left
 pub follows_end : (A : Type 0) (given : Option Link) (old new : Option (List ℕ)) (refused : ℕ) → Follows A given old new refused → IsAtEnd new

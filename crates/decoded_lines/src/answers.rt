@@ -1,8 +1,8 @@
 //! Answers to lines of octet texts, one by one.
-ghost use Rattle.std.specs.Prelude.{◌≡◌, ◌≢◌, ◌≤◌, length, Ok, Some, None, true, false, OnOk, IfOk, IfSome, is_none};
+ghost use Rattle.std.specs.Prelude.{◌≡◌, ◌≢◌, ◌≤◌, length, vec_len, Ok, Some, None, true, false, OnOk, IfOk, IfSome, is_none};
 ghost use Rattle.std.specs.Io.KnownBytes.{IsAtEnd};
 ghost use Rattle.octet_lines.specs.Lines.{is_blank};
-ghost use Rattle.octet_lines.specs.Reading.{longest_line};
+ghost use Rattle.octet_lines.specs.Reading.{longest_line, Gives};
 ghost use Rattle.decoded_lines.specs.Answers.{WritesMessage, TextSays, LineSays, IsCounted, CountsFirst, AreGood};
 
 use crate::messages::{Link, PrintFault, link_named, print_message};
@@ -157,6 +157,21 @@ fn unread(error: io::Error) -> LinesFault {
     }
 }
 
+/// Reads the next line.
+fn read_next<A: Allocator, R: BufRead>(
+    reader: &mut R,
+    line: &mut Vec<u8, A>,
+) -> Result<Found, LinesFault>
+    ensures fits { result ≡ Ok Found.Line → vec_len line.new ≤ longest_line }
+    ensures found { IfOk result (λ found. Gives found (R.remaining reader.old)
+        (R.remaining reader.new) line.new.items) }
+{
+    match next_line(reader, line) {
+        Ok(found) => Ok(found),
+        Err(error) => Err(unread(error)),
+    }
+}
+
 /// Answers a line, and counts it.
 fn count_line<A: Allocator + Copy, W: Write>(
     alloc: A,
@@ -191,7 +206,7 @@ fn answer_next<A: Allocator + Copy, R: BufRead, W: Write>(
     ensures end { result ≡ Ok false → IsAtEnd (R.remaining reader.old) }
     ensures kept { result ≡ Ok false → counts.new.refused ≡ counts.old.refused }
 {
-    match next_line(reader, line).map_err(|error| unread(error))? {
+    match read_next(reader, line)? {
         Found::End => Ok(false),
         Found::TooLong => {
             writeln!(out, "{number} long")?;

@@ -110,6 +110,7 @@ pub fn next_line<R: BufRead, A: Allocator>(
     line: &mut Vec<u8, A>,
 ) -> io::Result<Found>
     ensures bounded { vec_len line.new ≤ said.most_kept }
+    ensures fits { result ≡ Ok Found.Line → vec_len line.new ≤ said.longest_line }
     ensures found { IfOk result (λ found. said.Gives found (R.remaining reader.old)
         (R.remaining reader.new) line.new.items) }
 {
