@@ -3,7 +3,7 @@ use Rattle.std.proofs.Common.{◌≡◌, ◌≢◌, ◌⊎◌, inl, inr, ℕ, �
 use Rattle.std.proofs.lemmas.List.{drop_all}
 use Rattle.std.proofs.lemmas.List.Elements.{All-nil, All-cons, All-head, All-tail}
 use Rattle.std.proofs.lemmas.List.Splits.{slice_split_first, slice_split_none}
-use Rattle.std.proofs.lemmas.Bool.{cases_Bool}
+use Rattle.std.proofs.lemmas.Bool.{cases_Bool, true≢false}
 use Rattle.std.specs.List.{list_any, position_or_len, slice_split}
 use Rattle.std.specs.Io.KnownBytes.{IsAtEnd}
 use Rattle.octet_lines.specs.declared.reader.Found.TheVariants as found
@@ -26,7 +26,7 @@ left_none octets none = drop_all (position_or_len is_feed octets + 1) octets (om
 
 module _ (A : Type 0) (given : Option Link) where
   good_nothing : IsGood A given []
-  good_nothing = (omega arith, λ blank. absurd cc)
+  good_nothing = (omega arith, λ blank. absurd (true≢false blank))
 
   -- no octets are good lines
   pub good_none : AreGood A given []

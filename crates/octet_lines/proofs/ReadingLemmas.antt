@@ -3,8 +3,8 @@ use Rattle.std.proofs.Common.{◌≡◌, ◌≢◌, ◌⊎◌, inl, inr, ℕ, ze
 use Rattle.std.proofs.lemmas.List.{take-append-le, drop-drop, nil_from_length}
 use Rattle.std.proofs.lemmas.List.Folds.{list_any-append}
 use Rattle.std.proofs.lemmas.List.Elements.{All-nil, All-cons}
-use Rattle.std.proofs.lemmas.Bool.{cases_Bool}
-use Rattle.std.proofs.lemmas.Bool.Decides.{nat_tests}
+use Rattle.std.proofs.lemmas.Bool.{cases_Bool, true≢false, ltb-true, ltb-false}
+use Rattle.std.proofs.lemmas.Bool.Decides.{Decides-ltb}
 use Rattle.std.proofs.KnownBytes.{Consumes-kept, Consumes-trans, starts_with_rest}
 use Rattle.std.specs.List.{list_any, position, position_or_len, before_first, after_first}
 use Rattle.std.specs.Io.{StartsWith}
@@ -13,9 +13,16 @@ use Rattle.octet_lines.specs.Reading.{is_feed, longest_line, most_kept, kept, fi
 use Rattle.octet_lines.specs.declared.reader.Found.TheVariants as found
 use Rattle.octet_lines.specs.declared.reader.Part.TheVariants as part
 
+-- a number is below another, or not
+is_below : (a b : ℕ) → a < b → nat_lt a b ≡ true
+is_below a b h = (Decides-ltb a b).1 h
+
+not_below : (a b : ℕ) → b ≤ a → nat_lt a b ≡ false
+not_below a b h = elim (cases_Bool (nat_lt a b)) [ inl e ↦ absurd (omega (arith, ltb-true a b e, h)) | inr e ↦ e ]
+
 -- where one passes, the first that does has a place
 pub place_within : (f : ℕ → Bool) (xs : List ℕ) → list_any f xs ≡ true → position_or_len f xs < length xs
-place_within f [] some = absurd cc
+place_within f [] some = absurd (true≢false (sym some))
 place_within f (x ∷ xs) some = elim (cases_Bool (f x)) [
   | inl e ↦ rw e (omega arith)
   | inr e ↦ let more : list_any f xs ≡ true = rw e at some in rw e (omega (arith, place_within f xs more))
@@ -25,7 +32,7 @@ place_within f (x ∷ xs) some = elim (cases_Bool (f x)) [
 place_behind : (f : ℕ → Bool) (xs ys : List ℕ) → list_any f xs ≡ false → position_or_len f (xs ++ ys) ≡ length xs + position_or_len f ys
 place_behind f [] ys none = omega arith
 place_behind f (x ∷ xs) ys none = elim (cases_Bool (f x)) [
-  | inl e ↦ absurd (let b : true ≡ false = rw e at none in cc)
+  | inl e ↦ absurd (true≢false (rw e at none))
   | inr e ↦ let more : list_any f xs ≡ false = rw e at none in rw e (omega (arith, place_behind f xs ys more))
 ]
 
@@ -37,13 +44,13 @@ place_none f xs none = omega (arith, place_behind f xs [] none, ap (position_or_
 pub none_passes : (f : ℕ → Bool) (xs : List ℕ) → list_any f xs ≡ false → All (λ x. f x ≡ false) xs
 none_passes f [] none = All-nil (λ x. f x ≡ false)
 none_passes f (x ∷ xs) none = elim (cases_Bool (f x)) [
-  | inl e ↦ absurd (let b : true ≡ false = rw e at none in cc)
+  | inl e ↦ absurd (true≢false (rw e at none))
   | inr e ↦ let more : list_any f xs ≡ false = rw e at none in All-cons (λ x. f x ≡ false) x xs e (none_passes f xs more)
 ]
 
 -- what follows one that passes changes no place
 place_front : (f : ℕ → Bool) (xs ys : List ℕ) → list_any f xs ≡ true → position_or_len f (xs ++ ys) ≡ position_or_len f xs
-place_front f [] ys some = absurd cc
+place_front f [] ys some = absurd (true≢false (sym some))
 place_front f (x ∷ xs) ys some = elim (cases_Bool (f x)) [
   | inl e ↦ rw e refl
   | inr e ↦ let more : list_any f xs ≡ true = rw e at some in rw e (ap (λ n. 1 + n) (place_front f xs ys more))
@@ -53,13 +60,13 @@ place_front f (x ∷ xs) ys some = elim (cases_Bool (f x)) [
 found_place : (f : ℕ → Bool) (xs : List ℕ) (place : ℕ) → position f xs ≡ Some place → (list_any f xs ≡ true) × (position_or_len f xs ≡ place)
 found_place f xs place e = elim (cases_Bool (list_any f xs)) [
   | inl some ↦
-      let within : nat_lt (position_or_len f xs) (length xs) ≡ true = grind (arith, nat_tests, place_within f xs some) in
-      let is : Some (position_or_len f xs) ≡ Some place = rw within at e in
+      let within : nat_lt (position_or_len f xs) (length xs) ≡ true = is_below _ _ (place_within f xs some) in
+      let is : Some (position_or_len f xs) ≡ Some place = ap (λ b. cond b (Some (position_or_len f xs)) None) (sym within) ∙ e in
       (some, cc)
   | inr none ↦
       let past : position_or_len f xs ≡ length xs = place_none f xs none in
-      let without : nat_lt (position_or_len f xs) (length xs) ≡ false = grind (arith, nat_tests) in
-      let is : None ≡ Some place = rw without at e in
+      let without : nat_lt (position_or_len f xs) (length xs) ≡ false = not_below _ _ (omega (arith, past)) in
+      let is : None ≡ Some place = ap (λ b. cond b (Some (position_or_len f xs)) None) (sym without) ∙ e in
       absurd cc
 ]
 
@@ -67,8 +74,8 @@ found_place f xs place e = elim (cases_Bool (list_any f xs)) [
 no_place : (f : ℕ → Bool) (xs : List ℕ) → position f xs ≡ None → list_any f xs ≡ false
 no_place f xs e = elim (cases_Bool (list_any f xs)) [
   | inl some ↦
-      let within : nat_lt (position_or_len f xs) (length xs) ≡ true = grind (arith, nat_tests, place_within f xs some) in
-      let is : Some (position_or_len f xs) ≡ None = rw within at e in
+      let within : nat_lt (position_or_len f xs) (length xs) ≡ true = is_below _ _ (place_within f xs some) in
+      let is : Some (position_or_len f xs) ≡ None = ap (λ b. cond b (Some (position_or_len f xs)) None) (sym within) ∙ e in
       absurd cc
   | inr none ↦ none
 ]
@@ -143,7 +150,7 @@ read_more old new next is_begun line after (read, none, passed, keeps, begun) (m
       list_any-append is_feed read more ∙ rw (none, no_feed) refl,
       Consumes-trans old new next read more passed moved,
       grown ∙ ap (λ l. take most_kept (l ++ more)) keeps ∙ keep_more most_kept read more,
-      grind (arith, nat_tests),
+      sym (is_below 0 (length (read ++ more)) long),
     )
 
 -- a line that was read to its end is the first
@@ -154,10 +161,10 @@ gives_line xs next after some keeps left =
     let same = ap length keeps in
     elim (cases_Bool (nat_lt longest_line (length after))) [
       | inl e ↦
-          let more : longest_line < length after = grind (arith, nat_tests) in
+          let more : longest_line < length after = ltb-true longest_line (length after) e in
           rw e (omega (arith, more, long, same), keeps, ap Some left)
       | inr e ↦
-          let few : length after ≤ longest_line = grind (arith, nat_tests) in
+          let few : length after ≤ longest_line = ltb-false longest_line (length after) e in
           let all : length (first_line xs) ≤ longest_line = omega (arith, few, long, same) in
           rw e (some, all, keeps ∙ take_all most_kept (first_line xs) (omega arith), ap Some left)
     ]
@@ -192,7 +199,7 @@ gives_last (Some xs) (Some ys) (Some zs) is_begun line after yes (read, none, pa
     let first : first_line xs ≡ read = ap first_line is ∙ first_line-behind read [] none ∙ append-nil read in
     let behind : zs ≡ behind_line xs = same ∙ end ∙ sym (ap behind_line is ∙ behind_line-behind read [] none) in
     let begins : nat_lt 0 (length read) ≡ true = sym begun ∙ yes in
-    let more : 0 < length read = grind (arith, nat_tests) in
+    let more : 0 < length read = ltb-true 0 (length read) begins in
     let some : length xs ≢ 0 = λ e. absurd (omega (arith, ap length is, length-append read [], more)) in
     gives_line xs zs after (not_nil xs some) (stays ∙ keeps ∙ ap (take most_kept) (sym first)) behind
 
@@ -202,5 +209,5 @@ gives_end None new next is_begun line after no_line read end = tt
 gives_end (Some xs) None next is_begun line after no_line (read, none, passed, keeps, begun) end = absurd passed
 gives_end (Some xs) (Some ys) next is_begun line after no_line (read, none, passed, keeps, begun) (end, same, stays) =
     let begins : nat_lt 0 (length read) ≡ false = sym begun ∙ no_line in
-    let empty : length read ≡ 0 = grind (arith, nat_tests) in
+    let empty : length read ≡ 0 = omega (arith, ltb-false 0 (length read) begins) in
     passed ∙ ap (λ l. l ++ ys) (nil_from_length read empty) ∙ end
