@@ -1,4 +1,4 @@
-use Rattle.std.proofs.Common.{ℕ, ◌<◌, below_more, arith, sym, ◌∙◌}
+use Rattle.std.proofs.Common.{ℕ, below_more, arith, sym, ◌∙◌}
 use Rattle.std.proofs.lemmas.Bool.{true≢false}
 use Rattle.site_text.specs.Cells.{IsNeighbour}
 use Rattle.site_text.proofs.cells.has_neighbours.Goals as goal
