@@ -1,4 +1,4 @@
-use Rattle.std.proofs.Common.{◌≡◌, ◌≢◌, ◌+◌, ◌≤◌, length, arith, rules, subst, sym, Some, None}
+use Rattle.std.proofs.Common.{◌≡◌, ◌≢◌, ◌+◌, ◌≤◌, length, arith, rules, subst, refl, Some, None}
 use Rattle.std.specs.List.{position}
 use Rattle.std.specs.Io.BufRead.{FillKeeps}
 use Rattle.std.proofs.BufReadLemmas.{Consumes_shown}
@@ -19,17 +19,15 @@ returns-in_ok-keep-in-Some-clause-passed g c =
     let rested = c.fill_buf.follows.lender-at-none in
     let filled = subst (FillKeeps _ (g.R.Read.remaining rested) (g.R.BufRead.consumable_len rested)) c.in-Ok.is c.fill_buf.follows.holds-at-none in
     let found : position is_feed shown ≡ Some place = search rules in
-    let moved = Consumes_shown _ _ _ _ shown (place + 1) (feed_within shown place found) c.in-Ok.ensures.front c.in-Ok.ensures.end filled.0 filled.1 c.consume-in-Some.ensures.bytes in
+    let moved = Consumes_shown _ _ _ _ shown (place + 1) (feed_within shown place found) c.in-Ok.ensures.front c.in-Ok.ensures.end filled.0 filled.1 c.consume.ensures.bytes in
     passes_whole _ _ shown _ _ place found c.in-Ok.ensures.front moved.0 c.in_ok-keep-in-Some.ensures.kept
 
 pub returns-in_ok-keep-in-None-clause-passed : goal.returns-in_ok-keep-in-None-clause-passed
 returns-in_ok-keep-in-None-clause-passed g c =
     let shown = c.in-Ok.shown.now in
-    let count = c.len-count.result in
-    let all : count ≡ length shown = search rules in
     let rested = c.fill_buf.follows.lender-at-none in
     let filled = subst (FillKeeps _ (g.R.Read.remaining rested) (g.R.BufRead.consumable_len rested)) c.in-Ok.is c.fill_buf.follows.holds-at-none in
     let none : position is_feed shown ≡ None = search rules in
     let some : length shown ≢ 0 = grind (arith, c.is_empty.ensures, c.if-is_empty.false) in
-    let moved = Consumes_shown _ _ _ _ shown count (omega (arith, all)) c.in-Ok.ensures.front c.in-Ok.ensures.end filled.0 filled.1 c.consume-in-None.ensures.bytes in
-    passes_open _ _ shown _ _ count none some all moved.0 c.in_ok-keep-in-None.ensures.kept
+    let moved = Consumes_shown _ _ _ _ shown (length shown) (omega arith) c.in-Ok.ensures.front c.in-Ok.ensures.end filled.0 filled.1 c.consume-in-None.ensures.bytes in
+    passes_open _ _ shown _ _ (length shown) none some refl moved.0 c.in_ok-keep-in-None.ensures.kept
