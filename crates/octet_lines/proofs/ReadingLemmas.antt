@@ -1,6 +1,6 @@
 -- Lines of what a reader has left.
-use Rattle.std.proofs.Common.{◌≡◌, ◌≢◌, ◌⊎◌, inl, inr, ℕ, zero, suc, ◌+◌, ◌<◌, ◌≤◌, Bool, true, false, cond, not, List, [], ◌∷◌, ◌++◌, Option, Some, None, IfSome, All, refl, sym, ap, subst, ◌∙◌, append_assoc, append-nil, arith, rules, length, take, drop, length-append, length-take, length-take-le, take_all, take_at, take-take, drop_at, take-append-drop, nat_lt}
-use Rattle.std.proofs.lemmas.List.{take-append-le, drop-drop, nil_from_length}
+use Rattle.std.proofs.Common.{◌≡◌, ◌≢◌, ◌⊎◌, inl, inr, ℕ, zero, suc, ◌+◌, ◌-◌, ◌<◌, ◌≤◌, min, Bool, true, false, cond, not, List, [], ◌∷◌, ◌++◌, Option, Some, None, IfSome, All, refl, sym, ap, subst, ◌∙◌, append_assoc, append-nil, arith, rules, length, take, drop, length-append, length-take, length-take-le, take_all, take_at, take-take, drop_at, take-append-drop, nat_lt}
+use Rattle.std.proofs.lemmas.List.{take-append-le, drop-drop, nil_from_length, take_min}
 use Rattle.std.proofs.lemmas.List.Folds.{list_any-append}
 use Rattle.std.proofs.lemmas.List.Elements.{All-nil, All-cons}
 use Rattle.std.proofs.lemmas.Bool.{cases_Bool, true≢false, ltb-true, ltb-false}
@@ -104,6 +104,20 @@ keep_more zero xs ys = refl
 keep_more (suc m) [] ys = refl
 keep_more (suc m) (x ∷ xs) ys = ap (λ l. x ∷ l) (keep_more m xs ys)
 
+-- what of a part there is room for is what of the whole is kept
+pub keep_part : (m : ℕ) (xs ys : List ℕ) (n : ℕ) → length xs ≤ m → n ≡ min (length ys) (m - length xs) → xs ++ take n ys ≡ take m (xs ++ ys)
+keep_part m xs ys n within is =
+    let room = m - length xs in
+    let whole : m ≡ length xs + room = omega (arith, within) in
+    let same : n ≡ min room (length ys) = omega (arith, is) in
+    ap (λ k. xs ++ take k ys) same ∙ ap (λ l. xs ++ l) (take_min room ys) ∙ sym (ap (λ k. take k (xs ++ ys)) whole ∙ take_past xs ys room)
+
+-- a line feed that was found lies within
+pub feed_within : (xs : List ℕ) (place : ℕ) → position is_feed xs ≡ Some place → place + 1 ≤ length xs
+feed_within xs place found =
+    let parts = found_place is_feed xs place found in
+    omega (arith, place_within is_feed xs parts.0, parts.1)
+
 -- the part up to the line feed was passed over
 pub passes_whole : (old new : Option (List ℕ)) (shown before after : List ℕ) (place : ℕ)
     → position is_feed shown ≡ Some place → IfSome old (λ xs. StartsWith xs shown) → Consumes old new (take (place + 1) shown)
@@ -126,11 +140,11 @@ passes_whole (Some xs) (Some ys) shown before after place found front passed kee
     (any, keeps ∙ ap (kept before) (sym line), ap Some (sym left))
 
 -- the part without a line feed was passed over
-pub passes_open : (old new : Option (List ℕ)) (shown before after : List ℕ)
-    → position is_feed shown ≡ None → length shown ≢ 0 → Consumes old new (take (length shown) shown)
+pub passes_open : (old new : Option (List ℕ)) (shown before after : List ℕ) (n : ℕ)
+    → position is_feed shown ≡ None → length shown ≢ 0 → n ≡ length shown → Consumes old new (take n shown)
     → after ≡ kept before shown → Passes part.Open old new before after
-passes_open old new shown before after none some passed keeps =
-    (shown, no_place is_feed shown none, some, subst (Consumes old new) (take_all (length shown) shown (omega arith)) passed, keeps)
+passes_open old new shown before after n none some all passed keeps =
+    (shown, no_place is_feed shown none, some, subst (Consumes old new) (take_all n shown (omega (arith, all))) passed, keeps)
 
 -- what was read so far: octets without a line feed, of which the line keeps the front
 abbrev pub IsRead : Option (List ℕ) → Option (List ℕ) → Bool → List ℕ → Type 0
@@ -191,15 +205,15 @@ gives_whole (Some xs) (Some ys) next is_begun line after (read, none, passed, ke
 
 pub gives_last : (old new next : Option (List ℕ)) (is_begun : Bool) (line after : List ℕ) → is_begun ≡ true → IsRead old new is_begun line
     → Passes part.End new next line after → Gives (found_of (length after)) old next after
-gives_last None new next is_begun line after yes read end = gives_unknown (length after) next after
-gives_last (Some xs) None next is_begun line after yes (read, none, passed, keeps, begun) end = absurd passed
-gives_last (Some xs) (Some ys) None is_begun line after yes (read, none, passed, keeps, begun) (end, same, stays) = absurd same
-gives_last (Some xs) (Some ys) (Some zs) is_begun line after yes (read, none, passed, keeps, begun) (end, same, stays) =
+gives_last None new next is_begun line after begins read end = gives_unknown (length after) next after
+gives_last (Some xs) None next is_begun line after begins (read, none, passed, keeps, begun) end = absurd passed
+gives_last (Some xs) (Some ys) None is_begun line after begins (read, none, passed, keeps, begun) (end, same, stays) = absurd same
+gives_last (Some xs) (Some ys) (Some zs) is_begun line after begins (read, none, passed, keeps, begun) (end, same, stays) =
     let is : xs ≡ read ++ [] = passed ∙ ap (λ l. read ++ l) end in
     let first : first_line xs ≡ read = ap first_line is ∙ first_line-behind read [] none ∙ append-nil read in
     let behind : zs ≡ behind_line xs = same ∙ end ∙ sym (ap behind_line is ∙ behind_line-behind read [] none) in
-    let begins : nat_lt 0 (length read) ≡ true = sym begun ∙ yes in
-    let more : 0 < length read = ltb-true 0 (length read) begins in
+    let has : nat_lt 0 (length read) ≡ true = sym begun ∙ begins in
+    let more : 0 < length read = ltb-true 0 (length read) has in
     let some : length xs ≢ 0 = λ e. absurd (omega (arith, ap length is, length-append read [], more)) in
     gives_line xs zs after (not_nil xs some) (stays ∙ keeps ∙ ap (take most_kept) (sym first)) behind
 

@@ -47,6 +47,7 @@ fn feed_place(octets: &[u8]) -> Option<usize>
 /// Appends what of a part of a line is kept.
 fn keep<A: Allocator>(line: &mut Vec<u8, A>, part: &[u8]) -> Result<(), AllocError>
     requires { vec_len line.old ≤ said.most_kept }
+    ensures bounded { vec_len line.new ≤ said.most_kept }
     ensures kept { OnOk result (line.new.items ≡ said.kept line.old.items part.now) }
     ensures refused { OnErr result (line.new.items ≡ line.old.items) }
 {
