@@ -6,6 +6,7 @@ pub mod Blank
 pub mod Refusals
 pub mod Nine
 pub mod Positions
+pub mod Twice
 pub mod Unique
 pub mod Lookups
 pub mod Ordered

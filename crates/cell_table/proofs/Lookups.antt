@@ -1,12 +1,15 @@
 -- What a search over own and outside cells finds: the one cell that passes.
-use Rattle.std.proofs.Common.{◌≡◌, ◌↔◌, ℕ, ◌+◌, ◌-◌, ◌<◌, ◌≤◌, nat_lt, Bool, true, false, ◌==◌, if◌then◌else◌, length, Option, Some, None, option_map, slice_get, refl, sym, ◌∙◌, ap, arith}
+use Rattle.std.proofs.Common.{◌≡◌, ◌↔◌, ℕ, ◌+◌, ◌-◌, ◌<◌, ◌≤◌, nat_lt, Bool, true, false, ◌==◌, if◌then◌else◌, List, [], ◌∷◌, length, filter_map, Option, Some, None, option_map, slice_get, refl, sym, ◌∙◌, ap, arith}
 use Rattle.std.proofs.lemmas.Bool.{false≢true, and_parts, and_from}
 use Rattle.std.proofs.lemmas.Bool.Decides.{nat_tests}
 use Rattle.std.proofs.lemmas.Option.{same_Some, none-some, slice_get_within}
 use Rattle.std.specs.List.{position, list_any}
 use Rattle.cell_table.specs.declared.tables.CellIdentity.{CellIdentity}
 use Rattle.cell_table.specs.Site.{CellView, SiteView, identity_at, IsSite, IsCellOf}
-use Rattle.cell_table.specs.Rules.{has_twice, identities, same_codes, same_colour, has_carrier_twice, has_slot_twice, has_neighbour_twice, has_no_traffic, first_broken, broken_rule}
+use Rattle.cell_table.specs.Rules.{has_twice, identities, same_codes, same_colour, has_carrier_twice, has_slot_twice, has_neighbour_twice, has_no_traffic, fault_where, broken_rule}
+use Rattle.cell_table.specs.declared.fault.SiteFault.TheVariants.{Twice, NoTraffic}
+use Rattle.cell_table.specs.declared.fault.What.TheVariants as what
+use Rattle.cell_table.proofs.Twice.{IsLikeness, codes_likeness}
 use Rattle.cell_table.specs.Searches.{first_cell, own_or_outside, has_codes}
 use Rattle.cell_table.proofs.Positions.{position_is, position_none}
 use Rattle.cell_table.proofs.Unique.{one_cell}
@@ -61,14 +64,14 @@ not_missed test site cell is no_own no_outside = by (nat_lt cell 64) is.there
     by false e = false≢true (sym (position_none test site.outside (cell - 64) is.identity no_outside e) ∙ is.passes)
 
 -- the search answers the cell that passes, where no two of them that pass can be different cells
-pub first_cell_is : (test : CellIdentity → Bool) (alike : CellIdentity → CellIdentity → Bool) (site : SiteView) → length site.cells ≤ 64 → has_twice alike (identities site) ≡ false
+pub first_cell_is : (test : CellIdentity → Bool) (alike : CellIdentity → CellIdentity → Bool) → IsLikeness alike → (site : SiteView) → length site.cells ≤ 64 → has_twice alike (identities site) ≡ false
     → ((x y : CellIdentity) → test x ≡ true → test y ≡ true → alike x y ≡ true) → (cell : ℕ) → (first_cell test site ≡ Some cell) ↔ Passes test site cell
-first_cell_is test alike site few once likes cell = (found test site few cell, back)
+first_cell_is test alike like site few once likes cell = (found test site few cell, back)
   where
     by : (o : Option ℕ) → first_cell test site ≡ o → Passes test site cell → first_cell test site ≡ Some cell
     by (Some other) e is =
         let that = found test site few other e in
-        let same = one_cell alike site other cell that.identity is.identity once that.there is.there (likes that.identity is.identity that.passes is.passes) (likes is.identity that.identity is.passes that.passes) in
+        let same = one_cell alike like site other cell that.identity is.identity once that.there is.there (likes that.identity is.identity that.passes is.passes) in
         rw (← same) e
     by None e is = absurd (missed (position (λ (c : CellView). test c.identity) site.cells) (position test site.outside) refl refl e)
       where
@@ -123,7 +126,9 @@ cell_of_parts site lac ci cell = (there, back)
         record { identity = c; there = at; passes = and_from (c.lac == lac) (c.ci == ci) (same c.lac lac a) (same c.ci ci (same_Some c.ci ci b)) }
 
 -- a site names no cell twice, by its codes or by its colour
-broken_parts : (identity colour carrier slot neighbour : Bool) (silent : Option ℕ) → first_broken identity colour carrier slot neighbour silent ≡ None
+broken_parts : (identity colour carrier slot neighbour : Bool) (silent : Option ℕ) → slice_get (filter_map (λ fault. fault) (fault_where identity (Twice what.Identity)
+    ∷ fault_where colour (Twice what.Colour) ∷ fault_where carrier (Twice what.Carrier) ∷ fault_where slot (Twice what.Slot) ∷ fault_where neighbour (Twice what.Neighbour)
+    ∷ option_map NoTraffic silent ∷ [])) 0 ≡ None
     → (identity ≡ false) × (colour ≡ false) × (carrier ≡ false) × (slot ≡ false) × (neighbour ≡ false)
 broken_parts true b c d e silent none = absurd (none-some _ (sym none))
 broken_parts false true c d e silent none = absurd (none-some _ (sym none))
@@ -140,7 +145,7 @@ unbroken_parts site limits = broken_parts _ _ _ _ _ (position has_no_traffic sit
 -- the cell of a location area code and a cell identity
 pub cell_of_is : (site : SiteView) → IsSite site → (lac ci cell : ℕ) → (first_cell (has_codes lac ci) site ≡ Some cell) ↔ IsCellOf site lac ci cell
 cell_of_is site limits lac ci cell =
-    let (there, back) = first_cell_is (has_codes lac ci) same_codes site limits.within.cell_count.1 (unbroken_parts site limits).0 (codes_alike lac ci) cell in
+    let (there, back) = first_cell_is (has_codes lac ci) same_codes codes_likeness site limits.within.cell_count.1 (unbroken_parts site limits).0 (codes_alike lac ci) cell in
     let (parts, whole) = cell_of_parts site lac ci cell in
     (λ e. parts (there e), λ is. back (whole is))
 

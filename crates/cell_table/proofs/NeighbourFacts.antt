@@ -13,6 +13,7 @@ use Rattle.cell_table.specs.Neighbours.{all_carriers, neighbour_list, neighbour_
 use Rattle.cell_table.specs.Searches.{stands_before, is_at, has_bsic, is_named, first_cell, first_named}
 use Rattle.cell_table.proofs.Ordered.{is_in, IsInOrder, count_in_order, stands_at, comes_after}
 use Rattle.cell_table.proofs.SiteFacts.{got}
+use Rattle.cell_table.proofs.Twice.{colour_likeness}
 use Rattle.cell_table.proofs.Unique.{none_at}
 use Rattle.cell_table.proofs.Lookups.{Passes, first_cell_is, unbroken_parts, identity_of_part}
 
@@ -206,7 +207,7 @@ named_is site limits serving place bsic cell = by (slice_get site.cells serving)
         searched = ap (λ o. option_and_then (λ ba. first_cell (is_named ba place bsic) site) (option_map (λ (c : CellView). c.ba) o)) at
 
         found : (first_cell (is_named own.ba place bsic) site ≡ Some cell) ↔ Passes (is_named own.ba place bsic) site cell
-        found = first_cell_is (is_named own.ba place bsic) same_colour site limits.within.cell_count.1 (unbroken_parts site limits).1 (named_alike own.ba place bsic (ba_small site limits serving own at) (ba_once site limits serving own at)) cell
+        found = first_cell_is (is_named own.ba place bsic) same_colour colour_likeness site limits.within.cell_count.1 (unbroken_parts site limits).1 (named_alike own.ba place bsic (ba_small site limits serving own at) (ba_once site limits serving own at)) cell
 
         in_list : Passes (is_named own.ba place bsic) site cell ↔ IsNamedCell site serving place bsic cell
         in_list = named_in site limits serving place bsic cell own at

@@ -7,6 +7,7 @@ use Rattle.std.proofs.lemmas.List.Elements.{All-take, All-head, All-tail}
 use Rattle.std.proofs.lemmas.Map.Steps.{length-le_from_distinct_below}
 use Rattle.std.specs.List.{list_any, IsDistinct, AllByRecursion}
 use Rattle.cell_table.specs.Rules.{has_twice}
+use Rattle.cell_table.proofs.Twice.{once_parts, same_number}
 use Rattle.cell_table.specs.Laws.{NineNameOneTwice}
 
 none_same : (m : ℕ) (xs : List ℕ) → list_any (λ n. n == m) xs ≡ false → AllByRecursion (λ y. (m == y) ≡ false) xs
@@ -21,10 +22,8 @@ distinct : (xs : List ℕ) → has_twice (λ m n. n == m) xs ≡ false → IsDis
 unfolding IsDistinct
 distinct [] once = tt
 distinct (x ∷ xs) once =
-    elim (cases_Bool (list_any (λ n. n == x) xs)) [
-      | inl same ↦ absurd (false≢true (sym once ∙ rw same refl))
-      | inr other ↦ (none_same x xs other, distinct xs (rw other at once))
-    ]
+    let (new, rest) = once_parts (λ m n. n == m) same_number x xs once in
+    (none_same x xs new, distinct xs rest)
 
 member_below : (xs : List ℕ) → All (λ n. n < 8) xs → (q : ℕ) → list_any (◌==◌ q) xs ≡ true → q < 8
 member_below [] all q member = absurd (false≢true member)

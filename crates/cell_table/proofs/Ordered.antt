@@ -6,6 +6,7 @@ use Rattle.std.proofs.lemmas.Option.{same_Some, none-some}
 use Rattle.std.proofs.lemmas.List.Sums.{sum_by-cons}
 use Rattle.std.specs.List.{list_any, AllByRecursion}
 use Rattle.cell_table.specs.Rules.{has_twice}
+use Rattle.cell_table.proofs.Twice.{once_parts, same_number}
 
 -- the number is one of the list
 abbrev pub is_in : List ℕ → ℕ → Bool
@@ -103,7 +104,7 @@ counted : (before : ℕ → ℕ → Bool) (f : ℕ → Bool) (order some : List 
     → has_twice (λ m n. n == m) some ≡ false → count f some ≡ count (λ n. f n && is_in some n) order
 counted before f order [] sorted all once = sym (count_none (λ n. f n && false) order (all_by (λ n. (f n && false) ≡ false) (λ n. and_right (f n) false refl) order))
 counted before f order (x ∷ some) sorted all once =
-    let (new, rest) = or_parts (list_any (λ n. n == x) some) (has_twice (λ m n. n == m) some) once in
+    let (new, rest) = once_parts (λ m n. n == m) same_number x some once in
     ap (λ n. cond (f x) 1 0 + n) (counted before f order some sorted all.1 rest)
     ∙ sym (one_more before f (is_in some) x order sorted all.0 new)
 

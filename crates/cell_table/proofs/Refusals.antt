@@ -1,15 +1,16 @@
 -- What a document says is a site or the first check that it fails: no check answers that memory was refused.
-use Rattle.std.proofs.Common.{ℕ, Bool, true, false, ◌==◌, List, Option, Some, None, option_map, Ok, Err, length}
-use Rattle.std.specs.List.{list_all}
+use Rattle.std.proofs.Common.{ℕ, Bool, true, false, ◌==◌, List, [], ◌∷◌, filter_map, slice_get, Option, Some, None, option_map, Ok, Err, length}
+use Rattle.std.specs.List.{list_all, position}
 use Rattle.toml.specs.Data.{Data, get, as_array}
 use Rattle.cell_table.specs.declared.fault.Key.{Key}
 use Rattle.cell_table.specs.declared.fault.Key.TheVariants as key
-use Rattle.cell_table.specs.declared.fault.SiteFault.TheVariants.{Missing, Range}
+use Rattle.cell_table.specs.declared.fault.SiteFault.TheVariants.{Missing, Range, Twice, NoTraffic}
+use Rattle.cell_table.specs.declared.fault.What.TheVariants as what
 use Rattle.cell_table.specs.declared.ranges.Allowed.{Allowed}
 use Rattle.cell_table.specs.Limits.{most_neighbours}
 use Rattle.cell_table.specs.Ranges.{up_to, allowed, arfcn_range, tch_range}
 use Rattle.cell_table.specs.Site.{SiteView}
-use Rattle.cell_table.specs.Rules.{broken_rule, first_broken, unbroken, checked}
+use Rattle.cell_table.specs.Rules.{has_no_traffic, broken_rule, fault_where, unbroken, checked}
 use Rattle.cell_table.specs.SiteFile.{Read, ◌>>=◌, is_allowed, allowed_number, number_of, number_within, number_at, value_at, array_of, entries_of, counted, all_tables, tables_of, is_table, key_name, handover_of, handover_at, identity_of, ba_of, first_nine, tch_of, trx_of, all_trx_of, cell_of, cells_of, outside_of, site_of}
 use Rattle.cell_table.proofs.Chains.{IsJudged, judged-ok, judged-bind, judged-ok_or, judged-if, judged-each}
 
@@ -106,7 +107,9 @@ judged_outside_of None = judged-ok _
 judged_outside_of (Some v) =
     judged-bind _ _ (judged_tables_of key.Outside v) (λ ds. judged-each (λ place. identity_of) (λ n d'. judged_identity_of d') 0 ds)
 
-judged_broken : (b1 b2 b3 b4 b5 : Bool) (silent : Option ℕ) (site : SiteView) → IsJudged (unbroken site (first_broken b1 b2 b3 b4 b5 silent))
+judged_broken : (b1 b2 b3 b4 b5 : Bool) (silent : Option ℕ) (site : SiteView) → IsJudged (unbroken site (slice_get (filter_map (λ fault. fault) (fault_where b1 (Twice what.Identity)
+    ∷ fault_where b2 (Twice what.Colour) ∷ fault_where b3 (Twice what.Carrier) ∷ fault_where b4 (Twice what.Slot) ∷ fault_where b5 (Twice what.Neighbour)
+    ∷ option_map NoTraffic silent ∷ [])) 0))
 judged_broken true b2 b3 b4 b5 silent site = record { never = λ e. cc }
 judged_broken false true b3 b4 b5 silent site = record { never = λ e. cc }
 judged_broken false false true b4 b5 silent site = record { never = λ e. cc }
@@ -117,7 +120,7 @@ judged_broken false false false false false None site = judged-ok _
 
 judged_checked : (site : SiteView) → IsJudged (checked site)
 unfolding broken_rule
-judged_checked site = judged_broken _ _ _ _ _ _ site
+judged_checked site = judged_broken _ _ _ _ _ (position has_no_traffic site.cells) site
 
 pub judged_site_of : (d : Data) → IsJudged (site_of d)
 unfolding site_of

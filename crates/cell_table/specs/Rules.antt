@@ -1,5 +1,5 @@
 -- What has to hold of the cells of a site together, each rule looked at over the whole file before the next.
-use Rattle.std.specs.Prelude.{ℕ, ◌==◌, Bool, true, false, ◌&&◌, ◌||◌, Option, Some, None, Result, Ok, Err, List, [], ◌∷◌, ◌++◌, map}
+use Rattle.std.specs.Prelude.{ℕ, ◌==◌, nat_lt, Bool, true, false, ◌&&◌, if◌then◌else◌, Option, Some, None, option_map, Result, Ok, Err, List, [], ◌∷◌, ◌++◌, map, count_by, filter_map, slice_get}
 use Rattle.std.specs.List.{list_any, list_all, position}
 use Rattle.cell_table.specs.declared.fault.SiteFault.{SiteFault}
 use Rattle.cell_table.specs.declared.fault.SiteFault.TheVariants.{Twice, NoTraffic}
@@ -7,10 +7,9 @@ use Rattle.cell_table.specs.declared.fault.What.TheVariants as what
 use Rattle.cell_table.specs.declared.tables.CellIdentity.{CellIdentity}
 use Rattle.cell_table.specs.Views.{CellView, SiteView}
 
--- two of them are alike: one is like one that comes after it
+-- two entries of a list are alike: there is one that more than one entry, itself and another, is like
 abbrev pub has_twice : {A : Type 0} → (A → A → Bool) → List A → Bool
-has_twice alike [] = false
-has_twice alike (x ∷ xs) = list_any (alike x) xs || has_twice alike xs
+has_twice alike xs = list_any (λ x. nat_lt 1 (count_by (alike x) xs)) xs
 
 -- one location area code and cell identity (TS 23.003 clause 4.3)
 abbrev pub same_codes : CellIdentity → CellIdentity → Bool
@@ -45,21 +44,28 @@ is_empty_list (x ∷ xs) = false
 abbrev pub has_no_traffic : CellView → Bool
 has_no_traffic c = list_all (λ t. is_empty_list t.tch) c.trx
 
--- the rules in their order; the first that is broken
-abbrev pub first_broken : Bool → Bool → Bool → Bool → Bool → Option ℕ → Option SiteFault
-first_broken true colour carrier slot neighbour silent = Some (Twice what.Identity)
-first_broken false true carrier slot neighbour silent = Some (Twice what.Colour)
-first_broken false false true slot neighbour silent = Some (Twice what.Carrier)
-first_broken false false false true neighbour silent = Some (Twice what.Slot)
-first_broken false false false false true silent = Some (Twice what.Neighbour)
-first_broken false false false false false (Some cell) = Some (NoTraffic cell)
-first_broken false false false false false None = None
+-- the fault, where its rule is broken
+abbrev pub fault_where : Bool → SiteFault → Option SiteFault
+fault_where broken fault = if broken then Some fault else None
 
--- the first rule that a site breaks
+-- what each rule finds in a site, in the order of the rules
+abbrev pub findings : SiteView → List (Option SiteFault)
+findings site =
+    fault_where (has_twice same_codes (identities site)) (Twice what.Identity)
+    ∷ fault_where (has_twice same_colour (identities site)) (Twice what.Colour)
+    ∷ fault_where (list_any has_carrier_twice site.cells) (Twice what.Carrier)
+    ∷ fault_where (list_any has_slot_twice site.cells) (Twice what.Slot)
+    ∷ fault_where (list_any has_neighbour_twice site.cells) (Twice what.Neighbour)
+    ∷ option_map NoTraffic (position has_no_traffic site.cells)
+    ∷ []
+
+-- all faults of a site, in that order
+abbrev pub faults : SiteView → List SiteFault
+faults site = filter_map (λ fault. fault) (findings site)
+
+-- the fault that a site is refused for: the first that it has
 unfoldable pub broken_rule : SiteView → Option SiteFault
-broken_rule site =
-    first_broken (has_twice same_codes (identities site)) (has_twice same_colour (identities site)) (list_any has_carrier_twice site.cells)
-    (list_any has_slot_twice site.cells) (list_any has_neighbour_twice site.cells) (position has_no_traffic site.cells)
+broken_rule site = slice_get (faults site) 0
 
 -- a site that breaks none
 abbrev pub unbroken : SiteView → Option SiteFault → Result SiteView SiteFault

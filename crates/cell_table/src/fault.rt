@@ -5,24 +5,46 @@ use std::alloc::AllocError;
 use std::fmt;
 use thiserror::Error;
 
-/// A key of a site file.
+/// A key of a site file. Which numbers each allows says [`Key::allowed`].
 #[derive(Clone, Copy, Debug, PartialEq, Eq)]
 pub enum Key {
+    /// A table: when a neighbour is a candidate for a handover. The rule is ours, of no standard.
     Handover,
+    /// How many measurement reports are looked at together; a mobile on a traffic channel sends one each 480 ms
+    /// (TS 45.008 clause 8.4.1).
     Window,
+    /// By how many steps of RXLEV, of 1 dB each (TS 45.008 clause 8.1.4), a neighbour has to be better than the serving
+    /// cell on average over the window.
     Margin,
+    /// The RXLEV (TS 45.008 clause 8.1.4) that a neighbour has to have at least on average over the window.
     Minimum,
+    /// Tables: the own cells.
     Cell,
+    /// Location area code of a cell (TS 23.003 clause 4.1). The codes 0 and 65534, which the standard reserves, are read
+    /// too.
     Lac,
+    /// Cell identity within the location area (TS 23.003 clause 4.3.1).
     Ci,
+    /// The carrier with the broadcast channels of a cell, an ARFCN (TS 45.005 clause 2).
     Bcch,
+    /// Network colour code of a cell (TS 23.003 clause 4.3.2).
     Ncc,
+    /// Base station colour code of a cell (TS 23.003 clause 4.3.2).
     Bcc,
+    /// The power control level that an arriving mobile begins with: a number of the table in TS 45.005 clause 4.1.1, not
+    /// dBm; what it stands for depends on the band.
     Power,
+    /// The BA list of a cell: the ARFCNs of the BCCH carriers that its mobiles report on (TS 44.018 clause 10.5.2.22), at
+    /// most 32.
     Ba,
+    /// Tables: the TRX of a cell.
     Trx,
+    /// The carrier of a TRX, an ARFCN (TS 45.005 clause 2); of a cell's first TRX its `bcch`.
     Arfcn,
+    /// The timeslots of a TRX that carry traffic (TS 45.002 clause 4.3.2); not timeslot 0 of a cell's first TRX, which
+    /// carries the broadcast channels (TS 45.002 clause 7).
     Tch,
+    /// Tables: cells of other controllers. The one key that may be absent.
     Outside,
 }
 

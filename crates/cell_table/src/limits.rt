@@ -1,7 +1,7 @@
 //! How much a site may have, and how great its numbers may be. Each limit stands here once, and once among the definitions
 //! (law [`limits_are_those_defined`](crate::laws::limits_are_those_defined)).
 
-/// The most own cells of a site.
+/// The most own cells of a site. How many a site may have is our own choice, here and at outside cells and TRX.
 pub const MOST_CELLS: usize = 64;
 
 /// The most outside cells of a site.
@@ -16,13 +16,13 @@ pub const MOST_TRX: usize = 4;
 /// The timeslots of a TRX, numbered from 0 (TS 45.002 clause 4.3.2).
 pub const TIMESLOTS_OF_TRX: usize = 8;
 
-/// The most carriers of a BA list.
+/// The most carriers of a BA list: a report names a position in it by five bits (TS 44.018 clause 10.5.2.20).
 pub const MOST_NEIGHBOURS: usize = 32;
 
-/// The most reports of a window.
+/// The most reports of a window: our own choice.
 pub const MOST_REPORTS: usize = 32;
 
-/// The greatest RXLEV (TS 45.008 clause 8.1.4).
+/// The greatest RXLEV, a level in steps of 1 dB (TS 45.008 clause 8.1.4).
 pub const MOST_LEVEL: u16 = 63;
 
 /// The greatest location area code and cell identity: each has two octets (TS 23.003 clauses 4.1 and 4.3.1).
@@ -34,5 +34,5 @@ pub const MOST_CARRIER: u16 = 1023;
 /// The greatest network and base station colour code: each has three bits (TS 23.003 clause 4.3.2).
 pub const MOST_COLOUR: u16 = 7;
 
-/// The greatest power level (TS 45.005 clause 4.1.1).
+/// The greatest power control level (TS 45.005 clause 4.1.1).
 pub const MOST_POWER: u16 = 31;

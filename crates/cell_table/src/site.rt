@@ -66,7 +66,8 @@ impl<A: Allocator> Eq for Site<A> {
 }
 
 impl<A: Allocator + Copy> Site<A> {
-    /// Reads a site file, a TOML text with these keys; any other key is ignored.
+    /// Reads a site file, a TOML text with these keys; any other key is ignored. What each is, in which unit and by which
+    /// clause of a standard, says [`Key`].
     ///
     /// - A table `handover`: `window` (1 to 32 reports), `margin` and `minimum` (0 to 63 each).
     /// - An array `cell` of 1 to 64 tables: `lac` and `ci` (0 to 65535), `bcch` (0 to 1023), `ncc` and `bcc` (0 to 7),
@@ -74,6 +75,9 @@ impl<A: Allocator + Copy> Site<A> {
     ///   `arfcn` (0 to 1023; in the first it is the cell's `bcch`) and `tch` (timeslots 0 to 7, but not 0 in the first).
     /// - An array `outside` of at most 64 tables, with `lac`, `ci`, `bcch`, `ncc` and `bcc` as in `cell`. It may be
     ///   absent.
+    ///
+    /// `tch` has no limit of its own: where there are more than eight, two are the same. How many cells and TRX a site may
+    /// have, and `window`, `margin` and `minimum`, are our own choice.
     ///
     /// The fault is the first check that fails: TOML, the keys in the order above (`cell` cell by cell, `trx` TRX by
     /// TRX), what may stand once only, each kind looked for over the whole file in the order of [`What`](crate::What),
@@ -127,21 +131,22 @@ impl<A: Allocator + Copy> Site<A> {
         self.tables.outside.len() as u8
     }
 
-    /// `window`: how many reports a window has.
+    /// `window`: how many measurement reports a window has, 1 to 32.
     pub fn window(&self) -> u8
         ensures value { result ≡ self.now.handover.window }
     {
         self.tables.handover.window
     }
 
-    /// `margin`: by how many levels a neighbour has to be better.
+    /// `margin`: by how many steps of RXLEV, of 1 dB each (TS 45.008 clause 8.1.4), a neighbour has to be better than the
+    /// serving cell on average over the window, 0 to 63.
     pub fn margin(&self) -> u8
         ensures value { result ≡ self.now.handover.margin }
     {
         self.tables.handover.margin
     }
 
-    /// `minimum`: the least level of a neighbour.
+    /// `minimum`: the least RXLEV (TS 45.008 clause 8.1.4) of a neighbour on average over the window, 0 to 63.
     pub fn minimum(&self) -> u8
         ensures value { result ≡ self.now.handover.minimum }
     {
@@ -155,50 +160,55 @@ impl<A: Allocator + Copy> Site<A> {
         identity_in(&self.tables, cell)
     }
 
-    /// `lac` of a cell, own or outside: its location area code; `None` where there is no such cell.
+    /// `lac` of a cell, own or outside: its location area code (TS 23.003 clause 4.1); `None` where there is no such
+    /// cell.
     pub fn lac(&self, cell: u8) -> Option<u16>
         ensures value { result ≡ option_map (λ c. c.lac) (identity_at self.now cell) }
     {
         Some(self.identity(cell)?.lac)
     }
 
-    /// `ci` of a cell, own or outside: its cell identity; `None` where there is no such cell.
+    /// `ci` of a cell, own or outside: its cell identity (TS 23.003 clause 4.3.1); `None` where there is no such cell.
     pub fn ci(&self, cell: u8) -> Option<u16>
         ensures value { result ≡ option_map (λ c. c.ci) (identity_at self.now cell) }
     {
         Some(self.identity(cell)?.ci)
     }
 
-    /// `bcch` of a cell, own or outside: its BCCH carrier; `None` where there is no such cell.
+    /// `bcch` of a cell, own or outside: its BCCH carrier, an ARFCN from 0 to 1023 (TS 45.005 clause 2); `None` where
+    /// there is no such cell.
     pub fn bcch(&self, cell: u8) -> Option<u16>
         ensures value { result ≡ option_map (λ c. c.bcch) (identity_at self.now cell) }
     {
         Some(self.identity(cell)?.bcch)
     }
 
-    /// `ncc` of a cell, own or outside: its network colour code; `None` where there is no such cell.
+    /// `ncc` of a cell, own or outside: its network colour code, 0 to 7 (TS 23.003 clause 4.3.2); `None` where there
+    /// is no such cell.
     pub fn ncc(&self, cell: u8) -> Option<u8>
         ensures value { result ≡ option_map (λ c. c.ncc) (identity_at self.now cell) }
     {
         Some(self.identity(cell)?.ncc)
     }
 
-    /// `bcc` of a cell, own or outside: its base station colour code; `None` where there is no such cell.
+    /// `bcc` of a cell, own or outside: its base station colour code, 0 to 7 (TS 23.003 clause 4.3.2), which is also
+    /// the training sequence code of its traffic channels (our own choice); `None` where there is no such cell.
     pub fn bcc(&self, cell: u8) -> Option<u8>
         ensures value { result ≡ option_map (λ c. c.bcc) (identity_at self.now cell) }
     {
         Some(self.identity(cell)?.bcc)
     }
 
-    /// `power` of an own cell: the power level that mobiles begin with (TS 45.005 clause 4.1.1); `None` where there is no such cell.
+    /// `power` of an own cell: the power control level that arriving mobiles begin with, 0 to 31: a number of the
+    /// table in TS 45.005 clause 4.1.1, not dBm; `None` where there is no such cell.
     pub fn power(&self, cell: u8) -> Option<u8>
         ensures value { result ≡ option_map (λ c. c.power) (slice_get self.now.cells cell) }
     {
         Some(self.tables.cells.get(cell as usize)?.power)
     }
 
-    /// `ba` of an own cell: its BA list, the BCCH carriers of its neighbours (TS 44.018 clause 10.5.2.22), in the site file's order; `None` where there is no such
-    /// cell.
+    /// `ba` of an own cell: its BA list, the ARFCNs of the BCCH carriers of its neighbours (TS 44.018 clause 10.5.2.22), at
+    /// most 32, in the site file's order; `None` where there is no such cell.
     pub fn ba(&self, cell: u8) -> Option<&[u16]>
         ensures value { option_map (λ found. found.now) result ≡
             option_map (λ c. c.ba) (slice_get self.now.cells cell) }
@@ -214,15 +224,16 @@ impl<A: Allocator + Copy> Site<A> {
         Some(self.tables.cells.get(cell as usize)?.trx.len() as u8)
     }
 
-    /// `arfcn` of a TRX of an own cell: its carrier; `None` where there is no such cell or TRX.
+    /// `arfcn` of a TRX of an own cell: its carrier, an ARFCN from 0 to 1023 (TS 45.005 clause 2); `None` where
+    /// there is no such cell or TRX.
     pub fn arfcn(&self, cell: u8, trx: u8) -> Option<u16>
         ensures value { result ≡ option_map (λ t. t.arfcn) (trx_at self.now cell trx) }
     {
         Some(trx_in(&self.tables, cell, trx)?.arfcn)
     }
 
-    /// `tch` of a TRX of an own cell: its traffic timeslots, in the site file's order; `None` where there is no such
-    /// cell or TRX.
+    /// `tch` of a TRX of an own cell: its traffic timeslots, 0 to 7 (TS 45.002 clause 4.3.2), in the site file's
+    /// order; `None` where there is no such cell or TRX.
     pub fn tch(&self, cell: u8, trx: u8) -> Option<&[u8]>
         ensures value { option_map (λ found. found.now) result ≡
             option_map (λ t. t.tch) (trx_at self.now cell trx) }

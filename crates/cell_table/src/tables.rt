@@ -13,8 +13,8 @@ use std::marker::Model;
 pub struct HandoverRule {
     /// Reports in a window, 1 to 32.
     pub window: u8,
-    /// By how many steps of RXLEV (TS 45.008 clause 8.1.4) a neighbour has to be better on average over the window, 0 to
-    /// 63.
+    /// By how many steps of RXLEV, of 1 dB each (TS 45.008 clause 8.1.4), a neighbour has to be better on average over the
+    /// window, 0 to 63.
     pub margin: u8,
     /// The least RXLEV of a neighbour on average over the window, 0 to 63.
     pub minimum: u8,
@@ -38,7 +38,9 @@ pub struct CellIdentity {
 /// One TRX of an own cell.
 #[derive(Debug, Default, Drop)]
 pub struct Trx {
+    /// Its carrier, an ARFCN from 0 to 1023 (TS 45.005 clause 2).
     pub arfcn: u16,
+    /// Its traffic timeslots, 0 to 7 (TS 45.002 clause 4.3.2); a ninth is kept until what stands twice is looked for.
     pub tch: ArrayVec<u8, 9>,
 }
 
@@ -68,7 +70,9 @@ impl Eq for Trx {
 #[derive(Debug, Default, Drop)]
 pub struct Cell {
     pub identity: CellIdentity,
+    /// The power control level that arriving mobiles begin with, 0 to 31 (TS 45.005 clause 4.1.1).
     pub power: u8,
+    /// Its BA list, the ARFCNs of the BCCH carriers of its neighbours (TS 44.018 clause 10.5.2.22).
     pub ba: ArrayVec<u16, MOST_NEIGHBOURS>,
     pub trx: ArrayVec<Trx, MOST_TRX>,
 }

@@ -14,9 +14,9 @@ same c d e = grind (arith, nat_tests)
 itself : (c : ℕ) → (c == c) ≡ true
 itself c = grind (arith, nat_tests)
 
-sent_by : (c d : ℕ) (after : ChanState) (b : Bool) → (c == d) ≡ b → (if b then Some (Pending c) else None) ≡ Some after → IsStep (Held c) (Send d) after
-sent_by c d after true is leads = subst (λ e. IsStep (Held c) (Send e) after) (same c d is) (subst (IsStep (Held c) (Send c)) (same_Some (Pending c) after leads) send)
-sent_by c d after false is leads = absurd (none-some after leads)
+send_by : (c d : ℕ) (after : ChanState) (b : Bool) → (c == d) ≡ b → (if b then Some (Pending c) else None) ≡ Some after → IsStep (Held c) (Send d) after
+send_by c d after true is leads = subst (λ e. IsStep (Held c) (Send e) after) (same c d is) (subst (IsStep (Held c) (Send c)) (same_Some (Pending c) after leads) send)
+send_by c d after false is leads = absurd (none-some after leads)
 
 there : (state : ChanState) (event : ChanEvent) (after : ChanState) → next_state state event ≡ Some after → IsStep state event after
 there Free (Take d) after leads = subst (IsStep Free (Take d)) (same_Some (Held d) after leads) take
@@ -29,7 +29,7 @@ there Free Drop after leads = absurd (none-some after leads)
 there Free Released after leads = absurd (none-some after leads)
 there (Held c) (Take d) after leads = absurd (none-some after leads)
 there (Held c) (Begin d) after leads = absurd (none-some after leads)
-there (Held c) (Send d) after leads = sent_by c d after (c == d) refl leads
+there (Held c) (Send d) after leads = send_by c d after (c == d) refl leads
 there (Held c) Confirm after leads = absurd (none-some after leads)
 there (Held c) Refuse after leads = absurd (none-some after leads)
 there (Held c) SwitchOff after leads = absurd (none-some after leads)

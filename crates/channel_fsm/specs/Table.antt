@@ -26,63 +26,63 @@ from_free after (On c) = None
 from_free after Off = None
 
 -- CHANNEL ACTIVATION is sent for the call that holds the channel (TS 48.058 clause 8.4.1)
-abbrev pub sent : ℕ → ChanState → Option ChanState
-sent d Free = None
-sent d (Held c) = if c == d then Some (Pending c) else None
-sent d (Pending c) = None
-sent d (On c) = None
-sent d Off = None
+abbrev pub after_send : ℕ → ChanState → Option ChanState
+after_send d Free = None
+after_send d (Held c) = if c == d then Some (Pending c) else None
+after_send d (Pending c) = None
+after_send d (On c) = None
+after_send d Off = None
 
 -- CHANNEL ACTIVATION ACKNOWLEDGE (TS 48.058 clause 8.4.2)
-abbrev pub confirmed : ChanState → Option ChanState
-confirmed Free = None
-confirmed (Held c) = None
-confirmed (Pending c) = Some (On c)
-confirmed (On c) = None
-confirmed Off = None
+abbrev pub after_confirm : ChanState → Option ChanState
+after_confirm Free = None
+after_confirm (Held c) = None
+after_confirm (Pending c) = Some (On c)
+after_confirm (On c) = None
+after_confirm Off = None
 
 -- CHANNEL ACTIVATION NEGATIVE ACKNOWLEDGE (TS 48.058 clause 8.4.3)
-abbrev pub refused : ChanState → Option ChanState
-refused Free = None
-refused (Held c) = None
-refused (Pending c) = Some (Held c)
-refused (On c) = None
-refused Off = None
+abbrev pub after_refuse : ChanState → Option ChanState
+after_refuse Free = None
+after_refuse (Held c) = None
+after_refuse (Pending c) = Some (Held c)
+after_refuse (On c) = None
+after_refuse Off = None
 
 -- RF CHANNEL RELEASE is sent for a channel that may be active (TS 48.058 clause 8.4.14)
-abbrev pub switched_off : ChanState → Option ChanState
-switched_off Free = None
-switched_off (Held c) = None
-switched_off (Pending c) = Some Off
-switched_off (On c) = Some Off
-switched_off Off = None
+abbrev pub after_switch_off : ChanState → Option ChanState
+after_switch_off Free = None
+after_switch_off (Held c) = None
+after_switch_off (Pending c) = Some Off
+after_switch_off (On c) = Some Off
+after_switch_off Off = None
 
 -- a channel that isn't active is used no more
-abbrev pub dropped : ChanState → Option ChanState
-dropped Free = None
-dropped (Held c) = Some Free
-dropped (Pending c) = None
-dropped (On c) = None
-dropped Off = None
+abbrev pub after_drop : ChanState → Option ChanState
+after_drop Free = None
+after_drop (Held c) = Some Free
+after_drop (Pending c) = None
+after_drop (On c) = None
+after_drop Off = None
 
 -- RF CHANNEL RELEASE ACKNOWLEDGE (TS 48.058 clause 8.4.19)
-abbrev pub released : ChanState → Option ChanState
-released Free = None
-released (Held c) = None
-released (Pending c) = None
-released (On c) = None
-released Off = Some Free
+abbrev pub after_release : ChanState → Option ChanState
+after_release Free = None
+after_release (Held c) = None
+after_release (Pending c) = None
+after_release (On c) = None
+after_release Off = Some Free
 
 -- The state after an event; none where the event is no step of a channel in this state.
 abbrev pub next_state : ChanState → ChanEvent → Option ChanState
 next_state state (Take c) = from_free (Held c) state
 next_state state (Begin c) = from_free (Pending c) state
-next_state state (Send c) = sent c state
-next_state state Confirm = confirmed state
-next_state state Refuse = refused state
-next_state state SwitchOff = switched_off state
-next_state state Drop = dropped state
-next_state state Released = released state
+next_state state (Send c) = after_send c state
+next_state state Confirm = after_confirm state
+next_state state Refuse = after_refuse state
+next_state state SwitchOff = after_switch_off state
+next_state state Drop = after_drop state
+next_state state Released = after_release state
 
 -- What it answers is what the table says.
 abbrev pub NextIsTheTable : Type 0

@@ -4,7 +4,7 @@ use Rattle.std.proofs.lemmas.List.Elements.{All-head, All-tail, All-drop, filter
 use Rattle.std.proofs.lemmas.List.{drop-append-le, drop-drop, drop_all, length-append, length-drop}
 use Rattle.circular_buffer.specs.Buffer.{keep_last}
 use Rattle.rr_elements.specs.MeasResults.{Results}
-use Rattle.measurements.specs.Reports.{is_valid, last_valid, added}
+use Rattle.measurements.specs.Reports.{is_valid, last_valid, kept_after}
 
 filter-valid : (rs : List Results) → All (λ r. IsTrue (is_valid r)) rs → filter is_valid rs ≡ rs
 filter-valid [] each = refl
@@ -43,14 +43,14 @@ last_valid-more width rs r =
     let front : filter is_valid (kept ++ r ∷ []) ≡ kept ++ filter is_valid (r ∷ []) = filter-append is_valid kept (r ∷ []) ∙ ap (λ xs. xs ++ filter is_valid (r ∷ [])) again in
     ap (keep_last width) front ∙ keep_last-again width (filter is_valid rs) (filter is_valid (r ∷ [])) ∙ ap (keep_last width) (sym (filter-append is_valid rs (r ∷ [])))
 
-added-behind : (width : ℕ) (rs news : List Results) → added width (last_valid width rs) news ≡ last_valid width (rs ++ news)
-added-behind width rs [] = ap (last_valid width) (sym (append-nil rs))
-added-behind width rs (r ∷ news) =
-    ap (λ kept. added width kept news) (last_valid-more width rs r) ∙ added-behind width (rs ++ r ∷ []) news ∙ ap (last_valid width) (append_assoc rs (r ∷ []) news)
+kept_after-behind : (width : ℕ) (rs news : List Results) → kept_after width (last_valid width rs) news ≡ last_valid width (rs ++ news)
+kept_after-behind width rs [] = ap (last_valid width) (sym (append-nil rs))
+kept_after-behind width rs (r ∷ news) =
+    ap (λ kept. kept_after width kept news) (last_valid-more width rs r) ∙ kept_after-behind width (rs ++ r ∷ []) news ∙ ap (last_valid width) (append_assoc rs (r ∷ []) news)
 
 none : (width : ℕ) → last_valid width [] ≡ []
 none width = drop_all (0 - width) [] (omega arith)
 
 -- reports that were added one by one are the last valid ones of all
-pub added-all : (width : ℕ) (news : List Results) → added width [] news ≡ last_valid width news
-added-all width news = ap (λ kept. added width kept news) (sym (none width)) ∙ added-behind width [] news
+pub kept_after-all : (width : ℕ) (news : List Results) → kept_after width [] news ≡ last_valid width news
+kept_after-all width news = ap (λ kept. kept_after width kept news) (sym (none width)) ∙ kept_after-behind width [] news

@@ -1,4 +1,4 @@
--- The reports that are kept of a mobile, and the levels in them (TS 44.018 section 10.5.2.20, TS 45.008 section 8.1.4).
+-- The reports that are kept of a mobile, and the levels in them (TS 44.018 clause 10.5.2.20, TS 45.008 clause 8.1.4).
 use Rattle.std.specs.Prelude.{ℕ, ◌==◌, ◌&&◌, Bool, if◌then◌else◌, List, [], ◌∷◌, ◌++◌, filter, find, sum_by}
 use Rattle.std.specs.Option.{option_map_or}
 use Rattle.circular_buffer.specs.Buffer.{keep_last}
@@ -22,10 +22,10 @@ is_valid r = r.head.valid
 abbrev pub last_valid : ℕ → List Results → List Results
 last_valid width reports = keep_last width (filter is_valid reports)
 
--- what is kept once reports were added one by one
-abbrev pub added : ℕ → List Results → List Results → List Results
-added width kept [] = kept
-added width kept (r ∷ news) = added width (last_valid width (kept ++ r ∷ [])) news
+-- what is kept after reports were added one by one
+abbrev pub kept_after : ℕ → List Results → List Results → List Results
+kept_after width kept [] = kept
+kept_after width kept (r ∷ news) = kept_after width (last_valid width (kept ++ r ∷ [])) news
 
 -- the serving cell's level: RXLEV-FULL, or RXLEV-SUB where DTX-USED says that transmission was discontinuous
 abbrev pub level_used : Results → ℕ
