@@ -23,9 +23,9 @@ pub where_passes_parts : {A : Type 0} (test : A → Bool) (o : Option A) (y : A)
 where_passes_parts test None y e = absurd (none-some y e)
 where_passes_parts test (Some x) y e = let (same, passes) = if_parts (test x) x y e in rw (← same) passes
 
-pub passed : {A : Type 0} (b : Bool) (x y : A) (fault : SiteFault) → (if b then Ok x else Err fault) ≡ Ok y → (x ≡ y) × (b ≡ true)
-passed true x y fault e = (cc, refl)
-passed false x y fault e = absurd cc
+pub check_parts : {A : Type 0} (b : Bool) (x y : A) (fault : SiteFault) → (if b then Ok x else Err fault) ≡ Ok y → (x ≡ y) × (b ≡ true)
+check_parts true x y fault e = (cc, refl)
+check_parts false x y fault e = absurd cc
 
 pub All-each : {A : Type 0} (read : ℕ → Data → Read A) (P : A → Type 0) → ((n : ℕ) (d : Data) (x : A) → read n d ≡ Ok x → P x)
     → (n : ℕ) (ds : List Data) (xs : List A) → each read n ds ≡ Ok xs → All P xs

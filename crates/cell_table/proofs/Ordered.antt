@@ -100,19 +100,19 @@ one_more before f g x (o ∷ os) sorted there new = by (o == x) refl (λ rest. o
         (λ from_here. more_here before f g x os from_here new) sorted
     by false other rest = more_later f g x o os other (rest (sym (ap (λ b. b || is_in os x) other) ∙ there))
 
-counted : (before : ℕ → ℕ → Bool) (f : ℕ → Bool) (order some : List ℕ) → IsInOrder before order → AllByRecursion (λ n. is_in order n ≡ true) some
+count_of_some : (before : ℕ → ℕ → Bool) (f : ℕ → Bool) (order some : List ℕ) → IsInOrder before order → AllByRecursion (λ n. is_in order n ≡ true) some
     → has_twice (λ m n. n == m) some ≡ false → count f some ≡ count (λ n. f n && is_in some n) order
-counted before f order [] sorted all once = sym (count_none (λ n. f n && false) order (all_by (λ n. (f n && false) ≡ false) (λ n. and_right (f n) false refl) order))
-counted before f order (x ∷ some) sorted all once =
+count_of_some before f order [] sorted all once = sym (count_none (λ n. f n && false) order (all_by (λ n. (f n && false) ≡ false) (λ n. and_right (f n) false refl) order))
+count_of_some before f order (x ∷ some) sorted all once =
     let (new, rest) = once_parts (λ m n. n == m) same_number x some once in
-    ap (λ n. cond (f x) 1 0 + n) (counted before f order some sorted all.1 rest)
+    ap (λ n. cond (f x) 1 0 + n) (count_of_some before f order some sorted all.1 rest)
     ∙ sym (one_more before f (is_in some) x order sorted all.0 new)
 
 -- as many of some distinct numbers pass as pass in a list that has them all in order
 pub count_in_order : (before : ℕ → ℕ → Bool) (f : ℕ → Bool) (order some : List ℕ) → IsInOrder before order → AllByRecursion (λ n. is_in order n ≡ true) some
     → has_twice (λ m n. n == m) some ≡ false → count_by f some ≡ count_by (λ n. f n && is_in some n) order
 count_in_order before f order some sorted all once =
-    count-is f some ∙ counted before f order some sorted all once ∙ sym (count-is (λ n. f n && is_in some n) order)
+    count-is f some ∙ count_of_some before f order some sorted all once ∙ sym (count-is (λ n. f n && is_in some n) order)
 
 -- a number of the order that passes stands where as many that pass come before it
 stands_here : (before : ℕ → ℕ → Bool) → ((n : ℕ) → before n n ≡ false) → (q : ℕ → Bool) (c : ℕ) (os : List ℕ) → IsInOrder before (c ∷ os)

@@ -8,10 +8,10 @@ use Rattle.cell_table.specs.declared.fault.SiteFault.TheVariants.{Missing, Range
 use Rattle.cell_table.specs.declared.fault.What.TheVariants as what
 use Rattle.cell_table.specs.declared.ranges.Allowed.{Allowed}
 use Rattle.cell_table.specs.Limits.{most_neighbours}
-use Rattle.cell_table.specs.Ranges.{up_to, allowed, arfcn_range, tch_range}
+use Rattle.cell_table.specs.Ranges.{is_allowed, up_to, allowed, arfcn_range, tch_range}
 use Rattle.cell_table.specs.Site.{SiteView}
-use Rattle.cell_table.specs.Rules.{has_no_traffic, broken_rule, fault_where, unbroken, checked}
-use Rattle.cell_table.specs.SiteFile.{Read, ◌>>=◌, is_allowed, allowed_number, number_of, number_within, number_at, value_at, array_of, entries_of, counted, all_tables, tables_of, is_table, key_name, handover_of, handover_at, identity_of, ba_of, first_nine, tch_of, trx_of, all_trx_of, cell_of, cells_of, outside_of, site_of}
+use Rattle.cell_table.specs.Rules.{has_no_traffic, broken_rule, fault_where, site_unless, site_by_rules}
+use Rattle.cell_table.specs.SiteFile.{Read, ◌>>=◌, allowed_number, number_of, number_within, number_at, value_at, array_of, entries_of, allowed_entries, all_tables, tables_of, is_table, key_name, handover_of, handover_at, identity_of, ba_of, first_nine, tch_of, trx_of, all_trx_of, cell_of, cells_of, outside_of, site_of}
 use Rattle.cell_table.proofs.Chains.{IsJudged, judged-ok, judged-bind, judged-ok_or, judged-if, judged-each}
 
 judged_value_at : (k : Key) (d : Data) → IsJudged (value_at k d)
@@ -33,8 +33,8 @@ judged_array_of k d = judged-ok_or (option_map entries_of (as_array d)) (Range k
 judged_range : {A : Type 0} (k : Key) → IsJudged {A = A} (Err (Range k))
 judged_range k = record { never = λ e. cc }
 
-judged_counted : (k : Key) (count : Allowed) (ds : List Data) → IsJudged (counted k count ds)
-judged_counted k count ds = judged-if (is_allowed count (length ds)) (Ok ds) (Err (Range k)) (judged-ok ds) (judged_range k)
+judged_allowed_entries : (k : Key) (count : Allowed) (ds : List Data) → IsJudged (allowed_entries k count ds)
+judged_allowed_entries k count ds = judged-if (is_allowed count (length ds)) (Ok ds) (Err (Range k)) (judged-ok ds) (judged_range k)
 
 judged_tables : (k : Key) (ds : List Data) → IsJudged (all_tables k ds)
 judged_tables k ds = judged-if (list_all is_table ds) (Ok ds) (Err (Range k)) (judged-ok ds) (judged_range k)
@@ -42,8 +42,8 @@ judged_tables k ds = judged-if (list_all is_table ds) (Ok ds) (Err (Range k)) (j
 judged_tables_of : (k : Key) (d : Data) → IsJudged (tables_of k d)
 unfolding tables_of
 judged_tables_of k d =
-    judged-bind (array_of k d) (λ ds. counted k (allowed k) ds >>= (λ some. all_tables k some)) (judged_array_of k d)
-    (λ ds. judged-bind (counted k (allowed k) ds) (λ some. all_tables k some) (judged_counted k (allowed k) ds) (λ some. judged_tables k some))
+    judged-bind (array_of k d) (λ ds. allowed_entries k (allowed k) ds >>= (λ some. all_tables k some)) (judged_array_of k d)
+    (λ ds. judged-bind (allowed_entries k (allowed k) ds) (λ some. all_tables k some) (judged_allowed_entries k (allowed k) ds) (λ some. judged_tables k some))
 
 judged_handover_of : (d : Data) → IsJudged (handover_of d)
 unfolding handover_of
@@ -65,7 +65,7 @@ judged_identity_of d =
 judged_ba_of : (d : Data) → IsJudged (ba_of d)
 unfolding ba_of
 judged_ba_of d =
-    judged-bind _ _ (judged_value_at key.Ba d) (λ v. judged-bind _ _ (judged_array_of key.Ba v) (λ ds. judged-bind _ _ (judged_counted key.Ba (up_to most_neighbours) ds)
+    judged-bind _ _ (judged_value_at key.Ba d) (λ v. judged-bind _ _ (judged_array_of key.Ba v) (λ ds. judged-bind _ _ (judged_allowed_entries key.Ba (up_to most_neighbours) ds)
     (λ carriers. judged-each (λ place. number_of key.Ba (allowed key.Ba)) (λ n d'. judged_number_of key.Ba (allowed key.Ba) d') 0 carriers)))
 
 judged_nine : (r : Read (List ℕ)) → IsJudged r → IsJudged (first_nine r)
@@ -107,7 +107,7 @@ judged_outside_of None = judged-ok _
 judged_outside_of (Some v) =
     judged-bind _ _ (judged_tables_of key.Outside v) (λ ds. judged-each (λ place. identity_of) (λ n d'. judged_identity_of d') 0 ds)
 
-judged_broken : (b1 b2 b3 b4 b5 : Bool) (silent : Option ℕ) (site : SiteView) → IsJudged (unbroken site (slice_get (filter_map (λ fault. fault) (fault_where b1 (Twice what.Identity)
+judged_broken : (b1 b2 b3 b4 b5 : Bool) (silent : Option ℕ) (site : SiteView) → IsJudged (site_unless site (slice_get (filter_map (λ fault. fault) (fault_where b1 (Twice what.Identity)
     ∷ fault_where b2 (Twice what.Colour) ∷ fault_where b3 (Twice what.Carrier) ∷ fault_where b4 (Twice what.Slot) ∷ fault_where b5 (Twice what.Neighbour)
     ∷ option_map NoTraffic silent ∷ [])) 0))
 judged_broken true b2 b3 b4 b5 silent site = record { never = λ e. cc }
@@ -118,11 +118,11 @@ judged_broken false false false false true silent site = record { never = λ e. 
 judged_broken false false false false false (Some cell) site = record { never = λ e. cc }
 judged_broken false false false false false None site = judged-ok _
 
-judged_checked : (site : SiteView) → IsJudged (checked site)
+judged_by_rules : (site : SiteView) → IsJudged (site_by_rules site)
 unfolding broken_rule
-judged_checked site = judged_broken _ _ _ _ _ (position has_no_traffic site.cells) site
+judged_by_rules site = judged_broken _ _ _ _ _ (position has_no_traffic site.cells) site
 
 pub judged_site_of : (d : Data) → IsJudged (site_of d)
 unfolding site_of
 judged_site_of d =
-    judged-bind _ _ (judged_handover_at d) (λ handover. judged-bind _ _ (judged_cells_of d) (λ cells. judged-bind _ _ (judged_outside_of _) (λ outside. judged_checked _)))
+    judged-bind _ _ (judged_handover_at d) (λ handover. judged-bind _ _ (judged_cells_of d) (λ cells. judged-bind _ _ (judged_outside_of _) (λ outside. judged_by_rules _)))

@@ -13,13 +13,13 @@ use Rattle.cell_table.specs.declared.fault.SiteFault.{SiteFault}
 use Rattle.cell_table.specs.declared.fault.SiteFault.TheVariants.{Range}
 use Rattle.cell_table.specs.declared.ranges.Allowed.{Allowed}
 use Rattle.cell_table.specs.Limits.{most_carrier, most_neighbours, timeslots_of_trx}
-use Rattle.cell_table.specs.Ranges.{up_to, allowed, arfcn_range, tch_range, IsAllowed}
+use Rattle.cell_table.specs.Ranges.{is_allowed, up_to, allowed, arfcn_range, tch_range, IsAllowed}
 use Rattle.cell_table.specs.declared.tables.CellIdentity.{CellIdentity}
 use Rattle.cell_table.specs.declared.tables.HandoverRule.{HandoverRule}
 use Rattle.cell_table.specs.Site.{TrxView, CellView, SiteView, IsCell, IsSite, IsHandoverRule, IsIdentity, IsWithinLimits, is_traffic}
-use Rattle.cell_table.specs.Rules.{broken_rule, unbroken, checked}
-use Rattle.cell_table.specs.SiteFile.{Read, ◌>>=◌, handover_of, is_table, each, is_allowed, natural_number, number_of, number_within, number_at, value_at, array_of, counted, all_tables, tables_of, key_name, handover_at, identity_of, ba_of, first_nine, tch_of, trx_of, all_trx_of, cell_of, cells_of, outside_of, site_of}
-use Rattle.cell_table.proofs.Chains.{bind_parts, ok_or_parts, where_passes_parts, passed, All-each, first-each, length-each}
+use Rattle.cell_table.specs.Rules.{broken_rule, site_unless, site_by_rules}
+use Rattle.cell_table.specs.SiteFile.{Read, ◌>>=◌, handover_of, is_table, each, natural_number, number_of, number_within, number_at, value_at, array_of, allowed_entries, all_tables, tables_of, key_name, handover_at, identity_of, ba_of, first_nine, tch_of, trx_of, all_trx_of, cell_of, cells_of, outside_of, site_of}
+use Rattle.cell_table.proofs.Chains.{bind_parts, ok_or_parts, where_passes_parts, check_parts, All-each, first-each, length-each}
 
 -- what was read within a range is a number of that range
 number_range : (k : Key) (range : Allowed) (d : Data) (n : ℕ) → number_of k range d ≡ Ok n → (range.least ≤ n) × (n ≤ range.most)
@@ -69,9 +69,9 @@ handover_at_limits d rule e =
     taken true r y same = same
     taken false r y same = absurd cc
 
-counted_parts : (k : Key) (count : Allowed) (ds some : List Data) → counted k count ds ≡ Ok some → length some ≤ count.most
-counted_parts k count ds some e =
-    let (same, fits) = passed (is_allowed count (length ds)) ds some (Range k) e in
+allowed_entries_parts : (k : Key) (count : Allowed) (ds some : List Data) → allowed_entries k count ds ≡ Ok some → length some ≤ count.most
+allowed_entries_parts k count ds some e =
+    let (same, fits) = check_parts (is_allowed count (length ds)) ds some (Range k) e in
     let (least, most) = and_parts (nat_le count.least (length ds)) (nat_le (length ds) count.most) fits in
     rw (← same) (grind (arith, nat_tests))
 
@@ -79,12 +79,12 @@ ba_limits : (d : Data) (ba : List ℕ) → ba_of d ≡ Ok ba → (length ba ≤ 
 unfolding ba_of
 ba_limits d ba e =
     let Fits : Type 0 = (length ba ≤ most_neighbours) × All (IsAllowed key.Ba) ba in
-    bind_parts Fits (value_at key.Ba d) (λ value. array_of key.Ba value >>= (λ entries. counted key.Ba (up_to most_neighbours) entries >>= (λ carriers. each (λ place. number_of key.Ba (allowed key.Ba)) 0 carriers))) ba e
-    (λ value r1 e1. bind_parts Fits (array_of key.Ba value) (λ entries. counted key.Ba (up_to most_neighbours) entries >>= (λ carriers. each (λ place. number_of key.Ba (allowed key.Ba)) 0 carriers)) ba e1
-    (λ entries r2 e2. bind_parts Fits (counted key.Ba (up_to most_neighbours) entries) (λ carriers. each (λ place. number_of key.Ba (allowed key.Ba)) 0 carriers) ba e2
+    bind_parts Fits (value_at key.Ba d) (λ value. array_of key.Ba value >>= (λ entries. allowed_entries key.Ba (up_to most_neighbours) entries >>= (λ carriers. each (λ place. number_of key.Ba (allowed key.Ba)) 0 carriers))) ba e
+    (λ value r1 e1. bind_parts Fits (array_of key.Ba value) (λ entries. allowed_entries key.Ba (up_to most_neighbours) entries >>= (λ carriers. each (λ place. number_of key.Ba (allowed key.Ba)) 0 carriers)) ba e1
+    (λ entries r2 e2. bind_parts Fits (allowed_entries key.Ba (up_to most_neighbours) entries) (λ carriers. each (λ place. number_of key.Ba (allowed key.Ba)) 0 carriers) ba e2
     (λ carriers r3 e3.
     let as_many = length-each (λ place. number_of key.Ba (allowed key.Ba)) 0 carriers ba e3 in
-    let few = counted_parts key.Ba (up_to most_neighbours) entries carriers r3 in
+    let few = allowed_entries_parts key.Ba (up_to most_neighbours) entries carriers r3 in
     (omega arith, All-each (λ place. number_of key.Ba (allowed key.Ba)) (IsAllowed key.Ba) (λ n d' c read. number_range key.Ba (allowed key.Ba) d' c read) 0 carriers ba e3))))
 
 nine_parts : (P : ℕ → Type 0) (r : Read (List ℕ)) (slots : List ℕ) → first_nine r ≡ Ok slots → ((xs : List ℕ) → r ≡ Ok xs → All P xs) → All P slots
@@ -167,11 +167,11 @@ unfolding tables_of
 tables_count k d entries e =
     let count = allowed k in
     let Fits : List Data → Type 0 = λ ds. IsAllowed k (length ds) in
-    bind_parts (Fits entries) (array_of k d) (λ ds. counted k count ds >>= (λ some. all_tables k some)) entries e
-    (λ ds array rest. bind_parts (Fits entries) (counted k count ds) (λ some. all_tables k some) entries rest
+    bind_parts (Fits entries) (array_of k d) (λ ds. allowed_entries k count ds >>= (λ some. all_tables k some)) entries e
+    (λ ds array rest. bind_parts (Fits entries) (allowed_entries k count ds) (λ some. all_tables k some) entries rest
     (λ some few tables.
-    let (same, fits) = passed (is_allowed count (length ds)) ds some (Range k) few in
-    let (whole, all) = passed (list_all is_table some) some entries (Range k) tables in
+    let (same, fits) = check_parts (is_allowed count (length ds)) ds some (Range k) few in
+    let (whole, all) = check_parts (list_all is_table some) some entries (Range k) tables in
     let (least, most) = and_parts (nat_le count.least (length ds)) (nat_le (length ds) count.most) fits in
     let as_many : ds ≡ entries = same ∙ whole in
     rw (← as_many) (grind (arith, nat_tests), grind (arith, nat_tests))))
@@ -243,7 +243,7 @@ outside_limits (Some value) cells e =
     let (least, most) = tables_count key.Outside value entries tables in
     ((omega arith, omega (arith, most, as_many)), All-each (λ place. identity_of) IsIdentity (λ n d' c read. identity_limits d' c read) 0 entries cells told))
 
-unbroken_parts : (site : SiteView) (broken : Option SiteFault) (y : SiteView) → unbroken site broken ≡ Ok y → (site ≡ y) × (broken ≡ None)
+unbroken_parts : (site : SiteView) (broken : Option SiteFault) (y : SiteView) → site_unless site broken ≡ Ok y → (site ≡ y) × (broken ≡ None)
 unbroken_parts site None y e = (cc, refl)
 unbroken_parts site (Some fault) y e = absurd cc
 
@@ -251,9 +251,9 @@ unbroken_parts site (Some fault) y e = absurd cc
 pub site_limits : (d : Data) (site : SiteView) → site_of d ≡ Ok site → IsSite site
 unfolding site_of
 site_limits d site e =
-    bind_parts (IsSite site) (handover_at d) (λ handover. cells_of d >>= (λ cells. outside_of (get (key_name key.Outside) d) >>= (λ outside. checked (record { handover = handover; cells = cells; outside = outside })))) site e
-    (λ handover r1 e1. bind_parts (IsSite site) (cells_of d) (λ cells. outside_of (get (key_name key.Outside) d) >>= (λ outside. checked (record { handover = handover; cells = cells; outside = outside }))) site e1
-    (λ cells r2 e2. bind_parts (IsSite site) (outside_of (get (key_name key.Outside) d)) (λ outside. checked (record { handover = handover; cells = cells; outside = outside })) site e2
+    bind_parts (IsSite site) (handover_at d) (λ handover. cells_of d >>= (λ cells. outside_of (get (key_name key.Outside) d) >>= (λ outside. site_by_rules (record { handover = handover; cells = cells; outside = outside })))) site e
+    (λ handover r1 e1. bind_parts (IsSite site) (cells_of d) (λ cells. outside_of (get (key_name key.Outside) d) >>= (λ outside. site_by_rules (record { handover = handover; cells = cells; outside = outside }))) site e1
+    (λ cells r2 e2. bind_parts (IsSite site) (outside_of (get (key_name key.Outside) d)) (λ outside. site_by_rules (record { handover = handover; cells = cells; outside = outside })) site e2
     (λ outside r3 e3.
     let whole : SiteView = record { handover = handover; cells = cells; outside = outside } in
     let (is, rules) = unbroken_parts whole (broken_rule whole) site e3 in

@@ -1,5 +1,5 @@
 -- What each key of a site file allows.
-use Rattle.std.specs.Prelude.{ℕ, ◌-◌, ◌≤◌, Bool, true, false}
+use Rattle.std.specs.Prelude.{ℕ, ◌-◌, ◌≤◌, nat_le, ◌&&◌, Bool, true, false}
 use Rattle.cell_table.specs.declared.fault.Key.{Key}
 use Rattle.cell_table.specs.declared.fault.Key.TheVariants as key
 use Rattle.cell_table.specs.declared.ranges.Allowed.{Allowed}
@@ -43,6 +43,9 @@ abbrev pub tch_range : Bool → Allowed
 tch_range true = record { least = 1; most = (allowed key.Tch).most }
 tch_range false = allowed key.Tch
 
--- the number is one of those allowed
+-- The number is one of those allowed: as a test, which a reader of a file makes, and as what holds of every site.
+abbrev pub is_allowed : Allowed → ℕ → Bool
+is_allowed range n = nat_le range.least n && nat_le n range.most
+
 abbrev pub IsAllowed : Key → ℕ → Type 0
 IsAllowed k n = ((allowed k).least ≤ n) × (n ≤ (allowed k).most)

@@ -68,9 +68,9 @@ unfoldable pub broken_rule : SiteView → Option SiteFault
 broken_rule site = slice_get (faults site) 0
 
 -- a site that breaks none
-abbrev pub unbroken : SiteView → Option SiteFault → Result SiteView SiteFault
-unbroken site None = Ok site
-unbroken site (Some fault) = Err fault
+abbrev pub site_unless : SiteView → Option SiteFault → Result SiteView SiteFault
+site_unless site None = Ok site
+site_unless site (Some fault) = Err fault
 
-abbrev pub checked : SiteView → Result SiteView SiteFault
-checked site = unbroken site (broken_rule site)
+abbrev pub site_by_rules : SiteView → Result SiteView SiteFault
+site_by_rules site = site_unless site (broken_rule site)

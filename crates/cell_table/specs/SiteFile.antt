@@ -1,5 +1,5 @@
 -- What a site file says, read off the TOML document that it is: each check in its order, and the first that fails.
-use Rattle.std.specs.Prelude.{ℕ, suc, ◌==◌, ℤ, pos, negsuc, nat_le, Bool, ◌&&◌, if◌then◌else◌, Option, Some, None, option_map, option_and_then, ok_or, is_some, Result, Ok, Err, List, [], ◌∷◌, length, take, codes}
+use Rattle.std.specs.Prelude.{ℕ, suc, ◌==◌, ℤ, pos, negsuc, Bool, if◌then◌else◌, Option, Some, None, option_map, option_and_then, ok_or, is_some, Result, Ok, Err, List, [], ◌∷◌, length, take, codes}
 use Rattle.std.specs.List.{list_all}
 use Rattle.std.specs.Result.{result_map_both}
 use Rattle.toml.specs.Data.{Data, Items, no_items, item, table, get, as_array, as_integer, as_table}
@@ -12,10 +12,10 @@ use Rattle.cell_table.specs.declared.fault.SiteFault.TheVariants.{Toml, Missing,
 use Rattle.cell_table.specs.declared.tables.CellIdentity.{CellIdentity}
 use Rattle.cell_table.specs.declared.tables.HandoverRule.{HandoverRule}
 use Rattle.cell_table.specs.declared.ranges.Allowed.{Allowed}
-use Rattle.cell_table.specs.Ranges.{up_to, allowed, arfcn_range, tch_range}
+use Rattle.cell_table.specs.Ranges.{up_to, allowed, is_allowed, arfcn_range, tch_range}
 use Rattle.cell_table.specs.Site.{TrxView, CellView, SiteView}
 use Rattle.cell_table.specs.Limits.{most_neighbours}
-use Rattle.cell_table.specs.Rules.{checked}
+use Rattle.cell_table.specs.Rules.{site_by_rules}
 
 -- what is read, or the first check that fails
 abbrev pub Read : Type 0 → Type 0
@@ -49,10 +49,6 @@ key_name key.Outside = codes "outside"
 -- the value at a key, which has to be there
 abbrev pub value_at : Key → Data → Read Data
 value_at key d = ok_or (get (key_name key) d) (Missing key)
-
--- the number is one of those allowed
-abbrev pub is_allowed : Allowed → ℕ → Bool
-is_allowed range n = nat_le range.least n && nat_le n range.most
 
 -- a natural number
 abbrev pub natural_number : ℤ → Option ℕ
@@ -95,8 +91,8 @@ abbrev pub is_table : Data → Bool
 is_table d = is_some (as_table d)
 
 -- so many entries are allowed
-abbrev pub counted : Key → Allowed → List Data → Read (List Data)
-counted key count entries = if is_allowed count (length entries) then Ok entries else Err (Range key)
+abbrev pub allowed_entries : Key → Allowed → List Data → Read (List Data)
+allowed_entries key count entries = if is_allowed count (length entries) then Ok entries else Err (Range key)
 
 -- each entry is a table
 abbrev pub all_tables : Key → List Data → Read (List Data)
@@ -106,7 +102,7 @@ all_tables key entries = if list_all is_table entries then Ok entries else Err (
 unfoldable pub tables_of : Key → Data → Read (List Data)
 tables_of key d = do
   entries ← array_of key d
-  entries ← counted key (allowed key) entries
+  entries ← allowed_entries key (allowed key) entries
   all_tables key entries
 
 -- each entry as it is read at its place; the first check that fails, entry by entry
@@ -141,7 +137,7 @@ unfoldable pub ba_of : Data → Read (List ℕ)
 ba_of d = do
   value ← value_at key.Ba d
   entries ← array_of key.Ba value
-  carriers ← counted key.Ba (up_to most_neighbours) entries
+  carriers ← allowed_entries key.Ba (up_to most_neighbours) entries
   each (λ place. number_of key.Ba (allowed key.Ba)) 0 carriers
 
 -- the first nine of what is read
@@ -205,7 +201,7 @@ site_of d = do
   handover ← handover_at d
   cells ← cells_of d
   outside ← outside_of (get (key_name key.Outside) d)
-  checked (record { handover = handover; cells = cells; outside = outside })
+  site_by_rules (record { handover = handover; cells = cells; outside = outside })
 
 -- what a site file says: the site, or the first check that fails
 abbrev pub read_site : List ℕ → Read SiteView

@@ -3,8 +3,8 @@ ghost use Rattle.std.specs.Prelude.{◌≡◌, ◌==◌, ◌<◌, ◌≤◌, Ok,
 ghost use Rattle.std.specs.List.{list_all};
 ghost use Rattle.toml.specs.View.{view};
 ghost use Rattle.toml.specs.Data.{get, as_array};
-ghost use Rattle.cell_table.specs.SiteFile.{Read, value_at, is_allowed, allowed_number, number_of, number_within, number_at, array_of, entries_of, counted, all_tables, tables_of, each, handover_of, handover_at, identity_of, ba_of, first_nine, tch_of, trx_of, all_trx_of, cell_of, cells_of, outside_of, site_of, key_name, is_table};
-ghost use Rattle.cell_table.specs.Ranges.{allowed, arfcn_range, tch_range, up_to};
+ghost use Rattle.cell_table.specs.SiteFile.{Read, value_at, allowed_number, number_of, number_within, number_at, array_of, entries_of, allowed_entries, all_tables, tables_of, each, handover_of, handover_at, identity_of, ba_of, first_nine, tch_of, trx_of, all_trx_of, cell_of, cells_of, outside_of, site_of, key_name, is_table};
+ghost use Rattle.cell_table.specs.Ranges.{allowed, is_allowed, arfcn_range, tch_range, up_to};
 ghost use Rattle.cell_table.specs.Limits.{most_cells, most_outside, most_trx, timeslots_of_trx, most_neighbours};
 ghost use Rattle.cell_table.specs.Reading.{value_read, values_read, items_read};
 
@@ -114,8 +114,8 @@ fn is_allowed(range: Allowed, number: usize) -> bool
 }
 
 /// The entries, where so many are allowed.
-fn counted(key: Key, count: Allowed, entries: &[Value]) -> Result<&[Value], SiteFault>
-    ensures read { values_read result ≡ counted key count (map view entries.now) }
+fn allowed_entries(key: Key, count: Allowed, entries: &[Value]) -> Result<&[Value], SiteFault>
+    ensures read { values_read result ≡ allowed_entries key count (map view entries.now) }
     ensures most { IfOk result (λ found. length found.now ≤ count.most) }
 {
     if is_allowed(count, entries.len()) {
@@ -150,7 +150,7 @@ fn tables_of(key: Key, value: &Value) -> Result<&[Value], SiteFault>
     ensures read { values_read result ≡ tables_of key (view value.now) }
     ensures most { IfOk result (λ found. length found.now ≤ (allowed key).most) }
 {
-    let entries = counted(key, key.allowed(), array_of(key, value)?)?;
+    let entries = allowed_entries(key, key.allowed(), array_of(key, value)?)?;
     all_tables(key, entries)
 }
 
@@ -195,7 +195,7 @@ fn ba_of(cell: &Value) -> Result<ArrayVec<u16, MOST_NEIGHBOURS>, SiteFault>
     ensures read { items_read result ≡ ba_of (view cell.now) }
 {
     let entries = array_of(Key::Ba, value_at(cell, Key::Ba)?)?;
-    carriers_of(counted(Key::Ba, up_to(MOST_NEIGHBOURS as u16), entries)?)
+    carriers_of(allowed_entries(Key::Ba, up_to(MOST_NEIGHBOURS as u16), entries)?)
 }
 
 /// The carriers at the entries of `ba`.
