@@ -64,9 +64,9 @@ of_others P steps u is all =
     let parts : All P (u.head ++ (u.opening ∷ (u.between ++ (u.undo ∷ u.tail)))) = subst (All P) is.parts all in
     let rest : All P (u.between ++ (u.undo ∷ u.tail)) = All-tail P u.opening (u.between ++ (u.undo ∷ u.tail)) (second_part P u.head (u.opening ∷ (u.between ++ (u.undo ∷ u.tail))) parts) in
     let tail : All P u.tail = All-tail P u.undo u.tail (second_part P u.between (u.undo ∷ u.tail) rest) in
-    All-append P u.head (others_between u u.between ++ (others_awaiting u (awaiting u) ++ settled_tail u)) (first_part P u.head (u.opening ∷ (u.between ++ (u.undo ∷ u.tail))) parts)
-    (All-append P (others_between u u.between) (others_awaiting u (awaiting u) ++ settled_tail u)
+    All-append P u.head (others_between u.call u.target u.between ++ (others_awaiting u.target (awaiting u.target u.awaited u.tail) ++ settled_tail u.target u.awaited u.tail)) (first_part P u.head (u.opening ∷ (u.between ++ (u.undo ∷ u.tail))) parts)
+    (All-append P (others_between u.call u.target u.between) (others_awaiting u.target (awaiting u.target u.awaited u.tail) ++ settled_tail u.target u.awaited u.tail)
     (All-filter _ P u.between (first_part P u.between (u.undo ∷ u.tail) rest))
-    (All-append P (others_awaiting u (awaiting u)) (settled_tail u)
-    (All-filter _ P (awaiting u) (all_if P u.awaited (up_to_first (releases u.target) u.tail) [] (all_up_to P (releases u.target) u.tail tail) (All-nil P)))
+    (All-append P (others_awaiting u.target (awaiting u.target u.awaited u.tail)) (settled_tail u.target u.awaited u.tail)
+    (All-filter _ P (awaiting u.target u.awaited u.tail) (all_if P u.awaited (up_to_first (releases u.target) u.tail) [] (all_up_to P (releases u.target) u.tail tail) (All-nil P)))
     (all_if P u.awaited (after_first (releases u.target) u.tail) u.tail (all_after P (releases u.target) u.tail tail) tail)))

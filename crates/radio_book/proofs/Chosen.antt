@@ -1,5 +1,5 @@
 -- Which channels a choice finds, and how many it counts.
-use Rattle.std.proofs.Common.{◌≡◌, ◌==◌, IfSome, IfNone, ℕ, ◌+◌, ◌*◌, lit≤, ◌<◌, ◌≤◌, ◌/◌, ◌%◌, Bool, true, false, cond, List, [], ◌∷◌, length, get_or, take, drop, map as map_list, count_by, Option, Some, None, slice_get, option_map, option_and_then, unwrap_or, refl, sym, ap, ◌∙◌, subst, zero-add, arith}
+use Rattle.std.proofs.Common.{◌≡◌, ◌≢◌, ◌==◌, ◌&&◌, IfSome, IfNone, ℕ, ◌+◌, ◌*◌, lit≤, ◌<◌, ◌≤◌, ◌/◌, ◌%◌, Bool, true, false, cond, List, [], ◌∷◌, length, get_or, take, drop, map as map_list, count_by, Option, Some, None, slice_get, option_map, option_and_then, unwrap_or, refl, sym, ap, ◌∙◌, subst, zero-add, arith}
 use Rattle.std.specs.List.{find, list_any, range_with_len}
 use Rattle.std.specs.Int.{from_bool}
 use Rattle.std.proofs.lemmas.List.{at_drop_more, drop_all, take_all}
@@ -12,14 +12,10 @@ use Rattle.channel_fsm.specs.declared.ChanState.{ChanState}
 use Rattle.channel_fsm.specs.declared.ChanState.TheVariants.{Free, Held, Pending, On, Off}
 use Rattle.cell_table.specs.Site.{TrafficLiesWithin, is_traffic}
 use Rattle.radio_book.specs.State.{State, state_of}
-use Rattle.radio_book.specs.Choice.{IsFreeIn, NoneFree, channels_of, is_free, is_free_traffic, free_count}
+use Rattle.radio_book.specs.Choice.{IsFreeIn, NoneFree, channels_of, channel_at, is_free, is_free_traffic, in_use, free_count}
 use Rattle.radio_book.proofs.Frame.{same_some}
 use Rattle.std.specs.List.{AllByRecursion}
 use Rattle.std.proofs.lemmas.List.Elements.{All-get_or, All-from_recursion}
-
--- the channel at a place among those that a cell can have
-abbrev pub channel_at : ℕ → ℕ → ChanId
-channel_at cell place = record { cell = cell; trx = place / 8; tn = place % 8 }
 
 -- the channels of a cell are those at its 32 places
 by_places : (cell : ℕ) → channels_of cell ≡ map_list (channel_at cell) (range_with_len 0 32)
@@ -75,6 +71,23 @@ counted_at b cell place h =
     sum_by_more one (channels_of cell) place (channel_at cell place) (within cell place h)
     ∙ ap (λ x. count_by (is_free_traffic b) (take place (channels_of cell)) + one x) (place_at cell place (channel_at cell place) h)
     ∙ ap (λ n. count_by (is_free_traffic b) (take place (channels_of cell)) + n) (one_if (is_free_traffic b (channel_at cell place)))
+
+-- a channel can be chosen where its bit says that it isn't in use, and the site names it
+pub used_not_free : (traffic : Bool) (s : ChanState) → in_use s ≡ 1 → false ≡ (traffic && is_free s)
+used_not_free true Free e = cc
+used_not_free true (Held c) e = refl
+used_not_free true (Pending c) e = refl
+used_not_free true (On c) e = refl
+used_not_free true Off e = refl
+used_not_free false s e = refl
+
+pub free_if_traffic : (traffic : Bool) (s : ChanState) → in_use s ≢ 1 → traffic ≡ (traffic && is_free s)
+free_if_traffic true Free apart = refl
+free_if_traffic true (Held c) apart = absurd (apart refl)
+free_if_traffic true (Pending c) apart = absurd (apart refl)
+free_if_traffic true (On c) apart = absurd (apart refl)
+free_if_traffic true Off apart = absurd (apart refl)
+free_if_traffic false s apart = refl
 
 -- what a search over places finds
 mapped : (p : ChanId → Bool) (cell : ℕ) (ns : List ℕ) (x : ChanId) → find p (map_list (channel_at cell) ns) ≡ Some x → (x.cell ≡ cell) × (p x ≡ true)

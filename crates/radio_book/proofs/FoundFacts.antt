@@ -1,6 +1,6 @@
 -- What is found in a list of steps is the undone attempt that opens there.
-use Rattle.std.proofs.Common.{◌≡◌, inl, inr, ◌+◌, ◌-◌, ◌<◌, ◌≤◌, ℕ, suc, Bool, true, false, not, List, [], ◌∷◌, ◌++◌, map, length, take, drop, get_or, Option, Some, None, refl, sym, ◌∙◌, ap, subst, arith, add-one, drop-cons, append_assoc}
-use Rattle.std.specs.List.{All, position, position_or_len, enumerate_from, zip}
+use Rattle.std.proofs.Common.{◌≡◌, inl, inr, ◌+◌, ◌-◌, ◌<◌, ◌≤◌, ℕ, suc, Bool, true, false, List, [], ◌∷◌, ◌++◌, map, length, take, drop, get_or, Option, Some, None, refl, sym, ◌∙◌, ap, subst, arith, add-one, drop-cons, append_assoc}
+use Rattle.std.specs.List.{position, enumerate_from, zip}
 use Rattle.std.proofs.lemmas.List.{length-drop, take-append-drop, length-append, length-take-le, get_or-take}
 use Rattle.std.proofs.lemmas.List.Quantifiers.{position-Some}
 use Rattle.std.proofs.Math.Seq.{get_or-append_seam, drop-append-add, take-append_seam}
@@ -14,10 +14,10 @@ use Rattle.radio_book.specs.State.{State}
 use Rattle.radio_book.specs.Table.{step, reply_to}
 use Rattle.radio_book.specs.Run.{run_book, run_replies}
 use Rattle.radio_book.specs.Kinds.{is_accepted}
-use Rattle.radio_book.specs.Undone.{Undone, IsUndoneIn, IsUndoneAttempt, IsUndoneAt, Opens, Undoes, Ends, steps_from, events_of, is_call, is_target_off, book_after_undo, OpensUndone}
+use Rattle.radio_book.specs.Undone.{Undone, IsUndoneIn, IsUndoneAt, Opens, Undoes, steps_from, events_of, is_call, is_target_off, OpensUndone}
 use Rattle.radio_book.specs.Found.{opened_by, undone_by, ends, parts_of}
 use Rattle.radio_book.proofs.Frame.{same_some}
-use Rattle.radio_book.proofs.Stretches.{position_from, position_some}
+use Rattle.radio_book.proofs.Stretches.{position_from}
 use Rattle.radio_book.proofs.UndoneFacts.{undone_is_unique, is_same, opens_shown, undoes_shown, undoes_ends, ends_by, ends_shown, ends_from, called, first_end, place_of}
 
 opens_from : (c : ℕ) (t : Option ChanId) (e : Event) → opened_by e ≡ Some (c, t) → Opens c t e

@@ -6,6 +6,7 @@ pub mod JournalFacts
 pub mod EntryFacts
 pub mod SameFacts
 pub mod Frame
+pub mod InUse
 pub mod SoundParts
 pub mod SoundHandover
 pub mod SoundSteps

@@ -22,8 +22,8 @@ use Rattle.radio_book.specs.Table.{step, reply_of, reply_to, book_after, Refuses
 use Rattle.radio_book.specs.Sound.{IsSound}
 use Rattle.radio_book.specs.Run.{run_book, run_replies}
 use Rattle.radio_book.specs.Kinds.{Undoes, is_accepted}
-use Rattle.radio_book.specs.Others.{without_channel, without_attempt_of, IsOpen}
-use Rattle.radio_book.specs.Undone.{Undone, IsUndoneAttempt, first_held, held_refusals, places_of, events_of, is_settled, steps_from, is_off, is_target_off, is_on_target, releases, refused_for, up_to_first, after_first, awaiting, settled_tail, others, others_between, others_awaiting, reference_reserved, reserves}
+use Rattle.radio_book.specs.Others.{channel_removal, without_attempt_of, IsOpen}
+use Rattle.radio_book.specs.Undone.{Undone, IsUndoneAttempt, first_held, held_refusals, places_of, events_of, is_settled, steps_from, is_off, is_target_off, is_on_target, releases, refused_for, up_to_first, after_first, others, others_between, others_after, held_between, held_after, reference_reserved, reserves}
 use Rattle.radio_book.specs.NoTrace.{UndoneAttemptsLeaveNoTrace}
 use Rattle.radio_book.proofs.KeyFacts.{chan_total, chan_exact}
 use Rattle.radio_book.proofs.MapFacts.{put_again, channel_same}
@@ -68,7 +68,7 @@ abbrev IsOver : Option ChanId → State → State → Type 0
 IsOver target b without = (is_target_off b target ≡ false) × (without ≡ b)
 
 abbrev IsAwaited : Option ChanId → State → State → Type 0
-IsAwaited target b without = (t : ChanId) × (target ≡ Some t) × (state_of b t ≡ Off) × (without ≡ apply (without_channel (Some t)) b)
+IsAwaited target b without = (t : ChanId) × (target ≡ Some t) × (state_of b t ≡ Off) × (without ≡ apply (channel_removal (Some t)) b)
 
 module _ (c : ℕ) (target : Option ChanId) (number : Option ℕ) (b : State) (opened : IsOpen c target number b) (why : Why) (accepted : IsTrue (is_accepted (reply_to b (event.Undo c why)))) where
   abbrev after : State
@@ -77,11 +77,11 @@ module _ (c : ℕ) (target : Option ChanId) (number : Option ℕ) (b : State) (o
   taken_back : after ≡ undone c opened.call_record opened.attempt b opened.of_call opened.of_record
   taken_back = undone_step c opened.call_record opened.attempt b opened.of_call opened.of_record why accepted
 
-  but_target : without_attempt_of c b ≡ apply (without_channel target) after
+  but_target : without_attempt_of c b ≡ apply (channel_removal target) after
   but_target =
       without_is c opened.call_record opened.attempt b opened.of_call opened.of_record
       ∙ sym (undone_is_removed c opened.call_record opened.attempt b)
-      ∙ (λ i. apply (without_channel (opened.aims i)) (sym taken_back i))
+      ∙ (λ i. apply (channel_removal (opened.aims i)) (sym taken_back i))
 
   -- the entry of the target
   left : (t : ChanId) → target ≡ Some t → map.get after.channels t ≡ left_state (state_of b t)
@@ -91,14 +91,14 @@ module _ (c : ℕ) (target : Option ChanId) (number : Option ℕ) (b : State) (o
       ∙ channel_same b.channels t (left_state (state_of b t))
 
   of_target : (o : Option ChanId) → target ≡ o → IsOver target after (without_attempt_of c b) ⊎ IsAwaited target after (without_attempt_of c b)
-  of_target None aims = inl (ap (is_target_off after) aims, but_target ∙ ap (λ o. apply (without_channel o) after) aims)
+  of_target None aims = inl (ap (is_target_off after) aims, but_target ∙ ap (λ o. apply (channel_removal o) after) aims)
   of_target (Some t) aims = elim (left_cases (state_of b t)) [
     | inl gone ↦ inl (
       ap (is_target_off after) aims ∙ ap (λ o. is_off (or_free o)) (left t aims ∙ gone),
-      but_target ∙ ap (λ o. apply (without_channel o) after) aims
+      but_target ∙ ap (λ o. apply (channel_removal o) after) aims
           ∙ (λ i. record { site = after.site; channels = put_again chan_total chan_exact after.channels t None (left t aims ∙ gone) i; calls = after.calls; references = after.references; timers = after.timers }),
     )
-    | inr off ↦ inr (t, aims, ap or_free (left t aims ∙ off), but_target ∙ ap (λ o. apply (without_channel o) after) aims)
+    | inr off ↦ inr (t, aims, ap or_free (left t aims ∙ off), but_target ∙ ap (λ o. apply (channel_removal o) after) aims)
   ]
 
 after_undo : (c : ℕ) (target : Option ChanId) (number : Option ℕ) (b : State) → IsOpen c target number b → (e : Event) → Undoes c e → IsTrue (is_accepted (reply_to b e)) →
@@ -111,7 +111,7 @@ after_undo c target number b opened e (why, same) =
 tail_awaited : (t : ChanId) (tail : List StepAt) (awaited : Bool) (b b' : State) → IsSound b → state_of b t ≡ Off → Runs b tail b' → awaited ≡ true →
     not awaited || list_any (releases (Some t)) tail ≡ true →
     refused_for (Some t) None (filter (λ s. not (is_on_target (Some t) s)) (if awaited then up_to_first (releases (Some t)) tail else [])) ≡ [] →
-    Runs (apply (without_channel (Some t)) b) (filter (λ s. not (is_on_target (Some t) s)) (if awaited then up_to_first (releases (Some t)) tail else []) ++ (if awaited then after_first (releases (Some t)) tail else tail)) b'
+    Runs (apply (channel_removal (Some t)) b) (filter (λ s. not (is_on_target (Some t) s)) (if awaited then up_to_first (releases (Some t)) tail else []) ++ (if awaited then after_first (releases (Some t)) tail else tail)) b'
 tail_awaited t tail true b b' sound off runs waits settled none = leads_off t tail b b' sound off runs settled none
 tail_awaited t tail false b b' sound off runs waits settled none = cc
 
@@ -134,7 +134,7 @@ module _ (u : Undone) (b b' without : State) (sound : IsSound b) (runs : Runs b 
   tail_leads (inr (t, aims, off, same)) =
       let waited : u.awaited ≡ true = waits ∙ ap (is_target_off b) aims ∙ ap is_off off in
       subst (TailLeads u.target) (sym same)
-      (subst (λ target. TailLeads target (apply (without_channel (Some t)) b)) (sym aims) (λ settled none. tail_awaited t u.tail u.awaited b b' sound off runs waited settled none))
+      (subst (λ target. TailLeads target (apply (channel_removal (Some t)) b)) (sym aims) (λ settled none. tail_awaited t u.tail u.awaited b b' sound off runs waited settled none))
 
 -- two lists without an element
 none_in : {X : Type 0} (xs ys : List X) → xs ++ ys ≡ [] → (xs ≡ []) × (ys ≡ [])
@@ -155,22 +155,22 @@ no_trace b sound es u is settled held =
     let sound3 : IsSound b3 = sound_after u.between b2 b3 between sound2 in
     -- the opening, what came between, and the undo
     let adds = openings_add_the_attempt u.opening.event u.call u.target b1 sound1 parts.opens (subst (λ reply. IsTrue (is_accepted reply)) from_opening.0 parts.opening_accepted) in
-    let before = none_in (refused_for u.target None (others_between u (up_to_first (reserves u.call) u.between)))
-    (refused_for u.target (reference_reserved u) (others_between u (after_first (reserves u.call) u.between)) ++ refused_for u.target None (others_awaiting u (awaiting u))) held in
-    let later = none_in (refused_for u.target (reference_reserved u) (others_between u (after_first (reserves u.call) u.between))) (refused_for u.target None (others_awaiting u (awaiting u))) before.1 in
-    let leads = without_reference u.call u.target u.between b2 b3 sound2 adds.opened between parts.stays_open before.0 later.0 in
+    let none = none_in (held_between u.call u.target u.between) (held_after u.target u.awaited u.tail) held in
+    let within = none_in (refused_for u.target None (others_between u.call u.target (up_to_first (reserves u.call) u.between)))
+    (refused_for u.target (reference_reserved u.call u.target u.between) (others_between u.call u.target (after_first (reserves u.call) u.between))) none.0 in
+    let leads = without_reference u.call u.target u.between b2 b3 sound2 adds.opened between parts.stays_open within.0 within.1 in
     let over : IsOver u.target b4 (without_attempt_of u.call b3) ⊎ IsAwaited u.target b4 (without_attempt_of u.call b3)
     = after_undo u.call u.target leads.number b3 leads.opened u.undo.event parts.undoes (subst (λ reply. IsTrue (is_accepted reply)) from_undo.0 parts.undo_accepted) in
     -- the book right after the undo is this one
     let up_to_undo : Runs b (u.head ++ (u.opening ∷ (u.between ++ (u.undo ∷ [])))) b4
     = runs_on u.head (u.opening ∷ (u.between ++ (u.undo ∷ []))) b b1 b4 head (from_opening.0, runs_on u.between (u.undo ∷ []) b2 b3 b4 between (from_undo.0, refl)) in
     let waits : u.awaited ≡ is_target_off b4 u.target = is.awaited ∙ ap (λ v. is_target_off v u.target) (sym (run_of (u.head ++ (u.opening ∷ (u.between ++ (u.undo ∷ [])))) b b4 up_to_undo).0) in
-    let tail : Runs (without_attempt_of u.call b3) (others_awaiting u (awaiting u) ++ settled_tail u) (run_book b es)
-    = tail_leads u b4 (run_book b es) (without_attempt_of u.call b3) (sound_step b3 u.undo.event sound3) from_undo.1 waits over settled later.1 in
+    let tail : Runs (without_attempt_of u.call b3) (others_after u.target u.awaited u.tail) (run_book b es)
+    = tail_leads u b4 (run_book b es) (without_attempt_of u.call b3) (sound_step b3 u.undo.event sound3) from_undo.1 waits over settled none.1 in
     let all : Runs b (others u) (run_book b es)
-    = runs_on u.head (others_between u u.between ++ (others_awaiting u (awaiting u) ++ settled_tail u)) b b1 (run_book b es) head
-    (runs_on (others_between u u.between) (others_awaiting u (awaiting u) ++ settled_tail u) b1 (without_attempt_of u.call b3) (run_book b es)
-    (subst (λ v. Runs v (others_between u u.between) (without_attempt_of u.call b3)) adds.rest leads.alike) tail) in
+    = runs_on u.head (others_between u.call u.target u.between ++ (others_after u.target u.awaited u.tail)) b b1 (run_book b es) head
+    (runs_on (others_between u.call u.target u.between) (others_after u.target u.awaited u.tail) b1 (without_attempt_of u.call b3) (run_book b es)
+    (subst (λ v. Runs v (others_between u.call u.target u.between) (without_attempt_of u.call b3)) adds.rest leads.alike) tail) in
     let answered = run_of (others u) b (run_book b es) all in
     record {
       book = answered.0;

@@ -11,7 +11,7 @@ use Rattle.radio_book.specs.State.{State, apply, state_of, record_of}
 use Rattle.radio_book.specs.Table.{owner, step, reply_to, book_after, confirm_row, refuse_row, detect_row, released_row, owner_row}
 use Rattle.radio_book.specs.Sound.{IsSound}
 use Rattle.radio_book.specs.Kinds.{released_by, refusal_of}
-use Rattle.radio_book.specs.Others.{channel_of, without_channel, LeavesAlone}
+use Rattle.radio_book.specs.Others.{channel_of, channel_removal, LeavesAlone}
 use Rattle.radio_book.specs.Undone.{is_channel, is_on_target, releases, comes_from, refused_for, up_to_first, after_first}
 use Rattle.radio_book.proofs.OthersPhases.{commutes_with_undone, leaves_off_targets}
 use Rattle.radio_book.proofs.EachAgrees.{each_agrees}
@@ -21,7 +21,7 @@ use Rattle.radio_book.proofs.StepFacts.{Runs, none_found, tested_channel, same_c
 
 module _ (t : ChanId) where
   abbrev without : State → State
-  without b = apply (without_channel (Some t)) b
+  without b = apply (channel_removal (Some t)) b
 
   -- a station's event on the target is refused, or is the release
   module _ (b : State) (off : state_of b t ≡ Off) where

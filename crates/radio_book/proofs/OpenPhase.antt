@@ -3,7 +3,7 @@ use Rattle.std.proofs.Common.{◌≡◌, inl, inr, ℕ, Bool, true, false, not, 
 use Rattle.std.specs.Prelude.{All, filter, find}
 use Rattle.std.specs.Option.{option_and_then}
 use Rattle.std.specs.FinMap as map
-use Rattle.std.proofs.lemmas.Bool.{and_parts, and_from}
+use Rattle.std.proofs.lemmas.Bool.{and_parts}
 use Rattle.std.proofs.lemmas.List.Elements.{All-head, All-tail}
 use Rattle.channel_fsm.specs.declared.ChanId.{ChanId}
 use Rattle.radio_book.specs.declared.event.Attempt.{Attempt}
@@ -14,7 +14,7 @@ use Rattle.radio_book.specs.State.{State, apply, record_of}
 use Rattle.radio_book.specs.Table.{step, reply_to, reference_held}
 use Rattle.radio_book.specs.Sound.{IsSound}
 use Rattle.radio_book.specs.Kinds.{number_of, refusal_of, is_accepted, is_reserved}
-use Rattle.radio_book.specs.Others.{call_of, channel_of, IsHeldReference, without_attempt, without_attempt_of, without_attempt_in, without_open, LeavesAlone, IsOpen, IsOwn, GoesOn}
+use Rattle.radio_book.specs.Others.{call_of, channel_of, IsHeldReference, attempt_removal, without_attempt_of, without_attempt_in, without_open, LeavesAlone, IsOpen, IsOwn, GoesOn}
 use Rattle.radio_book.specs.Undone.{Ends, is_by_call, is_on_target, reserves, comes_from, refused_for, up_to_first, after_first}
 use Rattle.radio_book.proofs.OthersPhases.{commutes_with_undone, leaves_open_attempts}
 use Rattle.radio_book.proofs.EachAgrees.{each_agrees}
@@ -23,7 +23,7 @@ use Rattle.radio_book.proofs.SoundSteps.{sound_step}
 use Rattle.radio_book.proofs.StepFacts.{Runs, none_found, tested_call, same_call, tested_channel, same_channel, station_reserves_none, for_no_channel, for_no_reference}
 
 -- the book without an attempt that is known
-pub without_is : (c : ℕ) (r : CallRecord) (a : Attempt) (b : State) → record_of b c ≡ Some r → r.attempt ≡ Some a → without_attempt_of c b ≡ apply (without_attempt c r a (map.get b.timers c)) b
+pub without_is : (c : ℕ) (r : CallRecord) (a : Attempt) (b : State) → record_of b c ≡ Some r → r.attempt ≡ Some a → without_attempt_of c b ≡ apply (attempt_removal c r a (map.get b.timers c)) b
 without_is c r a b is has = ap (λ f. without_attempt_in c f b) is ∙ ap (λ o. without_open c r o b) has
 
 module _ (c : ℕ) (target : Option ChanId) where
@@ -46,7 +46,7 @@ module _ (c : ℕ) (target : Option ChanId) where
       let still = leaves.record_stays ∙ opened.of_call in
       let here = without_is c r a b opened.of_call opened.of_record in
       record {
-        book = without_is c r a (step b e) still opened.of_record ∙ ap (λ m. apply (without_attempt c r a m) (step b e)) leaves.timer_stays
+        book = without_is c r a (step b e) still opened.of_record ∙ ap (λ m. apply (attempt_removal c r a m) (step b e)) leaves.timer_stays
             ∙ commutes.book ∙ ap (λ v. step v e) (sym here);
         reply = sym commutes.reply ∙ ap (λ v. reply_to v e) (sym here);
         opened = record { call_record = r; attempt = a; of_call = still; of_record = opened.of_record; aims = opened.aims; has = opened.has };
@@ -73,7 +73,7 @@ module _ (c : ℕ) (target : Option ChanId) where
 
   -- an own step reserves the attempt's reference, or none
   own_reserves : (s : StepAt) → IsOwn c target s.event → reserves c s ≡ false → is_reserved s.event s.reply ≡ false
-  own_reserves s (inl by) test = sym (ap (λ p. p && is_some (number_of s.event) && is_accepted s.reply) (same_call c (call_of s.event) by)) ∙ test
+  own_reserves s (inl by) test = sym (ap (λ p. p && is_reserved s.event s.reply) (same_call c (call_of s.event) by)) ∙ test
   own_reserves s (inr on) test = ap (λ o. is_some o && is_accepted s.reply) (station_reserves_none s.event on.0 on.2)
 
   -- what the steps lead to: without the attempt, those that stay lead to the same, and the attempt is open still
@@ -192,12 +192,10 @@ module _ (c : ℕ) (target : Option ChanId) where
       -- this step reserves it
       now : reserves c s ≡ true → held (number_of s.event) ss ≡ [] → Leads b (s ∷ ss) b'
       now test none =
-          let accepted = and_parts (is_by_call c s && is_some (number_of s.event)) (is_accepted s.reply) test in
-          let parts = and_parts (is_by_call c s) (is_some (number_of s.event)) accepted.0 in
-          let number = number_there (number_of s.event) parts.1 in
+          let parts = and_parts (is_by_call c s) (is_reserved s.event s.reply) test in
+          let number = number_there (number_of s.event) (and_parts (is_some (number_of s.event)) (is_accepted s.reply) parts.1).0 in
           let goes = own_goes None b s ss b' sound opened runs.0 first (inl (tested_call c (call_of s.event) parts.0)) in
-          let same : is_reserved s.event (reply_to b s.event) ≡ true
-          = ap (is_reserved s.event) (sym runs.0) ∙ and_from (is_some (number_of s.event)) (is_accepted s.reply) parts.1 accepted.1 in
+          let same : is_reserved s.event (reply_to b s.event) ≡ true = ap (is_reserved s.event) (sym runs.0) ∙ parts.1 in
           let has : IsOpen c target (number_of s.event) (step b s.event)
           = subst (λ q. IsOpen c target (if q then number_of s.event else None) (step b s.event)) same goes.opened in
           left_out None b s ss b' sound opened runs.0 first (ap (λ p. not p && not (is_on_target target s)) parts.0) goes

@@ -20,7 +20,7 @@ use Rattle.radio_book.specs.Maps.{Entry, with_change}
 use Rattle.radio_book.specs.State.{State, apply, state_of, record_of}
 use Rattle.radio_book.specs.Table.{owner, Refuses, is_target, detect_by, detect_of, detect_at, resting_record, reference_held, reply_to, left_state, Outcome, Accepts, row, book_after}
 use Rattle.radio_book.specs.Sound.{IsSound, target_in, reference_of, armed_in}
-use Rattle.radio_book.specs.Others.{call_of, channel_of, IsHeldChannel, IsHeldReference, without_attempt, without_channel, CommutesWithUndone, UndoneIsRemoved, LeavesOpenAttempts, LeavesOffTargets}
+use Rattle.radio_book.specs.Others.{call_of, channel_of, IsHeldChannel, IsHeldReference, attempt_removal, channel_removal, CommutesWithUndone, UndoneIsRemoved, LeavesOpenAttempts, LeavesOffTargets}
 use Rattle.radio_book.proofs.KeyFacts.{chan_total, chan_exact, other_chan}
 use Rattle.radio_book.proofs.MapFacts.{put_put_same, call_cases, record_same}
 use Rattle.radio_book.proofs.Frame.{Touches, aimed_is_owned, serving_is_on}
@@ -59,15 +59,15 @@ module _ (c : ℕ) (r : CallRecord) (a : Attempt) (b : State) (sound : IsSound b
       ap (detect_by x d) (ap (record_of b) here ∙ is) ∙ ap (detect_of x d r) has
       ∙ ap (λ aimed. if aimed then detect_at x d r a a.stage else Refuses (Unexpected x)) (other_target x a.target other)
 
-  left_alone : (x : ChanId) (d : ℕ) → d ≡ c → detect_by x d (record_of (apply (without_attempt c r a (map.get b.timers c)) b) d) ≡ Refuses (Unexpected x)
-  left_alone x d here = ap (λ e. detect_by x d (record_of (apply (without_attempt c r a (map.get b.timers c)) b) e)) here ∙ ap (detect_by x d) (record_same b.calls c (resting_record a.kind r)) ∙ rests a.kind
+  left_alone : (x : ChanId) (d : ℕ) → d ≡ c → detect_by x d (record_of (apply (attempt_removal c r a (map.get b.timers c)) b) d) ≡ Refuses (Unexpected x)
+  left_alone x d here = ap (λ e. detect_by x d (record_of (apply (attempt_removal c r a (map.get b.timers c)) b) e)) here ∙ ap (detect_by x d) (record_same b.calls c (resting_record a.kind r)) ∙ rests a.kind
     where
       rests : (k : AttemptKind) → detect_by x d (resting_record k r) ≡ Refuses (Unexpected x)
       rests Internal = refl
       rests Incoming = refl
       rests Outgoing = refl
 
-  pub open_hides : Hides (without_attempt c r a (map.get b.timers c)) b
+  pub open_hides : Hides (attempt_removal c r a (map.get b.timers c)) b
   open_hides = record {
     free_channel = λ x free. option_missed (λ t. (t, None)) a.target x (λ t aims here.
         let bad : None ≡ Some c = sym (ap owner free) ∙ ap (λ z. owner (state_of b z)) here ∙ target_is_owned t aims in cc);
@@ -86,16 +86,16 @@ module _ (c : ℕ) (r : CallRecord) (a : Attempt) (b : State) (sound : IsSound b
   }
 
 module _ (c : ℕ) (r : CallRecord) (a : Attempt) (b : State) where
-  open_missed : (x : ChanId) → (a.target ≡ Some x → ⊥) → Misses (without_attempt c r a (map.get b.timers c)).channel x
+  open_missed : (x : ChanId) → (a.target ≡ Some x → ⊥) → Misses (attempt_removal c r a (map.get b.timers c)).channel x
   open_missed x other = option_missed (λ t. (t, None)) a.target x (λ v is here. other (is ∙ ap Some (sym here)))
 
   by_other : (d : ℕ) → (Some d ≡ Some c → ⊥) → d ≢ c
   by_other d by here = by (ap Some here)
 
-  on_other : (y : ChanId) → ((t : ChanId) → a.target ≡ Some t → Some y ≡ Some t → ⊥) → Misses (without_attempt c r a (map.get b.timers c)).channel y
+  on_other : (y : ChanId) → ((t : ChanId) → a.target ≡ Some t → Some y ≡ Some t → ⊥) → Misses (attempt_removal c r a (map.get b.timers c)).channel y
   on_other y on = open_missed y (λ aims. on y aims refl)
 
-  pub open_others : (e : Event) → (call_of e ≡ Some c → ⊥) → ((t : ChanId) → a.target ≡ Some t → channel_of e ≡ Some t → ⊥) → IsOfOther (without_attempt c r a (map.get b.timers c)) e
+  pub open_others : (e : Event) → (call_of e ≡ Some c → ⊥) → ((t : ChanId) → a.target ≡ Some t → channel_of e ≡ Some t → ⊥) → IsOfOther (attempt_removal c r a (map.get b.timers c)) e
   open_others (event.Open d y) by on = by_other d by
   open_others (event.Clear d) by on = by_other d by
   open_others (event.Look d) by on = by_other d by
@@ -115,7 +115,7 @@ module _ (c : ℕ) (r : CallRecord) (a : Attempt) (b : State) where
   open_others (event.Left d) by on = by_other d by
 
   pub open_not_held : (reply : Reply) → ((t : ChanId) → a.target ≡ Some t → IsHeldChannel t reply → ⊥) → (IsHeldReference (reference_held a.target a.reference) reply → ⊥) →
-      IsNotHeld (without_attempt c r a (map.get b.timers c)) reply
+      IsNotHeld (attempt_removal c r a (map.get b.timers c)) reply
   open_not_held reply channel reference = record {
     channel = λ x e. open_missed x (λ aims. channel x aims e);
     reference = λ k e. option_missed (λ j. (j, None)) (reference_held a.target a.reference) k (λ j held here.
@@ -123,7 +123,7 @@ module _ (c : ℕ) (r : CallRecord) (a : Attempt) (b : State) where
   }
 
 -- while the target is off
-pub off_hides : (t : ChanId) (b : State) → state_of b t ≡ Off → Hides (without_channel (Some t)) b
+pub off_hides : (t : ChanId) (b : State) → state_of b t ≡ Off → Hides (channel_removal (Some t)) b
 off_hides t b off = record {
   free_channel = λ x free here. let bad : Free ≡ Off = sym free ∙ ap (state_of b) here ∙ off in cc;
   others_channel = λ x d owned other here. let bad : Some d ≡ None = sym owned ∙ ap owner (ap (state_of b) here ∙ off) in cc;
@@ -134,7 +134,7 @@ off_hides t b off = record {
   others_timer = λ d other. other;
 }
 
-pub off_others : (t : ChanId) (e : Event) → (channel_of e ≡ Some t → ⊥) → IsOfOther (without_channel (Some t)) e
+pub off_others : (t : ChanId) (e : Event) → (channel_of e ≡ Some t → ⊥) → IsOfOther (channel_removal (Some t)) e
 off_others t (event.Open d y) on = λ touched. touched
 off_others t (event.Clear d) on = λ touched. touched
 off_others t (event.Look d) on = λ touched. touched
@@ -153,7 +153,7 @@ off_others t (event.Require d) on = λ touched. touched
 off_others t (event.Order d) on = λ touched. touched
 off_others t (event.Left d) on = λ touched. touched
 
-pub off_not_held : (t : ChanId) (reply : Reply) → (IsHeldChannel t reply → ⊥) → IsNotHeld (without_channel (Some t)) reply
+pub off_not_held : (t : ChanId) (reply : Reply) → (IsHeldChannel t reply → ⊥) → IsNotHeld (channel_removal (Some t)) reply
 off_not_held t reply channel = record {
   channel = λ x e here. channel (e ∙ ap (λ z. Refused (ChannelBusy z)) here);
   reference = λ k e touched. touched;
@@ -163,18 +163,18 @@ off_not_held t reply channel = record {
 pub commutes_with_undone : (e : Event) → AgreesWithOthers e → CommutesWithUndone e
 commutes_with_undone e agrees = record {
   while_open = λ c r a b sound is has by alone reference.
-      agrees_commute (without_attempt c r a (map.get b.timers c)) b e
-      (agrees (without_attempt c r a (map.get b.timers c)) b sound (open_hides c r a b sound is has) (open_others c r a b e by (λ t aims. (alone t aims).event))
+      agrees_commute (attempt_removal c r a (map.get b.timers c)) b e
+      (agrees (attempt_removal c r a (map.get b.timers c)) b sound (open_hides c r a b sound is has) (open_others c r a b e by (λ t aims. (alone t aims).event))
       (open_not_held c r a b (reply_to b e) (λ t aims. (alone t aims).reply) reference));
   while_off = λ t b sound off alone.
-      agrees_commute (without_channel (Some t)) b e
-      (agrees (without_channel (Some t)) b sound (off_hides t b off) (off_others t e alone.event) (off_not_held t (reply_to b e) alone.reply));
+      agrees_commute (channel_removal (Some t)) b e
+      (agrees (channel_removal (Some t)) b sound (off_hides t b off) (off_others t e alone.event) (off_not_held t (reply_to b e) alone.reply));
 }
 
 -- of the target two changes follow one another, and the later stands; all else is the same in both
 pub undone_is_removed : UndoneIsRemoved
 undone_is_removed c r a b =
-    let removal = apply (without_attempt c r a (map.get b.timers c)) b in
+    let removal = apply (attempt_removal c r a (map.get b.timers c)) b in
     (λ i. record { site = b.site; channels = channels a.target i; calls = removal.calls; references = removal.references; timers = removal.timers })
   where
     channels : (o : Option ChanId) →
@@ -188,18 +188,18 @@ untouched : {K X : Type 0} (p : Option (Entry K X)) (k : K) (v : Option X) → A
 untouched None k v apart touched = touched
 untouched (Some e) k v apart touched = apart (sym touched)
 
-record_avoided : (c : ℕ) (r : CallRecord) (a : Attempt) (b : State) (o : Outcome) → Avoids o (without_attempt c r a (map.get b.timers c)) → record_of (book_after o b) c ≡ record_of b c
+record_avoided : (c : ℕ) (r : CallRecord) (a : Attempt) (b : State) (o : Outcome) → Avoids o (attempt_removal c r a (map.get b.timers c)) → record_of (book_after o b) c ≡ record_of b c
 record_avoided c r a b (Refuses refusal) away = refl
 record_avoided c r a b (Accepts change reply) away = record_kept change b c (untouched change.call c (resting_record a.kind r) away.call)
 
-target_avoided : (c : ℕ) (r : CallRecord) (a : Attempt) (b : State) (o : Outcome) → Avoids o (without_attempt c r a (map.get b.timers c)) → (t : ChanId) → a.target ≡ Some t → state_of (book_after o b) t ≡ state_of b t
+target_avoided : (c : ℕ) (r : CallRecord) (a : Attempt) (b : State) (o : Outcome) → Avoids o (attempt_removal c r a (map.get b.timers c)) → (t : ChanId) → a.target ≡ Some t → state_of (book_after o b) t ≡ state_of b t
 target_avoided c r a b (Refuses refusal) away t aims = refl
 target_avoided c r a b (Accepts change reply) away t aims =
     state_kept change b t (untouched change.channel t None (subst (λ o. AreApart change.channel (option_map (λ (t : ChanId). (t, None)) o)) aims away.channel))
 
 pub leaves_open_attempts : (e : Event) → AgreesWithOthers e → LeavesOpenAttempts e
 leaves_open_attempts e agrees c r a b sound is has by alone reference =
-    let agreed = agrees (without_attempt c r a (map.get b.timers c)) b sound (open_hides c r a b sound is has) (open_others c r a b e by (λ t aims. (alone t aims).event))
+    let agreed = agrees (attempt_removal c r a (map.get b.timers c)) b sound (open_hides c r a b sound is has) (open_others c r a b e by (λ t aims. (alone t aims).event))
     (open_not_held c r a b (reply_to b e) (λ t aims. (alone t aims).reply) reference) in
     let same = record_avoided c r a b (row b e) agreed.away in
     record {
@@ -210,11 +210,11 @@ leaves_open_attempts e agrees c r a b sound is has by alone reference =
 
 -- and while the target is off
 
-off_avoided : (t : ChanId) (b : State) (o : Outcome) → Avoids o (without_channel (Some t)) → state_of (book_after o b) t ≡ state_of b t
+off_avoided : (t : ChanId) (b : State) (o : Outcome) → Avoids o (channel_removal (Some t)) → state_of (book_after o b) t ≡ state_of b t
 off_avoided t b (Refuses refusal) away = refl
 off_avoided t b (Accepts change reply) away = state_kept change b t (untouched change.channel t None away.channel)
 
 pub leaves_off_targets : (e : Event) → AgreesWithOthers e → LeavesOffTargets e
 leaves_off_targets e agrees t b sound off alone =
-    let agreed = agrees (without_channel (Some t)) b sound (off_hides t b off) (off_others t e alone.event) (off_not_held t (reply_to b e) alone.reply) in
+    let agreed = agrees (channel_removal (Some t)) b sound (off_hides t b off) (off_others t e alone.event) (off_not_held t (reply_to b e) alone.reply) in
     off_avoided t b (row b e) agreed.away ∙ off

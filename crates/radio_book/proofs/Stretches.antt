@@ -1,12 +1,10 @@
 -- Stretches of lists: up to the first element that passes a test, and what follows it.
-use Rattle.std.proofs.Common.{◌≡◌, ◌+◌, ◌-◌, ◌<◌, ◌≤◌, ℕ, zero, suc, Bool, true, false, not, cond, nat_lt, List, [], ◌∷◌, ◌++◌, length, take, drop, get_or, Option, Some, None, refl, sym, ◌∙◌, ap, subst, arith, if◌then◌else◌}
-use Rattle.std.specs.List.{position, position_or_len, filter, find, slice_get, prefix_len}
+use Rattle.std.proofs.Common.{◌≡◌, ◌+◌, ◌-◌, ◌<◌, ◌≤◌, ℕ, zero, suc, Bool, true, false, not, cond, nat_lt, List, [], ◌∷◌, ◌++◌, length, take, drop, get_or, Option, Some, None, refl, sym, ◌∙◌, ap, arith, if◌then◌else◌}
+use Rattle.std.specs.List.{position, position_or_len, filter, find, slice_get}
 use Rattle.std.specs.Option.{option_map, option_or}
 use Rattle.std.proofs.lemmas.Bool.Decides.{nat_tests}
 use Rattle.radio_book.specs.declared.undone.StepAt.{StepAt}
-use Rattle.radio_book.specs.Undone.{up_to_first, after_first}
-use Rattle.radio_book.specs.Undone.{releases}
-use Rattle.radio_book.specs.Found.{first_place, awaiting_of, settled_of}
+use Rattle.radio_book.specs.Undone.{up_to_first, after_first, releases, awaiting, settled_tail, first_place}
 use Rattle.std.proofs.lemmas.List.{length-drop}
 use Rattle.std.proofs.lemmas.List.Folds.{find_at}
 use Rattle.std.proofs.Math.Seq.{take-length}
@@ -134,11 +132,11 @@ first_found t (x ∷ xs) = by (first_found t xs) (t x)
     by rest false = rest
 
 -- the stretch of the tail while the release is awaited, and what follows it
-pub awaiting_take : (target : Option ChanId) (awaited : Bool) (tail : List StepAt) → take (length (awaiting_of target awaited tail)) tail ≡ awaiting_of target awaited tail
+pub awaiting_take : (target : Option ChanId) (awaited : Bool) (tail : List StepAt) → take (length (awaiting target awaited tail)) tail ≡ awaiting target awaited tail
 awaiting_take target true tail = up_to_take (releases target) tail
 awaiting_take target false tail = refl
 
-pub settled_drop : (target : Option ChanId) (awaited : Bool) (tail : List StepAt) → drop (length (awaiting_of target awaited tail)) tail ≡ settled_of target awaited tail
+pub settled_drop : (target : Option ChanId) (awaited : Bool) (tail : List StepAt) → drop (length (awaiting target awaited tail)) tail ≡ settled_tail target awaited tail
 settled_drop target true tail = after_drop (releases target) tail
 settled_drop target false tail = refl
 

@@ -1,5 +1,6 @@
 -- What a choice of a channel (TS 48.058 clause 4) or of a Handover Reference (TS 44.018 clause 10.5.2.15) allows.
-use Rattle.std.specs.Prelude.{◌≡◌, ℕ, ◌<◌, Bool, true, false, ◌&&◌, List, count_by, flat_map, map as map_list, Option, Some, None}
+use Rattle.std.specs.Prelude.{◌≡◌, ℕ, ◌<◌, ◌/◌, ◌%◌, Bool, true, false, not, ◌&&◌, List, count_by, flat_map, map as map_list, Option, Some, None}
+use Rattle.std.specs.Int.{from_bool}
 use Rattle.std.specs.List.{range_with_len}
 use Rattle.std.specs.FinMap as map
 use Rattle.channel_fsm.specs.declared.ChanId.{ChanId}
@@ -73,6 +74,14 @@ is_free (Held c) = false
 is_free (Pending c) = false
 is_free (On c) = false
 is_free Off = false
+
+-- 1 for a channel in use, 0 for a free one
+abbrev pub in_use : ChanState → ℕ
+in_use s = from_bool (not (is_free s))
+
+-- the channel at a place among those that a cell can have, of which each TRX has eight
+abbrev pub channel_at : ℕ → ℕ → ChanId
+channel_at cell place = record { cell = cell; trx = place / 8; tn = place % 8 }
 
 abbrev pub is_free_traffic : State → ChanId → Bool
 is_free_traffic b x = is_traffic b.site x && is_free (state_of b x)

@@ -67,12 +67,12 @@ IsHeldReference None reply = ⊥
 IsHeldReference (Some k) reply = reply ≡ Refused (RefBusy k.cell k.number)
 
 -- all that an open attempt has is gone: what its undo takes away, and its channel, whatever its state
-abbrev pub without_attempt : ℕ → CallRecord → Attempt → Option Timer → Change
-without_attempt c r a armed = record (undo_change c r a (λ x. Free) armed) { channel = option_map (λ t. (t, None)) a.target }
+abbrev pub attempt_removal : ℕ → CallRecord → Attempt → Option Timer → Change
+attempt_removal c r a armed = record (undo_change c r a (λ x. Free) armed) { channel = option_map (λ t. (t, None)) a.target }
 
 -- a channel whose release is awaited is gone, if there is one
-abbrev pub without_channel : Option ChanId → Change
-without_channel target = record no_change { channel = option_map (λ t. (t, None)) target }
+abbrev pub channel_removal : Option ChanId → Change
+channel_removal target = record no_change { channel = option_map (λ t. (t, None)) target }
 
 -- the step and the taking away lead to one book in either order, and the reply is the same
 pub record Commutes (removal : Change) (b : State) (e : Event) : Type 0 where
@@ -92,7 +92,7 @@ CommutesWhileOpen e =
     IsSound b → record_of b c ≡ Some r → r.attempt ≡ Some a →
     (call_of e ≡ Some c → ⊥) → ((t : ChanId) → a.target ≡ Some t → LeavesAlone t b e) →
     (IsHeldReference (reference_held a.target a.reference) (reply_to b e) → ⊥) →
-    Commutes (without_attempt c r a (map.get b.timers c)) b e
+    Commutes (attempt_removal c r a (map.get b.timers c)) b e
 
 -- a step that leaves an attempt as it is: the record of its call, the state of its target, its timer
 pub record LeavesAttempt (c : ℕ) (target : Option ChanId) (b after : State) : Type 0 where
@@ -112,7 +112,7 @@ LeavesOpenAttempts e =
 -- once it is undone, while its target is off: a step that leaves the target alone
 abbrev pub CommutesWhileOff : Event → Type 0
 CommutesWhileOff e =
-    (t : ChanId) (b : State) → IsSound b → state_of b t ≡ Off → LeavesAlone t b e → Commutes (without_channel (Some t)) b e
+    (t : ChanId) (b : State) → IsSound b → state_of b t ≡ Off → LeavesAlone t b e → Commutes (channel_removal (Some t)) b e
 
 -- and it leaves the target off
 abbrev pub LeavesOffTargets : Event → Type 0
@@ -126,12 +126,12 @@ pub record CommutesWithUndone (e : Event) : Type 0 where
 abbrev pub UndoneIsRemoved : Type 0
 UndoneIsRemoved =
     (c : ℕ) (r : CallRecord) (a : Attempt) (b : State) →
-    apply (without_channel a.target) (apply (undo_change c r a (state_of b) (map.get b.timers c)) b) ≡ apply (without_attempt c r a (map.get b.timers c)) b
+    apply (channel_removal a.target) (apply (undo_change c r a (state_of b) (map.get b.timers c)) b) ≡ apply (attempt_removal c r a (map.get b.timers c)) b
 
 -- the book without the open attempt of a call; where the call has none, the book
 abbrev pub without_open : ℕ → CallRecord → Option Attempt → State → State
 without_open c r None b = b
-without_open c r (Some a) b = apply (without_attempt c r a (map.get b.timers c)) b
+without_open c r (Some a) b = apply (attempt_removal c r a (map.get b.timers c)) b
 
 abbrev pub without_attempt_in : ℕ → Option CallRecord → State → State
 without_attempt_in c None b = b

@@ -1,6 +1,6 @@
 -- An attempt that is undone within a list of steps: what stays of the list without it, which of that was refused for what
 -- the attempt held, and whether its channel came back. Ours, of no standard.
-use Rattle.std.specs.Prelude.{◌≡◌, ◌+◌, ℕ, Bool, true, false, not, ◌&&◌, ◌||◌, ◌==◌, if◌then◌else◌, IsTrue, List, [], ◌∷◌, ◌++◌, map, filter, find, All, slice_get, Option, Some, None, is_some}
+use Rattle.std.specs.Prelude.{◌≡◌, ◌+◌, ℕ, Bool, true, false, not, ◌&&◌, ◌||◌, ◌==◌, if◌then◌else◌, IsTrue, List, [], ◌∷◌, ◌++◌, map, filter, find, All, slice_get, Option, Some, None}
 use Rattle.std.specs.Option.{option_map, option_and_then}
 use Rattle.std.specs.List.{list_any}
 use Rattle.channel_fsm.specs.declared.ChanId.{ChanId}
@@ -16,7 +16,7 @@ use Rattle.radio_book.specs.Table.{step, reply_to, same_chan, reference_held}
 use Rattle.radio_book.specs.Run.{run_book}
 use Rattle.radio_book.specs.Others.{call_of, channel_of}
 pub use Rattle.radio_book.specs.Kinds.{Opens, Undoes}
-use Rattle.radio_book.specs.Kinds.{EndsIt, released_by, number_of, refusal_of, is_accepted, busy_channel, busy_reference}
+use Rattle.radio_book.specs.Kinds.{EndsIt, released_by, number_of, refusal_of, is_accepted, is_reserved, busy_channel, busy_reference}
 
 -- LISTS OF STEPS
 
@@ -126,13 +126,13 @@ is_reference (Some k) (Some l) = l.cell == k.cell && l.number == k.number
 abbrev pub releases : Option ChanId → StepAt → Bool
 releases target s = is_channel target (released_by s.event)
 
--- the tail while the release is awaited: up to and with the first acknowledgement of it, or to the end
-abbrev pub awaiting : Undone → List StepAt
-awaiting u = if u.awaited then up_to_first (releases u.target) u.tail else []
+-- a tail while the release is awaited: up to and with the first acknowledgement of it, or to the end
+abbrev pub awaiting : Option ChanId → Bool → List StepAt → List StepAt
+awaiting target awaited tail = if awaited then up_to_first (releases target) tail else []
 
--- the tail once no release is awaited
-abbrev pub settled_tail : Undone → List StepAt
-settled_tail u = if u.awaited then after_first (releases u.target) u.tail else u.tail
+-- a tail once no release is awaited
+abbrev pub settled_tail : Option ChanId → Bool → List StepAt → List StepAt
+settled_tail target awaited tail = if awaited then after_first (releases target) tail else tail
 
 -- nothing of the attempt is left: no release was awaited, or it came
 abbrev pub is_settled : Undone → Bool
@@ -149,46 +149,62 @@ abbrev pub is_by_call : ℕ → StepAt → Bool
 is_by_call c s = is_call c (call_of s.event)
 
 -- between opening and undo stays what isn't by the call, and isn't a station's on the target
-abbrev pub others_between : Undone → List StepAt → List StepAt
-others_between u steps = filter (λ s. not (is_by_call u.call s) && not (is_on_target u.target s)) steps
+abbrev pub others_between : ℕ → Option ChanId → List StepAt → List StepAt
+others_between c target steps = filter (λ s. not (is_by_call c s) && not (is_on_target target s)) steps
 
 -- while the release is awaited stays what isn't a station's on the target
-abbrev pub others_awaiting : Undone → List StepAt → List StepAt
-others_awaiting u steps = filter (λ s. not (is_on_target u.target s)) steps
+abbrev pub others_awaiting : Option ChanId → List StepAt → List StepAt
+others_awaiting target steps = filter (λ s. not (is_on_target target s)) steps
 
--- the steps that stay without the attempt: the whole head, the others of the two stretches above, the whole rest
+-- and after that the whole rest of the tail
+abbrev pub others_after : Option ChanId → Bool → List StepAt → List StepAt
+others_after target awaited tail = others_awaiting target (awaiting target awaited tail) ++ settled_tail target awaited tail
+
+-- the steps that stay without the attempt: the whole head, and the others of between and tail
 abbrev pub others : Undone → List StepAt
-others u = u.head ++ (others_between u u.between ++ (others_awaiting u (awaiting u) ++ settled_tail u))
+others u = u.head ++ (others_between u.call u.target u.between ++ others_after u.target u.awaited u.tail)
 
 -- HELD REFUSALS
 
 -- the attempt reserves a reference with this step
 abbrev pub reserves : ℕ → StepAt → Bool
-reserves c s = is_by_call c s && is_some (number_of s.event) && is_accepted s.reply
+reserves c s = is_by_call c s && is_reserved s.event s.reply
 
--- the reference that the attempt reserved, in the cell of its target
-abbrev pub reference_reserved : Undone → Option Reference
-reference_reserved u = reference_held u.target (option_and_then (λ (s : StepAt). number_of s.event) (find (reserves u.call) u.between))
+-- the reference that the attempt reserved between opening and undo, in the cell of its target
+abbrev pub reference_reserved : ℕ → Option ChanId → List StepAt → Option Reference
+reference_reserved c target between = reference_held target (option_and_then (λ (s : StepAt). number_of s.event) (find (reserves c) between))
 
 -- the refusal comes from this channel, or from this reference
 abbrev pub comes_from : Option ChanId → Option Reference → Option Refusal → Bool
 comes_from target reference None = false
 comes_from target reference (Some why) = is_channel target (busy_channel why) || is_reference reference (busy_reference why)
 
+-- of these steps those that were refused for this channel or this reference
 abbrev pub refused_for : Option ChanId → Option Reference → List StepAt → List StepAt
 refused_for target reference steps = filter (λ s. comes_from target reference (refusal_of s.reply)) steps
 
--- the others that were refused for what the attempt held: its channel from the opening on, its reference from the step that
--- reserved it to the undo, and again its channel while the release was awaited
-abbrev pub held_refusals : Undone → List StepAt
-held_refusals u =
-    refused_for u.target None (others_between u (up_to_first (reserves u.call) u.between))
-    ++ (refused_for u.target (reference_reserved u) (others_between u (after_first (reserves u.call) u.between))
-    ++ refused_for u.target None (others_awaiting u (awaiting u)))
+-- the others between opening and undo that were refused for what the attempt held: its channel all the time, its reference
+-- from the step on that reserved it
+abbrev pub held_between : ℕ → Option ChanId → List StepAt → List StepAt
+held_between c target between =
+    refused_for target None (others_between c target (up_to_first (reserves c) between))
+    ++ refused_for target (reference_reserved c target between) (others_between c target (after_first (reserves c) between))
 
--- where the first of them stands
+-- after the undo those that were refused for its channel while the release was awaited
+abbrev pub held_after : Option ChanId → Bool → List StepAt → List StepAt
+held_after target awaited tail = refused_for target None (others_awaiting target (awaiting target awaited tail))
+
+-- all others that were refused for what the attempt held
+abbrev pub held_refusals : Undone → List StepAt
+held_refusals u = held_between u.call u.target u.between ++ held_after u.target u.awaited u.tail
+
+-- where the first of some steps stands
+abbrev pub first_place : List StepAt → Option ℕ
+first_place steps = option_map (λ (s : StepAt). s.place) (slice_get steps 0)
+
+-- where the first held refusal stands, if there is one
 abbrev pub first_held : Undone → Option ℕ
-first_held u = option_map (λ (s : StepAt). s.place) (slice_get (held_refusals u) 0)
+first_held u = first_place (held_refusals u)
 
 -- LAWS
 

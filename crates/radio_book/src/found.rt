@@ -1,11 +1,11 @@
 //! The undone attempt that opens at a place of a list of steps, and what stays of the list without it.
-ghost use Rattle.std.specs.Prelude.{◌≡◌, ◌+◌, ◌<◌, ◌≤◌, ◌&&◌, ◌||◌, Bool, not, length, filter, find, IfOk, IfSome, IfNone, IsTrue};
+ghost use Rattle.std.specs.Prelude.{◌≡◌, ◌+◌, ◌<◌, ◌≤◌, ◌||◌, Bool, not, length, find, IfOk, IfSome, IfNone};
 ghost use Rattle.std.specs.Option.{option_map, option_and_then};
 ghost use Rattle.radio_book.specs.Table.{reference_held};
 ghost use Rattle.std.specs.List.{list_any, position};
-ghost use Rattle.radio_book.specs.Kinds.{refusal_of, number_of};
-ghost use Rattle.radio_book.specs.Undone.{Undone, IsUndoneIn, is_call, is_channel, is_reference, is_by_call, is_on_target, releases, reserves, comes_from, up_to_first, others, is_settled, first_held};
-ghost use Rattle.radio_book.specs.Found.{ends, parts_of, awaiting_of, kept_between, held_between, kept_after, held_after, first_place};
+ghost use Rattle.radio_book.specs.Kinds.{refusal_of, number_of, is_reserved};
+ghost use Rattle.radio_book.specs.Undone.{Undone, IsUndoneIn, is_call, is_channel, is_reference, is_on_target, releases, reserves, comes_from, up_to_first, awaiting, others_between, others_awaiting, others_after, others, is_settled, held_between, held_after, first_place, first_held};
+ghost use Rattle.radio_book.specs.Found.{ends, parts_of};
 ghost use Rattle.radio_book.specs.declared.undone.StepAt.{StepAt};
 
 use crate::event::{Reference, Refusal};
@@ -74,13 +74,18 @@ fn ends(call: u16, step: &StepAt) -> bool
     is_call(call, ended_by(step.event)) && refusal_of(step.reply).is_none()
 }
 
+/// A reference is reserved with this step.
+fn is_reserved(step: &StepAt) -> bool
+    ensures { result ≡ is_reserved step.now.event step.now.reply }
+{
+    number_of(step.event).is_some() && refusal_of(step.reply).is_none()
+}
+
 /// The attempt of the call reserves a reference with this step.
 fn reserves(call: u16, step: &StepAt) -> bool
     ensures { result ≡ reserves call step.now }
 {
-    is_call(call, call_of(step.event))
-        && number_of(step.event).is_some()
-        && refusal_of(step.reply).is_none()
+    is_call(call, call_of(step.event)) && is_reserved(step)
 }
 
 fn is_on_target(target: Option<ChanId>, step: &StepAt) -> bool
@@ -156,7 +161,7 @@ fn until_released(target: Option<ChanId>, steps: &[StepAt]) -> usize
 
 /// How many steps stand while the release of the target is awaited.
 fn while_awaited(target: Option<ChanId>, awaited: bool, steps: &[StepAt]) -> usize
-    ensures length { result ≡ length (awaiting_of target awaited steps.now) }
+    ensures length { result ≡ length (awaiting target awaited steps.now) }
     ensures within { result ≤ length steps.now }
 {
     if awaited {
@@ -205,8 +210,7 @@ fn others_between<A: Allocator + Copy>(
     target: Option<ChanId>,
     steps: &[StepAt],
 ) -> Result<Vec<StepAt, A>, AllocError>
-    ensures { IfOk result (λ others. others.items ≡
-        filter (λ s. not (is_by_call call s) && not (is_on_target target s)) steps.now) }
+    ensures { IfOk result (λ others. others.items ≡ others_between call target steps.now) }
 {
     steps
         .iter()
@@ -221,7 +225,7 @@ fn others_awaiting<A: Allocator + Copy>(
     target: Option<ChanId>,
     steps: &[StepAt],
 ) -> Result<Vec<StepAt, A>, AllocError>
-    ensures { IfOk result (λ others. others.items ≡ filter (λ s. not (is_on_target target s)) steps.now) }
+    ensures { IfOk result (λ others. others.items ≡ others_awaiting target steps.now) }
 {
     steps
         .iter()
@@ -282,7 +286,7 @@ fn stretch_between<A: Allocator + Copy>(
     target: Option<ChanId>,
     between: &[StepAt],
 ) -> Result<Stretch<A>, AllocError>
-    ensures kept { IfOk result (λ stretch. stretch.kept.items ≡ kept_between call target between.now) }
+    ensures kept { IfOk result (λ stretch. stretch.kept.items ≡ others_between call target between.now) }
     ensures held { IfOk result (λ stretch. stretch.held ≡ first_place (held_between call target between.now)) }
 {
     let (before, after) = between.split_at(until_reserved(call, between));
@@ -301,7 +305,7 @@ fn stretch_after<A: Allocator + Copy>(
     awaited: bool,
     tail: &[StepAt],
 ) -> Result<Stretch<A>, AllocError>
-    ensures kept { IfOk result (λ stretch. stretch.kept.items ≡ kept_after target awaited tail.now) }
+    ensures kept { IfOk result (λ stretch. stretch.kept.items ≡ others_after target awaited tail.now) }
     ensures held { IfOk result (λ stretch. stretch.held ≡ first_place (held_after target awaited tail.now)) }
 {
     let (awaiting, settled) = tail.split_at(while_awaited(target, awaited, tail));
@@ -326,7 +330,7 @@ fn is_settled(target: Option<ChanId>, awaited: bool, tail: &[StepAt]) -> bool
 }
 
 /// What stays without the attempt.
-pub fn without_attempt<A: Allocator + Copy>(
+pub fn remainder_of<A: Allocator + Copy>(
     alloc: A,
     steps: &[StepAt],
     found: &Found,

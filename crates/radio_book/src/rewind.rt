@@ -1,5 +1,5 @@
 //! An attempt that was undone, taken out of a list of events.
-ghost use Rattle.std.specs.Prelude.{◌≡◌, ℕ, true, List, map, zip, slice_get, Some, None, Err, IfOk, OnOk};
+ghost use Rattle.std.specs.Prelude.{◌≡◌, ℕ, true, map, zip, slice_get, Some, None, Err, IfOk, OnOk};
 ghost use Rattle.std.specs.List.{enumerate_from};
 ghost use Rattle.radio_book.specs.Run.{run_book, run_replies};
 ghost use Rattle.radio_book.specs.Undone.{Undone, IsUndoneAt, OpensUndone, others, places_of, events_of, is_settled, first_held};
@@ -7,7 +7,7 @@ ghost use Rattle.radio_book.specs.declared.undone.StepAt.{StepAt};
 
 use crate::book::Book;
 use crate::event::{Event, Reply};
-use crate::found::{found_at, without_attempt};
+use crate::found::{found_at, remainder_of};
 use crate::run::run;
 use crate::undone::StepAt;
 use std::alloc::{AllocError, Allocator, Global};
@@ -133,7 +133,7 @@ pub fn rewind<A: Allocator + Copy>(
     };
     let (undone, _) = run(alloc, book, &events[..found.head + found.between + 2])?;
     let awaited = undone.is_off(found.target);
-    let remainder = without_attempt(alloc, &steps, &found, awaited)?;
+    let remainder = remainder_of(alloc, &steps, &found, awaited)?;
     let kept = events_of(alloc, &remainder.kept)?;
     let others = places_of(alloc, &remainder.kept)?;
     let (without, without_replies) = run(alloc, book, &kept)?;

@@ -1,5 +1,6 @@
 //! The tables of a book. Each wraps a tree, and is seen as finite maps from its keys.
-ghost use Rattle.std.specs.Prelude.{◌≡◌, OnOk, OnErr, IfOk, None, IsSome, IfSome, is_some, count_by};
+ghost use Rattle.std.specs.Prelude.{◌≡◌, ◌≢◌, ℕ, ◌<◌, max, OnOk, OnErr, IfOk, None, IsSome, IfSome, is_some, count_by};
+ghost use Rattle.std.specs.Int.{bit_at};
 ghost use Rattle.std.specs.BTreeMap.{values, IsOrdered};
 ghost use Rattle.std.specs.Ordering.{nat_cmp};
 ghost use Rattle.std.specs.Borrow.{sem};
@@ -13,6 +14,7 @@ ghost use Rattle.radio_book.specs.Same.{is_same, is_same-IsEquivalence};
 ghost use Rattle.radio_book.specs.Entries.{call_table_code};
 ghost use Rattle.radio_book.specs.State.{or_free, channels_code, references_code};
 ghost use Rattle.radio_book.specs.Channels.{state_after, channel_step};
+ghost use Rattle.radio_book.specs.Choice.{channel_at, in_use};
 
 use crate::entry::CallEntry;
 use crate::event::{CallRecord, Reference};
@@ -89,6 +91,28 @@ impl<A: Allocator + Copy> Channels<A> {
         self.get(x).unwrap_or(ChanState::Free)
     }
 
+    /// Which of the channels that a cell can have are in use: of each the bit at its place. The cell's entries stand
+    /// together, and are walked once.
+    pub fn in_use(&self, cell: u8) -> u32
+        ensures { (place : ℕ) → place < 32 →
+            bit_at result place ≡ in_use (or_free (map.get self.now (channel_at cell place))) }
+    {
+        let first = ChanId {
+            cell,
+            trx: 0,
+            tn: 0,
+        };
+        let mut used: u32 = 0;
+        for (key, state) in self.states.range(ChanKey::of(first)..) {
+            let x = key.chan();
+            if x.cell != cell {
+                return used;
+            }
+            used = with_state(used, x, *state);
+        }
+        used
+    }
+
     /// A free channel comes into use by a step of a free channel. Memory is asked for.
     pub fn occupy(&mut self, x: ChanId, event: ChanEvent) -> Result<(), AllocError>
         requires free { map.get self.old x ≡ None }
@@ -153,6 +177,24 @@ impl<A: Allocator + Copy> Channels<A> {
         ensures { self.new ≡ map.remove self.old x }
     {
         let _ = self.states.remove(&ChanKey::of(x));
+    }
+}
+
+/// The bits of a cell, with that at the channel's place where its state says that it is in use.
+fn with_state(used: u32, x: ChanId, state: ChanState) -> u32
+    ensures here { (place : ℕ) → place < 32 → channel_at x.cell place ≡ x →
+        bit_at result place ≡ max (bit_at used place) (in_use state) }
+    ensures elsewhere { (place : ℕ) → place < 32 → channel_at x.cell place ≢ x →
+        bit_at result place ≡ bit_at used place }
+{
+    if x.trx >= 4 || x.tn >= 8 {
+        return used;
+    }
+    match state {
+        ChanState::Free => used,
+        ChanState::Held(_) | ChanState::Pending(_) | ChanState::On(_) | ChanState::Off => {
+            used | 1 << u32::from(x.trx * 8 + x.tn)
+        }
     }
 }
 

@@ -1,12 +1,13 @@
 //! Channels and references are chosen: the lowest that are free.
-ghost use Rattle.std.specs.Prelude.{◌≡◌, ◌↔◌, ◌/◌, ◌%◌, IfSome, IfNone, find};
+ghost use Rattle.std.specs.Prelude.{◌≡◌, ◌↔◌, ◌<◌, IsTrue, IfSome, IfNone, find};
+ghost use Rattle.std.specs.Int.{bit_at};
 ghost use Rattle.radio_book.specs.Sound.{IsSound};
-ghost use Rattle.radio_book.specs.State.{record_of};
-ghost use Rattle.radio_book.specs.Choice.{IsFreeIn, NoneFree, IsNumberFree, MayReserve, taken_channel, is_free_traffic, channels_of, free_count};
+ghost use Rattle.radio_book.specs.State.{state_of, record_of};
+ghost use Rattle.radio_book.specs.Choice.{IsFreeIn, NoneFree, IsNumberFree, MayReserve, taken_channel, is_free_traffic, in_use, channel_at, channels_of, free_count};
 
 use crate::event::{CallRecord, Reference, Stage};
 use crate::records::Records;
-use channel_fsm::{ChanId, ChanState};
+use channel_fsm::ChanId;
 use std::alloc::Allocator;
 
 /// How many channels a cell can have: four TRX of eight timeslots.
@@ -27,9 +28,10 @@ impl<A: Allocator + Copy> Records<A> {
     fn lowest_free(&self, cell: u8) -> Option<ChanId>
         ensures { result ≡ find (is_free_traffic self.now) (channels_of cell) }
     {
+        let used = self.channels.in_use(cell);
         for place in 0..PLACES {
             let x = channel_at(cell, place);
-            if self.is_free_traffic(x) {
+            if self.is_free_traffic(used, place, x) {
                 return Some(x);
             }
         }
@@ -51,17 +53,24 @@ impl<A: Allocator + Copy> Records<A> {
     fn count_free(&self, cell: u8) -> u32
         ensures { result ≡ free_count self.now cell }
     {
+        let used = self.channels.in_use(cell);
         let mut count: u32 = 0;
         for place in 0..PLACES {
-            count += u32::from(self.is_free_traffic(channel_at(cell, place)));
+            count += u32::from(self.is_free_traffic(used, place, channel_at(cell, place)));
         }
         count
     }
 
-    fn is_free_traffic(&self, x: ChanId) -> bool
+    /// The channel can be chosen, where its place among those in use is known.
+    fn is_free_traffic(&self, used: u32, place: u8, x: ChanId) -> bool
+        requires place { place < 32 }
+        requires used { bit_at used place ≡ in_use (state_of self.now x) }
         ensures { result ≡ is_free_traffic self.now x }
     {
-        self.is_traffic(x) && matches!(self.state_of(x), ChanState::Free)
+        if is_set(used, place) {
+            return false;
+        }
+        self.is_traffic(x)
     }
 
     /// The number that a call may reserve: a free one in the cell of the channel that its attempt has
@@ -94,9 +103,16 @@ impl<A: Allocator + Copy> Records<A> {
     }
 }
 
+fn is_set(bits: u32, place: u8) -> bool
+    requires { place < 32 }
+    ensures { IsTrue result ↔ (bit_at bits place ≡ 1) }
+{
+    bits >> u32::from(place) & 1 == 1
+}
+
 /// The channel at a place among those that a cell can have.
 fn channel_at(cell: u8, place: u8) -> ChanId
-    ensures { result ≡ record { cell = cell; trx = place / 8; tn = place % 8 } }
+    ensures { result ≡ channel_at cell place }
 {
     ChanId {
         cell,

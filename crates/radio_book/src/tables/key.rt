@@ -104,6 +104,12 @@ impl ChanKey {
         let number = (u32::from(chan.cell) * 256 + u32::from(chan.trx)) * 256 + u32::from(chan.tn);
         ChanKey { chan, number }
     }
+
+    pub fn chan(&self) -> ChanId
+        ensures { result ≡ self.now }
+    {
+        self.chan
+    }
 }
 
 impl Clone for ChanKey {

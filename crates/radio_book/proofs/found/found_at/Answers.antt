@@ -1,4 +1,4 @@
-use Rattle.std.proofs.Common.{◌≡◌, ◌+◌, ℕ, true, not, drop, get_or, Some, refl, sym, ◌∙◌, ap, subst, arith}
+use Rattle.std.proofs.Common.{◌≡◌, ◌+◌, not, refl, sym, ◌∙◌, ap, subst, arith}
 use Rattle.std.specs.Prelude.{IfNone, is_some, length}
 use Rattle.radio_book.specs.declared.event.Event.TheVariants.{Open}
 use Rattle.radio_book.specs.declared.event.Reply.TheVariants.{Done}

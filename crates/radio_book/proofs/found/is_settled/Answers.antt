@@ -1,4 +1,4 @@
-use Rattle.std.proofs.Common.{◌≡◌, ◌||◌, not, sym, ◌∙◌, ap}
+use Rattle.std.proofs.Common.{◌||◌, not, sym, ◌∙◌, ap}
 use Rattle.std.specs.List.{list_any}
 use Rattle.radio_book.specs.Undone.{releases}
 use Rattle.radio_book.proofs.found.is_settled.Goals as goal

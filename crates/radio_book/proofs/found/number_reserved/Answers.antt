@@ -1,4 +1,4 @@
-use Rattle.std.proofs.Common.{◌≡◌, Some, None, sym, ◌∙◌, ap}
+use Rattle.std.proofs.Common.{sym, ◌∙◌, ap}
 use Rattle.std.specs.Option.{option_and_then}
 use Rattle.radio_book.specs.declared.event.Event.TheVariants.{Open}
 use Rattle.radio_book.specs.declared.event.Reply.TheVariants.{Done}

@@ -1,5 +1,5 @@
-use Rattle.std.proofs.Common.{◌≡◌, sym, ◌∙◌, subst, ◌≤◌, length, arith}
-use Rattle.radio_book.specs.Undone.{releases, up_to_first}
+use Rattle.std.proofs.Common.{sym, ◌∙◌, subst, ◌≤◌, length, arith}
+use Rattle.radio_book.specs.Undone.{releases}
 use Rattle.radio_book.proofs.Stretches.{up_to_found, up_to_missed, up_to_short}
 use Rattle.radio_book.proofs.found.until_released.Goals as goal
 

@@ -1,11 +1,11 @@
-use Rattle.std.proofs.Common.{◌≡◌, ◌+◌, ◌<◌, ◌≤◌, ℕ, List, map, take, length, sym, ◌∙◌, ap, subst}
+use Rattle.std.proofs.Common.{◌≡◌, ◌+◌, ◌<◌, ℕ, List, map, length, sym, ◌∙◌, ap, subst}
 use Rattle.std.specs.List.{enumerate_from, zip}
 use Rattle.std.proofs.lemmas.List.{length-take-le}
 use Rattle.radio_book.specs.declared.event.Event.{Event}
 use Rattle.radio_book.specs.declared.event.Reply.{Reply}
 use Rattle.radio_book.specs.declared.undone.StepAt.{StepAt}
 use Rattle.radio_book.specs.Run.{run_book, run_replies}
-use Rattle.radio_book.specs.Undone.{Undone, IsUndoneIn, IsUndoneAt, steps_from, places_of, events_of, is_target_off, others, is_settled, first_held}
+use Rattle.radio_book.specs.Undone.{Undone, IsUndoneIn, IsUndoneAt, places_of, events_of, is_target_off, others, is_settled, first_held}
 use Rattle.radio_book.specs.Found.{parts_of}
 use Rattle.radio_book.proofs.NoTrace.{same_without}
 use Rattle.radio_book.proofs.FoundFacts.{steps_are, opens_none, undo_within, found_there, only_one}

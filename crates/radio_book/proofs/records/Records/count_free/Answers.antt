@@ -1,8 +1,14 @@
-use Rattle.std.proofs.Common.{◌∙◌, ap, arith}
+use Rattle.std.proofs.Common.{sym, ◌∙◌, ap, arith}
 use Rattle.std.specs.Int.{from_bool}
-use Rattle.radio_book.specs.Choice.{is_free_traffic}
+use Rattle.radio_book.specs.State.{state_of}
+use Rattle.radio_book.specs.Choice.{in_use, is_free_traffic}
 use Rattle.radio_book.proofs.Chosen.{counted_at, counted_all, one_at_most}
 use Rattle.radio_book.proofs.records.Records.count_free.Goals as goal
+
+pub is_free_traffic-requires-clause-used : goal.is_free_traffic-requires-clause-used
+is_free_traffic-requires-clause-used g c =
+    c.in_use-used.ensures c.loop-place.place c.loop-place-test.true
+    ∙ (λ i. in_use (state_of (c.self.view_is i) (sym c.channel_at.ensures i)))
 
 pub loop-place-preserved : goal.loop-place-preserved
 loop-place-preserved g c =

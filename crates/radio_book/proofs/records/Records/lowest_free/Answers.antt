@@ -1,7 +1,13 @@
 use Rattle.std.proofs.Common.{Some, sym, ◌∙◌, ap}
-use Rattle.radio_book.specs.Choice.{is_free_traffic}
+use Rattle.radio_book.specs.State.{state_of}
+use Rattle.radio_book.specs.Choice.{in_use, is_free_traffic}
 use Rattle.radio_book.proofs.Chosen.{found_at, passed_at, passed_all}
 use Rattle.radio_book.proofs.records.Records.lowest_free.Goals as goal
+
+pub is_free_traffic-requires-clause-used : goal.is_free_traffic-requires-clause-used
+is_free_traffic-requires-clause-used g c =
+    c.in_use-used.ensures c.loop-place.place c.loop-place-test.true
+    ∙ (λ i. in_use (state_of (c.self.view_is i) (sym c.channel_at-x.ensures i)))
 
 pub loop-place-preserved : goal.loop-place-preserved
 loop-place-preserved g c =
