@@ -27,9 +27,10 @@ use rows::{
     DETECTS, DETECTS_NOBODY, EXPIRES, EXPIRES_AGAIN, EXPIRES_OTHERWISE, FAILS, FAILS_AT_TARGET,
     FAILS_COMMANDED, FAILS_NOBODY, Given, OPENS, OPENS_AGAIN, OPENS_OTHER, OPENS_TARGET,
     REFUSED_AT_ONCE, REFUSES_NOTHING, RELEASED, RELEASED_AGAIN, RETURNS, RETURNS_AT_TARGET,
-    RETURNS_FROM_NOWHERE, Row, STARTS, STARTS_AGAIN, STARTS_AT_HOME, STARTS_NOTHING,
-    STARTS_NOWHERE, Sent, TARGET_ACTIVATED, TARGET_ACTIVATED_TOO_LATE, TARGET_REFUSES,
-    TARGET_RELEASED, UNDOES, UNDOES_COMMANDED, UNDOES_NOTHING, WITHOUT_A_ROW,
+    RETURNS_FROM_NOWHERE, Row, STARTS, STARTS_AGAIN, STARTS_AT_HOME,
+    STARTS_AT_HOME_WITHOUT_CHANNEL, STARTS_NOTHING, STARTS_NOWHERE, Sent, TARGET_ACTIVATED,
+    TARGET_ACTIVATED_TOO_LATE, TARGET_REFUSES, TARGET_RELEASED, UNDOES, UNDOES_COMMANDED,
+    UNDOES_NOTHING, WITHOUT_A_ROW,
 };
 use rr_elements::ElementFault;
 use rr_messages::RrFault;
@@ -140,6 +141,15 @@ const IDLE: &[Played] = &[
             RETURNS_FROM_NOWHERE,
         ],
         (1, 1, 0, 0),
+    ),
+    (
+        &[
+            OPENS,
+            ACTIVATED,
+            OPENS_OTHER,
+            STARTS_AT_HOME_WITHOUT_CHANNEL,
+        ],
+        (2, 2, 0, 0),
     ),
     // what comes too early, or from elsewhere, does nothing
     (
@@ -478,10 +488,15 @@ fn usage_after(rt: &(impl AllocGlobal + Abort), site: &str, rows: &[Row]) -> Res
     played(rt, rt.alloc(), &mut radio, rows)
 }
 
-/// The book has what a table says after each of its lists of rows. (A table has one test: the prover takes them apart.)
-fn are_played(rt: &(impl AllocGlobal + Abort), table: &[Played]) -> Result<(), Fail> {
+/// The book of a site has what a table says after each of its lists of rows. (A table has one test: the prover takes them
+/// apart.)
+fn are_played_at(
+    rt: &(impl AllocGlobal + Abort),
+    site: &str,
+    table: &[Played],
+) -> Result<(), Fail> {
     for (rows, (channels, calls, references, timers)) in table {
-        let usage = usage_after(rt, THREE_CHANNELS, *rows)?;
+        let usage = usage_after(rt, site, *rows)?;
         let wanted = Usage {
             channels: *channels,
             calls: *calls,
@@ -491,6 +506,10 @@ fn are_played(rt: &(impl AllocGlobal + Abort), table: &[Played]) -> Result<(), F
         assert_eq!(rt; usage, wanted);
     }
     Ok(())
+}
+
+fn are_played(rt: &(impl AllocGlobal + Abort), table: &[Played]) -> Result<(), Fail> {
+    are_played_at(rt, THREE_CHANNELS, table)
 }
 
 #[test]

@@ -1,17 +1,20 @@
 //! A view whose desk doesn't know its last receipt.
 ghost use Rattle.std.specs.Prelude.{[]};
 
-use super::inbound;
-use super::rows::{OPENS, Row, STARTS};
+use super::rows::{ACTIVATED, CLEARS_COMMANDED, OPENS, Row, STARTS, TARGET_ACTIVATED};
+use super::{are_first_messages, inbound};
 use cell_table::Site;
 use ho_procedure::controller::Controller;
 use ho_procedure::exchange::Fault;
+use ho_procedure::solo::Solo;
 use ho_procedure::view::DeskView;
+use radio_book::book::Book;
 use radio_book::event::{Event, Kind};
-use radio_desk::desk::DeskFault;
+use radio_desk::desk::{Desk, DeskFault};
 use radio_desk::seat::Receipt;
 use sample_sites::THREE_CHANNELS;
 use std::alloc::Global;
+use std::marker::Model;
 use std::process::Abort;
 use std::sync::Arc;
 use std::test::Fail;
@@ -68,4 +71,109 @@ fn a_foreign_seat_is_told(rt: HostRuntime) -> Result<(), Fail> {
     let mut controller = Controller::new(rt.alloc(), Elsewhere, site);
     is_foreign(&rt, rt.alloc(), &mut controller, OPENS)?;
     is_foreign(&rt, rt.alloc(), &mut controller, STARTS)
+}
+
+/// A desk of one's own, which doesn't know its seat any more once it has judged so many events.
+#[derive(Drop)]
+struct Leaving {
+    solo: Solo<Global>,
+    left: u64,
+}
+
+impl Model for Leaving {
+    ghost use Rattle.radio_desk.specs.Desk.{DeskState, desk_code};
+
+    ghost Value = { DeskState };
+
+    ghost coded = { desk_code };
+
+    ghost view = { λ leaving. leaving.solo };
+}
+
+impl DeskView for Leaving {
+    ghost use Rattle.ho_procedure.specs.Choices.{AllowsAfter};
+
+    ghost log = { λ leaving. leaving.history };
+
+    ghost choice_at = { λ leaving log choice. AllowsAfter leaving.opening log choice };
+
+    ghost may_be_foreign = { λ _. Unit };
+
+    fn judge(&mut self, event: Event) -> Result<Receipt, DeskFault> {
+        if self.left == 0 {
+            return Err(DeskFault::Foreign(7));
+        }
+        self.left -= 1;
+        self.solo.judge(event)
+    }
+
+    fn judge_take(
+        &mut self,
+        call: u16,
+        kind: Kind,
+        cell: u8,
+    ) -> Result<Option<Receipt>, DeskFault> {
+        if self.left == 0 {
+            return Err(DeskFault::Foreign(7));
+        }
+        self.left -= 1;
+        self.solo.judge_take(call, kind, cell)
+    }
+
+    fn judge_reserve(&mut self, call: u16) -> Result<Receipt, DeskFault> {
+        if self.left == 0 {
+            return Err(DeskFault::Foreign(7));
+        }
+        self.left -= 1;
+        self.solo.judge_reserve(call)
+    }
+}
+
+/// These inputs are handled to their end.
+fn are_handled(
+    rt: &impl Abort,
+    alloc: Global,
+    controller: &mut Controller<Leaving, Global>,
+    rows: &[Row],
+) -> Result<(), Fail> {
+    for row in rows {
+        let done = controller.handle(inbound(alloc, alloc, row.given)?);
+        assert!(rt; done.is_ok(), "{:?}", row.given);
+    }
+    Ok(())
+}
+
+/// The input gets as far as its first message.
+fn owes_one(
+    rt: &impl Abort,
+    alloc: Global,
+    controller: &mut Controller<Leaving, Global>,
+    row: Row,
+) -> Result<(), Fail> {
+    match controller.handle(inbound(alloc, alloc, row.given)?) {
+        Err(Fault::Desk(place, out)) => {
+            assert_eq!(rt; (place, out.len()), (7, 1));
+            are_first_messages(rt, alloc, out.as_slice(), row)?;
+        }
+        Ok(_out) => assert!(rt; false),
+        Err(Fault::NoMemory(_out)) => assert!(rt; false),
+        Err(Fault::Undecoded(_link, _bad)) => assert!(rt; false),
+    }
+    Ok(())
+}
+
+/// The rows before have nine events; then the call is looked at, and its attempt taken back.
+#[test]
+fn what_is_owed_is_told_where_a_seat_becomes_foreign(rt: HostRuntime) -> Result<(), Fail> {
+    let site = Site::read(rt.alloc(), rt.alloc(), THREE_CHANNELS)?;
+    let site = Arc::new(rt.alloc(), site)?;
+    let book = Book::new(rt.alloc(), site.clone()?)?;
+    let view = Leaving {
+        solo: Solo::new(Desk::new(rt.alloc(), book)?),
+        left: 11,
+    };
+    let mut controller = Controller::new(rt.alloc(), view, site);
+    let before = &[OPENS, ACTIVATED, STARTS, TARGET_ACTIVATED];
+    are_handled(&rt, rt.alloc(), &mut controller, before)?;
+    owes_one(&rt, rt.alloc(), &mut controller, CLEARS_COMMANDED)
 }

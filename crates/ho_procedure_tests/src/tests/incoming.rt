@@ -2,9 +2,9 @@
 use super::rows::Given::{A, Abis, Expiry, Operator};
 use super::rows::Sent::{self, OnA, OnAbis};
 use super::rows::{ACTIVATED, OPENS, OPENS_TARGET, Row, STEADY, TARGET_RELEASED};
-use super::{Played, are_played, opened, play};
+use super::{Played, are_played, are_played_at, opened, play};
 use attempt_journal::Timer;
-use channel_fsm::ChanState;
+use channel_fsm::{ChanId, ChanState};
 use ho_procedure::exchange::Line;
 use radio_book::event::Event::{
     Activate, Clear, Command, Complete, Confirm, Detect, Look, Open, Owner, Refuse, Require,
@@ -377,8 +377,61 @@ const CLEAR_COMMAND_NOBODY: Row = Row {
     out: &[OnA(9, "000121")],
 };
 
+/// Call 9 is to come to cell 0.
+const COMES_TO_CELL_0: Row = Row {
+    given: A(9, "0019100b030108010a01011d330505010017006605050100170064"),
+    events: &[
+        (Look(9), Refused(Refusal::NoCall)),
+        (Take(9, Kind::Incoming, OTHER), Done),
+        (Reserve(9, 0), Done),
+        (Activate(9), Done),
+    ],
+    out: &[OnAbis(0, 0, "0821010a03020604000108010900")],
+};
+
+/// So is call 8, which has another reference there.
+const ANOTHER_COMES: Row = Row {
+    given: A(8, "0019100b030108010a01011d330505010017006605050100170064"),
+    events: &[
+        (Look(8), Refused(Refusal::NoCall)),
+        (Take(8, Kind::Incoming, HOME), Done),
+        (Reserve(8, 1), Done),
+        (Activate(8), Done),
+    ],
+    out: &[OnAbis(0, 0, "0821010b03020604000108010901")],
+};
+
+/// Its channel is active: the command has its reference.
+const ANOTHER_ACKNOWLEDGED: Row = Row {
+    given: Abis(0, 0, "0822010b080000"),
+    events: &[
+        (Confirm(HOME), Owned(8)),
+        (
+            Look(8),
+            Record(
+                CallRecord {
+                    serving: None,
+                    attempt: Some(Attempt {
+                        kind: AttemptKind::Incoming,
+                        stage: Stage::Confirmed,
+                        target: Some(HOME),
+                        reference: Some(1),
+                    }),
+                },
+                None,
+            ),
+        ),
+        (Command(8), Done),
+    ],
+    out: &[OnA(8, "000c121709062b093c0b203c0105")],
+};
+
 /// A call comes to its end here, or goes on.
 const COMING: &[Played] = &[
+    (
+        &[COMES_TO_CELL_0, ANOTHER_COMES, ANOTHER_ACKNOWLEDGED],
+        (2, 2, 2, 1),
+    ),
     (&[COMES, ACKNOWLEDGED, SEEN, ARRIVES], (1, 1, 0, 0)),
     (
         &[COMES_WITHOUT_AREA, ACKNOWLEDGED, ARRIVES_UNSEEN],
@@ -718,6 +771,118 @@ fn are_admitted(
     Ok(())
 }
 
+/// Three cells, the last two of which have one cell identity: cell 1 in location area 24, cell 2 in location area 23. Each has
+/// another power.
+const ONE_IDENTITY: &str = "[handover]
+window = 2
+margin = 3
+minimum = 10
+[[cell]]
+lac = 23
+ci = 100
+bcch = 60
+ncc = 1
+bcc = 1
+power = 7
+ba = []
+trx = [{ arfcn = 60, tch = [2, 3] }]
+[[cell]]
+lac = 24
+ci = 101
+bcch = 871
+ncc = 2
+bcc = 5
+power = 5
+ba = []
+trx = [{ arfcn = 871, tch = [] }, { arfcn = 875, tch = [3] }]
+[[cell]]
+lac = 23
+ci = 101
+bcch = 62
+ncc = 3
+bcc = 0
+power = 9
+ba = []
+trx = [{ arfcn = 62, tch = [4] }]
+";
+
+/// The one channel of cell 2 there.
+const IN_AREA_23: ChanId = ChanId {
+    cell: 2,
+    trx: 0,
+    tn: 4,
+};
+
+const CONFIRMED_IN_AREA_23: Reply = Record(
+    CallRecord {
+        serving: None,
+        attempt: Some(Attempt {
+            stage: Stage::Confirmed,
+            target: Some(IN_AREA_23),
+            ..ATTEMPT
+        }),
+    },
+    None,
+);
+
+/// Call 9 is to come to the cell of location area 23.
+const COMES_TO_AREA_23: Row = Row {
+    events: &[
+        (Look(9), Refused(Refusal::NoCall)),
+        (Take(9, Kind::Incoming, IN_AREA_23), Done),
+        (Reserve(9, 0), Done),
+        (Activate(9), Done),
+    ],
+    out: &[OnAbis(2, 0, "0821010c03020604000108010900")],
+    ..COMES
+};
+
+/// Its channel is active: the command names that cell, with its power.
+const ACKNOWLEDGED_IN_AREA_23: Row = Row {
+    given: Abis(2, 0, "0822010c080000"),
+    events: &[
+        (Confirm(IN_AREA_23), Owned(9)),
+        (Look(9), CONFIRMED_IN_AREA_23),
+        (Command(9), Done),
+    ],
+    out: &[OnA(9, "000c121709062b183e0c003e0009")],
+};
+
+/// It is to come to the cell of location area 24.
+const COMES_TO_AREA_24: Row = Row {
+    given: A(9, "0019100b030108010a01011d330505010017006605050100180065"),
+    ..COMES
+};
+
+/// No cell of this identity is in location area 25.
+const COMES_TO_AREA_25: Row = Row {
+    given: A(9, "0019100b030108010a01011d330505010017006605050100190065"),
+    events: IS_NEW,
+    out: NO_CELL,
+};
+
+/// The first cell of the identity has no free channel.
+const COMES_WITHOUT_AREA_TO_NO_CHANNEL: Row = Row {
+    events: IS_NEW,
+    out: NO_RESOURCE,
+    ..COMES_WITHOUT_AREA
+};
+
+/// Requests for one of two cells with one identity.
+const NAMED: &[Played] = &[
+    // by the identity alone it is the first in the site, and no other
+    (&[COMES_WITHOUT_AREA, ACKNOWLEDGED], (1, 1, 1, 1)),
+    (
+        &[OPENS_TARGET, COMES_WITHOUT_AREA_TO_NO_CHANNEL],
+        (1, 1, 0, 0),
+    ),
+    // with a location area code it is the one that lies there
+    (&[COMES_TO_AREA_24, ACKNOWLEDGED], (1, 1, 1, 1)),
+    (&[COMES_TO_AREA_23, ACKNOWLEDGED_IN_AREA_23], (1, 1, 1, 1)),
+    (&[OPENS_TARGET, COMES_TO_AREA_23], (2, 2, 1, 0)),
+    (&[COMES_TO_AREA_25], (0, 0, 0, 0)),
+];
+
 #[test]
 fn calls_come(rt: HostRuntime) -> Result<(), Fail> {
     are_played(&rt, COMING)
@@ -751,4 +916,9 @@ fn calls_are_turned_away(rt: HostRuntime) -> Result<(), Fail> {
 #[test]
 fn requests_are_admitted(rt: HostRuntime) -> Result<(), Fail> {
     are_admitted(&rt, ADMITTED)
+}
+
+#[test]
+fn of_two_cells_with_one_identity_the_first_is_taken(rt: HostRuntime) -> Result<(), Fail> {
+    are_played_at(&rt, ONE_IDENTITY, NAMED)
 }

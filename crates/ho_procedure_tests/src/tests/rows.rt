@@ -536,6 +536,13 @@ pub const STARTS_AT_HOME: Row = Row {
     out: &[],
 };
 
+/// No channel of its cell is free, which is looked at first.
+pub const STARTS_AT_HOME_WITHOUT_CHANNEL: Row = Row {
+    events: &[],
+    out: &[],
+    ..STARTS_AT_HOME
+};
+
 /// Call 2 begins in cell 1, on its one channel.
 pub const OPENS_TARGET: Row = Row {
     given: Operator(Line::Open {

@@ -117,8 +117,46 @@ end channels=0 calls=0 references=0 timers=0
 ",
 );
 
+/// Its mobile was seen there, and hasn't said that it came.
+const DETECTED: (&str, &str) = (
+    "sim\nopen 1 0 0 3\nmobile 0 0 3 vanish\nhandover 1 1\nabis 1 1 0827010b1102\nhangup 1\n",
+    "in open 1 0 0 3
+event open 1 0/0/3 -> done
+out abis 0 0 0821010b0300060400010801
+in abis 0 0 0822010b080000
+event confirm 0/0/3 -> owned 1
+event look 1 -> record 0/0/3 on
+in handover 1 1
+event take 1 internal 1/1/3 -> done
+event reserve 1 0 -> done
+event activate 1 -> done
+out abis 1 1 0821010b03020604000108010900
+in abis 1 1 0822010b080000
+event confirm 1/1/3 -> owned 1
+event look 1 -> record 0/0/3 on internal confirmed 1/1/3 0
+event command 1 -> done
+out abis 0 0 0301010b02000b0009062bd5670ba36b0005
+in abis 1 1 0827010b1102
+event detect 1/1/3 -> owned 1
+event look 1 -> record 0/0/3 on internal detected 1/1/3 0
+in a 1 000420040109
+event look 1 -> record 0/0/3 on internal detected 1/1/3 0
+event undo 1 asked -> record 0/0/3 on internal detected 1/1/3 0
+event clear 1 -> done
+out abis 1 1 082e010b
+out abis 0 0 0301010b02000b0003060d00
+out abis 0 0 082e010b
+out a 1 000121
+in abis 1 1 0833010b
+event released 1/1/3 -> done
+in abis 0 0 0833010b
+event released 0/0/3 -> done
+end channels=0 calls=0 references=0 timers=0
+",
+);
+
 /// Scripts over one controller.
-const SCRIPTS: &[(&str, &str)] = &[NO_CALL, PENDING, ON, SENT, COMMANDED];
+const SCRIPTS: &[(&str, &str)] = &[NO_CALL, PENDING, ON, SENT, COMMANDED, DETECTED];
 
 /// The call is to move to the other controller, which hasn't answered: first its one side is hung up, then the other.
 const REQUIRED: (&str, &str) = (
@@ -200,6 +238,56 @@ const ORDERED: (&str, &str) = (
 2: out a 40000 000121
 2: in abis 0 0 08330109
 2: event released 0/0/1 -> done
+1: end channels=0 calls=0 references=0 timers=0
+2: end channels=0 calls=0 references=0 timers=0
+",
+);
+
+/// Its mobile was seen there: that side is hung up first.
+const SEEN_THERE: (&str, &str) = (
+    "sim\nopen 1 0 0 3\nmobile 0 0 3 vanish\nhandover 1 64\n2: abis 0 0 082701091102\n2: hangup 40000\nhangup 1\n",
+    "1: in open 1 0 0 3
+1: event open 1 0/0/3 -> done
+1: out abis 0 0 0821010b0300060400010801
+1: in abis 0 0 0822010b080000
+1: event confirm 0/0/3 -> owned 1
+1: event look 1 -> record 0/0/3 on
+1: in handover 1 64
+1: event require 1 -> done
+1: out a 1 000c1104010c1b1a050100170066
+2: in a 40000 0019100b030108010a01011d330505010017006405050100170066
+2: event look 40000 -> refused 1
+2: event take 40000 incoming 0/0/1 -> done
+2: event reserve 40000 0 -> done
+2: event activate 40000 -> done
+2: out abis 0 0 0821010903020604000108010900
+2: in abis 0 0 08220109080000
+2: event confirm 0/0/1 -> owned 40000
+2: event look 40000 -> record - - incoming confirmed 0/0/1 0
+2: event command 40000 -> done
+2: out a 40000 000c121709062b183e09003e0007
+1: in a 1 000c131709062b183e09003e0007
+1: event look 1 -> record 0/0/3 on outgoing required - -
+1: event order 1 -> done
+1: out abis 0 0 0301010b02000b0009062b183e09003e0007
+2: in abis 0 0 082701091102
+2: event detect 0/0/1 -> owned 40000
+2: event look 40000 -> record - - incoming detected 0/0/1 0
+2: out a 40000 00011b
+2: in a 40000 000420040109
+2: event look 40000 -> record - - incoming detected 0/0/1 0
+2: event undo 40000 asked -> record - - incoming detected 0/0/1 0
+2: out abis 0 0 082e0109
+2: out a 40000 000121
+2: in abis 0 0 08330109
+2: event released 0/0/1 -> done
+1: in a 1 000420040109
+1: event look 1 -> record 0/0/3 on outgoing ordered - -
+1: event left 1 -> done
+1: out abis 0 0 082e010b
+1: out a 1 000121
+1: in abis 0 0 0833010b
+1: event released 0/0/3 -> done
 1: end channels=0 calls=0 references=0 timers=0
 2: end channels=0 calls=0 references=0 timers=0
 ",
@@ -318,7 +406,7 @@ const MOVED: (&str, &str) = (
 );
 
 /// Scripts over two.
-const SCRIPTS_OF_TWO: &[(&str, &str)] = &[REQUIRED, ORDERED, OTHER_SIDE, MOVED];
+const SCRIPTS_OF_TWO: &[(&str, &str)] = &[REQUIRED, ORDERED, SEEN_THERE, OTHER_SIDE, MOVED];
 
 #[test]
 fn calls_of_one_controller_are_hung_up(rt: HostRuntime) -> Result<(), Fail> {
