@@ -1,3 +1,4 @@
+mod admitted;
 mod crossing;
 mod foreign;
 mod incoming;

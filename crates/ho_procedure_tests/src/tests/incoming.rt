@@ -2,9 +2,9 @@
 use super::rows::Given::{A, Abis, Expiry, Operator};
 use super::rows::Sent::{self, OnA, OnAbis};
 use super::rows::{ACTIVATED, OPENS, OPENS_TARGET, Row, STEADY, TARGET_RELEASED};
-use super::{Played, are_played, are_played_at, opened, play};
+use super::{Played, are_played};
 use attempt_journal::Timer;
-use channel_fsm::{ChanId, ChanState};
+use channel_fsm::ChanState;
 use ho_procedure::exchange::Line;
 use radio_book::event::Event::{
     Activate, Clear, Command, Complete, Confirm, Detect, Look, Open, Owner, Refuse, Require,
@@ -14,12 +14,11 @@ use radio_book::event::Reply::{Done, Owned, Record, Refused};
 use radio_book::event::{
     Attempt, AttemptKind, CallRecord, Event, Kind, Refusal, Reply, Stage, Why,
 };
-use sample_sites::{HOME, OTHER, TARGET, THREE_CHANNELS};
-use std::process::Abort;
+use sample_sites::{HOME, OTHER, TARGET};
 use std::test::Fail;
 
 /// An attempt of call 9 to come to cell 1, whose activation was sent.
-const ATTEMPT: Attempt = Attempt {
+pub const ATTEMPT: Attempt = Attempt {
     kind: AttemptKind::Incoming,
     stage: Stage::Sent,
     target: Some(TARGET),
@@ -88,16 +87,16 @@ const HERE: Reply = Record(
 );
 
 /// The look at a call that there isn't.
-const IS_NEW: &[(Event, Reply)] = &[(Look(9), Refused(Refusal::NoCall))];
+pub const IS_NEW: &[(Event, Reply)] = &[(Look(9), Refused(Refusal::NoCall))];
 
 /// HANDOVER FAILURE, no radio resource available.
-const NO_RESOURCE: &[Sent] = &[OnA(9, "000416040121")];
+pub const NO_RESOURCE: &[Sent] = &[OnA(9, "000416040121")];
 
 /// HANDOVER FAILURE, ciphering algorithm not supported.
 const NO_CIPHERING: &[Sent] = &[OnA(9, "000416040140")];
 
 /// HANDOVER FAILURE, invalid message contents.
-const NO_CELL: &[Sent] = &[OnA(9, "000416040151")];
+pub const NO_CELL: &[Sent] = &[OnA(9, "000416040151")];
 
 /// Call 9 is to come to cell 1.
 pub const COMES: Row = Row {
@@ -713,176 +712,6 @@ const REFUSED: &[Played] = &[
     (HERE_ALREADY, (1, 1, 0, 0)),
 ];
 
-/// Each of these requests leads to the channel of cell 1.
-const ADMITTED: &[Row] = &[
-    COMES,
-    COMES_WITHOUT_AREA,
-    // what is in the upper four bits beside speech
-    Row {
-        given: A(9, "0019100b031108010a01011d330505010017006605050100170065"),
-        ..COMES
-    },
-    // full rate preferred, half rate preferred, and either
-    Row {
-        given: A(9, "0019100b03010a050a01011d330505010017006605050100170065"),
-        ..COMES
-    },
-    Row {
-        given: A(9, "0019100b03010b050a01011d330505010017006605050100170065"),
-        ..COMES
-    },
-    Row {
-        given: A(9, "0019100b03010f050a01011d330505010017006605050100170065"),
-        ..COMES
-    },
-    // no speech version
-    Row {
-        given: A(9, "0018100b0201080a01011d330505010017006605050100170065"),
-        ..COMES
-    },
-    // no encryption or A5/1, with a key
-    Row {
-        given: A(
-            9,
-            "001a100b030108010a0203001d330505010017006605050100170065",
-        ),
-        ..COMES
-    },
-    // classmark 2
-    Row {
-        given: A(
-            9,
-            "001c100b030108010a010112033319810505010017006605050100170065",
-        ),
-        ..COMES
-    },
-];
-
-/// Each of these requests is admitted, and its channel refused then.
-fn are_admitted(
-    rt: &(impl AllocGlobal + std::process::Abort),
-    requests: &[Row],
-) -> Result<(), Fail> {
-    let alloc = rt.alloc();
-    let mut radio = opened(alloc, alloc, THREE_CHANNELS)?;
-    for request in requests {
-        play(rt, alloc, alloc, &mut radio, &[*request, REFUSES])?;
-    }
-    Ok(())
-}
-
-/// Three cells, the last two of which have one cell identity: cell 1 in location area 24, cell 2 in location area 23. Each has
-/// another power.
-const ONE_IDENTITY: &str = "[handover]
-window = 2
-margin = 3
-minimum = 10
-[[cell]]
-lac = 23
-ci = 100
-bcch = 60
-ncc = 1
-bcc = 1
-power = 7
-ba = []
-trx = [{ arfcn = 60, tch = [2, 3] }]
-[[cell]]
-lac = 24
-ci = 101
-bcch = 871
-ncc = 2
-bcc = 5
-power = 5
-ba = []
-trx = [{ arfcn = 871, tch = [] }, { arfcn = 875, tch = [3] }]
-[[cell]]
-lac = 23
-ci = 101
-bcch = 62
-ncc = 3
-bcc = 0
-power = 9
-ba = []
-trx = [{ arfcn = 62, tch = [4] }]
-";
-
-/// The one channel of cell 2 there.
-const IN_AREA_23: ChanId = ChanId {
-    cell: 2,
-    trx: 0,
-    tn: 4,
-};
-
-const CONFIRMED_IN_AREA_23: Reply = Record(
-    CallRecord {
-        serving: None,
-        attempt: Some(Attempt {
-            stage: Stage::Confirmed,
-            target: Some(IN_AREA_23),
-            ..ATTEMPT
-        }),
-    },
-    None,
-);
-
-/// Call 9 is to come to the cell of location area 23.
-const COMES_TO_AREA_23: Row = Row {
-    events: &[
-        (Look(9), Refused(Refusal::NoCall)),
-        (Take(9, Kind::Incoming, IN_AREA_23), Done),
-        (Reserve(9, 0), Done),
-        (Activate(9), Done),
-    ],
-    out: &[OnAbis(2, 0, "0821010c03020604000108010900")],
-    ..COMES
-};
-
-/// Its channel is active: the command names that cell, with its power.
-const ACKNOWLEDGED_IN_AREA_23: Row = Row {
-    given: Abis(2, 0, "0822010c080000"),
-    events: &[
-        (Confirm(IN_AREA_23), Owned(9)),
-        (Look(9), CONFIRMED_IN_AREA_23),
-        (Command(9), Done),
-    ],
-    out: &[OnA(9, "000c121709062b183e0c003e0009")],
-};
-
-/// It is to come to the cell of location area 24.
-const COMES_TO_AREA_24: Row = Row {
-    given: A(9, "0019100b030108010a01011d330505010017006605050100180065"),
-    ..COMES
-};
-
-/// No cell of this identity is in location area 25.
-const COMES_TO_AREA_25: Row = Row {
-    given: A(9, "0019100b030108010a01011d330505010017006605050100190065"),
-    events: IS_NEW,
-    out: NO_CELL,
-};
-
-/// The first cell of the identity has no free channel.
-const COMES_WITHOUT_AREA_TO_NO_CHANNEL: Row = Row {
-    events: IS_NEW,
-    out: NO_RESOURCE,
-    ..COMES_WITHOUT_AREA
-};
-
-/// Requests for one of two cells with one identity.
-const NAMED: &[Played] = &[
-    // by the identity alone it is the first in the site, and no other
-    (&[COMES_WITHOUT_AREA, ACKNOWLEDGED], (1, 1, 1, 1)),
-    (
-        &[OPENS_TARGET, COMES_WITHOUT_AREA_TO_NO_CHANNEL],
-        (1, 1, 0, 0),
-    ),
-    // with a location area code it is the one that lies there
-    (&[COMES_TO_AREA_24, ACKNOWLEDGED], (1, 1, 1, 1)),
-    (&[COMES_TO_AREA_23, ACKNOWLEDGED_IN_AREA_23], (1, 1, 1, 1)),
-    (&[OPENS_TARGET, COMES_TO_AREA_23], (2, 2, 1, 0)),
-    (&[COMES_TO_AREA_25], (0, 0, 0, 0)),
-];
-
 #[test]
 fn calls_come(rt: HostRuntime) -> Result<(), Fail> {
     are_played(&rt, COMING)
@@ -911,14 +740,4 @@ fn what_is_not_for_a_call_that_comes_does_nothing(rt: HostRuntime) -> Result<(),
 #[test]
 fn calls_are_turned_away(rt: HostRuntime) -> Result<(), Fail> {
     are_played(&rt, REFUSED)
-}
-
-#[test]
-fn requests_are_admitted(rt: HostRuntime) -> Result<(), Fail> {
-    are_admitted(&rt, ADMITTED)
-}
-
-#[test]
-fn of_two_cells_with_one_identity_the_first_is_taken(rt: HostRuntime) -> Result<(), Fail> {
-    are_played_at(&rt, ONE_IDENTITY, NAMED)
 }
