@@ -1,5 +1,5 @@
 //! A view of a desk that doesn't know its seat any more.
-ghost use Rattle.std.specs.Prelude.{◌≡◌, Unit};
+ghost use Rattle.std.specs.Prelude.{◌≡◌};
 
 use ho_procedure::solo::Solo;
 use ho_procedure::view::DeskView;
