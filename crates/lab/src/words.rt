@@ -4,6 +4,8 @@ ghost use Rattle.std.specs.Prelude.{◌≡◌};
 use crate::decoded::Link;
 use clap::error::ErrorKind;
 use clap::{Arg, ArgAction, ArgMatches, Command, Error, value_parser};
+use explain_command::{explain_command, question_of};
+use explanations::Question;
 use std::alloc::{AllocError, Global};
 
 /// What the command line asks for.
@@ -27,6 +29,12 @@ pub enum Job<'a> {
         link: Link,
         text: &'a str,
     },
+    /// The cells of a site are printed, and what is surely meant otherwise in its file: the file's path.
+    Check {
+        site: &'a str,
+    },
+    /// A number of a trace or of a message is said in words.
+    Explain(Question),
     /// A text is shown: the help that was asked for, or the version.
     Show(String),
 }
@@ -116,6 +124,23 @@ fn line_argument<'a>(alloc: Global) -> Arg<'a> {
     .value_parser(value_parser!(usize).range(1..))
 }
 
+/// `check SITE`
+fn check_command<'a>(alloc: Global) -> Result<Command<'a>, AllocError> {
+    Command::new(alloc, "check")
+        .about("Reads a site and prints its cells, and what is surely meant otherwise")
+        .after_help(CHECK_HELP)
+        .arg(argument(alloc, "SITE", "The site file"))
+}
+
+/// What stands behind the help of `check`.
+const CHECK_HELP: &str = "\
+Prints a line for each own cell, one for each cell of others, and a warning for each key that is
+ignored, neighbour carrier that no cell has, and cell without neighbours.
+
+Statuses: 0 the site can be read, 2 the file or the site is refused, 3 memory was refused.
+
+As in: bsc_lab check site.toml";
+
 /// `decode LINK HEX`
 fn decode_command<'a>(alloc: Global) -> Result<Command<'a>, AllocError> {
     Command::new(alloc, "decode")
@@ -148,7 +173,9 @@ fn lab_command<'a>(alloc: Global) -> Result<Command<'a>, AllocError> {
         .subcommand_required(true)
         .subcommand(run_command(alloc)?)?
         .subcommand(rewind_command(alloc)?)?
-        .subcommand(decode_command(alloc)?)
+        .subcommand(check_command(alloc)?)?
+        .subcommand(decode_command(alloc)?)?
+        .subcommand(explain_command(alloc)?)
 }
 
 /// The job of a command line that was read.
@@ -164,6 +191,10 @@ fn job_of<'a>(matches: &ArgMatches<'a>) -> Option<Job<'a>> {
             trace: rewind.get_str("TRACE")?,
             line: rewind.get_one::<usize>("LINE")?,
         }),
+        ("check", check) => Some(Job::Check {
+            site: check.get_str("SITE")?,
+        }),
+        ("explain", explain) => Some(Job::Explain(question_of(explain)?)),
         ("decode", decode) => Some(Job::Decode {
             link: link(decode.get_str("LINK")?)?,
             text: decode.get_str("HEX")?,

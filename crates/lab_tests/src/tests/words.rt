@@ -1,3 +1,4 @@
+use explanations::Question;
 use lab::decoded::Link;
 use lab::words::{Job, WordsFault, read_words};
 use std::alloc::Global;
@@ -50,6 +51,41 @@ fn rewind_names_two_files_and_a_line(rt: HostRuntime) {
     }
 }
 
+#[test]
+fn check_names_a_file(rt: HostRuntime) {
+    match read_words(rt.alloc(), &["check", "a.toml"]) {
+        Ok(Job::Check { site }) => assert_eq!(rt; site, "a.toml"),
+        _ => assert!(rt; false, "a check"),
+    }
+}
+
+/// Words that ask what a number stands for.
+const QUESTIONS: &[(&[&str], Question)] = &[
+    (&["explain", "refused", "6"], Question::Refusal(6)),
+    (
+        &["explain", "cause", "a", "33"],
+        Question::Cause(explanations::Link::A, 33),
+    ),
+    (
+        &["explain", "fault", "abis", "5"],
+        Question::Fault(explanations::Link::Abis, 5, None),
+    ),
+    (
+        &["explain", "fault", "rr", "4", "2"],
+        Question::Fault(explanations::Link::Rr, 4, Some(2)),
+    ),
+];
+
+#[test]
+fn explanations_are_asked_for(rt: HostRuntime) {
+    for (words, wanted) in QUESTIONS {
+        match read_words(rt.alloc(), *words) {
+            Ok(Job::Explain(question)) => assert_eq!(rt; question, *wanted),
+            _ => assert!(rt; false, "a question"),
+        }
+    }
+}
+
 /// Words that ask for a message: its link, and its text.
 const DECODES: &[(&[&str], Link, &str)] = &[
     (&["decode", "rr", "062c00"], Link::Rr, "062c00"),
@@ -76,6 +112,11 @@ fn decode_names_a_link_and_octets(rt: HostRuntime) {
 
 /// Words that ask for a text, and a part of it.
 const SHOWS: &[(&[&str], &str)] = &[
+    (&["check", "--help"], "The site file"),
+    (&["help", "check"], "neighbour carrier that no cell has"),
+    (&["--help"], "explain refused 6"),
+    (&["explain", "--help"], "explain cause a 33"),
+    (&["explain", "fault", "--help"], "abis the base station"),
     (&["--help"], "Runs a script over a site"),
     (&["help"], "Runs a script over a site"),
     (&["run", "--help"], "The site file"),
@@ -97,6 +138,11 @@ const SHOWS: &[(&[&str], &str)] = &[
 /// Words that are refused, and what names the mistake.
 const REFUSALS: &[(&[&str], &str)] = &[
     (&[], "subcommand"),
+    (&["check"], "were not provided:\n  <SITE>\n"),
+    (&["check", "a.toml", "b.toml"], "b.toml"),
+    (&["explain"], "subcommand"),
+    (&["explain", "refused"], "were not provided:\n  <N>\n"),
+    (&["explain", "cause", "A", "33"], "'A'"),
     (&["run"], "were not provided:\n  <SITE>\n  <SCRIPT>\n"),
     (&["run", "a.toml"], "were not provided:\n  <SCRIPT>\n"),
     (&["run", "a.toml", "b.txt", "c.txt"], "c.txt"),
