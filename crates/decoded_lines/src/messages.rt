@@ -1,0 +1,168 @@
+//! The links that messages come from, and messages in words.
+ghost use Rattle.std.specs.Prelude.{◌≡◌, ◌≢◌, [], Ok, Err, true, false, IfOk, IfErr, IfSome, IsNone};
+ghost use Rattle.decoded_lines.specs.Messages.{link_name, IsRrMessage, IsBssmapMessage, IsAbisMessage, IsMessage};
+
+use bssmap_messages::BssmapFault;
+use ho_procedure::exchange::Bad;
+use rsl_messages::RslFault;
+use std::alloc::Allocator;
+use std::io::{self, Write};
+use trace_text::abis::AbisText;
+use trace_text::bad::BadText;
+use trace_text::bssmap::BssmapText;
+use trace_text::rr::RrText;
+
+/// Where a message comes from.
+#[derive(Clone, Copy, Debug, PartialEq, Eq)]
+pub enum Link {
+    /// The radio path, between the network and a mobile (TS 44.018).
+    Rr,
+    /// A, between a base station controller and a switching centre (TS 48.008).
+    A,
+    /// Abis, between a base station controller and a base station (TS 48.058).
+    Abis,
+}
+
+/// Why a message isn't printed.
+#[derive(Clone, Copy, Debug, PartialEq, Eq)]
+pub enum PrintFault {
+    /// Memory was refused.
+    NoMemory,
+    /// A write failed.
+    Write,
+}
+
+impl From<io::Error> for PrintFault {
+    ghost use Rattle.decoded_lines.specs.declared.messages.PrintFault.TheVariants.{Write};
+
+    ghost from_gives = { λ _ fault. fault ≡ Write };
+
+    fn from(_: io::Error) -> PrintFault {
+        PrintFault::Write
+    }
+}
+
+/// The link of this name.
+pub fn link_named(name: &[u8]) -> Option<Link>
+    ensures named { IfSome result (λ link. link_name link ≡ name.now) }
+    ensures none { IsNone result → (link : Link) → link_name link ≢ name.now }
+{
+    if name == b"rr" {
+        return Some(Link::Rr);
+    }
+    if name == b"a" {
+        return Some(Link::A);
+    }
+    if name == b"abis" {
+        return Some(Link::Abis);
+    }
+    None
+}
+
+/// Prints why octets are no message.
+fn refuse<W: Write>(fault: Bad, out: &mut W) -> Result<bool, PrintFault>
+    ensures refused { result ≢ Ok true }
+    ensures memory { result ≢ Err PrintFault.NoMemory }
+{
+    write!(out, "fault {}", BadText(fault))?;
+    Ok(false)
+}
+
+/// Prints a radio resource message, or why the octets are none.
+fn print_rr<W: Write>(octets: &[u8], out: &mut W) -> Result<bool, PrintFault>
+    ensures message { result ≡ Ok true → IsRrMessage octets.now }
+    ensures refused { result ≡ Ok false → IsRrMessage octets.now → ⊥ }
+    ensures memory { result ≢ Err PrintFault.NoMemory }
+{
+    match rr_messages::decode(octets) {
+        Ok(message) => {
+            write!(out, "{}", RrText(message))?;
+            Ok(true)
+        }
+        Err(fault) => refuse(Bad::Rr(fault), out),
+    }
+}
+
+/// Why octets are no message on A, unless memory was refused.
+fn bssmap_fault(fault: BssmapFault) -> Result<Bad, PrintFault>
+    ensures fault { IfOk result (λ bad. (fault ≢ BssmapFault.NoMemory) × (bad ≡ Bad.Bssmap fault)) }
+    ensures memory { IfErr result (λ answer. (fault ≡ BssmapFault.NoMemory) ×
+        (answer ≡ PrintFault.NoMemory)) }
+{
+    match fault {
+        BssmapFault::NoMemory => Err(PrintFault::NoMemory),
+        _ => Ok(Bad::Bssmap(fault)),
+    }
+}
+
+/// Why octets are no message on Abis, unless memory was refused.
+fn abis_fault(fault: RslFault) -> Result<Bad, PrintFault>
+    ensures fault { IfOk result (λ bad. (fault ≢ RslFault.NoMemory) × (bad ≡ Bad.Rsl fault)) }
+    ensures memory { IfErr result (λ answer. (fault ≡ RslFault.NoMemory) ×
+        (answer ≡ PrintFault.NoMemory)) }
+{
+    match fault {
+        RslFault::NoMemory => Err(PrintFault::NoMemory),
+        _ => Ok(Bad::Rsl(fault)),
+    }
+}
+
+/// Prints a message on A, or why the octets are none.
+fn print_bssmap<A: Allocator + Copy, W: Write>(
+    alloc: A,
+    octets: &[u8],
+    out: &mut W,
+) -> Result<bool, PrintFault>
+    ensures message { result ≡ Ok true → IsBssmapMessage A octets.now }
+    ensures refused { result ≡ Ok false → IsBssmapMessage A octets.now → ⊥ }
+    ensures memory { result ≡ Err PrintFault.NoMemory → IsBssmapMessage A octets.now }
+{
+    match bssmap_messages::decode(alloc, octets) {
+        Ok(message) => {
+            write!(out, "{}", BssmapText(&message))?;
+            Ok(true)
+        }
+        Err(fault) => refuse(bssmap_fault(fault)?, out),
+    }
+}
+
+/// Prints a message on Abis, or why the octets are none.
+fn print_abis<A: Allocator + Copy, W: Write>(
+    alloc: A,
+    octets: &[u8],
+    out: &mut W,
+) -> Result<bool, PrintFault>
+    ensures message { result ≡ Ok true → IsAbisMessage A octets.now }
+    ensures refused { result ≡ Ok false → IsAbisMessage A octets.now → ⊥ }
+    ensures memory { result ≡ Err PrintFault.NoMemory → IsAbisMessage A octets.now }
+{
+    match rsl_messages::decode(alloc, octets) {
+        Ok(message) => {
+            write!(out, "{}", AbisText(&message))?;
+            Ok(true)
+        }
+        Err(fault) => refuse(abis_fault(fault)?, out),
+    }
+}
+
+/// Prints a message of a link in words, or why the octets are none (`fault`, the link, and the number of the fault with
+/// its argument), without a line feed; whether they are one.
+///
+/// `NoMemory` is answered only to octets that are a message, and that are some.
+pub fn print_message<A: Allocator + Copy, W: Write>(
+    alloc: A,
+    link: Link,
+    octets: &[u8],
+    out: &mut W,
+) -> Result<bool, PrintFault>
+    ensures message { result ≡ Ok true → IsMessage A link octets.now }
+    ensures refused { result ≡ Ok false → IsMessage A link octets.now → ⊥ }
+    ensures memory { result ≡ Err PrintFault.NoMemory → IsMessage A link octets.now }
+    ensures some { result ≡ Err PrintFault.NoMemory → octets.now ≢ [] }
+{
+    match link {
+        Link::Rr => print_rr(octets, out),
+        Link::A => print_bssmap(alloc, octets, out),
+        Link::Abis => print_abis(alloc, octets, out),
+    }
+}
