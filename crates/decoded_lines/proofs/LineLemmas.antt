@@ -7,10 +7,13 @@ use Rattle.std.proofs.lemmas.Bool.{cases_Bool, true≢false}
 use Rattle.std.specs.List.{list_any, position_or_len, slice_split}
 use Rattle.std.specs.Io.KnownBytes.{IsAtEnd}
 use Rattle.octet_lines.specs.declared.reader.Found.TheVariants as found
+use Rattle.octet_lines.specs.Lines.{is_blank}
 use Rattle.octet_lines.specs.Reading.{is_feed, longest_line, first_line, behind_line, Gives}
 use Rattle.octet_lines.proofs.ReadingLemmas.{place_within, place_none, none_passes}
 use Rattle.decoded_lines.specs.declared.messages.Link.{Link}
-use Rattle.decoded_lines.specs.Answers.{IsGood, AreGood, IsCounted, CountsFirst}
+use Rattle.decoded_lines.specs.declared.answers.Verdict.{Verdict}
+use Rattle.decoded_lines.specs.declared.answers.Verdict.TheVariants as verdict
+use Rattle.decoded_lines.specs.Answers.{IsGood, AreGood, Judges, IsAdded, IsCounted, CountsFirst}
 
 -- the lines of octets: the first, and those behind it; or the first alone
 split_first : (octets : List ℕ) → list_any is_feed octets ≡ true → slice_split is_feed octets ≡ first_line octets ∷ slice_split is_feed (behind_line octets)
@@ -36,16 +39,16 @@ module _ (A : Type 0) (given : Option Link) where
   good_parts octets good = elim (cases_Bool (list_any is_feed octets)) [
     | inl some ↦
         let split = subst (All (IsGood A given)) (split_first octets some) good in
-        (All-head (IsGood A given) _ _ split, All-tail (IsGood A given) _ _ split)
+        (All-head (IsGood A given) (first_line octets) (slice_split is_feed (behind_line octets)) split, All-tail (IsGood A given) (first_line octets) (slice_split is_feed (behind_line octets)) split)
     | inr none ↦
         let split = subst (All (IsGood A given)) (split_none octets none) good in
-        (All-head (IsGood A given) _ _ split, subst (AreGood A given) (sym (left_none octets none)) good_none)
+        (All-head (IsGood A given) (first_line octets) [] split, subst (AreGood A given) (sym (left_none octets none)) good_none)
   ]
 
   pub good_whole : (octets : List ℕ) → IsGood A given (first_line octets) → AreGood A given (behind_line octets) → AreGood A given octets
   good_whole octets first rest = elim (cases_Bool (list_any is_feed octets)) [
-    | inl some ↦ subst (All (IsGood A given)) (sym (split_first octets some)) (All-cons (IsGood A given) _ _ first rest)
-    | inr none ↦ subst (All (IsGood A given)) (sym (split_none octets none)) (All-cons (IsGood A given) _ _ first (All-nil (IsGood A given)))
+    | inl some ↦ subst (All (IsGood A given)) (sym (split_first octets some)) (All-cons (IsGood A given) (first_line octets) (slice_split is_feed (behind_line octets)) first rest)
+    | inr none ↦ subst (All (IsGood A given)) (sym (split_none octets none)) (All-cons (IsGood A given) (first_line octets) [] first (All-nil (IsGood A given)))
   ]
 
 -- The lines that a reader had are good just where none was refused so far and those that it has left are.
@@ -81,6 +84,13 @@ follows_next A given (Some octets) (Some ys) next before with_it (left, is, to, 
     let same : ys ≡ left = cc in
     let on = counted_on A given octets left before with_it to from (subst (λ (l : List ℕ). IsCounted A given (first_line l) before with_it) same counted) in
     (behind_line left, behind ∙ ap (λ l. Some (behind_line l)) same, on.0, on.1)
+
+-- a line that isn't too long, as it was judged and counted
+pub counted_of : (A : Type 0) (given : Option Link) (line : List ℕ) (v : Verdict) (before with_it : ℕ) → length line ≤ longest_line
+    → Judges A given line v → IsAdded v before with_it → IsCounted A given line before with_it
+counted_of A given line verdict.Blank before with_it short blank same = inl ((short, λ some. absurd (true≢false (sym blank ∙ some))), same)
+counted_of A given line verdict.Message before with_it short (some, says) same = inl ((short, λ _. says), same)
+counted_of A given line verdict.Refused before with_it short (some, none) more = inr (λ good. none (good.1 some), more)
 
 -- the first line, as it was read
 pub counts_line : (A : Type 0) (given : Option Link) (old new : Option (List ℕ)) (line : List ℕ) (before with_it : ℕ)

@@ -1,10 +1,12 @@
 -- Which lines say a message. A line is the list of its bytes, without its line feed.
-use Rattle.std.specs.Prelude.{◌≡◌, ◌≢◌, ◌⊎◌, ℕ, ◌≤◌, false, List, [], Option, Some, None, IfSome, All, length}
+use Rattle.std.specs.Prelude.{◌≡◌, ◌≢◌, ◌⊎◌, ℕ, ◌≤◌, true, false, List, [], Option, Some, None, IfSome, All, length}
 use Rattle.std.specs.List.{slice_split}
 use Rattle.octet_lines.specs.Lines.{octets_of, text_in, is_blank, first_word, behind_word}
 use Rattle.octet_lines.specs.Reading.{is_feed, longest_line, first_line, behind_line}
 use Rattle.decoded_lines.specs.declared.answers.LinesFault.{LinesFault}
 use Rattle.decoded_lines.specs.declared.answers.LinesFault.TheVariants as lines
+use Rattle.decoded_lines.specs.declared.answers.Verdict.{Verdict}
+use Rattle.decoded_lines.specs.declared.answers.Verdict.TheVariants as verdict
 use Rattle.decoded_lines.specs.declared.messages.Link.{Link}
 use Rattle.decoded_lines.specs.declared.messages.PrintFault.{PrintFault}
 use Rattle.decoded_lines.specs.declared.messages.PrintFault.TheVariants as print
@@ -35,6 +37,18 @@ IsGood A given line = (length line ≤ longest_line) × (is_blank line ≡ false
 -- all lines of these octets are such; a line feed stands between any two
 abbrev pub AreGood : (A : Type 0) → Option Link → List ℕ → Type 0
 AreGood A given octets = All (IsGood A given) (slice_split is_feed octets)
+
+-- what came of a line: it is blank, it says a message, or it isn't blank and says none
+abbrev pub Judges : (A : Type 0) → Option Link → List ℕ → Verdict → Type 0
+Judges A given line verdict.Blank = is_blank line ≡ true
+Judges A given line verdict.Message = (is_blank line ≡ false) × LineSays A given line
+Judges A given line verdict.Refused = (is_blank line ≡ false) × (LineSays A given line → ⊥)
+
+-- what is counted as refused before a line and with it
+abbrev pub IsAdded : Verdict → ℕ → ℕ → Type 0
+IsAdded verdict.Blank before with_it = with_it ≡ before
+IsAdded verdict.Message before with_it = with_it ≡ before
+IsAdded verdict.Refused before with_it = with_it ≢ 0
 
 -- a line is counted as refused just where it isn't good; what is counted is how many were refused before, and with it
 abbrev pub IsCounted : (A : Type 0) → Option Link → List ℕ → ℕ → ℕ → Type 0

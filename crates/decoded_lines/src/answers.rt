@@ -1,14 +1,22 @@
 //! Answers to lines of octet texts, one by one.
-ghost use Rattle.std.specs.Prelude.{◌≡◌, ◌≢◌, ◌≤◌, length, vec_len, Ok, Some, None, true, false, OnOk, IfOk, IfSome, is_none};
+ghost use Rattle.std.specs.Prelude.{◌≡◌, ◌≢◌, ◌≤◌, length, vec_len, Ok, true, false, OnOk, IfOk, IfSome};
 ghost use Rattle.std.specs.Io.KnownBytes.{IsAtEnd};
-ghost use Rattle.octet_lines.specs.Lines.{is_blank};
 ghost use Rattle.octet_lines.specs.Reading.{longest_line, Gives};
-ghost use Rattle.decoded_lines.specs.Answers.{WritesMessage, TextSays, LineSays, IsCounted, CountsFirst, AreGood};
+ghost use Rattle.decoded_lines.specs.Answers.{WritesMessage, TextSays, Judges, IsAdded, IsCounted, CountsFirst, AreGood};
 
-use crate::messages::{Link, PrintFault, link_named, print_message};
+use crate::messages::{Detail, Link, PrintFault, link_named, print_message};
 use octet_lines::{Found, next_line, read_octets, said_in, word_and_rest};
 use std::alloc::{AllocError, Allocator};
 use std::io::{self, BufRead, Write};
+
+/// What is asked of lines.
+#[derive(Clone, Copy, Debug, PartialEq, Eq)]
+pub struct Asked {
+    /// The link of all lines; where there is none, each line begins with the name of its own.
+    pub link: Option<Link>,
+    /// How much is said of each message.
+    pub detail: Detail,
+}
 
 /// Why lines are not answered to their end.
 #[derive(Debug, Drop)]
@@ -54,7 +62,18 @@ impl From<PrintFault> for LinesFault {
     }
 }
 
-/// How many lines were answered, and how.
+/// What came of a line.
+#[derive(Clone, Copy)]
+enum Verdict {
+    /// It says nothing, and has no answer.
+    Blank,
+    /// It says a message.
+    Message,
+    /// It was refused.
+    Refused,
+}
+
+/// How many lines were answered, and how; each number stays at the greatest of its type.
 #[derive(Clone, Copy, Debug, PartialEq, Eq)]
 pub struct Counts {
     /// Lines that say a message.
@@ -64,15 +83,14 @@ pub struct Counts {
 }
 
 impl Counts {
-    /// One line more, which says a message or was refused.
-    fn add(&mut self, is_message: bool)
-        ensures kept { is_message ≡ true → self.new.refused ≡ self.old.refused }
-        ensures more { is_message ≡ false → self.new.refused ≢ 0 }
+    /// Counts one line more.
+    fn add(&mut self, verdict: Verdict)
+        ensures { IsAdded verdict self.old.refused self.new.refused }
     {
-        if is_message {
-            self.messages = self.messages.saturating_add(1);
-        } else {
-            self.refused = self.refused.saturating_add(1);
+        match verdict {
+            Verdict::Blank => {}
+            Verdict::Message => self.messages = self.messages.saturating_add(1),
+            Verdict::Refused => self.refused = self.refused.saturating_add(1),
         }
     }
 }
@@ -89,6 +107,7 @@ fn refuse<W: Write>(out: &mut W, why: &str) -> Result<bool, LinesFault>
 fn answer_octets<A: Allocator + Copy, W: Write>(
     alloc: A,
     link: Link,
+    detail: Detail,
     text: &[u8],
     out: &mut W,
 ) -> Result<bool, LinesFault>
@@ -96,7 +115,7 @@ fn answer_octets<A: Allocator + Copy, W: Write>(
     ensures refused { result ≡ Ok false → WritesMessage A link text.now → ⊥ }
 {
     match read_octets(alloc, text)? {
-        Some(octets) => Ok(print_message(alloc, link, &octets, out)?),
+        Some(octets) => Ok(print_message(alloc, link, detail, &octets, out)?),
         None => refuse(out, "hex"),
     }
 }
@@ -104,48 +123,54 @@ fn answer_octets<A: Allocator + Copy, W: Write>(
 /// Prints what a text says, which begins with its link where none is given; whether that is a message.
 fn answer_text<A: Allocator + Copy, W: Write>(
     alloc: A,
-    link: Option<Link>,
+    asked: Asked,
     text: &[u8],
     out: &mut W,
 ) -> Result<bool, LinesFault>
-    ensures message { result ≡ Ok true → TextSays A link text.now }
-    ensures refused { result ≡ Ok false → TextSays A link text.now → ⊥ }
+    ensures message { result ≡ Ok true → TextSays A asked.entry.link text.now }
+    ensures refused { result ≡ Ok false → TextSays A asked.entry.link text.now → ⊥ }
 {
-    if let Some(link) = link {
-        return answer_octets(alloc, link, text, out);
+    if let Some(link) = asked.link {
+        return answer_octets(alloc, link, asked.detail, text, out);
     }
     let (name, octets) = word_and_rest(text);
     match link_named(name) {
-        Some(link) => answer_octets(alloc, link, octets, out),
+        Some(link) => answer_octets(alloc, link, asked.detail, octets, out),
         None => refuse(out, "link"),
     }
 }
 
-/// Prints the answer to a line behind its number, and its note behind that; whether the line says a message. Nothing is
-/// printed of a line without a text.
-fn answer_line<A: Allocator + Copy, W: Write>(
-    alloc: A,
-    link: Option<Link>,
-    number: u64,
-    line: &[u8],
-    out: &mut W,
-) -> Result<Option<bool>, LinesFault>
-    ensures blank { is_blank line.now ≡ true → result ≡ Ok None }
-    ensures answered { IfOk result (λ found. is_none found ≡ is_blank line.now) }
-    ensures message { result ≡ Ok (Some true) → LineSays A link line.now }
-    ensures refused { result ≡ Ok (Some false) → LineSays A link line.now → ⊥ }
-{
-    let Some((text, note)) = said_in(line) else {
-        return Ok(None);
-    };
-    write!(out, "{number} ")?;
-    let is_message = answer_text(alloc, link, text, out)?;
+/// Ends an answer, with the line's note where there is one.
+fn end_answer<W: Write>(note: Option<&[u8]>, out: &mut W) -> io::Result<()> {
     if let Some(note) = note {
         write!(out, " #")?;
         out.write_all(note)?;
     }
-    writeln!(out)?;
-    Ok(Some(is_message))
+    writeln!(out)
+}
+
+/// Prints the answer to a line behind its number, and its note behind that; what came of the line. Nothing is printed of a
+/// line without a text.
+fn answer_line<A: Allocator + Copy, W: Write>(
+    alloc: A,
+    asked: Asked,
+    number: u64,
+    line: &[u8],
+    out: &mut W,
+) -> Result<Verdict, LinesFault>
+    ensures judged { IfOk result (λ verdict. Judges A asked.entry.link line.now verdict) }
+{
+    let Some((text, note)) = said_in(line) else {
+        return Ok(Verdict::Blank);
+    };
+    write!(out, "{number} ")?;
+    let is_message = answer_text(alloc, asked, text, out)?;
+    end_answer(note, out)?;
+    if is_message {
+        Ok(Verdict::Message)
+    } else {
+        Ok(Verdict::Refused)
+    }
 }
 
 /// Why a line wasn't read.
@@ -175,7 +200,7 @@ fn read_next<A: Allocator, R: BufRead>(
 /// Answers a line, and counts it.
 fn count_line<A: Allocator + Copy, W: Write>(
     alloc: A,
-    link: Option<Link>,
+    asked: Asked,
     number: u64,
     line: &[u8],
     counts: &mut Counts,
@@ -183,25 +208,33 @@ fn count_line<A: Allocator + Copy, W: Write>(
 ) -> Result<(), LinesFault>
     requires { length line.now ≤ longest_line }
     ensures counted { OnOk result
-        (IsCounted A link line.now counts.old.refused counts.new.refused) }
+        (IsCounted A asked.entry.link line.now counts.old.refused counts.new.refused) }
 {
-    if let Some(is_message) = answer_line(alloc, link, number, line, out)? {
-        counts.add(is_message);
-    }
+    let verdict = answer_line(alloc, asked, number, line, out)?;
+    counts.add(verdict);
+    Ok(())
+}
+
+/// Says that a line is too long, and counts it.
+fn count_long<W: Write>(number: u64, counts: &mut Counts, out: &mut W) -> Result<(), LinesFault>
+    ensures refused { OnOk result (counts.new.refused ≢ 0) }
+{
+    writeln!(out, "{number} long")?;
+    counts.add(Verdict::Refused);
     Ok(())
 }
 
 /// Reads the next line, answers and counts it; whether there was one.
 fn answer_next<A: Allocator + Copy, R: BufRead, W: Write>(
     alloc: A,
-    link: Option<Link>,
+    asked: Asked,
     number: u64,
     reader: &mut R,
     line: &mut Vec<u8, A>,
     counts: &mut Counts,
     out: &mut W,
 ) -> Result<bool, LinesFault>
-    ensures line { result ≡ Ok true → CountsFirst A link (R.remaining reader.old)
+    ensures line { result ≡ Ok true → CountsFirst A asked.entry.link (R.remaining reader.old)
         (R.remaining reader.new) counts.old.refused counts.new.refused }
     ensures end { result ≡ Ok false → IsAtEnd (R.remaining reader.old) }
     ensures kept { result ≡ Ok false → counts.new.refused ≡ counts.old.refused }
@@ -209,12 +242,11 @@ fn answer_next<A: Allocator + Copy, R: BufRead, W: Write>(
     match read_next(reader, line)? {
         Found::End => Ok(false),
         Found::TooLong => {
-            writeln!(out, "{number} long")?;
-            counts.add(false);
+            count_long(number, counts, out)?;
             Ok(true)
         }
         Found::Line => {
-            count_line(alloc, link, number, line, counts, out)?;
+            count_line(alloc, asked, number, line, counts, out)?;
             Ok(true)
         }
     }
@@ -228,16 +260,18 @@ fn answer_next<A: Allocator + Copy, R: BufRead, W: Write>(
 /// of no link (`link`), a text that writes no octets ([`read_octets`]: `hex`), a line that is too long ([`next_line`]:
 /// `long`), and octets that are no message of the link (`fault`, the link, and the number of the fault with its
 /// argument). What is kept in memory at a time is a line and its octets.
+///
+/// A failed read or write, and refused memory, end the answers; those before stand.
 pub fn answer_lines<A: Allocator + Copy, R: BufRead, W: Write>(
     alloc: A,
-    link: Option<Link>,
+    asked: Asked,
     reader: &mut R,
     out: &mut W,
 ) -> Result<Counts, LinesFault>
     ensures all { IfOk result (λ counts. counts.refused ≡ 0 →
-        IfSome (R.remaining reader.old) (AreGood A link)) }
+        IfSome (R.remaining reader.old) (AreGood A asked.entry.link)) }
     ensures one { IfOk result (λ counts. counts.refused ≢ 0 →
-        IfSome (R.remaining reader.old) (λ octets. AreGood A link octets → ⊥)) }
+        IfSome (R.remaining reader.old) (λ octets. AreGood A asked.entry.link octets → ⊥)) }
 {
     let mut line = Vec::new(alloc);
     let mut counts = Counts {
@@ -245,7 +279,7 @@ pub fn answer_lines<A: Allocator + Copy, R: BufRead, W: Write>(
         refused: 0,
     };
     for number in 1..u64::MAX {
-        if !answer_next(alloc, link, number, reader, &mut line, &mut counts, out)? {
+        if !answer_next(alloc, asked, number, reader, &mut line, &mut counts, out)? {
             return Ok(counts);
         }
     }

@@ -2,7 +2,9 @@
 #![tactic(auto)]
 
 mod answers;
+mod file;
 mod messages;
 
-pub use answers::{Counts, LinesFault, answer_lines};
-pub use messages::{Link, PrintFault, link_named, print_message};
+pub use answers::{Asked, Counts, LinesFault, answer_lines};
+pub use file::answer_file;
+pub use messages::{Detail, Link, PrintFault, link_named, print_message};

@@ -1,11 +1,14 @@
 //! Printed answers, which no clause says.
-use decoded_lines::{Counts, LinesFault, Link, answer_lines, link_named};
+use decoded_lines::{
+    Asked, Counts, Detail, LinesFault, Link, answer_file, answer_lines, link_named,
+};
 use refusing_heap::RefusingHeap;
 use std::alloc::Global;
 use std::io::{self, Write};
 use std::process::Abort;
-use std::str;
+use std::rt::Files;
 use std::test::Fail;
+use std::{fs, str};
 
 /// The names of links, and other names.
 const NAMES: &[(&[u8], Option<Link>)] = &[
@@ -74,7 +77,11 @@ fn answers(
 ) -> Result<(), Fail> {
     let mut out = Vec::new(rt.alloc());
     let mut reader = lines;
-    match answer_lines(rt.alloc(), link, &mut reader, &mut out) {
+    let asked = Asked {
+        link,
+        detail: Detail::Fields,
+    };
+    match answer_lines(rt.alloc(), asked, &mut reader, &mut out) {
         Ok(Counts { messages, refused }) => assert_eq!(rt; (messages, refused), counts),
         Err(_) => assert!(rt; false, "{}", lines.escape_ascii()),
     }
@@ -87,6 +94,118 @@ fn lines_are_answered(rt: HostRuntime) -> Result<(), Fail> {
     for (link, lines, text, counts) in RUNS {
         answers(&rt, *link, *lines, *text, *counts)?;
     }
+    Ok(())
+}
+
+/// The link of all lines, lines, and what is answered where all is asked for. Expected are the fields of TS 48.058 clause
+/// 8, TS 48.008 clause 3.2.1 and TS 44.018 section 9.1, with the octets that are left.
+const WITH_ALL: &[(Option<Link>, &[u8], &str)] = &[
+    // a HANDOVER COMMAND on the way to a mobile, and a message that isn't read inside
+    (
+        Some(Link::Abis),
+        b"03 01 01 0b 02 00 0b 00 09 06 2b d5 67 0b a3 6b 2a 05 # command\n03 01 01 0b 02 00 0b 00 02 05 08",
+        "1 DATA REQUEST tn=3 link=0 layer3=062bd5670ba36b2a05 | HANDOVER COMMAND arfcn=871 ncc=2 bcc=5 tn=3 tsc=5 carrier=875 reference=42 atc=0 power=5 # command\n2 DATA REQUEST tn=3 link=0 layer3=0508 | fault rr 1\n",
+    ),
+    // power and timing advance, which the message has and isn't read for; what stands behind a message inside
+    (
+        None,
+        b"abis 08 21 01 0b 03 02 04 05 06 04 00 01 08 01 09 2a 18 03\nabis 03 02 01 0b 02 00 0b 00 04 06 2c 00 77 01 0c",
+        "1 CHANNEL ACTIVATION tn=3 activation=2 mode=00010801 reference=42 unused=04/05 unused=18/03\n2 DATA INDICATION tn=3 link=0 layer3=062c0077 unused=01/0c | HANDOVER COMPLETE cause=0 rest=77\n",
+    ),
+    // a measurement result with a report inside, and one without
+    (
+        Some(Link::Abis),
+        b"08 28 01 0b 1b 00 19 03 00 1e 00 04 00 0b 00 12 06 15 1e 1e 00 68 12 a0 00 00 00 00 00 00 00 00 00 00\n08 28 01 0b 1b 00 19 03 00 1e 00 04 00",
+        "1 MEASUREMENT RESULT tn=3 number=0 uplink=001e00 power=0 layer3=06151e1e006812a000000000000000000000 | MEASUREMENT REPORT ba=0 dtx=0 full=30 ba3g=0 valid=1 sub=30 si23=0 qfull=0 qsub=0 count=1 n=40/2/21\n2 MEASUREMENT RESULT tn=3 number=0 uplink=001e00 power=0 layer3=-\n",
+    ),
+    (
+        None,
+        b"a 00 08 20 07 02 06 03 04 01 09\nrr 06 0d 00 01\nrr 06",
+        "1 CLEAR COMMAND cause=9 unused=07/0603\n2 CHANNEL RELEASE cause=0 rest=01\n3 fault rr 3\n",
+    ),
+];
+
+#[test]
+fn all_is_said_of_messages(rt: HostRuntime) -> Result<(), Fail> {
+    for (link, lines, text) in WITH_ALL {
+        let asked = Asked {
+            link: *link,
+            detail: Detail::All,
+        };
+        let mut out = Vec::new(rt.alloc());
+        let mut reader: &[u8] = *lines;
+        assert!(rt; answer_lines(rt.alloc(), asked, &mut reader, &mut out).is_ok());
+        assert_eq!(rt; str::from_utf8(&out)?, *text);
+    }
+    Ok(())
+}
+
+/// Each message with its own link, and no more than its fields.
+const FIELDS: Asked = Asked {
+    link: None,
+    detail: Detail::Fields,
+};
+
+/// Asserts what is answered to a file, or to these octets where its path is `-`, and what is said of errors.
+fn answers_file(
+    rt: &(impl Files + AllocGlobal + Abort),
+    path: &str,
+    input: &[u8],
+    wanted: bool,
+    (text, said): (&str, &str),
+) -> Result<(), Fail> {
+    let mut out = Vec::new(rt.alloc());
+    let mut errors = Vec::new(rt.alloc());
+    let ended = answer_file(rt, FIELDS, path, input, &mut out, &mut errors);
+    assert_eq!(rt;
+        (ended, str::from_utf8(&out)?),
+        (Ok(wanted), text),
+        "{path}"
+    );
+    assert_eq!(rt; str::from_utf8(&errors)?, said, "{path}");
+    Ok(())
+}
+
+/// Paths, standard input, whether no line was refused, what is printed, and what is said of errors.
+const FILES: &[(&str, &[u8], bool, &str, &str)] = &[
+    ("-", b"", true, "", "-: messages 0, refused 0\n"),
+    (
+        "-",
+        b"rr 062c00\nrr 0\n# note\n",
+        false,
+        "1 HANDOVER COMPLETE cause=0\n2 hex\n",
+        "-: messages 1, refused 1\n",
+    ),
+    (
+        "messages.txt",
+        b"rr 0",
+        true,
+        "1 HANDOVER COMPLETE cause=0\n2 RF CHANNEL RELEASE tn=3\n",
+        "messages.txt: messages 2, refused 0\n",
+    ),
+    (
+        "no such file",
+        b"",
+        false,
+        "file no such file\n",
+        "no such file: No such file or directory (os error 2)\n",
+    ),
+    (
+        "/",
+        b"",
+        false,
+        "file /\n",
+        "/: Is a directory (os error 21)\n",
+    ),
+];
+
+#[test]
+fn files_are_answered(rt: HostRuntime) -> Result<(), Fail> {
+    fs::write(&rt, "messages.txt", "rr 062c00\nabis 082e010b\n")?;
+    for (path, input, wanted, text, said) in FILES {
+        answers_file(&rt, *path, *input, *wanted, (*text, *said))?;
+    }
+    fs::remove_file(&rt, "messages.txt")?;
     Ok(())
 }
 
@@ -130,12 +249,15 @@ impl io::Read for Broken<'_> {
 #[test]
 fn a_reader_that_breaks_off(rt: HostRuntime) -> Result<(), Fail> {
     let mut out = Vec::new(rt.alloc());
-    let mut reader = io::BufReader::new(rt.alloc(), Broken(b"062c00\n06"))?;
-    match answer_lines(rt.alloc(), Some(Link::Rr), &mut reader, &mut out) {
-        Err(LinesFault::Read(error)) => assert_eq!(rt; error.kind(), io::ErrorKind::TimedOut),
-        _ => assert!(rt; false, "a read that fails"),
-    }
-    assert_eq!(rt; str::from_utf8(&out)?, "1 HANDOVER COMPLETE cause=0\n");
+    let mut errors = Vec::new(rt.alloc());
+    let input = Broken(b"rr 062c00\nrr 06");
+    let ended = answer_file(&rt, FIELDS, "-", input, &mut out, &mut errors);
+    assert_eq!(rt; ended, Ok(false));
+    assert_eq!(rt;
+        str::from_utf8(&out)?,
+        "1 HANDOVER COMPLETE cause=0\nfile -\n"
+    );
+    assert!(rt; str::from_utf8(&errors)?.starts_with("-: "));
     Ok(())
 }
 
@@ -162,7 +284,14 @@ impl Write for Failing {
 }
 
 /// Lines with each kind of answer.
-const EACH_KIND: &[u8] = b"abis 082e010b # note\nrr 0\nrr 06ff\nx\na 000121\n";
+const EACH_KIND: &[u8] =
+    b"abis 082e010b0401 # note\nrr 0\nrr 06ff\nx\na 0003211b1b\nabis 0301010b02000b0004062c0077\n";
+
+/// Each message with its own link, and all that is said of it.
+const ALL: Asked = Asked {
+    link: None,
+    detail: Detail::All,
+};
 
 /// Whether the answers met no failing write, where the n-th fails.
 fn writes_all(rt: &(impl Abort + AllocGlobal), before: u64) -> bool {
@@ -171,7 +300,7 @@ fn writes_all(rt: &(impl Abort + AllocGlobal), before: u64) -> bool {
         failed: false,
     };
     let mut reader = EACH_KIND;
-    let ended = answer_lines(rt.alloc(), None, &mut reader, &mut out);
+    let ended = answer_lines(rt.alloc(), ALL, &mut reader, &mut out);
     let same = match ended {
         Ok(_) => !out.failed,
         Err(LinesFault::Write) => out.failed,
@@ -193,7 +322,7 @@ fn each_write_fails(rt: HostRuntime) -> Result<(), Fail> {
 }
 
 /// Lines whose octets, and a message's list, take memory.
-const WITH_LISTS: &[u8] = b"abis 03 01 01 0b 02 00 0b 00 03 06 2c 00\nrr 062c00\n";
+const WITH_LISTS: &[u8] = b"abis 03 01 01 0b 02 00 0b 00 03 06 2c 00\na 000121\nrr 062c00\n";
 
 /// Whether these lines were refused no memory, where the n-th request is refused.
 fn has_memory(rt: &(impl Abort + AllocGlobal), number: u64) -> bool {
@@ -203,7 +332,7 @@ fn has_memory(rt: &(impl Abort + AllocGlobal), number: u64) -> bool {
         failed: false,
     };
     let mut reader = WITH_LISTS;
-    let ended = answer_lines(&heap, None, &mut reader, &mut out);
+    let ended = answer_lines(&heap, ALL, &mut reader, &mut out);
     let same = match ended {
         Ok(_) => !heap.was_refused(),
         Err(LinesFault::NoMemory) => heap.was_refused(),

@@ -37,7 +37,7 @@ fn file_text<R: Files + AllocGlobal>(rt: &R, path: &str) -> io::Result<Option<St
 }
 
 /// The text of a file; nothing where it can't be read, and then its path was printed, and on `errors` why.
-fn text_of<R: Files + AllocGlobal, W: Write, E: Write>(
+pub(crate) fn text_of<R: Files + AllocGlobal, W: Write, E: Write>(
     rt: &R,
     path: &str,
     out: &mut W,

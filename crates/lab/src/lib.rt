@@ -3,6 +3,7 @@
 //! have crates of their own, whose modules are exported here too.
 #![tactic(auto)]
 
+pub mod check;
 mod controllers;
 mod course;
 pub mod decoded;

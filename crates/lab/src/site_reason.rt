@@ -6,9 +6,10 @@
 //! can't name another key than the fault: it starts from the fault of this second reading, of the same text, and looks
 //! for the first table with a mistake at that key.
 use crate::run::LabFault;
-use cell_table::limits::{FIRST_OUTSIDE, MOST_CELLS, MOST_NEIGHBOURS, MOST_OUTSIDE};
+use cell_table::limits::{MOST_CELLS, MOST_NEIGHBOURS, MOST_OUTSIDE};
 use cell_table::ranges::{arfcn_range, tch_range};
 use cell_table::{Key, Site, SiteFault, What};
+use site_text::{Place, entries};
 use std::alloc::Global;
 use std::fmt;
 use std::io::Write;
@@ -42,31 +43,6 @@ impl fmt::Display for Numbers {
     }
 }
 
-/// Where a table stands: cells and TRX are counted from 0 in the order of the file, outside cells from 64 too.
-#[derive(Clone, Copy)]
-enum Place {
-    Top,
-    Handover,
-    Cell(usize),
-    Trx(usize, usize),
-    Outside(usize),
-}
-
-impl fmt::Display for Place {
-    fn fmt<W: fmt::Write>(&self, f: &mut fmt::Formatter<W>) -> fmt::Result {
-        match self {
-            Place::Top => write!(f, "the file"),
-            Place::Handover => write!(f, "handover"),
-            Place::Cell(cell) => write!(f, "cell {cell}"),
-            Place::Trx(cell, trx) => write!(f, "cell {cell}, trx {trx}"),
-            Place::Outside(cell) => {
-                let number = cell.saturating_add(usize::from(FIRST_OUTSIDE));
-                write!(f, "outside {cell} (cell {number})")
-            }
-        }
-    }
-}
-
 /// A value as it is said in a sentence: an integer by its digits, any other by its kind.
 #[derive(Clone, Copy)]
 struct Said<'a>(&'a Value);
@@ -77,17 +53,6 @@ impl<'a> fmt::Display for Said<'a> {
             Some(number) => write!(f, "{number}"),
             None => write!(f, "a value of the kind {}", self.0.type_str()),
         }
-    }
-}
-
-/// The entries of the array at a key; none where there is no array.
-fn entries(table: &Value, key: Key) -> &[Value] {
-    match table.get(key.name()) {
-        Some(value) => match value.as_array() {
-            Some(found) => found.as_slice(),
-            None => &[],
-        },
-        None => &[],
     }
 }
 

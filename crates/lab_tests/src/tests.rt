@@ -1,5 +1,6 @@
 //! What no clause says: the printed texts on the whole way from two files to a trace and from octets to a message in
 //! words, what is refused, allocation failures and failing writes.
+mod checked;
 mod crossing;
 mod decoded;
 mod external;

@@ -1,4 +1,4 @@
-use lab::decoded::Link;
+use decoded_lines::{Detail, Link};
 use lab::words::{Job, WordsFault, read_words};
 use std::alloc::Global;
 use std::process::Abort;
@@ -41,6 +41,14 @@ fn run_names_its_files(rt: HostRuntime) {
 }
 
 #[test]
+fn check_names_a_file(rt: HostRuntime) {
+    match read_words(rt.alloc(), &["check", "a.toml"]) {
+        Ok(Job::Check { site }) => assert_eq!(rt; site, "a.toml"),
+        _ => assert!(rt; false, "a check"),
+    }
+}
+
+#[test]
 fn rewind_names_two_files_and_a_line(rt: HostRuntime) {
     match read_words(rt.alloc(), &["rewind", "a.toml", "b.trace", "8"]) {
         Ok(Job::Rewind { site, trace, line }) => {
@@ -74,6 +82,37 @@ fn decode_names_a_link_and_octets(rt: HostRuntime) {
     }
 }
 
+/// Words that ask for the messages of a file: with the link of all lines or none, how much is said, and the file.
+const FILES: &[(&[&str], Option<Link>, Detail, &str)] = &[
+    (&["decode", "--from", "-"], None, Detail::Fields, "-"),
+    (&["decode", "--from=a.txt"], None, Detail::Fields, "a.txt"),
+    (
+        &["decode", "abis", "--from", "a.txt"],
+        Some(Link::Abis),
+        Detail::Fields,
+        "a.txt",
+    ),
+    (
+        &["decode", "--all", "--from", "a.txt", "a"],
+        Some(Link::A),
+        Detail::All,
+        "a.txt",
+    ),
+    (&["decode", "--from", "-", "--all"], None, Detail::All, "-"),
+];
+
+#[test]
+fn decode_names_a_file(rt: HostRuntime) {
+    for (words, link, detail, file) in FILES {
+        match read_words(rt.alloc(), *words) {
+            Ok(Job::DecodeLines { asked, path }) => {
+                assert_eq!(rt; (asked.link, asked.detail, path), (*link, *detail, *file));
+            }
+            _ => assert!(rt; false, "{file}: a file"),
+        }
+    }
+}
+
 /// Words that ask for a text, and a part of it.
 const SHOWS: &[(&[&str], &str)] = &[
     (&["--help"], "Runs a script over a site"),
@@ -86,8 +125,13 @@ const SHOWS: &[(&[&str], &str)] = &[
     (&["decode", "--help"], "decode abis 082e010b"),
     (&["decode", "--help"], "rr is the radio path"),
     (&["decode", "--help"], "a the switching centre"),
+    (&["decode", "--help"], "--from <FILE>"),
+    (&["help", "decode"], "- for standard input"),
+    (&["help", "decode"], "and on abis the rr message inside"),
     (&["decode", "--help"], "in hexadecimal"),
     (&["help", "decode"], "rr, a, abis"),
+    (&["check", "--help"], "The site file"),
+    (&["help", "check"], "neighbour carrier that no cell has"),
     (&["rewind", "--help"], "The trace, as run prints it"),
     (&["help", "rewind"], "counted from 1"),
     (&["--version"], "bsc_lab 0."),
@@ -110,6 +154,8 @@ const REFUSALS: &[(&[&str], &str)] = &[
         "--peer",
     ),
     (&["rewind", "a", "b", "1", "--peer", "c.toml"], "--peer"),
+    (&["check"], "were not provided:\n  <SITE>\n"),
+    (&["check", "a.toml", "b.toml"], "b.toml"),
     (&["decode"], "were not provided:\n  <LINK>\n  <HEX>\n"),
     (&["decode", "rr"], "were not provided:\n  <HEX>\n"),
     (&["decode", "A", "00"], "'A'"),
@@ -117,6 +163,14 @@ const REFUSALS: &[(&[&str], &str)] = &[
     (&["decode", "", "062c00"], "'<LINK>' but none was supplied"),
     (&["decode", "rr", "06", "2c00"], "2c00"),
     (&["decode", "rr", "-0"], "'-0'"),
+    (
+        &["decode", "--from"],
+        "'--from <FILE>' but none was supplied",
+    ),
+    (&["decode", "rr", "06", "--from", "-"], "--from <FILE>"),
+    (&["decode", "x", "--from", "-"], "'x'"),
+    (&["decode", "rr", "06", "--all"], "--from <FILE>"),
+    (&["decode", "--from", "a", "--from", "b"], "--from <FILE>"),
     (
         &["rewind"],
         "were not provided:\n  <SITE>\n  <TRACE>\n  <LINE>\n",
