@@ -1,5 +1,5 @@
 -- What the first octets of a text say.
-use Rattle.std.proofs.Common.{◌≡◌, ℕ, ◌<◌, ◌≤◌, List, [], ◌∷◌, ◌++◌, Bool, true, false, Option, Some, None, option_map, refl, sym, ap, subst, ◌∙◌, ◌-◌, append_assoc, arith, rules, length, take, drop, slice_index}
+use Rattle.std.proofs.Common.{◌≡◌, ℕ, ◌<◌, ◌≤◌, List, [], ◌∷◌, ◌++◌, true, false, Option, Some, None, option_map, refl, sym, ap, subst, ◌∙◌, ◌-◌, append_assoc, arith, rules, length, take, drop, slice_index}
 use Rattle.std.proofs.lemmas.List.{length-drop}
 use Rattle.std.proofs.Math.Seq.{take-length}
 use Rattle.std.specs.Fmt.{option_append}

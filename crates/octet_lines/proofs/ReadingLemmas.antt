@@ -1,14 +1,14 @@
 -- Lines of what a reader has left.
-use Rattle.std.proofs.Common.{◌≡◌, ◌≢◌, ◌⊎◌, inl, inr, ℕ, zero, suc, ◌+◌, ◌-◌, ◌<◌, ◌≤◌, min, Bool, true, false, cond, not, List, [], ◌∷◌, ◌++◌, Option, Some, None, IfSome, All, refl, sym, ap, subst, ◌∙◌, append_assoc, append-nil, arith, rules, length, take, drop, length-append, length-take, length-take-le, take_all, take_at, take-take, drop_at, take-append-drop, nat_lt}
+use Rattle.std.proofs.Common.{◌≡◌, ◌≢◌, inl, inr, ℕ, zero, suc, ◌+◌, ◌-◌, ◌<◌, ◌≤◌, min, Bool, true, false, cond, List, [], ◌∷◌, ◌++◌, Option, Some, None, IfSome, All, refl, sym, ap, subst, ◌∙◌, append-nil, arith, length, take, drop, length-append, length-take, length-take-le, take_all, drop_at, nat_lt}
 use Rattle.std.proofs.lemmas.List.{take-append-le, drop-drop, nil_from_length, take_min}
 use Rattle.std.proofs.lemmas.List.Folds.{list_any-append}
 use Rattle.std.proofs.lemmas.List.Elements.{All-nil, All-cons}
 use Rattle.std.proofs.lemmas.Bool.{cases_Bool, true≢false, ltb-true, ltb-false}
 use Rattle.std.proofs.lemmas.Bool.Decides.{Decides-ltb}
 use Rattle.std.proofs.KnownBytes.{Consumes-kept, Consumes-trans, starts_with_rest}
-use Rattle.std.specs.List.{list_any, position, position_or_len, before_first, after_first}
+use Rattle.std.specs.List.{list_any, position, position_or_len}
 use Rattle.std.specs.Io.{StartsWith}
-use Rattle.std.specs.Io.KnownBytes.{Keeps, Consumes, IsAtEnd}
+use Rattle.std.specs.Io.KnownBytes.{Consumes}
 use Rattle.octet_lines.specs.Reading.{is_feed, longest_line, most_kept, kept, first_line, behind_line, found_of, Passes, Gives}
 use Rattle.octet_lines.specs.declared.reader.Found.TheVariants as found
 use Rattle.octet_lines.specs.declared.reader.Part.TheVariants as part

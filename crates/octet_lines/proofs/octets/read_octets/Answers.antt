@@ -1,4 +1,4 @@
-use Rattle.std.proofs.Common.{◌≡◌, ◌++◌, ◌∙◌, List, ℕ, sym, ap, option_map}
+use Rattle.std.proofs.Common.{◌++◌, ◌∙◌, List, ℕ, sym, ap, option_map}
 use Rattle.octet_lines.specs.Lines.{octets_of}
 use Rattle.octet_lines.proofs.OctetLemmas.{tail, skip, half, bad, more, done}
 use Rattle.octet_lines.proofs.octets.read_octets.Goals as goal

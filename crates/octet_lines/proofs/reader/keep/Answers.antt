@@ -1,4 +1,4 @@
-use Rattle.std.proofs.Common.{◌≡◌, ◌-◌, ◌≤◌, ◌∙◌, min, length, arith, rules}
+use Rattle.std.proofs.Common.{◌≡◌, ◌-◌, ◌≤◌, ◌∙◌, min, length, arith}
 use Rattle.octet_lines.specs.Reading.{most_kept}
 use Rattle.octet_lines.proofs.ReadingLemmas.{keep_part}
 use Rattle.octet_lines.proofs.reader.keep.Goals as goal

@@ -1,4 +1,4 @@
-use Rattle.std.proofs.Common.{◌≡◌, ◌≢◌, ◌+◌, ◌≤◌, length, arith, rules, subst, refl, Some, None}
+use Rattle.std.proofs.Common.{◌≡◌, ◌≢◌, ◌+◌, length, arith, rules, subst, refl, Some, None}
 use Rattle.std.specs.List.{position}
 use Rattle.std.specs.Io.BufRead.{FillKeeps}
 use Rattle.std.proofs.BufReadLemmas.{Consumes_shown}
