@@ -69,13 +69,13 @@ pub fn link_named(name: &[u8]) -> Option<Link>
     ensures named { IfSome result (λ link. link_name link ≡ name.now) }
     ensures none { IsNone result → (link : Link) → link_name link ≢ name.now }
 {
-    if name == b"rr" {
+    if name == b"rr".as_slice() {
         return Some(Link::Rr);
     }
-    if name == b"a" {
+    if name == b"a".as_slice() {
         return Some(Link::A);
     }
-    if name == b"abis" {
+    if name == b"abis".as_slice() {
         return Some(Link::Abis);
     }
     None
