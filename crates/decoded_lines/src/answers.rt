@@ -127,8 +127,8 @@ fn answer_text<A: Allocator + Copy, W: Write>(
     text: &[u8],
     out: &mut W,
 ) -> Result<bool, LinesFault>
-    ensures message { result ≡ Ok true → TextSays A asked.entry.link text.now }
-    ensures refused { result ≡ Ok false → TextSays A asked.entry.link text.now → ⊥ }
+    ensures message { result ≡ Ok true → TextSays A asked.link text.now }
+    ensures refused { result ≡ Ok false → TextSays A asked.link text.now → ⊥ }
 {
     if let Some(link) = asked.link {
         return answer_octets(alloc, link, asked.detail, text, out);
@@ -158,7 +158,7 @@ fn answer_line<A: Allocator + Copy, W: Write>(
     line: &[u8],
     out: &mut W,
 ) -> Result<Verdict, LinesFault>
-    ensures judged { IfOk result (λ verdict. Judges A asked.entry.link line.now verdict) }
+    ensures judged { IfOk result (λ verdict. Judges A asked.link line.now verdict) }
 {
     let Some((text, note)) = said_in(line) else {
         return Ok(Verdict::Blank);
@@ -208,7 +208,7 @@ fn count_line<A: Allocator + Copy, W: Write>(
 ) -> Result<(), LinesFault>
     requires { length line.now ≤ longest_line }
     ensures counted { OnOk result
-        (IsCounted A asked.entry.link line.now counts.old.refused counts.new.refused) }
+        (IsCounted A asked.link line.now counts.old.refused counts.new.refused) }
 {
     let verdict = answer_line(alloc, asked, number, line, out)?;
     counts.add(verdict);
@@ -234,7 +234,7 @@ fn answer_next<A: Allocator + Copy, R: BufRead, W: Write>(
     counts: &mut Counts,
     out: &mut W,
 ) -> Result<bool, LinesFault>
-    ensures line { result ≡ Ok true → CountsFirst A asked.entry.link (R.remaining reader.old)
+    ensures line { result ≡ Ok true → CountsFirst A asked.link (R.remaining reader.old)
         (R.remaining reader.new) counts.old.refused counts.new.refused }
     ensures end { result ≡ Ok false → IsAtEnd (R.remaining reader.old) }
     ensures kept { result ≡ Ok false → counts.new.refused ≡ counts.old.refused }
@@ -269,9 +269,9 @@ pub fn answer_lines<A: Allocator + Copy, R: BufRead, W: Write>(
     out: &mut W,
 ) -> Result<Counts, LinesFault>
     ensures all { IfOk result (λ counts. counts.refused ≡ 0 →
-        IfSome (R.remaining reader.old) (AreGood A asked.entry.link)) }
+        IfSome (R.remaining reader.old) (AreGood A asked.link)) }
     ensures one { IfOk result (λ counts. counts.refused ≢ 0 →
-        IfSome (R.remaining reader.old) (λ octets. AreGood A asked.entry.link octets → ⊥)) }
+        IfSome (R.remaining reader.old) (λ octets. AreGood A asked.link octets → ⊥)) }
 {
     let mut line = Vec::new(alloc);
     let mut counts = Counts {

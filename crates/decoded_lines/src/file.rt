@@ -40,7 +40,7 @@ fn answer_reader<A: Allocator + Copy, I: Read + Drop, W: Write, E: Write>(
     out: &mut W,
     errors: &mut E,
 ) -> Result<bool, PrintFault>
-    ensures good { result ≡ Ok true → IfSome (I.remaining input) (AreGood A asked.entry.link) }
+    ensures good { result ≡ Ok true → IfSome (I.remaining input) (AreGood A asked.link) }
 {
     // a buffer lacks nothing but memory
     let mut reader = BufReader::new(alloc, input).map_err(|_| PrintFault::NoMemory)?;

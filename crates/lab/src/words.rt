@@ -109,7 +109,9 @@ const CHECK_HELP: &str = "\
 Prints a line for each own cell, one for each cell of others, and a warning for each key that is
 ignored, neighbour carrier that no cell has, and cell without neighbours.
 
-Statuses: 0 the site can be read, 2 the file or the site is refused, 3 memory was refused.";
+Statuses: 0 the site can be read, 2 the file or the site is refused, 3 memory was refused.
+
+As in: bsc_lab check site.toml";
 
 /// `rewind SITE TRACE LINE`
 fn rewind_command<'a>(alloc: Global) -> Result<Command<'a>, AllocError> {
@@ -156,7 +158,9 @@ Lines of a FILE have a message's octets each, in hexadecimal: blanks, tabs and c
 around octets, and what stands behind a # is a note, which is kept. Each is answered by one line,
 with its number. Without LINK each line begins with its own, as in: abis 08 2e 01 0b
 
-Statuses: 0 all are messages, 2 one was refused or a file can't be read, 3 memory was refused.";
+Statuses: 0 all are messages, 2 one was refused or a file can't be read, 3 memory was refused.
+
+As in: bsc_lab decode --from messages.txt --all";
 
 /// An argument that has to be given by its place, unless a file is.
 fn unless_from<'a>(alloc: Global, name: &'a str, help: &'a str) -> Result<Arg<'a>, AllocError> {
@@ -196,7 +200,7 @@ fn all_argument<'a>(alloc: Global) -> Result<Arg<'a>, AllocError> {
     Arg::new(alloc, "all")
         .long("all")
         .action(ArgAction::SetTrue)
-        .help("Says what a message of the file doesn't use, too, and on abis the rr message inside")
+        .help("Says what each message doesn't use, too, and on abis the rr message inside")
         .requires_arg("from")
 }
 

@@ -14,7 +14,9 @@ impl ElementTable for AbisForms {
 
     fn rule_for(identifier: u8) -> (Form, usize) {
         match identifier {
-            0x01..=0x04 | 0x09 | 0x0D | 0x11 | 0x18 | 0x1B | 0x25 => (Form::Fixed(1), PLACES),
+            0x01 | 0x02 | 0x03 | 0x04 | 0x09 | 0x0D | 0x11 | 0x18 | 0x1B | 0x25 => {
+                (Form::Fixed(1), PLACES)
+            }
             0x08 | 0x0A => (Form::Fixed(2), PLACES),
             0x0B => (Form::LongCounted, PLACES),
             _ => (Form::Counted, PLACES),

@@ -160,7 +160,7 @@ const REFUSALS: &[(&[&str], &str)] = &[
     (&["decode", "rr"], "were not provided:\n  <HEX>\n"),
     (&["decode", "A", "00"], "'A'"),
     (&["decode", "RR", "062c00"], "'RR'"),
-    (&["decode", "", "062c00"], "'<LINK>' but none was supplied"),
+    (&["decode", "", "062c00"], "'[LINK]' but none was supplied"),
     (&["decode", "rr", "06", "2c00"], "2c00"),
     (&["decode", "rr", "-0"], "'-0'"),
     (
