@@ -3,7 +3,36 @@ use Rattle.std.specs.Prelude.{ℕ, ◌-◌, if◌then◌else◌, ◌==◌, List,
 use Rattle.octet_elements.specs.declared.form.Form.{Form}
 use Rattle.octet_elements.specs.declared.form.Form.TheVariants.{Fixed, Counted}
 use Rattle.octet_elements.specs.Elements.{Forms}
-pub use Rattle.bssmap_messages.specs.declared.table.TheConstants.{CELL_IDENTIFIER, CAUSE, ENCRYPTION_INFORMATION, CHANNEL_TYPE, CLASSMARK_2, RR_CAUSE, LAYER_3_INFORMATION, CELL_IDENTIFIER_LIST, RESPONSE_REQUEST, CLASSMARK_1}
+
+abbrev pub CELL_IDENTIFIER : ℕ
+CELL_IDENTIFIER = 0x05
+
+abbrev pub CAUSE : ℕ
+CAUSE = 0x04
+
+abbrev pub ENCRYPTION_INFORMATION : ℕ
+ENCRYPTION_INFORMATION = 0x0A
+
+abbrev pub CHANNEL_TYPE : ℕ
+CHANNEL_TYPE = 0x0B
+
+abbrev pub CLASSMARK_2 : ℕ
+CLASSMARK_2 = 0x12
+
+abbrev pub RR_CAUSE : ℕ
+RR_CAUSE = 0x15
+
+abbrev pub LAYER_3_INFORMATION : ℕ
+LAYER_3_INFORMATION = 0x17
+
+abbrev pub CELL_IDENTIFIER_LIST : ℕ
+CELL_IDENTIFIER_LIST = 0x1A
+
+abbrev pub RESPONSE_REQUEST : ℕ
+RESPONSE_REQUEST = 0x1B
+
+abbrev pub CLASSMARK_1 : ℕ
+CLASSMARK_1 = 0x1D
 
 -- The elements of a fixed length: identifier, and how many octets they have with it. Three of them stand
 -- in messages that are read here: RR cause, response request and classmark 1.
@@ -18,7 +47,6 @@ form_in (entry ∷ table) i = if i == entry.0 then Fixed (entry.1 - 1) else form
 abbrev pub interface_a : Forms
 interface_a i = form_in fixed_lengths i
 
--- The elements that messages use: cell identifier, of which the second element counts too, cause, encryption
--- information, channel type, classmark 2, RR cause, layer 3 information, cell identifier list, response request, classmark 1.
+-- The elements that messages use. Of the first, the cell identifier, the second element counts too.
 abbrev pub known : List ℕ
-known = 0x05 ∷ 0x04 ∷ 0x0A ∷ 0x0B ∷ 0x12 ∷ 0x15 ∷ 0x17 ∷ 0x1A ∷ 0x1B ∷ 0x1D ∷ []
+known = CELL_IDENTIFIER ∷ CAUSE ∷ ENCRYPTION_INFORMATION ∷ CHANNEL_TYPE ∷ CLASSMARK_2 ∷ RR_CAUSE ∷ LAYER_3_INFORMATION ∷ CELL_IDENTIFIER_LIST ∷ RESPONSE_REQUEST ∷ CLASSMARK_1 ∷ []

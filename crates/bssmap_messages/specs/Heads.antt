@@ -2,7 +2,7 @@
 -- TS 48.006 clause 9.3 for the discriminator and the length).
 use Rattle.std.specs.Prelude.{◌≡◌, ◌≢◌, ◌⊎◌, ℕ, ◌<◌, ◌≤◌, List, [], ◌∷◌, length}
 use Rattle.bssmap_messages.specs.declared.fault.BssmapFault.{BssmapFault}
-use Rattle.bssmap_messages.specs.declared.fault.BssmapFault.TheVariants.{NotBssmap, Length, UnknownType}
+use Rattle.bssmap_messages.specs.declared.fault.BssmapFault.TheVariants.{NotBssmap, Length, UnknownType, Torn, Missing, BadElement, NoMemory}
 use Rattle.bssmap_messages.specs.declared.head.MessageKind.{MessageKind}
 use Rattle.bssmap_messages.specs.Messages.{type_of}
 
@@ -27,4 +27,7 @@ abbrev pub HasHeadFault : List ℕ → BssmapFault → Type 0
 HasHeadFault octets NotBssmap = (octets ≡ []) ⊎ ((d : ℕ) × (rest : List ℕ) × (octets ≡ d ∷ rest) × (d ≢ 0))
 HasHeadFault octets Length = (rest : List ℕ) × (octets ≡ 0 ∷ rest) × ((carried : List ℕ) → Carries octets carried → ⊥)
 HasHeadFault octets (UnknownType t) = (body : List ℕ) × Carries octets (t ∷ body) × ((kind : MessageKind) → t ≡ type_of kind → ⊥)
-HasHeadFault octets _ = ⊥
+HasHeadFault octets (Torn at) = ⊥
+HasHeadFault octets (Missing i) = ⊥
+HasHeadFault octets (BadElement i) = ⊥
+HasHeadFault octets NoMemory = ⊥

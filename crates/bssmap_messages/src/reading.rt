@@ -32,7 +32,7 @@ fn read_message<A: Allocator + Copy>(alloc: A, octets: &[u8]) -> Result<Bssmap<A
 /// cell and the second the target cell. An `Err` is the first fault in the order that [`BssmapFault`] says.
 #[inline(always)]
 pub fn decode<A: Allocator + Copy>(alloc: A, octets: &[u8]) -> Result<Bssmap<A>, BssmapFault>
-    ensures { Decodes (codec A) octets.now result }
+    ensures decodes { Decodes (codec A) octets.now result }
 {
     read_message(alloc, octets)
 }

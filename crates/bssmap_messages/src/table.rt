@@ -1,7 +1,4 @@
 //! The identifiers and forms of the elements on A (TS 48.008 clause 3.2.2).
-ghost use Rattle.std.specs.Prelude.{◌≡◌, ◌∷◌, []};
-ghost use Rattle.bssmap_messages.specs.Forms.{known};
-
 use octet_elements::{ElementTable, Form, PLACES};
 
 pub const CAUSE: u8 = 0x04;
@@ -23,12 +20,6 @@ pub const CELL_IDENTIFIER_LIST: u8 = 0x1A;
 pub const RESPONSE_REQUEST: u8 = 0x1B;
 
 pub const CLASSMARK_1: u8 = 0x1D;
-
-/// The names stand for the identifiers that messages use.
-pub fn names_are_known()
-    ensures { known ≡ CELL_IDENTIFIER ∷ CAUSE ∷ ENCRYPTION_INFORMATION ∷ CHANNEL_TYPE ∷ CLASSMARK_2 ∷
-        RR_CAUSE ∷ LAYER_3_INFORMATION ∷ CELL_IDENTIFIER_LIST ∷ RESPONSE_REQUEST ∷ CLASSMARK_1 ∷ [] }
-{}
 
 /// The elements on A.
 pub struct InterfaceA;

@@ -35,7 +35,7 @@ impl<'a, T: ElementTable> Found<'a, T> {
     /// Nothing is found yet.
     #[inline]
     pub fn new() -> Self
-        ensures { lookup T.known result ≡ noted T.known [] }
+        ensures nothing { lookup T.known result ≡ noted T.known [] }
     {
         Found {
             first: [None; 12],
@@ -48,7 +48,7 @@ impl<'a, T: ElementTable> Found<'a, T> {
     /// an `Err` it is unspecified what was found.
     #[inline(always)]
     pub fn read(&mut self, octets: &'a [u8]) -> Result<(), usize>
-        requires { lookup T.known self.old ≡ noted T.known [] }
+        requires nothing { lookup T.known self.old ≡ noted T.known [] }
         ensures whole { OnOk result ((es : List Element) × AreElements T.form_of es octets.now ×
             (lookup T.known self.new ≡ noted T.known es)) }
         ensures torn { IfErr result (IsTornAt T.form_of octets.now) }
@@ -135,7 +135,7 @@ impl<'a, T: ElementTable> Found<'a, T> {
     /// The whole value of the element with this identifier, which has at least one octet.
     #[inline]
     pub fn octets(&self, identifier: u8) -> Result<&'a [u8], ValueFault>
-        ensures { Gives result (λ v. v.now) (octets_in identifier
+        ensures gives { Gives result (λ v. v.now) (octets_in identifier
             ((lookup T.known self.now).first identifier)) }
     {
         octets(identifier, self.first(identifier))
@@ -144,7 +144,7 @@ impl<'a, T: ElementTable> Found<'a, T> {
     /// The whole value of the element with this identifier, which has at least one octet, where it is there.
     #[inline]
     pub fn optional_octets(&self, identifier: u8) -> Result<Option<&'a [u8]>, ValueFault>
-        ensures { Gives result value_seen (optional_octets_in identifier
+        ensures gives { Gives result value_seen (optional_octets_in identifier
             ((lookup T.known self.now).first identifier)) }
     {
         optional_octets(identifier, self.first(identifier))
@@ -153,7 +153,7 @@ impl<'a, T: ElementTable> Found<'a, T> {
     /// The whole value of the element with this identifier, which may be empty.
     #[inline]
     pub fn any_octets(&self, identifier: u8) -> Result<&'a [u8], ValueFault>
-        ensures { Gives result (λ v. v.now) (any_octets_in identifier
+        ensures gives { Gives result (λ v. v.now) (any_octets_in identifier
             ((lookup T.known self.now).first identifier)) }
     {
         any_octets(identifier, self.first(identifier))

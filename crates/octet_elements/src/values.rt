@@ -67,7 +67,7 @@ pub fn u16_octets(number: u16) -> [u8; 2]
 /// The whole value, which has at least one octet.
 #[inline]
 pub fn octets(identifier: u8, value: Option<&[u8]>) -> Result<&[u8], ValueFault>
-    ensures { Gives result (λ v. v.now) (octets_in identifier (value_seen value.entry)) }
+    ensures gives { Gives result (λ v. v.now) (octets_in identifier (value_seen value.entry)) }
 {
     match value {
         None => Err(ValueFault::Absent(identifier)),
@@ -79,7 +79,7 @@ pub fn octets(identifier: u8, value: Option<&[u8]>) -> Result<&[u8], ValueFault>
 /// The whole value, which has at least one octet, where the element is there.
 #[inline]
 pub fn optional_octets(identifier: u8, value: Option<&[u8]>) -> Result<Option<&[u8]>, ValueFault>
-    ensures { Gives result value_seen (optional_octets_in identifier (value_seen value.entry)) }
+    ensures gives { Gives result value_seen (optional_octets_in identifier (value_seen value.entry)) }
 {
     match value {
         None => Ok(None),
@@ -91,7 +91,7 @@ pub fn optional_octets(identifier: u8, value: Option<&[u8]>) -> Result<Option<&[
 /// The whole value, which may be empty.
 #[inline]
 pub fn any_octets(identifier: u8, value: Option<&[u8]>) -> Result<&[u8], ValueFault>
-    ensures { Gives result (λ v. v.now) (any_octets_in identifier (value_seen value.entry)) }
+    ensures gives { Gives result (λ v. v.now) (any_octets_in identifier (value_seen value.entry)) }
 {
     value.ok_or(ValueFault::Absent(identifier))
 }

@@ -2,12 +2,46 @@
 use Rattle.std.specs.Prelude.{ℕ, Bool, false, if◌then◌else◌, ◌==◌, ◌||◌, List, [], ◌∷◌}
 use Rattle.octet_elements.specs.declared.form.Form.TheVariants.{Fixed, Counted, LongCounted}
 use Rattle.octet_elements.specs.Elements.{Forms}
-pub use Rattle.rsl_messages.specs.declared.table.TheConstants.{CHANNEL_NUMBER, LINK_IDENTIFIER, ACTIVATION_TYPE, POWER, CHANNEL_MODE, FRAME_NUMBER, HANDOVER_REFERENCE, LAYER3, ACCESS_DELAY, UPLINK_MEASUREMENTS, CAUSE, RESULT_NUMBER}
 
--- The identifiers of the elements that messages use: channel number, link identifier, activation type, power, channel
--- mode, frame number, handover reference, L3 information, access delay, uplink measurements, cause, result number.
+abbrev pub CHANNEL_NUMBER : ℕ
+CHANNEL_NUMBER = 0x01
+
+abbrev pub LINK_IDENTIFIER : ℕ
+LINK_IDENTIFIER = 0x02
+
+abbrev pub ACTIVATION_TYPE : ℕ
+ACTIVATION_TYPE = 0x03
+
+abbrev pub POWER : ℕ
+POWER = 0x04
+
+abbrev pub CHANNEL_MODE : ℕ
+CHANNEL_MODE = 0x06
+
+abbrev pub FRAME_NUMBER : ℕ
+FRAME_NUMBER = 0x08
+
+abbrev pub HANDOVER_REFERENCE : ℕ
+HANDOVER_REFERENCE = 0x09
+
+abbrev pub LAYER3 : ℕ
+LAYER3 = 0x0B
+
+abbrev pub ACCESS_DELAY : ℕ
+ACCESS_DELAY = 0x11
+
+abbrev pub UPLINK_MEASUREMENTS : ℕ
+UPLINK_MEASUREMENTS = 0x19
+
+abbrev pub CAUSE : ℕ
+CAUSE = 0x1A
+
+abbrev pub RESULT_NUMBER : ℕ
+RESULT_NUMBER = 0x1B
+
+-- the identifiers of the elements that messages use
 abbrev pub known : List ℕ
-known = 0x01 ∷ 0x02 ∷ 0x03 ∷ 0x04 ∷ 0x06 ∷ 0x08 ∷ 0x09 ∷ 0x0B ∷ 0x11 ∷ 0x19 ∷ 0x1A ∷ 0x1B ∷ []
+known = CHANNEL_NUMBER ∷ LINK_IDENTIFIER ∷ ACTIVATION_TYPE ∷ POWER ∷ CHANNEL_MODE ∷ FRAME_NUMBER ∷ HANDOVER_REFERENCE ∷ LAYER3 ∷ ACCESS_DELAY ∷ UPLINK_MEASUREMENTS ∷ CAUSE ∷ RESULT_NUMBER ∷ []
 
 abbrev pub is_one_of : ℕ → List ℕ → Bool
 is_one_of i [] = false

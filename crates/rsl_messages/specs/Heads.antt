@@ -1,7 +1,7 @@
 -- The head of a message: discriminator and type (TS 48.058 clauses 9.1 and 9.2).
 use Rattle.std.specs.Prelude.{◌≡◌, ◌⊎◌, ℕ, ◌/◌, List, [], ◌∷◌}
 use Rattle.rsl_messages.specs.declared.fault.RslFault.{RslFault}
-use Rattle.rsl_messages.specs.declared.fault.RslFault.TheVariants.{NotRsl, Torn, UnknownType}
+use Rattle.rsl_messages.specs.declared.fault.RslFault.TheVariants.{NotRsl, Torn, UnknownType, TooLong, Missing, BadElement, NoMemory}
 use Rattle.rsl_messages.specs.declared.head.MessageKind.{MessageKind}
 use Rattle.rsl_messages.specs.declared.head.MessageKind.TheVariants.{DataRequest, DataIndication, ChannelActivation, ChannelActivationAck, ChannelActivationNack, ConnectionFailureIndication, HandoverDetection, MeasurementResult, RfChannelRelease, RfChannelReleaseAck}
 
@@ -37,4 +37,7 @@ abbrev pub HasHeadFault : List ℕ → RslFault → Type 0
 HasHeadFault octets NotRsl = (octets ≡ []) ⊎ ((d : ℕ) × (rest : List ℕ) × (octets ≡ d ∷ rest) × (IsDiscriminator d → ⊥))
 HasHeadFault octets (Torn at) = (d : ℕ) × (octets ≡ d ∷ []) × IsDiscriminator d × (at ≡ 1)
 HasHeadFault octets (UnknownType t) = (d : ℕ) × (body : List ℕ) × (octets ≡ d ∷ t ∷ body) × IsDiscriminator d × ((kind : MessageKind) → IsHead kind d t → ⊥)
-HasHeadFault octets _ = ⊥
+HasHeadFault octets TooLong = ⊥
+HasHeadFault octets (Missing i) = ⊥
+HasHeadFault octets (BadElement i) = ⊥
+HasHeadFault octets NoMemory = ⊥

@@ -51,7 +51,7 @@ fn read_message<A: Allocator + Copy>(alloc: A, octets: &[u8]) -> Result<Rsl<A>, 
 /// message has no use for is passed over. An `Err` is the first fault in the order that [`RslFault`] says.
 #[inline(always)]
 pub fn decode<A: Allocator + Copy>(alloc: A, octets: &[u8]) -> Result<Rsl<A>, RslFault>
-    ensures { Decodes (codec A) octets.now result }
+    ensures decodes { Decodes (codec A) octets.now result }
 {
     read_message(alloc, octets)
 }

@@ -1,7 +1,4 @@
 //! The elements on Abis: identifiers and forms.
-ghost use Rattle.std.specs.Prelude.{◌≡◌, ◌∷◌, []};
-ghost use Rattle.rsl_messages.specs.Forms.{known};
-
 use octet_elements::{ElementTable, Form, PLACES};
 
 pub const CHANNEL_NUMBER: u8 = 0x01;
@@ -27,13 +24,6 @@ pub const UPLINK_MEASUREMENTS: u8 = 0x19;
 pub const CAUSE: u8 = 0x1A;
 
 pub const RESULT_NUMBER: u8 = 0x1B;
-
-/// The names stand for the identifiers that messages use.
-pub fn names_are_known()
-    ensures { known ≡ CHANNEL_NUMBER ∷ LINK_IDENTIFIER ∷ ACTIVATION_TYPE ∷ POWER ∷ CHANNEL_MODE ∷
-        FRAME_NUMBER ∷ HANDOVER_REFERENCE ∷ LAYER3 ∷ ACCESS_DELAY ∷ UPLINK_MEASUREMENTS ∷ CAUSE ∷
-        RESULT_NUMBER ∷ [] }
-{}
 
 /// The elements on Abis (TS 48.058 clause 9.3).
 pub struct Abis;

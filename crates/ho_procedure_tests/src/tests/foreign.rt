@@ -3,10 +3,10 @@ ghost use Rattle.std.specs.Prelude.{[]};
 
 use super::rows::{ACTIVATED, CLEARS_COMMANDED, OPENS, Row, STARTS, TARGET_ACTIVATED};
 use super::{are_first_messages, inbound};
+use crate::leaving::Leaving;
 use cell_table::Site;
 use ho_procedure::controller::Controller;
 use ho_procedure::exchange::Fault;
-use ho_procedure::solo::Solo;
 use ho_procedure::view::DeskView;
 use radio_book::book::Book;
 use radio_book::event::{Event, Kind};
@@ -14,7 +14,6 @@ use radio_desk::desk::{Desk, DeskFault};
 use radio_desk::seat::Receipt;
 use sample_sites::THREE_CHANNELS;
 use std::alloc::Global;
-use std::marker::Model;
 use std::process::Abort;
 use std::sync::Arc;
 use std::test::Fail;
@@ -73,62 +72,6 @@ fn a_foreign_seat_is_told(rt: HostRuntime) -> Result<(), Fail> {
     is_foreign(&rt, rt.alloc(), &mut controller, STARTS)
 }
 
-/// A desk of one's own, which doesn't know its seat any more once it has judged so many events.
-#[derive(Drop)]
-struct Leaving {
-    solo: Solo<Global>,
-    left: u64,
-}
-
-impl Model for Leaving {
-    ghost use Rattle.radio_desk.specs.Desk.{DeskState, desk_code};
-
-    ghost Value = { DeskState };
-
-    ghost coded = { desk_code };
-
-    ghost view = { λ leaving. leaving.solo };
-}
-
-impl DeskView for Leaving {
-    ghost use Rattle.ho_procedure.specs.Choices.{AllowsAfter};
-
-    ghost log = { λ leaving. leaving.history };
-
-    ghost choice_at = { λ leaving log choice. AllowsAfter leaving.opening log choice };
-
-    ghost may_be_foreign = { λ _. Unit };
-
-    fn judge(&mut self, event: Event) -> Result<Receipt, DeskFault> {
-        if self.left == 0 {
-            return Err(DeskFault::Foreign(7));
-        }
-        self.left -= 1;
-        self.solo.judge(event)
-    }
-
-    fn judge_take(
-        &mut self,
-        call: u16,
-        kind: Kind,
-        cell: u8,
-    ) -> Result<Option<Receipt>, DeskFault> {
-        if self.left == 0 {
-            return Err(DeskFault::Foreign(7));
-        }
-        self.left -= 1;
-        self.solo.judge_take(call, kind, cell)
-    }
-
-    fn judge_reserve(&mut self, call: u16) -> Result<Receipt, DeskFault> {
-        if self.left == 0 {
-            return Err(DeskFault::Foreign(7));
-        }
-        self.left -= 1;
-        self.solo.judge_reserve(call)
-    }
-}
-
 /// These inputs are handled to their end.
 fn are_handled(
     rt: &impl Abort,
@@ -168,10 +111,7 @@ fn what_is_owed_is_told_where_a_seat_becomes_foreign(rt: HostRuntime) -> Result<
     let site = Site::read(rt.alloc(), rt.alloc(), THREE_CHANNELS)?;
     let site = Arc::new(rt.alloc(), site)?;
     let book = Book::new(rt.alloc(), site.clone()?)?;
-    let view = Leaving {
-        solo: Solo::new(Desk::new(rt.alloc(), book)?),
-        left: 11,
-    };
+    let view = Leaving::new(Desk::new(rt.alloc(), book)?, 11);
     let mut controller = Controller::new(rt.alloc(), view, site);
     let before = &[OPENS, ACTIVATED, STARTS, TARGET_ACTIVATED];
     are_handled(&rt, rt.alloc(), &mut controller, before)?;

@@ -3,7 +3,7 @@ use Rattle.octet_elements.proofs.Splits.{each_and_one, octets_and_one}
 use Rattle.octet_elements.proofs.found.Found.read.Goals as goal
 
 pub loop-rest-init : goal.loop-rest-init
-loop-rest-init g c = ([], tt, refl, c.requires)
+loop-rest-init g c = ([], tt, refl, c.requires.nothing)
 
 pub loop-rest-preserved : goal.loop-rest-preserved
 loop-rest-preserved g c =
