@@ -12,5 +12,5 @@ abis-octets octets message none = let head = message.1.head.1 in absurd cc
 pub returns-in-A-clause-some : goal.returns-in-A-clause-some
 returns-in-A-clause-some g c = λ refused. bssmap-octets c.args.octets.now (c.print_bssmap.ensures.memory refused)
 
-pub returns-clause-some : goal.returns-clause-some
-returns-clause-some g c = λ refused. abis-octets c.args.octets.now (c.print_abis.ensures.memory refused)
+pub returns-in-Abis-clause-some : goal.returns-in-Abis-clause-some
+returns-in-Abis-clause-some g c = λ refused. abis-octets c.args.octets.now (c.print_abis.ensures.memory refused)
