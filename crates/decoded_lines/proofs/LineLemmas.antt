@@ -15,14 +15,6 @@ use Rattle.decoded_lines.specs.declared.answers.Verdict.{Verdict}
 use Rattle.decoded_lines.specs.declared.answers.Verdict.TheVariants as verdict
 use Rattle.decoded_lines.specs.Answers.{IsGood, AreGood, Judges, IsAdded, IsCounted, CountsFirst}
 
-pub is_not : (b : Bool) → not b ≡ true → b ≡ false
-is_not true e = absurd (true≢false (sym e))
-is_not false e = refl
-
-pub is_so : (b : Bool) → not b ≡ false → b ≡ true
-is_so true e = refl
-is_so false e = absurd (true≢false e)
-
 -- the lines of octets: the first, and those behind it; or the first alone
 split_first : (octets : List ℕ) → list_any is_feed octets ≡ true → slice_split is_feed octets ≡ first_line octets ∷ slice_split is_feed (behind_line octets)
 split_first octets some = slice_split_first is_feed octets 0 (place_within is_feed octets some)
