@@ -183,7 +183,7 @@ fn hex_argument<'a>(alloc: Global) -> Result<Arg<'a>, AllocError> {
         "HEX",
         "The message's octets in hexadecimal, without blanks",
     )?
-    .conflicts_with("from")
+    .conflicts_with_all(&["from", "all"])
 }
 
 /// `--from FILE`

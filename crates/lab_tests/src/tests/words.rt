@@ -169,7 +169,8 @@ const REFUSALS: &[(&[&str], &str)] = &[
     ),
     (&["decode", "rr", "06", "--from", "-"], "--from <FILE>"),
     (&["decode", "x", "--from", "-"], "'x'"),
-    (&["decode", "rr", "06", "--all"], "--from <FILE>"),
+    (&["decode", "rr", "06", "--all"], "--all"),
+    (&["decode", "rr", "--all"], "--from <FILE>"),
     (&["decode", "--from", "a", "--from", "b"], "--from <FILE>"),
     (
         &["rewind"],
