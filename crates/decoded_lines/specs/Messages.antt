@@ -1,5 +1,5 @@
 -- The links, and which octets are messages of theirs. A text is the list of its bytes.
-use Rattle.std.specs.Prelude.{ℕ, List}
+use Rattle.std.specs.Prelude.{ℕ, List, codes}
 use Rattle.rr_messages.specs.declared.message.Rr.{Rr}
 use Rattle.rr_messages.specs.Rr.{IsRrText}
 use Rattle.rsl_messages.specs.declared.message.Rsl.{Rsl}
