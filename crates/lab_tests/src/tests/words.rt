@@ -1,5 +1,5 @@
+use decoded_lines::{Detail, Link};
 use explanations::Question;
-use lab::decoded::Link;
 use lab::words::{Job, WordsFault, read_words};
 use std::alloc::Global;
 use std::process::Abort;
@@ -110,10 +110,39 @@ fn decode_names_a_link_and_octets(rt: HostRuntime) {
     }
 }
 
+/// Words that ask for the messages of a file: with the link of all lines or none, how much is said, and the file.
+const FILES: &[(&[&str], Option<Link>, Detail, &str)] = &[
+    (&["decode", "--from", "-"], None, Detail::Fields, "-"),
+    (&["decode", "--from=a.txt"], None, Detail::Fields, "a.txt"),
+    (
+        &["decode", "abis", "--from", "a.txt"],
+        Some(Link::Abis),
+        Detail::Fields,
+        "a.txt",
+    ),
+    (
+        &["decode", "--all", "--from", "a.txt", "a"],
+        Some(Link::A),
+        Detail::All,
+        "a.txt",
+    ),
+    (&["decode", "--from", "-", "--all"], None, Detail::All, "-"),
+];
+
+#[test]
+fn decode_names_a_file(rt: HostRuntime) {
+    for (words, link, detail, file) in FILES {
+        match read_words(rt.alloc(), *words) {
+            Ok(Job::DecodeLines { asked, path }) => {
+                assert_eq!(rt; (asked.link, asked.detail, path), (*link, *detail, *file));
+            }
+            _ => assert!(rt; false, "{file}: a file"),
+        }
+    }
+}
+
 /// Words that ask for a text, and a part of it.
 const SHOWS: &[(&[&str], &str)] = &[
-    (&["check", "--help"], "The site file"),
-    (&["help", "check"], "neighbour carrier that no cell has"),
     (&["--help"], "explain refused 6"),
     (&["explain", "--help"], "explain cause a 33"),
     (&["explain", "fault", "--help"], "abis the base station"),
@@ -127,8 +156,13 @@ const SHOWS: &[(&[&str], &str)] = &[
     (&["decode", "--help"], "decode abis 082e010b"),
     (&["decode", "--help"], "rr is the radio path"),
     (&["decode", "--help"], "a the switching centre"),
+    (&["decode", "--help"], "--from <FILE>"),
+    (&["help", "decode"], "- for standard input"),
+    (&["help", "decode"], "and on abis the rr message inside"),
     (&["decode", "--help"], "in hexadecimal"),
     (&["help", "decode"], "rr, a, abis"),
+    (&["check", "--help"], "The site file"),
+    (&["help", "check"], "neighbour carrier that no cell has"),
     (&["rewind", "--help"], "The trace, as run prints it"),
     (&["help", "rewind"], "counted from 1"),
     (&["--version"], "bsc_lab 0."),
@@ -138,8 +172,6 @@ const SHOWS: &[(&[&str], &str)] = &[
 /// Words that are refused, and what names the mistake.
 const REFUSALS: &[(&[&str], &str)] = &[
     (&[], "subcommand"),
-    (&["check"], "were not provided:\n  <SITE>\n"),
-    (&["check", "a.toml", "b.toml"], "b.toml"),
     (&["explain"], "subcommand"),
     (&["explain", "refused"], "were not provided:\n  <N>\n"),
     (&["explain", "cause", "A", "33"], "'A'"),
@@ -156,13 +188,24 @@ const REFUSALS: &[(&[&str], &str)] = &[
         "--peer",
     ),
     (&["rewind", "a", "b", "1", "--peer", "c.toml"], "--peer"),
+    (&["check"], "were not provided:\n  <SITE>\n"),
+    (&["check", "a.toml", "b.toml"], "b.toml"),
     (&["decode"], "were not provided:\n  <LINK>\n  <HEX>\n"),
     (&["decode", "rr"], "were not provided:\n  <HEX>\n"),
     (&["decode", "A", "00"], "'A'"),
     (&["decode", "RR", "062c00"], "'RR'"),
-    (&["decode", "", "062c00"], "'<LINK>' but none was supplied"),
+    (&["decode", "", "062c00"], "'[LINK]' but none was supplied"),
     (&["decode", "rr", "06", "2c00"], "2c00"),
     (&["decode", "rr", "-0"], "'-0'"),
+    (
+        &["decode", "--from"],
+        "'--from <FILE>' but none was supplied",
+    ),
+    (&["decode", "rr", "06", "--from", "-"], "--from <FILE>"),
+    (&["decode", "x", "--from", "-"], "'x'"),
+    (&["decode", "rr", "06", "--all"], "--all"),
+    (&["decode", "rr", "--all"], "--from <FILE>"),
+    (&["decode", "--from", "a", "--from", "b"], "--from <FILE>"),
     (
         &["rewind"],
         "were not provided:\n  <SITE>\n  <TRACE>\n  <LINE>\n",

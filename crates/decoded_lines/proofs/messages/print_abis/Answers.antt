@@ -1,6 +1,6 @@
 use Rattle.std.proofs.Common.{rules, sym, ◌∙◌, ◌≢◌, Err}
 use Rattle.rsl_messages.specs.declared.fault.RslFault.TheVariants.{NoMemory}
-use Rattle.lab.proofs.decoded.decode_abis.Goals as goal
+use Rattle.decoded_lines.proofs.messages.print_abis.Goals as goal
 
 pub returns-in_ok-abis_fault-in-Err-clause-refused : goal.returns-in_ok-abis_fault-in-Err-clause-refused
 returns-in_ok-abis_fault-in-Err-clause-refused g c =

@@ -1,6 +1,6 @@
 use Rattle.std.proofs.Common.{rules, sym, ◌∙◌, ◌≢◌, Err}
 use Rattle.bssmap_messages.specs.declared.fault.BssmapFault.TheVariants.{NoMemory}
-use Rattle.lab.proofs.decoded.decode_bssmap.Goals as goal
+use Rattle.decoded_lines.proofs.messages.print_bssmap.Goals as goal
 
 pub returns-in_ok-bssmap_fault-in-Err-clause-refused : goal.returns-in_ok-bssmap_fault-in-Err-clause-refused
 returns-in_ok-bssmap_fault-in-Err-clause-refused g c =
