@@ -3,13 +3,28 @@ use crate::decoded::decode_run;
 use crate::files::{rewind_files, run_files};
 use crate::run::{LabFault, Status};
 use crate::words::{Job, WordsFault, read_words};
+use explain_command::explain;
+use explanations::Question;
 use std::io::Write;
 use std::rt::Files;
 
+/// Says in words what a number stands for.
+fn explain_number<W: Write, E: Write>(
+    question: Question,
+    out: &mut W,
+    errors: &mut E,
+) -> Result<Status, LabFault> {
+    if explain(question, out, errors)? {
+        Ok(Status::Done)
+    } else {
+        Ok(Status::Refused)
+    }
+}
+
 /// Does what the words of a command line ask for, those after the program's own name: runs a script over a site
 /// ([`run_files`]), takes an undone attempt out of a trace and says whether the rest comes to the same
-/// ([`rewind_files`]), prints a message in words ([`decode_run`]), or shows help or the version. What it prints goes to
-/// `out`; why words or a site are refused goes to `errors`.
+/// ([`rewind_files`]), prints a message in words ([`decode_run`]), says in words what a number stands for ([`explain`]),
+/// or shows help or the version. What it prints goes to `out`; why words, a site or a file are refused goes to `errors`.
 ///
 /// No clause says what is printed, nor which words end how: that is shown by tests.
 pub fn perform<R: Files + AllocGlobal, W: Write, E: Write>(
@@ -19,9 +34,15 @@ pub fn perform<R: Files + AllocGlobal, W: Write, E: Write>(
     errors: &mut E,
 ) -> Result<Status, LabFault> {
     match read_words(rt.alloc(), words) {
-        Ok(Job::Run { site, peer, script }) => run_files(rt, site, peer, script, out, errors),
+        Ok(Job::Run {
+            site,
+            peer,
+            script,
+            views,
+        }) => run_files(rt, site, peer, script, &views, out, errors),
         Ok(Job::Rewind { site, trace, line }) => rewind_files(rt, site, trace, line, out, errors),
         Ok(Job::Decode { link, text }) => decode_run(rt.alloc(), link, text, out),
+        Ok(Job::Explain(question)) => explain_number(question, out, errors),
         Ok(Job::Show(text)) => {
             write!(out, "{text}")?;
             Ok(Status::Done)

@@ -4,16 +4,21 @@ ghost use Rattle.std.specs.Prelude.{◌≡◌};
 use crate::decoded::Link;
 use clap::error::ErrorKind;
 use clap::{Arg, ArgAction, ArgMatches, Command, Error, value_parser};
+use explain_command::{explain_command, question_of};
+use explanations::Question;
+use run_views::{Views, view_options, views_of};
 use std::alloc::{AllocError, Global};
 
 /// What the command line asks for.
 #[derive(Drop)]
 pub enum Job<'a> {
-    /// A script is run over a site, or over two where a peer's is named: the paths of the files.
+    /// A script is run over a site, or over two where a peer's is named: the paths of the files, and what is to be seen of
+    /// the run beside its trace.
     Run {
         site: &'a str,
         peer: Option<&'a str>,
         script: &'a str,
+        views: Views<'a>,
     },
     /// An undone attempt is taken out of a trace: the paths of the site and of the trace, and the line, counted from 1, in
     /// which the attempt opens.
@@ -27,6 +32,8 @@ pub enum Job<'a> {
         link: Link,
         text: &'a str,
     },
+    /// A number of a trace or of a message is said in words.
+    Explain(Question),
     /// A text is shown: the help that was asked for, or the version.
     Show(String),
 }
@@ -82,13 +89,14 @@ fn peer_argument<'a>(alloc: Global) -> Arg<'a> {
         )
 }
 
-/// `run SITE SCRIPT [--peer SITE]`
+/// `run SITE SCRIPT [--peer SITE]`, and the views of the run
 fn run_command<'a>(alloc: Global) -> Result<Command<'a>, AllocError> {
-    Command::new(alloc, "run")
+    let command = Command::new(alloc, "run")
         .about("Runs a script over a site and prints the trace")
         .arg(argument(alloc, "SITE", "The site file"))?
         .arg(argument(alloc, "SCRIPT", "The script file"))?
-        .arg(peer_argument(alloc))
+        .arg(peer_argument(alloc))?;
+    view_options(alloc, command)
 }
 
 /// `rewind SITE TRACE LINE`
@@ -148,7 +156,8 @@ fn lab_command<'a>(alloc: Global) -> Result<Command<'a>, AllocError> {
         .subcommand_required(true)
         .subcommand(run_command(alloc)?)?
         .subcommand(rewind_command(alloc)?)?
-        .subcommand(decode_command(alloc)?)
+        .subcommand(decode_command(alloc)?)?
+        .subcommand(explain_command(alloc)?)
 }
 
 /// The job of a command line that was read.
@@ -158,6 +167,7 @@ fn job_of<'a>(matches: &ArgMatches<'a>) -> Option<Job<'a>> {
             site: run.get_str("SITE")?,
             peer: run.get_str("PEER"),
             script: run.get_str("SCRIPT")?,
+            views: views_of(run),
         }),
         ("rewind", rewind) => Some(Job::Rewind {
             site: rewind.get_str("SITE")?,
@@ -168,6 +178,7 @@ fn job_of<'a>(matches: &ArgMatches<'a>) -> Option<Job<'a>> {
             link: link(decode.get_str("LINK")?)?,
             text: decode.get_str("HEX")?,
         }),
+        ("explain", explain) => Some(Job::Explain(question_of(explain)?)),
         _ => None,
     }
 }

@@ -1,0 +1,125 @@
+//! The command `explain` of a command line: the words that it takes, and what it prints.
+#![tactic(auto)]
+
+use clap::{Arg, ArgAction, ArgMatches, Command, value_parser};
+use explanations::{Link, Question, answer_to};
+use std::alloc::{AllocError, Global};
+use std::io::{self, Write};
+
+/// The links by their names.
+const LINKS: &[&str] = &["rr", "a", "abis"];
+
+/// `LINK`
+fn link_argument<'a>(alloc: Global) -> Arg<'a> {
+    Arg::new(alloc, "LINK")
+        .required(true)
+        .action(ArgAction::Set)
+        .help("rr is the radio path (TS 44.018), a the switching centre (TS 48.008), abis the base station (TS 48.058)")
+        .value_parser(LINKS)
+}
+
+/// `N`
+fn number_argument<'a>(alloc: Global, help: &'a str) -> Arg<'a> {
+    Arg::new(alloc, "N")
+        .required(true)
+        .action(ArgAction::Set)
+        .help(help)
+        .value_parser(value_parser!(u8))
+}
+
+/// `ARGUMENT`
+fn argument_argument<'a>(alloc: Global) -> Arg<'a> {
+    Arg::new(alloc, "ARGUMENT")
+        .action(ArgAction::Set)
+        .help("The fault's argument, where it has one")
+        .value_parser(value_parser!(usize))
+}
+
+/// `refused N`
+fn refused_command<'a>(alloc: Global) -> Result<Command<'a>, AllocError> {
+    Command::new(alloc, "refused")
+        .about("A refusal of the book, as in: explain refused 6")
+        .arg(number_argument(
+            alloc,
+            "The refusal's number, 1 to 9, as a trace shows it behind refused",
+        ))
+}
+
+/// `cause LINK N`
+fn cause_command<'a>(alloc: Global) -> Result<Command<'a>, AllocError> {
+    Command::new(alloc, "cause")
+        .about("A cause that a message carries, as in: explain cause a 33")
+        .arg(link_argument(alloc))?
+        .arg(number_argument(alloc, "The cause in decimal, 0 to 255"))
+}
+
+/// `fault LINK N ARGUMENT`
+fn fault_command<'a>(alloc: Global) -> Result<Command<'a>, AllocError> {
+    Command::new(alloc, "fault")
+        .about("Why octets are no message, as in: explain fault abis 5")
+        .arg(link_argument(alloc))?
+        .arg(number_argument(
+            alloc,
+            "The fault's number, 1 to 6, on rr 1 to 4, as a trace shows it behind fault and the link",
+        ))?
+        .arg(argument_argument(alloc))
+}
+
+/// The command: `explain refused N`, `explain cause LINK N`, `explain fault LINK N [ARGUMENT]`.
+pub fn explain_command<'a>(alloc: Global) -> Result<Command<'a>, AllocError> {
+    Command::new(alloc, "explain")
+        .about("Says in words what a number stands for, as in: explain refused 6")
+        .subcommand_required(true)
+        .subcommand(refused_command(alloc)?)?
+        .subcommand(cause_command(alloc)?)?
+        .subcommand(fault_command(alloc)?)
+}
+
+/// What the words behind `explain` ask; `None` where they weren't matched by [`explain_command`].
+pub fn question_of(explain: &ArgMatches<'_>) -> Option<Question> {
+    match explain.subcommand()? {
+        ("refused", refused) => Some(Question::Refusal(refused.get_one::<u8>("N")?)),
+        ("cause", cause) => Some(Question::Cause(
+            Link::named(cause.get_str("LINK")?)?,
+            cause.get_one::<u8>("N")?,
+        )),
+        ("fault", fault) => Some(Question::Fault(
+            Link::named(fault.get_str("LINK")?)?,
+            fault.get_one::<u8>("N")?,
+            fault.get_one::<usize>("ARGUMENT"),
+        )),
+        _ => None,
+    }
+}
+
+/// Says on `errors` that nothing has this number.
+fn say_unknown<E: Write>(question: Question, errors: &mut E) -> io::Result<()> {
+    match question {
+        Question::Refusal(number) => {
+            writeln!(errors, "error: there is no refusal {number}, they are 1 to 9")
+        }
+        Question::Cause(link, cause) => writeln!(errors, "error: there is no cause {link} {cause}"),
+        Question::Fault(link, number, _) => {
+            writeln!(errors, "error: there is no fault {link} {number}")
+        }
+    }
+}
+
+/// Prints the answer to a question in one line to `out`, and answers true. Where there is no refusal or no fault of the
+/// number, `errors` says so, nothing is printed, and the answer is false.
+pub fn explain<W: Write, E: Write>(
+    question: Question,
+    out: &mut W,
+    errors: &mut E,
+) -> io::Result<bool> {
+    match answer_to(question) {
+        Some(answer) => {
+            writeln!(out, "{answer}")?;
+            Ok(true)
+        }
+        None => {
+            say_unknown(question, errors)?;
+            Ok(false)
+        }
+    }
+}
