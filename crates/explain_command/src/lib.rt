@@ -14,7 +14,9 @@ fn link_argument<'a>(alloc: Global) -> Arg<'a> {
     Arg::new(alloc, "LINK")
         .required(true)
         .action(ArgAction::Set)
-        .help("rr is the radio path (TS 44.018), a the switching centre (TS 48.008), abis the base station (TS 48.058)")
+        .help(
+            "rr is the radio path (TS 44.018), a the switching centre (TS 48.008), abis the base station (TS 48.058)",
+        )
         .value_parser(LINKS)
 }
 
@@ -96,7 +98,10 @@ pub fn question_of(explain: &ArgMatches<'_>) -> Option<Question> {
 fn say_unknown<E: Write>(question: Question, errors: &mut E) -> io::Result<()> {
     match question {
         Question::Refusal(number) => {
-            writeln!(errors, "error: there is no refusal {number}, they are 1 to 9")
+            writeln!(
+                errors,
+                "error: there is no refusal {number}, they are 1 to 9"
+            )
         }
         Question::Cause(link, cause) => writeln!(errors, "error: there is no cause {link} {cause}"),
         Question::Fault(link, number, _) => {

@@ -4,10 +4,9 @@
 mod fault;
 mod link;
 
+use cause_words::{a_cause, abis_cause, refusal_name, refusal_words, rr_cause};
 pub use fault::{Fault, fault_of};
 pub use link::Link;
-
-use cause_words::{a_cause, abis_cause, refusal_name, refusal_words, rr_cause};
 use std::fmt;
 
 /// What is to be said in words.
@@ -44,10 +43,7 @@ pub fn cause_name(link: Link, cause: u8) -> &'static str {
 
 /// A refusal in words.
 fn refusal(number: u8) -> Option<Answer> {
-    Some(Answer::Refusal(
-        refusal_name(number)?,
-        refusal_words(number)?,
-    ))
+    Some(Answer::Refusal(refusal_name(number)?, refusal_words(number)?))
 }
 
 /// What is said; `None` where there is no refusal or no fault of this number. It takes no memory.

@@ -45,10 +45,7 @@ const ANSWERS: &[(Question, &str)] = &[
     (Question::Fault(Link::A, 1, None), "no message of this link"),
     (Question::Fault(Link::A, 2, None), "bad length octet"),
     (Question::Fault(Link::A, 3, Some(2)), "unknown type: 02"),
-    (
-        Question::Fault(Link::A, 4, None),
-        "an element is missing",
-    ),
+    (Question::Fault(Link::A, 4, None), "an element is missing"),
     (Question::Fault(Link::A, 5, None), "an element is bad"),
     (
         Question::Fault(Link::A, 6, Some(300)),

@@ -146,14 +146,7 @@ fn run_texts_plainly<W: Write>(
     texts: &RunTexts,
     out: &mut W,
 ) -> Result<Status, LabFault> {
-    lab_run(
-        alloc,
-        alloc,
-        &texts.site,
-        texts.peer(),
-        &texts.script,
-        out,
-    )
+    lab_run(alloc, alloc, &texts.site, texts.peer(), &texts.script, out)
 }
 
 /// The same, with views; nothing where one of their files can't be written, and then its path was printed, and on

@@ -11,8 +11,8 @@ pub(crate) type Cause = (Link, u8);
 /// The cause of a message on Abis (TS 48.058 clause 9.3.26).
 pub(crate) fn abis_cause<A: Allocator>(message: &Rsl<A>) -> Option<Cause> {
     match message {
-        Rsl::ChannelActivationNack { cause, .. }
-        | Rsl::ConnectionFailureIndication { cause, .. } => Some((Link::Abis, *cause)),
+        Rsl::ChannelActivationNack { cause, .. } | Rsl::ConnectionFailureIndication { cause, .. } =>
+            Some((Link::Abis, *cause)),
         Rsl::DataRequest { .. }
         | Rsl::DataIndication { .. }
         | Rsl::ChannelActivation { .. }

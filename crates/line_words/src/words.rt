@@ -52,10 +52,7 @@ fn print_cause<W: Write>(out: &mut W, cause: Option<Cause>) -> io::Result<()> {
 }
 
 /// The radio resource message inside a message, where there is one that can be read.
-fn print_layer3<A: Allocator, W: Write>(
-    out: &mut W,
-    layer3: Option<&Octets<A>>,
-) -> io::Result<()> {
+fn print_layer3<A: Allocator, W: Write>(out: &mut W, layer3: Option<&Octets<A>>) -> io::Result<()> {
     let Some(layer3) = layer3 else {
         return Ok(());
     };

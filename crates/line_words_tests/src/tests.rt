@@ -5,8 +5,14 @@ use trace_lines::{Calls, read_line};
 
 /// Lines of one trace, in their order, and what stands behind each.
 const LINES: &[(&str, &str)] = &[
-    ("in abis 0 0 0833010b", "no call; RF CHANNEL RELEASE ACK tn=3"),
-    ("event released 0/0/3 -> refused 8 0/0/3", "no call; Unexpected: this channel doesn't wait for this message of its station"),
+    (
+        "in abis 0 0 0833010b",
+        "no call; RF CHANNEL RELEASE ACK tn=3",
+    ),
+    (
+        "event released 0/0/3 -> refused 8 0/0/3",
+        "no call; Unexpected: this channel doesn't wait for this message of its station",
+    ),
     ("in open 1 0 0 3", "call 1"),
     ("event open 1 0/0/3 -> done", "call 1"),
     (
@@ -39,10 +45,7 @@ const LINES: &[(&str, &str)] = &[
         "call 1; HANDOVER FAILURE cause=10 rr=3; radio interface failure, reversion to old channel; abnormal release, timer expired",
     ),
     ("in abis 0 0 08", "no call"),
-    (
-        "fault abis 5 1",
-        "no call; an element is cut at offset 1",
-    ),
+    ("fault abis 5 1", "no call; an element is cut at offset 1"),
     ("in expire 1 T3103", "call 1"),
     (
         "event undo 1 t3103 -> refused 9",
@@ -83,7 +86,11 @@ fn lines_have_words(rt: HostRuntime) -> Result<(), Fail> {
             let call = calls.call_of(&line)?;
             print_words(rt.alloc(), &mut out, &line, call)?;
         }
-        assert!(rt; str::from_utf8(&out)? == *wanted, "{text}: {}", str::from_utf8(&out)?);
+        assert!(rt;
+            str::from_utf8(&out)? == *wanted,
+            "{text}: {}",
+            str::from_utf8(&out)?
+        );
     }
     Ok(())
 }

@@ -13,7 +13,16 @@ pub struct Views<'a> {
     pub chart: Option<&'a str>,
 }
 
-impl Views<'_> {
+impl<'a> Views<'a> {
+    /// None is asked for.
+    pub fn plain() -> Views<'a> {
+        Views {
+            words: false,
+            pcap: None,
+            chart: None,
+        }
+    }
+
     /// Whether none is asked for.
     pub fn is_plain(&self) -> bool {
         !self.words && self.pcap.is_none() && self.chart.is_none()
@@ -25,7 +34,9 @@ fn words_argument<'a>(alloc: Global) -> Arg<'a> {
     Arg::new(alloc, "WORDS")
         .long("words")
         .action(ArgAction::SetTrue)
-        .help("Appends to each line of the trace, behind #, its call, its message in words, and the names of causes and refusals")
+        .help(
+            "Appends to each line of the trace, behind #, its call, its message in words, and the names of causes and refusals",
+        )
 }
 
 /// `--pcap FILE`

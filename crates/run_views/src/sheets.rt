@@ -86,7 +86,11 @@ fn write_pcap<F: Write + Drop, W: Write, A: Allocator + Copy, E: Write>(
     };
     let left_out = capture.left_out();
     if left_out > 0 {
-        writeln!(errors, "{}: {left_out} messages are too long for a packet, and left out", sheet.path)?;
+        writeln!(
+            errors,
+            "{}: {left_out} messages are too long for a packet, and left out",
+            sheet.path
+        )?;
     }
     match sheet.out.write_all(capture.octets()) {
         Ok(()) => {}

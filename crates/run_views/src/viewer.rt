@@ -2,7 +2,7 @@
 use crate::options::Views;
 use ho_procedure::exchange::Inbound;
 use line_words::{WordsFault, print_ignored, print_words};
-use std::alloc::{Allocator, Global};
+use std::alloc::{AllocError, Allocator, Global};
 use std::io::{self, Write};
 use std::{mem, str};
 use trace_capture::TraceCapture;
@@ -187,7 +187,7 @@ impl<'a, W: Write, A: Allocator + Copy> Viewer<'a, W, A> {
             if *octet == b'\n' {
                 self.end_line()?;
             } else {
-                self.line.push(*octet)?;
+                self.line.push(*octet).map_err(AllocError::from)?;
             }
         }
         Ok(())

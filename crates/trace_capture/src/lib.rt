@@ -79,11 +79,8 @@ impl<A: Allocator + Copy> TraceCapture<A> {
                 self.add(line.mark, Way::Received, input)
             }
             What::Sent(sent) => self.add(line.mark, Way::Sent, sent),
-            What::Asked(..)
-            | What::NoneFree(_)
-            | What::Fault(..)
-            | What::Limit
-            | What::End(_) => Ok(()),
+            What::Asked(..) | What::NoneFree(_) | What::Fault(..) | What::Limit | What::End(_) =>
+                Ok(()),
         }
     }
 

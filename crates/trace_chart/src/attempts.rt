@@ -50,12 +50,7 @@ impl<A: Allocator + Copy> Attempts<A> {
     }
 
     /// An attempt opens.
-    fn begin(
-        &mut self,
-        row: u32,
-        call: u16,
-        target: Option<ChanId>,
-    ) -> Result<(), AllocError> {
+    fn begin(&mut self, row: u32, call: u16, target: Option<ChanId>) -> Result<(), AllocError> {
         self.open.insert(
             call,
             Open {

@@ -3,7 +3,7 @@ use crate::attempts::Attempts;
 use crate::lanes::{CENTRE, controller, lanes, stations};
 use chart::{Band, Chart, Row};
 use ho_procedure::exchange::Inbound;
-use line_words::message_name;
+use line_words::{WordsFault, message_name};
 use std::alloc::{AllocError, Allocator, Global};
 use std::io::Write;
 use trace_lines::{TraceLine, What};
@@ -53,6 +53,22 @@ fn behind_word(text: &str) -> &str {
         Some((_, rest)) => rest,
         None => text,
     }
+}
+
+/// The bands as a chart has them.
+fn bands_of<A: Allocator + Copy>(
+    alloc: A,
+    marked: &[Marked<A>],
+) -> Result<Vec<Band<'_>, A>, AllocError> {
+    let mut bands = Vec::new(alloc);
+    for band in marked {
+        bands.push(Band {
+            first: band.first,
+            last: band.last,
+            text: band.text.as_str(),
+        })?;
+    }
+    Ok(bands)
 }
 
 /// So many.
@@ -190,20 +206,19 @@ impl<A: Allocator + Copy> TraceChart<A> {
         Ok(rows)
     }
 
-    /// Writes the chart as an SVG that stands alone. Nothing is written where memory is refused.
-    pub fn write_to<W: Write>(&self, out: &mut W) -> Result<(), line_words::WordsFault> {
-        let rows = self.drawn()?;
+    /// The bands, with their texts.
+    fn marked(&self) -> Result<Vec<Marked<A>, A>, AllocError> {
         let mut marked = Vec::new(self.alloc);
         self.push_marked(&self.first, &mut marked)?;
         self.push_marked(&self.peer, &mut marked)?;
-        let mut bands = Vec::new(self.alloc);
-        for band in &marked {
-            bands.push(Band {
-                first: band.first,
-                last: band.last,
-                text: band.text.as_str(),
-            })?;
-        }
+        Ok(marked)
+    }
+
+    /// Writes the chart as an SVG that stands alone. Nothing is written where memory is refused.
+    pub fn write_to<W: Write>(&self, out: &mut W) -> Result<(), WordsFault> {
+        let rows = self.drawn()?;
+        let marked = self.marked()?;
+        let bands = bands_of(self.alloc, &marked)?;
         let chart = Chart {
             lanes: lanes(self.has_peer),
             rows: &rows,

@@ -140,7 +140,12 @@ impl<A: Allocator + Copy> Known<A> {
     /// The call of an input, or of a message.
     fn of_input(&self, alloc: A, input: &Inbound<A>) -> Result<Option<u16>, AllocError> {
         match input {
-            Inbound::Abis { cell, trx, bytes } => self.on_abis(alloc, *cell, *trx, bytes.as_slice()),
+            Inbound::Abis { cell, trx, bytes } => self.on_abis(
+                alloc,
+                *cell,
+                *trx,
+                bytes.as_slice(),
+            ),
             Inbound::A { call, .. } | Inbound::Expiry { call, .. } => Ok(Some(*call)),
             Inbound::Operator(line) => Ok(Some(call_of_line(*line))),
         }

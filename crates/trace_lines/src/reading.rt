@@ -109,9 +109,7 @@ fn what<A: Allocator + Copy>(alloc: A, text: &str) -> Result<Option<What<A>>, Al
         "event" => Ok(asked(rest)),
         "none" => Ok(none_free(rest)),
         "fault" => Ok(fault(rest)),
-        "end" => Ok(Some(What::End(
-            rest == "channels=0 calls=0 references=0 timers=0",
-        ))),
+        "end" => Ok(Some(What::End(rest == "channels=0 calls=0 references=0 timers=0"))),
         _ => Ok(None),
     }
 }

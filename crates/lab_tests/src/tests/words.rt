@@ -1,5 +1,7 @@
+use explanations::Question;
 use lab::decoded::Link;
 use lab::words::{Job, WordsFault, read_words};
+use run_views::Views;
 use std::alloc::Global;
 use std::process::Abort;
 use std::test::Fail;
@@ -31,11 +33,90 @@ const RUNS: &[(&[&str], &str, Option<&str>, &str)] = &[
 fn run_names_its_files(rt: HostRuntime) {
     for (words, wanted_site, wanted_peer, wanted_script) in RUNS {
         match read_words(rt.alloc(), *words) {
-            Ok(Job::Run { site, peer, script }) => {
+            Ok(
+                Job::Run {
+                    site,
+                    peer,
+                    script,
+                    views,
+                },
+            ) => {
                 assert_eq!(rt; (site, script), (*wanted_site, *wanted_script));
                 assert_eq!(rt; peer, *wanted_peer);
+                assert!(rt; views.is_plain());
             }
             _ => assert!(rt; false, "a run"),
+        }
+    }
+}
+
+/// Words that ask for a run and for views of it.
+const VIEWS: &[(&[&str], Views<'_>)] = &[
+    (
+        &["run", "a.toml", "b.txt", "--words"],
+        Views {
+            words: true,
+            pcap: None,
+            chart: None,
+        },
+    ),
+    (
+        &["run", "--pcap", "c.pcap", "a.toml", "b.txt"],
+        Views {
+            words: false,
+            pcap: Some("c.pcap"),
+            chart: None,
+        },
+    ),
+    (
+        &[
+            "run",
+            "a.toml",
+            "--chart=d.svg",
+            "b.txt",
+            "--peer",
+            "e.toml",
+            "--pcap",
+            "c.pcap",
+            "--words",
+        ],
+        Views {
+            words: true,
+            pcap: Some("c.pcap"),
+            chart: Some("d.svg"),
+        },
+    ),
+];
+
+/// Words that ask what a number stands for.
+const QUESTIONS: &[(&[&str], Question)] = &[
+    (&["explain", "refused", "6"], Question::Refusal(6)),
+    (
+        &["explain", "cause", "a", "33"],
+        Question::Cause(explanations::Link::A, 33),
+    ),
+    (
+        &["explain", "fault", "abis", "5"],
+        Question::Fault(explanations::Link::Abis, 5, None),
+    ),
+    (
+        &["explain", "fault", "rr", "4", "2"],
+        Question::Fault(explanations::Link::Rr, 4, Some(2)),
+    ),
+];
+
+#[test]
+fn views_and_explanations_are_asked_for(rt: HostRuntime) {
+    for (words, wanted) in VIEWS {
+        match read_words(rt.alloc(), *words) {
+            Ok(Job::Run { views, .. }) => assert_eq!(rt; views, *wanted),
+            _ => assert!(rt; false, "a run"),
+        }
+    }
+    for (words, wanted) in QUESTIONS {
+        match read_words(rt.alloc(), *words) {
+            Ok(Job::Explain(question)) => assert_eq!(rt; question, *wanted),
+            _ => assert!(rt; false, "a question"),
         }
     }
 }
@@ -90,6 +171,12 @@ const SHOWS: &[(&[&str], &str)] = &[
     (&["help", "decode"], "rr, a, abis"),
     (&["rewind", "--help"], "The trace, as run prints it"),
     (&["help", "rewind"], "counted from 1"),
+    (&["--help"], "explain refused 6"),
+    (&["run", "--help"], "--words"),
+    (&["run", "--help"], "--pcap <FILE>"),
+    (&["run", "--help"], "--chart <FILE>"),
+    (&["explain", "--help"], "explain cause a 33"),
+    (&["explain", "fault", "--help"], "abis the base station"),
     (&["--version"], "bsc_lab 0."),
     (&["-V"], "bsc_lab 0."),
 ];
@@ -110,6 +197,13 @@ const REFUSALS: &[(&[&str], &str)] = &[
         "--peer",
     ),
     (&["rewind", "a", "b", "1", "--peer", "c.toml"], "--peer"),
+    (&["run", "a", "b", "--pcap"], "--pcap"),
+    (&["rewind", "a", "b", "1", "--words"], "--words"),
+    (&["explain"], "subcommand"),
+    (&["explain", "refused"], "were not provided:\n  <N>\n"),
+    (&["explain", "refused", "256"], "'256'"),
+    (&["explain", "cause", "A", "33"], "'A'"),
+    (&["explain", "fault", "abis", "5", "1", "2"], "'2'"),
     (&["decode"], "were not provided:\n  <LINK>\n  <HEX>\n"),
     (&["decode", "rr"], "were not provided:\n  <HEX>\n"),
     (&["decode", "A", "00"], "'A'"),

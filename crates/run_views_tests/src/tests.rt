@@ -1,0 +1,31 @@
+//! A trace is written to a viewer, whole or in small pieces.
+mod captured;
+mod charted;
+mod worded;
+
+use run_views::{Viewer, Views, WordsFault};
+use std::alloc::{Allocator, Global};
+use std::io::Write;
+use std::test::Fail;
+
+/// Writes a trace to a viewer in pieces of so many octets, and ends the run.
+fn write_in_pieces<W: Write, A: Allocator + Copy>(
+    viewer: &mut Viewer<'_, W, A>,
+    trace: &str,
+    len: usize,
+) -> Result<(), WordsFault> {
+    for piece in trace.as_bytes().chunks(len) {
+        if viewer.write_all(piece).is_err() {
+            return Err(viewer.fault().unwrap_or(WordsFault::Write));
+        }
+    }
+    viewer.finish()
+}
+
+/// What is printed of a trace that is written in pieces of so many octets.
+fn printed(alloc: Global, views: &Views<'_>, trace: &str, len: usize) -> Result<String, Fail> {
+    let mut out = Vec::new(alloc);
+    let mut viewer = Viewer::new(alloc, views, false, &mut out)?;
+    write_in_pieces(&mut viewer, trace, len)?;
+    Ok(String::from_utf8(out)?)
+}
