@@ -5,7 +5,7 @@ ghost use Rattle.lab.specs.Files.{longest_file};
 use crate::rewound::rewind_run;
 use crate::run::{LabFault, Status, lab_run};
 use crate::site_reason::say_reason;
-use run_views::{Viewer, Views, WordsFault, open_sheets};
+use run_views::{Sites, Viewer, Views, WordsFault, open_sheets};
 use std::alloc::{Allocator, Global};
 use std::fs::File;
 use std::io::{self, Read, Write};
@@ -164,8 +164,11 @@ fn run_texts_viewed<R: Files + AllocGlobal, W: Write, E: Write>(
         Ok(None) => return Ok(None),
         Err(fault) => return Err(fault_of(fault)),
     };
-    let has_peer = texts.peer.is_some();
-    let mut viewer = Viewer::new(alloc, views, has_peer, out).map_err(fault_of)?;
+    let sites = Sites {
+        first: &texts.site,
+        peer: texts.peer(),
+    };
+    let mut viewer = Viewer::new(alloc, alloc, views, sites, out).map_err(fault_of)?;
     let ended = run_texts_plainly(alloc, texts, &mut viewer);
     let closed = viewer.finish();
     let written = sheets.finish(&viewer, errors);

@@ -7,6 +7,8 @@ use std::alloc::{AllocError, Global};
 pub struct Views<'a> {
     /// Words behind each line.
     pub words: bool,
+    /// What the book holds after each input.
+    pub state: bool,
     /// The path of the capture file.
     pub pcap: Option<&'a str>,
     /// The path of the sequence chart.
@@ -18,6 +20,7 @@ impl<'a> Views<'a> {
     pub fn plain() -> Views<'a> {
         Views {
             words: false,
+            state: false,
             pcap: None,
             chart: None,
         }
@@ -25,7 +28,7 @@ impl<'a> Views<'a> {
 
     /// Whether none is asked for.
     pub fn is_plain(&self) -> bool {
-        !self.words && self.pcap.is_none() && self.chart.is_none()
+        !self.words && !self.state && self.pcap.is_none() && self.chart.is_none()
     }
 }
 
@@ -37,6 +40,14 @@ fn words_argument<'a>(alloc: Global) -> Arg<'a> {
         .help(
             "Appends to each line of the trace, behind #, its call, its message in words, and the names of causes and refusals",
         )
+}
+
+/// `--state`
+fn state_argument<'a>(alloc: Global) -> Arg<'a> {
+    Arg::new(alloc, "STATE")
+        .long("state")
+        .action(ArgAction::SetTrue)
+        .help("Prints after each input the channels that aren't free, the calls, references and timers, and at the end what is left")
 }
 
 /// `--pcap FILE`
@@ -57,10 +68,11 @@ fn chart_argument<'a>(alloc: Global) -> Arg<'a> {
         .help("Writes the run to this file, as a sequence chart in SVG")
 }
 
-/// Adds to a command the options `--words`, `--pcap FILE` and `--chart FILE`.
+/// Adds to a command the options `--words`, `--state`, `--pcap FILE` and `--chart FILE`.
 pub fn view_options<'a>(alloc: Global, command: Command<'a>) -> Result<Command<'a>, AllocError> {
     command
         .arg(words_argument(alloc))?
+        .arg(state_argument(alloc))?
         .arg(pcap_argument(alloc))?
         .arg(chart_argument(alloc))
 }
@@ -69,6 +81,7 @@ pub fn view_options<'a>(alloc: Global, command: Command<'a>) -> Result<Command<'
 pub fn views_of<'a>(matches: &ArgMatches<'a>) -> Views<'a> {
     Views {
         words: matches.get_flag("WORDS"),
+        state: matches.get_flag("STATE"),
         pcap: matches.get_str("PCAP"),
         chart: matches.get_str("CHART"),
     }

@@ -1,5 +1,6 @@
 //! A writer that a run prints its trace to.
 use crate::options::Views;
+use cell_table::SiteFault;
 use ho_procedure::exchange::Inbound;
 use line_words::{WordsFault, print_ignored, print_words};
 use std::alloc::{AllocError, Allocator, Global};
@@ -8,10 +9,12 @@ use std::{mem, str};
 use trace_capture::TraceCapture;
 use trace_chart::TraceChart;
 use trace_lines::{Calls, TraceLine, What, read_line};
+use trace_state::TraceState;
+use trace_text::trace::Mark;
 
 /// Passes a trace on to another writer, with words where they are asked for, and gathers its capture and its chart.
 #[derive(Drop)]
-pub struct Viewer<'a, W: Write, A: Allocator = Global> {
+pub struct Viewer<'a, W: Write, A: Allocator + Copy = Global> {
     out: &'a mut W,
     /// The line that is being written, so far.
     line: Vec<u8, A>,
@@ -20,10 +23,22 @@ pub struct Viewer<'a, W: Write, A: Allocator = Global> {
     /// The line of an input whose end isn't printed yet, since what comes of it is to be said there: whether the input is
     /// a message.
     open: Option<bool>,
+    /// What the books hold, where it is to be printed.
+    state: Option<TraceState<A>>,
+    /// The controller of an input after which that isn't printed yet.
+    owed: Option<Mark>,
     capture: Option<TraceCapture<A>>,
     chart: Option<TraceChart<A>>,
     fault: Option<WordsFault>,
     alloc: A,
+}
+
+/// The texts of the sites of a run.
+#[derive(Clone, Copy, Debug)]
+pub struct Sites<'a> {
+    pub first: &'a str,
+    /// The second controller's, where there is one.
+    pub peer: Option<&'a str>,
 }
 
 /// Whether an input is a message.
@@ -55,12 +70,37 @@ fn opened_by<A: Allocator>(what: &What<A>) -> Option<bool> {
     }
 }
 
+/// The books of a run over these sites, where they are to be printed. A site that is refused has none: the run prints
+/// nothing but that.
+fn state_of<A: Allocator + Copy>(
+    alloc: A,
+    scratch: Global,
+    views: &Views<'_>,
+    sites: Sites<'_>,
+) -> Result<Option<TraceState<A>>, WordsFault> {
+    if !views.state {
+        return Ok(None);
+    }
+    match TraceState::new(alloc, scratch, sites.first, sites.peer) {
+        Ok(state) => Ok(Some(state)),
+        Err(SiteFault::NoMemory) => Err(WordsFault::NoMemory),
+        Err(
+            SiteFault::Toml
+            | SiteFault::Missing(_)
+            | SiteFault::Range(_)
+            | SiteFault::Twice(_)
+            | SiteFault::NoTraffic(_),
+        ) => Ok(None),
+    }
+}
+
 impl<'a, W: Write, A: Allocator + Copy> Viewer<'a, W, A> {
-    /// A viewer of the run of one controller or of two.
+    /// A viewer of the run of one controller or of two, over these sites. `scratch` serves while the sites are read.
     pub fn new(
         alloc: A,
+        scratch: Global,
         views: &Views<'_>,
-        has_peer: bool,
+        sites: Sites<'_>,
         out: &'a mut W,
     ) -> Result<Viewer<'a, W, A>, WordsFault> {
         let capture = match views.pcap {
@@ -68,7 +108,7 @@ impl<'a, W: Write, A: Allocator + Copy> Viewer<'a, W, A> {
             None => None,
         };
         let chart = match views.chart {
-            Some(_) => Some(TraceChart::new(alloc, has_peer)),
+            Some(_) => Some(TraceChart::new(alloc, sites.peer.is_some())),
             None => None,
         };
         Ok(Viewer {
@@ -77,6 +117,8 @@ impl<'a, W: Write, A: Allocator + Copy> Viewer<'a, W, A> {
             calls: Calls::new(alloc),
             words: views.words,
             open: None,
+            state: state_of(alloc, scratch, views, sites)?,
+            owed: None,
             capture,
             chart,
             fault: None,
@@ -99,13 +141,16 @@ impl<'a, W: Write, A: Allocator + Copy> Viewer<'a, W, A> {
         self.fault
     }
 
-    /// Feeds a line to the capture and to the chart.
+    /// Feeds a line to the books, to the capture and to the chart.
     fn gather(
         &mut self,
         text: &str,
         line: &TraceLine<A>,
         call: Option<u16>,
     ) -> Result<(), WordsFault> {
+        if let Some(state) = &mut self.state {
+            state.add_line(line)?;
+        }
         if let Some(capture) = &mut self.capture {
             capture.add_line(line)?;
         }
@@ -133,7 +178,6 @@ impl<'a, W: Write, A: Allocator + Copy> Viewer<'a, W, A> {
         line: &TraceLine<A>,
         call: Option<u16>,
     ) -> Result<(), WordsFault> {
-        self.close(ends_input(&line.what))?;
         write!(self.out, "{text} # ")?;
         print_words(self.alloc, self.out, line, call)?;
         self.open = opened_by(&line.what);
@@ -145,20 +189,58 @@ impl<'a, W: Write, A: Allocator + Copy> Viewer<'a, W, A> {
 
     /// Prints a line as it is.
     fn print_plain(&mut self, text: &[u8]) -> Result<(), WordsFault> {
-        self.close(false)?;
         self.out.write_all(text)?;
         Ok(writeln!(self.out)?)
+    }
+
+    /// Prints what a controller's book holds, where that is asked for.
+    fn print_state(&mut self, mark: Mark) -> Result<(), WordsFault> {
+        match &mut self.state {
+            Some(state) => state.print(self.out, mark),
+            None => Ok(()),
+        }
+    }
+
+    /// Prints what is owed of an input once all that comes of it was printed, or of its line once something was: the end
+    /// of the line, and then what the book holds.
+    fn settle(&mut self, is_over: bool) -> Result<(), WordsFault> {
+        self.close(is_over)?;
+        if !is_over {
+            return Ok(());
+        }
+        match self.owed.take() {
+            Some(mark) => self.print_state(mark),
+            None => Ok(()),
+        }
+    }
+
+    /// Notes what is owed behind a line: after an input, what the book holds, later; after the last line, at once.
+    fn owe(&mut self, line: &TraceLine<A>) -> Result<(), WordsFault> {
+        match line.what {
+            What::Input(_) => {
+                self.owed = Some(line.mark);
+                Ok(())
+            }
+            What::End(_) => self.print_state(line.mark),
+            What::Asked(..)
+            | What::NoneFree(_)
+            | What::Sent(_)
+            | What::Fault(..)
+            | What::Limit => Ok(()),
+        }
     }
 
     /// Passes a line of the trace on.
     fn show(&mut self, text: &str, line: &TraceLine<A>) -> Result<(), WordsFault> {
         let call = self.calls.call_of(line)?;
+        self.settle(ends_input(&line.what))?;
         self.gather(text, line, call)?;
         if self.words {
-            self.print_line(text, line, call)
+            self.print_line(text, line, call)?;
         } else {
-            self.print_plain(text.as_bytes())
+            self.print_plain(text.as_bytes())?;
         }
+        self.owe(line)
     }
 
     /// Passes a line on.
@@ -168,6 +250,7 @@ impl<'a, W: Write, A: Allocator + Copy> Viewer<'a, W, A> {
         };
         match read_line(self.alloc, text)? {
             Some(line) => self.show(text, &line),
+            // it is printed where there is no trace
             None => self.print_plain(octets),
         }
     }
@@ -193,10 +276,9 @@ impl<'a, W: Write, A: Allocator + Copy> Viewer<'a, W, A> {
         Ok(())
     }
 
-    /// Prints what is owed of a line, once the run ended, be it early: nothing came of its last input, if its line is still
-    /// open.
+    /// Prints what is owed, once the run ended, be it early: nothing more comes of its last input.
     pub fn finish(&mut self) -> Result<(), WordsFault> {
-        self.close(true)
+        self.settle(true)
     }
 }
 

@@ -20,6 +20,7 @@ const CHART_FILE: &str = "viewed.svg";
 /// All views.
 const ALL: Views<'_> = Views {
     words: true,
+    state: true,
     pcap: Some(PCAP_FILE),
     chart: Some(CHART_FILE),
 };
@@ -28,16 +29,23 @@ const ALL: Views<'_> = Views {
 const WORDED: &str = "in open 1 0 0 3 # call 1
 event open 1 0/0/3 -> done # call 1
 out abis 0 0 0821010b0300060400010801 # call 1; CHANNEL ACTIVATION tn=3 activation=0 mode=00010801 reference=-
+state channel 0/0/3 pending call 1
+state call 1 record 0/0/3 pending
 in abis 0 0 0822010b081234 # call 1; CHANNEL ACTIVATION ACK tn=3 frame=4660
 event confirm 0/0/3 -> owned 1 # call 1
 event look 1 -> record 0/0/3 on # call 1
+state channel 0/0/3 on call 1
+state call 1 record 0/0/3 on
 in clear 1 # call 1
 event look 1 -> record 0/0/3 on # call 1
 event clear 1 -> done # call 1
 out abis 0 0 082e010b # call 1; RF CHANNEL RELEASE tn=3
+state channel 0/0/3 off
 in abis 0 0 0833010b # call 1; RF CHANNEL RELEASE ACK tn=3
 event released 0/0/3 -> done # call 1
+state empty
 end channels=0 calls=0 references=0 timers=0 # nothing is left
+state empty
 ";
 
 /// The files of the views have so many packets and so many arrows.

@@ -56,6 +56,7 @@ const VIEWS: &[(&[&str], Views<'_>)] = &[
         &["run", "a.toml", "b.txt", "--words"],
         Views {
             words: true,
+            state: false,
             pcap: None,
             chart: None,
         },
@@ -64,6 +65,7 @@ const VIEWS: &[(&[&str], Views<'_>)] = &[
         &["run", "--pcap", "c.pcap", "a.toml", "b.txt"],
         Views {
             words: false,
+            state: false,
             pcap: Some("c.pcap"),
             chart: None,
         },
@@ -78,10 +80,11 @@ const VIEWS: &[(&[&str], Views<'_>)] = &[
             "e.toml",
             "--pcap",
             "c.pcap",
-            "--words",
+            "--words", "--state",
         ],
         Views {
             words: true,
+            state: true,
             pcap: Some("c.pcap"),
             chart: Some("d.svg"),
         },
@@ -173,6 +176,7 @@ const SHOWS: &[(&[&str], &str)] = &[
     (&["help", "rewind"], "counted from 1"),
     (&["--help"], "explain refused 6"),
     (&["run", "--help"], "--words"),
+    (&["run", "--help"], "--state"),
     (&["run", "--help"], "--pcap <FILE>"),
     (&["run", "--help"], "--chart <FILE>"),
     (&["explain", "--help"], "explain cause a 33"),

@@ -1,10 +1,11 @@
-use super::write_in_pieces;
+use super::{ALONE, write_in_pieces};
 use run_views::{Viewer, Views};
 use std::test::Fail;
 
 /// A capture alone.
 const PCAP: Views<'_> = Views {
     words: false,
+    state: false,
     pcap: Some("file"),
     chart: None,
 };
@@ -42,7 +43,7 @@ const FILE: &str = concat!(
 #[test]
 fn each_message_of_a_trace_is_captured(rt: HostRuntime) -> Result<(), Fail> {
     let mut out = Vec::new(rt.alloc());
-    let mut viewer = Viewer::new(rt.alloc(), &PCAP, false, &mut out)?;
+    let mut viewer = Viewer::new(rt.alloc(), rt.alloc(), &PCAP, ALONE, &mut out)?;
     write_in_pieces(&mut viewer, TRACE, 64)?;
     let Some(capture) = viewer.capture() else {
         assert!(rt; false, "a capture is asked for");

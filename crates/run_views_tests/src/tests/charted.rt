@@ -1,12 +1,13 @@
-use super::write_in_pieces;
+use super::{ALONE, SITE, write_in_pieces};
 use chart::{Band, Chart, Row};
-use run_views::{Viewer, Views};
+use run_views::{Sites, Viewer, Views};
 use std::alloc::Global;
 use std::test::Fail;
 
 /// A chart alone.
 const CHART: Views<'_> = Views {
     words: false,
+    state: false,
     pcap: None,
     chart: Some("file"),
 };
@@ -167,10 +168,16 @@ const TWO_BANDS: &[Band<'_>] = &[Band {
     text: "undone: call 40000",
 }];
 
+/// Two controllers' sites.
+const PAIR: Sites<'_> = Sites {
+    first: SITE,
+    peer: Some(SITE),
+};
+
 /// The chart of a trace.
-fn chart_of(alloc: Global, has_peer: bool, trace: &str) -> Result<String, Fail> {
+fn chart_of(alloc: Global, sites: Sites<'_>, trace: &str) -> Result<String, Fail> {
     let mut out = Vec::new(alloc);
-    let mut viewer = Viewer::new(alloc, &CHART, has_peer, &mut out)?;
+    let mut viewer = Viewer::new(alloc, alloc, &CHART, sites, &mut out)?;
     write_in_pieces(&mut viewer, trace, 64)?;
     let mut svg = Vec::new(alloc);
     if let Some(chart) = viewer.chart() {
@@ -187,7 +194,7 @@ fn a_trace_is_a_chart(rt: HostRuntime) -> Result<(), Fail> {
         bands: ONE_BANDS,
     };
     let wanted = wanted.to_string(rt.alloc())?;
-    let svg = chart_of(rt.alloc(), false, ONE)?;
+    let svg = chart_of(rt.alloc(), ALONE, ONE)?;
     assert!(rt; svg.as_str() == wanted.as_str(), "{svg}");
     let wanted = Chart {
         lanes: &[
@@ -201,7 +208,7 @@ fn a_trace_is_a_chart(rt: HostRuntime) -> Result<(), Fail> {
         bands: TWO_BANDS,
     };
     let wanted = wanted.to_string(rt.alloc())?;
-    let svg = chart_of(rt.alloc(), true, TWO)?;
+    let svg = chart_of(rt.alloc(), PAIR, TWO)?;
     assert!(rt; svg.as_str() == wanted.as_str(), "{svg}");
     Ok(())
 }

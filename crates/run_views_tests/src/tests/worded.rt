@@ -1,4 +1,4 @@
-use super::{printed, write_in_pieces};
+use super::{ALONE, printed, write_in_pieces};
 use refusing_heap::RefusingHeap;
 use run_views::{Viewer, Views, WordsFault};
 use std::alloc::{AllocError, Global};
@@ -8,6 +8,7 @@ use std::test::Fail;
 /// Words alone.
 const WORDS: Views<'_> = Views {
     words: true,
+    state: false,
     pcap: None,
     chart: None,
 };
@@ -95,7 +96,7 @@ fn refused_memory_ends_a_trace_in_mid_stream(rt: HostRuntime) -> Result<(), Fail
     for n in 1..1_000 {
         let heap = RefusingHeap::refusing_nth(rt.alloc(), n);
         let mut out = Vec::new(rt.alloc());
-        let mut viewer = Viewer::new(&heap, &WORDS, false, &mut out)?;
+        let mut viewer = Viewer::new(&heap, rt.alloc(), &WORDS, ALONE, &mut out)?;
         let ended = write_in_pieces(&mut viewer, &trace, 16);
         let text = str::from_utf8(&out)?;
         assert!(rt; wanted.starts_with(text), "{n}: {text}");
