@@ -1,6 +1,9 @@
 //! The command `explain` of a command line: the words that it takes, and what it prints.
 #![tactic(auto)]
 
+ghost use Rattle.std.specs.Prelude.{◌≡◌, ◌↔◌, true, IfOk};
+ghost use Rattle.explanations.specs.Questions.{IsKnown};
+
 use clap::{Arg, ArgAction, ArgMatches, Command, value_parser};
 use explanations::{Link, Question, answer_to};
 use std::alloc::{AllocError, Global};
@@ -116,7 +119,9 @@ pub fn explain<W: Write, E: Write>(
     question: Question,
     out: &mut W,
     errors: &mut E,
-) -> io::Result<bool> {
+) -> io::Result<bool>
+    ensures answered { IfOk result (λ answered. answered ≡ true ↔ IsKnown question) }
+{
     match answer_to(question) {
         Some(answer) => {
             writeln!(out, "{answer}")?;

@@ -1,6 +1,9 @@
 //! One refusal, cause or fault in words, by the numbers that a trace or a message shows.
 #![tactic(auto)]
 
+ghost use Rattle.std.specs.Prelude.{◌↔◌, ◌<◌, IsSome};
+ghost use Rattle.explanations.specs.Questions.{IsKnown};
+
 mod fault;
 mod link;
 
@@ -47,13 +50,16 @@ fn refusal(number: u8) -> Option<Answer> {
 }
 
 /// What is said; `None` where there is no refusal or no fault of this number. It takes no memory.
-pub fn answer_to(question: Question) -> Option<Answer> {
+pub fn answer_to(question: Question) -> Option<Answer>
+    ensures known { IsSome result ↔ IsKnown question }
+{
     match question {
         Question::Refusal(number) => refusal(number),
         Question::Cause(link, cause) => Some(Answer::Cause(cause_name(link, cause))),
-        Question::Fault(link, number, argument) => {
-            Some(Answer::Fault(fault_of(link, number, argument)?))
-        }
+        Question::Fault(link, number, argument) => match fault_of(link, number, argument) {
+            Some(fault) => Some(Answer::Fault(fault)),
+            None => None,
+        },
     }
 }
 

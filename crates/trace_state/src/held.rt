@@ -1,22 +1,29 @@
 //! What a book holds, found by questions.
+ghost use Rattle.std.specs.Prelude.{◌≡◌};
+ghost use Rattle.std.specs.Option.{option_map};
+ghost use Rattle.radio_book.specs.Stages.{stage_row};
+
 use channel_fsm::{ChanId, ChanState};
 use radio_book::book::Book;
-use radio_book::event::{Attempt, CallRecord, Event, Reply, Stage, Timer};
+use radio_book::event::{CallRecord, Event, Reply, Stage, Timer};
 use std::alloc::{AllocError, Allocator};
 
-/// The state of an attempt's target, for a call.
-pub(crate) fn target_state(stage: Stage, call: u16) -> ChanState {
+/// The state of an attempt's target, for a call; `None` of an outgoing attempt, which has no target.
+fn target_state(stage: Stage, call: u16) -> Option<ChanState>
+    ensures { result ≡ option_map (λ state. state call) (stage_row stage).target }
+{
     match stage {
-        Stage::Taken | Stage::Reserved | Stage::Refused => ChanState::Held(call),
-        Stage::Sent => ChanState::Pending(call),
-        Stage::Confirmed | Stage::Commanded | Stage::Detected => ChanState::On(call),
-        // of an outgoing attempt, which has no target
-        Stage::Required | Stage::Ordered => ChanState::Free,
+        Stage::Taken | Stage::Reserved | Stage::Refused => Some(ChanState::Held(call)),
+        Stage::Sent => Some(ChanState::Pending(call)),
+        Stage::Confirmed | Stage::Commanded | Stage::Detected => Some(ChanState::On(call)),
+        Stage::Required | Stage::Ordered => None,
     }
 }
 
 /// The timer that runs in a stage (TS 44.018 clause 11.1.2, TS 48.008 clause 3.1.5).
-pub(crate) fn timer_of(stage: Stage) -> Option<Timer> {
+pub(crate) fn timer_of(stage: Stage) -> Option<Timer>
+    ensures { result ≡ (stage_row stage).timer }
+{
     match stage {
         Stage::Commanded | Stage::Detected => Some(Timer::T3103),
         Stage::Required => Some(Timer::T7),
@@ -57,8 +64,7 @@ fn state_in(
     if record.serving == Some(chan) {
         return serving;
     }
-    let Attempt { stage, .. } = record.attempt?;
-    Some(target_state(stage, call))
+    target_state(record.attempt?.stage, call)
 }
 
 /// Whether a channel's release is awaited.
