@@ -45,7 +45,9 @@ pub fn cause_name(link: Link, cause: u8) -> &'static str {
 }
 
 /// A refusal in words.
-fn refusal(number: u8) -> Option<Answer> {
+fn refusal(number: u8) -> Option<Answer>
+    ensures { IsSome result ↔ ((0 < number) × (number < 10)) }
+{
     Some(Answer::Refusal(refusal_name(number)?, refusal_words(number)?))
 }
 
