@@ -276,9 +276,13 @@ impl<'a, W: Write, A: Allocator + Copy> Viewer<'a, W, A> {
         Ok(())
     }
 
-    /// Prints what is owed, once the run ended, be it early: nothing more comes of its last input.
+    /// Prints what is owed, once the run ended, be it early: nothing more comes of its last input. Behind a write that
+    /// failed nothing is printed.
     pub fn finish(&mut self) -> Result<(), WordsFault> {
-        self.settle(true)
+        match self.fault {
+            Some(_) => Ok(()),
+            None => self.settle(true),
+        }
     }
 }
 
