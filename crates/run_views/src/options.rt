@@ -47,7 +47,9 @@ fn state_argument<'a>(alloc: Global) -> Arg<'a> {
     Arg::new(alloc, "STATE")
         .long("state")
         .action(ArgAction::SetTrue)
-        .help("Prints after each input the channels that aren't free, the calls, references and timers, and at the end what is left")
+        .help(
+            "Prints after each input the channels that aren't free, the calls, references and timers, and at the end what is left",
+        )
 }
 
 /// `--pcap FILE`

@@ -222,11 +222,8 @@ impl<'a, W: Write, A: Allocator + Copy> Viewer<'a, W, A> {
                 Ok(())
             }
             What::End(_) => self.print_state(line.mark),
-            What::Asked(..)
-            | What::NoneFree(_)
-            | What::Sent(_)
-            | What::Fault(..)
-            | What::Limit => Ok(()),
+            What::Asked(..) | What::NoneFree(_) | What::Sent(_) | What::Fault(..) | What::Limit =>
+                Ok(()),
         }
     }
 

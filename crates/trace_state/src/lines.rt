@@ -76,12 +76,7 @@ fn print_channel<W: Write>(
 }
 
 /// Prints the reference and the timer of an attempt.
-fn print_attempt<W: Write>(
-    out: &mut W,
-    mark: Mark,
-    call: u16,
-    attempt: Attempt,
-) -> io::Result<()> {
+fn print_attempt<W: Write>(out: &mut W, mark: Mark, call: u16, attempt: Attempt) -> io::Result<()> {
     if let (Some(target), Some(number)) = (attempt.target, attempt.reference) {
         let cell = target.cell;
         writeln!(out, "{mark}state reference {cell} {number} call {call}")?;

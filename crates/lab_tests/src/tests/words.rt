@@ -80,7 +80,8 @@ const VIEWS: &[(&[&str], Views<'_>)] = &[
             "e.toml",
             "--pcap",
             "c.pcap",
-            "--words", "--state",
+            "--words",
+            "--state",
         ],
         Views {
             words: true,

@@ -86,7 +86,10 @@ const PAIR: Sites<'_> = Sites {
 /// Appends a line without its words, unless it says what a book holds.
 fn push_plain(plain: &mut String, line: &str) -> Result<(), AllocError> {
     let (text, _) = line.split_once(" # ").unwrap_or((line, ""));
-    if text.starts_with("state ") || text.starts_with("1: state ") || text.starts_with("2: state ") {
+    if text.starts_with("state ")
+        || text.starts_with("1: state ")
+        || text.starts_with("2: state ")
+    {
         return Ok(());
     }
     plain.push_str(text)?;
