@@ -38,7 +38,14 @@ pub fn perform<R: Files + AllocGlobal, I: Read + Drop, W: Write, E: Write>(
     errors: &mut E,
 ) -> Result<Status, LabFault> {
     match read_words(rt.alloc(), words) {
-        Ok(Job::Run { site, peer, script }) => run_files(rt, site, peer, script, out, errors),
+        Ok(
+            Job::Run {
+                site,
+                peer,
+                script,
+                views,
+            },
+        ) => run_files(rt, site, peer, script, &views, out, errors),
         Ok(Job::Rewind { site, trace, line }) => rewind_files(rt, site, trace, line, out, errors),
         Ok(Job::Check { site }) => check_file(rt, site, out, errors),
         Ok(Job::Decode { link, text }) => decode_run(rt.alloc(), link, text, out),

@@ -6,16 +6,19 @@ use clap::{Arg, ArgAction, ArgMatches, Command, Error, value_parser};
 use decoded_lines::{Asked, Detail, Link, link_named};
 use explain_command::{explain_command, question_of};
 use explanations::Question;
+use run_views::{Views, view_options, views_of};
 use std::alloc::{AllocError, Global};
 
 /// What the command line asks for.
 #[derive(Drop)]
 pub enum Job<'a> {
-    /// A script is run over a site, or over two where a peer's is named: the paths of the files.
+    /// A script is run over a site, or over two where a peer's is named: the paths of the files, and what is to be seen of
+    /// the run beside its trace.
     Run {
         site: &'a str,
         peer: Option<&'a str>,
         script: &'a str,
+        views: Views<'a>,
     },
     /// An undone attempt is taken out of a trace: the paths of the site and of the trace, and the line, counted from 1, in
     /// which the attempt opens.
@@ -91,13 +94,14 @@ fn peer_argument<'a>(alloc: Global) -> Arg<'a> {
         )
 }
 
-/// `run SITE SCRIPT [--peer SITE]`
+/// `run SITE SCRIPT [--peer SITE]`, and the views of the run
 fn run_command<'a>(alloc: Global) -> Result<Command<'a>, AllocError> {
-    Command::new(alloc, "run")
+    let command = Command::new(alloc, "run")
         .about("Runs a script over a site and prints the trace")
         .arg(argument(alloc, "SITE", "The site file"))?
         .arg(argument(alloc, "SCRIPT", "The script file"))?
-        .arg(peer_argument(alloc))
+        .arg(peer_argument(alloc))?;
+    view_options(alloc, command)
 }
 
 /// `check SITE`
@@ -253,6 +257,7 @@ fn job_of<'a>(matches: &ArgMatches<'a>) -> Option<Job<'a>> {
             site: run.get_str("SITE")?,
             peer: run.get_str("PEER"),
             script: run.get_str("SCRIPT")?,
+            views: views_of(run),
         }),
         ("rewind", rewind) => Some(Job::Rewind {
             site: rewind.get_str("SITE")?,
