@@ -1,5 +1,5 @@
 //! A laboratory of a GSM base station controller: runs a script over a site and prints the trace, takes an undone attempt
-//! out of a trace and says whether the rest comes to the same, or prints a message in words.
+//! out of a trace and says whether the rest comes to the same, or prints messages in words.
 //!
 //! Statuses: 0 done, 1 an undone attempt without which the rest differs, 2 the words, a file, the site, a line of the
 //! script or of the trace, an attempt or a message refused or the output not to be written, 3 memory refused.
@@ -8,7 +8,7 @@
 use lab::program::perform;
 use lab::run::{LabFault, Status, exit_status};
 use std::env;
-use std::io::{self, BufWriter, Write};
+use std::io::{self, BufWriter, Read, Write};
 use std::process::ExitCode;
 use std::rt::{Env, Files};
 
@@ -28,8 +28,9 @@ fn words_of<R: Env + AllocGlobal, E: Write>(
 }
 
 /// Reads the words of the command line, and does what they ask for.
-fn start<R: Files + Print + Env + AllocGlobal, E: Write>(
+fn start<R: Files + Print + Env + AllocGlobal, I: Read + Drop, E: Write>(
     rt: &R,
+    input: I,
     errors: &mut E,
 ) -> Result<Status, LabFault> {
     let Some(words) = words_of(rt, errors)? else {
@@ -42,7 +43,7 @@ fn start<R: Files + Print + Env + AllocGlobal, E: Write>(
         .collect(rt.alloc())?;
     // a buffer lacks nothing but memory
     let mut out = BufWriter::new(rt.alloc(), io::writer(rt)).map_err(|_| LabFault::NoMemory)?;
-    let ended = perform(rt, &words, &mut out, errors);
+    let ended = perform(rt, &words, input, &mut out, errors);
     // what was printed before a fault is shown
     let flushed = out.flush();
     let status = ended?;
@@ -52,5 +53,5 @@ fn start<R: Files + Print + Env + AllocGlobal, E: Write>(
 
 fn main(rt: HostRuntime) -> ExitCode {
     let stderr = rt.stderr();
-    ExitCode::from(exit_status(start(&rt, &mut io::writer(&stderr))))
+    ExitCode::from(exit_status(start(&rt, rt.stdin(), &mut io::writer(&stderr))))
 }

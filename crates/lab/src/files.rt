@@ -5,6 +5,7 @@ ghost use Rattle.lab.specs.Files.{longest_file};
 use crate::rewound::rewind_run;
 use crate::run::{LabFault, Status, lab_run};
 use crate::site_reason::say_reason;
+use run_views::{Sites, Viewer, Views, WordsFault, open_sheets};
 use std::alloc::{Allocator, Global};
 use std::fs::File;
 use std::io::{self, Read, Write};
@@ -131,8 +132,60 @@ fn say_reasons<E: Write>(
     Ok(())
 }
 
+/// Why a run that was looked at didn't come to its end.
+fn fault_of(fault: WordsFault) -> LabFault {
+    match fault {
+        WordsFault::NoMemory => LabFault::NoMemory,
+        WordsFault::Write => LabFault::Write,
+    }
+}
+
+/// Runs a script over sites, all given as texts, and prints the trace, as [`lab_run`] does.
+fn run_texts_plainly<W: Write>(
+    alloc: Global,
+    texts: &RunTexts,
+    out: &mut W,
+) -> Result<Status, LabFault> {
+    lab_run(alloc, alloc, &texts.site, texts.peer(), &texts.script, out)
+}
+
+/// The same, with views; nothing where one of their files can't be written, and then its path was printed, and on
+/// `errors` why. What came of the run until it ended is in the files, be it early.
+fn run_texts_viewed<R: Files + AllocGlobal, W: Write, E: Write>(
+    rt: &R,
+    texts: &RunTexts,
+    views: &Views<'_>,
+    out: &mut W,
+    errors: &mut E,
+) -> Result<Option<Status>, LabFault> {
+    let alloc = rt.alloc();
+    let sheets = match open_sheets(rt, views, out, errors) {
+        Ok(Some(sheets)) => sheets,
+        Ok(None) => return Ok(None),
+        Err(fault) => return Err(fault_of(fault)),
+    };
+    let sites = Sites {
+        first: &texts.site,
+        peer: texts.peer(),
+    };
+    let mut viewer = Viewer::new(alloc, alloc, views, sites, out).map_err(fault_of)?;
+    let ended = run_texts_plainly(alloc, texts, &mut viewer);
+    let closed = viewer.finish();
+    let written = sheets.finish(&viewer, errors);
+    if let Some(fault) = viewer.fault() {
+        return Err(fault_of(fault));
+    }
+    let status = ended?;
+    closed.map_err(fault_of)?;
+    written.map_err(fault_of)?;
+    Ok(Some(status))
+}
+
 /// Runs the script of one file over the site of another, or over two where a peer's is named, and prints the trace to
 /// `out`, as [`lab_run`] does of texts.
+///
+/// Where views are asked for, their files are made before the run begins, and written once it ended; one that can't be
+/// written is refused as one that can't be read.
 ///
 /// The site's file is read first, then the peer's, then the script's. Where a file isn't there, can't be read, isn't
 /// UTF-8 or has more than [`LONGEST_FILE`] octets, `file` and its path are printed and nothing else, and the answer is
@@ -143,6 +196,7 @@ pub fn run_files<R: Files + AllocGlobal, W: Write, E: Write>(
     site: &str,
     peer: Option<&str>,
     script: &str,
+    views: &Views<'_>,
     out: &mut W,
     errors: &mut E,
 ) -> Result<Status, LabFault> {
@@ -150,7 +204,14 @@ pub fn run_files<R: Files + AllocGlobal, W: Write, E: Write>(
     let Some(texts) = run_texts(rt, site, peer, script, out, errors)? else {
         return Ok(Status::Refused);
     };
-    let status = lab_run(alloc, alloc, &texts.site, texts.peer(), &texts.script, out)?;
+    let status = if views.is_plain() {
+        Some(run_texts_plainly(alloc, &texts, out)?)
+    } else {
+        run_texts_viewed(rt, &texts, views, out, errors)?
+    };
+    let Some(status) = status else {
+        return Ok(Status::Refused);
+    };
     if status == Status::Refused {
         say_reasons(alloc, site, peer, &texts, errors)?;
     }

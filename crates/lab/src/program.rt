@@ -1,12 +1,13 @@
 //! What the program does with the words of its command line.
 use crate::check::check_file;
-use crate::decoded::decode_run;
+use crate::decoded::{decode_run, ended};
 use crate::files::{rewind_files, run_files};
 use crate::run::{LabFault, Status};
 use crate::words::{Job, WordsFault, read_words};
+use decoded_lines::answer_file;
 use explain_command::explain;
 use explanations::Question;
-use std::io::Write;
+use std::io::{Read, Write};
 use std::rt::Files;
 
 /// Says in words what a number stands for.
@@ -24,22 +25,33 @@ fn explain_number<W: Write, E: Write>(
 
 /// Does what the words of a command line ask for, those after the program's own name: runs a script over a site
 /// ([`run_files`]), takes an undone attempt out of a trace and says whether the rest comes to the same
-/// ([`rewind_files`]), prints the cells of a site ([`check_file`]), prints a message in words ([`decode_run`]), says in
-/// words what a number stands for ([`explain`]), or shows help or the version. What it prints goes to `out`; why words, a
-/// site or a file are refused goes to `errors`.
+/// ([`rewind_files`]), prints the cells of a site ([`check_file`]), prints a message in words ([`decode_run`]) or those of
+/// many lines ([`answer_file`]), says in words what a number stands for ([`explain`]), or shows help or the version.
+/// `input` is standard input. What it prints goes to `out`; why words, a site or a file are refused goes to `errors`.
 ///
 /// No clause says what is printed, nor which words end how: that is shown by tests.
-pub fn perform<R: Files + AllocGlobal, W: Write, E: Write>(
+pub fn perform<R: Files + AllocGlobal, I: Read + Drop, W: Write, E: Write>(
     rt: &R,
     words: &[&str],
+    input: I,
     out: &mut W,
     errors: &mut E,
 ) -> Result<Status, LabFault> {
     match read_words(rt.alloc(), words) {
-        Ok(Job::Run { site, peer, script }) => run_files(rt, site, peer, script, out, errors),
+        Ok(
+            Job::Run {
+                site,
+                peer,
+                script,
+                views,
+            },
+        ) => run_files(rt, site, peer, script, &views, out, errors),
         Ok(Job::Rewind { site, trace, line }) => rewind_files(rt, site, trace, line, out, errors),
         Ok(Job::Check { site }) => check_file(rt, site, out, errors),
         Ok(Job::Decode { link, text }) => decode_run(rt.alloc(), link, text, out),
+        Ok(Job::DecodeLines { asked, path }) => {
+            ended(answer_file(rt, asked, path, input, out, errors))
+        }
         Ok(Job::Explain(question)) => explain_number(question, out, errors),
         Ok(Job::Show(text)) => {
             write!(out, "{text}")?;

@@ -1,21 +1,24 @@
 //! The words of the command line.
 ghost use Rattle.std.specs.Prelude.{◌≡◌};
 
-use crate::decoded::Link;
 use clap::error::ErrorKind;
 use clap::{Arg, ArgAction, ArgMatches, Command, Error, value_parser};
+use decoded_lines::{Asked, Detail, Link, link_named};
 use explain_command::{explain_command, question_of};
 use explanations::Question;
+use run_views::{Views, view_options, views_of};
 use std::alloc::{AllocError, Global};
 
 /// What the command line asks for.
 #[derive(Drop)]
 pub enum Job<'a> {
-    /// A script is run over a site, or over two where a peer's is named: the paths of the files.
+    /// A script is run over a site, or over two where a peer's is named: the paths of the files, and what is to be seen of
+    /// the run beside its trace.
     Run {
         site: &'a str,
         peer: Option<&'a str>,
         script: &'a str,
+        views: Views<'a>,
     },
     /// An undone attempt is taken out of a trace: the paths of the site and of the trace, and the line, counted from 1, in
     /// which the attempt opens.
@@ -24,14 +27,20 @@ pub enum Job<'a> {
         trace: &'a str,
         line: usize,
     },
+    /// The cells of a site are printed, and what is surely meant otherwise in its file: the file's path.
+    Check {
+        site: &'a str,
+    },
     /// A message, written in hexadecimal, is printed in words.
     Decode {
         link: Link,
         text: &'a str,
     },
-    /// The cells of a site are printed, and what is surely meant otherwise in its file: the file's path.
-    Check {
-        site: &'a str,
+    /// The messages that lines write in hexadecimal are printed in words: what is asked of the lines, and the path of
+    /// their file, `-` for standard input.
+    DecodeLines {
+        asked: Asked,
+        path: &'a str,
     },
     /// A number of a trace or of a message is said in words.
     Explain(Question),
@@ -63,12 +72,7 @@ const LINKS: &[&str] = &["rr", "a", "abis"];
 
 /// The link of this name.
 fn link(name: &str) -> Option<Link> {
-    match name {
-        "rr" => Some(Link::Rr),
-        "a" => Some(Link::A),
-        "abis" => Some(Link::Abis),
-        _ => None,
-    }
+    link_named(name.as_bytes())
 }
 
 /// An argument that has to be given, by its place.
@@ -90,14 +94,32 @@ fn peer_argument<'a>(alloc: Global) -> Arg<'a> {
         )
 }
 
-/// `run SITE SCRIPT [--peer SITE]`
+/// `run SITE SCRIPT [--peer SITE]`, and the views of the run
 fn run_command<'a>(alloc: Global) -> Result<Command<'a>, AllocError> {
-    Command::new(alloc, "run")
+    let command = Command::new(alloc, "run")
         .about("Runs a script over a site and prints the trace")
         .arg(argument(alloc, "SITE", "The site file"))?
         .arg(argument(alloc, "SCRIPT", "The script file"))?
-        .arg(peer_argument(alloc))
+        .arg(peer_argument(alloc))?;
+    view_options(alloc, command)
 }
+
+/// `check SITE`
+fn check_command<'a>(alloc: Global) -> Result<Command<'a>, AllocError> {
+    Command::new(alloc, "check")
+        .about("Reads a site and prints its cells, and what is surely meant otherwise")
+        .after_help(CHECK_HELP)
+        .arg(argument(alloc, "SITE", "The site file"))
+}
+
+/// What stands behind the help of `check`.
+const CHECK_HELP: &str = "\
+Prints a line for each own cell, one for each cell of others, and a warning for each key that is
+ignored, neighbour carrier that no cell has, and cell without neighbours.
+
+Statuses: 0 the site can be read, 2 the file or the site is refused, 3 memory was refused.
+
+As in: bsc_lab check site.toml";
 
 /// `rewind SITE TRACE LINE`
 fn rewind_command<'a>(alloc: Global) -> Result<Command<'a>, AllocError> {
@@ -124,43 +146,70 @@ fn line_argument<'a>(alloc: Global) -> Arg<'a> {
     .value_parser(value_parser!(usize).range(1..))
 }
 
-/// `check SITE`
-fn check_command<'a>(alloc: Global) -> Result<Command<'a>, AllocError> {
-    Command::new(alloc, "check")
-        .about("Reads a site and prints its cells, and what is surely meant otherwise")
-        .after_help(CHECK_HELP)
-        .arg(argument(alloc, "SITE", "The site file"))
-}
-
-/// What stands behind the help of `check`.
-const CHECK_HELP: &str = "\
-Prints a line for each own cell, one for each cell of others, and a warning for each key that is
-ignored, neighbour carrier that no cell has, and cell without neighbours.
-
-Statuses: 0 the site can be read, 2 the file or the site is refused, 3 memory was refused.
-
-As in: bsc_lab check site.toml";
-
-/// `decode LINK HEX`
+/// `decode LINK HEX`, `decode LINK --from FILE` or `decode --from FILE`
 fn decode_command<'a>(alloc: Global) -> Result<Command<'a>, AllocError> {
     Command::new(alloc, "decode")
         .about("Prints a message in words, as in: decode abis 082e010b")
-        .arg(link_argument(alloc))?
-        .arg(argument(
-            alloc,
-            "HEX",
-            "The message's octets in hexadecimal, without blanks",
-        ))
+        .after_help(DECODE_HELP)
+        .arg(link_argument(alloc)?)?
+        .arg(hex_argument(alloc)?)?
+        .arg(from_argument(alloc))?
+        .arg(all_argument(alloc)?)
+}
+
+/// What stands behind the help of `decode`.
+const DECODE_HELP: &str = "\
+Links: rr is the radio path (TS 44.018), a the switching centre (TS 48.008), abis the base station
+(TS 48.058).
+
+Lines of a FILE have a message's octets each, in hexadecimal: blanks, tabs and colons may stand
+around octets, and what stands behind a # is a note, which is kept. Each is answered by one line,
+with its number. Without LINK each line begins with its own, as in: abis 08 2e 01 0b
+
+Statuses: 0 all are messages, 2 one was refused or a file can't be read, 3 memory was refused.
+
+As in: bsc_lab decode --from messages.txt --all";
+
+/// An argument that has to be given by its place, unless a file is.
+fn unless_from<'a>(alloc: Global, name: &'a str, help: &'a str) -> Result<Arg<'a>, AllocError> {
+    Arg::new(alloc, name)
+        .action(ArgAction::Set)
+        .help(help)
+        .required_unless_present("from")
 }
 
 /// `LINK`
-fn link_argument<'a>(alloc: Global) -> Arg<'a> {
-    argument(
+fn link_argument<'a>(alloc: Global) -> Result<Arg<'a>, AllocError> {
+    let argument = unless_from(alloc, "LINK", "Where the message comes from")?;
+    Ok(argument.value_parser(LINKS))
+}
+
+/// `HEX`
+fn hex_argument<'a>(alloc: Global) -> Result<Arg<'a>, AllocError> {
+    unless_from(
         alloc,
-        "LINK",
-        "Where the message comes from: rr is the radio path (TS 44.018), a the switching centre (TS 48.008), abis the base station (TS 48.058)",
-    )
-    .value_parser(LINKS)
+        "HEX",
+        "The message's octets in hexadecimal, without blanks",
+    )?
+    .conflicts_with_all(&["from", "all"])
+}
+
+/// `--from FILE`
+fn from_argument<'a>(alloc: Global) -> Arg<'a> {
+    Arg::new(alloc, "from")
+        .long("from")
+        .value_name("FILE")
+        .action(ArgAction::Set)
+        .help("A file with a message a line, or - for standard input")
+}
+
+/// `--all`
+fn all_argument<'a>(alloc: Global) -> Result<Arg<'a>, AllocError> {
+    Arg::new(alloc, "all")
+        .long("all")
+        .action(ArgAction::SetTrue)
+        .help("Says what each message doesn't use, too, and on abis the rr message inside")
+        .requires_arg("from")
 }
 
 /// The whole command line.
@@ -178,6 +227,29 @@ fn lab_command<'a>(alloc: Global) -> Result<Command<'a>, AllocError> {
         .subcommand(explain_command(alloc)?)
 }
 
+/// The job of `decode`.
+fn decode_job<'a>(decode: &ArgMatches<'a>) -> Option<Job<'a>> {
+    let link = match decode.get_str("LINK") {
+        Some(name) => Some(link(name)?),
+        None => None,
+    };
+    let detail = if decode.get_flag("all") {
+        Detail::All
+    } else {
+        Detail::Fields
+    };
+    match decode.get_str("from") {
+        Some(path) => Some(Job::DecodeLines {
+            asked: Asked { link, detail },
+            path,
+        }),
+        None => Some(Job::Decode {
+            link: link?,
+            text: decode.get_str("HEX")?,
+        }),
+    }
+}
+
 /// The job of a command line that was read.
 fn job_of<'a>(matches: &ArgMatches<'a>) -> Option<Job<'a>> {
     match matches.subcommand()? {
@@ -185,6 +257,7 @@ fn job_of<'a>(matches: &ArgMatches<'a>) -> Option<Job<'a>> {
             site: run.get_str("SITE")?,
             peer: run.get_str("PEER"),
             script: run.get_str("SCRIPT")?,
+            views: views_of(run),
         }),
         ("rewind", rewind) => Some(Job::Rewind {
             site: rewind.get_str("SITE")?,
@@ -194,11 +267,8 @@ fn job_of<'a>(matches: &ArgMatches<'a>) -> Option<Job<'a>> {
         ("check", check) => Some(Job::Check {
             site: check.get_str("SITE")?,
         }),
+        ("decode", decode) => decode_job(decode),
         ("explain", explain) => Some(Job::Explain(question_of(explain)?)),
-        ("decode", decode) => Some(Job::Decode {
-            link: link(decode.get_str("LINK")?)?,
-            text: decode.get_str("HEX")?,
-        }),
         _ => None,
     }
 }

@@ -15,6 +15,7 @@ mod refusals;
 mod rewound;
 mod simulated;
 mod traces;
+mod viewed;
 mod words;
 
 use lab::run::{LabFault, Status, lab_run};

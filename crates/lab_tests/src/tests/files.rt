@@ -1,6 +1,7 @@
 use super::{ONE_CALL, SITE};
 use lab::files::run_files;
 use lab::run::Status;
+use run_views::Views;
 use std::process::Abort;
 use std::rt::Files;
 use std::test::Fail;
@@ -77,7 +78,15 @@ fn run_of_ends(
 ) -> Result<(), Fail> {
     let mut out = Vec::new(rt.alloc());
     let mut errors = Vec::new(rt.alloc());
-    let ended = run_files(rt, site, peer, script, &mut out, &mut errors);
+    let ended = run_files(
+        rt,
+        site,
+        peer,
+        script,
+        &Views::plain(),
+        &mut out,
+        &mut errors,
+    );
     assert_eq!(rt;
         (ended, str::from_utf8(&out)?),
         (Ok(wanted), text),

@@ -6,6 +6,9 @@ use std::rt::Files;
 use std::str;
 use std::test::Fail;
 
+/// What stands on standard input.
+const STDIN: &[u8] = b"rr 06 2c 00 77 # note";
+
 /// The words of a command line, the status that it ends with, what it prints, and a part of what it says of an error.
 const LINES: &[(&[&str], u8, &str, &str)] = &[
     (
@@ -39,6 +42,30 @@ const LINES: &[(&[&str], u8, &str, &str)] = &[
         2,
         "site 2 handover\n",
         "/dev/null: handover is missing: it has to be a table\n",
+    ),
+    (
+        &["decode", "--from", "-"],
+        0,
+        "1 HANDOVER COMPLETE cause=0 # note\n",
+        "-: messages 1, refused 0\n",
+    ),
+    (
+        &["decode", "--from", "-", "--all"],
+        0,
+        "1 HANDOVER COMPLETE cause=0 rest=77 # note\n",
+        "-: messages 1, refused 0\n",
+    ),
+    (
+        &["decode", "a", "--from", "-"],
+        2,
+        "1 hex # note\n",
+        "-: messages 0, refused 1\n",
+    ),
+    (
+        &["decode", "rr", "--from", "no file"],
+        2,
+        "file no file\n",
+        "no file: No such file",
     ),
     (
         &["check", "/dev/null"],
@@ -78,6 +105,36 @@ const LINES: &[(&[&str], u8, &str, &str)] = &[
     ),
     (&["explain", "refused", "10"], 2, "", "no refusal 10"),
     (&["explain", "fault", "rr", "5"], 2, "", "no fault rr 5"),
+    (
+        &[
+            "run",
+            "/dev/null",
+            "/dev/null",
+            "--pcap",
+            "no folder/a.pcap",
+        ],
+        2,
+        "file no folder/a.pcap\n",
+        "no folder/a.pcap: No such file",
+    ),
+    (
+        &[
+            "run",
+            "/dev/null",
+            "/dev/null",
+            "--chart",
+            "no folder/a.svg",
+        ],
+        2,
+        "file no folder/a.svg\n",
+        "no folder/a.svg: No such file",
+    ),
+    (
+        &["run", "/dev/null", "/dev/null", "--words"],
+        2,
+        "site 2 handover\n",
+        "/dev/null: handover is missing: it has to be a table\n",
+    ),
     (&["--version"], 0, "bsc_lab 0.1\n", ""),
     (&["runn"], 2, "", "runn"),
     (&[], 2, "", "subcommand"),
@@ -99,7 +156,7 @@ fn ends(
 ) -> Result<(), Fail> {
     let mut out = Vec::new(rt.alloc());
     let mut errors = Vec::new(rt.alloc());
-    let status = exit_status(perform(rt, words, &mut out, &mut errors));
+    let status = exit_status(perform(rt, words, STDIN, &mut out, &mut errors));
     assert_eq!(rt; (status, str::from_utf8(&out)?), (wanted, text), "{part}");
     says(rt, str::from_utf8(&errors)?, part);
     Ok(())
@@ -118,7 +175,7 @@ fn a_text_that_is_not_written_is_a_fault(rt: HostRuntime) {
     for words in [&["--version"], &["runn"]] {
         let mut out = Failing::after(rt.alloc(), 0);
         let mut errors = Failing::after(rt.alloc(), 0);
-        let ended = perform(&rt, words, &mut out, &mut errors);
+        let ended = perform(&rt, words, STDIN, &mut out, &mut errors);
         assert_eq!(rt; ended, Err(LabFault::Write));
     }
 }

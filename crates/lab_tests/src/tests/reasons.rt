@@ -1,6 +1,7 @@
 use super::SITE;
 use lab::files::run_files;
 use lab::run::Status;
+use run_views::Views;
 use sample_sites::{FAULTY, changed};
 use std::alloc::{AllocError, Global};
 use std::process::Abort;
@@ -220,7 +221,15 @@ fn says(
     fs::write(rt, REFUSED_FILE, site)?;
     let mut out = Vec::new(rt.alloc());
     let mut errors = Vec::new(rt.alloc());
-    let ended = run_files(rt, REFUSED_FILE, None, "/dev/null", &mut out, &mut errors);
+    let ended = run_files(
+        rt,
+        REFUSED_FILE,
+        None,
+        "/dev/null",
+        &Views::plain(),
+        &mut out,
+        &mut errors,
+    );
     assert_eq!(rt; ended, Ok(Status::Refused), "{line}");
     assert_eq!(rt; str::from_utf8(&out)?, printed);
     let wanted = format!(in rt.alloc(); "refused.toml: {line}\n")?;
@@ -271,7 +280,15 @@ fn agrees(rt: &(impl Files + AllocGlobal + Abort), site: &str, printed: &str) ->
     fs::write(rt, FAULTY_FILE, site)?;
     let mut out = Vec::new(rt.alloc());
     let mut errors = Vec::new(rt.alloc());
-    let ended = run_files(rt, FAULTY_FILE, None, "/dev/null", &mut out, &mut errors);
+    let ended = run_files(
+        rt,
+        FAULTY_FILE,
+        None,
+        "/dev/null",
+        &Views::plain(),
+        &mut out,
+        &mut errors,
+    );
     assert_eq!(rt; ended, Ok(Status::Refused), "{printed}");
     let wanted = format!(in rt.alloc(); "site {printed}\n")?;
     assert_eq!(rt; str::from_utf8(&out)?, wanted.as_str());

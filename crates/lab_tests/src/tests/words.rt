@@ -1,6 +1,7 @@
+use decoded_lines::{Detail, Link};
 use explanations::Question;
-use lab::decoded::Link;
 use lab::words::{Job, WordsFault, read_words};
+use run_views::Views;
 use std::alloc::Global;
 use std::process::Abort;
 use std::test::Fail;
@@ -32,32 +33,64 @@ const RUNS: &[(&[&str], &str, Option<&str>, &str)] = &[
 fn run_names_its_files(rt: HostRuntime) {
     for (words, wanted_site, wanted_peer, wanted_script) in RUNS {
         match read_words(rt.alloc(), *words) {
-            Ok(Job::Run { site, peer, script }) => {
+            Ok(
+                Job::Run {
+                    site,
+                    peer,
+                    script,
+                    views,
+                },
+            ) => {
                 assert_eq!(rt; (site, script), (*wanted_site, *wanted_script));
                 assert_eq!(rt; peer, *wanted_peer);
+                assert!(rt; views.is_plain());
             }
             _ => assert!(rt; false, "a run"),
         }
     }
 }
 
-#[test]
-fn rewind_names_two_files_and_a_line(rt: HostRuntime) {
-    match read_words(rt.alloc(), &["rewind", "a.toml", "b.trace", "8"]) {
-        Ok(Job::Rewind { site, trace, line }) => {
-            assert_eq!(rt; (site, trace, line), ("a.toml", "b.trace", 8));
-        }
-        _ => assert!(rt; false, "a rewind"),
-    }
-}
-
-#[test]
-fn check_names_a_file(rt: HostRuntime) {
-    match read_words(rt.alloc(), &["check", "a.toml"]) {
-        Ok(Job::Check { site }) => assert_eq!(rt; site, "a.toml"),
-        _ => assert!(rt; false, "a check"),
-    }
-}
+/// Words that ask for a run and for views of it.
+const VIEWS: &[(&[&str], Views<'_>)] = &[
+    (
+        &["run", "a.toml", "b.txt", "--words"],
+        Views {
+            words: true,
+            state: false,
+            pcap: None,
+            chart: None,
+        },
+    ),
+    (
+        &["run", "--pcap", "c.pcap", "a.toml", "b.txt"],
+        Views {
+            words: false,
+            state: false,
+            pcap: Some("c.pcap"),
+            chart: None,
+        },
+    ),
+    (
+        &[
+            "run",
+            "a.toml",
+            "--chart=d.svg",
+            "b.txt",
+            "--peer",
+            "e.toml",
+            "--pcap",
+            "c.pcap",
+            "--words",
+            "--state",
+        ],
+        Views {
+            words: true,
+            state: true,
+            pcap: Some("c.pcap"),
+            chart: Some("d.svg"),
+        },
+    ),
+];
 
 /// Words that ask what a number stands for.
 const QUESTIONS: &[(&[&str], Question)] = &[
@@ -77,12 +110,36 @@ const QUESTIONS: &[(&[&str], Question)] = &[
 ];
 
 #[test]
-fn explanations_are_asked_for(rt: HostRuntime) {
+fn views_and_explanations_are_asked_for(rt: HostRuntime) {
+    for (words, wanted) in VIEWS {
+        match read_words(rt.alloc(), *words) {
+            Ok(Job::Run { views, .. }) => assert_eq!(rt; views, *wanted),
+            _ => assert!(rt; false, "a run"),
+        }
+    }
     for (words, wanted) in QUESTIONS {
         match read_words(rt.alloc(), *words) {
             Ok(Job::Explain(question)) => assert_eq!(rt; question, *wanted),
             _ => assert!(rt; false, "a question"),
         }
+    }
+}
+
+#[test]
+fn rewind_names_two_files_and_a_line(rt: HostRuntime) {
+    match read_words(rt.alloc(), &["rewind", "a.toml", "b.trace", "8"]) {
+        Ok(Job::Rewind { site, trace, line }) => {
+            assert_eq!(rt; (site, trace, line), ("a.toml", "b.trace", 8));
+        }
+        _ => assert!(rt; false, "a rewind"),
+    }
+}
+
+#[test]
+fn check_names_a_file(rt: HostRuntime) {
+    match read_words(rt.alloc(), &["check", "a.toml"]) {
+        Ok(Job::Check { site }) => assert_eq!(rt; site, "a.toml"),
+        _ => assert!(rt; false, "a check"),
     }
 }
 
@@ -110,13 +167,39 @@ fn decode_names_a_link_and_octets(rt: HostRuntime) {
     }
 }
 
+/// Words that ask for the messages of a file: with the link of all lines or none, how much is said, and the file.
+const FILES: &[(&[&str], Option<Link>, Detail, &str)] = &[
+    (&["decode", "--from", "-"], None, Detail::Fields, "-"),
+    (&["decode", "--from=a.txt"], None, Detail::Fields, "a.txt"),
+    (
+        &["decode", "abis", "--from", "a.txt"],
+        Some(Link::Abis),
+        Detail::Fields,
+        "a.txt",
+    ),
+    (
+        &["decode", "--all", "--from", "a.txt", "a"],
+        Some(Link::A),
+        Detail::All,
+        "a.txt",
+    ),
+    (&["decode", "--from", "-", "--all"], None, Detail::All, "-"),
+];
+
+#[test]
+fn decode_names_a_file(rt: HostRuntime) {
+    for (words, link, detail, file) in FILES {
+        match read_words(rt.alloc(), *words) {
+            Ok(Job::DecodeLines { asked, path }) => {
+                assert_eq!(rt; (asked.link, asked.detail, path), (*link, *detail, *file));
+            }
+            _ => assert!(rt; false, "{file}: a file"),
+        }
+    }
+}
+
 /// Words that ask for a text, and a part of it.
 const SHOWS: &[(&[&str], &str)] = &[
-    (&["check", "--help"], "The site file"),
-    (&["help", "check"], "neighbour carrier that no cell has"),
-    (&["--help"], "explain refused 6"),
-    (&["explain", "--help"], "explain cause a 33"),
-    (&["explain", "fault", "--help"], "abis the base station"),
     (&["--help"], "Runs a script over a site"),
     (&["help"], "Runs a script over a site"),
     (&["run", "--help"], "The site file"),
@@ -127,10 +210,22 @@ const SHOWS: &[(&[&str], &str)] = &[
     (&["decode", "--help"], "decode abis 082e010b"),
     (&["decode", "--help"], "rr is the radio path"),
     (&["decode", "--help"], "a the switching centre"),
+    (&["decode", "--help"], "--from <FILE>"),
+    (&["help", "decode"], "- for standard input"),
+    (&["help", "decode"], "and on abis the rr message inside"),
     (&["decode", "--help"], "in hexadecimal"),
     (&["help", "decode"], "rr, a, abis"),
+    (&["check", "--help"], "The site file"),
+    (&["help", "check"], "neighbour carrier that no cell has"),
     (&["rewind", "--help"], "The trace, as run prints it"),
     (&["help", "rewind"], "counted from 1"),
+    (&["--help"], "explain refused 6"),
+    (&["run", "--help"], "--words"),
+    (&["run", "--help"], "--state"),
+    (&["run", "--help"], "--pcap <FILE>"),
+    (&["run", "--help"], "--chart <FILE>"),
+    (&["explain", "--help"], "explain cause a 33"),
+    (&["explain", "fault", "--help"], "abis the base station"),
     (&["--version"], "bsc_lab 0."),
     (&["-V"], "bsc_lab 0."),
 ];
@@ -138,11 +233,6 @@ const SHOWS: &[(&[&str], &str)] = &[
 /// Words that are refused, and what names the mistake.
 const REFUSALS: &[(&[&str], &str)] = &[
     (&[], "subcommand"),
-    (&["check"], "were not provided:\n  <SITE>\n"),
-    (&["check", "a.toml", "b.toml"], "b.toml"),
-    (&["explain"], "subcommand"),
-    (&["explain", "refused"], "were not provided:\n  <N>\n"),
-    (&["explain", "cause", "A", "33"], "'A'"),
     (&["run"], "were not provided:\n  <SITE>\n  <SCRIPT>\n"),
     (&["run", "a.toml"], "were not provided:\n  <SCRIPT>\n"),
     (&["run", "a.toml", "b.txt", "c.txt"], "c.txt"),
@@ -156,13 +246,31 @@ const REFUSALS: &[(&[&str], &str)] = &[
         "--peer",
     ),
     (&["rewind", "a", "b", "1", "--peer", "c.toml"], "--peer"),
+    (&["run", "a", "b", "--pcap"], "--pcap"),
+    (&["rewind", "a", "b", "1", "--words"], "--words"),
+    (&["check"], "were not provided:\n  <SITE>\n"),
+    (&["check", "a.toml", "b.toml"], "b.toml"),
+    (&["explain"], "subcommand"),
+    (&["explain", "refused"], "were not provided:\n  <N>\n"),
+    (&["explain", "refused", "256"], "'256'"),
+    (&["explain", "cause", "A", "33"], "'A'"),
+    (&["explain", "fault", "abis", "5", "1", "2"], "'2'"),
     (&["decode"], "were not provided:\n  <LINK>\n  <HEX>\n"),
     (&["decode", "rr"], "were not provided:\n  <HEX>\n"),
     (&["decode", "A", "00"], "'A'"),
     (&["decode", "RR", "062c00"], "'RR'"),
-    (&["decode", "", "062c00"], "'<LINK>' but none was supplied"),
+    (&["decode", "", "062c00"], "'[LINK]' but none was supplied"),
     (&["decode", "rr", "06", "2c00"], "2c00"),
     (&["decode", "rr", "-0"], "'-0'"),
+    (
+        &["decode", "--from"],
+        "'--from <FILE>' but none was supplied",
+    ),
+    (&["decode", "rr", "06", "--from", "-"], "--from <FILE>"),
+    (&["decode", "x", "--from", "-"], "'x'"),
+    (&["decode", "rr", "06", "--all"], "--all"),
+    (&["decode", "rr", "--all"], "--from <FILE>"),
+    (&["decode", "--from", "a", "--from", "b"], "--from <FILE>"),
     (
         &["rewind"],
         "were not provided:\n  <SITE>\n  <TRACE>\n  <LINE>\n",

@@ -1,7 +1,6 @@
 use Rattle.std.proofs.Common.{◌≡◌, ◌≢◌, ℕ, Ok, true, is_some, List, [], ◌∷◌, length, sym, ap, ◌∙◌, arith, rules}
 use Rattle.hex.specs.Hex.{decode_of, decode_pairs}
 use Rattle.lab_script.specs.Words.{octets_of}
-use Rattle.lab.specs.Decoded.{IsBssmapMessage, IsAbisMessage}
 use Rattle.lab.proofs.decoded.decode_run.Goals as goal
 
 octets_of-some : (text octets : List ℕ) → length text ≢ 0 → decode_of text ≡ Ok octets → is_some (octets_of text) ≡ true
@@ -14,21 +13,9 @@ octets_of-written [] (octet ∷ rest) written some = cc written
 octets_of-written (digit ∷ rest) octets written some =
     octets_of-some (digit ∷ rest) octets (λ e. absurd (omega (arith, e))) written
 
--- a message has octets
-bssmap-octets : {A : Type 0} (octets : List ℕ) → IsBssmapMessage A octets → octets ≢ []
-bssmap-octets octets message none = let framed = message.1.head.framed in absurd cc
-
-abis-octets : {A : Type 0} (octets : List ℕ) → IsAbisMessage A octets → octets ≢ []
-abis-octets octets message none = let head = message.1.head.1 in absurd cc
-
-pub returns-in-A-clause-memory : goal.returns-in-A-clause-memory
-returns-in-A-clause-memory g c =
+pub returns-in_err-ended-clause-memory : goal.returns-in_err-ended-clause-memory
+returns-in_err-ended-clause-memory g c =
     let written : decode_of c.args.text.now ≡ Ok c.in-Some.octets.items = search rules in
-    let octets = c.deref-in-A.result.now in
-    λ refused. octets_of-written c.args.text.now octets (written ∙ ap Ok (sym c.deref-in-A.ensures.value)) (bssmap-octets octets (c.decode_bssmap.ensures.memory refused))
-
-pub returns-clause-memory : goal.returns-clause-memory
-returns-clause-memory g c =
-    let written : decode_of c.args.text.now ≡ Ok c.in-Some.octets.items = search rules in
-    let octets = c.deref-in-Abis.result.now in
-    λ refused. octets_of-written c.args.text.now octets (written ∙ ap Ok (sym c.deref-in-Abis.ensures.value)) (abis-octets octets (c.decode_abis.ensures.memory refused))
+    let octets = c.deref.result.now in
+    λ refused. octets_of-written c.args.text.now octets (written ∙ ap Ok (sym c.deref.ensures.value))
+    (c.print_message.ensures.some (c.in_err-ended.ensures.memory refused))

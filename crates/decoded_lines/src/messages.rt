@@ -1,0 +1,274 @@
+//! The links that messages come from, and messages in words.
+ghost use Rattle.std.specs.Prelude.{◌≡◌, ◌≢◌, [], Ok, Err, true, false, IfOk, IfErr, IfSome, IsNone};
+ghost use Rattle.decoded_lines.specs.Messages.{link_name, IsRrMessage, IsBssmapMessage, IsAbisMessage, IsMessage};
+
+use bssmap_messages::{Bssmap, BssmapFault};
+use ho_procedure::exchange::Bad;
+use rr_messages::Rr;
+use rsl_messages::{Rsl, RslFault};
+use spare_elements::{print_a_spares, print_abis_spares, print_rr_rest, used_on_a, used_on_abis};
+use std::alloc::{AllocError, Allocator};
+use std::io::{self, Write};
+use trace_text::abis::AbisText;
+use trace_text::bad::BadText;
+use trace_text::bssmap::BssmapText;
+use trace_text::rr::RrText;
+
+/// Where a message comes from.
+#[derive(Clone, Copy, Debug, PartialEq, Eq)]
+pub enum Link {
+    /// The radio path, between the network and a mobile (TS 44.018).
+    Rr,
+    /// A, between a base station controller and a switching centre (TS 48.008).
+    A,
+    /// Abis, between a base station controller and a base station (TS 48.058).
+    Abis,
+}
+
+/// How much is said of a message.
+#[derive(Clone, Copy, Debug, PartialEq, Eq)]
+pub enum Detail {
+    /// Its name and its fields.
+    Fields,
+    /// Behind them the elements in its octets that it doesn't use, and of a message on Abis the radio resource message
+    /// inside.
+    All,
+}
+
+/// Why a message, or what came of lines, isn't printed.
+#[derive(Clone, Copy, Debug, PartialEq, Eq)]
+pub enum PrintFault {
+    /// Memory was refused.
+    NoMemory,
+    /// A write failed.
+    Write,
+}
+
+impl From<AllocError> for PrintFault {
+    ghost use Rattle.decoded_lines.specs.declared.messages.PrintFault.TheVariants.{NoMemory};
+
+    ghost from_gives = { λ _ fault. fault ≡ NoMemory };
+
+    fn from(_: AllocError) -> PrintFault {
+        PrintFault::NoMemory
+    }
+}
+
+impl From<io::Error> for PrintFault {
+    ghost use Rattle.decoded_lines.specs.declared.messages.PrintFault.TheVariants.{Write};
+
+    ghost from_gives = { λ _ fault. fault ≡ Write };
+
+    fn from(_: io::Error) -> PrintFault {
+        PrintFault::Write
+    }
+}
+
+/// The link of this name.
+pub fn link_named(name: &[u8]) -> Option<Link>
+    ensures named { IfSome result (λ link. link_name link ≡ name.now) }
+    ensures none { IsNone result → (link : Link) → link_name link ≢ name.now }
+{
+    if name == b"rr".as_slice() {
+        return Some(Link::Rr);
+    }
+    if name == b"a".as_slice() {
+        return Some(Link::A);
+    }
+    if name == b"abis".as_slice() {
+        return Some(Link::Abis);
+    }
+    None
+}
+
+/// Prints why octets are no message.
+fn refuse<W: Write>(fault: Bad, out: &mut W) -> Result<bool, PrintFault>
+    ensures refused { result ≢ Ok true }
+    ensures memory { result ≢ Err PrintFault.NoMemory }
+{
+    write!(out, "fault {}", BadText(fault))?;
+    Ok(false)
+}
+
+/// Prints what is asked for of a radio resource message behind its fields.
+fn print_rr_more<W: Write>(
+    detail: Detail,
+    message: &Rr,
+    octets: &[u8],
+    out: &mut W,
+) -> io::Result<()> {
+    match detail {
+        Detail::Fields => Ok(()),
+        Detail::All => print_rr_rest(message, octets, out),
+    }
+}
+
+/// Prints a radio resource message, or why the octets are none.
+fn print_rr<W: Write>(detail: Detail, octets: &[u8], out: &mut W) -> Result<bool, PrintFault>
+    ensures message { result ≡ Ok true → IsRrMessage octets.now }
+    ensures refused { result ≡ Ok false → IsRrMessage octets.now → ⊥ }
+    ensures memory { result ≢ Err PrintFault.NoMemory }
+{
+    match rr_messages::decode(octets) {
+        Ok(message) => {
+            write!(out, "{}", RrText(message))?;
+            print_rr_more(detail, &message, octets, out)?;
+            Ok(true)
+        }
+        Err(fault) => refuse(Bad::Rr(fault), out),
+    }
+}
+
+/// Why octets are no message on A, unless memory was refused.
+fn bssmap_fault(fault: BssmapFault) -> Result<Bad, PrintFault>
+    ensures fault { IfOk result (λ bad. (fault ≢ BssmapFault.NoMemory) × (bad ≡ Bad.Bssmap fault)) }
+    ensures memory { IfErr result (λ answer. (fault ≡ BssmapFault.NoMemory) ×
+        (answer ≡ PrintFault.NoMemory)) }
+{
+    match fault {
+        BssmapFault::NoMemory => Err(PrintFault::NoMemory),
+        _ => Ok(Bad::Bssmap(fault)),
+    }
+}
+
+/// Why octets are no message on Abis, unless memory was refused.
+fn abis_fault(fault: RslFault) -> Result<Bad, PrintFault>
+    ensures fault { IfOk result (λ bad. (fault ≢ RslFault.NoMemory) × (bad ≡ Bad.Rsl fault)) }
+    ensures memory { IfErr result (λ answer. (fault ≡ RslFault.NoMemory) ×
+        (answer ≡ PrintFault.NoMemory)) }
+{
+    match fault {
+        RslFault::NoMemory => Err(PrintFault::NoMemory),
+        _ => Ok(Bad::Rsl(fault)),
+    }
+}
+
+/// Prints what is asked for of a message on A behind its fields.
+fn print_bssmap_more<A: Allocator + Copy, W: Write>(
+    alloc: A,
+    detail: Detail,
+    message: &Bssmap<A>,
+    octets: &[u8],
+    out: &mut W,
+) -> Result<(), PrintFault> {
+    match detail {
+        Detail::Fields => Ok(()),
+        Detail::All => {
+            let used = used_on_a(alloc, message)?;
+            print_a_spares(used, octets, out)?;
+            Ok(())
+        }
+    }
+}
+
+/// Prints a message on A, or why the octets are none.
+fn print_bssmap<A: Allocator + Copy, W: Write>(
+    alloc: A,
+    detail: Detail,
+    octets: &[u8],
+    out: &mut W,
+) -> Result<bool, PrintFault>
+    ensures message { result ≡ Ok true → IsBssmapMessage A octets.now }
+    ensures refused { result ≡ Ok false → IsBssmapMessage A octets.now → ⊥ }
+    ensures memory { result ≡ Err PrintFault.NoMemory → IsBssmapMessage A octets.now }
+{
+    match bssmap_messages::decode(alloc, octets) {
+        Ok(message) => {
+            write!(out, "{}", BssmapText(&message))?;
+            print_bssmap_more(alloc, detail, &message, octets, out)?;
+            Ok(true)
+        }
+        Err(fault) => refuse(bssmap_fault(fault)?, out),
+    }
+}
+
+/// The layer 3 message in a message on Abis (TS 48.058 clause 9.3.11), where there is one.
+fn layer3_of<A: Allocator>(message: &Rsl<A>) -> Option<&[u8]> {
+    match message {
+        Rsl::DataRequest { layer3, .. } | Rsl::DataIndication { layer3, .. } => {
+            Some(layer3.as_slice())
+        }
+        Rsl::MeasurementResult { layer3, .. } => match layer3 {
+            Some(layer3) => Some(layer3.as_slice()),
+            None => None,
+        },
+        Rsl::ChannelActivation { .. }
+        | Rsl::ChannelActivationAck { .. }
+        | Rsl::ChannelActivationNack { .. }
+        | Rsl::ConnectionFailureIndication { .. }
+        | Rsl::HandoverDetection { .. }
+        | Rsl::RfChannelRelease { .. }
+        | Rsl::RfChannelReleaseAck { .. } => None,
+    }
+}
+
+/// Prints what is asked for of a message on Abis behind its fields.
+fn print_abis_more<A: Allocator + Copy, W: Write>(
+    alloc: A,
+    detail: Detail,
+    message: &Rsl<A>,
+    octets: &[u8],
+    out: &mut W,
+) -> Result<(), PrintFault> {
+    match detail {
+        Detail::Fields => Ok(()),
+        Detail::All => {
+            let used = used_on_abis(alloc, message)?;
+            print_abis_spares(used, octets, out)?;
+            if let Some(layer3) = layer3_of(message) {
+                write!(out, " | ")?;
+                print_rr(detail, layer3, out)?;
+            }
+            Ok(())
+        }
+    }
+}
+
+/// Prints a message on Abis, or why the octets are none.
+fn print_abis<A: Allocator + Copy, W: Write>(
+    alloc: A,
+    detail: Detail,
+    octets: &[u8],
+    out: &mut W,
+) -> Result<bool, PrintFault>
+    ensures message { result ≡ Ok true → IsAbisMessage A octets.now }
+    ensures refused { result ≡ Ok false → IsAbisMessage A octets.now → ⊥ }
+    ensures memory { result ≡ Err PrintFault.NoMemory → IsAbisMessage A octets.now }
+{
+    match rsl_messages::decode(alloc, octets) {
+        Ok(message) => {
+            write!(out, "{}", AbisText(&message))?;
+            print_abis_more(alloc, detail, &message, octets, out)?;
+            Ok(true)
+        }
+        Err(fault) => refuse(abis_fault(fault)?, out),
+    }
+}
+
+/// Prints a message of a link in words, or why the octets are none (`fault`, the link, and the number of the fault with
+/// its argument), without a line feed; whether they are one.
+///
+/// With [`Detail::All`] there follow the elements that the message doesn't use, each as `unused=IDENTIFIER/VALUE` in
+/// hexadecimal ([`print_abis_spares`], [`print_a_spares`]), of a radio resource message what stands behind its mandatory
+/// part as `rest=OCTETS` ([`print_rr_rest`]), and of a message on Abis with a layer 3 message (TS 48.058 clause 9.3.11)
+/// ` | ` and that as a radio resource message, or its fault. Octets that are a message are one whatever stands inside.
+///
+/// `NoMemory` is answered only to octets that are a message, and that are some.
+pub fn print_message<A: Allocator + Copy, W: Write>(
+    alloc: A,
+    link: Link,
+    detail: Detail,
+    octets: &[u8],
+    out: &mut W,
+) -> Result<bool, PrintFault>
+    ensures message { result ≡ Ok true → IsMessage A link octets.now }
+    ensures refused { result ≡ Ok false → IsMessage A link octets.now → ⊥ }
+    ensures memory { result ≡ Err PrintFault.NoMemory → IsMessage A link octets.now }
+    ensures some { result ≡ Err PrintFault.NoMemory → octets.now ≢ [] }
+{
+    match link {
+        Link::Rr => print_rr(detail, octets, out),
+        Link::A => print_bssmap(alloc, detail, octets, out),
+        Link::Abis => print_abis(alloc, detail, octets, out),
+    }
+}

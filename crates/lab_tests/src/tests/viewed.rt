@@ -1,0 +1,101 @@
+use super::failing::Failing;
+use super::{ONE_CALL, SITE};
+use lab::files::run_files;
+use lab::run::{LabFault, Status};
+use run_views::Views;
+use std::process::Abort;
+use std::rt::Files;
+use std::test::Fail;
+use std::{fs, str};
+
+/// The files of a run and of its views, in the folder that the test runs in.
+const SITE_FILE: &str = "viewed.toml";
+
+const SCRIPT_FILE: &str = "viewed.txt";
+
+const PCAP_FILE: &str = "viewed.pcap";
+
+const CHART_FILE: &str = "viewed.svg";
+
+/// All views.
+const ALL: Views<'_> = Views {
+    words: true,
+    state: true,
+    pcap: Some(PCAP_FILE),
+    chart: Some(CHART_FILE),
+};
+
+/// What a run of one call prints.
+const WORDED: &str = "in open 1 0 0 3 # call 1
+event open 1 0/0/3 -> done # call 1
+out abis 0 0 0821010b0300060400010801 # call 1; CHANNEL ACTIVATION tn=3 activation=0 mode=00010801 reference=-
+state channel 0/0/3 pending call 1
+state call 1 record 0/0/3 pending
+in abis 0 0 0822010b081234 # call 1; CHANNEL ACTIVATION ACK tn=3 frame=4660
+event confirm 0/0/3 -> owned 1 # call 1
+event look 1 -> record 0/0/3 on # call 1
+state channel 0/0/3 on call 1
+state call 1 record 0/0/3 on
+in clear 1 # call 1
+event look 1 -> record 0/0/3 on # call 1
+event clear 1 -> done # call 1
+out abis 0 0 082e010b # call 1; RF CHANNEL RELEASE tn=3
+state channel 0/0/3 off
+in abis 0 0 0833010b # call 1; RF CHANNEL RELEASE ACK tn=3
+event released 0/0/3 -> done # call 1
+state empty
+end channels=0 calls=0 references=0 timers=0 # nothing is left
+state empty
+";
+
+/// The files of the views have so many packets and so many arrows.
+fn files_have(
+    rt: &(impl Files + AllocGlobal + Abort),
+    pcap: usize,
+    arrows: usize,
+) -> Result<(), Fail> {
+    assert_eq!(rt; fs::read(rt, PCAP_FILE)?.len(), pcap);
+    let chart = fs::read_to_string(rt, CHART_FILE)?;
+    assert_eq!(rt; chart.matches("marker-end").count(), arrows, "{chart}");
+    assert!(rt; chart.ends_with("</svg>\n"));
+    Ok(())
+}
+
+#[test]
+fn a_run_is_viewed(rt: HostRuntime) -> Result<(), Fail> {
+    fs::write(&rt, SITE_FILE, SITE)?;
+    fs::write(&rt, SCRIPT_FILE, ONE_CALL.0)?;
+    let mut out = Vec::new(rt.alloc());
+    let mut errors = Vec::new(rt.alloc());
+    let ended = run_files(
+        &rt,
+        SITE_FILE,
+        None,
+        SCRIPT_FILE,
+        &ALL,
+        &mut out,
+        &mut errors,
+    );
+    assert_eq!(rt; (ended, str::from_utf8(&out)?), (Ok(Status::Done), WORDED));
+    assert!(rt; errors.is_empty());
+    // the header, and four packets: 56 octets, 3 and the message's 12, 7, 4 and 4
+    files_have(&rt, 24 + 4 * 59 + 27, 4)?;
+    // a write that fails ends the run behind its fourth line, which is the second message's
+    let mut out = Failing::after(rt.alloc(), 15);
+    let ended = run_files(
+        &rt,
+        SITE_FILE,
+        None,
+        SCRIPT_FILE,
+        &ALL,
+        &mut out,
+        &mut errors,
+    );
+    assert_eq!(rt; ended, Err(LabFault::Write));
+    let chart = fs::read_to_string(&rt, CHART_FILE)?;
+    assert!(rt; chart.ends_with("</svg>\n"));
+    for file in [SITE_FILE, SCRIPT_FILE, PCAP_FILE, CHART_FILE] {
+        fs::remove_file(&rt, file)?;
+    }
+    Ok(())
+}

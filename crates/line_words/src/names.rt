@@ -1,0 +1,80 @@
+//! The names of messages, without their fields.
+use crate::causes::{a_layer3, abis_layer3};
+use bssmap_messages::{Bssmap, BssmapFault};
+use ho_procedure::exchange::Inbound;
+use rsl_messages::{Octets, Rsl, RslFault};
+use std::alloc::{AllocError, Allocator};
+use trace_text::abis::AbisText;
+use trace_text::bssmap::BssmapText;
+use trace_text::rr::RrText;
+
+/// What stands in a message's words before its first field: its name.
+fn name_in(words: &str) -> &str {
+    let Some((head, _)) = words.split_once('=') else {
+        return words;
+    };
+    match head.rsplit_once(' ') {
+        Some((name, _)) => name,
+        None => head,
+    }
+}
+
+/// Appends the name of the radio resource message inside a message, where there is one that can be read.
+fn push_layer3<A: Allocator + Copy>(
+    alloc: A,
+    text: &mut String<A>,
+    layer3: Option<&Octets<A>>,
+) -> Result<(), AllocError> {
+    let Some(layer3) = layer3 else {
+        return Ok(());
+    };
+    match rr_messages::decode(layer3.as_slice()) {
+        Ok(message) => {
+            let words = format!(in alloc; "{}", RrText(message))?;
+            text.push_str(": ")?;
+            text.push_str(name_in(&words))
+        }
+        Err(_) => Ok(()),
+    }
+}
+
+/// The name of a message on Abis, and of the one inside.
+fn abis_name<A: Allocator + Copy>(alloc: A, message: &Rsl<A>) -> Result<String<A>, AllocError> {
+    let words = format!(in alloc; "{}", AbisText(message))?;
+    let mut text = String::from_str(alloc, name_in(&words))?;
+    push_layer3(alloc, &mut text, abis_layer3(message))?;
+    Ok(text)
+}
+
+/// The name of a message on A, and of the one inside.
+fn a_name<A: Allocator + Copy>(alloc: A, message: &Bssmap<A>) -> Result<String<A>, AllocError> {
+    let words = format!(in alloc; "{}", BssmapText(message))?;
+    let mut text = String::from_str(alloc, name_in(&words))?;
+    push_layer3(alloc, &mut text, a_layer3(message))?;
+    Ok(text)
+}
+
+/// The name of octets that are no message.
+const NO_MESSAGE: &str = "no message";
+
+/// The name of a message that comes or is sent, and behind a colon that of the radio resource message inside, where there
+/// is one: `DATA REQUEST: HANDOVER COMMAND`. `no message` where the octets are none, and of an expiry and an operator's
+/// line.
+pub fn message_name<A: Allocator + Copy>(
+    alloc: A,
+    input: &Inbound<A>,
+) -> Result<String<A>, AllocError> {
+    match input {
+        Inbound::Abis { bytes, .. } => match rsl_messages::decode(alloc, bytes.as_slice()) {
+            Ok(message) => abis_name(alloc, &message),
+            Err(RslFault::NoMemory) => Err(AllocError),
+            Err(_) => String::from_str(alloc, NO_MESSAGE),
+        },
+        Inbound::A { bytes, .. } => match bssmap_messages::decode(alloc, bytes.as_slice()) {
+            Ok(message) => a_name(alloc, &message),
+            Err(BssmapFault::NoMemory) => Err(AllocError),
+            Err(_) => String::from_str(alloc, NO_MESSAGE),
+        },
+        Inbound::Expiry { .. } | Inbound::Operator(_) => String::from_str(alloc, NO_MESSAGE),
+    }
+}

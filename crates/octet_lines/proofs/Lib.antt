@@ -1,0 +1,2 @@
+mod OctetLemmas
+pub mod ReadingLemmas

@@ -1,0 +1,90 @@
+//! The words of a command line that ask for views.
+use clap::{Arg, ArgAction, ArgMatches, Command};
+use std::alloc::{AllocError, Global};
+
+/// The views that are asked for.
+#[derive(Clone, Copy, Debug, PartialEq, Eq)]
+pub struct Views<'a> {
+    /// Words behind each line.
+    pub words: bool,
+    /// What the book holds after each input.
+    pub state: bool,
+    /// The path of the capture file.
+    pub pcap: Option<&'a str>,
+    /// The path of the sequence chart.
+    pub chart: Option<&'a str>,
+}
+
+impl<'a> Views<'a> {
+    /// None is asked for.
+    pub fn plain() -> Views<'a> {
+        Views {
+            words: false,
+            state: false,
+            pcap: None,
+            chart: None,
+        }
+    }
+
+    /// Whether none is asked for.
+    pub fn is_plain(&self) -> bool {
+        !self.words && !self.state && self.pcap.is_none() && self.chart.is_none()
+    }
+}
+
+/// `--words`
+fn words_argument<'a>(alloc: Global) -> Arg<'a> {
+    Arg::new(alloc, "WORDS")
+        .long("words")
+        .action(ArgAction::SetTrue)
+        .help(
+            "Appends to each line of the trace, behind #, its call, its message in words, and the names of causes and refusals",
+        )
+}
+
+/// `--state`
+fn state_argument<'a>(alloc: Global) -> Arg<'a> {
+    Arg::new(alloc, "STATE")
+        .long("state")
+        .action(ArgAction::SetTrue)
+        .help(
+            "Prints after each input the channels that aren't free, the calls, references and timers, and at the end what is left",
+        )
+}
+
+/// `--pcap FILE`
+fn pcap_argument<'a>(alloc: Global) -> Arg<'a> {
+    Arg::new(alloc, "PCAP")
+        .long("pcap")
+        .value_name("FILE")
+        .action(ArgAction::Set)
+        .help("Writes every message to this file, as a capture that Wireshark opens")
+}
+
+/// `--chart FILE`
+fn chart_argument<'a>(alloc: Global) -> Arg<'a> {
+    Arg::new(alloc, "CHART")
+        .long("chart")
+        .value_name("FILE")
+        .action(ArgAction::Set)
+        .help("Writes the run to this file, as a sequence chart in SVG")
+}
+
+/// Adds to a command the options `--words`, `--state`, `--pcap FILE` and `--chart FILE`.
+pub fn view_options<'a>(alloc: Global, command: Command<'a>) -> Result<Command<'a>, AllocError> {
+    command
+        .arg(words_argument(alloc))?
+        .arg(state_argument(alloc))?
+        .arg(pcap_argument(alloc))?
+        .arg(chart_argument(alloc))
+}
+
+/// The views that the words of a command with these options ask for.
+pub fn views_of<'a>(matches: &ArgMatches<'a>) -> Views<'a> {
+    Views {
+        words: matches.get_flag("WORDS"),
+        state: matches.get_flag("STATE"),
+        pcap: matches.get_str("PCAP"),
+        chart: matches.get_str("CHART"),
+    }
+}

@@ -1,0 +1,39 @@
+//! A trace is written to a viewer, whole or in small pieces.
+mod captured;
+mod charted;
+mod stated;
+mod worded;
+
+use run_views::{Sites, Viewer, Views, WordsFault};
+use sample_sites::THREE_CHANNELS as SITE;
+use std::alloc::{Allocator, Global};
+use std::io::Write;
+use std::test::Fail;
+
+/// One controller's site.
+const ALONE: Sites<'_> = Sites {
+    first: SITE,
+    peer: None,
+};
+
+/// Writes a trace to a viewer in pieces of so many octets, and ends the run.
+fn write_in_pieces<W: Write, A: Allocator + Copy>(
+    viewer: &mut Viewer<'_, W, A>,
+    trace: &str,
+    len: usize,
+) -> Result<(), WordsFault> {
+    for piece in trace.as_bytes().chunks(len) {
+        if viewer.write_all(piece).is_err() {
+            return Err(viewer.fault().unwrap_or(WordsFault::Write));
+        }
+    }
+    viewer.finish()
+}
+
+/// What is printed of a trace that is written in pieces of so many octets.
+fn printed(alloc: Global, views: &Views<'_>, trace: &str, len: usize) -> Result<String, Fail> {
+    let mut out = Vec::new(alloc);
+    let mut viewer = Viewer::new(alloc, alloc, views, ALONE, &mut out)?;
+    write_in_pieces(&mut viewer, trace, len)?;
+    Ok(String::from_utf8(out)?)
+}

@@ -1,0 +1,111 @@
+use super::{ALONE, printed, write_in_pieces};
+use refusing_heap::RefusingHeap;
+use run_views::{Viewer, Views, WordsFault};
+use std::alloc::{AllocError, Global};
+use std::str;
+use std::test::Fail;
+
+/// Words alone.
+const WORDS: Views<'_> = Views {
+    words: true,
+    state: false,
+    pcap: None,
+    chart: None,
+};
+
+/// Traces with their words. Without what begins with ` # ` they are what a run prints.
+const TRACES: &[&str] = &[
+    // a mobile comes back
+    "in open 1 0 0 3 # call 1
+event open 1 0/0/3 -> done # call 1
+out abis 0 0 0821010b0300060400010801 # call 1; CHANNEL ACTIVATION tn=3 activation=0 mode=00010801 reference=-
+in abis 0 0 0822010b080000 # call 1; CHANNEL ACTIVATION ACK tn=3 frame=0
+event confirm 0/0/3 -> owned 1 # call 1
+event look 1 -> record 0/0/3 on # call 1
+in handover 1 1 # call 1
+event take 1 internal 1/1/3 -> done # call 1
+event reserve 1 0 -> done # call 1
+event activate 1 -> done # call 1
+out abis 1 1 0821010b03020604000108010900 # call 1; CHANNEL ACTIVATION tn=3 activation=2 mode=00010801 reference=0
+in abis 1 1 0822010b080000 # call 1; CHANNEL ACTIVATION ACK tn=3 frame=0
+event confirm 1/1/3 -> owned 1 # call 1
+event look 1 -> record 0/0/3 on internal confirmed 1/1/3 0 # call 1
+event command 1 -> done # call 1
+out abis 0 0 0301010b02000b0009062bd5670ba36b0005 # call 1; DATA REQUEST tn=3 link=0 layer3=062bd5670ba36b0005; HANDOVER COMMAND arfcn=871 ncc=2 bcc=5 tn=3 tsc=5 carrier=875 reference=0 atc=0 power=5
+in abis 0 0 0302010b02000b0003062801 # call 1; DATA INDICATION tn=3 link=0 layer3=062801; HANDOVER FAILURE cause=1; abnormal release, unspecified
+event owner 0/0/3 -> owned 1 # call 1
+event look 1 -> record 0/0/3 on internal commanded 1/1/3 0 # call 1
+event undo 1 asked -> record 0/0/3 on internal commanded 1/1/3 0 # call 1
+out abis 1 1 082e010b # call 1; RF CHANNEL RELEASE tn=3
+in abis 1 1 0833010b # call 1; RF CHANNEL RELEASE ACK tn=3
+event released 1/1/3 -> done # call 1
+end channels=1 calls=1 references=0 timers=0 # this is left
+",
+    // nothing comes of these inputs, of a fault does
+    "in open 1 0 0 3 # call 1
+event open 1 0/0/3 -> done # call 1
+in abis 0 0 0821010b0300060400010801 # call 1; CHANNEL ACTIVATION tn=3 activation=0 mode=00010801 reference=-; ignored: no row
+in a 1 00011b # call 1; HANDOVER DETECT; ignored: no row
+in handover 1 99 # call 1; ignored: no such cell
+in abis 0 0 08 # no call
+fault abis 5 1 # no call; an element is cut at offset 1
+in a 2 000121 # call 2; CLEAR COMPLETE; ignored: no row
+sim limit # what still waited was dropped
+in abis 0 0 0824010b1a0101 # call 1; CONNECTION FAILURE INDICATION tn=3 cause=1; radio link failure; ignored: no row
+",
+    // lines of no trace
+    "line 3
+site 2 handover
+file in a 1 000121
+
+",
+];
+
+/// A text without the words behind its lines.
+fn without_words(alloc: Global, text: &str) -> Result<String, AllocError> {
+    let mut plain = String::new(alloc);
+    for line in text.lines() {
+        let line = match line.split_once(" # ") {
+            Some((line, _)) => line,
+            None => line,
+        };
+        plain.push_str(line)?;
+        plain.push('\n')?;
+    }
+    Ok(plain)
+}
+
+#[test]
+fn words_stand_behind_each_line(rt: HostRuntime) -> Result<(), Fail> {
+    for wanted in TRACES {
+        let trace = without_words(rt.alloc(), *wanted)?;
+        for len in [1, 7, 10_000] {
+            let text = printed(rt.alloc(), &WORDS, &trace, len)?;
+            assert!(rt; text.as_str() == *wanted, "{text}");
+        }
+        let plain = printed(rt.alloc(), &Views::plain(), &trace, 64)?;
+        assert!(rt; plain.as_str() == trace.as_str(), "{plain}");
+    }
+    Ok(())
+}
+
+#[test]
+fn refused_memory_ends_a_trace_in_mid_stream(rt: HostRuntime) -> Result<(), Fail> {
+    let wanted = TRACES.first().copied().unwrap_or("");
+    let trace = without_words(rt.alloc(), wanted)?;
+    for n in 1..1_000 {
+        let heap = RefusingHeap::refusing_nth(rt.alloc(), n);
+        let mut out = Vec::new(rt.alloc());
+        let mut viewer = Viewer::new(&heap, rt.alloc(), &WORDS, ALONE, &mut out)?;
+        let ended = write_in_pieces(&mut viewer, &trace, 16);
+        let text = str::from_utf8(&out)?;
+        assert!(rt; wanted.starts_with(text), "{n}: {text}");
+        if !heap.was_refused() {
+            assert!(rt; ended.is_ok() && text == wanted, "{n}");
+            return Ok(());
+        }
+        assert!(rt; ended == Err(WordsFault::NoMemory), "{n}");
+    }
+    assert!(rt; false, "some run isn't refused");
+    Ok(())
+}
