@@ -94,7 +94,7 @@ pub(crate) fn a_layer3<A: Allocator>(message: &Bssmap<A>) -> Option<&Octets<A>> 
 }
 
 /// The cause of a radio resource message (TS 44.018 clause 10.5.2.31).
-pub(crate) fn rr_cause(message: Rr) -> Option<Cause> {
+pub(crate) fn rr_cause(message: &Rr) -> Option<Cause> {
     match message {
         Rr::HandoverComplete(cause) | Rr::HandoverFailure(cause) | Rr::ChannelRelease(cause) => {
             Some((Link::Rr, cause.value()))

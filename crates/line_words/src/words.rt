@@ -3,6 +3,7 @@ use crate::causes::{Cause, a_cause, a_layer3, abis_cause, abis_layer3, passed_ca
 use bssmap_messages::BssmapFault;
 use explanations::{Question, answer_to};
 use ho_procedure::exchange::Inbound;
+use rr_messages::Rr;
 use rsl_messages::{Octets, RslFault};
 use std::alloc::{AllocError, Allocator};
 use std::io::{self, Write};
@@ -51,16 +52,20 @@ fn print_cause<W: Write>(out: &mut W, cause: Option<Cause>) -> io::Result<()> {
     }
 }
 
+/// A radio resource message, and the name of its cause.
+fn print_rr<W: Write>(out: &mut W, message: Rr) -> io::Result<()> {
+    let cause = rr_cause(&message);
+    write!(out, "; {}", RrText(message))?;
+    print_cause(out, cause)
+}
+
 /// The radio resource message inside a message, where there is one that can be read.
 fn print_layer3<A: Allocator, W: Write>(out: &mut W, layer3: Option<&Octets<A>>) -> io::Result<()> {
     let Some(layer3) = layer3 else {
         return Ok(());
     };
     match rr_messages::decode(layer3.as_slice()) {
-        Ok(message) => {
-            write!(out, "; {}", RrText(message))?;
-            print_cause(out, rr_cause(message))
-        }
+        Ok(message) => print_rr(out, message),
         Err(_) => Ok(()),
     }
 }
