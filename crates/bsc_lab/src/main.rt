@@ -1,8 +1,15 @@
-//! A laboratory of a GSM base station controller: runs a script over a site and prints the trace, takes an undone attempt
-//! out of a trace and says whether the rest comes to the same, or prints messages in words.
+//! A laboratory of a GSM base station controller, with these commands:
+//!
+//! - `run` runs a script over a site, or over two, and prints the trace; with views (`--words`, `--state`, `--pcap`,
+//!   `--chart`) also what messages and causes say, what the book holds, a capture file and a sequence chart;
+//! - `rewind` takes an undone attempt out of a trace and says whether the rest comes to the same;
+//! - `check` prints the cells of a site, and what is surely meant otherwise in its file;
+//! - `decode` prints a message in words, with `--from` those of a file or of standard input, line by line;
+//! - `explain` says in words what a refusal, a cause or a fault is.
 //!
 //! Statuses: 0 done, 1 an undone attempt without which the rest differs, 2 the words, a file, the site, a line of the
-//! script or of the trace, an attempt or a message refused or the output not to be written, 3 memory refused.
+//! script or of the trace, an attempt, a message or a number of `explain` refused, or something not to be written, 3 memory
+//! refused.
 #![tactic(auto)]
 
 use lab::program::perform;

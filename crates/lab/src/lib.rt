@@ -1,6 +1,10 @@
-//! The laboratory of the base station controller: runs of a script, undone attempts taken out of a trace, messages in
-//! words, and the command line. The controller's inputs and outputs, its procedure, the reader of scripts and the trace
-//! have crates of their own, whose modules are exported here too.
+//! The laboratory of the base station controller: runs of a script (`run`), with views of the run beside its trace, undone
+//! attempts taken out of a trace (`rewind`), the cells of a site and what is surely meant otherwise (`check`), one message
+//! in words or those of many lines (`decode`, with `--from`), numbers in words (`explain`), and the command line.
+//!
+//! The controller's inputs and outputs (`exchange`), the reader of scripts (`script`) and the trace (`trace`, `bad`) are
+//! modules of crates below, exported here too. The procedure, views, messages in words and explanations have crates of
+//! their own.
 #![tactic(auto)]
 
 pub mod check;

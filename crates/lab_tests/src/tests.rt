@@ -15,7 +15,9 @@ mod refusals;
 mod rewound;
 mod simulated;
 mod traces;
+mod unwritten;
 mod viewed;
+mod viewed_pair;
 mod words;
 
 use lab::run::{LabFault, Status, lab_run};

@@ -1,0 +1,69 @@
+use super::{ONE_CALL, SITE};
+use lab::files::run_files;
+use lab::run::{LabFault, exit_status};
+use run_views::Views;
+use std::process::Abort;
+use std::rt::Files;
+use std::test::Fail;
+use std::{fs, str};
+
+/// The files of a run and of its views, in the folder that the test runs in.
+const SITE_FILE: &str = "unwritten.toml";
+
+const SCRIPT_FILE: &str = "unwritten.txt";
+
+const PCAP_FILE: &str = "unwritten.pcap";
+
+const CHART_FILE: &str = "unwritten.svg";
+
+/// A device that can be opened for writing, and has no room for an octet.
+const FULL: &str = "/dev/full";
+
+/// A run whose capture and chart go to these files, one of which has no room: the trace is printed to its end, and what
+/// is said names that file.
+fn says_why(rt: &(impl Files + AllocGlobal + Abort), pcap: &str, chart: &str) -> Result<(), Fail> {
+    let views = Views {
+        words: false,
+        state: false,
+        pcap: Some(pcap),
+        chart: Some(chart),
+    };
+    let mut out = Vec::new(rt.alloc());
+    let mut errors = Vec::new(rt.alloc());
+    let ended = run_files(
+        rt,
+        SITE_FILE,
+        None,
+        SCRIPT_FILE,
+        &views,
+        &mut out,
+        &mut errors,
+    );
+    assert_eq!(rt; ended, Err(LabFault::Write));
+    assert_eq!(rt; exit_status(ended), 2);
+    assert_eq!(rt; str::from_utf8(&out)?, ONE_CALL.1);
+    let said = str::from_utf8(&errors)?;
+    assert!(rt;
+        said.starts_with("/dev/full: No space left on device"),
+        "{said}"
+    );
+    assert_eq!(rt; said.lines().count(), 1, "{said}");
+    Ok(())
+}
+
+#[test]
+fn a_file_without_room_is_named(rt: HostRuntime) -> Result<(), Fail> {
+    fs::write(&rt, SITE_FILE, SITE)?;
+    fs::write(&rt, SCRIPT_FILE, ONE_CALL.0)?;
+    says_why(&rt, FULL, CHART_FILE)?;
+    // the other file is written all the same
+    let chart = fs::read_to_string(&rt, CHART_FILE)?;
+    assert_eq!(rt; chart.matches("marker-end").count(), 4, "{chart}");
+    assert!(rt; chart.ends_with("</svg>\n"));
+    says_why(&rt, PCAP_FILE, FULL)?;
+    assert_eq!(rt; fs::read(&rt, PCAP_FILE)?.len(), 24 + 4 * 59 + 27);
+    for file in [SITE_FILE, SCRIPT_FILE, PCAP_FILE, CHART_FILE] {
+        fs::remove_file(&rt, file)?;
+    }
+    Ok(())
+}
