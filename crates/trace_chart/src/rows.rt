@@ -5,7 +5,7 @@ use chart::{Band, Chart, Row};
 use ho_procedure::exchange::Inbound;
 use line_words::{WordsFault, message_name};
 use std::alloc::{AllocError, Allocator, Global};
-use std::io::Write;
+use std::io::{self, Write};
 use trace_lines::{TraceLine, What};
 use trace_text::trace::Mark;
 
@@ -69,6 +69,17 @@ fn bands_of<A: Allocator + Copy>(
         })?;
     }
     Ok(bands)
+}
+
+/// Prints the chart that these make.
+fn print_chart<'a, W: Write>(
+    out: &mut W,
+    lanes: &'a [&'a str],
+    rows: &'a [Row<'a>],
+    bands: &'a [Band<'a>],
+) -> io::Result<()> {
+    let chart = Chart { lanes, rows, bands };
+    write!(out, "{chart}")
 }
 
 /// So many.
@@ -219,11 +230,6 @@ impl<A: Allocator + Copy> TraceChart<A> {
         let rows = self.drawn()?;
         let marked = self.marked()?;
         let bands = bands_of(self.alloc, &marked)?;
-        let chart = Chart {
-            lanes: lanes(self.has_peer),
-            rows: &rows,
-            bands: &bands,
-        };
-        Ok(write!(out, "{chart}")?)
+        Ok(print_chart(out, lanes(self.has_peer), rows.as_slice(), bands.as_slice())?)
     }
 }
