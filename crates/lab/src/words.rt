@@ -191,7 +191,8 @@ fn hex_argument<'a>(alloc: Global) -> Result<Arg<'a>, AllocError> {
         "HEX",
         "The message's octets in hexadecimal, without blanks",
     )?
-    .conflicts_with_all(&["from", "all"])
+    .conflicts_with("from")?
+    .conflicts_with("all")
 }
 
 /// `--from FILE`

@@ -13,9 +13,9 @@ octets_of-written [] (octet ∷ rest) written some = cc written
 octets_of-written (digit ∷ rest) octets written some =
     octets_of-some (digit ∷ rest) octets (λ e. absurd (omega (arith, e))) written
 
-pub returns-in_err-ended-clause-memory : goal.returns-in_err-ended-clause-memory
-returns-in_err-ended-clause-memory g c =
+pub returns-in_err-status-clause-memory : goal.returns-in_err-status-clause-memory
+returns-in_err-status-clause-memory g c =
     let written : decode_of c.args.text.now ≡ Ok c.in-Some.octets.items = search rules in
     let octets = c.deref.result.now in
     λ refused. octets_of-written c.args.text.now octets (written ∙ ap Ok (sym c.deref.ensures.value))
-    (c.print_message.ensures.some (c.in_err-ended.ensures.memory refused))
+    (c.print_message.ensures.some (c.in_err-status.ensures.memory (search (rules, refused))))
