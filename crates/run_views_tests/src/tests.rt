@@ -22,7 +22,7 @@ fn write_in_pieces<W: Write, A: Allocator + Copy>(
     trace: &str,
     len: usize,
 ) -> Result<(), WordsFault> {
-    for piece in trace.as_bytes().chunks(len) {
+    for piece in trace.as_bytes().chunks(len.max(1)) {
         if viewer.write_all(piece).is_err() {
             return Err(viewer.fault().unwrap_or(WordsFault::Write));
         }
@@ -35,5 +35,6 @@ fn printed(alloc: Global, views: &Views<'_>, trace: &str, len: usize) -> Result<
     let mut out = Vec::new(alloc);
     let mut viewer = Viewer::new(alloc, alloc, views, ALONE, &mut out)?;
     write_in_pieces(&mut viewer, trace, len)?;
+    drop(viewer);
     Ok(String::from_utf8(out)?)
 }

@@ -52,6 +52,7 @@ fn each_message_of_a_trace_is_captured(rt: HostRuntime) -> Result<(), Fail> {
     let octets = hex::encode(rt.alloc(), capture.octets())?;
     assert!(rt; octets.as_str() == FILE, "{octets}");
     assert_eq!(rt; capture.left_out(), 0);
+    drop(viewer);
     assert!(rt; out.as_slice() == TRACE.as_bytes());
     Ok(())
 }

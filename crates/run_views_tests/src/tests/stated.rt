@@ -112,6 +112,7 @@ fn what_the_books_hold_stands_behind_each_input(rt: HostRuntime) -> Result<(), F
         let mut out = Vec::new(rt.alloc());
         let mut viewer = Viewer::new(rt.alloc(), rt.alloc(), &STATE, sites, &mut out)?;
         write_in_pieces(&mut viewer, &plain, 32)?;
+        drop(viewer);
         let text = str::from_utf8(&out)?;
         assert!(rt; text == wanted, "{text}");
     }

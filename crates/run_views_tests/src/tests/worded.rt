@@ -98,6 +98,7 @@ fn refused_memory_ends_a_trace_in_mid_stream(rt: HostRuntime) -> Result<(), Fail
         let mut out = Vec::new(rt.alloc());
         let mut viewer = Viewer::new(&heap, rt.alloc(), &WORDS, ALONE, &mut out)?;
         let ended = write_in_pieces(&mut viewer, &trace, 16);
+        drop(viewer);
         let text = str::from_utf8(&out)?;
         assert!(rt; wanted.starts_with(text), "{n}: {text}");
         if !heap.was_refused() {
