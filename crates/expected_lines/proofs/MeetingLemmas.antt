@@ -1,0 +1,163 @@
+-- Facts of the places to which lines lead.
+use Rattle.std.proofs.Common.{◌≡◌, ◌⊎◌, inl, inr, ◌↔◌, ℕ, zero, suc, ◌+◌, ◌<◌, ◌≤◌, Bool, true, false, if◌then◌else◌, rules, List, [], ◌∷◌, ◌++◌, Option, Some, None, refl, sym, ap, subst, ◌∙◌, arith, length, take, get_or, add-one, filter_map, min, nat_lt}
+use Rattle.std.proofs.lemmas.List.{get_or_default}
+use Rattle.std.proofs.lemmas.Bool.{cases_Bool, ltb-true, ltb-false}
+use Rattle.std.proofs.lemmas.Slice.Eq.{bytes_eq-Decides}
+use Rattle.std.specs.List.{Contains, cons_option, slice_get}
+use Rattle.std.proofs.lemmas.List.Elements.{Contains-append_left, Contains-append_right, Contains-append_cases}
+use Rattle.std.proofs.Math.Seq.{take-suc}
+use Rattle.expected_lines.specs.Lines.{expected_in, is_any}
+use Rattle.expected_lines.specs.Meeting.{Takes, Reaches, AreNext, is_text, is_at, behind}
+
+pub contains_one : (x y : ℕ) → Contains (x ∷ []) y → x ≡ y
+contains_one x y (zero, l, e) = e
+contains_one x y (suc k, l, e) = absurd (omega (arith, l))
+
+pub one_contains : (x : ℕ) → Contains (x ∷ []) x
+one_contains x = (0, omega arith, refl)
+
+-- one place more
+pub contains_more : (xs : List ℕ) (x y : ℕ) → Contains (xs ++ x ∷ []) y → Contains xs y ⊎ (x ≡ y)
+contains_more xs x y h = elim (Contains-append_cases xs (x ∷ []) y h) [
+  | inl e ↦ inl e
+  | inr e ↦ inr (contains_one x y e)
+]
+
+-- the lines so far, and one more
+pub reaches_more : (came lines : List (List ℕ)) (line : List ℕ) (from between to : ℕ)
+    → Reaches came lines from between → Takes came (expected_in line) between to → Reaches came (lines ++ line ∷ []) from to
+reaches_more came [] line from between to r t = (to, subst (λ (x : ℕ). Takes came (expected_in line) x to) r t, refl)
+reaches_more came (l ∷ ls) line from between to r t = (r.0, r.1, reaches_more came ls line r.0 between to r.2 t)
+
+pub reaches_back : (came lines : List (List ℕ)) (line : List ℕ) (from to : ℕ)
+    → Reaches came (lines ++ line ∷ []) from to → (between : ℕ) × Reaches came lines from between × Takes came (expected_in line) between to
+reaches_back came [] line from to r = (from, refl, subst (λ (x : ℕ). Takes came (expected_in line) from x) (sym r.2) r.1)
+reaches_back came (l ∷ ls) line from to r =
+    let more = reaches_back came ls line r.0 to r.2 in
+    (more.0, (r.0, r.1, more.1), more.2)
+
+-- the places to which the lines so far lead, and those to which the next does
+pub next_led : (came lines : List (List ℕ)) (i : ℕ) (d : List ℕ) (places next : List ℕ) → i < length lines
+    → ((p : ℕ) → Contains places p ↔ Reaches came (take i lines) 0 p) → AreNext came (expected_in (get_or lines i d)) places next
+    → (p : ℕ) → Contains next p ↔ Reaches came (take (i + 1) lines) 0 p
+next_led came lines i d places next within led are_next p =
+    let line = get_or lines i d in
+    let more : take (i + 1) lines ≡ take i lines ++ (line ∷ []) = rw add-one (take-suc lines i d within) in
+    ( λ h.
+        let from = (are_next p).0 h in
+        subst (λ (ls : List (List ℕ)). Reaches came ls 0 p) (sym more)
+        (reaches_more came (take i lines) line 0 from.0 p ((led from.0).0 from.1) from.2)
+    , λ r.
+        let back = reaches_back came (take i lines) line 0 p (subst (λ (ls : List (List ℕ)). Reaches came ls 0 p) more r) in
+        (are_next p).1 (back.0, (led back.0).1 back.1, back.2)
+    )
+
+-- the lower of the least so far and of the next place is one of the places, and none so far is less
+pub least_one : (places : List ℕ) (i least lower : ℕ) → i < length places → Contains places least → lower ≡ min least (get_or places i 0) → Contains places lower
+least_one places i least lower within one e =
+    let next = get_or places i 0 in
+    elim (cases_Bool (nat_lt next least)) [
+      | inl t ↦
+          let is : lower ≡ next = omega (arith, e, ltb-true next least t) in
+          subst (Contains places) (sym is) (i, within, get_or_default places i next 0 within)
+      | inr t ↦
+          let is : lower ≡ least = omega (arith, e, ltb-false next least t) in
+          subst (Contains places) (sym is) one
+    ]
+
+pub least_all : (places : List ℕ) (i least lower : ℕ) → i < length places → ((k d : ℕ) → k < i → least ≤ get_or places k d) → lower ≡ min least (get_or places i 0)
+    → (k d : ℕ) → k < i + 1 → lower ≤ get_or places k d
+least_all places i least lower within all e k d h =
+    elim (cases_Bool (nat_lt k i)) [
+      | inl t ↦ omega (arith, e, all k d (ltb-true k i t))
+      | inr t ↦
+          let same : k ≡ i = omega (arith, h, ltb-false k i t) in
+          let is : get_or places k d ≡ get_or places i 0 = ap (λ (n : ℕ). get_or places n d) same ∙ get_or_default places i d 0 within in
+          omega (arith, e, is)
+    ]
+
+-- a text stands at a place
+pub at_place : (came : List (List ℕ)) (place : ℕ) (text : List ℕ) → is_at came place text ≡ true → slice_get came place ≡ Some text
+at_place came place text h = by_found (slice_get came place) h
+  where
+    by_found : (o : Option (List ℕ)) → is_text o text ≡ true → o ≡ Some text
+    by_found (Some line) h = ap Some ((bytes_eq-Decides line text).1 h)
+    by_found None h = absurd (search rules)
+
+pub place_at : (came : List (List ℕ)) (place : ℕ) (text : List ℕ) → slice_get came place ≡ Some text → is_at came place text ≡ true
+place_at came place text e = ap (λ (o : Option (List ℕ)). is_text o text) e ∙ (bytes_eq-Decides text text).0 refl
+
+-- what stands behind a place
+pub behind_at : (came : List (List ℕ)) (text : List ℕ) (from to : ℕ) → behind came text from ≡ Some to → (slice_get came from ≡ Some text) × (to ≡ from + 1)
+behind_at came text from to h = by_test (is_at came from text) refl h
+  where
+    by_test : (b : Bool) → is_at came from text ≡ b → (if b then Some (from + 1) else None) ≡ Some to → (slice_get came from ≡ Some text) × (to ≡ from + 1)
+    by_test true at e = (at_place came from text at, search (rules, e))
+    by_test false at e = absurd (search (rules, e))
+
+-- what a filter gives of a list
+pub gives_some : (f : ℕ → Option ℕ) (xs : List ℕ) (y : ℕ) → Contains (filter_map f xs) y → (x : ℕ) × Contains xs x × (f x ≡ Some y)
+gives_some f [] y (k, l, e) = absurd (omega (arith, l))
+gives_some f (x ∷ xs) y h = by_first (f x) refl h
+  where
+    by_first : (o : Option ℕ) → f x ≡ o → Contains (cons_option o (filter_map f xs)) y → (z : ℕ) × Contains (x ∷ xs) z × (f z ≡ Some y)
+    by_first (Some w) e h = elim (Contains-append_cases (w ∷ []) (filter_map f xs) y h) [
+      | inl first ↦ (x, Contains-append_left (x ∷ []) xs x (one_contains x), e ∙ ap Some (contains_one w y first))
+      | inr rest ↦ let more = gives_some f xs y rest in (more.0, Contains-append_right (x ∷ []) xs more.0 more.1, more.2)
+    ]
+    by_first None e h = let more = gives_some f xs y h in (more.0, Contains-append_right (x ∷ []) xs more.0 more.1, more.2)
+
+pub some_given : (f : ℕ → Option ℕ) (xs : List ℕ) (x y : ℕ) → Contains xs x → f x ≡ Some y → Contains (filter_map f xs) y
+some_given f [] x y (k, l, e) given = absurd (omega (arith, l))
+some_given f (w ∷ xs) x y h given = elim (Contains-append_cases (w ∷ []) xs x h) [
+  | inl first ↦
+      let is : f w ≡ Some y = ap f (contains_one w x first) ∙ given in
+      subst (λ (o : Option ℕ). Contains (cons_option o (filter_map f xs)) y) (sym is) (Contains-append_left (y ∷ []) (filter_map f xs) y (one_contains y))
+  | inr rest ↦ by_first (f w) (some_given f xs x y rest given)
+]
+  where
+    by_first : (o : Option ℕ) → Contains (filter_map f xs) y → Contains (cons_option o (filter_map f xs)) y
+    by_first (Some z) h = Contains-append_right (z ∷ []) (filter_map f xs) y h
+    by_first None h = h
+
+-- To these places lead: one that expects a line, one that expects any, one that expects nothing.
+pub text_next : (came : List (List ℕ)) (text : List ℕ) (places found : List ℕ) → is_any text ≡ false → found ≡ filter_map (behind came text) places → AreNext came (Some text) places found
+text_next came text places found is e to =
+    ( λ h.
+        let given = gives_some (behind came text) places to (subst (λ (xs : List ℕ). Contains xs to) e h) in
+        let at = behind_at came text given.0 to given.2 in
+        (given.0, given.1, inr (is, at.0, at.1))
+    , λ (from, one, takes). subst (λ (xs : List ℕ). Contains xs to) (sym e) (by_takes from one takes)
+    )
+  where
+    by_takes : (from : ℕ) → Contains places from → Takes came (Some text) from to → Contains (filter_map (behind came text) places) to
+    by_takes from one (inl (any, _, _)) = absurd (search (rules, any, is))
+    by_takes from one (inr (_, at, next)) =
+        some_given (behind came text) places from to one (rw (place_at came from text at) (ap Some (sym next)))
+
+pub any_next : (came : List (List ℕ)) (text : List ℕ) (places found : List ℕ) (first : ℕ) → is_any text ≡ true → Contains places first
+    → ((k d : ℕ) → k < length places → first ≤ get_or places k d) → ((p : ℕ) → Contains found p ↔ ((first ≤ p) × (p ≤ length came))) → AreNext came (Some text) places found
+any_next came text places found first is one least all to =
+    ( λ h. let within = (all to).0 h in (first, one, inl (is, within.0, within.1))
+    , λ (from, (k, l, e), takes). (all to).1 (by_takes from (omega (arith, least k from l, e)) takes)
+    )
+  where
+    by_takes : (from : ℕ) → first ≤ from → Takes came (Some text) from to → (first ≤ to) × (to ≤ length came)
+    by_takes from low (inl (_, above, within)) = (omega (arith, low, above), within)
+    by_takes from low (inr (any, _, _)) = absurd (search (rules, any, is))
+
+-- none leads anywhere
+pub none_next : (came : List (List ℕ)) (expected : Option (List ℕ)) (places : List ℕ) → places ≡ [] → AreNext came expected places []
+none_next came expected places none to =
+    ( λ (k, l, e). absurd (omega (arith, l))
+    , λ (from, one, takes). by_place from (subst (λ (xs : List ℕ). Contains xs from) none one)
+    )
+  where
+    by_place : (from : ℕ) → Contains [] from → Contains [] to
+    by_place from (k, l, e) = absurd (omega (arith, l))
+
+pub same_next : (came : List (List ℕ)) (places : List ℕ) → AreNext came None places places
+same_next came places to =
+    ( λ h. (to, h, refl)
+    , λ (from, one, same). subst (Contains places) (sym same) one
+    )
