@@ -1,11 +1,12 @@
 -- Facts of the places to which lines lead.
-use Rattle.std.proofs.Common.{◌≡◌, ◌⊎◌, inl, inr, ◌↔◌, ℕ, zero, suc, ◌+◌, ◌<◌, ◌≤◌, Bool, true, false, if◌then◌else◌, rules, List, [], ◌∷◌, ◌++◌, Option, Some, None, refl, sym, ap, subst, ◌∙◌, arith, length, take, get_or, add-one, filter_map, min, nat_lt}
+use Rattle.std.proofs.Common.{◌≡◌, ◌≢◌, ◌⊎◌, inl, inr, ◌↔◌, ℕ, zero, suc, ◌+◌, ◌<◌, ◌≤◌, Bool, true, false, if◌then◌else◌, rules, List, [], ◌∷◌, ◌++◌, Option, Some, None, refl, sym, ap, subst, ◌∙◌, arith, length, take, get_or, add-one, filter_map, min, nat_lt, Result, Ok, Err, IfOk, take_all}
 use Rattle.std.proofs.lemmas.List.{get_or_default}
 use Rattle.std.proofs.lemmas.Bool.{cases_Bool, ltb-true, ltb-false}
 use Rattle.std.proofs.lemmas.Slice.Eq.{bytes_eq-Decides}
 use Rattle.std.specs.List.{Contains, cons_option, slice_get}
 use Rattle.std.proofs.lemmas.List.Elements.{Contains-append_left, Contains-append_right, Contains-append_cases}
-use Rattle.std.proofs.Math.Seq.{take-suc}
+use Rattle.std.proofs.Math.Seq.{take-suc, take-nil}
+use Rattle.std.proofs.lemmas.List.Elements.{filter_map-append}
 use Rattle.expected_lines.specs.Lines.{expected_in, is_any}
 use Rattle.expected_lines.specs.Meeting.{Takes, Reaches, AreNext, is_text, is_at, behind}
 
@@ -81,11 +82,11 @@ pub at_place : (came : List (List ℕ)) (place : ℕ) (text : List ℕ) → is_a
 at_place came place text h = by_found (slice_get came place) h
   where
     by_found : (o : Option (List ℕ)) → is_text o text ≡ true → o ≡ Some text
-    by_found (Some line) h = ap Some ((bytes_eq-Decides line text).1 h)
+    by_found (Some line) h = ap Some ((bytes_eq-Decides line text).0 h)
     by_found None h = absurd (search rules)
 
 pub place_at : (came : List (List ℕ)) (place : ℕ) (text : List ℕ) → slice_get came place ≡ Some text → is_at came place text ≡ true
-place_at came place text e = ap (λ (o : Option (List ℕ)). is_text o text) e ∙ (bytes_eq-Decides text text).0 refl
+place_at came place text e = ap (λ (o : Option (List ℕ)). is_text o text) e ∙ (bytes_eq-Decides text text).1 refl
 
 -- what stands behind a place
 pub behind_at : (came : List (List ℕ)) (text : List ℕ) (from to : ℕ) → behind came text from ≡ Some to → (slice_get came from ≡ Some text) × (to ≡ from + 1)
@@ -98,14 +99,15 @@ behind_at came text from to h = by_test (is_at came from text) refl h
 -- what a filter gives of a list
 pub gives_some : (f : ℕ → Option ℕ) (xs : List ℕ) (y : ℕ) → Contains (filter_map f xs) y → (x : ℕ) × Contains xs x × (f x ≡ Some y)
 gives_some f [] y (k, l, e) = absurd (omega (arith, l))
-gives_some f (x ∷ xs) y h = by_first (f x) refl h
+gives_some f (x ∷ xs) y h = by_first (f x) refl (gives_some f xs y) h
   where
-    by_first : (o : Option ℕ) → f x ≡ o → Contains (cons_option o (filter_map f xs)) y → (z : ℕ) × Contains (x ∷ xs) z × (f z ≡ Some y)
-    by_first (Some w) e h = elim (Contains-append_cases (w ∷ []) (filter_map f xs) y h) [
+    by_first : (o : Option ℕ) → f x ≡ o → (Contains (filter_map f xs) y → (z : ℕ) × Contains xs z × (f z ≡ Some y))
+        → Contains (cons_option o (filter_map f xs)) y → (z : ℕ) × Contains (x ∷ xs) z × (f z ≡ Some y)
+    by_first (Some w) e given h = elim (Contains-append_cases (w ∷ []) (filter_map f xs) y h) [
       | inl first ↦ (x, Contains-append_left (x ∷ []) xs x (one_contains x), e ∙ ap Some (contains_one w y first))
-      | inr rest ↦ let more = gives_some f xs y rest in (more.0, Contains-append_right (x ∷ []) xs more.0 more.1, more.2)
+      | inr rest ↦ let more = given rest in (more.0, Contains-append_right (x ∷ []) xs more.0 more.1, more.2)
     ]
-    by_first None e h = let more = gives_some f xs y h in (more.0, Contains-append_right (x ∷ []) xs more.0 more.1, more.2)
+    by_first None e given h = let more = given h in (more.0, Contains-append_right (x ∷ []) xs more.0 more.1, more.2)
 
 pub some_given : (f : ℕ → Option ℕ) (xs : List ℕ) (x y : ℕ) → Contains xs x → f x ≡ Some y → Contains (filter_map f xs) y
 some_given f [] x y (k, l, e) given = absurd (omega (arith, l))
@@ -160,4 +162,78 @@ pub same_next : (came : List (List ℕ)) (places : List ℕ) → AreNext came No
 same_next came places to =
     ( λ h. (to, h, refl)
     , λ (from, one, same). subst (Contains places) (sym same) one
+    )
+
+-- the places from a start on, and one more
+pub range_more : (xs : List ℕ) (start place : ℕ) → start ≤ place → ((p : ℕ) → Contains xs p ↔ ((start ≤ p) × (p < place)))
+    → (p : ℕ) → Contains (xs ++ place ∷ []) p ↔ ((start ≤ p) × (p < place + 1))
+range_more xs start place low all p =
+    ( λ h. elim (contains_more xs place p h) [
+        | inl e ↦ let w = (all p).0 e in (w.0, omega (arith, w.1))
+        | inr e ↦ (omega (arith, low, e), omega (arith, e))
+      ]
+    , λ (above, below). elim (cases_Bool (nat_lt p place)) [
+        | inl t ↦ Contains-append_left xs (place ∷ []) p ((all p).1 (above, ltb-true p place t))
+        | inr t ↦
+            let same : place ≡ p = omega (arith, below, ltb-false p place t) in
+            subst (Contains (xs ++ place ∷ [])) same (Contains-append_right xs (place ∷ []) place (one_contains place))
+      ]
+    )
+
+pub range_all : (xs : List ℕ) (first start place count : ℕ) → start ≡ min first (count + 1) → count + 1 ≤ place → place ≤ count + 1
+    → ((p : ℕ) → Contains xs p ↔ ((start ≤ p) × (p < place))) → (p : ℕ) → Contains xs p ↔ ((first ≤ p) × (p ≤ count))
+range_all xs first start place count e low high all p =
+    ( λ h. let w = (all p).0 h in (omega (arith, e, high, w.0, w.1), omega (arith, high, w.1))
+    , λ (above, below). (all p).1 (omega (arith, e, above), omega (arith, low, below))
+    )
+
+-- what holds of each value that an answer may be
+pub if_ok : {T E : Type 0} (P Q : T → Type 0) (r : Result T E) → ((t : T) → P t → Q t) → IfOk r P → IfOk r Q
+if_ok P Q (Ok t) h p = h t p
+if_ok P Q (Err e) h p = p
+
+-- some lines lead as far as their front does
+pub reaches_front : (came lines : List (List ℕ)) (n from to : ℕ) → Reaches came lines from to → (p : ℕ) × Reaches came (take n lines) from p
+reaches_front came [] n from to r = (from, subst (λ (ls : List (List ℕ)). Reaches came ls from from) (sym (take-nil n)) refl)
+reaches_front came (line ∷ lines) zero from to r = (from, refl)
+reaches_front came (line ∷ lines) (suc n) from to r =
+    let more = reaches_front came lines n r.0 to r.2 in
+    (more.0, (r.0, r.1, more.1))
+
+-- where the next line leads nowhere, its front isn't met, nor are all lines
+pub lost : (came lines : List (List ℕ)) (i : ℕ) (d : List ℕ) (places next : List ℕ) → i < length lines
+    → ((p : ℕ) → Contains places p ↔ Reaches came (take i lines) 0 p) → AreNext came (expected_in (get_or lines i d)) places next → next ≡ []
+    → (to : ℕ) → Reaches came (take (i + 1) lines) 0 to → ⊥
+lost came lines i d places next within led are_next none to r =
+    let h = subst (λ (xs : List ℕ). Contains xs to) none ((next_led came lines i d places next within led are_next to).1 r) in
+    omega (arith, h.1)
+
+pub lost_all : (came lines : List (List ℕ)) (i : ℕ) → ((to : ℕ) → Reaches came (take (i + 1) lines) 0 to → ⊥) → (to : ℕ) → Reaches came lines 0 to → ⊥
+lost_all came lines i none to r = let front = reaches_front came lines (i + 1) 0 to r in none front.0 front.1
+
+-- where no line is left
+pub led_all : (came lines : List (List ℕ)) (i : ℕ) (places : List ℕ) → length lines ≤ i → ((p : ℕ) → Contains places p ↔ Reaches came (take i lines) 0 p)
+    → (p : ℕ) → Contains places p ↔ Reaches came lines 0 p
+led_all came lines i places all led = subst (λ (ls : List (List ℕ)). (p : ℕ) → Contains places p ↔ Reaches came ls 0 p) (take_all i lines all) led
+
+-- the places so far, and what one more gives
+pub filter_more : (f : ℕ → Option ℕ) (xs : List ℕ) (i : ℕ) → i < length xs → filter_map f (take (i + 1) xs) ≡ filter_map f (take i xs) ++ filter_map f (get_or xs i 0 ∷ [])
+filter_more f xs i within = rw (add-one, take-suc xs i 0 within) (filter_map-append f (take i xs) (get_or xs i 0 ∷ []))
+
+pub none_so_far : (xs : List ℕ) (i x : ℕ) → ((k d : ℕ) → k < i → get_or xs k d ≢ x) → length xs ≤ i → Contains xs x → ⊥
+none_so_far xs i x none all (k, l, e) = none k x (omega (arith, l, all)) e
+
+pub none_more : (xs : List ℕ) (i x : ℕ) → i < length xs → ((k d : ℕ) → k < i → get_or xs k d ≢ x) → get_or xs i 0 ≢ x → (k d : ℕ) → k < i + 1 → get_or xs k d ≢ x
+none_more xs i x within none other k d h e = elim (cases_Bool (nat_lt k i)) [
+  | inl t ↦ none k d (ltb-true k i t) e
+  | inr t ↦
+      let same : k ≡ i = omega (arith, h, ltb-false k i t) in
+      other (sym (get_or_default xs i d 0 within) ∙ (sym (ap (λ (n : ℕ). get_or xs n d) same) ∙ e))
+]
+
+-- no place yet
+pub range_none : (start place : ℕ) → place ≤ start → (p : ℕ) → Contains [] p ↔ ((start ≤ p) × (p < place))
+range_none start place low p =
+    ( λ (k, l, e). absurd (omega (arith, l))
+    , λ (above, below). absurd (omega (arith, low, above, below))
     )

@@ -1,7 +1,7 @@
 -- Which lines meet what is expected of them. Ours, of no standard.
-use Rattle.std.specs.Prelude.{◌≡◌, ◌⊎◌, ℕ, ◌+◌, ◌<◌, ◌≤◌, Bool, true, false, if◌then◌else◌, List, [], ◌∷◌, length, take, Option, Some, None, is_some, bytes_eq, slice_get, Contains, ◌↔◌}
+use Rattle.std.specs.Prelude.{◌≡◌, ◌⊎◌, ℕ, ◌+◌, ◌<◌, ◌≤◌, Bool, true, false, if◌then◌else◌, List, [], ◌∷◌, length, take, Option, Some, None, bytes_eq, slice_get, Contains, ◌↔◌}
 use Rattle.std.specs.List.{list_any}
-use Rattle.expected_lines.specs.Lines.{expected_in, is_any}
+use Rattle.expected_lines.specs.Lines.{is_expectation, expected_in, is_any}
 use Rattle.expected_lines.specs.declared.compare.Difference.{Difference}
 
 -- From one place among the lines that came to another: a line of a script that expects a line takes that one, one that
@@ -19,7 +19,7 @@ Reaches came (line ∷ lines) from to = (between : ℕ) × Takes came (expected_
 
 -- lines of a script that expect something
 abbrev pub expect_any : List (List ℕ) → Bool
-expect_any lines = list_any (λ line. is_some (expected_in line)) lines
+expect_any lines = list_any is_expectation lines
 
 -- The lines that came are those that the script's lines expect, all of them and no other. Where they expect nothing, all
 -- will do.

@@ -1,10 +1,10 @@
 //! Where lines that came differ from those that are expected.
-ghost use Rattle.std.specs.Prelude.{◌≡◌, ◌↔◌, ◌⊎◌, ℕ, None, Some, IfOk, IfSome, Contains, slice_get, filter_map, [], IsNone, All, ◌≤◌, length, ◌+◌};
-ghost use Rattle.expected_lines.specs.Lines.{texts_of};
-ghost use Rattle.expected_lines.specs.Lines as read;
+ghost use Rattle.std.specs.Prelude.{◌≡◌, ◌↔◌, ◌⊎◌, ◌≤◌, ◌∷◌, ◌++◌, ℕ, [], true, false, None, Some, IfOk, OnOk, IfSome, All, Contains, filter_map, length};
+ghost use Rattle.expected_lines.specs.Lines.{texts_of, expected_in, is_any};
+
 ghost use Rattle.expected_lines.specs.Meeting as said;
 
-use crate::lines::{expected_in, is_any};
+use crate::lines::{expected_in, is_any, is_expectation};
 use std::alloc::{AllocError, Allocator};
 
 /// The first difference between the lines of a script that stand behind one that gives something, and the trace lines that
@@ -27,6 +27,22 @@ fn is_at(came: &[&str], place: usize, text: &str) -> bool
     }
 }
 
+/// Appends the place behind another, where a text stands at that.
+fn push_behind<A: Allocator>(
+    found: &mut Vec<usize, A>,
+    came: &[&str],
+    text: &str,
+    place: usize,
+) -> Result<(), AllocError>
+    ensures { OnOk result (found.new.items ≡ found.old.items ++
+        filter_map (said.behind (texts_of came.now) text.now) (place ∷ [])) }
+{
+    if is_at(came, place, text) {
+        found.push(place + 1)?;
+    }
+    Ok(())
+}
+
 /// The places behind those of these places at which a text stands.
 fn behind_text<A: Allocator>(
     alloc: A,
@@ -39,9 +55,7 @@ fn behind_text<A: Allocator>(
 {
     let mut found = Vec::new(alloc);
     for place in places {
-        if is_at(came, *place, text) {
-            found.push(*place + 1)?;
-        }
+        push_behind(&mut found, came, text, *place)?;
     }
     Ok(found)
 }
@@ -49,7 +63,8 @@ fn behind_text<A: Allocator>(
 /// The least of some places.
 fn least(places: &[usize]) -> Option<usize>
     ensures none { result ≡ None → places.now ≡ [] }
-    ensures least { IfSome result (λ place. Contains places.now place × All (λ other. place ≤ other) places.now) }
+    ensures least { IfSome result (λ place.
+        Contains places.now place × All (λ other. place ≤ other) places.now) }
 {
     let mut least = *places.first()?;
     for place in places {
@@ -59,37 +74,94 @@ fn least(places: &[usize]) -> Option<usize>
 }
 
 /// All places from one on up to the end.
-fn places_from<A: Allocator>(alloc: A, first: usize, came: &[&str]) -> Result<Vec<usize, A>, AllocError>
-    ensures { IfOk result (λ found. (p : ℕ) → Contains found.items p ↔ ((first ≤ p) × (p ≤ length came.now))) }
+fn places_from<A: Allocator>(
+    alloc: A,
+    first: usize,
+    came: &[&str],
+) -> Result<Vec<usize, A>, AllocError>
+    ensures { IfOk result (λ found. (p : ℕ) → Contains found.items p ↔
+        ((first ≤ p) × (p ≤ length (texts_of came.now)))) }
 {
     let mut found = Vec::new(alloc);
-    for place in 0..came.len() + 1 {
-        if first <= place {
-            found.push(place)?;
-        }
+    let end = came.len() + 1;
+    for place in first.min(end)..end {
+        found.push(place)?;
     }
     Ok(found)
 }
 
+/// The places to which any lines lead from these places.
+fn behind_any<A: Allocator>(
+    alloc: A,
+    places: &[usize],
+    came: &[&str],
+    text: &str,
+) -> Result<Vec<usize, A>, AllocError>
+    requires { is_any text.now ≡ true }
+    ensures { IfOk result (λ found.
+        said.AreNext (texts_of came.now) (Some text.now) places.now found.items) }
+{
+    match least(places) {
+        Some(first) => places_from(alloc, first, came),
+        None => Ok(Vec::new(alloc)),
+    }
+}
+
+/// The places to which a line that expects something leads from these places.
+fn behind_expected<A: Allocator>(
+    alloc: A,
+    places: &[usize],
+    came: &[&str],
+    text: &str,
+) -> Result<Vec<usize, A>, AllocError>
+    ensures { IfOk result (λ found.
+        said.AreNext (texts_of came.now) (Some text.now) places.now found.items) }
+{
+    if is_any(text) {
+        behind_any(alloc, places, came, text)
+    } else {
+        behind_text(alloc, places, came, text)
+    }
+}
+
 /// The places to which a line of a script leads from these places.
-fn next_places<A: Allocator + Copy>(
+fn next_places<A: Allocator>(
     alloc: A,
     places: &[usize],
     came: &[&str],
     line: &str,
 ) -> Result<Vec<usize, A>, AllocError>
-    ensures { IfOk result (λ found. said.AreNext (texts_of came.now) (read.expected_in line.now) places.now found.items) }
+    ensures { IfOk result (λ found.
+        said.AreNext (texts_of came.now) (expected_in line.now) places.now found.items) }
 {
-    let Some(text) = expected_in(line) else {
-        return Vec::from_slice(alloc, places);
-    };
-    if !is_any(text) {
-        return behind_text(alloc, places, came, text);
+    match expected_in(line) {
+        Some(text) => behind_expected(alloc, places, came, text),
+        None => Vec::from_slice(alloc, places),
     }
-    match least(places) {
-        Some(first) => places_from(alloc, first, came),
-        None => Ok(Vec::new(alloc)),
+}
+
+/// The last of some places.
+fn last_of(places: &[usize]) -> Option<usize>
+    ensures none { result ≡ None → places.now ≡ [] }
+    ensures last { IfSome result (Contains places.now) }
+{
+    if places.is_empty() {
+        return None;
     }
+    Some(places[places.len() - 1])
+}
+
+/// Whether a place is among some.
+fn has_place(places: &[usize], place: usize) -> bool
+    ensures has { result ≡ true → Contains places.now place }
+    ensures has_not { result ≡ false → ¬ Contains places.now place }
+{
+    for other in places {
+        if *other == place {
+            return true;
+        }
+    }
+    false
 }
 
 /// Where trace lines differ first from those that lines of a script expect, if they do.
@@ -98,20 +170,23 @@ fn first_difference<A: Allocator + Copy>(
     lines: &[&str],
     came: &[&str],
 ) -> Result<Option<Difference>, AllocError>
-    ensures met { IfOk result (λ found. (found ≡ None) ↔ said.Reaches (texts_of came.now) (texts_of lines.now) 0 (length came.now)) }
+    ensures met { IfOk result (λ found. (found ≡ None) ↔ said.Reaches (texts_of came.now) (texts_of lines.now) 0
+        (length (texts_of came.now))) }
     ensures first { IfOk result (λ found. IfSome found (said.IsFirst (texts_of lines.now) (texts_of came.now))) }
 {
     let mut places = Vec::from_slice(alloc, &[0])?;
     let mut last = 0;
     for line in 0..lines.len() {
         let next = next_places(alloc, &places, came, lines[line])?;
-        let Some(furthest) = next.last() else {
-            return Ok(Some(Difference { line, came: last }));
-        };
-        last = *furthest;
-        places = next;
+        match last_of(&next) {
+            Some(furthest) => {
+                last = furthest;
+                places = next;
+            }
+            None => return Ok(Some(Difference { line, came: last })),
+        }
     }
-    if places.contains(&came.len()) {
+    if has_place(&places, came.len()) {
         return Ok(None);
     }
     Ok(Some(Difference {
@@ -124,7 +199,7 @@ fn first_difference<A: Allocator + Copy>(
 fn expect_any(lines: &[&str]) -> bool
     ensures { result ≡ said.expect_any (texts_of lines.now) }
 {
-    lines.iter().any(|line| expected_in(*line).is_some())
+    lines.iter().any(|line| is_expectation(*line))
 }
 
 /// Where trace lines differ first from those that are expected: `lines` are those of a script that stand behind one that

@@ -60,6 +60,13 @@ pub fn expected_in(line: &str) -> Option<&str>
     Some(without_blank(text))
 }
 
+/// Whether a line expects something.
+pub(crate) fn is_expectation(line: &str) -> bool
+    ensures { result ≡ said.is_expectation line.now }
+{
+    line.starts_with("#>")
+}
+
 /// Whether what is expected stands for any lines, or none.
 pub fn is_any(expected: &str) -> bool
     ensures any { result ≡ said.is_any expected.now }

@@ -10,10 +10,11 @@ use crate::heard::{Listener, run_heard};
 use crate::run::{LabFault, Sites, Status, read_sites, refuse_site, script_items};
 use crate::tested::printed_lines;
 use expected_lines::{ending_of, expected_in, is_script_line, print_recorded, without_return};
-use std::alloc::{Allocator, Global};
+use std::alloc::{AllocError, Allocator, Global};
 use std::io::{self, Write};
 
 /// A script that is being recorded: its lines, and the place of the first that isn't printed yet.
+#[derive(Drop)]
 struct Recorder<'a, W: Write, A: Allocator + Copy> {
     alloc: A,
     out: &'a mut W,
@@ -29,7 +30,7 @@ struct Recorder<'a, W: Write, A: Allocator + Copy> {
 fn whole_lines<A: Allocator>(alloc: A, script: &str) -> Result<Vec<&str, A>, LabFault> {
     let mut lines = Vec::new(alloc);
     for line in script.split('\n') {
-        lines.push(line)?;
+        lines.push(line).map_err(AllocError::from)?;
     }
     if script.is_empty() || script.ends_with('\n') {
         lines.pop();

@@ -24,6 +24,7 @@ pub struct Numbered<'a> {
 }
 
 /// A test that is running: the lines of its script, and the place of the first that stands behind what came so far.
+#[derive(Drop)]
 struct Tester<'a, W: Write, A: Allocator + Copy> {
     alloc: A,
     out: &'a mut W,
@@ -54,16 +55,16 @@ fn number_of(lines: &[&str], place: usize, difference: Difference) -> usize {
     place.saturating_add(line).saturating_add(1)
 }
 
-impl<W: Write, A: Allocator + Copy> Tester<'_, W, A> {
-    /// The lines of the part that begins at the place.
-    fn part(&self) -> &[&str] {
-        let left = self.lines.get(self.place..).unwrap_or(&[]);
-        left.get(..part_end(left)).unwrap_or(left)
-    }
+/// The lines of the part that begins at a place.
+fn part_at<'a>(lines: &'a [&'a str], place: usize) -> &'a [&'a str] {
+    let left = lines.get(place..).unwrap_or(&[]);
+    left.get(..part_end(left)).unwrap_or(left)
+}
 
+impl<W: Write, A: Allocator + Copy> Tester<'_, W, A> {
     /// Prints that the script differs from what came of the part at the place.
     fn miss(&mut self, difference: Difference, came: &[&str]) -> Result<(), LabFault> {
-        let part = self.part();
+        let part = part_at(self.lines, self.place);
         let miss = Miss::Differs {
             line: number_of(part, self.place, difference),
             expected: part.get(difference.line).and_then(|line| expected_in(*line)),
@@ -76,7 +77,7 @@ impl<W: Write, A: Allocator + Copy> Tester<'_, W, A> {
 impl<W: Write, A: Allocator + Copy> Listener for Tester<'_, W, A> {
     fn hear(&mut self, came: &str) -> Result<bool, LabFault> {
         let came = printed_lines(self.alloc, came)?;
-        let part = self.part();
+        let part = part_at(self.lines, self.place);
         let behind = part.len().saturating_add(1);
         match find_difference(self.alloc, part, &came)? {
             Some(difference) => {
@@ -93,7 +94,8 @@ impl<W: Write, A: Allocator + Copy> Listener for Tester<'_, W, A> {
     fn hear_last(&mut self, came: &str, ended: &str) -> Result<bool, LabFault> {
         let came = printed_lines(self.alloc, came)?;
         let ended = printed_lines(self.alloc, ended)?;
-        match find_last_difference(self.alloc, self.part(), &came, &ended)? {
+        let part = part_at(self.lines, self.place);
+        match find_last_difference(self.alloc, part, &came, &ended)? {
             Some(difference) => {
                 self.miss(difference, &ended)?;
                 Ok(false)

@@ -1,7 +1,7 @@
 //! Scripts that test themselves, and that are recorded.
 use super::failing::Failing;
 use super::peer::PEER;
-use super::{ONE_CALL, SITE};
+use super::SITE;
 use lab::recorded::record_run;
 use lab::run::{LabFault, Status};
 use lab::script_files::{SitePaths, record_file, test_files};
@@ -18,7 +18,10 @@ const SCRIPTS: &[(Option<&str>, &str)] = &[
     (None, ""),
     (None, "# nothing\n\n"),
     (None, "sim"),
-    (None, ONE_CALL.0),
+    (
+        None,
+        "open 1 0 0 3\nabis 0 0 0822010b081234\nclear 1\nabis 0 0 0833010b\n",
+    ),
     (None, "# a call\r\n\r\nopen 1 0 0 3\r\n# and its end\r\nclear 1\r\n"),
     (None, "open 1 0 0 3\n#> old\n# kept\n#> ..\nabis 0 0 0822010b081234\nabis 0 0 ff"),
     (
@@ -127,10 +130,12 @@ fn what_was_recorded_is_met(rt: HostRuntime) -> Result<(), Fail> {
     Ok(())
 }
 
-/// A script, and its record.
-const RECORD: (&str, &str) = (
-    "# A call.\r\nopen 1 0 0 3\r\n#> old\r\n\r\n# Its station answers.\nabis 0 0 0822010b081234",
-    "# A call.\r
+/// A script.
+const SCRIPT: &str =
+    "# A call.\r\nopen 1 0 0 3\r\n#> old\r\n\r\n# Its station answers.\nabis 0 0 0822010b081234";
+
+/// Its record.
+const RECORD: &str = "# A call.\r
 open 1 0 0 3\r
 #> in open 1 0 0 3\r
 #> event open 1 0/0/3 -> done\r
@@ -142,13 +147,12 @@ abis 0 0 0822010b081234
 #> event confirm 0/0/3 -> owned 1
 #> event look 1 -> record 0/0/3 on
 #> end channels=1 calls=1 references=0 timers=0
-",
-);
+";
 
 #[test]
 fn a_script_is_recorded(rt: HostRuntime) -> Result<(), Fail> {
-    let (status, text) = recorded(rt.alloc(), rt.alloc(), None, RECORD.0)?;
-    assert_eq!(rt; (status, text.as_str()), (Ok(Status::Done), RECORD.1));
+    let (status, text) = recorded(rt.alloc(), rt.alloc(), None, SCRIPT)?;
+    assert_eq!(rt; (status, text.as_str()), (Ok(Status::Done), RECORD));
     for (script, wanted) in [("open 1", "line 1\n"), ("\n2: clear 1", "line 2\n")] {
         let (status, text) = recorded(rt.alloc(), rt.alloc(), None, script)?;
         assert_eq!(rt; (status, text.as_str()), (Ok(Status::Refused), wanted));
@@ -216,11 +220,11 @@ fn scripts_are_tested(rt: HostRuntime) -> Result<(), Fail> {
 fn works_without(rt: &impl Abort, alloc: Global, n: u64, is_test: bool) -> Result<bool, Fail> {
     let heap = RefusingHeap::refusing_nth(alloc, n);
     let (status, text) = if is_test {
-        tested(&heap, alloc, None, RECORD.1)?
+        tested(&heap, alloc, None, RECORD)?
     } else {
-        recorded(&heap, alloc, None, RECORD.0)?
+        recorded(&heap, alloc, None, SCRIPT)?
     };
-    let wanted = if is_test { "ok 1 - script\n" } else { RECORD.1 };
+    let wanted = if is_test { "ok 1 - script\n" } else { RECORD };
     match status {
         Ok(Status::Done) => assert_eq!(rt; text.as_str(), wanted, "{n}"),
         Err(LabFault::NoMemory) => {
@@ -250,7 +254,7 @@ fn each_request_of_a_test_is_refused(rt: HostRuntime) -> Result<(), Fail> {
 fn each_write_of_a_record_fails(rt: HostRuntime) -> Result<(), Fail> {
     for before in 0..1000 {
         let mut out = Failing::after(rt.alloc(), before);
-        let status = record_run(rt.alloc(), rt.alloc(), SITE, None, RECORD.0, &mut out);
+        let status = record_run(rt.alloc(), rt.alloc(), SITE, None, SCRIPT, &mut out);
         if !out.failed {
             assert!(rt; 20 < before, "{before} writes");
             return Ok(());
@@ -269,7 +273,7 @@ const PEER_FILE: &str = "tested_peer.toml";
 const FILES: &[(&str, &str)] = &[
     (SITE_FILE, SITE),
     (PEER_FILE, PEER),
-    ("tested_met.txt", RECORD.1),
+    ("tested_met.txt", RECORD),
     ("tested_differs.txt", "open 1 0 0 3\n#> in open 1 0 0 2\n"),
     ("tested_unread.txt", "open 1 0 0 8\n"),
 ];
@@ -372,7 +376,7 @@ not ok 1 - tested_met.txt
     let mut out = Vec::new(rt.alloc());
     let mut errors = Vec::new(rt.alloc());
     let ended = record_file(&rt, PATHS, "tested_met.txt", &mut out, &mut errors);
-    assert_eq!(rt; (ended, str::from_utf8(&out)?), (Ok(Status::Done), RECORD.1));
+    assert_eq!(rt; (ended, str::from_utf8(&out)?), (Ok(Status::Done), RECORD));
     for (path, _) in FILES {
         fs::remove_file(&rt, *path)?;
     }
