@@ -37,13 +37,18 @@ reaches_back came (l ∷ ls) line from to r =
     let more = reaches_back came ls line r.0 to r.2 in
     (more.0, (r.0, r.1, more.1), more.2)
 
+-- the lines so far, and the next
+pub take_more : (lines : List (List ℕ)) (i : ℕ) (line : List ℕ) → slice_get lines i ≡ Some line → take (suc i) lines ≡ take i lines ++ (line ∷ [])
+take_more [] i line e = absurd (search (rules, e))
+take_more (l ∷ ls) zero line e = search (rules, e)
+take_more (l ∷ ls) (suc i) line e = ap (λ (more : List (List ℕ)). l ∷ more) (take_more ls i line e)
+
 -- the places to which the lines so far lead, and those to which the next does
-pub next_led : (came lines : List (List ℕ)) (i : ℕ) (d : List ℕ) (places next : List ℕ) → i < length lines
-    → ((p : ℕ) → Contains places p ↔ Reaches came (take i lines) 0 p) → AreNext came (expected_in (get_or lines i d)) places next
+pub next_led : (came lines : List (List ℕ)) (i : ℕ) (line : List ℕ) (places next : List ℕ) → slice_get lines i ≡ Some line
+    → ((p : ℕ) → Contains places p ↔ Reaches came (take i lines) 0 p) → AreNext came (expected_in line) places next
     → (p : ℕ) → Contains next p ↔ Reaches came (take (i + 1) lines) 0 p
-next_led came lines i d places next within led are_next p =
-    let line = get_or lines i d in
-    let more : take (i + 1) lines ≡ take i lines ++ (line ∷ []) = rw add-one (take-suc lines i d within) in
+next_led came lines i line places next there led are_next p =
+    let more : take (i + 1) lines ≡ take i lines ++ (line ∷ []) = rw add-one (take_more lines i line there) in
     ( λ h.
         let from = (are_next p).0 h in
         subst (λ (ls : List (List ℕ)). Reaches came ls 0 p) (sym more)
@@ -187,10 +192,17 @@ range_all xs first start place count e low high all p =
     , λ (above, below). (all p).1 (omega (arith, e, above), omega (arith, low, below))
     )
 
--- what holds of each value that an answer may be
-pub if_ok : {T E : Type 0} (P Q : T → Type 0) (r : Result T E) → ((t : T) → P t → Q t) → IfOk r P → IfOk r Q
-if_ok P Q (Ok t) h p = h t p
-if_ok P Q (Err e) h p = p
+-- the same of what is found, unless memory is refused
+pub if_text : {T E : Type 0} (items : T → List ℕ) (r : Result T E) (came : List (List ℕ)) (text : List ℕ) (places : List ℕ) → is_any text ≡ false
+    → IfOk r (λ found. items found ≡ filter_map (behind came text) places) → IfOk r (λ found. AreNext came (Some text) places (items found))
+if_text items (Ok found) came text places is e = text_next came text places (items found) is e
+if_text items (Err fault) came text places is e = e
+
+pub if_any : {T E : Type 0} (items : T → List ℕ) (r : Result T E) (came : List (List ℕ)) (text : List ℕ) (places : List ℕ) (first : ℕ) → is_any text ≡ true
+    → Contains places first → ((k d : ℕ) → k < length places → first ≤ get_or places k d)
+    → IfOk r (λ found. (p : ℕ) → Contains (items found) p ↔ ((first ≤ p) × (p ≤ length came))) → IfOk r (λ found. AreNext came (Some text) places (items found))
+if_any items (Ok found) came text places first is one least all = any_next came text places (items found) first is one least all
+if_any items (Err fault) came text places first is one least all = all
 
 -- some lines lead as far as their front does
 pub reaches_front : (came lines : List (List ℕ)) (n from to : ℕ) → Reaches came lines from to → (p : ℕ) × Reaches came (take n lines) from p
@@ -201,11 +213,11 @@ reaches_front came (line ∷ lines) (suc n) from to r =
     (more.0, (r.0, r.1, more.1))
 
 -- where the next line leads nowhere, its front isn't met, nor are all lines
-pub lost : (came lines : List (List ℕ)) (i : ℕ) (d : List ℕ) (places next : List ℕ) → i < length lines
-    → ((p : ℕ) → Contains places p ↔ Reaches came (take i lines) 0 p) → AreNext came (expected_in (get_or lines i d)) places next → next ≡ []
+pub lost : (came lines : List (List ℕ)) (i : ℕ) (line : List ℕ) (places next : List ℕ) → slice_get lines i ≡ Some line
+    → ((p : ℕ) → Contains places p ↔ Reaches came (take i lines) 0 p) → AreNext came (expected_in line) places next → next ≡ []
     → (to : ℕ) → Reaches came (take (i + 1) lines) 0 to → ⊥
-lost came lines i d places next within led are_next none to r =
-    let h = subst (λ (xs : List ℕ). Contains xs to) none ((next_led came lines i d places next within led are_next to).1 r) in
+lost came lines i line places next there led are_next none to r =
+    let h = subst (λ (xs : List ℕ). Contains xs to) none ((next_led came lines i line places next there led are_next to).1 r) in
     omega (arith, h.1)
 
 pub lost_all : (came lines : List (List ℕ)) (i : ℕ) → ((to : ℕ) → Reaches came (take (i + 1) lines) 0 to → ⊥) → (to : ℕ) → Reaches came lines 0 to → ⊥

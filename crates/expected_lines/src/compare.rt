@@ -1,5 +1,5 @@
 //! Where lines that came differ from those that are expected.
-ghost use Rattle.std.specs.Prelude.{◌≡◌, ◌↔◌, ◌⊎◌, ◌≤◌, ◌∷◌, ◌++◌, ℕ, [], true, false, None, Some, IfOk, OnOk, IfSome, All, Contains, filter_map, length};
+ghost use Rattle.std.specs.Prelude.{◌≡◌, ◌↔◌, ◌⊎◌, ◌≤◌, ◌∷◌, ◌++◌, ℕ, [], true, false, None, Some, IfOk, OnOk, IfSome, All, Contains, filter_map, length, slice_get, ◌<◌};
 ghost use Rattle.expected_lines.specs.Lines.{texts_of, expected_in, is_any};
 
 ghost use Rattle.expected_lines.specs.Meeting as said;
@@ -164,6 +164,17 @@ fn has_place(places: &[usize], place: usize) -> bool
     false
 }
 
+/// The line at a place.
+fn line_at<'a>(lines: &[&'a str], place: usize) -> &'a str
+    requires { place < length lines.now }
+    ensures { slice_get (texts_of lines.now) place ≡ Some result.now }
+{
+    match lines.get(place) {
+        Some(line) => *line,
+        None => "",
+    }
+}
+
 /// Where trace lines differ first from those that lines of a script expect, if they do.
 fn first_difference<A: Allocator + Copy>(
     alloc: A,
@@ -177,7 +188,7 @@ fn first_difference<A: Allocator + Copy>(
     let mut places = Vec::from_slice(alloc, &[0])?;
     let mut last = 0;
     for line in 0..lines.len() {
-        let next = next_places(alloc, &places, came, lines[line])?;
+        let next = next_places(alloc, &places, came, line_at(lines, line))?;
         match last_of(&next) {
             Some(furthest) => {
                 last = furthest;

@@ -2,6 +2,7 @@ use Rattle.std.proofs.Common.{lit<, ap, ◌∙◌, List, ℕ, map}
 use Rattle.std.specs.Str.Lines.{strip_carriage_return}
 use Rattle.std.proofs.lemmas.Iterator.Consumers.{YieldsList-at, YieldsList-end}
 use Rattle.std.proofs.lemmas.Iterator.Splits.{YieldsList-from_str_split}
+use Rattle.expected_lines.specs.Lines.{texts_of}
 use Rattle.expected_lines.proofs.LineLemmas.{lines-more}
 use Rattle.expected_lines.proofs.lines.lines_of.Goals as goal
 
@@ -9,7 +10,7 @@ pub loop-line-preserved : goal.loop-line-preserved
 loop-line-preserved g c = record {
   can_next = tt;
   is_finite = tt;
-  read = ?;
+  read = ap texts_of c.in_ok-push.ensures.items ∙ lines-more c.loop-line.yielded c.in-Some.line c.without_return.result c.loop-line.lines.items c.without_return.ensures.stripped c.loop-line.invariant.read;
 }
 
 pub returns : goal.returns
