@@ -166,7 +166,7 @@ const TESTS: &[(&str, Status, &str)] = &[
     ("open 1 0 0 3\nclear 1", Status::Done, "ok 1 - script\n"),
     // any lines
     (
-        "open 1 0 0 3\n#> in open 1 0 0 3\n#> ..\nclear 1\n#> ..\n#> end channels=1 calls=1 references=0 timers=0",
+        "open 1 0 0 3\n#> in open 1 0 0 3\n#> ..\nclear 1\n#> ..\n#> end channels=1 calls=0 references=0 timers=0",
         Status::Done,
         "ok 1 - script\n",
     ),

@@ -15,5 +15,5 @@ loop-line-preserved g c = record {
 
 pub returns : goal.returns
 returns g c =
-    let all = YieldsList-end (YieldsList-at c.into_iter-line-iterator.ensures.into_iter_gives (YieldsList-from_str_split 10 c.args.text.now (lit< tt) c.split-line-lines.ensures.text c.split-line-lines.ensures.has_more c.split-line-lines.ensures.pattern)) c.loop-line.yielded _ c.loop-line.yielded_by _ _ c.in-None.is c.next.ensures.steps in
+    let all = YieldsList-end (YieldsList-at c.into_iter-line-iterator.ensures.into_iter_gives (YieldsList-from_str_split 10 c.args.text.now (lit< tt) c.split-line-items.ensures.text c.split-line-items.ensures.has_more c.split-line-items.ensures.pattern)) c.loop-line.yielded _ c.loop-line.yielded_by _ _ c.in-None.is c.next.ensures.steps in
     record { lines = c.loop-line.invariant.read ∙ ap (λ (parts : List (List ℕ)). map strip_carriage_return parts) all.0 }
