@@ -48,14 +48,14 @@ pub next_led : (came lines : List (List ℕ)) (i : ℕ) (line : List ℕ) (place
     → ((p : ℕ) → Contains places p ↔ Reaches came (take i lines) 0 p) → AreNext came (expected_in line) places next
     → (p : ℕ) → Contains next p ↔ Reaches came (take (i + 1) lines) 0 p
 next_led came lines i line places next there led are_next p =
-    let more : take (i + 1) lines ≡ take i lines ++ (line ∷ []) = rw add-one (take_more lines i line there) in
-    ( λ h.
-        let from = (are_next p).0 h in
-        subst (λ (ls : List (List ℕ)). Reaches came ls 0 p) (sym more)
-        (reaches_more came (take i lines) line 0 from.0 p ((led from.0).0 from.1) from.2)
-    , λ r.
-        let back = reaches_back came (take i lines) line 0 p (subst (λ (ls : List (List ℕ)). Reaches came ls 0 p) more r) in
-        (are_next p).1 (back.0, (led back.0).1 back.1, back.2)
+    let more : take (i + 1) lines ≡ take i lines ++ (line ∷ []) = rw add-one (take_more lines i line there) in (
+      λ h.
+          let from = (are_next p).0 h in
+          subst (λ (ls : List (List ℕ)). Reaches came ls 0 p) (sym more)
+          (reaches_more came (take i lines) line 0 from.0 p ((led from.0).0 from.1) from.2),
+      λ r.
+          let back = reaches_back came (take i lines) line 0 p (subst (λ (ls : List (List ℕ)). Reaches came ls 0 p) more r) in
+          (are_next p).1 (back.0, (led back.0).1 back.1, back.2),
     )
 
 -- the lower of the least so far and of the next place is one of the places, and none so far is less
@@ -129,13 +129,13 @@ some_given f (w ∷ xs) x y h given = elim (Contains-append_cases (w ∷ []) xs 
 
 -- To these places lead: one that expects a line, one that expects any, one that expects nothing.
 pub text_next : (came : List (List ℕ)) (text : List ℕ) (places found : List ℕ) → is_any text ≡ false → found ≡ filter_map (behind came text) places → AreNext came (Some text) places found
-text_next came text places found is e to =
-    ( λ h.
-        let given = gives_some (behind came text) places to (subst (λ (xs : List ℕ). Contains xs to) e h) in
-        let at = behind_at came text given.0 to given.2 in
-        (given.0, given.1, inr (is, at.0, at.1))
-    , λ (from, one, takes). subst (λ (xs : List ℕ). Contains xs to) (sym e) (by_takes from one takes)
-    )
+text_next came text places found is e to = (
+  λ h.
+      let given = gives_some (behind came text) places to (subst (λ (xs : List ℕ). Contains xs to) e h) in
+      let at = behind_at came text given.0 to given.2 in
+      (given.0, given.1, inr (is, at.0, at.1)),
+  λ (from, one, takes). subst (λ (xs : List ℕ). Contains xs to) (sym e) (by_takes from one takes),
+)
   where
     by_takes : (from : ℕ) → Contains places from → Takes came (Some text) from to → Contains (filter_map (behind came text) places) to
     by_takes from one (inl (any, _, _)) = absurd (search (rules, any, is))
@@ -144,10 +144,10 @@ text_next came text places found is e to =
 
 pub any_next : (came : List (List ℕ)) (text : List ℕ) (places found : List ℕ) (first : ℕ) → is_any text ≡ true → Contains places first
     → ((k d : ℕ) → k < length places → first ≤ get_or places k d) → ((p : ℕ) → Contains found p ↔ ((first ≤ p) × (p ≤ length came))) → AreNext came (Some text) places found
-any_next came text places found first is one least all to =
-    ( λ h. let within = (all to).0 h in (first, one, inl (is, within.0, within.1))
-    , λ (from, (k, l, e), takes). (all to).1 (by_takes from (omega (arith, least k from l, e)) takes)
-    )
+any_next came text places found first is one least all to = (
+  λ h. let within = (all to).0 h in (first, one, inl (is, within.0, within.1)),
+  λ (from, (k, l, e), takes). (all to).1 (by_takes from (omega (arith, least k from l, e)) takes),
+)
   where
     by_takes : (from : ℕ) → first ≤ from → Takes came (Some text) from to → (first ≤ to) × (to ≤ length came)
     by_takes from low (inl (_, above, within)) = (omega (arith, low, above), within)
@@ -155,42 +155,42 @@ any_next came text places found first is one least all to =
 
 -- none leads anywhere
 pub none_next : (came : List (List ℕ)) (expected : Option (List ℕ)) (places : List ℕ) → places ≡ [] → AreNext came expected places []
-none_next came expected places none to =
-    ( λ (k, l, e). absurd (omega (arith, l))
-    , λ (from, one, takes). by_place from (subst (λ (xs : List ℕ). Contains xs from) none one)
-    )
+none_next came expected places none to = (
+  λ (k, l, e). absurd (omega (arith, l)),
+  λ (from, one, takes). by_place from (subst (λ (xs : List ℕ). Contains xs from) none one),
+)
   where
     by_place : (from : ℕ) → Contains [] from → Contains [] to
     by_place from (k, l, e) = absurd (omega (arith, l))
 
 pub same_next : (came : List (List ℕ)) (places : List ℕ) → AreNext came None places places
-same_next came places to =
-    ( λ h. (to, h, refl)
-    , λ (from, one, same). subst (Contains places) (sym same) one
-    )
+same_next came places to = (
+  λ h. (to, h, refl),
+  λ (from, one, same). subst (Contains places) (sym same) one,
+)
 
 -- the places from a start on, and one more
 pub range_more : (xs : List ℕ) (start place : ℕ) → start ≤ place → ((p : ℕ) → Contains xs p ↔ ((start ≤ p) × (p < place)))
     → (p : ℕ) → Contains (xs ++ place ∷ []) p ↔ ((start ≤ p) × (p < place + 1))
-range_more xs start place low all p =
-    ( λ h. elim (contains_more xs place p h) [
-        | inl e ↦ let w = (all p).0 e in (w.0, omega (arith, w.1))
-        | inr e ↦ (omega (arith, low, e), omega (arith, e))
-      ]
-    , λ (above, below). elim (cases_Bool (nat_lt p place)) [
-        | inl t ↦ Contains-append_left xs (place ∷ []) p ((all p).1 (above, ltb-true p place t))
-        | inr t ↦
-            let same : place ≡ p = omega (arith, below, ltb-false p place t) in
-            subst (Contains (xs ++ place ∷ [])) same (Contains-append_right xs (place ∷ []) place (one_contains place))
-      ]
-    )
+range_more xs start place low all p = (
+  λ h. elim (contains_more xs place p h) [
+    | inl e ↦ let w = (all p).0 e in (w.0, omega (arith, w.1))
+    | inr e ↦ (omega (arith, low, e), omega (arith, e))
+  ],
+  λ (above, below). elim (cases_Bool (nat_lt p place)) [
+    | inl t ↦ Contains-append_left xs (place ∷ []) p ((all p).1 (above, ltb-true p place t))
+    | inr t ↦
+        let same : place ≡ p = omega (arith, below, ltb-false p place t) in
+        subst (Contains (xs ++ place ∷ [])) same (Contains-append_right xs (place ∷ []) place (one_contains place))
+  ],
+)
 
 pub range_all : (xs : List ℕ) (first start place count : ℕ) → start ≡ min first (count + 1) → count + 1 ≤ place → place ≤ count + 1
     → ((p : ℕ) → Contains xs p ↔ ((start ≤ p) × (p < place))) → (p : ℕ) → Contains xs p ↔ ((first ≤ p) × (p ≤ count))
-range_all xs first start place count e low high all p =
-    ( λ h. let w = (all p).0 h in (omega (arith, e, high, w.0, w.1), omega (arith, high, w.1))
-    , λ (above, below). (all p).1 (omega (arith, e, above), omega (arith, low, below))
-    )
+range_all xs first start place count e low high all p = (
+  λ h. let w = (all p).0 h in (omega (arith, e, high, w.0, w.1), omega (arith, high, w.1)),
+  λ (above, below). (all p).1 (omega (arith, e, above), omega (arith, low, below)),
+)
 
 -- the same of what is found, unless memory is refused
 pub if_text : {T E : Type 0} (items : T → List ℕ) (r : Result T E) (came : List (List ℕ)) (text : List ℕ) (places : List ℕ) → is_any text ≡ false
@@ -245,7 +245,7 @@ none_more xs i x within none other k d h e = elim (cases_Bool (nat_lt k i)) [
 
 -- no place yet
 pub range_none : (start place : ℕ) → place ≤ start → (p : ℕ) → Contains [] p ↔ ((start ≤ p) × (p < place))
-range_none start place low p =
-    ( λ (k, l, e). absurd (omega (arith, l))
-    , λ (above, below). absurd (omega (arith, low, above, below))
-    )
+range_none start place low p = (
+  λ (k, l, e). absurd (omega (arith, l)),
+  λ (above, below). absurd (omega (arith, low, above, below)),
+)

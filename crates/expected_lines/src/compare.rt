@@ -1,7 +1,6 @@
 //! Where lines that came differ from those that are expected.
 ghost use Rattle.std.specs.Prelude.{◌≡◌, ◌↔◌, ◌⊎◌, ◌≤◌, ◌∷◌, ◌++◌, ℕ, [], true, false, None, Some, IfOk, OnOk, IfSome, All, Contains, filter_map, length, slice_get, ◌<◌};
 ghost use Rattle.expected_lines.specs.Lines.{texts_of, expected_in, is_any};
-
 ghost use Rattle.expected_lines.specs.Meeting as said;
 
 use crate::lines::{expected_in, is_any, is_expectation};

@@ -33,7 +33,13 @@ fn lines_expect(rt: HostRuntime) {
         assert_eq!(rt; expected_in(*line), *expected, "{line}");
         assert_eq!(rt; is_script_line(*line), *gives, "{line}");
     }
-    for (text, any) in [("..", true), (".", false), ("...", false), ("", false), (".. ", false)] {
+    for (text, any) in [
+        ("..", true),
+        (".", false),
+        ("...", false),
+        ("", false),
+        (".. ", false),
+    ] {
         assert_eq!(rt; is_any(text), any, "{text}");
     }
 }
@@ -78,14 +84,26 @@ const DIFFERENCES: &[(&[&str], &[&str], Places)] = &[
     (&["#> ..", "#> c"], &["c"], None),
     (&["#> ..", "#> c"], &["c", "a", "c"], None),
     (&["#> a", "#> ..", "#> c"], &["a", "c", "b", "c"], None),
-    (&["#> ..", "#> a", "#> ..", "#> b", "#> .."], &["c", "a", "b"], None),
+    (
+        &["#> ..", "#> a", "#> ..", "#> b", "#> .."],
+        &["c", "a", "b"],
+        None,
+    ),
     (&["#> ..", "#> a", "#> b"], &["a", "a", "b"], None),
     (&["#> ..", "#> ..", "#> b"], &["a", "b"], None),
     // behind which a line is missing, or comes that isn't the last
     (&["#> ..", "#> d"], &["a", "b", "c"], Some((1, 3))),
     (&["#> ..", "#> a"], &["a", "b", "a", "c"], Some((2, 3))),
-    (&["#> a", "#> ..", "#> b", "#> c"], &["a", "b", "d", "b"], Some((3, 4))),
-    (&["#> ..", "#> b", "#> a"], &["b", "c", "b", "c"], Some((2, 3))),
+    (
+        &["#> a", "#> ..", "#> b", "#> c"],
+        &["a", "b", "d", "b"],
+        Some((3, 4)),
+    ),
+    (
+        &["#> ..", "#> b", "#> a"],
+        &["b", "c", "b", "c"],
+        Some((2, 3)),
+    ),
 ];
 
 /// The places of a difference.

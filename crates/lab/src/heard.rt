@@ -53,7 +53,9 @@ pub(crate) fn run_heard<A: Allocator + Copy, L: Listener>(
         course.follow(item, &mut printed).map_err(memory_fault)?;
     }
     let came = printed.len();
-    course.print_ends(&mut printed).map_err(|_| LabFault::NoMemory)?;
+    course
+        .print_ends(&mut printed)
+        .map_err(|_| LabFault::NoMemory)?;
     let (before, _) = printed.split_at(came.min(printed.len()));
     listener.hear_last(text_of(before), text_of(&printed))
 }

@@ -119,7 +119,10 @@ fn shared_peer<A: Allocator + Copy>(
 }
 
 /// Controllers of the sites that were given nothing yet.
-pub(crate) fn fresh_course<A: Allocator + Copy>(alloc: A, sites: Sites<A>) -> Result<Course<A>, AllocError>
+pub(crate) fn fresh_course<A: Allocator + Copy>(
+    alloc: A,
+    sites: Sites<A>,
+) -> Result<Course<A>, AllocError>
     ensures openings { IfOk result (λ course. AreOpenings (views_of sites)
         (positions_of course.controllers)) }
     ensures peer { IfOk result (λ course. has_peer course ≡ is_some sites.peer) }

@@ -34,7 +34,10 @@ struct Tester<'a, W: Write, A: Allocator + Copy> {
 }
 
 /// The lines of what a run printed.
-pub(crate) fn printed_lines<A: Allocator>(alloc: A, printed: &str) -> Result<Vec<&str, A>, LabFault> {
+pub(crate) fn printed_lines<A: Allocator>(
+    alloc: A,
+    printed: &str,
+) -> Result<Vec<&str, A>, LabFault> {
     let mut lines = lines_of(alloc, printed)?;
     // nothing stands behind the last line feed
     lines.pop();
@@ -67,7 +70,9 @@ impl<W: Write, A: Allocator + Copy> Tester<'_, W, A> {
         let part = part_at(self.lines, self.place);
         let miss = Miss::Differs {
             line: number_of(part, self.place, difference),
-            expected: part.get(difference.line).and_then(|line| expected_in(*line)),
+            expected: part
+                .get(difference.line)
+                .and_then(|line| expected_in(*line)),
             came: came.get(difference.came).copied(),
         };
         Ok(print_miss(self.out, self.test.number, self.test.name, miss)?)

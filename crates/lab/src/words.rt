@@ -292,10 +292,7 @@ fn job_of<'a>(matches: &ArgMatches<'a>) -> Option<Job<'a>> {
 }
 
 /// The job of a command line that was read, of which scripts may be many.
-fn any_job_of<'a>(
-    alloc: Global,
-    matches: &ArgMatches<'a>,
-) -> Result<Option<Job<'a>>, AllocError> {
+fn any_job_of<'a>(alloc: Global, matches: &ArgMatches<'a>) -> Result<Option<Job<'a>>, AllocError> {
     match matches.subcommand() {
         Some(("test", test)) => {
             let Some(sites) = site_paths(test) else {

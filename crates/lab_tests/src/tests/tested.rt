@@ -1,7 +1,7 @@
 //! Scripts that test themselves, and that are recorded.
+use super::SITE;
 use super::failing::Failing;
 use super::peer::PEER;
-use super::SITE;
 use lab::recorded::record_run;
 use lab::run::{LabFault, Status};
 use lab::script_files::{SitePaths, record_file, test_files};
@@ -22,8 +22,14 @@ const SCRIPTS: &[(Option<&str>, &str)] = &[
         None,
         "open 1 0 0 3\nabis 0 0 0822010b081234\nclear 1\nabis 0 0 0833010b\n",
     ),
-    (None, "# a call\r\n\r\nopen 1 0 0 3\r\n# and its end\r\nclear 1\r\n"),
-    (None, "open 1 0 0 3\n#> old\n# kept\n#> ..\nabis 0 0 0822010b081234\nabis 0 0 ff"),
+    (
+        None,
+        "# a call\r\n\r\nopen 1 0 0 3\r\n# and its end\r\nclear 1\r\n",
+    ),
+    (
+        None,
+        "open 1 0 0 3\n#> old\n# kept\n#> ..\nabis 0 0 0822010b081234\nabis 0 0 ff",
+    ),
     (
         None,
         "sim\nopen 1 0 0 3\nmobile 0 0 3 return\nhandover 1 1\nhold 0 0 3\nclear 1\nlet 0 0 3\n",
@@ -122,9 +128,15 @@ fn what_was_recorded_is_met(rt: HostRuntime) -> Result<(), Fail> {
         let (status, text) = tested(alloc, alloc, *peer, &record)?;
         assert_eq!(rt; (status, text.as_str()), met, "{record}");
         // all else stays
-        assert_eq!(rt; bare(alloc, &record)?.trim_end(), bare(alloc, *script)?.trim_end());
+        assert_eq!(rt;
+            bare(alloc, &record)?.trim_end(),
+            bare(alloc, *script)?.trim_end()
+        );
         let (status, again) = recorded(alloc, alloc, *peer, &record)?;
-        assert_eq!(rt; (status, again.as_str()), (Ok(Status::Done), record.as_str()));
+        assert_eq!(rt;
+            (status, again.as_str()),
+            (Ok(Status::Done), record.as_str())
+        );
         differs_at_each(&rt, alloc, *peer, &record)?;
     }
     Ok(())
@@ -228,7 +240,10 @@ fn works_without(rt: &impl Abort, alloc: Global, n: u64, is_test: bool) -> Resul
     match status {
         Ok(Status::Done) => assert_eq!(rt; text.as_str(), wanted, "{n}"),
         Err(LabFault::NoMemory) => {
-            assert!(rt; heap.was_refused() && wanted.starts_with(text.as_str()), "{n}: {text}")
+            assert!(rt;
+                heap.was_refused() && wanted.starts_with(text.as_str()),
+                "{n}: {text}"
+            )
         }
         _ => assert!(rt; false, "{n}: {text}"),
     }
@@ -280,7 +295,12 @@ const FILES: &[(&str, &str)] = &[
 
 /// Words of scripts, how their test ends, what it prints, and how what it says of errors begins.
 const SUITES: &[(&[&str], Status, &str, &str)] = &[
-    (&["tested_met.txt"], Status::Done, "1..1\nok 1 - tested_met.txt\n", ""),
+    (
+        &["tested_met.txt"],
+        Status::Done,
+        "1..1\nok 1 - tested_met.txt\n",
+        "",
+    ),
     (
         &["tested_differs.txt", "tested_met.txt"],
         Status::Differs,
@@ -294,7 +314,12 @@ ok 2 - tested_met.txt
         "",
     ),
     (
-        &["tested_unread.txt", "tested_differs.txt", "no file", "tested_met.txt"],
+        &[
+            "tested_unread.txt",
+            "tested_differs.txt",
+            "no file",
+            "tested_met.txt",
+        ],
         Status::Refused,
         "1..4
 not ok 1 - tested_unread.txt
@@ -323,7 +348,10 @@ fn files_end(
     let ended = test_files(rt, paths, scripts, &mut out, &mut errors);
     assert_eq!(rt; (ended, str::from_utf8(&out)?), (Ok(wanted.0), wanted.1));
     let said = str::from_utf8(&errors)?;
-    assert!(rt; said.starts_with(wanted.2) && said.is_empty() == wanted.2.is_empty(), "{said}");
+    assert!(rt;
+        said.starts_with(wanted.2) && said.is_empty() == wanted.2.is_empty(),
+        "{said}"
+    );
     Ok(())
 }
 
@@ -352,7 +380,12 @@ not ok 1 - tested_met.txt
 # expected: in open 1 0 0 3
 # came: 1: in open 1 0 0 3
 ";
-    files_end(&rt, with_peer, &["tested_met.txt"], (Status::Differs, marked, ""))?;
+    files_end(
+        &rt,
+        with_peer,
+        &["tested_met.txt"],
+        (Status::Differs, marked, ""),
+    )?;
     let no_site = SitePaths {
         first: SITE_FILE,
         peer: Some("tested_met.txt"),

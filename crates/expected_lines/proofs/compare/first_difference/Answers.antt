@@ -56,11 +56,11 @@ returns-clause-met g c =
     let lines = texts_of c.args.lines.now in
     let count = length-map c.args.came.now (λ (x : Bor (List ℕ)). x.now) in
     let whole : length lines ≤ c.loop-line.line = omega (arith, length-map c.args.lines.now (λ (x : Bor (List ℕ)). x.now)) in
-    let all = led_all came lines c.loop-line.line c.loop-line.places.items whole c.loop-line.invariant.led in
-    ( λ e. absurd (search (rules, e))
-    , λ r.
-        let one = (all (length c.args.came.now)).1 (subst (λ (k : ℕ). Reaches came lines 0 k) count r) in
-        absurd (c.has_place.ensures.has_not c.if-has_place.false (subst (λ (ps : List ℕ). Contains ps (length c.args.came.now)) (sym c.deref-2.ensures.value) one))
+    let all = led_all came lines c.loop-line.line c.loop-line.places.items whole c.loop-line.invariant.led in (
+      λ e. absurd (search (rules, e)),
+      λ r.
+          let one = (all (length c.args.came.now)).1 (subst (λ (k : ℕ). Reaches came lines 0 k) count r) in
+          absurd (c.has_place.ensures.has_not c.if-has_place.false (subst (λ (ps : List ℕ). Contains ps (length c.args.came.now)) (sym c.deref-2.ensures.value) one)),
     )
 
 pub returns-clause-first : goal.returns-clause-first
