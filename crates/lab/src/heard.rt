@@ -1,10 +1,11 @@
 //! A run of which each line of a script is told what came of it.
-ghost use Rattle.std.specs.Prelude.{◌≡◌, true, is_some, IfOk};
-ghost use Rattle.lab_script.specs.Script.{AreThere};
+ghost use Rattle.std.specs.Prelude.{◌≡◌, [], ◌∷◌, true, is_some, IfOk, OnOk};
+ghost use Rattle.lab_script.specs.Script.{AreThere, is_item_there};
 ghost use Rattle.lab.specs.Turns.{inputs_in};
-ghost use Rattle.lab.specs.Course.{Played};
+ghost use Rattle.lab.specs.Course.{Played, Went, has_peer};
 ghost use Rattle.lab.specs.Sites.{views_of};
 
+use crate::course::Course;
 use crate::run::{LabFault, Sites, fresh_course};
 use lab_script::script::Item;
 use std::alloc::Allocator;
@@ -20,10 +21,18 @@ pub(crate) trait Listener {
     fn hear_last(&mut self, came: &str, ended: &str) -> Result<bool, LabFault>;
 }
 
-/// A fault of a run that prints to memory: that fails only where memory is refused.
-fn memory_fault(fault: LabFault) -> LabFault {
-    match fault {
-        LabFault::NoMemory | LabFault::Write => LabFault::NoMemory,
+/// Does what a line of a script gives, and adds what is printed of that to a list, which lacks nothing but memory.
+fn follow_printed<A: Allocator + Copy>(
+    course: &mut Course<A>,
+    item: Item<A>,
+    printed: &mut Vec<u8, A>,
+) -> Result<(), LabFault>
+    requires there { is_item_there (has_peer course.old) item ≡ true }
+    ensures { OnOk result (Went (inputs_in (item ∷ [])) course.old course.new) }
+{
+    match course.follow(item, printed) {
+        Ok(()) => Ok(()),
+        Err(LabFault::NoMemory | LabFault::Write) => Err(LabFault::NoMemory),
     }
 }
 
@@ -50,12 +59,13 @@ pub(crate) fn run_heard<A: Allocator + Copy, L: Listener>(
             return Ok(false);
         }
         printed.clear();
-        course.follow(item, &mut printed).map_err(memory_fault)?;
+        follow_printed(&mut course, item, &mut printed)?;
     }
     let came = printed.len();
     course
         .print_ends(&mut printed)
         .map_err(|_| LabFault::NoMemory)?;
     let (before, _) = printed.split_at(came.min(printed.len()));
-    listener.hear_last(text_of(before), text_of(&printed))
+    let well = listener.hear_last(text_of(before), text_of(&printed))?;
+    Ok(well)
 }

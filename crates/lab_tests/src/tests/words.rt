@@ -78,13 +78,22 @@ fn test_names_its_files(rt: HostRuntime) {
             _ => assert!(rt; false, "a test"),
         }
     }
-    match read_words(rt.alloc(), &["record", "a.toml", "b.txt", "--peer", "c.toml"]) {
+    match read_words(
+        rt.alloc(),
+        &["record", "a.toml", "b.txt", "--peer", "c.toml"],
+    ) {
         Ok(Job::Record { sites, script }) => {
-            assert_eq!(rt; (sites.first, sites.peer, script), ("a.toml", Some("c.toml"), "b.txt"));
+            assert_eq!(rt;
+                (sites.first, sites.peer, script),
+                ("a.toml", Some("c.toml"), "b.txt")
+            );
         }
         _ => assert!(rt; false, "a record"),
     }
-    for words in [&["test", "a.toml"].as_slice(), &["record", "a.toml", "b.txt", "c.txt"].as_slice()] {
+    for words in [
+        &["test", "a.toml"].as_slice(),
+        &["record", "a.toml", "b.txt", "c.txt"].as_slice(),
+    ] {
         assert!(rt; matches!(read_words(rt.alloc(), words), Err(WordsFault::Refused(_))));
     }
 }
