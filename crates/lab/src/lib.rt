@@ -13,12 +13,17 @@ mod course;
 pub mod decoded;
 pub mod entries;
 pub mod files;
+mod heard;
 pub mod noting;
 pub mod program;
+pub mod recorded;
 pub mod rewound;
 pub mod run;
+pub mod script_files;
+mod script_words;
 mod simulators;
 mod site_reason;
+pub mod tested;
 pub mod turn;
 pub mod words;
 

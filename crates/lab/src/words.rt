@@ -1,6 +1,8 @@
 //! The words of the command line.
 ghost use Rattle.std.specs.Prelude.{◌≡◌};
 
+use crate::script_files::SitePaths;
+use crate::script_words::{record_command, script_paths, site_paths, test_command};
 use clap::error::ErrorKind;
 use clap::{Arg, ArgAction, ArgMatches, Command, Error, value_parser};
 use decoded_lines::{Asked, Detail, Link, link_named};
@@ -26,6 +28,16 @@ pub enum Job<'a> {
         site: &'a str,
         trace: &'a str,
         line: usize,
+    },
+    /// Scripts are tested over a site, or over two: the paths of the files.
+    Test {
+        sites: SitePaths<'a>,
+        scripts: Vec<&'a str>,
+    },
+    /// A script is recorded over a site, or over two: the paths of the files.
+    Record {
+        sites: SitePaths<'a>,
+        script: &'a str,
     },
     /// The cells of a site are printed, and what is surely meant otherwise in its file: the file's path.
     Check {
@@ -76,7 +88,7 @@ fn link(name: &str) -> Option<Link> {
 }
 
 /// An argument that has to be given, by its place.
-fn argument<'a>(alloc: Global, name: &'a str, help: &'a str) -> Arg<'a> {
+pub(crate) fn argument<'a>(alloc: Global, name: &'a str, help: &'a str) -> Arg<'a> {
     Arg::new(alloc, name)
         .required(true)
         .action(ArgAction::Set)
@@ -84,7 +96,7 @@ fn argument<'a>(alloc: Global, name: &'a str, help: &'a str) -> Arg<'a> {
 }
 
 /// `--peer SITE`
-fn peer_argument<'a>(alloc: Global) -> Arg<'a> {
+pub(crate) fn peer_argument<'a>(alloc: Global) -> Arg<'a> {
     Arg::new(alloc, "PEER")
         .long("peer")
         .value_name("SITE")
@@ -222,6 +234,8 @@ fn lab_command<'a>(alloc: Global) -> Result<Command<'a>, AllocError> {
         .bin_name("bsc_lab")?
         .subcommand_required(true)
         .subcommand(run_command(alloc)?)?
+        .subcommand(test_command(alloc)?)?
+        .subcommand(record_command(alloc)?)?
         .subcommand(rewind_command(alloc)?)?
         .subcommand(check_command(alloc)?)?
         .subcommand(decode_command(alloc)?)?
@@ -260,6 +274,10 @@ fn job_of<'a>(matches: &ArgMatches<'a>) -> Option<Job<'a>> {
             script: run.get_str("SCRIPT")?,
             views: views_of(run),
         }),
+        ("record", record) => Some(Job::Record {
+            sites: site_paths(record)?,
+            script: record.get_str("SCRIPT")?,
+        }),
         ("rewind", rewind) => Some(Job::Rewind {
             site: rewind.get_str("SITE")?,
             trace: rewind.get_str("TRACE")?,
@@ -271,6 +289,20 @@ fn job_of<'a>(matches: &ArgMatches<'a>) -> Option<Job<'a>> {
         ("decode", decode) => decode_job(decode),
         ("explain", explain) => Some(Job::Explain(question_of(explain)?)),
         _ => None,
+    }
+}
+
+/// The job of a command line that was read, of which scripts may be many.
+fn any_job_of<'a>(alloc: Global, matches: &ArgMatches<'a>) -> Result<Option<Job<'a>>, AllocError> {
+    match matches.subcommand() {
+        Some(("test", test)) => {
+            let Some(sites) = site_paths(test) else {
+                return Ok(None);
+            };
+            let scripts = script_paths(alloc, test)?;
+            Ok(Some(Job::Test { sites, scripts }))
+        }
+        _ => Ok(job_of(matches)),
     }
 }
 
@@ -291,7 +323,7 @@ fn unmatched<'a>(alloc: Global, error: Error) -> Result<Job<'a>, WordsFault> {
 /// No clause says which words are which: that is shown by tests.
 pub fn read_words<'a>(alloc: Global, words: &'a [&'a str]) -> Result<Job<'a>, WordsFault> {
     match lab_command(alloc)?.try_get_matches_from(words) {
-        Ok(matches) => match job_of(&matches) {
+        Ok(matches) => match any_job_of(alloc, &matches)? {
             Some(job) => Ok(job),
             None => Err(WordsFault::Refused(String::new(alloc))),
         },

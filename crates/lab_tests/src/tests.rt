@@ -14,6 +14,7 @@ mod reasons;
 mod refusals;
 mod rewound;
 mod simulated;
+mod tested;
 mod traces;
 mod unwritten;
 mod viewed;

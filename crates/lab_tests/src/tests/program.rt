@@ -80,6 +80,18 @@ const LINES: &[(&[&str], u8, &str, &str)] = &[
         "no site: No such file",
     ),
     (
+        &["test", "/dev/null", "no script"],
+        2,
+        "site 2 handover\n",
+        "/dev/null: handover is missing: it has to be a table\n",
+    ),
+    (
+        &["record", "no site", "no script"],
+        2,
+        "file no site\n",
+        "no site: No such file",
+    ),
+    (
         &["explain", "refused", "6"],
         0,
         "ChannelBusy: this channel isn't free\n",

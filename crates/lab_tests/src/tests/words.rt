@@ -50,6 +50,54 @@ fn run_names_its_files(rt: HostRuntime) {
     }
 }
 
+/// Words that ask for a test: the sites, and how many scripts.
+const TESTS: &[(&[&str], &str, Option<&str>, &[&str])] = &[
+    (&["test", "a.toml", "b.txt"], "a.toml", None, &["b.txt"]),
+    (
+        &["test", "a.toml", "b.txt", "c.txt", "--peer", "d.toml"],
+        "a.toml",
+        Some("d.toml"),
+        &["b.txt", "c.txt"],
+    ),
+    (
+        &["test", "--peer=d.toml", "a.toml", "b.txt", "c.txt", "b.txt"],
+        "a.toml",
+        Some("d.toml"),
+        &["b.txt", "c.txt", "b.txt"],
+    ),
+];
+
+#[test]
+fn test_names_its_files(rt: HostRuntime) {
+    for (words, first, peer, wanted) in TESTS {
+        match read_words(rt.alloc(), *words) {
+            Ok(Job::Test { sites, scripts }) => {
+                assert_eq!(rt; (sites.first, sites.peer), (*first, *peer));
+                assert_eq!(rt; scripts.as_slice(), *wanted);
+            }
+            _ => assert!(rt; false, "a test"),
+        }
+    }
+    match read_words(
+        rt.alloc(),
+        &["record", "a.toml", "b.txt", "--peer", "c.toml"],
+    ) {
+        Ok(Job::Record { sites, script }) => {
+            assert_eq!(rt;
+                (sites.first, sites.peer, script),
+                ("a.toml", Some("c.toml"), "b.txt")
+            );
+        }
+        _ => assert!(rt; false, "a record"),
+    }
+    for words in [
+        &["test", "a.toml"].as_slice(),
+        &["record", "a.toml", "b.txt", "c.txt"].as_slice(),
+    ] {
+        assert!(rt; matches!(read_words(rt.alloc(), words), Err(WordsFault::Refused(_))));
+    }
+}
+
 /// Words that ask for a run and for views of it.
 const VIEWS: &[(&[&str], Views<'_>)] = &[
     (
