@@ -2,7 +2,6 @@
 use Rattle.std.specs.Prelude.{Bool, true, false, Option, Some, None}
 
 infixl 10 ◌>>=◌
-
 -- what follows, where something is said
 abbrev pub ◌>>=◌ : {X Y : Type 0} → Option X → (X → Option Y) → Option Y
 None >>= f = None

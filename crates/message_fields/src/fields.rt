@@ -1,5 +1,5 @@
 //! What the fields of a message say, each of which stands once.
-ghost use Rattle.std.specs.Prelude.{◌≡◌, ◌≢◌, ◌<◌, ◌∷◌, [], IfOk, IfErr, IfSome, MatchOption, Some, None, length, is_ok, option_map};
+ghost use Rattle.std.specs.Prelude.{◌≡◌, ◌≢◌, ◌<◌, ◌≤◌, ◌∷◌, [], IfOk, IfErr, IfSome, MatchOption, Some, None, length, is_ok, option_map};
 ghost use Rattle.std.specs.Result.{result_ok};
 ghost use Rattle.message_fields.specs.Words.{words_of, values_of};
 ghost use Rattle.message_fields.specs.Fields as said;
@@ -50,12 +50,9 @@ pub fn value<'a>(fields: &'a str, key: &'static str) -> Result<&'a str, FieldFau
 }
 
 /// The number of a field, which is at most this one.
-pub fn number<'a>(
-    fields: &'a str,
-    key: &'static str,
-    most: u16,
-) -> Result<u16, FieldFault<'a>>
+pub fn number<'a>(fields: &'a str, key: &'static str, most: u16) -> Result<u16, FieldFault<'a>>
     ensures number { result_ok result ≡ said.number_at most key.now fields.now }
+    ensures most { IfOk result (λ number. number ≤ most) }
 {
     let value = value(fields, key)?;
     let allowed = Allowed::Number(most);
@@ -69,6 +66,7 @@ pub fn number<'a>(
 /// The octet of a field, in decimal, which is at most this one.
 pub fn small<'a>(fields: &'a str, key: &'static str, most: u8) -> Result<u8, FieldFault<'a>>
     ensures number { result_ok result ≡ said.number_at most key.now fields.now }
+    ensures most { IfOk result (λ number. number ≤ most) }
 {
     let value = value(fields, key)?;
     let allowed = Allowed::Number(u16::from(most));
@@ -87,10 +85,7 @@ pub fn octet<'a>(fields: &'a str, key: &'static str) -> Result<u8, FieldFault<'a
 }
 
 /// The octet of a field, in decimal, or `-`.
-pub fn optional_octet<'a>(
-    fields: &'a str,
-    key: &'static str,
-) -> Result<Option<u8>, FieldFault<'a>>
+pub fn optional_octet<'a>(fields: &'a str, key: &'static str) -> Result<Option<u8>, FieldFault<'a>>
     ensures number { result_ok result ≡ said.optional_octet_at key.now fields.now }
 {
     let value = value(fields, key)?;

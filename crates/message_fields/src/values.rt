@@ -1,5 +1,5 @@
 //! What the value of a field says.
-ghost use Rattle.std.specs.Prelude.{◌≡◌, IfOk, option_map};
+ghost use Rattle.std.specs.Prelude.{◌≡◌, ◌<◌, ◌≤◌, IfOk, IfSome, option_map};
 ghost use Rattle.std.specs.Char.{is_ascii_digit};
 ghost use Rattle.std.specs.List.{list_all};
 ghost use Rattle.message_fields.specs.Values as said;
@@ -28,7 +28,8 @@ fn word(text: &str) -> Option<u16>
 
 /// The number that a text writes, where it is at most this one.
 pub(crate) fn number_in(text: &str, most: u16) -> Option<u16>
-    ensures { result ≡ said.number_to most text.now }
+    ensures number { result ≡ said.number_to most text.now }
+    ensures most { IfSome result (λ number. number ≤ most) }
 {
     match word(text) {
         Some(number) if number <= most => Some(number),
@@ -49,7 +50,8 @@ fn octet(text: &str) -> Option<u8>
 
 /// The octet that a text writes in decimal, where it is at most this one.
 pub(crate) fn octet_in(text: &str, most: u8) -> Option<u8>
-    ensures { result ≡ said.number_to most text.now }
+    ensures number { result ≡ said.number_to most text.now }
+    ensures most { IfSome result (λ number. number ≤ most) }
 {
     match octet(text) {
         Some(number) if number <= most => Some(number),
@@ -95,6 +97,7 @@ pub fn cell_in(text: &str) -> Option<(u16, u16)>
 /// The level, the position and the code of `LEVEL/POSITION/CODE`.
 pub fn neighbour_in(text: &str) -> Option<(u8, u8, u8)>
     ensures neighbour { result ≡ said.neighbour_of text.now }
+    ensures ranges { IfSome result (λ n. (n.0 < 64) × (n.1 < 32) × (n.2 < 64)) }
 {
     let (level, text) = around_slash(text)?;
     let (position, code) = around_slash(text)?;
