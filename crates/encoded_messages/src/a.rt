@@ -92,7 +92,7 @@ fn classmark<A: Allocator>(alloc: A, fields: &str) -> Result<Classmark<A>, Field
 
 /// HANDOVER REQUEST
 #[tactic(auto, unfolding(crate::specs::A::handover_request))]
-fn handover_request<A: Allocator>(alloc: A, fields: &str) -> Result<Bssmap<A>, FieldFault<'_>>
+fn handover_request<A: Allocator + Copy>(alloc: A, fields: &str) -> Result<Bssmap<A>, FieldFault<'_>>
     ensures read { IfOk result (λ message. said.handover_request fields.now ≡ Some message) }
     ensures unread { IfErr result (λ fault. fault ≢ NoMemory →
         said.handover_request {A = A} fields.now ≡ None) }

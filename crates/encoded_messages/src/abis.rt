@@ -23,13 +23,13 @@ fn channel(fields: &str) -> Result<ChanBits, FieldFault<'_>>
 }
 
 /// The fields of DATA REQUEST and of DATA INDICATION: channel, link identifier and layer 3 message.
-#[tactic(auto, unfolding(crate::specs::Abis::data))]
-fn data<A: Allocator>(
+#[tactic(auto, unfolding(crate::specs::Abis::data_fields))]
+fn data_fields<A: Allocator>(
     alloc: A,
     fields: &str,
 ) -> Result<(ChanBits, u8, Octets<A>), FieldFault<'_>>
-    ensures read { IfOk result (λ data. said.data fields.now ≡ Some data) }
-    ensures unread { IfErr result (λ fault. fault ≢ NoMemory → said.data fields.now ≡ None) }
+    ensures read { IfOk result (λ found. said.data_fields fields.now ≡ Some found) }
+    ensures unread { IfErr result (λ fault. fault ≢ NoMemory → said.data_fields fields.now ≡ None) }
 {
     only_keys(fields, "tn link layer3")?;
     let channel = channel(fields)?;
@@ -166,7 +166,7 @@ fn message_of<'a, A: Allocator + Copy>(
 {
     match name {
         "DATA REQUEST" => {
-            let (channel, link, layer3) = data(alloc, fields)?;
+            let (channel, link, layer3) = data_fields(alloc, fields)?;
             Ok(Rsl::DataRequest {
                 channel,
                 link,
@@ -174,7 +174,7 @@ fn message_of<'a, A: Allocator + Copy>(
             })
         }
         "DATA INDICATION" => {
-            let (channel, link, layer3) = data(alloc, fields)?;
+            let (channel, link, layer3) = data_fields(alloc, fields)?;
             Ok(Rsl::DataIndication {
                 channel,
                 link,

@@ -15,7 +15,7 @@ pub enum MessageFault<'a> {
     #[error(transparent)]
     Field(FieldFault<'a>),
     // There are not as many neighbours as the count says.
-    #[error("count is how many neighbours follow, or 7 for none at all: {count}, found {found}")]
+    #[error("count says {count} neighbours, where 7 says none: found {found}")]
     Neighbours { count: u8, found: usize },
     // Each field is in its range, and the message has no canonical text.
     #[error("the message can't be written: it, or a list of octets in it, is too long")]
