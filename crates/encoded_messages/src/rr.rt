@@ -62,12 +62,24 @@ fn handover_command(fields: &str) -> Result<Rr, FieldFault<'_>>
     ensures { result_ok result ≡ said.handover_command fields.now }
 {
     only_keys(fields, "arfcn ncc bcc tn tsc carrier reference atc power")?;
-    Ok(Rr::HandoverCommand {
-        cell: cell(fields)?,
-        channel: channel(fields)?,
-        reference: octet(fields, "reference")?,
-        power: power(fields)?,
-    })
+    let cell = match cell(fields) {
+        Ok(cell) => cell,
+        Err(fault) => return Err(fault),
+    };
+    let channel = match channel(fields) {
+        Ok(channel) => channel,
+        Err(fault) => return Err(fault),
+    };
+    let reference = octet(fields, "reference")?;
+    match power(fields) {
+        Ok(power) => Ok(Rr::HandoverCommand {
+            cell,
+            channel,
+            reference,
+            power,
+        }),
+        Err(fault) => Err(fault),
+    }
 }
 
 /// The cause of a message that has nothing else.
@@ -192,11 +204,17 @@ fn message_of<'a, A: Allocator>(
         said.message_of name.now fields.now ≡ None) }
 {
     match name {
-        "HANDOVER COMMAND" => Ok(handover_command(fields)?),
+        "HANDOVER COMMAND" => match handover_command(fields) {
+            Ok(message) => Ok(message),
+            Err(fault) => Err(MessageFault::from(fault)),
+        },
         "HANDOVER COMPLETE" => Ok(Rr::HandoverComplete(cause_alone(fields)?)),
         "HANDOVER FAILURE" => Ok(Rr::HandoverFailure(cause_alone(fields)?)),
         "CHANNEL RELEASE" => Ok(Rr::ChannelRelease(cause_alone(fields)?)),
-        "PHYSICAL INFORMATION" => Ok(physical_information(fields)?),
+        "PHYSICAL INFORMATION" => match physical_information(fields) {
+            Ok(message) => Ok(message),
+            Err(fault) => Err(MessageFault::from(fault)),
+        },
         "MEASUREMENT REPORT" => measurement_report(alloc, fields),
         name => Err(MessageFault::Name(name)),
     }
@@ -209,6 +227,8 @@ pub fn encode_rr<A: Allocator + Copy>(alloc: A, text: &str) -> Result<Vec<u8, A>
         said.IsRefused text.now) }
 {
     let (name, fields) = name_and_fields(text);
-    let message = message_of(alloc, name, fields)?;
-    Ok(encode(alloc, &message)?)
+    match message_of(alloc, name, fields) {
+        Ok(message) => Ok(encode(alloc, &message)?),
+        Err(fault) => Err(fault),
+    }
 }

@@ -7,6 +7,7 @@ pub mod check;
 mod controllers;
 mod course;
 pub mod decoded;
+pub mod encoded;
 pub mod entries;
 pub mod files;
 pub mod noting;
