@@ -36,8 +36,12 @@ classmark_of (octet ∷ next ∷ octets) = Two (octet ∷ next ∷ octets)
 abbrev pub classmark_at : {A : Type 0} → List ℕ → Option (Classmark A)
 classmark_at fields = option_map classmark_of (octets_at 0 (codes "classmark") fields)
 
+-- the serving cell and the target cell
+unfoldable pub request_cells : List ℕ → Option (CellId × CellId)
+request_cells fields = said_if (have_keys (codes "channel encryption classmark serving target") fields) (cell_at (codes "serving") fields >>= (λ serving. cell_at (codes "target") fields >>= (λ target. Some (serving, target))))
+
 unfoldable pub handover_request : {A : Type 0} → List ℕ → Option (Bssmap A)
-handover_request fields = said_if (have_keys (codes "channel encryption classmark serving target") fields) (cell_at (codes "serving") fields >>= (λ serving. cell_at (codes "target") fields >>= (λ target. octets_at 2 (codes "channel") fields >>= (λ channel. octets_at 1 (codes "encryption") fields >>= (λ encryption. classmark_at fields >>= (λ classmark. Some (HandoverRequest channel encryption classmark serving target)))))))
+handover_request fields = request_cells fields >>= (λ cells. octets_at 2 (codes "channel") fields >>= (λ channel. octets_at 1 (codes "encryption") fields >>= (λ encryption. classmark_at fields >>= (λ classmark. Some (HandoverRequest channel encryption classmark cells.0 cells.1)))))
 
 unfoldable pub handover_required : {A : Type 0} → List ℕ → Option (Bssmap A)
 handover_required fields = said_if (have_keys (codes "cause response cells") fields) (number_at 255 (codes "cause") fields >>= (λ cause. flag_at (codes "response") fields >>= (λ response. cells_at fields >>= (λ cells. Some (HandoverRequired cause response cells)))))

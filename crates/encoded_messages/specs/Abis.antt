@@ -11,8 +11,11 @@ use Rattle.rsl_messages.specs.Texts.{HasCanonical, canonical_text}
 abbrev pub channel : List ℕ → Option ChanBits
 channel fields = option_map (λ tn. record { tn = tn }) (number_at 7 (codes "tn") fields)
 
-unfoldable pub data_fields : List ℕ → Option (ChanBits × ℕ × List ℕ)
-data_fields fields = said_if (have_keys (codes "tn link layer3") fields) (channel fields >>= (λ channel. number_at 255 (codes "link") fields >>= (λ link. octets_at 1 (codes "layer3") fields >>= (λ layer3. Some (channel, link, layer3)))))
+unfoldable pub data_request : {A : Type 0} → List ℕ → Option (Rsl A)
+data_request fields = said_if (have_keys (codes "tn link layer3") fields) (channel fields >>= (λ channel. number_at 255 (codes "link") fields >>= (λ link. octets_at 1 (codes "layer3") fields >>= (λ layer3. Some (DataRequest channel link layer3)))))
+
+unfoldable pub data_indication : {A : Type 0} → List ℕ → Option (Rsl A)
+data_indication fields = said_if (have_keys (codes "tn link layer3") fields) (channel fields >>= (λ channel. number_at 255 (codes "link") fields >>= (λ link. octets_at 1 (codes "layer3") fields >>= (λ layer3. Some (DataIndication channel link layer3)))))
 
 unfoldable pub activation : {A : Type 0} → List ℕ → Option (Rsl A)
 activation fields = said_if (have_keys (codes "tn activation mode reference") fields) (channel fields >>= (λ channel. number_at 255 (codes "activation") fields >>= (λ activation. optional_octet_at (codes "reference") fields >>= (λ reference. octets_at 1 (codes "mode") fields >>= (λ mode. Some (ChannelActivation channel activation mode reference))))))
@@ -46,8 +49,8 @@ short_message name fields =
 -- the message of this name with these fields
 unfoldable pub message_of : {A : Type 0} → List ℕ → List ℕ → Option (Rsl A)
 message_of name fields =
-    if bytes_eq name (codes "DATA REQUEST") then option_map (λ d. DataRequest d.0 d.1 d.2) (data_fields fields)
-    else if bytes_eq name (codes "DATA INDICATION") then option_map (λ d. DataIndication d.0 d.1 d.2) (data_fields fields)
+    if bytes_eq name (codes "DATA REQUEST") then data_request fields
+    else if bytes_eq name (codes "DATA INDICATION") then data_indication fields
     else if bytes_eq name (codes "CHANNEL ACTIVATION") then activation fields
     else if bytes_eq name (codes "MEASUREMENT RESULT") then measurement fields
     else short_message name fields

@@ -90,16 +90,28 @@ fn classmark<A: Allocator>(alloc: A, fields: &str) -> Result<Classmark<A>, Field
     Ok(Classmark::Two(Octets::from_vec(octets)))
 }
 
-/// HANDOVER REQUEST
-#[tactic(auto, unfolding(crate::specs::A::handover_request))]
-fn handover_request<A: Allocator + Copy>(alloc: A, fields: &str) -> Result<Bssmap<A>, FieldFault<'_>>
-    ensures read { IfOk result (λ message. said.handover_request fields.now ≡ Some message) }
-    ensures unread { IfErr result (λ fault. fault ≢ NoMemory →
-        said.handover_request {A = A} fields.now ≡ None) }
+/// The serving cell and the target cell of a HANDOVER REQUEST, which has no other fields than it may have.
+#[tactic(auto, unfolding(crate::specs::A::request_cells))]
+fn request_cells(fields: &str) -> Result<(CellId, CellId), FieldFault<'_>>
+    ensures { result_ok result ≡ said.request_cells fields.now }
 {
     only_keys(fields, "channel encryption classmark serving target")?;
     let serving = cell(fields, "serving")?;
     let target = cell(fields, "target")?;
+    Ok((serving, target))
+}
+
+/// HANDOVER REQUEST
+#[tactic(auto, unfolding(crate::specs::A::handover_request))]
+fn handover_request<A: Allocator + Copy>(
+    alloc: A,
+    fields: &str,
+) -> Result<Bssmap<A>, FieldFault<'_>>
+    ensures read { IfOk result (λ message. said.handover_request fields.now ≡ Some message) }
+    ensures unread { IfErr result (λ fault. fault ≢ NoMemory →
+        said.handover_request {A = A} fields.now ≡ None) }
+{
+    let (serving, target) = request_cells(fields)?;
     let channel = Octets::from_vec(octets(alloc, fields, "channel", 2)?);
     let encryption = Octets::from_vec(octets(alloc, fields, "encryption", 1)?);
     let classmark = classmark(alloc, fields)?;

@@ -22,20 +22,40 @@ fn channel(fields: &str) -> Result<ChanBits, FieldFault<'_>>
     })
 }
 
-/// The fields of DATA REQUEST and of DATA INDICATION: channel, link identifier and layer 3 message.
-#[tactic(auto, unfolding(crate::specs::Abis::data_fields))]
-fn data_fields<A: Allocator>(
-    alloc: A,
-    fields: &str,
-) -> Result<(ChanBits, u8, Octets<A>), FieldFault<'_>>
-    ensures read { IfOk result (λ found. said.data_fields fields.now ≡ Some found) }
-    ensures unread { IfErr result (λ fault. fault ≢ NoMemory → said.data_fields fields.now ≡ None) }
+/// DATA REQUEST
+#[tactic(auto, unfolding(crate::specs::Abis::data_request))]
+fn data_request<A: Allocator>(alloc: A, fields: &str) -> Result<Rsl<A>, FieldFault<'_>>
+    ensures read { IfOk result (λ message. said.data_request fields.now ≡ Some message) }
+    ensures unread { IfErr result (λ fault. fault ≢ NoMemory →
+        said.data_request {A = A} fields.now ≡ None) }
 {
     only_keys(fields, "tn link layer3")?;
     let channel = channel(fields)?;
     let link = octet(fields, "link")?;
-    let layer3 = octets(alloc, fields, "layer3", 1)?;
-    Ok((channel, link, Octets::from_vec(layer3)))
+    let layer3 = Octets::from_vec(octets(alloc, fields, "layer3", 1)?);
+    Ok(Rsl::DataRequest {
+        channel,
+        link,
+        layer3,
+    })
+}
+
+/// DATA INDICATION
+#[tactic(auto, unfolding(crate::specs::Abis::data_indication))]
+fn data_indication<A: Allocator>(alloc: A, fields: &str) -> Result<Rsl<A>, FieldFault<'_>>
+    ensures read { IfOk result (λ message. said.data_indication fields.now ≡ Some message) }
+    ensures unread { IfErr result (λ fault. fault ≢ NoMemory →
+        said.data_indication {A = A} fields.now ≡ None) }
+{
+    only_keys(fields, "tn link layer3")?;
+    let channel = channel(fields)?;
+    let link = octet(fields, "link")?;
+    let layer3 = Octets::from_vec(octets(alloc, fields, "layer3", 1)?);
+    Ok(Rsl::DataIndication {
+        channel,
+        link,
+        layer3,
+    })
 }
 
 /// CHANNEL ACTIVATION
@@ -105,7 +125,9 @@ fn measurement<A: Allocator + Copy>(alloc: A, fields: &str) -> Result<Rsl<A>, Fi
     let number = octet(fields, "number")?;
     let power = octet(fields, "power")?;
     let uplink = Octets::from_vec(octets(alloc, fields, "uplink", 0)?);
-    let layer3 = optional_octets(alloc, fields, "layer3", 1)?.map(|octets| Octets::from_vec(octets));
+    let layer3 = optional_octets(alloc, fields, "layer3", 1)?.map(|octets| Octets::from_vec(
+        octets,
+    ));
     Ok(Rsl::MeasurementResult {
         channel,
         number,
@@ -165,22 +187,8 @@ fn message_of<'a, A: Allocator + Copy>(
         said.message_of {A = A} name.now fields.now ≡ None) }
 {
     match name {
-        "DATA REQUEST" => {
-            let (channel, link, layer3) = data_fields(alloc, fields)?;
-            Ok(Rsl::DataRequest {
-                channel,
-                link,
-                layer3,
-            })
-        }
-        "DATA INDICATION" => {
-            let (channel, link, layer3) = data_fields(alloc, fields)?;
-            Ok(Rsl::DataIndication {
-                channel,
-                link,
-                layer3,
-            })
-        }
+        "DATA REQUEST" => Ok(data_request(alloc, fields)?),
+        "DATA INDICATION" => Ok(data_indication(alloc, fields)?),
         "CHANNEL ACTIVATION" => Ok(activation(alloc, fields)?),
         "MEASUREMENT RESULT" => Ok(measurement(alloc, fields)?),
         name => short_message(name, fields),
