@@ -11,6 +11,7 @@ pub mod check;
 mod controllers;
 mod course;
 pub mod decoded;
+pub mod encoded;
 pub mod entries;
 pub mod files;
 mod heard;

@@ -54,6 +54,11 @@ pub enum Job<'a> {
         asked: Asked,
         path: &'a str,
     },
+    /// A message, written in words, is printed in hexadecimal.
+    Encode {
+        link: Link,
+        text: &'a str,
+    },
     /// A number of a trace or of a message is said in words.
     Explain(Question),
     /// A text is shown: the help that was asked for, or the version.
@@ -225,6 +230,40 @@ fn all_argument<'a>(alloc: Global) -> Result<Arg<'a>, AllocError> {
         .requires_arg("from")
 }
 
+/// `encode LINK TEXT`
+fn encode_command<'a>(alloc: Global) -> Result<Command<'a>, AllocError> {
+    let link = argument(alloc, "LINK", "Where the message is for").value_parser(LINKS);
+    let text = argument(
+        alloc,
+        "TEXT",
+        "The message's name and its fields, as decode prints them: the fields in any order",
+    );
+    Command::new(alloc, "encode")
+        .about("Prints a message in octets, as in: encode abis \"RF CHANNEL RELEASE tn=3\"")
+        .after_help(ENCODE_HELP)
+        .arg(link)?
+        .arg(text)
+}
+
+/// What stands behind the help of `encode`.
+const ENCODE_HELP: &str = "\
+Links: rr is the radio path (TS 44.018), a the switching centre (TS 48.008), abis the base station
+(TS 48.058).
+
+Fields: numbers in decimal, yes as 1 and no as 0, octets in hexadecimal, - for what is absent.
+
+Statuses: 0 the octets are printed, 2 the message is refused, 3 memory was refused.
+
+As in: bsc_lab encode a \"CLEAR COMMAND cause=9\"";
+
+/// The job of `encode`.
+fn encode_job<'a>(encode: &ArgMatches<'a>) -> Option<Job<'a>> {
+    Some(Job::Encode {
+        link: link(encode.get_str("LINK")?)?,
+        text: encode.get_str("TEXT")?,
+    })
+}
+
 /// The whole command line.
 fn lab_command<'a>(alloc: Global) -> Result<Command<'a>, AllocError> {
     Command::new(alloc, "bsc_lab")
@@ -239,6 +278,7 @@ fn lab_command<'a>(alloc: Global) -> Result<Command<'a>, AllocError> {
         .subcommand(rewind_command(alloc)?)?
         .subcommand(check_command(alloc)?)?
         .subcommand(decode_command(alloc)?)?
+        .subcommand(encode_command(alloc)?)?
         .subcommand(explain_command(alloc)?)
 }
 
@@ -287,6 +327,7 @@ fn job_of<'a>(matches: &ArgMatches<'a>) -> Option<Job<'a>> {
             site: check.get_str("SITE")?,
         }),
         ("decode", decode) => decode_job(decode),
+        ("encode", encode) => encode_job(encode),
         ("explain", explain) => Some(Job::Explain(question_of(explain)?)),
         _ => None,
     }

@@ -3,6 +3,7 @@
 mod checked;
 mod crossing;
 mod decoded;
+mod encoded;
 mod external;
 mod failing;
 mod files;
