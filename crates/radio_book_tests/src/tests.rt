@@ -308,19 +308,6 @@ fn moving(stage: Stage, reference: Option<u8>) -> CallRecord {
     }
 }
 
-// The same of call 1 where it comes from another controller.
-fn coming(stage: Stage, reference: Option<u8>) -> CallRecord {
-    CallRecord {
-        serving: None,
-        attempt: Some(Attempt {
-            kind: AttemptKind::Incoming,
-            stage,
-            target: Some(TARGET),
-            reference,
-        }),
-    }
-}
-
 // What an undo answers of an attempt of call 1 at this stage, while its serving channel is on.
 fn undone(stage: Stage, reference: Option<u8>) -> Answer {
     Says(Record(moving(stage, reference), Some(ChanState::On(1))))
@@ -404,102 +391,11 @@ fn a_reference_of_a_cell_is_used_once(rt: HostRuntime) -> Result<(), Fail> {
     answers(&rt, THREE_CHANNELS, &rows)
 }
 
-// The steps of call 1 from its Take to a stage, the reference that its attempt has then, and whether
-// the undo leaves the target waiting for its release.
-type Way = (&'static [Row], Stage, Option<u8>, bool);
-
 const RESERVE: Row = (Step(Reserve(1, 7)), DONE);
 
 const ACTIVATE: Row = (Step(Activate(1)), DONE);
 
 const CONFIRM: Row = (Step(Confirm(TARGET)), Says(Owned(1)));
-
-const REFUSE: Row = (Step(Refuse(TARGET)), Says(Owned(1)));
-
-const WAYS: [Way; 5] = [
-    (&[], Stage::Taken, None, false),
-    (&[RESERVE], Stage::Reserved, Some(7), false),
-    (&[RESERVE, ACTIVATE], Stage::Sent, Some(7), true),
-    (&[RESERVE, ACTIVATE, REFUSE], Stage::Refused, Some(7), false),
-    (
-        &[RESERVE, ACTIVATE, CONFIRM],
-        Stage::Confirmed,
-        Some(7),
-        true,
-    ),
-];
-
-// A target that may be active waits for its release.
-const AWAITED: [Row; 2] = [
-    (Step(Open(7, TARGET)), Says(Refused(ChannelBusy(TARGET)))),
-    (Step(Released(TARGET)), DONE),
-];
-
-// Any other target is free.
-const FREE: [Row; 4] = [
-    (Step(Open(7, TARGET)), DONE),
-    (Step(Confirm(TARGET)), Says(Owned(7))),
-    (Step(Clear(7)), DONE),
-    (Step(Released(TARGET)), DONE),
-];
-
-// Call 1 opens an attempt, goes a way and comes back.
-fn comes_back(
-    rt: &impl Abort,
-    book: &mut Book,
-    kind: Kind,
-    way: Way,
-    answer: Answer,
-) -> Result<(), Fail> {
-    let (steps, _, _, awaited) = way;
-    let after: &[Row] = if awaited { &AWAITED } else { &FREE };
-    play(rt, book, &[(Step(Take(1, kind, TARGET)), DONE)])?;
-    play(rt, book, steps)?;
-    play(rt, book, &[(Step(Undo(1, Why::Asked)), answer)])?;
-    play(rt, book, after)
-}
-
-fn comes_back_and_is_forgotten(
-    rt: &impl Abort,
-    book: &mut Book<Global>,
-    way: Way,
-) -> Result<(), Fail> {
-    let answer = Says(Record(coming(way.1, way.2), None));
-    comes_back(rt, book, Kind::Incoming, way, answer)?;
-    let ends = [
-        (Ask::Usage, holds(0, 0, 0)),
-        (Step(Look(1)), Says(Refused(NoCall))),
-    ];
-    play(rt, book, &ends)
-}
-
-fn comes_back_and_rests(rt: &impl Abort, book: &mut Book<Global>, way: Way) -> Result<(), Fail> {
-    play(rt, book, &STEADY)?;
-    comes_back(rt, book, Kind::Internal, way, undone(way.1, way.2))?;
-    let ends = [
-        (Ask::Usage, holds(1, 1, 0)),
-        (Step(Look(1)), Says(Record(RESTING, Some(ChanState::On(1))))),
-    ];
-    play(rt, book, &ends)
-}
-
-// A call that comes or moves goes a way, and comes back.
-fn goes_and_comes_back(rt: &(impl AllocGlobal + Abort), kind: Kind, way: Way) -> Result<(), Fail> {
-    let mut book = book_of(rt.alloc(), rt.alloc(), THREE_CHANNELS)?;
-    match kind {
-        Kind::Incoming => comes_back_and_is_forgotten(rt, &mut book, way),
-        Kind::Internal => comes_back_and_rests(rt, &mut book, way),
-    }
-}
-
-#[test]
-fn each_stage_of_a_call_that_comes_or_moves_is_undone(rt: HostRuntime) -> Result<(), Fail> {
-    for way in &WAYS {
-        goes_and_comes_back(&rt, Kind::Incoming, *way)?;
-        goes_and_comes_back(&rt, Kind::Internal, *way)?;
-    }
-    Ok(())
-}
 
 #[test]
 fn any_free_channel_is_taken(rt: HostRuntime) -> Result<(), Fail> {
