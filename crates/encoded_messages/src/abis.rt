@@ -32,12 +32,14 @@ fn data_request<A: Allocator>(alloc: A, fields: &str) -> Result<Rsl<A>, FieldFau
     only_keys(fields, "tn link layer3")?;
     let channel = channel(fields)?;
     let link = octet(fields, "link")?;
-    let layer3 = Octets::from_vec(octets(alloc, fields, "layer3", 1)?);
-    Ok(Rsl::DataRequest {
-        channel,
-        link,
-        layer3,
-    })
+    match octets(alloc, fields, "layer3", 1) {
+        Ok(octets) => Ok(Rsl::DataRequest {
+            channel,
+            link,
+            layer3: Octets::from_vec(octets),
+        }),
+        Err(fault) => Err(fault),
+    }
 }
 
 /// DATA INDICATION
@@ -50,12 +52,14 @@ fn data_indication<A: Allocator>(alloc: A, fields: &str) -> Result<Rsl<A>, Field
     only_keys(fields, "tn link layer3")?;
     let channel = channel(fields)?;
     let link = octet(fields, "link")?;
-    let layer3 = Octets::from_vec(octets(alloc, fields, "layer3", 1)?);
-    Ok(Rsl::DataIndication {
-        channel,
-        link,
-        layer3,
-    })
+    match octets(alloc, fields, "layer3", 1) {
+        Ok(octets) => Ok(Rsl::DataIndication {
+            channel,
+            link,
+            layer3: Octets::from_vec(octets),
+        }),
+        Err(fault) => Err(fault),
+    }
 }
 
 /// CHANNEL ACTIVATION
