@@ -8,8 +8,8 @@
 #![tactic(auto)]
 
 pub mod check;
-mod controllers;
-mod course;
+pub mod controllers;
+pub mod course;
 pub mod decoded;
 pub mod encoded;
 pub mod entries;
