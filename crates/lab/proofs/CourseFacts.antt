@@ -115,7 +115,7 @@ all_ran sites inputs c c' run openings none h turns controllers =
       first = positions_of c.controllers;
       openings = openings;
       turns = subst (λ ts. AreTurns (positions_of c.controllers) ts (positions_of run.controllers)) (sym noted)
-        (subst (λ all. AreTurns (positions_of c.controllers) h.turns all) (sym last) h.run);
+          (subst (λ all. AreTurns (positions_of c.controllers) h.turns all) (sym last) h.run);
       scripted = ap (λ ts. scripted ts) noted ∙ h.scripted;
     }
 

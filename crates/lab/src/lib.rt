@@ -23,6 +23,7 @@ pub mod run;
 pub mod script_files;
 mod script_words;
 mod simulators;
+pub mod site_files;
 mod site_reason;
 pub mod tested;
 pub mod turn;
