@@ -9,19 +9,19 @@ use Rattle.ho_procedure.specs.declared.following.Stop.TheVariants as stop
 use Rattle.ho_procedure.specs.declared.decoding.Unread.{Unread}
 use Rattle.ho_procedure.specs.declared.decoding.Unread.TheVariants as unread
 use Rattle.ho_procedure.specs.declared.work.Work.{Work}
-use Rattle.ho_procedure.specs.Choices.{Entry, Choice}
+use Rattle.ho_procedure.specs.Claims.{Entry, Claim}
 use Rattle.ho_procedure.specs.Plan.{Plan, Asking}
 use Rattle.ho_procedure.specs.Going.{Goes}
 
 -- a row of the input was followed up to a step that asks
-abbrev pub StopsInRow : {D A : Type 0} → (D → List Entry) → (D → List Entry → Choice → Type 0) → Work D A → (Plan → Type 0) → Work D A → Type 0
-StopsInRow log may w IsRow w' = (p : Plan) × IsRow p × Goes log may w p w' Asking
+abbrev pub StopsInRow : {D A : Type 0} → (D → List Entry) → (D → List Entry → Claim → Type 0) → Work D A → (Plan → Type 0) → Work D A → Type 0
+StopsInRow log says w IsRow w' = (p : Plan) × IsRow p × Goes log says w p w' Asking
 
 -- Octets that can't be read, or whose memory was refused, leave all as it was; else the row was followed so far.
-abbrev pub Stopped : {D A : Type 0} → (D → List Entry) → (D → List Entry → Choice → Type 0) → Work D A → (Plan → Type 0) → (Link → Bad → Type 0) → Type 0 → Work D A → Stop → Type 0
-Stopped log may w IsRow CantBeRead MayRefuse w' (stop.Unread l b) = CantBeRead l b × (w' ≡ w)
-Stopped log may w IsRow CantBeRead MayRefuse w' stop.NoMemory = StopsInRow log may w IsRow w' ⊎ (MayRefuse × (w' ≡ w))
-Stopped log may w IsRow CantBeRead MayRefuse w' (stop.Foreign place) = StopsInRow log may w IsRow w'
+abbrev pub Stopped : {D A : Type 0} → (D → List Entry) → (D → List Entry → Claim → Type 0) → Work D A → (Plan → Type 0) → (Link → Bad → Type 0) → Type 0 → Work D A → Stop → Type 0
+Stopped log says w IsRow CantBeRead MayRefuse w' (stop.Unread l b) = CantBeRead l b × (w' ≡ w)
+Stopped log says w IsRow CantBeRead MayRefuse w' stop.NoMemory = StopsInRow log says w IsRow w' ⊎ (MayRefuse × (w' ≡ w))
+Stopped log says w IsRow CantBeRead MayRefuse w' (stop.Foreign place) = StopsInRow log says w IsRow w'
 
 abbrev pub IsForeignStop : Stop → Type 0
 IsForeignStop (stop.Unread l b) = ⊥

@@ -15,7 +15,7 @@ use Rattle.ho_procedure.specs.declared.exchange.Link.{Link}
 use Rattle.ho_procedure.specs.declared.exchange.Bad.{Bad}
 use Rattle.ho_procedure.specs.declared.exchange.Fault.{Fault}
 use Rattle.ho_procedure.specs.declared.exchange.Fault.TheVariants.{Undecoded, NoMemory, Desk}
-use Rattle.ho_procedure.specs.Choices.{Entry, Choice}
+use Rattle.ho_procedure.specs.Claims.{Entry, Claim}
 use Rattle.ho_procedure.specs.Decoding.{IsAbis, IsUnreadAbis, IsUnreadA}
 use Rattle.ho_procedure.specs.Sent.{Sent, all_sent}
 use Rattle.ho_procedure.specs.Windows.{Kept}
@@ -48,19 +48,19 @@ KeepsOctets (inbound.Operator line) = ⊥
 
 -- Some trace follows a plan so far: its entries are what the view's log gained, its messages these, its choices what the
 -- view may choose, and the reports of each call are those after it.
-pub record Handles {D : Type 0} (log : D → List Entry) (may : D → List Entry → Choice → Type 0) (v : D) (windows : Kept) (p : Plan) (v' : D) (windows' : Kept) (out : List Sent) (u : Until) : Type 0 where
+pub record Handles {D : Type 0} (log : D → List Entry) (says : D → List Entry → Claim → Type 0) (v : D) (windows : Kept) (p : Plan) (v' : D) (windows' : Kept) (out : List Sent) (u : Until) : Type 0 where
   pub trace : List Step
   pub leads : LeadsUntil p trace u
   pub entries : log v' ≡ log v ++ entries_of trace
   pub messages : out ≡ messages_of trace
-  pub choices : ChoicesAt (may v) (log v) trace
+  pub choices : ChoicesAt (says v) (log v) trace
   pub reports : (call : ℕ) → last_reports windows' call ≡ reports_after call trace (last_reports windows call)
 
 -- What the handling comes to where memory was refused, or the view's desk didn't know its last receipt: the row was followed
 -- up to a step that asks; or nothing was asked yet, and the message keeps octets, whose memory was refused.
-abbrev pub Stops : {A D : Type 0} → (D → List Entry) → (D → List Entry → Choice → Type 0) → SiteView → D → Kept → Inbound A → D → Kept → List Sent → Type 0
-Stops log may site v windows input v' windows' out =
-    ((p : Plan) × IsRow site (last_reports windows) input p × Handles log may v windows p v' windows' out Asking) ⊎ (KeepsOctets input × (v' ≡ v) × (windows' ≡ windows) × (out ≡ []))
+abbrev pub Stops : {A D : Type 0} → (D → List Entry) → (D → List Entry → Claim → Type 0) → SiteView → D → Kept → Inbound A → D → Kept → List Sent → Type 0
+Stops log says site v windows input v' windows' out =
+    ((p : Plan) × IsRow site (last_reports windows) input p × Handles log says v windows p v' windows' out Asking) ⊎ (KeepsOctets input × (v' ≡ v) × (windows' ≡ windows) × (out ≡ []))
 
 -- the messages that are owed after a fault
 abbrev pub owed_in : {A : Type 0} → Fault A → List Sent

@@ -11,7 +11,7 @@ use Rattle.radio_book.specs.declared.event.Event.{Event}
 use Rattle.radio_book.specs.declared.event.Event.TheVariants.{Open, Clear, Look, Take, Reserve, Activate, Command, Complete, Undo, Confirm, Refuse, Detect, Released, Owner, Require, Order, Left}
 use Rattle.radio_book.specs.declared.event.Reply.{Reply}
 use Rattle.radio_book.specs.declared.event.Reply.TheVariants.{Done, Record, Owned, Refused}
-use Rattle.ho_procedure.specs.Choices.{Entry, Choice, NoneFree, Chosen}
+use Rattle.ho_procedure.specs.Claims.{Entry, Claim, NoneFree, Chosen}
 use Rattle.ho_procedure.specs.Sent.{Sent}
 
 -- What is done with one input, step by step: an event is asked, and the reply decides the next step; some free channel of
@@ -107,17 +107,17 @@ messages_of [] = []
 messages_of (s ∷ t) = messages_in s ++ messages_of t
 
 -- the choices of a trace, each made after the entries before it
-abbrev pub ChoiceIn : (Choice → Type 0) → Step → Type 0
-ChoiceIn may (Asked e r) = Unit {0}
-ChoiceIn may (Chose e r) = may (Chosen e)
-ChoiceIn may (FoundNone cell) = may (NoneFree cell)
-ChoiceIn may (Posted m) = Unit {0}
-ChoiceIn may (Noted c reports) = Unit {0}
-ChoiceIn may (Ranked found) = Unit {0}
+abbrev pub ChoiceIn : (Claim → Type 0) → Step → Type 0
+ChoiceIn says (Asked e r) = Unit {0}
+ChoiceIn says (Chose e r) = says (Chosen e)
+ChoiceIn says (FoundNone cell) = says (NoneFree cell)
+ChoiceIn says (Posted m) = Unit {0}
+ChoiceIn says (Noted c reports) = Unit {0}
+ChoiceIn says (Ranked found) = Unit {0}
 
-abbrev pub ChoicesAt : (List Entry → Choice → Type 0) → List Entry → List Step → Type 0
-ChoicesAt may log [] = Unit {0}
-ChoicesAt may log (s ∷ t) = ChoiceIn (may log) s × ChoicesAt may (log ++ entries_in s) t
+abbrev pub ChoicesAt : (List Entry → Claim → Type 0) → List Entry → List Step → Type 0
+ChoicesAt says log [] = Unit {0}
+ChoicesAt says log (s ∷ t) = ChoiceIn (says log) s × ChoicesAt says (log ++ entries_in s) t
 
 -- an event is accepted where its reply isn't a refusal
 abbrev pub is_accepted : Reply → Bool

@@ -1,6 +1,6 @@
 //! The controller: what it does for each input.
 ghost use Rattle.std.specs.Prelude.{◌≡◌, ◌⊎◌, ℕ, List, [], IfOk, IfErr, Err};
-ghost use Rattle.ho_procedure.specs.Choices.{Entry, Choice};
+ghost use Rattle.ho_procedure.specs.Claims.{Entry, Claim};
 ghost use Rattle.ho_procedure.specs.Sent.{all_sent};
 ghost use Rattle.ho_procedure.specs.Handling.{Stops, IsRow, IsUndecoded, AnswersFault, Handles, owed_in, IsUndecodedFault, IsDeskFault};
 ghost use Rattle.ho_procedure.specs.Plan.{Plan, Ends, At};
@@ -88,7 +88,7 @@ impl<D: DeskView + Drop, A: Allocator + Copy> Controller<D, A> {
     pub fn handle(&mut self, input: Inbound<A>) -> Result<Vec<Outbound<A>, A>, Fault<A>>
         ensures ok { IfOk result (λ out. (p : Plan) ×
             IsRow {A = A} self.old.2 (last_reports self.old.1) input p ×
-            Handles D.log D.choice_at self.old.0 self.old.1 p self.new.0 self.new.1
+            Handles D.log D.says self.old.0 self.old.1 p self.new.0 self.new.1
             (all_sent out.items) (At Ends)) }
         ensures undecoded { (link : Link) → (bad : Bad) →
             result ≡ Err (Fault.Undecoded link bad) → IsUndecoded {A = A} input link bad }
@@ -97,12 +97,12 @@ impl<D: DeskView + Drop, A: Allocator + Copy> Controller<D, A> {
         ensures unchanged { IfErr result (λ f. IsUndecodedFault f →
             (self.new.0 ≡ self.old.0) × (self.new.1 ≡ self.old.1)) }
         ensures stops { IfErr result (λ f. IsUndecodedFault f ⊎
-            Stops {A = A} D.log D.choice_at self.old.2 self.old.0 self.old.1 input
+            Stops {A = A} D.log D.says self.old.2 self.old.0 self.old.1 input
             self.new.0 self.new.1 (owed_in f)) }
         ensures site { self.new.2 ≡ self.old.2 }
         ensures foreign { IfErr result (λ f. IsDeskFault f → D.may_be_foreign self.old.0) }
-        ensures choice_kept { (es : List Entry) → (choice : Choice) →
-            D.choice_at self.new.0 es choice → D.choice_at self.old.0 es choice }
+        ensures said { (es : List Entry) → (claim : Claim) →
+            D.says self.new.0 es claim → D.says self.old.0 es claim }
         ensures foreign_kept { D.may_be_foreign self.new.0 → D.may_be_foreign self.old.0 }
     {
         rsl_messages::reading_is_unique::<A>();

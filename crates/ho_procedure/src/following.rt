@@ -69,9 +69,9 @@ fn follow_line<D: DeskView + Drop, A: Allocator + Copy>(
     site: &Site<A>,
     line: Line,
 ) -> Result<(), DeskFault>
-    ensures row { OnOk result (Goes D.log D.choice_at work.old
+    ensures row { OnOk result (Goes D.log D.says work.old
         (line_plan site.now line) work.new (At Ends)) }
-    ensures stops { OnErr result (Goes D.log D.choice_at work.old
+    ensures stops { OnErr result (Goes D.log D.says work.old
         (line_plan site.now line) work.new Asking) }
     ensures foreign { IfErr result (λ f. IsForeign f → D.may_be_foreign work.old.view) }
     ensures foreign_kept { D.may_be_foreign work.new.view → D.may_be_foreign work.old.view }
@@ -92,9 +92,9 @@ fn follow_mobile<D: DeskView + Drop, A: Allocator + Copy>(
     chan: ChanId,
     inside: &Option<Rr>,
 ) -> Result<(), DeskFault>
-    ensures row { OnOk result (Goes D.log D.choice_at work.old
+    ensures row { OnOk result (Goes D.log D.says work.old
         (mobile_plan site.now chan inside.now) work.new (At Ends)) }
-    ensures stops { OnErr result (Goes D.log D.choice_at work.old
+    ensures stops { OnErr result (Goes D.log D.says work.old
         (mobile_plan site.now chan inside.now) work.new Asking) }
     ensures foreign { IfErr result (λ f. IsForeign f → D.may_be_foreign work.old.view) }
     ensures foreign_kept { D.may_be_foreign work.new.view → D.may_be_foreign work.old.view }
@@ -121,10 +121,10 @@ fn follow_measured<D: DeskView + Drop, A: Allocator + Copy>(
     inside: &Option<Rr>,
 ) -> Result<(), DeskFault>
     requires { work.old.windows.width ≡ site.now.handover.window }
-    ensures row { OnOk result (Goes D.log D.choice_at work.old
+    ensures row { OnOk result (Goes D.log D.says work.old
         (measured_plan site.now (last_reports work.old.windows) chan inside.now)
         work.new (At Ends)) }
-    ensures stops { OnErr result (Goes D.log D.choice_at work.old
+    ensures stops { OnErr result (Goes D.log D.says work.old
         (measured_plan site.now (last_reports work.old.windows) chan inside.now)
         work.new Asking) }
     ensures foreign { IfErr result (λ f. IsForeign f → D.may_be_foreign work.old.view) }
@@ -153,10 +153,10 @@ fn follow_abis<D: DeskView + Drop, A: Allocator + Copy>(
     inside: &Option<Rr>,
 ) -> Result<(), DeskFault>
     requires { work.old.windows.width ≡ site.now.handover.window }
-    ensures row { OnOk result (Goes D.log D.choice_at work.old
+    ensures row { OnOk result (Goes D.log D.says work.old
         (abis_plan site.now (last_reports work.old.windows) chan message.now inside.now)
         work.new (At Ends)) }
-    ensures stops { OnErr result (Goes D.log D.choice_at work.old
+    ensures stops { OnErr result (Goes D.log D.says work.old
         (abis_plan site.now (last_reports work.old.windows) chan message.now inside.now)
         work.new Asking) }
     ensures foreign { IfErr result (λ f. IsForeign f → D.may_be_foreign work.old.view) }
@@ -185,9 +185,9 @@ fn follow_a<D: DeskView + Drop, A: Allocator + Copy>(
     message: &Bssmap<A>,
 ) -> Result<(), DeskFault>
     requires { CanBePassedOn message.now }
-    ensures row { OnOk result (Goes D.log D.choice_at work.old
+    ensures row { OnOk result (Goes D.log D.says work.old
         (a_plan site.now call message.now) work.new (At Ends)) }
-    ensures stops { OnErr result (Goes D.log D.choice_at work.old
+    ensures stops { OnErr result (Goes D.log D.says work.old
         (a_plan site.now call message.now) work.new Asking) }
     ensures foreign { IfErr result (λ f. IsForeign f → D.may_be_foreign work.old.view) }
     ensures foreign_kept { D.may_be_foreign work.new.view → D.may_be_foreign work.old.view }
@@ -229,8 +229,8 @@ fn follow_abis_octets<D: DeskView + Drop, A: Allocator + Copy>(
     ensures ok { OnOk result ((p : Plan) × ((message : Rsl A) × (inside : Option Rr) ×
         IsAbis octets.now message inside × (p ≡ abis_plan site.now
         (last_reports work.old.windows) (chan_of cell trx message) message inside)) ×
-        Goes D.log D.choice_at work.old p work.new (At Ends)) }
-    ensures stops { IfErr result (Stopped D.log D.choice_at work.old
+        Goes D.log D.says work.old p work.new (At Ends)) }
+    ensures stops { IfErr result (Stopped D.log D.says work.old
         (λ p. (message : Rsl A) × (inside : Option Rr) ×
         IsAbis octets.now message inside × (p ≡ abis_plan site.now
         (last_reports work.old.windows) (chan_of cell trx message) message inside))
@@ -260,8 +260,8 @@ fn follow_a_octets<D: DeskView + Drop, A: Allocator + Copy>(
 ) -> Result<(), Stop>
     ensures ok { OnOk result ((p : Plan) × ((message : Bssmap A) ×
         interface_a.IsTextOf message octets.now × (p ≡ a_plan site.now call message)) ×
-        Goes D.log D.choice_at work.old p work.new (At Ends)) }
-    ensures stops { IfErr result (Stopped D.log D.choice_at work.old
+        Goes D.log D.says work.old p work.new (At Ends)) }
+    ensures stops { IfErr result (Stopped D.log D.says work.old
         (λ p. (message : Bssmap A) × interface_a.IsTextOf message octets.now ×
         (p ≡ a_plan site.now call message))
         (IsUnreadA A octets.now)
@@ -290,8 +290,8 @@ pub(crate) fn follow<D: DeskView + Drop, A: Allocator + Copy>(
     requires { work.old.windows.width ≡ site.now.handover.window }
     ensures ok { OnOk result ((p : Plan) ×
         IsRow {A = A} site.now (last_reports work.old.windows) input p ×
-        Goes D.log D.choice_at work.old p work.new (At Ends)) }
-    ensures stops { IfErr result (Stopped D.log D.choice_at work.old
+        Goes D.log D.says work.old p work.new (At Ends)) }
+    ensures stops { IfErr result (Stopped D.log D.says work.old
         (IsRow {A = A} site.now (last_reports work.old.windows) input)
         (IsUndecoded {A = A} input) (KeepsOctets {A = A} input) work.new) }
     ensures foreign { IfErr result (λ f. IsForeignStop f → D.may_be_foreign work.old.view) }

@@ -28,9 +28,9 @@ fn activate<D: DeskView + Drop, A: Allocator + Copy>(
 ) -> Result<(), DeskFault>
     requires room { 1 ≤ work.old.owed.room }
     requires timeslot { target.tn < 8 }
-    ensures row { OnOk result (Goes D.log D.choice_at work.old
+    ensures row { OnOk result (Goes D.log D.says work.old
         (activate_plan call target reference) work.new (At Ends)) }
-    ensures stops { OnErr result (Goes D.log D.choice_at work.old
+    ensures stops { OnErr result (Goes D.log D.says work.old
         (activate_plan call target reference) work.new Asking) }
     ensures foreign { IfErr result (λ f. IsForeign f → D.may_be_foreign work.old.view) }
     ensures foreign_kept { D.may_be_foreign work.new.view → D.may_be_foreign work.old.view }
@@ -51,9 +51,9 @@ pub(super) fn go_on_taken<D: DeskView + Drop, A: Allocator + Copy>(
     reply: Reply,
 ) -> Result<(), DeskFault>
     requires { 1 ≤ work.old.owed.room }
-    ensures row { OnOk result (Goes D.log D.choice_at work.old
+    ensures row { OnOk result (Goes D.log D.says work.old
         (taken_plan call target reply) work.new (At Ends)) }
-    ensures stops { OnErr result (Goes D.log D.choice_at work.old
+    ensures stops { OnErr result (Goes D.log D.says work.old
         (taken_plan call target reply) work.new Asking) }
     ensures foreign { IfErr result (λ f. IsForeign f → D.may_be_foreign work.old.view) }
     ensures foreign_kept { D.may_be_foreign work.new.view → D.may_be_foreign work.old.view }
@@ -78,9 +78,9 @@ fn require<D: DeskView + Drop, A: Allocator + Copy>(
     cell: CellId,
 ) -> Result<(), DeskFault>
     requires area { IsSome cell.lac }
-    ensures row { OnOk result (Goes D.log D.choice_at work.old
+    ensures row { OnOk result (Goes D.log D.says work.old
         (require_plan call cell) work.new (At Ends)) }
-    ensures stops { OnErr result (Goes D.log D.choice_at work.old
+    ensures stops { OnErr result (Goes D.log D.says work.old
         (require_plan call cell) work.new Asking) }
     ensures foreign { IfErr result (λ f. IsForeign f → D.may_be_foreign work.old.view) }
     ensures foreign_kept { D.may_be_foreign work.new.view → D.may_be_foreign work.old.view }
@@ -101,9 +101,9 @@ pub(super) fn start<D: DeskView + Drop, A: Allocator + Copy>(
     call: u16,
     cell: u8,
 ) -> Result<Course, DeskFault>
-    ensures goes { IfOk result (λ course. (tail : Plan) → Passes D.log D.choice_at work.old
+    ensures goes { IfOk result (λ course. (tail : Plan) → Passes D.log D.says work.old
         (start_plan site.now call cell tail) work.new (then tail course)) }
-    ensures stops { OnErr result ((tail : Plan) → Goes D.log D.choice_at work.old
+    ensures stops { OnErr result ((tail : Plan) → Goes D.log D.says work.old
         (start_plan site.now call cell tail) work.new Asking) }
     ensures foreign { IfErr result (λ f. IsForeign f → D.may_be_foreign work.old.view) }
     ensures foreign_kept { D.may_be_foreign work.new.view → D.may_be_foreign work.old.view }
@@ -130,9 +130,9 @@ pub(crate) fn handover<D: DeskView + Drop, A: Allocator + Copy>(
     call: u16,
     cell: u8,
 ) -> Result<(), DeskFault>
-    ensures row { OnOk result (Goes D.log D.choice_at work.old
+    ensures row { OnOk result (Goes D.log D.says work.old
         (handover_plan site.now call cell) work.new (At Ends)) }
-    ensures stops { OnErr result (Goes D.log D.choice_at work.old
+    ensures stops { OnErr result (Goes D.log D.says work.old
         (handover_plan site.now call cell) work.new Asking) }
     ensures foreign { IfErr result (λ f. IsForeign f → D.may_be_foreign work.old.view) }
     ensures foreign_kept { D.may_be_foreign work.new.view → D.may_be_foreign work.old.view }
@@ -147,9 +147,9 @@ pub(crate) fn undo<D: DeskView + Drop, A: Allocator + Copy>(
     work: &mut Work<D, A>,
     call: u16,
 ) -> Result<(), DeskFault>
-    ensures row { OnOk result (Goes D.log D.choice_at work.old
+    ensures row { OnOk result (Goes D.log D.says work.old
         (undo_plan call) work.new (At Ends)) }
-    ensures stops { OnErr result (Goes D.log D.choice_at work.old
+    ensures stops { OnErr result (Goes D.log D.says work.old
         (undo_plan call) work.new Asking) }
     ensures foreign { IfErr result (λ f. IsForeign f → D.may_be_foreign work.old.view) }
     ensures foreign_kept { D.may_be_foreign work.new.view → D.may_be_foreign work.old.view }
@@ -172,9 +172,9 @@ pub(crate) fn expire<D: DeskView + Drop, A: Allocator + Copy>(
     call: u16,
     timer: Timer,
 ) -> Result<(), DeskFault>
-    ensures row { OnOk result (Goes D.log D.choice_at work.old
+    ensures row { OnOk result (Goes D.log D.says work.old
         (expiry_plan call timer) work.new (At Ends)) }
-    ensures stops { OnErr result (Goes D.log D.choice_at work.old
+    ensures stops { OnErr result (Goes D.log D.says work.old
         (expiry_plan call timer) work.new Asking) }
     ensures foreign { IfErr result (λ f. IsForeign f → D.may_be_foreign work.old.view) }
     ensures foreign_kept { D.may_be_foreign work.new.view → D.may_be_foreign work.old.view }

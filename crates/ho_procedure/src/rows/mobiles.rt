@@ -29,9 +29,9 @@ fn try_cells<D: DeskView + Drop, A: Allocator + Copy>(
     call: u16,
     candidates: &[Candidate],
 ) -> Result<(), DeskFault>
-    ensures row { OnOk result (Goes D.log D.choice_at work.old
+    ensures row { OnOk result (Goes D.log D.says work.old
         (try_plan site.now call candidates.now) work.new (At Ends)) }
-    ensures stops { OnErr result (Goes D.log D.choice_at work.old
+    ensures stops { OnErr result (Goes D.log D.says work.old
         (try_plan site.now call candidates.now) work.new Asking) }
     ensures foreign { IfErr result (λ f. IsForeign f → D.may_be_foreign work.old.view) }
     ensures foreign_kept { D.may_be_foreign work.new.view → D.may_be_foreign work.old.view }
@@ -56,11 +56,11 @@ fn note_report<D: DeskView + Drop, A: Allocator + Copy>(
 ) -> Result<(), DeskFault>
     requires ready { IsTrue work.old.windows.is_ready }
     requires width { work.old.windows.width ≡ site.now.handover.window }
-    ensures row { OnOk result (Goes D.log D.choice_at work.old
+    ensures row { OnOk result (Goes D.log D.says work.old
         (rank_plan site.now call cell
         (with_report site.now.handover.window (last_reports work.old.windows call) report.now)
         report.now attempt) work.new (At Ends)) }
-    ensures stops { OnErr result (Goes D.log D.choice_at work.old
+    ensures stops { OnErr result (Goes D.log D.says work.old
         (rank_plan site.now call cell
         (with_report site.now.handover.window (last_reports work.old.windows call) report.now)
         report.now attempt) work.new Asking) }
@@ -84,10 +84,10 @@ pub(crate) fn report<D: DeskView + Drop, A: Allocator + Copy>(
     report: &MeasResults,
 ) -> Result<(), DeskFault>
     requires { work.old.windows.width ≡ site.now.handover.window }
-    ensures row { OnOk result (Goes D.log D.choice_at work.old
+    ensures row { OnOk result (Goes D.log D.says work.old
         (report_plan site.now
         (last_reports work.old.windows) chan report.now) work.new (At Ends)) }
-    ensures stops { OnErr result (Goes D.log D.choice_at work.old
+    ensures stops { OnErr result (Goes D.log D.says work.old
         (report_plan site.now
         (last_reports work.old.windows) chan report.now) work.new Asking) }
     ensures foreign { IfErr result (λ f. IsForeign f → D.may_be_foreign work.old.view) }
@@ -115,9 +115,9 @@ fn complete_internal<D: DeskView + Drop, A: Allocator + Copy>(
     target: ChanId,
     serving: Option<ChanId>,
 ) -> Result<(), DeskFault>
-    ensures row { OnOk result (Goes D.log D.choice_at work.old
+    ensures row { OnOk result (Goes D.log D.says work.old
         (internal_complete site.now call target serving) work.new (At Ends)) }
-    ensures stops { OnErr result (Goes D.log D.choice_at work.old
+    ensures stops { OnErr result (Goes D.log D.says work.old
         (internal_complete site.now call target serving) work.new Asking) }
     ensures foreign { IfErr result (λ f. IsForeign f → D.may_be_foreign work.old.view) }
     ensures foreign_kept { D.may_be_foreign work.new.view → D.may_be_foreign work.old.view }
@@ -147,9 +147,9 @@ fn complete_incoming<D: DeskView + Drop, A: Allocator + Copy>(
     call: u16,
     cause: u8,
 ) -> Result<(), DeskFault>
-    ensures row { OnOk result (Goes D.log D.choice_at work.old
+    ensures row { OnOk result (Goes D.log D.says work.old
         (incoming_complete call cause) work.new (At Ends)) }
-    ensures stops { OnErr result (Goes D.log D.choice_at work.old
+    ensures stops { OnErr result (Goes D.log D.says work.old
         (incoming_complete call cause) work.new Asking) }
     ensures foreign { IfErr result (λ f. IsForeign f → D.may_be_foreign work.old.view) }
     ensures foreign_kept { D.may_be_foreign work.new.view → D.may_be_foreign work.old.view }
@@ -173,9 +173,9 @@ fn complete_rest<D: DeskView + Drop, A: Allocator + Copy>(
     serving: Option<ChanId>,
     attempt: Option<Attempt>,
 ) -> Result<(), DeskFault>
-    ensures row { OnOk result (Goes D.log D.choice_at work.old
+    ensures row { OnOk result (Goes D.log D.says work.old
         (complete_rest site.now call cause chan serving attempt) work.new (At Ends)) }
-    ensures stops { OnErr result (Goes D.log D.choice_at work.old
+    ensures stops { OnErr result (Goes D.log D.says work.old
         (complete_rest site.now call cause chan serving attempt) work.new Asking) }
     ensures foreign { IfErr result (λ f. IsForeign f → D.may_be_foreign work.old.view) }
     ensures foreign_kept { D.may_be_foreign work.new.view → D.may_be_foreign work.old.view }
@@ -201,9 +201,9 @@ pub(crate) fn complete<D: DeskView + Drop, A: Allocator + Copy>(
     chan: ChanId,
     cause: u8,
 ) -> Result<(), DeskFault>
-    ensures row { OnOk result (Goes D.log D.choice_at work.old
+    ensures row { OnOk result (Goes D.log D.says work.old
         (complete_plan site.now chan cause) work.new (At Ends)) }
-    ensures stops { OnErr result (Goes D.log D.choice_at work.old
+    ensures stops { OnErr result (Goes D.log D.says work.old
         (complete_plan site.now chan cause) work.new Asking) }
     ensures foreign { IfErr result (λ f. IsForeign f → D.may_be_foreign work.old.view) }
     ensures foreign_kept { D.may_be_foreign work.new.view → D.may_be_foreign work.old.view }
@@ -231,9 +231,9 @@ fn return_internal<D: DeskView + Drop, A: Allocator + Copy>(
     work: &mut Work<D, A>,
     call: u16,
 ) -> Result<(), DeskFault>
-    ensures row { OnOk result (Goes D.log D.choice_at work.old
+    ensures row { OnOk result (Goes D.log D.says work.old
         (take_back call (λ attempt. Ends)) work.new (At Ends)) }
-    ensures stops { OnErr result (Goes D.log D.choice_at work.old
+    ensures stops { OnErr result (Goes D.log D.says work.old
         (take_back call (λ attempt. Ends)) work.new Asking) }
     ensures foreign { IfErr result (λ f. IsForeign f → D.may_be_foreign work.old.view) }
     ensures foreign_kept { D.may_be_foreign work.new.view → D.may_be_foreign work.old.view }
@@ -254,7 +254,7 @@ fn tell_returned<D: DeskView + Drop, A: Allocator + Copy>(
     cause: u8,
 )
     requires { 1 ≤ work.old.owed.room }
-    ensures row { Goes D.log D.choice_at work.old (tell_returned call cause) work.new (At Ends) }
+    ensures row { Goes D.log D.says work.old (tell_returned call cause) work.new (At Ends) }
     ensures foreign_kept { D.may_be_foreign work.new.view → D.may_be_foreign work.old.view }
 {
     work.send_handover_failure(call, REVERSION_TO_OLD_CHANNEL, Some(cause));
@@ -267,9 +267,9 @@ fn return_outgoing<D: DeskView + Drop, A: Allocator + Copy>(
     call: u16,
     cause: u8,
 ) -> Result<(), DeskFault>
-    ensures row { OnOk result (Goes D.log D.choice_at work.old
+    ensures row { OnOk result (Goes D.log D.says work.old
         (outgoing_return call cause) work.new (At Ends)) }
-    ensures stops { OnErr result (Goes D.log D.choice_at work.old
+    ensures stops { OnErr result (Goes D.log D.says work.old
         (outgoing_return call cause) work.new Asking) }
     ensures foreign { IfErr result (λ f. IsForeign f → D.may_be_foreign work.old.view) }
     ensures foreign_kept { D.may_be_foreign work.new.view → D.may_be_foreign work.old.view }
@@ -290,9 +290,9 @@ fn return_rest<D: DeskView + Drop, A: Allocator + Copy>(
     cause: u8,
     attempt: Option<Attempt>,
 ) -> Result<(), DeskFault>
-    ensures row { OnOk result (Goes D.log D.choice_at work.old
+    ensures row { OnOk result (Goes D.log D.says work.old
         (return_rest call cause attempt) work.new (At Ends)) }
-    ensures stops { OnErr result (Goes D.log D.choice_at work.old
+    ensures stops { OnErr result (Goes D.log D.says work.old
         (return_rest call cause attempt) work.new Asking) }
     ensures foreign { IfErr result (λ f. IsForeign f → D.may_be_foreign work.old.view) }
     ensures foreign_kept { D.may_be_foreign work.new.view → D.may_be_foreign work.old.view }
@@ -326,9 +326,9 @@ pub(crate) fn return_to<D: DeskView + Drop, A: Allocator + Copy>(
     chan: ChanId,
     cause: u8,
 ) -> Result<(), DeskFault>
-    ensures row { OnOk result (Goes D.log D.choice_at work.old
+    ensures row { OnOk result (Goes D.log D.says work.old
         (return_plan chan cause) work.new (At Ends)) }
-    ensures stops { OnErr result (Goes D.log D.choice_at work.old
+    ensures stops { OnErr result (Goes D.log D.says work.old
         (return_plan chan cause) work.new Asking) }
     ensures foreign { IfErr result (λ f. IsForeign f → D.may_be_foreign work.old.view) }
     ensures foreign_kept { D.may_be_foreign work.new.view → D.may_be_foreign work.old.view }

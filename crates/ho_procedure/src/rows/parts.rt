@@ -20,9 +20,9 @@ pub(super) fn owner<D: DeskView + Drop, A: Allocator + Copy>(
     work: &mut Work<D, A>,
     event: Event,
 ) -> Result<Option<u16>, DeskFault>
-    ensures goes { IfOk result (λ found. (next : ℕ → Plan) → Passes D.log D.choice_at work.old
+    ensures goes { IfOk result (λ found. (next : ℕ → Plan) → Passes D.log D.says work.old
         (owned event next) work.new (then_of next found)) }
-    ensures stops { OnErr result ((next : ℕ → Plan) → Goes D.log D.choice_at work.old
+    ensures stops { OnErr result ((next : ℕ → Plan) → Goes D.log D.says work.old
         (owned event next) work.new Asking) }
     ensures owed { work.new.owed ≡ work.old.owed }
     ensures reports { call_dropped event ≡ None → (call : ℕ) →
@@ -45,9 +45,9 @@ pub(super) fn look<D: DeskView + Drop, A: Allocator + Copy>(
     call: u16,
 ) -> Result<Option<Shown>, DeskFault>
     ensures goes { IfOk result (λ found. (next : CallRecord → Option ChanState → Plan) →
-        Passes D.log D.choice_at work.old (looked call next) work.new (then_shown next found)) }
+        Passes D.log D.says work.old (looked call next) work.new (then_shown next found)) }
     ensures stops { OnErr result ((next : CallRecord → Option ChanState → Plan) →
-        Goes D.log D.choice_at work.old (looked call next) work.new Asking) }
+        Goes D.log D.says work.old (looked call next) work.new Asking) }
     ensures owed { work.new.owed ≡ work.old.owed }
     ensures reports { (other : ℕ) →
         last_reports work.new.windows other ≡ last_reports work.old.windows other }
@@ -69,7 +69,7 @@ pub(super) fn release_target<D: DeskView + Drop, A: Allocator + Copy>(
     attempt: Option<Attempt>,
 ) -> Course
     requires { 1 ≤ work.old.owed.room }
-    ensures goes { (tail : Plan) → Passes D.log D.choice_at work.old
+    ensures goes { (tail : Plan) → Passes D.log D.says work.old
         (release_target attempt tail) work.new (then tail result) }
     ensures room { work.old.owed.room ≤ work.new.owed.room + 1 }
     ensures foreign_kept { D.may_be_foreign work.new.view → D.may_be_foreign work.old.view }
@@ -98,7 +98,7 @@ pub(super) fn turn_away<D: DeskView + Drop, A: Allocator + Copy>(
     cause: u8,
 )
     requires { 1 ≤ work.old.owed.room }
-    ensures row { Goes D.log D.choice_at work.old (turn_away call cause) work.new (At Ends) }
+    ensures row { Goes D.log D.says work.old (turn_away call cause) work.new (At Ends) }
     ensures foreign_kept { D.may_be_foreign work.new.view → D.may_be_foreign work.old.view }
 {
     work.send_handover_failure(call, cause, None);
@@ -112,7 +112,7 @@ pub(super) fn tell_failure<D: DeskView + Drop, A: Allocator + Copy>(
     attempt: Option<Attempt>,
 )
     requires { 1 ≤ work.old.owed.room }
-    ensures row { Goes D.log D.choice_at work.old (failure_of call attempt) work.new (At Ends) }
+    ensures row { Goes D.log D.says work.old (failure_of call attempt) work.new (At Ends) }
     ensures foreign_kept { D.may_be_foreign work.new.view → D.may_be_foreign work.old.view }
 {
     let Some(attempt) = attempt else {

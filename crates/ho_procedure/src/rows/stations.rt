@@ -27,9 +27,9 @@ fn send_command<D: DeskView + Drop, A: Allocator + Copy>(
 ) -> Result<(), DeskFault>
     requires room { 1 ≤ work.old.owed.room }
     requires timeslot { serving.tn < 8 }
-    ensures row { OnOk result (Goes D.log D.choice_at work.old
+    ensures row { OnOk result (Goes D.log D.says work.old
         (send_command call serving command.now) work.new (At Ends)) }
-    ensures stops { OnErr result (Goes D.log D.choice_at work.old
+    ensures stops { OnErr result (Goes D.log D.says work.old
         (send_command call serving command.now) work.new Asking) }
     ensures foreign { IfErr result (λ f. IsForeign f → D.may_be_foreign work.old.view) }
     ensures foreign_kept { D.may_be_foreign work.new.view → D.may_be_foreign work.old.view }
@@ -52,9 +52,9 @@ fn command<D: DeskView + Drop, A: Allocator + Copy>(
     reference: Option<u8>,
 ) -> Result<(), DeskFault>
     requires { 1 ≤ work.old.owed.room }
-    ensures row { OnOk result (Goes D.log D.choice_at work.old
+    ensures row { OnOk result (Goes D.log D.says work.old
         (internal_command site.now call target serving reference) work.new (At Ends)) }
-    ensures stops { OnErr result (Goes D.log D.choice_at work.old
+    ensures stops { OnErr result (Goes D.log D.says work.old
         (internal_command site.now call target serving reference) work.new Asking) }
     ensures foreign { IfErr result (λ f. IsForeign f → D.may_be_foreign work.old.view) }
     ensures foreign_kept { D.may_be_foreign work.new.view → D.may_be_foreign work.old.view }
@@ -82,9 +82,9 @@ fn acknowledge<D: DeskView + Drop, A: Allocator + Copy>(
     command: &Rr,
 ) -> Result<(), DeskFault>
     requires { 1 ≤ work.old.owed.room }
-    ensures row { OnOk result (Goes D.log D.choice_at work.old
+    ensures row { OnOk result (Goes D.log D.says work.old
         (acknowledge call command.now) work.new (At Ends)) }
-    ensures stops { OnErr result (Goes D.log D.choice_at work.old
+    ensures stops { OnErr result (Goes D.log D.says work.old
         (acknowledge call command.now) work.new Asking) }
     ensures foreign { IfErr result (λ f. IsForeign f → D.may_be_foreign work.old.view) }
     ensures foreign_kept { D.may_be_foreign work.new.view → D.may_be_foreign work.old.view }
@@ -106,9 +106,9 @@ fn command_incoming<D: DeskView + Drop, A: Allocator + Copy>(
     reference: Option<u8>,
 ) -> Result<(), DeskFault>
     requires { 1 ≤ work.old.owed.room }
-    ensures row { OnOk result (Goes D.log D.choice_at work.old
+    ensures row { OnOk result (Goes D.log D.says work.old
         (incoming_command site.now call target reference) work.new (At Ends)) }
-    ensures stops { OnErr result (Goes D.log D.choice_at work.old
+    ensures stops { OnErr result (Goes D.log D.says work.old
         (incoming_command site.now call target reference) work.new Asking) }
     ensures foreign { IfErr result (λ f. IsForeign f → D.may_be_foreign work.old.view) }
     ensures foreign_kept { D.may_be_foreign work.new.view → D.may_be_foreign work.old.view }
@@ -133,9 +133,9 @@ fn confirm_rest<D: DeskView + Drop, A: Allocator + Copy>(
     attempt: Option<Attempt>,
 ) -> Result<(), DeskFault>
     requires { 1 ≤ work.old.owed.room }
-    ensures row { OnOk result (Goes D.log D.choice_at work.old
+    ensures row { OnOk result (Goes D.log D.says work.old
         (confirm_rest site.now call chan serving attempt) work.new (At Ends)) }
-    ensures stops { OnErr result (Goes D.log D.choice_at work.old
+    ensures stops { OnErr result (Goes D.log D.says work.old
         (confirm_rest site.now call chan serving attempt) work.new Asking) }
     ensures foreign { IfErr result (λ f. IsForeign f → D.may_be_foreign work.old.view) }
     ensures foreign_kept { D.may_be_foreign work.new.view → D.may_be_foreign work.old.view }
@@ -160,9 +160,9 @@ pub(crate) fn confirm<D: DeskView + Drop, A: Allocator + Copy>(
     site: &Site<A>,
     chan: ChanId,
 ) -> Result<(), DeskFault>
-    ensures row { OnOk result (Goes D.log D.choice_at work.old
+    ensures row { OnOk result (Goes D.log D.says work.old
         (confirm_plan site.now chan) work.new (At Ends)) }
-    ensures stops { OnErr result (Goes D.log D.choice_at work.old
+    ensures stops { OnErr result (Goes D.log D.says work.old
         (confirm_plan site.now chan) work.new Asking) }
     ensures foreign { IfErr result (λ f. IsForeign f → D.may_be_foreign work.old.view) }
     ensures foreign_kept { D.may_be_foreign work.new.view → D.may_be_foreign work.old.view }
@@ -191,9 +191,9 @@ fn refuse_target<D: DeskView + Drop, A: Allocator + Copy>(
     call: u16,
 ) -> Result<(), DeskFault>
     requires { 1 ≤ work.old.owed.room }
-    ensures row { OnOk result (Goes D.log D.choice_at work.old
+    ensures row { OnOk result (Goes D.log D.says work.old
         (refused_target call) work.new (At Ends)) }
-    ensures stops { OnErr result (Goes D.log D.choice_at work.old
+    ensures stops { OnErr result (Goes D.log D.says work.old
         (refused_target call) work.new Asking) }
     ensures foreign { IfErr result (λ f. IsForeign f → D.may_be_foreign work.old.view) }
     ensures foreign_kept { D.may_be_foreign work.new.view → D.may_be_foreign work.old.view }
@@ -211,9 +211,9 @@ pub(crate) fn refuse<D: DeskView + Drop, A: Allocator + Copy>(
     work: &mut Work<D, A>,
     chan: ChanId,
 ) -> Result<(), DeskFault>
-    ensures row { OnOk result (Goes D.log D.choice_at work.old
+    ensures row { OnOk result (Goes D.log D.says work.old
         (refuse_plan chan) work.new (At Ends)) }
-    ensures stops { OnErr result (Goes D.log D.choice_at work.old
+    ensures stops { OnErr result (Goes D.log D.says work.old
         (refuse_plan chan) work.new Asking) }
     ensures foreign { IfErr result (λ f. IsForeign f → D.may_be_foreign work.old.view) }
     ensures foreign_kept { D.may_be_foreign work.new.view → D.may_be_foreign work.old.view }
@@ -240,9 +240,9 @@ pub(crate) fn release<D: DeskView + Drop, A: Allocator + Copy>(
     work: &mut Work<D, A>,
     chan: ChanId,
 ) -> Result<(), DeskFault>
-    ensures row { OnOk result (Goes D.log D.choice_at work.old
+    ensures row { OnOk result (Goes D.log D.says work.old
         (released_plan chan) work.new (At Ends)) }
-    ensures stops { OnErr result (Goes D.log D.choice_at work.old
+    ensures stops { OnErr result (Goes D.log D.says work.old
         (released_plan chan) work.new Asking) }
     ensures foreign { IfErr result (λ f. IsForeign f → D.may_be_foreign work.old.view) }
     ensures foreign_kept { D.may_be_foreign work.new.view → D.may_be_foreign work.old.view }
@@ -257,9 +257,9 @@ pub(crate) fn fail<D: DeskView + Drop, A: Allocator + Copy>(
     work: &mut Work<D, A>,
     chan: ChanId,
 ) -> Result<(), DeskFault>
-    ensures row { OnOk result (Goes D.log D.choice_at work.old
+    ensures row { OnOk result (Goes D.log D.says work.old
         (connection_failure_plan chan) work.new (At Ends)) }
-    ensures stops { OnErr result (Goes D.log D.choice_at work.old
+    ensures stops { OnErr result (Goes D.log D.says work.old
         (connection_failure_plan chan) work.new Asking) }
     ensures foreign { IfErr result (λ f. IsForeign f → D.may_be_foreign work.old.view) }
     ensures foreign_kept { D.may_be_foreign work.new.view → D.may_be_foreign work.old.view }
@@ -281,7 +281,7 @@ pub(crate) fn fail<D: DeskView + Drop, A: Allocator + Copy>(
 #[tactic(auto, using(crate::proofs::Asking::row_steps), unfolding(crate::specs::Procedure::tell_detected))]
 fn tell_detected<D: DeskView + Drop, A: Allocator + Copy>(work: &mut Work<D, A>, call: u16)
     requires { 1 ≤ work.old.owed.room }
-    ensures row { Goes D.log D.choice_at work.old (tell_detected call) work.new (At Ends) }
+    ensures row { Goes D.log D.says work.old (tell_detected call) work.new (At Ends) }
     ensures foreign_kept { D.may_be_foreign work.new.view → D.may_be_foreign work.old.view }
 {
     work.send_handover_detect(call);
@@ -295,7 +295,7 @@ fn detect_rest<D: DeskView + Drop, A: Allocator + Copy>(
     attempt: Option<Attempt>,
 )
     requires { 1 ≤ work.old.owed.room }
-    ensures row { Goes D.log D.choice_at work.old (detect_rest call attempt) work.new (At Ends) }
+    ensures row { Goes D.log D.says work.old (detect_rest call attempt) work.new (At Ends) }
     ensures foreign_kept { D.may_be_foreign work.new.view → D.may_be_foreign work.old.view }
 {
     let Some(attempt) = attempt else {
@@ -313,9 +313,9 @@ pub(crate) fn detect<D: DeskView + Drop, A: Allocator + Copy>(
     work: &mut Work<D, A>,
     chan: ChanId,
 ) -> Result<(), DeskFault>
-    ensures row { OnOk result (Goes D.log D.choice_at work.old
+    ensures row { OnOk result (Goes D.log D.says work.old
         (detect_plan chan) work.new (At Ends)) }
-    ensures stops { OnErr result (Goes D.log D.choice_at work.old
+    ensures stops { OnErr result (Goes D.log D.says work.old
         (detect_plan chan) work.new Asking) }
     ensures foreign { IfErr result (λ f. IsForeign f → D.may_be_foreign work.old.view) }
     ensures foreign_kept { D.may_be_foreign work.new.view → D.may_be_foreign work.old.view }
