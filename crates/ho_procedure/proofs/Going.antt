@@ -8,11 +8,13 @@ use Rattle.radio_book.specs.declared.event.Kind.{Kind}
 use Rattle.radio_book.specs.declared.event.Event.{Event}
 use Rattle.radio_book.specs.declared.event.Event.TheVariants.{Take, Reserve}
 use Rattle.radio_book.specs.declared.event.Reply.{Reply}
+use Rattle.radio_desk.specs.declared.desk.DeskFault.{DeskFault}
+use Rattle.radio_desk.specs.declared.desk.DeskFault.TheVariants.{Foreign, NoMemory}
 use Rattle.ho_procedure.specs.Claims.{Entry, Claim, NoneFree, Chosen}
 use Rattle.ho_procedure.specs.Sent.{Sent}
-use Rattle.ho_procedure.specs.Plan.{Plan, Asks, Takes, Reserves, Sends, Notes, Ranks, Step, Asked, Chose, FoundNone, Posted, Noted, Ranked, AreCandidates, Moves, Leads, IsAsking, Until, At, Asking, LeadsUntil, entries_in, entries_of, messages_in, messages_of, ChoiceIn, ChoicesAt, is_accepted, call_dropped, dropped_if, reports_by, reports_after}
+use Rattle.ho_procedure.specs.Plan.{Plan, Ends, Asks, Takes, Reserves, Sends, Notes, Ranks, Step, Asked, Chose, FoundNone, Posted, Noted, Ranked, AreCandidates, Moves, Leads, AsksDesk, TakesMemory, Until, At, AtMemory, AtDesk, LeadsUntil, entries_in, entries_of, messages_in, messages_of, ChoiceIn, ChoicesAt, is_accepted, call_dropped, dropped_if, reports_by, reports_after}
 use Rattle.ho_procedure.specs.declared.work.Work.{Work}
-use Rattle.ho_procedure.specs.Going.{Run, Goes, Passes, last_reports}
+use Rattle.ho_procedure.specs.Going.{Run, Goes, Passes, last_reports, stops_at}
 
 -- traces that lead on may be put together
 pub leads-append : (p q r : Plan) (t u : List Step) → Leads p t q → Leads q u r → Leads p (t ++ u) r
@@ -21,7 +23,8 @@ leads-append p q r (s ∷ t) u f g = (f.0, f.1, leads-append f.0 q r t u f.2 g)
 
 pub leads-until : (p q : Plan) (t u : List Step) (z : Until) → Leads p t q → LeadsUntil q u z → LeadsUntil p (t ++ u) z
 leads-until p q t u (At r) f g = leads-append p q r t u f g
-leads-until p q t u Asking f g = (g.0, leads-append p q g.0 t u f g.1, g.2)
+leads-until p q t u AtMemory f g = (g.0, leads-append p q g.0 t u f g.1, g.2)
+leads-until p q t u AtDesk f g = (g.0, leads-append p q g.0 t u f g.1, g.2)
 
 pub entries_of-append : (t u : List Step) → entries_of (t ++ u) ≡ entries_of t ++ entries_of u
 entries_of-append [] u = refl
@@ -72,12 +75,29 @@ pub stays : {D A : Type 0} (log : D → List Entry) (says : D → List Entry →
 unfolding Goes
 stays log says w p q e = record { trace = []; leads = e; entries = sym (append-nil (log w.view)); messages = sym (append-nil w.owed.items); choices = tt; reports = λ call. refl; width = refl; said = λ es claim h. h }
 
--- nothing is done where the plan asks next
-pub waits : {D A : Type 0} (log : D → List Entry) (says : D → List Entry → Claim → Type 0) (w w' : Work D A) (p : Plan)
+-- a step that asks the desk takes memory too
+pub asking_takes : (p : Plan) → AsksDesk p → TakesMemory p
+asking_takes Ends asks = asks
+asking_takes (Asks e next) asks = tt
+asking_takes (Takes c k cell none next) asks = tt
+asking_takes (Reserves c next) asks = tt
+asking_takes (Sends m next) asks = asks
+asking_takes (Notes c reports next) asks = asks
+asking_takes (Ranks site reports serving next) asks = absurd asks
+
+-- nothing is done where the plan asks the desk next, and this fault comes
+pub waits : {D A : Type 0} (log : D → List Entry) (says : D → List Entry → Claim → Type 0) (w w' : Work D A) (f : DeskFault) (p : Plan)
     → log w'.view ≡ log w.view → w'.owed.items ≡ w.owed.items → ((call : ℕ) → last_reports w'.windows call ≡ last_reports w.windows call) → w'.windows.width ≡ w.windows.width
-    → ((es : List Entry) → (claim : Claim) → says w'.view es claim → says w.view es claim) → IsAsking p → Goes log says w p w' Asking
-unfolding Goes
-waits log says w w' p l o n i k a = record { trace = []; leads = (p, refl, a); entries = l ∙ sym (append-nil (log w.view)); messages = o ∙ sym (append-nil w.owed.items); choices = tt; reports = n; width = i; said = k }
+    → ((es : List Entry) → (claim : Claim) → says w'.view es claim → says w.view es claim) → AsksDesk p → Goes log says w p w' (stops_at f)
+unfolding Goes stops_at
+waits log says w w' (Foreign place) p l o n i k a = record { trace = []; leads = (p, refl, a); entries = l ∙ sym (append-nil (log w.view)); messages = o ∙ sym (append-nil w.owed.items); choices = tt; reports = n; width = i; said = k }
+waits log says w w' NoMemory p l o n i k a = record { trace = []; leads = (p, refl, asking_takes p a); entries = l ∙ sym (append-nil (log w.view)); messages = o ∙ sym (append-nil w.owed.items); choices = tt; reports = n; width = i; said = k }
+
+-- nothing is done where the plan takes memory next, and it is refused
+pub lacks : {D A : Type 0} (log : D → List Entry) (says : D → List Entry → Claim → Type 0) (w : Work D A) (f : DeskFault) (p : Plan) → f ≡ NoMemory → TakesMemory p → Goes log says w p w (stops_at f)
+unfolding Goes stops_at
+lacks log says w (Foreign place) p is t = absurd is
+lacks log says w NoMemory p is t = record { trace = []; leads = (p, refl, t); entries = sym (append-nil (log w.view)); messages = sym (append-nil w.owed.items); choices = tt; reports = λ call. refl; width = refl; said = λ es claim h. h }
 
 -- nothing is done, and the plan goes on
 pub idles : {D A : Type 0} (log : D → List Entry) (says : D → List Entry → Claim → Type 0) (w w' : Work D A) (p : Plan)

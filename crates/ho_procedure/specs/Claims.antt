@@ -39,7 +39,7 @@ IsThere b (Require c) = ⊥
 IsThere b (Order c) = ⊥
 IsThere b (Left c) = ⊥
 
--- the claim is true of the book that the entries lead to from the opening one, or of the opening book itself
+-- a claim is true of the book that the entries lead to, or of the opening one, from which they lead
 abbrev pub IsTrueAfter : State → List Entry → Claim → Type 0
 IsTrueAfter opening log (NoneFree cell) = (b : State) × Leads opening log b × free.NoneFree b cell
 IsTrueAfter opening log (Chosen e) = (b : State) × Leads opening log b × IsThere b e

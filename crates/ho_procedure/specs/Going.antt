@@ -11,14 +11,14 @@ use Rattle.ho_procedure.specs.declared.work.Course.TheVariants.{On, Over}
 use Rattle.ho_procedure.specs.declared.work.Shown.{Shown}
 use Rattle.ho_procedure.specs.Claims.{Entry, Claim}
 use Rattle.ho_procedure.specs.Windows.{Kept, reports_of}
-use Rattle.ho_procedure.specs.Plan.{Plan, Ends, Step, Until, LeadsUntil, ChoicesAt, entries_of, messages_of, reports_after}
+use Rattle.ho_procedure.specs.Plan.{Plan, Ends, Step, Until, AtMemory, AtDesk, LeadsUntil, ChoicesAt, entries_of, messages_of, reports_after}
 
 -- the last reports of a call
 abbrev pub last_reports : Kept → ℕ → List Results
 last_reports windows call = (reports_of windows call).reports
 
 -- Some trace leads from the one plan to the other: its entries are what the view's log gained, its messages what is owed
--- since, its choices what the view may choose, and the reports of each call are those after it.
+-- since, its choices what the view says, and the reports of each call are those after it.
 pub record Run {D A : Type 0} (log : D → List Entry) (says : D → List Entry → Claim → Type 0) (w : Work D A) (p : Plan) (w' : Work D A) (u : Until) : Type 0 where
   pub trace : List Step
   pub leads : LeadsUntil p trace u
@@ -50,6 +50,11 @@ then_shown next (Some x) = next x.record x.state
 abbrev pub then : Plan → Course → Plan
 then tail On = tail
 then tail Over = Ends
+
+-- where a row stops that a fault of the desk, or of memory, stopped: only for a receipt that isn't known a desk was asked
+unfoldable pub stops_at : DeskFault → Until
+stops_at (Foreign place) = AtDesk
+stops_at NoMemory = AtMemory
 
 -- the desk doesn't know the view's last receipt
 abbrev pub IsForeign : DeskFault → Type 0

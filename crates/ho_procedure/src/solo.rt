@@ -52,11 +52,14 @@ impl<A: Allocator> Solo<A> {
 }
 
 impl<A: Allocator + Copy> DeskView for Solo<A> {
+    ghost use Rattle.radio_desk.specs.Desk.{IsJudged};
     ghost use Rattle.ho_procedure.specs.Claims.{IsTrueAfter};
 
     ghost log = { λ solo. solo.history };
 
     ghost says = { λ solo log claim. IsTrueAfter solo.opening log claim };
+
+    ghost judged = { λ before receipt after. IsJudged before receipt after };
 
     ghost may_be_foreign = { λ solo. ⊥ };
 

@@ -1,6 +1,7 @@
 //! How a controller asks the book.
-ghost use Rattle.std.specs.Prelude.{◌≡◌, ◌∷◌, ◌++◌, [], ℕ, List, Err, IfOk, OnErr, MatchOption};
+ghost use Rattle.std.specs.Prelude.{◌≡◌, ◌∷◌, ◌++◌, [], ℕ, List, Err, IfOk, OnErr, IfSome, MatchOption};
 ghost use Rattle.channel_fsm.specs.declared.ChanId.{ChanId};
+ghost use Rattle.radio_desk.specs.declared.seat.Receipt.{Receipt};
 ghost use Rattle.ho_procedure.specs.Claims.{Entry, Claim, NoneFree, Chosen};
 
 use radio_book::event::{Event, Kind};
@@ -14,8 +15,12 @@ use radio_desk::seat::Receipt;
 pub trait DeskView {
     ghost log: { Self → List Entry };
 
-    // what it says of the book, where after these entries it makes this choice
+    // what it means of the view that it makes this claim after these entries; what a later view says, an earlier one would
+    // have said: so the book that it began with stays
     ghost says: { Self → List Entry → Claim → Type 0 };
+
+    // what a receipt means of the view before and after
+    ghost judged: { Self → Receipt → Self → Type 0 };
 
     // the desk may not know this view's last receipt
     ghost may_be_foreign: { Self → Type 0 };
@@ -24,6 +29,7 @@ pub trait DeskView {
     fn judge(&mut self, event: Event) -> Result<Receipt, DeskFault>
         ensures ok { IfOk result (λ r. (r.event ≡ event) ×
             (log self.new ≡ log self.old ++ (r.event, r.reply) ∷ [])) }
+        ensures receipt { IfOk result (λ r. judged self.old r self.new) }
         ensures err { OnErr result (log self.new ≡ log self.old) }
         ensures foreign { (place : ℕ) → result ≡ Err (DeskFault.Foreign place) →
             may_be_foreign self.old }
@@ -38,6 +44,8 @@ pub trait DeskView {
             (λ r. ((x : ChanId) × (x.cell ≡ cell) × (r.event ≡ Event.Take call kind x)) ×
             says self.old (log self.old) (Chosen r.event) ×
             (log self.new ≡ log self.old ++ (r.event, r.reply) ∷ []))) }
+        ensures receipt { IfOk result (λ answer. IfSome answer
+            (λ r. judged self.old r self.new)) }
         ensures err { OnErr result (log self.new ≡ log self.old) }
         ensures foreign { (place : ℕ) → result ≡ Err (DeskFault.Foreign place) →
             may_be_foreign self.old }
@@ -50,6 +58,7 @@ pub trait DeskView {
         ensures ok { IfOk result (λ r. ((n : ℕ) × (r.event ≡ Event.Reserve call n)) ×
             says self.old (log self.old) (Chosen r.event) ×
             (log self.new ≡ log self.old ++ (r.event, r.reply) ∷ [])) }
+        ensures receipt { IfOk result (λ r. judged self.old r self.new) }
         ensures err { OnErr result (log self.new ≡ log self.old) }
         ensures foreign { (place : ℕ) → result ≡ Err (DeskFault.Foreign place) →
             may_be_foreign self.old }

@@ -4,8 +4,8 @@ ghost use Rattle.channel_fsm.specs.declared.ChanId.{ChanId};
 ghost use Rattle.ho_candidates.specs.declared.listed.Candidate.{Candidate};
 ghost use Rattle.radio_book.specs.declared.event.Reply.{Reply};
 ghost use Rattle.ho_procedure.specs.Windows.{with_report};
-ghost use Rattle.ho_procedure.specs.Plan.{Plan, AreCandidates, Asks, Takes, Reserves, Notes, Ranks, IsAsking, Asking, is_accepted, call_dropped, dropped_if};
-ghost use Rattle.ho_procedure.specs.Going.{Goes, Passes, IsForeign, last_reports};
+ghost use Rattle.ho_procedure.specs.Plan.{Plan, AreCandidates, Asks, Takes, Reserves, Notes, Ranks, AsksDesk, TakesMemory, is_accepted, call_dropped, dropped_if};
+ghost use Rattle.ho_procedure.specs.Going.{Goes, Passes, IsForeign, last_reports, stops_at};
 
 use crate::outbox::Outbox;
 use crate::view::DeskView;
@@ -100,8 +100,8 @@ impl<D: DeskView + Drop, A: Allocator + Copy> Work<D, A> {
     pub(crate) fn make_room(&mut self, messages: usize) -> Result<(), DeskFault>
         ensures ok { OnOk result ((p : Plan) → Passes D.log D.says self.old p self.new p) }
         ensures room { OnOk result (messages ≤ self.new.owed.room) }
-        ensures err { OnErr result ((p : Plan) → IsAsking p →
-            Goes D.log D.says self.old p self.new Asking) }
+        ensures err { IfErr result (λ f. (p : Plan) → AsksDesk p →
+            Goes D.log D.says self.old p self.new (stops_at f)) }
         ensures no_memory { OnErr result (result ≡ Err DeskFault.NoMemory) }
         ensures windows { self.new.windows ≡ self.old.windows }
         ensures foreign_kept { D.may_be_foreign self.new.view → D.may_be_foreign self.old.view }
@@ -116,8 +116,8 @@ impl<D: DeskView + Drop, A: Allocator + Copy> Work<D, A> {
         ensures ok { OnOk result ((p : Plan) → Passes D.log D.says self.old p self.new p) }
         ensures room { OnOk result (1 ≤ self.new.owed.room) }
         ensures unread_room { OnOk result (octets ≤ self.new.owed.unread_room) }
-        ensures err { OnErr result ((p : Plan) → IsAsking p →
-            Goes D.log D.says self.old p self.new Asking) }
+        ensures err { IfErr result (λ f. (p : Plan) → AsksDesk p →
+            Goes D.log D.says self.old p self.new (stops_at f)) }
         ensures no_memory { OnErr result (result ≡ Err DeskFault.NoMemory) }
         ensures foreign_kept { D.may_be_foreign self.new.view → D.may_be_foreign self.old.view }
     {
@@ -129,8 +129,8 @@ impl<D: DeskView + Drop, A: Allocator + Copy> Work<D, A> {
     pub(crate) fn make_window(&mut self) -> Result<(), DeskFault>
         ensures ok { OnOk result ((p : Plan) → Passes D.log D.says self.old p self.new p) }
         ensures ready { OnOk result (IsTrue self.new.windows.is_ready) }
-        ensures err { OnErr result ((p : Plan) → IsAsking p →
-            Goes D.log D.says self.old p self.new Asking) }
+        ensures err { IfErr result (λ f. (p : Plan) → AsksDesk p →
+            Goes D.log D.says self.old p self.new (stops_at f)) }
         ensures no_memory { OnErr result (result ≡ Err DeskFault.NoMemory) }
         ensures reports { (call : ℕ) →
             last_reports self.new.windows call ≡ last_reports self.old.windows call }
@@ -146,8 +146,8 @@ impl<D: DeskView + Drop, A: Allocator + Copy> Work<D, A> {
     pub(crate) fn ask(&mut self, event: Event) -> Result<Reply, DeskFault>
         ensures ok { IfOk result (λ reply. (next : Reply → Plan) →
             Passes D.log D.says self.old (Asks event next) self.new (next reply)) }
-        ensures err { OnErr result ((p : Plan) → IsAsking p →
-            Goes D.log D.says self.old p self.new Asking) }
+        ensures err { IfErr result (λ f. (p : Plan) → AsksDesk p →
+            Goes D.log D.says self.old p self.new (stops_at f)) }
         ensures owed { self.new.owed ≡ self.old.owed }
         ensures reports { IfOk result (λ reply. (call : ℕ) → last_reports self.new.windows call ≡
             dropped_if (is_accepted reply) (call_dropped event) call
@@ -177,8 +177,8 @@ impl<D: DeskView + Drop, A: Allocator + Copy> Work<D, A> {
             (λ taken. (none : Plan) → (next : ChanId → Reply → Plan) →
             Passes D.log D.says self.old (Takes call kind cell none next) self.new
             (next taken.0 taken.1))) }
-        ensures err { OnErr result ((p : Plan) → IsAsking p →
-            Goes D.log D.says self.old p self.new Asking) }
+        ensures err { IfErr result (λ f. (p : Plan) → AsksDesk p →
+            Goes D.log D.says self.old p self.new (stops_at f)) }
         ensures owed { self.new.owed ≡ self.old.owed }
         ensures foreign { IfErr result (λ f. IsForeign f → D.may_be_foreign self.old.view) }
         ensures foreign_kept { D.may_be_foreign self.new.view → D.may_be_foreign self.old.view }
@@ -197,8 +197,8 @@ impl<D: DeskView + Drop, A: Allocator + Copy> Work<D, A> {
     pub(crate) fn reserve(&mut self, call: u16) -> Result<(u8, Reply), DeskFault>
         ensures ok { IfOk result (λ answer. (next : ℕ → Reply → Plan) →
             Passes D.log D.says self.old (Reserves call next) self.new (next answer.0 answer.1)) }
-        ensures err { OnErr result ((p : Plan) → IsAsking p →
-            Goes D.log D.says self.old p self.new Asking) }
+        ensures err { IfErr result (λ f. (p : Plan) → AsksDesk p →
+            Goes D.log D.says self.old p self.new (stops_at f)) }
         ensures owed { self.new.owed ≡ self.old.owed }
         ensures foreign { IfErr result (λ f. IsForeign f → D.may_be_foreign self.old.view) }
         ensures foreign_kept { D.may_be_foreign self.new.view → D.may_be_foreign self.old.view }
@@ -229,7 +229,7 @@ impl<D: DeskView + Drop, A: Allocator + Copy> Work<D, A> {
 
 impl<D: DeskView + Drop, A: Allocator + Copy> Work<D, A> {
     /// The candidates that the last reports of a call make of the cells.
-    #[tactic(auto, using(crate::proofs::Going::ranked, crate::proofs::Going::waits, crate::proofs::Ranking::no_candidates))]
+    #[tactic(auto, using(crate::proofs::Going::ranked, crate::proofs::Going::lacks, crate::proofs::Ranking::no_candidates))]
     pub(crate) fn rank(
         &self,
         site: &Site<A>,
@@ -241,8 +241,8 @@ impl<D: DeskView + Drop, A: Allocator + Copy> Work<D, A> {
             Passes D.log D.says self.now
             (Ranks site.now (last_reports self.now.windows call) serving next) self.now
             (next found.items)) }
-        ensures err { OnErr result ((p : Plan) → IsAsking p →
-            Goes D.log D.says self.now p self.now Asking) }
+        ensures err { IfErr result (λ f. (p : Plan) → TakesMemory p →
+            Goes D.log D.says self.now p self.now (stops_at f)) }
         ensures no_memory { OnErr result (result ≡ Err DeskFault.NoMemory) }
     {
         let _cells = site.cells();

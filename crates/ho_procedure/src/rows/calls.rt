@@ -1,7 +1,7 @@
 //! Rows that begin and end a call.
-ghost use Rattle.std.specs.Prelude.{◌≡◌, ◌≤◌, ◌<◌, ◌+◌, ℕ, Ok, IfOk, OnOk, OnErr, IfErr, Option, Some, None};
-ghost use Rattle.ho_procedure.specs.Plan.{Plan, Ends, At, Asking};
-ghost use Rattle.ho_procedure.specs.Going.{Goes, Passes, IsForeign, then};
+ghost use Rattle.std.specs.Prelude.{◌≡◌, ◌≤◌, ◌<◌, ◌+◌, ℕ, Ok, IfOk, OnOk, IfErr, Option, Some, None};
+ghost use Rattle.ho_procedure.specs.Plan.{Plan, Ends, At};
+ghost use Rattle.ho_procedure.specs.Going.{Goes, Passes, IsForeign, then, stops_at};
 ghost use Rattle.ho_procedure.specs.Procedure.{opened_plan, open_plan, release_serving, release_plan, told_release_plan, clear_serving, clear_undone, clear_named, clear_rest, clear_plan, left_channel, left_plan, clear_call, clear_command_rest, clear_command_plan, release_cause};
 
 use super::parts::{look, release_target};
@@ -35,8 +35,8 @@ pub(crate) fn open<D: DeskView + Drop, A: Allocator + Copy>(
 ) -> Result<(), DeskFault>
     ensures row { OnOk result (Goes D.log D.says work.old
         (open_plan call chan) work.new (At Ends)) }
-    ensures stops { OnErr result (Goes D.log D.says work.old
-        (open_plan call chan) work.new Asking) }
+    ensures stops { IfErr result (λ f. Goes D.log D.says work.old
+        (open_plan call chan) work.new (stops_at f)) }
     ensures foreign { IfErr result (λ f. IsForeign f → D.may_be_foreign work.old.view) }
     ensures foreign_kept { D.may_be_foreign work.new.view → D.may_be_foreign work.old.view }
 {
@@ -130,8 +130,8 @@ fn clear_serving<D: DeskView + Drop, A: Allocator + Copy>(
     requires { 2 ≤ work.old.owed.room }
     ensures goes { IfOk result (λ course. (tail : Plan) → Passes D.log D.says work.old
         (clear_serving call cause shown.record shown.state tail) work.new (then tail course)) }
-    ensures stops { OnErr result ((tail : Plan) → Goes D.log D.says work.old
-        (clear_serving call cause shown.record shown.state tail) work.new Asking) }
+    ensures stops { IfErr result (λ f. (tail : Plan) → Goes D.log D.says work.old
+        (clear_serving call cause shown.record shown.state tail) work.new (stops_at f)) }
     ensures room { result ≡ Ok Course.On → work.old.owed.room ≤ work.new.owed.room + 2 }
     ensures foreign { IfErr result (λ f. IsForeign f → D.may_be_foreign work.old.view) }
     ensures foreign_kept { D.may_be_foreign work.new.view → D.may_be_foreign work.old.view }
@@ -153,8 +153,8 @@ fn clear_undone<D: DeskView + Drop, A: Allocator + Copy>(
     requires { 3 ≤ work.old.owed.room }
     ensures goes { IfOk result (λ course. (tail : Plan) → Passes D.log D.says work.old
         (clear_undone call cause shown.record shown.state tail) work.new (then tail course)) }
-    ensures stops { OnErr result ((tail : Plan) → Goes D.log D.says work.old
-        (clear_undone call cause shown.record shown.state tail) work.new Asking) }
+    ensures stops { IfErr result (λ f. (tail : Plan) → Goes D.log D.says work.old
+        (clear_undone call cause shown.record shown.state tail) work.new (stops_at f)) }
     ensures room { result ≡ Ok Course.On → work.old.owed.room ≤ work.new.owed.room + 3 }
     ensures foreign { IfErr result (λ f. IsForeign f → D.may_be_foreign work.old.view) }
     ensures foreign_kept { D.may_be_foreign work.new.view → D.may_be_foreign work.old.view }
@@ -179,8 +179,8 @@ fn clear_rest<D: DeskView + Drop, A: Allocator + Copy>(
     requires { 3 ≤ work.old.owed.room }
     ensures goes { IfOk result (λ course. (tail : Plan) → Passes D.log D.says work.old
         (clear_rest call cause shown.record shown.state tail) work.new (then tail course)) }
-    ensures stops { OnErr result ((tail : Plan) → Goes D.log D.says work.old
-        (clear_rest call cause shown.record shown.state tail) work.new Asking) }
+    ensures stops { IfErr result (λ f. (tail : Plan) → Goes D.log D.says work.old
+        (clear_rest call cause shown.record shown.state tail) work.new (stops_at f)) }
     ensures room { result ≡ Ok Course.On → work.old.owed.room ≤ work.new.owed.room + 3 }
     ensures foreign { IfErr result (λ f. IsForeign f → D.may_be_foreign work.old.view) }
     ensures foreign_kept { D.may_be_foreign work.new.view → D.may_be_foreign work.old.view }
@@ -209,8 +209,8 @@ pub(crate) fn clear<D: DeskView + Drop, A: Allocator + Copy>(
 ) -> Result<(), DeskFault>
     ensures row { OnOk result (Goes D.log D.says work.old
         (clear_plan call) work.new (At Ends)) }
-    ensures stops { OnErr result (Goes D.log D.says work.old
-        (clear_plan call) work.new Asking) }
+    ensures stops { IfErr result (λ f. Goes D.log D.says work.old
+        (clear_plan call) work.new (stops_at f)) }
     ensures foreign { IfErr result (λ f. IsForeign f → D.may_be_foreign work.old.view) }
     ensures foreign_kept { D.may_be_foreign work.new.view → D.may_be_foreign work.old.view }
 {
@@ -245,8 +245,8 @@ fn leave_channel<D: DeskView + Drop, A: Allocator + Copy>(
     requires timeslot { serving.tn < 8 }
     ensures row { OnOk result (Goes D.log D.says work.old
         (left_channel call serving) work.new (At Ends)) }
-    ensures stops { OnErr result (Goes D.log D.says work.old
-        (left_channel call serving) work.new Asking) }
+    ensures stops { IfErr result (λ f. Goes D.log D.says work.old
+        (left_channel call serving) work.new (stops_at f)) }
     ensures foreign { IfErr result (λ f. IsForeign f → D.may_be_foreign work.old.view) }
     ensures foreign_kept { D.may_be_foreign work.new.view → D.may_be_foreign work.old.view }
 {
@@ -268,8 +268,8 @@ fn leave<D: DeskView + Drop, A: Allocator + Copy>(
     requires { 2 ≤ work.old.owed.room }
     ensures row { OnOk result (Goes D.log D.says work.old
         (left_plan call serving) work.new (At Ends)) }
-    ensures stops { OnErr result (Goes D.log D.says work.old
-        (left_plan call serving) work.new Asking) }
+    ensures stops { IfErr result (λ f. Goes D.log D.says work.old
+        (left_plan call serving) work.new (stops_at f)) }
     ensures foreign { IfErr result (λ f. IsForeign f → D.may_be_foreign work.old.view) }
     ensures foreign_kept { D.may_be_foreign work.new.view → D.may_be_foreign work.old.view }
 {
@@ -293,8 +293,8 @@ fn clear_call<D: DeskView + Drop, A: Allocator + Copy>(
     requires { 4 ≤ work.old.owed.room }
     ensures row { OnOk result (Goes D.log D.says work.old
         (clear_call call cause shown.record shown.state) work.new (At Ends)) }
-    ensures stops { OnErr result (Goes D.log D.says work.old
-        (clear_call call cause shown.record shown.state) work.new Asking) }
+    ensures stops { IfErr result (λ f. Goes D.log D.says work.old
+        (clear_call call cause shown.record shown.state) work.new (stops_at f)) }
     ensures foreign { IfErr result (λ f. IsForeign f → D.may_be_foreign work.old.view) }
     ensures foreign_kept { D.may_be_foreign work.new.view → D.may_be_foreign work.old.view }
 {
@@ -316,8 +316,8 @@ fn clear_command_rest<D: DeskView + Drop, A: Allocator + Copy>(
     requires { 4 ≤ work.old.owed.room }
     ensures row { OnOk result (Goes D.log D.says work.old
         (clear_command_rest call cause reply) work.new (At Ends)) }
-    ensures stops { OnErr result (Goes D.log D.says work.old
-        (clear_command_rest call cause reply) work.new Asking) }
+    ensures stops { IfErr result (λ f. Goes D.log D.says work.old
+        (clear_command_rest call cause reply) work.new (stops_at f)) }
     ensures foreign { IfErr result (λ f. IsForeign f → D.may_be_foreign work.old.view) }
     ensures foreign_kept { D.may_be_foreign work.new.view → D.may_be_foreign work.old.view }
 {
@@ -346,8 +346,8 @@ pub(crate) fn clear_command<D: DeskView + Drop, A: Allocator + Copy>(
 ) -> Result<(), DeskFault>
     ensures row { OnOk result (Goes D.log D.says work.old
         (clear_command_plan call cause) work.new (At Ends)) }
-    ensures stops { OnErr result (Goes D.log D.says work.old
-        (clear_command_plan call cause) work.new Asking) }
+    ensures stops { IfErr result (λ f. Goes D.log D.says work.old
+        (clear_command_plan call cause) work.new (stops_at f)) }
     ensures foreign { IfErr result (λ f. IsForeign f → D.may_be_foreign work.old.view) }
     ensures foreign_kept { D.may_be_foreign work.new.view → D.may_be_foreign work.old.view }
 {

@@ -1,7 +1,7 @@
 //! Rows of the messages of the switching centre about a handover between controllers.
-ghost use Rattle.std.specs.Prelude.{◌≡◌, ◌≤◌, ◌<◌, OnOk, OnErr, IfErr, length};
-ghost use Rattle.ho_procedure.specs.Plan.{Ends, At, Asking};
-ghost use Rattle.ho_procedure.specs.Going.{Goes, IsForeign};
+ghost use Rattle.std.specs.Prelude.{◌≡◌, ◌≤◌, ◌<◌, OnOk, IfErr, length};
+ghost use Rattle.ho_procedure.specs.Plan.{Ends, At};
+ghost use Rattle.ho_procedure.specs.Going.{Goes, IsForeign, stops_at};
 ghost use Rattle.ho_procedure.specs.Procedure.{admit_plan, request_rest, request_plan, order_channel, order_plan, reject_plan};
 
 use super::handovers::go_on_taken;
@@ -30,8 +30,8 @@ fn admit<D: DeskView + Drop, A: Allocator + Copy>(
     requires { 1 ≤ work.old.owed.room }
     ensures row { OnOk result (Goes D.log D.says work.old
         (admit_plan call cell) work.new (At Ends)) }
-    ensures stops { OnErr result (Goes D.log D.says work.old
-        (admit_plan call cell) work.new Asking) }
+    ensures stops { IfErr result (λ f. Goes D.log D.says work.old
+        (admit_plan call cell) work.new (stops_at f)) }
     ensures foreign { IfErr result (λ f. IsForeign f → D.may_be_foreign work.old.view) }
     ensures foreign_kept { D.may_be_foreign work.new.view → D.may_be_foreign work.old.view }
 {
@@ -59,8 +59,8 @@ fn request_rest<D: DeskView + Drop, A: Allocator + Copy>(
     requires { 1 ≤ work.old.owed.room }
     ensures row { OnOk result (Goes D.log D.says work.old
         (request_rest site.now call channel.now encryption.now target) work.new (At Ends)) }
-    ensures stops { OnErr result (Goes D.log D.says work.old
-        (request_rest site.now call channel.now encryption.now target) work.new Asking) }
+    ensures stops { IfErr result (λ f. Goes D.log D.says work.old
+        (request_rest site.now call channel.now encryption.now target) work.new (stops_at f)) }
     ensures foreign { IfErr result (λ f. IsForeign f → D.may_be_foreign work.old.view) }
     ensures foreign_kept { D.may_be_foreign work.new.view → D.may_be_foreign work.old.view }
 {
@@ -88,8 +88,8 @@ pub(crate) fn request<D: DeskView + Drop, A: Allocator + Copy>(
 ) -> Result<(), DeskFault>
     ensures row { OnOk result (Goes D.log D.says work.old
         (request_plan site.now call channel.now encryption.now target) work.new (At Ends)) }
-    ensures stops { OnErr result (Goes D.log D.says work.old
-        (request_plan site.now call channel.now encryption.now target) work.new Asking) }
+    ensures stops { IfErr result (λ f. Goes D.log D.says work.old
+        (request_plan site.now call channel.now encryption.now target) work.new (stops_at f)) }
     ensures foreign { IfErr result (λ f. IsForeign f → D.may_be_foreign work.old.view) }
     ensures foreign_kept { D.may_be_foreign work.new.view → D.may_be_foreign work.old.view }
 {
@@ -113,8 +113,8 @@ fn order_channel<D: DeskView + Drop, A: Allocator + Copy>(
     requires short { length layer3.now ≤ 1015 }
     ensures row { OnOk result (Goes D.log D.says work.old
         (order_channel call layer3.now serving) work.new (At Ends)) }
-    ensures stops { OnErr result (Goes D.log D.says work.old
-        (order_channel call layer3.now serving) work.new Asking) }
+    ensures stops { IfErr result (λ f. Goes D.log D.says work.old
+        (order_channel call layer3.now serving) work.new (stops_at f)) }
     ensures foreign { IfErr result (λ f. IsForeign f → D.may_be_foreign work.old.view) }
     ensures foreign_kept { D.may_be_foreign work.new.view → D.may_be_foreign work.old.view }
 {
@@ -137,8 +137,8 @@ pub(crate) fn order<D: DeskView + Drop, A: Allocator + Copy>(
     requires short { length layer3.now ≤ 1015 }
     ensures row { OnOk result (Goes D.log D.says work.old
         (order_plan call layer3.now) work.new (At Ends)) }
-    ensures stops { OnErr result (Goes D.log D.says work.old
-        (order_plan call layer3.now) work.new Asking) }
+    ensures stops { IfErr result (λ f. Goes D.log D.says work.old
+        (order_plan call layer3.now) work.new (stops_at f)) }
     ensures foreign { IfErr result (λ f. IsForeign f → D.may_be_foreign work.old.view) }
     ensures foreign_kept { D.may_be_foreign work.new.view → D.may_be_foreign work.old.view }
 {
@@ -165,8 +165,8 @@ pub(crate) fn reject<D: DeskView + Drop, A: Allocator + Copy>(
 ) -> Result<(), DeskFault>
     ensures row { OnOk result (Goes D.log D.says work.old
         (reject_plan call) work.new (At Ends)) }
-    ensures stops { OnErr result (Goes D.log D.says work.old
-        (reject_plan call) work.new Asking) }
+    ensures stops { IfErr result (λ f. Goes D.log D.says work.old
+        (reject_plan call) work.new (stops_at f)) }
     ensures foreign { IfErr result (λ f. IsForeign f → D.may_be_foreign work.old.view) }
     ensures foreign_kept { D.may_be_foreign work.new.view → D.may_be_foreign work.old.view }
 {

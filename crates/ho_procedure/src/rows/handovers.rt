@@ -1,7 +1,7 @@
 //! Rows that begin a handover and take it back.
-ghost use Rattle.std.specs.Prelude.{◌≡◌, ◌≤◌, ℕ, OnOk, OnErr, IfErr, IfOk, IsSome, ◌<◌};
-ghost use Rattle.ho_procedure.specs.Plan.{Plan, Ends, At, Asking};
-ghost use Rattle.ho_procedure.specs.Going.{Goes, Passes, IsForeign, then};
+ghost use Rattle.std.specs.Prelude.{◌≡◌, ◌≤◌, ℕ, OnOk, IfErr, IfOk, IsSome, ◌<◌};
+ghost use Rattle.ho_procedure.specs.Plan.{Plan, Ends, At};
+ghost use Rattle.ho_procedure.specs.Going.{Goes, Passes, IsForeign, then, stops_at};
 ghost use Rattle.ho_procedure.specs.Procedure.{activate_plan, start_plan, taken_plan, require_plan, handover_plan, take_back, undo_plan, expiry_plan};
 
 use super::parts::{release_target, tell_failure};
@@ -30,8 +30,8 @@ fn activate<D: DeskView + Drop, A: Allocator + Copy>(
     requires timeslot { target.tn < 8 }
     ensures row { OnOk result (Goes D.log D.says work.old
         (activate_plan call target reference) work.new (At Ends)) }
-    ensures stops { OnErr result (Goes D.log D.says work.old
-        (activate_plan call target reference) work.new Asking) }
+    ensures stops { IfErr result (λ f. Goes D.log D.says work.old
+        (activate_plan call target reference) work.new (stops_at f)) }
     ensures foreign { IfErr result (λ f. IsForeign f → D.may_be_foreign work.old.view) }
     ensures foreign_kept { D.may_be_foreign work.new.view → D.may_be_foreign work.old.view }
 {
@@ -53,8 +53,8 @@ pub(super) fn go_on_taken<D: DeskView + Drop, A: Allocator + Copy>(
     requires { 1 ≤ work.old.owed.room }
     ensures row { OnOk result (Goes D.log D.says work.old
         (taken_plan call target reply) work.new (At Ends)) }
-    ensures stops { OnErr result (Goes D.log D.says work.old
-        (taken_plan call target reply) work.new Asking) }
+    ensures stops { IfErr result (λ f. Goes D.log D.says work.old
+        (taken_plan call target reply) work.new (stops_at f)) }
     ensures foreign { IfErr result (λ f. IsForeign f → D.may_be_foreign work.old.view) }
     ensures foreign_kept { D.may_be_foreign work.new.view → D.may_be_foreign work.old.view }
 {
@@ -80,8 +80,8 @@ fn require<D: DeskView + Drop, A: Allocator + Copy>(
     requires area { IsSome cell.lac }
     ensures row { OnOk result (Goes D.log D.says work.old
         (require_plan call cell) work.new (At Ends)) }
-    ensures stops { OnErr result (Goes D.log D.says work.old
-        (require_plan call cell) work.new Asking) }
+    ensures stops { IfErr result (λ f. Goes D.log D.says work.old
+        (require_plan call cell) work.new (stops_at f)) }
     ensures foreign { IfErr result (λ f. IsForeign f → D.may_be_foreign work.old.view) }
     ensures foreign_kept { D.may_be_foreign work.new.view → D.may_be_foreign work.old.view }
 {
@@ -103,8 +103,8 @@ pub(super) fn start<D: DeskView + Drop, A: Allocator + Copy>(
 ) -> Result<Course, DeskFault>
     ensures goes { IfOk result (λ course. (tail : Plan) → Passes D.log D.says work.old
         (start_plan site.now call cell tail) work.new (then tail course)) }
-    ensures stops { OnErr result ((tail : Plan) → Goes D.log D.says work.old
-        (start_plan site.now call cell tail) work.new Asking) }
+    ensures stops { IfErr result (λ f. (tail : Plan) → Goes D.log D.says work.old
+        (start_plan site.now call cell tail) work.new (stops_at f)) }
     ensures foreign { IfErr result (λ f. IsForeign f → D.may_be_foreign work.old.view) }
     ensures foreign_kept { D.may_be_foreign work.new.view → D.may_be_foreign work.old.view }
 {
@@ -132,8 +132,8 @@ pub(crate) fn handover<D: DeskView + Drop, A: Allocator + Copy>(
 ) -> Result<(), DeskFault>
     ensures row { OnOk result (Goes D.log D.says work.old
         (handover_plan site.now call cell) work.new (At Ends)) }
-    ensures stops { OnErr result (Goes D.log D.says work.old
-        (handover_plan site.now call cell) work.new Asking) }
+    ensures stops { IfErr result (λ f. Goes D.log D.says work.old
+        (handover_plan site.now call cell) work.new (stops_at f)) }
     ensures foreign { IfErr result (λ f. IsForeign f → D.may_be_foreign work.old.view) }
     ensures foreign_kept { D.may_be_foreign work.new.view → D.may_be_foreign work.old.view }
 {
@@ -149,8 +149,8 @@ pub(crate) fn undo<D: DeskView + Drop, A: Allocator + Copy>(
 ) -> Result<(), DeskFault>
     ensures row { OnOk result (Goes D.log D.says work.old
         (undo_plan call) work.new (At Ends)) }
-    ensures stops { OnErr result (Goes D.log D.says work.old
-        (undo_plan call) work.new Asking) }
+    ensures stops { IfErr result (λ f. Goes D.log D.says work.old
+        (undo_plan call) work.new (stops_at f)) }
     ensures foreign { IfErr result (λ f. IsForeign f → D.may_be_foreign work.old.view) }
     ensures foreign_kept { D.may_be_foreign work.new.view → D.may_be_foreign work.old.view }
 {
@@ -174,8 +174,8 @@ pub(crate) fn expire<D: DeskView + Drop, A: Allocator + Copy>(
 ) -> Result<(), DeskFault>
     ensures row { OnOk result (Goes D.log D.says work.old
         (expiry_plan call timer) work.new (At Ends)) }
-    ensures stops { OnErr result (Goes D.log D.says work.old
-        (expiry_plan call timer) work.new Asking) }
+    ensures stops { IfErr result (λ f. Goes D.log D.says work.old
+        (expiry_plan call timer) work.new (stops_at f)) }
     ensures foreign { IfErr result (λ f. IsForeign f → D.may_be_foreign work.old.view) }
     ensures foreign_kept { D.may_be_foreign work.new.view → D.may_be_foreign work.old.view }
 {

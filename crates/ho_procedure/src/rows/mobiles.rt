@@ -1,8 +1,8 @@
 //! Rows of the messages of mobiles.
-ghost use Rattle.std.specs.Prelude.{◌≡◌, ◌≤◌, ◌<◌, ℕ, drop, List, OnOk, OnErr, IfErr, IsTrue};
+ghost use Rattle.std.specs.Prelude.{◌≡◌, ◌≤◌, ◌<◌, ℕ, drop, List, OnOk, IfErr, IsTrue};
 ghost use Rattle.ho_procedure.specs.Windows.{with_report};
-ghost use Rattle.ho_procedure.specs.Plan.{Plan, Ends, At, Asking};
-ghost use Rattle.ho_procedure.specs.Going.{Goes, Passes, IsForeign, last_reports};
+ghost use Rattle.ho_procedure.specs.Plan.{Plan, Ends, At};
+ghost use Rattle.ho_procedure.specs.Going.{Goes, Passes, IsForeign, last_reports, stops_at};
 ghost use Rattle.ho_procedure.specs.Procedure.{try_plan, rank_plan, report_plan, internal_complete, incoming_complete, complete_rest, complete_plan, take_back, tell_returned, outgoing_return, return_rest, return_plan};
 
 use super::handovers::start;
@@ -31,8 +31,8 @@ fn try_cells<D: DeskView + Drop, A: Allocator + Copy>(
 ) -> Result<(), DeskFault>
     ensures row { OnOk result (Goes D.log D.says work.old
         (try_plan site.now call candidates.now) work.new (At Ends)) }
-    ensures stops { OnErr result (Goes D.log D.says work.old
-        (try_plan site.now call candidates.now) work.new Asking) }
+    ensures stops { IfErr result (λ f. Goes D.log D.says work.old
+        (try_plan site.now call candidates.now) work.new (stops_at f)) }
     ensures foreign { IfErr result (λ f. IsForeign f → D.may_be_foreign work.old.view) }
     ensures foreign_kept { D.may_be_foreign work.new.view → D.may_be_foreign work.old.view }
 {
@@ -60,10 +60,10 @@ fn note_report<D: DeskView + Drop, A: Allocator + Copy>(
         (rank_plan site.now call cell
         (with_report site.now.handover.window (last_reports work.old.windows call) report.now)
         report.now attempt) work.new (At Ends)) }
-    ensures stops { OnErr result (Goes D.log D.says work.old
+    ensures stops { IfErr result (λ f. Goes D.log D.says work.old
         (rank_plan site.now call cell
         (with_report site.now.handover.window (last_reports work.old.windows call) report.now)
-        report.now attempt) work.new Asking) }
+        report.now attempt) work.new (stops_at f)) }
     ensures foreign { IfErr result (λ f. IsForeign f → D.may_be_foreign work.old.view) }
     ensures foreign_kept { D.may_be_foreign work.new.view → D.may_be_foreign work.old.view }
 {
@@ -87,9 +87,9 @@ pub(crate) fn report<D: DeskView + Drop, A: Allocator + Copy>(
     ensures row { OnOk result (Goes D.log D.says work.old
         (report_plan site.now
         (last_reports work.old.windows) chan report.now) work.new (At Ends)) }
-    ensures stops { OnErr result (Goes D.log D.says work.old
+    ensures stops { IfErr result (λ f. Goes D.log D.says work.old
         (report_plan site.now
-        (last_reports work.old.windows) chan report.now) work.new Asking) }
+        (last_reports work.old.windows) chan report.now) work.new (stops_at f)) }
     ensures foreign { IfErr result (λ f. IsForeign f → D.may_be_foreign work.old.view) }
     ensures foreign_kept { D.may_be_foreign work.new.view → D.may_be_foreign work.old.view }
 {
@@ -117,8 +117,8 @@ fn complete_internal<D: DeskView + Drop, A: Allocator + Copy>(
 ) -> Result<(), DeskFault>
     ensures row { OnOk result (Goes D.log D.says work.old
         (internal_complete site.now call target serving) work.new (At Ends)) }
-    ensures stops { OnErr result (Goes D.log D.says work.old
-        (internal_complete site.now call target serving) work.new Asking) }
+    ensures stops { IfErr result (λ f. Goes D.log D.says work.old
+        (internal_complete site.now call target serving) work.new (stops_at f)) }
     ensures foreign { IfErr result (λ f. IsForeign f → D.may_be_foreign work.old.view) }
     ensures foreign_kept { D.may_be_foreign work.new.view → D.may_be_foreign work.old.view }
 {
@@ -149,8 +149,8 @@ fn complete_incoming<D: DeskView + Drop, A: Allocator + Copy>(
 ) -> Result<(), DeskFault>
     ensures row { OnOk result (Goes D.log D.says work.old
         (incoming_complete call cause) work.new (At Ends)) }
-    ensures stops { OnErr result (Goes D.log D.says work.old
-        (incoming_complete call cause) work.new Asking) }
+    ensures stops { IfErr result (λ f. Goes D.log D.says work.old
+        (incoming_complete call cause) work.new (stops_at f)) }
     ensures foreign { IfErr result (λ f. IsForeign f → D.may_be_foreign work.old.view) }
     ensures foreign_kept { D.may_be_foreign work.new.view → D.may_be_foreign work.old.view }
 {
@@ -175,8 +175,8 @@ fn complete_rest<D: DeskView + Drop, A: Allocator + Copy>(
 ) -> Result<(), DeskFault>
     ensures row { OnOk result (Goes D.log D.says work.old
         (complete_rest site.now call cause chan serving attempt) work.new (At Ends)) }
-    ensures stops { OnErr result (Goes D.log D.says work.old
-        (complete_rest site.now call cause chan serving attempt) work.new Asking) }
+    ensures stops { IfErr result (λ f. Goes D.log D.says work.old
+        (complete_rest site.now call cause chan serving attempt) work.new (stops_at f)) }
     ensures foreign { IfErr result (λ f. IsForeign f → D.may_be_foreign work.old.view) }
     ensures foreign_kept { D.may_be_foreign work.new.view → D.may_be_foreign work.old.view }
 {
@@ -203,8 +203,8 @@ pub(crate) fn complete<D: DeskView + Drop, A: Allocator + Copy>(
 ) -> Result<(), DeskFault>
     ensures row { OnOk result (Goes D.log D.says work.old
         (complete_plan site.now chan cause) work.new (At Ends)) }
-    ensures stops { OnErr result (Goes D.log D.says work.old
-        (complete_plan site.now chan cause) work.new Asking) }
+    ensures stops { IfErr result (λ f. Goes D.log D.says work.old
+        (complete_plan site.now chan cause) work.new (stops_at f)) }
     ensures foreign { IfErr result (λ f. IsForeign f → D.may_be_foreign work.old.view) }
     ensures foreign_kept { D.may_be_foreign work.new.view → D.may_be_foreign work.old.view }
 {
@@ -233,8 +233,8 @@ fn return_internal<D: DeskView + Drop, A: Allocator + Copy>(
 ) -> Result<(), DeskFault>
     ensures row { OnOk result (Goes D.log D.says work.old
         (take_back call (λ attempt. Ends)) work.new (At Ends)) }
-    ensures stops { OnErr result (Goes D.log D.says work.old
-        (take_back call (λ attempt. Ends)) work.new Asking) }
+    ensures stops { IfErr result (λ f. Goes D.log D.says work.old
+        (take_back call (λ attempt. Ends)) work.new (stops_at f)) }
     ensures foreign { IfErr result (λ f. IsForeign f → D.may_be_foreign work.old.view) }
     ensures foreign_kept { D.may_be_foreign work.new.view → D.may_be_foreign work.old.view }
 {
@@ -269,8 +269,8 @@ fn return_outgoing<D: DeskView + Drop, A: Allocator + Copy>(
 ) -> Result<(), DeskFault>
     ensures row { OnOk result (Goes D.log D.says work.old
         (outgoing_return call cause) work.new (At Ends)) }
-    ensures stops { OnErr result (Goes D.log D.says work.old
-        (outgoing_return call cause) work.new Asking) }
+    ensures stops { IfErr result (λ f. Goes D.log D.says work.old
+        (outgoing_return call cause) work.new (stops_at f)) }
     ensures foreign { IfErr result (λ f. IsForeign f → D.may_be_foreign work.old.view) }
     ensures foreign_kept { D.may_be_foreign work.new.view → D.may_be_foreign work.old.view }
 {
@@ -292,8 +292,8 @@ fn return_rest<D: DeskView + Drop, A: Allocator + Copy>(
 ) -> Result<(), DeskFault>
     ensures row { OnOk result (Goes D.log D.says work.old
         (return_rest call cause attempt) work.new (At Ends)) }
-    ensures stops { OnErr result (Goes D.log D.says work.old
-        (return_rest call cause attempt) work.new Asking) }
+    ensures stops { IfErr result (λ f. Goes D.log D.says work.old
+        (return_rest call cause attempt) work.new (stops_at f)) }
     ensures foreign { IfErr result (λ f. IsForeign f → D.may_be_foreign work.old.view) }
     ensures foreign_kept { D.may_be_foreign work.new.view → D.may_be_foreign work.old.view }
 {
@@ -328,8 +328,8 @@ pub(crate) fn return_to<D: DeskView + Drop, A: Allocator + Copy>(
 ) -> Result<(), DeskFault>
     ensures row { OnOk result (Goes D.log D.says work.old
         (return_plan chan cause) work.new (At Ends)) }
-    ensures stops { OnErr result (Goes D.log D.says work.old
-        (return_plan chan cause) work.new Asking) }
+    ensures stops { IfErr result (λ f. Goes D.log D.says work.old
+        (return_plan chan cause) work.new (stops_at f)) }
     ensures foreign { IfErr result (λ f. IsForeign f → D.may_be_foreign work.old.view) }
     ensures foreign_kept { D.may_be_foreign work.new.view → D.may_be_foreign work.old.view }
 {

@@ -1,9 +1,9 @@
 //! Parts that several rows have.
-ghost use Rattle.std.specs.Prelude.{◌≡◌, ◌≤◌, ◌+◌, ℕ, List, Option, None, true, Ok, IfOk, IfErr, OnErr};
+ghost use Rattle.std.specs.Prelude.{◌≡◌, ◌≤◌, ◌+◌, ℕ, List, Option, None, true, Ok, IfOk, IfErr};
 ghost use Rattle.channel_fsm.specs.declared.ChanState.{ChanState};
 ghost use Rattle.radio_book.specs.declared.event.CallRecord.{CallRecord};
-ghost use Rattle.ho_procedure.specs.Plan.{Plan, Ends, At, Asking, call_dropped};
-ghost use Rattle.ho_procedure.specs.Going.{Goes, Passes, IsForeign, last_reports, then, then_of, then_shown};
+ghost use Rattle.ho_procedure.specs.Plan.{Plan, Ends, At, call_dropped};
+ghost use Rattle.ho_procedure.specs.Going.{Goes, Passes, IsForeign, last_reports, then, then_of, then_shown, stops_at};
 ghost use Rattle.ho_procedure.specs.Procedure.{owned, looked, release_target, turn_away, failure_of};
 
 use crate::causes::EQUIPMENT_FAILURE;
@@ -22,8 +22,8 @@ pub(super) fn owner<D: DeskView + Drop, A: Allocator + Copy>(
 ) -> Result<Option<u16>, DeskFault>
     ensures goes { IfOk result (λ found. (next : ℕ → Plan) → Passes D.log D.says work.old
         (owned event next) work.new (then_of next found)) }
-    ensures stops { OnErr result ((next : ℕ → Plan) → Goes D.log D.says work.old
-        (owned event next) work.new Asking) }
+    ensures stops { IfErr result (λ f. (next : ℕ → Plan) → Goes D.log D.says work.old
+        (owned event next) work.new (stops_at f)) }
     ensures owed { work.new.owed ≡ work.old.owed }
     ensures reports { call_dropped event ≡ None → (call : ℕ) →
         last_reports work.new.windows call ≡ last_reports work.old.windows call }
@@ -46,8 +46,8 @@ pub(super) fn look<D: DeskView + Drop, A: Allocator + Copy>(
 ) -> Result<Option<Shown>, DeskFault>
     ensures goes { IfOk result (λ found. (next : CallRecord → Option ChanState → Plan) →
         Passes D.log D.says work.old (looked call next) work.new (then_shown next found)) }
-    ensures stops { OnErr result ((next : CallRecord → Option ChanState → Plan) →
-        Goes D.log D.says work.old (looked call next) work.new Asking) }
+    ensures stops { IfErr result (λ f. (next : CallRecord → Option ChanState → Plan) →
+        Goes D.log D.says work.old (looked call next) work.new (stops_at f)) }
     ensures owed { work.new.owed ≡ work.old.owed }
     ensures reports { (other : ℕ) →
         last_reports work.new.windows other ≡ last_reports work.old.windows other }

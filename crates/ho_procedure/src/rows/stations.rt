@@ -1,7 +1,7 @@
 //! Rows of the messages of stations.
-ghost use Rattle.std.specs.Prelude.{◌≡◌, ◌≤◌, ◌<◌, ℕ, OnOk, OnErr, IfErr};
-ghost use Rattle.ho_procedure.specs.Plan.{Plan, Ends, At, Asking};
-ghost use Rattle.ho_procedure.specs.Going.{Goes, Passes, IsForeign};
+ghost use Rattle.std.specs.Prelude.{◌≡◌, ◌≤◌, ◌<◌, ℕ, OnOk, IfErr};
+ghost use Rattle.ho_procedure.specs.Plan.{Plan, Ends, At};
+ghost use Rattle.ho_procedure.specs.Going.{Goes, Passes, IsForeign, stops_at};
 ghost use Rattle.ho_procedure.specs.Procedure.{send_command, internal_command, acknowledge, incoming_command, confirm_rest, confirm_plan, refused_target, refuse_plan, released_plan, connection_failure_plan, tell_detected, detect_rest, detect_plan};
 
 use super::parts::{look, owner, tell_failure};
@@ -29,8 +29,8 @@ fn send_command<D: DeskView + Drop, A: Allocator + Copy>(
     requires timeslot { serving.tn < 8 }
     ensures row { OnOk result (Goes D.log D.says work.old
         (send_command call serving command.now) work.new (At Ends)) }
-    ensures stops { OnErr result (Goes D.log D.says work.old
-        (send_command call serving command.now) work.new Asking) }
+    ensures stops { IfErr result (λ f. Goes D.log D.says work.old
+        (send_command call serving command.now) work.new (stops_at f)) }
     ensures foreign { IfErr result (λ f. IsForeign f → D.may_be_foreign work.old.view) }
     ensures foreign_kept { D.may_be_foreign work.new.view → D.may_be_foreign work.old.view }
 {
@@ -54,8 +54,8 @@ fn command<D: DeskView + Drop, A: Allocator + Copy>(
     requires { 1 ≤ work.old.owed.room }
     ensures row { OnOk result (Goes D.log D.says work.old
         (internal_command site.now call target serving reference) work.new (At Ends)) }
-    ensures stops { OnErr result (Goes D.log D.says work.old
-        (internal_command site.now call target serving reference) work.new Asking) }
+    ensures stops { IfErr result (λ f. Goes D.log D.says work.old
+        (internal_command site.now call target serving reference) work.new (stops_at f)) }
     ensures foreign { IfErr result (λ f. IsForeign f → D.may_be_foreign work.old.view) }
     ensures foreign_kept { D.may_be_foreign work.new.view → D.may_be_foreign work.old.view }
 {
@@ -84,8 +84,8 @@ fn acknowledge<D: DeskView + Drop, A: Allocator + Copy>(
     requires { 1 ≤ work.old.owed.room }
     ensures row { OnOk result (Goes D.log D.says work.old
         (acknowledge call command.now) work.new (At Ends)) }
-    ensures stops { OnErr result (Goes D.log D.says work.old
-        (acknowledge call command.now) work.new Asking) }
+    ensures stops { IfErr result (λ f. Goes D.log D.says work.old
+        (acknowledge call command.now) work.new (stops_at f)) }
     ensures foreign { IfErr result (λ f. IsForeign f → D.may_be_foreign work.old.view) }
     ensures foreign_kept { D.may_be_foreign work.new.view → D.may_be_foreign work.old.view }
 {
@@ -108,8 +108,8 @@ fn command_incoming<D: DeskView + Drop, A: Allocator + Copy>(
     requires { 1 ≤ work.old.owed.room }
     ensures row { OnOk result (Goes D.log D.says work.old
         (incoming_command site.now call target reference) work.new (At Ends)) }
-    ensures stops { OnErr result (Goes D.log D.says work.old
-        (incoming_command site.now call target reference) work.new Asking) }
+    ensures stops { IfErr result (λ f. Goes D.log D.says work.old
+        (incoming_command site.now call target reference) work.new (stops_at f)) }
     ensures foreign { IfErr result (λ f. IsForeign f → D.may_be_foreign work.old.view) }
     ensures foreign_kept { D.may_be_foreign work.new.view → D.may_be_foreign work.old.view }
 {
@@ -135,8 +135,8 @@ fn confirm_rest<D: DeskView + Drop, A: Allocator + Copy>(
     requires { 1 ≤ work.old.owed.room }
     ensures row { OnOk result (Goes D.log D.says work.old
         (confirm_rest site.now call chan serving attempt) work.new (At Ends)) }
-    ensures stops { OnErr result (Goes D.log D.says work.old
-        (confirm_rest site.now call chan serving attempt) work.new Asking) }
+    ensures stops { IfErr result (λ f. Goes D.log D.says work.old
+        (confirm_rest site.now call chan serving attempt) work.new (stops_at f)) }
     ensures foreign { IfErr result (λ f. IsForeign f → D.may_be_foreign work.old.view) }
     ensures foreign_kept { D.may_be_foreign work.new.view → D.may_be_foreign work.old.view }
 {
@@ -162,8 +162,8 @@ pub(crate) fn confirm<D: DeskView + Drop, A: Allocator + Copy>(
 ) -> Result<(), DeskFault>
     ensures row { OnOk result (Goes D.log D.says work.old
         (confirm_plan site.now chan) work.new (At Ends)) }
-    ensures stops { OnErr result (Goes D.log D.says work.old
-        (confirm_plan site.now chan) work.new Asking) }
+    ensures stops { IfErr result (λ f. Goes D.log D.says work.old
+        (confirm_plan site.now chan) work.new (stops_at f)) }
     ensures foreign { IfErr result (λ f. IsForeign f → D.may_be_foreign work.old.view) }
     ensures foreign_kept { D.may_be_foreign work.new.view → D.may_be_foreign work.old.view }
 {
@@ -193,8 +193,8 @@ fn refuse_target<D: DeskView + Drop, A: Allocator + Copy>(
     requires { 1 ≤ work.old.owed.room }
     ensures row { OnOk result (Goes D.log D.says work.old
         (refused_target call) work.new (At Ends)) }
-    ensures stops { OnErr result (Goes D.log D.says work.old
-        (refused_target call) work.new Asking) }
+    ensures stops { IfErr result (λ f. Goes D.log D.says work.old
+        (refused_target call) work.new (stops_at f)) }
     ensures foreign { IfErr result (λ f. IsForeign f → D.may_be_foreign work.old.view) }
     ensures foreign_kept { D.may_be_foreign work.new.view → D.may_be_foreign work.old.view }
 {
@@ -213,8 +213,8 @@ pub(crate) fn refuse<D: DeskView + Drop, A: Allocator + Copy>(
 ) -> Result<(), DeskFault>
     ensures row { OnOk result (Goes D.log D.says work.old
         (refuse_plan chan) work.new (At Ends)) }
-    ensures stops { OnErr result (Goes D.log D.says work.old
-        (refuse_plan chan) work.new Asking) }
+    ensures stops { IfErr result (λ f. Goes D.log D.says work.old
+        (refuse_plan chan) work.new (stops_at f)) }
     ensures foreign { IfErr result (λ f. IsForeign f → D.may_be_foreign work.old.view) }
     ensures foreign_kept { D.may_be_foreign work.new.view → D.may_be_foreign work.old.view }
 {
@@ -242,8 +242,8 @@ pub(crate) fn release<D: DeskView + Drop, A: Allocator + Copy>(
 ) -> Result<(), DeskFault>
     ensures row { OnOk result (Goes D.log D.says work.old
         (released_plan chan) work.new (At Ends)) }
-    ensures stops { OnErr result (Goes D.log D.says work.old
-        (released_plan chan) work.new Asking) }
+    ensures stops { IfErr result (λ f. Goes D.log D.says work.old
+        (released_plan chan) work.new (stops_at f)) }
     ensures foreign { IfErr result (λ f. IsForeign f → D.may_be_foreign work.old.view) }
     ensures foreign_kept { D.may_be_foreign work.new.view → D.may_be_foreign work.old.view }
 {
@@ -259,8 +259,8 @@ pub(crate) fn fail<D: DeskView + Drop, A: Allocator + Copy>(
 ) -> Result<(), DeskFault>
     ensures row { OnOk result (Goes D.log D.says work.old
         (connection_failure_plan chan) work.new (At Ends)) }
-    ensures stops { OnErr result (Goes D.log D.says work.old
-        (connection_failure_plan chan) work.new Asking) }
+    ensures stops { IfErr result (λ f. Goes D.log D.says work.old
+        (connection_failure_plan chan) work.new (stops_at f)) }
     ensures foreign { IfErr result (λ f. IsForeign f → D.may_be_foreign work.old.view) }
     ensures foreign_kept { D.may_be_foreign work.new.view → D.may_be_foreign work.old.view }
 {
@@ -315,8 +315,8 @@ pub(crate) fn detect<D: DeskView + Drop, A: Allocator + Copy>(
 ) -> Result<(), DeskFault>
     ensures row { OnOk result (Goes D.log D.says work.old
         (detect_plan chan) work.new (At Ends)) }
-    ensures stops { OnErr result (Goes D.log D.says work.old
-        (detect_plan chan) work.new Asking) }
+    ensures stops { IfErr result (λ f. Goes D.log D.says work.old
+        (detect_plan chan) work.new (stops_at f)) }
     ensures foreign { IfErr result (λ f. IsForeign f → D.may_be_foreign work.old.view) }
     ensures foreign_kept { D.may_be_foreign work.new.view → D.may_be_foreign work.old.view }
 {

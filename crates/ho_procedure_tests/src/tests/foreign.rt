@@ -27,6 +27,8 @@ impl DeskView for Elsewhere {
 
     ghost says = { λ _ _ _. Unit };
 
+    ghost judged = { λ _ _ _. Unit };
+
     ghost may_be_foreign = { λ _. Unit };
 
     fn judge(&mut self, _event: Event) -> Result<Receipt, DeskFault> {
