@@ -11,15 +11,15 @@ use radio_desk::seat::Receipt;
 /// A way to ask the book: at a desk of one's own, or at one that threads share. Contracts see what it was asked, each
 /// event with its reply, as its log.
 ///
-/// An answered event joins the log with its reply. After a fault, and where no channel is free, the log is as it was.
+/// An answered event joins the log with its reply. After a fault, and where no channel is free, the log is as it was. What
+/// it says after a call it would have said before: so it says of one book that it began with.
 pub trait DeskView {
     ghost log: { Self → List Entry };
 
-    // what it means of the view that it makes this claim after these entries; what a later view says, an earlier one would
-    // have said: so the book that it began with stays
+    // what it says of its book, where it makes this claim after these entries
     ghost says: { Self → List Entry → Claim → Type 0 };
 
-    // what a receipt means of the view before and after
+    // what a receipt says of the view before and after
     ghost judged: { Self → Receipt → Self → Type 0 };
 
     // the desk may not know this view's last receipt
