@@ -41,7 +41,6 @@ fn text_of(printed: &[u8]) -> &str {
     str::from_utf8(printed).unwrap_or("")
 }
 
-<<<<<<< HEAD
 /// Tells a listener what came, and then does what a line of a script gives; answers whether the run goes on, and does
 /// nothing where it doesn't.
 fn follow_heard<A: Allocator + Copy, L: Listener>(
@@ -103,8 +102,6 @@ fn hear_end<A: Allocator + Copy, L: Listener>(
     listener.hear_last(text_of(before), text_of(printed))
 }
 
-=======
->>>>>>> da142a85c209af2fcd09d43b48601fe4ca4e1717
 /// Follows what the lines of a script give over empty books of the sites, and tells a listener what comes of them, until
 /// that answers `false`.
 pub(crate) fn run_heard<A: Allocator + Copy, L: Listener>(
@@ -118,25 +115,8 @@ pub(crate) fn run_heard<A: Allocator + Copy, L: Listener>(
 {
     let mut course = fresh_course(alloc, sites)?;
     let mut printed = Vec::new(alloc);
-<<<<<<< HEAD
     if !follow_all(&mut course, items, &mut printed, listener)? {
         return Ok(false);
     }
     hear_end(&course, &mut printed, listener)
-=======
-    for item in items {
-        if !listener.hear(text_of(&printed))? {
-            return Ok(false);
-        }
-        printed.clear();
-        follow_printed(&mut course, item, &mut printed)?;
-    }
-    let came = printed.len();
-    course
-        .print_ends(&mut printed)
-        .map_err(|_| LabFault::NoMemory)?;
-    let (before, _) = printed.split_at(came.min(printed.len()));
-    let well = listener.hear_last(text_of(before), text_of(&printed))?;
-    Ok(well)
->>>>>>> da142a85c209af2fcd09d43b48601fe4ca4e1717
 }

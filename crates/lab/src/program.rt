@@ -47,11 +47,7 @@ pub fn perform<R: Files + AllocGlobal, I: Read + Drop, W: Write, E: Write>(
                 script,
                 views,
             },
-<<<<<<< HEAD
         ) => run_files(rt, sites, script, &views, out, errors),
-=======
-        ) => run_files(rt, site, peer, script, &views, out, errors),
->>>>>>> da142a85c209af2fcd09d43b48601fe4ca4e1717
         Ok(Job::Test { sites, scripts }) => test_files(rt, sites, &scripts, out, errors),
         Ok(Job::Record { sites, script }) => record_file(rt, sites, script, out, errors),
         Ok(Job::Rewind { site, trace, line }) => rewind_files(rt, site, trace, line, out, errors),

@@ -93,15 +93,9 @@ pub fn exit_status(ended: Result<Status, LabFault>) -> u8
 
 /// The site of a controller, and its peer's where there is one.
 #[derive(Drop)]
-<<<<<<< HEAD
 pub struct Sites<A: Allocator + Copy = Global> {
     pub first: Site<A>,
     pub peer: Option<Site<A>>,
-=======
-pub(crate) struct Sites<A: Allocator + Copy = Global> {
-    pub(crate) first: Site<A>,
-    pub(crate) peer: Option<Site<A>>,
->>>>>>> da142a85c209af2fcd09d43b48601fe4ca4e1717
 }
 
 /// A site that several share.

@@ -1,9 +1,5 @@
 //! The words of the commands that test and record scripts.
-<<<<<<< HEAD
 use crate::site_files::SitePaths;
-=======
-use crate::script_files::SitePaths;
->>>>>>> da142a85c209af2fcd09d43b48601fe4ca4e1717
 use crate::words::{argument, peer_argument};
 use clap::{ArgMatches, Command};
 use std::alloc::{AllocError, Global};

@@ -1,13 +1,8 @@
 //! The words of the command line.
 ghost use Rattle.std.specs.Prelude.{◌≡◌};
 
-<<<<<<< HEAD
 use crate::script_words::{record_command, script_paths, site_paths, test_command};
 use crate::site_files::SitePaths;
-=======
-use crate::script_files::SitePaths;
-use crate::script_words::{record_command, script_paths, site_paths, test_command};
->>>>>>> da142a85c209af2fcd09d43b48601fe4ca4e1717
 use clap::error::ErrorKind;
 use clap::{Arg, ArgAction, ArgMatches, Command, Error, value_parser};
 use decoded_lines::{Asked, Detail, Link, link_named};

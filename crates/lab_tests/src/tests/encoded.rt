@@ -1,8 +1,4 @@
-<<<<<<< HEAD
 use super::decoded::{ON_A, ON_A_WITH_CELLS, ON_ABIS, RADIO, REPORTS};
-=======
-use super::decoded::{ON_A, ON_ABIS, ON_A_WITH_CELLS, RADIO, REPORTS};
->>>>>>> da142a85c209af2fcd09d43b48601fe4ca4e1717
 use super::failing::Failing;
 use lab::decoded::{Link, decode_run};
 use lab::encoded::encode_run;

@@ -4,12 +4,8 @@ use super::failing::Failing;
 use super::peer::PEER;
 use lab::recorded::record_run;
 use lab::run::{LabFault, Status};
-<<<<<<< HEAD
 use lab::script_files::{record_file, test_files};
 use lab::site_files::SitePaths;
-=======
-use lab::script_files::{SitePaths, record_file, test_files};
->>>>>>> da142a85c209af2fcd09d43b48601fe4ca4e1717
 use lab::tested::{Numbered, test_run};
 use refusing_heap::RefusingHeap;
 use std::alloc::{Allocator, Global};
