@@ -96,8 +96,9 @@ waits log says w w' NoMemory p l o n i k a = record { trace = []; leads = (p, re
 -- nothing is done where the plan takes memory next, and it is refused
 pub lacks : {D A : Type 0} (log : D → List Entry) (says : D → List Entry → Claim → Type 0) (w : Work D A) (f : DeskFault) (p : Plan) → f ≡ NoMemory → TakesMemory p → Goes log says w p w (stops_at f)
 unfolding Goes stops_at
-lacks log says w (Foreign place) p is t = absurd is
-lacks log says w NoMemory p is t = record { trace = []; leads = (p, refl, t); entries = sym (append-nil (log w.view)); messages = sym (append-nil w.owed.items); choices = tt; reports = λ call. refl; width = refl; said = λ es claim h. h }
+lacks log says w f p is t =
+    let here : Goes log says w p w (stops_at NoMemory) = record { trace = []; leads = (p, refl, t); entries = sym (append-nil (log w.view)); messages = sym (append-nil w.owed.items); choices = tt; reports = λ call. refl; width = refl; said = λ es claim h. h } in
+    subst (λ x. Goes log says w p w (stops_at x)) (sym is) here
 
 -- nothing is done, and the plan goes on
 pub idles : {D A : Type 0} (log : D → List Entry) (says : D → List Entry → Claim → Type 0) (w w' : Work D A) (p : Plan)
