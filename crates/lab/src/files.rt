@@ -6,6 +6,7 @@ use crate::rewound::rewind_run;
 use crate::run::{LabFault, Status, lab_run};
 use crate::site_files::{SitePaths, SiteTexts, say_reasons, site_texts};
 use crate::site_reason::say_reason;
+use escaped_text::Escaped;
 use run_views::{Sites, Viewer, Views, WordsFault, open_sheets};
 use std::alloc::{Allocator, Global};
 use std::fs::File;
@@ -47,9 +48,9 @@ pub(crate) fn text_of<R: Files + AllocGlobal, W: Write, E: Write>(
 ) -> Result<Option<String>, LabFault> {
     match file_text(rt, path) {
         Ok(Some(text)) => return Ok(Some(text)),
-        Ok(None) => writeln!(errors, "{path}: the file has more than 64 MiB")?,
+        Ok(None) => writeln!(errors, "{}: the file has more than 64 MiB", Escaped(path))?,
         Err(error) if error.kind() == io::ErrorKind::OutOfMemory => return Err(LabFault::NoMemory),
-        Err(error) => writeln!(errors, "{path}: {error}")?,
+        Err(error) => writeln!(errors, "{}: {error}", Escaped(path))?,
     }
     writeln!(out, "file {path}")?;
     Ok(None)
