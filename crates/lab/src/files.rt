@@ -4,7 +4,8 @@ ghost use Rattle.lab.specs.Files.{longest_file};
 
 use crate::rewound::rewind_run;
 use crate::run::{LabFault, Status, lab_run};
-use crate::site_files::{SitePaths, SiteTexts, say_reasons, site_texts};
+use crate::run_reason::say_refusal;
+use crate::site_files::{SitePaths, SiteTexts, site_texts};
 use crate::site_reason::say_reason;
 use escaped_text::Escaped;
 use run_views::{Sites, Viewer, Views, WordsFault, open_sheets};
@@ -158,7 +159,7 @@ fn run_texts_viewed<R: Files + AllocGlobal, W: Write, E: Write>(
 /// The site's file is read first, then the peer's, then the script's. Where a file isn't there, can't be read, isn't
 /// UTF-8 or has more than [`LONGEST_FILE`] octets, `file` and its path are printed and nothing else, and the answer is
 /// `Refused`; one line on `errors` says why. Where a site is refused, one line on `errors` says where in its file, and
-/// what is allowed there.
+/// what is allowed there; where a line of the script is, one says which of its words is wrong, and what may stand there.
 pub fn run_files<R: Files + AllocGlobal, W: Write, E: Write>(
     rt: &R,
     sites: SitePaths<'_>,
@@ -180,7 +181,7 @@ pub fn run_files<R: Files + AllocGlobal, W: Write, E: Write>(
         return Ok(Status::Refused);
     };
     if status == Status::Refused {
-        say_reasons(alloc, sites, &texts.sites, errors)?;
+        say_refusal(alloc, sites, &texts.sites, script, &texts.script, errors)?;
     }
     Ok(status)
 }

@@ -20,6 +20,7 @@ pub mod program;
 pub mod recorded;
 pub mod rewound;
 pub mod run;
+mod run_reason;
 pub mod script_files;
 mod script_words;
 mod simulators;

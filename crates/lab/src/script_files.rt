@@ -2,6 +2,7 @@
 use crate::files::text_of;
 use crate::recorded::record_run;
 use crate::run::{LabFault, Status, read_sites, refuse_site};
+use crate::run_reason::{say_line, say_refusal};
 use crate::site_files::{SitePaths, SiteTexts, say_reasons, site_texts};
 use crate::tested::{Numbered, test_run};
 use cell_table::SiteFault;
@@ -40,15 +41,13 @@ fn test_file<R: Files + AllocGlobal, W: Write, E: Write>(
         print_miss(out, test.number, test.name, Miss::NoFile)?;
         return Ok(Status::Refused);
     };
-    test_run(
-        alloc,
-        alloc,
-        sites.first(),
-        sites.peer(),
-        &script,
-        test,
-        out,
-    )
+    let peer = sites.peer();
+    let status = test_run(alloc, alloc, sites.first(), peer, &script, test, out)?;
+    if status == Status::Refused {
+        // the sites were read before
+        say_line(alloc, test.name, &script, peer.is_some(), errors)?;
+    }
+    Ok(status)
 }
 
 /// Tests the scripts of some files over the site of another, or over two where a peer's is named, as [`test_run`] does of
@@ -94,12 +93,12 @@ pub fn record_file<R: Files + AllocGlobal, W: Write, E: Write>(
     let Some(sites) = site_texts(rt, paths, out, errors)? else {
         return Ok(Status::Refused);
     };
-    let Some(script) = text_of(rt, script, out, errors)? else {
+    let Some(text) = text_of(rt, script, out, errors)? else {
         return Ok(Status::Refused);
     };
-    let status = record_run(alloc, alloc, sites.first(), sites.peer(), &script, out)?;
+    let status = record_run(alloc, alloc, sites.first(), sites.peer(), &text, out)?;
     if status == Status::Refused {
-        say_reasons(alloc, paths, &sites, errors)?;
+        say_refusal(alloc, paths, &sites, script, &text, errors)?;
     }
     Ok(status)
 }

@@ -55,18 +55,18 @@ pub(crate) fn site_texts<R: Files + AllocGlobal, W: Write, E: Write>(
     }))
 }
 
-/// Says why the first of the sites that is refused is.
+/// Says why the first of the sites that is refused is; answers whether one is.
 pub(crate) fn say_reasons<E: Write>(
     alloc: Global,
     paths: SitePaths<'_>,
     texts: &SiteTexts,
     errors: &mut E,
-) -> Result<(), LabFault> {
+) -> Result<bool, LabFault> {
     if say_reason(alloc, paths.first, &texts.first, errors)? {
-        return Ok(());
+        return Ok(true);
     }
-    if let (Some(path), Some(text)) = (paths.peer, texts.peer()) {
-        say_reason(alloc, path, text, errors)?;
+    match (paths.peer, texts.peer()) {
+        (Some(path), Some(text)) => say_reason(alloc, path, text, errors),
+        (Some(_), None) | (None, _) => Ok(false),
     }
-    Ok(())
 }

@@ -333,7 +333,7 @@ not ok 3 - no file
 # the file can't be read
 ok 4 - tested_met.txt
 ",
-        "no file: No such file",
+        "tested_unread.txt:1: TN is 0 to 7, found 8\nno file: No such file",
     ),
 ];
 
