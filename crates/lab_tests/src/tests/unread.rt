@@ -33,9 +33,9 @@ const UNREAD: &[(&str, &str, &str)] = &[
         "1: 2: is for a second controller, and there is none",
     ),
     (
-        "mobile 1 arrive\n",
+        "mobile 0 0 3 arrive\n",
         "line 1\n",
-        "1: mobile CALL HABIT needs a line sim before it",
+        "1: mobile CELL TRX TN HABIT needs a line sim before it",
     ),
     (
         "undo \u{1b}[2J\n",
