@@ -168,7 +168,7 @@ impl<A: Allocator + Copy> Course<A> {
     }
 
     /// Does what a line of a script gives, until nothing of it is left.
-    fn follow<W: Write>(&mut self, item: Item<A>, out: &mut W) -> Result<(), LabFault>
+    pub(crate) fn follow<W: Write>(&mut self, item: Item<A>, out: &mut W) -> Result<(), LabFault>
         requires there { is_item_there (has_peer self.old) item ≡ true }
         ensures { OnOk result (Went (inputs_in (item ∷ [])) self.old self.new) }
     {

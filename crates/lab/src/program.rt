@@ -1,8 +1,10 @@
 //! What the program does with the words of its command line.
 use crate::check::check_file;
 use crate::decoded::{decode_run, ended};
+use crate::encoded::encode_run;
 use crate::files::{rewind_files, run_files};
 use crate::run::{LabFault, Status};
+use crate::script_files::{record_file, test_files};
 use crate::words::{Job, WordsFault, read_words};
 use decoded_lines::answer_file;
 use explain_command::explain;
@@ -25,9 +27,10 @@ fn explain_number<W: Write, E: Write>(
 
 /// Does what the words of a command line ask for, those after the program's own name: runs a script over a site
 /// ([`run_files`]), takes an undone attempt out of a trace and says whether the rest comes to the same
-/// ([`rewind_files`]), prints the cells of a site ([`check_file`]), prints a message in words ([`decode_run`]) or those of
-/// many lines ([`answer_file`]), says in words what a number stands for ([`explain`]), or shows help or the version.
-/// `input` is standard input. What it prints goes to `out`; why words, a site or a file are refused goes to `errors`.
+/// ([`rewind_files`]), tests scripts ([`test_files`]) or records one ([`record_file`]), prints the cells of a site
+/// ([`check_file`]), prints a message in words ([`decode_run`]) or those of many lines ([`answer_file`]), prints a message's
+/// octets ([`encode_run`]), says in words what a number stands for ([`explain`]), or shows help or the version. `input` is
+/// standard input. What it prints goes to `out`; why words, a site, a file or a message are refused goes to `errors`.
 ///
 /// No clause says what is printed, nor which words end how: that is shown by tests.
 pub fn perform<R: Files + AllocGlobal, I: Read + Drop, W: Write, E: Write>(
@@ -46,12 +49,15 @@ pub fn perform<R: Files + AllocGlobal, I: Read + Drop, W: Write, E: Write>(
                 views,
             },
         ) => run_files(rt, site, peer, script, &views, out, errors),
+        Ok(Job::Test { sites, scripts }) => test_files(rt, sites, &scripts, out, errors),
+        Ok(Job::Record { sites, script }) => record_file(rt, sites, script, out, errors),
         Ok(Job::Rewind { site, trace, line }) => rewind_files(rt, site, trace, line, out, errors),
         Ok(Job::Check { site }) => check_file(rt, site, out, errors),
         Ok(Job::Decode { link, text }) => decode_run(rt.alloc(), link, text, out),
         Ok(Job::DecodeLines { asked, path }) => {
             ended(answer_file(rt, asked, path, input, out, errors))
         }
+        Ok(Job::Encode { link, text }) => encode_run(rt.alloc(), link, text, out, errors),
         Ok(Job::Explain(question)) => explain_number(question, out, errors),
         Ok(Job::Show(text)) => {
             write!(out, "{text}")?;

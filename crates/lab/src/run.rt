@@ -93,9 +93,9 @@ pub fn exit_status(ended: Result<Status, LabFault>) -> u8
 
 /// The site of a controller, and its peer's where there is one.
 #[derive(Drop)]
-struct Sites<A: Allocator + Copy = Global> {
-    first: Site<A>,
-    peer: Option<Site<A>>,
+pub(crate) struct Sites<A: Allocator + Copy = Global> {
+    pub(crate) first: Site<A>,
+    pub(crate) peer: Option<Site<A>>,
 }
 
 /// A site that several share.
@@ -119,7 +119,10 @@ fn shared_peer<A: Allocator + Copy>(
 }
 
 /// Controllers of the sites that were given nothing yet.
-fn fresh_course<A: Allocator + Copy>(alloc: A, sites: Sites<A>) -> Result<Course<A>, AllocError>
+pub(crate) fn fresh_course<A: Allocator + Copy>(
+    alloc: A,
+    sites: Sites<A>,
+) -> Result<Course<A>, AllocError>
     ensures openings { IfOk result (λ course. AreOpenings (views_of sites)
         (positions_of course.controllers)) }
     ensures peer { IfOk result (λ course. has_peer course ≡ is_some sites.peer) }
@@ -147,7 +150,7 @@ fn run_items<A: Allocator + Copy, W: Write>(
 }
 
 /// What the lines of a script give; nothing where a line can't be read, whose number was printed.
-fn script_items<A: Allocator + Copy, W: Write>(
+pub(crate) fn script_items<A: Allocator + Copy, W: Write>(
     alloc: A,
     script: &str,
     has_peer: bool,
@@ -209,7 +212,7 @@ fn read_peer<A: Allocator + Copy>(
 }
 
 /// The sites of one controller or two. That of the first is looked at first.
-fn read_sites<A: Allocator + Copy>(
+pub(crate) fn read_sites<A: Allocator + Copy>(
     alloc: A,
     scratch: Global,
     site: &str,

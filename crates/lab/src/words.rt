@@ -1,6 +1,8 @@
 //! The words of the command line.
 ghost use Rattle.std.specs.Prelude.{◌≡◌};
 
+use crate::script_files::SitePaths;
+use crate::script_words::{record_command, script_paths, site_paths, test_command};
 use clap::error::ErrorKind;
 use clap::{Arg, ArgAction, ArgMatches, Command, Error, value_parser};
 use decoded_lines::{Asked, Detail, Link, link_named};
@@ -27,6 +29,16 @@ pub enum Job<'a> {
         trace: &'a str,
         line: usize,
     },
+    /// Scripts are tested over a site, or over two: the paths of the files.
+    Test {
+        sites: SitePaths<'a>,
+        scripts: Vec<&'a str>,
+    },
+    /// A script is recorded over a site, or over two: the paths of the files.
+    Record {
+        sites: SitePaths<'a>,
+        script: &'a str,
+    },
     /// The cells of a site are printed, and what is surely meant otherwise in its file: the file's path.
     Check {
         site: &'a str,
@@ -41,6 +53,11 @@ pub enum Job<'a> {
     DecodeLines {
         asked: Asked,
         path: &'a str,
+    },
+    /// A message, written in words, is printed in hexadecimal.
+    Encode {
+        link: Link,
+        text: &'a str,
     },
     /// A number of a trace or of a message is said in words.
     Explain(Question),
@@ -76,7 +93,7 @@ fn link(name: &str) -> Option<Link> {
 }
 
 /// An argument that has to be given, by its place.
-fn argument<'a>(alloc: Global, name: &'a str, help: &'a str) -> Arg<'a> {
+pub(crate) fn argument<'a>(alloc: Global, name: &'a str, help: &'a str) -> Arg<'a> {
     Arg::new(alloc, name)
         .required(true)
         .action(ArgAction::Set)
@@ -84,7 +101,7 @@ fn argument<'a>(alloc: Global, name: &'a str, help: &'a str) -> Arg<'a> {
 }
 
 /// `--peer SITE`
-fn peer_argument<'a>(alloc: Global) -> Arg<'a> {
+pub(crate) fn peer_argument<'a>(alloc: Global) -> Arg<'a> {
     Arg::new(alloc, "PEER")
         .long("peer")
         .value_name("SITE")
@@ -213,6 +230,40 @@ fn all_argument<'a>(alloc: Global) -> Result<Arg<'a>, AllocError> {
         .requires_arg("from")
 }
 
+/// `encode LINK TEXT`
+fn encode_command<'a>(alloc: Global) -> Result<Command<'a>, AllocError> {
+    let link = argument(alloc, "LINK", "Where the message is for").value_parser(LINKS);
+    let text = argument(
+        alloc,
+        "TEXT",
+        "The message's name and its fields, as decode prints them: the fields in any order",
+    );
+    Command::new(alloc, "encode")
+        .about("Prints a message in octets, as in: encode abis \"RF CHANNEL RELEASE tn=3\"")
+        .after_help(ENCODE_HELP)
+        .arg(link)?
+        .arg(text)
+}
+
+/// What stands behind the help of `encode`.
+const ENCODE_HELP: &str = "\
+Links: rr is the radio path (TS 44.018), a the switching centre (TS 48.008), abis the base station
+(TS 48.058).
+
+Fields: numbers in decimal, yes as 1 and no as 0, octets in hexadecimal, - for what is absent.
+
+Statuses: 0 the octets are printed, 2 the message is refused, 3 memory was refused.
+
+As in: bsc_lab encode a \"CLEAR COMMAND cause=9\"";
+
+/// The job of `encode`.
+fn encode_job<'a>(encode: &ArgMatches<'a>) -> Option<Job<'a>> {
+    Some(Job::Encode {
+        link: link(encode.get_str("LINK")?)?,
+        text: encode.get_str("TEXT")?,
+    })
+}
+
 /// The whole command line.
 fn lab_command<'a>(alloc: Global) -> Result<Command<'a>, AllocError> {
     Command::new(alloc, "bsc_lab")
@@ -222,9 +273,12 @@ fn lab_command<'a>(alloc: Global) -> Result<Command<'a>, AllocError> {
         .bin_name("bsc_lab")?
         .subcommand_required(true)
         .subcommand(run_command(alloc)?)?
+        .subcommand(test_command(alloc)?)?
+        .subcommand(record_command(alloc)?)?
         .subcommand(rewind_command(alloc)?)?
         .subcommand(check_command(alloc)?)?
         .subcommand(decode_command(alloc)?)?
+        .subcommand(encode_command(alloc)?)?
         .subcommand(explain_command(alloc)?)
 }
 
@@ -260,6 +314,10 @@ fn job_of<'a>(matches: &ArgMatches<'a>) -> Option<Job<'a>> {
             script: run.get_str("SCRIPT")?,
             views: views_of(run),
         }),
+        ("record", record) => Some(Job::Record {
+            sites: site_paths(record)?,
+            script: record.get_str("SCRIPT")?,
+        }),
         ("rewind", rewind) => Some(Job::Rewind {
             site: rewind.get_str("SITE")?,
             trace: rewind.get_str("TRACE")?,
@@ -269,8 +327,23 @@ fn job_of<'a>(matches: &ArgMatches<'a>) -> Option<Job<'a>> {
             site: check.get_str("SITE")?,
         }),
         ("decode", decode) => decode_job(decode),
+        ("encode", encode) => encode_job(encode),
         ("explain", explain) => Some(Job::Explain(question_of(explain)?)),
         _ => None,
+    }
+}
+
+/// The job of a command line that was read, of which scripts may be many.
+fn any_job_of<'a>(alloc: Global, matches: &ArgMatches<'a>) -> Result<Option<Job<'a>>, AllocError> {
+    match matches.subcommand() {
+        Some(("test", test)) => {
+            let Some(sites) = site_paths(test) else {
+                return Ok(None);
+            };
+            let scripts = script_paths(alloc, test)?;
+            Ok(Some(Job::Test { sites, scripts }))
+        }
+        _ => Ok(job_of(matches)),
     }
 }
 
@@ -291,7 +364,7 @@ fn unmatched<'a>(alloc: Global, error: Error) -> Result<Job<'a>, WordsFault> {
 /// No clause says which words are which: that is shown by tests.
 pub fn read_words<'a>(alloc: Global, words: &'a [&'a str]) -> Result<Job<'a>, WordsFault> {
     match lab_command(alloc)?.try_get_matches_from(words) {
-        Ok(matches) => match job_of(&matches) {
+        Ok(matches) => match any_job_of(alloc, &matches)? {
             Some(job) => Ok(job),
             None => Err(WordsFault::Refused(String::new(alloc))),
         },

@@ -3,6 +3,7 @@
 mod checked;
 mod crossing;
 mod decoded;
+mod encoded;
 mod external;
 mod failing;
 mod files;
@@ -14,6 +15,7 @@ mod reasons;
 mod refusals;
 mod rewound;
 mod simulated;
+mod tested;
 mod traces;
 mod unwritten;
 mod viewed;

@@ -19,7 +19,7 @@ const REQUIRED: (&str, &str) = (
 );
 
 /// Radio resource messages in words.
-const RADIO: &[(&str, &str)] = &[
+pub(crate) const RADIO: &[(&str, &str)] = &[
     (
         "062BD5670BA36B2A05",
         "HANDOVER COMMAND arfcn=871 ncc=2 bcc=5 tn=3 tsc=5 carrier=875 reference=42 atc=0 power=5",
@@ -36,7 +36,7 @@ const RADIO: &[(&str, &str)] = &[
 ];
 
 /// Measurement reports in words.
-const REPORTS: &[(&str, &str)] = &[
+pub(crate) const REPORTS: &[(&str, &str)] = &[
     (
         "06151E1E006812A000000000000000000000",
         "MEASUREMENT REPORT ba=0 dtx=0 full=30 ba3g=0 valid=1 sub=30 si23=0 qfull=0 qsub=0 count=1 n=40/2/21",
@@ -58,7 +58,7 @@ const REPORTS: &[(&str, &str)] = &[
 ];
 
 /// Messages on Abis in words.
-const ON_ABIS: &[(&str, &str)] = &[
+pub(crate) const ON_ABIS: &[(&str, &str)] = &[
     (
         "0301010b02000b00020628",
         "DATA REQUEST tn=3 link=0 layer3=0628",
@@ -96,7 +96,7 @@ const ON_ABIS: &[(&str, &str)] = &[
 ];
 
 /// Messages on A in words.
-const ON_A: &[(&str, &str)] = &[
+pub(crate) const ON_A: &[(&str, &str)] = &[
     (
         "0006121703062bd5",
         "HANDOVER REQUEST ACKNOWLEDGE layer3=062bd5",
@@ -123,7 +123,7 @@ const ON_A: &[(&str, &str)] = &[
 ];
 
 /// Messages on A with a list of octets or of cells.
-const ON_A_WITH_CELLS: &[(&str, &str)] = &[
+pub(crate) const ON_A_WITH_CELLS: &[(&str, &str)] = &[
     (
         "0019100b030108010a01011d330505010017006605050100170065",
         "HANDOVER REQUEST channel=010801 encryption=01 classmark=33 serving=23/102 target=23/101",

@@ -32,6 +32,18 @@ const LINES: &[(&[&str], u8, &str, &str)] = &[
     (&["decode", "rr", "06ff"], 2, "fault rr 2 255\n", ""),
     (&["decode", "abis", "0g"], 2, "hex\n", ""),
     (
+        &["encode", "a", "CLEAR COMMAND cause=9"],
+        0,
+        "000420040109\n",
+        "",
+    ),
+    (
+        &["encode", "abis", "RF CHANNEL RELEASE tn=8"],
+        2,
+        "",
+        "tn is 0 to 7, found \"8\"\n",
+    ),
+    (
         &["run", "no site", "no script"],
         2,
         "file no site\n",
@@ -75,6 +87,18 @@ const LINES: &[(&[&str], u8, &str, &str)] = &[
     ),
     (
         &["check", "no site"],
+        2,
+        "file no site\n",
+        "no site: No such file",
+    ),
+    (
+        &["test", "/dev/null", "no script"],
+        2,
+        "site 2 handover\n",
+        "/dev/null: handover is missing: it has to be a table\n",
+    ),
+    (
+        &["record", "no site", "no script"],
         2,
         "file no site\n",
         "no site: No such file",

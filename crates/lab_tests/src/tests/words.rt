@@ -50,6 +50,54 @@ fn run_names_its_files(rt: HostRuntime) {
     }
 }
 
+/// Words that ask for a test: the sites, and how many scripts.
+const TESTS: &[(&[&str], &str, Option<&str>, &[&str])] = &[
+    (&["test", "a.toml", "b.txt"], "a.toml", None, &["b.txt"]),
+    (
+        &["test", "a.toml", "b.txt", "c.txt", "--peer", "d.toml"],
+        "a.toml",
+        Some("d.toml"),
+        &["b.txt", "c.txt"],
+    ),
+    (
+        &["test", "--peer=d.toml", "a.toml", "b.txt", "c.txt", "b.txt"],
+        "a.toml",
+        Some("d.toml"),
+        &["b.txt", "c.txt", "b.txt"],
+    ),
+];
+
+#[test]
+fn test_names_its_files(rt: HostRuntime) {
+    for (words, first, peer, wanted) in TESTS {
+        match read_words(rt.alloc(), *words) {
+            Ok(Job::Test { sites, scripts }) => {
+                assert_eq!(rt; (sites.first, sites.peer), (*first, *peer));
+                assert_eq!(rt; scripts.as_slice(), *wanted);
+            }
+            _ => assert!(rt; false, "a test"),
+        }
+    }
+    match read_words(
+        rt.alloc(),
+        &["record", "a.toml", "b.txt", "--peer", "c.toml"],
+    ) {
+        Ok(Job::Record { sites, script }) => {
+            assert_eq!(rt;
+                (sites.first, sites.peer, script),
+                ("a.toml", Some("c.toml"), "b.txt")
+            );
+        }
+        _ => assert!(rt; false, "a record"),
+    }
+    for words in [
+        &["test", "a.toml"].as_slice(),
+        &["record", "a.toml", "b.txt", "c.txt"].as_slice(),
+    ] {
+        assert!(rt; matches!(read_words(rt.alloc(), words), Err(WordsFault::Refused(_))));
+    }
+}
+
 /// Words that ask for a run and for views of it.
 const VIEWS: &[(&[&str], Views<'_>)] = &[
     (
@@ -215,6 +263,10 @@ const SHOWS: &[(&[&str], &str)] = &[
     (&["help", "decode"], "and on abis the rr message inside"),
     (&["decode", "--help"], "in hexadecimal"),
     (&["help", "decode"], "rr, a, abis"),
+    (&["--help"], "encode abis \"RF CHANNEL RELEASE tn=3\""),
+    (&["encode", "--help"], "encode a \"CLEAR COMMAND cause=9\""),
+    (&["help", "encode"], "rr, a, abis"),
+    (&["help", "encode"], "the fields in any order"),
     (&["check", "--help"], "The site file"),
     (&["help", "check"], "neighbour carrier that no cell has"),
     (&["rewind", "--help"], "The trace, as run prints it"),
@@ -255,6 +307,10 @@ const REFUSALS: &[(&[&str], &str)] = &[
     (&["explain", "refused", "256"], "'256'"),
     (&["explain", "cause", "A", "33"], "'A'"),
     (&["explain", "fault", "abis", "5", "1", "2"], "'2'"),
+    (&["encode"], "were not provided:\n  <LINK>\n  <TEXT>\n"),
+    (&["encode", "rr"], "were not provided:\n  <TEXT>\n"),
+    (&["encode", "b", "CLEAR COMPLETE"], "'b'"),
+    (&["encode", "a", "CLEAR", "COMPLETE"], "COMPLETE"),
     (&["decode"], "were not provided:\n  <LINK>\n  <HEX>\n"),
     (&["decode", "rr"], "were not provided:\n  <HEX>\n"),
     (&["decode", "A", "00"], "'A'"),

@@ -1,0 +1,4 @@
+pub mod Faults
+pub mod Abis
+pub mod A
+pub mod Rr

@@ -1,0 +1,275 @@
+//! Messages on A from words (TS 48.008 clause 3.2.1).
+ghost use Rattle.std.specs.Prelude.{◌≡◌, ◌≢◌, ◌++◌, Some, None, OnOk, IfOk, IfErr, option_map};
+ghost use Rattle.std.specs.Result.{result_ok};
+ghost use Rattle.message_fields.specs.Words.{parts_of};
+ghost use Rattle.message_fields.specs.declared.fault.FieldFault.TheVariants.{NoMemory};
+ghost use Rattle.encoded_messages.specs.A as said;
+
+use crate::fault::MessageFault;
+use bssmap_messages::{Bssmap, CellId, CellList, Classmark, Octets, encode, fits};
+use message_fields::{
+    Allowed, FieldFault, cell_in, first_part, flag, name_and_fields, octet, octets, only_keys,
+    optional_octet, value,
+};
+use std::alloc::Allocator;
+
+/// The cell that a text names.
+fn cell_of(text: &str) -> Option<CellId>
+    ensures { result ≡ said.cell_of text.now }
+{
+    let (area, ci) = cell_in(text)?;
+    Some(CellId {
+        lac: Some(area),
+        ci,
+    })
+}
+
+/// The cell of a field.
+fn cell<'a>(fields: &'a str, key: &'static str) -> Result<CellId, FieldFault<'a>>
+    ensures { result_ok result ≡ said.cell_at key.now fields.now }
+{
+    let value = value(fields, key)?;
+    let allowed = Allowed::Cell;
+    cell_of(value).ok_or(FieldFault::Value {
+        key,
+        value,
+        allowed,
+    })
+}
+
+/// Adds the cells of a list, which is the value of a field or its end.
+fn add_cells<'a, A: Allocator>(
+    cells: &mut Vec<CellId, A>,
+    value: &'a str,
+    list: &str,
+) -> Result<(), FieldFault<'a>>
+    ensures read { OnOk result (option_map (λ more. cells.old.items ++ more)
+        (said.cells_of (parts_of list.now)) ≡ Some cells.new.items) }
+    ensures unread { IfErr result (λ fault. fault ≢ NoMemory →
+        said.cells_of (parts_of list.now) ≡ None) }
+{
+    let (first, rest) = match first_part(list) {
+        Some((first, rest)) => (first, Some(rest)),
+        None => (list, None),
+    };
+    let Some(cell) = cell_of(first) else {
+        return Err(FieldFault::Value {
+            key: "cells",
+            value,
+            allowed: Allowed::Cells,
+        });
+    };
+    cells.push(cell).map_err(|_| FieldFault::NoMemory)?;
+    match rest {
+        Some(rest) => add_cells(cells, value, rest),
+        None => Ok(()),
+    }
+}
+
+/// The cells of a HANDOVER REQUIRED.
+fn cells<A: Allocator + Copy>(alloc: A, fields: &str) -> Result<CellList<A>, FieldFault<'_>>
+    ensures read { IfOk result (λ cells. said.cells_at fields.now ≡ Some cells) }
+    ensures unread { IfErr result (λ fault. fault ≢ NoMemory → said.cells_at fields.now ≡ None) }
+{
+    let value = value(fields, "cells")?;
+    let mut cells = Vec::new(alloc);
+    add_cells(&mut cells, value, value)?;
+    CellList::new(alloc, &cells).map_err(|_| FieldFault::NoMemory)
+}
+
+/// The classmark of a HANDOVER REQUEST: of type 1 where it is one octet.
+fn classmark<A: Allocator>(alloc: A, fields: &str) -> Result<Classmark<A>, FieldFault<'_>>
+    ensures read { IfOk result (λ mark. said.classmark_at fields.now ≡ Some mark) }
+    ensures unread { IfErr result (λ fault. fault ≢ NoMemory →
+        said.classmark_at {A = A} fields.now ≡ None) }
+{
+    let octets = octets(alloc, fields, "classmark", 0)?;
+    if let [octet] = octets.as_slice() {
+        return Ok(Classmark::One(*octet));
+    }
+    Ok(Classmark::Two(Octets::from_vec(octets)))
+}
+
+/// The serving cell and the target cell of a HANDOVER REQUEST, which has no other fields than it may have.
+#[tactic(auto, unfolding(crate::specs::A::request_cells))]
+fn request_cells(fields: &str) -> Result<(CellId, CellId), FieldFault<'_>>
+    ensures { result_ok result ≡ said.request_cells fields.now }
+{
+    only_keys(fields, "channel encryption classmark serving target")?;
+    let serving = cell(fields, "serving")?;
+    let target = cell(fields, "target")?;
+    Ok((serving, target))
+}
+
+/// HANDOVER REQUEST
+#[tactic(auto, unfolding(crate::specs::A::handover_request))]
+fn handover_request<A: Allocator + Copy>(
+    alloc: A,
+    fields: &str,
+) -> Result<Bssmap<A>, FieldFault<'_>>
+    ensures read { IfOk result (λ message. said.handover_request fields.now ≡ Some message) }
+    ensures unread { IfErr result (λ fault. fault ≢ NoMemory →
+        said.handover_request {A = A} fields.now ≡ None) }
+{
+    let (serving, target) = request_cells(fields)?;
+    let channel = Octets::from_vec(octets(alloc, fields, "channel", 2)?);
+    let encryption = Octets::from_vec(octets(alloc, fields, "encryption", 1)?);
+    let classmark = classmark(alloc, fields)?;
+    Ok(Bssmap::HandoverRequest {
+        channel,
+        encryption,
+        classmark,
+        serving,
+        target,
+    })
+}
+
+/// HANDOVER REQUIRED
+#[tactic(auto, unfolding(crate::specs::A::handover_required))]
+fn handover_required<A: Allocator + Copy>(
+    alloc: A,
+    fields: &str,
+) -> Result<Bssmap<A>, FieldFault<'_>>
+    ensures read { IfOk result (λ message. said.handover_required fields.now ≡ Some message) }
+    ensures unread { IfErr result (λ fault. fault ≢ NoMemory →
+        said.handover_required {A = A} fields.now ≡ None) }
+{
+    only_keys(fields, "cause response cells")?;
+    let cause = octet(fields, "cause")?;
+    let response = flag(fields, "response")?;
+    let cells = cells(alloc, fields)?;
+    Ok(Bssmap::HandoverRequired {
+        cause,
+        response,
+        cells,
+    })
+}
+
+/// The layer 3 message of a message that has nothing else.
+#[tactic(auto, unfolding(crate::specs::A::layer3_alone))]
+fn layer3_alone<A: Allocator>(alloc: A, fields: &str) -> Result<Octets<A>, FieldFault<'_>>
+    ensures read { IfOk result (λ layer3. said.layer3_alone fields.now ≡ Some layer3) }
+    ensures unread { IfErr result (λ fault. fault ≢ NoMemory →
+        said.layer3_alone fields.now ≡ None) }
+{
+    only_keys(fields, "layer3")?;
+    Ok(Octets::from_vec(octets(alloc, fields, "layer3", 1)?))
+}
+
+/// HANDOVER COMPLETE
+#[tactic(auto, unfolding(crate::specs::A::handover_complete))]
+fn handover_complete<A: Allocator>(fields: &str) -> Result<Bssmap<A>, FieldFault<'_>>
+    ensures { result_ok result ≡ said.handover_complete fields.now }
+{
+    only_keys(fields, "rr")?;
+    Ok(Bssmap::HandoverComplete {
+        rr: optional_octet(fields, "rr")?,
+    })
+}
+
+/// HANDOVER FAILURE
+#[tactic(auto, unfolding(crate::specs::A::handover_failure))]
+fn handover_failure<A: Allocator>(fields: &str) -> Result<Bssmap<A>, FieldFault<'_>>
+    ensures { result_ok result ≡ said.handover_failure fields.now }
+{
+    only_keys(fields, "cause rr")?;
+    Ok(Bssmap::HandoverFailure {
+        cause: octet(fields, "cause")?,
+        rr: optional_octet(fields, "rr")?,
+    })
+}
+
+/// HANDOVER PERFORMED
+#[tactic(auto, unfolding(crate::specs::A::handover_performed))]
+fn handover_performed<A: Allocator>(fields: &str) -> Result<Bssmap<A>, FieldFault<'_>>
+    ensures { result_ok result ≡ said.handover_performed fields.now }
+{
+    only_keys(fields, "cause cell")?;
+    Ok(Bssmap::HandoverPerformed {
+        cause: octet(fields, "cause")?,
+        cell: cell(fields, "cell")?,
+    })
+}
+
+/// The cause of a message that has nothing else.
+#[tactic(auto, unfolding(crate::specs::A::cause_alone))]
+fn cause_alone(fields: &str) -> Result<u8, FieldFault<'_>>
+    ensures { result_ok result ≡ said.cause_alone fields.now }
+{
+    only_keys(fields, "cause")?;
+    octet(fields, "cause")
+}
+
+/// A message without fields.
+#[tactic(auto, unfolding(crate::specs::A::no_fields))]
+fn alone<A: Allocator>(fields: &str, message: Bssmap<A>) -> Result<Bssmap<A>, FieldFault<'_>>
+    ensures { result_ok result ≡ said.no_fields fields.now message }
+{
+    only_keys(fields, "")?;
+    Ok(message)
+}
+
+/// The message of a name and its fields that has no list.
+#[tactic(auto, unfolding(crate::specs::A::short_message))]
+fn short_message<'a, A: Allocator>(
+    name: &'a str,
+    fields: &'a str,
+) -> Result<Bssmap<A>, MessageFault<'a>>
+    ensures { result_ok result ≡ said.short_message name.now fields.now }
+{
+    match name {
+        "HANDOVER COMPLETE" => Ok(handover_complete(fields)?),
+        "HANDOVER FAILURE" => Ok(handover_failure(fields)?),
+        "HANDOVER PERFORMED" => Ok(handover_performed(fields)?),
+        "HANDOVER REQUIRED REJECT" => Ok(Bssmap::HandoverRequiredReject {
+            cause: cause_alone(fields)?,
+        }),
+        "HANDOVER DETECT" => Ok(alone(fields, Bssmap::HandoverDetect)?),
+        "CLEAR COMMAND" => Ok(Bssmap::ClearCommand {
+            cause: cause_alone(fields)?,
+        }),
+        "CLEAR COMPLETE" => Ok(alone(fields, Bssmap::ClearComplete)?),
+        "CLEAR REQUEST" => Ok(Bssmap::ClearRequest {
+            cause: cause_alone(fields)?,
+        }),
+        _ => Err(MessageFault::Name(name)),
+    }
+}
+
+/// The message of a name and its fields.
+#[tactic(auto, unfolding(crate::specs::A::message_of))]
+fn message_of<'a, A: Allocator + Copy>(
+    alloc: A,
+    name: &'a str,
+    fields: &'a str,
+) -> Result<Bssmap<A>, MessageFault<'a>>
+    ensures read { IfOk result (λ message. said.message_of name.now fields.now ≡ Some message) }
+    ensures unread { IfErr result (λ fault. fault ≢ MessageFault.NoMemory →
+        said.message_of {A = A} name.now fields.now ≡ None) }
+{
+    match name {
+        "HANDOVER REQUEST" => Ok(handover_request(alloc, fields)?),
+        "HANDOVER REQUIRED" => Ok(handover_required(alloc, fields)?),
+        "HANDOVER REQUEST ACKNOWLEDGE" => Ok(Bssmap::HandoverRequestAck {
+            layer3: layer3_alone(alloc, fields)?,
+        }),
+        "HANDOVER COMMAND" => Ok(Bssmap::HandoverCommand {
+            layer3: layer3_alone(alloc, fields)?,
+        }),
+        name => short_message(name, fields),
+    }
+}
+
+/// The octets of the message on A that a text says: its canonical text.
+pub fn encode_a<A: Allocator + Copy>(alloc: A, text: &str) -> Result<Vec<u8, A>, MessageFault<'_>>
+    ensures octets { IfOk result (λ octets. said.Writes A text.now octets.items) }
+    ensures refused { IfErr result (λ fault. fault ≢ MessageFault.NoMemory →
+        said.IsRefused A text.now) }
+{
+    let (name, fields) = name_and_fields(text);
+    let message = message_of(alloc, name, fields)?;
+    if !fits(&message) {
+        return Err(MessageFault::TooLong);
+    }
+    Ok(encode(alloc, &message)?)
+}

@@ -1,0 +1,49 @@
+//! Why a text can't be written as a message.
+ghost use Rattle.std.specs.Prelude.{◌≡◌};
+
+use message_fields::FieldFault;
+use std::alloc::AllocError;
+use thiserror::Error;
+
+/// Why a text can't be written as a message. What of the text is shown has its control characters escaped.
+#[derive(Clone, Copy, Debug, PartialEq, Eq, Error)]
+pub enum MessageFault<'a> {
+    // What stands before the first field is no name of a message of the link.
+    #[error("{0:?} is no message of the link")]
+    Name(&'a str),
+    // A field is missing, unknown, twice, or out of its range.
+    #[error(transparent)]
+    Field(FieldFault<'a>),
+    // There are not as many neighbours as the count says.
+    #[error("count says {count} neighbours, where 7 says none: found {found}")]
+    Neighbours { count: u8, found: usize },
+    // Each field is in its range, and the message has no canonical text.
+    #[error("the message can't be written: it, or a list of octets in it, is too long")]
+    TooLong,
+    // Memory was refused.
+    #[error("memory was refused")]
+    NoMemory,
+}
+
+impl<'a> From<FieldFault<'a>> for MessageFault<'a> {
+    ghost use Rattle.encoded_messages.specs.Faults.{fault_of};
+
+    ghost from_gives = { λ field fault. fault ≡ fault_of field };
+
+    fn from(fault: FieldFault<'a>) -> MessageFault<'a> {
+        match fault {
+            FieldFault::NoMemory => MessageFault::NoMemory,
+            fault => MessageFault::Field(fault),
+        }
+    }
+}
+
+impl From<AllocError> for MessageFault<'_> {
+    ghost use Rattle.encoded_messages.specs.declared.fault.MessageFault.TheVariants.{NoMemory};
+
+    ghost from_gives = { λ _ fault. fault ≡ NoMemory };
+
+    fn from(_: AllocError) -> Self {
+        MessageFault::NoMemory
+    }
+}

@@ -1,0 +1,234 @@
+//! Radio resource messages from words (TS 44.018 section 9.1).
+ghost use Rattle.std.specs.Prelude.{◌≡◌, ◌≢◌, ◌++◌, Some, None, OnOk, IfOk, IfErr, IfSome, All, codes, option_map};
+ghost use Rattle.std.specs.Result.{result_ok};
+ghost use Rattle.message_fields.specs.Words.{words_of, values_of};
+ghost use Rattle.message_fields.specs.declared.fault.FieldFault.TheVariants.{NoMemory};
+ghost use Rattle.rr_elements.specs.MeasResults.{HeadFits, NcellFits, used_count};
+ghost use Rattle.encoded_messages.specs.Rr as said;
+
+use crate::fault::MessageFault;
+use message_fields::{
+    Allowed, FieldFault, flag, leading_value, name_and_fields, neighbour_in, number, octet,
+    only_keys, small,
+};
+use rr_elements::{CellDescription, ChanDescription, MeasHead, MeasResults, Ncell, Power, RrCause};
+use rr_messages::{Rr, encode};
+use std::alloc::Allocator;
+
+/// The cell that a handover goes to.
+#[tactic(auto, unfolding(crate::specs::Rr::cell))]
+fn cell(fields: &str) -> Result<CellDescription, FieldFault<'_>>
+    ensures { result_ok result ≡ said.cell fields.now }
+{
+    let arfcn = number(fields, "arfcn", 1023)?;
+    let ncc = small(fields, "ncc", 7)?;
+    let bcc = small(fields, "bcc", 7)?;
+    match CellDescription::new(arfcn, ncc, bcc) {
+        Ok(cell) => Ok(cell),
+        Err(_) => unreachable!(),
+    }
+}
+
+/// The channel that a handover goes to.
+#[tactic(auto, unfolding(crate::specs::Rr::channel))]
+fn channel(fields: &str) -> Result<ChanDescription, FieldFault<'_>>
+    ensures { result_ok result ≡ said.channel fields.now }
+{
+    let tn = small(fields, "tn", 7)?;
+    let tsc = small(fields, "tsc", 7)?;
+    let carrier = number(fields, "carrier", 1023)?;
+    match ChanDescription::new(tn, tsc, carrier) {
+        Ok(channel) => Ok(channel),
+        Err(_) => unreachable!(),
+    }
+}
+
+/// The power command and the access type.
+#[tactic(auto, unfolding(crate::specs::Rr::power))]
+fn power(fields: &str) -> Result<Power, FieldFault<'_>>
+    ensures { result_ok result ≡ said.power fields.now }
+{
+    let atc = flag(fields, "atc")?;
+    let level = small(fields, "power", 31)?;
+    match Power::new(atc, level) {
+        Ok(power) => Ok(power),
+        Err(_) => unreachable!(),
+    }
+}
+
+/// HANDOVER COMMAND
+#[tactic(auto, unfolding(crate::specs::Rr::handover_command))]
+fn handover_command(fields: &str) -> Result<Rr, FieldFault<'_>>
+    ensures { result_ok result ≡ said.handover_command fields.now }
+{
+    only_keys(fields, "arfcn ncc bcc tn tsc carrier reference atc power")?;
+    let cell = match cell(fields) {
+        Ok(cell) => cell,
+        Err(fault) => return Err(fault),
+    };
+    let channel = match channel(fields) {
+        Ok(channel) => channel,
+        Err(fault) => return Err(fault),
+    };
+    let reference = octet(fields, "reference")?;
+    match power(fields) {
+        Ok(power) => Ok(Rr::HandoverCommand {
+            cell,
+            channel,
+            reference,
+            power,
+        }),
+        Err(fault) => Err(fault),
+    }
+}
+
+/// The cause of a message that has nothing else.
+#[tactic(auto, unfolding(crate::specs::Rr::cause_alone))]
+fn cause_alone(fields: &str) -> Result<RrCause, FieldFault<'_>>
+    ensures { result_ok result ≡ said.cause_alone fields.now }
+{
+    only_keys(fields, "cause")?;
+    Ok(RrCause(octet(fields, "cause")?))
+}
+
+/// PHYSICAL INFORMATION
+#[tactic(auto, unfolding(crate::specs::Rr::physical_information))]
+fn physical_information(fields: &str) -> Result<Rr, FieldFault<'_>>
+    ensures { result_ok result ≡ said.physical_information fields.now }
+{
+    only_keys(fields, "ta")?;
+    Ok(Rr::PhysicalInformation(octet(fields, "ta")?))
+}
+
+/// The fields of a MEASUREMENT REPORT before the neighbours.
+#[tactic(auto, unfolding(crate::specs::Rr::head))]
+fn head(fields: &str) -> Result<MeasHead, FieldFault<'_>>
+    ensures head { result_ok result ≡ said.head fields.now }
+    ensures fits { IfOk result HeadFits }
+{
+    Ok(MeasHead {
+        ba: flag(fields, "ba")?,
+        dtx: flag(fields, "dtx")?,
+        full: small(fields, "full", 63)?,
+        ba3g: flag(fields, "ba3g")?,
+        valid: flag(fields, "valid")?,
+        sub: small(fields, "sub", 63)?,
+        si23: flag(fields, "si23")?,
+        qfull: small(fields, "qfull", 7)?,
+        qsub: small(fields, "qsub", 7)?,
+        count: small(fields, "count", 7)?,
+    })
+}
+
+/// What a text says that was measured of a neighbour.
+fn neighbour_of(text: &str) -> Option<Ncell>
+    ensures neighbour { result ≡ said.neighbour_of text.now }
+    ensures fits { IfSome result NcellFits }
+{
+    let (level, position, bsic) = neighbour_in(text)?;
+    Some(Ncell {
+        level,
+        position,
+        bsic,
+    })
+}
+
+/// Adds the neighbours among fields, in their order.
+fn add_neighbours<'a, A: Allocator>(
+    found: &mut Vec<Ncell, A>,
+    fields: &'a str,
+) -> Result<(), FieldFault<'a>>
+    requires { All NcellFits found.old.items }
+    ensures read { OnOk result (option_map (λ more. found.old.items ++ more)
+        (said.neighbours_of (values_of (codes "n") (words_of fields.now))) ≡
+        Some found.new.items) }
+    ensures fits { OnOk result (All NcellFits found.new.items) }
+    ensures unread { IfErr result (λ fault. fault ≢ NoMemory →
+        said.neighbours_of (values_of (codes "n") (words_of fields.now)) ≡ None) }
+{
+    let Some((value, rest)) = leading_value(fields, "n") else {
+        return Ok(());
+    };
+    let Some(neighbour) = neighbour_of(value) else {
+        return Err(FieldFault::Value {
+            key: "n",
+            value,
+            allowed: Allowed::Neighbour,
+        });
+    };
+    found.push(neighbour).map_err(|_| FieldFault::NoMemory)?;
+    add_neighbours(found, rest)
+}
+
+/// How many neighbours stand in a MEASUREMENT REPORT with this count.
+fn used(count: u8) -> usize
+    ensures { result ≡ used_count count }
+{
+    match count {
+        7 => 0,
+        count => usize::from(count),
+    }
+}
+
+/// MEASUREMENT REPORT
+#[tactic(auto, unfolding(crate::specs::Rr::measurement_report))]
+fn measurement_report<A: Allocator>(alloc: A, fields: &str) -> Result<Rr, MessageFault<'_>>
+    ensures read { IfOk result (λ message. said.measurement_report fields.now ≡ Some message) }
+    ensures unread { IfErr result (λ fault. fault ≢ MessageFault.NoMemory →
+        said.measurement_report fields.now ≡ None) }
+{
+    only_keys(fields, "ba dtx full ba3g valid sub si23 qfull qsub count n")?;
+    let head = head(fields)?;
+    let mut neighbours = Vec::new(alloc);
+    add_neighbours(&mut neighbours, fields)?;
+    let found = neighbours.len();
+    if found != used(head.count) {
+        let count = head.count;
+        return Err(MessageFault::Neighbours { count, found });
+    }
+    match MeasResults::new(head, &neighbours) {
+        Ok(results) => Ok(Rr::MeasurementReport(results)),
+        Err(_) => unreachable!(),
+    }
+}
+
+/// The message of a name and its fields.
+#[tactic(auto, unfolding(crate::specs::Rr::message_of))]
+fn message_of<'a, A: Allocator>(
+    alloc: A,
+    name: &'a str,
+    fields: &'a str,
+) -> Result<Rr, MessageFault<'a>>
+    ensures read { IfOk result (λ message. said.message_of name.now fields.now ≡ Some message) }
+    ensures unread { IfErr result (λ fault. fault ≢ MessageFault.NoMemory →
+        said.message_of name.now fields.now ≡ None) }
+{
+    match name {
+        "HANDOVER COMMAND" => match handover_command(fields) {
+            Ok(message) => Ok(message),
+            Err(fault) => Err(MessageFault::from(fault)),
+        },
+        "HANDOVER COMPLETE" => Ok(Rr::HandoverComplete(cause_alone(fields)?)),
+        "HANDOVER FAILURE" => Ok(Rr::HandoverFailure(cause_alone(fields)?)),
+        "CHANNEL RELEASE" => Ok(Rr::ChannelRelease(cause_alone(fields)?)),
+        "PHYSICAL INFORMATION" => match physical_information(fields) {
+            Ok(message) => Ok(message),
+            Err(fault) => Err(MessageFault::from(fault)),
+        },
+        "MEASUREMENT REPORT" => measurement_report(alloc, fields),
+        name => Err(MessageFault::Name(name)),
+    }
+}
+
+/// The octets of the radio resource message that a text says: its canonical text.
+pub fn encode_rr<A: Allocator + Copy>(alloc: A, text: &str) -> Result<Vec<u8, A>, MessageFault<'_>>
+    ensures octets { IfOk result (λ octets. said.Writes text.now octets.items) }
+    ensures refused { IfErr result (λ fault. fault ≢ MessageFault.NoMemory →
+        said.IsRefused text.now) }
+{
+    let (name, fields) = name_and_fields(text);
+    match message_of(alloc, name, fields) {
+        Ok(message) => Ok(encode(alloc, &message)?),
+        Err(fault) => Err(fault),
+    }
+}

@@ -1,0 +1,12 @@
+use Rattle.std.proofs.Common.{ℕ, take, ◌↔◌}
+use Rattle.std.specs.List.{Contains}
+use Rattle.expected_lines.specs.Lines.{texts_of}
+use Rattle.expected_lines.specs.Meeting.{Reaches}
+use Rattle.expected_lines.proofs.compare.first_difference.Given as goal
+
+-- the places to which the lines so far lead, of which one is the last
+abbrev pub invariant-loop-line : goal.invariant-loop-line
+invariant-loop-line g l = record {
+  led : (p : ℕ) → Contains l.places.items p ↔ Reaches (texts_of l.came) (take l.line (texts_of l.lines)) 0 p;
+  one : Contains l.places.items l.last;
+}

@@ -1,0 +1,217 @@
+use expected_lines::{
+    Difference, Miss, ending_of, expected_in, find_difference, find_last_difference, is_any,
+    is_script_line, lines_of, part_end, print_met, print_miss, print_plan, print_recorded,
+    without_return,
+};
+use refusing_heap::RefusingHeap;
+use std::alloc::Global;
+use std::process::Abort;
+use std::str;
+use std::test::Fail;
+
+/// Lines, what each expects, and whether it gives something.
+const LINES: &[(&str, Option<&str>, bool)] = &[
+    ("", None, false),
+    (" \t", None, false),
+    ("#", None, false),
+    ("# > in", None, false),
+    ("open 1 0 0 3", None, true),
+    (" #> in", None, true),
+    ("#>", Some(""), false),
+    ("#> ", Some(""), false),
+    ("#>in open", Some("in open"), false),
+    ("#> in open", Some("in open"), false),
+    ("#>  in open ", Some(" in open "), false),
+    ("#>> in", Some("> in"), false),
+    ("#> ..", Some(".."), false),
+    ("#> é", Some("é"), false),
+];
+
+#[test]
+fn lines_expect(rt: HostRuntime) {
+    for (line, expected, gives) in LINES {
+        assert_eq!(rt; expected_in(*line), *expected, "{line}");
+        assert_eq!(rt; is_script_line(*line), *gives, "{line}");
+    }
+    for (text, any) in [
+        ("..", true),
+        (".", false),
+        ("...", false),
+        ("", false),
+        (".. ", false),
+    ] {
+        assert_eq!(rt; is_any(text), any, "{text}");
+    }
+}
+
+#[test]
+fn texts_have_lines(rt: HostRuntime) -> Result<(), Fail> {
+    let lines = lines_of(rt.alloc(), "a\r\n\n# b\r\r\nc")?;
+    assert_eq!(rt; lines.as_slice(), ["a", "", "# b\r", "c"].as_slice());
+    assert_eq!(rt; part_end(&lines), 0);
+    assert_eq!(rt; part_end(&["", "# b", "#> c", "d"]), 3);
+    assert_eq!(rt; part_end(&["", "# b"]), 2);
+    assert_eq!(rt; without_return("a\r"), "a");
+    Ok(())
+}
+
+/// The place among a script's lines, and the place among those that came.
+type Places = Option<(usize, usize)>;
+
+/// Lines of a script, trace lines that came, and where these differ.
+const DIFFERENCES: &[(&[&str], &[&str], Places)] = &[
+    // nothing is expected
+    (&[], &[], None),
+    (&[], &["a", "b"], None),
+    (&["# a", ""], &["b"], None),
+    // all, in order
+    (&["#> a", "#> b"], &["a", "b"], None),
+    (&["#> a", "# note", "", "#> b", "# note"], &["a", "b"], None),
+    (&["#>"], &[], Some((0, 0))),
+    // one that differs, one that is missing, one too many
+    (&["#> a", "#> b"], &["a", "c"], Some((1, 1))),
+    (&["#> a", "#> b"], &["b", "a"], Some((0, 0))),
+    (&["#> a", "#> b"], &["a"], Some((1, 1))),
+    (&["#> a", "#> b"], &[], Some((0, 0))),
+    (&["#> a", "# note"], &["a", "b"], Some((2, 1))),
+    (&["#> a"], &["a ", "b"], Some((0, 0))),
+    // any lines, or none
+    (&["#> .."], &[], None),
+    (&["#> .."], &["a", "b"], None),
+    (&["#> a", "#> .."], &["a"], None),
+    (&["#> a", "#> .."], &["a", "b", "c"], None),
+    (&["#> ..", "#> c"], &["a", "b", "c"], None),
+    (&["#> ..", "#> c"], &["c"], None),
+    (&["#> ..", "#> c"], &["c", "a", "c"], None),
+    (&["#> a", "#> ..", "#> c"], &["a", "c", "b", "c"], None),
+    (
+        &["#> ..", "#> a", "#> ..", "#> b", "#> .."],
+        &["c", "a", "b"],
+        None,
+    ),
+    (&["#> ..", "#> a", "#> b"], &["a", "a", "b"], None),
+    (&["#> ..", "#> ..", "#> b"], &["a", "b"], None),
+    // behind which a line is missing, or comes that isn't the last
+    (&["#> ..", "#> d"], &["a", "b", "c"], Some((1, 3))),
+    (&["#> ..", "#> a"], &["a", "b", "a", "c"], Some((2, 3))),
+    (
+        &["#> a", "#> ..", "#> b", "#> c"],
+        &["a", "b", "d", "b"],
+        Some((3, 4)),
+    ),
+    (
+        &["#> ..", "#> b", "#> a"],
+        &["b", "c", "b", "c"],
+        Some((2, 3)),
+    ),
+];
+
+/// The places of a difference.
+fn places_of(found: Option<Difference>) -> Places {
+    match found {
+        Some(difference) => Some((difference.line, difference.came)),
+        None => None,
+    }
+}
+
+#[test]
+fn lines_that_came_are_compared(rt: HostRuntime) -> Result<(), Fail> {
+    for (lines, came, wanted) in DIFFERENCES {
+        let found = places_of(find_difference(rt.alloc(), *lines, *came)?);
+        assert_eq!(rt; found, *wanted, "{lines:?} {came:?}");
+    }
+    Ok(())
+}
+
+/// Lines of a script, and where they differ from `a` behind which the trace ends with `end 1` and `end 2`.
+const ENDS: &[(&[&str], Places)] = &[
+    (&[], None),
+    (&["#> a"], None),
+    (&["#> a", "#> end 1", "#> end 2"], None),
+    (&["#> a", "#> .."], None),
+    (&["#> ..", "#> end 2"], None),
+    (&["#> a", "#> end 1"], Some((2, 2))),
+    (&["#> a", "#> end 2"], Some((1, 1))),
+    (&["#> b"], Some((0, 0))),
+    (&["#> a", "#> end 1", "#> end 2", "#> b"], Some((3, 3))),
+];
+
+#[test]
+fn the_end_may_be_expected(rt: HostRuntime) -> Result<(), Fail> {
+    for (lines, wanted) in ENDS {
+        let found = find_last_difference(rt.alloc(), *lines, &["a"], &["a", "end 1", "end 2"])?;
+        assert_eq!(rt; places_of(found), *wanted, "{lines:?}");
+    }
+    Ok(())
+}
+
+/// Whether a comparison over a heap that refuses this request met no refusal.
+fn compares_without(rt: &impl Abort, alloc: Global, n: u64) -> bool {
+    let heap = RefusingHeap::refusing_nth(alloc, n);
+    match find_difference(&heap, &["#> a", "#> ..", "#> d"], &["a", "b", "c", "d"]) {
+        Ok(found) => assert!(rt; found.is_none() && !heap.was_refused()),
+        Err(_) => assert!(rt; heap.was_refused()),
+    }
+    !heap.was_refused()
+}
+
+#[test]
+fn each_request_for_memory_is_refused(rt: HostRuntime) {
+    let mut tried = 0_u64;
+    for n in 1..100 {
+        if compares_without(&rt, rt.alloc(), n) {
+            break;
+        }
+        tried = n;
+    }
+    assert!(rt; 2 < tried && tried < 99, "{tried} requests");
+}
+
+/// What is printed of three tests that aren't met and of one that is.
+const PRINTED: &str = "1..4
+not ok 1 - a b.txt
+# line 12
+# expected: in open 1 0 0 3
+# came nothing more
+not ok 2 - a\\#\\\\b\\u{a}c
+# line 1
+# expected nothing more
+# came: \\u{1b}[31m
+not ok 3 - c
+# line 7 can't be read
+not ok 4 - d
+# the file can't be read
+ok 5 - e
+";
+
+#[test]
+fn tests_are_printed(rt: HostRuntime) -> Result<(), Fail> {
+    let mut out = Vec::new(rt.alloc());
+    print_plan(&mut out, 4)?;
+    let missing = Miss::Differs {
+        line: 12,
+        expected: Some("in open 1 0 0 3"),
+        came: None,
+    };
+    print_miss(&mut out, 1, "a b.txt", missing)?;
+    let more = Miss::Differs {
+        line: 1,
+        expected: None,
+        came: Some("\u{1b}[31m"),
+    };
+    print_miss(&mut out, 2, "a#\\b\nc", more)?;
+    print_miss(&mut out, 3, "c", Miss::Unread(7))?;
+    print_miss(&mut out, 4, "d", Miss::NoFile)?;
+    print_met(&mut out, 5, "e")?;
+    assert_eq!(rt; str::from_utf8(&out)?, PRINTED);
+    Ok(())
+}
+
+#[test]
+fn lines_are_recorded(rt: HostRuntime) -> Result<(), Fail> {
+    let mut out = Vec::new(rt.alloc());
+    print_recorded(&mut out, &["a", "b"], ending_of("open"))?;
+    print_recorded(&mut out, &["c"], ending_of("open\r"))?;
+    assert_eq!(rt; str::from_utf8(&out)?, "#> a\n#> b\n#> c\r\n");
+    Ok(())
+}

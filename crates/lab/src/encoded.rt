@@ -1,0 +1,45 @@
+//! One message in octets, from its name and its fields.
+//!
+//! No clause says which octets are printed: that is shown by tests. What octets a text says is said in `encoded_messages`.
+use crate::decoded::Link;
+use crate::run::{LabFault, Status};
+use encoded_messages::{MessageFault, encode_a, encode_abis, encode_rr};
+use std::alloc::Allocator;
+use std::io::Write;
+
+/// The octets of the message that a text says.
+fn octets<A: Allocator + Copy>(
+    alloc: A,
+    link: Link,
+    text: &str,
+) -> Result<Vec<u8, A>, MessageFault<'_>> {
+    match link {
+        Link::Rr => encode_rr(alloc, text),
+        Link::A => encode_a(alloc, text),
+        Link::Abis => encode_abis(alloc, text),
+    }
+}
+
+/// Prints the octets of the message that a text says, in hexadecimal on one line. The text is one that
+/// [`decode_run`](crate::decoded::decode_run) prints, with its fields in any order. Where it says no message of the link,
+/// or one that has no canonical text, nothing is printed, one line on `errors` says why, and the answer is `Refused`.
+pub fn encode_run<A: Allocator + Copy, W: Write, E: Write>(
+    alloc: A,
+    link: Link,
+    text: &str,
+    out: &mut W,
+    errors: &mut E,
+) -> Result<Status, LabFault> {
+    match octets(alloc, link, text) {
+        Ok(octets) => {
+            let line = hex::encode(alloc, octets.as_slice()).map_err(|_| LabFault::NoMemory)?;
+            writeln!(out, "{line}")?;
+            Ok(Status::Done)
+        }
+        Err(MessageFault::NoMemory) => Err(LabFault::NoMemory),
+        Err(fault) => {
+            writeln!(errors, "{fault}")?;
+            Ok(Status::Refused)
+        }
+    }
+}

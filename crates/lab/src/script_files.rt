@@ -1,0 +1,157 @@
+//! Tests and records of scripts in files.
+use crate::files::text_of;
+use crate::recorded::record_run;
+use crate::run::{LabFault, Status, read_sites, refuse_site};
+use crate::site_reason::say_reason;
+use crate::tested::{Numbered, test_run};
+use cell_table::SiteFault;
+use expected_lines::{Miss, print_miss, print_plan};
+use std::alloc::Global;
+use std::io::{self, Write};
+use std::rt::Files;
+
+/// The paths of the sites of a run: the first controller's, and the peer's where there is one.
+#[derive(Clone, Copy, Debug, PartialEq, Eq)]
+pub struct SitePaths<'a> {
+    pub first: &'a str,
+    pub peer: Option<&'a str>,
+}
+
+/// The texts of the sites of a run.
+#[derive(Drop)]
+struct SiteTexts {
+    first: String,
+    peer: Option<String>,
+}
+
+impl SiteTexts {
+    /// The text of the peer's site.
+    fn peer(&self) -> Option<&str> {
+        self.peer.as_ref().map(|text| text.as_str())
+    }
+}
+
+/// The texts of sites; nothing where one can't be read, and then the path of the first such was printed, and on `errors`
+/// why.
+fn site_texts<R: Files + AllocGlobal, W: Write, E: Write>(
+    rt: &R,
+    paths: SitePaths<'_>,
+    out: &mut W,
+    errors: &mut E,
+) -> Result<Option<SiteTexts>, LabFault> {
+    let Some(first) = text_of(rt, paths.first, out, errors)? else {
+        return Ok(None);
+    };
+    let Some(path) = paths.peer else {
+        return Ok(Some(SiteTexts { first, peer: None }));
+    };
+    let Some(peer) = text_of(rt, path, out, errors)? else {
+        return Ok(None);
+    };
+    Ok(Some(SiteTexts {
+        first,
+        peer: Some(peer),
+    }))
+}
+
+/// Says why the first of the sites that is refused is.
+fn say_reasons<E: Write>(
+    alloc: Global,
+    paths: SitePaths<'_>,
+    texts: &SiteTexts,
+    errors: &mut E,
+) -> Result<(), LabFault> {
+    if say_reason(alloc, paths.first, &texts.first, errors)? {
+        return Ok(());
+    }
+    if let (Some(path), Some(text)) = (paths.peer, texts.peer()) {
+        say_reason(alloc, path, text, errors)?;
+    }
+    Ok(())
+}
+
+/// Why the sites can't be run over, if they can't.
+fn fault_of(alloc: Global, texts: &SiteTexts) -> Option<SiteFault> {
+    match read_sites(alloc, alloc, &texts.first, texts.peer()) {
+        Ok(_) => None,
+        Err(fault) => Some(fault),
+    }
+}
+
+/// The worse of two ends: one that was refused, then one that differs.
+fn worse(one: Status, other: Status) -> Status {
+    match (one, other) {
+        (Status::Refused, _) | (_, Status::Refused) => Status::Refused,
+        (Status::Differs, _) | (_, Status::Differs) => Status::Differs,
+        (Status::Done, Status::Done) => Status::Done,
+    }
+}
+
+/// Tests the script of a file.
+fn test_file<R: Files + AllocGlobal, W: Write, E: Write>(
+    rt: &R,
+    sites: &SiteTexts,
+    test: Numbered<'_>,
+    out: &mut W,
+    errors: &mut E,
+) -> Result<Status, LabFault> {
+    let alloc = rt.alloc();
+    let Some(script) = text_of(rt, test.name, &mut io::sink(), errors)? else {
+        print_miss(out, test.number, test.name, Miss::NoFile)?;
+        return Ok(Status::Refused);
+    };
+    test_run(alloc, alloc, &sites.first, sites.peer(), &script, test, out)
+}
+
+/// Tests the scripts of some files over the site of another, or over two where a peer's is named, as [`test_run`] does of
+/// texts, and prints TAP: how many there are, and then each. A script that can't be read is refused, and those behind it
+/// are tested all the same: the answer is `Refused` where one was refused, else `Differs` where one differs. The files of
+/// sites, and sites, are refused as by [`run_files`](crate::files::run_files), and then no script is read.
+pub fn test_files<R: Files + AllocGlobal, W: Write, E: Write>(
+    rt: &R,
+    paths: SitePaths<'_>,
+    scripts: &[&str],
+    out: &mut W,
+    errors: &mut E,
+) -> Result<Status, LabFault> {
+    let Some(sites) = site_texts(rt, paths, out, errors)? else {
+        return Ok(Status::Refused);
+    };
+    if let Some(fault) = fault_of(rt.alloc(), &sites) {
+        let status = refuse_site(fault, out)?;
+        say_reasons(rt.alloc(), paths, &sites, errors)?;
+        return Ok(status);
+    }
+    print_plan(out, scripts.len())?;
+    let mut ended = Status::Done;
+    let mut number = 0_usize;
+    for name in scripts {
+        number = number.saturating_add(1);
+        let test = Numbered { number, name };
+        ended = worse(ended, test_file(rt, &sites, test, out, errors)?);
+    }
+    Ok(ended)
+}
+
+/// Records the script of a file over the site of another, or over two where a peer's is named, as [`record_run`] does of
+/// texts. Files and sites are refused as by [`run_files`](crate::files::run_files).
+pub fn record_file<R: Files + AllocGlobal, W: Write, E: Write>(
+    rt: &R,
+    paths: SitePaths<'_>,
+    script: &str,
+    out: &mut W,
+    errors: &mut E,
+) -> Result<Status, LabFault> {
+    let alloc = rt.alloc();
+    let Some(sites) = site_texts(rt, paths, out, errors)? else {
+        return Ok(Status::Refused);
+    };
+    let Some(script) = text_of(rt, script, out, errors)? else {
+        return Ok(Status::Refused);
+    };
+    let status = record_run(alloc, alloc, &sites.first, sites.peer(), &script, out)?;
+    if status == Status::Refused {
+        say_reasons(alloc, paths, &sites, errors)?;
+    }
+    Ok(status)
+}

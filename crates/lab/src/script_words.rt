@@ -1,0 +1,59 @@
+//! The words of the commands that test and record scripts.
+use crate::script_files::SitePaths;
+use crate::words::{argument, peer_argument};
+use clap::{ArgMatches, Command};
+use std::alloc::{AllocError, Global};
+
+/// What stands behind the help of `test`.
+const TEST_HELP: &str = "\
+Comments behind a script line, #> and a line of the trace, are in order the trace lines that it
+gives; #> .. stands for any lines, or none. A script line with no such comment isn't looked at.
+Those behind the last one may end with the trace's end.
+
+Statuses: 0 all hold, 1 one differs, 2 one is refused, or the site, 3 memory was refused.
+
+As in: bsc_lab test site.toml one.txt another.txt";
+
+/// What stands behind the help of `record`.
+const RECORD_HELP: &str = "\
+Comments that begin with #> are written anew; all else stays as it is.
+
+Statuses: 0 recorded, 2 a file, the site or a script line is refused, 3 memory was refused.
+
+As in: bsc_lab record site.toml script.txt > recorded.txt";
+
+/// `test SITE SCRIPT.. [--peer SITE]`
+pub(crate) fn test_command<'a>(alloc: Global) -> Result<Command<'a>, AllocError> {
+    Command::new(alloc, "test")
+        .about("Runs scripts, and says which print what their comments expect (TAP)")
+        .after_help(TEST_HELP)
+        .arg(argument(alloc, "SITE", "The site file"))?
+        .arg(argument(alloc, "SCRIPT", "The script files").num_args(1..))?
+        .arg(peer_argument(alloc))
+}
+
+/// `record SITE SCRIPT [--peer SITE]`
+pub(crate) fn record_command<'a>(alloc: Global) -> Result<Command<'a>, AllocError> {
+    Command::new(alloc, "record")
+        .about("Runs a script and prints it with comments that expect what came of each line")
+        .after_help(RECORD_HELP)
+        .arg(argument(alloc, "SITE", "The site file"))?
+        .arg(argument(alloc, "SCRIPT", "The script file"))?
+        .arg(peer_argument(alloc))
+}
+
+/// The paths of the sites.
+pub(crate) fn site_paths<'a>(matches: &ArgMatches<'a>) -> Option<SitePaths<'a>> {
+    Some(SitePaths {
+        first: matches.get_str("SITE")?,
+        peer: matches.get_str("PEER"),
+    })
+}
+
+/// The paths of the scripts.
+pub(crate) fn script_paths<'a>(
+    alloc: Global,
+    matches: &ArgMatches<'a>,
+) -> Result<Vec<&'a str>, AllocError> {
+    Vec::from_slice(alloc, matches.get_strs("SCRIPT").unwrap_or(&[]))
+}

@@ -1,0 +1,175 @@
+//! Scripts that test themselves: what comes of each line is compared with the comments behind it.
+ghost use Rattle.std.specs.Prelude.{◌≡◌, ◌≢◌, ◌⊎◌, Ok, None, IsSome, IsSomeAnd, is_some};
+ghost use Rattle.cell_table.specs.SiteFile.{described_site};
+ghost use Rattle.lab_script.specs.Script.{first_unread, items_of};
+ghost use Rattle.lab.specs.Turns.{inputs_in};
+ghost use Rattle.lab.specs.Course.{IsPlayed, Played};
+ghost use Rattle.lab.specs.Sites.{texts_of, views_of};
+
+use crate::heard::{Listener, run_heard};
+use crate::run::{LabFault, Sites, Status, read_sites, refuse_site};
+use expected_lines::{
+    Difference, Miss, expected_in, find_difference, find_last_difference, lines_of, part_end,
+    print_met, print_miss,
+};
+use lab_script::script::{ScriptFault, read_script};
+use std::alloc::{Allocator, Global};
+use std::io::Write;
+
+/// A test among others: its number, counted from 1, and its name.
+#[derive(Clone, Copy, Debug, PartialEq, Eq)]
+pub struct Numbered<'a> {
+    pub number: usize,
+    pub name: &'a str,
+}
+
+/// A test that is running: the lines of its script, and the place of the first that stands behind what came so far.
+#[derive(Drop)]
+struct Tester<'a, W: Write, A: Allocator + Copy> {
+    alloc: A,
+    out: &'a mut W,
+    test: Numbered<'a>,
+    lines: &'a [&'a str],
+    place: usize,
+}
+
+/// The lines of what a run printed.
+pub(crate) fn printed_lines<A: Allocator>(
+    alloc: A,
+    printed: &str,
+) -> Result<Vec<&str, A>, LabFault> {
+    let mut lines = lines_of(alloc, printed)?;
+    // nothing stands behind the last line feed
+    lines.pop();
+    Ok(lines)
+}
+
+/// The number of the line, counted from 1 over a script, at which lines that stand from a place on differ from what came:
+/// the one whose expectation isn't met, or the last that expects something.
+fn number_of(lines: &[&str], place: usize, difference: Difference) -> usize {
+    let (met, _) = lines.split_at(difference.line.min(lines.len()));
+    let line = if difference.line < lines.len() {
+        difference.line
+    } else {
+        met.iter()
+            .rposition(|line| expected_in(*line).is_some())
+            .unwrap_or(0)
+    };
+    place.saturating_add(line).saturating_add(1)
+}
+
+/// The lines of the part that begins at a place.
+fn part_at<'a>(lines: &'a [&'a str], place: usize) -> &'a [&'a str] {
+    let left = lines.get(place..).unwrap_or(&[]);
+    left.get(..part_end(left)).unwrap_or(left)
+}
+
+impl<W: Write, A: Allocator + Copy> Tester<'_, W, A> {
+    /// Prints that the script differs from what came of the part at the place.
+    fn miss(&mut self, difference: Difference, came: &[&str]) -> Result<(), LabFault> {
+        let part = part_at(self.lines, self.place);
+        let miss = Miss::Differs {
+            line: number_of(part, self.place, difference),
+            expected: part
+                .get(difference.line)
+                .and_then(|line| expected_in(*line)),
+            came: came.get(difference.came).copied(),
+        };
+        Ok(print_miss(self.out, self.test.number, self.test.name, miss)?)
+    }
+}
+
+impl<W: Write, A: Allocator + Copy> Listener for Tester<'_, W, A> {
+    fn hear(&mut self, came: &str) -> Result<bool, LabFault> {
+        let came = printed_lines(self.alloc, came)?;
+        let part = part_at(self.lines, self.place);
+        let behind = part.len().saturating_add(1);
+        match find_difference(self.alloc, part, &came)? {
+            Some(difference) => {
+                self.miss(difference, &came)?;
+                Ok(false)
+            }
+            None => {
+                self.place = self.place.saturating_add(behind);
+                Ok(true)
+            }
+        }
+    }
+
+    fn hear_last(&mut self, came: &str, ended: &str) -> Result<bool, LabFault> {
+        let came = printed_lines(self.alloc, came)?;
+        let ended = printed_lines(self.alloc, ended)?;
+        let part = part_at(self.lines, self.place);
+        match find_last_difference(self.alloc, part, &came, &ended)? {
+            Some(difference) => {
+                self.miss(difference, &ended)?;
+                Ok(false)
+            }
+            None => {
+                print_met(self.out, self.test.number, self.test.name)?;
+                Ok(true)
+            }
+        }
+    }
+}
+
+/// Tests a script over sites that were read.
+fn test_script<A: Allocator + Copy, W: Write>(
+    alloc: A,
+    sites: Sites<A>,
+    script: &str,
+    test: Numbered<'_>,
+    out: &mut W,
+) -> Result<Status, LabFault>
+    ensures done { result ≡ Ok Status.Done → first_unread (is_some sites.peer) script.now ≡ None }
+    ensures played { result ≡ Ok Status.Done → Played A (views_of sites) (inputs_in (items_of script.now)) }
+    ensures refused { result ≡ Ok Status.Refused →
+        IsSome (first_unread (is_some sites.peer) script.now) }
+{
+    let items = match read_script(alloc, script, sites.peer.is_some()) {
+        Ok(items) => items,
+        Err(ScriptFault::Line(line)) => {
+            print_miss(out, test.number, test.name, Miss::Unread(line))?;
+            return Ok(Status::Refused);
+        }
+        Err(ScriptFault::NoMemory) => return Err(LabFault::NoMemory),
+    };
+    let lines = lines_of(alloc, script)?;
+    let mut tester = Tester {
+        alloc,
+        out,
+        test,
+        lines: &lines,
+        place: 0,
+    };
+    if run_heard(alloc, sites, items, &mut tester)? {
+        Ok(Status::Done)
+    } else {
+        Ok(Status::Differs)
+    }
+}
+
+/// Tests a script over a site, or over two where a peer's is given, all given as texts: runs it, compares what comes of
+/// each of its lines with the comments behind that ([`find_difference`], [`find_last_difference`]), and prints, as one
+/// test of TAP, whether all came that is expected, or the first line that differs, and ends the run there. A script with a
+/// line that can't be read isn't run. A text that describes no site prints what a run does.
+pub fn test_run<A: Allocator + Copy, W: Write>(
+    alloc: A,
+    scratch: Global,
+    site: &str,
+    peer: Option<&str>,
+    script: &str,
+    test: Numbered<'_>,
+    out: &mut W,
+) -> Result<Status, LabFault>
+    ensures played { result ≡ Ok Status.Done → IsPlayed A site.now (texts_of peer.entry) script.now }
+    ensures refused { result ≡ Ok Status.Refused →
+        (described_site site.now ≡ None)
+        ⊎ IsSomeAnd (texts_of peer.entry) (λ text. described_site text ≡ None)
+        ⊎ IsSome (first_unread (is_some peer.entry) script.now) }
+{
+    match read_sites(alloc, scratch, site, peer) {
+        Ok(sites) => test_script(alloc, sites, script, test, out),
+        Err(fault) => refuse_site(fault, out),
+    }
+}

@@ -1,0 +1,417 @@
+//! Scripts that test themselves, and that are recorded.
+use super::SITE;
+use super::failing::Failing;
+use super::peer::PEER;
+use lab::recorded::record_run;
+use lab::run::{LabFault, Status};
+use lab::script_files::{SitePaths, record_file, test_files};
+use lab::tested::{Numbered, test_run};
+use refusing_heap::RefusingHeap;
+use std::alloc::{Allocator, Global};
+use std::process::Abort;
+use std::rt::Files;
+use std::test::Fail;
+use std::{fs, str};
+
+/// Scripts over one controller, or over two where a peer's site stands before them.
+const SCRIPTS: &[(Option<&str>, &str)] = &[
+    (None, ""),
+    (None, "# nothing\n\n"),
+    (None, "sim"),
+    (
+        None,
+        "open 1 0 0 3\nabis 0 0 0822010b081234\nclear 1\nabis 0 0 0833010b\n",
+    ),
+    (
+        None,
+        "# a call\r\n\r\nopen 1 0 0 3\r\n# and its end\r\nclear 1\r\n",
+    ),
+    (
+        None,
+        "open 1 0 0 3\n#> old\n# kept\n#> ..\nabis 0 0 0822010b081234\nabis 0 0 ff",
+    ),
+    (
+        None,
+        "sim\nopen 1 0 0 3\nmobile 0 0 3 return\nhandover 1 1\nhold 0 0 3\nclear 1\nlet 0 0 3\n",
+    ),
+    (
+        Some(PEER),
+        "sim\nopen 1 0 0 3\nhandover 1 64\n2: clear 40000\nhangup 1\n",
+    ),
+];
+
+/// What a record of a script is.
+fn recorded<A: Allocator + Copy>(
+    alloc: A,
+    scratch: Global,
+    peer: Option<&str>,
+    script: &str,
+) -> Result<(Result<Status, LabFault>, String), Fail> {
+    let mut out = Vec::new(scratch);
+    let status = record_run(alloc, scratch, SITE, peer, script, &mut out);
+    Ok((status, String::from_utf8(out)?))
+}
+
+/// The one test that is asked for.
+const ALONE: Numbered<'_> = Numbered {
+    number: 1,
+    name: "script",
+};
+
+/// What the test of a script prints, and how it ends.
+fn tested<A: Allocator + Copy>(
+    alloc: A,
+    scratch: Global,
+    peer: Option<&str>,
+    script: &str,
+) -> Result<(Result<Status, LabFault>, String), Fail> {
+    let mut out = Vec::new(scratch);
+    let status = test_run(alloc, scratch, SITE, peer, script, ALONE, &mut out);
+    Ok((status, String::from_utf8(out)?))
+}
+
+/// A script without what its lines expect, each line ended.
+fn bare(alloc: Global, script: &str) -> Result<String, Fail> {
+    let mut text = String::new(alloc);
+    for line in script.split('\n') {
+        if !line.starts_with("#>") {
+            text.push_str(line)?;
+            text.push('\n')?;
+        }
+    }
+    Ok(text)
+}
+
+/// A script of which one line, counted from 0, has one character more.
+fn spoilt(alloc: Global, script: &str, place: usize) -> Result<Option<String>, Fail> {
+    let mut text = String::new(alloc);
+    let mut is_spoilt = false;
+    let mut at = 0_usize;
+    for line in script.split('\n') {
+        text.push_str(line.strip_suffix('\r').unwrap_or(line))?;
+        if at == place && line.starts_with("#>") {
+            text.push('!')?;
+            is_spoilt = true;
+        }
+        text.push('\n')?;
+        at = at.saturating_add(1);
+    }
+    Ok(if is_spoilt { Some(text) } else { None })
+}
+
+/// Each line of a record that expects something is needed: with another, the test says that it differs.
+fn differs_at_each(
+    rt: &impl Abort,
+    alloc: Global,
+    peer: Option<&str>,
+    record: &str,
+) -> Result<(), Fail> {
+    for place in 0..record.matches('\n').count() {
+        let Some(script) = spoilt(alloc, record, place)? else {
+            continue;
+        };
+        let (status, text) = tested(alloc, alloc, peer, &script)?;
+        assert_eq!(rt; status, Ok(Status::Differs), "{script}");
+        let line = format!(in alloc; "not ok 1 - script\n# line {}\n# expected: ", place + 1)?;
+        assert!(rt; text.starts_with(line.as_str()), "{script}{text}");
+    }
+    Ok(())
+}
+
+#[test]
+fn what_was_recorded_is_met(rt: HostRuntime) -> Result<(), Fail> {
+    let alloc = rt.alloc();
+    for (peer, script) in SCRIPTS {
+        let (status, record) = recorded(alloc, alloc, *peer, *script)?;
+        assert_eq!(rt; status, Ok(Status::Done), "{script}");
+        let met = (Ok(Status::Done), "ok 1 - script\n");
+        let (status, text) = tested(alloc, alloc, *peer, &record)?;
+        assert_eq!(rt; (status, text.as_str()), met, "{record}");
+        // all else stays
+        assert_eq!(rt;
+            bare(alloc, &record)?.trim_end(),
+            bare(alloc, *script)?.trim_end()
+        );
+        let (status, again) = recorded(alloc, alloc, *peer, &record)?;
+        assert_eq!(rt;
+            (status, again.as_str()),
+            (Ok(Status::Done), record.as_str())
+        );
+        differs_at_each(&rt, alloc, *peer, &record)?;
+    }
+    Ok(())
+}
+
+/// A script.
+const SCRIPT: &str =
+    "# A call.\r\nopen 1 0 0 3\r\n#> old\r\n\r\n# Its station answers.\nabis 0 0 0822010b081234";
+
+/// Its record.
+const RECORD: &str = "# A call.\r
+open 1 0 0 3\r
+#> in open 1 0 0 3\r
+#> event open 1 0/0/3 -> done\r
+#> out abis 0 0 0821010b0300060400010801\r
+\r
+# Its station answers.
+abis 0 0 0822010b081234
+#> in abis 0 0 0822010b081234
+#> event confirm 0/0/3 -> owned 1
+#> event look 1 -> record 0/0/3 on
+#> end channels=1 calls=1 references=0 timers=0
+";
+
+#[test]
+fn a_script_is_recorded(rt: HostRuntime) -> Result<(), Fail> {
+    let (status, text) = recorded(rt.alloc(), rt.alloc(), None, SCRIPT)?;
+    assert_eq!(rt; (status, text.as_str()), (Ok(Status::Done), RECORD));
+    for (script, wanted) in [("open 1", "line 1\n"), ("\n2: clear 1", "line 2\n")] {
+        let (status, text) = recorded(rt.alloc(), rt.alloc(), None, script)?;
+        assert_eq!(rt; (status, text.as_str()), (Ok(Status::Refused), wanted));
+    }
+    Ok(())
+}
+
+/// Scripts over one site, how their tests end, and what is printed.
+const TESTS: &[(&str, Status, &str)] = &[
+    // nothing is looked at
+    ("open 1 0 0 3\nclear 1", Status::Done, "ok 1 - script\n"),
+    // any lines
+    (
+        "open 1 0 0 3\n#> in open 1 0 0 3\n#> ..\nclear 1\n#> ..\n#> end channels=1 calls=0 references=0 timers=0",
+        Status::Done,
+        "ok 1 - script\n",
+    ),
+    // what comes of the first line differs, and of the second
+    (
+        "open 1 0 0 3\n\n#> in open 1 0 0 3\n#> event open 1 0/0/2 -> done\n#> ..\nclear 1\n#> no",
+        Status::Differs,
+        "not ok 1 - script\n# line 4\n# expected: event open 1 0/0/2 -> done\n# came: event open 1 0/0/3 -> done\n",
+    ),
+    (
+        "open 1 0 0 3\nclear 1\n#> in clear 1\n# note",
+        Status::Differs,
+        "not ok 1 - script\n# line 3\n# expected nothing more\n# came: event look 1 -> record 0/0/3 pending\n",
+    ),
+    // a line that doesn't come
+    (
+        "open 1 0 0 3\n#> ..\n#> out a 1 00\nclear 1",
+        Status::Differs,
+        "not ok 1 - script\n# line 3\n# expected: out a 1 00\n# came nothing more\n",
+    ),
+    // nothing comes before the first line
+    (
+        "#> in open 1 0 0 3\nopen 1 0 0 3",
+        Status::Differs,
+        "not ok 1 - script\n# line 1\n# expected: in open 1 0 0 3\n# came nothing more\n",
+    ),
+    // a script without lines has its end
+    (
+        "#> end channels=0 calls=0 references=0 timers=0",
+        Status::Done,
+        "ok 1 - script\n",
+    ),
+    // it can't be read
+    (
+        "open 1 0 0 3\n #> in open 1 0 0 3",
+        Status::Refused,
+        "not ok 1 - script\n# line 2 can't be read\n",
+    ),
+];
+
+#[test]
+fn scripts_are_tested(rt: HostRuntime) -> Result<(), Fail> {
+    for (script, ended, wanted) in TESTS {
+        let (status, text) = tested(rt.alloc(), rt.alloc(), None, *script)?;
+        assert_eq!(rt; (status, text.as_str()), (Ok(*ended), *wanted), "{script}");
+    }
+    Ok(())
+}
+
+/// Whether a record over a heap that refuses this request, or the test of what was recorded, met no refusal.
+fn works_without(rt: &impl Abort, alloc: Global, n: u64, is_test: bool) -> Result<bool, Fail> {
+    let heap = RefusingHeap::refusing_nth(alloc, n);
+    let (status, text) = if is_test {
+        tested(&heap, alloc, None, RECORD)?
+    } else {
+        recorded(&heap, alloc, None, SCRIPT)?
+    };
+    let wanted = if is_test { "ok 1 - script\n" } else { RECORD };
+    match status {
+        Ok(Status::Done) => assert_eq!(rt; text.as_str(), wanted, "{n}"),
+        Err(LabFault::NoMemory) => {
+            assert!(rt;
+                heap.was_refused() && wanted.starts_with(text.as_str()),
+                "{n}: {text}"
+            )
+        }
+        _ => assert!(rt; false, "{n}: {text}"),
+    }
+    Ok(!heap.was_refused())
+}
+
+#[test]
+fn each_request_of_a_test_is_refused(rt: HostRuntime) -> Result<(), Fail> {
+    for is_test in [true, false] {
+        let mut tried = 0_u64;
+        for n in 1..2000 {
+            if works_without(&rt, rt.alloc(), n, is_test)? {
+                break;
+            }
+            tried = n;
+        }
+        assert!(rt; 20 < tried && tried < 1999, "{tried} requests");
+    }
+    Ok(())
+}
+
+#[test]
+fn each_write_of_a_record_fails(rt: HostRuntime) -> Result<(), Fail> {
+    for before in 0..1000 {
+        let mut out = Failing::after(rt.alloc(), before);
+        let status = record_run(rt.alloc(), rt.alloc(), SITE, None, SCRIPT, &mut out);
+        if !out.failed {
+            assert!(rt; 20 < before, "{before} writes");
+            return Ok(());
+        }
+        assert_eq!(rt; status, Err(LabFault::Write));
+    }
+    assert!(rt; false, "a thousand writes");
+    Ok(())
+}
+
+/// The files of a test, in the folder that it runs in.
+const SITE_FILE: &str = "tested.toml";
+
+const PEER_FILE: &str = "tested_peer.toml";
+
+const FILES: &[(&str, &str)] = &[
+    (SITE_FILE, SITE),
+    (PEER_FILE, PEER),
+    ("tested_met.txt", RECORD),
+    ("tested_differs.txt", "open 1 0 0 3\n#> in open 1 0 0 2\n"),
+    ("tested_unread.txt", "open 1 0 0 8\n"),
+];
+
+/// Words of scripts, how their test ends, what it prints, and how what it says of errors begins.
+const SUITES: &[(&[&str], Status, &str, &str)] = &[
+    (
+        &["tested_met.txt"],
+        Status::Done,
+        "1..1\nok 1 - tested_met.txt\n",
+        "",
+    ),
+    (
+        &["tested_differs.txt", "tested_met.txt"],
+        Status::Differs,
+        "1..2
+not ok 1 - tested_differs.txt
+# line 2
+# expected: in open 1 0 0 2
+# came: in open 1 0 0 3
+ok 2 - tested_met.txt
+",
+        "",
+    ),
+    (
+        &[
+            "tested_unread.txt",
+            "tested_differs.txt",
+            "no file",
+            "tested_met.txt",
+        ],
+        Status::Refused,
+        "1..4
+not ok 1 - tested_unread.txt
+# line 1 can't be read
+not ok 2 - tested_differs.txt
+# line 2
+# expected: in open 1 0 0 2
+# came: in open 1 0 0 3
+not ok 3 - no file
+# the file can't be read
+ok 4 - tested_met.txt
+",
+        "no file: No such file",
+    ),
+];
+
+/// Tests of files over sites end so.
+fn files_end(
+    rt: &(impl Files + AllocGlobal + Abort),
+    paths: SitePaths<'_>,
+    scripts: &[&str],
+    wanted: (Status, &str, &str),
+) -> Result<(), Fail> {
+    let mut out = Vec::new(rt.alloc());
+    let mut errors = Vec::new(rt.alloc());
+    let ended = test_files(rt, paths, scripts, &mut out, &mut errors);
+    assert_eq!(rt; (ended, str::from_utf8(&out)?), (Ok(wanted.0), wanted.1));
+    let said = str::from_utf8(&errors)?;
+    assert!(rt;
+        said.starts_with(wanted.2) && said.is_empty() == wanted.2.is_empty(),
+        "{said}"
+    );
+    Ok(())
+}
+
+/// The sites that are there.
+const PATHS: SitePaths<'_> = SitePaths {
+    first: SITE_FILE,
+    peer: None,
+};
+
+#[test]
+fn files_are_tested(rt: HostRuntime) -> Result<(), Fail> {
+    for (path, text) in FILES {
+        fs::write(&rt, *path, *text)?;
+    }
+    for (scripts, ended, text, said) in SUITES {
+        files_end(&rt, PATHS, *scripts, (*ended, *text, *said))?;
+    }
+    let with_peer = SitePaths {
+        first: SITE_FILE,
+        peer: Some(PEER_FILE),
+    };
+    // with a peer each line of the trace has its mark
+    let marked = "1..1
+not ok 1 - tested_met.txt
+# line 3
+# expected: in open 1 0 0 3
+# came: 1: in open 1 0 0 3
+";
+    files_end(
+        &rt,
+        with_peer,
+        &["tested_met.txt"],
+        (Status::Differs, marked, ""),
+    )?;
+    let no_site = SitePaths {
+        first: SITE_FILE,
+        peer: Some("tested_met.txt"),
+    };
+    files_end(
+        &rt,
+        no_site,
+        &["tested_met.txt"],
+        (Status::Refused, "site 1\n", "tested_met.txt:"),
+    )?;
+    let missing = SitePaths {
+        first: "no site",
+        peer: None,
+    };
+    files_end(
+        &rt,
+        missing,
+        &["tested_met.txt"],
+        (Status::Refused, "file no site\n", "no site: No such file"),
+    )?;
+    let mut out = Vec::new(rt.alloc());
+    let mut errors = Vec::new(rt.alloc());
+    let ended = record_file(&rt, PATHS, "tested_met.txt", &mut out, &mut errors);
+    assert_eq!(rt; (ended, str::from_utf8(&out)?), (Ok(Status::Done), RECORD));
+    for (path, _) in FILES {
+        fs::remove_file(&rt, *path)?;
+    }
+    Ok(())
+}

@@ -1,0 +1,4 @@
+pub mod Chains
+pub mod Words
+pub mod Values
+pub mod Fields

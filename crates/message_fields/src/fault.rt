@@ -1,0 +1,80 @@
+//! Why the fields of a message can't be read.
+use std::fmt;
+use thiserror::Error;
+
+/// What the value of a field may be.
+#[derive(Clone, Copy, Debug, PartialEq, Eq)]
+pub enum Allowed {
+    /// A number from 0 to this one.
+    Number(u16),
+    /// A number from 0 to 255, or `-`.
+    OptionalOctet,
+    /// 0 or 1.
+    Flag,
+    /// So many octets or more, in hexadecimal.
+    Octets(usize),
+    /// So many octets or more, in hexadecimal, or `-`.
+    OptionalOctets(usize),
+    /// A cell with its location area.
+    Cell,
+    /// Cells with their location areas, and a comma between any two.
+    Cells,
+    /// What was measured of a neighbour: level, position and code.
+    Neighbour,
+}
+
+/// At least so many octets, in words.
+#[derive(Clone, Copy)]
+struct AtLeast(usize);
+
+impl fmt::Display for AtLeast {
+    fn fmt<W: fmt::Write>(&self, f: &mut fmt::Formatter<W>) -> fmt::Result {
+        match self.0 {
+            0 => write!(f, "octets in hexadecimal"),
+            1 => write!(f, "one octet or more in hexadecimal"),
+            least => write!(f, "{least} octets or more in hexadecimal"),
+        }
+    }
+}
+
+impl fmt::Display for Allowed {
+    fn fmt<W: fmt::Write>(&self, f: &mut fmt::Formatter<W>) -> fmt::Result {
+        match self {
+            Allowed::Number(most) => write!(f, "0 to {most}"),
+            Allowed::OptionalOctet => write!(f, "0 to 255, or -"),
+            Allowed::Flag => write!(f, "0 or 1"),
+            Allowed::Octets(least) => write!(f, "{}", AtLeast(*least)),
+            Allowed::OptionalOctets(least) => write!(f, "{}, or -", AtLeast(*least)),
+            Allowed::Cell => write!(f, "a cell with its location area, as in 23/102"),
+            Allowed::Cells => write!(f, "a list of cells with their location areas, as in 23/102,23/103"),
+            Allowed::Neighbour => write!(
+                f,
+                "a level 0 to 63, a position 0 to 31 and a code 0 to 63, as in 40/2/21"
+            ),
+        }
+    }
+}
+
+/// Why the fields of a message can't be read. What of the text is shown has its control characters escaped.
+#[derive(Clone, Copy, Debug, PartialEq, Eq, Error)]
+pub enum FieldFault<'a> {
+    // A word that is no field of the message.
+    #[error("{0:?} is no field of the message")]
+    Unknown(&'a str),
+    // A field that is missing.
+    #[error("{0} is missing")]
+    Missing(&'static str),
+    // A field that stands twice.
+    #[error("{0} stands twice")]
+    Twice(&'static str),
+    // A field whose value is another than it may be.
+    #[error("{key} is {allowed}, found {value:?}")]
+    Value {
+        key: &'static str,
+        value: &'a str,
+        allowed: Allowed,
+    },
+    // Memory was refused.
+    #[error("memory was refused")]
+    NoMemory,
+}

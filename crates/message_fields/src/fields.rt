@@ -1,0 +1,167 @@
+//! What the fields of a message say, each of which stands once.
+ghost use Rattle.std.specs.Prelude.{◌≡◌, ◌≢◌, ◌<◌, ◌≤◌, ◌∷◌, [], IfOk, IfErr, IfSome, MatchOption, Some, None, length, is_ok, option_map};
+ghost use Rattle.std.specs.Result.{result_ok};
+ghost use Rattle.message_fields.specs.Words.{words_of, values_of};
+ghost use Rattle.message_fields.specs.Fields as said;
+ghost use Rattle.message_fields.specs.declared.fault.FieldFault.TheVariants.{NoMemory};
+
+use crate::fault::{Allowed, FieldFault};
+use crate::values::{flag_in, number_in, octet_in, octets_in};
+use crate::words::{first_unknown, first_value};
+use std::alloc::Allocator;
+
+/// Refuses the first word that is no field with one of these keys, which stand with one blank between any two.
+#[tactic(auto, unfolding(crate::specs::Fields::have_keys))]
+pub fn only_keys<'a>(fields: &'a str, keys: &str) -> Result<(), FieldFault<'a>>
+    ensures keys { is_ok result ≡ said.have_keys keys.now fields.now }
+{
+    if fields.is_empty() {
+        return Ok(());
+    }
+    match first_unknown(keys, fields) {
+        Some(word) => Err(FieldFault::Unknown(word)),
+        None => Ok(()),
+    }
+}
+
+/// The value of the first field with this key, and the fields behind it.
+pub fn leading_value<'a>(fields: &'a str, key: &str) -> Option<(&'a str, &'a str)>
+    ensures values { MatchOption result (values_of key.now (words_of fields.now) ≡ [])
+        (λ found. values_of key.now (words_of fields.now) ≡
+        found.0.now ∷ values_of key.now (words_of found.1.now)) }
+    ensures less { IfSome result (λ found. length found.1.now < length fields.now) }
+{
+    first_value(fields, key)
+}
+
+/// The value of the only field with this key.
+#[tactic(auto, unfolding(crate::specs::Fields::value_at))]
+pub fn value<'a>(fields: &'a str, key: &'static str) -> Result<&'a str, FieldFault<'a>>
+    ensures value { option_map (λ value. value.now) (result_ok result) ≡
+        said.value_at key.now fields.now }
+{
+    let Some((value, rest)) = first_value(fields, key) else {
+        return Err(FieldFault::Missing(key));
+    };
+    match first_value(rest, key) {
+        Some(_) => Err(FieldFault::Twice(key)),
+        None => Ok(value),
+    }
+}
+
+/// The number of a field, which is at most this one.
+pub fn number<'a>(fields: &'a str, key: &'static str, most: u16) -> Result<u16, FieldFault<'a>>
+    ensures number { result_ok result ≡ said.number_at most key.now fields.now }
+    ensures most { IfOk result (λ number. number ≤ most) }
+{
+    let value = value(fields, key)?;
+    let allowed = Allowed::Number(most);
+    number_in(value, most).ok_or(FieldFault::Value {
+        key,
+        value,
+        allowed,
+    })
+}
+
+/// The octet of a field, in decimal, which is at most this one.
+pub fn small<'a>(fields: &'a str, key: &'static str, most: u8) -> Result<u8, FieldFault<'a>>
+    ensures number { result_ok result ≡ said.number_at most key.now fields.now }
+    ensures most { IfOk result (λ number. number ≤ most) }
+{
+    let value = value(fields, key)?;
+    let allowed = Allowed::Number(u16::from(most));
+    octet_in(value, most).ok_or(FieldFault::Value {
+        key,
+        value,
+        allowed,
+    })
+}
+
+/// The octet of a field, in decimal.
+pub fn octet<'a>(fields: &'a str, key: &'static str) -> Result<u8, FieldFault<'a>>
+    ensures number { result_ok result ≡ said.number_at 255 key.now fields.now }
+{
+    small(fields, key, 255)
+}
+
+/// The octet of a field, in decimal, or `-`.
+pub fn optional_octet<'a>(fields: &'a str, key: &'static str) -> Result<Option<u8>, FieldFault<'a>>
+    ensures number { result_ok result ≡ said.optional_octet_at key.now fields.now }
+{
+    let value = value(fields, key)?;
+    if value == "-" {
+        return Ok(None);
+    }
+    match octet_in(value, 255) {
+        Some(octet) => Ok(Some(octet)),
+        None => Err(FieldFault::Value {
+            key,
+            value,
+            allowed: Allowed::OptionalOctet,
+        }),
+    }
+}
+
+/// The flag of a field.
+pub fn flag<'a>(fields: &'a str, key: &'static str) -> Result<bool, FieldFault<'a>>
+    ensures flag { result_ok result ≡ said.flag_at key.now fields.now }
+{
+    let value = value(fields, key)?;
+    let allowed = Allowed::Flag;
+    flag_in(value).ok_or(FieldFault::Value {
+        key,
+        value,
+        allowed,
+    })
+}
+
+/// The octets of a field, in hexadecimal, so many or more.
+pub fn octets<'a, A: Allocator>(
+    alloc: A,
+    fields: &'a str,
+    key: &'static str,
+    least: usize,
+) -> Result<Vec<u8, A>, FieldFault<'a>>
+    ensures read { IfOk result (λ octets.
+        said.octets_at least key.now fields.now ≡ Some octets.items) }
+    ensures unread { IfErr result (λ fault. fault ≢ NoMemory →
+        said.octets_at least key.now fields.now ≡ None) }
+{
+    let value = value(fields, key)?;
+    match octets_in(alloc, value, least) {
+        Ok(Some(octets)) => Ok(octets),
+        Ok(None) => Err(FieldFault::Value {
+            key,
+            value,
+            allowed: Allowed::Octets(least),
+        }),
+        Err(_) => Err(FieldFault::NoMemory),
+    }
+}
+
+/// The octets of a field, in hexadecimal, so many or more, or `-`.
+pub fn optional_octets<'a, A: Allocator>(
+    alloc: A,
+    fields: &'a str,
+    key: &'static str,
+    least: usize,
+) -> Result<Option<Vec<u8, A>>, FieldFault<'a>>
+    ensures read { IfOk result (λ found. said.optional_octets_at least key.now fields.now ≡
+        Some (option_map (λ octets. octets.items) found)) }
+    ensures unread { IfErr result (λ fault. fault ≢ NoMemory →
+        said.optional_octets_at least key.now fields.now ≡ None) }
+{
+    let value = value(fields, key)?;
+    if value == "-" {
+        return Ok(None);
+    }
+    match octets_in(alloc, value, least) {
+        Ok(Some(octets)) => Ok(Some(octets)),
+        Ok(None) => Err(FieldFault::Value {
+            key,
+            value,
+            allowed: Allowed::OptionalOctets(least),
+        }),
+        Err(_) => Err(FieldFault::NoMemory),
+    }
+}

@@ -1,0 +1,169 @@
+//! Names, fields and values of texts.
+use message_fields::{
+    FieldFault, cell_in, flag, leading_value, name_and_fields, neighbour_in, number, octet, octets,
+    only_keys, optional_octet, optional_octets, small, value,
+};
+use refusing_heap::RefusingHeap;
+use std::alloc::Global;
+use std::process::Abort;
+use std::test::Fail;
+
+#[test]
+fn names_and_fields(rt: HostRuntime) {
+    for (text, name, fields) in &[
+        ("", "", ""),
+        ("CLEAR COMPLETE", "CLEAR COMPLETE", ""),
+        ("CLEAR COMMAND cause=9", "CLEAR COMMAND", "cause=9"),
+        ("A a=1 b=2", "A", "a=1 b=2"),
+        ("A a=1 b", "A", "a=1 b"),
+        ("A  a=1", "A ", "a=1"),
+        ("A a==1", "A", "a==1"),
+        ("A =1", "A", "=1"),
+        ("a=1", "", "a=1"),
+        (" a=1", "", "a=1"),
+        ("A ", "A ", ""),
+    ] {
+        assert_eq!(rt; name_and_fields(*text), (*name, *fields), "{text:?}");
+    }
+}
+
+#[test]
+fn keys_of_fields(rt: HostRuntime) {
+    for (fields, unknown) in &[
+        ("", None),
+        ("tn=1", None),
+        ("cause=1 tn=", None),
+        ("tn=1 tn=2", None),
+        ("tn", Some("tn")),
+        ("tn=1 ", Some("")),
+        ("tn=1 t=2 n=3", Some("t=2")),
+        ("=1", Some("=1")),
+        ("Tn=1", Some("Tn=1")),
+    ] {
+        let wanted = match *unknown {
+            Some(word) => Err(FieldFault::Unknown(word)),
+            None => Ok(()),
+        };
+        assert!(rt; only_keys(*fields, "tn cause") == wanted, "{fields:?}");
+    }
+    assert!(rt; only_keys("=1", "") == Err(FieldFault::Unknown("=1")));
+}
+
+#[test]
+fn values_of_fields(rt: HostRuntime) {
+    let fields = "a=1 b= n=x a=2 c n=y=z";
+    assert_eq!(rt; value(fields, "b"), Ok(""));
+    assert_eq!(rt; value(fields, "a"), Err(FieldFault::Twice("a")));
+    assert_eq!(rt; value(fields, "c"), Err(FieldFault::Missing("c")));
+    assert_eq!(rt; value("", "c"), Err(FieldFault::Missing("c")));
+    assert_eq!(rt; leading_value(fields, "n"), Some(("x", "a=2 c n=y=z")));
+    assert_eq!(rt; leading_value("a=2 c n=y=z", "n"), Some(("y=z", "")));
+    assert_eq!(rt; leading_value("", "n"), None);
+}
+
+/// Texts, and the greatest number where they write one.
+const NUMBERS: &[(&str, u16, Option<u16>)] = &[
+    ("k=0", 0, Some(0)),
+    ("k=1", 0, None),
+    ("k=007", 7, Some(7)),
+    ("k=8", 7, None),
+    ("k=65535", 65535, Some(65535)),
+    ("k=65536", 65535, None),
+    ("k=99999999999999999999", 65535, None),
+    ("k=", 7, None),
+    ("k=+1", 7, None),
+    ("k=-1", 7, None),
+    ("k=0x1", 7, None),
+    ("k=1.0", 7, None),
+];
+
+#[test]
+fn numbers(rt: HostRuntime) {
+    for (fields, most, wanted) in NUMBERS {
+        assert_eq!(rt; number(*fields, "k", *most).ok(), *wanted, "{fields}");
+    }
+    assert_eq!(rt; small("k=7", "k", 7), Ok(7));
+    assert!(rt; small("k=8", "k", 7).is_err());
+    assert_eq!(rt; octet("k=255", "k"), Ok(255));
+    assert!(rt; octet("k=256", "k").is_err());
+    assert_eq!(rt; optional_octet("k=255", "k"), Ok(Some(255)));
+    assert_eq!(rt; optional_octet("k=-", "k"), Ok(None));
+    assert!(rt; optional_octet("k=--", "k").is_err());
+    assert_eq!(rt; flag("k=0", "k"), Ok(false));
+    assert_eq!(rt; flag("k=1", "k"), Ok(true));
+    assert!(rt; flag("k=01", "k").is_err());
+}
+
+#[test]
+fn octets_of_fields(rt: HostRuntime) -> Result<(), Fail> {
+    let alloc = rt.alloc();
+    let found = octets(alloc, "k=0aFf", "k", 2).expect(&rt, "two octets");
+    assert_eq!(rt; found.as_slice(), [10, 255].as_slice());
+    for text in &["k=0aFf", "k=0", "k=0g", "k=-", "k=0a:ff:00"] {
+        assert!(rt; octets(alloc, *text, "k", 3).is_err(), "{text}");
+    }
+    let none = octets(alloc, "k=", "k", 0).expect(&rt, "no octets");
+    assert!(rt; none.is_empty());
+    let absent = optional_octets(alloc, "k=-", "k", 1).expect(&rt, "nothing");
+    assert!(rt; absent.is_none());
+    let one = optional_octets(alloc, "k=06", "k", 1).expect(&rt, "one octet");
+    assert!(rt; one.is_some_and(|octets| octets.as_slice() == [6].as_slice()));
+    assert!(rt; optional_octets(alloc, "k=", "k", 1).is_err());
+    Ok(())
+}
+
+#[test]
+fn cells_and_neighbours(rt: HostRuntime) {
+    assert_eq!(rt; cell_in("23/65535"), Some((23, 65535)));
+    for text in &["", "23", "23/", "/1", "-/102", "23/1/2", "65536/1", "23/65536"] {
+        assert_eq!(rt; cell_in(*text), None, "{text}");
+    }
+    assert_eq!(rt; neighbour_in("63/31/63"), Some((63, 31, 63)));
+    for text in &["", "1/2", "64/31/63", "63/32/63", "63/31/64", "1/2/3/4"] {
+        assert_eq!(rt; neighbour_in(*text), None, "{text}");
+    }
+}
+
+/// What a fault says.
+fn is_said<T: Drop>(
+    rt: &impl Abort,
+    alloc: Global,
+    found: Result<T, FieldFault<'_>>,
+    wanted: &str,
+) -> Result<(), Fail> {
+    match found {
+        Ok(_) => assert!(rt; false, "{wanted}"),
+        Err(fault) => assert_eq!(rt; fault.to_string(alloc)?.as_str(), wanted),
+    }
+    Ok(())
+}
+
+#[test]
+fn reasons(rt: HostRuntime) -> Result<(), Fail> {
+    let alloc = rt.alloc();
+    let unknown = only_keys("x\t", "k");
+    is_said(&rt, alloc, unknown, "\"x\\t\" is no field of the message")?;
+    is_said(&rt, alloc, value("", "k"), "k is missing")?;
+    is_said(&rt, alloc, value("k=1 k=1", "k"), "k stands twice")?;
+    is_said(&rt, alloc, small("k=8", "k", 7), "k is 0 to 7, found \"8\"")?;
+    let optional = optional_octet("k=x", "k");
+    is_said(&rt, alloc, optional, "k is 0 to 255, or -, found \"x\"")?;
+    is_said(&rt, alloc, flag("k=2", "k"), "k is 0 or 1, found \"2\"")?;
+    let any = octets(alloc, "k=0", "k", 0);
+    is_said(&rt, alloc, any, "k is octets in hexadecimal, found \"0\"")?;
+    let one = optional_octets(alloc, "k=", "k", 1);
+    let said = "k is one octet or more in hexadecimal, or -, found \"\"";
+    is_said(&rt, alloc, one, said)?;
+    let two = octets(alloc, "k=06", "k", 2);
+    is_said(&rt, alloc, two, "k is 2 octets or more in hexadecimal, found \"06\"")
+}
+
+#[test]
+fn memory_is_refused(rt: HostRuntime) {
+    let heap = RefusingHeap::refusing_nth(rt.alloc(), 1);
+    let refused = octets(&heap, "k=06", "k", 1).err();
+    assert!(rt; refused == Some(FieldFault::NoMemory));
+    let heap = RefusingHeap::refusing_nth(rt.alloc(), 1);
+    let refused = optional_octets(&heap, "k=06", "k", 1).err();
+    assert!(rt; refused == Some(FieldFault::NoMemory));
+}
