@@ -1,0 +1,10 @@
+//! Why a line of a script can't be read: which of its words is wrong, and what may stand there.
+//!
+//! Each line has a form: a keyword, and behind it words of its own kinds. The form is found by the first word, and the
+//! words behind that are looked at in their order; the first that is wrong is the reason.
+#![tactic(auto)]
+
+mod forms;
+mod words;
+
+pub use forms::{Form, Slot};
