@@ -5,6 +5,9 @@
 #![tactic(auto)]
 
 mod forms;
+mod reasons;
+mod text;
 mod words;
 
 pub use forms::{Form, Slot};
+pub use reasons::{Fault, Reason, line_reason, script_reason};

@@ -1,0 +1,110 @@
+-- Why a line can't be read: the first thing that is wrong with it, and the word that is. Ours, of no standard.
+use Rattle.std.specs.Prelude.{ℕ, ◌-◌, ◌==◌, ◌||◌, ◌&&◌, Bool, true, false, not, nat_eq, if◌then◌else◌, List, [], ◌∷◌, map, drop, codes, Option, Some, None, option_map, option_and_then, slice_get}
+use Rattle.std.specs.List.{slice_split, filter_map, list_all, starts_with}
+use Rattle.std.specs.Option.{option_or}
+use Rattle.std.specs.Str.Lines.{strip_carriage_return}
+use Rattle.script_reasons.specs.declared.forms.Slot.{Slot}
+use Rattle.script_reasons.specs.declared.forms.Form.{Form}
+use Rattle.script_reasons.specs.declared.reasons.Fault.{Fault}
+use Rattle.script_reasons.specs.declared.reasons.Fault.TheVariants.{ByteOrderMark, NoPeer, Keyword, PeerKeyword, PeerSim, Word, Missing, Behind, NoSim}
+use Rattle.script_reasons.specs.Words.{words_of}
+use Rattle.script_reasons.specs.Forms.{fits, form_named, slots_of, needs_sim, is_sim}
+
+-- what is wrong, and the word that is, or no octets where none is
+abbrev pub Wrong : Type 0
+Wrong = Fault × List ℕ
+
+-- the slots of a form and the words of a line, place by place, up to the end of the longer
+abbrev pub side_by_side : List Slot → List (List ℕ) → List (Option Slot × Option (List ℕ))
+side_by_side [] words = map (λ word. (None, Some word)) words
+side_by_side (slot ∷ slots) [] = (Some slot, None) ∷ side_by_side slots []
+side_by_side (slot ∷ slots) (word ∷ words) = (Some slot, Some word) ∷ side_by_side slots words
+
+-- what is wrong in one place
+abbrev pub wrong_at : Form → Option Slot → Option (List ℕ) → Option Wrong
+wrong_at form (Some slot) (Some word) = if fits slot word then None else Some (Word slot, word)
+wrong_at form (Some slot) None = Some (Missing slot form, [])
+wrong_at form None (Some word) = Some (Behind form, word)
+wrong_at form None None = None
+
+-- all that is wrong with the words behind the first, in their order, and the first of that
+abbrev pub all_wrong : Form → List Slot → List (List ℕ) → List Wrong
+all_wrong form slots words = filter_map (λ place. wrong_at form place.0 place.1) (side_by_side slots words)
+
+unfoldable pub first_wrong : Form → List Slot → List (List ℕ) → Option Wrong
+first_wrong form slots words = slice_get (all_wrong form slots words) 0
+
+-- what is wrong with a text, by the form that its first word names
+abbrev pub form_reason : Bool → List ℕ → List (List ℕ) → Option Form → Option Wrong
+form_reason is_peer word words None = Some ((if is_peer then PeerKeyword else Keyword), word)
+form_reason is_peer word words (Some form) = if is_peer && is_sim form then Some (PeerSim, []) else first_wrong form (slots_of form) words
+
+-- and by its words, of which there is one at least
+abbrev pub words_reason : Bool → List (List ℕ) → Option Wrong
+words_reason is_peer [] = None
+words_reason is_peer (word ∷ words) = form_reason is_peer word words (form_named word)
+
+unfoldable pub text_reason : Bool → List ℕ → Option Wrong
+text_reason is_peer text = words_reason is_peer (words_of text)
+
+abbrev pub is_comment : List ℕ → Bool
+is_comment line = starts_with nat_eq line (codes "#")
+
+-- blanks and tabs alone
+abbrev pub is_blank : List ℕ → Bool
+is_blank line = list_all (λ b. b == 32 || b == 9) line
+
+-- a comment or a blank line
+abbrev pub is_passed : List ℕ → Bool
+is_passed line = is_comment line || is_blank line
+
+-- a byte order mark in UTF-8
+abbrev pub byte_order_mark : List ℕ
+byte_order_mark = 239 ∷ 187 ∷ 191 ∷ []
+
+abbrev pub is_marked : List ℕ → Bool
+is_marked line = starts_with nat_eq line byte_order_mark
+
+-- a line for the second controller begins so
+abbrev pub is_for_peer : List ℕ → Bool
+is_for_peer line = starts_with nat_eq line (codes "2: ")
+
+-- what a line says to its controller
+abbrev pub text_of : List ℕ → List ℕ
+text_of line = if is_for_peer line then drop 3 line else line
+
+-- what is wrong with a line that isn't passed over
+unfoldable pub side_reason : Bool → List ℕ → Option Wrong
+side_reason has_peer line = if is_for_peer line && not has_peer then Some (NoPeer, []) else text_reason (is_for_peer line) (text_of line)
+
+-- what is wrong with a line
+unfoldable pub line_reason : Bool → List ℕ → Option Wrong
+line_reason has_peer line = if is_passed line then None else if is_marked line then Some (ByteOrderMark, []) else side_reason has_peer line
+
+-- the form that the first word of a text names
+abbrev pub form_of_words : List (List ℕ) → Option Form
+form_of_words [] = None
+form_of_words (word ∷ words) = form_named word
+
+-- the form of a line
+abbrev pub form_of : List ℕ → Option Form
+form_of line = form_of_words (words_of (text_of line))
+
+-- what is wrong with a line where nothing is simulated yet
+abbrev pub sim_wrong : Form → Option Wrong
+sim_wrong form = if needs_sim form then Some (NoSim form, []) else None
+
+unfoldable pub sim_reason : List ℕ → Option Wrong
+sim_reason line = option_and_then sim_wrong (form_of line)
+
+-- the lines of a text, each without the one carriage return that may end it
+abbrev pub lines_of : List ℕ → List (List ℕ)
+lines_of text = map strip_carriage_return (slice_split (λ b. b == 10) text)
+
+-- the line of a number, counted from 1
+unfoldable pub line_at : ℕ → List ℕ → Option (List ℕ)
+line_at number text = if number == 0 then None else slice_get (lines_of text) (number - 1)
+
+-- what is wrong with the line of a number, where no line before it is `sim`
+unfoldable pub script_reason : Bool → ℕ → List ℕ → Option Wrong
+script_reason has_peer number text = option_and_then (λ line. option_or (line_reason has_peer line) (sim_reason line)) (line_at number text)

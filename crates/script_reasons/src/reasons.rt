@@ -1,0 +1,206 @@
+//! Why a line can't be read.
+ghost use Rattle.std.specs.Prelude.{◌≡◌, [], option_map};
+ghost use Rattle.std.specs.Str.Lines.{strip_carriage_return};
+ghost use Rattle.script_reasons.specs.Words.{words_left};
+ghost use Rattle.script_reasons.specs.Reasons as said;
+
+use crate::forms::{Form, Slot, form_named};
+use crate::words::cut_word;
+
+/// What is wrong.
+#[derive(Clone, Copy, Debug, PartialEq, Eq)]
+pub enum Fault {
+    /// A byte order mark stands in front.
+    ByteOrderMark,
+    /// The line is for the second controller, and there is none.
+    NoPeer,
+    /// No line begins with the word.
+    Keyword,
+    /// No line of the second controller begins with it, behind `2: `.
+    PeerKeyword,
+    /// The line attaches what is simulated, which is for both controllers, and begins with `2: `.
+    PeerSim,
+    /// The word isn't what stands in its place.
+    Word(Slot),
+    /// The line ends before this word of its form.
+    Missing(Slot, Form),
+    /// The word stands behind the last of its line's form.
+    Behind(Form),
+    /// Nothing is wrong with the line itself: what it asks is of what is simulated, and no line before attaches that.
+    NoSim(Form),
+}
+
+/// Why a line can't be read.
+#[derive(Clone, Copy, Debug, PartialEq, Eq)]
+pub struct Reason<'a> {
+    pub fault: Fault,
+    /// The first word that is wrong, as it stands in the line. It is empty where two blanks stand beside each other, where
+    /// a blank stands at an end of the line, and where no word is wrong.
+    pub found: &'a str,
+}
+
+/// A reason with no word that is wrong.
+fn without_word<'a>(fault: Fault) -> Reason<'a>
+    ensures fault { result.fault ≡ fault }
+    ensures found { result.found.now ≡ [] }
+{
+    Reason { fault, found: "" }
+}
+
+/// The first word that doesn't fill its slot, of those that are left of a line, or what is missing.
+fn first_wrong<'a>(form: Form, slots: &[Slot], rest: Option<&'a str>) -> Option<Reason<'a>>
+    ensures { option_map (λ reason. (reason.fault, reason.found.now)) result ≡
+        said.first_wrong form slots.now (words_left (option_map (λ text. text.now) rest.entry)) }
+{
+    let Some(text) = rest else {
+        let slot = slots.first()?;
+        return Some(without_word(Fault::Missing(*slot, form)));
+    };
+    let (found, rest) = cut_word(text);
+    let [slot, slots @ ..] = slots else {
+        let fault = Fault::Behind(form);
+        return Some(Reason { fault, found });
+    };
+    if slot.fits(found) {
+        first_wrong(form, slots, rest)
+    } else {
+        let fault = Fault::Word(*slot);
+        Some(Reason { fault, found })
+    }
+}
+
+/// What is wrong with what a line says to its controller.
+fn text_reason(is_peer: bool, text: &str) -> Option<Reason<'_>>
+    ensures { option_map (λ reason. (reason.fault, reason.found.now)) result ≡
+        said.text_reason is_peer text.now }
+{
+    let (found, rest) = cut_word(text);
+    match form_named(found) {
+        Some(form) if is_peer && form.is_sim() => Some(without_word(Fault::PeerSim)),
+        Some(form) => first_wrong(form, form.slots(), rest),
+        None => {
+            let fault = if is_peer {
+                Fault::PeerKeyword
+            } else {
+                Fault::Keyword
+            };
+            Some(Reason { fault, found })
+        }
+    }
+}
+
+/// Whether a line is a comment.
+fn is_comment(line: &str) -> bool
+    ensures { result ≡ said.is_comment line.now }
+{
+    line.starts_with("#")
+}
+
+/// Whether a line has blanks and tabs alone.
+fn is_blank(line: &str) -> bool
+    ensures { result ≡ said.is_blank line.now }
+{
+    line.bytes().all(|byte| byte == b' ' || byte == b'\t')
+}
+
+/// Whether a line is passed over.
+fn is_passed(line: &str) -> bool
+    ensures { result ≡ said.is_passed line.now }
+{
+    is_comment(line) || is_blank(line)
+}
+
+/// Whether a byte order mark stands before a line.
+fn is_marked(line: &str) -> bool
+    ensures { result ≡ said.is_marked line.now }
+{
+    line.starts_with("\u{feff}")
+}
+
+/// Whether a line is for the second controller, and what it says to its controller.
+fn cut_side(line: &str) -> (bool, &str)
+    ensures peer { result.0 ≡ said.is_for_peer line.now }
+    ensures text { result.1.now ≡ said.text_of line.now }
+{
+    match line.strip_prefix("2: ") {
+        Some(text) => (true, text),
+        None => (false, line),
+    }
+}
+
+/// Why a line that isn't passed over can't be read.
+fn side_reason(line: &str, has_peer: bool) -> Option<Reason<'_>>
+    ensures { option_map (λ reason. (reason.fault, reason.found.now)) result ≡
+        said.side_reason has_peer line.now }
+{
+    let (is_peer, text) = cut_side(line);
+    if is_peer && !has_peer {
+        Some(without_word(Fault::NoPeer))
+    } else {
+        text_reason(is_peer, text)
+    }
+}
+
+/// Why a line of a script, without the carriage return that may end it, can't be read where it stands behind a line `sim`;
+/// `None` where it can. `has_peer` says whether there is a second controller.
+pub fn line_reason(line: &str, has_peer: bool) -> Option<Reason<'_>>
+    ensures reason { option_map (λ reason. (reason.fault, reason.found.now)) result ≡
+        said.line_reason has_peer line.now }
+{
+    if is_passed(line) {
+        return None;
+    }
+    if is_marked(line) {
+        return Some(without_word(Fault::ByteOrderMark));
+    }
+    side_reason(line, has_peer)
+}
+
+/// The form of a line.
+fn form_of(line: &str) -> Option<Form>
+    ensures { result ≡ said.form_of line.now }
+{
+    let (_, text) = cut_side(line);
+    let (word, _) = cut_word(text);
+    form_named(word)
+}
+
+/// Why a line that can be read behind a line `sim` can't be read without.
+fn sim_reason<'a>(line: &str) -> Option<Reason<'a>>
+    ensures { option_map (λ reason. (reason.fault, reason.found.now)) result ≡
+        said.sim_reason line.now }
+{
+    match form_of(line) {
+        Some(form) if form.needs_sim() => Some(without_word(Fault::NoSim(form))),
+        _ => None,
+    }
+}
+
+/// A line without the carriage return that may end it.
+fn without_return(line: &str) -> &str
+    ensures { result.now ≡ strip_carriage_return line.now }
+{
+    line.strip_suffix('\r').unwrap_or(line)
+}
+
+/// The line of this number, counted from 1, without the carriage return that may end it.
+fn line_at(script: &str, number: usize) -> Option<&str>
+    ensures { option_map (λ line. line.now) result ≡ said.line_at number script.now }
+{
+    let place = number.checked_sub(1)?;
+    let line = script.split('\n').nth(place)?;
+    Some(without_return(line))
+}
+
+/// Why the line of this number, counted from 1, can't be read where no line before it is `sim`. `None` where it can, and
+/// where there is no such line. `has_peer` says whether there is a second controller.
+pub fn script_reason(script: &str, number: usize, has_peer: bool) -> Option<Reason<'_>>
+    ensures reason { option_map (λ reason. (reason.fault, reason.found.now)) result ≡
+        said.script_reason has_peer number script.now }
+{
+    let line = line_at(script, number)?;
+    match line_reason(line, has_peer) {
+        Some(reason) => Some(reason),
+        None => sim_reason(line),
+    }
+}

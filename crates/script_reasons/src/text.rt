@@ -1,0 +1,123 @@
+//! Reasons in words.
+use crate::forms::{Form, Slot};
+use crate::reasons::{Fault, Reason};
+use escaped_text::Escaped;
+use std::fmt;
+
+/// The most characters of a word that are shown.
+const MOST_SHOWN: usize = 60;
+
+/// A word as it is shown: its front, with control characters escaped.
+struct Shown<'a> {
+    word: &'a str,
+    /// What is said of a word without characters.
+    nothing: &'static str,
+}
+
+impl fmt::Display for Shown<'_> {
+    fn fmt<W: fmt::Write>(&self, f: &mut fmt::Formatter<W>) -> fmt::Result {
+        if self.word.is_empty() {
+            return f.write_str(self.nothing);
+        }
+        for character in self.word.chars().take(MOST_SHOWN) {
+            let mut octets = [0; 4];
+            write!(f, "{}", Escaped(character.encode_utf8(&mut octets)))?;
+        }
+        match self.word.chars().nth(MOST_SHOWN) {
+            Some(_) => f.write_str(".."),
+            None => Ok(()),
+        }
+    }
+}
+
+impl Slot {
+    /// What the word is called.
+    fn name(self) -> &'static str {
+        match self {
+            Slot::Call => "CALL",
+            Slot::Cell => "CELL",
+            Slot::Trx => "TRX",
+            Slot::Timeslot => "TN",
+            Slot::Octets => "HEX",
+            Slot::Timer => "TIMER",
+            Slot::Habit => "HABIT",
+        }
+    }
+
+    /// What it may be.
+    fn allowed(self) -> &'static str {
+        match self {
+            Slot::Call => "0 to 65535",
+            Slot::Cell | Slot::Trx => "0 to 255",
+            Slot::Timeslot => "0 to 7",
+            Slot::Octets => "one octet or more, each in two hexadecimal digits",
+            Slot::Timer => "T3103, T7 or T8",
+            Slot::Habit => "arrive, return or vanish",
+        }
+    }
+}
+
+impl Form {
+    /// The first word.
+    fn keyword(self) -> &'static str {
+        match self {
+            Form::Open => "open",
+            Form::Handover => "handover",
+            Form::Undo => "undo",
+            Form::Clear => "clear",
+            Form::Expire => "expire",
+            Form::Abis => "abis",
+            Form::A => "a",
+            Form::Sim => "sim",
+            Form::Refuse => "refuse",
+            Form::Hold => "hold",
+            Form::Let => "let",
+            Form::Mobile => "mobile",
+            Form::HangUp => "hangup",
+        }
+    }
+}
+
+impl fmt::Display for Form {
+    fn fmt<W: fmt::Write>(&self, f: &mut fmt::Formatter<W>) -> fmt::Result {
+        f.write_str(self.keyword())?;
+        for slot in self.slots() {
+            write!(f, " {}", slot.name())?;
+        }
+        Ok(())
+    }
+}
+
+/// What may begin a line, and what a line of the second controller behind `2: `.
+const KEYWORDS: &str =
+    "open, handover, undo, clear, expire, abis, a, sim, refuse, hold, let, mobile or hangup, with 2: and a blank, or with #";
+
+const PEER_KEYWORDS: &str =
+    "open, handover, undo, clear, expire, abis, a, refuse, hold, let, mobile or hangup";
+
+impl fmt::Display for Reason<'_> {
+    fn fmt<W: fmt::Write>(&self, f: &mut fmt::Formatter<W>) -> fmt::Result {
+        let word = self.found;
+        let found = Shown {
+            word,
+            nothing: "nothing",
+        };
+        let more = Shown {
+            word,
+            nothing: "a blank",
+        };
+        match self.fault {
+            Fault::ByteOrderMark => write!(f, "a byte order mark stands before the first word"),
+            Fault::NoPeer => write!(f, "2: is for a second controller, and there is none"),
+            Fault::Keyword => write!(f, "a line begins with {KEYWORDS}, found {more}"),
+            Fault::PeerKeyword => write!(f, "behind 2: stands {PEER_KEYWORDS}, found {found}"),
+            Fault::PeerSim => write!(f, "sim is for both controllers, and stands without 2:"),
+            Fault::Word(slot) => {
+                write!(f, "{} is {}, found {found}", slot.name(), slot.allowed())
+            }
+            Fault::Missing(slot, form) => write!(f, "{} is missing in {form}", slot.name()),
+            Fault::Behind(form) => write!(f, "nothing stands behind {form}, found {more}"),
+            Fault::NoSim(form) => write!(f, "{form} needs sim, and no line before is that"),
+        }
+    }
+}
