@@ -8,6 +8,7 @@ use std::fmt;
 const MOST_SHOWN: usize = 60;
 
 /// A word as it is shown: its front, with control characters escaped.
+#[derive(Clone, Copy)]
 struct Shown<'a> {
     word: &'a str,
     /// What is said of a word without characters.
@@ -117,7 +118,7 @@ impl fmt::Display for Reason<'_> {
             }
             Fault::Missing(slot, form) => write!(f, "{} is missing in {form}", slot.name()),
             Fault::Behind(form) => write!(f, "nothing stands behind {form}, found {more}"),
-            Fault::NoSim(form) => write!(f, "{form} needs sim, and no line before is that"),
+            Fault::NoSim(form) => write!(f, "{form} needs a line sim before it"),
         }
     }
 }
