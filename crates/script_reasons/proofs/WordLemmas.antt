@@ -29,9 +29,13 @@ uncut (b ∷ text) h =
     let no_blank : (b == 32) ≡ false = grind (arith, h) in
     longer_word b text no_blank (uncut text (grind (arith, h, no_blank)))
 
+-- the words of a text, by how it is cut at its first blank
+abbrev pub Cut : List ℕ → Option (Bor (List ℕ) × Bor (List ℕ)) → Type 0
+Cut text r = MatchOption r (words_of text ≡ text ∷ []) (λ x. words_of text ≡ x.0.now ∷ words_of x.1.now)
+
 -- a text is cut at its first blank
 pub cut_words : (text : List ℕ) (r : Option (Bor (List ℕ) × Bor (List ℕ)))
     → MatchOption r (position_or_len (λ b. b == 32) text ≡ length text) (λ x. (position_or_len (λ b. b == 32) text < length text) × (x.0.now ≡ before_first (λ b. b == 32) text) × (x.1.now ≡ after_first (λ b. b == 32) text))
-    → MatchOption r (words_of text ≡ text ∷ []) (λ x. words_of text ≡ x.0.now ∷ words_of x.1.now)
+    → Cut text r
 cut_words text None h = uncut text h
 cut_words text (Some x) h = slice_split_first (λ b. b == 32) text 0 h.0 ∙ rw (h.1, h.2) refl

@@ -34,15 +34,23 @@ all_wrong form slots words = filter_map (λ place. wrong_at form place.0 place.1
 unfoldable pub first_wrong : Form → List Slot → List (List ℕ) → Option Wrong
 first_wrong form slots words = slice_get (all_wrong form slots words) 0
 
+-- what is wrong with the words behind the first of a line of a form
+unfoldable pub form_reason : Bool → List (List ℕ) → Form → Option Wrong
+form_reason is_peer words form = if is_peer && is_sim form then Some (PeerSim, []) else first_wrong form (slots_of form) words
+
+-- what is wrong with a first word that no line has
+abbrev pub keyword_fault : Bool → Fault
+keyword_fault is_peer = if is_peer then PeerKeyword else Keyword
+
 -- what is wrong with a text, by the form that its first word names
-abbrev pub form_reason : Bool → List ℕ → List (List ℕ) → Option Form → Option Wrong
-form_reason is_peer word words None = Some ((if is_peer then PeerKeyword else Keyword), word)
-form_reason is_peer word words (Some form) = if is_peer && is_sim form then Some (PeerSim, []) else first_wrong form (slots_of form) words
+abbrev pub named_reason : Bool → List ℕ → List (List ℕ) → Option Form → Option Wrong
+named_reason is_peer word words None = Some (keyword_fault is_peer, word)
+named_reason is_peer word words (Some form) = form_reason is_peer words form
 
 -- and by its words, of which there is one at least
 abbrev pub words_reason : Bool → List (List ℕ) → Option Wrong
 words_reason is_peer [] = None
-words_reason is_peer (word ∷ words) = form_reason is_peer word words (form_named word)
+words_reason is_peer (word ∷ words) = named_reason is_peer word words (form_named word)
 
 unfoldable pub text_reason : Bool → List ℕ → Option Wrong
 text_reason is_peer text = words_reason is_peer (words_of text)
@@ -90,21 +98,25 @@ form_of_words (word ∷ words) = form_named word
 abbrev pub form_of : List ℕ → Option Form
 form_of line = form_of_words (words_of (text_of line))
 
--- what is wrong with a line where nothing is simulated yet
-abbrev pub sim_wrong : Form → Option Wrong
-sim_wrong form = if needs_sim form then Some (NoSim form, []) else None
+-- what is wrong with a line of a form where nothing is simulated yet
+abbrev pub sim_fault : Form → Option Fault
+sim_fault form = if needs_sim form then Some (NoSim form) else None
 
 unfoldable pub sim_reason : List ℕ → Option Wrong
-sim_reason line = option_and_then sim_wrong (form_of line)
+sim_reason line = option_map (λ fault. (fault, [])) (option_and_then sim_fault (form_of line))
 
--- the lines of a text, each without the one carriage return that may end it
-abbrev pub lines_of : List ℕ → List (List ℕ)
-lines_of text = map strip_carriage_return (slice_split (λ b. b == 10) text)
+-- what stands between the line feeds of a text
+abbrev pub part_at : List ℕ → ℕ → Option (List ℕ)
+part_at text place = slice_get (slice_split (λ b. b == 10) text) place
 
--- the line of a number, counted from 1
-unfoldable pub line_at : ℕ → List ℕ → Option (List ℕ)
-line_at number text = if number == 0 then None else slice_get (lines_of text) (number - 1)
+-- the line of a number, counted from 1, without the one carriage return that may end it
+abbrev pub line_at : ℕ → List ℕ → Option (List ℕ)
+line_at number text = if number == 0 then None else option_map strip_carriage_return (part_at text (number - 1))
 
--- what is wrong with the line of a number, where no line before it is `sim`
+-- what is wrong with a line where no line before it is `sim`
+unfoldable pub first_reason : Bool → List ℕ → Option Wrong
+first_reason has_peer line = option_or (line_reason has_peer line) (sim_reason line)
+
+-- and with the line of a number
 unfoldable pub script_reason : Bool → ℕ → List ℕ → Option Wrong
-script_reason has_peer number text = option_and_then (λ line. option_or (line_reason has_peer line) (sim_reason line)) (line_at number text)
+script_reason has_peer number text = option_and_then (first_reason has_peer) (line_at number text)

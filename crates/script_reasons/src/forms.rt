@@ -89,10 +89,14 @@ fn simulated_form(keyword: &str) -> Option<Form>
 }
 
 /// The form of the lines that begin with this word.
+#[tactic(auto, unfolding(crate::specs::Forms::form_named))]
 pub(crate) fn form_named(keyword: &str) -> Option<Form>
     ensures { result ≡ said.form_named keyword.now }
 {
-    input_form(keyword).or(simulated_form(keyword))
+    match input_form(keyword) {
+        Some(form) => Some(form),
+        None => simulated_form(keyword),
+    }
 }
 
 impl Form {

@@ -47,14 +47,24 @@ fn without_word<'a>(fault: Fault) -> Reason<'a>
     Reason { fault, found: "" }
 }
 
+/// What is missing of a line that has no further words.
+fn missing<'a>(form: Form, slots: &[Slot]) -> Option<Reason<'a>>
+    ensures { option_map (λ reason. (reason.fault, reason.found.now)) result ≡
+        said.first_wrong form slots.now [] }
+{
+    match slots {
+        [slot, ..] => Some(without_word(Fault::Missing(*slot, form))),
+        [] => None,
+    }
+}
+
 /// The first word that doesn't fill its slot, of those that are left of a line, or what is missing.
 fn first_wrong<'a>(form: Form, slots: &[Slot], rest: Option<&'a str>) -> Option<Reason<'a>>
     ensures { option_map (λ reason. (reason.fault, reason.found.now)) result ≡
         said.first_wrong form slots.now (words_left (option_map (λ text. text.now) rest.entry)) }
 {
     let Some(text) = rest else {
-        let slot = slots.first()?;
-        return Some(without_word(Fault::Missing(*slot, form)));
+        return missing(form, slots);
     };
     let (found, rest) = cut_word(text);
     let [slot, slots @ ..] = slots else {
@@ -69,6 +79,30 @@ fn first_wrong<'a>(form: Form, slots: &[Slot], rest: Option<&'a str>) -> Option<
     }
 }
 
+/// What is wrong with the words behind the first of a line of this form.
+#[tactic(auto, unfolding(crate::specs::Reasons::form_reason))]
+fn form_reason<'a>(is_peer: bool, form: Form, rest: Option<&'a str>) -> Option<Reason<'a>>
+    ensures { option_map (λ reason. (reason.fault, reason.found.now)) result ≡
+        said.form_reason is_peer (words_left (option_map (λ text. text.now) rest.entry)) form }
+{
+    if is_peer && form.is_sim() {
+        Some(without_word(Fault::PeerSim))
+    } else {
+        first_wrong(form, form.slots(), rest)
+    }
+}
+
+/// What is wrong with a first word that no line has.
+fn keyword_fault(is_peer: bool) -> Fault
+    ensures { result ≡ said.keyword_fault is_peer }
+{
+    if is_peer {
+        Fault::PeerKeyword
+    } else {
+        Fault::Keyword
+    }
+}
+
 /// What is wrong with what a line says to its controller.
 fn text_reason(is_peer: bool, text: &str) -> Option<Reason<'_>>
     ensures { option_map (λ reason. (reason.fault, reason.found.now)) result ≡
@@ -76,14 +110,9 @@ fn text_reason(is_peer: bool, text: &str) -> Option<Reason<'_>>
 {
     let (found, rest) = cut_word(text);
     match form_named(found) {
-        Some(form) if is_peer && form.is_sim() => Some(without_word(Fault::PeerSim)),
-        Some(form) => first_wrong(form, form.slots(), rest),
+        Some(form) => form_reason(is_peer, form, rest),
         None => {
-            let fault = if is_peer {
-                Fault::PeerKeyword
-            } else {
-                Fault::Keyword
-            };
+            let fault = keyword_fault(is_peer);
             Some(Reason { fault, found })
         }
     }
@@ -129,6 +158,7 @@ fn cut_side(line: &str) -> (bool, &str)
 }
 
 /// Why a line that isn't passed over can't be read.
+#[tactic(auto, unfolding(crate::specs::Reasons::side_reason))]
 fn side_reason(line: &str, has_peer: bool) -> Option<Reason<'_>>
     ensures { option_map (λ reason. (reason.fault, reason.found.now)) result ≡
         said.side_reason has_peer line.now }
@@ -143,6 +173,7 @@ fn side_reason(line: &str, has_peer: bool) -> Option<Reason<'_>>
 
 /// Why a line of a script, without the carriage return that may end it, can't be read where it stands behind a line `sim`;
 /// `None` where it can. `has_peer` says whether there is a second controller.
+#[tactic(auto, unfolding(crate::specs::Reasons::line_reason))]
 pub fn line_reason(line: &str, has_peer: bool) -> Option<Reason<'_>>
     ensures reason { option_map (λ reason. (reason.fault, reason.found.now)) result ≡
         said.line_reason has_peer line.now }
@@ -165,14 +196,29 @@ fn form_of(line: &str) -> Option<Form>
     form_named(word)
 }
 
+/// What is wrong with a line of this form where nothing is simulated yet.
+fn sim_fault(form: Form) -> Option<Fault>
+    ensures { result ≡ said.sim_fault form }
+{
+    if form.needs_sim() {
+        Some(Fault::NoSim(form))
+    } else {
+        None
+    }
+}
+
 /// Why a line that can be read behind a line `sim` can't be read without.
+#[tactic(auto, unfolding(crate::specs::Reasons::sim_reason))]
 fn sim_reason<'a>(line: &str) -> Option<Reason<'a>>
     ensures { option_map (λ reason. (reason.fault, reason.found.now)) result ≡
         said.sim_reason line.now }
 {
-    match form_of(line) {
-        Some(form) if form.needs_sim() => Some(without_word(Fault::NoSim(form))),
-        _ => None,
+    let Some(form) = form_of(line) else {
+        return None;
+    };
+    match sim_fault(form) {
+        Some(fault) => Some(without_word(fault)),
+        None => None,
     }
 }
 
@@ -183,24 +229,47 @@ fn without_return(line: &str) -> &str
     line.strip_suffix('\r').unwrap_or(line)
 }
 
+/// What stands in a text between the line feeds around this place, counted from 0.
+fn part_at(script: &str, place: usize) -> Option<&str>
+    ensures { option_map (λ part. part.now) result ≡ said.part_at script.now place }
+{
+    script.split('\n').nth(place)
+}
+
 /// The line of this number, counted from 1, without the carriage return that may end it.
 fn line_at(script: &str, number: usize) -> Option<&str>
     ensures { option_map (λ line. line.now) result ≡ said.line_at number script.now }
 {
-    let place = number.checked_sub(1)?;
-    let line = script.split('\n').nth(place)?;
-    Some(without_return(line))
+    if number == 0 {
+        return None;
+    }
+    match part_at(script, number - 1) {
+        Some(part) => Some(without_return(part)),
+        None => None,
+    }
+}
+
+/// Why a line can't be read where no line before it is `sim`.
+#[tactic(auto, unfolding(crate::specs::Reasons::first_reason))]
+fn first_reason(line: &str, has_peer: bool) -> Option<Reason<'_>>
+    ensures { option_map (λ reason. (reason.fault, reason.found.now)) result ≡
+        said.first_reason has_peer line.now }
+{
+    match line_reason(line, has_peer) {
+        Some(reason) => Some(reason),
+        None => sim_reason(line),
+    }
 }
 
 /// Why the line of this number, counted from 1, can't be read where no line before it is `sim`. `None` where it can, and
 /// where there is no such line. `has_peer` says whether there is a second controller.
+#[tactic(auto, unfolding(crate::specs::Reasons::script_reason))]
 pub fn script_reason(script: &str, number: usize, has_peer: bool) -> Option<Reason<'_>>
     ensures reason { option_map (λ reason. (reason.fault, reason.found.now)) result ≡
         said.script_reason has_peer number script.now }
 {
-    let line = line_at(script, number)?;
-    match line_reason(line, has_peer) {
-        Some(reason) => Some(reason),
-        None => sim_reason(line),
+    match line_at(script, number) {
+        Some(line) => first_reason(line, has_peer),
+        None => None,
     }
 }
