@@ -94,7 +94,7 @@ fn cross(
     Ok(prepared.wrapping_add(executed))
 }
 
-/// Handovers of the call, one in each iteration, from the first controller to the second and back by turns.
+/// Handovers of the call, one in each iteration: to the second controller, and in the next iteration back to the first.
 fn crossings(
     alloc: Global,
     first: &mut Single,

@@ -6,6 +6,7 @@ ghost use Rattle.decoded_lines.specs.Answers.{AreGood};
 
 use crate::answers::{Asked, LinesFault, answer_lines};
 use crate::messages::PrintFault;
+use escaped_text::Escaped;
 use std::alloc::Allocator;
 use std::fs::File;
 use std::io::{self, BufReader, Read, Write};
@@ -26,7 +27,7 @@ fn refuse_file<W: Write, E: Write>(
     if error.kind() == io::ErrorKind::OutOfMemory {
         return Err(PrintFault::NoMemory);
     }
-    writeln!(errors, "{path}: {error}")?;
+    writeln!(errors, "{}: {error}", Escaped(path))?;
     writeln!(out, "file {path}")?;
     Ok(false)
 }
@@ -51,7 +52,11 @@ fn answer_reader<A: Allocator + Copy, I: Read + Drop, W: Write, E: Write>(
         Err(LinesFault::Read(error)) => return refuse_file(path, error, out, errors),
     };
     let (messages, refused) = (counts.messages, counts.refused);
-    writeln!(errors, "{path}: messages {messages}, refused {refused}")?;
+    writeln!(
+        errors,
+        "{}: messages {messages}, refused {refused}",
+        Escaped(path)
+    )?;
     Ok(refused == 0)
 }
 

@@ -8,11 +8,13 @@ use Rattle.radio_book.specs.declared.event.Kind.{Kind}
 use Rattle.radio_book.specs.declared.event.Event.{Event}
 use Rattle.radio_book.specs.declared.event.Event.TheVariants.{Take, Reserve}
 use Rattle.radio_book.specs.declared.event.Reply.{Reply}
-use Rattle.ho_procedure.specs.Choices.{Entry, Choice, NoneFree, Chosen}
+use Rattle.radio_desk.specs.declared.desk.DeskFault.{DeskFault}
+use Rattle.radio_desk.specs.declared.desk.DeskFault.TheVariants.{Foreign, NoMemory}
+use Rattle.ho_procedure.specs.Claims.{Entry, Claim, NoneFree, Chosen}
 use Rattle.ho_procedure.specs.Sent.{Sent}
-use Rattle.ho_procedure.specs.Plan.{Plan, Asks, Takes, Reserves, Sends, Notes, Ranks, Step, Asked, Chose, FoundNone, Posted, Noted, Ranked, AreCandidates, Moves, Leads, IsAsking, Until, At, Asking, LeadsUntil, entries_in, entries_of, messages_in, messages_of, ChoiceIn, ChoicesAt, is_accepted, call_dropped, dropped_if, reports_by, reports_after}
+use Rattle.ho_procedure.specs.Plan.{Plan, Ends, Asks, Takes, Reserves, Sends, Notes, Ranks, Step, Asked, Chose, FoundNone, Posted, Noted, Ranked, AreCandidates, Moves, Leads, AsksDesk, TakesMemory, Until, At, AtMemory, AtDesk, LeadsUntil, entries_in, entries_of, messages_in, messages_of, ChoiceIn, ChoicesAt, is_accepted, call_dropped, dropped_if, reports_by, reports_after}
 use Rattle.ho_procedure.specs.declared.work.Work.{Work}
-use Rattle.ho_procedure.specs.Going.{Run, Goes, Passes, last_reports}
+use Rattle.ho_procedure.specs.Going.{Run, Goes, Passes, last_reports, stops_at}
 
 -- traces that lead on may be put together
 pub leads-append : (p q r : Plan) (t u : List Step) → Leads p t q → Leads q u r → Leads p (t ++ u) r
@@ -21,7 +23,8 @@ leads-append p q r (s ∷ t) u f g = (f.0, f.1, leads-append f.0 q r t u f.2 g)
 
 pub leads-until : (p q : Plan) (t u : List Step) (z : Until) → Leads p t q → LeadsUntil q u z → LeadsUntil p (t ++ u) z
 leads-until p q t u (At r) f g = leads-append p q r t u f g
-leads-until p q t u Asking f g = (g.0, leads-append p q g.0 t u f g.1, g.2)
+leads-until p q t u AtMemory f g = (g.0, leads-append p q g.0 t u f g.1, g.2)
+leads-until p q t u AtDesk f g = (g.0, leads-append p q g.0 t u f g.1, g.2)
 
 pub entries_of-append : (t u : List Step) → entries_of (t ++ u) ≡ entries_of t ++ entries_of u
 entries_of-append [] u = refl
@@ -35,110 +38,128 @@ pub reports_after-append : (call : ℕ) (t u : List Step) (reports : List Result
 reports_after-append call [] u reports = refl
 reports_after-append call (s ∷ t) u reports = reports_after-append call t u (reports_by call s reports)
 
--- what a later view may choose its earlier one might too
-pub choice-kept : (may may' : Choice → Type 0) (s : Step) → ((choice : Choice) → may' choice → may choice) → ChoiceIn may' s → ChoiceIn may s
-choice-kept may may' (Asked e r) k f = tt
-choice-kept may may' (Chose e r) k f = k (Chosen e) f
-choice-kept may may' (FoundNone cell) k f = k (NoneFree cell) f
-choice-kept may may' (Posted m) k f = tt
-choice-kept may may' (Noted c reports) k f = tt
-choice-kept may may' (Ranked found) k f = tt
+-- what a later view says its earlier one would have said too
+pub choice-said : (says says' : Claim → Type 0) (s : Step) → ((claim : Claim) → says' claim → says claim) → ChoiceIn says' s → ChoiceIn says s
+choice-said says says' (Asked e r) k f = tt
+choice-said says says' (Chose e r) k f = k (Chosen e) f
+choice-said says says' (FoundNone cell) k f = k (NoneFree cell) f
+choice-said says says' (Posted m) k f = tt
+choice-said says says' (Noted c reports) k f = tt
+choice-said says says' (Ranked found) k f = tt
 
-pub choices-kept : (may may' : List Entry → Choice → Type 0) (log : List Entry) (u : List Step) → ((es : List Entry) → (choice : Choice) → may' es choice → may es choice) → ChoicesAt may' log u → ChoicesAt may log u
-choices-kept may may' log [] k g = tt
-choices-kept may may' log (s ∷ u) k g = (choice-kept (may log) (may' log) s (k log) g.0, choices-kept may may' (log ++ entries_in s) u k g.1)
+pub choices-said : (says says' : List Entry → Claim → Type 0) (log : List Entry) (u : List Step) → ((es : List Entry) → (claim : Claim) → says' es claim → says es claim) → ChoicesAt says' log u → ChoicesAt says log u
+choices-said says says' log [] k g = tt
+choices-said says says' log (s ∷ u) k g = (choice-said (says log) (says' log) s (k log) g.0, choices-said says says' (log ++ entries_in s) u k g.1)
 
-pub choices-append : (may may' : List Entry → Choice → Type 0) (log log' : List Entry) (t u : List Step) → ((es : List Entry) → (choice : Choice) → may' es choice → may es choice)
-    → log' ≡ log ++ entries_of t → ChoicesAt may log t → ChoicesAt may' log' u → ChoicesAt may log (t ++ u)
-choices-append may may' log log' [] u k l f g = let P : List Entry → Type 0 = λ x. ChoicesAt may x u in subst P (l ∙ append-nil log) (choices-kept may may' log' u k g)
-choices-append may may' log log' (s ∷ t) u k l f g = (f.0, choices-append may may' (log ++ entries_in s) log' t u k (l ∙ sym (append_assoc log (entries_in s) (entries_of t))) f.1 g)
+pub choices-append : (says says' : List Entry → Claim → Type 0) (log log' : List Entry) (t u : List Step) → ((es : List Entry) → (claim : Claim) → says' es claim → says es claim)
+    → log' ≡ log ++ entries_of t → ChoicesAt says log t → ChoicesAt says' log' u → ChoicesAt says log (t ++ u)
+choices-append says says' log log' [] u k l f g = let P : List Entry → Type 0 = λ x. ChoicesAt says x u in subst P (l ∙ append-nil log) (choices-said says says' log' u k g)
+choices-append says says' log log' (s ∷ t) u k l f g = (f.0, choices-append says says' (log ++ entries_in s) log' t u k (l ∙ sym (append_assoc log (entries_in s) (entries_of t))) f.1 g)
 
 -- runs may be put together
-pub joined : {D A : Type 0} {log : D → List Entry} {may : D → List Entry → Choice → Type 0} {w w' w'' : Work D A} {p q : Plan} {u : Until}
-    → Run log may w p w' (At q) → Run log may w' q w'' u → Run log may w p w'' u
-joined {D} {A} {log} {may} {w} {w'} {w''} {p} {q} {u} f g = record {
+pub joined : {D A : Type 0} {log : D → List Entry} {says : D → List Entry → Claim → Type 0} {w w' w'' : Work D A} {p q : Plan} {u : Until}
+    → Run log says w p w' (At q) → Run log says w' q w'' u → Run log says w p w'' u
+joined {D} {A} {log} {says} {w} {w'} {w''} {p} {q} {u} f g = record {
   trace = f.trace ++ g.trace;
   leads = leads-until p q f.trace g.trace u f.leads g.leads;
   entries = g.entries ∙ ap (λ x. x ++ entries_of g.trace) f.entries ∙ append_assoc (log w.view) (entries_of f.trace) (entries_of g.trace) ∙ ap (λ x. log w.view ++ x) (sym (entries_of-append f.trace g.trace));
   messages = g.messages ∙ ap (λ x. x ++ messages_of g.trace) f.messages ∙ append_assoc w.owed.items (messages_of f.trace) (messages_of g.trace) ∙ ap (λ x. w.owed.items ++ x) (sym (messages_of-append f.trace g.trace));
-  choices = choices-append (may w.view) (may w'.view) (log w.view) (log w'.view) f.trace g.trace f.choice_kept f.entries f.choices g.choices;
+  choices = choices-append (says w.view) (says w'.view) (log w.view) (log w'.view) f.trace g.trace f.said f.entries f.choices g.choices;
   reports = λ call. g.reports call ∙ ap (λ x. reports_after call g.trace x) (f.reports call) ∙ sym (reports_after-append call f.trace g.trace (last_reports w.windows call));
   width = g.width ∙ f.width;
-  choice_kept = λ es choice h. f.choice_kept es choice (g.choice_kept es choice h);
+  said = λ es claim h. f.said es claim (g.said es claim h);
 }
 
 -- nothing is done
-pub stays : {D A : Type 0} (log : D → List Entry) (may : D → List Entry → Choice → Type 0) (w : Work D A) (p q : Plan) → p ≡ q → Goes log may w p w (At q)
+pub stays : {D A : Type 0} (log : D → List Entry) (says : D → List Entry → Claim → Type 0) (w : Work D A) (p q : Plan) → p ≡ q → Goes log says w p w (At q)
 unfolding Goes
-stays log may w p q e = record { trace = []; leads = e; entries = sym (append-nil (log w.view)); messages = sym (append-nil w.owed.items); choices = tt; reports = λ call. refl; width = refl; choice_kept = λ es choice h. h }
+stays log says w p q e = record { trace = []; leads = e; entries = sym (append-nil (log w.view)); messages = sym (append-nil w.owed.items); choices = tt; reports = λ call. refl; width = refl; said = λ es claim h. h }
 
--- nothing is done where the plan asks next
-pub waits : {D A : Type 0} (log : D → List Entry) (may : D → List Entry → Choice → Type 0) (w w' : Work D A) (p : Plan)
+-- a step that asks the desk takes memory too
+pub asking_takes : (p : Plan) → AsksDesk p → TakesMemory p
+asking_takes Ends asks = asks
+asking_takes (Asks e next) asks = tt
+asking_takes (Takes c k cell none next) asks = tt
+asking_takes (Reserves c next) asks = tt
+asking_takes (Sends m next) asks = asks
+asking_takes (Notes c reports next) asks = asks
+asking_takes (Ranks site reports serving next) asks = absurd asks
+
+-- nothing is done where the plan asks the desk next, and this fault comes
+pub waits : {D A : Type 0} (log : D → List Entry) (says : D → List Entry → Claim → Type 0) (w w' : Work D A) (f : DeskFault) (p : Plan)
     → log w'.view ≡ log w.view → w'.owed.items ≡ w.owed.items → ((call : ℕ) → last_reports w'.windows call ≡ last_reports w.windows call) → w'.windows.width ≡ w.windows.width
-    → ((es : List Entry) → (choice : Choice) → may w'.view es choice → may w.view es choice) → IsAsking p → Goes log may w p w' Asking
-unfolding Goes
-waits log may w w' p l o n i k a = record { trace = []; leads = (p, refl, a); entries = l ∙ sym (append-nil (log w.view)); messages = o ∙ sym (append-nil w.owed.items); choices = tt; reports = n; width = i; choice_kept = k }
+    → ((es : List Entry) → (claim : Claim) → says w'.view es claim → says w.view es claim) → AsksDesk p → Goes log says w p w' (stops_at f)
+unfolding Goes stops_at
+waits log says w w' (Foreign place) p l o n i k a = record { trace = []; leads = (p, refl, a); entries = l ∙ sym (append-nil (log w.view)); messages = o ∙ sym (append-nil w.owed.items); choices = tt; reports = n; width = i; said = k }
+waits log says w w' NoMemory p l o n i k a = record { trace = []; leads = (p, refl, asking_takes p a); entries = l ∙ sym (append-nil (log w.view)); messages = o ∙ sym (append-nil w.owed.items); choices = tt; reports = n; width = i; said = k }
+
+-- nothing is done where the plan takes memory next, and it is refused
+pub lacks : {D A : Type 0} (log : D → List Entry) (says : D → List Entry → Claim → Type 0) (w : Work D A) (f : DeskFault) (p : Plan) → f ≡ NoMemory → TakesMemory p → Goes log says w p w (stops_at f)
+unfolding Goes stops_at
+lacks log says w f p is t =
+    let here : Goes log says w p w (stops_at NoMemory) = record { trace = []; leads = (p, refl, t); entries = sym (append-nil (log w.view)); messages = sym (append-nil w.owed.items); choices = tt; reports = λ call. refl; width = refl; said = λ es claim h. h } in
+    subst (λ x. Goes log says w p w (stops_at x)) (sym is) here
 
 -- nothing is done, and the plan goes on
-pub idles : {D A : Type 0} (log : D → List Entry) (may : D → List Entry → Choice → Type 0) (w w' : Work D A) (p : Plan)
+pub idles : {D A : Type 0} (log : D → List Entry) (says : D → List Entry → Claim → Type 0) (w w' : Work D A) (p : Plan)
     → w'.view ≡ w.view → w'.owed.items ≡ w.owed.items → ((call : ℕ) → last_reports w'.windows call ≡ last_reports w.windows call) → w'.windows.width ≡ w.windows.width
-    → Passes log may w p w' p
+    → Passes log says w p w' p
 unfolding Goes
-idles {D} {A} log may w w' p v o n i w'' u g =
-    let f : Run log may w p w' (At p) = record { trace = []; leads = refl; entries = ap log v ∙ sym (append-nil (log w.view)); messages = o ∙ sym (append-nil w.owed.items); choices = tt; reports = n; width = i; choice_kept = λ es choice h. let P : D → Type 0 = λ x. may x es choice in subst P v h } in
+idles {D} {A} log says w w' p v o n i w'' u g =
+    let f : Run log says w p w' (At p) = record { trace = []; leads = refl; entries = ap log v ∙ sym (append-nil (log w.view)); messages = o ∙ sym (append-nil w.owed.items); choices = tt; reports = n; width = i; said = λ es claim h. let P : D → Type 0 = λ x. says x es claim in subst P v h } in
     joined f g
 
 -- what was followed to a plan goes on from there
-pub continues : {D A : Type 0} (log : D → List Entry) (may : D → List Entry → Choice → Type 0) (w w' : Work D A) (p q : Plan) → Goes log may w p w' (At q) → Passes log may w p w' q
+pub continues : {D A : Type 0} (log : D → List Entry) (says : D → List Entry → Claim → Type 0) (w w' : Work D A) (p q : Plan) → Goes log says w p w' (At q) → Passes log says w p w' q
 unfolding Goes
-continues log may w w' p q f w'' u g = joined f g
+continues log says w w' p q f w'' u g = joined f g
 
 -- one step is done
-pub moved : {D A : Type 0} (log : D → List Entry) (may : D → List Entry → Choice → Type 0) (w w' : Work D A) (p : Plan) (s : Step) (q : Plan)
-    → Moves p s q → log w'.view ≡ log w.view ++ entries_in s → w'.owed.items ≡ w.owed.items ++ messages_in s → ChoiceIn (may w.view (log w.view)) s
+pub moved : {D A : Type 0} (log : D → List Entry) (says : D → List Entry → Claim → Type 0) (w w' : Work D A) (p : Plan) (s : Step) (q : Plan)
+    → Moves p s q → log w'.view ≡ log w.view ++ entries_in s → w'.owed.items ≡ w.owed.items ++ messages_in s → ChoiceIn (says w.view (log w.view)) s
     → ((call : ℕ) → last_reports w'.windows call ≡ reports_by call s (last_reports w.windows call)) → w'.windows.width ≡ w.windows.width
-    → ((es : List Entry) → (choice : Choice) → may w'.view es choice → may w.view es choice) → Passes log may w p w' q
+    → ((es : List Entry) → (claim : Claim) → says w'.view es claim → says w.view es claim) → Passes log says w p w' q
 unfolding Goes
-moved {D} {A} log may w w' p s q m l o c n i k w'' u g =
-    let f : Run log may w p w' (At q) = record { trace = s ∷ []; leads = (q, m, refl); entries = l ∙ ap (λ x. log w.view ++ x) (sym (append-nil (entries_in s))); messages = o ∙ ap (λ x. w.owed.items ++ x) (sym (append-nil (messages_in s))); choices = (c, tt); reports = n; width = i; choice_kept = k } in
+moved {D} {A} log says w w' p s q m l o c n i k w'' u g =
+    let f : Run log says w p w' (At q) = record { trace = s ∷ []; leads = (q, m, refl); entries = l ∙ ap (λ x. log w.view ++ x) (sym (append-nil (entries_in s))); messages = o ∙ ap (λ x. w.owed.items ++ x) (sym (append-nil (messages_in s))); choices = (c, tt); reports = n; width = i; said = k } in
     joined f g
 
-pub asked : {D A : Type 0} (log : D → List Entry) (may : D → List Entry → Choice → Type 0) (w w' : Work D A) (e : Event) (r : Reply) (next : Reply → Plan)
+pub asked : {D A : Type 0} (log : D → List Entry) (says : D → List Entry → Claim → Type 0) (w w' : Work D A) (e : Event) (r : Reply) (next : Reply → Plan)
     → log w'.view ≡ log w.view ++ (e, r) ∷ [] → w'.owed.items ≡ w.owed.items
     → ((call : ℕ) → last_reports w'.windows call ≡ dropped_if (is_accepted r) (call_dropped e) call (last_reports w.windows call)) → w'.windows.width ≡ w.windows.width
-    → ((es : List Entry) → (choice : Choice) → may w'.view es choice → may w.view es choice) → Passes log may w (Asks e next) w' (next r)
-asked log may w w' e r next l o n i k = moved log may w w' (Asks e next) (Asked e r) (next r) (r, refl, refl) l (o ∙ sym (append-nil w.owed.items)) tt n i k
+    → ((es : List Entry) → (claim : Claim) → says w'.view es claim → says w.view es claim) → Passes log says w (Asks e next) w' (next r)
+asked log says w w' e r next l o n i k = moved log says w w' (Asks e next) (Asked e r) (next r) (r, refl, refl) l (o ∙ sym (append-nil w.owed.items)) tt n i k
 
-pub took : {D A : Type 0} (log : D → List Entry) (may : D → List Entry → Choice → Type 0) (w w' : Work D A) (c : ℕ) (kind : Kind) (cell : ℕ) (x : ChanId) (r : Reply) (none : Plan) (next : ChanId → Reply → Plan)
-    → x.cell ≡ cell → log w'.view ≡ log w.view ++ (Take c kind x, r) ∷ [] → may w.view (log w.view) (Chosen (Take c kind x)) → w'.owed ≡ w.owed → w'.windows ≡ w.windows
-    → ((es : List Entry) → (choice : Choice) → may w'.view es choice → may w.view es choice) → Passes log may w (Takes c kind cell none next) w' (next x r)
-took log may w w' c kind cell x r none next h l m o n k =
-    moved log may w w' (Takes c kind cell none next) (Chose (Take c kind x) r) (next x r) (inr (x, r, h, refl, refl)) l (ap (λ y. y.items) o ∙ sym (append-nil w.owed.items)) m (λ call. ap (λ y. last_reports y call) n) (ap (λ y. y.width) n) k
+pub took : {D A : Type 0} (log : D → List Entry) (says : D → List Entry → Claim → Type 0) (w w' : Work D A) (c : ℕ) (kind : Kind) (cell : ℕ) (x : ChanId) (r : Reply) (none : Plan) (next : ChanId → Reply → Plan)
+    → x.cell ≡ cell → log w'.view ≡ log w.view ++ (Take c kind x, r) ∷ [] → says w.view (log w.view) (Chosen (Take c kind x)) → w'.owed ≡ w.owed → w'.windows ≡ w.windows
+    → ((es : List Entry) → (claim : Claim) → says w'.view es claim → says w.view es claim) → Passes log says w (Takes c kind cell none next) w' (next x r)
+took log says w w' c kind cell x r none next h l m o n k =
+    moved log says w w' (Takes c kind cell none next) (Chose (Take c kind x) r) (next x r) (inr (x, r, h, refl, refl)) l (ap (λ y. y.items) o ∙ sym (append-nil w.owed.items)) m (λ call. ap (λ y. last_reports y call) n) (ap (λ y. y.width) n) k
 
-pub found_none : {D A : Type 0} (log : D → List Entry) (may : D → List Entry → Choice → Type 0) (w w' : Work D A) (c : ℕ) (kind : Kind) (cell : ℕ) (none : Plan) (next : ChanId → Reply → Plan)
-    → may w.view (log w.view) (NoneFree cell) → log w'.view ≡ log w.view → w'.owed ≡ w.owed → w'.windows ≡ w.windows
-    → ((es : List Entry) → (choice : Choice) → may w'.view es choice → may w.view es choice) → Passes log may w (Takes c kind cell none next) w' none
-found_none log may w w' c kind cell none next m l o n k =
-    moved log may w w' (Takes c kind cell none next) (FoundNone cell) none (inl (refl, refl)) (l ∙ sym (append-nil (log w.view))) (ap (λ y. y.items) o ∙ sym (append-nil w.owed.items)) m (λ call. ap (λ y. last_reports y call) n) (ap (λ y. y.width) n) k
+pub found_none : {D A : Type 0} (log : D → List Entry) (says : D → List Entry → Claim → Type 0) (w w' : Work D A) (c : ℕ) (kind : Kind) (cell : ℕ) (none : Plan) (next : ChanId → Reply → Plan)
+    → says w.view (log w.view) (NoneFree cell) → log w'.view ≡ log w.view → w'.owed ≡ w.owed → w'.windows ≡ w.windows
+    → ((es : List Entry) → (claim : Claim) → says w'.view es claim → says w.view es claim) → Passes log says w (Takes c kind cell none next) w' none
+found_none log says w w' c kind cell none next m l o n k =
+    moved log says w w' (Takes c kind cell none next) (FoundNone cell) none (inl (refl, refl)) (l ∙ sym (append-nil (log w.view))) (ap (λ y. y.items) o ∙ sym (append-nil w.owed.items)) m (λ call. ap (λ y. last_reports y call) n) (ap (λ y. y.width) n) k
 
-pub reserved : {D A : Type 0} (log : D → List Entry) (may : D → List Entry → Choice → Type 0) (w w' : Work D A) (c n : ℕ) (r : Reply) (next : ℕ → Reply → Plan)
-    → log w'.view ≡ log w.view ++ (Reserve c n, r) ∷ [] → may w.view (log w.view) (Chosen (Reserve c n)) → w'.owed ≡ w.owed → w'.windows ≡ w.windows
-    → ((es : List Entry) → (choice : Choice) → may w'.view es choice → may w.view es choice) → Passes log may w (Reserves c next) w' (next n r)
-reserved log may w w' c n r next l m o s k =
-    moved log may w w' (Reserves c next) (Chose (Reserve c n) r) (next n r) (n, r, refl, refl) l (ap (λ y. y.items) o ∙ sym (append-nil w.owed.items)) m (λ call. ap (λ y. last_reports y call) s) (ap (λ y. y.width) s) k
+pub reserved : {D A : Type 0} (log : D → List Entry) (says : D → List Entry → Claim → Type 0) (w w' : Work D A) (c n : ℕ) (r : Reply) (next : ℕ → Reply → Plan)
+    → log w'.view ≡ log w.view ++ (Reserve c n, r) ∷ [] → says w.view (log w.view) (Chosen (Reserve c n)) → w'.owed ≡ w.owed → w'.windows ≡ w.windows
+    → ((es : List Entry) → (claim : Claim) → says w'.view es claim → says w.view es claim) → Passes log says w (Reserves c next) w' (next n r)
+reserved log says w w' c n r next l m o s k =
+    moved log says w w' (Reserves c next) (Chose (Reserve c n) r) (next n r) (n, r, refl, refl) l (ap (λ y. y.items) o ∙ sym (append-nil w.owed.items)) m (λ call. ap (λ y. last_reports y call) s) (ap (λ y. y.width) s) k
 
-pub posted : {D A : Type 0} (log : D → List Entry) (may : D → List Entry → Choice → Type 0) (w w' : Work D A) (m : Sent) (next : Plan)
-    → w'.view ≡ w.view → w'.owed.items ≡ w.owed.items ++ m ∷ [] → w'.windows ≡ w.windows → Passes log may w (Sends m next) w' next
-posted {D} log may w w' m next v o n =
-    moved log may w w' (Sends m next) (Posted m) next (refl, refl) (ap log v ∙ sym (append-nil (log w.view))) o tt (λ call. ap (λ y. last_reports y call) n) (ap (λ y. y.width) n) (λ es choice h. let P : D → Type 0 = λ x. may x es choice in subst P v h)
+pub posted : {D A : Type 0} (log : D → List Entry) (says : D → List Entry → Claim → Type 0) (w w' : Work D A) (m : Sent) (next : Plan)
+    → w'.view ≡ w.view → w'.owed.items ≡ w.owed.items ++ m ∷ [] → w'.windows ≡ w.windows → Passes log says w (Sends m next) w' next
+posted {D} log says w w' m next v o n =
+    moved log says w w' (Sends m next) (Posted m) next (refl, refl) (ap log v ∙ sym (append-nil (log w.view))) o tt (λ call. ap (λ y. last_reports y call) n) (ap (λ y. y.width) n) (λ es claim h. let P : D → Type 0 = λ x. says x es claim in subst P v h)
 
-pub noted : {D A : Type 0} (log : D → List Entry) (may : D → List Entry → Choice → Type 0) (w w' : Work D A) (c : ℕ) (reports : List Results) (next : Plan)
+pub noted : {D A : Type 0} (log : D → List Entry) (says : D → List Entry → Claim → Type 0) (w w' : Work D A) (c : ℕ) (reports : List Results) (next : Plan)
     → w'.view ≡ w.view → w'.owed ≡ w.owed → ((call : ℕ) → last_reports w'.windows call ≡ reports_by call (Noted c reports) (last_reports w.windows call)) → w'.windows.width ≡ w.windows.width
-    → Passes log may w (Notes c reports next) w' next
-noted {D} log may w w' c reports next v o n i =
-    moved log may w w' (Notes c reports next) (Noted c reports) next (refl, refl) (ap log v ∙ sym (append-nil (log w.view))) (ap (λ y. y.items) o ∙ sym (append-nil w.owed.items)) tt n i (λ es choice h. let P : D → Type 0 = λ x. may x es choice in subst P v h)
+    → Passes log says w (Notes c reports next) w' next
+noted {D} log says w w' c reports next v o n i =
+    moved log says w w' (Notes c reports next) (Noted c reports) next (refl, refl) (ap log v ∙ sym (append-nil (log w.view))) (ap (λ y. y.items) o ∙ sym (append-nil w.owed.items)) tt n i (λ es claim h. let P : D → Type 0 = λ x. says x es claim in subst P v h)
 
-pub ranked : {D A : Type 0} (log : D → List Entry) (may : D → List Entry → Choice → Type 0) (w : Work D A) (site : SiteView) (reports : List Results) (serving : ℕ) (found : List Candidate) (next : List Candidate → Plan)
-    → AreCandidates site reports serving found → Passes log may w (Ranks site reports serving next) w (next found)
-ranked log may w site reports serving found next a =
-    moved log may w w (Ranks site reports serving next) (Ranked found) (next found) (found, a, refl, refl) (sym (append-nil (log w.view))) (sym (append-nil w.owed.items)) tt (λ call. refl) refl (λ es choice h. h)
+pub ranked : {D A : Type 0} (log : D → List Entry) (says : D → List Entry → Claim → Type 0) (w : Work D A) (site : SiteView) (reports : List Results) (serving : ℕ) (found : List Candidate) (next : List Candidate → Plan)
+    → AreCandidates site reports serving found → Passes log says w (Ranks site reports serving next) w (next found)
+ranked log says w site reports serving found next a =
+    moved log says w w (Ranks site reports serving next) (Ranked found) (next found) (found, a, refl, refl) (sym (append-nil (log w.view))) (sym (append-nil w.owed.items)) tt (λ call. refl) refl (λ es claim h. h)

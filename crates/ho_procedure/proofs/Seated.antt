@@ -10,16 +10,16 @@ use Rattle.radio_book.specs.Choice as free
 use Rattle.radio_desk.specs.declared.seat.Receipt.{Receipt}
 use Rattle.radio_desk.specs.declared.desk.DeskFault.{DeskFault}
 use Rattle.radio_desk.specs.Desk.{DeskState, HoldsLast, IsForeign, IsJudged, IsSameDesk}
-use Rattle.ho_procedure.specs.Choices.{Entry, Choice, NoneFree, Chosen, IsThere, AllowsAfter}
+use Rattle.ho_procedure.specs.Claims.{Entry, Claim, NoneFree, Chosen, IsThere, IsTrueAfter}
 
 -- a seat that the history holds isn't foreign
 pub not_foreign : (history : List Entry) (last : Option Receipt) (place : ℕ) → HoldsLast history last → IsForeign history last place → ⊥
 not_foreign history None place held foreign = foreign
 not_foreign history (Some r) place held foreign = foreign.1 held
 
--- what a desk allows it allowed before, as long as it opens with the same book
-pub kept_allowed : (opening opening' : State) → opening' ≡ opening → (log : List Entry) → (choice : Choice) → AllowsAfter opening' log choice → AllowsAfter opening log choice
-kept_allowed opening opening' same log choice allows = subst (λ b. AllowsAfter b log choice) same allows
+-- what is true of a desk was true before, as long as it opens with the same book
+pub still_true : (opening opening' : State) → opening' ≡ opening → (log : List Entry) → (claim : Claim) → IsTrueAfter opening' log claim → IsTrueAfter opening log claim
+still_true opening opening' same log claim holds = subst (λ b. IsTrueAfter b log claim) same holds
 
 pub judge_opens : (d d' : DeskState) (X : Type 0) (result : Result Receipt DeskFault) → IfOk result (λ r. IsJudged d r d') → OnErr result (IsSameDesk d d' × X) → d'.opening ≡ d.opening
 judge_opens d d' X (Ok r) judged same = judged.opening
@@ -34,7 +34,7 @@ take_opens d d' X Y (Err f) judged none same = same.0.opening
 pub take_chooses : (d d' : DeskState) (c : ℕ) (kind : Kind) (cell : ℕ) (X : Type 0) (result : Result (Option Receipt) DeskFault)
     → Leads d.opening d.history d.book → (result ≡ Ok None → free.NoneFree d.book cell) → (result ≡ Ok None → IsSameDesk d d' × X)
     → IfOk result (λ answer. IfSome answer (λ r. TakesFree d.book c kind cell r.event)) → IfOk result (λ answer. IfSome answer (λ r. IsJudged d r d'))
-    → IfOk result (λ answer. MatchOption answer ((d'.history ≡ d.history) × AllowsAfter d.opening d.history (NoneFree cell)) (λ r. ((x : ChanId) × (x.cell ≡ cell) × (r.event ≡ Take c kind x)) × AllowsAfter d.opening d.history (Chosen r.event) × (d'.history ≡ d.history ++ (r.event, r.reply) ∷ [])))
+    → IfOk result (λ answer. MatchOption answer ((d'.history ≡ d.history) × IsTrueAfter d.opening d.history (NoneFree cell)) (λ r. ((x : ChanId) × (x.cell ≡ cell) × (r.event ≡ Take c kind x)) × IsTrueAfter d.opening d.history (Chosen r.event) × (d'.history ≡ d.history ++ (r.event, r.reply) ∷ [])))
 take_chooses d d' c kind cell X (Err f) legal none same takes judged = tt
 take_chooses d d' c kind cell X (Ok None) legal none same takes judged = ((same refl).0.history, (d.book, legal, none refl))
 take_chooses d d' c kind cell X (Ok (Some r)) legal none same takes judged =
@@ -45,7 +45,7 @@ take_chooses d d' c kind cell X (Ok (Some r)) legal none same takes judged =
 
 pub reserve_chooses : (d d' : DeskState) (c : ℕ) (result : Result Receipt DeskFault)
     → Leads d.opening d.history d.book → IfOk result (λ r. ReservesFree d.book c r.event) → IfOk result (λ r. IsJudged d r d')
-    → IfOk result (λ r. ((n : ℕ) × (r.event ≡ Reserve c n)) × AllowsAfter d.opening d.history (Chosen r.event) × (d'.history ≡ d.history ++ (r.event, r.reply) ∷ []))
+    → IfOk result (λ r. ((n : ℕ) × (r.event ≡ Reserve c n)) × IsTrueAfter d.opening d.history (Chosen r.event) × (d'.history ≡ d.history ++ (r.event, r.reply) ∷ []))
 reserve_chooses d d' c (Err f) legal reserves judged = tt
 reserve_chooses d d' c (Ok r) legal reserves judged =
     let there : IsThere d.book r.event = subst (λ e. IsThere d.book e) (sym reserves.2) reserves.1 in

@@ -3,7 +3,7 @@ use Rattle.std.proofs.Common.{◌≡◌, ◌<◌, ℕ, suc, List, length, drop, 
 use Rattle.std.proofs.Math.Seq.{drop-cons}
 use Rattle.cell_table.specs.Site.{SiteView}
 use Rattle.ho_candidates.specs.declared.listed.Candidate.{Candidate}
-use Rattle.ho_procedure.specs.Choices.{Entry, Choice}
+use Rattle.ho_procedure.specs.Claims.{Entry, Claim}
 use Rattle.ho_procedure.specs.declared.work.Work.{Work}
 use Rattle.ho_procedure.specs.declared.work.Course.{Course}
 use Rattle.ho_procedure.specs.declared.work.Course.TheVariants.{Over}
@@ -13,12 +13,12 @@ use Rattle.ho_procedure.specs.Procedure.{start_plan, try_plan}
 use Rattle.ho_procedure.proofs.Going.{stays}
 
 -- a part that is over ends the row, whatever would come behind it
-pub ends_over : {D A : Type 0} (log : D → List Entry) (may : D → List Entry → Choice → Type 0) (w w' : Work D A) (part : Plan → Plan) (course : Course)
-    → course ≡ Over → ((tail : Plan) → Passes log may w (part tail) w' (then tail course)) → (tail : Plan) → Goes log may w (part tail) w' (At Ends)
-ends_over log may w w' part course is goes tail = goes tail w' (At Ends) (stays log may w' (then tail course) Ends (ap (λ c. then tail c) is))
+pub ends_over : {D A : Type 0} (log : D → List Entry) (says : D → List Entry → Claim → Type 0) (w w' : Work D A) (part : Plan → Plan) (course : Course)
+    → course ≡ Over → ((tail : Plan) → Passes log says w (part tail) w' (then tail course)) → (tail : Plan) → Goes log says w (part tail) w' (At Ends)
+ends_over log says w w' part course is goes tail = goes tail w' (At Ends) (stays log says w' (then tail course) Ends (ap (λ c. then tail c) is))
 
 -- the next candidate is the first of those that are left
-pub tries_next : {D A : Type 0} (log : D → List Entry) (may : D → List Entry → Choice → Type 0) (w w' : Work D A) (site : SiteView) (call : ℕ) (candidates : List Candidate) (i : ℕ) (d : Candidate) → i < length candidates
-    → Goes log may w (start_plan site call (get_or candidates i d).cell (try_plan site call (drop (suc i) candidates))) w' (At Ends) → Goes log may w (try_plan site call (drop i candidates)) w' (At Ends)
+pub tries_next : {D A : Type 0} (log : D → List Entry) (says : D → List Entry → Claim → Type 0) (w w' : Work D A) (site : SiteView) (call : ℕ) (candidates : List Candidate) (i : ℕ) (d : Candidate) → i < length candidates
+    → Goes log says w (start_plan site call (get_or candidates i d).cell (try_plan site call (drop (suc i) candidates))) w' (At Ends) → Goes log says w (try_plan site call (drop i candidates)) w' (At Ends)
 unfolding try_plan
-tries_next log may w w' site call candidates i d within goes = subst (λ ks. Goes log may w (try_plan site call ks) w' (At Ends)) (sym (drop-cons candidates i d within)) goes
+tries_next log says w w' site call candidates i d within goes = subst (λ ks. Goes log says w (try_plan site call ks) w' (At Ends)) (sym (drop-cons candidates i d within)) goes

@@ -14,7 +14,7 @@ use Rattle.bssmap_messages.specs.declared.fault.BssmapFault.{BssmapFault}
 use Rattle.bssmap_messages.specs.Texts as interface_a
 use Rattle.cell_table.specs.Site.{SiteView}
 use Rattle.rr_elements.specs.MeasResults.{Results}
-use Rattle.ho_procedure.specs.Choices.{Entry, Choice}
+use Rattle.ho_procedure.specs.Claims.{Entry, Claim}
 use Rattle.ho_procedure.specs.declared.work.Work.{Work}
 use Rattle.ho_procedure.specs.declared.exchange.Inbound.{Inbound}
 use Rattle.ho_procedure.specs.declared.exchange.Inbound.TheVariants as inbound
@@ -136,12 +136,12 @@ undecoded_once (inbound.Expiry call timer) l m b d laws u v = absurd u
 undecoded_once (inbound.Operator line) l m b d laws u v = absurd u
 
 -- what comes of a row's stop where the input can't be read
-pub refused_by : {A D : Type 0} (log : D → List Entry) (may : D → List Entry → Choice → Type 0) (site : SiteView) (w w' : Work D A) (input : Inbound A) (s : Stop) (l : Link) (b : Bad) → Laws A
-    → Stopped log may w (IsRow site (last_reports w.windows) input) (IsUndecoded input) (KeepsOctets input) w' s → IsUndecoded input l b → IsStoppedFor l b (KeepsOctets input × (w' ≡ w)) s
-refused_by log may site w w' input (stop.Unread m d) l b laws stopped u = undecoded_once input m l d b laws stopped.0 u
-refused_by log may site w w' input stop.NoMemory l b laws (inl row) u = absurd (row_read site (last_reports w.windows) input row.0 laws row.1 l b u)
-refused_by log may site w w' input stop.NoMemory l b laws (inr refused) u = refused
-refused_by log may site w w' input (stop.Foreign place) l b laws row u = absurd (row_read site (last_reports w.windows) input row.0 laws row.1 l b u)
+pub refused_by : {A D : Type 0} (log : D → List Entry) (says : D → List Entry → Claim → Type 0) (site : SiteView) (w w' : Work D A) (input : Inbound A) (s : Stop) (l : Link) (b : Bad) → Laws A
+    → Stopped log says w (IsRow site (last_reports w.windows) input) (IsUndecoded input) (KeepsOctets input) w' s → IsUndecoded input l b → IsStoppedFor l b (KeepsOctets input × (w' ≡ w)) s
+refused_by log says site w w' input (stop.Unread m d) l b laws stopped u = undecoded_once input m l d b laws stopped.0 u
+refused_by log says site w w' input stop.NoMemory l b laws (inl row) u = absurd (row_read site (last_reports w.windows) input row.0 laws row.1 l b u)
+refused_by log says site w w' input stop.NoMemory l b laws (inr refused) u = refused
+refused_by log says site w w' input (stop.Foreign place) l b laws row u = absurd (row_read site (last_reports w.windows) input row.0 laws row.1 l b u)
 
 abbrev pub StopsFor : {A D : Type 0} → Inbound A → Work D A → Work D A → Link → Bad → Stop → Type 0
 StopsFor input w w' l b s = IsStoppedFor l b (KeepsOctets input × (w' ≡ w)) s
@@ -151,9 +151,9 @@ abbrev pub EndsFor : {A D X : Type 0} → Inbound A → Work D A → Work D A �
 EndsFor input w w' l b (Ok x) = ⊥
 EndsFor input w w' l b (Err s) = StopsFor input w w' l b s
 
-pub ended : {A D X : Type 0} (log : D → List Entry) (may : D → List Entry → Choice → Type 0) (site : SiteView) (w w' : Work D A) (input : Inbound A) (result : Result X Stop) (l : Link) (b : Bad) → Laws A
-    → OnOk result ((p : Plan) × IsRow site (last_reports w.windows) input p × Goes log may w p w' (At Ends))
-    → IfErr result (Stopped log may w (IsRow site (last_reports w.windows) input) (IsUndecoded input) (KeepsOctets input) w')
+pub ended : {A D X : Type 0} (log : D → List Entry) (says : D → List Entry → Claim → Type 0) (site : SiteView) (w w' : Work D A) (input : Inbound A) (result : Result X Stop) (l : Link) (b : Bad) → Laws A
+    → OnOk result ((p : Plan) × IsRow site (last_reports w.windows) input p × Goes log says w p w' (At Ends))
+    → IfErr result (Stopped log says w (IsRow site (last_reports w.windows) input) (IsUndecoded input) (KeepsOctets input) w')
     → IsUndecoded input l b → EndsFor input w w' l b result
-ended log may site w w' input (Ok x) l b laws ok err u = row_read site (last_reports w.windows) input ok.0 laws ok.1 l b u
-ended log may site w w' input (Err s) l b laws ok err u = refused_by log may site w w' input s l b laws err u
+ended log says site w w' input (Ok x) l b laws ok err u = row_read site (last_reports w.windows) input ok.0 laws ok.1 l b u
+ended log says site w w' input (Err s) l b laws ok err u = refused_by log says site w w' input s l b laws err u

@@ -2,6 +2,8 @@
 use Rattle.std.specs.Prelude.{◌≡◌, ◌⊎◌, ◌<◌, ◌≤◌, List, length}
 use Rattle.bssmap_messages.specs.declared.message.Bssmap.{Bssmap}
 use Rattle.bssmap_messages.specs.declared.message.Bssmap.TheVariants as bssmap
+use Rattle.radio_desk.specs.declared.desk.DeskFault.{DeskFault}
+use Rattle.radio_desk.specs.declared.desk.DeskFault.TheVariants as fault
 use Rattle.ho_procedure.specs.declared.exchange.Link.{Link}
 use Rattle.ho_procedure.specs.declared.exchange.Bad.{Bad}
 use Rattle.ho_procedure.specs.declared.following.Stop.{Stop}
@@ -9,30 +11,30 @@ use Rattle.ho_procedure.specs.declared.following.Stop.TheVariants as stop
 use Rattle.ho_procedure.specs.declared.decoding.Unread.{Unread}
 use Rattle.ho_procedure.specs.declared.decoding.Unread.TheVariants as unread
 use Rattle.ho_procedure.specs.declared.work.Work.{Work}
-use Rattle.ho_procedure.specs.Choices.{Entry, Choice}
-use Rattle.ho_procedure.specs.Plan.{Plan, Asking}
+use Rattle.ho_procedure.specs.Claims.{Entry, Claim}
+use Rattle.ho_procedure.specs.Plan.{Plan, Until, AtMemory, AtDesk}
 use Rattle.ho_procedure.specs.Going.{Goes}
 
--- a row of the input was followed up to a step that asks
-abbrev pub StopsInRow : {D A : Type 0} → (D → List Entry) → (D → List Entry → Choice → Type 0) → Work D A → (Plan → Type 0) → Work D A → Type 0
-StopsInRow log may w IsRow w' = (p : Plan) × IsRow p × Goes log may w p w' Asking
+-- a row of the input was followed so far
+abbrev pub StopsInRow : {D A : Type 0} → (D → List Entry) → (D → List Entry → Claim → Type 0) → Work D A → (Plan → Type 0) → Work D A → Until → Type 0
+StopsInRow log says w IsRow w' u = (p : Plan) × IsRow p × Goes log says w p w' u
 
--- Octets that can't be read, or whose memory was refused, leave all as it was; else the row was followed so far.
-abbrev pub Stopped : {D A : Type 0} → (D → List Entry) → (D → List Entry → Choice → Type 0) → Work D A → (Plan → Type 0) → (Link → Bad → Type 0) → Type 0 → Work D A → Stop → Type 0
-Stopped log may w IsRow CantBeRead MayRefuse w' (stop.Unread l b) = CantBeRead l b × (w' ≡ w)
-Stopped log may w IsRow CantBeRead MayRefuse w' stop.NoMemory = StopsInRow log may w IsRow w' ⊎ (MayRefuse × (w' ≡ w))
-Stopped log may w IsRow CantBeRead MayRefuse w' (stop.Foreign place) = StopsInRow log may w IsRow w'
+-- Octets that can't be read, or whose memory was refused, leave all as it was; else the row was followed up to a step that
+-- takes memory, or that asks the desk, which doesn't know the view's last receipt.
+abbrev pub Stopped : {D A : Type 0} → (D → List Entry) → (D → List Entry → Claim → Type 0) → Work D A → (Plan → Type 0) → (Link → Bad → Type 0) → Type 0 → Work D A → Stop → Type 0
+Stopped log says w IsRow CantBeRead MayRefuse w' (stop.Unread l b) = CantBeRead l b × (w' ≡ w)
+Stopped log says w IsRow CantBeRead MayRefuse w' stop.NoMemory = StopsInRow log says w IsRow w' AtMemory ⊎ (MayRefuse × (w' ≡ w))
+Stopped log says w IsRow CantBeRead MayRefuse w' (stop.Foreign place) = StopsInRow log says w IsRow w' AtDesk
 
 abbrev pub IsForeignStop : Stop → Type 0
 IsForeignStop (stop.Unread l b) = ⊥
 IsForeignStop stop.NoMemory = ⊥
 IsForeignStop (stop.Foreign place) = Unit {0}
 
--- it isn't octets that can't be read
-abbrev pub IsDeskStop : Stop → Type 0
-IsDeskStop (stop.Unread l b) = ⊥
-IsDeskStop stop.NoMemory = Unit {0}
-IsDeskStop (stop.Foreign place) = Unit {0}
+-- why a row stops by such a fault
+abbrev pub IsStopFor : DeskFault → Stop → Type 0
+IsStopFor (fault.Foreign place) s = s ≡ stop.Foreign place
+IsStopFor fault.NoMemory s = s ≡ stop.NoMemory
 
 abbrev pub IsStopOf : Unread → Stop → Type 0
 IsStopOf (unread.Undecoded l b) s = s ≡ stop.Unread l b

@@ -9,33 +9,33 @@ use Rattle.ho_procedure.specs.declared.work.Work.{Work}
 use Rattle.ho_procedure.specs.declared.work.Course.{Course}
 use Rattle.ho_procedure.specs.declared.work.Course.TheVariants.{On, Over}
 use Rattle.ho_procedure.specs.declared.work.Shown.{Shown}
-use Rattle.ho_procedure.specs.Choices.{Entry, Choice}
+use Rattle.ho_procedure.specs.Claims.{Entry, Claim}
 use Rattle.ho_procedure.specs.Windows.{Kept, reports_of}
-use Rattle.ho_procedure.specs.Plan.{Plan, Ends, Step, Until, LeadsUntil, ChoicesAt, entries_of, messages_of, reports_after}
+use Rattle.ho_procedure.specs.Plan.{Plan, Ends, Step, Until, AtMemory, AtDesk, LeadsUntil, ChoicesAt, entries_of, messages_of, reports_after}
 
 -- the last reports of a call
 abbrev pub last_reports : Kept → ℕ → List Results
 last_reports windows call = (reports_of windows call).reports
 
 -- Some trace leads from the one plan to the other: its entries are what the view's log gained, its messages what is owed
--- since, its choices what the view may choose, and the reports of each call are those after it.
-pub record Run {D A : Type 0} (log : D → List Entry) (may : D → List Entry → Choice → Type 0) (w : Work D A) (p : Plan) (w' : Work D A) (u : Until) : Type 0 where
+-- since, its choices what the view says, and the reports of each call are those after it.
+pub record Run {D A : Type 0} (log : D → List Entry) (says : D → List Entry → Claim → Type 0) (w : Work D A) (p : Plan) (w' : Work D A) (u : Until) : Type 0 where
   pub trace : List Step
   pub leads : LeadsUntil p trace u
   pub entries : log w'.view ≡ log w.view ++ entries_of trace
   pub messages : w'.owed.items ≡ w.owed.items ++ messages_of trace
-  pub choices : ChoicesAt (may w.view) (log w.view) trace
+  pub choices : ChoicesAt (says w.view) (log w.view) trace
   pub reports : (call : ℕ) → last_reports w'.windows call ≡ reports_after call trace (last_reports w.windows call)
   pub width : w'.windows.width ≡ w.windows.width
-  pub choice_kept : (es : List Entry) → (choice : Choice) → may w'.view es choice → may w.view es choice
+  pub said : (es : List Entry) → (claim : Claim) → says w'.view es claim → says w.view es claim
 
 -- the same, closed: a caller needs no more than that it may be put together
-unfoldable pub Goes : {D A : Type 0} → (D → List Entry) → (D → List Entry → Choice → Type 0) → Work D A → Plan → Work D A → Until → Type 0
-Goes log may w p w' u = Run log may w p w' u
+unfoldable pub Goes : {D A : Type 0} → (D → List Entry) → (D → List Entry → Claim → Type 0) → Work D A → Plan → Work D A → Until → Type 0
+Goes log says w p w' u = Run log says w p w' u
 
 -- Whatever goes on from the second goes on so from the first.
-abbrev pub Passes : {D A : Type 0} → (D → List Entry) → (D → List Entry → Choice → Type 0) → Work D A → Plan → Work D A → Plan → Type 0
-Passes {D} {A} log may w p w' q = (w'' : Work D A) → (u : Until) → Goes log may w' q w'' u → Goes log may w p w'' u
+abbrev pub Passes : {D A : Type 0} → (D → List Entry) → (D → List Entry → Claim → Type 0) → Work D A → Plan → Work D A → Plan → Type 0
+Passes {D} {A} log says w p w' q = (w'' : Work D A) → (u : Until) → Goes log says w' q w'' u → Goes log says w p w'' u
 
 -- what a row goes on with, where there is a call, or a record, to go on with
 abbrev pub then_of : (ℕ → Plan) → Option ℕ → Plan
@@ -50,6 +50,11 @@ then_shown next (Some x) = next x.record x.state
 abbrev pub then : Plan → Course → Plan
 then tail On = tail
 then tail Over = Ends
+
+-- where a row stops that a fault of the desk, or of memory, stopped: only for a receipt that isn't known a desk was asked
+unfoldable pub stops_at : DeskFault → Until
+stops_at (Foreign place) = AtDesk
+stops_at NoMemory = AtMemory
 
 -- the desk doesn't know the view's last receipt
 abbrev pub IsForeign : DeskFault → Type 0

@@ -15,12 +15,12 @@ use Rattle.ho_procedure.specs.declared.exchange.Link.{Link}
 use Rattle.ho_procedure.specs.declared.exchange.Bad.{Bad}
 use Rattle.ho_procedure.specs.declared.exchange.Fault.{Fault}
 use Rattle.ho_procedure.specs.declared.exchange.Fault.TheVariants.{Undecoded, NoMemory, Desk}
-use Rattle.ho_procedure.specs.Choices.{Entry, Choice}
+use Rattle.ho_procedure.specs.Claims.{Entry, Claim}
 use Rattle.ho_procedure.specs.Decoding.{IsAbis, IsUnreadAbis, IsUnreadA}
 use Rattle.ho_procedure.specs.Sent.{Sent, all_sent}
 use Rattle.ho_procedure.specs.Windows.{Kept}
 use Rattle.ho_procedure.specs.Going.{last_reports}
-use Rattle.ho_procedure.specs.Plan.{Plan, Step, Until, Asking, LeadsUntil, ChoicesAt, entries_of, messages_of, reports_after}
+use Rattle.ho_procedure.specs.Plan.{Plan, Step, Until, AtMemory, AtDesk, LeadsUntil, ChoicesAt, entries_of, messages_of, reports_after}
 use Rattle.ho_procedure.specs.Naming.{chan_of}
 use Rattle.ho_procedure.specs.Procedure.{line_plan, expiry_plan, abis_plan, a_plan}
 
@@ -47,31 +47,30 @@ KeepsOctets (inbound.Expiry call timer) = ⊥
 KeepsOctets (inbound.Operator line) = ⊥
 
 -- Some trace follows a plan so far: its entries are what the view's log gained, its messages these, its choices what the
--- view may choose, and the reports of each call are those after it.
-pub record Handles {D : Type 0} (log : D → List Entry) (may : D → List Entry → Choice → Type 0) (v : D) (windows : Kept) (p : Plan) (v' : D) (windows' : Kept) (out : List Sent) (u : Until) : Type 0 where
+-- view says, and the reports of each call are those after it.
+pub record Handles {D : Type 0} (log : D → List Entry) (says : D → List Entry → Claim → Type 0) (v : D) (windows : Kept) (p : Plan) (v' : D) (windows' : Kept) (out : List Sent) (u : Until) : Type 0 where
   pub trace : List Step
   pub leads : LeadsUntil p trace u
   pub entries : log v' ≡ log v ++ entries_of trace
   pub messages : out ≡ messages_of trace
-  pub choices : ChoicesAt (may v) (log v) trace
+  pub choices : ChoicesAt (says v) (log v) trace
   pub reports : (call : ℕ) → last_reports windows' call ≡ reports_after call trace (last_reports windows call)
 
--- What the handling comes to where memory was refused, or the view's desk didn't know its last receipt: the row was followed
--- up to a step that asks; or nothing was asked yet, and the message keeps octets, whose memory was refused.
-abbrev pub Stops : {A D : Type 0} → (D → List Entry) → (D → List Entry → Choice → Type 0) → SiteView → D → Kept → Inbound A → D → Kept → List Sent → Type 0
-Stops log may site v windows input v' windows' out =
-    ((p : Plan) × IsRow site (last_reports windows) input p × Handles log may v windows p v' windows' out Asking) ⊎ (KeepsOctets input × (v' ≡ v) × (windows' ≡ windows) × (out ≡ []))
+-- What the handling comes to where memory was refused: the row was followed up to a step that takes memory; or nothing was
+-- asked yet, and the message keeps octets, whose memory was refused.
+abbrev pub StopsForMemory : {A D : Type 0} → (D → List Entry) → (D → List Entry → Claim → Type 0) → SiteView → D → Kept → Inbound A → D → Kept → List Sent → Type 0
+StopsForMemory log says site v windows input v' windows' out =
+    ((p : Plan) × IsRow site (last_reports windows) input p × Handles log says v windows p v' windows' out AtMemory) ⊎ (KeepsOctets input × (v' ≡ v) × (windows' ≡ windows) × (out ≡ []))
 
--- the messages that are owed after a fault
-abbrev pub owed_in : {A : Type 0} → Fault A → List Sent
-owed_in (Undecoded link bad) = []
-owed_in (NoMemory out) = all_sent out.items
-owed_in (Desk place out) = all_sent out.items
+-- where the view's desk didn't know its last receipt: the row was followed up to a step that asks the desk
+abbrev pub StopsAtDesk : {A D : Type 0} → (D → List Entry) → (D → List Entry → Claim → Type 0) → SiteView → D → Kept → Inbound A → D → Kept → List Sent → Type 0
+StopsAtDesk log says site v windows input v' windows' out = (p : Plan) × IsRow site (last_reports windows) input p × Handles log says v windows p v' windows' out AtDesk
 
-abbrev pub IsUndecodedFault : {A : Type 0} → Fault A → Type 0
-IsUndecodedFault (Undecoded link bad) = Unit {0}
-IsUndecodedFault (NoMemory out) = ⊥
-IsUndecodedFault (Desk place out) = ⊥
+-- what it comes to by the fault that is answered, with the messages that are owed
+abbrev pub StopsBy : {A D : Type 0} → (D → List Entry) → (D → List Entry → Claim → Type 0) → SiteView → D → Kept → Inbound A → D → Kept → Fault A → Type 0
+StopsBy log says site v windows input v' windows' (Undecoded link bad) = (v' ≡ v) × (windows' ≡ windows)
+StopsBy log says site v windows input v' windows' (NoMemory out) = StopsForMemory log says site v windows input v' windows' (all_sent out.items)
+StopsBy log says site v windows input v' windows' (Desk place out) = StopsAtDesk log says site v windows input v' windows' (all_sent out.items)
 
 abbrev pub IsDeskFault : {A : Type 0} → Fault A → Type 0
 IsDeskFault (Undecoded link bad) = ⊥

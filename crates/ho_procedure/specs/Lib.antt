@@ -1,4 +1,4 @@
-pub mod Choices
+pub mod Claims
 pub mod Sent
 pub mod Causes
 pub mod Messages

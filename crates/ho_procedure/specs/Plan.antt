@@ -11,7 +11,7 @@ use Rattle.radio_book.specs.declared.event.Event.{Event}
 use Rattle.radio_book.specs.declared.event.Event.TheVariants.{Open, Clear, Look, Take, Reserve, Activate, Command, Complete, Undo, Confirm, Refuse, Detect, Released, Owner, Require, Order, Left}
 use Rattle.radio_book.specs.declared.event.Reply.{Reply}
 use Rattle.radio_book.specs.declared.event.Reply.TheVariants.{Done, Record, Owned, Refused}
-use Rattle.ho_procedure.specs.Choices.{Entry, Choice, NoneFree, Chosen}
+use Rattle.ho_procedure.specs.Claims.{Entry, Claim, NoneFree, Chosen}
 use Rattle.ho_procedure.specs.Sent.{Sent}
 
 -- What is done with one input, step by step: an event is asked, and the reply decides the next step; some free channel of
@@ -60,25 +60,36 @@ Leads p (s ∷ t) q = (next : Plan) × Moves p s next × Leads next t q
 abbrev pub Follows : Plan → List Step → Type 0
 Follows p t = Leads p t Ends
 
--- The plan's next step is one for which memory may be refused, or which a desk may not know: it is no message, and nothing
--- that is noted.
-abbrev pub IsAsking : Plan → Type 0
-IsAsking Ends = ⊥
-IsAsking (Asks e next) = Unit {0}
-IsAsking (Takes c k cell none next) = Unit {0}
-IsAsking (Reserves c next) = Unit {0}
-IsAsking (Sends m next) = ⊥
-IsAsking (Notes c reports next) = ⊥
-IsAsking (Ranks site reports serving next) = Unit {0}
+-- the plan's next step asks a desk
+abbrev pub AsksDesk : Plan → Type 0
+AsksDesk Ends = ⊥
+AsksDesk (Asks e next) = Unit {0}
+AsksDesk (Takes c k cell none next) = Unit {0}
+AsksDesk (Reserves c next) = Unit {0}
+AsksDesk (Sends m next) = ⊥
+AsksDesk (Notes c reports next) = ⊥
+AsksDesk (Ranks site reports serving next) = ⊥
 
--- how far a trace leads: to a plan, or to some plan that asks next
+-- The plan's next step is one for which memory may be refused: it is no message, and nothing that is noted.
+abbrev pub TakesMemory : Plan → Type 0
+TakesMemory Ends = ⊥
+TakesMemory (Asks e next) = Unit {0}
+TakesMemory (Takes c k cell none next) = Unit {0}
+TakesMemory (Reserves c next) = Unit {0}
+TakesMemory (Sends m next) = ⊥
+TakesMemory (Notes c reports next) = ⊥
+TakesMemory (Ranks site reports serving next) = Unit {0}
+
+-- how far a trace leads: to a plan, to some plan whose next step takes memory, or to some whose next step asks a desk
 pub data Until : Type 0 where
   At : Plan → Until
-  Asking : Until
+  AtMemory : Until
+  AtDesk : Until
 
 abbrev pub LeadsUntil : Plan → List Step → Until → Type 0
 LeadsUntil p t (At q) = Leads p t q
-LeadsUntil p t Asking = (q : Plan) × Leads p t q × IsAsking q
+LeadsUntil p t AtMemory = (q : Plan) × Leads p t q × TakesMemory q
+LeadsUntil p t AtDesk = (q : Plan) × Leads p t q × AsksDesk q
 
 -- the events of a trace with their replies
 abbrev pub entries_in : Step → List Entry
@@ -107,17 +118,17 @@ messages_of [] = []
 messages_of (s ∷ t) = messages_in s ++ messages_of t
 
 -- the choices of a trace, each made after the entries before it
-abbrev pub ChoiceIn : (Choice → Type 0) → Step → Type 0
-ChoiceIn may (Asked e r) = Unit {0}
-ChoiceIn may (Chose e r) = may (Chosen e)
-ChoiceIn may (FoundNone cell) = may (NoneFree cell)
-ChoiceIn may (Posted m) = Unit {0}
-ChoiceIn may (Noted c reports) = Unit {0}
-ChoiceIn may (Ranked found) = Unit {0}
+abbrev pub ChoiceIn : (Claim → Type 0) → Step → Type 0
+ChoiceIn says (Asked e r) = Unit {0}
+ChoiceIn says (Chose e r) = says (Chosen e)
+ChoiceIn says (FoundNone cell) = says (NoneFree cell)
+ChoiceIn says (Posted m) = Unit {0}
+ChoiceIn says (Noted c reports) = Unit {0}
+ChoiceIn says (Ranked found) = Unit {0}
 
-abbrev pub ChoicesAt : (List Entry → Choice → Type 0) → List Entry → List Step → Type 0
-ChoicesAt may log [] = Unit {0}
-ChoicesAt may log (s ∷ t) = ChoiceIn (may log) s × ChoicesAt may (log ++ entries_in s) t
+abbrev pub ChoicesAt : (List Entry → Claim → Type 0) → List Entry → List Step → Type 0
+ChoicesAt says log [] = Unit {0}
+ChoicesAt says log (s ∷ t) = ChoiceIn (says log) s × ChoicesAt says (log ++ entries_in s) t
 
 -- an event is accepted where its reply isn't a refusal
 abbrev pub is_accepted : Reply → Bool

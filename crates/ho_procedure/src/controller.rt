@@ -1,8 +1,8 @@
 //! The controller: what it does for each input.
-ghost use Rattle.std.specs.Prelude.{◌≡◌, ◌⊎◌, ℕ, List, [], IfOk, IfErr, Err};
-ghost use Rattle.ho_procedure.specs.Choices.{Entry, Choice};
+ghost use Rattle.std.specs.Prelude.{◌≡◌, ℕ, List, [], IfOk, IfErr, Err};
+ghost use Rattle.ho_procedure.specs.Claims.{Entry, Claim};
 ghost use Rattle.ho_procedure.specs.Sent.{all_sent};
-ghost use Rattle.ho_procedure.specs.Handling.{Stops, IsRow, IsUndecoded, AnswersFault, Handles, owed_in, IsUndecodedFault, IsDeskFault};
+ghost use Rattle.ho_procedure.specs.Handling.{StopsBy, IsRow, IsUndecoded, AnswersFault, Handles, IsDeskFault};
 ghost use Rattle.ho_procedure.specs.Plan.{Plan, Ends, At};
 ghost use Rattle.ho_procedure.specs.Going.{last_reports};
 
@@ -82,27 +82,25 @@ impl<D: DeskView + Drop, A: Allocator + Copy> Controller<D, A> {
     ///
     /// `Undecoded`: the octets, or the radio resource message inside, can't be read; nothing was asked. It is answered to all
     /// octets that can't be, unless memory is refused for what their message keeps. `NoMemory`: memory was
-    /// refused; `Desk`: the view answered that its desk doesn't know its last receipt. After these two the row was followed up
-    /// to some step at which it asks, and the fault has the messages up to there, which the caller sends.
-    #[tactic(auto, using(crate::proofs::Handled::handled, crate::proofs::Handled::kept, crate::proofs::Handled::width_kept, crate::proofs::Handled::stops_of, crate::proofs::Handled::stopped_kept, crate::proofs::Handled::stopped_width))]
+    /// refused, and the row was followed up to a step that takes memory. `Desk`: the view answered that its desk doesn't know
+    /// its last receipt, and the row was followed up to the step that it was asked for. Either fault has the messages up to
+    /// there, which the caller sends.
+    #[tactic(auto, using(crate::proofs::Handled::handled, crate::proofs::Handled::kept, crate::proofs::Handled::width_kept, crate::proofs::Handled::refused, crate::proofs::Handled::stops_for_memory, crate::proofs::Handled::stops_at_desk, crate::proofs::Handled::stopped_kept, crate::proofs::Handled::stopped_width))]
     pub fn handle(&mut self, input: Inbound<A>) -> Result<Vec<Outbound<A>, A>, Fault<A>>
         ensures ok { IfOk result (λ out. (p : Plan) ×
             IsRow {A = A} self.old.2 (last_reports self.old.1) input p ×
-            Handles D.log D.choice_at self.old.0 self.old.1 p self.new.0 self.new.1
+            Handles D.log D.says self.old.0 self.old.1 p self.new.0 self.new.1
             (all_sent out.items) (At Ends)) }
         ensures undecoded { (link : Link) → (bad : Bad) →
             result ≡ Err (Fault.Undecoded link bad) → IsUndecoded {A = A} input link bad }
         ensures exact { (link : Link) → (bad : Bad) → IsUndecoded {A = A} input link bad →
             AnswersFault {A = A} input link bad result }
-        ensures unchanged { IfErr result (λ f. IsUndecodedFault f →
-            (self.new.0 ≡ self.old.0) × (self.new.1 ≡ self.old.1)) }
-        ensures stops { IfErr result (λ f. IsUndecodedFault f ⊎
-            Stops {A = A} D.log D.choice_at self.old.2 self.old.0 self.old.1 input
-            self.new.0 self.new.1 (owed_in f)) }
+        ensures stops { IfErr result (StopsBy {A = A} D.log D.says self.old.2
+            self.old.0 self.old.1 input self.new.0 self.new.1) }
         ensures site { self.new.2 ≡ self.old.2 }
         ensures foreign { IfErr result (λ f. IsDeskFault f → D.may_be_foreign self.old.0) }
-        ensures choice_kept { (es : List Entry) → (choice : Choice) →
-            D.choice_at self.new.0 es choice → D.choice_at self.old.0 es choice }
+        ensures said { (es : List Entry) → (claim : Claim) →
+            D.says self.new.0 es claim → D.says self.old.0 es claim }
         ensures foreign_kept { D.may_be_foreign self.new.0 → D.may_be_foreign self.old.0 }
     {
         rsl_messages::reading_is_unique::<A>();

@@ -1,5 +1,5 @@
 //! Which row an input has, and that it is followed.
-ghost use Rattle.std.specs.Prelude.{◌≡◌, ◌⊎◌, ℕ, List, [], Option, IfOk, IfErr, OnOk, OnErr};
+ghost use Rattle.std.specs.Prelude.{◌≡◌, ◌⊎◌, ℕ, List, [], Option, IfOk, IfErr, OnOk};
 ghost use Rattle.rr_messages.specs.declared.message.Rr.{Rr};
 ghost use Rattle.rsl_messages.specs.declared.message.Rsl.{Rsl};
 ghost use Rattle.rsl_messages.specs.Messages.{HasOctets};
@@ -10,10 +10,10 @@ ghost use Rattle.bssmap_messages.specs.Texts as interface_a;
 ghost use Rattle.ho_procedure.specs.Decoding.{IsAbis, IsUnreadAbis, IsUnreadA};
 ghost use Rattle.ho_procedure.specs.Naming.{chan_of};
 ghost use Rattle.ho_procedure.specs.Procedure.{line_plan, abis_plan, a_plan, mobile_plan, measured_plan};
-ghost use Rattle.ho_procedure.specs.Plan.{Plan, Ends, At, Asking};
-ghost use Rattle.ho_procedure.specs.Going.{Goes, IsForeign, last_reports};
+ghost use Rattle.ho_procedure.specs.Plan.{Plan, Ends, At};
+ghost use Rattle.ho_procedure.specs.Going.{Goes, IsForeign, last_reports, stops_at};
 ghost use Rattle.ho_procedure.specs.Handling.{IsRow, IsUndecoded, KeepsOctets};
-ghost use Rattle.ho_procedure.specs.Following.{Stopped, IsForeignStop, IsDeskStop, IsStopOf, CanBePassedOn};
+ghost use Rattle.ho_procedure.specs.Following.{Stopped, IsForeignStop, IsStopFor, IsStopOf, CanBePassedOn};
 
 use crate::decoding::{Unread, decode_a, decode_abis};
 use crate::exchange::{Bad, Inbound, Line, Link};
@@ -45,8 +45,8 @@ pub(crate) enum Stop {
 }
 
 fn stop_of(fault: DeskFault) -> Stop
+    ensures stop { IsStopFor fault result }
     ensures foreign { IsForeignStop result → IsForeign fault }
-    ensures stopped { IsDeskStop result }
 {
     match fault {
         DeskFault::NoMemory => Stop::NoMemory,
@@ -69,10 +69,10 @@ fn follow_line<D: DeskView + Drop, A: Allocator + Copy>(
     site: &Site<A>,
     line: Line,
 ) -> Result<(), DeskFault>
-    ensures row { OnOk result (Goes D.log D.choice_at work.old
+    ensures row { OnOk result (Goes D.log D.says work.old
         (line_plan site.now line) work.new (At Ends)) }
-    ensures stops { OnErr result (Goes D.log D.choice_at work.old
-        (line_plan site.now line) work.new Asking) }
+    ensures stops { IfErr result (λ f. Goes D.log D.says work.old
+        (line_plan site.now line) work.new (stops_at f)) }
     ensures foreign { IfErr result (λ f. IsForeign f → D.may_be_foreign work.old.view) }
     ensures foreign_kept { D.may_be_foreign work.new.view → D.may_be_foreign work.old.view }
 {
@@ -92,10 +92,10 @@ fn follow_mobile<D: DeskView + Drop, A: Allocator + Copy>(
     chan: ChanId,
     inside: &Option<Rr>,
 ) -> Result<(), DeskFault>
-    ensures row { OnOk result (Goes D.log D.choice_at work.old
+    ensures row { OnOk result (Goes D.log D.says work.old
         (mobile_plan site.now chan inside.now) work.new (At Ends)) }
-    ensures stops { OnErr result (Goes D.log D.choice_at work.old
-        (mobile_plan site.now chan inside.now) work.new Asking) }
+    ensures stops { IfErr result (λ f. Goes D.log D.says work.old
+        (mobile_plan site.now chan inside.now) work.new (stops_at f)) }
     ensures foreign { IfErr result (λ f. IsForeign f → D.may_be_foreign work.old.view) }
     ensures foreign_kept { D.may_be_foreign work.new.view → D.may_be_foreign work.old.view }
 {
@@ -121,12 +121,12 @@ fn follow_measured<D: DeskView + Drop, A: Allocator + Copy>(
     inside: &Option<Rr>,
 ) -> Result<(), DeskFault>
     requires { work.old.windows.width ≡ site.now.handover.window }
-    ensures row { OnOk result (Goes D.log D.choice_at work.old
+    ensures row { OnOk result (Goes D.log D.says work.old
         (measured_plan site.now (last_reports work.old.windows) chan inside.now)
         work.new (At Ends)) }
-    ensures stops { OnErr result (Goes D.log D.choice_at work.old
+    ensures stops { IfErr result (λ f. Goes D.log D.says work.old
         (measured_plan site.now (last_reports work.old.windows) chan inside.now)
-        work.new Asking) }
+        work.new (stops_at f)) }
     ensures foreign { IfErr result (λ f. IsForeign f → D.may_be_foreign work.old.view) }
     ensures foreign_kept { D.may_be_foreign work.new.view → D.may_be_foreign work.old.view }
 {
@@ -153,12 +153,12 @@ fn follow_abis<D: DeskView + Drop, A: Allocator + Copy>(
     inside: &Option<Rr>,
 ) -> Result<(), DeskFault>
     requires { work.old.windows.width ≡ site.now.handover.window }
-    ensures row { OnOk result (Goes D.log D.choice_at work.old
+    ensures row { OnOk result (Goes D.log D.says work.old
         (abis_plan site.now (last_reports work.old.windows) chan message.now inside.now)
         work.new (At Ends)) }
-    ensures stops { OnErr result (Goes D.log D.choice_at work.old
+    ensures stops { IfErr result (λ f. Goes D.log D.says work.old
         (abis_plan site.now (last_reports work.old.windows) chan message.now inside.now)
-        work.new Asking) }
+        work.new (stops_at f)) }
     ensures foreign { IfErr result (λ f. IsForeign f → D.may_be_foreign work.old.view) }
     ensures foreign_kept { D.may_be_foreign work.new.view → D.may_be_foreign work.old.view }
 {
@@ -185,10 +185,10 @@ fn follow_a<D: DeskView + Drop, A: Allocator + Copy>(
     message: &Bssmap<A>,
 ) -> Result<(), DeskFault>
     requires { CanBePassedOn message.now }
-    ensures row { OnOk result (Goes D.log D.choice_at work.old
+    ensures row { OnOk result (Goes D.log D.says work.old
         (a_plan site.now call message.now) work.new (At Ends)) }
-    ensures stops { OnErr result (Goes D.log D.choice_at work.old
-        (a_plan site.now call message.now) work.new Asking) }
+    ensures stops { IfErr result (λ f. Goes D.log D.says work.old
+        (a_plan site.now call message.now) work.new (stops_at f)) }
     ensures foreign { IfErr result (λ f. IsForeign f → D.may_be_foreign work.old.view) }
     ensures foreign_kept { D.may_be_foreign work.new.view → D.may_be_foreign work.old.view }
 {
@@ -229,8 +229,8 @@ fn follow_abis_octets<D: DeskView + Drop, A: Allocator + Copy>(
     ensures ok { OnOk result ((p : Plan) × ((message : Rsl A) × (inside : Option Rr) ×
         IsAbis octets.now message inside × (p ≡ abis_plan site.now
         (last_reports work.old.windows) (chan_of cell trx message) message inside)) ×
-        Goes D.log D.choice_at work.old p work.new (At Ends)) }
-    ensures stops { IfErr result (Stopped D.log D.choice_at work.old
+        Goes D.log D.says work.old p work.new (At Ends)) }
+    ensures stops { IfErr result (Stopped D.log D.says work.old
         (λ p. (message : Rsl A) × (inside : Option Rr) ×
         IsAbis octets.now message inside × (p ≡ abis_plan site.now
         (last_reports work.old.windows) (chan_of cell trx message) message inside))
@@ -260,8 +260,8 @@ fn follow_a_octets<D: DeskView + Drop, A: Allocator + Copy>(
 ) -> Result<(), Stop>
     ensures ok { OnOk result ((p : Plan) × ((message : Bssmap A) ×
         interface_a.IsTextOf message octets.now × (p ≡ a_plan site.now call message)) ×
-        Goes D.log D.choice_at work.old p work.new (At Ends)) }
-    ensures stops { IfErr result (Stopped D.log D.choice_at work.old
+        Goes D.log D.says work.old p work.new (At Ends)) }
+    ensures stops { IfErr result (Stopped D.log D.says work.old
         (λ p. (message : Bssmap A) × interface_a.IsTextOf message octets.now ×
         (p ≡ a_plan site.now call message))
         (IsUnreadA A octets.now)
@@ -290,8 +290,8 @@ pub(crate) fn follow<D: DeskView + Drop, A: Allocator + Copy>(
     requires { work.old.windows.width ≡ site.now.handover.window }
     ensures ok { OnOk result ((p : Plan) ×
         IsRow {A = A} site.now (last_reports work.old.windows) input p ×
-        Goes D.log D.choice_at work.old p work.new (At Ends)) }
-    ensures stops { IfErr result (Stopped D.log D.choice_at work.old
+        Goes D.log D.says work.old p work.new (At Ends)) }
+    ensures stops { IfErr result (Stopped D.log D.says work.old
         (IsRow {A = A} site.now (last_reports work.old.windows) input)
         (IsUndecoded {A = A} input) (KeepsOctets {A = A} input) work.new) }
     ensures foreign { IfErr result (λ f. IsForeignStop f → D.may_be_foreign work.old.view) }

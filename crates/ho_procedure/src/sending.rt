@@ -17,7 +17,7 @@ impl<D: DeskView + Drop, A: Allocator + Copy> Work<D, A> {
     pub(crate) fn send_activation(&mut self, chan: ChanId)
         requires room { 1 ≤ self.old.owed.room }
         requires timeslot { chan.tn < 8 }
-        ensures goes { (next : Plan) → Passes D.log D.choice_at self.old
+        ensures goes { (next : Plan) → Passes D.log D.says self.old
             (Sends (activation chan) next) self.new next }
         ensures room { self.old.owed.room ≤ self.new.owed.room + 1 }
         ensures foreign_kept { D.may_be_foreign self.new.view → D.may_be_foreign self.old.view }
@@ -30,7 +30,7 @@ impl<D: DeskView + Drop, A: Allocator + Copy> Work<D, A> {
     pub(crate) fn send_target_activation(&mut self, chan: ChanId, reference: u8)
         requires room { 1 ≤ self.old.owed.room }
         requires timeslot { chan.tn < 8 }
-        ensures goes { (next : Plan) → Passes D.log D.choice_at self.old
+        ensures goes { (next : Plan) → Passes D.log D.says self.old
             (Sends (target_activation chan reference) next) self.new next }
         ensures room { self.old.owed.room ≤ self.new.owed.room + 1 }
         ensures foreign_kept { D.may_be_foreign self.new.view → D.may_be_foreign self.old.view }
@@ -43,7 +43,7 @@ impl<D: DeskView + Drop, A: Allocator + Copy> Work<D, A> {
     pub(crate) fn send_release(&mut self, chan: ChanId)
         requires room { 1 ≤ self.old.owed.room }
         requires timeslot { chan.tn < 8 }
-        ensures goes { (next : Plan) → Passes D.log D.choice_at self.old
+        ensures goes { (next : Plan) → Passes D.log D.says self.old
             (Sends (release chan) next) self.new next }
         ensures room { self.old.owed.room ≤ self.new.owed.room + 1 }
         ensures foreign_kept { D.may_be_foreign self.new.view → D.may_be_foreign self.old.view }
@@ -56,7 +56,7 @@ impl<D: DeskView + Drop, A: Allocator + Copy> Work<D, A> {
     pub(crate) fn send_to_mobile(&mut self, chan: ChanId, message: &Rr)
         requires room { 1 ≤ self.old.owed.room }
         requires timeslot { chan.tn < 8 }
-        ensures goes { (next : Plan) → Passes D.log D.choice_at self.old
+        ensures goes { (next : Plan) → Passes D.log D.says self.old
             (Sends (to_mobile chan message.now) next) self.new next }
         ensures room { self.old.owed.room ≤ self.new.owed.room + 1 }
         ensures foreign_kept { D.may_be_foreign self.new.view → D.may_be_foreign self.old.view }
@@ -69,7 +69,7 @@ impl<D: DeskView + Drop, A: Allocator + Copy> Work<D, A> {
     pub(crate) fn send_channel_release(&mut self, chan: ChanId, cause: u8)
         requires room { 1 ≤ self.old.owed.room }
         requires timeslot { chan.tn < 8 }
-        ensures goes { (next : Plan) → Passes D.log D.choice_at self.old
+        ensures goes { (next : Plan) → Passes D.log D.says self.old
             (Sends (channel_release chan cause) next) self.new next }
         ensures room { self.old.owed.room ≤ self.new.owed.room + 1 }
         ensures foreign_kept { D.may_be_foreign self.new.view → D.may_be_foreign self.old.view }
@@ -81,7 +81,7 @@ impl<D: DeskView + Drop, A: Allocator + Copy> Work<D, A> {
     #[tactic(auto, using(crate::proofs::Going::posted))]
     pub(crate) fn send_clear_request(&mut self, call: u16, cause: u8)
         requires { 1 ≤ self.old.owed.room }
-        ensures goes { (next : Plan) → Passes D.log D.choice_at self.old
+        ensures goes { (next : Plan) → Passes D.log D.says self.old
             (Sends (clear_request call cause) next) self.new next }
         ensures room { self.old.owed.room ≤ self.new.owed.room + 1 }
         ensures foreign_kept { D.may_be_foreign self.new.view → D.may_be_foreign self.old.view }
@@ -93,7 +93,7 @@ impl<D: DeskView + Drop, A: Allocator + Copy> Work<D, A> {
     #[tactic(auto, using(crate::proofs::Going::posted))]
     pub(crate) fn send_clear_complete(&mut self, call: u16)
         requires { 1 ≤ self.old.owed.room }
-        ensures goes { (next : Plan) → Passes D.log D.choice_at self.old
+        ensures goes { (next : Plan) → Passes D.log D.says self.old
             (Sends (clear_complete call) next) self.new next }
         ensures room { self.old.owed.room ≤ self.new.owed.room + 1 }
         ensures foreign_kept { D.may_be_foreign self.new.view → D.may_be_foreign self.old.view }
@@ -106,7 +106,7 @@ impl<D: DeskView + Drop, A: Allocator + Copy> Work<D, A> {
     pub(crate) fn send_handover_performed(&mut self, call: u16, cell: CellId)
         requires room { 1 ≤ self.old.owed.room }
         requires area { IsSome cell.lac }
-        ensures goes { (next : Plan) → Passes D.log D.choice_at self.old
+        ensures goes { (next : Plan) → Passes D.log D.says self.old
             (Sends (handover_performed call cell) next) self.new next }
         ensures room { self.old.owed.room ≤ self.new.owed.room + 1 }
         ensures foreign_kept { D.may_be_foreign self.new.view → D.may_be_foreign self.old.view }
@@ -119,7 +119,7 @@ impl<D: DeskView + Drop, A: Allocator + Copy> Work<D, A> {
     pub(crate) fn send_handover_required(&mut self, call: u16, cell: CellId)
         requires room { 1 ≤ self.old.owed.room }
         requires area { IsSome cell.lac }
-        ensures goes { (next : Plan) → Passes D.log D.choice_at self.old
+        ensures goes { (next : Plan) → Passes D.log D.says self.old
             (Sends (handover_required call cell) next) self.new next }
         ensures foreign_kept { D.may_be_foreign self.new.view → D.may_be_foreign self.old.view }
     {
@@ -130,7 +130,7 @@ impl<D: DeskView + Drop, A: Allocator + Copy> Work<D, A> {
     #[tactic(auto, using(crate::proofs::Going::posted))]
     pub(crate) fn send_handover_request_ack(&mut self, call: u16, message: &Rr)
         requires { 1 ≤ self.old.owed.room }
-        ensures goes { (next : Plan) → Passes D.log D.choice_at self.old
+        ensures goes { (next : Plan) → Passes D.log D.says self.old
             (Sends (handover_request_ack call message.now) next) self.new next }
         ensures foreign_kept { D.may_be_foreign self.new.view → D.may_be_foreign self.old.view }
     {
@@ -141,7 +141,7 @@ impl<D: DeskView + Drop, A: Allocator + Copy> Work<D, A> {
     #[tactic(auto, using(crate::proofs::Going::posted))]
     pub(crate) fn send_handover_detect(&mut self, call: u16)
         requires { 1 ≤ self.old.owed.room }
-        ensures goes { (next : Plan) → Passes D.log D.choice_at self.old
+        ensures goes { (next : Plan) → Passes D.log D.says self.old
             (Sends (handover_detect call) next) self.new next }
         ensures foreign_kept { D.may_be_foreign self.new.view → D.may_be_foreign self.old.view }
     {
@@ -152,7 +152,7 @@ impl<D: DeskView + Drop, A: Allocator + Copy> Work<D, A> {
     #[tactic(auto, using(crate::proofs::Going::posted))]
     pub(crate) fn send_handover_complete(&mut self, call: u16, rr: u8)
         requires { 1 ≤ self.old.owed.room }
-        ensures goes { (next : Plan) → Passes D.log D.choice_at self.old
+        ensures goes { (next : Plan) → Passes D.log D.says self.old
             (Sends (handover_complete call rr) next) self.new next }
         ensures foreign_kept { D.may_be_foreign self.new.view → D.may_be_foreign self.old.view }
     {
@@ -163,7 +163,7 @@ impl<D: DeskView + Drop, A: Allocator + Copy> Work<D, A> {
     #[tactic(auto, using(crate::proofs::Going::posted))]
     pub(crate) fn send_handover_failure(&mut self, call: u16, cause: u8, rr: Option<u8>)
         requires { 1 ≤ self.old.owed.room }
-        ensures goes { (next : Plan) → Passes D.log D.choice_at self.old
+        ensures goes { (next : Plan) → Passes D.log D.says self.old
             (Sends (handover_failure call cause rr) next) self.new next }
         ensures foreign_kept { D.may_be_foreign self.new.view → D.may_be_foreign self.old.view }
     {
@@ -178,7 +178,7 @@ impl<D: DeskView + Drop, A: Allocator + Copy> Work<D, A> {
         requires some { 0 < length layer3.now }
         requires unread_room { length layer3.now ≤ self.old.owed.unread_room }
         requires short { length layer3.now ≤ 1015 }
-        ensures goes { (next : Plan) → Passes D.log D.choice_at self.old
+        ensures goes { (next : Plan) → Passes D.log D.says self.old
             (Sends (data_request chan layer3.now) next) self.new next }
         ensures foreign_kept { D.may_be_foreign self.new.view → D.may_be_foreign self.old.view }
     {

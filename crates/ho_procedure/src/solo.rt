@@ -1,7 +1,7 @@
 //! A desk of one's own.
 ghost use Rattle.std.specs.Prelude.{◌≡◌, ◌∷◌, ◌++◌, [], ℕ, List, Err, IfOk, OnErr, MatchOption};
 ghost use Rattle.channel_fsm.specs.declared.ChanId.{ChanId};
-ghost use Rattle.ho_procedure.specs.Choices.{Entry, Choice, NoneFree, Chosen};
+ghost use Rattle.ho_procedure.specs.Claims.{Entry, Claim, NoneFree, Chosen};
 
 use crate::view::DeskView;
 use radio_book::event::{Event, Kind};
@@ -52,11 +52,14 @@ impl<A: Allocator> Solo<A> {
 }
 
 impl<A: Allocator + Copy> DeskView for Solo<A> {
-    ghost use Rattle.ho_procedure.specs.Choices.{AllowsAfter};
+    ghost use Rattle.radio_desk.specs.Desk.{IsJudged};
+    ghost use Rattle.ho_procedure.specs.Claims.{IsTrueAfter};
 
     ghost log = { λ solo. solo.history };
 
-    ghost choice_at = { λ solo log choice. AllowsAfter solo.opening log choice };
+    ghost says = { λ solo log claim. IsTrueAfter solo.opening log claim };
+
+    ghost judged = { λ before receipt after. IsJudged before receipt after };
 
     ghost may_be_foreign = { λ solo. ⊥ };
 

@@ -1,7 +1,8 @@
 //! How a controller asks the book.
-ghost use Rattle.std.specs.Prelude.{◌≡◌, ◌∷◌, ◌++◌, [], ℕ, List, Err, IfOk, OnErr, MatchOption};
+ghost use Rattle.std.specs.Prelude.{◌≡◌, ◌∷◌, ◌++◌, [], ℕ, List, Err, IfOk, OnErr, IfSome, MatchOption};
 ghost use Rattle.channel_fsm.specs.declared.ChanId.{ChanId};
-ghost use Rattle.ho_procedure.specs.Choices.{Entry, Choice, NoneFree, Chosen};
+ghost use Rattle.radio_desk.specs.declared.seat.Receipt.{Receipt};
+ghost use Rattle.ho_procedure.specs.Claims.{Entry, Claim, NoneFree, Chosen};
 
 use radio_book::event::{Event, Kind};
 use radio_desk::desk::DeskFault;
@@ -10,12 +11,16 @@ use radio_desk::seat::Receipt;
 /// A way to ask the book: at a desk of one's own, or at one that threads share. Contracts see what it was asked, each
 /// event with its reply, as its log.
 ///
-/// An answered event joins the log with its reply. After a fault, and where no channel is free, the log is as it was.
+/// An answered event joins the log with its reply. After a fault, and where no channel is free, the log is as it was. What
+/// it says after a call it would have said before: so it says of one book that it began with.
 pub trait DeskView {
     ghost log: { Self → List Entry };
 
-    // what it says of the book, where after these entries it makes this choice
-    ghost choice_at: { Self → List Entry → Choice → Type 0 };
+    // what it says of its book, where it makes this claim after these entries
+    ghost says: { Self → List Entry → Claim → Type 0 };
+
+    // what a receipt says of the view before and after
+    ghost judged: { Self → Receipt → Self → Type 0 };
 
     // the desk may not know this view's last receipt
     ghost may_be_foreign: { Self → Type 0 };
@@ -24,36 +29,40 @@ pub trait DeskView {
     fn judge(&mut self, event: Event) -> Result<Receipt, DeskFault>
         ensures ok { IfOk result (λ r. (r.event ≡ event) ×
             (log self.new ≡ log self.old ++ (r.event, r.reply) ∷ [])) }
+        ensures receipt { IfOk result (λ r. judged self.old r self.new) }
         ensures err { OnErr result (log self.new ≡ log self.old) }
         ensures foreign { (place : ℕ) → result ≡ Err (DeskFault.Foreign place) →
             may_be_foreign self.old }
-        ensures choice_kept { (es : List Entry) → (choice : Choice) →
-            choice_at self.new es choice → choice_at self.old es choice }
+        ensures said { (es : List Entry) → (claim : Claim) →
+            says self.new es claim → says self.old es claim }
         ensures foreign_kept { may_be_foreign self.new → may_be_foreign self.old };
 
     /// Asks a Take of some free channel of a cell (`Desk::judge_take`). `None`: no channel of the cell is free.
     fn judge_take(&mut self, call: u16, kind: Kind, cell: u8) -> Result<Option<Receipt>, DeskFault>
         ensures ok { IfOk result (λ answer. MatchOption answer
-            ((log self.new ≡ log self.old) × choice_at self.old (log self.old) (NoneFree cell))
+            ((log self.new ≡ log self.old) × says self.old (log self.old) (NoneFree cell))
             (λ r. ((x : ChanId) × (x.cell ≡ cell) × (r.event ≡ Event.Take call kind x)) ×
-            choice_at self.old (log self.old) (Chosen r.event) ×
+            says self.old (log self.old) (Chosen r.event) ×
             (log self.new ≡ log self.old ++ (r.event, r.reply) ∷ []))) }
+        ensures receipt { IfOk result (λ answer. IfSome answer
+            (λ r. judged self.old r self.new)) }
         ensures err { OnErr result (log self.new ≡ log self.old) }
         ensures foreign { (place : ℕ) → result ≡ Err (DeskFault.Foreign place) →
             may_be_foreign self.old }
-        ensures choice_kept { (es : List Entry) → (choice : Choice) →
-            choice_at self.new es choice → choice_at self.old es choice }
+        ensures said { (es : List Entry) → (claim : Claim) →
+            says self.new es claim → says self.old es claim }
         ensures foreign_kept { may_be_foreign self.new → may_be_foreign self.old };
 
     /// Asks a Reserve of some free Handover Reference (`Desk::judge_reserve`).
     fn judge_reserve(&mut self, call: u16) -> Result<Receipt, DeskFault>
         ensures ok { IfOk result (λ r. ((n : ℕ) × (r.event ≡ Event.Reserve call n)) ×
-            choice_at self.old (log self.old) (Chosen r.event) ×
+            says self.old (log self.old) (Chosen r.event) ×
             (log self.new ≡ log self.old ++ (r.event, r.reply) ∷ [])) }
+        ensures receipt { IfOk result (λ r. judged self.old r self.new) }
         ensures err { OnErr result (log self.new ≡ log self.old) }
         ensures foreign { (place : ℕ) → result ≡ Err (DeskFault.Foreign place) →
             may_be_foreign self.old }
-        ensures choice_kept { (es : List Entry) → (choice : Choice) →
-            choice_at self.new es choice → choice_at self.old es choice }
+        ensures said { (es : List Entry) → (claim : Claim) →
+            says self.new es claim → says self.old es claim }
         ensures foreign_kept { may_be_foreign self.new → may_be_foreign self.old };
 }

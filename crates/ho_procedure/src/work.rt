@@ -4,8 +4,8 @@ ghost use Rattle.channel_fsm.specs.declared.ChanId.{ChanId};
 ghost use Rattle.ho_candidates.specs.declared.listed.Candidate.{Candidate};
 ghost use Rattle.radio_book.specs.declared.event.Reply.{Reply};
 ghost use Rattle.ho_procedure.specs.Windows.{with_report};
-ghost use Rattle.ho_procedure.specs.Plan.{Plan, AreCandidates, Asks, Takes, Reserves, Notes, Ranks, IsAsking, Asking, is_accepted, call_dropped, dropped_if};
-ghost use Rattle.ho_procedure.specs.Going.{Goes, Passes, IsForeign, last_reports};
+ghost use Rattle.ho_procedure.specs.Plan.{Plan, AreCandidates, Asks, Takes, Reserves, Notes, Ranks, AsksDesk, TakesMemory, is_accepted, call_dropped, dropped_if};
+ghost use Rattle.ho_procedure.specs.Going.{Goes, Passes, IsForeign, last_reports, stops_at};
 
 use crate::outbox::Outbox;
 use crate::view::DeskView;
@@ -98,10 +98,10 @@ impl<D: DeskView + Drop, A: Allocator + Copy> Work<D, A> {
     /// Makes room for this many messages more.
     #[tactic(auto, using(crate::proofs::Going::idles, crate::proofs::Going::waits))]
     pub(crate) fn make_room(&mut self, messages: usize) -> Result<(), DeskFault>
-        ensures ok { OnOk result ((p : Plan) → Passes D.log D.choice_at self.old p self.new p) }
+        ensures ok { OnOk result ((p : Plan) → Passes D.log D.says self.old p self.new p) }
         ensures room { OnOk result (messages ≤ self.new.owed.room) }
-        ensures err { OnErr result ((p : Plan) → IsAsking p →
-            Goes D.log D.choice_at self.old p self.new Asking) }
+        ensures err { IfErr result (λ f. (p : Plan) → AsksDesk p →
+            Goes D.log D.says self.old p self.new (stops_at f)) }
         ensures no_memory { OnErr result (result ≡ Err DeskFault.NoMemory) }
         ensures windows { self.new.windows ≡ self.old.windows }
         ensures foreign_kept { D.may_be_foreign self.new.view → D.may_be_foreign self.old.view }
@@ -113,11 +113,11 @@ impl<D: DeskView + Drop, A: Allocator + Copy> Work<D, A> {
     #[tactic(auto, using(crate::proofs::Going::idles, crate::proofs::Going::waits))]
     pub(crate) fn make_unread_room(&mut self, octets: usize) -> Result<(), DeskFault>
         requires { octets ≤ 1015 }
-        ensures ok { OnOk result ((p : Plan) → Passes D.log D.choice_at self.old p self.new p) }
+        ensures ok { OnOk result ((p : Plan) → Passes D.log D.says self.old p self.new p) }
         ensures room { OnOk result (1 ≤ self.new.owed.room) }
         ensures unread_room { OnOk result (octets ≤ self.new.owed.unread_room) }
-        ensures err { OnErr result ((p : Plan) → IsAsking p →
-            Goes D.log D.choice_at self.old p self.new Asking) }
+        ensures err { IfErr result (λ f. (p : Plan) → AsksDesk p →
+            Goes D.log D.says self.old p self.new (stops_at f)) }
         ensures no_memory { OnErr result (result ≡ Err DeskFault.NoMemory) }
         ensures foreign_kept { D.may_be_foreign self.new.view → D.may_be_foreign self.old.view }
     {
@@ -127,10 +127,10 @@ impl<D: DeskView + Drop, A: Allocator + Copy> Work<D, A> {
     /// Makes room for the reports of one more call.
     #[tactic(auto, using(crate::proofs::Going::idles, crate::proofs::Going::waits))]
     pub(crate) fn make_window(&mut self) -> Result<(), DeskFault>
-        ensures ok { OnOk result ((p : Plan) → Passes D.log D.choice_at self.old p self.new p) }
+        ensures ok { OnOk result ((p : Plan) → Passes D.log D.says self.old p self.new p) }
         ensures ready { OnOk result (IsTrue self.new.windows.is_ready) }
-        ensures err { OnErr result ((p : Plan) → IsAsking p →
-            Goes D.log D.choice_at self.old p self.new Asking) }
+        ensures err { IfErr result (λ f. (p : Plan) → AsksDesk p →
+            Goes D.log D.says self.old p self.new (stops_at f)) }
         ensures no_memory { OnErr result (result ≡ Err DeskFault.NoMemory) }
         ensures reports { (call : ℕ) →
             last_reports self.new.windows call ≡ last_reports self.old.windows call }
@@ -145,9 +145,9 @@ impl<D: DeskView + Drop, A: Allocator + Copy> Work<D, A> {
     #[tactic(auto, using(crate::proofs::Going::asked, crate::proofs::Going::waits))]
     pub(crate) fn ask(&mut self, event: Event) -> Result<Reply, DeskFault>
         ensures ok { IfOk result (λ reply. (next : Reply → Plan) →
-            Passes D.log D.choice_at self.old (Asks event next) self.new (next reply)) }
-        ensures err { OnErr result ((p : Plan) → IsAsking p →
-            Goes D.log D.choice_at self.old p self.new Asking) }
+            Passes D.log D.says self.old (Asks event next) self.new (next reply)) }
+        ensures err { IfErr result (λ f. (p : Plan) → AsksDesk p →
+            Goes D.log D.says self.old p self.new (stops_at f)) }
         ensures owed { self.new.owed ≡ self.old.owed }
         ensures reports { IfOk result (λ reply. (call : ℕ) → last_reports self.new.windows call ≡
             dropped_if (is_accepted reply) (call_dropped event) call
@@ -173,12 +173,12 @@ impl<D: DeskView + Drop, A: Allocator + Copy> Work<D, A> {
     ) -> Result<Option<(ChanId, Reply)>, DeskFault>
         ensures ok { IfOk result (λ answer. MatchOption answer
             ((none : Plan) → (next : ChanId → Reply → Plan) →
-            Passes D.log D.choice_at self.old (Takes call kind cell none next) self.new none)
+            Passes D.log D.says self.old (Takes call kind cell none next) self.new none)
             (λ taken. (none : Plan) → (next : ChanId → Reply → Plan) →
-            Passes D.log D.choice_at self.old (Takes call kind cell none next) self.new
+            Passes D.log D.says self.old (Takes call kind cell none next) self.new
             (next taken.0 taken.1))) }
-        ensures err { OnErr result ((p : Plan) → IsAsking p →
-            Goes D.log D.choice_at self.old p self.new Asking) }
+        ensures err { IfErr result (λ f. (p : Plan) → AsksDesk p →
+            Goes D.log D.says self.old p self.new (stops_at f)) }
         ensures owed { self.new.owed ≡ self.old.owed }
         ensures foreign { IfErr result (λ f. IsForeign f → D.may_be_foreign self.old.view) }
         ensures foreign_kept { D.may_be_foreign self.new.view → D.may_be_foreign self.old.view }
@@ -196,9 +196,9 @@ impl<D: DeskView + Drop, A: Allocator + Copy> Work<D, A> {
     #[tactic(auto, using(crate::proofs::Going::reserved, crate::proofs::Going::waits))]
     pub(crate) fn reserve(&mut self, call: u16) -> Result<(u8, Reply), DeskFault>
         ensures ok { IfOk result (λ answer. (next : ℕ → Reply → Plan) →
-            Passes D.log D.choice_at self.old (Reserves call next) self.new (next answer.0 answer.1)) }
-        ensures err { OnErr result ((p : Plan) → IsAsking p →
-            Goes D.log D.choice_at self.old p self.new Asking) }
+            Passes D.log D.says self.old (Reserves call next) self.new (next answer.0 answer.1)) }
+        ensures err { IfErr result (λ f. (p : Plan) → AsksDesk p →
+            Goes D.log D.says self.old p self.new (stops_at f)) }
         ensures owed { self.new.owed ≡ self.old.owed }
         ensures foreign { IfErr result (λ f. IsForeign f → D.may_be_foreign self.old.view) }
         ensures foreign_kept { D.may_be_foreign self.new.view → D.may_be_foreign self.old.view }
@@ -214,7 +214,7 @@ impl<D: DeskView + Drop, A: Allocator + Copy> Work<D, A> {
     #[tactic(auto, using(crate::proofs::Going::noted, crate::proofs::Reporting::but_one))]
     pub(crate) fn note(&mut self, call: u16, report: &MeasResults)
         requires { IsTrue self.old.windows.is_ready }
-        ensures goes { (next : Plan) → Passes D.log D.choice_at self.old
+        ensures goes { (next : Plan) → Passes D.log D.says self.old
             (Notes call (with_report self.old.windows.width
             (last_reports self.old.windows call) report.now) next) self.new next }
         ensures reports { last_reports self.new.windows call ≡ with_report self.old.windows.width
@@ -229,7 +229,7 @@ impl<D: DeskView + Drop, A: Allocator + Copy> Work<D, A> {
 
 impl<D: DeskView + Drop, A: Allocator + Copy> Work<D, A> {
     /// The candidates that the last reports of a call make of the cells.
-    #[tactic(auto, using(crate::proofs::Going::ranked, crate::proofs::Going::waits, crate::proofs::Ranking::no_candidates))]
+    #[tactic(auto, using(crate::proofs::Going::ranked, crate::proofs::Going::lacks, crate::proofs::Ranking::no_candidates))]
     pub(crate) fn rank(
         &self,
         site: &Site<A>,
@@ -238,11 +238,11 @@ impl<D: DeskView + Drop, A: Allocator + Copy> Work<D, A> {
     ) -> Result<Vec<Candidate, A>, DeskFault>
         requires { self.now.windows.width ≡ site.now.handover.window }
         ensures goes { IfOk result (λ found. (next : List Candidate → Plan) →
-            Passes D.log D.choice_at self.now
+            Passes D.log D.says self.now
             (Ranks site.now (last_reports self.now.windows call) serving next) self.now
             (next found.items)) }
-        ensures err { OnErr result ((p : Plan) → IsAsking p →
-            Goes D.log D.choice_at self.now p self.now Asking) }
+        ensures err { IfErr result (λ f. (p : Plan) → TakesMemory p →
+            Goes D.log D.says self.now p self.now (stops_at f)) }
         ensures no_memory { OnErr result (result ≡ Err DeskFault.NoMemory) }
     {
         let _cells = site.cells();

@@ -49,11 +49,14 @@ impl<A: Allocator + Copy> Leaving<A> {
 }
 
 impl<A: Allocator + Copy> DeskView for Leaving<A> {
-    ghost use Rattle.ho_procedure.specs.Choices.{AllowsAfter};
+    ghost use Rattle.radio_desk.specs.Desk.{IsJudged};
+    ghost use Rattle.ho_procedure.specs.Claims.{IsTrueAfter};
 
     ghost log = { λ leaving. leaving.history };
 
-    ghost choice_at = { λ leaving log choice. AllowsAfter leaving.opening log choice };
+    ghost says = { λ leaving log claim. IsTrueAfter leaving.opening log claim };
+
+    ghost judged = { λ before receipt after. IsJudged before receipt after };
 
     ghost may_be_foreign = { λ leaving. Unit };
 

@@ -10,8 +10,9 @@ use Rattle.lab.specs.declared.controllers.Controllers.{Controllers}
 use Rattle.lab.specs.declared.turn.Source.{Source}
 use Rattle.lab.specs.declared.turn.Turn.{Turn}
 use Rattle.lab.specs.declared.course.Course.{Course}
+use Rattle.lab.specs.declared.course.Run.{Run}
 use Rattle.lab.specs.Turns.{Position, AreTurns, IsTurn, IsTurnOf, listed, scripted, input_in, inputs_in}
-use Rattle.lab.specs.Course.{Went, AreOpenings, Played, positions_of, option_list, has_peer}
+use Rattle.lab.specs.Course.{Went, AreOpenings, IsRunOf, Played, positions_of, option_list, has_peer}
 
 turns_joined : {A : Type 0} (all : List Position) (ts : List (Turn A)) (m : List Position) (us : List (Turn A)) (all' : List Position) → AreTurns all ts m → AreTurns m us all' → AreTurns all (ts ++ us) all'
 turns_joined all [] m us all' h k = rw (sym h) k
@@ -102,5 +103,29 @@ all_played sites inputs c c' openings h = record {
   turns = h.turns;
   last = positions_of c'.controllers;
   run = h.run;
+  scripted = h.scripted;
+}
+
+-- a course that began so with no turn, and went on to what a run is made of
+pub all_ran : {A : Type 0} (sites : List SiteView) (inputs : List (Side × Inbound A)) (c c' : Course A) (run : Run A) → AreOpenings sites (positions_of c.controllers) → c.turns.items ≡ [] → Went inputs c c' → run.turns ≡ c'.turns → run.controllers ≡ c'.controllers → IsRunOf sites inputs run
+all_ran sites inputs c c' run openings none h turns controllers =
+    let noted : run.turns.items ≡ h.turns = ap (λ (ts : _). ts.items) turns ∙ (h.noted ∙ ap (λ front. front ++ h.turns) none) in
+    let last : positions_of run.controllers ≡ positions_of c'.controllers = ap (λ (all : Controllers _). positions_of all) controllers in
+    record {
+      first = positions_of c.controllers;
+      openings = openings;
+      turns = subst (λ ts. AreTurns (positions_of c.controllers) ts (positions_of run.controllers)) (sym noted)
+          (subst (λ all. AreTurns (positions_of c.controllers) h.turns all) (sym last) h.run);
+      scripted = ap (λ ts. scripted ts) noted ∙ h.scripted;
+    }
+
+-- what ran was played
+pub was_played : {A : Type 0} (sites : List SiteView) (inputs : List (Side × Inbound A)) (run : Run A) → IsRunOf sites inputs run → Played A sites inputs
+was_played sites inputs run h = record {
+  first = h.first;
+  openings = h.openings;
+  turns = run.turns.items;
+  last = positions_of run.controllers;
+  run = h.turns;
   scripted = h.scripted;
 }

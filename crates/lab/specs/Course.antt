@@ -10,6 +10,7 @@ use Rattle.lab_script.specs.Script.{first_unread, items_of}
 use Rattle.lab.specs.declared.turn.Turn.{Turn}
 use Rattle.lab.specs.declared.controllers.Controllers.{Controllers}
 use Rattle.lab.specs.declared.course.Course.{Course}
+use Rattle.lab.specs.declared.course.Run.{Run}
 use Rattle.lab.specs.Turns.{Position, AreTurns, scripted, inputs_in}
 
 abbrev pub option_list : {X : Type 0} → Option X → List X
@@ -44,6 +45,14 @@ pub record Went {A : Type 0} (inputs : List (Side × Inbound A)) (c c' : Course 
   pub run : AreTurns (positions_of c.controllers) turns (positions_of c'.controllers)
   pub peer : has_peer c' ≡ has_peer c
   pub scripted : scripted turns ≡ inputs
+
+-- The run's turns lead, one by one, from controllers of the sites over empty books to those of the run, and a script gave
+-- these inputs of them, in their order and each for the controller that it names; all others simulators sent.
+pub record IsRunOf {A : Type 0} (sites : List SiteView) (inputs : List (Side × Inbound A)) (run : Run A) : Type 0 where
+  pub first : List Position
+  pub openings : AreOpenings sites first
+  pub turns : AreTurns first run.turns.items (positions_of run.controllers)
+  pub scripted : scripted run.turns.items ≡ inputs
 
 -- Turn by turn, from controllers of the sites over empty books on, everything was handled that these inputs are, in their
 -- order and each by the controller that it names, and between them what simulators sent.

@@ -2,12 +2,13 @@
 use Rattle.std.specs.Prelude.{◌≡◌, ◌++◌, List, [], ◌∷◌, Option, Some, None, slice_get, slice_set}
 use Rattle.std.specs.List.{filter_map}
 use Rattle.cell_table.specs.Site.{SiteView}
+use Rattle.radio_book.specs.Run.{Leads}
 use Rattle.radio_desk.specs.Desk.{DeskState}
 use Rattle.trace_text.specs.declared.trace.Step.{Step}
 use Rattle.trace_text.specs.declared.trace.Step.TheVariants.{Asked, NoneFree}
 use Rattle.ho_procedure.specs.declared.exchange.Inbound.{Inbound}
 use Rattle.ho_procedure.specs.declared.exchange.Link.{Link}
-use Rattle.ho_procedure.specs.Choices.{Entry, Choice, AllowsAfter}
+use Rattle.ho_procedure.specs.Claims.{Entry, Claim, IsTrueAfter}
 use Rattle.ho_procedure.specs.Windows.{Kept}
 use Rattle.ho_procedure.specs.Going.{last_reports}
 use Rattle.ho_procedure.specs.Sent.{all_sent}
@@ -39,20 +40,23 @@ asked_in steps = filter_map entry_of steps
 abbrev pub history_of : DeskState → List Entry
 history_of desk = desk.history
 
-abbrev pub choice_at : DeskState → List Entry → Choice → Type 0
-choice_at desk log choice = AllowsAfter desk.opening log choice
+abbrev pub says : DeskState → List Entry → Claim → Type 0
+says desk log claim = IsTrueAfter desk.opening log claim
 
 -- A controller answers an input so: it follows the input's row, and sends these messages; or the input has this fault, and
 -- nothing changes.
 abbrev pub Answers : {A : Type 0} → Position → Inbound A → Answer A → Position → Type 0
 Answers s input (Sent out) s' =
-    (p : Plan) × IsRow s.2 (last_reports s.1) input p × Handles history_of choice_at s.0 s.1 p s'.0 s'.1 (all_sent out.items) (At Ends)
+    (p : Plan) × IsRow s.2 (last_reports s.1) input p × Handles history_of says s.0 s.1 p s'.0 s'.1 (all_sent out.items) (At Ends)
 Answers s input (Undecoded bad) s' = ((link : Link) × IsUndecoded input link bad) × (s'.0 ≡ s.0) × (s'.1 ≡ s.1)
 
--- it answers the turn's input so, its desk was asked what the turn says, and its site stays
+-- It answers the turn's input so. Its desk was asked what the turn says, and what was asked in all leads, reply by reply, from
+-- the book that it opened with to its book; that one and its site stay.
 pub record IsTurn {A : Type 0} (s : Position) (t : Turn A) (s' : Position) : Type 0 where
   pub answers : Answers s t.input t.answer s'
   pub asked : s'.0.history ≡ s.0.history ++ asked_in t.steps.items
+  pub legal : Leads s'.0.opening s'.0.history s'.0.book
+  pub opening : s'.0.opening ≡ s.0.opening
   pub site : s'.2 ≡ s.2
 
 -- of some controllers, of which the first is the first, the one that the turn names answers so; every other stays as it is

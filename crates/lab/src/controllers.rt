@@ -17,11 +17,11 @@ use std::io::{self, Write};
 use std::sync::Arc;
 use trace_text::trace::{Mark, print_end};
 
-/// One controller or two.
+/// One controller or two: the first site's, and the peer's where there is one.
 #[derive(Drop)]
-pub(crate) struct Controllers<A: Allocator + Copy = Global> {
-    first: Controller<Noting<A>, A>,
-    peer: Option<Controller<Noting<A>, A>>,
+pub struct Controllers<A: Allocator + Copy = Global> {
+    pub first: Controller<Noting<A>, A>,
+    pub peer: Option<Controller<Noting<A>, A>>,
 }
 
 /// A controller of the site that was given nothing yet, over an empty book.

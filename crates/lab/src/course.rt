@@ -32,6 +32,14 @@ pub(crate) struct Course<A: Allocator + Copy = Global> {
     alloc: A,
 }
 
+/// What came of a script: each input that was handled, in their order, with what the controller that it was for asked and
+/// answered, and the controllers as they are at the end.
+#[derive(Drop)]
+pub struct Run<A: Allocator + Copy = Global> {
+    pub turns: Vec<Turn<A>, A>,
+    pub controllers: Controllers<A>,
+}
+
 /// The sites of one controller or two.
 fn sites_of<A: Allocator + Copy>(
     alloc: A,
@@ -190,6 +198,21 @@ impl<A: Allocator + Copy> Course<A> {
             self.follow(item, out)?;
         }
         Ok(())
+    }
+
+    /// What came of it so far.
+    pub(crate) fn into_run(self) -> Run<A>
+        ensures turns { result.turns ≡ self.turns }
+        ensures controllers { result.controllers ≡ self.controllers }
+    {
+        let Course {
+            sites: _,
+            controllers,
+            simulators: _,
+            turns,
+            alloc: _,
+        } = self;
+        Run { turns, controllers }
     }
 
     /// Prints the trace's end.

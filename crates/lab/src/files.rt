@@ -4,7 +4,10 @@ ghost use Rattle.lab.specs.Files.{longest_file};
 
 use crate::rewound::rewind_run;
 use crate::run::{LabFault, Status, lab_run};
+use crate::run_reason::say_refusal;
+use crate::site_files::{SitePaths, SiteTexts, site_texts};
 use crate::site_reason::say_reason;
+use escaped_text::Escaped;
 use run_views::{Sites, Viewer, Views, WordsFault, open_sheets};
 use std::alloc::{Allocator, Global};
 use std::fs::File;
@@ -46,9 +49,9 @@ pub(crate) fn text_of<R: Files + AllocGlobal, W: Write, E: Write>(
 ) -> Result<Option<String>, LabFault> {
     match file_text(rt, path) {
         Ok(Some(text)) => return Ok(Some(text)),
-        Ok(None) => writeln!(errors, "{path}: the file has more than 64 MiB")?,
+        Ok(None) => writeln!(errors, "{}: the file has more than 64 MiB", Escaped(path))?,
         Err(error) if error.kind() == io::ErrorKind::OutOfMemory => return Err(LabFault::NoMemory),
-        Err(error) => writeln!(errors, "{path}: {error}")?,
+        Err(error) => writeln!(errors, "{}: {error}", Escaped(path))?,
     }
     writeln!(out, "file {path}")?;
     Ok(None)
@@ -75,61 +78,26 @@ fn texts_of<R: Files + AllocGlobal, W: Write, E: Write>(
 /// The texts of a run's files.
 #[derive(Drop)]
 struct RunTexts {
-    site: String,
-    peer: Option<String>,
+    sites: SiteTexts,
     script: String,
 }
 
-impl RunTexts {
-    /// The text of the peer's site.
-    fn peer(&self) -> Option<&str> {
-        self.peer.as_ref().map(|text| text.as_str())
-    }
-}
-
-/// The texts of a run's files, of which the site's is read first, then the peer's, where one is named, then the script;
-/// nothing where one can't be read, and then the path of the first such was printed, and on `errors` why.
+/// The texts of a run's files, of which those of the sites are read first, then the script; nothing where one can't be
+/// read, and then the path of the first such was printed, and on `errors` why.
 fn run_texts<R: Files + AllocGlobal, W: Write, E: Write>(
     rt: &R,
-    site: &str,
-    peer: Option<&str>,
+    sites: SitePaths<'_>,
     script: &str,
     out: &mut W,
     errors: &mut E,
 ) -> Result<Option<RunTexts>, LabFault> {
-    let Some(site) = text_of(rt, site, out, errors)? else {
+    let Some(sites) = site_texts(rt, sites, out, errors)? else {
         return Ok(None);
-    };
-    let peer = match peer {
-        Some(path) => {
-            let Some(text) = text_of(rt, path, out, errors)? else {
-                return Ok(None);
-            };
-            Some(text)
-        }
-        None => None,
     };
     let Some(script) = text_of(rt, script, out, errors)? else {
         return Ok(None);
     };
-    Ok(Some(RunTexts { site, peer, script }))
-}
-
-/// Says why the first of the sites of a run that is refused is.
-fn say_reasons<E: Write>(
-    alloc: Global,
-    site: &str,
-    peer: Option<&str>,
-    texts: &RunTexts,
-    errors: &mut E,
-) -> Result<(), LabFault> {
-    if say_reason(alloc, site, &texts.site, errors)? {
-        return Ok(());
-    }
-    if let (Some(path), Some(text)) = (peer, texts.peer()) {
-        say_reason(alloc, path, text, errors)?;
-    }
-    Ok(())
+    Ok(Some(RunTexts { sites, script }))
 }
 
 /// Why a run that was looked at didn't come to its end.
@@ -146,7 +114,8 @@ fn run_texts_plainly<W: Write>(
     texts: &RunTexts,
     out: &mut W,
 ) -> Result<Status, LabFault> {
-    lab_run(alloc, alloc, &texts.site, texts.peer(), &texts.script, out)
+    let RunTexts { sites, script } = texts;
+    lab_run(alloc, alloc, sites.first(), sites.peer(), script, out)
 }
 
 /// The same, with views; nothing where one of their files can't be written, and then its path was printed, and on
@@ -165,8 +134,8 @@ fn run_texts_viewed<R: Files + AllocGlobal, W: Write, E: Write>(
         Err(fault) => return Err(fault_of(fault)),
     };
     let sites = Sites {
-        first: &texts.site,
-        peer: texts.peer(),
+        first: texts.sites.first(),
+        peer: texts.sites.peer(),
     };
     let mut viewer = Viewer::new(alloc, alloc, views, sites, out).map_err(fault_of)?;
     let ended = run_texts_plainly(alloc, texts, &mut viewer);
@@ -190,18 +159,17 @@ fn run_texts_viewed<R: Files + AllocGlobal, W: Write, E: Write>(
 /// The site's file is read first, then the peer's, then the script's. Where a file isn't there, can't be read, isn't
 /// UTF-8 or has more than [`LONGEST_FILE`] octets, `file` and its path are printed and nothing else, and the answer is
 /// `Refused`; one line on `errors` says why. Where a site is refused, one line on `errors` says where in its file, and
-/// what is allowed there.
+/// what is allowed there; where a line of the script is, one says which of its words is wrong, and what may stand there.
 pub fn run_files<R: Files + AllocGlobal, W: Write, E: Write>(
     rt: &R,
-    site: &str,
-    peer: Option<&str>,
+    sites: SitePaths<'_>,
     script: &str,
     views: &Views<'_>,
     out: &mut W,
     errors: &mut E,
 ) -> Result<Status, LabFault> {
     let alloc = rt.alloc();
-    let Some(texts) = run_texts(rt, site, peer, script, out, errors)? else {
+    let Some(texts) = run_texts(rt, sites, script, out, errors)? else {
         return Ok(Status::Refused);
     };
     let status = if views.is_plain() {
@@ -213,7 +181,7 @@ pub fn run_files<R: Files + AllocGlobal, W: Write, E: Write>(
         return Ok(Status::Refused);
     };
     if status == Status::Refused {
-        say_reasons(alloc, site, peer, &texts, errors)?;
+        say_refusal(alloc, sites, &texts.sites, script, &texts.script, errors)?;
     }
     Ok(status)
 }

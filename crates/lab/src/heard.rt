@@ -41,6 +41,67 @@ fn text_of(printed: &[u8]) -> &str {
     str::from_utf8(printed).unwrap_or("")
 }
 
+/// Tells a listener what came, and then does what a line of a script gives; answers whether the run goes on, and does
+/// nothing where it doesn't.
+fn follow_heard<A: Allocator + Copy, L: Listener>(
+    course: &mut Course<A>,
+    item: Item<A>,
+    printed: &mut Vec<u8, A>,
+    listener: &mut L,
+) -> Result<bool, LabFault>
+    requires there { is_item_there (has_peer course.old) item ≡ true }
+    ensures went { IfOk result (λ on. on ≡ true → Went (inputs_in (item ∷ [])) course.old course.new) }
+{
+    if !listener.hear(text_of(printed))? {
+        return Ok(false);
+    }
+    printed.clear();
+    follow_printed(course, item, printed)?;
+    Ok(true)
+}
+
+/// Does what the lines of a script give, in their order, and tells a listener what comes of each but the last; answers
+/// whether the run goes on behind them.
+fn follow_all<A: Allocator + Copy, L: Listener>(
+    course: &mut Course<A>,
+    items: Vec<Item<A>, A>,
+    printed: &mut Vec<u8, A>,
+    listener: &mut L,
+) -> Result<bool, LabFault>
+    requires there { AreThere (has_peer course.old) items.items }
+    ensures went { IfOk result (λ on. on ≡ true → Went (inputs_in items.items) course.old course.new) }
+{
+    for item in items {
+        if !follow_heard(course, item, printed, listener)? {
+            return Ok(false);
+        }
+    }
+    Ok(true)
+}
+
+/// Adds the trace's end to what was printed, a list, which lacks nothing but memory.
+fn print_ends<A: Allocator + Copy>(
+    course: &Course<A>,
+    printed: &mut Vec<u8, A>,
+) -> Result<(), LabFault> {
+    match course.print_ends(printed) {
+        Ok(()) => Ok(()),
+        Err(_) => Err(LabFault::NoMemory),
+    }
+}
+
+/// Tells a listener what came last, without the trace's end and with it.
+fn hear_end<A: Allocator + Copy, L: Listener>(
+    course: &Course<A>,
+    printed: &mut Vec<u8, A>,
+    listener: &mut L,
+) -> Result<bool, LabFault> {
+    let came = printed.len();
+    print_ends(course, printed)?;
+    let before = printed.get(..came).unwrap_or(&[]);
+    listener.hear_last(text_of(before), text_of(printed))
+}
+
 /// Follows what the lines of a script give over empty books of the sites, and tells a listener what comes of them, until
 /// that answers `false`.
 pub(crate) fn run_heard<A: Allocator + Copy, L: Listener>(
@@ -54,18 +115,8 @@ pub(crate) fn run_heard<A: Allocator + Copy, L: Listener>(
 {
     let mut course = fresh_course(alloc, sites)?;
     let mut printed = Vec::new(alloc);
-    for item in items {
-        if !listener.hear(text_of(&printed))? {
-            return Ok(false);
-        }
-        printed.clear();
-        follow_printed(&mut course, item, &mut printed)?;
+    if !follow_all(&mut course, items, &mut printed, listener)? {
+        return Ok(false);
     }
-    let came = printed.len();
-    course
-        .print_ends(&mut printed)
-        .map_err(|_| LabFault::NoMemory)?;
-    let (before, _) = printed.split_at(came.min(printed.len()));
-    let well = listener.hear_last(text_of(before), text_of(&printed))?;
-    Ok(well)
+    hear_end(&course, &mut printed, listener)
 }

@@ -8,8 +8,8 @@
 #![tactic(auto)]
 
 pub mod check;
-mod controllers;
-mod course;
+pub mod controllers;
+pub mod course;
 pub mod decoded;
 pub mod encoded;
 pub mod entries;
@@ -20,9 +20,11 @@ pub mod program;
 pub mod recorded;
 pub mod rewound;
 pub mod run;
+mod run_reason;
 pub mod script_files;
 mod script_words;
 mod simulators;
+pub mod site_files;
 mod site_reason;
 pub mod tested;
 pub mod turn;

@@ -59,11 +59,14 @@ impl<A: Allocator + Copy> Noting<A> {
 }
 
 impl<A: Allocator + Copy> DeskView for Noting<A> {
-    ghost use Rattle.ho_procedure.specs.Choices.{AllowsAfter};
+    ghost use Rattle.ho_procedure.specs.Claims.{IsTrueAfter};
+    ghost use Rattle.radio_desk.specs.Desk.{IsJudged};
 
     ghost log = { λ noting. noting.history };
 
-    ghost choice_at = { λ noting log choice. AllowsAfter noting.opening log choice };
+    ghost says = { λ noting log claim. IsTrueAfter noting.opening log claim };
+
+    ghost judged = { λ noting receipt after. IsJudged noting receipt after };
 
     ghost may_be_foreign = { λ noting. ⊥ };
 

@@ -43,12 +43,11 @@ pub fn perform<R: Files + AllocGlobal, I: Read + Drop, W: Write, E: Write>(
     match read_words(rt.alloc(), words) {
         Ok(
             Job::Run {
-                site,
-                peer,
+                sites,
                 script,
                 views,
             },
-        ) => run_files(rt, site, peer, script, &views, out, errors),
+        ) => run_files(rt, sites, script, &views, out, errors),
         Ok(Job::Test { sites, scripts }) => test_files(rt, sites, &scripts, out, errors),
         Ok(Job::Record { sites, script }) => record_file(rt, sites, script, out, errors),
         Ok(Job::Rewind { site, trace, line }) => rewind_files(rt, site, trace, line, out, errors),

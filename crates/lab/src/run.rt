@@ -1,14 +1,14 @@
 //! One controller or two that are driven by a script, on one thread.
-ghost use Rattle.std.specs.Prelude.{◌≡◌, ◌≢◌, ◌⊎◌, ◌∷◌, Ok, Err, None, Some, IsSome, IsSomeAnd, IfOk, IfErr, IfSome, is_some, option_map, map};
+ghost use Rattle.std.specs.Prelude.{◌≡◌, ◌≢◌, ◌⊎◌, ◌∷◌, [], Ok, Err, None, Some, IsSome, IsSomeAnd, IfOk, IfErr, IfSome, is_some, option_map, map};
 ghost use Rattle.cell_table.specs.SiteFile.{described_site, IsBlankFile};
 ghost use Rattle.cell_table.specs.declared.fault.Key.TheVariants.{Handover};
 ghost use Rattle.lab_script.specs.Script.{first_unread, items_of, AreThere};
 ghost use Rattle.lab.specs.Turns.{inputs_in};
-ghost use Rattle.lab.specs.Course.{Played, IsPlayed, AreOpenings, positions_of, has_peer, option_list};
+ghost use Rattle.lab.specs.Course.{Played, IsPlayed, IsRunOf, AreOpenings, positions_of, has_peer, option_list};
 ghost use Rattle.lab.specs.Sites.{views_of, texts_of};
 ghost use Rattle.lab.specs.Statuses.{status_of, status_after, exit_status_of};
 
-use crate::course::Course;
+use crate::course::{Course, Run};
 use cell_table::{Site, SiteFault};
 use lab_script::script::{Item, ScriptFault, read_script};
 use std::alloc::{AllocError, Allocator, Global};
@@ -93,9 +93,9 @@ pub fn exit_status(ended: Result<Status, LabFault>) -> u8
 
 /// The site of a controller, and its peer's where there is one.
 #[derive(Drop)]
-pub(crate) struct Sites<A: Allocator + Copy = Global> {
-    pub(crate) first: Site<A>,
-    pub(crate) peer: Option<Site<A>>,
+pub struct Sites<A: Allocator + Copy = Global> {
+    pub first: Site<A>,
+    pub peer: Option<Site<A>>,
 }
 
 /// A site that several share.
@@ -126,6 +126,7 @@ pub(crate) fn fresh_course<A: Allocator + Copy>(
     ensures openings { IfOk result (λ course. AreOpenings (views_of sites)
         (positions_of course.controllers)) }
     ensures peer { IfOk result (λ course. has_peer course ≡ is_some sites.peer) }
+    ensures turns { IfOk result (λ course. course.turns.items ≡ []) }
 {
     let first = shared(alloc, sites.first)?;
     let peer = shared_peer(alloc, sites.peer)?;
@@ -133,20 +134,19 @@ pub(crate) fn fresh_course<A: Allocator + Copy>(
 }
 
 /// Follows what the lines of a script give over empty books of the sites, and prints the trace.
-fn run_items<A: Allocator + Copy, W: Write>(
+fn play_items<A: Allocator + Copy, W: Write>(
     alloc: A,
     sites: Sites<A>,
     items: Vec<Item<A>, A>,
     out: &mut W,
-) -> Result<Status, LabFault>
+) -> Result<Run<A>, LabFault>
     requires there { AreThere (is_some sites.peer) items.items }
-    ensures done { IfOk result (λ status. status ≡ Status.Done) }
-    ensures played { IfOk result (λ _. Played A (views_of sites) (inputs_in items.items)) }
+    ensures ran { IfOk result (λ run. IsRunOf (views_of sites) (inputs_in items.items) run) }
 {
     let mut course = fresh_course(alloc, sites)?;
     course.run(items, out)?;
     course.print_ends(out)?;
-    Ok(Status::Done)
+    Ok(course.into_run())
 }
 
 /// What the lines of a script give; nothing where a line can't be read, whose number was printed.
@@ -172,6 +172,33 @@ pub(crate) fn script_items<A: Allocator + Copy, W: Write>(
     }
 }
 
+/// Runs a script over sites that were read, prints the trace to `out`, and says what came of each input. Where a line of the
+/// script can't be read there is no run, and its number is printed (see [`lab_run`]).
+///
+/// The run's turns are the script's inputs in their order, with what simulators sent between them; each was handled by the
+/// controller that it is for as the procedure says, from empty books on to the controllers that the run ends with.
+pub fn play<A: Allocator + Copy, W: Write>(
+    alloc: A,
+    sites: Sites<A>,
+    script: &str,
+    out: &mut W,
+) -> Result<Option<Run<A>>, LabFault>
+    ensures read { IfOk result (λ run. IsSome run →
+        first_unread (is_some sites.peer) script.now ≡ None) }
+    ensures ran { IfOk result (λ run. IfSome run
+        (λ run. IsRunOf (views_of sites) (inputs_in (items_of script.now)) run)) }
+    ensures refused { IfOk result (λ run. run ≡ None →
+        IsSome (first_unread (is_some sites.peer) script.now)) }
+    ensures memory { result ≡ Err LabFault.NoMemory →
+        first_unread (is_some sites.peer) script.now ≡ None }
+{
+    let has_peer = sites.peer.is_some();
+    match script_items(alloc, script, has_peer, out)? {
+        Some(items) => Ok(Some(play_items(alloc, sites, items, out)?)),
+        None => Ok(None),
+    }
+}
+
 /// Runs a script over sites that were read.
 fn run_script<A: Allocator + Copy, W: Write>(
     alloc: A,
@@ -187,9 +214,8 @@ fn run_script<A: Allocator + Copy, W: Write>(
     ensures memory { result ≡ Err LabFault.NoMemory →
         first_unread (is_some sites.peer) script.now ≡ None }
 {
-    let has_peer = sites.peer.is_some();
-    match script_items(alloc, script, has_peer, out)? {
-        Some(items) => run_items(alloc, sites, items, out),
+    match play(alloc, sites, script, out)? {
+        Some(_) => Ok(Status::Done),
         None => Ok(Status::Refused),
     }
 }

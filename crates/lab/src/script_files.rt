@@ -2,7 +2,8 @@
 use crate::files::text_of;
 use crate::recorded::record_run;
 use crate::run::{LabFault, Status, read_sites, refuse_site};
-use crate::site_reason::say_reason;
+use crate::run_reason::{say_line, say_refusal};
+use crate::site_files::{SitePaths, SiteTexts, say_reasons, site_texts};
 use crate::tested::{Numbered, test_run};
 use cell_table::SiteFault;
 use expected_lines::{Miss, print_miss, print_plan};
@@ -10,69 +11,9 @@ use std::alloc::Global;
 use std::io::{self, Write};
 use std::rt::Files;
 
-/// The paths of the sites of a run: the first controller's, and the peer's where there is one.
-#[derive(Clone, Copy, Debug, PartialEq, Eq)]
-pub struct SitePaths<'a> {
-    pub first: &'a str,
-    pub peer: Option<&'a str>,
-}
-
-/// The texts of the sites of a run.
-#[derive(Drop)]
-struct SiteTexts {
-    first: String,
-    peer: Option<String>,
-}
-
-impl SiteTexts {
-    /// The text of the peer's site.
-    fn peer(&self) -> Option<&str> {
-        self.peer.as_ref().map(|text| text.as_str())
-    }
-}
-
-/// The texts of sites; nothing where one can't be read, and then the path of the first such was printed, and on `errors`
-/// why.
-fn site_texts<R: Files + AllocGlobal, W: Write, E: Write>(
-    rt: &R,
-    paths: SitePaths<'_>,
-    out: &mut W,
-    errors: &mut E,
-) -> Result<Option<SiteTexts>, LabFault> {
-    let Some(first) = text_of(rt, paths.first, out, errors)? else {
-        return Ok(None);
-    };
-    let Some(path) = paths.peer else {
-        return Ok(Some(SiteTexts { first, peer: None }));
-    };
-    let Some(peer) = text_of(rt, path, out, errors)? else {
-        return Ok(None);
-    };
-    Ok(Some(SiteTexts {
-        first,
-        peer: Some(peer),
-    }))
-}
-
-/// Says why the first of the sites that is refused is.
-fn say_reasons<E: Write>(
-    alloc: Global,
-    paths: SitePaths<'_>,
-    texts: &SiteTexts,
-    errors: &mut E,
-) -> Result<(), LabFault> {
-    if say_reason(alloc, paths.first, &texts.first, errors)? {
-        return Ok(());
-    }
-    if let (Some(path), Some(text)) = (paths.peer, texts.peer()) {
-        say_reason(alloc, path, text, errors)?;
-    }
-    Ok(())
-}
-
 /// Why the sites can't be run over, if they can't.
 fn fault_of(alloc: Global, texts: &SiteTexts) -> Option<SiteFault> {
-    match read_sites(alloc, alloc, &texts.first, texts.peer()) {
+    match read_sites(alloc, alloc, texts.first(), texts.peer()) {
         Ok(_) => None,
         Err(fault) => Some(fault),
     }
@@ -100,7 +41,13 @@ fn test_file<R: Files + AllocGlobal, W: Write, E: Write>(
         print_miss(out, test.number, test.name, Miss::NoFile)?;
         return Ok(Status::Refused);
     };
-    test_run(alloc, alloc, &sites.first, sites.peer(), &script, test, out)
+    let peer = sites.peer();
+    let status = test_run(alloc, alloc, sites.first(), peer, &script, test, out)?;
+    if status == Status::Refused {
+        // the sites were read before
+        say_line(alloc, test.name, &script, peer.is_some(), errors)?;
+    }
+    Ok(status)
 }
 
 /// Tests the scripts of some files over the site of another, or over two where a peer's is named, as [`test_run`] does of
@@ -146,12 +93,12 @@ pub fn record_file<R: Files + AllocGlobal, W: Write, E: Write>(
     let Some(sites) = site_texts(rt, paths, out, errors)? else {
         return Ok(Status::Refused);
     };
-    let Some(script) = text_of(rt, script, out, errors)? else {
+    let Some(text) = text_of(rt, script, out, errors)? else {
         return Ok(Status::Refused);
     };
-    let status = record_run(alloc, alloc, &sites.first, sites.peer(), &script, out)?;
+    let status = record_run(alloc, alloc, sites.first(), sites.peer(), &text, out)?;
     if status == Status::Refused {
-        say_reasons(alloc, paths, &sites, errors)?;
+        say_refusal(alloc, paths, &sites, script, &text, errors)?;
     }
     Ok(status)
 }

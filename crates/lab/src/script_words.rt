@@ -1,5 +1,5 @@
 //! The words of the commands that test and record scripts.
-use crate::script_files::SitePaths;
+use crate::site_files::SitePaths;
 use crate::words::{argument, peer_argument};
 use clap::{ArgMatches, Command};
 use std::alloc::{AllocError, Global};

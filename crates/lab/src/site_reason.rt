@@ -9,6 +9,7 @@ use crate::run::LabFault;
 use cell_table::limits::{MOST_CELLS, MOST_NEIGHBOURS, MOST_OUTSIDE};
 use cell_table::ranges::{arfcn_range, tch_range};
 use cell_table::{Key, Site, SiteFault, What};
+use escaped_text::Escaped;
 use site_text::{Place, entries};
 use std::alloc::Global;
 use std::fmt;
@@ -504,7 +505,7 @@ fn say_toml<W: Write>(
     errors: &mut W,
 ) -> Result<(), LabFault> {
     let text = format!(in alloc; "{fault}")?;
-    write!(errors, "{path}")?;
+    write!(errors, "{}", Escaped(path))?;
     for line in text.lines() {
         write!(errors, ": {line}")?;
     }
@@ -519,7 +520,7 @@ fn say_fault<W: Write>(
     fault: SiteFault,
     errors: &mut W,
 ) -> Result<(), LabFault> {
-    write!(errors, "{path}: ")?;
+    write!(errors, "{}: ", Escaped(path))?;
     match fault {
         SiteFault::Missing(key) => say_key(document, key, true, errors),
         SiteFault::Range(key) => say_key(document, key, false, errors),

@@ -1,8 +1,9 @@
 //! One input, and what came of it.
 ghost use Rattle.std.specs.Prelude.{◌≡◌, ◌+◌, ◌++◌, ◌∷◌, [], List, drop, IfOk, OnOk, OnErr};
 ghost use Rattle.ho_procedure.specs.Sent.{Sent};
-ghost use Rattle.ho_procedure.specs.Handling.{Stops};
-ghost use Rattle.lab.specs.Turns.{asked_in, history_of, choice_at, Answers, IsTurn};
+ghost use Rattle.radio_book.specs.Run.{Leads};
+ghost use Rattle.ho_procedure.specs.Handling.{StopsForMemory};
+ghost use Rattle.lab.specs.Turns.{asked_in, history_of, says, Answers, IsTurn};
 
 use crate::noting::{NoneFree, Noting};
 use ho_procedure::controller::Controller;
@@ -119,7 +120,8 @@ fn steps_from<A: Allocator + Copy>(
     found: &[NoneFree],
     first: usize,
 ) -> Result<Vec<Step, A>, AllocError>
-    ensures { IfOk result (λ steps. asked_in steps.items ≡ drop first desk.now.history) }
+    ensures asked { IfOk result (λ steps. asked_in steps.items ≡ drop first desk.now.history) }
+    ensures legal { Leads desk.now.opening desk.now.history desk.now.book }
 {
     let mut steps = Vec::new(alloc);
     for place in first..desk.len() {
@@ -136,9 +138,10 @@ fn handled<A: Allocator + Copy>(
     input: Inbound<A>,
 ) -> Result<Answer<A>, AllocError>
     ensures answers { IfOk result (λ answer. Answers controller.old input answer controller.new) }
-    ensures stops { OnErr result ((owed : List Sent) × Stops {A = A} history_of choice_at
+    ensures stops { OnErr result ((owed : List Sent) × StopsForMemory {A = A} history_of says
         controller.old.2 controller.old.0 controller.old.1 input
         controller.new.0 controller.new.1 owed) }
+    ensures opening { controller.new.0.opening ≡ controller.old.0.opening }
     ensures site { controller.new.2 ≡ controller.old.2 }
 {
     match controller.handle(input) {

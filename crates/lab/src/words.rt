@@ -1,8 +1,8 @@
 //! The words of the command line.
 ghost use Rattle.std.specs.Prelude.{◌≡◌};
 
-use crate::script_files::SitePaths;
 use crate::script_words::{record_command, script_paths, site_paths, test_command};
+use crate::site_files::SitePaths;
 use clap::error::ErrorKind;
 use clap::{Arg, ArgAction, ArgMatches, Command, Error, value_parser};
 use decoded_lines::{Asked, Detail, Link, link_named};
@@ -17,8 +17,7 @@ pub enum Job<'a> {
     /// A script is run over a site, or over two where a peer's is named: the paths of the files, and what is to be seen of
     /// the run beside its trace.
     Run {
-        site: &'a str,
-        peer: Option<&'a str>,
+        sites: SitePaths<'a>,
         script: &'a str,
         views: Views<'a>,
     },
@@ -309,8 +308,7 @@ fn decode_job<'a>(decode: &ArgMatches<'a>) -> Option<Job<'a>> {
 fn job_of<'a>(matches: &ArgMatches<'a>) -> Option<Job<'a>> {
     match matches.subcommand()? {
         ("run", run) => Some(Job::Run {
-            site: run.get_str("SITE")?,
-            peer: run.get_str("PEER"),
+            sites: site_paths(run)?,
             script: run.get_str("SCRIPT")?,
             views: views_of(run),
         }),

@@ -17,6 +17,7 @@ mod rewound;
 mod simulated;
 mod tested;
 mod traces;
+mod unread;
 mod unwritten;
 mod viewed;
 mod viewed_pair;

@@ -1,6 +1,7 @@
 //! The files of views.
 use crate::options::Views;
 use crate::viewer::Viewer;
+use escaped_text::Escaped;
 use line_words::WordsFault;
 use std::alloc::Allocator;
 use std::fs::File;
@@ -36,7 +37,7 @@ fn open_sheet<'a, R: Files + AllocGlobal, W: Write, E: Write>(
         },
         Err(error) if error.kind() == io::ErrorKind::OutOfMemory => Err(WordsFault::NoMemory),
         Err(error) => {
-            writeln!(errors, "{path}: {error}")?;
+            writeln!(errors, "{}: {error}", Escaped(path))?;
             writeln!(out, "file {path}")?;
             Ok(None)
         }
@@ -70,7 +71,7 @@ pub fn open_sheets<'a, R: Files + AllocGlobal, W: Write, E: Write>(
 
 /// Says on `errors` that a file can't be written.
 fn say_unwritten<E: Write>(path: &str, error: io::Error, errors: &mut E) -> WordsFault {
-    match writeln!(errors, "{path}: {error}") {
+    match writeln!(errors, "{}: {error}", Escaped(path)) {
         Ok(()) | Err(_) => WordsFault::Write,
     }
 }
@@ -115,7 +116,7 @@ fn write_chart<F: Write + Drop, W: Write, A: Allocator + Copy, E: Write>(
         Ok(()) => {}
         Err(WordsFault::NoMemory) => return Err(WordsFault::NoMemory),
         Err(WordsFault::Write) => {
-            writeln!(errors, "{}: the file can't be written", sheet.path)?;
+            writeln!(errors, "{}: the file can't be written", Escaped(sheet.path))?;
             return Err(WordsFault::Write);
         }
     }

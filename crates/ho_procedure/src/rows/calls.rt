@@ -1,7 +1,7 @@
 //! Rows that begin and end a call.
-ghost use Rattle.std.specs.Prelude.{◌≡◌, ◌≤◌, ◌<◌, ◌+◌, ℕ, Ok, IfOk, OnOk, OnErr, IfErr, Option, Some, None};
-ghost use Rattle.ho_procedure.specs.Plan.{Plan, Ends, At, Asking};
-ghost use Rattle.ho_procedure.specs.Going.{Goes, Passes, IsForeign, then};
+ghost use Rattle.std.specs.Prelude.{◌≡◌, ◌≤◌, ◌<◌, ◌+◌, ℕ, Ok, IfOk, OnOk, IfErr, Option, Some, None};
+ghost use Rattle.ho_procedure.specs.Plan.{Plan, Ends, At};
+ghost use Rattle.ho_procedure.specs.Going.{Goes, Passes, IsForeign, then, stops_at};
 ghost use Rattle.ho_procedure.specs.Procedure.{opened_plan, open_plan, release_serving, release_plan, told_release_plan, clear_serving, clear_undone, clear_named, clear_rest, clear_plan, left_channel, left_plan, clear_call, clear_command_rest, clear_command_plan, release_cause};
 
 use super::parts::{look, release_target};
@@ -18,7 +18,7 @@ use std::alloc::Allocator;
 #[tactic(auto, using(crate::proofs::Asking::row_steps), unfolding(crate::specs::Procedure::opened_plan))]
 fn activate<D: DeskView + Drop, A: Allocator + Copy>(work: &mut Work<D, A>, chan: ChanId)
     requires { 1 ≤ work.old.owed.room }
-    ensures row { Goes D.log D.choice_at work.old (opened_plan chan) work.new (At Ends) }
+    ensures row { Goes D.log D.says work.old (opened_plan chan) work.new (At Ends) }
     ensures foreign_kept { D.may_be_foreign work.new.view → D.may_be_foreign work.old.view }
 {
     if is_nameable(chan) {
@@ -33,10 +33,10 @@ pub(crate) fn open<D: DeskView + Drop, A: Allocator + Copy>(
     call: u16,
     chan: ChanId,
 ) -> Result<(), DeskFault>
-    ensures row { OnOk result (Goes D.log D.choice_at work.old
+    ensures row { OnOk result (Goes D.log D.says work.old
         (open_plan call chan) work.new (At Ends)) }
-    ensures stops { OnErr result (Goes D.log D.choice_at work.old
-        (open_plan call chan) work.new Asking) }
+    ensures stops { IfErr result (λ f. Goes D.log D.says work.old
+        (open_plan call chan) work.new (stops_at f)) }
     ensures foreign { IfErr result (λ f. IsForeign f → D.may_be_foreign work.old.view) }
     ensures foreign_kept { D.may_be_foreign work.new.view → D.may_be_foreign work.old.view }
 {
@@ -55,7 +55,7 @@ fn release<D: DeskView + Drop, A: Allocator + Copy>(
     chan: Option<ChanId>,
 ) -> Course
     requires { 1 ≤ work.old.owed.room }
-    ensures goes { (tail : Plan) → Passes D.log D.choice_at work.old
+    ensures goes { (tail : Plan) → Passes D.log D.says work.old
         (release_plan chan tail) work.new (then tail result) }
     ensures room { work.old.owed.room ≤ work.new.owed.room + 1 }
     ensures foreign_kept { D.may_be_foreign work.new.view → D.may_be_foreign work.old.view }
@@ -78,7 +78,7 @@ fn release_told<D: DeskView + Drop, A: Allocator + Copy>(
     chan: Option<ChanId>,
 ) -> Course
     requires { 2 ≤ work.old.owed.room }
-    ensures goes { (tail : Plan) → Passes D.log D.choice_at work.old
+    ensures goes { (tail : Plan) → Passes D.log D.says work.old
         (told_release_plan cause chan tail) work.new (then tail result) }
     ensures room { work.old.owed.room ≤ work.new.owed.room + 2 }
     ensures foreign_kept { D.may_be_foreign work.new.view → D.may_be_foreign work.old.view }
@@ -105,7 +105,7 @@ fn release_serving<D: DeskView + Drop, A: Allocator + Copy>(
     shown: Shown,
 ) -> Course
     requires { 2 ≤ work.old.owed.room }
-    ensures goes { (tail : Plan) → Passes D.log D.choice_at work.old
+    ensures goes { (tail : Plan) → Passes D.log D.says work.old
         (release_serving cause shown.record shown.state tail) work.new (then tail result) }
     ensures room { work.old.owed.room ≤ work.new.owed.room + 2 }
     ensures foreign_kept { D.may_be_foreign work.new.view → D.may_be_foreign work.old.view }
@@ -128,10 +128,10 @@ fn clear_serving<D: DeskView + Drop, A: Allocator + Copy>(
     shown: Shown,
 ) -> Result<Course, DeskFault>
     requires { 2 ≤ work.old.owed.room }
-    ensures goes { IfOk result (λ course. (tail : Plan) → Passes D.log D.choice_at work.old
+    ensures goes { IfOk result (λ course. (tail : Plan) → Passes D.log D.says work.old
         (clear_serving call cause shown.record shown.state tail) work.new (then tail course)) }
-    ensures stops { OnErr result ((tail : Plan) → Goes D.log D.choice_at work.old
-        (clear_serving call cause shown.record shown.state tail) work.new Asking) }
+    ensures stops { IfErr result (λ f. (tail : Plan) → Goes D.log D.says work.old
+        (clear_serving call cause shown.record shown.state tail) work.new (stops_at f)) }
     ensures room { result ≡ Ok Course.On → work.old.owed.room ≤ work.new.owed.room + 2 }
     ensures foreign { IfErr result (λ f. IsForeign f → D.may_be_foreign work.old.view) }
     ensures foreign_kept { D.may_be_foreign work.new.view → D.may_be_foreign work.old.view }
@@ -151,10 +151,10 @@ fn clear_undone<D: DeskView + Drop, A: Allocator + Copy>(
     shown: Shown,
 ) -> Result<Course, DeskFault>
     requires { 3 ≤ work.old.owed.room }
-    ensures goes { IfOk result (λ course. (tail : Plan) → Passes D.log D.choice_at work.old
+    ensures goes { IfOk result (λ course. (tail : Plan) → Passes D.log D.says work.old
         (clear_undone call cause shown.record shown.state tail) work.new (then tail course)) }
-    ensures stops { OnErr result ((tail : Plan) → Goes D.log D.choice_at work.old
-        (clear_undone call cause shown.record shown.state tail) work.new Asking) }
+    ensures stops { IfErr result (λ f. (tail : Plan) → Goes D.log D.says work.old
+        (clear_undone call cause shown.record shown.state tail) work.new (stops_at f)) }
     ensures room { result ≡ Ok Course.On → work.old.owed.room ≤ work.new.owed.room + 3 }
     ensures foreign { IfErr result (λ f. IsForeign f → D.may_be_foreign work.old.view) }
     ensures foreign_kept { D.may_be_foreign work.new.view → D.may_be_foreign work.old.view }
@@ -177,10 +177,10 @@ fn clear_rest<D: DeskView + Drop, A: Allocator + Copy>(
     shown: Shown,
 ) -> Result<Course, DeskFault>
     requires { 3 ≤ work.old.owed.room }
-    ensures goes { IfOk result (λ course. (tail : Plan) → Passes D.log D.choice_at work.old
+    ensures goes { IfOk result (λ course. (tail : Plan) → Passes D.log D.says work.old
         (clear_rest call cause shown.record shown.state tail) work.new (then tail course)) }
-    ensures stops { OnErr result ((tail : Plan) → Goes D.log D.choice_at work.old
-        (clear_rest call cause shown.record shown.state tail) work.new Asking) }
+    ensures stops { IfErr result (λ f. (tail : Plan) → Goes D.log D.says work.old
+        (clear_rest call cause shown.record shown.state tail) work.new (stops_at f)) }
     ensures room { result ≡ Ok Course.On → work.old.owed.room ≤ work.new.owed.room + 3 }
     ensures foreign { IfErr result (λ f. IsForeign f → D.may_be_foreign work.old.view) }
     ensures foreign_kept { D.may_be_foreign work.new.view → D.may_be_foreign work.old.view }
@@ -207,10 +207,10 @@ pub(crate) fn clear<D: DeskView + Drop, A: Allocator + Copy>(
     work: &mut Work<D, A>,
     call: u16,
 ) -> Result<(), DeskFault>
-    ensures row { OnOk result (Goes D.log D.choice_at work.old
+    ensures row { OnOk result (Goes D.log D.says work.old
         (clear_plan call) work.new (At Ends)) }
-    ensures stops { OnErr result (Goes D.log D.choice_at work.old
-        (clear_plan call) work.new Asking) }
+    ensures stops { IfErr result (λ f. Goes D.log D.says work.old
+        (clear_plan call) work.new (stops_at f)) }
     ensures foreign { IfErr result (λ f. IsForeign f → D.may_be_foreign work.old.view) }
     ensures foreign_kept { D.may_be_foreign work.new.view → D.may_be_foreign work.old.view }
 {
@@ -243,10 +243,10 @@ fn leave_channel<D: DeskView + Drop, A: Allocator + Copy>(
 ) -> Result<(), DeskFault>
     requires room { 2 ≤ work.old.owed.room }
     requires timeslot { serving.tn < 8 }
-    ensures row { OnOk result (Goes D.log D.choice_at work.old
+    ensures row { OnOk result (Goes D.log D.says work.old
         (left_channel call serving) work.new (At Ends)) }
-    ensures stops { OnErr result (Goes D.log D.choice_at work.old
-        (left_channel call serving) work.new Asking) }
+    ensures stops { IfErr result (λ f. Goes D.log D.says work.old
+        (left_channel call serving) work.new (stops_at f)) }
     ensures foreign { IfErr result (λ f. IsForeign f → D.may_be_foreign work.old.view) }
     ensures foreign_kept { D.may_be_foreign work.new.view → D.may_be_foreign work.old.view }
 {
@@ -266,10 +266,10 @@ fn leave<D: DeskView + Drop, A: Allocator + Copy>(
     serving: Option<ChanId>,
 ) -> Result<(), DeskFault>
     requires { 2 ≤ work.old.owed.room }
-    ensures row { OnOk result (Goes D.log D.choice_at work.old
+    ensures row { OnOk result (Goes D.log D.says work.old
         (left_plan call serving) work.new (At Ends)) }
-    ensures stops { OnErr result (Goes D.log D.choice_at work.old
-        (left_plan call serving) work.new Asking) }
+    ensures stops { IfErr result (λ f. Goes D.log D.says work.old
+        (left_plan call serving) work.new (stops_at f)) }
     ensures foreign { IfErr result (λ f. IsForeign f → D.may_be_foreign work.old.view) }
     ensures foreign_kept { D.may_be_foreign work.new.view → D.may_be_foreign work.old.view }
 {
@@ -291,10 +291,10 @@ fn clear_call<D: DeskView + Drop, A: Allocator + Copy>(
     shown: Shown,
 ) -> Result<(), DeskFault>
     requires { 4 ≤ work.old.owed.room }
-    ensures row { OnOk result (Goes D.log D.choice_at work.old
+    ensures row { OnOk result (Goes D.log D.says work.old
         (clear_call call cause shown.record shown.state) work.new (At Ends)) }
-    ensures stops { OnErr result (Goes D.log D.choice_at work.old
-        (clear_call call cause shown.record shown.state) work.new Asking) }
+    ensures stops { IfErr result (λ f. Goes D.log D.says work.old
+        (clear_call call cause shown.record shown.state) work.new (stops_at f)) }
     ensures foreign { IfErr result (λ f. IsForeign f → D.may_be_foreign work.old.view) }
     ensures foreign_kept { D.may_be_foreign work.new.view → D.may_be_foreign work.old.view }
 {
@@ -314,10 +314,10 @@ fn clear_command_rest<D: DeskView + Drop, A: Allocator + Copy>(
     reply: Reply,
 ) -> Result<(), DeskFault>
     requires { 4 ≤ work.old.owed.room }
-    ensures row { OnOk result (Goes D.log D.choice_at work.old
+    ensures row { OnOk result (Goes D.log D.says work.old
         (clear_command_rest call cause reply) work.new (At Ends)) }
-    ensures stops { OnErr result (Goes D.log D.choice_at work.old
-        (clear_command_rest call cause reply) work.new Asking) }
+    ensures stops { IfErr result (λ f. Goes D.log D.says work.old
+        (clear_command_rest call cause reply) work.new (stops_at f)) }
     ensures foreign { IfErr result (λ f. IsForeign f → D.may_be_foreign work.old.view) }
     ensures foreign_kept { D.may_be_foreign work.new.view → D.may_be_foreign work.old.view }
 {
@@ -344,10 +344,10 @@ pub(crate) fn clear_command<D: DeskView + Drop, A: Allocator + Copy>(
     call: u16,
     cause: u8,
 ) -> Result<(), DeskFault>
-    ensures row { OnOk result (Goes D.log D.choice_at work.old
+    ensures row { OnOk result (Goes D.log D.says work.old
         (clear_command_plan call cause) work.new (At Ends)) }
-    ensures stops { OnErr result (Goes D.log D.choice_at work.old
-        (clear_command_plan call cause) work.new Asking) }
+    ensures stops { IfErr result (λ f. Goes D.log D.says work.old
+        (clear_command_plan call cause) work.new (stops_at f)) }
     ensures foreign { IfErr result (λ f. IsForeign f → D.may_be_foreign work.old.view) }
     ensures foreign_kept { D.may_be_foreign work.new.view → D.may_be_foreign work.old.view }
 {

@@ -1,7 +1,7 @@
 //! Rows of the messages of the switching centre about a handover between controllers.
-ghost use Rattle.std.specs.Prelude.{◌≡◌, ◌≤◌, ◌<◌, OnOk, OnErr, IfErr, length};
-ghost use Rattle.ho_procedure.specs.Plan.{Ends, At, Asking};
-ghost use Rattle.ho_procedure.specs.Going.{Goes, IsForeign};
+ghost use Rattle.std.specs.Prelude.{◌≡◌, ◌≤◌, ◌<◌, OnOk, IfErr, length};
+ghost use Rattle.ho_procedure.specs.Plan.{Ends, At};
+ghost use Rattle.ho_procedure.specs.Going.{Goes, IsForeign, stops_at};
 ghost use Rattle.ho_procedure.specs.Procedure.{admit_plan, request_rest, request_plan, order_channel, order_plan, reject_plan};
 
 use super::handovers::go_on_taken;
@@ -28,10 +28,10 @@ fn admit<D: DeskView + Drop, A: Allocator + Copy>(
     cell: Option<u8>,
 ) -> Result<(), DeskFault>
     requires { 1 ≤ work.old.owed.room }
-    ensures row { OnOk result (Goes D.log D.choice_at work.old
+    ensures row { OnOk result (Goes D.log D.says work.old
         (admit_plan call cell) work.new (At Ends)) }
-    ensures stops { OnErr result (Goes D.log D.choice_at work.old
-        (admit_plan call cell) work.new Asking) }
+    ensures stops { IfErr result (λ f. Goes D.log D.says work.old
+        (admit_plan call cell) work.new (stops_at f)) }
     ensures foreign { IfErr result (λ f. IsForeign f → D.may_be_foreign work.old.view) }
     ensures foreign_kept { D.may_be_foreign work.new.view → D.may_be_foreign work.old.view }
 {
@@ -57,10 +57,10 @@ fn request_rest<D: DeskView + Drop, A: Allocator + Copy>(
     target: CellId,
 ) -> Result<(), DeskFault>
     requires { 1 ≤ work.old.owed.room }
-    ensures row { OnOk result (Goes D.log D.choice_at work.old
+    ensures row { OnOk result (Goes D.log D.says work.old
         (request_rest site.now call channel.now encryption.now target) work.new (At Ends)) }
-    ensures stops { OnErr result (Goes D.log D.choice_at work.old
-        (request_rest site.now call channel.now encryption.now target) work.new Asking) }
+    ensures stops { IfErr result (λ f. Goes D.log D.says work.old
+        (request_rest site.now call channel.now encryption.now target) work.new (stops_at f)) }
     ensures foreign { IfErr result (λ f. IsForeign f → D.may_be_foreign work.old.view) }
     ensures foreign_kept { D.may_be_foreign work.new.view → D.may_be_foreign work.old.view }
 {
@@ -86,10 +86,10 @@ pub(crate) fn request<D: DeskView + Drop, A: Allocator + Copy>(
     encryption: &[u8],
     target: CellId,
 ) -> Result<(), DeskFault>
-    ensures row { OnOk result (Goes D.log D.choice_at work.old
+    ensures row { OnOk result (Goes D.log D.says work.old
         (request_plan site.now call channel.now encryption.now target) work.new (At Ends)) }
-    ensures stops { OnErr result (Goes D.log D.choice_at work.old
-        (request_plan site.now call channel.now encryption.now target) work.new Asking) }
+    ensures stops { IfErr result (λ f. Goes D.log D.says work.old
+        (request_plan site.now call channel.now encryption.now target) work.new (stops_at f)) }
     ensures foreign { IfErr result (λ f. IsForeign f → D.may_be_foreign work.old.view) }
     ensures foreign_kept { D.may_be_foreign work.new.view → D.may_be_foreign work.old.view }
 {
@@ -111,10 +111,10 @@ fn order_channel<D: DeskView + Drop, A: Allocator + Copy>(
     requires timeslot { serving.tn < 8 }
     requires some { 0 < length layer3.now }
     requires short { length layer3.now ≤ 1015 }
-    ensures row { OnOk result (Goes D.log D.choice_at work.old
+    ensures row { OnOk result (Goes D.log D.says work.old
         (order_channel call layer3.now serving) work.new (At Ends)) }
-    ensures stops { OnErr result (Goes D.log D.choice_at work.old
-        (order_channel call layer3.now serving) work.new Asking) }
+    ensures stops { IfErr result (λ f. Goes D.log D.says work.old
+        (order_channel call layer3.now serving) work.new (stops_at f)) }
     ensures foreign { IfErr result (λ f. IsForeign f → D.may_be_foreign work.old.view) }
     ensures foreign_kept { D.may_be_foreign work.new.view → D.may_be_foreign work.old.view }
 {
@@ -135,10 +135,10 @@ pub(crate) fn order<D: DeskView + Drop, A: Allocator + Copy>(
 ) -> Result<(), DeskFault>
     requires some { 0 < length layer3.now }
     requires short { length layer3.now ≤ 1015 }
-    ensures row { OnOk result (Goes D.log D.choice_at work.old
+    ensures row { OnOk result (Goes D.log D.says work.old
         (order_plan call layer3.now) work.new (At Ends)) }
-    ensures stops { OnErr result (Goes D.log D.choice_at work.old
-        (order_plan call layer3.now) work.new Asking) }
+    ensures stops { IfErr result (λ f. Goes D.log D.says work.old
+        (order_plan call layer3.now) work.new (stops_at f)) }
     ensures foreign { IfErr result (λ f. IsForeign f → D.may_be_foreign work.old.view) }
     ensures foreign_kept { D.may_be_foreign work.new.view → D.may_be_foreign work.old.view }
 {
@@ -163,10 +163,10 @@ pub(crate) fn reject<D: DeskView + Drop, A: Allocator + Copy>(
     work: &mut Work<D, A>,
     call: u16,
 ) -> Result<(), DeskFault>
-    ensures row { OnOk result (Goes D.log D.choice_at work.old
+    ensures row { OnOk result (Goes D.log D.says work.old
         (reject_plan call) work.new (At Ends)) }
-    ensures stops { OnErr result (Goes D.log D.choice_at work.old
-        (reject_plan call) work.new Asking) }
+    ensures stops { IfErr result (λ f. Goes D.log D.says work.old
+        (reject_plan call) work.new (stops_at f)) }
     ensures foreign { IfErr result (λ f. IsForeign f → D.may_be_foreign work.old.view) }
     ensures foreign_kept { D.may_be_foreign work.new.view → D.may_be_foreign work.old.view }
 {

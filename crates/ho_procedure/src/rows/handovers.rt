@@ -1,7 +1,7 @@
 //! Rows that begin a handover and take it back.
-ghost use Rattle.std.specs.Prelude.{◌≡◌, ◌≤◌, ℕ, OnOk, OnErr, IfErr, IfOk, IsSome, ◌<◌};
-ghost use Rattle.ho_procedure.specs.Plan.{Plan, Ends, At, Asking};
-ghost use Rattle.ho_procedure.specs.Going.{Goes, Passes, IsForeign, then};
+ghost use Rattle.std.specs.Prelude.{◌≡◌, ◌≤◌, ℕ, OnOk, IfErr, IfOk, IsSome, ◌<◌};
+ghost use Rattle.ho_procedure.specs.Plan.{Plan, Ends, At};
+ghost use Rattle.ho_procedure.specs.Going.{Goes, Passes, IsForeign, then, stops_at};
 ghost use Rattle.ho_procedure.specs.Procedure.{activate_plan, start_plan, taken_plan, require_plan, handover_plan, take_back, undo_plan, expiry_plan};
 
 use super::parts::{release_target, tell_failure};
@@ -28,10 +28,10 @@ fn activate<D: DeskView + Drop, A: Allocator + Copy>(
 ) -> Result<(), DeskFault>
     requires room { 1 ≤ work.old.owed.room }
     requires timeslot { target.tn < 8 }
-    ensures row { OnOk result (Goes D.log D.choice_at work.old
+    ensures row { OnOk result (Goes D.log D.says work.old
         (activate_plan call target reference) work.new (At Ends)) }
-    ensures stops { OnErr result (Goes D.log D.choice_at work.old
-        (activate_plan call target reference) work.new Asking) }
+    ensures stops { IfErr result (λ f. Goes D.log D.says work.old
+        (activate_plan call target reference) work.new (stops_at f)) }
     ensures foreign { IfErr result (λ f. IsForeign f → D.may_be_foreign work.old.view) }
     ensures foreign_kept { D.may_be_foreign work.new.view → D.may_be_foreign work.old.view }
 {
@@ -51,10 +51,10 @@ pub(super) fn go_on_taken<D: DeskView + Drop, A: Allocator + Copy>(
     reply: Reply,
 ) -> Result<(), DeskFault>
     requires { 1 ≤ work.old.owed.room }
-    ensures row { OnOk result (Goes D.log D.choice_at work.old
+    ensures row { OnOk result (Goes D.log D.says work.old
         (taken_plan call target reply) work.new (At Ends)) }
-    ensures stops { OnErr result (Goes D.log D.choice_at work.old
-        (taken_plan call target reply) work.new Asking) }
+    ensures stops { IfErr result (λ f. Goes D.log D.says work.old
+        (taken_plan call target reply) work.new (stops_at f)) }
     ensures foreign { IfErr result (λ f. IsForeign f → D.may_be_foreign work.old.view) }
     ensures foreign_kept { D.may_be_foreign work.new.view → D.may_be_foreign work.old.view }
 {
@@ -78,10 +78,10 @@ fn require<D: DeskView + Drop, A: Allocator + Copy>(
     cell: CellId,
 ) -> Result<(), DeskFault>
     requires area { IsSome cell.lac }
-    ensures row { OnOk result (Goes D.log D.choice_at work.old
+    ensures row { OnOk result (Goes D.log D.says work.old
         (require_plan call cell) work.new (At Ends)) }
-    ensures stops { OnErr result (Goes D.log D.choice_at work.old
-        (require_plan call cell) work.new Asking) }
+    ensures stops { IfErr result (λ f. Goes D.log D.says work.old
+        (require_plan call cell) work.new (stops_at f)) }
     ensures foreign { IfErr result (λ f. IsForeign f → D.may_be_foreign work.old.view) }
     ensures foreign_kept { D.may_be_foreign work.new.view → D.may_be_foreign work.old.view }
 {
@@ -101,10 +101,10 @@ pub(super) fn start<D: DeskView + Drop, A: Allocator + Copy>(
     call: u16,
     cell: u8,
 ) -> Result<Course, DeskFault>
-    ensures goes { IfOk result (λ course. (tail : Plan) → Passes D.log D.choice_at work.old
+    ensures goes { IfOk result (λ course. (tail : Plan) → Passes D.log D.says work.old
         (start_plan site.now call cell tail) work.new (then tail course)) }
-    ensures stops { OnErr result ((tail : Plan) → Goes D.log D.choice_at work.old
-        (start_plan site.now call cell tail) work.new Asking) }
+    ensures stops { IfErr result (λ f. (tail : Plan) → Goes D.log D.says work.old
+        (start_plan site.now call cell tail) work.new (stops_at f)) }
     ensures foreign { IfErr result (λ f. IsForeign f → D.may_be_foreign work.old.view) }
     ensures foreign_kept { D.may_be_foreign work.new.view → D.may_be_foreign work.old.view }
 {
@@ -130,10 +130,10 @@ pub(crate) fn handover<D: DeskView + Drop, A: Allocator + Copy>(
     call: u16,
     cell: u8,
 ) -> Result<(), DeskFault>
-    ensures row { OnOk result (Goes D.log D.choice_at work.old
+    ensures row { OnOk result (Goes D.log D.says work.old
         (handover_plan site.now call cell) work.new (At Ends)) }
-    ensures stops { OnErr result (Goes D.log D.choice_at work.old
-        (handover_plan site.now call cell) work.new Asking) }
+    ensures stops { IfErr result (λ f. Goes D.log D.says work.old
+        (handover_plan site.now call cell) work.new (stops_at f)) }
     ensures foreign { IfErr result (λ f. IsForeign f → D.may_be_foreign work.old.view) }
     ensures foreign_kept { D.may_be_foreign work.new.view → D.may_be_foreign work.old.view }
 {
@@ -147,10 +147,10 @@ pub(crate) fn undo<D: DeskView + Drop, A: Allocator + Copy>(
     work: &mut Work<D, A>,
     call: u16,
 ) -> Result<(), DeskFault>
-    ensures row { OnOk result (Goes D.log D.choice_at work.old
+    ensures row { OnOk result (Goes D.log D.says work.old
         (undo_plan call) work.new (At Ends)) }
-    ensures stops { OnErr result (Goes D.log D.choice_at work.old
-        (undo_plan call) work.new Asking) }
+    ensures stops { IfErr result (λ f. Goes D.log D.says work.old
+        (undo_plan call) work.new (stops_at f)) }
     ensures foreign { IfErr result (λ f. IsForeign f → D.may_be_foreign work.old.view) }
     ensures foreign_kept { D.may_be_foreign work.new.view → D.may_be_foreign work.old.view }
 {
@@ -172,10 +172,10 @@ pub(crate) fn expire<D: DeskView + Drop, A: Allocator + Copy>(
     call: u16,
     timer: Timer,
 ) -> Result<(), DeskFault>
-    ensures row { OnOk result (Goes D.log D.choice_at work.old
+    ensures row { OnOk result (Goes D.log D.says work.old
         (expiry_plan call timer) work.new (At Ends)) }
-    ensures stops { OnErr result (Goes D.log D.choice_at work.old
-        (expiry_plan call timer) work.new Asking) }
+    ensures stops { IfErr result (λ f. Goes D.log D.says work.old
+        (expiry_plan call timer) work.new (stops_at f)) }
     ensures foreign { IfErr result (λ f. IsForeign f → D.may_be_foreign work.old.view) }
     ensures foreign_kept { D.may_be_foreign work.new.view → D.may_be_foreign work.old.view }
 {

@@ -1,8 +1,8 @@
 //! Rows of the messages of mobiles.
-ghost use Rattle.std.specs.Prelude.{◌≡◌, ◌≤◌, ◌<◌, ℕ, drop, List, OnOk, OnErr, IfErr, IsTrue};
+ghost use Rattle.std.specs.Prelude.{◌≡◌, ◌≤◌, ◌<◌, ℕ, drop, List, OnOk, IfErr, IsTrue};
 ghost use Rattle.ho_procedure.specs.Windows.{with_report};
-ghost use Rattle.ho_procedure.specs.Plan.{Plan, Ends, At, Asking};
-ghost use Rattle.ho_procedure.specs.Going.{Goes, Passes, IsForeign, last_reports};
+ghost use Rattle.ho_procedure.specs.Plan.{Plan, Ends, At};
+ghost use Rattle.ho_procedure.specs.Going.{Goes, Passes, IsForeign, last_reports, stops_at};
 ghost use Rattle.ho_procedure.specs.Procedure.{try_plan, rank_plan, report_plan, internal_complete, incoming_complete, complete_rest, complete_plan, take_back, tell_returned, outgoing_return, return_rest, return_plan};
 
 use super::handovers::start;
@@ -29,10 +29,10 @@ fn try_cells<D: DeskView + Drop, A: Allocator + Copy>(
     call: u16,
     candidates: &[Candidate],
 ) -> Result<(), DeskFault>
-    ensures row { OnOk result (Goes D.log D.choice_at work.old
+    ensures row { OnOk result (Goes D.log D.says work.old
         (try_plan site.now call candidates.now) work.new (At Ends)) }
-    ensures stops { OnErr result (Goes D.log D.choice_at work.old
-        (try_plan site.now call candidates.now) work.new Asking) }
+    ensures stops { IfErr result (λ f. Goes D.log D.says work.old
+        (try_plan site.now call candidates.now) work.new (stops_at f)) }
     ensures foreign { IfErr result (λ f. IsForeign f → D.may_be_foreign work.old.view) }
     ensures foreign_kept { D.may_be_foreign work.new.view → D.may_be_foreign work.old.view }
 {
@@ -56,14 +56,14 @@ fn note_report<D: DeskView + Drop, A: Allocator + Copy>(
 ) -> Result<(), DeskFault>
     requires ready { IsTrue work.old.windows.is_ready }
     requires width { work.old.windows.width ≡ site.now.handover.window }
-    ensures row { OnOk result (Goes D.log D.choice_at work.old
+    ensures row { OnOk result (Goes D.log D.says work.old
         (rank_plan site.now call cell
         (with_report site.now.handover.window (last_reports work.old.windows call) report.now)
         report.now attempt) work.new (At Ends)) }
-    ensures stops { OnErr result (Goes D.log D.choice_at work.old
+    ensures stops { IfErr result (λ f. Goes D.log D.says work.old
         (rank_plan site.now call cell
         (with_report site.now.handover.window (last_reports work.old.windows call) report.now)
-        report.now attempt) work.new Asking) }
+        report.now attempt) work.new (stops_at f)) }
     ensures foreign { IfErr result (λ f. IsForeign f → D.may_be_foreign work.old.view) }
     ensures foreign_kept { D.may_be_foreign work.new.view → D.may_be_foreign work.old.view }
 {
@@ -84,12 +84,12 @@ pub(crate) fn report<D: DeskView + Drop, A: Allocator + Copy>(
     report: &MeasResults,
 ) -> Result<(), DeskFault>
     requires { work.old.windows.width ≡ site.now.handover.window }
-    ensures row { OnOk result (Goes D.log D.choice_at work.old
+    ensures row { OnOk result (Goes D.log D.says work.old
         (report_plan site.now
         (last_reports work.old.windows) chan report.now) work.new (At Ends)) }
-    ensures stops { OnErr result (Goes D.log D.choice_at work.old
+    ensures stops { IfErr result (λ f. Goes D.log D.says work.old
         (report_plan site.now
-        (last_reports work.old.windows) chan report.now) work.new Asking) }
+        (last_reports work.old.windows) chan report.now) work.new (stops_at f)) }
     ensures foreign { IfErr result (λ f. IsForeign f → D.may_be_foreign work.old.view) }
     ensures foreign_kept { D.may_be_foreign work.new.view → D.may_be_foreign work.old.view }
 {
@@ -115,10 +115,10 @@ fn complete_internal<D: DeskView + Drop, A: Allocator + Copy>(
     target: ChanId,
     serving: Option<ChanId>,
 ) -> Result<(), DeskFault>
-    ensures row { OnOk result (Goes D.log D.choice_at work.old
+    ensures row { OnOk result (Goes D.log D.says work.old
         (internal_complete site.now call target serving) work.new (At Ends)) }
-    ensures stops { OnErr result (Goes D.log D.choice_at work.old
-        (internal_complete site.now call target serving) work.new Asking) }
+    ensures stops { IfErr result (λ f. Goes D.log D.says work.old
+        (internal_complete site.now call target serving) work.new (stops_at f)) }
     ensures foreign { IfErr result (λ f. IsForeign f → D.may_be_foreign work.old.view) }
     ensures foreign_kept { D.may_be_foreign work.new.view → D.may_be_foreign work.old.view }
 {
@@ -147,10 +147,10 @@ fn complete_incoming<D: DeskView + Drop, A: Allocator + Copy>(
     call: u16,
     cause: u8,
 ) -> Result<(), DeskFault>
-    ensures row { OnOk result (Goes D.log D.choice_at work.old
+    ensures row { OnOk result (Goes D.log D.says work.old
         (incoming_complete call cause) work.new (At Ends)) }
-    ensures stops { OnErr result (Goes D.log D.choice_at work.old
-        (incoming_complete call cause) work.new Asking) }
+    ensures stops { IfErr result (λ f. Goes D.log D.says work.old
+        (incoming_complete call cause) work.new (stops_at f)) }
     ensures foreign { IfErr result (λ f. IsForeign f → D.may_be_foreign work.old.view) }
     ensures foreign_kept { D.may_be_foreign work.new.view → D.may_be_foreign work.old.view }
 {
@@ -173,10 +173,10 @@ fn complete_rest<D: DeskView + Drop, A: Allocator + Copy>(
     serving: Option<ChanId>,
     attempt: Option<Attempt>,
 ) -> Result<(), DeskFault>
-    ensures row { OnOk result (Goes D.log D.choice_at work.old
+    ensures row { OnOk result (Goes D.log D.says work.old
         (complete_rest site.now call cause chan serving attempt) work.new (At Ends)) }
-    ensures stops { OnErr result (Goes D.log D.choice_at work.old
-        (complete_rest site.now call cause chan serving attempt) work.new Asking) }
+    ensures stops { IfErr result (λ f. Goes D.log D.says work.old
+        (complete_rest site.now call cause chan serving attempt) work.new (stops_at f)) }
     ensures foreign { IfErr result (λ f. IsForeign f → D.may_be_foreign work.old.view) }
     ensures foreign_kept { D.may_be_foreign work.new.view → D.may_be_foreign work.old.view }
 {
@@ -201,10 +201,10 @@ pub(crate) fn complete<D: DeskView + Drop, A: Allocator + Copy>(
     chan: ChanId,
     cause: u8,
 ) -> Result<(), DeskFault>
-    ensures row { OnOk result (Goes D.log D.choice_at work.old
+    ensures row { OnOk result (Goes D.log D.says work.old
         (complete_plan site.now chan cause) work.new (At Ends)) }
-    ensures stops { OnErr result (Goes D.log D.choice_at work.old
-        (complete_plan site.now chan cause) work.new Asking) }
+    ensures stops { IfErr result (λ f. Goes D.log D.says work.old
+        (complete_plan site.now chan cause) work.new (stops_at f)) }
     ensures foreign { IfErr result (λ f. IsForeign f → D.may_be_foreign work.old.view) }
     ensures foreign_kept { D.may_be_foreign work.new.view → D.may_be_foreign work.old.view }
 {
@@ -231,10 +231,10 @@ fn return_internal<D: DeskView + Drop, A: Allocator + Copy>(
     work: &mut Work<D, A>,
     call: u16,
 ) -> Result<(), DeskFault>
-    ensures row { OnOk result (Goes D.log D.choice_at work.old
+    ensures row { OnOk result (Goes D.log D.says work.old
         (take_back call (λ attempt. Ends)) work.new (At Ends)) }
-    ensures stops { OnErr result (Goes D.log D.choice_at work.old
-        (take_back call (λ attempt. Ends)) work.new Asking) }
+    ensures stops { IfErr result (λ f. Goes D.log D.says work.old
+        (take_back call (λ attempt. Ends)) work.new (stops_at f)) }
     ensures foreign { IfErr result (λ f. IsForeign f → D.may_be_foreign work.old.view) }
     ensures foreign_kept { D.may_be_foreign work.new.view → D.may_be_foreign work.old.view }
 {
@@ -254,7 +254,7 @@ fn tell_returned<D: DeskView + Drop, A: Allocator + Copy>(
     cause: u8,
 )
     requires { 1 ≤ work.old.owed.room }
-    ensures row { Goes D.log D.choice_at work.old (tell_returned call cause) work.new (At Ends) }
+    ensures row { Goes D.log D.says work.old (tell_returned call cause) work.new (At Ends) }
     ensures foreign_kept { D.may_be_foreign work.new.view → D.may_be_foreign work.old.view }
 {
     work.send_handover_failure(call, REVERSION_TO_OLD_CHANNEL, Some(cause));
@@ -267,10 +267,10 @@ fn return_outgoing<D: DeskView + Drop, A: Allocator + Copy>(
     call: u16,
     cause: u8,
 ) -> Result<(), DeskFault>
-    ensures row { OnOk result (Goes D.log D.choice_at work.old
+    ensures row { OnOk result (Goes D.log D.says work.old
         (outgoing_return call cause) work.new (At Ends)) }
-    ensures stops { OnErr result (Goes D.log D.choice_at work.old
-        (outgoing_return call cause) work.new Asking) }
+    ensures stops { IfErr result (λ f. Goes D.log D.says work.old
+        (outgoing_return call cause) work.new (stops_at f)) }
     ensures foreign { IfErr result (λ f. IsForeign f → D.may_be_foreign work.old.view) }
     ensures foreign_kept { D.may_be_foreign work.new.view → D.may_be_foreign work.old.view }
 {
@@ -290,10 +290,10 @@ fn return_rest<D: DeskView + Drop, A: Allocator + Copy>(
     cause: u8,
     attempt: Option<Attempt>,
 ) -> Result<(), DeskFault>
-    ensures row { OnOk result (Goes D.log D.choice_at work.old
+    ensures row { OnOk result (Goes D.log D.says work.old
         (return_rest call cause attempt) work.new (At Ends)) }
-    ensures stops { OnErr result (Goes D.log D.choice_at work.old
-        (return_rest call cause attempt) work.new Asking) }
+    ensures stops { IfErr result (λ f. Goes D.log D.says work.old
+        (return_rest call cause attempt) work.new (stops_at f)) }
     ensures foreign { IfErr result (λ f. IsForeign f → D.may_be_foreign work.old.view) }
     ensures foreign_kept { D.may_be_foreign work.new.view → D.may_be_foreign work.old.view }
 {
@@ -326,10 +326,10 @@ pub(crate) fn return_to<D: DeskView + Drop, A: Allocator + Copy>(
     chan: ChanId,
     cause: u8,
 ) -> Result<(), DeskFault>
-    ensures row { OnOk result (Goes D.log D.choice_at work.old
+    ensures row { OnOk result (Goes D.log D.says work.old
         (return_plan chan cause) work.new (At Ends)) }
-    ensures stops { OnErr result (Goes D.log D.choice_at work.old
-        (return_plan chan cause) work.new Asking) }
+    ensures stops { IfErr result (λ f. Goes D.log D.says work.old
+        (return_plan chan cause) work.new (stops_at f)) }
     ensures foreign { IfErr result (λ f. IsForeign f → D.may_be_foreign work.old.view) }
     ensures foreign_kept { D.may_be_foreign work.new.view → D.may_be_foreign work.old.view }
 {

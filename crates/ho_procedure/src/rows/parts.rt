@@ -1,9 +1,9 @@
 //! Parts that several rows have.
-ghost use Rattle.std.specs.Prelude.{◌≡◌, ◌≤◌, ◌+◌, ℕ, List, Option, None, true, Ok, IfOk, IfErr, OnErr};
+ghost use Rattle.std.specs.Prelude.{◌≡◌, ◌≤◌, ◌+◌, ℕ, List, Option, None, true, Ok, IfOk, IfErr};
 ghost use Rattle.channel_fsm.specs.declared.ChanState.{ChanState};
 ghost use Rattle.radio_book.specs.declared.event.CallRecord.{CallRecord};
-ghost use Rattle.ho_procedure.specs.Plan.{Plan, Ends, At, Asking, call_dropped};
-ghost use Rattle.ho_procedure.specs.Going.{Goes, Passes, IsForeign, last_reports, then, then_of, then_shown};
+ghost use Rattle.ho_procedure.specs.Plan.{Plan, Ends, At, call_dropped};
+ghost use Rattle.ho_procedure.specs.Going.{Goes, Passes, IsForeign, last_reports, then, then_of, then_shown, stops_at};
 ghost use Rattle.ho_procedure.specs.Procedure.{owned, looked, release_target, turn_away, failure_of};
 
 use crate::causes::EQUIPMENT_FAILURE;
@@ -20,10 +20,10 @@ pub(super) fn owner<D: DeskView + Drop, A: Allocator + Copy>(
     work: &mut Work<D, A>,
     event: Event,
 ) -> Result<Option<u16>, DeskFault>
-    ensures goes { IfOk result (λ found. (next : ℕ → Plan) → Passes D.log D.choice_at work.old
+    ensures goes { IfOk result (λ found. (next : ℕ → Plan) → Passes D.log D.says work.old
         (owned event next) work.new (then_of next found)) }
-    ensures stops { OnErr result ((next : ℕ → Plan) → Goes D.log D.choice_at work.old
-        (owned event next) work.new Asking) }
+    ensures stops { IfErr result (λ f. (next : ℕ → Plan) → Goes D.log D.says work.old
+        (owned event next) work.new (stops_at f)) }
     ensures owed { work.new.owed ≡ work.old.owed }
     ensures reports { call_dropped event ≡ None → (call : ℕ) →
         last_reports work.new.windows call ≡ last_reports work.old.windows call }
@@ -45,9 +45,9 @@ pub(super) fn look<D: DeskView + Drop, A: Allocator + Copy>(
     call: u16,
 ) -> Result<Option<Shown>, DeskFault>
     ensures goes { IfOk result (λ found. (next : CallRecord → Option ChanState → Plan) →
-        Passes D.log D.choice_at work.old (looked call next) work.new (then_shown next found)) }
-    ensures stops { OnErr result ((next : CallRecord → Option ChanState → Plan) →
-        Goes D.log D.choice_at work.old (looked call next) work.new Asking) }
+        Passes D.log D.says work.old (looked call next) work.new (then_shown next found)) }
+    ensures stops { IfErr result (λ f. (next : CallRecord → Option ChanState → Plan) →
+        Goes D.log D.says work.old (looked call next) work.new (stops_at f)) }
     ensures owed { work.new.owed ≡ work.old.owed }
     ensures reports { (other : ℕ) →
         last_reports work.new.windows other ≡ last_reports work.old.windows other }
@@ -69,7 +69,7 @@ pub(super) fn release_target<D: DeskView + Drop, A: Allocator + Copy>(
     attempt: Option<Attempt>,
 ) -> Course
     requires { 1 ≤ work.old.owed.room }
-    ensures goes { (tail : Plan) → Passes D.log D.choice_at work.old
+    ensures goes { (tail : Plan) → Passes D.log D.says work.old
         (release_target attempt tail) work.new (then tail result) }
     ensures room { work.old.owed.room ≤ work.new.owed.room + 1 }
     ensures foreign_kept { D.may_be_foreign work.new.view → D.may_be_foreign work.old.view }
@@ -98,7 +98,7 @@ pub(super) fn turn_away<D: DeskView + Drop, A: Allocator + Copy>(
     cause: u8,
 )
     requires { 1 ≤ work.old.owed.room }
-    ensures row { Goes D.log D.choice_at work.old (turn_away call cause) work.new (At Ends) }
+    ensures row { Goes D.log D.says work.old (turn_away call cause) work.new (At Ends) }
     ensures foreign_kept { D.may_be_foreign work.new.view → D.may_be_foreign work.old.view }
 {
     work.send_handover_failure(call, cause, None);
@@ -112,7 +112,7 @@ pub(super) fn tell_failure<D: DeskView + Drop, A: Allocator + Copy>(
     attempt: Option<Attempt>,
 )
     requires { 1 ≤ work.old.owed.room }
-    ensures row { Goes D.log D.choice_at work.old (failure_of call attempt) work.new (At Ends) }
+    ensures row { Goes D.log D.says work.old (failure_of call attempt) work.new (At Ends) }
     ensures foreign_kept { D.may_be_foreign work.new.view → D.may_be_foreign work.old.view }
 {
     let Some(attempt) = attempt else {

@@ -1,7 +1,7 @@
 //! Rows of the messages of stations.
-ghost use Rattle.std.specs.Prelude.{◌≡◌, ◌≤◌, ◌<◌, ℕ, OnOk, OnErr, IfErr};
-ghost use Rattle.ho_procedure.specs.Plan.{Plan, Ends, At, Asking};
-ghost use Rattle.ho_procedure.specs.Going.{Goes, Passes, IsForeign};
+ghost use Rattle.std.specs.Prelude.{◌≡◌, ◌≤◌, ◌<◌, ℕ, OnOk, IfErr};
+ghost use Rattle.ho_procedure.specs.Plan.{Plan, Ends, At};
+ghost use Rattle.ho_procedure.specs.Going.{Goes, Passes, IsForeign, stops_at};
 ghost use Rattle.ho_procedure.specs.Procedure.{send_command, internal_command, acknowledge, incoming_command, confirm_rest, confirm_plan, refused_target, refuse_plan, released_plan, connection_failure_plan, tell_detected, detect_rest, detect_plan};
 
 use super::parts::{look, owner, tell_failure};
@@ -27,10 +27,10 @@ fn send_command<D: DeskView + Drop, A: Allocator + Copy>(
 ) -> Result<(), DeskFault>
     requires room { 1 ≤ work.old.owed.room }
     requires timeslot { serving.tn < 8 }
-    ensures row { OnOk result (Goes D.log D.choice_at work.old
+    ensures row { OnOk result (Goes D.log D.says work.old
         (send_command call serving command.now) work.new (At Ends)) }
-    ensures stops { OnErr result (Goes D.log D.choice_at work.old
-        (send_command call serving command.now) work.new Asking) }
+    ensures stops { IfErr result (λ f. Goes D.log D.says work.old
+        (send_command call serving command.now) work.new (stops_at f)) }
     ensures foreign { IfErr result (λ f. IsForeign f → D.may_be_foreign work.old.view) }
     ensures foreign_kept { D.may_be_foreign work.new.view → D.may_be_foreign work.old.view }
 {
@@ -52,10 +52,10 @@ fn command<D: DeskView + Drop, A: Allocator + Copy>(
     reference: Option<u8>,
 ) -> Result<(), DeskFault>
     requires { 1 ≤ work.old.owed.room }
-    ensures row { OnOk result (Goes D.log D.choice_at work.old
+    ensures row { OnOk result (Goes D.log D.says work.old
         (internal_command site.now call target serving reference) work.new (At Ends)) }
-    ensures stops { OnErr result (Goes D.log D.choice_at work.old
-        (internal_command site.now call target serving reference) work.new Asking) }
+    ensures stops { IfErr result (λ f. Goes D.log D.says work.old
+        (internal_command site.now call target serving reference) work.new (stops_at f)) }
     ensures foreign { IfErr result (λ f. IsForeign f → D.may_be_foreign work.old.view) }
     ensures foreign_kept { D.may_be_foreign work.new.view → D.may_be_foreign work.old.view }
 {
@@ -82,10 +82,10 @@ fn acknowledge<D: DeskView + Drop, A: Allocator + Copy>(
     command: &Rr,
 ) -> Result<(), DeskFault>
     requires { 1 ≤ work.old.owed.room }
-    ensures row { OnOk result (Goes D.log D.choice_at work.old
+    ensures row { OnOk result (Goes D.log D.says work.old
         (acknowledge call command.now) work.new (At Ends)) }
-    ensures stops { OnErr result (Goes D.log D.choice_at work.old
-        (acknowledge call command.now) work.new Asking) }
+    ensures stops { IfErr result (λ f. Goes D.log D.says work.old
+        (acknowledge call command.now) work.new (stops_at f)) }
     ensures foreign { IfErr result (λ f. IsForeign f → D.may_be_foreign work.old.view) }
     ensures foreign_kept { D.may_be_foreign work.new.view → D.may_be_foreign work.old.view }
 {
@@ -106,10 +106,10 @@ fn command_incoming<D: DeskView + Drop, A: Allocator + Copy>(
     reference: Option<u8>,
 ) -> Result<(), DeskFault>
     requires { 1 ≤ work.old.owed.room }
-    ensures row { OnOk result (Goes D.log D.choice_at work.old
+    ensures row { OnOk result (Goes D.log D.says work.old
         (incoming_command site.now call target reference) work.new (At Ends)) }
-    ensures stops { OnErr result (Goes D.log D.choice_at work.old
-        (incoming_command site.now call target reference) work.new Asking) }
+    ensures stops { IfErr result (λ f. Goes D.log D.says work.old
+        (incoming_command site.now call target reference) work.new (stops_at f)) }
     ensures foreign { IfErr result (λ f. IsForeign f → D.may_be_foreign work.old.view) }
     ensures foreign_kept { D.may_be_foreign work.new.view → D.may_be_foreign work.old.view }
 {
@@ -133,10 +133,10 @@ fn confirm_rest<D: DeskView + Drop, A: Allocator + Copy>(
     attempt: Option<Attempt>,
 ) -> Result<(), DeskFault>
     requires { 1 ≤ work.old.owed.room }
-    ensures row { OnOk result (Goes D.log D.choice_at work.old
+    ensures row { OnOk result (Goes D.log D.says work.old
         (confirm_rest site.now call chan serving attempt) work.new (At Ends)) }
-    ensures stops { OnErr result (Goes D.log D.choice_at work.old
-        (confirm_rest site.now call chan serving attempt) work.new Asking) }
+    ensures stops { IfErr result (λ f. Goes D.log D.says work.old
+        (confirm_rest site.now call chan serving attempt) work.new (stops_at f)) }
     ensures foreign { IfErr result (λ f. IsForeign f → D.may_be_foreign work.old.view) }
     ensures foreign_kept { D.may_be_foreign work.new.view → D.may_be_foreign work.old.view }
 {
@@ -160,10 +160,10 @@ pub(crate) fn confirm<D: DeskView + Drop, A: Allocator + Copy>(
     site: &Site<A>,
     chan: ChanId,
 ) -> Result<(), DeskFault>
-    ensures row { OnOk result (Goes D.log D.choice_at work.old
+    ensures row { OnOk result (Goes D.log D.says work.old
         (confirm_plan site.now chan) work.new (At Ends)) }
-    ensures stops { OnErr result (Goes D.log D.choice_at work.old
-        (confirm_plan site.now chan) work.new Asking) }
+    ensures stops { IfErr result (λ f. Goes D.log D.says work.old
+        (confirm_plan site.now chan) work.new (stops_at f)) }
     ensures foreign { IfErr result (λ f. IsForeign f → D.may_be_foreign work.old.view) }
     ensures foreign_kept { D.may_be_foreign work.new.view → D.may_be_foreign work.old.view }
 {
@@ -191,10 +191,10 @@ fn refuse_target<D: DeskView + Drop, A: Allocator + Copy>(
     call: u16,
 ) -> Result<(), DeskFault>
     requires { 1 ≤ work.old.owed.room }
-    ensures row { OnOk result (Goes D.log D.choice_at work.old
+    ensures row { OnOk result (Goes D.log D.says work.old
         (refused_target call) work.new (At Ends)) }
-    ensures stops { OnErr result (Goes D.log D.choice_at work.old
-        (refused_target call) work.new Asking) }
+    ensures stops { IfErr result (λ f. Goes D.log D.says work.old
+        (refused_target call) work.new (stops_at f)) }
     ensures foreign { IfErr result (λ f. IsForeign f → D.may_be_foreign work.old.view) }
     ensures foreign_kept { D.may_be_foreign work.new.view → D.may_be_foreign work.old.view }
 {
@@ -211,10 +211,10 @@ pub(crate) fn refuse<D: DeskView + Drop, A: Allocator + Copy>(
     work: &mut Work<D, A>,
     chan: ChanId,
 ) -> Result<(), DeskFault>
-    ensures row { OnOk result (Goes D.log D.choice_at work.old
+    ensures row { OnOk result (Goes D.log D.says work.old
         (refuse_plan chan) work.new (At Ends)) }
-    ensures stops { OnErr result (Goes D.log D.choice_at work.old
-        (refuse_plan chan) work.new Asking) }
+    ensures stops { IfErr result (λ f. Goes D.log D.says work.old
+        (refuse_plan chan) work.new (stops_at f)) }
     ensures foreign { IfErr result (λ f. IsForeign f → D.may_be_foreign work.old.view) }
     ensures foreign_kept { D.may_be_foreign work.new.view → D.may_be_foreign work.old.view }
 {
@@ -240,10 +240,10 @@ pub(crate) fn release<D: DeskView + Drop, A: Allocator + Copy>(
     work: &mut Work<D, A>,
     chan: ChanId,
 ) -> Result<(), DeskFault>
-    ensures row { OnOk result (Goes D.log D.choice_at work.old
+    ensures row { OnOk result (Goes D.log D.says work.old
         (released_plan chan) work.new (At Ends)) }
-    ensures stops { OnErr result (Goes D.log D.choice_at work.old
-        (released_plan chan) work.new Asking) }
+    ensures stops { IfErr result (λ f. Goes D.log D.says work.old
+        (released_plan chan) work.new (stops_at f)) }
     ensures foreign { IfErr result (λ f. IsForeign f → D.may_be_foreign work.old.view) }
     ensures foreign_kept { D.may_be_foreign work.new.view → D.may_be_foreign work.old.view }
 {
@@ -257,10 +257,10 @@ pub(crate) fn fail<D: DeskView + Drop, A: Allocator + Copy>(
     work: &mut Work<D, A>,
     chan: ChanId,
 ) -> Result<(), DeskFault>
-    ensures row { OnOk result (Goes D.log D.choice_at work.old
+    ensures row { OnOk result (Goes D.log D.says work.old
         (connection_failure_plan chan) work.new (At Ends)) }
-    ensures stops { OnErr result (Goes D.log D.choice_at work.old
-        (connection_failure_plan chan) work.new Asking) }
+    ensures stops { IfErr result (λ f. Goes D.log D.says work.old
+        (connection_failure_plan chan) work.new (stops_at f)) }
     ensures foreign { IfErr result (λ f. IsForeign f → D.may_be_foreign work.old.view) }
     ensures foreign_kept { D.may_be_foreign work.new.view → D.may_be_foreign work.old.view }
 {
@@ -281,7 +281,7 @@ pub(crate) fn fail<D: DeskView + Drop, A: Allocator + Copy>(
 #[tactic(auto, using(crate::proofs::Asking::row_steps), unfolding(crate::specs::Procedure::tell_detected))]
 fn tell_detected<D: DeskView + Drop, A: Allocator + Copy>(work: &mut Work<D, A>, call: u16)
     requires { 1 ≤ work.old.owed.room }
-    ensures row { Goes D.log D.choice_at work.old (tell_detected call) work.new (At Ends) }
+    ensures row { Goes D.log D.says work.old (tell_detected call) work.new (At Ends) }
     ensures foreign_kept { D.may_be_foreign work.new.view → D.may_be_foreign work.old.view }
 {
     work.send_handover_detect(call);
@@ -295,7 +295,7 @@ fn detect_rest<D: DeskView + Drop, A: Allocator + Copy>(
     attempt: Option<Attempt>,
 )
     requires { 1 ≤ work.old.owed.room }
-    ensures row { Goes D.log D.choice_at work.old (detect_rest call attempt) work.new (At Ends) }
+    ensures row { Goes D.log D.says work.old (detect_rest call attempt) work.new (At Ends) }
     ensures foreign_kept { D.may_be_foreign work.new.view → D.may_be_foreign work.old.view }
 {
     let Some(attempt) = attempt else {
@@ -313,10 +313,10 @@ pub(crate) fn detect<D: DeskView + Drop, A: Allocator + Copy>(
     work: &mut Work<D, A>,
     chan: ChanId,
 ) -> Result<(), DeskFault>
-    ensures row { OnOk result (Goes D.log D.choice_at work.old
+    ensures row { OnOk result (Goes D.log D.says work.old
         (detect_plan chan) work.new (At Ends)) }
-    ensures stops { OnErr result (Goes D.log D.choice_at work.old
-        (detect_plan chan) work.new Asking) }
+    ensures stops { IfErr result (λ f. Goes D.log D.says work.old
+        (detect_plan chan) work.new (stops_at f)) }
     ensures foreign { IfErr result (λ f. IsForeign f → D.may_be_foreign work.old.view) }
     ensures foreign_kept { D.may_be_foreign work.new.view → D.may_be_foreign work.old.view }
 {

@@ -25,7 +25,9 @@ struct Elsewhere;
 impl DeskView for Elsewhere {
     ghost log = { λ _. [] };
 
-    ghost choice_at = { λ _ _ _. Unit };
+    ghost says = { λ _ _ _. Unit };
+
+    ghost judged = { λ _ _ _. Unit };
 
     ghost may_be_foreign = { λ _. Unit };
 

@@ -1,4 +1,4 @@
-use super::decoded::{ON_A, ON_ABIS, ON_A_WITH_CELLS, RADIO, REPORTS};
+use super::decoded::{ON_A, ON_A_WITH_CELLS, ON_ABIS, RADIO, REPORTS};
 use super::failing::Failing;
 use lab::decoded::{Link, decode_run};
 use lab::encoded::encode_run;

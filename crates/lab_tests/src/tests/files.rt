@@ -1,6 +1,7 @@
 use super::{ONE_CALL, SITE};
 use lab::files::run_files;
 use lab::run::Status;
+use lab::site_files::SitePaths;
 use run_views::Views;
 use std::process::Abort;
 use std::rt::Files;
@@ -80,8 +81,7 @@ fn run_of_ends(
     let mut errors = Vec::new(rt.alloc());
     let ended = run_files(
         rt,
-        site,
-        peer,
+        SitePaths { first: site, peer },
         script,
         &Views::plain(),
         &mut out,

@@ -1,6 +1,7 @@
 use super::SITE;
 use lab::files::run_files;
 use lab::run::Status;
+use lab::site_files::SitePaths;
 use run_views::Views;
 use sample_sites::{FAULTY, changed};
 use std::alloc::{AllocError, Global};
@@ -223,8 +224,10 @@ fn says(
     let mut errors = Vec::new(rt.alloc());
     let ended = run_files(
         rt,
-        REFUSED_FILE,
-        None,
+        SitePaths {
+            first: REFUSED_FILE,
+            peer: None,
+        },
         "/dev/null",
         &Views::plain(),
         &mut out,
@@ -282,8 +285,10 @@ fn agrees(rt: &(impl Files + AllocGlobal + Abort), site: &str, printed: &str) ->
     let mut errors = Vec::new(rt.alloc());
     let ended = run_files(
         rt,
-        FAULTY_FILE,
-        None,
+        SitePaths {
+            first: FAULTY_FILE,
+            peer: None,
+        },
         "/dev/null",
         &Views::plain(),
         &mut out,

@@ -4,7 +4,8 @@ use super::failing::Failing;
 use super::peer::PEER;
 use lab::recorded::record_run;
 use lab::run::{LabFault, Status};
-use lab::script_files::{SitePaths, record_file, test_files};
+use lab::script_files::{record_file, test_files};
+use lab::site_files::SitePaths;
 use lab::tested::{Numbered, test_run};
 use refusing_heap::RefusingHeap;
 use std::alloc::{Allocator, Global};
@@ -332,7 +333,7 @@ not ok 3 - no file
 # the file can't be read
 ok 4 - tested_met.txt
 ",
-        "no file: No such file",
+        "tested_unread.txt:1: TN is 0 to 7, found 8\nno file: No such file",
     ),
 ];
 

@@ -1,6 +1,7 @@
 use super::{ONE_CALL, SITE};
 use lab::files::run_files;
 use lab::run::{LabFault, exit_status};
+use lab::site_files::SitePaths;
 use run_views::Views;
 use std::process::Abort;
 use std::rt::Files;
@@ -32,8 +33,10 @@ fn says_why(rt: &(impl Files + AllocGlobal + Abort), pcap: &str, chart: &str) ->
     let mut errors = Vec::new(rt.alloc());
     let ended = run_files(
         rt,
-        SITE_FILE,
-        None,
+        SitePaths {
+            first: SITE_FILE,
+            peer: None,
+        },
         SCRIPT_FILE,
         &views,
         &mut out,

@@ -2,6 +2,7 @@ use super::failing::Failing;
 use super::{ONE_CALL, SITE};
 use lab::files::run_files;
 use lab::run::{LabFault, Status};
+use lab::site_files::SitePaths;
 use run_views::Views;
 use std::process::Abort;
 use std::rt::Files;
@@ -69,8 +70,10 @@ fn a_run_is_viewed(rt: HostRuntime) -> Result<(), Fail> {
     let mut errors = Vec::new(rt.alloc());
     let ended = run_files(
         &rt,
-        SITE_FILE,
-        None,
+        SitePaths {
+            first: SITE_FILE,
+            peer: None,
+        },
         SCRIPT_FILE,
         &ALL,
         &mut out,
@@ -84,8 +87,10 @@ fn a_run_is_viewed(rt: HostRuntime) -> Result<(), Fail> {
     let mut out = Failing::after(rt.alloc(), 15);
     let ended = run_files(
         &rt,
-        SITE_FILE,
-        None,
+        SitePaths {
+            first: SITE_FILE,
+            peer: None,
+        },
         SCRIPT_FILE,
         &ALL,
         &mut out,

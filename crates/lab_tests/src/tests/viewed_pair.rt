@@ -2,6 +2,7 @@ use super::SITE;
 use super::peer::PEER;
 use lab::files::run_files;
 use lab::run::Status;
+use lab::site_files::SitePaths;
 use run_views::Views;
 use std::process::Abort;
 use std::test::Fail;
@@ -81,8 +82,10 @@ fn a_run_of_two_controllers_is_viewed(rt: HostRuntime) -> Result<(), Fail> {
     let mut errors = Vec::new(rt.alloc());
     let ended = run_files(
         &rt,
-        SITE_FILE,
-        Some(PEER_FILE),
+        SitePaths {
+            first: SITE_FILE,
+            peer: Some(PEER_FILE),
+        },
         SCRIPT_FILE,
         &ALL,
         &mut out,

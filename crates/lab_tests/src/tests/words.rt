@@ -35,14 +35,13 @@ fn run_names_its_files(rt: HostRuntime) {
         match read_words(rt.alloc(), *words) {
             Ok(
                 Job::Run {
-                    site,
-                    peer,
+                    sites,
                     script,
                     views,
                 },
             ) => {
-                assert_eq!(rt; (site, script), (*wanted_site, *wanted_script));
-                assert_eq!(rt; peer, *wanted_peer);
+                assert_eq!(rt; (sites.first, script), (*wanted_site, *wanted_script));
+                assert_eq!(rt; sites.peer, *wanted_peer);
                 assert!(rt; views.is_plain());
             }
             _ => assert!(rt; false, "a run"),

@@ -4,8 +4,8 @@ use Rattle.ho_procedure.proofs.Undecoded.{EndsFor, StopsFor, ended}
 use Rattle.ho_procedure.proofs.controller.Controller.handle.Goals as goal
 use Rattle.ho_procedure.proofs.controller.Controller.handle.Goals.{in-Ok, in-Err-Unread, in-Err-NoMemory, in-Err-Foreign}
 
-pub returns-clause-choice_kept : goal.returns-clause-choice_kept
-returns-clause-choice_kept g c = rw (← c.self.view_is) (follow_kept _ _ _ _ _ _ _ _ c.follow-done.ensures.ok c.follow-done.ensures.stops)
+pub returns-clause-said : goal.returns-clause-said
+returns-clause-said g c = rw (← c.self.view_is) (follow_kept _ _ _ _ _ _ _ _ c.follow-done.ensures.ok c.follow-done.ensures.stops)
 
 pub returns-clause-exact : goal.returns-clause-exact
 returns-clause-exact g c link bad u =

@@ -10,4 +10,4 @@ pub record Tried (F P : Type 0) : Type 0 where
 
 abbrev pub invariant-loop-candidate : goal.invariant-loop-candidate
 invariant-loop-candidate g l = Tried (g.D.DeskView.may_be_foreign l.work.view → g.D.DeskView.may_be_foreign l.fn.work.view)
-    (Passes g.D.DeskView.log g.D.DeskView.choice_at l.fn.work (try_plan l.site l.call l.candidates) l.work (try_plan l.site l.call (drop l.candidate-index l.candidates)))
+    (Passes g.D.DeskView.log g.D.DeskView.says l.fn.work (try_plan l.site l.call l.candidates) l.work (try_plan l.site l.call (drop l.candidate-index l.candidates)))

@@ -1,4 +1,4 @@
-use Rattle.ho_procedure.proofs.Seated.{not_foreign, kept_allowed, judge_opens, reserve_chooses}
+use Rattle.ho_procedure.proofs.Seated.{not_foreign, still_true, judge_opens, reserve_chooses}
 use Rattle.ho_procedure.proofs.solo.SoloDeskView.judge_reserve.Goals as goal
 
 pub returns-clause-ok : goal.returns-clause-ok
@@ -7,5 +7,5 @@ returns-clause-ok g c = rw (← c.self.view_is) (reserve_chooses _ _ _ _ c.len-e
 pub returns-clause-foreign : goal.returns-clause-foreign
 returns-clause-foreign g c place is = not_foreign _ _ place c.self.invariant ((c.judge_reserve.ensures.foreign place).0 is)
 
-pub returns-clause-choice_kept : goal.returns-clause-choice_kept
-returns-clause-choice_kept g c = rw (← c.self.view_is) (kept_allowed _ _ (judge_opens _ _ _ _ c.judge_reserve.ensures.judged c.judge_reserve.ensures.unchanged))
+pub returns-clause-said : goal.returns-clause-said
+returns-clause-said g c = rw (← c.self.view_is) (still_true _ _ (judge_opens _ _ _ _ c.judge_reserve.ensures.judged c.judge_reserve.ensures.unchanged))

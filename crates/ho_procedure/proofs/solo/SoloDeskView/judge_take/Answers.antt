@@ -1,4 +1,4 @@
-use Rattle.ho_procedure.proofs.Seated.{not_foreign, kept_allowed, take_opens, take_chooses}
+use Rattle.ho_procedure.proofs.Seated.{not_foreign, still_true, take_opens, take_chooses}
 use Rattle.ho_procedure.proofs.solo.SoloDeskView.judge_take.Goals as goal
 
 pub returns-clause-ok : goal.returns-clause-ok
@@ -7,5 +7,5 @@ returns-clause-ok g c = rw (← c.self.view_is) (take_chooses _ _ _ _ _ _ _ c.le
 pub returns-clause-foreign : goal.returns-clause-foreign
 returns-clause-foreign g c place is = not_foreign _ _ place c.self.invariant ((c.judge_take.ensures.foreign place).0 is)
 
-pub returns-clause-choice_kept : goal.returns-clause-choice_kept
-returns-clause-choice_kept g c = rw (← c.self.view_is) (kept_allowed _ _ (take_opens _ _ _ _ _ c.judge_take.ensures.judged c.judge_take.ensures.kept c.judge_take.ensures.unchanged))
+pub returns-clause-said : goal.returns-clause-said
+returns-clause-said g c = rw (← c.self.view_is) (still_true _ _ (take_opens _ _ _ _ _ c.judge_take.ensures.judged c.judge_take.ensures.kept c.judge_take.ensures.unchanged))

@@ -1,7 +1,7 @@
 use Rattle.ho_procedure_tests.proofs.leaving.LeavingDeskView.judge.Goals as goal
 
-pub returns-in_err-sits-clause-choice_kept : goal.returns-in_err-sits-clause-choice_kept
-returns-in_err-sits-clause-choice_kept g c = rw (← c.self.view_is) (λ es choice allows. allows)
+pub returns-in_err-sits-clause-said : goal.returns-in_err-sits-clause-said
+returns-in_err-sits-clause-said g c = rw (← c.self.view_is) (λ es claim allows. allows)
 
-pub returns-clause-choice_kept : goal.returns-clause-choice_kept
-returns-clause-choice_kept g c = rw (← c.self.view_is) c.judge.ensures.choice_kept
+pub returns-clause-said : goal.returns-clause-said
+returns-clause-said g c = rw (← c.self.view_is) c.judge.ensures.said

@@ -1,6 +1,6 @@
--- What is chosen where a view chooses: a free channel of a cell (TS 48.058 clause 4), a free Handover Reference
--- (TS 44.018 clause 10.5.2.15).
-use Rattle.std.specs.Prelude.{ℕ, List}
+-- What a view says of the book that it asks: what it may choose there, a free channel of a cell (TS 48.058 clause 4) or a
+-- free Handover Reference (TS 44.018 clause 10.5.2.15), and which book it began with.
+use Rattle.std.specs.Prelude.{◌≡◌, ℕ, List}
 use Rattle.radio_book.specs.declared.event.Event.{Event}
 use Rattle.radio_book.specs.declared.event.Event.TheVariants.{Open, Clear, Look, Take, Reserve, Activate, Command, Complete, Undo, Confirm, Refuse, Detect, Released, Owner, Require, Order, Left}
 use Rattle.radio_book.specs.declared.event.Reply.{Reply}
@@ -13,10 +13,11 @@ use Rattle.radio_book.specs.Choice as free
 abbrev pub Entry : Type 0
 Entry = Event × Reply
 
--- No channel of a cell is chosen, or this Take or Reserve is.
-pub data Choice : Type 0 where
-  NoneFree : ℕ → Choice
-  Chosen : Event → Choice
+-- No channel of a cell is free; this Take or Reserve chooses what is; or the book began as this one.
+pub data Claim : Type 0 where
+  NoneFree : ℕ → Claim
+  Chosen : Event → Claim
+  Opening : State → Claim
 
 -- the book has what is chosen: the channel is free, or the number is in the cell of the taken channel
 abbrev pub IsThere : State → Event → Type 0
@@ -38,11 +39,8 @@ IsThere b (Require c) = ⊥
 IsThere b (Order c) = ⊥
 IsThere b (Left c) = ⊥
 
--- the book allows the choice
-abbrev pub Allows : State → Choice → Type 0
-Allows b (NoneFree cell) = free.NoneFree b cell
-Allows b (Chosen e) = IsThere b e
-
--- so does the book that a log leads to
-abbrev pub AllowsAfter : State → List Entry → Choice → Type 0
-AllowsAfter opening log choice = (b : State) × Leads opening log b × Allows b choice
+-- a claim is true of the book that the entries lead to, or of the opening one, from which they lead
+abbrev pub IsTrueAfter : State → List Entry → Claim → Type 0
+IsTrueAfter opening log (NoneFree cell) = (b : State) × Leads opening log b × free.NoneFree b cell
+IsTrueAfter opening log (Chosen e) = (b : State) × Leads opening log b × IsThere b e
+IsTrueAfter opening log (Opening book) = book ≡ opening

@@ -1,11 +1,11 @@
 use Rattle.lab.specs.Turns.{inputs_in}
 use Rattle.lab.specs.Course.{Went}
-use Rattle.lab.proofs.heard.run_heard.Given as goal
+use Rattle.lab.proofs.heard.follow_all.Given as goal
 
 -- the lines so far were followed
 abbrev pub invariant-loop-item : goal.invariant-loop-item
 invariant-loop-item g l = record {
   can_next : (goal.iterator-loop-item g).can_next l.item-iterator;
   is_finite : (goal.iterator-loop-item g).is_finite l.item-iterator;
-  went : Went (inputs_in l.yielded) l.initial.course l.course;
+  went : Went (inputs_in l.yielded) l.fn.course l.course;
 }
