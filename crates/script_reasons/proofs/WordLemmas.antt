@@ -1,5 +1,5 @@
 -- Facts of the words of a line, and of numbers.
-use Rattle.std.proofs.Common.{◌≡◌, ℕ, ◌<◌, ◌^◌, ◌∷◌, List, [], Bool, true, false, Option, Some, None, Result, Ok, Err, refl, sym, ap, ◌∙◌, arith, rules, length, option_map, ◌==◌, Bor, MatchOption}
+use Rattle.std.proofs.Common.{◌≡◌, ℕ, ◌<◌, ◌^◌, ◌∷◌, List, [], true, false, Option, Some, None, Result, Ok, Err, refl, ap, ◌∙◌, arith, rules, length, ◌==◌, Bor, MatchOption}
 use Rattle.std.specs.Char.{is_ascii_digit}
 use Rattle.std.specs.List.{list_all, onto_first, position_or_len, before_first, after_first}
 use Rattle.std.specs.Result.{result_ok}
