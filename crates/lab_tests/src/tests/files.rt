@@ -111,22 +111,24 @@ const SITE_FILE: &str = "site.toml";
 
 const SCRIPT_FILE: &str = "script.txt";
 
-/// How a run over the files of a site and of this script ends, and what it prints.
+/// How a run over the files of a site and of this script ends, what it prints, and how what it says of an error begins.
 fn run_over(
     rt: &(impl Files + AllocGlobal + Abort),
     script: &str,
     wanted: Status,
     text: &str,
+    said: &str,
 ) -> Result<(), Fail> {
     fs::write(rt, SCRIPT_FILE, script)?;
-    run_ends(rt, SITE_FILE, SCRIPT_FILE, wanted, text, "")
+    run_ends(rt, SITE_FILE, SCRIPT_FILE, wanted, text, said)
 }
 
 #[test]
 fn files_are_run(rt: HostRuntime) -> Result<(), Fail> {
     fs::write(&rt, SITE_FILE, SITE)?;
-    run_over(&rt, ONE_CALL.0, Status::Done, ONE_CALL.1)?;
-    run_over(&rt, "clear 1\nundo\n", Status::Refused, "line 2\n")?;
+    run_over(&rt, ONE_CALL.0, Status::Done, ONE_CALL.1, "")?;
+    let said = "script.txt:2: CALL is missing in undo CALL";
+    run_over(&rt, "clear 1\nundo\n", Status::Refused, "line 2\n", said)?;
     fs::remove_file(&rt, SITE_FILE)?;
     fs::remove_file(&rt, SCRIPT_FILE)?;
     Ok(())
