@@ -35,7 +35,12 @@ const UNREAD: &[(&str, &str, &str)] = &[
     (
         "mobile 1 arrive\n",
         "line 1\n",
-        "1: mobile CALL HABIT needs a line sim before it",
+        "1: TRX is 0 to 255, found arrive",
+    ),
+    (
+        "hold 0 0 3\nsim\n",
+        "line 1\n",
+        "1: hold CELL TRX TN needs a line sim before it",
     ),
     (
         "undo \u{1b}[2J\n",
