@@ -46,7 +46,10 @@ impl fmt::Display for Allowed {
             Allowed::Octets(least) => write!(f, "{}", AtLeast(*least)),
             Allowed::OptionalOctets(least) => write!(f, "{}, or -", AtLeast(*least)),
             Allowed::Cell => write!(f, "a cell with its location area, as in 23/102"),
-            Allowed::Cells => write!(f, "a list of cells with their location areas, as in 23/102,23/103"),
+            Allowed::Cells => write!(
+                f,
+                "a list of cells with their location areas, as in 23/102,23/103"
+            ),
             Allowed::Neighbour => write!(
                 f,
                 "a level 0 to 63, a position 0 to 31 and a code 0 to 63, as in 40/2/21"

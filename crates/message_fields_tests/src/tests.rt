@@ -115,7 +115,9 @@ fn octets_of_fields(rt: HostRuntime) -> Result<(), Fail> {
 #[test]
 fn cells_and_neighbours(rt: HostRuntime) {
     assert_eq!(rt; cell_in("23/65535"), Some((23, 65535)));
-    for text in &["", "23", "23/", "/1", "-/102", "23/1/2", "65536/1", "23/65536"] {
+    for text in &[
+        "", "23", "23/", "/1", "-/102", "23/1/2", "65536/1", "23/65536",
+    ] {
         assert_eq!(rt; cell_in(*text), None, "{text}");
     }
     assert_eq!(rt; neighbour_in("63/31/63"), Some((63, 31, 63)));
@@ -155,7 +157,12 @@ fn reasons(rt: HostRuntime) -> Result<(), Fail> {
     let said = "k is one octet or more in hexadecimal, or -, found \"\"";
     is_said(&rt, alloc, one, said)?;
     let two = octets(alloc, "k=06", "k", 2);
-    is_said(&rt, alloc, two, "k is 2 octets or more in hexadecimal, found \"06\"")
+    is_said(
+        &rt,
+        alloc,
+        two,
+        "k is 2 octets or more in hexadecimal, found \"06\"",
+    )
 }
 
 #[test]

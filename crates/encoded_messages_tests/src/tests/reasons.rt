@@ -212,7 +212,13 @@ fn texts_of_no_message(rt: HostRuntime) -> Result<(), Fail> {
 }
 
 /// A text whose field ends with so many octets is too long, or not.
-fn is_too_long(rt: &impl Abort, alloc: Global, link: Link, front: &str, count: usize) -> Result<bool, Fail> {
+fn is_too_long(
+    rt: &impl Abort,
+    alloc: Global,
+    link: Link,
+    front: &str,
+    count: usize,
+) -> Result<bool, Fail> {
     let octets = "06".repeat(alloc, count)?;
     let text = format!(in alloc; "{front}{octets}")?;
     let ended = encoded(alloc, link, text.as_str());
@@ -242,9 +248,15 @@ const LONGEST: &[(Link, &str, usize)] = &[
 #[test]
 fn too_many_octets(rt: HostRuntime) -> Result<(), Fail> {
     for (link, front, most) in LONGEST {
-        assert!(rt; !is_too_long(&rt, rt.alloc(), *link, *front, *most)?, "{front}");
+        assert!(rt;
+            !is_too_long(&rt, rt.alloc(), *link, *front, *most)?,
+            "{front}"
+        );
         let more = most.saturating_add(1);
-        assert!(rt; is_too_long(&rt, rt.alloc(), *link, *front, more)?, "{front}");
+        assert!(rt;
+            is_too_long(&rt, rt.alloc(), *link, *front, more)?,
+            "{front}"
+        );
     }
     Ok(())
 }

@@ -38,9 +38,9 @@ const UNREAD: &[(&str, &str, &str)] = &[
         "1: TRX is 0 to 255, found arrive",
     ),
     (
-        "hold 0 0 3\nsim\n",
+        "mobile 0 0 3 arrive\n",
         "line 1\n",
-        "1: hold CELL TRX TN needs a line sim before it",
+        "1: mobile CELL TRX TN HABIT needs a line sim before it",
     ),
     (
         "undo \u{1b}[2J\n",
