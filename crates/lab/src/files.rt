@@ -1,5 +1,7 @@
 //! Runs over files.
-ghost use Rattle.std.specs.Prelude.{◌≡◌, ◌<◌, ◌≤◌, length, string_bytes, None, IfOk, IfSome, IsSomeAnd};
+ghost use Rattle.std.specs.Prelude.{◌≡◌, ◌+◌, ◌<◌, ◌≤◌, length, vec_len, string_bytes, Some, None, IsOk, IfOk, IfErr, IfSome, option_map};
+ghost use Rattle.std.specs.Str.{IsUtf8};
+ghost use Rattle.std.specs.Str.Lossy.{utf8_valid_len};
 ghost use Rattle.lab.specs.Files.{longest_file};
 
 use crate::rewound::rewind_run;
@@ -10,6 +12,7 @@ use crate::site_reason::say_reason;
 use escaped_text::Escaped;
 use run_views::{Sites, Viewer, Views, WordsFault, open_sheets};
 use std::alloc::{Allocator, Global};
+use std::fmt;
 use std::fs::File;
 use std::io::{self, Read, Write};
 use std::rt::Files;
@@ -17,27 +20,99 @@ use std::rt::Files;
 /// The most octets that a file may have: 64 MiB.
 pub const LONGEST_FILE: u64 = 64 << 20;
 
-/// The whole text that a reader gives; nothing where it has more octets than a file may have. A device without an end
-/// is read up to one octet more.
-fn whole_text<A: Allocator, R: Read>(alloc: A, reader: R) -> io::Result<Option<String<A>>>
+/// All octets that a reader gives.
+fn all_octets<A: Allocator, R: Read>(alloc: A, mut reader: R) -> io::Result<Vec<u8, A>>
 where
     R: Drop,
-    ensures whole { IfOk result (λ found. IfSome (R.remaining reader) (λ octets.
-        length octets ≤ longest_file → IsSomeAnd found (λ text. string_bytes text ≡ octets))) }
-    ensures longer { IfOk result (λ found. IfSome (R.remaining reader) (λ octets.
-        longest_file < length octets → found ≡ None)) }
+    ensures { IfOk result (λ read. IfSome (R.remaining reader) (λ octets. read.items ≡ octets)) }
 {
-    let text = io::read_to_string(alloc, reader.take(LONGEST_FILE + 1))?;
-    if text.len() as u64 <= LONGEST_FILE {
-        Ok(Some(text))
+    let mut octets = Vec::new(alloc);
+    reader.read_to_end(&mut octets)?;
+    Ok(octets)
+}
+
+/// Octets as many as a file may have; nothing where there are more.
+fn within_longest<A: Allocator>(octets: Vec<u8, A>) -> Option<Vec<u8, A>>
+    ensures whole { vec_len octets ≤ longest_file →
+        option_map (λ found. found.items) result ≡ Some octets.items }
+    ensures longer { longest_file < vec_len octets → result ≡ None }
+{
+    if octets.len() as u64 <= LONGEST_FILE {
+        Some(octets)
     } else {
-        Ok(None)
+        None
     }
 }
 
-/// The whole text of a file; nothing where it has more octets than it may have.
-fn file_text<R: Files + AllocGlobal>(rt: &R, path: &str) -> io::Result<Option<String>> {
-    whole_text(rt.alloc(), File::open(rt, path)?)
+/// All octets that a reader gives; nothing where there are more than a file may have. A device without an end is read up
+/// to one octet more.
+fn whole_octets<A: Allocator, R: Read>(alloc: A, reader: R) -> io::Result<Option<Vec<u8, A>>>
+where
+    R: Drop,
+    ensures whole { IfOk result (λ found. IfSome (R.remaining reader) (λ octets.
+        length octets ≤ longest_file → option_map (λ read. read.items) found ≡ Some octets)) }
+    ensures longer { IfOk result (λ found. IfSome (R.remaining reader) (λ octets.
+        longest_file < length octets → found ≡ None)) }
+{
+    let octets = all_octets(alloc, reader.take(LONGEST_FILE + 1))?;
+    Ok(within_longest(octets))
+}
+
+/// All octets of a file; nothing where it has more than it may have.
+fn file_octets<R: Files + AllocGlobal>(rt: &R, path: &str) -> io::Result<Option<Vec<u8>>> {
+    whole_octets(rt.alloc(), File::open(rt, path)?)
+}
+
+/// The text that octets are, or the place, counted from 1, of the first octet that is no part of one.
+fn text_in<A: Allocator>(octets: Vec<u8, A>) -> Result<String<A>, usize>
+    ensures text { IfOk result (λ text. string_bytes text ≡ octets.items) }
+    ensures read { IsUtf8 octets.items → IsOk result }
+    ensures odd { IfErr result (λ place. place ≡ utf8_valid_len octets.items + 1) }
+{
+    match String::from_utf8(octets) {
+        Ok(text) => Ok(text),
+        Err(fault) => Err(fault.utf8_error().valid_up_to() + 1),
+    }
+}
+
+/// A number with a comma before each three of its digits but the first, as in 1,045.
+#[derive(Clone, Copy)]
+struct Grouped(u64);
+
+/// What the groups of three digits of a number stand for, the highest first.
+const GROUPS: [u64; 7] = [
+    1_000_000_000_000_000_000,
+    1_000_000_000_000_000,
+    1_000_000_000_000,
+    1_000_000_000,
+    1_000_000,
+    1_000,
+    1,
+];
+
+impl fmt::Display for Grouped {
+    fn fmt<W: fmt::Write>(&self, f: &mut fmt::Formatter<W>) -> fmt::Result {
+        let mut is_begun = false;
+        for unit in GROUPS {
+            if is_begun {
+                write!(f, ",{:03}", self.0 / unit % 1_000)?;
+            } else if unit == 1 || self.0 >= unit {
+                write!(f, "{}", self.0 / unit)?;
+                is_begun = true;
+            }
+        }
+        Ok(())
+    }
+}
+
+/// Says that a file is no text, and which of its octets, counted from 1, is the first that is no part of one.
+fn say_not_text<E: Write>(path: &str, place: usize, errors: &mut E) -> io::Result<()> {
+    writeln!(
+        errors,
+        "{}: the file isn't UTF-8 (octet {})",
+        Escaped(path),
+        Grouped(place as u64)
+    )
 }
 
 /// The text of a file; nothing where it can't be read, and then its path was printed, and on `errors` why.
@@ -47,8 +122,13 @@ pub(crate) fn text_of<R: Files + AllocGlobal, W: Write, E: Write>(
     out: &mut W,
     errors: &mut E,
 ) -> Result<Option<String>, LabFault> {
-    match file_text(rt, path) {
-        Ok(Some(text)) => return Ok(Some(text)),
+    match file_octets(rt, path) {
+        Ok(Some(octets)) => {
+            match text_in(octets) {
+                Ok(text) => return Ok(Some(text)),
+                Err(place) => say_not_text(path, place, errors)?,
+            }
+        }
         Ok(None) => writeln!(errors, "{}: the file has more than 64 MiB", Escaped(path))?,
         Err(error) if error.kind() == io::ErrorKind::OutOfMemory => return Err(LabFault::NoMemory),
         Err(error) => writeln!(errors, "{}: {error}", Escaped(path))?,

@@ -11,6 +11,7 @@ mod four_cells;
 mod hangup;
 mod peer;
 mod program;
+mod reasoned;
 mod reasons;
 mod refusals;
 mod rewound;

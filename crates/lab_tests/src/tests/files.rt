@@ -23,7 +23,7 @@ const REFUSED: &[(&str, &str, &str, &str)] = &[
         "/proc/self/exe",
         "/dev/null",
         "file /proc/self/exe\n",
-        "/proc/self/exe: stream did not contain valid UTF-8",
+        "/proc/self/exe: the file isn't UTF-8 (octet ",
     ),
     (
         "/dev/zero",
@@ -156,6 +156,44 @@ fn a_file_may_have_64_mebibytes(rt: HostRuntime) -> Result<(), Fail> {
         run_ends(&rt, "/dev/null", LONG_FILE, Status::Refused, *text, *said)?;
     }
     Ok(fs::remove_file(&rt, LONG_FILE)?)
+}
+
+/// A script's file that isn't UTF-8, how many octets of text it begins with, and what is said of it.
+const ODD_FILE: &str = "odd.txt";
+
+const ODD: &[(usize, &str)] = &[
+    (0, "odd.txt: the file isn't UTF-8 (octet 1)\n"),
+    (998, "odd.txt: the file isn't UTF-8 (octet 999)\n"),
+    (1_044, "odd.txt: the file isn't UTF-8 (octet 1,045)\n"),
+    (
+        1_000_000,
+        "odd.txt: the file isn't UTF-8 (octet 1,000,001)\n",
+    ),
+];
+
+/// Writes a file of so many octets of text, and of a letter's octets in another encoding behind them.
+fn write_odd(rt: &(impl Files + AllocGlobal), octets: usize) -> Result<(), Fail> {
+    let text = "#".repeat(rt.alloc(), octets)?;
+    let mut written = Vec::new(rt.alloc());
+    written.extend_from_slice(text.as_bytes())?;
+    written.extend_from_slice(b"\xe4\n")?;
+    Ok(fs::write(rt, ODD_FILE, written.as_slice())?)
+}
+
+#[test]
+fn the_first_octet_that_is_no_text_is_named(rt: HostRuntime) -> Result<(), Fail> {
+    for (octets, said) in ODD {
+        write_odd(&rt, *octets)?;
+        run_ends(
+            &rt,
+            "/dev/null",
+            ODD_FILE,
+            Status::Refused,
+            "file odd.txt\n",
+            *said,
+        )?;
+    }
+    Ok(fs::remove_file(&rt, ODD_FILE)?)
 }
 
 /// A site's file, a peer's and a script's, one of which is refused: what is printed, and the begin of what is said. Files

@@ -33,6 +33,11 @@ const UNREAD: &[(&str, &str, &str)] = &[
         "1: 2: is for a second controller, and there is none",
     ),
     (
+        "mobile 1 arrive\n",
+        "line 1\n",
+        "1: TRX is 0 to 255, found arrive",
+    ),
+    (
         "mobile 0 0 3 arrive\n",
         "line 1\n",
         "1: mobile CELL TRX TN HABIT needs a line sim before it",
