@@ -4,8 +4,7 @@ use Rattle.ho_procedure.specs.declared.exchange.Inbound.{Inbound}
 use Rattle.trace_text.specs.declared.trace.Step.{Step}
 use Rattle.lab.specs.declared.turn.Answer.{Answer}
 use Rattle.lab.specs.declared.turn.Answer.TheVariants.{Sent, Undecoded}
-use Rattle.ho_procedure.specs.Claims.{Entry, Claim}
-use Rattle.ho_procedure.specs.declared.Claims.Claim.TheVariants.{Opening}
+use Rattle.ho_procedure.specs.Claims.{Entry, Claim, Opening}
 use Rattle.lab.specs.Turns.{Position, Answers, asked_in, says}
 
 drop_front : {X : Type 0} (xs ys : List X) → drop (length xs) (xs ++ ys) ≡ ys
