@@ -1,5 +1,5 @@
 -- Facts of turns, and of the course of a script.
-use Rattle.std.proofs.Common.{◌≡◌, ◌++◌, ◌∷◌, ◌<◌, ◌&&◌, ℕ, zero, suc, Bool, true, false, List, [], Some, length, get_or, is_some, refl, sym, ap, ◌∙◌, append_assoc, append-nil, subst, rules, arith, Result, Ok, Err, OnOk, IfOk}
+use Rattle.std.proofs.Common.{◌≡◌, ◌++◌, ◌∷◌, ◌<◌, ◌&&◌, ℕ, zero, suc, Bool, true, false, List, [], Option, Some, None, IsSome, IfSome, length, get_or, is_some, refl, sym, ap, ◌∙◌, append_assoc, append-nil, subst, rules, arith, Result, Ok, Err, OnOk, IfOk}
 use Rattle.cell_table.specs.Site.{SiteView}
 use Rattle.ho_procedure.specs.declared.exchange.Inbound.{Inbound}
 use Rattle.lab_script.specs.declared.side.Side.{Side}
@@ -129,3 +129,13 @@ was_played sites inputs run h = record {
   run = h.turns;
   scripted = h.scripted;
 }
+
+-- where there is a run, it was played
+pub some_played : {A : Type 0} (sites : List SiteView) (inputs : List (Side × Inbound A)) (run : Option (Run A)) → IfSome run (λ r. IsRunOf sites inputs r) → IsSome run → Played A sites inputs
+some_played sites inputs (Some run) h is = was_played sites inputs run h
+some_played sites inputs None h is = absurd (search (rules, is))
+
+-- what was followed to its end was played
+pub heard_played : {A E : Type 0} (sites : List SiteView) (inputs : List (Side × Inbound A)) (c c' : Course A) (r : Result Bool E) → AreOpenings sites (positions_of c.controllers) → IfOk r (λ well. well ≡ true → Went inputs c c') → IfOk r (λ well. well ≡ true → Played A sites inputs)
+heard_played sites inputs c c' (Ok well) openings h = λ on. all_played sites inputs c c' openings (h on)
+heard_played sites inputs c c' (Err fault) openings h = tt

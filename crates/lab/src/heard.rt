@@ -102,6 +102,24 @@ fn hear_end<A: Allocator + Copy, L: Listener>(
     listener.hear_last(text_of(before), text_of(printed))
 }
 
+/// Does what the lines of a script give, in their order, and tells a listener what comes of them, until that answers
+/// `false`.
+fn follow_to_end<A: Allocator + Copy, L: Listener>(
+    alloc: A,
+    course: &mut Course<A>,
+    items: Vec<Item<A>, A>,
+    listener: &mut L,
+) -> Result<bool, LabFault>
+    requires there { AreThere (has_peer course.old) items.items }
+    ensures went { IfOk result (λ well. well ≡ true → Went (inputs_in items.items) course.old course.new) }
+{
+    let mut printed = Vec::new(alloc);
+    if !follow_all(course, items, &mut printed, listener)? {
+        return Ok(false);
+    }
+    hear_end(course, &mut printed, listener)
+}
+
 /// Follows what the lines of a script give over empty books of the sites, and tells a listener what comes of them, until
 /// that answers `false`.
 pub(crate) fn run_heard<A: Allocator + Copy, L: Listener>(
@@ -114,9 +132,5 @@ pub(crate) fn run_heard<A: Allocator + Copy, L: Listener>(
     ensures played { IfOk result (λ well. well ≡ true → Played A (views_of sites) (inputs_in items.items)) }
 {
     let mut course = fresh_course(alloc, sites)?;
-    let mut printed = Vec::new(alloc);
-    if !follow_all(&mut course, items, &mut printed, listener)? {
-        return Ok(false);
-    }
-    hear_end(&course, &mut printed, listener)
+    follow_to_end(alloc, &mut course, items, listener)
 }

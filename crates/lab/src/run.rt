@@ -199,7 +199,20 @@ pub fn play<A: Allocator + Copy, W: Write>(
     }
 }
 
+/// How a script ended: done where it was run.
+fn outcome_of<A: Allocator + Copy>(run: Option<Run<A>>) -> Status
+    ensures done { result ≡ Status.Done → IsSome run }
+    ensures differs { result ≢ Status.Differs }
+    ensures refused { result ≡ Status.Refused → run ≡ None }
+{
+    match run {
+        Some(_) => Status::Done,
+        None => Status::Refused,
+    }
+}
+
 /// Runs a script over sites that were read.
+#[tactic(auto, using(crate::proofs::CourseFacts::some_played))]
 fn run_script<A: Allocator + Copy, W: Write>(
     alloc: A,
     sites: Sites<A>,
@@ -214,10 +227,7 @@ fn run_script<A: Allocator + Copy, W: Write>(
     ensures memory { result ≡ Err LabFault.NoMemory →
         first_unread (is_some sites.peer) script.now ≡ None }
 {
-    match play(alloc, sites, script, out)? {
-        Some(_) => Ok(Status::Done),
-        None => Ok(Status::Refused),
-    }
+    Ok(outcome_of(play(alloc, sites, script, out)?))
 }
 
 /// The peer's site, where its text is given.

@@ -15,7 +15,7 @@ pub loop-item-preserved : goal.loop-item-preserved
 loop-item-preserved g c = record {
   can_next = tt;
   is_finite = tt;
-  went = rw (inputs_joined c.loop-item.yielded (c.in-Some.item ∷ [])) (went_on _ _ _ _ _ c.loop-item.invariant.went (c.in_ok-follow_heard.ensures c.in-true.is));
+  went = rw (inputs_joined c.loop-item.yielded (c.in-Some.item ∷ [])) (went_on _ _ _ _ _ c.loop-item.invariant.went (c.in_ok-follow_heard.ensures.went c.if-not-branch.false));
 }
 
 pub follow_heard-requires : goal.follow_heard-requires
