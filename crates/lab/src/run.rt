@@ -200,10 +200,10 @@ pub fn play<A: Allocator + Copy, W: Write>(
 }
 
 /// How a script ended: done where it was run.
-fn outcome_of<A: Allocator + Copy>(run: Option<Run<A>>) -> Status
-    ensures done { result ≡ Status.Done → IsSome run }
+fn outcome_of<A: Allocator + Copy>(run: &Option<Run<A>>) -> Status
+    ensures done { result ≡ Status.Done → IsSome run.now }
     ensures differs { result ≢ Status.Differs }
-    ensures refused { result ≡ Status.Refused → run ≡ None }
+    ensures refused { result ≡ Status.Refused → run.now ≡ None }
 {
     match run {
         Some(_) => Status::Done,
@@ -227,7 +227,8 @@ fn run_script<A: Allocator + Copy, W: Write>(
     ensures memory { result ≡ Err LabFault.NoMemory →
         first_unread (is_some sites.peer) script.now ≡ None }
 {
-    Ok(outcome_of(play(alloc, sites, script, out)?))
+    let run = play(alloc, sites, script, out)?;
+    Ok(outcome_of(&run))
 }
 
 /// The peer's site, where its text is given.
