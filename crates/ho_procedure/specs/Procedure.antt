@@ -133,8 +133,14 @@ open_plan c x = Asks (event.Open c x) (if_done (opened_plan x))
 unfoldable pub activate_plan : ℕ → ChanId → ℕ → Plan
 activate_plan c x n = Asks (event.Activate c) (if_done (Sends (target_activation x n) Ends))
 
+abbrev pub reserved_plan : ℕ → ChanId → ℕ → Reply → Plan
+reserved_plan c x n = if_done (activate_plan c x n)
+
+unfoldable pub reserve_plan : ℕ → ChanId → Plan
+reserve_plan c x = if is_nameable x then Reserves c (reserved_plan c x) else Ends
+
 unfoldable pub taken_plan : ℕ → ChanId → Reply → Plan
-taken_plan c x = if_done (if is_nameable x then Reserves c (λ n. if_done (activate_plan c x n)) else Ends)
+taken_plan c x = if_done (reserve_plan c x)
 
 -- A handover to an outside cell begins: HANDOVER REQUIRED (TS 48.008 clause 3.1.5.1).
 
