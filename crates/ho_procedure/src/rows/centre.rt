@@ -1,8 +1,8 @@
 //! Rows of the messages of the switching centre about a handover between controllers.
 ghost use Rattle.std.specs.Prelude.{◌≡◌, ◌≤◌, ◌<◌, IfOk, OnOk, IfErr, length};
-ghost use Rattle.ho_procedure.specs.Plan.{Plan, Ends, Asks, At, AsksDesk};
+ghost use Rattle.ho_procedure.specs.Plan.{Plan, Ends, At};
 ghost use Rattle.ho_procedure.specs.Going.{Goes, Passes, IsForeign, then, stops_at};
-ghost use Rattle.ho_procedure.specs.Procedure.{if_new, admit_plan, request_rest, request_plan, order_channel, order_plan, reject_plan};
+ghost use Rattle.ho_procedure.specs.Procedure.{once_new, admit_plan, request_rest, request_plan, order_channel, order_plan, reject_plan};
 
 use super::handovers::go_on_taken;
 use super::parts::{ask_done, look, turn_away};
@@ -76,15 +76,15 @@ fn request_rest<D: DeskView + Drop, A: Allocator + Copy>(
 }
 
 /// A call is looked at; the row goes on where the book has none.
-#[tactic(auto, using(crate::proofs::Asking::row_steps))]
+#[tactic(auto, using(crate::proofs::Asking::row_steps), unfolding(crate::specs::Procedure::once_new))]
 fn ask_new<D: DeskView + Drop, A: Allocator + Copy>(
     work: &mut Work<D, A>,
     call: u16,
 ) -> Result<Course, DeskFault>
     ensures goes { IfOk result (λ course. (next : Plan) → Passes D.log D.says work.old
-        (Asks (Event.Look call) (if_new next)) work.new (then next course)) }
-    ensures stops { IfErr result (λ f. (p : Plan) → AsksDesk p →
-        Goes D.log D.says work.old p work.new (stops_at f)) }
+        (once_new call next) work.new (then next course)) }
+    ensures stops { IfErr result (λ f. (next : Plan) → Goes D.log D.says work.old
+        (once_new call next) work.new (stops_at f)) }
     ensures owed { work.new.owed ≡ work.old.owed }
     ensures foreign { IfErr result (λ f. IsForeign f → D.may_be_foreign work.old.view) }
     ensures foreign_kept { D.may_be_foreign work.new.view → D.may_be_foreign work.old.view }
