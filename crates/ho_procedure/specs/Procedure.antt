@@ -62,6 +62,14 @@ if_record next (Record r s) = next r s
 if_record next (Owned c) = Ends
 if_record next (Refused refusal) = Ends
 
+-- an event, and this plan once it is done
+unfoldable pub once_done : Event → Plan → Plan
+once_done e next = Asks e (if_done next)
+
+-- an event, and a plan by the record that it is answered
+unfoldable pub once_recorded : Event → (CallRecord → Option ChanState → Plan) → Plan
+once_recorded e next = Asks e (if_record next)
+
 -- a plan that ends at every reply
 abbrev pub nothing_more : Reply → Plan
 nothing_more reply = Ends
@@ -125,16 +133,22 @@ unfoldable pub opened_plan : ChanId → Plan
 opened_plan x = if is_nameable x then Sends (activation x) Ends else Ends
 
 unfoldable pub open_plan : ℕ → ChanId → Plan
-open_plan c x = Asks (event.Open c x) (if_done (opened_plan x))
+open_plan c x = once_done (event.Open c x) (opened_plan x)
 
 -- A handover to an own cell begins (TS 44.018 clause 3.4.4): a channel is taken, a reference reserved, CHANNEL ACTIVATION
 -- sent (TS 48.058 clause 4.1).
 
 unfoldable pub activate_plan : ℕ → ChanId → ℕ → Plan
-activate_plan c x n = Asks (event.Activate c) (if_done (Sends (target_activation x n) Ends))
+activate_plan c x n = once_done (event.Activate c) (Sends (target_activation x n) Ends)
+
+abbrev pub reserved_plan : ℕ → ChanId → ℕ → Reply → Plan
+reserved_plan c x n = if_done (activate_plan c x n)
+
+unfoldable pub reserve_plan : ℕ → ChanId → Plan
+reserve_plan c x = if is_nameable x then Reserves c (reserved_plan c x) else Ends
 
 unfoldable pub taken_plan : ℕ → ChanId → Reply → Plan
-taken_plan c x = if_done (if is_nameable x then Reserves c (λ n. if_done (activate_plan c x n)) else Ends)
+taken_plan c x = if_done (reserve_plan c x)
 
 -- A handover to an outside cell begins: HANDOVER REQUIRED (TS 48.008 clause 3.1.5.1).
 
@@ -143,7 +157,7 @@ if_cell None next = Ends
 if_cell (Some cell) next = next cell
 
 unfoldable pub require_plan : ℕ → CellId → Plan
-require_plan c cell = Asks (event.Require c) (if_done (Sends (handover_required c cell) Ends))
+require_plan c cell = once_done (event.Require c) (Sends (handover_required c cell) Ends)
 
 -- A handover begins to a cell of the site. Where an own cell has no free channel, this plan is next.
 unfoldable pub start_plan : SiteView → ℕ → ℕ → Plan → Plan
@@ -160,7 +174,7 @@ release_target (Some a) tail = if is_switched_on a.stage then if_named a.target 
 
 -- An attempt is taken back, and its target released.
 unfoldable pub take_back : ℕ → (Option Attempt → Plan) → Plan
-take_back c next = Asks (event.Undo c Asked) (if_record (λ r s. release_target r.attempt (next r.attempt)))
+take_back c next = once_recorded (event.Undo c Asked) (λ r s. release_target r.attempt (next r.attempt))
 
 -- the switching centre is told that a call can't come from another controller
 abbrev pub failure_by : ℕ → AttemptKind → Plan
@@ -184,7 +198,7 @@ expiry_rest c T8 = Sends (clear_request c radio_interface_message_failure) Ends
 
 -- A timer ran out (TS 44.018 clause 11.1.2, TS 48.008 clause 3.1.5): its attempt is taken back.
 unfoldable pub expiry_plan : ℕ → Timer → Plan
-expiry_plan c m = Asks (event.Undo c (Expired m)) (if_record (λ r s. release_target r.attempt (expiry_rest c m)))
+expiry_plan c m = once_recorded (event.Undo c (Expired m)) (λ r s. release_target r.attempt (expiry_rest c m))
 
 -- A call of this controller keeps its record after an undo; one that comes from another controller has none then.
 abbrev pub is_own_kind : AttemptKind → Bool
@@ -235,7 +249,7 @@ release_serving cause r (Some Off) tail = release_plan r.serving tail
 
 -- the call is cleared, and its serving channel released
 unfoldable pub clear_serving : ℕ → Option ℕ → CallRecord → Option ChanState → Plan → Plan
-clear_serving c cause r s tail = Asks (event.Clear c) (if_done (release_serving cause r s tail))
+clear_serving c cause r s tail = once_done (event.Clear c) (release_serving cause r s tail)
 
 -- the target is released, and then a call of this controller is cleared
 unfoldable pub clear_undone : ℕ → Option ℕ → CallRecord → Option ChanState → Plan → Plan
@@ -247,7 +261,7 @@ clear_named c cause r s tail = if names_releases r s then clear_undone c cause r
 -- what follows the look at a call that is cleared: an attempt that is open is taken back first
 unfoldable pub clear_rest : ℕ → Option ℕ → CallRecord → Option ChanState → Plan → Plan
 clear_rest c cause r s tail =
-    if names_releases r s then (if is_some r.attempt then Asks (event.Undo c Asked) (if_record (λ r s. clear_named c cause r s tail)) else clear_undone c cause r s tail) else Ends
+    if names_releases r s then (if is_some r.attempt then once_recorded (event.Undo c Asked) (λ r s. clear_named c cause r s tail) else clear_undone c cause r s tail) else Ends
 
 -- An operator clears a call.
 unfoldable pub clear_plan : ℕ → Plan
@@ -265,14 +279,14 @@ if_reference None next = Ends
 if_reference (Some n) next = next n
 
 unfoldable pub send_command : ℕ → ChanId → Rr → Plan
-send_command c s m = Asks (event.Command c) (if_done (Sends (to_mobile s m) Ends))
+send_command c s m = once_done (event.Command c) (Sends (to_mobile s m) Ends)
 
 abbrev pub internal_command : SiteView → ℕ → ChanId → Option ChanId → Option ℕ → Plan
 internal_command site c x serving reference =
     if_named serving (λ s. if_reference reference (λ n. if_command (command_to site x n) (λ m. send_command c s m)))
 
 unfoldable pub acknowledge : ℕ → Rr → Plan
-acknowledge c m = Asks (event.Command c) (if_done (Sends (handover_request_ack c m) Ends))
+acknowledge c m = once_done (event.Command c) (Sends (handover_request_ack c m) Ends)
 
 abbrev pub incoming_command : SiteView → ℕ → ChanId → Option ℕ → Plan
 incoming_command site c x reference = if_reference reference (λ n. if_command (command_to site x n) (acknowledge c))
@@ -294,7 +308,7 @@ confirm_plan site x = owned (event.Confirm x) (λ c. looked c (λ r s. confirm_r
 -- the call was to come, HANDOVER FAILURE sent; for a refused serving channel CLEAR REQUEST, equipment failure
 
 unfoldable pub refused_target : ℕ → Plan
-refused_target c = Asks (event.Undo c Asked) (if_record (λ r s. failure_of c r.attempt))
+refused_target c = once_recorded (event.Undo c Asked) (λ r s. failure_of c r.attempt)
 
 unfoldable pub refuse_plan : ChanId → Plan
 refuse_plan x =
@@ -363,10 +377,10 @@ traffic_cell site x = if is_traffic site x then cell_id_at site x.cell else None
 
 abbrev pub internal_complete : SiteView → ℕ → ChanId → Option ChanId → Plan
 internal_complete site c x serving =
-    if_named serving (λ s. if_cell (traffic_cell site x) (λ cell. Asks (event.Complete c) (if_done (Sends (release s) (Sends (handover_performed c cell) Ends)))))
+    if_named serving (λ s. if_cell (traffic_cell site x) (λ cell. once_done (event.Complete c) (Sends (release s) (Sends (handover_performed c cell) Ends))))
 
 unfoldable pub incoming_complete : ℕ → ℕ → Plan
-incoming_complete c cause = Asks (event.Complete c) (if_done (Sends (handover_complete c cause) Ends))
+incoming_complete c cause = once_done (event.Complete c) (Sends (handover_complete c cause) Ends)
 
 abbrev pub complete_by : SiteView → ℕ → ℕ → ChanId → Option ChanId → AttemptKind → Plan
 complete_by site c cause x serving Internal = internal_complete site c x serving
@@ -388,7 +402,7 @@ unfoldable pub tell_returned : ℕ → ℕ → Plan
 tell_returned c cause = Sends (handover_failure c reversion_to_old_channel (Some cause)) Ends
 
 unfoldable pub outgoing_return : ℕ → ℕ → Plan
-outgoing_return c cause = Asks (event.Undo c Asked) (if_record (λ r s. tell_returned c cause))
+outgoing_return c cause = once_recorded (event.Undo c Asked) (λ r s. tell_returned c cause)
 
 abbrev pub return_by : ℕ → ℕ → Attempt → AttemptKind → Plan
 return_by c cause a Internal = if is_commanded a.stage && names_target (Some a) then take_back c (λ attempt. Ends) else Ends
@@ -421,7 +435,7 @@ if_no_call next (Unexpected x) = Ends
 if_no_call next NotArmed = Ends
 
 unfoldable pub left_channel : ℕ → ChanId → Plan
-left_channel c x = Asks (event.Left c) (if_done (Sends (release x) (Sends (clear_complete c) Ends)))
+left_channel c x = once_done (event.Left c) (Sends (release x) (Sends (clear_complete c) Ends))
 
 unfoldable pub left_plan : ℕ → Option ChanId → Plan
 left_plan c serving = if_named serving (left_channel c)
@@ -485,12 +499,16 @@ if_new next (Record r s) = Ends
 if_new next (Owned c) = Ends
 if_new next (Refused refusal) = if_no_call next refusal
 
+-- a call, and this plan where the book has none
+unfoldable pub once_new : ℕ → Plan → Plan
+once_new c next = Asks (event.Look c) (if_new next)
+
 unfoldable pub request_plan : SiteView → ℕ → List ℕ → List ℕ → CellId → Plan
-request_plan site c channel encryption target = Asks (event.Look c) (if_new (request_rest site c channel encryption target))
+request_plan site c channel encryption target = once_new c (request_rest site c channel encryption target)
 
 -- HANDOVER COMMAND (TS 48.008 clause 3.1.5.3) where HANDOVER REQUIRED was sent: the message inside goes to the mobile unread
 unfoldable pub order_channel : ℕ → List ℕ → ChanId → Plan
-order_channel c layer3 x = Asks (event.Order c) (if_done (Sends (data_request x layer3) Ends))
+order_channel c layer3 x = once_done (event.Order c) (Sends (data_request x layer3) Ends)
 
 unfoldable pub order_plan : ℕ → List ℕ → Plan
 order_plan c layer3 = looked c (λ r s. if awaits_order r.attempt then if_named r.serving (order_channel c layer3) else Ends)

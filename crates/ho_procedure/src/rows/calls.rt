@@ -4,7 +4,7 @@ ghost use Rattle.ho_procedure.specs.Plan.{Plan, Ends, At};
 ghost use Rattle.ho_procedure.specs.Going.{Goes, Passes, IsForeign, then, stops_at};
 ghost use Rattle.ho_procedure.specs.Procedure.{opened_plan, open_plan, release_serving, release_plan, told_release_plan, clear_serving, clear_undone, clear_named, clear_rest, clear_plan, left_channel, left_plan, clear_call, clear_command_rest, clear_command_plan, release_cause};
 
-use super::parts::{look, release_target};
+use super::parts::{ask_done, ask_record, look, release_target};
 use crate::causes::{ABNORMAL_RELEASE, CALL_CONTROL, NORMAL_EVENT};
 use crate::records::{awaits_leaving, is_nameable, is_own, names_releases};
 use crate::view::DeskView;
@@ -41,7 +41,7 @@ pub(crate) fn open<D: DeskView + Drop, A: Allocator + Copy>(
     ensures foreign_kept { D.may_be_foreign work.new.view → D.may_be_foreign work.old.view }
 {
     work.make_room(1)?;
-    let Reply::Done = work.ask(Event::Open(call, chan))? else {
+    let Course::On = ask_done(work, Event::Open(call, chan))? else {
         return Ok(());
     };
     activate(work, chan);
@@ -136,7 +136,7 @@ fn clear_serving<D: DeskView + Drop, A: Allocator + Copy>(
     ensures foreign { IfErr result (λ f. IsForeign f → D.may_be_foreign work.old.view) }
     ensures foreign_kept { D.may_be_foreign work.new.view → D.may_be_foreign work.old.view }
 {
-    let Reply::Done = work.ask(Event::Clear(call))? else {
+    let Course::On = ask_done(work, Event::Clear(call))? else {
         return Ok(Course::Over);
     };
     Ok(release_serving(work, cause, shown))
@@ -191,10 +191,9 @@ fn clear_rest<D: DeskView + Drop, A: Allocator + Copy>(
     if shown.record.attempt.is_none() {
         return clear_undone(work, call, cause, shown);
     }
-    let Reply::Record(record, state) = work.ask(Event::Undo(call, Why::Asked))? else {
+    let Some(before) = ask_record(work, Event::Undo(call, Why::Asked))? else {
         return Ok(Course::Over);
     };
-    let before = Shown { record, state };
     if !names_releases(before) {
         return Ok(Course::Over);
     }
@@ -250,7 +249,7 @@ fn leave_channel<D: DeskView + Drop, A: Allocator + Copy>(
     ensures foreign { IfErr result (λ f. IsForeign f → D.may_be_foreign work.old.view) }
     ensures foreign_kept { D.may_be_foreign work.new.view → D.may_be_foreign work.old.view }
 {
-    let Reply::Done = work.ask(Event::Left(call))? else {
+    let Course::On = ask_done(work, Event::Left(call))? else {
         return Ok(());
     };
     work.send_release(serving);
@@ -333,7 +332,18 @@ fn clear_command_rest<D: DeskView + Drop, A: Allocator + Copy>(
             work.send_clear_complete(call);
             Ok(())
         }
-        Reply::Done | Reply::Owned(_) | Reply::Refused(_) => Ok(()),
+        Reply::Done
+        | Reply::Owned(_)
+        | Reply::Refused(
+            Refusal::CallExists
+            | Refusal::WrongPhase
+            | Refusal::NoChannel
+            | Refusal::SameCell
+            | Refusal::ChannelBusy(_)
+            | Refusal::RefBusy(..)
+            | Refusal::Unexpected(_)
+            | Refusal::NotArmed,
+        ) => Ok(()),
     }
 }
 

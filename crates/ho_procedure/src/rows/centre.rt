@@ -1,18 +1,18 @@
 //! Rows of the messages of the switching centre about a handover between controllers.
-ghost use Rattle.std.specs.Prelude.{◌≡◌, ◌≤◌, ◌<◌, OnOk, IfErr, length};
-ghost use Rattle.ho_procedure.specs.Plan.{Ends, At};
-ghost use Rattle.ho_procedure.specs.Going.{Goes, IsForeign, stops_at};
-ghost use Rattle.ho_procedure.specs.Procedure.{admit_plan, request_rest, request_plan, order_channel, order_plan, reject_plan};
+ghost use Rattle.std.specs.Prelude.{◌≡◌, ◌≤◌, ◌<◌, IfOk, OnOk, IfErr, length};
+ghost use Rattle.ho_procedure.specs.Plan.{Plan, Ends, At};
+ghost use Rattle.ho_procedure.specs.Going.{Goes, Passes, IsForeign, then, stops_at};
+ghost use Rattle.ho_procedure.specs.Procedure.{once_new, admit_plan, request_rest, request_plan, order_channel, order_plan, reject_plan};
 
 use super::handovers::go_on_taken;
-use super::parts::{look, turn_away};
+use super::parts::{ask_done, look, turn_away};
 use crate::causes::{
     CIPHERING_ALGORITHM_NOT_SUPPORTED, INVALID_MESSAGE_CONTENTS, NO_RADIO_RESOURCE_AVAILABLE,
 };
 use crate::records::{awaits_order, is_nameable};
 use crate::requests::{is_half_rate, is_speech, own_cell, permits_clear};
 use crate::view::DeskView;
-use crate::work::Work;
+use crate::work::{Course, Work};
 use bssmap_messages::CellId;
 use cell_table::Site;
 use channel_fsm::ChanId;
@@ -75,6 +75,38 @@ fn request_rest<D: DeskView + Drop, A: Allocator + Copy>(
     admit(work, call, own_cell(site, target))
 }
 
+/// A call is looked at; the row goes on where the book has none.
+#[tactic(auto, using(crate::proofs::Asking::row_steps), unfolding(crate::specs::Procedure::once_new))]
+fn ask_new<D: DeskView + Drop, A: Allocator + Copy>(
+    work: &mut Work<D, A>,
+    call: u16,
+) -> Result<Course, DeskFault>
+    ensures goes { IfOk result (λ course. (next : Plan) → Passes D.log D.says work.old
+        (once_new call next) work.new (then next course)) }
+    ensures stops { IfErr result (λ f. (next : Plan) → Goes D.log D.says work.old
+        (once_new call next) work.new (stops_at f)) }
+    ensures owed { work.new.owed ≡ work.old.owed }
+    ensures foreign { IfErr result (λ f. IsForeign f → D.may_be_foreign work.old.view) }
+    ensures foreign_kept { D.may_be_foreign work.new.view → D.may_be_foreign work.old.view }
+{
+    match work.ask(Event::Look(call))? {
+        Reply::Refused(Refusal::NoCall) => Ok(Course::On),
+        Reply::Done
+        | Reply::Record(..)
+        | Reply::Owned(_)
+        | Reply::Refused(
+            Refusal::CallExists
+            | Refusal::WrongPhase
+            | Refusal::NoChannel
+            | Refusal::SameCell
+            | Refusal::ChannelBusy(_)
+            | Refusal::RefBusy(..)
+            | Refusal::Unexpected(_)
+            | Refusal::NotArmed,
+        ) => Ok(Course::Over),
+    }
+}
+
 /// HANDOVER REQUEST: a call is to come from another controller, on a channel of this type, with this encryption
 /// information, to this cell.
 #[tactic(auto, using(crate::proofs::Asking::row_steps), unfolding(crate::specs::Procedure::request_plan))]
@@ -94,7 +126,7 @@ pub(crate) fn request<D: DeskView + Drop, A: Allocator + Copy>(
     ensures foreign_kept { D.may_be_foreign work.new.view → D.may_be_foreign work.old.view }
 {
     work.make_room(1)?;
-    let Reply::Refused(Refusal::NoCall) = work.ask(Event::Look(call))? else {
+    let Course::On = ask_new(work, call)? else {
         return Ok(());
     };
     request_rest(work, site, call, channel, encryption, target)
@@ -119,7 +151,7 @@ fn order_channel<D: DeskView + Drop, A: Allocator + Copy>(
     ensures foreign_kept { D.may_be_foreign work.new.view → D.may_be_foreign work.old.view }
 {
     work.make_unread_room(layer3.len())?;
-    let Reply::Done = work.ask(Event::Order(call))? else {
+    let Course::On = ask_done(work, Event::Order(call))? else {
         return Ok(());
     };
     work.send_data_request(serving, layer3);

@@ -2,9 +2,9 @@
 ghost use Rattle.std.specs.Prelude.{◌≡◌, ◌≤◌, ℕ, OnOk, IfErr, IfOk, IsSome, ◌<◌};
 ghost use Rattle.ho_procedure.specs.Plan.{Plan, Ends, At};
 ghost use Rattle.ho_procedure.specs.Going.{Goes, Passes, IsForeign, then, stops_at};
-ghost use Rattle.ho_procedure.specs.Procedure.{activate_plan, start_plan, taken_plan, require_plan, handover_plan, take_back, undo_plan, expiry_plan};
+ghost use Rattle.ho_procedure.specs.Procedure.{activate_plan, reserved_plan, reserve_plan, start_plan, taken_plan, require_plan, handover_plan, take_back, undo_plan, expiry_plan};
 
-use super::parts::{release_target, tell_failure};
+use super::parts::{ask_done, ask_record, release_target, tell_failure};
 use crate::causes::RADIO_INTERFACE_MESSAGE_FAILURE;
 use crate::commands::cell_id_at;
 use crate::records::is_nameable;
@@ -35,15 +35,61 @@ fn activate<D: DeskView + Drop, A: Allocator + Copy>(
     ensures foreign { IfErr result (λ f. IsForeign f → D.may_be_foreign work.old.view) }
     ensures foreign_kept { D.may_be_foreign work.new.view → D.may_be_foreign work.old.view }
 {
-    let Reply::Done = work.ask(Event::Activate(call))? else {
+    let Course::On = ask_done(work, Event::Activate(call))? else {
         return Ok(());
     };
     work.send_target_activation(target, reference);
     Ok(())
 }
 
+/// What follows the reservation of a reference for a channel: the channel is activated.
+#[tactic(auto, using(crate::proofs::Asking::row_steps))]
+fn go_on_reserved<D: DeskView + Drop, A: Allocator + Copy>(
+    work: &mut Work<D, A>,
+    call: u16,
+    target: ChanId,
+    reference: u8,
+    reply: Reply,
+) -> Result<(), DeskFault>
+    requires room { 1 ≤ work.old.owed.room }
+    requires timeslot { target.tn < 8 }
+    ensures row { OnOk result (Goes D.log D.says work.old
+        (reserved_plan call target reference reply) work.new (At Ends)) }
+    ensures stops { IfErr result (λ f. Goes D.log D.says work.old
+        (reserved_plan call target reference reply) work.new (stops_at f)) }
+    ensures foreign { IfErr result (λ f. IsForeign f → D.may_be_foreign work.old.view) }
+    ensures foreign_kept { D.may_be_foreign work.new.view → D.may_be_foreign work.old.view }
+{
+    match reply {
+        Reply::Done => activate(work, call, target, reference),
+        Reply::Record(..) | Reply::Owned(_) | Reply::Refused(_) => Ok(()),
+    }
+}
+
+/// A reference is reserved for a channel that a message can name.
+#[tactic(auto, using(crate::proofs::Asking::row_steps), unfolding(crate::specs::Procedure::reserve_plan))]
+fn reserve<D: DeskView + Drop, A: Allocator + Copy>(
+    work: &mut Work<D, A>,
+    call: u16,
+    target: ChanId,
+) -> Result<(), DeskFault>
+    requires { 1 ≤ work.old.owed.room }
+    ensures row { OnOk result (Goes D.log D.says work.old
+        (reserve_plan call target) work.new (At Ends)) }
+    ensures stops { IfErr result (λ f. Goes D.log D.says work.old
+        (reserve_plan call target) work.new (stops_at f)) }
+    ensures foreign { IfErr result (λ f. IsForeign f → D.may_be_foreign work.old.view) }
+    ensures foreign_kept { D.may_be_foreign work.new.view → D.may_be_foreign work.old.view }
+{
+    if !is_nameable(target) {
+        return Ok(());
+    }
+    let (reference, reply) = work.reserve(call)?;
+    go_on_reserved(work, call, target, reference, reply)
+}
+
 /// What follows the take of a channel: a reference is reserved, and the channel activated.
-#[tactic(auto, using(crate::proofs::Asking::row_steps), unfolding(crate::specs::Procedure::taken_plan, crate::specs::Procedure::activate_plan))]
+#[tactic(auto, using(crate::proofs::Asking::row_steps), unfolding(crate::specs::Procedure::taken_plan))]
 pub(super) fn go_on_taken<D: DeskView + Drop, A: Allocator + Copy>(
     work: &mut Work<D, A>,
     call: u16,
@@ -58,16 +104,10 @@ pub(super) fn go_on_taken<D: DeskView + Drop, A: Allocator + Copy>(
     ensures foreign { IfErr result (λ f. IsForeign f → D.may_be_foreign work.old.view) }
     ensures foreign_kept { D.may_be_foreign work.new.view → D.may_be_foreign work.old.view }
 {
-    let Reply::Done = reply else {
-        return Ok(());
-    };
-    if !is_nameable(target) {
-        return Ok(());
+    match reply {
+        Reply::Done => reserve(work, call, target),
+        Reply::Record(..) | Reply::Owned(_) | Reply::Refused(_) => Ok(()),
     }
-    let (reference, Reply::Done) = work.reserve(call)? else {
-        return Ok(());
-    };
-    activate(work, call, target, reference)
 }
 
 /// The switching centre is asked for a handover to a cell of another controller.
@@ -86,7 +126,7 @@ fn require<D: DeskView + Drop, A: Allocator + Copy>(
     ensures foreign_kept { D.may_be_foreign work.new.view → D.may_be_foreign work.old.view }
 {
     work.make_room(1)?;
-    let Reply::Done = work.ask(Event::Require(call))? else {
+    let Course::On = ask_done(work, Event::Require(call))? else {
         return Ok(());
     };
     work.send_handover_required(call, cell);
@@ -155,13 +195,13 @@ pub(crate) fn undo<D: DeskView + Drop, A: Allocator + Copy>(
     ensures foreign_kept { D.may_be_foreign work.new.view → D.may_be_foreign work.old.view }
 {
     work.make_room(2)?;
-    let Reply::Record(record, _) = work.ask(Event::Undo(call, Why::Asked))? else {
+    let Some(shown) = ask_record(work, Event::Undo(call, Why::Asked))? else {
         return Ok(());
     };
-    let Course::On = release_target(work, record.attempt) else {
+    let Course::On = release_target(work, shown.record.attempt) else {
         return Ok(());
     };
-    tell_failure(work, call, record.attempt);
+    tell_failure(work, call, shown.record.attempt);
     Ok(())
 }
 
@@ -180,10 +220,10 @@ pub(crate) fn expire<D: DeskView + Drop, A: Allocator + Copy>(
     ensures foreign_kept { D.may_be_foreign work.new.view → D.may_be_foreign work.old.view }
 {
     work.make_room(2)?;
-    let Reply::Record(record, _) = work.ask(Event::Undo(call, Why::Expired(timer)))? else {
+    let Some(shown) = ask_record(work, Event::Undo(call, Why::Expired(timer)))? else {
         return Ok(());
     };
-    let Course::On = release_target(work, record.attempt) else {
+    let Course::On = release_target(work, shown.record.attempt) else {
         return Ok(());
     };
     match timer {

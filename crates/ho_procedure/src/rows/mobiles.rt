@@ -6,7 +6,7 @@ ghost use Rattle.ho_procedure.specs.Going.{Goes, Passes, IsForeign, last_reports
 ghost use Rattle.ho_procedure.specs.Procedure.{try_plan, rank_plan, report_plan, internal_complete, incoming_complete, complete_rest, complete_plan, take_back, tell_returned, outgoing_return, return_rest, return_plan};
 
 use super::handovers::start;
-use super::parts::{look, owner, release_target};
+use super::parts::{ask_done, ask_record, look, owner, release_target};
 use crate::causes::REVERSION_TO_OLD_CHANNEL;
 use crate::records::{
     is_commanded, is_nameable, is_on, is_ordered, is_serving, is_target, names_target, traffic_cell,
@@ -16,7 +16,7 @@ use crate::work::{Course, Work};
 use cell_table::Site;
 use channel_fsm::ChanId;
 use ho_candidates::Candidate;
-use radio_book::event::{Attempt, AttemptKind, Event, Reply, Why};
+use radio_book::event::{Attempt, AttemptKind, Event, Why};
 use radio_desk::desk::DeskFault;
 use rr_elements::MeasResults;
 use std::alloc::Allocator;
@@ -132,7 +132,7 @@ fn complete_internal<D: DeskView + Drop, A: Allocator + Copy>(
         return Ok(());
     };
     work.make_room(2)?;
-    let Reply::Done = work.ask(Event::Complete(call))? else {
+    let Course::On = ask_done(work, Event::Complete(call))? else {
         return Ok(());
     };
     work.send_release(old);
@@ -155,7 +155,7 @@ fn complete_incoming<D: DeskView + Drop, A: Allocator + Copy>(
     ensures foreign_kept { D.may_be_foreign work.new.view → D.may_be_foreign work.old.view }
 {
     work.make_room(1)?;
-    let Reply::Done = work.ask(Event::Complete(call))? else {
+    let Course::On = ask_done(work, Event::Complete(call))? else {
         return Ok(());
     };
     work.send_handover_complete(call, cause);
@@ -239,10 +239,10 @@ fn return_internal<D: DeskView + Drop, A: Allocator + Copy>(
     ensures foreign_kept { D.may_be_foreign work.new.view → D.may_be_foreign work.old.view }
 {
     work.make_room(1)?;
-    let Reply::Record(record, _) = work.ask(Event::Undo(call, Why::Asked))? else {
+    let Some(shown) = ask_record(work, Event::Undo(call, Why::Asked))? else {
         return Ok(());
     };
-    let _ = release_target(work, record.attempt);
+    let _ = release_target(work, shown.record.attempt);
     Ok(())
 }
 
@@ -275,7 +275,7 @@ fn return_outgoing<D: DeskView + Drop, A: Allocator + Copy>(
     ensures foreign_kept { D.may_be_foreign work.new.view → D.may_be_foreign work.old.view }
 {
     work.make_room(1)?;
-    let Reply::Record(..) = work.ask(Event::Undo(call, Why::Asked))? else {
+    let Some(_) = ask_record(work, Event::Undo(call, Why::Asked))? else {
         return Ok(());
     };
     tell_returned(work, call, cause);

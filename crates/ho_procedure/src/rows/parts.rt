@@ -4,7 +4,7 @@ ghost use Rattle.channel_fsm.specs.declared.ChanState.{ChanState};
 ghost use Rattle.radio_book.specs.declared.event.CallRecord.{CallRecord};
 ghost use Rattle.ho_procedure.specs.Plan.{Plan, Ends, At, call_dropped};
 ghost use Rattle.ho_procedure.specs.Going.{Goes, Passes, IsForeign, last_reports, then, then_of, then_shown, stops_at};
-ghost use Rattle.ho_procedure.specs.Procedure.{owned, looked, release_target, turn_away, failure_of};
+ghost use Rattle.ho_procedure.specs.Procedure.{once_done, once_recorded, owned, looked, release_target, turn_away, failure_of};
 
 use crate::causes::EQUIPMENT_FAILURE;
 use crate::records::{is_nameable, is_switched_on};
@@ -57,6 +57,47 @@ pub(super) fn look<D: DeskView + Drop, A: Allocator + Copy>(
     ensures foreign_kept { D.may_be_foreign work.new.view → D.may_be_foreign work.old.view }
 {
     match work.ask(Event::Look(call))? {
+        Reply::Record(record, state) => Ok(Some(Shown { record, state })),
+        Reply::Done | Reply::Owned(_) | Reply::Refused(_) => Ok(None),
+    }
+}
+
+/// An event is asked; the row goes on where it is done.
+#[tactic(auto, using(crate::proofs::Asking::row_steps), unfolding(crate::specs::Procedure::once_done))]
+pub(super) fn ask_done<D: DeskView + Drop, A: Allocator + Copy>(
+    work: &mut Work<D, A>,
+    event: Event,
+) -> Result<Course, DeskFault>
+    ensures goes { IfOk result (λ course. (next : Plan) → Passes D.log D.says work.old
+        (once_done event next) work.new (then next course)) }
+    ensures stops { IfErr result (λ f. (next : Plan) → Goes D.log D.says work.old
+        (once_done event next) work.new (stops_at f)) }
+    ensures owed { work.new.owed ≡ work.old.owed }
+    ensures foreign { IfErr result (λ f. IsForeign f → D.may_be_foreign work.old.view) }
+    ensures foreign_kept { D.may_be_foreign work.new.view → D.may_be_foreign work.old.view }
+{
+    match work.ask(event)? {
+        Reply::Done => Ok(Course::On),
+        Reply::Record(..) | Reply::Owned(_) | Reply::Refused(_) => Ok(Course::Over),
+    }
+}
+
+/// An event is asked; the row goes on with what it says of its call.
+#[tactic(auto, using(crate::proofs::Asking::row_steps), unfolding(crate::specs::Procedure::once_recorded))]
+pub(super) fn ask_record<D: DeskView + Drop, A: Allocator + Copy>(
+    work: &mut Work<D, A>,
+    event: Event,
+) -> Result<Option<Shown>, DeskFault>
+    ensures goes { IfOk result (λ found. (next : CallRecord → Option ChanState → Plan) →
+        Passes D.log D.says work.old (once_recorded event next) work.new
+        (then_shown next found)) }
+    ensures stops { IfErr result (λ f. (next : CallRecord → Option ChanState → Plan) →
+        Goes D.log D.says work.old (once_recorded event next) work.new (stops_at f)) }
+    ensures owed { work.new.owed ≡ work.old.owed }
+    ensures foreign { IfErr result (λ f. IsForeign f → D.may_be_foreign work.old.view) }
+    ensures foreign_kept { D.may_be_foreign work.new.view → D.may_be_foreign work.old.view }
+{
+    match work.ask(event)? {
         Reply::Record(record, state) => Ok(Some(Shown { record, state })),
         Reply::Done | Reply::Owned(_) | Reply::Refused(_) => Ok(None),
     }

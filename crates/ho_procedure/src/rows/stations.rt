@@ -4,15 +4,15 @@ ghost use Rattle.ho_procedure.specs.Plan.{Plan, Ends, At};
 ghost use Rattle.ho_procedure.specs.Going.{Goes, Passes, IsForeign, stops_at};
 ghost use Rattle.ho_procedure.specs.Procedure.{send_command, internal_command, acknowledge, incoming_command, confirm_rest, confirm_plan, refused_target, refuse_plan, released_plan, connection_failure_plan, tell_detected, detect_rest, detect_plan};
 
-use super::parts::{look, owner, tell_failure};
+use super::parts::{ask_done, ask_record, look, owner, tell_failure};
 use crate::causes::{EQUIPMENT_FAILURE, RADIO_INTERFACE_FAILURE};
 use crate::commands::command_to;
 use crate::records::{is_nameable, is_serving, is_target, is_target_in};
 use crate::view::DeskView;
-use crate::work::Work;
+use crate::work::{Course, Work};
 use cell_table::Site;
 use channel_fsm::ChanId;
-use radio_book::event::{Attempt, AttemptKind, Event, Reply, Why};
+use radio_book::event::{Attempt, AttemptKind, Event, Why};
 use radio_desk::desk::DeskFault;
 use rr_messages::Rr;
 use std::alloc::Allocator;
@@ -34,7 +34,7 @@ fn send_command<D: DeskView + Drop, A: Allocator + Copy>(
     ensures foreign { IfErr result (λ f. IsForeign f → D.may_be_foreign work.old.view) }
     ensures foreign_kept { D.may_be_foreign work.new.view → D.may_be_foreign work.old.view }
 {
-    let Reply::Done = work.ask(Event::Command(call))? else {
+    let Course::On = ask_done(work, Event::Command(call))? else {
         return Ok(());
     };
     work.send_to_mobile(serving, command);
@@ -89,7 +89,7 @@ fn acknowledge<D: DeskView + Drop, A: Allocator + Copy>(
     ensures foreign { IfErr result (λ f. IsForeign f → D.may_be_foreign work.old.view) }
     ensures foreign_kept { D.may_be_foreign work.new.view → D.may_be_foreign work.old.view }
 {
-    let Reply::Done = work.ask(Event::Command(call))? else {
+    let Course::On = ask_done(work, Event::Command(call))? else {
         return Ok(());
     };
     work.send_handover_request_ack(call, command);
@@ -198,10 +198,10 @@ fn refuse_target<D: DeskView + Drop, A: Allocator + Copy>(
     ensures foreign { IfErr result (λ f. IsForeign f → D.may_be_foreign work.old.view) }
     ensures foreign_kept { D.may_be_foreign work.new.view → D.may_be_foreign work.old.view }
 {
-    let Reply::Record(record, _) = work.ask(Event::Undo(call, Why::Asked))? else {
+    let Some(shown) = ask_record(work, Event::Undo(call, Why::Asked))? else {
         return Ok(());
     };
-    tell_failure(work, call, record.attempt);
+    tell_failure(work, call, shown.record.attempt);
     Ok(())
 }
 
