@@ -17,6 +17,7 @@
 
 ghost use Rattle.std.specs.Prelude.{◌<◌, IfSome};
 
+use file_reasons::Reason;
 use lab::program::perform;
 use lab::run::{LabFault, Status, exit_status};
 use progress::Progress;
@@ -62,7 +63,7 @@ fn closed<W: Write, E: Write>(
     match out.flush() {
         Ok(()) => ended,
         Err(error) => {
-            writeln!(errors, "standard output: {error}")?;
+            writeln!(errors, "standard output: {}", Reason(&error))?;
             match ended {
                 Ok(_) => Err(LabFault::Write),
                 Err(fault) => Err(fault),

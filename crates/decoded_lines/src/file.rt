@@ -7,6 +7,7 @@ ghost use Rattle.decoded_lines.specs.Answers.{AreGood};
 use crate::answers::{Asked, LinesFault, answer_lines};
 use crate::messages::PrintFault;
 use escaped_text::Escaped;
+use file_reasons::Reason;
 use std::alloc::Allocator;
 use std::fs::File;
 use std::io::{self, BufReader, Read, Write};
@@ -27,7 +28,7 @@ fn refuse_file<W: Write, E: Write>(
     if error.kind() == io::ErrorKind::OutOfMemory {
         return Err(PrintFault::NoMemory);
     }
-    writeln!(errors, "{}: {error}", Escaped(path))?;
+    writeln!(errors, "{}: {}", Escaped(path), Reason(&error))?;
     writeln!(out, "file {path}")?;
     Ok(false)
 }

@@ -188,15 +188,9 @@ const FILES: &[(&str, &[u8], bool, &str, &str)] = &[
         b"",
         false,
         "file no such file\n",
-        "no such file: No such file or directory (os error 2)\n",
+        "no such file: no such file\n",
     ),
-    (
-        "/",
-        b"",
-        false,
-        "file /\n",
-        "/: Is a directory (os error 21)\n",
-    ),
+    ("/", b"", false, "file /\n", "/: is a folder\n"),
 ];
 
 #[test]

@@ -10,6 +10,7 @@ use crate::run_reason::say_refusal;
 use crate::site_files::{SitePaths, SiteTexts, site_texts};
 use crate::site_reason::say_reason;
 use escaped_text::Escaped;
+use file_reasons::Reason;
 use run_views::{Sites, Viewer, Views, WordsFault, open_sheets};
 use std::alloc::{Allocator, Global};
 use std::fmt;
@@ -109,7 +110,7 @@ impl fmt::Display for Grouped {
 fn say_not_text<E: Write>(path: &str, place: usize, errors: &mut E) -> io::Result<()> {
     writeln!(
         errors,
-        "{}: the file isn't UTF-8 (octet {})",
+        "{}: isn't UTF-8 (octet {})",
         Escaped(path),
         Grouped(place as u64)
     )
@@ -129,9 +130,9 @@ pub(crate) fn text_of<R: Files + AllocGlobal, W: Write, E: Write>(
                 Err(place) => say_not_text(path, place, errors)?,
             }
         }
-        Ok(None) => writeln!(errors, "{}: the file has more than 64 MiB", Escaped(path))?,
+        Ok(None) => writeln!(errors, "{}: larger than 64 MiB", Escaped(path))?,
         Err(error) if error.kind() == io::ErrorKind::OutOfMemory => return Err(LabFault::NoMemory),
-        Err(error) => writeln!(errors, "{}: {error}", Escaped(path))?,
+        Err(error) => writeln!(errors, "{}: {}", Escaped(path), Reason(&error))?,
     }
     writeln!(out, "file {path}")?;
     Ok(None)

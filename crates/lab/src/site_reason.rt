@@ -497,19 +497,30 @@ fn say_key<W: Write>(
     say_range(&found, key, errors)
 }
 
+/// The line and the column, both counted from 1, of what stands behind this front of a text. A column counts characters.
+fn place_behind(front: &str) -> (usize, usize) {
+    let line = match front.rsplit_once('\n') {
+        Some((_, line)) => line,
+        None => front,
+    };
+    let feeds = front.bytes().filter(|octet| *octet == b'\n').count();
+    (
+        feeds.saturating_add(1),
+        line.chars().count().saturating_add(1),
+    )
+}
+
 /// Says why a text isn't TOML: line, column, and what was awaited there.
 fn say_toml<W: Write>(
-    alloc: Global,
     path: &str,
-    fault: toml::de::Error,
+    text: &str,
+    fault: &toml::de::Error,
     errors: &mut W,
 ) -> Result<(), LabFault> {
-    let text = format!(in alloc; "{fault}")?;
-    write!(errors, "{}", Escaped(path))?;
-    for line in text.lines() {
-        write!(errors, ": {line}")?;
-    }
-    writeln!(errors)?;
+    let start = fault.span().map_or(0, |span| span.start);
+    let (line, column) = place_behind(text.get(..start).unwrap_or(text));
+    let message = fault.message();
+    writeln!(errors, "{}:{line}:{column}: {message}", Escaped(path))?;
     Ok(())
 }
 
@@ -555,7 +566,7 @@ pub fn say_reason<W: Write>(
     match toml::table_from_str(alloc, text) {
         Ok(document) => say_fault(path, &Value::Table(document), fault, errors)?,
         Err(fault) if fault.is_memory() => return Err(LabFault::NoMemory),
-        Err(fault) => say_toml(alloc, path, fault, errors)?,
+        Err(fault) => say_toml(path, text, &fault, errors)?,
     }
     Ok(true)
 }

@@ -2,6 +2,7 @@
 use crate::options::Views;
 use crate::viewer::Viewer;
 use escaped_text::Escaped;
+use file_reasons::Reason;
 use line_words::WordsFault;
 use std::alloc::Allocator;
 use std::fs::File;
@@ -37,7 +38,7 @@ fn open_sheet<'a, R: Files + AllocGlobal, W: Write, E: Write>(
         },
         Err(error) if error.kind() == io::ErrorKind::OutOfMemory => Err(WordsFault::NoMemory),
         Err(error) => {
-            writeln!(errors, "{}: {error}", Escaped(path))?;
+            writeln!(errors, "{}: {}", Escaped(path), Reason(&error))?;
             writeln!(out, "file {path}")?;
             Ok(None)
         }
@@ -71,7 +72,7 @@ pub fn open_sheets<'a, R: Files + AllocGlobal, W: Write, E: Write>(
 
 /// Says on `errors` that a file can't be written.
 fn say_unwritten<E: Write>(path: &str, error: io::Error, errors: &mut E) -> WordsFault {
-    match writeln!(errors, "{}: {error}", Escaped(path)) {
+    match writeln!(errors, "{}: {}", Escaped(path), Reason(&error)) {
         Ok(()) | Err(_) => WordsFault::Write,
     }
 }
@@ -90,7 +91,7 @@ fn write_pcap<F: Write + Drop, W: Write, A: Allocator + Copy, E: Write>(
         writeln!(
             errors,
             "{}: {left_out} messages are too long for a packet, and left out",
-            sheet.path
+            Escaped(sheet.path)
         )?;
     }
     match sheet.out.write_all(capture.octets()) {

@@ -49,12 +49,7 @@ const REFUSED: &[(&str, &str, &str, &str)] = &[
         "site 2 ncc\n",
         "refused.toml: cell 1: ncc is missing",
     ),
-    (
-        "[handover]",
-        "[handover",
-        "site 1\n",
-        "refused.toml: TOML parse error at line 1",
-    ),
+    ("[handover]", "[handover", "site 1\n", "refused.toml:1:"),
     (
         "ci = 101",
         "ci = 100",
@@ -77,6 +72,6 @@ fn a_site_is_refused_as_by_a_run(rt: HostRuntime) -> Result<(), Fail> {
         &rt,
         "/",
         Ok(Status::Refused),
-        ("file /\n", "/: Is a directory"),
+        ("file /\n", "/: is a folder"),
     )
 }

@@ -15,21 +15,21 @@ const REFUSED: &[(&str, &str, &str, &str)] = &[
         "no such file",
         "/dev/null",
         "file no such file\n",
-        "no such file: No such file or directory",
+        "no such file: no such file",
     ),
-    ("", "/dev/null", "file \n", ": No such file or directory"),
-    ("/", "/dev/null", "file /\n", "/: Is a directory"),
+    ("", "/dev/null", "file \n", ": no such file"),
+    ("/", "/dev/null", "file /\n", "/: is a folder"),
     (
         "/proc/self/exe",
         "/dev/null",
         "file /proc/self/exe\n",
-        "/proc/self/exe: the file isn't UTF-8 (octet ",
+        "/proc/self/exe: isn't UTF-8 (octet ",
     ),
     (
         "/dev/zero",
         "/dev/null",
         "file /dev/zero\n",
-        "/dev/zero: the file has more than 64 MiB",
+        "/dev/zero: larger than 64 MiB",
     ),
     // the site's file is read first, and both before the site is looked at
     ("no site", "no script", "file no site\n", "no site: "),
@@ -140,7 +140,11 @@ const LONG_FILE: &str = "long.txt";
 
 const LENGTHS: &[(usize, &str, &str)] = &[
     (64 << 20, "site 2 handover\n", "/dev/null: handover is"),
-    ((64 << 20) + 1, "file long.txt\n", "long.txt: the file has"),
+    (
+        (64 << 20) + 1,
+        "file long.txt\n",
+        "long.txt: larger than 64 MiB",
+    ),
 ];
 
 /// Writes a file of so many octets.
@@ -162,13 +166,10 @@ fn a_file_may_have_64_mebibytes(rt: HostRuntime) -> Result<(), Fail> {
 const ODD_FILE: &str = "odd.txt";
 
 const ODD: &[(usize, &str)] = &[
-    (0, "odd.txt: the file isn't UTF-8 (octet 1)\n"),
-    (998, "odd.txt: the file isn't UTF-8 (octet 999)\n"),
-    (1_044, "odd.txt: the file isn't UTF-8 (octet 1,045)\n"),
-    (
-        1_000_000,
-        "odd.txt: the file isn't UTF-8 (octet 1,000,001)\n",
-    ),
+    (0, "odd.txt: isn't UTF-8 (octet 1)\n"),
+    (998, "odd.txt: isn't UTF-8 (octet 999)\n"),
+    (1_044, "odd.txt: isn't UTF-8 (octet 1,045)\n"),
+    (1_000_000, "odd.txt: isn't UTF-8 (octet 1,000,001)\n"),
 ];
 
 /// Writes a file of so many octets of text, and of a letter's octets in another encoding behind them.

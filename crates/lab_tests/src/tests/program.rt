@@ -47,7 +47,7 @@ const LINES: &[(&[&str], u8, &str, &str)] = &[
         &["run", "no site", "no script"],
         2,
         "file no site\n",
-        "no site: No such file",
+        "no site: no such file",
     ),
     (
         &["run", "/dev/null", "/dev/null"],
@@ -77,7 +77,7 @@ const LINES: &[(&[&str], u8, &str, &str)] = &[
         &["decode", "rr", "--from", "no file"],
         2,
         "file no file\n",
-        "no file: No such file",
+        "no file: no such file",
     ),
     (
         &["check", "/dev/null"],
@@ -89,7 +89,7 @@ const LINES: &[(&[&str], u8, &str, &str)] = &[
         &["check", "no site"],
         2,
         "file no site\n",
-        "no site: No such file",
+        "no site: no such file",
     ),
     (
         &["test", "/dev/null", "no script"],
@@ -101,7 +101,7 @@ const LINES: &[(&[&str], u8, &str, &str)] = &[
         &["record", "no site", "no script"],
         2,
         "file no site\n",
-        "no site: No such file",
+        "no site: no such file",
     ),
     (
         &["explain", "refused", "6"],
@@ -139,7 +139,7 @@ const LINES: &[(&[&str], u8, &str, &str)] = &[
         ],
         2,
         "file no folder/a.pcap\n",
-        "no folder/a.pcap: No such file",
+        "no folder/a.pcap: no such file",
     ),
     (
         &[
@@ -151,7 +151,7 @@ const LINES: &[(&[&str], u8, &str, &str)] = &[
         ],
         2,
         "file no folder/a.svg\n",
-        "no folder/a.svg: No such file",
+        "no folder/a.svg: no such file",
     ),
     (
         &["run", "/dev/null", "/dev/null", "--words"],

@@ -333,7 +333,7 @@ not ok 3 - no file
 # the file can't be read
 ok 4 - tested_met.txt
 ",
-        "tested_unread.txt:1: TN is 0 to 7, found 8\nno file: No such file",
+        "tested_unread.txt:1: TN is 0 to 7, found 8\nno file: no such file",
     ),
 ];
 
@@ -405,7 +405,7 @@ not ok 1 - tested_met.txt
         &rt,
         missing,
         &["tested_met.txt"],
-        (Status::Refused, "file no site\n", "no site: No such file"),
+        (Status::Refused, "file no site\n", "no site: no such file"),
     )?;
     let mut out = Vec::new(rt.alloc());
     let mut errors = Vec::new(rt.alloc());
