@@ -8,6 +8,7 @@ use std::io::{self, ErrorKind};
 
 /// An error of a file, or of standard output, as it is said behind the path and a colon: `no such file`, `is a folder`. An
 /// error without words of its own is said as the system does.
+#[derive(Clone, Copy)]
 pub struct Reason<'a>(pub &'a io::Error);
 
 /// What is said of the errors that a person meets. All others, and those that the system may get, have its own words.

@@ -47,7 +47,8 @@ pub record Went {A : Type 0} (inputs : List (Side × Inbound A)) (c c' : Course 
   pub scripted : scripted turns ≡ inputs
 
 -- The run's turns lead, one by one, from controllers of the sites over empty books to those of the run, and a script gave
--- these inputs of them, in their order and each for the controller that it names; all others simulators sent.
+-- these inputs of them, in their order and each for the controller that it names; all others are a simulator's by their
+-- source.
 pub record IsRunOf {A : Type 0} (sites : List SiteView) (inputs : List (Side × Inbound A)) (run : Run A) : Type 0 where
   pub first : List Position
   pub openings : AreOpenings sites first
@@ -55,7 +56,7 @@ pub record IsRunOf {A : Type 0} (sites : List SiteView) (inputs : List (Side × 
   pub scripted : scripted run.turns.items ≡ inputs
 
 -- Turn by turn, from controllers of the sites over empty books on, everything was handled that these inputs are, in their
--- order and each by the controller that it names, and between them what simulators sent.
+-- order and each by the controller that it names, and between them what is a simulator's by its source.
 pub record Played (A : Type 0) (sites : List SiteView) (inputs : List (Side × Inbound A)) : Type 0 where
   pub first : List Position
   pub openings : AreOpenings sites first

@@ -1,6 +1,6 @@
 //! Scripts that are recorded: what comes of each line is written behind it, as comments that expect it.
-ghost use Rattle.std.specs.Prelude.{◌≡◌, ◌⊎◌, Ok, None, IsSome, IsSomeAnd, is_some};
-ghost use Rattle.cell_table.specs.SiteFile.{described_site};
+ghost use Rattle.std.specs.Prelude.{◌≡◌, ◌⊎◌, Ok, Err, None, IsSome, IsSomeAnd, is_some};
+ghost use Rattle.cell_table.specs.SiteFile.{described_site, IsBlankFile};
 ghost use Rattle.lab_script.specs.Script.{first_unread, items_of};
 ghost use Rattle.lab.specs.Turns.{inputs_in};
 ghost use Rattle.lab.specs.Course.{IsPlayed, Played};
@@ -124,6 +124,7 @@ pub fn record_run<A: Allocator + Copy, W: Write>(
         (described_site site.now ≡ None)
         ⊎ IsSomeAnd (texts_of peer.entry) (λ text. described_site text ≡ None)
         ⊎ IsSome (first_unread (is_some peer.entry) script.now) }
+    ensures memory { result ≡ Err LabFault.NoMemory → ¬ IsBlankFile site.now }
 {
     match read_sites(alloc, scratch, site, peer) {
         Ok(sites) => record_script(alloc, sites, script, out),
