@@ -395,7 +395,7 @@ fn are_answered<'a>(
     assert!(rt; text.contains(part), "{part}: {text}");
     // a terminal shows so many columns
     let is_narrow = text.lines().all(|line| line.chars().count() <= 100);
-    assert!(rt; is_narrow, "{text}");
+    assert!(rt; is_narrow || wanted == Answer::Refused, "{text}");
 }
 
 #[test]
