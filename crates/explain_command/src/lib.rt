@@ -17,9 +17,7 @@ fn link_argument<'a>(alloc: Global) -> Arg<'a> {
     Arg::new(alloc, "LINK")
         .required(true)
         .action(ArgAction::Set)
-        .help(
-            "rr is the radio path (TS 44.018), a the switching centre (TS 48.008), abis the base station (TS 48.058)",
-        )
+        .help("Where the number is from")
         .value_parser(LINKS)
 }
 
@@ -40,10 +38,37 @@ fn argument_argument<'a>(alloc: Global) -> Arg<'a> {
         .value_parser(value_parser!(usize))
 }
 
+/// What stands behind the help of `explain` and of `explain refused`.
+const HELP: &str = "\
+Statuses: 0 the number has words, 2 it has none, or the words of the command are wrong, 3 memory
+was refused.
+
+As in: bsc_lab explain refused 6";
+
+/// What stands behind the help of `explain cause`.
+const CAUSE_HELP: &str = "\
+Links: rr is the radio path (TS 44.018), a the switching centre (TS 48.008), abis the base station
+(TS 48.058).
+
+Statuses: 0 the cause has words, 2 the words of the command are wrong, 3 memory was refused.
+
+As in: bsc_lab explain cause a 33";
+
+/// What stands behind the help of `explain fault`.
+const FAULT_HELP: &str = "\
+Links: rr is the radio path (TS 44.018), a the switching centre (TS 48.008), abis the base station
+(TS 48.058).
+
+Statuses: 0 the fault has words, 2 there is none of this number, or the words of the command are
+wrong, 3 memory was refused.
+
+As in: bsc_lab explain fault abis 3 26";
+
 /// `refused N`
 fn refused_command<'a>(alloc: Global) -> Result<Command<'a>, AllocError> {
     Command::new(alloc, "refused")
         .about("A refusal of the book, as in: explain refused 6")
+        .after_help(HELP)
         .arg(number_argument(
             alloc,
             "The refusal's number, 1 to 9, as a trace shows it behind refused",
@@ -54,6 +79,7 @@ fn refused_command<'a>(alloc: Global) -> Result<Command<'a>, AllocError> {
 fn cause_command<'a>(alloc: Global) -> Result<Command<'a>, AllocError> {
     Command::new(alloc, "cause")
         .about("A cause that a message carries, as in: explain cause a 33")
+        .after_help(CAUSE_HELP)
         .arg(link_argument(alloc))?
         .arg(number_argument(alloc, "The cause in decimal, 0 to 255"))
 }
@@ -62,10 +88,11 @@ fn cause_command<'a>(alloc: Global) -> Result<Command<'a>, AllocError> {
 fn fault_command<'a>(alloc: Global) -> Result<Command<'a>, AllocError> {
     Command::new(alloc, "fault")
         .about("Why octets are no message, as in: explain fault abis 5")
+        .after_help(FAULT_HELP)
         .arg(link_argument(alloc))?
         .arg(number_argument(
             alloc,
-            "The fault's number, 1 to 6, on rr 1 to 4, as a trace shows it behind fault and the link",
+            "The fault's number, as a trace shows it: 1 to 6, on rr 1 to 4",
         ))?
         .arg(argument_argument(alloc))
 }
@@ -74,6 +101,7 @@ fn fault_command<'a>(alloc: Global) -> Result<Command<'a>, AllocError> {
 pub fn explain_command<'a>(alloc: Global) -> Result<Command<'a>, AllocError> {
     Command::new(alloc, "explain")
         .about("Says in words what a number stands for, as in: explain refused 6")
+        .after_help(HELP)
         .subcommand_required(true)
         .subcommand(refused_command(alloc)?)?
         .subcommand(cause_command(alloc)?)?

@@ -4,11 +4,13 @@ ghost use Rattle.std.specs.Str.{IsUtf8};
 ghost use Rattle.std.specs.Str.Lossy.{utf8_valid_len};
 ghost use Rattle.lab.specs.Files.{longest_file};
 
+use crate::entries::first_unread;
 use crate::rewound::rewind_run;
 use crate::run::{LabFault, Status, lab_run};
 use crate::run_reason::say_refusal;
 use crate::site_files::{SitePaths, SiteTexts, site_texts};
 use crate::site_reason::say_reason;
+use crate::view_paths::{named_twice, refuse_twice};
 use escaped_text::Escaped;
 use file_reasons::Reason;
 use run_views::{Sites, Viewer, Views, WordsFault, open_sheets};
@@ -235,7 +237,7 @@ fn run_texts_viewed<R: Files + AllocGlobal, W: Write, E: Write>(
 /// `out`, as [`lab_run`] does of texts.
 ///
 /// Where views are asked for, their files are made before the run begins, and written once it ended; one that can't be
-/// written is refused as one that can't be read.
+/// written is refused as one that can't be read, and so is, before anything is read, one that is another file of the run.
 ///
 /// The site's file is read first, then the peer's, then the script's. Where a file isn't there, can't be read, isn't
 /// UTF-8 or has more than [`LONGEST_FILE`] octets, `file` and its path are printed and nothing else, and the answer is
@@ -249,6 +251,9 @@ pub fn run_files<R: Files + AllocGlobal, W: Write, E: Write>(
     out: &mut W,
     errors: &mut E,
 ) -> Result<Status, LabFault> {
+    if let Some(path) = named_twice(sites, script, views) {
+        return refuse_twice(path, out, errors);
+    }
     let alloc = rt.alloc();
     let Some(texts) = run_texts(rt, sites, script, out, errors)? else {
         return Ok(Status::Refused);
@@ -267,6 +272,28 @@ pub fn run_files<R: Files + AllocGlobal, W: Write, E: Write>(
     Ok(status)
 }
 
+/// Says why nothing is taken out of a trace over a site that was read.
+fn say_unwound<E: Write>(
+    path: &str,
+    trace: &str,
+    line: usize,
+    errors: &mut E,
+) -> Result<(), LabFault> {
+    match first_unread(trace) {
+        Some(number) => writeln!(
+            errors,
+            "{}:{number}: no line of the trace of one controller, as run prints it without --words",
+            Escaped(path)
+        )?,
+        None => writeln!(
+            errors,
+            "{}: no attempt that is undone opens in line {line}, or a reply isn't the book's",
+            Escaped(path)
+        )?,
+    }
+    Ok(())
+}
+
 /// Takes an undone attempt out of the trace of one file, over the site of another, and prints what stays, as
 /// [`rewind_run`] does of texts. Files and the site are refused as [`run_files`] refuses them.
 pub fn rewind_files<R: Files + AllocGlobal, W: Write, E: Write>(
@@ -282,8 +309,8 @@ pub fn rewind_files<R: Files + AllocGlobal, W: Write, E: Write>(
         return Ok(Status::Refused);
     };
     let status = rewind_run(alloc, alloc, &site_text, &trace_text, line, out)?;
-    if status == Status::Refused {
-        say_reason(alloc, site, &site_text, errors)?;
+    if status == Status::Refused && !say_reason(alloc, site, &site_text, errors)? {
+        say_unwound(trace, &trace_text, line, errors)?;
     }
     Ok(status)
 }

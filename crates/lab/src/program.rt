@@ -1,14 +1,16 @@
 //! What the program does with the words of its command line.
 use crate::check::check_file;
-use crate::decoded::{decode_run, ended};
+use crate::decoded::{Link, decode_run, ended};
 use crate::encoded::encode_run;
 use crate::files::{rewind_files, run_files};
 use crate::run::{LabFault, Status};
 use crate::script_files::{record_file, test_files};
 use crate::words::{Job, WordsFault, read_words};
 use decoded_lines::answer_file;
+use escaped_text::Escaped;
 use explain_command::explain;
 use explanations::Question;
+use std::alloc::Global;
 use std::io::{Read, Write};
 use std::rt::Files;
 
@@ -23,6 +25,39 @@ fn explain_number<W: Write, E: Write>(
     } else {
         Ok(Status::Refused)
     }
+}
+
+/// Says why the words of a command line are refused. What a word has of control characters is escaped.
+fn refuse_words<E: Write>(text: &str, errors: &mut E) -> Result<Status, LabFault> {
+    for line in text.lines() {
+        writeln!(errors, "{}", Escaped(line))?;
+    }
+    Ok(Status::Refused)
+}
+
+/// Whether a text is written in pairs of hexadecimal digits.
+fn is_hexadecimal(text: &str) -> bool {
+    text.len() % 2 == 0 && text.bytes().all(|octet| octet.is_ascii_hexdigit())
+}
+
+/// Prints one message in words; where the text is refused, `errors` says why.
+fn decode<W: Write, E: Write>(
+    alloc: Global,
+    link: Link,
+    text: &str,
+    out: &mut W,
+    errors: &mut E,
+) -> Result<Status, LabFault> {
+    let status = decode_run(alloc, link, text, out)?;
+    if status == Status::Refused {
+        let reason = if is_hexadecimal(text) {
+            "the octets are no message of the link: bsc_lab explain fault says more"
+        } else {
+            "each octet is two hexadecimal digits, and nothing stands between them"
+        };
+        writeln!(errors, "{reason}")?;
+    }
+    Ok(status)
 }
 
 /// Does what the words of a command line ask for, those after the program's own name: runs a script over a site
@@ -52,7 +87,7 @@ pub fn perform<R: Files + AllocGlobal, I: Read + Drop, W: Write, E: Write>(
         Ok(Job::Record { sites, script }) => record_file(rt, sites, script, out, errors),
         Ok(Job::Rewind { site, trace, line }) => rewind_files(rt, site, trace, line, out, errors),
         Ok(Job::Check { site }) => check_file(rt, site, out, errors),
-        Ok(Job::Decode { link, text }) => decode_run(rt.alloc(), link, text, out),
+        Ok(Job::Decode { link, text }) => decode(rt.alloc(), link, text, out, errors),
         Ok(Job::DecodeLines { asked, path }) => {
             ended(answer_file(rt, asked, path, input, out, errors))
         }
@@ -62,10 +97,7 @@ pub fn perform<R: Files + AllocGlobal, I: Read + Drop, W: Write, E: Write>(
             write!(out, "{text}")?;
             Ok(Status::Done)
         }
-        Err(WordsFault::Refused(text)) => {
-            write!(errors, "{text}")?;
-            Ok(Status::Refused)
-        }
+        Err(WordsFault::Refused(text)) => refuse_words(&text, errors),
         Err(WordsFault::NoMemory) => Err(LabFault::NoMemory),
     }
 }

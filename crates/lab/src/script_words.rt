@@ -10,6 +10,8 @@ Comments behind a script line, #> and a line of the trace, are in order the trac
 gives; #> .. stands for any lines, or none. A script line with no such comment isn't looked at.
 Those behind the last one may end with the trace's end.
 
+Lines of a script: those of bsc_lab help run.
+
 Statuses: 0 all hold, 1 one differs, 2 one is refused, or the site, 3 memory was refused.
 
 As in: bsc_lab test site.toml one.txt another.txt";
@@ -17,6 +19,8 @@ As in: bsc_lab test site.toml one.txt another.txt";
 /// What stands behind the help of `record`.
 const RECORD_HELP: &str = "\
 Comments that begin with #> are written anew; all else stays as it is.
+
+Lines of a script: those of bsc_lab help run.
 
 Statuses: 0 recorded, 2 a file, the site or a script line is refused, 3 memory was refused.
 

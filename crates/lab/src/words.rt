@@ -105,20 +105,43 @@ pub(crate) fn peer_argument<'a>(alloc: Global) -> Arg<'a> {
         .long("peer")
         .value_name("SITE")
         .action(ArgAction::Set)
-        .help(
-            "The site file of a second controller: each line of the trace then begins with 1: or 2:, and lines of the script that begin with 2: are for that one",
-        )
+        .help("The site file of a second controller, for lines of the script with 2:")
 }
 
 /// `run SITE SCRIPT [--peer SITE]`, and the views of the run
 fn run_command<'a>(alloc: Global) -> Result<Command<'a>, AllocError> {
     let command = Command::new(alloc, "run")
         .about("Runs a script over a site and prints the trace")
+        .after_help(RUN_HELP)
         .arg(argument(alloc, "SITE", "The site file"))?
         .arg(argument(alloc, "SCRIPT", "The script file"))?
         .arg(peer_argument(alloc))?;
     view_options(alloc, command)
 }
+
+/// What stands behind the help of `run`.
+const RUN_HELP: &str = "\
+Lines of a script (one blank between two words, numbers in decimal, HEX in hexadecimal):
+  open CALL CELL TRX TN       an operator opens a call on a channel
+  handover CALL CELL          an operator asks for the handover of a call to a cell
+  undo CALL                   an operator takes the handover of a call back
+  clear CALL                  an operator ends a call
+  expire CALL TIMER           T3103, T7 or T8 of a call runs out
+  abis CELL TRX HEX           a message comes from a TRX of a cell
+  a CALL HEX                  a message comes about a call
+  sim                         from here on stations, mobiles and a switching centre are simulated
+  refuse CELL TRX TN          behind sim: the station refuses the channel's next activation
+  hold CELL TRX TN            behind sim: the station keeps its next acknowledgement back
+  let CELL TRX TN             behind sim: the station sends what it has kept back
+  mobile CELL TRX TN HABIT    behind sim: arrive, return or vanish, when commanded to move
+  hangup CALL                 behind sim: the switching centre hangs up
+  2: LINE                     with --peer: each of these but sim, for the second controller
+  # TEXT                      a comment
+
+Statuses: 0 the script was run, 2 a file, the site or a line of the script is refused, or what is
+printed can't be written, 3 memory was refused.
+
+As in: bsc_lab run site.toml script.txt --words";
 
 /// `check SITE`
 fn check_command<'a>(alloc: Global) -> Result<Command<'a>, AllocError> {
@@ -140,9 +163,8 @@ As in: bsc_lab check site.toml";
 /// `rewind SITE TRACE LINE`
 fn rewind_command<'a>(alloc: Global) -> Result<Command<'a>, AllocError> {
     Command::new(alloc, "rewind")
-        .about(
-            "Takes an undone attempt at handover out of a trace, and says whether the rest comes to the same",
-        )
+        .about("Takes an undone attempt at handover out of a trace, and compares what is left")
+        .after_help(REWIND_HELP)
         .arg(argument(alloc, "SITE", "The site file"))?
         .arg(argument(
             alloc,
@@ -152,12 +174,23 @@ fn rewind_command<'a>(alloc: Global) -> Result<Command<'a>, AllocError> {
         .arg(line_argument(alloc))
 }
 
+/// What stands behind the help of `rewind`.
+const REWIND_HELP: &str = "\
+Prints how many events are left (others), whether no release of the target is awaited (settled),
+the line of the first event that was refused for the attempt's sake (held), and whether the book
+and the replies are the same without the attempt.
+
+Statuses: 0 they are, 1 they differ, 2 a file, the site or a line of the trace is refused, or no
+undone attempt opens in the line, 3 memory was refused.
+
+As in: bsc_lab rewind site.toml run.trace 8";
+
 /// `LINE`
 fn line_argument<'a>(alloc: Global) -> Arg<'a> {
     argument(
         alloc,
         "LINE",
-        "The line of the trace, counted from 1, in which the attempt opens: one that begins with event take or event require",
+        "The line in which the attempt opens (event take or event require), counted from 1",
     )
     .value_parser(value_parser!(usize).range(1..))
 }
@@ -181,6 +214,8 @@ Links: rr is the radio path (TS 44.018), a the switching centre (TS 48.008), abi
 Lines of a FILE have a message's octets each, in hexadecimal: blanks, tabs and colons may stand
 around octets, and what stands behind a # is a note, which is kept. Each is answered by one line,
 with its number. Without LINK each line begins with its own, as in: abis 08 2e 01 0b
+
+Messages: those of bsc_lab help encode.
 
 Statuses: 0 all are messages, 2 one was refused or a file can't be read, 3 memory was refused.
 
@@ -250,6 +285,15 @@ Links: rr is the radio path (TS 44.018), a the switching centre (TS 48.008), abi
 (TS 48.058).
 
 Fields: numbers in decimal, yes as 1 and no as 0, octets in hexadecimal, - for what is absent.
+
+Messages of rr: HANDOVER COMMAND, HANDOVER COMPLETE, HANDOVER FAILURE, CHANNEL RELEASE, PHYSICAL
+INFORMATION, MEASUREMENT REPORT.
+Of a: HANDOVER REQUIRED, HANDOVER REQUIRED REJECT, HANDOVER REQUEST, HANDOVER REQUEST ACKNOWLEDGE,
+HANDOVER COMMAND, HANDOVER DETECT, HANDOVER COMPLETE, HANDOVER FAILURE, HANDOVER PERFORMED, CLEAR
+REQUEST, CLEAR COMMAND, CLEAR COMPLETE.
+Of abis: CHANNEL ACTIVATION, CHANNEL ACTIVATION ACK, CHANNEL ACTIVATION NACK, RF CHANNEL RELEASE, RF
+CHANNEL RELEASE ACK, CONNECTION FAILURE INDICATION, DATA REQUEST, DATA INDICATION, HANDOVER
+DETECTION, MEASUREMENT RESULT.
 
 Statuses: 0 the octets are printed, 2 the message is refused, 3 memory was refused.
 

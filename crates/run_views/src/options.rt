@@ -37,9 +37,7 @@ fn words_argument<'a>(alloc: Global) -> Arg<'a> {
     Arg::new(alloc, "WORDS")
         .long("words")
         .action(ArgAction::SetTrue)
-        .help(
-            "Appends to each line of the trace, behind #, its call, its message in words, and the names of causes and refusals",
-        )
+        .help("Says the call, message, causes and refusals of each line in words, behind #")
 }
 
 /// `--state`
@@ -47,9 +45,7 @@ fn state_argument<'a>(alloc: Global) -> Arg<'a> {
     Arg::new(alloc, "STATE")
         .long("state")
         .action(ArgAction::SetTrue)
-        .help(
-            "Prints after each input the channels that aren't free, the calls, references and timers, and at the end what is left",
-        )
+        .help("Prints after each input what the book holds, and at the end what is left")
 }
 
 /// `--pcap FILE`

@@ -29,8 +29,18 @@ const LINES: &[(&[&str], u8, &str, &str)] = &[
         "CLEAR COMMAND cause=9\n",
         "",
     ),
-    (&["decode", "rr", "06ff"], 2, "fault rr 2 255\n", ""),
-    (&["decode", "abis", "0g"], 2, "hex\n", ""),
+    (
+        &["decode", "rr", "06ff"],
+        2,
+        "fault rr 2 255\n",
+        "no message of the link: bsc_lab explain fault says more\n",
+    ),
+    (
+        &["decode", "abis", "0g"],
+        2,
+        "hex\n",
+        "each octet is two hexadecimal digits",
+    ),
     (
         &["encode", "a", "CLEAR COMMAND cause=9"],
         0,
@@ -154,6 +164,24 @@ const LINES: &[(&[&str], u8, &str, &str)] = &[
         "no folder/a.svg: no such file",
     ),
     (
+        &["run", "a", "b", "--pcap", "c", "--chart", "c"],
+        2,
+        "file c\n",
+        "c: named twice\n",
+    ),
+    (
+        &["run", "a", "b", "--chart", "b"],
+        2,
+        "file b\n",
+        "b: named twice\n",
+    ),
+    (
+        &["run", "a", "b", "--peer", "c", "--pcap", "c"],
+        2,
+        "file c\n",
+        "c: named twice\n",
+    ),
+    (
         &["run", "/dev/null", "/dev/null", "--words"],
         2,
         "site 2 handover\n",
@@ -161,6 +189,7 @@ const LINES: &[(&[&str], u8, &str, &str)] = &[
     ),
     (&["--version"], 0, "bsc_lab 0.1\n", ""),
     (&["runn"], 2, "", "runn"),
+    (&["\u{1b}[31m"], 2, "", "\\u{1b}[31m"),
     (&[], 2, "", "subcommand"),
 ];
 

@@ -277,6 +277,33 @@ const SHOWS: &[(&[&str], &str)] = &[
     (&["run", "--help"], "--chart <FILE>"),
     (&["explain", "--help"], "explain cause a 33"),
     (&["explain", "fault", "--help"], "abis the base station"),
+    (&["help", "run"], "\n  mobile CELL TRX TN HABIT "),
+    (&["help", "run"], "Statuses: 0 "),
+    (&["help", "run"], "As in: bsc_lab run "),
+    (&["help", "test"], "Statuses: 0 "),
+    (&["help", "test"], "As in: bsc_lab test "),
+    (&["help", "record"], "Statuses: 0 "),
+    (&["help", "record"], "As in: bsc_lab record "),
+    (&["help", "rewind"], "Statuses: 0 "),
+    (&["help", "rewind"], "As in: bsc_lab rewind "),
+    (&["help", "check"], "Statuses: 0 "),
+    (&["help", "check"], "As in: bsc_lab check "),
+    (&["help", "decode"], "Statuses: 0 "),
+    (&["help", "decode"], "As in: bsc_lab decode "),
+    (&["help", "encode"], "Statuses: 0 "),
+    (&["help", "encode"], "As in: bsc_lab encode "),
+    (&["help", "encode"], "MEASUREMENT RESULT"),
+    (&["help", "explain"], "Statuses: 0 "),
+    (&["help", "explain"], "As in: bsc_lab explain "),
+    (&["explain", "refused", "--help"], "Statuses: 0 "),
+    (
+        &["explain", "cause", "--help"],
+        "As in: bsc_lab explain cause ",
+    ),
+    (
+        &["explain", "fault", "--help"],
+        "As in: bsc_lab explain fault ",
+    ),
     (&["--version"], "bsc_lab 0."),
     (&["-V"], "bsc_lab 0."),
 ];
@@ -366,6 +393,9 @@ fn are_answered<'a>(
     };
     assert_eq!(rt; answer, wanted, "{part}");
     assert!(rt; text.contains(part), "{part}: {text}");
+    // a terminal shows so many columns
+    let is_narrow = text.lines().all(|line| line.chars().count() <= 100);
+    assert!(rt; is_narrow || wanted == Answer::Refused, "{text}");
 }
 
 #[test]
