@@ -4,7 +4,7 @@ use Rattle.std.specs.Prelude.{◌≡◌, ℕ, Bool, if◌then◌else◌, List, [
 use Rattle.message_fields.specs.Chains.{◌>>=◌, said_if}
 use Rattle.message_fields.specs.Words.{parts_of}
 use Rattle.message_fields.specs.Values as value
-use Rattle.message_fields.specs.Fields.{IsCut, have_keys, value_at, number_at, flag_at, optional_octet_at, octets_at}
+use Rattle.message_fields.specs.Fields.{name_of, fields_of, have_keys, value_at, number_at, flag_at, optional_octet_at, octets_at}
 use Rattle.bssmap_messages.specs.declared.message.CellId.{CellId}
 use Rattle.bssmap_messages.specs.declared.message.Classmark.{Classmark}
 use Rattle.bssmap_messages.specs.declared.message.Classmark.TheVariants.{One, Two}
@@ -88,8 +88,8 @@ message_of name fields =
 
 -- the name and the fields of a text say a message, and these octets are its canonical text
 abbrev pub Writes : Type 0 → List ℕ → List ℕ → Type 0
-Writes A text octets = (name : List ℕ) × ((fields : List ℕ) × (IsCut text name fields × ((message : Bssmap A) × ((message_of name fields ≡ Some message) × (octets ≡ canonical_text message)))))
+Writes A text octets = (message : Bssmap A) × ((message_of (name_of text) (fields_of text) ≡ Some message) × (octets ≡ canonical_text message))
 
 -- they say none, or one that has no canonical text
 abbrev pub IsRefused : Type 0 → List ℕ → Type 0
-IsRefused A text = (name : List ℕ) × ((fields : List ℕ) × (IsCut text name fields × IfSome (message_of {A = A} name fields) (λ message. HasCanonical message → ⊥)))
+IsRefused A text = IfSome (message_of {A = A} (name_of text) (fields_of text)) (λ message. HasCanonical message → ⊥)

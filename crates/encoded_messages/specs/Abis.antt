@@ -2,7 +2,7 @@
 -- words are ours, of no standard.
 use Rattle.std.specs.Prelude.{◌≡◌, ℕ, if◌then◌else◌, List, codes, Option, Some, None, IfSome, option_map, bytes_eq}
 use Rattle.message_fields.specs.Chains.{◌>>=◌, said_if}
-use Rattle.message_fields.specs.Fields.{IsCut, have_keys, number_at, optional_octet_at, octets_at, optional_octets_at}
+use Rattle.message_fields.specs.Fields.{name_of, fields_of, have_keys, number_at, optional_octet_at, octets_at, optional_octets_at}
 use Rattle.rsl_messages.specs.declared.message.ChanBits.{ChanBits}
 use Rattle.rsl_messages.specs.declared.message.Rsl.{Rsl}
 use Rattle.rsl_messages.specs.declared.message.Rsl.TheVariants.{DataRequest, DataIndication, ChannelActivation, ChannelActivationAck, ChannelActivationNack, ConnectionFailureIndication, HandoverDetection, MeasurementResult, RfChannelRelease, RfChannelReleaseAck}
@@ -57,8 +57,8 @@ message_of name fields =
 
 -- the name and the fields of a text say a message, and these octets are its canonical text
 abbrev pub Writes : Type 0 → List ℕ → List ℕ → Type 0
-Writes A text octets = (name : List ℕ) × ((fields : List ℕ) × (IsCut text name fields × ((message : Rsl A) × ((message_of name fields ≡ Some message) × (octets ≡ canonical_text message)))))
+Writes A text octets = (message : Rsl A) × ((message_of (name_of text) (fields_of text) ≡ Some message) × (octets ≡ canonical_text message))
 
 -- they say none, or one that has no canonical text
 abbrev pub IsRefused : Type 0 → List ℕ → Type 0
-IsRefused A text = (name : List ℕ) × ((fields : List ℕ) × (IsCut text name fields × IfSome (message_of {A = A} name fields) (λ message. HasCanonical message → ⊥)))
+IsRefused A text = IfSome (message_of {A = A} (name_of text) (fields_of text)) (λ message. HasCanonical message → ⊥)

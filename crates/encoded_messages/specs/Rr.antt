@@ -4,7 +4,7 @@ use Rattle.std.specs.Prelude.{◌≡◌, ℕ, ◌==◌, if◌then◌else◌, Lis
 use Rattle.message_fields.specs.Chains.{◌>>=◌, said_if}
 use Rattle.message_fields.specs.Words.{words_of, values_of}
 use Rattle.message_fields.specs.Values as value
-use Rattle.message_fields.specs.Fields.{IsCut, have_keys, number_at, flag_at}
+use Rattle.message_fields.specs.Fields.{name_of, fields_of, have_keys, number_at, flag_at}
 use Rattle.rr_elements.specs.CellDescription.{Cell}
 use Rattle.rr_elements.specs.ChanDescription.{Chan}
 use Rattle.rr_elements.specs.Power.{PowerCommand}
@@ -68,8 +68,8 @@ message_of name fields =
 
 -- the name and the fields of a text say a message, and these octets are its canonical text
 abbrev pub Writes : List ℕ → List ℕ → Type 0
-Writes text octets = (name : List ℕ) × ((fields : List ℕ) × (IsCut text name fields × ((message : Rr) × ((message_of name fields ≡ Some message) × (octets ≡ rr_text message)))))
+Writes text octets = (message : Rr) × ((message_of (name_of text) (fields_of text) ≡ Some message) × (octets ≡ rr_text message))
 
 -- they say none
 abbrev pub IsRefused : List ℕ → Type 0
-IsRefused text = (name : List ℕ) × ((fields : List ℕ) × (IsCut text name fields × (message_of name fields ≡ None)))
+IsRefused text = message_of (name_of text) (fields_of text) ≡ None

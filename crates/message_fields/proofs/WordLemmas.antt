@@ -1,5 +1,5 @@
 -- Facts of the words of a text, and of the fields among them.
-use Rattle.std.proofs.Common.{◌≡◌, ℕ, ◌+◌, ◌-◌, ◌<◌, ◌∷◌, List, [], Bool, true, false, Option, Some, None, refl, sym, ap, ◌∙◌, arith, length, length-drop, nat_lt, option_map, ◌==◌, Bor, MatchOption, IfSome}
+use Rattle.std.proofs.Common.{◌≡◌, ℕ, ◌+◌, ◌<◌, ◌∷◌, List, [], Bool, true, false, Option, Some, None, refl, ap, ◌∙◌, arith, length, length-drop, nat_lt, option_map, ◌==◌, Bor, MatchOption, IfSome}
 use Rattle.std.specs.List.{slice_split, onto_first, position_or_len, before_first, after_first}
 use Rattle.std.proofs.lemmas.List.Splits.{slice_split-cons_no, slice_split_first}
 use Rattle.std.proofs.lemmas.Bool.Decides.{Decides-ltb}

@@ -1,11 +1,20 @@
 -- The fields of a message. A text is the list of its bytes. Ours, of no standard.
-use Rattle.std.specs.Prelude.{◌≡◌, ◌⊎◌, ℕ, ◌==◌, Bool, true, if◌then◌else◌, List, [], ◌∷◌, ◌++◌, length, codes, Option, Some, None, option_map, option_and_then, is_none, bytes_eq}
+use Rattle.std.specs.Prelude.{ℕ, ◌==◌, Bool, true, if◌then◌else◌, List, [], ◌∷◌, length, drop, codes, Option, Some, None, option_map, option_and_then, is_none, bytes_eq}
+use Rattle.std.specs.List.{list_any, position_or_len, before_first, join_with_byte}
 use Rattle.message_fields.specs.Words.{words_of, values_of, first_unknown}
 use Rattle.message_fields.specs.Values.{number_to, flag_of, octets_of}
 
--- a text is a name and the fields behind its blank, or either alone
-abbrev pub IsCut : List ℕ → List ℕ → List ℕ → Type 0
-IsCut text name fields = (text ≡ name ++ 32 ∷ fields) ⊎ ((text ≡ name) × (fields ≡ [])) ⊎ ((name ≡ []) × (text ≡ fields))
+-- a word has an `=`
+abbrev pub has_equals : List ℕ → Bool
+has_equals word = list_any (λ b. b == 61) word
+
+-- the name of a message: its words before the first that has an `=`
+unfoldable pub name_of : List ℕ → List ℕ
+name_of text = join_with_byte 32 (before_first has_equals (words_of text))
+
+-- its fields: the words from that one on
+unfoldable pub fields_of : List ℕ → List ℕ
+fields_of text = join_with_byte 32 (drop (position_or_len has_equals (words_of text)) (words_of text))
 
 -- the only one of values
 abbrev pub only : List (List ℕ) → Option (List ℕ)

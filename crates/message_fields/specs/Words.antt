@@ -1,5 +1,5 @@
 -- The words of a text, and the fields among them. A text is the list of its bytes. Ours, of no standard.
-use Rattle.std.specs.Prelude.{ℕ, ◌==◌, ◌&&◌, Bool, not, false, nat_lt, if◌then◌else◌, List, [], ◌∷◌, length, Option, Some, None, bytes_eq}
+use Rattle.std.specs.Prelude.{◌≡◌, ℕ, ◌==◌, ◌&&◌, Bool, not, false, nat_lt, if◌then◌else◌, List, [], ◌∷◌, length, Option, Some, None, bytes_eq}
 use Rattle.std.specs.List.{slice_split, list_any, before_first, after_first, position_or_len}
 
 -- the words of a text: one blank stands between any two
@@ -9,6 +9,10 @@ words_of text = slice_split (λ b. b == 32) text
 -- the parts of a list: one comma stands between any two
 abbrev pub parts_of : List ℕ → List (List ℕ)
 parts_of text = slice_split (λ b. b == 44) text
+
+-- no byte of a text is this one
+abbrev pub Lacks : ℕ → List ℕ → Type 0
+Lacks mark text = list_any (λ b. b == mark) text ≡ false
 
 -- a text up to the first byte of this value, and what stands behind that
 abbrev pub cut_at : ℕ → List ℕ → Option (List ℕ × List ℕ)
