@@ -1,5 +1,5 @@
 -- Facts of the places to which lines lead.
-use Rattle.std.proofs.Common.{◌≡◌, ◌≢◌, ◌⊎◌, inl, inr, ◌↔◌, ℕ, zero, suc, ◌+◌, ◌<◌, ◌≤◌, Bool, true, false, if◌then◌else◌, rules, List, [], ◌∷◌, ◌++◌, Option, Some, None, refl, sym, ap, subst, ◌∙◌, arith, length, take, get_or, add-one, filter_map, min, nat_lt, Result, Ok, Err, IfOk, take_all}
+use Rattle.std.proofs.Common.{◌≡◌, ◌≢◌, ◌⊎◌, inl, inr, ◌↔◌, ℕ, zero, suc, ◌+◌, ◌<◌, ◌≤◌, Bool, true, false, if◌then◌else◌, rules, List, [], ◌∷◌, ◌++◌, Option, Some, None, refl, sym, ap, subst, ◌∙◌, arith, length, take, get_or, add-one, filter_map, min, max, nat_lt, Result, Ok, Err, IfOk, take_all}
 use Rattle.std.proofs.lemmas.List.{get_or_default}
 use Rattle.std.proofs.lemmas.Bool.{cases_Bool, ltb-true, ltb-false}
 use Rattle.std.proofs.lemmas.Slice.Eq.{bytes_eq-Decides}
@@ -74,6 +74,30 @@ least_one places i least lower within one e =
 pub least_all : (places : List ℕ) (i least lower : ℕ) → i < length places → ((k d : ℕ) → k < i → least ≤ get_or places k d) → lower ≡ min least (get_or places i 0)
     → (k d : ℕ) → k < i + 1 → lower ≤ get_or places k d
 least_all places i least lower within all e k d h =
+    elim (cases_Bool (nat_lt k i)) [
+      | inl t ↦ omega (arith, e, all k d (ltb-true k i t))
+      | inr t ↦
+          let same : k ≡ i = omega (arith, h, ltb-false k i t) in
+          let is : get_or places k d ≡ get_or places i 0 = ap (λ (n : ℕ). get_or places n d) same ∙ get_or_default places i d 0 within in
+          omega (arith, e, is)
+    ]
+
+-- the same of the greater
+pub greatest_one : (places : List ℕ) (i greatest greater : ℕ) → i < length places → Contains places greatest → greater ≡ max greatest (get_or places i 0) → Contains places greater
+greatest_one places i greatest greater within one e =
+    let next = get_or places i 0 in
+    elim (cases_Bool (nat_lt greatest next)) [
+      | inl t ↦
+          let is : greater ≡ next = omega (arith, e, ltb-true greatest next t) in
+          subst (Contains places) (sym is) (i, within, get_or_default places i next 0 within)
+      | inr t ↦
+          let is : greater ≡ greatest = omega (arith, e, ltb-false greatest next t) in
+          subst (Contains places) (sym is) one
+    ]
+
+pub greatest_all : (places : List ℕ) (i greatest greater : ℕ) → i < length places → ((k d : ℕ) → k < i → get_or places k d ≤ greatest) → greater ≡ max greatest (get_or places i 0)
+    → (k d : ℕ) → k < i + 1 → get_or places k d ≤ greater
+greatest_all places i greatest greater within all e k d h =
     elim (cases_Bool (nat_lt k i)) [
       | inl t ↦ omega (arith, e, all k d (ltb-true k i t))
       | inr t ↦
@@ -222,6 +246,13 @@ lost came lines i line places next there led are_next none to r =
 
 pub lost_all : (came lines : List (List ℕ)) (i : ℕ) → ((to : ℕ) → Reaches came (take (i + 1) lines) 0 to → ⊥) → (to : ℕ) → Reaches came lines 0 to → ⊥
 lost_all came lines i none to r = let front = reaches_front came lines (i + 1) 0 to r in none front.0 front.1
+
+-- none of the places to which lines lead is further behind
+pub none_further : (came lines : List (List ℕ)) (i : ℕ) (places : List ℕ) (furthest : ℕ) → ((p : ℕ) → Contains places p ↔ Reaches came (take i lines) 0 p)
+    → ((k d : ℕ) → k < length places → get_or places k d ≤ furthest) → (to : ℕ) → Reaches came (take i lines) 0 to → to ≤ furthest
+none_further came lines i places furthest led all to r =
+    let one = (led to).1 r in
+    subst (λ (p : ℕ). p ≤ furthest) one.2 (all one.0 to one.1)
 
 -- where no line is left
 pub led_all : (came lines : List (List ℕ)) (i : ℕ) (places : List ℕ) → length lines ≤ i → ((p : ℕ) → Contains places p ↔ Reaches came (take i lines) 0 p)

@@ -26,11 +26,12 @@ expect_any lines = list_any is_expectation lines
 abbrev pub AreMet : List (List ℕ) → List (List ℕ) → Type 0
 AreMet lines came = (expect_any lines ≡ false) ⊎ Reaches came lines 0 (length came)
 
--- Up to a place among the script's lines what they expect is met, up to a place among those that came; with the next line
--- it isn't, whatever `..` stands for.
+-- Up to a place among the script's lines what they expect is met, up to a place among those that came, and to none that is
+-- further behind; with the next line it isn't, whatever `..` stands for.
 pub record IsFirst (lines came : List (List ℕ)) (d : Difference) : Type 0 where
   pub within : d.line ≤ length lines
   pub met : Reaches came (take d.line lines) 0 d.came
+  pub furthest : (to : ℕ) → Reaches came (take d.line lines) 0 to → to ≤ d.came
   pub not_met : d.line < length lines → (to : ℕ) → Reaches came (take (d.line + 1) lines) 0 to → ⊥
 
 -- a text stands at a place

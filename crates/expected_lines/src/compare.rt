@@ -12,7 +12,8 @@ use std::alloc::{AllocError, Allocator};
 pub struct Difference {
     /// The place of the script's line whose expectation wasn't met; behind all where all were met and more came.
     pub line: usize,
-    /// Up to this place those that came met what was expected before; it is behind all where nothing more came.
+    /// Up to this place, and to none further behind, those that came met what was expected before; it is behind all where
+    /// nothing more came.
     pub came: usize,
 }
 
@@ -139,15 +140,17 @@ fn next_places<A: Allocator>(
     }
 }
 
-/// The last of some places.
-fn last_of(places: &[usize]) -> Option<usize>
+/// The greatest of some places.
+fn greatest(places: &[usize]) -> Option<usize>
     ensures none { result ≡ None → places.now ≡ [] }
-    ensures last { IfSome result (Contains places.now) }
+    ensures greatest { IfSome result (λ place.
+        Contains places.now place × All (λ other. other ≤ place) places.now) }
 {
-    if places.is_empty() {
-        return None;
+    let mut greatest = *places.first()?;
+    for place in places {
+        greatest = greatest.max(*place);
     }
-    Some(places[places.len() - 1])
+    Some(greatest)
 }
 
 /// Whether a place is among some.
@@ -185,15 +188,20 @@ fn first_difference<A: Allocator + Copy>(
     ensures first { IfOk result (λ found. IfSome found (said.IsFirst (texts_of lines.now) (texts_of came.now))) }
 {
     let mut places = Vec::from_slice(alloc, &[0])?;
-    let mut last = 0;
+    let mut furthest = 0;
     for line in 0..lines.len() {
         let next = next_places(alloc, &places, came, line_at(lines, line))?;
-        match last_of(&next) {
-            Some(furthest) => {
-                last = furthest;
+        match greatest(&next) {
+            Some(place) => {
+                furthest = place;
                 places = next;
             }
-            None => return Ok(Some(Difference { line, came: last })),
+            None => {
+                return Ok(Some(Difference {
+                    line,
+                    came: furthest,
+                }));
+            }
         }
     }
     if has_place(&places, came.len()) {
@@ -201,7 +209,7 @@ fn first_difference<A: Allocator + Copy>(
     }
     Ok(Some(Difference {
         line: lines.len(),
-        came: last,
+        came: furthest,
     }))
 }
 

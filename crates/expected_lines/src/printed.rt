@@ -1,40 +1,22 @@
 //! What is printed of tests, which is TAP, and of a record.
 //!
 //! No clause says what is printed: that is shown by tests.
+use escaped_text::Escaped;
 use std::fmt;
 use std::io::{self, Write};
 
-/// A text in one line, in which no control character stands.
-#[derive(Clone, Copy)]
-struct Plain<'a>(&'a str);
-
-impl fmt::Display for Plain<'_> {
-    fn fmt<W: fmt::Write>(&self, f: &mut fmt::Formatter<W>) -> fmt::Result {
-        for character in self.0.chars() {
-            if character.is_control() {
-                write!(f, "\\u{{{:x}}}", u32::from(character))?;
-            } else {
-                f.write_char(character)?;
-            }
-        }
-        Ok(())
-    }
-}
-
-/// The name of a test: as [`Plain`], and without a number sign that would begin a directive.
+/// The name of a test: as [`Escaped`], and each `\` and `#` with a `\` before it, so that none begins a directive.
 #[derive(Clone, Copy)]
 struct Name<'a>(&'a str);
 
 impl fmt::Display for Name<'_> {
     fn fmt<W: fmt::Write>(&self, f: &mut fmt::Formatter<W>) -> fmt::Result {
         for character in self.0.chars() {
-            if character.is_control() {
-                write!(f, "\\u{{{:x}}}", u32::from(character))?;
-            } else if character == '#' || character == '\\' {
-                write!(f, "\\{character}")?;
-            } else {
-                f.write_char(character)?;
+            if character == '#' || character == '\\' {
+                f.write_char('\\')?;
             }
+            let mut octets = [0; 4];
+            write!(f, "{}", Escaped(character.encode_utf8(&mut octets)))?;
         }
         Ok(())
     }
@@ -68,7 +50,7 @@ pub fn print_met<W: Write>(out: &mut W, number: usize, name: &str) -> io::Result
 /// Prints one side of a difference.
 fn print_side<W: Write>(out: &mut W, side: &str, line: Option<&str>) -> io::Result<()> {
     match line {
-        Some(line) => writeln!(out, "# {side}: {}", Plain(line)),
+        Some(line) => writeln!(out, "# {side}: {}", Escaped(line)),
         None => writeln!(out, "# {side} nothing more"),
     }
 }

@@ -173,10 +173,10 @@ not ok 1 - a b.txt
 # line 12
 # expected: in open 1 0 0 3
 # came nothing more
-not ok 2 - a\\#\\\\b\\u{a}c
+not ok 2 - a\\#\\\\b\\nc\\u{7f}
 # line 1
 # expected nothing more
-# came: \\u{1b}[31m
+# came: \\u{1b}[31m\\t#\\
 not ok 3 - c
 # line 7 can't be read
 not ok 4 - d
@@ -197,9 +197,9 @@ fn tests_are_printed(rt: HostRuntime) -> Result<(), Fail> {
     let more = Miss::Differs {
         line: 1,
         expected: None,
-        came: Some("\u{1b}[31m"),
+        came: Some("\u{1b}[31m\t#\\"),
     };
-    print_miss(&mut out, 2, "a#\\b\nc", more)?;
+    print_miss(&mut out, 2, "a#\\b\nc\u{7f}", more)?;
     print_miss(&mut out, 3, "c", Miss::Unread(7))?;
     print_miss(&mut out, 4, "d", Miss::NoFile)?;
     print_met(&mut out, 5, "e")?;

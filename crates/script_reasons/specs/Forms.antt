@@ -1,5 +1,5 @@
 -- The forms of lines: what the first word is, and those behind it. Ours, of no standard.
-use Rattle.std.specs.Prelude.{ℕ, Bool, true, false, if◌then◌else◌, List, [], ◌∷◌, codes, Option, Some, None, bytes_eq}
+use Rattle.std.specs.Prelude.{ℕ, Bool, true, false, List, [], ◌∷◌, codes, find, Option, bytes_eq}
 use Rattle.std.specs.Option.{option_or}
 use Rattle.script_reasons.specs.declared.forms.Slot.{Slot}
 use Rattle.script_reasons.specs.declared.forms.Slot.TheVariants as slot
@@ -17,16 +17,37 @@ fits slot.Octets word = is_octets word
 fits slot.Timer word = is_timer word
 fits slot.Habit word = is_habit word
 
--- the form of a line by its first word: of an operator, of a timer and of messages
-abbrev pub input_form : List ℕ → Option Form
-input_form word = if bytes_eq word (codes "open") then Some form.Open else if bytes_eq word (codes "handover") then Some form.Handover else if bytes_eq word (codes "undo") then Some form.Undo else if bytes_eq word (codes "clear") then Some form.Clear else if bytes_eq word (codes "expire") then Some form.Expire else if bytes_eq word (codes "abis") then Some form.Abis else if bytes_eq word (codes "a") then Some form.A else None
+-- the first word of a line of this form
+abbrev pub keyword : Form → List ℕ
+keyword form.Open = codes "open"
+keyword form.Handover = codes "handover"
+keyword form.Undo = codes "undo"
+keyword form.Clear = codes "clear"
+keyword form.Expire = codes "expire"
+keyword form.Abis = codes "abis"
+keyword form.A = codes "a"
+keyword form.Sim = codes "sim"
+keyword form.Refuse = codes "refuse"
+keyword form.Hold = codes "hold"
+keyword form.Let = codes "let"
+keyword form.Mobile = codes "mobile"
+keyword form.HangUp = codes "hangup"
+
+-- the forms of lines of an operator, of a timer and of messages
+abbrev pub input_forms : List Form
+input_forms = form.Open ∷ form.Handover ∷ form.Undo ∷ form.Clear ∷ form.Expire ∷ form.Abis ∷ form.A ∷ []
 
 -- and of what is simulated
-abbrev pub simulated_form : List ℕ → Option Form
-simulated_form word = if bytes_eq word (codes "sim") then Some form.Sim else if bytes_eq word (codes "refuse") then Some form.Refuse else if bytes_eq word (codes "hold") then Some form.Hold else if bytes_eq word (codes "let") then Some form.Let else if bytes_eq word (codes "mobile") then Some form.Mobile else if bytes_eq word (codes "hangup") then Some form.HangUp else None
+abbrev pub simulated_forms : List Form
+simulated_forms = form.Sim ∷ form.Refuse ∷ form.Hold ∷ form.Let ∷ form.Mobile ∷ form.HangUp ∷ []
 
+-- the one of some forms that has this keyword
+abbrev pub form_among : List Form → List ℕ → Option Form
+form_among forms word = find (λ form. bytes_eq word (keyword form)) forms
+
+-- the form of a line by its first word
 unfoldable pub form_named : List ℕ → Option Form
-form_named word = option_or (input_form word) (simulated_form word)
+form_named word = option_or (form_among input_forms word) (form_among simulated_forms word)
 
 -- what the words behind the first are
 abbrev pub slots_of : Form → List Slot

@@ -1,5 +1,5 @@
 //! The forms of lines.
-ghost use Rattle.std.specs.Prelude.{◌≡◌};
+ghost use Rattle.std.specs.Prelude.{◌≡◌, Some};
 ghost use Rattle.script_reasons.specs.Forms as said;
 
 use crate::words::{is_habit, is_number_below, is_octets, is_timer};
@@ -59,7 +59,7 @@ pub enum Form {
 
 /// The form of a line that an operator or a timer gives, or a message.
 fn input_form(keyword: &str) -> Option<Form>
-    ensures { result ≡ said.input_form keyword.now }
+    ensures { result ≡ said.form_among said.input_forms keyword.now }
 {
     match keyword {
         "open" => Some(Form::Open),
@@ -75,7 +75,7 @@ fn input_form(keyword: &str) -> Option<Form>
 
 /// The form of a line for what is simulated.
 fn simulated_form(keyword: &str) -> Option<Form>
-    ensures { result ≡ said.simulated_form keyword.now }
+    ensures { result ≡ said.form_among said.simulated_forms keyword.now }
 {
     match keyword {
         "sim" => Some(Form::Sim),
@@ -100,6 +100,29 @@ pub(crate) fn form_named(keyword: &str) -> Option<Form>
 }
 
 impl Form {
+    /// The first word, by which the form is found again.
+    #[tactic(auto, unfolding(crate::specs::Forms::form_named))]
+    pub(crate) fn keyword(self) -> &'static str
+        ensures keyword { result.now ≡ said.keyword self }
+        ensures found { said.form_named (said.keyword self) ≡ Some self }
+    {
+        match self {
+            Form::Open => "open",
+            Form::Handover => "handover",
+            Form::Undo => "undo",
+            Form::Clear => "clear",
+            Form::Expire => "expire",
+            Form::Abis => "abis",
+            Form::A => "a",
+            Form::Sim => "sim",
+            Form::Refuse => "refuse",
+            Form::Hold => "hold",
+            Form::Let => "let",
+            Form::Mobile => "mobile",
+            Form::HangUp => "hangup",
+        }
+    }
+
     /// What the words behind the first are.
     pub(crate) fn slots(self) -> &'static [Slot]
         ensures { result.now ≡ said.slots_of self }
@@ -138,6 +161,20 @@ impl Form {
     pub(crate) fn is_sim(self) -> bool
         ensures { result ≡ said.is_sim self }
     {
-        matches!(self, Form::Sim)
+        match self {
+            Form::Sim => true,
+            Form::Open
+            | Form::Handover
+            | Form::Undo
+            | Form::Clear
+            | Form::Expire
+            | Form::Abis
+            | Form::A
+            | Form::Refuse
+            | Form::Hold
+            | Form::Let
+            | Form::Mobile
+            | Form::HangUp => false,
+        }
     }
 }

@@ -58,27 +58,6 @@ impl Slot {
     }
 }
 
-impl Form {
-    /// The first word.
-    fn keyword(self) -> &'static str {
-        match self {
-            Form::Open => "open",
-            Form::Handover => "handover",
-            Form::Undo => "undo",
-            Form::Clear => "clear",
-            Form::Expire => "expire",
-            Form::Abis => "abis",
-            Form::A => "a",
-            Form::Sim => "sim",
-            Form::Refuse => "refuse",
-            Form::Hold => "hold",
-            Form::Let => "let",
-            Form::Mobile => "mobile",
-            Form::HangUp => "hangup",
-        }
-    }
-}
-
 impl fmt::Display for Form {
     fn fmt<W: fmt::Write>(&self, f: &mut fmt::Formatter<W>) -> fmt::Result {
         f.write_str(self.keyword())?;

@@ -1,4 +1,4 @@
-use Rattle.std.proofs.Common.{rules, tests, ◌≡◌, List, ℕ, Bor, ap, sym, ◌∙◌, length, unwrap_or}
+use Rattle.std.proofs.Common.{rules, tests, List, ℕ, Bor, ap, sym, ◌∙◌, length, unwrap_or}
 use Rattle.std.proofs.lemmas.Iterator.{YieldsList-from_slice}
 use Rattle.std.proofs.lemmas.Iterator.Search.{position_from_yields_List}
 use Rattle.std.specs.List.{position_or_len}
