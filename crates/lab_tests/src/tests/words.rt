@@ -69,7 +69,8 @@ const TESTS: &[(&[&str], &str, Option<&str>, &[&str])] = &[
 #[test]
 fn test_names_its_files(rt: HostRuntime) {
     for (words, first, peer, wanted) in TESTS {
-        match read_words(rt.alloc(), *words) {
+        let job = read_words(rt.alloc(), *words);
+        match &job {
             Ok(Job::Test { sites, scripts }) => {
                 assert_eq!(rt; (sites.first, sites.peer), (*first, *peer));
                 assert_eq!(rt; scripts.as_slice(), *wanted);
