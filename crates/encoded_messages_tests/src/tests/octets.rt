@@ -56,7 +56,8 @@ fn printed_abis(alloc: Global, octets: &[u8]) -> Result<Option<Printed>, Fail> {
     }))
 }
 
-fn printed(alloc: Global, link: Link, octets: &[u8]) -> Result<Option<Printed>, Fail> {
+/// How the octets of a message of a link are printed, and its canonical text, if it has one.
+fn print_message(alloc: Global, link: Link, octets: &[u8]) -> Result<Option<Printed>, Fail> {
     match link {
         Link::Rr => printed_rr(alloc, octets),
         Link::A => printed_a(alloc, octets),
@@ -160,7 +161,7 @@ const MESSAGES: &[(Link, &str)] = &[
 /// refused where there are none.
 fn comes_back(rt: &impl Abort, alloc: Global, link: Link, hex: &str) -> Result<(), Fail> {
     let octets = hex::decode(alloc, hex)?;
-    let Some(said) = printed(alloc, link, &octets)? else {
+    let Some(said) = print_message(alloc, link, &octets)? else {
         assert!(rt; false, "{hex}");
         return Ok(());
     };
@@ -174,7 +175,7 @@ fn comes_back(rt: &impl Abort, alloc: Global, link: Link, hex: &str) -> Result<(
         return Ok(());
     };
     assert!(rt; written.as_slice() == canonical.as_slice(), "{text}");
-    let again = printed(alloc, link, &written)?;
+    let again = print_message(alloc, link, &written)?;
     assert!(rt;
         again.is_some_and(|again| again.text.as_str() == text),
         "{text}"
@@ -333,7 +334,7 @@ fn says(rt: &impl Abort, alloc: Global, link: Link, text: &str, wanted: &str) ->
     };
     let written = hex::encode(alloc, octets.as_slice())?;
     assert_eq!(rt; written.as_str(), wanted, "{text}");
-    let Some(said) = printed(alloc, link, &octets)? else {
+    let Some(said) = print_message(alloc, link, &octets)? else {
         assert!(rt; false, "{text}");
         return Ok(());
     };
