@@ -172,7 +172,7 @@ fn comes_back(rt: &impl Abort, alloc: Global, link: Link, hex: &str) -> Result<(
     };
     let text = said.text.as_str();
     let written = written_of(alloc, link, text);
-    let Some(canonical) = said.canonical else {
+    let Some(canonical) = &said.canonical else {
         assert!(rt; written.is_none(), "{text}");
         return Ok(());
     };
