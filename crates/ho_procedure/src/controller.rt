@@ -38,7 +38,9 @@ impl<D: DeskView + Drop, A: Allocator> Model for Controller<D, A> {
 }
 
 impl<D: DeskView + Drop, A: Allocator + Copy> Controller<D, A> {
-    /// A controller of a site that asks this view. It has no report of any call.
+    /// A controller of a site that asks this view. It has no report of any call, and nothing was asked yet. The view is
+    /// to ask a book of the same site; no clause asks for that. No memory is taken: `alloc` serves for what is handled
+    /// later.
     pub fn new(alloc: A, view: D, site: Arc<Site<A>, A>) -> Controller<D, A>
         ensures view { result.0 ≡ view }
         ensures reports { (call : ℕ) → last_reports result.1 call ≡ [] }
@@ -78,13 +80,19 @@ impl<D: DeskView + Drop, A: Allocator + Copy> Controller<D, A> {
         view
     }
 
-    /// Handles an input by its row: asks the view, and answers the messages that are sent, in their order.
+    /// Handles an input by its row of the procedure: asks the view, and answers the messages that are sent, in their
+    /// order. The rows stand in `docs/PROCEDURE.md`, each with its clauses of TS 44.018, TS 48.008 and TS 48.058.
     ///
-    /// `Undecoded`: the octets, or the radio resource message inside, can't be read; nothing was asked. It is answered to all
-    /// octets that can't be, unless memory is refused for what their message keeps. `NoMemory`: memory was
-    /// refused, and the row was followed up to a step that takes memory. `Desk`: the view answered that its desk doesn't know
-    /// its last receipt, and the row was followed up to the step that it was asked for. Either fault has the messages up to
-    /// there, which the caller sends.
+    /// - `Undecoded`: the octets, or those of the radio resource message inside, can't be read. Nothing was asked, and
+    ///   view and reports are as they were. All octets that can't be read are answered so, unless memory is refused for
+    ///   the octets that their message keeps.
+    /// - `NoMemory`: memory was refused. The row was followed up to a step that takes memory; or nothing was asked, and
+    ///   the input is a message that keeps its octets.
+    /// - `Desk`: the view answered that its desk doesn't know the view's last receipt. The row was followed up to the
+    ///   step that the view was asked for.
+    ///
+    /// After `NoMemory` and `Desk` what was asked so far stands. Both have the messages up to there, which the caller
+    /// sends.
     #[tactic(auto, using(crate::proofs::Handled::handled, crate::proofs::Handled::kept, crate::proofs::Handled::width_kept, crate::proofs::Handled::refused, crate::proofs::Handled::stops_for_memory, crate::proofs::Handled::stops_at_desk, crate::proofs::Handled::stopped_kept, crate::proofs::Handled::stopped_width))]
     pub fn handle(&mut self, input: Inbound<A>) -> Result<Vec<Outbound<A>, A>, Fault<A>>
         ensures ok { IfOk result (λ out. (p : Plan) ×

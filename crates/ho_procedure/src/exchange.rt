@@ -12,9 +12,10 @@ use thiserror::Error;
 /// What an operator asks for. A call is named by its number, 0 to 65535.
 #[derive(Clone, Copy, Debug, PartialEq, Eq)]
 pub enum Line {
-    /// A call begins on this channel.
+    /// A call begins on this channel (TS 48.058 clause 4.1).
     Open { call: u16, chan: ChanId },
-    /// A call is to move to this cell.
+    /// A call is to move to this cell (TS 44.018 clause 3.4.4): an own one, or one of another controller, which have
+    /// numbers from 64 on. Nothing comes of a number that the site doesn't have.
     Handover { call: u16, cell: u8 },
     /// The handover of a call is taken back.
     Undo { call: u16 },
@@ -25,22 +26,23 @@ pub enum Line {
 /// What a controller is given. A call is named by its number, 0 to 65535.
 #[derive(Drop)]
 pub enum Inbound<A: Allocator = Global> {
-    /// A message on Abis from a TRX of a cell (TS 48.058).
+    /// A message on Abis from a TRX of a cell (TS 48.058 clause 8). More than 1,024 octets are none.
     Abis { cell: u8, trx: u8, bytes: Octets<A> },
-    /// A message on A about a call (TS 48.008).
+    /// A message on A about a call (TS 48.008 clause 3.2.1). More than 255 octets are none.
     A { call: u16, bytes: Octets<A> },
-    /// A timer that guards a call's handover ran out.
+    /// A timer that guards a call's handover ran out: T3103 (TS 44.018 clause 11.1.2), T7 or T8 (TS 48.008 clause
+    /// 3.1.5).
     Expiry { call: u16, timer: Timer },
     /// What an operator asks for.
     Operator(Line),
 }
 
-/// What a controller sends.
+/// What a controller sends: the octets are the canonical text of a message.
 #[derive(Debug, Drop)]
 pub enum Outbound<A: Allocator = Global> {
-    /// A message on Abis to a TRX of a cell (TS 48.058).
+    /// A message on Abis to a TRX of a cell (TS 48.058 clause 8).
     Abis { cell: u8, trx: u8, bytes: Octets<A> },
-    /// A message on A about a call (TS 48.008).
+    /// A message on A about a call (TS 48.008 clause 3.2.1).
     A { call: u16, bytes: Octets<A> },
 }
 
@@ -86,10 +88,12 @@ pub enum Fault<A: Allocator = Global> {
     /// A text can't be read. Nothing was asked of the view, and nothing is sent.
     #[error("the {0} can't be read: {1}")]
     Undecoded(Link, Bad),
-    /// Memory was refused. What was asked so far stands, and the caller sends these messages, which it owes.
+    /// Memory was refused. What was asked so far stands, and the caller sends these messages, which belong to it, in
+    /// their order.
     #[error("memory was refused")]
     NoMemory(Vec<Outbound<A>, A>),
-    /// The view's desk isn't the one that gave the receipt of this place. The same of the messages.
+    /// The view's last receipt, of this place (counted from 0), isn't from its desk's history. What was asked so far
+    /// stands, and the caller sends these messages, as after `NoMemory`.
     #[error("the receipt of place {0} is of another desk")]
     Desk(usize, Vec<Outbound<A>, A>),
 }

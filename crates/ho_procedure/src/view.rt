@@ -25,7 +25,10 @@ pub trait DeskView {
     // the desk may not know this view's last receipt
     ghost may_be_foreign: { Self → Type 0 };
 
-    /// Asks an event (`Desk::judge`).
+    /// Asks an event (`Desk::judge`). A refused event is answered, too, with its refusal.
+    ///
+    /// `Foreign`: the view's last receipt, of this place, isn't from its desk's history. `NoMemory`: memory was
+    /// refused.
     fn judge(&mut self, event: Event) -> Result<Receipt, DeskFault>
         ensures ok { IfOk result (λ r. (r.event ≡ event) ×
             (log self.new ≡ log self.old ++ (r.event, r.reply) ∷ [])) }
@@ -37,7 +40,8 @@ pub trait DeskView {
             says self.new es claim → says self.old es claim }
         ensures foreign_kept { may_be_foreign self.new → may_be_foreign self.old };
 
-    /// Asks a Take of some free channel of a cell (`Desk::judge_take`). `None`: no channel of the cell is free.
+    /// Asks a Take of some free channel of a cell (`Desk::judge_take`). `None`: no channel of the cell is free, as of
+    /// one that the site lacks, and nothing was asked. Faults as of `judge`.
     fn judge_take(&mut self, call: u16, kind: Kind, cell: u8) -> Result<Option<Receipt>, DeskFault>
         ensures ok { IfOk result (λ answer. MatchOption answer
             ((log self.new ≡ log self.old) × says self.old (log self.old) (NoneFree cell))
@@ -53,7 +57,8 @@ pub trait DeskView {
             says self.new es claim → says self.old es claim }
         ensures foreign_kept { may_be_foreign self.new → may_be_foreign self.old };
 
-    /// Asks a Reserve of some free Handover Reference (`Desk::judge_reserve`).
+    /// Asks a Reserve of some free Handover Reference, a number from 0 to 255 (TS 44.018 clause 10.5.2.15), in the cell
+    /// of the call's target (`Desk::judge_reserve`). Faults as of `judge`.
     fn judge_reserve(&mut self, call: u16) -> Result<Receipt, DeskFault>
         ensures ok { IfOk result (λ r. ((n : ℕ) × (r.event ≡ Event.Reserve call n)) ×
             says self.old (log self.old) (Chosen r.event) ×

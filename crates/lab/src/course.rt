@@ -126,7 +126,7 @@ impl<A: Allocator + Copy> Course<A> {
         Ok(())
     }
 
-    /// Handles what a simulator sends. The simulators know the controllers that are there and no other: what were for
+    /// Handles what a simulator sends. The simulators know the controllers that are there and no other: what was for
     /// another is passed over.
     fn arrive<W: Write>(
         &mut self,

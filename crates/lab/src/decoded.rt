@@ -58,9 +58,9 @@ pub(crate) fn ended(printed: Result<bool, PrintFault>) -> Result<Status, LabFaul
 
 /// Prints the message that a hexadecimal text writes, on one line.
 ///
-/// Octets that are no message of the link print `fault`, the link, and the number of the fault with its argument. A text
-/// that isn't hexadecimal prints `hex`. In both cases the answer is `Refused`. An empty text writes no octets. Once
-/// memory was refused nothing is printed.
+/// Octets that are no message of the link print `fault`, the link, and the number of the fault with its argument. A
+/// text that isn't hexadecimal prints `hex`. In both cases the answer is `Refused`, else `Done`. An empty text writes
+/// no octets. Once memory was refused (`NoMemory`) nothing is printed; `Write` where `out` can't be written to.
 pub fn decode_run<A: Allocator + Copy, W: Write>(
     alloc: A,
     link: Link,

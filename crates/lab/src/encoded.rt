@@ -21,8 +21,10 @@ fn octets<A: Allocator + Copy>(
 }
 
 /// Prints the octets of the message that a text says, in hexadecimal on one line. The text is one that
-/// [`decode_run`](crate::decoded::decode_run) prints, with its fields in any order. Where it says no message of the link,
-/// or one that has no canonical text, nothing is printed, one line on `errors` says why, and the answer is `Refused`.
+/// [`decode_run`](crate::decoded::decode_run) prints, with its fields in any order. Where it says no message of the
+/// link, or one that has no canonical text, nothing is printed, one line on `errors` says why, and the answer is
+/// `Refused`, else `Done`. `NoMemory`: memory was refused, and nothing is printed. `Write`: `out` or `errors` can't be
+/// written to.
 pub fn encode_run<A: Allocator + Copy, W: Write, E: Write>(
     alloc: A,
     link: Link,

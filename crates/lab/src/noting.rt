@@ -52,7 +52,7 @@ impl<A: Allocator + Copy> Noting<A> {
         self.solo.desk()
     }
 
-    /// The cells that were found without a free channel.
+    /// The cells that were found without a free channel, in the order in which one was asked for.
     pub fn none_free(&self) -> &[NoneFree] {
         self.none_free.as_slice()
     }

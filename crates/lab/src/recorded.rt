@@ -109,8 +109,11 @@ fn record_script<A: Allocator + Copy, W: Write>(
 
 /// Prints a script with what comes of each of its lines over a site, or over two where a peer's is given, all given as
 /// texts: behind each line that gives something stand the trace lines of that, as comments that expect them, and behind
-/// the last one the trace's end, too. Comments that the script has of what is expected are left out; all else stays. A
-/// site and a script are refused as by a run.
+/// the last one the trace's end, too. Comments that the script has of what is expected are left out; all else stays.
+/// The answer is `Done` then. A site and a script are refused as by a run (`Refused`).
+///
+/// `scratch` serves while the sites are read, `alloc` for all else. Once memory was refused (`NoMemory`), or `out`
+/// can't be written to (`Write`), nothing more is printed.
 pub fn record_run<A: Allocator + Copy, W: Write>(
     alloc: A,
     scratch: Global,

@@ -219,7 +219,7 @@ fn rewind_trace<A: Allocator + Copy, W: Write>(
 /// read (`line` and the number of the first such, of an event that isn't written as a trace has it, or of a trace of two
 /// controllers); where a reply isn't the one that the book gives (`line` and the number of the first such); where no
 /// undone attempt opens in the line (`no attempt`). `scratch` serves while the site is read, `alloc` for all else. Once
-/// memory was refused nothing more is printed.
+/// memory was refused (`NoMemory`), or `out` can't be written to (`Write`), nothing more is printed.
 pub fn rewind_run<A: Allocator + Copy, W: Write>(
     alloc: A,
     scratch: Global,

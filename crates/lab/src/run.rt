@@ -179,6 +179,9 @@ pub(crate) fn script_items<A: Allocator + Copy, W: Write>(
 ///
 /// The run's turns are the script's inputs in their order, with what simulators sent between them; each was handled by the
 /// controller that it is for as the procedure says, from empty books on to the controllers that the run ends with.
+///
+/// `NoMemory`: memory was refused; then every line of the script can be read. `Write`: `out` can't be written to. After
+/// either what was printed before stands.
 pub fn play<A: Allocator + Copy, W: Write>(
     alloc: A,
     sites: Sites<A>,
@@ -290,14 +293,15 @@ pub(crate) fn refuse_site<W: Write>(fault: SiteFault, out: &mut W) -> Result<Sta
 
 /// Runs a script over a site, or over two where a peer's is given, all given as texts, and prints the trace to `out`.
 ///
-/// With a peer there are two controllers, each with a book of its own, and each line that one of them prints begins with
-/// `1: ` or `2: `. The site is read first, then the peer's, then all lines of the script. A text that describes no site
-/// prints one line: `site 1` where it isn't TOML, `site 2` and the key where a key is missing, `site 3` and the key where a
-/// value is of another kind or out of its range, `site 4` and the kind where something stands twice, `site 5` and the cell
-/// where it has no traffic channel. A script prints `line` and the number of its first line that can't be read, counted
-/// from 1. Then nothing else is printed and the answer is `Refused`. `scratch` serves while the sites are read, `alloc`
-/// for all else. Once memory was refused nothing more is printed; a site of white space and comments alone is refused
-/// without any.
+/// With a peer there are two controllers, each with a book of its own, and each line that one of them prints begins
+/// with `1: ` or `2: `. The site is read first, then the peer's, then all lines of the script. A text that describes no
+/// site prints one line: `site 1` where it isn't TOML, `site 2` and the key where a key is missing, `site 3` and the
+/// key where a value is of another kind or out of its range, `site 4` and the kind where something stands twice,
+/// `site 5` and the cell where it has no traffic channel. A script prints `line` and the number of its first line that can't
+/// be read, counted from 1. Then nothing else is printed and the answer is `Refused`; after a run to its end it is
+/// `Done`. `scratch` serves while the sites are read, `alloc` for all else. Once memory was refused (`NoMemory`), or
+/// `out` can't be written to (`Write`), nothing more is printed; a site of white space and comments alone is refused
+/// without any memory.
 pub fn lab_run<A: Allocator + Copy, W: Write>(
     alloc: A,
     scratch: Global,

@@ -150,9 +150,13 @@ fn test_script<A: Allocator + Copy, W: Write>(
 }
 
 /// Tests a script over a site, or over two where a peer's is given, all given as texts: runs it, compares what comes of
-/// each of its lines with the comments behind that ([`find_difference`], [`find_last_difference`]), and prints, as one
-/// test of TAP, whether all came that is expected, or the first line that differs, and ends the run there. A script with a
-/// line that can't be read isn't run. A text that describes no site prints what a run does.
+/// each of its lines with the comments behind that ([`find_difference`], [`find_last_difference`]), and prints one test
+/// of TAP. Where what came is what the comments expect, the answer is `Done`. Else the first line that differs is
+/// printed, the run ends there, and the answer is `Differs`. A script with a line that can't be read isn't run, and
+/// that line's number is printed; a text that describes no site prints what a run does: both are `Refused`.
+///
+/// `scratch` serves while the sites are read, `alloc` for all else. Once memory was refused (`NoMemory`), or `out`
+/// can't be written to (`Write`), nothing more is printed.
 pub fn test_run<A: Allocator + Copy, W: Write>(
     alloc: A,
     scratch: Global,

@@ -30,7 +30,8 @@ pub enum Source {
 pub enum Answer<A: Allocator = Global> {
     /// It sent these messages.
     Sent(Vec<Outbound<A>, A>),
-    /// The octets are no message.
+    /// The octets of the input are no message, or those of the radio resource message inside are none. Nothing was
+    /// asked, and nothing is sent.
     Undecoded(Bad),
 }
 
@@ -39,9 +40,13 @@ pub enum Answer<A: Allocator = Global> {
 pub struct Turn<A: Allocator = Global> {
     /// The controller.
     pub side: Side,
+    /// Where the input comes from.
     pub source: Source,
+    /// What the controller was given.
     pub input: Inbound<A>,
+    /// What it asked of its book, each event with its reply, and each cell without a free channel, in their order.
     pub steps: Vec<Step, A>,
+    /// What it sent, or why its octets can't be read.
     pub answer: Answer<A>,
 }
 
@@ -153,7 +158,8 @@ fn handled<A: Allocator + Copy>(
     }
 }
 
-/// The controller of a side handles an input; says what came of it.
+/// The controller of a side handles an input; says what came of it. Where memory is refused, what was asked so far
+/// stands, and what came of it isn't said.
 pub fn take_turn<A: Allocator + Copy>(
     alloc: A,
     controller: &mut Controller<Noting<A>, A>,
