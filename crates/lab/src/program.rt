@@ -66,6 +66,7 @@ fn decode<W: Write, E: Write>(
 /// ([`check_file`]), prints a message in words ([`decode_run`]) or those of many lines ([`answer_file`]), prints a message's
 /// octets ([`encode_run`]), says in words what a number stands for ([`explain`]), or shows help or the version. `input` is
 /// standard input. What it prints goes to `out`; why words, a site, a file or a message are refused goes to `errors`.
+/// It ends as the command does ([`Status`], [`LabFault`]); words that are refused are `Refused`, help and the version `Done`.
 ///
 /// No clause says what is printed, nor which words end how: that is shown by tests.
 pub fn perform<R: Files + AllocGlobal, I: Read + Drop, W: Write, E: Write>(
