@@ -256,7 +256,7 @@ fn print_parts<W: fmt::Write>(
     bar: &Bar<'_>,
     last: u32,
 ) -> fmt::Result {
-    for column in column_of(bar.first)..column_of(last) + 1 {
+    for column in column_of(bar.first)..column_of(last).saturating_add(1) {
         let begin = column.saturating_mul(COLUMN);
         let top = row_y(bar.first.max(begin)).saturating_sub(12);
         let bottom = row_y(last.min(begin.saturating_add(COLUMN - 1))) + 6;

@@ -27,7 +27,12 @@ fn markup_and_control_characters_are_no_text(rt: HostRuntime) -> Result<(), Fail
 }
 
 /// Texts, and how many letters wide they are.
-const ROOMS: &[(&str, u32)] = &[("", 0), ("CLEAR REQUEST, call 1", 21), ("é١𝄞", 6), ("a\n", 2)];
+const ROOMS: &[(&str, u32)] = &[
+    ("", 0),
+    ("CLEAR REQUEST, call 1", 21),
+    ("é١𝄞", 6),
+    ("a\n", 2),
+];
 
 #[test]
 fn what_is_outside_ascii_is_two_letters_wide(rt: HostRuntime) -> Result<(), Fail> {

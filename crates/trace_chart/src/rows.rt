@@ -24,7 +24,8 @@ impl Happening {
     fn needs(&self, lane: u32, letters: u32) -> u32 {
         match self {
             Happening::Arrow { from, to } if *from.min(to) == lane => letters,
-            Happening::Note { lane: at } if *at == lane || at.saturating_sub(1) == lane => letters.div_ceil(2),
+            Happening::Note { lane: at } if *at == lane || at.saturating_sub(1) == lane =>
+                letters.div_ceil(2),
             Happening::Nothing | Happening::Arrow { .. } | Happening::Note { .. } => 0,
         }
     }

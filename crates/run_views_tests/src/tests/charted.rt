@@ -284,15 +284,13 @@ const TWO_ROWS: &[Row<'_>] = &[
     },
 ];
 
-const TWO_BARS: &[Bar<'_>] = &[
-    Bar {
-        first: 2,
-        last: 6,
-        side: Side::Right,
-        track: 0,
-        text: "call 40000",
-    },
-];
+const TWO_BARS: &[Bar<'_>] = &[Bar {
+    first: 2,
+    last: 6,
+    side: Side::Right,
+    track: 0,
+    text: "call 40000",
+}];
 
 /// Five attempts. That of call 1 is undone, as is that of call 2, which opens while that of call 1 is open; the channel of
 /// call 2 was refused, so no release of it is awaited. Call 3 arrives. The attempt of call 4 opens in the line behind the
@@ -385,7 +383,9 @@ fn a_trace_is_a_chart(rt: HostRuntime) -> Result<(), Fail> {
 }
 
 #[test]
-fn attempts_that_are_open_at_once_have_bars_beside_one_another(rt: HostRuntime) -> Result<(), Fail> {
+fn attempts_that_are_open_at_once_have_bars_beside_one_another(
+    rt: HostRuntime,
+) -> Result<(), Fail> {
     let svg = chart_of(rt.alloc(), ALONE, THREE)?;
     for bar in THREE_BARS {
         assert!(rt; svg.as_str().contains(*bar), "{bar} {svg}");
