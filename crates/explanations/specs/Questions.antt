@@ -1,5 +1,5 @@
 -- What there are words for.
-use Rattle.std.specs.Prelude.{ℕ, ◌<◌, IsTrue}
+use Rattle.std.specs.Prelude.{◌<◌, IsTrue}
 use Rattle.explanations.specs.declared.Question.{Question}
 use Rattle.explanations.specs.declared.Question.TheVariants.{Refusal, Cause, Fault}
 use Rattle.explanations.specs.Faults.{is_fault}

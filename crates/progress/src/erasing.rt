@@ -21,7 +21,7 @@ pub struct Erasing<W, E> {
 }
 
 impl<W: Write + Drop, E: Write + Drop> Erasing<W, E> {
-    ghost use Rattle.std.specs.Prelude.{◌≡◌, ◌≢◌, ◌→◌, [], false};
+    ghost use Rattle.std.specs.Prelude.{◌≡◌, ◌≢◌, [], false};
     ghost use Rattle.progress.specs.Erasing.{out_of, terminal_of, counted_of, stand_of, is_said};
 
     /// A writer to `out` that says on `terminal` how many lines counted. None did yet, and nothing is said.
