@@ -15,14 +15,15 @@
 //! refused, or something not to be written, 3 memory refused.
 #![tactic(auto)]
 
-ghost use Rattle.std.specs.Prelude.{◌<◌, IfSome};
+ghost use Rattle.std.specs.Prelude.{◌≡◌, ◌<◌, None, IsSome, IfSome, IsErr};
+ghost use Rattle.progress.specs.Keeping.{error_of};
 
 use file_reasons::Reason;
 use lab::program::perform;
 use lab::run::{LabFault, Status, exit_status};
-use progress::Progress;
+use progress::{Counted, Erasing, Keeping, Progress};
 use std::env;
-use std::io::{self, BufWriter, IsTerminal, Read, Write};
+use std::io::{self, BufWriter, IsTerminal, LineWriter, Read, Write};
 use std::process::ExitCode;
 use std::rt::{Env, Files};
 
@@ -41,39 +42,46 @@ fn words_of<R: Env + AllocGlobal, E: Write>(
     }
 }
 
-/// After how many lines of its output a person is told how far a command is: those commands alone may take long, and print
-/// a line for each part of their work.
-fn step_of(words: &[&str]) -> Option<u64>
-    ensures { IfSome result (λ step. 0 < step) }
+/// What of a command's output a person is told the number of, and after how many of them: of those commands alone that may
+/// take long, and print a line for each part of their work.
+fn watched(words: &[&str]) -> Option<(Counted, u64)>
+    ensures { IfSome result (λ watched. 0 < watched.1) }
 {
     match *words.first()? {
-        "test" => Some(1),
-        "decode" => Some(10_000),
+        "test" => Some((Counted::Scripts, 1)),
+        "decode" if words.iter().any(|word| word.starts_with("--from")) => {
+            Some((Counted::Lines, 10_000))
+        }
         _ => None,
     }
 }
 
-/// The status once the output's rest was written. Where it couldn't be, `errors` says why.
+/// The status once the output's rest was written. Where a part of the output couldn't be, `errors` says what the system said
+/// first.
 fn closed<W: Write, E: Write>(
     ended: Result<Status, LabFault>,
-    out: &mut W,
+    out: &mut Keeping<W>,
     errors: &mut E,
-) -> Result<Status, LabFault> {
-    // what was printed before a fault is shown
-    match out.flush() {
-        Ok(()) => ended,
-        Err(error) => {
-            writeln!(errors, "standard output: {}", Reason(&error))?;
+) -> Result<Status, LabFault>
+    ensures failed { IsSome (error_of out.new) → IsErr result }
+    ensures written { error_of out.new ≡ None → result ≡ ended }
+{
+    // what was printed before a fault is shown; why it couldn't be is kept
+    let _ = out.flush();
+    match out.error() {
+        Some(error) => {
+            writeln!(errors, "standard output: {}", Reason(error))?;
             match ended {
                 Ok(_) => Err(LabFault::Write),
                 Err(fault) => Err(fault),
             }
         }
+        None => ended,
     }
 }
 
-/// Does what the words ask for, and tells a person each `step` lines how many were printed.
-fn perform_watched<
+/// Does what the words ask for, where no terminal shows the output. A `terminal` is told how far a long command is.
+fn perform_elsewhere<
     R: Files + AllocGlobal,
     I: Read + Drop,
     W: Write + Drop,
@@ -83,25 +91,59 @@ fn perform_watched<
     rt: &R,
     words: &[&str],
     input: I,
-    out: W,
-    terminal: T,
-    step: u64,
+    mut out: Keeping<W>,
+    terminal: Option<T>,
     errors: &mut E,
-) -> Result<Status, LabFault>
-    requires { 0 < step }
-{
-    let mut watched = Progress::new(out, terminal, step);
-    let ended = perform(rt, words, input, &mut watched, errors);
-    closed(ended, &mut watched.finish(), errors)
+) -> Result<Status, LabFault> {
+    match (watched(words), terminal) {
+        (Some((counted, step)), Some(terminal)) => {
+            let mut progress = Progress::new(out, terminal, counted, step);
+            let ended = perform(rt, words, input, &mut progress, errors);
+            closed(ended, &mut progress.finish(), errors)
+        }
+        (Some(_), None) | (None, _) => {
+            let ended = perform(rt, words, input, &mut out, errors);
+            closed(ended, &mut out, errors)
+        }
+    }
 }
 
-/// Reads the words of the command line, and does what they ask for; where a person sees standard error alone, `is_watched`,
-/// that tells how far a long command is.
+/// Does what the words ask for, where a terminal shows the output line by line. The same `terminal` says below it how far a
+/// long command is.
+fn perform_on_terminal<
+    R: Files + AllocGlobal,
+    I: Read + Drop,
+    W: Write + Drop,
+    T: Write + Drop,
+    E: Write,
+>(
+    rt: &R,
+    words: &[&str],
+    input: I,
+    mut out: Keeping<W>,
+    terminal: Option<T>,
+    errors: &mut E,
+) -> Result<Status, LabFault> {
+    match (watched(words), terminal) {
+        (Some((counted, _)), Some(terminal)) => {
+            let mut erasing = Erasing::new(out, terminal, counted);
+            let ended = perform(rt, words, input, &mut erasing, errors);
+            closed(ended, &mut erasing.finish(), errors)
+        }
+        (Some(_), None) | (None, _) => {
+            let ended = perform(rt, words, input, &mut out, errors);
+            closed(ended, &mut out, errors)
+        }
+    }
+}
+
+/// Reads the words of the command line, and does what they ask for. `is_shown` says whether a person sees the output on a
+/// terminal; `terminal` is there where one sees standard error.
 fn start<R: Files + Print + Env + AllocGlobal, I: Read + Drop, T: Write + Drop, E: Write>(
     rt: &R,
     input: I,
-    terminal: T,
-    is_watched: bool,
+    is_shown: bool,
+    terminal: Option<T>,
     errors: &mut E,
 ) -> Result<Status, LabFault> {
     let Some(words) = words_of(rt, errors)? else {
@@ -112,27 +154,29 @@ fn start<R: Files + Print + Env + AllocGlobal, I: Read + Drop, T: Write + Drop, 
         .skip(1)
         .map(|word| word.as_str())
         .collect(rt.alloc())?;
+    let out = io::writer(rt);
     // a buffer lacks nothing but memory
-    let mut out = BufWriter::new(rt.alloc(), io::writer(rt)).map_err(|_| LabFault::NoMemory)?;
-    match step_of(&words) {
-        Some(step) if is_watched => {
-            perform_watched(rt, &words, input, out, terminal, step, errors)
-        }
-        _ => {
-            let ended = perform(rt, &words, input, &mut out, errors);
-            closed(ended, &mut out, errors)
-        }
+    if is_shown {
+        let lines = LineWriter::new(rt.alloc(), out).map_err(|_| LabFault::NoMemory)?;
+        perform_on_terminal(rt, &words, input, Keeping::new(lines), terminal, errors)
+    } else {
+        let buffer = BufWriter::new(rt.alloc(), out).map_err(|_| LabFault::NoMemory)?;
+        perform_elsewhere(rt, &words, input, Keeping::new(buffer), terminal, errors)
     }
 }
 
 fn main(rt: HostRuntime) -> ExitCode {
     let stderr = rt.stderr();
-    let is_watched = stderr.is_terminal() && !rt.stdout().is_terminal();
+    let terminal = if stderr.is_terminal() {
+        Some(io::writer(&stderr))
+    } else {
+        None
+    };
     ExitCode::from(exit_status(start(
         &rt,
         rt.stdin(),
-        io::writer(&stderr),
-        is_watched,
+        rt.stdout().is_terminal(),
+        terminal,
         &mut io::writer(&stderr),
     )))
 }
