@@ -197,13 +197,20 @@ fn line_argument<'a>(alloc: Global) -> Arg<'a> {
 
 /// `decode LINK HEX`, `decode LINK --from FILE` or `decode --from FILE`
 fn decode_command<'a>(alloc: Global) -> Result<Command<'a>, AllocError> {
-    Command::new(alloc, "decode")
+    let command = Command::new(alloc, "decode")
         .about("Prints a message in words, as in: decode abis 082e010b")
-        .after_help(DECODE_HELP)
-        .arg(link_argument(alloc)?)?
-        .arg(hex_argument(alloc)?)?
-        .arg(from_argument(alloc))?
-        .arg(all_argument(alloc)?)
+        .after_help(DECODE_HELP);
+    let command = with_argument(command, link_argument(alloc))?;
+    let command = with_argument(command, hex_argument(alloc))?.arg(from_argument(alloc))?;
+    with_argument(command, all_argument(alloc))
+}
+
+/// A command with one more argument.
+fn with_argument<'a>(
+    command: Command<'a>,
+    argument: Result<Arg<'a>, AllocError>,
+) -> Result<Command<'a>, AllocError> {
+    command.arg(argument?)
 }
 
 /// What stands behind the help of `decode`.
@@ -307,22 +314,45 @@ fn encode_job<'a>(encode: &ArgMatches<'a>) -> Option<Job<'a>> {
     })
 }
 
-/// The whole command line.
-fn lab_command<'a>(alloc: Global) -> Result<Command<'a>, AllocError> {
-    Command::new(alloc, "bsc_lab")
+/// A command with one more below it. (Here alone a command waits for another: where many do in one chain, each would be
+/// dropped at each `?` behind it, which is dear to prove.)
+fn with<'a>(
+    command: Command<'a>,
+    below: Result<Command<'a>, AllocError>,
+) -> Result<Command<'a>, AllocError> {
+    command.subcommand(below?)
+}
+
+/// The command line without its commands.
+fn bare_command<'a>(alloc: Global) -> Result<Command<'a>, AllocError> {
+    let command = Command::new(alloc, "bsc_lab")
         .version("0.1")
         .about("A laboratory of a GSM base station controller")
         .no_binary_name(true)
-        .bin_name("bsc_lab")?
-        .subcommand_required(true)
-        .subcommand(run_command(alloc)?)?
-        .subcommand(test_command(alloc)?)?
-        .subcommand(record_command(alloc)?)?
-        .subcommand(rewind_command(alloc)?)?
-        .subcommand(check_command(alloc)?)?
-        .subcommand(decode_command(alloc)?)?
-        .subcommand(encode_command(alloc)?)?
-        .subcommand(explain_command(alloc)?)
+        .subcommand_required(true);
+    command.bin_name("bsc_lab")
+}
+
+/// The commands of scripts and of their traces.
+fn with_scripts<'a>(alloc: Global, command: Command<'a>) -> Result<Command<'a>, AllocError> {
+    let command = with(command, run_command(alloc))?;
+    let command = with(command, test_command(alloc))?;
+    let command = with(command, record_command(alloc))?;
+    with(command, rewind_command(alloc))
+}
+
+/// The commands of sites, messages and numbers.
+fn with_texts<'a>(alloc: Global, command: Command<'a>) -> Result<Command<'a>, AllocError> {
+    let command = with(command, check_command(alloc))?;
+    let command = with(command, decode_command(alloc))?;
+    let command = with(command, encode_command(alloc))?;
+    with(command, explain_command(alloc))
+}
+
+/// The whole command line.
+pub(crate) fn lab_command<'a>(alloc: Global) -> Result<Command<'a>, AllocError> {
+    let command = with_scripts(alloc, bare_command(alloc)?)?;
+    with_texts(alloc, command)
 }
 
 /// The job of `decode`.
