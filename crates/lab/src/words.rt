@@ -1,6 +1,7 @@
 //! The words of the command line.
 ghost use Rattle.std.specs.Prelude.{◌≡◌};
 
+use crate::refused_words::refused_line;
 use crate::script_words::{record_command, script_paths, site_paths, test_command};
 use crate::site_files::SitePaths;
 use clap::error::ErrorKind;
@@ -67,7 +68,8 @@ pub enum Job<'a> {
 /// Why the words ask for nothing.
 #[derive(Debug, Drop)]
 pub enum WordsFault {
-    /// The words are wrong, as this text for standard error says.
+    /// The words are wrong, as this line for standard error says: which of them, and what is allowed. It has no control
+    /// characters, and no end of a line.
     Refused(String),
     /// Memory was refused.
     NoMemory,
@@ -420,26 +422,29 @@ fn any_job_of<'a>(alloc: Global, matches: &ArgMatches<'a>) -> Result<Option<Job<
 }
 
 /// What words that weren't matched come to.
-fn unmatched<'a>(alloc: Global, error: Error) -> Result<Job<'a>, WordsFault> {
+fn unmatched<'a>(alloc: Global, words: &[&str], error: Error) -> Result<Job<'a>, WordsFault> {
     match error.kind() {
         ErrorKind::DisplayHelp | ErrorKind::DisplayVersion => Ok(Job::Show(error.to_string(
             alloc,
         )?)),
         ErrorKind::OutOfMemory => Err(WordsFault::NoMemory),
-        _ => Err(WordsFault::Refused(error.to_string(alloc)?)),
+        _ => Err(WordsFault::Refused(refused_line(alloc, words)?)),
     }
 }
 
 /// Reads the words of a command line, those after the program's own name. A command that is named gives its job, a
-/// wish for help or for the version the text to be shown; all other words are refused by a text for standard error.
+/// wish for help or for the version the text to be shown; all other words are refused by a line for standard error.
 ///
 /// No clause says which words are which: that is shown by tests.
 pub fn read_words<'a>(alloc: Global, words: &'a [&'a str]) -> Result<Job<'a>, WordsFault> {
     match lab_command(alloc)?.try_get_matches_from(words) {
         Ok(matches) => match any_job_of(alloc, &matches)? {
             Some(job) => Ok(job),
-            None => Err(WordsFault::Refused(String::new(alloc))),
+            None => Err(WordsFault::Refused(String::from_str(
+                alloc,
+                "error: the words ask for nothing",
+            )?)),
         },
-        Err(error) => unmatched(alloc, error),
+        Err(error) => unmatched(alloc, words, error),
     }
 }
