@@ -5,7 +5,7 @@ ghost use Rattle.std.specs.Str.Lossy.{utf8_valid_len};
 ghost use Rattle.lab.specs.Files.{longest_file};
 
 use crate::entries::first_unread;
-use crate::rewound::rewind_run;
+use crate::rewound::{foreign_line, rewind_run};
 use crate::run::{LabFault, Status, lab_run};
 use crate::run_reason::say_refusal;
 use crate::site_files::{SitePaths, SiteTexts, site_texts};
@@ -332,23 +332,32 @@ pub fn run_files<R: Files + AllocGlobal, W: Write, E: Write>(
     run_read(rt, sites, script, &texts, views, out, errors)
 }
 
-/// Says why nothing is taken out of a trace over a site that was read.
+/// Says why nothing is taken out of a trace over a site, both given as texts, of which the site's describes one: in the order
+/// in which [`rewind_run`] looks.
 fn say_unwound<E: Write>(
+    alloc: Global,
+    site: &str,
     path: &str,
     trace: &str,
     line: usize,
     errors: &mut E,
 ) -> Result<(), LabFault> {
-    match first_unread(trace) {
+    let path = Escaped(path);
+    if let Some(number) = first_unread(trace) {
+        writeln!(
+            errors,
+            "{path}:{number}: no line of the trace of one controller, as run prints it without --words"
+        )?;
+        return Ok(());
+    }
+    match foreign_line(alloc, site, trace)? {
         Some(number) => writeln!(
             errors,
-            "{}:{number}: no line of the trace of one controller, as run prints it without --words",
-            Escaped(path)
+            "{path}:{number}: the site's book gives another reply to this event"
         )?,
         None => writeln!(
             errors,
-            "{}: no attempt that is undone opens in line {line}, or a reply isn't the book's",
-            Escaped(path)
+            "{path}: no attempt that is undone later opens in line {line}"
         )?,
     }
     Ok(())
@@ -370,7 +379,7 @@ pub fn rewind_files<R: Files + AllocGlobal, W: Write, E: Write>(
     };
     let status = rewind_run(alloc, alloc, &site_text, &trace_text, line, out)?;
     if status == Status::Refused && !say_reason(alloc, site, &site_text, errors)? {
-        say_unwound(trace, &trace_text, line, errors)?;
+        say_unwound(alloc, &site_text, trace, &trace_text, line, errors)?;
     }
     Ok(status)
 }
