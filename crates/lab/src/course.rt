@@ -144,16 +144,16 @@ impl<A: Allocator + Copy> Course<A> {
     }
 
     /// Handles what waits, and what is answered to that, until nothing is left.
-    fn settle<W: Write>(&mut self, mut waiting: Waiting<A>, out: &mut W) -> Result<(), LabFault>
+    fn settle<W: Write>(&mut self, waiting: &mut Waiting<A>, out: &mut W) -> Result<(), LabFault>
         ensures { OnOk result (Went [] self.old self.new) }
     {
         for _ in 0..MOST_ANSWERS {
             let Some(arrival) = waiting.pop_front() else {
                 return Ok(());
             };
-            self.arrive(arrival, &mut waiting, out)?;
+            self.arrive(arrival, waiting, out)?;
         }
-        say_limit(&waiting, out)
+        say_limit(waiting, out)
     }
 
     /// Does what a line of a script gives. What simulators answer waits.
@@ -175,14 +175,27 @@ impl<A: Allocator + Copy> Course<A> {
         }
     }
 
+    /// Does what a line of a script gives, and then what waits behind that.
+    fn follow_with<W: Write>(
+        &mut self,
+        item: Item<A>,
+        waiting: &mut Waiting<A>,
+        out: &mut W,
+    ) -> Result<(), LabFault>
+        requires there { is_item_there (has_peer self.old) item ≡ true }
+        ensures { OnOk result (Went (inputs_in (item ∷ [])) self.old self.new) }
+    {
+        self.begin(item, waiting, out)?;
+        self.settle(waiting, out)
+    }
+
     /// Does what a line of a script gives, until nothing of it is left.
     pub(crate) fn follow<W: Write>(&mut self, item: Item<A>, out: &mut W) -> Result<(), LabFault>
         requires there { is_item_there (has_peer self.old) item ≡ true }
         ensures { OnOk result (Went (inputs_in (item ∷ [])) self.old self.new) }
     {
         let mut waiting = VecDeque::new(self.alloc);
-        self.begin(item, &mut waiting, out)?;
-        self.settle(waiting, out)
+        self.follow_with(item, &mut waiting, out)
     }
 
     /// Does what the lines of a script give, in their order, and prints the trace but for its end.

@@ -5,7 +5,7 @@ ghost use Rattle.std.specs.Str.Lossy.{utf8_valid_len};
 ghost use Rattle.lab.specs.Files.{longest_file};
 
 use crate::entries::first_unread;
-use crate::rewound::rewind_run;
+use crate::rewound::{foreign_line, rewind_run};
 use crate::run::{LabFault, Status, lab_run};
 use crate::run_reason::say_refusal;
 use crate::site_files::{SitePaths, SiteTexts, site_texts};
@@ -13,7 +13,7 @@ use crate::site_reason::say_reason;
 use crate::view_paths::{named_twice, refuse_twice};
 use escaped_text::Escaped;
 use file_reasons::Reason;
-use run_views::{Sites, Viewer, Views, WordsFault, open_sheets};
+use run_views::{Sheets, Sites, Viewer, Views, WordsFault, open_sheets};
 use std::alloc::{Allocator, Global};
 use std::fmt;
 use std::fs::File;
@@ -201,8 +201,55 @@ fn run_texts_plainly<W: Write>(
     lab_run(alloc, alloc, sites.first(), sites.peer(), script, out)
 }
 
-/// The same, with views; nothing where one of their files can't be written, and then its path was printed, and on
-/// `errors` why. What came of the run until it ended is in the files, be it early.
+/// How a run that was looked at ended: a fault of the views comes before the run's own.
+fn ended_viewed(
+    fault: Option<WordsFault>,
+    ended: Result<Status, LabFault>,
+    closed: Result<(), WordsFault>,
+    written: Result<(), WordsFault>,
+) -> Result<Status, LabFault> {
+    if let Some(fault) = fault {
+        return Err(fault_of(fault));
+    }
+    let status = ended?;
+    closed.map_err(fault_of)?;
+    written.map_err(fault_of)?;
+    Ok(status)
+}
+
+/// Runs a script for a viewer, and writes what that gathered until the run ended, be it early.
+fn run_for<F: Write + Drop, W: Write, E: Write>(
+    alloc: Global,
+    texts: &RunTexts,
+    viewer: &mut Viewer<'_, W>,
+    sheets: Sheets<'_, F>,
+    errors: &mut E,
+) -> Result<Status, LabFault> {
+    let ended = run_texts_plainly(alloc, texts, viewer);
+    let closed = viewer.finish();
+    let written = sheets.finish(viewer, errors);
+    ended_viewed(viewer.fault(), ended, closed, written)
+}
+
+/// Runs a script with views, whose files are open.
+fn run_onto<F: Write + Drop, W: Write, E: Write>(
+    alloc: Global,
+    texts: &RunTexts,
+    views: &Views<'_>,
+    sheets: Sheets<'_, F>,
+    out: &mut W,
+    errors: &mut E,
+) -> Result<Status, LabFault> {
+    let sites = Sites {
+        first: texts.sites.first(),
+        peer: texts.sites.peer(),
+    };
+    let mut viewer = Viewer::new(alloc, alloc, views, sites, out).map_err(fault_of)?;
+    run_for(alloc, texts, &mut viewer, sheets, errors)
+}
+
+/// The same as [`run_texts_plainly`], with views; nothing where one of their files can't be written, and then its path was
+/// printed, and on `errors` why. What came of the run until it ended is in the files, be it early.
 fn run_texts_viewed<R: Files + AllocGlobal, W: Write, E: Write>(
     rt: &R,
     texts: &RunTexts,
@@ -210,27 +257,52 @@ fn run_texts_viewed<R: Files + AllocGlobal, W: Write, E: Write>(
     out: &mut W,
     errors: &mut E,
 ) -> Result<Option<Status>, LabFault> {
-    let alloc = rt.alloc();
-    let sheets = match open_sheets(rt, views, out, errors) {
-        Ok(Some(sheets)) => sheets,
-        Ok(None) => return Ok(None),
-        Err(fault) => return Err(fault_of(fault)),
-    };
-    let sites = Sites {
-        first: texts.sites.first(),
-        peer: texts.sites.peer(),
-    };
-    let mut viewer = Viewer::new(alloc, alloc, views, sites, out).map_err(fault_of)?;
-    let ended = run_texts_plainly(alloc, texts, &mut viewer);
-    let closed = viewer.finish();
-    let written = sheets.finish(&viewer, errors);
-    if let Some(fault) = viewer.fault() {
-        return Err(fault_of(fault));
+    match open_sheets(rt, views, out, errors) {
+        Ok(Some(sheets)) => Ok(Some(run_onto(rt.alloc(), texts, views, sheets, out, errors)?)),
+        Ok(None) => Ok(None),
+        Err(fault) => Err(fault_of(fault)),
     }
-    let status = ended?;
-    closed.map_err(fault_of)?;
-    written.map_err(fault_of)?;
-    Ok(Some(status))
+}
+
+/// Runs a script over sites, all given as texts, with the views that are asked for; nothing as of [`run_texts_viewed`].
+fn run_texts_seen<R: Files + AllocGlobal, W: Write, E: Write>(
+    rt: &R,
+    texts: &RunTexts,
+    views: &Views<'_>,
+    out: &mut W,
+    errors: &mut E,
+) -> Result<Option<Status>, LabFault> {
+    if views.is_plain() {
+        Ok(Some(run_texts_plainly(rt.alloc(), texts, out)?))
+    } else {
+        run_texts_viewed(rt, texts, views, out, errors)
+    }
+}
+
+/// Runs the script of files that were read, and says why it is refused, if it is.
+fn run_read<R: Files + AllocGlobal, W: Write, E: Write>(
+    rt: &R,
+    sites: SitePaths<'_>,
+    script: &str,
+    texts: &RunTexts,
+    views: &Views<'_>,
+    out: &mut W,
+    errors: &mut E,
+) -> Result<Status, LabFault> {
+    let Some(status) = run_texts_seen(rt, texts, views, out, errors)? else {
+        return Ok(Status::Refused);
+    };
+    if status == Status::Refused {
+        say_refusal(
+            rt.alloc(),
+            sites,
+            &texts.sites,
+            script,
+            &texts.script,
+            errors,
+        )?;
+    }
+    Ok(status)
 }
 
 /// Runs the script of one file over the site of another, or over two where a peer's is named, and prints the trace to
@@ -254,41 +326,38 @@ pub fn run_files<R: Files + AllocGlobal, W: Write, E: Write>(
     if let Some(path) = named_twice(sites, script, views) {
         return refuse_twice(path, out, errors);
     }
-    let alloc = rt.alloc();
     let Some(texts) = run_texts(rt, sites, script, out, errors)? else {
         return Ok(Status::Refused);
     };
-    let status = if views.is_plain() {
-        Some(run_texts_plainly(alloc, &texts, out)?)
-    } else {
-        run_texts_viewed(rt, &texts, views, out, errors)?
-    };
-    let Some(status) = status else {
-        return Ok(Status::Refused);
-    };
-    if status == Status::Refused {
-        say_refusal(alloc, sites, &texts.sites, script, &texts.script, errors)?;
-    }
-    Ok(status)
+    run_read(rt, sites, script, &texts, views, out, errors)
 }
 
-/// Says why nothing is taken out of a trace over a site that was read.
+/// Says why nothing is taken out of a trace over a site, both given as texts, of which the site's describes one: in the order
+/// in which [`rewind_run`] looks.
 fn say_unwound<E: Write>(
+    alloc: Global,
+    site: &str,
     path: &str,
     trace: &str,
     line: usize,
     errors: &mut E,
 ) -> Result<(), LabFault> {
-    match first_unread(trace) {
+    let path = Escaped(path);
+    if let Some(number) = first_unread(trace) {
+        writeln!(
+            errors,
+            "{path}:{number}: no line of the trace of one controller, as run prints it without --words"
+        )?;
+        return Ok(());
+    }
+    match foreign_line(alloc, site, trace)? {
         Some(number) => writeln!(
             errors,
-            "{}:{number}: no line of the trace of one controller, as run prints it without --words",
-            Escaped(path)
+            "{path}:{number}: the site's book gives another reply to this event"
         )?,
         None => writeln!(
             errors,
-            "{}: no attempt that is undone opens in line {line}, or a reply isn't the book's",
-            Escaped(path)
+            "{path}: no attempt that is undone later opens in line {line}"
         )?,
     }
     Ok(())
@@ -310,7 +379,7 @@ pub fn rewind_files<R: Files + AllocGlobal, W: Write, E: Write>(
     };
     let status = rewind_run(alloc, alloc, &site_text, &trace_text, line, out)?;
     if status == Status::Refused && !say_reason(alloc, site, &site_text, errors)? {
-        say_unwound(trace, &trace_text, line, errors)?;
+        say_unwound(alloc, &site_text, trace, &trace_text, line, errors)?;
     }
     Ok(status)
 }

@@ -19,6 +19,7 @@ mod heard;
 pub mod noting;
 pub mod program;
 pub mod recorded;
+mod refused_words;
 pub mod rewound;
 pub mod run;
 mod run_reason;

@@ -7,7 +7,6 @@ use crate::run::{LabFault, Status};
 use crate::script_files::{record_file, test_files};
 use crate::words::{Job, WordsFault, read_words};
 use decoded_lines::answer_file;
-use escaped_text::Escaped;
 use explain_command::explain;
 use explanations::Question;
 use std::alloc::Global;
@@ -27,11 +26,9 @@ fn explain_number<W: Write, E: Write>(
     }
 }
 
-/// Says why the words of a command line are refused. What a word has of control characters is escaped.
-fn refuse_words<E: Write>(text: &str, errors: &mut E) -> Result<Status, LabFault> {
-    for line in text.lines() {
-        writeln!(errors, "{}", Escaped(line))?;
-    }
+/// Says why the words of a command line are refused.
+fn refuse_words<E: Write>(reason: &str, errors: &mut E) -> Result<Status, LabFault> {
+    writeln!(errors, "{reason}")?;
     Ok(Status::Refused)
 }
 
@@ -98,7 +95,7 @@ pub fn perform<R: Files + AllocGlobal, I: Read + Drop, W: Write, E: Write>(
             write!(out, "{text}")?;
             Ok(Status::Done)
         }
-        Err(WordsFault::Refused(text)) => refuse_words(&text, errors),
+        Err(WordsFault::Refused(reason)) => refuse_words(&reason, errors),
         Err(WordsFault::NoMemory) => Err(LabFault::NoMemory),
     }
 }

@@ -18,40 +18,47 @@ use std::io::{self, Write};
 struct Recorder<'a, W: Write, A: Allocator + Copy> {
     alloc: A,
     out: &'a mut W,
-    /// The lines as they are, each with the carriage return that may end it, without what stands behind the last line
-    /// feed where that is nothing.
+    /// What stands before, between and behind the line feeds, each with the carriage return that may end it.
     lines: &'a [&'a str],
     place: usize,
     /// What ends the line that gave something last.
     ending: &'static str,
 }
 
-/// The lines of a script as they are, without what stands behind the last line feed where that is nothing.
+/// What stands in a script before, between and behind its line feeds.
 fn whole_lines<A: Allocator>(alloc: A, script: &str) -> Result<Vec<&str, A>, LabFault> {
     let mut lines = Vec::new(alloc);
     for line in script.split('\n') {
         lines.push(line).map_err(AllocError::from)?;
     }
-    if script.is_empty() || script.ends_with('\n') {
-        lines.pop();
-    }
     Ok(lines)
 }
 
 impl<W: Write, A: Allocator + Copy> Recorder<'_, W, A> {
+    /// Prints a line that gives nothing, the one before the place, unless it expects something. The script's last line has
+    /// no line feed behind it.
+    fn print_passed(&mut self, line: &str) -> io::Result<()> {
+        if expected_in(without_return(line)).is_some() {
+            return Ok(());
+        }
+        write!(self.out, "{line}")?;
+        if self.place < self.lines.len() {
+            writeln!(self.out)?;
+        }
+        Ok(())
+    }
+
     /// Prints the lines from the place on, up to and with the next that gives something, without those that expect
     /// something.
     fn print_part(&mut self) -> io::Result<()> {
         for line in self.lines.get(self.place..).unwrap_or(&[]) {
             self.place = self.place.saturating_add(1);
-            let text = without_return(*line);
-            if expected_in(text).is_none() {
-                writeln!(self.out, "{line}")?;
-            }
-            if is_script_line(text) {
+            if is_script_line(without_return(*line)) {
                 self.ending = ending_of(*line);
-                return Ok(());
+                // comments follow: at least the trace's end
+                return writeln!(self.out, "{line}");
             }
+            self.print_passed(*line)?;
         }
         Ok(())
     }
@@ -109,8 +116,9 @@ fn record_script<A: Allocator + Copy, W: Write>(
 
 /// Prints a script with what comes of each of its lines over a site, or over two where a peer's is given, all given as
 /// texts: behind each line that gives something stand the trace lines of that, as comments that expect them, and behind
-/// the last one the trace's end, too. Comments that the script has of what is expected are left out; all else stays.
-/// The answer is `Done` then. A site and a script are refused as by a run (`Refused`).
+/// the last one the trace's end, too. Comments that the script has of what is expected are left out; all else stays, also
+/// how each line ends: the last one gets a line feed, where it has none, if comments follow. The answer is `Done` then.
+/// A site and a script are refused as by a run (`Refused`).
 ///
 /// `scratch` serves while the sites are read, `alloc` for all else. Once memory was refused (`NoMemory`), or `out`
 /// can't be written to (`Write`), nothing more is printed.

@@ -8,7 +8,7 @@ ghost use Rattle.lab.specs.Rewound.{AreSameReplies, IsSame, StandsIn, LeavesATra
 
 use crate::entries::{Entry, entries_of, first_other, first_unread};
 use crate::run::{LabFault, Status, refuse_site};
-use cell_table::Site;
+use cell_table::{Site, SiteFault};
 use radio_book::book::Book;
 use radio_book::event::{Event, Reply};
 use radio_book::rewind::{RewindFault, Rewound, rewind};
@@ -161,6 +161,34 @@ fn first_foreign<A: Allocator + Copy>(
 ) -> Result<Option<usize>, AllocError> {
     let (_, replies) = run(alloc, book, events)?;
     first_other(alloc, trace, entries, &replies)
+}
+
+/// The same of a trace whose lines can be read.
+fn foreign_in<A: Allocator + Copy>(
+    alloc: A,
+    book: &Book<A>,
+    trace: &str,
+) -> Result<Option<usize>, AllocError> {
+    let entries = entries_of(alloc, trace)?;
+    let events = events_of(alloc, &entries)?;
+    first_foreign(alloc, book, trace, &entries, &events)
+}
+
+/// The number of the first line of a trace whose event has another reply than the empty book of a site gives, counted from
+/// 1; nothing where each has the book's. The lines of the trace can be read, and the text describes a site.
+pub(crate) fn foreign_line(
+    alloc: Global,
+    site: &str,
+    trace: &str,
+) -> Result<Option<usize>, LabFault> {
+    let site = match Site::read(alloc, alloc, site) {
+        Ok(site) => site,
+        Err(SiteFault::NoMemory) => return Err(LabFault::NoMemory),
+        Err(_) => return Ok(None),
+    };
+    let site = Arc::new(alloc, site).map_err(AllocError::from)?;
+    let book = Book::new(alloc, site)?;
+    Ok(foreign_in(alloc, &book, trace)?)
 }
 
 /// Takes an attempt out of a trace whose lines can be read.

@@ -497,8 +497,10 @@ fn say_key<W: Write>(
     say_range(&found, key, errors)
 }
 
-/// The line and the column, both counted from 1, of what stands behind this front of a text. A column counts characters.
+/// The line and the column, both counted from 1, of what stands behind this front of a text. A column counts characters; a
+/// byte order mark, which an editor doesn't show, is none.
 fn place_behind(front: &str) -> (usize, usize) {
+    let front = front.strip_prefix('\u{feff}').unwrap_or(front);
     let line = match front.rsplit_once('\n') {
         Some((_, line)) => line,
         None => front,

@@ -1,6 +1,7 @@
 //! The words of the command line.
 ghost use Rattle.std.specs.Prelude.{◌≡◌};
 
+use crate::refused_words::refused_line;
 use crate::script_words::{record_command, script_paths, site_paths, test_command};
 use crate::site_files::SitePaths;
 use clap::error::ErrorKind;
@@ -67,7 +68,8 @@ pub enum Job<'a> {
 /// Why the words ask for nothing.
 #[derive(Debug, Drop)]
 pub enum WordsFault {
-    /// The words are wrong, as this text for standard error says.
+    /// The words are wrong, as this line for standard error says: which of them, and what is allowed. It has no control
+    /// characters, and no end of a line.
     Refused(String),
     /// Memory was refused.
     NoMemory,
@@ -197,13 +199,20 @@ fn line_argument<'a>(alloc: Global) -> Arg<'a> {
 
 /// `decode LINK HEX`, `decode LINK --from FILE` or `decode --from FILE`
 fn decode_command<'a>(alloc: Global) -> Result<Command<'a>, AllocError> {
-    Command::new(alloc, "decode")
+    let command = Command::new(alloc, "decode")
         .about("Prints a message in words, as in: decode abis 082e010b")
-        .after_help(DECODE_HELP)
-        .arg(link_argument(alloc)?)?
-        .arg(hex_argument(alloc)?)?
-        .arg(from_argument(alloc))?
-        .arg(all_argument(alloc)?)
+        .after_help(DECODE_HELP);
+    let command = with_argument(command, link_argument(alloc))?;
+    let command = with_argument(command, hex_argument(alloc))?.arg(from_argument(alloc))?;
+    with_argument(command, all_argument(alloc))
+}
+
+/// A command with one more argument.
+fn with_argument<'a>(
+    command: Command<'a>,
+    argument: Result<Arg<'a>, AllocError>,
+) -> Result<Command<'a>, AllocError> {
+    command.arg(argument?)
 }
 
 /// What stands behind the help of `decode`.
@@ -307,22 +316,45 @@ fn encode_job<'a>(encode: &ArgMatches<'a>) -> Option<Job<'a>> {
     })
 }
 
-/// The whole command line.
-fn lab_command<'a>(alloc: Global) -> Result<Command<'a>, AllocError> {
-    Command::new(alloc, "bsc_lab")
+/// A command with one more below it. (Here alone a command waits for another: where many do in one chain, each would be
+/// dropped at each `?` behind it, which is dear to prove.)
+fn with<'a>(
+    command: Command<'a>,
+    below: Result<Command<'a>, AllocError>,
+) -> Result<Command<'a>, AllocError> {
+    command.subcommand(below?)
+}
+
+/// The command line without its commands.
+fn bare_command<'a>(alloc: Global) -> Result<Command<'a>, AllocError> {
+    let command = Command::new(alloc, "bsc_lab")
         .version("0.1")
         .about("A laboratory of a GSM base station controller")
         .no_binary_name(true)
-        .bin_name("bsc_lab")?
-        .subcommand_required(true)
-        .subcommand(run_command(alloc)?)?
-        .subcommand(test_command(alloc)?)?
-        .subcommand(record_command(alloc)?)?
-        .subcommand(rewind_command(alloc)?)?
-        .subcommand(check_command(alloc)?)?
-        .subcommand(decode_command(alloc)?)?
-        .subcommand(encode_command(alloc)?)?
-        .subcommand(explain_command(alloc)?)
+        .subcommand_required(true);
+    command.bin_name("bsc_lab")
+}
+
+/// The commands of scripts and of their traces.
+fn with_scripts<'a>(alloc: Global, command: Command<'a>) -> Result<Command<'a>, AllocError> {
+    let command = with(command, run_command(alloc))?;
+    let command = with(command, test_command(alloc))?;
+    let command = with(command, record_command(alloc))?;
+    with(command, rewind_command(alloc))
+}
+
+/// The commands of sites, messages and numbers.
+fn with_texts<'a>(alloc: Global, command: Command<'a>) -> Result<Command<'a>, AllocError> {
+    let command = with(command, check_command(alloc))?;
+    let command = with(command, decode_command(alloc))?;
+    let command = with(command, encode_command(alloc))?;
+    with(command, explain_command(alloc))
+}
+
+/// The whole command line.
+pub(crate) fn lab_command<'a>(alloc: Global) -> Result<Command<'a>, AllocError> {
+    let command = with_scripts(alloc, bare_command(alloc)?)?;
+    with_texts(alloc, command)
 }
 
 /// The job of `decode`.
@@ -390,26 +422,29 @@ fn any_job_of<'a>(alloc: Global, matches: &ArgMatches<'a>) -> Result<Option<Job<
 }
 
 /// What words that weren't matched come to.
-fn unmatched<'a>(alloc: Global, error: Error) -> Result<Job<'a>, WordsFault> {
+fn unmatched<'a>(alloc: Global, words: &[&str], error: Error) -> Result<Job<'a>, WordsFault> {
     match error.kind() {
         ErrorKind::DisplayHelp | ErrorKind::DisplayVersion => Ok(Job::Show(error.to_string(
             alloc,
         )?)),
         ErrorKind::OutOfMemory => Err(WordsFault::NoMemory),
-        _ => Err(WordsFault::Refused(error.to_string(alloc)?)),
+        _ => Err(WordsFault::Refused(refused_line(alloc, words)?)),
     }
 }
 
 /// Reads the words of a command line, those after the program's own name. A command that is named gives its job, a
-/// wish for help or for the version the text to be shown; all other words are refused by a text for standard error.
+/// wish for help or for the version the text to be shown; all other words are refused by a line for standard error.
 ///
 /// No clause says which words are which: that is shown by tests.
 pub fn read_words<'a>(alloc: Global, words: &'a [&'a str]) -> Result<Job<'a>, WordsFault> {
     match lab_command(alloc)?.try_get_matches_from(words) {
         Ok(matches) => match any_job_of(alloc, &matches)? {
             Some(job) => Ok(job),
-            None => Err(WordsFault::Refused(String::new(alloc))),
+            None => Err(WordsFault::Refused(String::from_str(
+                alloc,
+                "error: the words ask for nothing",
+            )?)),
         },
-        Err(error) => unmatched(alloc, error),
+        Err(error) => unmatched(alloc, words, error),
     }
 }

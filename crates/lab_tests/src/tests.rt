@@ -19,6 +19,7 @@ mod simulated;
 mod tested;
 mod traces;
 mod unread;
+mod unwound;
 mod unwritten;
 mod viewed;
 mod viewed_pair;

@@ -188,14 +188,15 @@ const LINES: &[(&[&str], u8, &str, &str)] = &[
         "/dev/null: handover is missing: it has to be a table\n",
     ),
     (&["--version"], 0, "bsc_lab 0.1\n", ""),
-    (&["runn"], 2, "", "runn"),
-    (&["\u{1b}[31m"], 2, "", "\\u{1b}[31m"),
+    (&["runn"], 2, "", "'runn'"),
+    (&["\u{1b}[31m"], 2, "", "'\\u{1b}[31m'"),
     (&[], 2, "", "subcommand"),
 ];
 
-/// What is said of an error has this part, and is nothing where the part is.
+/// What is said of an error is one line with this part, and nothing where the part is.
 fn says(rt: &impl Abort, errors: &str, part: &str) {
-    let said = errors.contains(part) && errors.is_empty() == part.is_empty();
+    let lines = if part.is_empty() { 0 } else { 1 };
+    let said = errors.contains(part) && errors.lines().count() == lines;
     assert!(rt; said, "{part}: {errors}");
 }
 

@@ -239,6 +239,17 @@ fn says(
     Ok(())
 }
 
+/// Texts that are no TOML, and the line and column where that shows: a byte order mark is passed over.
+const NO_TOML: &[(&str, &str)] = &[
+    ("a = 1\nb = [", "2:6"),
+    ("\u{feff}b = [", "1:6"),
+    ("\u{feff}a = 1\nb = [", "2:6"),
+];
+
+/// What is awaited there.
+const AWAITED: &str =
+    "invalid value, expected a string, number, boolean, date-time, array or inline table";
+
 #[test]
 fn a_refused_site_is_explained_in_one_line(rt: HostRuntime) -> Result<(), Fail> {
     for (old, new, printed, line) in REASONS {
@@ -246,12 +257,10 @@ fn a_refused_site_is_explained_in_one_line(rt: HostRuntime) -> Result<(), Fail> 
         let said = format!(in rt.alloc(); "refused.toml: {line}\n")?;
         says(&rt, &site.expect(&rt, *old), *printed, &said)?;
     }
-    says(
-        &rt,
-        "a = 1\nb = [",
-        "site 1\n",
-        "refused.toml:2:6: invalid value, expected a string, number, boolean, date-time, array or inline table\n",
-    )?;
+    for (site, place) in NO_TOML {
+        let said = format!(in rt.alloc(); "refused.toml:{place}: {AWAITED}\n")?;
+        says(&rt, *site, "site 1\n", &said)?;
+    }
     fs::remove_file(&rt, REFUSED_FILE)?;
     Ok(())
 }

@@ -173,6 +173,49 @@ fn a_script_is_recorded(rt: HostRuntime) -> Result<(), Fail> {
     Ok(())
 }
 
+/// Scripts, each with another last line, and their records: how a line ends stays as it is, but that comments which follow
+/// begin a line.
+const LAST_LINES: &[(&str, &str)] = &[
+    ("", "#> end channels=0 calls=0 references=0 timers=0\n"),
+    (
+        "# note",
+        "#> end channels=0 calls=0 references=0 timers=0\n# note",
+    ),
+    (
+        "# note\r\n\t",
+        "#> end channels=0 calls=0 references=0 timers=0\n# note\r\n\t",
+    ),
+    (
+        "sim\n\n",
+        "sim\n#> end channels=0 calls=0 references=0 timers=0\n\n",
+    ),
+    (
+        "sim",
+        "sim\n#> end channels=0 calls=0 references=0 timers=0\n",
+    ),
+    (
+        "sim\r",
+        "sim\r\n#> end channels=0 calls=0 references=0 timers=0\r\n",
+    ),
+    (
+        "sim\n# note\r",
+        "sim\n#> end channels=0 calls=0 references=0 timers=0\n# note\r",
+    ),
+    (
+        "sim\n# note\n#> old",
+        "sim\n#> end channels=0 calls=0 references=0 timers=0\n# note\n",
+    ),
+];
+
+#[test]
+fn each_line_ends_as_it_did(rt: HostRuntime) -> Result<(), Fail> {
+    for (script, record) in LAST_LINES {
+        let (status, text) = recorded(rt.alloc(), rt.alloc(), None, *script)?;
+        assert_eq!(rt; (status, text.as_str()), (Ok(Status::Done), *record));
+    }
+    Ok(())
+}
+
 /// Scripts over one site, how their tests end, and what is printed.
 const TESTS: &[(&str, Status, &str)] = &[
     // nothing is looked at

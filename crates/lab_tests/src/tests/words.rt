@@ -309,63 +309,143 @@ const SHOWS: &[(&[&str], &str)] = &[
     (&["-V"], "bsc_lab 0."),
 ];
 
-/// Words that are refused, and what names the mistake.
-const REFUSALS: &[(&[&str], &str)] = &[
-    (&[], "subcommand"),
-    (&["run"], "were not provided:\n  <SITE>\n  <SCRIPT>\n"),
-    (&["run", "a.toml"], "were not provided:\n  <SCRIPT>\n"),
-    (&["run", "a.toml", "b.txt", "c.txt"], "c.txt"),
-    (&["runn", "a.toml", "b.txt"], "runn"),
-    (&["--verbose"], "--verbose"),
-    (&["run", "a.toml", "b.txt", "--peer"], "--peer"),
+/// The commands, as a line for standard error lists them.
+const COMMANDS: &str = "run, test, record, rewind, check, decode, encode, explain";
+
+/// The options of `run`, as such a line lists them.
+const OPTIONS: &str = "--peer, --words, --state, --pcap, --chart";
+
+/// Words that are refused, what names the mistake in the line that says so, and what says there what is allowed.
+const REFUSALS: &[(&[&str], &str, &str)] = &[
+    (&[], "subcommand", COMMANDS),
+    (&["run"], "not provided: <SITE> <SCRIPT>", "bsc_lab run "),
+    (&["run", "a.toml"], "not provided: <SCRIPT>", "bsc_lab run "),
+    (&["run", "a.toml", "b.txt", "c.txt"], "'c.txt'", OPTIONS),
+    (&["runn", "a.toml", "b.txt"], "'runn'", COMMANDS),
+    (&["--verbose"], "'--verbose'", COMMANDS),
+    (&["run", "a", "b", "--quiet"], "'--quiet'", OPTIONS),
+    (
+        &["run", "a.toml", "b.txt", "--peer"],
+        "'--peer <SITE>'",
+        "<SITE>",
+    ),
     (
         &[
             "run", "a.toml", "b.txt", "--peer", "c.toml", "--peer", "d.toml",
         ],
-        "--peer",
+        "'--peer <SITE>'",
+        "bsc_lab run ",
     ),
-    (&["rewind", "a", "b", "1", "--peer", "c.toml"], "--peer"),
-    (&["run", "a", "b", "--pcap"], "--pcap"),
-    (&["rewind", "a", "b", "1", "--words"], "--words"),
-    (&["check"], "were not provided:\n  <SITE>\n"),
-    (&["check", "a.toml", "b.toml"], "b.toml"),
-    (&["explain"], "subcommand"),
-    (&["explain", "refused"], "were not provided:\n  <N>\n"),
-    (&["explain", "refused", "256"], "'256'"),
-    (&["explain", "cause", "A", "33"], "'A'"),
-    (&["explain", "fault", "abis", "5", "1", "2"], "'2'"),
-    (&["encode"], "were not provided:\n  <LINK>\n  <TEXT>\n"),
-    (&["encode", "rr"], "were not provided:\n  <TEXT>\n"),
-    (&["encode", "b", "CLEAR COMPLETE"], "'b'"),
-    (&["encode", "a", "CLEAR", "COMPLETE"], "COMPLETE"),
-    (&["decode"], "were not provided:\n  <LINK>\n  <HEX>\n"),
-    (&["decode", "rr"], "were not provided:\n  <HEX>\n"),
-    (&["decode", "A", "00"], "'A'"),
-    (&["decode", "RR", "062c00"], "'RR'"),
-    (&["decode", "", "062c00"], "'[LINK]' but none was supplied"),
-    (&["decode", "rr", "06", "2c00"], "2c00"),
-    (&["decode", "rr", "-0"], "'-0'"),
     (
-        &["decode", "--from"],
-        "'--from <FILE>' but none was supplied",
+        &["rewind", "a", "b", "1", "--peer", "c.toml"],
+        "'--peer'",
+        "bsc_lab rewind <SITE> <TRACE> <LINE>",
     ),
-    (&["decode", "rr", "06", "--from", "-"], "--from <FILE>"),
-    (&["decode", "x", "--from", "-"], "'x'"),
-    (&["decode", "rr", "06", "--all"], "--all"),
-    (&["decode", "rr", "--all"], "--from <FILE>"),
-    (&["decode", "--from", "a", "--from", "b"], "--from <FILE>"),
+    (&["run", "a", "b", "--pcap"], "'--pcap <FILE>'", "<FILE>"),
+    (
+        &["rewind", "a", "b", "1", "--words"],
+        "'--words'",
+        "bsc_lab rewind <SITE> <TRACE> <LINE>",
+    ),
+    (&["check"], "not provided: <SITE>", "bsc_lab check <SITE>"),
+    (
+        &["check", "a.toml", "b.toml"],
+        "'b.toml'",
+        "bsc_lab check <SITE>",
+    ),
+    (&["explain"], "subcommand", "refused, cause, fault"),
+    (&["explain", "it"], "'it'", "refused, cause, fault"),
+    (
+        &["explain", "refused"],
+        "not provided: <N>",
+        "bsc_lab explain refused <N>",
+    ),
+    (&["explain", "refused", "256"], "'256'", "0..=255"),
+    (&["explain", "cause", "A", "33"], "'A'", "rr, a, abis"),
+    (
+        &["explain", "fault", "abis", "5", "1", "2"],
+        "'2'",
+        "bsc_lab explain fault <LINK> <N> [ARGUMENT]",
+    ),
+    (
+        &["encode"],
+        "not provided: <LINK> <TEXT>",
+        "bsc_lab encode <LINK> <TEXT>",
+    ),
+    (
+        &["encode", "rr"],
+        "not provided: <TEXT>",
+        "bsc_lab encode <LINK> <TEXT>",
+    ),
+    (&["encode", "b", "CLEAR COMPLETE"], "'b'", "rr, a, abis"),
+    (
+        &["encode", "a", "CLEAR", "COMPLETE"],
+        "'COMPLETE'",
+        "bsc_lab encode <LINK> <TEXT>",
+    ),
+    (&["decode"], "not provided: <LINK> <HEX>", "bsc_lab decode "),
+    (&["decode", "rr"], "not provided: <HEX>", "bsc_lab decode "),
+    (&["decode", "A", "00"], "'A'", "rr, a, abis"),
+    (&["decode", "RR", "062c00"], "'RR'", "rr, a, abis"),
+    (&["decode", "", "062c00"], "'[LINK]'", "rr, a, abis"),
+    (&["decode", "rr", "06", "2c00"], "'2c00'", "bsc_lab decode "),
+    (&["decode", "rr", "-0"], "'-0'", "bsc_lab decode "),
+    (&["decode", "--from"], "'--from <FILE>'", "<FILE>"),
+    (
+        &["decode", "rr", "06", "--from", "-"],
+        "--from <FILE>",
+        "bsc_lab decode ",
+    ),
+    (&["decode", "x", "--from", "-"], "'x'", "rr, a, abis"),
+    (&["decode", "rr", "06", "--all"], "--all", "bsc_lab decode "),
+    (
+        &["decode", "rr", "--all"],
+        "not provided: --from <FILE>",
+        "bsc_lab decode ",
+    ),
+    (
+        &["decode", "--from", "a", "--from", "b"],
+        "'--from <FILE>'",
+        "bsc_lab decode ",
+    ),
     (
         &["rewind"],
-        "were not provided:\n  <SITE>\n  <TRACE>\n  <LINE>\n",
+        "not provided: <SITE> <TRACE> <LINE>",
+        "bsc_lab rewind <SITE> <TRACE> <LINE>",
     ),
-    (&["rewind", "a", "b"], "were not provided:\n  <LINE>\n"),
-    (&["rewind", "a", "b", "0"], "'0'"),
-    (&["rewind", "a", "b", "-1"], "'-1'"),
-    (&["rewind", "a", "b", "two"], "'two'"),
-    (&["rewind", "a", "b", "1", "2"], "'2'"),
+    (
+        &["rewind", "a", "b"],
+        "not provided: <LINE>",
+        "bsc_lab rewind <SITE> <TRACE> <LINE>",
+    ),
+    (&["rewind", "a", "b", "0"], "'0'", "1..18446744073709551615"),
+    (
+        &["rewind", "a", "b", "-1"],
+        "'-1'",
+        "bsc_lab rewind <SITE> <TRACE> <LINE>",
+    ),
+    (&["rewind", "a", "b", "two"], "'two'", "'<LINE>'"),
+    (
+        &["rewind", "a", "b", "1", "2"],
+        "'2'",
+        "bsc_lab rewind <SITE> <TRACE> <LINE>",
+    ),
     (
         &["rewind", "a", "b", "18446744073709551616"],
         "'18446744073709551616'",
+        "'<LINE>'",
+    ),
+    // a word's own ends of lines, blanks and control characters
+    (&["ru\n\nn"], "'ru\\n\\nn'", COMMANDS),
+    (
+        &["decode", "r\n  tip: r\u{1b}", "00"],
+        "'r\\n  tip: r\\u{1b}'",
+        "rr, a, abis",
+    ),
+    (
+        &["check", "a.toml", "\n\nUsage: \r"],
+        "'\\n\\nUsage: \\r'",
+        "bsc_lab check <SITE>",
     ),
 ];
 
@@ -376,35 +456,45 @@ enum Answer {
     Refused,
 }
 
-/// These words are answered so, by a text with this part.
+/// These words are answered so, by a text with these parts: where they are refused, in one line.
 fn are_answered<'a>(
     rt: &impl Abort,
     alloc: Global,
     words: &'a [&'a str],
     wanted: Answer,
-    part: &str,
+    parts: (&str, &str),
 ) {
     let (answer, text) = match read_words(alloc, words) {
         Ok(Job::Show(text)) => (Answer::Shown, text),
         Err(WordsFault::Refused(text)) => (Answer::Refused, text),
         _ => {
-            assert!(rt; false, "{part}: a text");
+            assert!(rt; false, "{}: a text", parts.0);
             return;
         }
     };
-    assert_eq!(rt; answer, wanted, "{part}");
-    assert!(rt; text.contains(part), "{part}: {text}");
-    // a terminal shows so many columns
-    let is_narrow = text.lines().all(|line| line.chars().count() <= 100);
-    assert!(rt; is_narrow || wanted == Answer::Refused, "{text}");
+    assert_eq!(rt; answer, wanted, "{}", parts.0);
+    let has_parts = text.contains(parts.0) && text.contains(parts.1);
+    assert!(rt; has_parts, "{}, {}: {text}", parts.0, parts.1);
+    let is_fit = match wanted {
+        // a terminal shows so many columns
+        Answer::Shown => text.lines().all(|line| line.chars().count() <= 100),
+        Answer::Refused => !text.contains(char::is_control),
+    };
+    assert!(rt; is_fit, "{text}");
 }
 
 #[test]
 fn help_and_version_are_shown_and_other_words_refused(rt: HostRuntime) {
     for (words, part) in SHOWS {
-        are_answered(&rt, rt.alloc(), *words, Answer::Shown, *part);
+        are_answered(&rt, rt.alloc(), *words, Answer::Shown, (*part, ""));
     }
-    for (words, mistake) in REFUSALS {
-        are_answered(&rt, rt.alloc(), *words, Answer::Refused, *mistake);
+    for (words, mistake, allowed) in REFUSALS {
+        are_answered(
+            &rt,
+            rt.alloc(),
+            *words,
+            Answer::Refused,
+            (*mistake, *allowed),
+        );
     }
 }

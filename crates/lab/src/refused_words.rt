@@ -1,0 +1,120 @@
+//! Words that are refused, in one line for a person: which of them is wrong, and what is allowed.
+//!
+//! No clause says what the line holds: that is shown by tests.
+use crate::words::lab_command;
+use clap::error::ErrorKind;
+use clap::{Command, Error};
+use escaped_text::Escaped;
+use std::alloc::{AllocError, Global};
+
+/// The words with their control characters escaped.
+fn shown_words(alloc: Global, words: &[&str]) -> Result<Vec<String>, AllocError> {
+    let mut shown = Vec::new(alloc);
+    for word in words {
+        shown.push(Escaped(*word).to_string(alloc)?)?;
+    }
+    Ok(shown)
+}
+
+/// The lines of `clap`'s text in one: its paragraphs, which empty lines separate, without the last, which names `--help`.
+fn in_one_line(alloc: Global, text: &str) -> Result<String, AllocError> {
+    let mut line = String::new(alloc);
+    let mut joint = "";
+    for part in text.lines() {
+        if part.starts_with("For more information") {
+            break;
+        }
+        if part.is_empty() {
+            joint = "; ";
+        } else {
+            line.push_str(joint)?;
+            line.push_str(part.trim())?;
+            joint = " ";
+        }
+    }
+    Ok(line)
+}
+
+/// The command that words are for: the one that the first of them names, or else the whole.
+fn named<'c, 'a>(command: &'c Command<'a>, words: &[String]) -> &'c Command<'a> {
+    match words.first() {
+        Some(word) => command.find_subcommand(word).unwrap_or(command),
+        None => command,
+    }
+}
+
+/// Adds which words may stand for the COMMAND of a usage.
+fn push_commands(line: &mut String, command: &Command<'_>) -> Result<(), AllocError> {
+    let mut joint = "; COMMAND is ";
+    for subcommand in command.get_subcommands() {
+        line.push_str(joint)?;
+        line.push_str(subcommand.get_name())?;
+        joint = ", ";
+    }
+    Ok(())
+}
+
+/// Adds which words may stand for the OPTIONS of a usage.
+fn push_options(line: &mut String, command: &Command<'_>) -> Result<(), AllocError> {
+    let mut joint = "; OPTIONS are ";
+    for argument in command.get_arguments() {
+        if let Some(long) = argument.get_long() {
+            write!(line, "{joint}--{long}")?;
+            joint = ", ";
+        }
+    }
+    Ok(())
+}
+
+/// Why words were refused, in one line: what `clap` says, and what its usage leaves open.
+fn line_of(
+    alloc: Global,
+    command: &Command<'_>,
+    words: &[String],
+    error: &Error,
+) -> Result<String, AllocError> {
+    let text = error.to_string(alloc)?;
+    let mut line = in_one_line(alloc, &text)?;
+    let command = named(command, words);
+    let kind = error.kind();
+    // where a command is missing, clap lists them itself
+    if line.contains("<COMMAND>") && kind != ErrorKind::MissingSubcommand {
+        push_commands(&mut line, command)?;
+    }
+    if line.contains("[OPTIONS]") || kind == ErrorKind::UnknownArgument {
+        push_options(&mut line, command)?;
+    }
+    Ok(line)
+}
+
+/// What `clap` says of words that a command doesn't match; nothing where it does.
+fn fault_of<'a>(command: &mut Command<'a>, words: &'a [String]) -> Option<Error> {
+    match command.try_get_matches_from_mut(words) {
+        Ok(_matches) => None,
+        Err(error) => Some(error),
+    }
+}
+
+/// Why words are refused that a command doesn't match.
+fn refusal<'a>(
+    alloc: Global,
+    command: &mut Command<'a>,
+    words: &'a [String],
+) -> Result<String, AllocError> {
+    let Some(error) = fault_of(command, words) else {
+        // with its escapes a word is refused where it is without
+        return String::from_str(alloc, "error: a word has a control character");
+    };
+    match error.kind() {
+        ErrorKind::OutOfMemory => Err(AllocError),
+        _ => line_of(alloc, command, words, &error),
+    }
+}
+
+/// Why the words of a command line are refused, in one line without its end. What a word has of control characters is
+/// escaped before `clap` reads it, so that no line feed of a word is taken for one of `clap`'s text.
+pub(crate) fn refused_line(alloc: Global, words: &[&str]) -> Result<String, AllocError> {
+    let shown = shown_words(alloc, words)?;
+    let mut command = lab_command(alloc)?;
+    refusal(alloc, &mut command, &shown)
+}

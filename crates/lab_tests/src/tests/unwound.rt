@@ -1,0 +1,76 @@
+//! Why nothing is taken out of a trace, for a person.
+use super::SITE;
+use lab::files::rewind_files;
+use lab::run::Status;
+use std::process::Abort;
+use std::rt::Files;
+use std::test::Fail;
+use std::{fs, str};
+
+/// A trace out of which nothing is taken, a line, what is printed, and what is said behind the trace's file.
+const UNWOUND: &[(&str, usize, &str, &str)] = &[
+    (
+        "event look 1 -> done\nevent look 01 -> done",
+        1,
+        "line 2\n",
+        ":2: no line of the trace of one controller, as run prints it without --words\n",
+    ),
+    // another reply than the book's
+    (
+        "event look 1 -> done\n",
+        1,
+        "line 1\n",
+        ":1: the site's book gives another reply to this event\n",
+    ),
+    (
+        "in clear 1\nevent look 1 -> refused 1\r\nevent look 1 -> done\nevent look 1 -> done\n",
+        2,
+        "line 3\n",
+        ":3: the site's book gives another reply to this event\n",
+    ),
+    (
+        "event look 1 -> refused 1\n",
+        1,
+        "no attempt\n",
+        ": no attempt that is undone later opens in line 1\n",
+    ),
+];
+
+/// The files of the site and of the trace, in the folder that the test runs in, and how the trace's is named.
+const SITE_FILE: &str = "unwound.toml";
+
+const TRACE_FILE: &str = "unwound\t.trace";
+
+const SHOWN_FILE: &str = "unwound\\t.trace";
+
+/// Asserts that nothing is taken out of a trace, what is printed, and what is said.
+fn says(
+    rt: &(impl Files + AllocGlobal + Abort),
+    trace: &str,
+    line: usize,
+    printed: &str,
+    said: &str,
+) -> Result<(), Fail> {
+    fs::write(rt, TRACE_FILE, trace)?;
+    let mut out = Vec::new(rt.alloc());
+    let mut errors = Vec::new(rt.alloc());
+    let ended = rewind_files(rt, SITE_FILE, TRACE_FILE, line, &mut out, &mut errors);
+    assert_eq!(rt;
+        (ended, str::from_utf8(&out)?),
+        (Ok(Status::Refused), printed)
+    );
+    let wanted = format!(in rt.alloc(); "{SHOWN_FILE}{said}")?;
+    assert_eq!(rt; str::from_utf8(&errors)?, wanted.as_str());
+    Ok(())
+}
+
+#[test]
+fn the_line_that_is_refused_is_named(rt: HostRuntime) -> Result<(), Fail> {
+    fs::write(&rt, SITE_FILE, SITE)?;
+    for (trace, line, printed, said) in UNWOUND {
+        says(&rt, *trace, *line, *printed, *said)?;
+    }
+    fs::remove_file(&rt, TRACE_FILE)?;
+    fs::remove_file(&rt, SITE_FILE)?;
+    Ok(())
+}
