@@ -1,7 +1,7 @@
 -- The message on A that a text says (TS 48.008 clause 3.2.1), or the first thing that is wrong with the text: its name; a word
 -- that is no field of the message; then each field, in the order in which it stands here. A text is the list of its bytes;
 -- the words are ours, of no standard.
-use Rattle.std.specs.Prelude.{◌≡◌, ◌⊎◌, ℕ, if◌then◌else◌, List, [], ◌∷◌, codes, Option, Some, None, option_map, option_and_then, Ok, Err, IsOkAnd, bytes_eq}
+use Rattle.std.specs.Prelude.{◌≡◌, ◌⊎◌, ℕ, if◌then◌else◌, List, [], ◌∷◌, codes, Option, Some, option_map, option_and_then, Ok, Err, IsOkAnd, bytes_eq}
 use Rattle.message_fields.specs.declared.fault.Allowed.TheVariants as may
 use Rattle.message_fields.specs.Faults.{Read as FieldRead, ◌>>=◌, ◌>>◌, read_map}
 use Rattle.message_fields.specs.Words.{parts_of}
@@ -19,7 +19,7 @@ use Rattle.encoded_messages.specs.Faults.{Fault, Name, TooLong, Read, in_fields}
 abbrev pub cell_of : List ℕ → Option CellId
 cell_of text = option_map (λ cell. record { lac = Some cell.0; ci = cell.1 }) (value.cell_of text)
 
-abbrev pub cell_at : List ℕ → List ℕ → FieldRead CellId
+unfoldable pub cell_at : List ℕ → List ℕ → FieldRead CellId
 cell_at key fields = field_at may.Cell cell_of key fields
 
 -- the cells of all parts
@@ -27,7 +27,7 @@ abbrev pub cells_of : List (List ℕ) → Option (List CellId)
 cells_of [] = Some []
 cells_of (part ∷ parts) = option_and_then (λ cell. option_map (λ cells. cell ∷ cells) (cells_of parts)) (cell_of part)
 
-abbrev pub cells_at : List ℕ → FieldRead (List CellId)
+unfoldable pub cells_at : List ℕ → FieldRead (List CellId)
 cells_at fields = field_at may.Cells (λ value. cells_of (parts_of value)) (codes "cells") fields
 
 -- of type 1 where it is one octet
@@ -36,7 +36,7 @@ classmark_of [] = Two []
 classmark_of (octet ∷ []) = One octet
 classmark_of (octet ∷ next ∷ octets) = Two (octet ∷ next ∷ octets)
 
-abbrev pub classmark_at : {A : Type 0} → List ℕ → FieldRead (Classmark A)
+unfoldable pub classmark_at : {A : Type 0} → List ℕ → FieldRead (Classmark A)
 classmark_at fields = read_map classmark_of (octets_at 0 (codes "classmark") fields)
 
 -- the serving cell and the target cell
@@ -125,7 +125,11 @@ message_of name fields =
 abbrev pub message_in : {A : Type 0} → List ℕ → Read (Bssmap A)
 message_in text = message_of (name_of text) (fields_of text)
 
--- they say a message that has a canonical text, which these octets are
+-- they say a message that has a canonical text
+abbrev pub CanBeWritten : Type 0 → List ℕ → Type 0
+CanBeWritten A text = IsOkAnd (message_in {A = A} text) HasCanonical
+
+-- and that is these octets
 abbrev pub Writes : Type 0 → List ℕ → List ℕ → Type 0
 Writes A text octets = IsOkAnd (message_in {A = A} text) (λ message. HasCanonical message × (octets ≡ canonical_text message))
 

@@ -11,7 +11,7 @@ use Rattle.rsl_messages.specs.Texts.{HasCanonical, canonical_text}
 use Rattle.encoded_messages.specs.Faults.{Fault, Name, TooLong, Read, in_fields}
 
 -- the channel that a message is about
-abbrev pub channel : List ℕ → FieldRead ChanBits
+unfoldable pub channel : List ℕ → FieldRead ChanBits
 channel fields = read_map (λ tn. record { tn = tn }) (number_at 7 (codes "tn") fields)
 
 unfoldable pub data_request : {A : Type 0} → List ℕ → FieldRead (Rsl A)
@@ -99,7 +99,11 @@ message_of name fields =
 abbrev pub message_in : {A : Type 0} → List ℕ → Read (Rsl A)
 message_in text = message_of (name_of text) (fields_of text)
 
--- they say a message that has a canonical text, which these octets are
+-- they say a message that has a canonical text
+abbrev pub CanBeWritten : Type 0 → List ℕ → Type 0
+CanBeWritten A text = IsOkAnd (message_in {A = A} text) HasCanonical
+
+-- and that is these octets
 abbrev pub Writes : Type 0 → List ℕ → List ℕ → Type 0
 Writes A text octets = IsOkAnd (message_in {A = A} text) (λ message. HasCanonical message × (octets ≡ canonical_text message))
 

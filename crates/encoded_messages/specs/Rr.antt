@@ -1,7 +1,7 @@
 -- The radio resource message that a text says (TS 44.018 section 9.1), or the first thing that is wrong with the text: its
 -- name; a word that is no field of the message; then each field, in the order in which it stands here; then the number of
 -- neighbours. A text is the list of its bytes; the words are ours, of no standard.
-use Rattle.std.specs.Prelude.{◌≡◌, ℕ, ◌==◌, if◌then◌else◌, List, [], ◌∷◌, length, codes, Option, option_map, ok_or, Ok, Err, IsOkAnd, bytes_eq}
+use Rattle.std.specs.Prelude.{◌≡◌, ℕ, ◌==◌, if◌then◌else◌, List, [], ◌∷◌, length, codes, Option, option_map, ok_or, Ok, Err, IsOk, IsOkAnd, bytes_eq}
 use Rattle.message_fields.specs.declared.fault.Allowed.TheVariants as may
 use Rattle.message_fields.specs.Faults.{Value, Read as FieldRead, ◌>>=◌, ◌>>◌, read_map}
 use Rattle.message_fields.specs.Words.{words_of, values_of}
@@ -10,7 +10,7 @@ use Rattle.message_fields.specs.Fields.{name_of, fields_of, only_keys, number_at
 use Rattle.rr_elements.specs.CellDescription.{Cell}
 use Rattle.rr_elements.specs.ChanDescription.{Chan}
 use Rattle.rr_elements.specs.Power.{PowerCommand}
-use Rattle.rr_elements.specs.MeasResults.{Results, used_count}
+use Rattle.rr_elements.specs.MeasResults.{used_count}
 use Rattle.rr_elements.specs.declared.cause.RrCause.{RrCause}
 use Rattle.rr_elements.specs.declared.measurement.MeasHead.{MeasHead}
 use Rattle.rr_elements.specs.declared.measurement.Ncell.{Ncell}
@@ -118,7 +118,11 @@ message_of name fields =
 abbrev pub message_in : List ℕ → Read Rr
 message_in text = message_of (name_of text) (fields_of text)
 
--- they say a message, and these octets are its text
+-- they say a message
+abbrev pub CanBeWritten : List ℕ → Type 0
+CanBeWritten text = IsOk (message_in text)
+
+-- and its text is these octets
 abbrev pub Writes : List ℕ → List ℕ → Type 0
 Writes text octets = IsOkAnd (message_in text) (λ message. octets ≡ rr_text message)
 

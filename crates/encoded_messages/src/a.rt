@@ -27,6 +27,7 @@ fn cell_of(text: &str) -> Option<CellId>
 }
 
 /// The cell of a field.
+#[tactic(auto, unfolding(crate::specs::A::cell_at))]
 fn cell<'a>(fields: &'a str, key: &'static str) -> Result<CellId, FieldFault<'a>>
     ensures { read_of result ≡ said.cell_at key.now fields.now }
 {
@@ -70,6 +71,7 @@ fn add_cells<'a, A: Allocator>(
 }
 
 /// The cells of a HANDOVER REQUIRED.
+#[tactic(auto, unfolding(crate::specs::A::cells_at))]
 fn cells<A: Allocator + Copy>(alloc: A, fields: &str) -> Result<CellList<A>, FieldFault<'_>>
     ensures { Answers result (said.cells_at fields.now) }
 {
@@ -80,6 +82,7 @@ fn cells<A: Allocator + Copy>(alloc: A, fields: &str) -> Result<CellList<A>, Fie
 }
 
 /// The classmark of a HANDOVER REQUEST: of type 1 where it is one octet.
+#[tactic(auto, unfolding(crate::specs::A::classmark_at))]
 fn classmark<A: Allocator>(alloc: A, fields: &str) -> Result<Classmark<A>, FieldFault<'_>>
     ensures { Answers result (said.classmark_at fields.now) }
 {

@@ -13,6 +13,7 @@ use rsl_messages::{ChanBits, Octets, Rsl, encode, fits};
 use std::alloc::Allocator;
 
 /// The channel that a message is about.
+#[tactic(auto, unfolding(crate::specs::Abis::channel))]
 fn channel(fields: &str) -> Result<ChanBits, FieldFault<'_>>
     ensures { read_of result ≡ said.channel fields.now }
 {
@@ -29,14 +30,12 @@ fn data_request<A: Allocator>(alloc: A, fields: &str) -> Result<Rsl<A>, FieldFau
     only_keys(fields, "tn link layer3")?;
     let channel = channel(fields)?;
     let link = octet(fields, "link")?;
-    match octets(alloc, fields, "layer3", 1) {
-        Ok(octets) => Ok(Rsl::DataRequest {
-            channel,
-            link,
-            layer3: Octets::from_vec(octets),
-        }),
-        Err(fault) => Err(fault),
-    }
+    let layer3 = Octets::from_vec(octets(alloc, fields, "layer3", 1)?);
+    Ok(Rsl::DataRequest {
+        channel,
+        link,
+        layer3,
+    })
 }
 
 /// DATA INDICATION
@@ -47,14 +46,12 @@ fn data_indication<A: Allocator>(alloc: A, fields: &str) -> Result<Rsl<A>, Field
     only_keys(fields, "tn link layer3")?;
     let channel = channel(fields)?;
     let link = octet(fields, "link")?;
-    match octets(alloc, fields, "layer3", 1) {
-        Ok(octets) => Ok(Rsl::DataIndication {
-            channel,
-            link,
-            layer3: Octets::from_vec(octets),
-        }),
-        Err(fault) => Err(fault),
-    }
+    let layer3 = Octets::from_vec(octets(alloc, fields, "layer3", 1)?);
+    Ok(Rsl::DataIndication {
+        channel,
+        link,
+        layer3,
+    })
 }
 
 /// CHANNEL ACTIVATION

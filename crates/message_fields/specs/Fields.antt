@@ -44,27 +44,27 @@ abbrev pub field_at : {X : Type 0} → Allowed → (List ℕ → Option X) → L
 field_at allowed says key fields = value_at key fields >>= (λ value. ok_or (says value) (Value key value allowed))
 
 -- a number up to the greatest
-abbrev pub number_at : ℕ → List ℕ → List ℕ → Read ℕ
+unfoldable pub number_at : ℕ → List ℕ → List ℕ → Read ℕ
 number_at most key fields = field_at (may.Number most) (number_to most) key fields
 
 -- an octet in decimal, or nothing
 abbrev pub optional_octet_of : List ℕ → Option (Option ℕ)
 optional_octet_of text = if bytes_eq text (codes "-") then Some None else option_map Some (number_to 255 text)
 
-abbrev pub optional_octet_at : List ℕ → List ℕ → Read (Option ℕ)
+unfoldable pub optional_octet_at : List ℕ → List ℕ → Read (Option ℕ)
 optional_octet_at key fields = field_at may.OptionalOctet optional_octet_of key fields
 
 -- yes or no
-abbrev pub flag_at : List ℕ → List ℕ → Read Bool
+unfoldable pub flag_at : List ℕ → List ℕ → Read Bool
 flag_at key fields = field_at may.Flag flag_of key fields
 
 -- so many octets or more
-abbrev pub octets_at : ℕ → List ℕ → List ℕ → Read (List ℕ)
+unfoldable pub octets_at : ℕ → List ℕ → List ℕ → Read (List ℕ)
 octets_at least key fields = field_at (may.Octets least) (octets_of least) key fields
 
 -- the same, or nothing
 abbrev pub optional_octets_of : ℕ → List ℕ → Option (Option (List ℕ))
 optional_octets_of least text = if bytes_eq text (codes "-") then Some None else option_map Some (octets_of least text)
 
-abbrev pub optional_octets_at : ℕ → List ℕ → List ℕ → Read (Option (List ℕ))
+unfoldable pub optional_octets_at : ℕ → List ℕ → List ℕ → Read (Option (List ℕ))
 optional_octets_at least key fields = field_at (may.OptionalOctets least) (optional_octets_of least) key fields

@@ -54,6 +54,7 @@ pub fn value<'a>(fields: &'a str, key: &'static str) -> Result<&'a str, FieldFau
 }
 
 /// The number of a field, which is at most this one.
+#[tactic(auto, unfolding(crate::specs::Fields::number_at))]
 pub fn number<'a>(fields: &'a str, key: &'static str, most: u16) -> Result<u16, FieldFault<'a>>
     ensures number { read_of result ≡ said.number_at most key.now fields.now }
     ensures most { IfOk result (λ number. number ≤ most) }
@@ -68,6 +69,7 @@ pub fn number<'a>(fields: &'a str, key: &'static str, most: u16) -> Result<u16, 
 }
 
 /// The octet of a field, in decimal, which is at most this one.
+#[tactic(auto, unfolding(crate::specs::Fields::number_at))]
 pub fn small<'a>(fields: &'a str, key: &'static str, most: u8) -> Result<u8, FieldFault<'a>>
     ensures number { read_of result ≡ said.number_at most key.now fields.now }
     ensures most { IfOk result (λ number. number ≤ most) }
@@ -89,6 +91,7 @@ pub fn octet<'a>(fields: &'a str, key: &'static str) -> Result<u8, FieldFault<'a
 }
 
 /// The octet of a field, in decimal, or `-`.
+#[tactic(auto, unfolding(crate::specs::Fields::optional_octet_at))]
 pub fn optional_octet<'a>(fields: &'a str, key: &'static str) -> Result<Option<u8>, FieldFault<'a>>
     ensures number { read_of result ≡ said.optional_octet_at key.now fields.now }
 {
@@ -107,6 +110,7 @@ pub fn optional_octet<'a>(fields: &'a str, key: &'static str) -> Result<Option<u
 }
 
 /// The flag of a field.
+#[tactic(auto, unfolding(crate::specs::Fields::flag_at))]
 pub fn flag<'a>(fields: &'a str, key: &'static str) -> Result<bool, FieldFault<'a>>
     ensures flag { read_of result ≡ said.flag_at key.now fields.now }
 {
@@ -120,6 +124,7 @@ pub fn flag<'a>(fields: &'a str, key: &'static str) -> Result<bool, FieldFault<'
 }
 
 /// The octets of a field, in hexadecimal, so many or more. `NoMemory`: memory was refused, and nothing is said of the text.
+#[tactic(auto, unfolding(crate::specs::Fields::octets_at))]
 pub fn octets<'a, A: Allocator>(
     alloc: A,
     fields: &'a str,
@@ -144,6 +149,7 @@ pub fn octets<'a, A: Allocator>(
 }
 
 /// The octets of a field, in hexadecimal, so many or more, or `-`. `NoMemory` as of [`octets`].
+#[tactic(auto, unfolding(crate::specs::Fields::optional_octets_at))]
 pub fn optional_octets<'a, A: Allocator>(
     alloc: A,
     fields: &'a str,
