@@ -51,7 +51,10 @@ const ANSWERS: &[(Question, &str)] = &[
         Question::Fault(Link::A, 6, Some(254)),
         "an element is cut at offset 254",
     ),
-    (Question::Fault(Link::Rr, 1, None), "no message of this link"),
+    (
+        Question::Fault(Link::Rr, 1, None),
+        "no message of this link",
+    ),
     (Question::Fault(Link::Rr, 2, None), "unknown type"),
     (Question::Fault(Link::Rr, 3, None), "the message is cut"),
     (

@@ -37,7 +37,10 @@ const SAID_OF_KINDS: &[(ErrorKind, &str)] = &[
     (ErrorKind::DirectoryNotEmpty, "directory not empty"),
     (ErrorKind::ExecutableFileBusy, "executable file busy"),
     (ErrorKind::FileTooLarge, "file too large"),
-    (ErrorKind::FilesystemLoop, "filesystem loop or indirection limit (e.g. symlink loop)"),
+    (
+        ErrorKind::FilesystemLoop,
+        "filesystem loop or indirection limit (e.g. symlink loop)",
+    ),
     (ErrorKind::HostUnreachable, "host unreachable"),
     (ErrorKind::InProgress, "in progress"),
     (ErrorKind::Interrupted, "operation interrupted"),
@@ -52,7 +55,10 @@ const SAID_OF_KINDS: &[(ErrorKind, &str)] = &[
     (ErrorKind::OutOfMemory, "out of memory"),
     (ErrorKind::QuotaExceeded, "quota exceeded"),
     (ErrorKind::ResourceBusy, "resource busy"),
-    (ErrorKind::StaleNetworkFileHandle, "stale network file handle"),
+    (
+        ErrorKind::StaleNetworkFileHandle,
+        "stale network file handle",
+    ),
     (ErrorKind::TimedOut, "timed out"),
     (ErrorKind::TooManyLinks, "too many links"),
     (ErrorKind::Uncategorized, "uncategorized error"),

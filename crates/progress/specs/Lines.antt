@@ -1,7 +1,7 @@
 -- Which lines of a text count, and how many. A text is the list of its bytes. The results of a test are those of TAP; the
 -- rest is ours, of no standard.
-use Rattle.std.specs.Prelude.{ℕ, ◌+◌, ◌-◌, ◌^◌, ◌==◌, ◌||◌, Bool, true, nat_eq, if◌then◌else◌, List, [], ◌∷◌, ◌++◌, take, min, codes}
-use Rattle.std.specs.List.{starts_with}
+use Rattle.std.specs.Prelude.{◌≡◌, ℕ, ◌+◌, ◌-◌, ◌^◌, ◌==◌, ◌||◌, Bool, true, nat_eq, if◌then◌else◌, List, [], ◌∷◌, ◌++◌, take, min, count_by, codes}
+use Rattle.std.specs.List.{starts_with, slice_split}
 use Rattle.progress.specs.declared.tally.Counted.{Counted}
 use Rattle.progress.specs.declared.tally.Counted.TheVariants.{Lines, Scripts}
 
@@ -34,3 +34,18 @@ with_octet counted s b = if b == 10 then with_line counted s else record { numbe
 abbrev pub with_text : Counted → Stand → List ℕ → Stand
 with_text counted s [] = s
 with_text counted s (b ∷ text) = with_text counted (with_octet counted s b) text
+
+-- all but the last
+abbrev pub without_last : {X : Type 0} → List X → List X
+without_last [] = []
+without_last (x ∷ []) = []
+without_last (x ∷ y ∷ more) = x ∷ without_last (y ∷ more)
+
+-- the lines that a text ends, each without its line feed
+abbrev pub ended_lines : List ℕ → List (List ℕ)
+ended_lines text = without_last (slice_split (λ b. b == 10) text)
+
+-- what the octets of a text count, one by one and from the begin on, are the lines that it ends and that count
+abbrev pub CountsLines : Type 0
+CountsLines = (counted : Counted) (text : List ℕ) →
+    (with_text counted at_begin text).number ≡ min (count_by (is_counted counted) (ended_lines text)) (2 ^ 64 - 1)

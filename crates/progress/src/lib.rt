@@ -9,10 +9,12 @@
 
 mod erasing;
 mod keeping;
+mod laws;
 mod progress;
 mod tally;
 
 pub use erasing::Erasing;
 pub use keeping::Keeping;
+pub use laws::lines_are_counted;
 pub use progress::Progress;
 pub use tally::Counted;

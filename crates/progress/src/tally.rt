@@ -4,8 +4,7 @@ ghost use Rattle.progress.specs.Lines.{is_counted, with_octet, with_text, at_beg
 ghost use Rattle.progress.specs.Tallies.{stand_of};
 
 use arrayvec::ArrayVec;
-use std::fmt;
-use std::io;
+use std::{fmt, io};
 
 /// What is counted of what passes.
 #[derive(Clone, Copy, Debug, PartialEq, Eq)]

@@ -30,11 +30,7 @@ impl<A: Allocator> Write for Screen<'_, A> {
 const SHOWN: &[(Counted, &[&[u8]], &[u8])] = &[
     (Counted::Lines, &[], b""),
     (Counted::Lines, &[b"a"], b"a"),
-    (
-        Counted::Lines,
-        &[b"a\n"],
-        b"a\n\r\x1b[Klines: 1\r\r\x1b[K",
-    ),
+    (Counted::Lines, &[b"a\n"], b"a\n\r\x1b[Klines: 1\r\r\x1b[K"),
     (
         Counted::Lines,
         &[b"a\nb\n", b"c", b"\n", b"d"],

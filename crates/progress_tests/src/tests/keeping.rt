@@ -37,13 +37,24 @@ impl Write for Answers<'_> {
 const KEPT: &[(&[Option<ErrorKind>], Option<ErrorKind>)] = &[
     (&[], None),
     (&[None, None], None),
-    (&[Some(ErrorKind::StorageFull)], Some(ErrorKind::StorageFull)),
     (
-        &[None, Some(ErrorKind::BrokenPipe), Some(ErrorKind::StorageFull)],
+        &[Some(ErrorKind::StorageFull)],
+        Some(ErrorKind::StorageFull),
+    ),
+    (
+        &[
+            None,
+            Some(ErrorKind::BrokenPipe),
+            Some(ErrorKind::StorageFull),
+        ],
         Some(ErrorKind::BrokenPipe),
     ),
     (
-        &[Some(ErrorKind::StorageFull), None, Some(ErrorKind::BrokenPipe)],
+        &[
+            Some(ErrorKind::StorageFull),
+            None,
+            Some(ErrorKind::BrokenPipe),
+        ],
         Some(ErrorKind::StorageFull),
     ),
     (&[Some(ErrorKind::Interrupted), None], None),
@@ -90,7 +101,13 @@ fn an_error_in_the_middle_is_kept_where_the_end_can_be_written(
 ) -> Result<(), Fail> {
     // the buffer is full at the third line, which its writer has no room for; later it has
     let full = &[Some(ErrorKind::StorageFull)];
-    let buffered = BufWriter::with_capacity(rt.alloc(), 12, Answers { left: full.as_slice() })?;
+    let buffered = BufWriter::with_capacity(
+        rt.alloc(),
+        12,
+        Answers {
+            left: full.as_slice(),
+        },
+    )?;
     let mut keeping = Keeping::new(buffered);
     let mut failed = 0;
     for _ in 0..3 {
