@@ -25,8 +25,8 @@ pub(crate) const COLUMN: u32 = 760;
 /// At the left and the right edge of a column.
 pub(crate) const MARGIN: u32 = 12;
 
-/// From the lanes to the bars beside them: half the name of a lane has room there.
-const EDGE: u32 = 64;
+/// From the lanes to the bars beside them: half the name of a lane has room there, and the text of a bar that goes on.
+const EDGE: u32 = 80;
 
 /// So many letters of a lane's name have room.
 pub(crate) const NAME: u32 = 17;
@@ -43,8 +43,11 @@ const HEADING: u32 = 40;
 /// From the left edge of a bar to that of the next.
 const TRACK: u32 = 16;
 
-/// So many letters of a bar's text have room.
+/// So many letters of a bar's text have room where it begins.
 pub(crate) const BAR_TEXT: u32 = 12;
+
+/// So many of one that goes on.
+pub(crate) const ONWARD_TEXT: u32 = 10;
 
 /// Between bars and their texts.
 const BAR_GAP: u32 = 12;
@@ -285,6 +288,15 @@ impl<'a> Layout<'a> {
             Side::Right => x
                 .saturating_add(self.bars_width(side))
                 .saturating_add(BAR_GAP),
+        }
+    }
+
+    /// Where the text of a bar that goes on begins at the left, or ends at the right: between bars and lanes.
+    pub(crate) fn onward_text_x(&self, column: u32, side: Side) -> u32 {
+        let x = self.bars_x(column, side);
+        match side {
+            Side::Left => x.saturating_add(self.bars_width(side)).saturating_add(4),
+            Side::Right => x.saturating_sub(9),
         }
     }
 }

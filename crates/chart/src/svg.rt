@@ -1,6 +1,7 @@
 //! The SVG of a chart.
 use crate::layout::{
-    ARROW_END, BAR_TEXT, COLUMN, Layout, MARGIN, NAME, NOTE_MARGIN, PAGE, column_of, count, row_y,
+    ARROW_END, BAR_TEXT, COLUMN, Layout, MARGIN, NAME, NOTE_MARGIN, ONWARD_TEXT, PAGE, column_of,
+    count, row_y,
 };
 use crate::room::{Fitted, letters_in};
 use crate::{Bar, Chart, Lane, Row, Shape, Side};
@@ -256,43 +257,93 @@ fn print_parts<W: fmt::Write>(
     bar: &Bar<'_>,
     last: u32,
 ) -> fmt::Result {
-    for column in column_of(bar.first)..column_of(last).saturating_add(1) {
-        let begin = column.saturating_mul(COLUMN);
-        let top = row_y(bar.first.max(begin)).saturating_sub(12);
-        let bottom = row_y(last.min(begin.saturating_add(COLUMN - 1))) + 6;
-        let x = layout.bar_x(column, bar.side, bar.track);
-        print_outline(f, x, top, bottom.saturating_sub(top), bar.side)?;
+    let begin = column_of(bar.first);
+    for column in begin..column_of(last).saturating_add(1) {
+        print_part(f, layout, bar, last, column)?;
+        if column > begin {
+            print_onward_text(f, layout, bar, column)?;
+        }
     }
     Ok(())
 }
 
-/// The text of a bar beside its first row, and a line between them.
+/// The part of a bar in a column.
+fn print_part<W: fmt::Write>(
+    f: &mut fmt::Formatter<W>,
+    layout: &Layout<'_>,
+    bar: &Bar<'_>,
+    last: u32,
+    column: u32,
+) -> fmt::Result {
+    let begin = column.saturating_mul(COLUMN);
+    let top = row_y(bar.first.max(begin)).saturating_sub(12);
+    let bottom = row_y(last.min(begin.saturating_add(COLUMN - 1))) + 6;
+    let x = layout.bar_x(column, bar.side, bar.track);
+    print_outline(f, x, top, bottom.saturating_sub(top), bar.side)
+}
+
+/// A text in a row at this height, and a line between it and its bar.
+fn print_label<W: fmt::Write>(
+    f: &mut fmt::Formatter<W>,
+    y: u32,
+    line: (u32, u32),
+    x: u32,
+    anchor: Anchor,
+    text: Fitted<'_>,
+) -> fmt::Result {
+    let (from, to) = line;
+    let line_y = y.saturating_sub(4);
+    writeln!(
+        f,
+        "<line x1=\"{from}\" y1=\"{line_y}\" x2=\"{to}\" y2=\"{line_y}\" stroke=\"#000\"/>"
+    )?;
+    print_text(f, x, y, anchor, text)
+}
+
+/// The text of a bar beside its first row.
 fn print_bar_text<W: fmt::Write>(
     f: &mut fmt::Formatter<W>,
     layout: &Layout<'_>,
     bar: &Bar<'_>,
 ) -> fmt::Result {
     let (column, y) = (column_of(bar.first), row_y(bar.first));
-    let text_x = layout.bar_text_x(column, bar.side);
+    let x = layout.bar_text_x(column, bar.side);
     let bar_x = layout.bar_x(column, bar.side, bar.track);
-    let (from, to, anchor) = match bar.side {
-        Side::Left => (text_x.saturating_add(4), bar_x, Anchor::End),
-        Side::Right => (
-            bar_x.saturating_add(BAR),
-            text_x.saturating_sub(4),
-            Anchor::Start,
-        ),
-    };
-    let line_y = y.saturating_sub(4);
-    writeln!(
-        f,
-        "<line x1=\"{from}\" y1=\"{line_y}\" x2=\"{to}\" y2=\"{line_y}\" stroke=\"#000\"/>"
-    )?;
     let text = Fitted {
         text: bar.text,
         room: BAR_TEXT,
     };
-    print_text(f, text_x, y, anchor, text)
+    match bar.side {
+        Side::Left => { print_label(f, y, (x.saturating_add(4), bar_x), x, Anchor::End, text) }
+        Side::Right => {
+            let line = (bar_x.saturating_add(BAR), x.saturating_sub(4));
+            print_label(f, y, line, x, Anchor::Start, text)
+        }
+    }
+}
+
+/// The text of a bar that goes on in a column. It stands in the row that has its track's number, so that the texts of
+/// several bars don't cover one another.
+fn print_onward_text<W: fmt::Write>(
+    f: &mut fmt::Formatter<W>,
+    layout: &Layout<'_>,
+    bar: &Bar<'_>,
+    column: u32,
+) -> fmt::Result {
+    let y = row_y(bar.track);
+    let x = layout.onward_text_x(column, bar.side);
+    let bar_x = layout.bar_x(column, bar.side, bar.track);
+    let text = Fitted {
+        text: bar.text,
+        room: ONWARD_TEXT,
+    };
+    match bar.side {
+        Side::Left => {
+            let line = (bar_x.saturating_add(BAR), x.saturating_sub(4));
+            print_label(f, y, line, x, Anchor::Start, text)
+        }
+        Side::Right => { print_label(f, y, (x.saturating_add(4), bar_x), x, Anchor::End, text) }
+    }
 }
 
 /// The rows.

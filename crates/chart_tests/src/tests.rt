@@ -116,11 +116,11 @@ const BARS: &[Bar<'_>] = &[
     },
 ];
 
-/// From left to right: 12, the heading's 15 letters of 7, 96 for a bar's text, 16 for the bar, 64; a lane at 293. 238 to the
-/// next, 168 to the last, 64 to the bar, 16 for it, 96, 12. From the upper edge 64 to the first of five rows, 20 to each
+/// From left to right: 12, the heading's 15 letters of 7, 96 for a bar's text, 16 for the bar, 80; a lane at 309. 238 to the
+/// next, 168 to the last, 80 to the bar, 16 for it, 96, 12. From the upper edge 64 to the first of five rows, 20 to each
 /// next, and 36.
 const SVG: &str =
-    "<svg xmlns=\"http://www.w3.org/2000/svg\" width=\"887\" height=\"180\" viewBox=\"0 0 887 180\" font-family=\"monospace\" font-size=\"11\">
+    "<svg xmlns=\"http://www.w3.org/2000/svg\" width=\"919\" height=\"180\" viewBox=\"0 0 919 180\" font-family=\"monospace\" font-size=\"11\">
 <defs>
 <marker id=\"head\" markerWidth=\"10\" markerHeight=\"8\" refX=\"10\" refY=\"4\" orient=\"auto\"><path d=\"M0,0 L10,4 L0,8 z\"/></marker>
 <pattern id=\"hatched\" width=\"6\" height=\"6\" patternUnits=\"userSpaceOnUse\"><path d=\"M-1,1 L1,-1 M0,6 L6,0 M5,7 L7,5\" stroke=\"#000\"/></pattern>
@@ -132,35 +132,35 @@ const SVG: &str =
 <text x=\"30\" y=\"18\" text-anchor=\"start\">undone at &lt;1&gt;</text>
 <rect x=\"143\" y=\"9\" width=\"11\" height=\"11\" fill=\"url(#dotted)\" stroke=\"#000\"/>
 <text x=\"161\" y=\"18\" text-anchor=\"start\">undone at 2</text>
-<line x1=\"293\" y1=\"46\" x2=\"293\" y2=\"158\" stroke=\"#000\"/>
-<line x1=\"531\" y1=\"46\" x2=\"531\" y2=\"158\" stroke=\"#000\"/>
-<line x1=\"699\" y1=\"46\" x2=\"699\" y2=\"158\" stroke=\"#000\"/>
+<line x1=\"309\" y1=\"46\" x2=\"309\" y2=\"158\" stroke=\"#000\"/>
+<line x1=\"547\" y1=\"46\" x2=\"547\" y2=\"158\" stroke=\"#000\"/>
+<line x1=\"715\" y1=\"46\" x2=\"715\" y2=\"158\" stroke=\"#000\"/>
 <g font-weight=\"bold\">
-<text x=\"293\" y=\"42\" text-anchor=\"middle\">TRX 0/0</text>
-<text x=\"531\" y=\"42\" text-anchor=\"middle\">controller</text>
-<text x=\"699\" y=\"42\" text-anchor=\"middle\">centre &lt;1&gt;</text>
+<text x=\"309\" y=\"42\" text-anchor=\"middle\">TRX 0/0</text>
+<text x=\"547\" y=\"42\" text-anchor=\"middle\">controller</text>
+<text x=\"715\" y=\"42\" text-anchor=\"middle\">centre &lt;1&gt;</text>
 </g>
 <g font-weight=\"bold\">
-<text x=\"293\" y=\"170\" text-anchor=\"middle\">TRX 0/0</text>
-<text x=\"531\" y=\"170\" text-anchor=\"middle\">controller</text>
-<text x=\"699\" y=\"170\" text-anchor=\"middle\">centre &lt;1&gt;</text>
+<text x=\"309\" y=\"170\" text-anchor=\"middle\">TRX 0/0</text>
+<text x=\"547\" y=\"170\" text-anchor=\"middle\">controller</text>
+<text x=\"715\" y=\"170\" text-anchor=\"middle\">centre &lt;1&gt;</text>
 </g>
 <rect x=\"213\" y=\"72\" width=\"11\" height=\"58\" fill=\"url(#hatched)\" stroke=\"#000\"/>
 <line x1=\"205\" y1=\"80\" x2=\"213\" y2=\"80\" stroke=\"#000\"/>
 <text x=\"201\" y=\"84\" text-anchor=\"end\">call 1</text>
-<rect x=\"763\" y=\"92\" width=\"11\" height=\"58\" fill=\"url(#dotted)\" stroke=\"#000\"/>
-<line x1=\"774\" y1=\"100\" x2=\"787\" y2=\"100\" stroke=\"#000\"/>
-<text x=\"791\" y=\"104\" text-anchor=\"start\">call 40000</text>
+<rect x=\"795\" y=\"92\" width=\"11\" height=\"58\" fill=\"url(#dotted)\" stroke=\"#000\"/>
+<line x1=\"806\" y1=\"100\" x2=\"819\" y2=\"100\" stroke=\"#000\"/>
+<text x=\"823\" y=\"104\" text-anchor=\"start\">call 40000</text>
 <text x=\"12\" y=\"64\" text-anchor=\"start\">in open 1 0 0 3</text>
-<line x1=\"531\" y1=\"84\" x2=\"293\" y2=\"84\" stroke=\"#000\" marker-end=\"url(#head)\"/>
-<text x=\"412\" y=\"79\" text-anchor=\"middle\">CHANNEL ACTIVATION</text>
+<line x1=\"547\" y1=\"84\" x2=\"309\" y2=\"84\" stroke=\"#000\" marker-end=\"url(#head)\"/>
+<text x=\"428\" y=\"79\" text-anchor=\"middle\">CHANNEL ACTIVATION</text>
 <text x=\"12\" y=\"104\" text-anchor=\"start\">2</text>
-<line x1=\"293\" y1=\"104\" x2=\"531\" y2=\"104\" stroke=\"#000\" marker-end=\"url(#head)\"/>
-<text x=\"412\" y=\"99\" text-anchor=\"middle\">ACK &amp; frame</text>
-<rect x=\"477\" y=\"112\" width=\"108\" height=\"16\" fill=\"#fff\" stroke=\"#000\"/>
-<text x=\"531\" y=\"124\" text-anchor=\"middle\">look 1 -&gt; done</text>
-<rect x=\"673\" y=\"132\" width=\"52\" height=\"16\" fill=\"#fff\" stroke=\"#000\"/>
-<text x=\"699\" y=\"144\" text-anchor=\"middle\">itself</text>
+<line x1=\"309\" y1=\"104\" x2=\"547\" y2=\"104\" stroke=\"#000\" marker-end=\"url(#head)\"/>
+<text x=\"428\" y=\"99\" text-anchor=\"middle\">ACK &amp; frame</text>
+<rect x=\"493\" y=\"112\" width=\"108\" height=\"16\" fill=\"#fff\" stroke=\"#000\"/>
+<text x=\"547\" y=\"124\" text-anchor=\"middle\">look 1 -&gt; done</text>
+<rect x=\"689\" y=\"132\" width=\"52\" height=\"16\" fill=\"#fff\" stroke=\"#000\"/>
+<text x=\"715\" y=\"144\" text-anchor=\"middle\">itself</text>
 </svg>
 ";
 
@@ -193,7 +193,7 @@ fn missing(
     Ok(None)
 }
 
-/// Between two lanes twenty letters of an arrow's text have room, at the first and the last lane fourteen of a note; forty
+/// Between two lanes twenty letters of an arrow's text have room, at the first and the last lane nineteen of a note; forty
 /// of a heading have room, seventeen of a lane's name, twelve of a bar's text, sixty of what the bars are.
 const LONG: Chart<'_> = Chart {
     lanes: &[
@@ -235,14 +235,14 @@ const LONG: Chart<'_> = Chart {
             heading: "",
             shape: Shape::Note {
                 lane: 0,
-                text: "fourteen of it",
+                text: "nineteen of letters",
             },
         },
         Row {
             heading: "",
             shape: Shape::Note {
                 lane: 1,
-                text: "fifteen letters",
+                text: "twenty letters of it",
             },
         },
     ],
@@ -275,8 +275,8 @@ const CUT: &[&str] = &[
     ">twenty of letters &gt;&gt;</text>",
     ">twenty-one of lett..</text>",
     ">seventeen letters..</text>",
-    ">fourteen of it</text>",
-    ">fifteen lett..</text>",
+    ">nineteen of letters</text>",
+    ">twenty letters of..</text>",
     ">twelve of it</text>",
     ">thirteen o..</text>",
     ">sixty of letters stand behind this bar, and so it says wha..</text>",
@@ -322,7 +322,7 @@ const OUTSIDE: Chart<'_> = Chart {
 /// The note stands where the first lane would; a bar at the right ends with the last row.
 const AT_THE_EDGE: &[&str] = &[
     " width=\"4294967295\" height=\"100\" ",
-    "<text x=\"188\" y=\"64\" text-anchor=\"middle\"></text>\n",
+    "<text x=\"204\" y=\"64\" text-anchor=\"middle\"></text>\n",
     "y=\"52\" width=\"11\" height=\"18\" fill=\"url(#dotted)\"",
 ];
 
@@ -347,7 +347,8 @@ fn alike(alloc: Global, rows: u32) -> Result<Vec<Row<'static>>, AllocError> {
     Ok(made)
 }
 
-/// The first of these lines that a chart lacks which has one lane, so many rows, and a bar along the rows from 758 on.
+/// The first of these lines that a chart lacks which has one lane, so many rows, and bars along the rows from 758
+/// and from 759 on.
 fn missing_of_many(
     alloc: Global,
     rows: u32,
@@ -360,13 +361,22 @@ fn missing_of_many(
             room: 0,
         }],
         rows: &rows,
-        bars: &[Bar {
-            first: 758,
-            last: 762,
-            side: Side::Left,
-            track: 0,
-            text: "call 1",
-        }],
+        bars: &[
+            Bar {
+                first: 758,
+                last: 762,
+                side: Side::Left,
+                track: 0,
+                text: "call 1",
+            },
+            Bar {
+                first: 759,
+                last: 760,
+                side: Side::Right,
+                track: 0,
+                text: "call 2",
+            },
+        ],
         left: "undone",
         right: "",
     };
@@ -375,28 +385,34 @@ fn missing_of_many(
 
 /// Names above the first page, above the second and below the last; the last row of the first page, and the one behind.
 const PAGES: &[&str] = &[
-    " width=\"285\" height=\"920\" ",
-    "<text x=\"209\" y=\"42\" text-anchor=\"middle\">lane</text>\n",
-    "<text x=\"209\" y=\"862\" text-anchor=\"middle\">lane</text>\n",
-    "<text x=\"209\" y=\"910\" text-anchor=\"middle\">lane</text>\n",
+    " width=\"429\" height=\"920\" ",
+    "<text x=\"225\" y=\"42\" text-anchor=\"middle\">lane</text>\n",
+    "<text x=\"225\" y=\"862\" text-anchor=\"middle\">lane</text>\n",
+    "<text x=\"225\" y=\"910\" text-anchor=\"middle\">lane</text>\n",
     "<text x=\"12\" y=\"844\" text-anchor=\"start\">row</text>\n",
     "<text x=\"12\" y=\"884\" text-anchor=\"start\">row</text>\n",
 ];
 
-/// The last row of a column, its lane, and the end of the bar there; the same of the first row of the next column.
+/// The last row of a column, its lane, and the part of a bar there; the first row of the next column, its lane, and the other
+/// parts of the bars, with their texts between them and the lane.
 const COLUMNS: &[&str] = &[
-    " width=\"570\" height=\"15640\" ",
-    "<line x1=\"209\" y1=\"46\" x2=\"209\" y2=\"15618\" stroke=\"#000\"/>\n",
-    "<text x=\"209\" y=\"15630\" text-anchor=\"middle\">lane</text>\n",
+    " width=\"858\" height=\"15640\" ",
+    "<line x1=\"225\" y1=\"46\" x2=\"225\" y2=\"15618\" stroke=\"#000\"/>\n",
+    "<text x=\"225\" y=\"15630\" text-anchor=\"middle\">lane</text>\n",
     "<rect x=\"129\" y=\"15572\" width=\"11\" height=\"38\" fill=\"url(#hatched)\" stroke=\"#000\"/>\n",
     "<line x1=\"121\" y1=\"15580\" x2=\"129\" y2=\"15580\" stroke=\"#000\"/>\n",
     "<text x=\"12\" y=\"15604\" text-anchor=\"start\">row</text>\n",
-    "<line x1=\"285\" y1=\"0\" x2=\"285\" y2=\"15640\" stroke=\"#000\" stroke-dasharray=\"1 5\"/>\n",
-    "<line x1=\"494\" y1=\"46\" x2=\"494\" y2=\"78\" stroke=\"#000\"/>\n",
-    "<text x=\"494\" y=\"42\" text-anchor=\"middle\">lane</text>\n",
-    "<text x=\"494\" y=\"90\" text-anchor=\"middle\">lane</text>\n",
-    "<rect x=\"414\" y=\"52\" width=\"11\" height=\"18\" fill=\"url(#hatched)\" stroke=\"#000\"/>\n",
-    "<text x=\"297\" y=\"64\" text-anchor=\"start\">row</text>\n",
+    "<line x1=\"429\" y1=\"0\" x2=\"429\" y2=\"15640\" stroke=\"#000\" stroke-dasharray=\"1 5\"/>\n",
+    "<line x1=\"654\" y1=\"46\" x2=\"654\" y2=\"78\" stroke=\"#000\"/>\n",
+    "<text x=\"654\" y=\"42\" text-anchor=\"middle\">lane</text>\n",
+    "<text x=\"654\" y=\"90\" text-anchor=\"middle\">lane</text>\n",
+    "<rect x=\"558\" y=\"52\" width=\"11\" height=\"18\" fill=\"url(#hatched)\" stroke=\"#000\"/>\n",
+    "<line x1=\"569\" y1=\"60\" x2=\"574\" y2=\"60\" stroke=\"#000\"/>\n",
+    "<text x=\"578\" y=\"64\" text-anchor=\"start\">call 1</text>\n",
+    "<rect x=\"734\" y=\"52\" width=\"11\" height=\"18\" fill=\"url(#dotted)\" stroke=\"#000\"/>\n",
+    "<line x1=\"729\" y1=\"60\" x2=\"734\" y2=\"60\" stroke=\"#000\"/>\n",
+    "<text x=\"725\" y=\"64\" text-anchor=\"end\">call 2</text>\n",
+    "<text x=\"441\" y=\"64\" text-anchor=\"start\">row</text>\n",
 ];
 
 #[test]
