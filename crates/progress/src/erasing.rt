@@ -1,7 +1,4 @@
 //! Progress on the terminal that shows the output.
-ghost use Rattle.std.specs.Prelude.{◌≡◌, false};
-ghost use Rattle.progress.specs.Lines.{at_begin};
-
 use crate::tally::{Counted, Tally, erase};
 use std::io::{self, Write};
 
@@ -22,6 +19,7 @@ pub struct Erasing<W, E> {
 
 impl<W: Write + Drop, E: Write + Drop> Erasing<W, E> {
     ghost use Rattle.std.specs.Prelude.{◌≡◌, ◌≢◌, [], false};
+    ghost use Rattle.progress.specs.Lines.{at_begin};
     ghost use Rattle.progress.specs.Erasing.{out_of, terminal_of, counted_of, stand_of, is_said};
 
     /// A writer to `out` that says on `terminal` how many lines counted. None did yet, and nothing is said.

@@ -1,6 +1,4 @@
 //! The first error of a writer.
-ghost use Rattle.std.specs.Prelude.{◌≡◌, None};
-
 use std::io::{self, ErrorKind, Write};
 
 /// Passes octets on to `out` as they are, and keeps the first error that it answers, so that whoever wrote through others
