@@ -1,3 +1,3 @@
 mod erasing;
 mod keeping;
-mod progress;
+mod stepping;
