@@ -16,20 +16,29 @@ fn shown_words(alloc: Global, words: &[&str]) -> Result<Vec<String>, AllocError>
     Ok(shown)
 }
 
+/// Adds what stands between two parts of a line, the second of which may begin a paragraph.
+fn push_joint(line: &mut String, is_paragraph: bool) -> Result<(), AllocError> {
+    if line.is_empty() {
+        return Ok(());
+    }
+    line.push_str(if is_paragraph { "; " } else { " " })?;
+    Ok(())
+}
+
 /// The lines of `clap`'s text in one: its paragraphs, which empty lines separate, without the last, which names `--help`.
 fn in_one_line(alloc: Global, text: &str) -> Result<String, AllocError> {
     let mut line = String::new(alloc);
-    let mut joint = "";
+    let mut is_paragraph = false;
     for part in text.lines() {
         if part.starts_with("For more information") {
             break;
         }
         if part.is_empty() {
-            joint = "; ";
+            is_paragraph = true;
         } else {
-            line.push_str(joint)?;
+            push_joint(&mut line, is_paragraph)?;
             line.push_str(part.trim())?;
-            joint = " ";
+            is_paragraph = false;
         }
     }
     Ok(line)
