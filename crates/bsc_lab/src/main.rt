@@ -133,8 +133,8 @@ fn perform_elsewhere<
     }
 }
 
-/// Does what the words ask for, where a terminal shows the output line by line, and the same one is told below it how far the
-/// command is.
+/// Does what the words ask for, where a terminal shows the output line by line, and the same one is told below it how far
+/// the command is.
 fn perform_on_terminal<
     R: Files + AllocGlobal,
     I: Read + Drop,
@@ -176,8 +176,8 @@ struct Terminals {
     errors: bool,
 }
 
-/// Reads the words of the command line, and does what they ask for. `terminal` is standard error once more, for what is told
-/// there where it is a terminal.
+/// Reads the words of the command line, and does what they ask for. `terminal` is standard error once more, for what is
+/// told there where it is a terminal.
 fn start<R: Files + Print + Env + AllocGlobal, I: Read + Drop, T: Write + Drop, E: Write>(
     rt: &R,
     input: I,
