@@ -15,7 +15,7 @@
 //! refused, or something not to be written, 3 memory refused.
 #![tactic(auto)]
 
-ghost use Rattle.std.specs.Prelude.{◌≡◌, ◌<◌, None, IsSome, IfSome, IsErr};
+ghost use Rattle.std.specs.Prelude.{◌≡◌, ◌<◌, None, IsSome, IsErr};
 ghost use Rattle.progress.specs.Keeping.{error_of};
 
 use file_reasons::Reason;
@@ -42,16 +42,35 @@ fn words_of<R: Env + AllocGlobal, E: Write>(
     }
 }
 
-/// What of a command's output a person is told the number of, and after how many of them: of those commands alone that may
-/// take long, and print a line for each part of their work.
-fn watched(words: &[&str]) -> Option<(Counted, u64)>
-    ensures { IfSome result (λ watched. 0 < watched.1) }
-{
+/// A terminal that is told how far a command is: how many lines counted, each so many of them.
+#[derive(Drop)]
+struct Watch<T> {
+    terminal: T,
+    counted: Counted,
+    step: u64,
+    ghost stepping: { 0 < step },
+}
+
+/// Whether the words of `decode` name lines to be read, other than those that a person types on the terminal.
+fn reads_lines(words: &[&str], is_typed: bool) -> bool {
+    let is_input = words.iter().any(|word| *word == "-" || *word == "--from=-");
+    words.iter().any(|word| word.starts_with("--from")) && !(is_typed && is_input)
+}
+
+/// How a terminal is told how far a command is; nothing but of those that may take long, and print a line for each part of
+/// their work.
+fn watch_of<T: Drop>(words: &[&str], is_typed: bool, terminal: T) -> Option<Watch<T>> {
     match *words.first()? {
-        "test" => Some((Counted::Scripts, 1)),
-        "decode" if words.iter().any(|word| word.starts_with("--from")) => {
-            Some((Counted::Lines, 10_000))
-        }
+        "test" => Some(Watch {
+            terminal,
+            counted: Counted::Scripts,
+            step: 1,
+        }),
+        "decode" if reads_lines(words, is_typed) => Some(Watch {
+            terminal,
+            counted: Counted::Lines,
+            step: 10_000,
+        }),
         _ => None,
     }
 }
@@ -80,7 +99,7 @@ fn closed<W: Write, E: Write>(
     }
 }
 
-/// Does what the words ask for, where no terminal shows the output. A `terminal` is told how far a long command is.
+/// Does what the words ask for, where no terminal shows the output, and one is told how far the command is.
 fn perform_elsewhere<
     R: Files + AllocGlobal,
     I: Read + Drop,
@@ -92,24 +111,30 @@ fn perform_elsewhere<
     words: &[&str],
     input: I,
     mut out: Keeping<W>,
-    terminal: Option<T>,
+    watch: Option<Watch<T>>,
     errors: &mut E,
 ) -> Result<Status, LabFault> {
-    match (watched(words), terminal) {
-        (Some((counted, step)), Some(terminal)) => {
+    match watch {
+        Some(
+            Watch {
+                terminal,
+                counted,
+                step,
+            },
+        ) => {
             let mut progress = Progress::new(out, terminal, counted, step);
             let ended = perform(rt, words, input, &mut progress, errors);
             closed(ended, &mut progress.finish(), errors)
         }
-        (Some(_), None) | (None, _) => {
+        None => {
             let ended = perform(rt, words, input, &mut out, errors);
             closed(ended, &mut out, errors)
         }
     }
 }
 
-/// Does what the words ask for, where a terminal shows the output line by line. The same `terminal` says below it how far a
-/// long command is.
+/// Does what the words ask for, where a terminal shows the output line by line, and the same one is told below it how far
+/// the command is.
 fn perform_on_terminal<
     R: Files + AllocGlobal,
     I: Read + Drop,
@@ -121,29 +146,43 @@ fn perform_on_terminal<
     words: &[&str],
     input: I,
     mut out: Keeping<W>,
-    terminal: Option<T>,
+    watch: Option<Watch<T>>,
     errors: &mut E,
 ) -> Result<Status, LabFault> {
-    match (watched(words), terminal) {
-        (Some((counted, _)), Some(terminal)) => {
+    match watch {
+        Some(
+            Watch {
+                terminal,
+                counted,
+                step: _,
+            },
+        ) => {
             let mut erasing = Erasing::new(out, terminal, counted);
             let ended = perform(rt, words, input, &mut erasing, errors);
             closed(ended, &mut erasing.finish(), errors)
         }
-        (Some(_), None) | (None, _) => {
+        None => {
             let ended = perform(rt, words, input, &mut out, errors);
             closed(ended, &mut out, errors)
         }
     }
 }
 
-/// Reads the words of the command line, and does what they ask for. `is_shown` says whether a person sees the output on a
-/// terminal; `terminal` is there where one sees standard error.
+/// Which of the three streams are a terminal.
+#[derive(Clone, Copy)]
+struct Terminals {
+    input: bool,
+    output: bool,
+    errors: bool,
+}
+
+/// Reads the words of the command line, and does what they ask for. `terminal` is standard error once more, for what is
+/// told there where it is a terminal.
 fn start<R: Files + Print + Env + AllocGlobal, I: Read + Drop, T: Write + Drop, E: Write>(
     rt: &R,
     input: I,
-    is_shown: bool,
-    terminal: Option<T>,
+    terminals: Terminals,
+    terminal: T,
     errors: &mut E,
 ) -> Result<Status, LabFault> {
     let Some(words) = words_of(rt, errors)? else {
@@ -154,29 +193,34 @@ fn start<R: Files + Print + Env + AllocGlobal, I: Read + Drop, T: Write + Drop, 
         .skip(1)
         .map(|word| word.as_str())
         .collect(rt.alloc())?;
+    let watch = if terminals.errors {
+        watch_of(&words, terminals.input, terminal)
+    } else {
+        None
+    };
     let out = io::writer(rt);
     // a buffer lacks nothing but memory
-    if is_shown {
+    if terminals.output {
         let lines = LineWriter::new(rt.alloc(), out).map_err(|_| LabFault::NoMemory)?;
-        perform_on_terminal(rt, &words, input, Keeping::new(lines), terminal, errors)
+        perform_on_terminal(rt, &words, input, Keeping::new(lines), watch, errors)
     } else {
         let buffer = BufWriter::new(rt.alloc(), out).map_err(|_| LabFault::NoMemory)?;
-        perform_elsewhere(rt, &words, input, Keeping::new(buffer), terminal, errors)
+        perform_elsewhere(rt, &words, input, Keeping::new(buffer), watch, errors)
     }
 }
 
 fn main(rt: HostRuntime) -> ExitCode {
     let stderr = rt.stderr();
-    let terminal = if stderr.is_terminal() {
-        Some(io::writer(&stderr))
-    } else {
-        None
+    let terminals = Terminals {
+        input: rt.stdin().is_terminal(),
+        output: rt.stdout().is_terminal(),
+        errors: stderr.is_terminal(),
     };
     ExitCode::from(exit_status(start(
         &rt,
         rt.stdin(),
-        rt.stdout().is_terminal(),
-        terminal,
+        terminals,
+        io::writer(&stderr),
         &mut io::writer(&stderr),
     )))
 }
