@@ -646,6 +646,16 @@ fn fits_a_cell_with_a_location_area_code(rt: HostRuntime) -> Result<(), Fail> {
     has_length(&rt, &Bssmap::HandoverPerformed { cause: 0, cell }, Some(13))
 }
 
+/// Appends a message where no memory is needed.
+fn appends<'a>(
+    rt: &impl Abort,
+    message: &Bssmap<&'a RefusingHeap>,
+    out: &mut Vec<u8, &'a RefusingHeap>,
+) {
+    assert!(rt; fits(message));
+    assert!(rt; encode_into(message, out).is_ok());
+}
+
 /// Appends a message and HANDOVER DETECT to a list that has room for both texts: no memory is asked for, and the room
 /// stays.
 fn appends_two<'a>(
@@ -656,16 +666,13 @@ fn appends_two<'a>(
     text: &[u8],
 ) -> Result<(), Fail> {
     let room = out.capacity();
-    assert!(rt; fits(message), "{text:?}");
-    assert!(rt; encode_into(message, out).is_ok(), "{text:?}");
-    let detect = Bssmap::HandoverDetect;
-    assert!(rt; fits(&detect));
-    assert!(rt; encode_into(&detect, out).is_ok(), "{text:?}");
-    assert_eq!(rt; (heap.refused(), out.capacity()), (0, room), "{text:?}");
+    appends(rt, message, out);
+    appends(rt, &Bssmap::HandoverDetect, out);
+    assert!(rt; heap.refused() == 0 && out.capacity() == room, "{text:?}");
     let [7, written @ .., 0, 1, 0x1B] = out.as_slice() else {
         return Err(Fail::from("other octets than 7, a text and HANDOVER DETECT"));
     };
-    assert_eq!(rt; written, text);
+    assert!(rt; written == text, "{text:?}");
     Ok(())
 }
 
@@ -678,8 +685,13 @@ fn is_not_appended<'a>(
     let room = full.capacity();
     assert!(rt; fits(message));
     assert!(rt; encode_into(message, full).is_err());
-    assert_eq!(rt; full.as_slice(), [7].as_slice());
-    assert_eq!(rt; full.capacity(), room);
+    assert!(rt; full.as_slice() == [7].as_slice() && full.capacity() == room);
+}
+
+/// A message isn't written where no memory is left.
+fn is_not_written<'a>(rt: &impl Abort, heap: &'a RefusingHeap, message: &Bssmap<&'a RefusingHeap>) {
+    assert!(rt; fits(message));
+    assert!(rt; encode(heap, message).is_err());
 }
 
 /// Writes a message where no memory is left, with room and without.
@@ -695,10 +707,9 @@ fn is_written_without_memory<'a>(
     heap.refuse_from_now();
     appends_two(rt, heap, message, &mut out, text)?;
     is_not_appended(rt, message, &mut full);
-    assert_eq!(rt; heap.refused(), 1, "{text:?}");
-    assert!(rt; fits(message));
-    assert!(rt; encode(heap, message).is_err(), "{text:?}");
-    assert_eq!(rt; heap.refused(), 2, "{text:?}");
+    assert!(rt; heap.refused() == 1, "{text:?}");
+    is_not_written(rt, heap, message);
+    assert!(rt; heap.refused() == 2, "{text:?}");
     Ok(())
 }
 

@@ -215,6 +215,18 @@ fn reads_each_message(rt: HostRuntime) -> Result<(), Fail> {
     Ok(())
 }
 
+/// A message is written over a heap as these octets.
+fn is_written<'a>(
+    rt: &impl Abort,
+    heap: &'a RefusingHeap,
+    message: &Rsl<&'a RefusingHeap>,
+    written: &[u8],
+) -> Result<(), RslFault> {
+    assert!(rt; fits(message), "{written:?}");
+    assert!(rt; encode(heap, message)?.as_slice() == written, "{written:?}");
+    Ok(())
+}
+
 /// Reads a text over a heap, and writes what it says over the same: these octets.
 fn is_written_as(
     rt: &impl Abort,
@@ -223,9 +235,7 @@ fn is_written_as(
     written: &[u8],
 ) -> Result<(), RslFault> {
     let message = decode(heap, text)?;
-    assert!(rt; fits(&message), "{text:?}");
-    assert_eq!(rt; encode(heap, &message)?.as_slice(), written, "{text:?}");
-    Ok(())
+    is_written(rt, heap, &message, written)
 }
 
 /// Texts that are not written so, with the text that is written for what they say.
@@ -563,6 +573,28 @@ fn is_text_twice(rt: &impl Abort, octets: &[u8], text: &[u8]) {
     assert!(rt; first == text && second == text, "{text:?}");
 }
 
+/// Appends a message where no memory is needed.
+fn appends<'a>(
+    rt: &impl Abort,
+    message: &Rsl<&'a RefusingHeap>,
+    out: &mut Vec<u8, &'a RefusingHeap>,
+) {
+    assert!(rt; fits(message));
+    assert!(rt; encode_into(message, out).is_ok());
+}
+
+/// A message isn't written where no memory is left: neither into a full list nor into none.
+fn is_not_written<'a>(
+    rt: &impl Abort,
+    heap: &'a RefusingHeap,
+    message: &Rsl<&'a RefusingHeap>,
+    full: &mut Vec<u8, &'a RefusingHeap>,
+) {
+    assert!(rt; fits(message));
+    assert!(rt; encode_into(message, full).is_err());
+    assert!(rt; encode(heap, message).is_err());
+}
+
 /// Writes a message where no memory is left: twice into one reservation, which keeps its room, then into a full list,
 /// which stays as it was, and into none.
 fn writes_twice<'a>(
@@ -572,17 +604,14 @@ fn writes_twice<'a>(
     out: &mut Vec<u8, &'a RefusingHeap>,
     text: &[u8],
 ) {
-    assert!(rt; fits(message), "{text:?}");
     let room = out.capacity();
-    assert!(rt; encode_into(message, out).is_ok(), "{text:?}");
-    assert!(rt; encode_into(message, out).is_ok(), "{text:?}");
-    assert_eq!(rt; (heap.refused(), out.capacity()), (0, room), "{text:?}");
+    appends(rt, message, out);
+    appends(rt, message, out);
+    assert!(rt; heap.refused() == 0 && out.capacity() == room, "{text:?}");
     is_text_twice(rt, out.as_slice(), text);
-    assert!(rt; encode_into(message, out).is_err(), "{text:?}");
-    assert_eq!(rt; (heap.refused(), out.capacity()), (1, room), "{text:?}");
+    is_not_written(rt, heap, message, out);
+    assert!(rt; heap.refused() == 2 && out.capacity() == room, "{text:?}");
     is_text_twice(rt, out.as_slice(), text);
-    assert!(rt; encode(heap, message).is_err(), "{text:?}");
-    assert_eq!(rt; heap.refused(), 2, "{text:?}");
 }
 
 /// Reads a text, and writes its message into room for two.

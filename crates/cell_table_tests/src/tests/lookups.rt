@@ -7,37 +7,26 @@ use std::process::Abort;
 use std::test::Fail;
 
 /// A cell, own or outside, with location area code, cell identity, BCCH carrier and both colour codes.
-const CELLS: &[(u8, Option<(u16, u16, u16, u8, u8)>)] = &[
-    (0, Some((23, 100, 60, 1, 1))),
-    (1, Some((23, 101, 871, 2, 5))),
-    (64, Some((23, 102, 62, 3, 0))),
-    (2, None),
-    (63, None),
-    (65, None),
-    (128, None),
-    (255, None),
+const CELLS: &[(u8, u16, u16, u16, u8, u8)] = &[
+    (0, 23, 100, 60, 1, 1),
+    (1, 23, 101, 871, 2, 5),
+    (64, 23, 102, 62, 3, 0),
 ];
 
-/// A cell with its power, BA list and number of TRX.
-const OWN: &[(u8, Option<(u8, &[u16], u8)>)] = &[
-    (0, Some((5, &[62, 70, 871], 1))),
-    (1, Some((5, &[60], 2))),
-    (2, None),
-    (64, None),
-    (255, None),
-];
+/// Numbers that no cell has.
+const NO_CELLS: &[u8] = &[2, 63, 65, 128, 255];
+
+/// An own cell with its power, BA list and number of TRX.
+const OWN: &[(u8, u8, &[u16], u8)] = &[(0, 5, &[62, 70, 871], 1), (1, 5, &[60], 2)];
+
+/// Numbers that no own cell has.
+const NO_OWN: &[u8] = &[2, 64, 255];
 
 /// A TRX of a cell with its carrier and timeslots.
-const TRX: &[(u8, u8, Option<(u16, &[u8])>)] = &[
-    (0, 0, Some((60, &[2, 3]))),
-    (1, 0, Some((871, &[]))),
-    (1, 1, Some((875, &[3]))),
-    (0, 1, None),
-    (1, 2, None),
-    (2, 0, None),
-    (64, 0, None),
-    (255, 255, None),
-];
+const TRX: &[(u8, u8, u16, &[u8])] = &[(0, 0, 60, &[2, 3]), (1, 0, 871, &[]), (1, 1, 875, &[3])];
+
+/// A cell and a number that no TRX of it has.
+const NO_TRX: &[(u8, u8)] = &[(0, 1), (1, 2), (2, 0), (64, 0), (255, 255)];
 
 /// A channel, and its place among the traffic channels.
 const CHANNELS: &[((u8, u8, u8), Option<usize>)] = &[
@@ -96,31 +85,52 @@ fn says_of_all(rt: &impl Abort, site: &Site<Global>) {
 }
 
 fn says_of_cells(rt: &impl Abort, site: &Site<Global>) {
-    for (cell, wanted) in CELLS {
-        assert_eq!(rt; site.lac(*cell), wanted.map(|c| c.0), "{cell}");
-        assert_eq!(rt; site.ci(*cell), wanted.map(|c| c.1), "{cell}");
-        assert_eq!(rt; site.bcch(*cell), wanted.map(|c| c.2), "{cell}");
-        assert_eq!(rt; site.ncc(*cell), wanted.map(|c| c.3), "{cell}");
-        assert_eq!(rt; site.bcc(*cell), wanted.map(|c| c.4), "{cell}");
+    for (cell, lac, ci, bcch, ncc, bcc) in CELLS {
+        assert!(rt; site.lac(*cell) == Some(*lac), "{cell}");
+        assert!(rt; site.ci(*cell) == Some(*ci), "{cell}");
+        assert!(rt; site.bcch(*cell) == Some(*bcch), "{cell}");
+        assert!(rt; site.ncc(*cell) == Some(*ncc), "{cell}");
+        assert!(rt; site.bcc(*cell) == Some(*bcc), "{cell}");
+    }
+}
+
+fn says_of_no_cells(rt: &impl Abort, site: &Site<Global>) {
+    for cell in NO_CELLS {
+        assert!(rt; site.lac(*cell).is_none(), "{cell}");
+        assert!(rt; site.ci(*cell).is_none(), "{cell}");
+        assert!(rt; site.bcch(*cell).is_none(), "{cell}");
+        assert!(rt; site.ncc(*cell).is_none(), "{cell}");
+        assert!(rt; site.bcc(*cell).is_none(), "{cell}");
     }
 }
 
 fn says_of_own(rt: &impl Abort, site: &Site<Global>) {
-    for (cell, wanted) in OWN {
-        assert_eq!(rt; site.power(*cell), wanted.map(|c| c.0), "{cell}");
-        assert_eq!(rt; site.ba(*cell), wanted.map(|c| c.1), "{cell}");
-        assert_eq!(rt; site.trx(*cell), wanted.map(|c| c.2), "{cell}");
+    for (cell, power, ba, trx) in OWN {
+        assert!(rt; site.power(*cell) == Some(*power), "{cell}");
+        assert!(rt; site.ba(*cell) == Some(*ba), "{cell}");
+        assert!(rt; site.trx(*cell) == Some(*trx), "{cell}");
+    }
+}
+
+fn says_of_no_own(rt: &impl Abort, site: &Site<Global>) {
+    for cell in NO_OWN {
+        assert!(rt; site.power(*cell).is_none(), "{cell}");
+        assert!(rt; site.ba(*cell).is_none(), "{cell}");
+        assert!(rt; site.trx(*cell).is_none(), "{cell}");
     }
 }
 
 fn says_of_trx(rt: &impl Abort, site: &Site<Global>) {
-    for (cell, trx, wanted) in TRX {
-        assert_eq!(rt;
-            site.arfcn(*cell, *trx),
-            wanted.map(|t| t.0),
-            "{cell} {trx}"
-        );
-        assert_eq!(rt; site.tch(*cell, *trx), wanted.map(|t| t.1), "{cell} {trx}");
+    for (cell, trx, arfcn, tch) in TRX {
+        assert!(rt; site.arfcn(*cell, *trx) == Some(*arfcn), "{cell} {trx}");
+        assert!(rt; site.tch(*cell, *trx) == Some(*tch), "{cell} {trx}");
+    }
+}
+
+fn says_of_no_trx(rt: &impl Abort, site: &Site<Global>) {
+    for (cell, trx) in NO_TRX {
+        assert!(rt; site.arfcn(*cell, *trx).is_none(), "{cell} {trx}");
+        assert!(rt; site.tch(*cell, *trx).is_none(), "{cell} {trx}");
     }
 }
 
@@ -131,14 +141,14 @@ fn numbers_channels(rt: &impl Abort, site: &Site<Global>, rows: &[((u8, u8, u8),
             trx: *trx,
             tn: *tn,
         };
-        assert_eq!(rt; site.index_of(chan), *wanted, "{chan}");
-        assert_eq!(rt; site.is_traffic(chan), wanted.is_some(), "{chan}");
+        assert!(rt; site.index_of(chan) == *wanted, "{chan}");
+        assert!(rt; site.is_traffic(chan) == wanted.is_some(), "{chan}");
     }
 }
 
 fn finds_cells(rt: &impl Abort, site: &Site<Global>) {
     for (lac, ci, wanted) in CODES {
-        assert_eq!(rt; site.cell_of(*lac, *ci), *wanted, "{lac} {ci}");
+        assert!(rt; site.cell_of(*lac, *ci) == *wanted, "{lac} {ci}");
     }
 }
 
@@ -147,8 +157,11 @@ fn a_site_says_what_its_file_does(rt: HostRuntime) -> Result<(), Fail> {
     let site = Site::read(rt.alloc(), rt.alloc(), SITE)?;
     says_of_all(&rt, &site);
     says_of_cells(&rt, &site);
+    says_of_no_cells(&rt, &site);
     says_of_own(&rt, &site);
+    says_of_no_own(&rt, &site);
     says_of_trx(&rt, &site);
+    says_of_no_trx(&rt, &site);
     numbers_channels(&rt, &site, CHANNELS);
     finds_cells(&rt, &site);
     Ok(())

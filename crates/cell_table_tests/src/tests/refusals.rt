@@ -108,16 +108,30 @@ fn said(alloc: Global, fault: SiteFault) -> Result<String, AllocError> {
     }
 }
 
+/// A text is refused without a request for memory.
+fn asks_for_none(rt: &impl Abort, scratch: Global, heap: &RefusingHeap, text: &str) {
+    assert!(rt; Site::read(heap, scratch, text).is_err(), "{text}");
+    assert_eq!(rt; heap.requests(), 0, "{text}");
+}
+
+/// A text is refused for this fault, as the program prints it.
+fn is_refused_for(rt: &(impl AllocGlobal + Abort), text: &str, printed: &str) -> Result<(), Fail> {
+    let fault = fault_of(rt.alloc(), text).expect(rt, text);
+    let said = said(rt.alloc(), fault)?;
+    assert!(rt;
+        said.as_str() == printed,
+        "{said} in place of {printed}: {text}"
+    );
+    Ok(())
+}
+
 #[test]
 fn what_is_one_key_away_is_refused(rt: HostRuntime) -> Result<(), Fail> {
+    let heap = RefusingHeap::refusing_from(rt.alloc(), 1);
     for (old, new, printed) in FAULTY {
         let text = changed(&rt, rt.alloc(), *old, *new)?;
-        let fault = fault_of(rt.alloc(), &text).expect(&rt, *new);
-        assert_eq!(rt;
-            said(rt.alloc(), fault)?.as_str(),
-            *printed,
-            "{old} -> {new}"
-        );
+        is_refused_for(&rt, &text, *printed)?;
+        asks_for_none(&rt, rt.alloc(), &heap, &text);
     }
     Ok(())
 }
@@ -137,20 +151,4 @@ fn texts_without_a_site_are_refused(rt: HostRuntime) {
     for (text, fault) in TEXTS {
         assert_eq!(rt; fault_of(rt.alloc(), *text), Some(*fault), "{text}");
     }
-}
-
-/// A text is refused without a request for memory.
-fn asks_for_none(rt: &impl Abort, scratch: Global, heap: &RefusingHeap, text: &str) {
-    assert!(rt; Site::read(heap, scratch, text).is_err(), "{text}");
-    assert_eq!(rt; heap.requests(), 0, "{text}");
-}
-
-#[test]
-fn no_memory_is_asked_for_a_text_without_a_site(rt: HostRuntime) -> Result<(), Fail> {
-    let heap = RefusingHeap::refusing_from(rt.alloc(), 1);
-    for (old, new, _) in FAULTY {
-        let text = changed(&rt, rt.alloc(), *old, *new)?;
-        asks_for_none(&rt, rt.alloc(), &heap, &text);
-    }
-    Ok(())
 }
