@@ -2,6 +2,7 @@ use super::{ALONE, printed, write_in_pieces};
 use refusing_heap::RefusingHeap;
 use run_views::{Viewer, Views, WordsFault};
 use std::alloc::{AllocError, Global};
+use std::process::Abort;
 use std::str;
 use std::test::Fail;
 
@@ -89,23 +90,36 @@ fn words_stand_behind_each_line(rt: HostRuntime) -> Result<(), Fail> {
     Ok(())
 }
 
+/// The first trace, with words.
+fn first_trace() -> &'static str {
+    TRACES.first().copied().unwrap_or("")
+}
+
+/// Whether the first trace is printed whole where the nth request for memory is refused; a front of it is, if not.
+fn is_whole(rt: &(impl AllocGlobal + Abort), n: u64, trace: &str) -> Result<bool, Fail> {
+    let wanted = first_trace();
+    let heap = RefusingHeap::refusing_nth(rt.alloc(), n);
+    let mut out = Vec::new(rt.alloc());
+    let mut viewer = Viewer::new(&heap, rt.alloc(), &WORDS, ALONE, &mut out)?;
+    let ended = write_in_pieces(&mut viewer, trace, 16);
+    drop(viewer);
+    let text = str::from_utf8(&out)?;
+    assert!(rt; wanted.starts_with(text), "{n}: {text}");
+    if heap.was_refused() {
+        assert!(rt; ended == Err(WordsFault::NoMemory), "{n}");
+        return Ok(false);
+    }
+    assert!(rt; ended.is_ok() && text == wanted, "{n}");
+    Ok(true)
+}
+
 #[test]
 fn refused_memory_ends_a_trace_in_mid_stream(rt: HostRuntime) -> Result<(), Fail> {
-    let wanted = TRACES.first().copied().unwrap_or("");
-    let trace = without_words(rt.alloc(), wanted)?;
+    let trace = without_words(rt.alloc(), first_trace())?;
     for n in 1..1_000 {
-        let heap = RefusingHeap::refusing_nth(rt.alloc(), n);
-        let mut out = Vec::new(rt.alloc());
-        let mut viewer = Viewer::new(&heap, rt.alloc(), &WORDS, ALONE, &mut out)?;
-        let ended = write_in_pieces(&mut viewer, &trace, 16);
-        drop(viewer);
-        let text = str::from_utf8(&out)?;
-        assert!(rt; wanted.starts_with(text), "{n}: {text}");
-        if !heap.was_refused() {
-            assert!(rt; ended.is_ok() && text == wanted, "{n}");
+        if is_whole(&rt, n, &trace)? {
             return Ok(());
         }
-        assert!(rt; ended == Err(WordsFault::NoMemory), "{n}");
     }
     assert!(rt; false, "some run isn't refused");
     Ok(())
