@@ -80,6 +80,11 @@ went_on inputs more c c' c'' h k = record {
   scripted = scripted_joined h.turns k.turns ∙ rw (h.scripted, k.scripted) refl;
 }
 
+-- what holds anyway holds where all went well
+pub where_ok : {X E : Type 0} (P : Type 0) (r : Result X E) → P → OnOk r P
+where_ok P (Ok x) p = p
+where_ok P (Err f) p = tt
+
 -- and then none of a script
 pub went_past : {A X E : Type 0} (inputs : List (Side × Inbound A)) (c c' c'' : Course A) (r : Result X E) → Went inputs c c' → OnOk r (Went [] c' c'') → OnOk r (Went inputs c c'')
 went_past inputs c c' c'' (Ok x) h k = subst (λ (all : List (Side × Inbound _)). Went all c c'') (append-nil inputs) (went_on inputs [] c c' c'' h k)

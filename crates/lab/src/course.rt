@@ -17,7 +17,7 @@ use std::alloc::{AllocError, Allocator, Global};
 use std::collections::VecDeque;
 use std::io::{self, Write};
 use std::sync::Arc;
-use trace_text::trace::print_limit;
+use trace_text::trace::{Mark, print_limit};
 
 /// How many answers of simulators are handled for one line of a script.
 const MOST_ANSWERS: u16 = 10_000;
@@ -120,10 +120,10 @@ impl<A: Allocator + Copy> Course<A> {
     {
         self.turns.reserve(1)?;
         let turn = self.controllers.take_turn(self.alloc, side, source, input)?;
-        print_turn(out, self.controllers.mark(side), &turn)?;
-        pass_answer(&mut self.simulators, &turn, waiting)?;
+        let mark = self.controllers.mark(side);
+        let told = tell(&mut self.simulators, mark, &turn, waiting, out);
         self.turns.push_reserved(turn);
-        Ok(())
+        told
     }
 
     /// Handles what a simulator sends. The simulators know the controllers that are there and no other: what was for
@@ -199,11 +199,7 @@ impl<A: Allocator + Copy> Course<A> {
     }
 
     /// Does what the lines of a script give, in their order, and prints the trace but for its end.
-    pub(crate) fn run<W: Write>(
-        &mut self,
-        items: Vec<Item<A>, A>,
-        out: &mut W,
-    ) -> Result<(), LabFault>
+    fn run<W: Write>(&mut self, items: Vec<Item<A>, A>, out: &mut W) -> Result<(), LabFault>
         requires there { AreThere (has_peer self.old) items.items }
         ensures { OnOk result (Went (inputs_in items.items) self.old self.new) }
     {
@@ -211,6 +207,19 @@ impl<A: Allocator + Copy> Course<A> {
             self.follow(item, out)?;
         }
         Ok(())
+    }
+
+    /// The same, and prints the trace's end behind that.
+    pub(crate) fn run_to_end<W: Write>(
+        &mut self,
+        items: Vec<Item<A>, A>,
+        out: &mut W,
+    ) -> Result<(), LabFault>
+        requires there { AreThere (has_peer self.old) items.items }
+        ensures { OnOk result (Went (inputs_in items.items) self.old self.new) }
+    {
+        self.run(items, out)?;
+        Ok(self.print_ends(out)?)
     }
 
     /// What came of it so far.
@@ -232,6 +241,18 @@ impl<A: Allocator + Copy> Course<A> {
     pub(crate) fn print_ends<W: Write>(&self, out: &mut W) -> io::Result<()> {
         self.controllers.print_ends(out)
     }
+}
+
+/// Prints what came of an input, and lets what simulators answer to that wait.
+fn tell<A: Allocator + Copy, W: Write>(
+    simulators: &mut Option<Simulators<A>>,
+    mark: Mark,
+    turn: &Turn<A>,
+    waiting: &mut Waiting<A>,
+    out: &mut W,
+) -> Result<(), LabFault> {
+    print_turn(out, mark, turn)?;
+    Ok(pass_answer(simulators, turn, waiting)?)
 }
 
 /// Says that what still waits is dropped, where there is any.

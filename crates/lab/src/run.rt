@@ -146,8 +146,7 @@ fn play_items<A: Allocator + Copy, W: Write>(
     ensures ran { IfOk result (λ run. IsRunOf (views_of sites) (inputs_in items.items) run) }
 {
     let mut course = fresh_course(alloc, sites)?;
-    course.run(items, out)?;
-    course.print_ends(out)?;
+    course.run_to_end(items, out)?;
     Ok(course.into_run())
 }
 

@@ -1,6 +1,6 @@
 //! The words of the commands that test and record scripts.
 use crate::site_files::SitePaths;
-use crate::words::{argument, peer_argument};
+use crate::words::{argument, peer_argument, with_script};
 use clap::{ArgMatches, Command};
 use std::alloc::{AllocError, Global};
 
@@ -38,12 +38,10 @@ pub(crate) fn test_command<'a>(alloc: Global) -> Result<Command<'a>, AllocError>
 
 /// `record SITE SCRIPT [--peer SITE]`
 pub(crate) fn record_command<'a>(alloc: Global) -> Result<Command<'a>, AllocError> {
-    Command::new(alloc, "record")
+    let command = Command::new(alloc, "record")
         .about("Runs a script and prints it with comments that expect what came of each line")
-        .after_help(RECORD_HELP)
-        .arg(argument(alloc, "SITE", "The site file"))?
-        .arg(argument(alloc, "SCRIPT", "The script file"))?
-        .arg(peer_argument(alloc))
+        .after_help(RECORD_HELP);
+    with_script(alloc, command)
 }
 
 /// The paths of the sites.

@@ -110,15 +110,23 @@ pub(crate) fn peer_argument<'a>(alloc: Global) -> Arg<'a> {
         .help("The site file of a second controller, for lines of the script with 2:")
 }
 
+/// `SITE SCRIPT [--peer SITE]`
+pub(crate) fn with_script<'a>(
+    alloc: Global,
+    command: Command<'a>,
+) -> Result<Command<'a>, AllocError> {
+    command
+        .arg(argument(alloc, "SITE", "The site file"))?
+        .arg(argument(alloc, "SCRIPT", "The script file"))?
+        .arg(peer_argument(alloc))
+}
+
 /// `run SITE SCRIPT [--peer SITE]`, and the views of the run
 fn run_command<'a>(alloc: Global) -> Result<Command<'a>, AllocError> {
     let command = Command::new(alloc, "run")
         .about("Runs a script over a site and prints the trace")
-        .after_help(RUN_HELP)
-        .arg(argument(alloc, "SITE", "The site file"))?
-        .arg(argument(alloc, "SCRIPT", "The script file"))?
-        .arg(peer_argument(alloc))?;
-    view_options(alloc, command)
+        .after_help(RUN_HELP);
+    view_options(alloc, with_script(alloc, command)?)
 }
 
 /// What stands behind the help of `run`.
@@ -202,8 +210,18 @@ fn decode_command<'a>(alloc: Global) -> Result<Command<'a>, AllocError> {
     let command = Command::new(alloc, "decode")
         .about("Prints a message in words, as in: decode abis 082e010b")
         .after_help(DECODE_HELP);
+    with_lines(alloc, with_message(alloc, command)?)
+}
+
+/// The arguments of `decode` of one message.
+fn with_message<'a>(alloc: Global, command: Command<'a>) -> Result<Command<'a>, AllocError> {
     let command = with_argument(command, link_argument(alloc))?;
-    let command = with_argument(command, hex_argument(alloc))?.arg(from_argument(alloc))?;
+    with_argument(command, hex_argument(alloc))
+}
+
+/// Those of `decode` of lines.
+fn with_lines<'a>(alloc: Global, command: Command<'a>) -> Result<Command<'a>, AllocError> {
+    let command = command.arg(from_argument(alloc))?;
     with_argument(command, all_argument(alloc))
 }
 

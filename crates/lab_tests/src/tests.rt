@@ -28,7 +28,9 @@ mod words;
 use lab::run::{LabFault, Status, lab_run};
 use sample_sites::THREE_CHANNELS as SITE;
 use std::alloc::{Allocator, Global};
+use std::fs;
 use std::process::Abort;
+use std::rt::Files;
 use std::test::Fail;
 
 /// A call from its begin to its end, and what it prints.
@@ -49,6 +51,22 @@ event released 0/0/3 -> done
 end channels=0 calls=0 references=0 timers=0
 ",
 );
+
+/// Writes files, each with its text, into the folder that a test runs in.
+fn write_files(rt: &(impl Files + AllocGlobal), files: &[(&str, &str)]) -> Result<(), Fail> {
+    for (path, text) in files {
+        fs::write(rt, *path, *text)?;
+    }
+    Ok(())
+}
+
+/// Removes files from it.
+fn remove_files(rt: &(impl Files + AllocGlobal), paths: &[&str]) -> Result<(), Fail> {
+    for path in paths {
+        fs::remove_file(rt, *path)?;
+    }
+    Ok(())
+}
 
 /// What a run over a site, and over a peer's where there is one, printed, and how it ended.
 fn printed<A: Allocator + Copy>(

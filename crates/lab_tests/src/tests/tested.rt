@@ -1,7 +1,7 @@
 //! Scripts that test themselves, and that are recorded.
-use super::SITE;
 use super::failing::Failing;
 use super::peer::PEER;
+use super::{SITE, write_files};
 use lab::recorded::record_run;
 use lab::run::{LabFault, Status};
 use lab::script_files::{record_file, test_files};
@@ -100,6 +100,21 @@ fn spoilt(alloc: Global, script: &str, place: usize) -> Result<Option<String>, F
     Ok(if is_spoilt { Some(text) } else { None })
 }
 
+/// A script differs from what comes of it at a line, counted from 1, and in none before.
+fn differs_at(
+    rt: &impl Abort,
+    alloc: Global,
+    peer: Option<&str>,
+    script: &str,
+    line: usize,
+) -> Result<(), Fail> {
+    let (status, text) = tested(alloc, alloc, peer, script)?;
+    assert_eq!(rt; status, Ok(Status::Differs), "{script}");
+    let said = format!(in alloc; "not ok 1 - script\n# line {line}\n# expected: ")?;
+    assert!(rt; text.starts_with(said.as_str()), "{script}{text}");
+    Ok(())
+}
+
 /// Each line of a record that expects something is needed: with another, the test says that it differs.
 fn differs_at_each(
     rt: &impl Abort,
@@ -108,37 +123,71 @@ fn differs_at_each(
     record: &str,
 ) -> Result<(), Fail> {
     for place in 0..record.matches('\n').count() {
-        let Some(script) = spoilt(alloc, record, place)? else {
-            continue;
-        };
-        let (status, text) = tested(alloc, alloc, peer, &script)?;
-        assert_eq!(rt; status, Ok(Status::Differs), "{script}");
-        let line = format!(in alloc; "not ok 1 - script\n# line {}\n# expected: ", place + 1)?;
-        assert!(rt; text.starts_with(line.as_str()), "{script}{text}");
+        if let Some(script) = spoilt(alloc, record, place)? {
+            differs_at(rt, alloc, peer, &script, place + 1)?;
+        }
     }
     Ok(())
 }
 
+/// The record of a script.
+fn record_of(
+    rt: &impl Abort,
+    alloc: Global,
+    peer: Option<&str>,
+    script: &str,
+) -> Result<String, Fail> {
+    let (status, record) = recorded(alloc, alloc, peer, script)?;
+    assert_eq!(rt; status, Ok(Status::Done), "{script}");
+    Ok(record)
+}
+
+/// A record meets its test.
+fn is_met(rt: &impl Abort, alloc: Global, peer: Option<&str>, record: &str) -> Result<(), Fail> {
+    let (status, text) = tested(alloc, alloc, peer, record)?;
+    let met = (Ok(Status::Done), "ok 1 - script\n");
+    assert_eq!(rt; (status, text.as_str()), met, "{record}");
+    Ok(())
+}
+
+/// A record has all else that the script has.
+fn has_the_rest(rt: &impl Abort, alloc: Global, record: &str, script: &str) -> Result<(), Fail> {
+    let kept = bare(alloc, record)?;
+    assert_eq!(rt; kept.trim_end(), bare(alloc, script)?.trim_end());
+    Ok(())
+}
+
+/// The record of a record is the same.
+fn is_its_record(
+    rt: &impl Abort,
+    alloc: Global,
+    peer: Option<&str>,
+    record: &str,
+) -> Result<(), Fail> {
+    let again = record_of(rt, alloc, peer, record)?;
+    assert_eq!(rt; again.as_str(), record);
+    Ok(())
+}
+
+/// What was recorded of a script is met, and each line of it is needed.
+fn is_recorded(
+    rt: &impl Abort,
+    alloc: Global,
+    peer: Option<&str>,
+    script: &str,
+    record: &str,
+) -> Result<(), Fail> {
+    is_met(rt, alloc, peer, record)?;
+    has_the_rest(rt, alloc, record, script)?;
+    is_its_record(rt, alloc, peer, record)?;
+    differs_at_each(rt, alloc, peer, record)
+}
+
 #[test]
 fn what_was_recorded_is_met(rt: HostRuntime) -> Result<(), Fail> {
-    let alloc = rt.alloc();
     for (peer, script) in SCRIPTS {
-        let (status, record) = recorded(alloc, alloc, *peer, *script)?;
-        assert_eq!(rt; status, Ok(Status::Done), "{script}");
-        let met = (Ok(Status::Done), "ok 1 - script\n");
-        let (status, text) = tested(alloc, alloc, *peer, &record)?;
-        assert_eq!(rt; (status, text.as_str()), met, "{record}");
-        // all else stays
-        assert_eq!(rt;
-            bare(alloc, &record)?.trim_end(),
-            bare(alloc, *script)?.trim_end()
-        );
-        let (status, again) = recorded(alloc, alloc, *peer, &record)?;
-        assert_eq!(rt;
-            (status, again.as_str()),
-            (Ok(Status::Done), record.as_str())
-        );
-        differs_at_each(&rt, alloc, *peer, &record)?;
+        let record = record_of(&rt, rt.alloc(), *peer, *script)?;
+        is_recorded(&rt, rt.alloc(), *peer, *script, &record)?;
     }
     Ok(())
 }
@@ -405,55 +454,74 @@ const PATHS: SitePaths<'_> = SitePaths {
     peer: None,
 };
 
-#[test]
-fn files_are_tested(rt: HostRuntime) -> Result<(), Fail> {
-    for (path, text) in FILES {
-        fs::write(&rt, *path, *text)?;
-    }
-    for (scripts, ended, text, said) in SUITES {
-        files_end(&rt, PATHS, *scripts, (*ended, *text, *said))?;
-    }
-    let with_peer = SitePaths {
-        first: SITE_FILE,
-        peer: Some(PEER_FILE),
-    };
-    // with a peer each line of the trace has its mark
-    let marked = "1..1
+/// Sites, what the test of a script that is met over the first alone ends with, prints, and says: with a peer each line of
+/// the trace has its mark; a peer's file that is no site; a site's that isn't there.
+const OTHER_SITES: &[(SitePaths<'_>, Status, &str, &str)] = &[
+    (
+        SitePaths {
+            first: SITE_FILE,
+            peer: Some(PEER_FILE),
+        },
+        Status::Differs,
+        "1..1
 not ok 1 - tested_met.txt
 # line 3
 # expected: in open 1 0 0 3
 # came: 1: in open 1 0 0 3
-";
-    files_end(
-        &rt,
-        with_peer,
-        &["tested_met.txt"],
-        (Status::Differs, marked, ""),
-    )?;
-    let no_site = SitePaths {
-        first: SITE_FILE,
-        peer: Some("tested_met.txt"),
-    };
-    files_end(
-        &rt,
-        no_site,
-        &["tested_met.txt"],
-        (Status::Refused, "site 1\n", "tested_met.txt:"),
-    )?;
-    let missing = SitePaths {
-        first: "no site",
-        peer: None,
-    };
-    files_end(
-        &rt,
-        missing,
-        &["tested_met.txt"],
-        (Status::Refused, "file no site\n", "no site: no such file"),
-    )?;
+",
+        "",
+    ),
+    (
+        SitePaths {
+            first: SITE_FILE,
+            peer: Some("tested_met.txt"),
+        },
+        Status::Refused,
+        "site 1\n",
+        "tested_met.txt:",
+    ),
+    (
+        SitePaths {
+            first: "no site",
+            peer: None,
+        },
+        Status::Refused,
+        "file no site\n",
+        "no site: no such file",
+    ),
+];
+
+/// Tests of files over the site end so.
+fn suites_end(rt: &(impl Files + AllocGlobal + Abort)) -> Result<(), Fail> {
+    for (scripts, ended, text, said) in SUITES {
+        files_end(rt, PATHS, *scripts, (*ended, *text, *said))?;
+    }
+    Ok(())
+}
+
+/// A test over other sites ends so.
+fn others_end(rt: &(impl Files + AllocGlobal + Abort)) -> Result<(), Fail> {
+    for (paths, ended, text, said) in OTHER_SITES {
+        files_end(rt, *paths, &["tested_met.txt"], (*ended, *text, *said))?;
+    }
+    Ok(())
+}
+
+/// The record of a file is that of its text.
+fn a_file_is_recorded(rt: &(impl Files + AllocGlobal + Abort)) -> Result<(), Fail> {
     let mut out = Vec::new(rt.alloc());
     let mut errors = Vec::new(rt.alloc());
-    let ended = record_file(&rt, PATHS, "tested_met.txt", &mut out, &mut errors);
+    let ended = record_file(rt, PATHS, "tested_met.txt", &mut out, &mut errors);
     assert_eq!(rt; (ended, str::from_utf8(&out)?), (Ok(Status::Done), RECORD));
+    Ok(())
+}
+
+#[test]
+fn files_are_tested(rt: HostRuntime) -> Result<(), Fail> {
+    write_files(&rt, FILES)?;
+    suites_end(&rt)?;
+    others_end(&rt)?;
+    a_file_is_recorded(&rt)?;
     for (path, _) in FILES {
         fs::remove_file(&rt, *path)?;
     }

@@ -1,4 +1,4 @@
-use super::{ONE_CALL, SITE};
+use super::{ONE_CALL, SITE, remove_files, write_files};
 use lab::files::run_files;
 use lab::run::{LabFault, exit_status};
 use lab::site_files::SitePaths;
@@ -51,19 +51,20 @@ fn says_why(rt: &(impl Files + AllocGlobal + Abort), pcap: &str, chart: &str) ->
     Ok(())
 }
 
-#[test]
-fn a_file_without_room_is_named(rt: HostRuntime) -> Result<(), Fail> {
-    fs::write(&rt, SITE_FILE, SITE)?;
-    fs::write(&rt, SCRIPT_FILE, ONE_CALL.0)?;
-    says_why(&rt, FULL, CHART_FILE)?;
-    // the other file is written all the same
-    let chart = fs::read_to_string(&rt, CHART_FILE)?;
+/// The chart is written all the same where the capture has no room.
+fn is_charted(rt: &(impl Files + AllocGlobal + Abort)) -> Result<(), Fail> {
+    let chart = fs::read_to_string(rt, CHART_FILE)?;
     assert_eq!(rt; chart.matches("marker-end").count(), 4, "{chart}");
     assert!(rt; chart.ends_with("</svg>\n"));
+    Ok(())
+}
+
+#[test]
+fn a_file_without_room_is_named(rt: HostRuntime) -> Result<(), Fail> {
+    write_files(&rt, &[(SITE_FILE, SITE), (SCRIPT_FILE, ONE_CALL.0)])?;
+    says_why(&rt, FULL, CHART_FILE)?;
+    is_charted(&rt)?;
     says_why(&rt, PCAP_FILE, FULL)?;
     assert_eq!(rt; fs::read(&rt, PCAP_FILE)?.len(), 24 + 4 * 59 + 27);
-    for file in [SITE_FILE, SCRIPT_FILE, PCAP_FILE, CHART_FILE] {
-        fs::remove_file(&rt, file)?;
-    }
-    Ok(())
+    remove_files(&rt, &[SITE_FILE, SCRIPT_FILE, PCAP_FILE, CHART_FILE])
 }

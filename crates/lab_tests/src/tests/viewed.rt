@@ -1,5 +1,5 @@
 use super::failing::Failing;
-use super::{ONE_CALL, SITE};
+use super::{ONE_CALL, SITE, remove_files, write_files};
 use lab::files::run_files;
 use lab::run::{LabFault, Status};
 use lab::site_files::SitePaths;
@@ -62,45 +62,39 @@ fn files_have(
     Ok(())
 }
 
-#[test]
-fn a_run_is_viewed(rt: HostRuntime) -> Result<(), Fail> {
-    fs::write(&rt, SITE_FILE, SITE)?;
-    fs::write(&rt, SCRIPT_FILE, ONE_CALL.0)?;
+/// The site alone.
+const PATHS: SitePaths<'_> = SitePaths {
+    first: SITE_FILE,
+    peer: None,
+};
+
+/// The run prints its trace with words and states.
+fn prints_words(rt: &(impl Files + AllocGlobal + Abort)) -> Result<(), Fail> {
     let mut out = Vec::new(rt.alloc());
     let mut errors = Vec::new(rt.alloc());
-    let ended = run_files(
-        &rt,
-        SitePaths {
-            first: SITE_FILE,
-            peer: None,
-        },
-        SCRIPT_FILE,
-        &ALL,
-        &mut out,
-        &mut errors,
-    );
+    let ended = run_files(rt, PATHS, SCRIPT_FILE, &ALL, &mut out, &mut errors);
     assert_eq!(rt; (ended, str::from_utf8(&out)?), (Ok(Status::Done), WORDED));
     assert!(rt; errors.is_empty());
+    Ok(())
+}
+
+/// A write that fails ends the run behind its fourth line, which is the second message's: the chart is written all the same.
+fn ends_early(rt: &(impl Files + AllocGlobal + Abort)) -> Result<(), Fail> {
+    let mut out = Failing::after(rt.alloc(), 15);
+    let mut errors = Vec::new(rt.alloc());
+    let ended = run_files(rt, PATHS, SCRIPT_FILE, &ALL, &mut out, &mut errors);
+    assert_eq!(rt; ended, Err(LabFault::Write));
+    let chart = fs::read_to_string(rt, CHART_FILE)?;
+    assert!(rt; chart.ends_with("</svg>\n"));
+    Ok(())
+}
+
+#[test]
+fn a_run_is_viewed(rt: HostRuntime) -> Result<(), Fail> {
+    write_files(&rt, &[(SITE_FILE, SITE), (SCRIPT_FILE, ONE_CALL.0)])?;
+    prints_words(&rt)?;
     // the header, and four packets: 56 octets, 3 and the message's 12, 7, 4 and 4
     files_have(&rt, 24 + 4 * 59 + 27, 4)?;
-    // a write that fails ends the run behind its fourth line, which is the second message's
-    let mut out = Failing::after(rt.alloc(), 15);
-    let ended = run_files(
-        &rt,
-        SitePaths {
-            first: SITE_FILE,
-            peer: None,
-        },
-        SCRIPT_FILE,
-        &ALL,
-        &mut out,
-        &mut errors,
-    );
-    assert_eq!(rt; ended, Err(LabFault::Write));
-    let chart = fs::read_to_string(&rt, CHART_FILE)?;
-    assert!(rt; chart.ends_with("</svg>\n"));
-    for file in [SITE_FILE, SCRIPT_FILE, PCAP_FILE, CHART_FILE] {
-        fs::remove_file(&rt, file)?;
-    }
-    Ok(())
+    ends_early(&rt)?;
+    remove_files(&rt, &[SITE_FILE, SCRIPT_FILE, PCAP_FILE, CHART_FILE])
 }

@@ -1,10 +1,11 @@
-use super::SITE;
 use super::peer::PEER;
+use super::{SITE, remove_files, write_files};
 use lab::files::run_files;
 use lab::run::Status;
 use lab::site_files::SitePaths;
 use run_views::Views;
 use std::process::Abort;
+use std::rt::Files;
 use std::test::Fail;
 use std::{fs, str};
 
@@ -73,34 +74,43 @@ const WORDED: &str = "1: in open 1 0 0 3 # call 1
 2: state empty
 ";
 
-#[test]
-fn a_run_of_two_controllers_is_viewed(rt: HostRuntime) -> Result<(), Fail> {
-    fs::write(&rt, SITE_FILE, SITE)?;
-    fs::write(&rt, PEER_FILE, PEER)?;
-    fs::write(&rt, SCRIPT_FILE, SCRIPT)?;
+/// The sites of both.
+const PATHS: SitePaths<'_> = SitePaths {
+    first: SITE_FILE,
+    peer: Some(PEER_FILE),
+};
+
+/// The run prints its trace with words and states.
+fn prints_words(rt: &(impl Files + AllocGlobal + Abort)) -> Result<(), Fail> {
     let mut out = Vec::new(rt.alloc());
     let mut errors = Vec::new(rt.alloc());
-    let ended = run_files(
-        &rt,
-        SitePaths {
-            first: SITE_FILE,
-            peer: Some(PEER_FILE),
-        },
-        SCRIPT_FILE,
-        &ALL,
-        &mut out,
-        &mut errors,
-    );
+    let ended = run_files(rt, PATHS, SCRIPT_FILE, &ALL, &mut out, &mut errors);
     assert_eq!(rt; (ended, str::from_utf8(&out)?), (Ok(Status::Done), WORDED));
     assert!(rt; errors.is_empty());
-    // the header, and six packets: 56 octets, 3 and the message's 12, 12, 7, 7, 4 and 4
-    assert_eq!(rt; fs::read(&rt, PCAP_FILE)?.len(), 24 + 6 * 59 + 46);
-    let chart = fs::read_to_string(&rt, CHART_FILE)?;
+    Ok(())
+}
+
+/// The chart has the messages, and lanes of both controllers.
+fn is_charted(rt: &(impl Files + AllocGlobal + Abort)) -> Result<(), Fail> {
+    let chart = fs::read_to_string(rt, CHART_FILE)?;
     assert_eq!(rt; chart.matches("marker-end").count(), 6, "{chart}");
     assert!(rt; chart.contains(">controller 2<"), "{chart}");
     assert!(rt; chart.contains(">stations 2<"), "{chart}");
-    for file in [SITE_FILE, PEER_FILE, SCRIPT_FILE, PCAP_FILE, CHART_FILE] {
-        fs::remove_file(&rt, file)?;
-    }
     Ok(())
+}
+
+#[test]
+fn a_run_of_two_controllers_is_viewed(rt: HostRuntime) -> Result<(), Fail> {
+    write_files(
+        &rt,
+        &[(SITE_FILE, SITE), (PEER_FILE, PEER), (SCRIPT_FILE, SCRIPT)],
+    )?;
+    prints_words(&rt)?;
+    // the header, and six packets: 56 octets, 3 and the message's 12, 12, 7, 7, 4 and 4
+    assert_eq!(rt; fs::read(&rt, PCAP_FILE)?.len(), 24 + 6 * 59 + 46);
+    is_charted(&rt)?;
+    remove_files(
+        &rt,
+        &[SITE_FILE, PEER_FILE, SCRIPT_FILE, PCAP_FILE, CHART_FILE],
+    )
 }

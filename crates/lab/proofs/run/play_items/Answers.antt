@@ -3,4 +3,4 @@ use Rattle.lab.specs.Sites.{views_of}
 use Rattle.lab.proofs.run.play_items.Goals as goal
 
 pub returns : goal.returns
-returns g c = record { ran = all_ran (views_of c.args.sites) _ c.in_ok-course.course c.run.new.self c.into_run.result c.in_ok-course.ensures.openings c.in_ok-course.ensures.turns c.in_ok-run.ensures c.into_run.ensures.turns c.into_run.ensures.controllers }
+returns g c = record { ran = all_ran (views_of c.args.sites) _ c.in_ok-course.course c.run_to_end.new.self c.into_run.result c.in_ok-course.ensures.openings c.in_ok-course.ensures.turns c.in_ok-run_to_end.ensures c.into_run.ensures.turns c.into_run.ensures.controllers }
