@@ -16,21 +16,31 @@ fn shown_words(alloc: Global, words: &[&str]) -> Result<Vec<String>, AllocError>
     Ok(shown)
 }
 
+/// What stands between two parts of a line: of one paragraph, or of two.
+fn joint(is_new: bool) -> &'static str {
+    if is_new { "; " } else { " " }
+}
+
+/// Adds a part to a line, behind those that it has.
+fn push_part(line: &mut String, part: &str, is_new: bool) -> Result<(), AllocError> {
+    if !line.is_empty() {
+        line.push_str(joint(is_new))?;
+    }
+    line.push_str(part.trim())
+}
+
 /// The lines of `clap`'s text in one: its paragraphs, which empty lines separate, without the last, which names `--help`.
 fn in_one_line(alloc: Global, text: &str) -> Result<String, AllocError> {
     let mut line = String::new(alloc);
-    let mut joint = "";
+    let mut is_new = false;
     for part in text.lines() {
         if part.starts_with("For more information") {
             break;
         }
-        if part.is_empty() {
-            joint = "; ";
-        } else {
-            line.push_str(joint)?;
-            line.push_str(part.trim())?;
-            joint = " ";
+        if !part.is_empty() {
+            push_part(&mut line, part, is_new)?;
         }
+        is_new = part.is_empty();
     }
     Ok(line)
 }
