@@ -15,14 +15,15 @@
 //! refused, or something not to be written, 3 memory refused.
 #![tactic(auto)]
 
-ghost use Rattle.std.specs.Prelude.{◌<◌, IfSome};
+ghost use Rattle.std.specs.Prelude.{◌≡◌, ◌<◌, None, IsSome, IsErr};
+ghost use Rattle.progress.specs.Keeping.{error_of};
 
 use file_reasons::Reason;
 use lab::program::perform;
 use lab::run::{LabFault, Status, exit_status};
-use progress::Progress;
+use progress::{Counted, Erasing, Keeping, Progress};
 use std::env;
-use std::io::{self, BufWriter, IsTerminal, Read, Write};
+use std::io::{self, BufWriter, IsTerminal, LineWriter, Read, Write};
 use std::process::ExitCode;
 use std::rt::{Env, Files};
 
@@ -41,39 +42,65 @@ fn words_of<R: Env + AllocGlobal, E: Write>(
     }
 }
 
-/// After how many lines of its output a person is told how far a command is: those commands alone may take long, and print
-/// a line for each part of their work.
-fn step_of(words: &[&str]) -> Option<u64>
-    ensures { IfSome result (λ step. 0 < step) }
-{
+/// A terminal that is told how far a command is: how many lines counted, each so many of them.
+#[derive(Drop)]
+struct Watch<T> {
+    terminal: T,
+    counted: Counted,
+    step: u64,
+    ghost stepping: { 0 < step },
+}
+
+/// Whether the words of `decode` name lines to be read, other than those that a person types on the terminal.
+fn reads_lines(words: &[&str], is_typed: bool) -> bool {
+    let is_input = words.iter().any(|word| *word == "-" || *word == "--from=-");
+    words.iter().any(|word| word.starts_with("--from")) && !(is_typed && is_input)
+}
+
+/// How a terminal is told how far a command is; nothing but of those that may take long, and print a line for each part of
+/// their work.
+fn watch_of<T: Drop>(words: &[&str], is_typed: bool, terminal: T) -> Option<Watch<T>> {
     match *words.first()? {
-        "test" => Some(1),
-        "decode" => Some(10_000),
+        "test" => Some(Watch {
+            terminal,
+            counted: Counted::Scripts,
+            step: 1,
+        }),
+        "decode" if reads_lines(words, is_typed) => Some(Watch {
+            terminal,
+            counted: Counted::Lines,
+            step: 10_000,
+        }),
         _ => None,
     }
 }
 
-/// The status once the output's rest was written. Where it couldn't be, `errors` says why.
+/// The status once the output's rest was written. Where a part of the output couldn't be, `errors` says what the system said
+/// first.
 fn closed<W: Write, E: Write>(
     ended: Result<Status, LabFault>,
-    out: &mut W,
+    out: &mut Keeping<W>,
     errors: &mut E,
-) -> Result<Status, LabFault> {
-    // what was printed before a fault is shown
-    match out.flush() {
-        Ok(()) => ended,
-        Err(error) => {
-            writeln!(errors, "standard output: {}", Reason(&error))?;
+) -> Result<Status, LabFault>
+    ensures failed { IsSome (error_of out.new) → IsErr result }
+    ensures written { error_of out.new ≡ None → result ≡ ended }
+{
+    // what was printed before a fault is shown; why it couldn't be is kept
+    let _ = out.flush();
+    match out.error() {
+        Some(error) => {
+            writeln!(errors, "standard output: {}", Reason(error))?;
             match ended {
                 Ok(_) => Err(LabFault::Write),
                 Err(fault) => Err(fault),
             }
         }
+        None => ended,
     }
 }
 
-/// Does what the words ask for, and tells a person each `step` lines how many were printed.
-fn perform_watched<
+/// Does what the words ask for, where no terminal shows the output, and one is told how far the command is.
+fn perform_elsewhere<
     R: Files + AllocGlobal,
     I: Read + Drop,
     W: Write + Drop,
@@ -83,25 +110,79 @@ fn perform_watched<
     rt: &R,
     words: &[&str],
     input: I,
-    out: W,
-    terminal: T,
-    step: u64,
+    mut out: Keeping<W>,
+    watch: Option<Watch<T>>,
     errors: &mut E,
-) -> Result<Status, LabFault>
-    requires { 0 < step }
-{
-    let mut watched = Progress::new(out, terminal, step);
-    let ended = perform(rt, words, input, &mut watched, errors);
-    closed(ended, &mut watched.finish(), errors)
+) -> Result<Status, LabFault> {
+    match watch {
+        Some(
+            Watch {
+                terminal,
+                counted,
+                step,
+            },
+        ) => {
+            let mut progress = Progress::new(out, terminal, counted, step);
+            let ended = perform(rt, words, input, &mut progress, errors);
+            closed(ended, &mut progress.finish(), errors)
+        }
+        None => {
+            let ended = perform(rt, words, input, &mut out, errors);
+            closed(ended, &mut out, errors)
+        }
+    }
 }
 
-/// Reads the words of the command line, and does what they ask for; where a person sees standard error alone, `is_watched`,
-/// that tells how far a long command is.
+/// Does what the words ask for, where a terminal shows the output line by line, and the same one is told below it how far
+/// the command is.
+fn perform_on_terminal<
+    R: Files + AllocGlobal,
+    I: Read + Drop,
+    W: Write + Drop,
+    T: Write + Drop,
+    E: Write,
+>(
+    rt: &R,
+    words: &[&str],
+    input: I,
+    mut out: Keeping<W>,
+    watch: Option<Watch<T>>,
+    errors: &mut E,
+) -> Result<Status, LabFault> {
+    match watch {
+        Some(
+            Watch {
+                terminal,
+                counted,
+                step: _,
+            },
+        ) => {
+            let mut erasing = Erasing::new(out, terminal, counted);
+            let ended = perform(rt, words, input, &mut erasing, errors);
+            closed(ended, &mut erasing.finish(), errors)
+        }
+        None => {
+            let ended = perform(rt, words, input, &mut out, errors);
+            closed(ended, &mut out, errors)
+        }
+    }
+}
+
+/// Which of the three streams are a terminal.
+#[derive(Clone, Copy)]
+struct Terminals {
+    input: bool,
+    output: bool,
+    errors: bool,
+}
+
+/// Reads the words of the command line, and does what they ask for. `terminal` is standard error once more, for what is
+/// told there where it is a terminal.
 fn start<R: Files + Print + Env + AllocGlobal, I: Read + Drop, T: Write + Drop, E: Write>(
     rt: &R,
     input: I,
+    terminals: Terminals,
     terminal: T,
-    is_watched: bool,
     errors: &mut E,
 ) -> Result<Status, LabFault> {
     let Some(words) = words_of(rt, errors)? else {
@@ -112,27 +193,34 @@ fn start<R: Files + Print + Env + AllocGlobal, I: Read + Drop, T: Write + Drop, 
         .skip(1)
         .map(|word| word.as_str())
         .collect(rt.alloc())?;
+    let watch = if terminals.errors {
+        watch_of(&words, terminals.input, terminal)
+    } else {
+        None
+    };
+    let out = io::writer(rt);
     // a buffer lacks nothing but memory
-    let mut out = BufWriter::new(rt.alloc(), io::writer(rt)).map_err(|_| LabFault::NoMemory)?;
-    match step_of(&words) {
-        Some(step) if is_watched => {
-            perform_watched(rt, &words, input, out, terminal, step, errors)
-        }
-        _ => {
-            let ended = perform(rt, &words, input, &mut out, errors);
-            closed(ended, &mut out, errors)
-        }
+    if terminals.output {
+        let lines = LineWriter::new(rt.alloc(), out).map_err(|_| LabFault::NoMemory)?;
+        perform_on_terminal(rt, &words, input, Keeping::new(lines), watch, errors)
+    } else {
+        let buffer = BufWriter::new(rt.alloc(), out).map_err(|_| LabFault::NoMemory)?;
+        perform_elsewhere(rt, &words, input, Keeping::new(buffer), watch, errors)
     }
 }
 
 fn main(rt: HostRuntime) -> ExitCode {
     let stderr = rt.stderr();
-    let is_watched = stderr.is_terminal() && !rt.stdout().is_terminal();
+    let terminals = Terminals {
+        input: rt.stdin().is_terminal(),
+        output: rt.stdout().is_terminal(),
+        errors: stderr.is_terminal(),
+    };
     ExitCode::from(exit_status(start(
         &rt,
         rt.stdin(),
+        terminals,
         io::writer(&stderr),
-        is_watched,
         &mut io::writer(&stderr),
     )))
 }

@@ -6,19 +6,27 @@ use std::fmt;
 #[derive(Clone, Copy, Debug)]
 pub struct Escaped<'a>(pub &'a str);
 
+/// Prints a character as it stands in XML.
+pub(crate) fn print_character<W: fmt::Write>(
+    f: &mut fmt::Formatter<W>,
+    character: char,
+) -> fmt::Result {
+    match character {
+        '&' => f.write_str("&amp;"),
+        '<' => f.write_str("&lt;"),
+        '>' => f.write_str("&gt;"),
+        '"' => f.write_str("&quot;"),
+        '\'' => f.write_str("&apos;"),
+        '\u{FFFE}' | '\u{FFFF}' => f.write_char('?'),
+        _ if character.is_control() => f.write_char('?'),
+        _ => f.write_char(character),
+    }
+}
+
 impl fmt::Display for Escaped<'_> {
     fn fmt<W: fmt::Write>(&self, f: &mut fmt::Formatter<W>) -> fmt::Result {
         for character in self.0.chars() {
-            match character {
-                '&' => f.write_str("&amp;")?,
-                '<' => f.write_str("&lt;")?,
-                '>' => f.write_str("&gt;")?,
-                '"' => f.write_str("&quot;")?,
-                '\'' => f.write_str("&apos;")?,
-                '\u{FFFE}' | '\u{FFFF}' => f.write_char('?')?,
-                _ if character.is_control() => f.write_char('?')?,
-                _ => f.write_char(character)?,
-            }
+            print_character(f, character)?;
         }
         Ok(())
     }

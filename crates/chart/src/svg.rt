@@ -1,114 +1,186 @@
 //! The SVG of a chart.
-use crate::{Band, Chart, Escaped, Row};
+use crate::layout::{
+    ARROW_END, BAR_TEXT, COLUMN, Layout, MARGIN, NAME, NOTE_MARGIN, ONWARD_TEXT, PAGE, column_of,
+    count, row_y,
+};
+use crate::room::{Fitted, letters_in};
+use crate::{Bar, Chart, Lane, Row, Shape, Side};
 use std::fmt;
 
-/// Between two lanes.
-const LANE: u32 = 260;
+/// How wide a bar is.
+const BAR: u32 = 11;
 
-/// From the left edge to the first lane: there stand headings.
-const MARGIN: u32 = 240;
+/// So many letters have room of what the bars of a side are.
+const LEGEND: u32 = 60;
 
-/// Between two rows.
-const ROW: u32 = 26;
-
-/// From the upper edge to the first row: there stand the names of the lanes.
-const HEAD: u32 = 70;
-
-/// How wide a character is at most, as a rule.
-const CHARACTER: u32 = 7;
-
-/// Where a lane stands.
-fn lane_x(lane: u32) -> u32 {
-    lane.saturating_mul(LANE).saturating_add(MARGIN)
+/// On which side of its place a text stands, in words of SVG.
+#[derive(Clone, Copy)]
+enum Anchor {
+    Start,
+    Middle,
+    End,
 }
 
-/// So many rows stand between two lines with the names of the lanes.
-const PAGE: u32 = 40;
-
-/// Where a row's line stands. Before each page but the first the names of the lanes have a row of their own.
-fn row_y(row: u32) -> u32 {
-    row.saturating_add(row / PAGE)
-        .saturating_mul(ROW)
-        .saturating_add(HEAD)
+impl fmt::Display for Anchor {
+    fn fmt<W: fmt::Write>(&self, f: &mut fmt::Formatter<W>) -> fmt::Result {
+        f.write_str(match self {
+            Anchor::Start => "start",
+            Anchor::Middle => "middle",
+            Anchor::End => "end",
+        })
+    }
 }
 
-/// How many there are, where a `u32` has it.
-fn count<T>(items: &[T]) -> u32 {
-    u32::try_from(items.len()).unwrap_or(u32::MAX)
-}
-
-/// How wide a text is at most, as a rule.
-fn text_width(text: &str) -> u32 {
-    let characters = u32::try_from(text.chars().count()).unwrap_or(u32::MAX);
-    characters.saturating_mul(CHARACTER)
+/// The pattern of the bars of a side.
+fn pattern(side: Side) -> &'static str {
+    match side {
+        Side::Left => "hatched",
+        Side::Right => "dotted",
+    }
 }
 
 impl fmt::Display for Chart<'_> {
     fn fmt<W: fmt::Write>(&self, f: &mut fmt::Formatter<W>) -> fmt::Result {
-        let width = lane_x(count(self.lanes));
-        let end = row_y(count(self.rows));
-        print_head(f, width, end.saturating_add(ROW))?;
-        for band in self.bands {
-            print_band(f, band, width)?;
-        }
-        print_lanes(f, self.lanes, end)?;
-        for page in 0..count(self.rows).div_ceil(PAGE).max(1) {
-            print_names(
-                f,
-                self.lanes,
-                row_y(page.saturating_mul(PAGE)).saturating_sub(36),
-            )?;
-        }
-        print_names(f, self.lanes, end.saturating_add(8))?;
-        let mut row = 0;
-        for what in self.rows {
-            print_row(f, row_y(row), what)?;
-            row = row.saturating_add(1);
-        }
+        let layout = Layout::new(self);
+        print_head(f, &layout)?;
+        print_legend(f, &layout, self)?;
+        print_columns(f, &layout, self.lanes)?;
+        print_bars(f, &layout, self.bars)?;
+        print_rows(f, &layout, self.rows)?;
         f.write_str("</svg>\n")
     }
 }
 
-/// What stands before all shapes: the size, the head of an arrow, the hatching of a band, white paper.
-fn print_head<W: fmt::Write>(f: &mut fmt::Formatter<W>, width: u32, height: u32) -> fmt::Result {
+/// What stands before all shapes: the size, the head of an arrow, the patterns of bars, white paper.
+fn print_head<W: fmt::Write>(f: &mut fmt::Formatter<W>, layout: &Layout<'_>) -> fmt::Result {
+    let (width, height) = (layout.width(), layout.height());
     writeln!(
         f,
-        "<svg xmlns=\"http://www.w3.org/2000/svg\" width=\"{width}\" height=\"{height}\" viewBox=\"0 0 {width} {height}\" font-family=\"sans-serif\" font-size=\"12\">"
+        "<svg xmlns=\"http://www.w3.org/2000/svg\" width=\"{width}\" height=\"{height}\" viewBox=\"0 0 {width} {height}\" font-family=\"monospace\" font-size=\"11\">"
     )?;
     f.write_str("<defs>\n")?;
     f.write_str(
         "<marker id=\"head\" markerWidth=\"10\" markerHeight=\"8\" refX=\"10\" refY=\"4\" orient=\"auto\"><path d=\"M0,0 L10,4 L0,8 z\"/></marker>\n",
     )?;
     f.write_str(
-        "<pattern id=\"hatch\" width=\"8\" height=\"8\" patternUnits=\"userSpaceOnUse\"><path d=\"M0,8 L8,0\" stroke=\"#bbb\"/></pattern>\n",
+        "<pattern id=\"hatched\" width=\"6\" height=\"6\" patternUnits=\"userSpaceOnUse\"><path d=\"M-1,1 L1,-1 M0,6 L6,0 M5,7 L7,5\" stroke=\"#000\"/></pattern>\n",
     )?;
-    f.write_str("<style>text{paint-order:stroke;stroke:#fff;stroke-width:3px}</style>\n")?;
+    f.write_str(
+        "<pattern id=\"dotted\" width=\"5\" height=\"5\" patternUnits=\"userSpaceOnUse\"><circle cx=\"2\" cy=\"2\" r=\"1\"/></pattern>\n",
+    )?;
+    f.write_str("<style>text{paint-order:stroke;stroke:#fff;stroke-width:2px}</style>\n")?;
     f.write_str("</defs>\n")?;
     f.write_str("<rect width=\"100%\" height=\"100%\" fill=\"#fff\"/>\n")
 }
 
-/// A hatched band behind its rows, with its text at the upper right.
-fn print_band<W: fmt::Write>(
+/// A text at a place.
+fn print_text<W: fmt::Write>(
     f: &mut fmt::Formatter<W>,
-    band: &Band<'_>,
-    width: u32,
+    x: u32,
+    y: u32,
+    anchor: Anchor,
+    text: Fitted<'_>,
 ) -> fmt::Result {
-    let y = row_y(band.first).saturating_sub(18);
-    let height = row_y(band.last).saturating_add(8).saturating_sub(y);
-    let inner = width.saturating_sub(20);
     writeln!(
         f,
-        "<rect x=\"10\" y=\"{y}\" width=\"{inner}\" height=\"{height}\" fill=\"url(#hatch)\" stroke=\"#000\" stroke-dasharray=\"6 4\"/>"
-    )?;
-    let (x, y) = (width.saturating_sub(16), y.saturating_add(14));
-    print_text(f, x, y, "end", band.text)
+        "<text x=\"{x}\" y=\"{y}\" text-anchor=\"{anchor}\">{text}</text>"
+    )
 }
 
-/// The lines of the lanes.
-fn print_lanes<W: fmt::Write>(f: &mut fmt::Formatter<W>, lanes: &[&str], end: u32) -> fmt::Result {
-    let (top, bottom) = (HEAD - 30, end.saturating_sub(8));
+/// The outline of a bar, filled by the pattern of its side.
+fn print_outline<W: fmt::Write>(
+    f: &mut fmt::Formatter<W>,
+    x: u32,
+    y: u32,
+    height: u32,
+    side: Side,
+) -> fmt::Result {
+    let pattern = pattern(side);
+    writeln!(
+        f,
+        "<rect x=\"{x}\" y=\"{y}\" width=\"{BAR}\" height=\"{height}\" fill=\"url(#{pattern})\" stroke=\"#000\"/>"
+    )
+}
+
+/// What the bars of a side are, where it has some.
+fn print_sample<W: fmt::Write>(
+    f: &mut fmt::Formatter<W>,
+    layout: &Layout<'_>,
+    x: u32,
+    side: Side,
+    text: Fitted<'_>,
+) -> fmt::Result {
+    if layout.tracks(side) == 0 {
+        return Ok(());
+    }
+    print_outline(f, x, 9, 11, side)?;
+    print_text(f, x.saturating_add(18), 18, Anchor::Start, text)
+}
+
+/// What the bars of each side are, beside one another.
+fn print_legend<W: fmt::Write>(
+    f: &mut fmt::Formatter<W>,
+    layout: &Layout<'_>,
+    chart: &Chart<'_>,
+) -> fmt::Result {
+    let left = Fitted {
+        text: chart.left,
+        room: LEGEND,
+    };
+    let right = Fitted {
+        text: chart.right,
+        room: LEGEND,
+    };
+    let behind_left = if layout.tracks(Side::Left) == 0 {
+        MARGIN
+    } else {
+        left.width().saturating_add(MARGIN + 40)
+    };
+    print_sample(f, layout, MARGIN, Side::Left, left)?;
+    print_sample(f, layout, behind_left, Side::Right, right)
+}
+
+/// The lanes of each column, with their names.
+fn print_columns<W: fmt::Write>(
+    f: &mut fmt::Formatter<W>,
+    layout: &Layout<'_>,
+    lanes: &[Lane<'_>],
+) -> fmt::Result {
+    for column in 0..layout.columns() {
+        print_border(f, layout, column)?;
+        print_lines(f, layout, lanes, column)?;
+        print_heads(f, layout, lanes, column)?;
+        print_names(f, layout, lanes, column, layout.last_y(column) + 26)?;
+    }
+    Ok(())
+}
+
+/// A dotted line between a column and the one before.
+fn print_border<W: fmt::Write>(
+    f: &mut fmt::Formatter<W>,
+    layout: &Layout<'_>,
+    column: u32,
+) -> fmt::Result {
+    if column == 0 {
+        return Ok(());
+    }
+    let (x, height) = (layout.column_x(column), layout.height());
+    writeln!(
+        f,
+        "<line x1=\"{x}\" y1=\"0\" x2=\"{x}\" y2=\"{height}\" stroke=\"#000\" stroke-dasharray=\"1 5\"/>"
+    )
+}
+
+/// The lines of the lanes in a column.
+fn print_lines<W: fmt::Write>(
+    f: &mut fmt::Formatter<W>,
+    layout: &Layout<'_>,
+    lanes: &[Lane<'_>],
+    column: u32,
+) -> fmt::Result {
+    let (top, bottom) = (row_y(0).saturating_sub(18), layout.last_y(column) + 14);
     for lane in 0..count(lanes) {
-        let x = lane_x(lane);
+        let x = layout.lane_x(column, lane);
         writeln!(
             f,
             "<line x1=\"{x}\" y1=\"{top}\" x2=\"{x}\" y2=\"{bottom}\" stroke=\"#000\"/>"
@@ -117,69 +189,262 @@ fn print_lanes<W: fmt::Write>(f: &mut fmt::Formatter<W>, lanes: &[&str], end: u3
     Ok(())
 }
 
-/// The names of the lanes at this height.
-fn print_names<W: fmt::Write>(f: &mut fmt::Formatter<W>, lanes: &[&str], y: u32) -> fmt::Result {
-    let mut lane = 0;
-    for name in lanes {
-        print_text(f, lane_x(lane), y, "middle", *name)?;
-        lane = lane.saturating_add(1);
+/// The names of the lanes before each page of a column.
+fn print_heads<W: fmt::Write>(
+    f: &mut fmt::Formatter<W>,
+    layout: &Layout<'_>,
+    lanes: &[Lane<'_>],
+    column: u32,
+) -> fmt::Result {
+    for page in 0..layout.pages_in(column) {
+        let y = row_y(page.saturating_mul(PAGE)).saturating_sub(22);
+        print_names(f, layout, lanes, column, y)?;
     }
     Ok(())
 }
 
-/// A row at this height.
-fn print_row<W: fmt::Write>(f: &mut fmt::Formatter<W>, y: u32, row: &Row<'_>) -> fmt::Result {
-    match row {
-        Row::Heading(text) => print_text(f, 16, y, "start", *text),
-        Row::Note { lane, text } => print_note(f, lane_x(*lane), y, *text),
-        Row::Arrow { from, to, text } => {
-            if *from == *to {
-                print_note(f, lane_x(*from), y, *text)
+/// The names of the lanes in a column at this height.
+fn print_names<W: fmt::Write>(
+    f: &mut fmt::Formatter<W>,
+    layout: &Layout<'_>,
+    lanes: &[Lane<'_>],
+    column: u32,
+    y: u32,
+) -> fmt::Result {
+    f.write_str("<g font-weight=\"bold\">\n")?;
+    let mut place = 0;
+    for lane in lanes {
+        let text = Fitted {
+            text: lane.name,
+            room: NAME,
+        };
+        print_text(f, layout.lane_x(column, place), y, Anchor::Middle, text)?;
+        place = place.saturating_add(1);
+    }
+    f.write_str("</g>\n")
+}
+
+/// The bars.
+fn print_bars<W: fmt::Write>(
+    f: &mut fmt::Formatter<W>,
+    layout: &Layout<'_>,
+    bars: &[Bar<'_>],
+) -> fmt::Result {
+    for bar in bars {
+        print_bar(f, layout, bar)?;
+    }
+    Ok(())
+}
+
+/// A bar along the rows that are there.
+fn print_bar<W: fmt::Write>(
+    f: &mut fmt::Formatter<W>,
+    layout: &Layout<'_>,
+    bar: &Bar<'_>,
+) -> fmt::Result {
+    let last = bar.last.min(layout.last_row());
+    if bar.first > last {
+        return Ok(());
+    }
+    print_parts(f, layout, bar, last)?;
+    print_bar_text(f, layout, bar)
+}
+
+/// A bar down to this row: a part of it in each column that it goes through.
+fn print_parts<W: fmt::Write>(
+    f: &mut fmt::Formatter<W>,
+    layout: &Layout<'_>,
+    bar: &Bar<'_>,
+    last: u32,
+) -> fmt::Result {
+    let begin = column_of(bar.first);
+    for column in begin..column_of(last).saturating_add(1) {
+        print_part(f, layout, bar, last, column)?;
+        if column > begin {
+            print_onward_text(f, layout, bar, column)?;
+        }
+    }
+    Ok(())
+}
+
+/// The part of a bar in a column.
+fn print_part<W: fmt::Write>(
+    f: &mut fmt::Formatter<W>,
+    layout: &Layout<'_>,
+    bar: &Bar<'_>,
+    last: u32,
+    column: u32,
+) -> fmt::Result {
+    let begin = column.saturating_mul(COLUMN);
+    let top = row_y(bar.first.max(begin)).saturating_sub(12);
+    let bottom = row_y(last.min(begin.saturating_add(COLUMN - 1))) + 6;
+    let x = layout.bar_x(column, bar.side, bar.track);
+    print_outline(f, x, top, bottom.saturating_sub(top), bar.side)
+}
+
+/// A text in a row at this height, and a line between it and its bar.
+fn print_label<W: fmt::Write>(
+    f: &mut fmt::Formatter<W>,
+    y: u32,
+    line: (u32, u32),
+    x: u32,
+    anchor: Anchor,
+    text: Fitted<'_>,
+) -> fmt::Result {
+    let (from, to) = line;
+    let line_y = y.saturating_sub(4);
+    writeln!(
+        f,
+        "<line x1=\"{from}\" y1=\"{line_y}\" x2=\"{to}\" y2=\"{line_y}\" stroke=\"#000\"/>"
+    )?;
+    print_text(f, x, y, anchor, text)
+}
+
+/// The text of a bar beside its first row.
+fn print_bar_text<W: fmt::Write>(
+    f: &mut fmt::Formatter<W>,
+    layout: &Layout<'_>,
+    bar: &Bar<'_>,
+) -> fmt::Result {
+    let (column, y) = (column_of(bar.first), row_y(bar.first));
+    let x = layout.bar_text_x(column, bar.side);
+    let bar_x = layout.bar_x(column, bar.side, bar.track);
+    let text = Fitted {
+        text: bar.text,
+        room: BAR_TEXT,
+    };
+    match bar.side {
+        Side::Left => { print_label(f, y, (x.saturating_add(4), bar_x), x, Anchor::End, text) }
+        Side::Right => {
+            let line = (bar_x.saturating_add(BAR), x.saturating_sub(4));
+            print_label(f, y, line, x, Anchor::Start, text)
+        }
+    }
+}
+
+/// The text of a bar that goes on in a column. It stands in the row that has its track's number, so that the texts of
+/// several bars don't cover one another.
+fn print_onward_text<W: fmt::Write>(
+    f: &mut fmt::Formatter<W>,
+    layout: &Layout<'_>,
+    bar: &Bar<'_>,
+    column: u32,
+) -> fmt::Result {
+    let y = row_y(bar.track);
+    let x = layout.onward_text_x(column, bar.side);
+    let bar_x = layout.bar_x(column, bar.side, bar.track);
+    let text = Fitted {
+        text: bar.text,
+        room: ONWARD_TEXT,
+    };
+    match bar.side {
+        Side::Left => {
+            let line = (bar_x.saturating_add(BAR), x.saturating_sub(4));
+            print_label(f, y, line, x, Anchor::Start, text)
+        }
+        Side::Right => { print_label(f, y, (x.saturating_add(4), bar_x), x, Anchor::End, text) }
+    }
+}
+
+/// The rows.
+fn print_rows<W: fmt::Write>(
+    f: &mut fmt::Formatter<W>,
+    layout: &Layout<'_>,
+    rows: &[Row<'_>],
+) -> fmt::Result {
+    let mut place = 0;
+    for row in rows {
+        print_row(f, layout, place, row)?;
+        place = place.saturating_add(1);
+    }
+    Ok(())
+}
+
+/// A row at its place.
+fn print_row<W: fmt::Write>(
+    f: &mut fmt::Formatter<W>,
+    layout: &Layout<'_>,
+    place: u32,
+    row: &Row<'_>,
+) -> fmt::Result {
+    let (column, y) = (column_of(place), row_y(place));
+    print_heading(f, layout, column, y, row.heading)?;
+    match row.shape {
+        Shape::Nothing => Ok(()),
+        Shape::Note { lane, text } => print_note(f, layout, column, y, lane, text),
+        Shape::Arrow { from, to, text } => {
+            let (start, end) = (layout.lane_x(column, from), layout.lane_x(column, to));
+            if start == end {
+                print_note(f, layout, column, y, from, text)
             } else {
-                print_arrow(f, lane_x(*from), lane_x(*to), y, *text)
+                print_arrow(f, start, end, y, text)
             }
         }
     }
 }
 
-/// An arrow, with its text in the middle above it.
+/// A heading, where there is one.
+fn print_heading<W: fmt::Write>(
+    f: &mut fmt::Formatter<W>,
+    layout: &Layout<'_>,
+    column: u32,
+    y: u32,
+    text: &str,
+) -> fmt::Result {
+    if text.is_empty() {
+        return Ok(());
+    }
+    let x = layout.column_x(column).saturating_add(MARGIN);
+    let text = Fitted {
+        text,
+        room: layout.headings,
+    };
+    print_text(f, x, y, Anchor::Start, text)
+}
+
+/// An arrow from one place to another, with its text above it.
 fn print_arrow<W: fmt::Write>(
     f: &mut fmt::Formatter<W>,
-    from: u32,
-    to: u32,
+    start: u32,
+    end: u32,
     y: u32,
     text: &str,
 ) -> fmt::Result {
     writeln!(
         f,
-        "<line x1=\"{from}\" y1=\"{y}\" x2=\"{to}\" y2=\"{y}\" stroke=\"#000\" marker-end=\"url(#head)\"/>"
+        "<line x1=\"{start}\" y1=\"{y}\" x2=\"{end}\" y2=\"{y}\" stroke=\"#000\" marker-end=\"url(#head)\"/>"
     )?;
-    let middle = from.min(to) + from.abs_diff(to) / 2;
-    print_text(f, middle, y.saturating_sub(5), "middle", text)
+    let width = start.abs_diff(end);
+    let room = letters_in(width.saturating_sub(2 * ARROW_END));
+    let middle = start.min(end).saturating_add(width / 2);
+    print_text(
+        f,
+        middle,
+        y.saturating_sub(5),
+        Anchor::Middle,
+        Fitted { text, room },
+    )
 }
 
 /// A note in a box at a lane.
-fn print_note<W: fmt::Write>(f: &mut fmt::Formatter<W>, x: u32, y: u32, text: &str) -> fmt::Result {
-    let width = text_width(text).saturating_add(10);
-    let (left, top) = (x.saturating_sub(width / 2), y.saturating_sub(14));
-    writeln!(
-        f,
-        "<rect x=\"{left}\" y=\"{top}\" width=\"{width}\" height=\"19\" fill=\"#fff\" stroke=\"#000\"/>"
-    )?;
-    print_text(f, x, y, "middle", text)
-}
-
-/// A text at a place: its `start`, `middle` or `end` stands there.
-fn print_text<W: fmt::Write>(
+fn print_note<W: fmt::Write>(
     f: &mut fmt::Formatter<W>,
-    x: u32,
+    layout: &Layout<'_>,
+    column: u32,
     y: u32,
-    anchor: &str,
+    lane: u32,
     text: &str,
 ) -> fmt::Result {
-    let text = Escaped(text);
+    let x = layout.lane_x(column, lane);
+    let text = Fitted {
+        text,
+        room: layout.note_room(lane),
+    };
+    let width = text.width().saturating_add(NOTE_MARGIN);
+    let (left, top) = (x.saturating_sub(width / 2), y.saturating_sub(12));
     writeln!(
         f,
-        "<text x=\"{x}\" y=\"{y}\" text-anchor=\"{anchor}\">{text}</text>"
-    )
+        "<rect x=\"{left}\" y=\"{top}\" width=\"{width}\" height=\"16\" fill=\"#fff\" stroke=\"#000\"/>"
+    )?;
+    print_text(f, x, y, Anchor::Middle, text)
 }

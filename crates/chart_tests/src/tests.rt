@@ -1,4 +1,4 @@
-use chart::{Band, Chart, Escaped, Row};
+use chart::{Bar, Chart, Escaped, Lane, Row, Shape, Side, text_room};
 use std::alloc::{AllocError, Global};
 use std::test::Fail;
 
@@ -26,68 +26,141 @@ fn markup_and_control_characters_are_no_text(rt: HostRuntime) -> Result<(), Fail
     Ok(())
 }
 
-/// The names of the lanes of a chart.
-const LANES: &[&str] = &["TRX 0/0", "controller", "centre <1>"];
+/// Texts, and how many letters wide they are.
+const ROOMS: &[(&str, u32)] = &[
+    ("", 0),
+    ("CLEAR REQUEST, call 1", 21),
+    ("é١𝄞", 6),
+    ("a\n", 2),
+];
 
-/// A row of each kind; the last arrow goes to its own lane.
-const ROWS: &[Row<'_>] = &[
-    Row::Heading("in open 1 0 0 3"),
-    Row::Arrow {
-        from: 1,
-        to: 0,
-        text: "CHANNEL ACTIVATION",
+#[test]
+fn what_is_outside_ascii_is_two_letters_wide(rt: HostRuntime) -> Result<(), Fail> {
+    for (text, expected) in ROOMS {
+        let room = text_room(*text);
+        assert!(rt; room == *expected, "{text}: {room}");
+    }
+    Ok(())
+}
+
+/// Room for thirty letters between the first two lanes, for the twenty that are always there between the next two.
+const LANES: &[Lane<'_>] = &[
+    Lane {
+        name: "TRX 0/0",
+        room: 30,
     },
-    Row::Arrow {
-        from: 0,
-        to: 1,
-        text: "ACK & frame",
+    Lane {
+        name: "controller",
+        room: 0,
     },
-    Row::Note {
-        lane: 1,
-        text: "look 1 -> done",
-    },
-    Row::Arrow {
-        from: 2,
-        to: 2,
-        text: "itself",
+    Lane {
+        name: "centre <1>",
+        room: 0,
     },
 ];
 
-/// Rows 1 to 3.
-const BANDS: &[Band<'_>] = &[Band {
-    first: 1,
-    last: 3,
-    text: "undone",
-}];
+/// A row of each shape; the last arrow goes to its own lane.
+const ROWS: &[Row<'_>] = &[
+    Row {
+        heading: "in open 1 0 0 3",
+        shape: Shape::Nothing,
+    },
+    Row {
+        heading: "",
+        shape: Shape::Arrow {
+            from: 1,
+            to: 0,
+            text: "CHANNEL ACTIVATION",
+        },
+    },
+    Row {
+        heading: "2",
+        shape: Shape::Arrow {
+            from: 0,
+            to: 1,
+            text: "ACK & frame",
+        },
+    },
+    Row {
+        heading: "",
+        shape: Shape::Note {
+            lane: 1,
+            text: "look 1 -> done",
+        },
+    },
+    Row {
+        heading: "",
+        shape: Shape::Arrow {
+            from: 2,
+            to: 2,
+            text: "itself",
+        },
+    },
+];
 
+/// Rows 1 to 3 at the left, 2 to the last at the right.
+const BARS: &[Bar<'_>] = &[
+    Bar {
+        first: 1,
+        last: 3,
+        side: Side::Left,
+        track: 0,
+        text: "call 1",
+    },
+    Bar {
+        first: 2,
+        last: 9,
+        side: Side::Right,
+        track: 0,
+        text: "call 40000",
+    },
+];
+
+/// From left to right: 12, the heading's 15 letters of 7, 96 for a bar's text, 16 for the bar, 80; a lane at 309. 238 to the
+/// next, 168 to the last, 80 to the bar, 16 for it, 96, 12. From the upper edge 64 to the first of five rows, 20 to each
+/// next, and 36.
 const SVG: &str =
-    "<svg xmlns=\"http://www.w3.org/2000/svg\" width=\"1020\" height=\"226\" viewBox=\"0 0 1020 226\" font-family=\"sans-serif\" font-size=\"12\">
+    "<svg xmlns=\"http://www.w3.org/2000/svg\" width=\"919\" height=\"180\" viewBox=\"0 0 919 180\" font-family=\"monospace\" font-size=\"11\">
 <defs>
 <marker id=\"head\" markerWidth=\"10\" markerHeight=\"8\" refX=\"10\" refY=\"4\" orient=\"auto\"><path d=\"M0,0 L10,4 L0,8 z\"/></marker>
-<pattern id=\"hatch\" width=\"8\" height=\"8\" patternUnits=\"userSpaceOnUse\"><path d=\"M0,8 L8,0\" stroke=\"#bbb\"/></pattern>
-<style>text{paint-order:stroke;stroke:#fff;stroke-width:3px}</style>
+<pattern id=\"hatched\" width=\"6\" height=\"6\" patternUnits=\"userSpaceOnUse\"><path d=\"M-1,1 L1,-1 M0,6 L6,0 M5,7 L7,5\" stroke=\"#000\"/></pattern>
+<pattern id=\"dotted\" width=\"5\" height=\"5\" patternUnits=\"userSpaceOnUse\"><circle cx=\"2\" cy=\"2\" r=\"1\"/></pattern>
+<style>text{paint-order:stroke;stroke:#fff;stroke-width:2px}</style>
 </defs>
 <rect width=\"100%\" height=\"100%\" fill=\"#fff\"/>
-<rect x=\"10\" y=\"78\" width=\"1000\" height=\"78\" fill=\"url(#hatch)\" stroke=\"#000\" stroke-dasharray=\"6 4\"/>
-<text x=\"1004\" y=\"92\" text-anchor=\"end\">undone</text>
-<line x1=\"240\" y1=\"40\" x2=\"240\" y2=\"192\" stroke=\"#000\"/>
-<line x1=\"500\" y1=\"40\" x2=\"500\" y2=\"192\" stroke=\"#000\"/>
-<line x1=\"760\" y1=\"40\" x2=\"760\" y2=\"192\" stroke=\"#000\"/>
-<text x=\"240\" y=\"34\" text-anchor=\"middle\">TRX 0/0</text>
-<text x=\"500\" y=\"34\" text-anchor=\"middle\">controller</text>
-<text x=\"760\" y=\"34\" text-anchor=\"middle\">centre &lt;1&gt;</text>
-<text x=\"240\" y=\"208\" text-anchor=\"middle\">TRX 0/0</text>
-<text x=\"500\" y=\"208\" text-anchor=\"middle\">controller</text>
-<text x=\"760\" y=\"208\" text-anchor=\"middle\">centre &lt;1&gt;</text>
-<text x=\"16\" y=\"70\" text-anchor=\"start\">in open 1 0 0 3</text>
-<line x1=\"500\" y1=\"96\" x2=\"240\" y2=\"96\" stroke=\"#000\" marker-end=\"url(#head)\"/>
-<text x=\"370\" y=\"91\" text-anchor=\"middle\">CHANNEL ACTIVATION</text>
-<line x1=\"240\" y1=\"122\" x2=\"500\" y2=\"122\" stroke=\"#000\" marker-end=\"url(#head)\"/>
-<text x=\"370\" y=\"117\" text-anchor=\"middle\">ACK &amp; frame</text>
-<rect x=\"446\" y=\"134\" width=\"108\" height=\"19\" fill=\"#fff\" stroke=\"#000\"/>
-<text x=\"500\" y=\"148\" text-anchor=\"middle\">look 1 -&gt; done</text>
-<rect x=\"734\" y=\"160\" width=\"52\" height=\"19\" fill=\"#fff\" stroke=\"#000\"/>
-<text x=\"760\" y=\"174\" text-anchor=\"middle\">itself</text>
+<rect x=\"12\" y=\"9\" width=\"11\" height=\"11\" fill=\"url(#hatched)\" stroke=\"#000\"/>
+<text x=\"30\" y=\"18\" text-anchor=\"start\">undone at &lt;1&gt;</text>
+<rect x=\"143\" y=\"9\" width=\"11\" height=\"11\" fill=\"url(#dotted)\" stroke=\"#000\"/>
+<text x=\"161\" y=\"18\" text-anchor=\"start\">undone at 2</text>
+<line x1=\"309\" y1=\"46\" x2=\"309\" y2=\"158\" stroke=\"#000\"/>
+<line x1=\"547\" y1=\"46\" x2=\"547\" y2=\"158\" stroke=\"#000\"/>
+<line x1=\"715\" y1=\"46\" x2=\"715\" y2=\"158\" stroke=\"#000\"/>
+<g font-weight=\"bold\">
+<text x=\"309\" y=\"42\" text-anchor=\"middle\">TRX 0/0</text>
+<text x=\"547\" y=\"42\" text-anchor=\"middle\">controller</text>
+<text x=\"715\" y=\"42\" text-anchor=\"middle\">centre &lt;1&gt;</text>
+</g>
+<g font-weight=\"bold\">
+<text x=\"309\" y=\"170\" text-anchor=\"middle\">TRX 0/0</text>
+<text x=\"547\" y=\"170\" text-anchor=\"middle\">controller</text>
+<text x=\"715\" y=\"170\" text-anchor=\"middle\">centre &lt;1&gt;</text>
+</g>
+<rect x=\"213\" y=\"72\" width=\"11\" height=\"58\" fill=\"url(#hatched)\" stroke=\"#000\"/>
+<line x1=\"205\" y1=\"80\" x2=\"213\" y2=\"80\" stroke=\"#000\"/>
+<text x=\"201\" y=\"84\" text-anchor=\"end\">call 1</text>
+<rect x=\"795\" y=\"92\" width=\"11\" height=\"58\" fill=\"url(#dotted)\" stroke=\"#000\"/>
+<line x1=\"806\" y1=\"100\" x2=\"819\" y2=\"100\" stroke=\"#000\"/>
+<text x=\"823\" y=\"104\" text-anchor=\"start\">call 40000</text>
+<text x=\"12\" y=\"64\" text-anchor=\"start\">in open 1 0 0 3</text>
+<line x1=\"547\" y1=\"84\" x2=\"309\" y2=\"84\" stroke=\"#000\" marker-end=\"url(#head)\"/>
+<text x=\"428\" y=\"79\" text-anchor=\"middle\">CHANNEL ACTIVATION</text>
+<text x=\"12\" y=\"104\" text-anchor=\"start\">2</text>
+<line x1=\"309\" y1=\"104\" x2=\"547\" y2=\"104\" stroke=\"#000\" marker-end=\"url(#head)\"/>
+<text x=\"428\" y=\"99\" text-anchor=\"middle\">ACK &amp; frame</text>
+<rect x=\"493\" y=\"112\" width=\"108\" height=\"16\" fill=\"#fff\" stroke=\"#000\"/>
+<text x=\"547\" y=\"124\" text-anchor=\"middle\">look 1 -&gt; done</text>
+<rect x=\"689\" y=\"132\" width=\"52\" height=\"16\" fill=\"#fff\" stroke=\"#000\"/>
+<text x=\"715\" y=\"144\" text-anchor=\"middle\">itself</text>
 </svg>
 ";
 
@@ -96,7 +169,9 @@ fn a_chart_is_drawn(rt: HostRuntime) -> Result<(), Fail> {
     let chart = Chart {
         lanes: LANES,
         rows: ROWS,
-        bands: BANDS,
+        bars: BARS,
+        left: "undone at <1>",
+        right: "undone at 2",
     };
     let svg = chart.to_string(rt.alloc())?;
     assert!(rt; svg.as_str() == SVG, "{svg}");
@@ -118,47 +193,233 @@ fn missing(
     Ok(None)
 }
 
-/// A note at a lane and a band from a row that are not there.
-const OUTSIDE: Chart<'_> = Chart {
-    lanes: &[],
-    rows: &[Row::Note {
-        lane: u32::MAX,
-        text: "",
-    }],
-    bands: &[Band {
-        first: u32::MAX,
-        last: 0,
-        text: "",
-    }],
+/// Between two lanes twenty letters of an arrow's text have room, at the first and the last lane nineteen of a note; forty
+/// of a heading have room, seventeen of a lane's name, twelve of a bar's text, sixty of what the bars are.
+const LONG: Chart<'_> = Chart {
+    lanes: &[
+        Lane {
+            name: "seventeen letters",
+            room: 0,
+        },
+        Lane {
+            name: "eighteen of letters",
+            room: 0,
+        },
+    ],
+    rows: &[
+        Row {
+            heading: "forty of letters stand in this heading..",
+            shape: Shape::Arrow {
+                from: 0,
+                to: 1,
+                text: "twenty of letters >>",
+            },
+        },
+        Row {
+            heading: "one more of letters stands in this heading",
+            shape: Shape::Arrow {
+                from: 1,
+                to: 0,
+                text: "twenty-one of letters",
+            },
+        },
+        Row {
+            heading: "",
+            shape: Shape::Arrow {
+                from: 0,
+                to: 1,
+                text: "seventeen lettersé<>",
+            },
+        },
+        Row {
+            heading: "",
+            shape: Shape::Note {
+                lane: 0,
+                text: "nineteen of letters",
+            },
+        },
+        Row {
+            heading: "",
+            shape: Shape::Note {
+                lane: 1,
+                text: "twenty letters of it",
+            },
+        },
+    ],
+    bars: &[
+        Bar {
+            first: 0,
+            last: 0,
+            side: Side::Right,
+            track: 0,
+            text: "twelve of it",
+        },
+        Bar {
+            first: 1,
+            last: 1,
+            side: Side::Right,
+            track: 0,
+            text: "thirteen of..",
+        },
+    ],
+    left: "",
+    right: "sixty of letters stand behind this bar, and so it says what it is",
 };
 
+/// What has room, and what of the others has it: a character outside ASCII two letters, so that it isn't cut in two.
+const CUT: &[&str] = &[
+    ">seventeen letters</text>",
+    ">eighteen of let..</text>",
+    ">forty of letters stand in this heading..</text>",
+    ">one more of letters stands in this hea..</text>",
+    ">twenty of letters &gt;&gt;</text>",
+    ">twenty-one of lett..</text>",
+    ">seventeen letters..</text>",
+    ">nineteen of letters</text>",
+    ">twenty letters of..</text>",
+    ">twelve of it</text>",
+    ">thirteen o..</text>",
+    ">sixty of letters stand behind this bar, and so it says wha..</text>",
+];
+
 #[test]
-fn lanes_and_rows_that_are_not_there_are_drawn_at_the_edge(rt: HostRuntime) -> Result<(), Fail> {
-    let lines = &["<text x=\"4294967295\" y=\"70\"", "</svg>\n"];
-    let missing = missing(rt.alloc(), OUTSIDE, lines)?;
+fn a_text_that_lacks_room_ends_in_two_dots(rt: HostRuntime) -> Result<(), Fail> {
+    let missing = missing(rt.alloc(), LONG, CUT)?;
     assert!(rt; missing.is_none(), "{missing:?}");
     Ok(())
 }
 
-/// More rows than one page has.
-const MANY: Chart<'_> = Chart {
-    lanes: &["lane"],
-    rows: &[Row::Heading("row"); 41],
-    bands: &[],
+/// A note at a lane and bars along rows that are not there, one of them far at the right.
+const OUTSIDE: Chart<'_> = Chart {
+    lanes: &[],
+    rows: &[Row {
+        heading: "",
+        shape: Shape::Note {
+            lane: u32::MAX,
+            text: "",
+        },
+    }],
+    bars: &[
+        Bar {
+            first: u32::MAX,
+            last: 0,
+            side: Side::Left,
+            track: 0,
+            text: "call 1",
+        },
+        Bar {
+            first: 0,
+            last: u32::MAX,
+            side: Side::Right,
+            track: u32::MAX,
+            text: "call 2",
+        },
+    ],
+    left: "",
+    right: "",
 };
 
-/// Names above the first page, above the second and below the last; the last row of the first page, and the one behind.
-const PAGES: &[&str] = &[
-    "<text x=\"240\" y=\"34\" text-anchor=\"middle\">lane</text>\n",
-    "<text x=\"240\" y=\"1100\" text-anchor=\"middle\">lane</text>\n",
-    "<text x=\"240\" y=\"1170\" text-anchor=\"middle\">lane</text>\n",
-    "<text x=\"16\" y=\"1084\" text-anchor=\"start\">row</text>\n",
-    "<text x=\"16\" y=\"1136\" text-anchor=\"start\">row</text>\n",
+/// The note stands where the first lane would; a bar at the right ends with the last row.
+const AT_THE_EDGE: &[&str] = &[
+    " width=\"4294967295\" height=\"100\" ",
+    "<text x=\"204\" y=\"64\" text-anchor=\"middle\"></text>\n",
+    "y=\"52\" width=\"11\" height=\"18\" fill=\"url(#dotted)\"",
 ];
 
 #[test]
-fn names_stand_again_behind_forty_rows(rt: HostRuntime) -> Result<(), Fail> {
-    let missing = missing(rt.alloc(), MANY, PAGES)?;
+fn lanes_and_rows_that_are_not_there_are_drawn_at_the_edge(rt: HostRuntime) -> Result<(), Fail> {
+    let missing = missing(rt.alloc(), OUTSIDE, AT_THE_EDGE)?;
     assert!(rt; missing.is_none(), "{missing:?}");
+    let svg = OUTSIDE.to_string(rt.alloc())?;
+    assert!(rt; !svg.as_str().contains("call 1"), "{svg}");
+    Ok(())
+}
+
+/// So many rows that are alike.
+fn alike(alloc: Global, rows: u32) -> Result<Vec<Row<'static>>, AllocError> {
+    let mut made = Vec::new(alloc);
+    for _ in 0..rows {
+        made.push(Row {
+            heading: "row",
+            shape: Shape::Nothing,
+        })?;
+    }
+    Ok(made)
+}
+
+/// The first of these lines that a chart lacks which has one lane, so many rows, and bars along the rows from 758
+/// and from 759 on.
+fn missing_of_many(
+    alloc: Global,
+    rows: u32,
+    lines: &[&'static str],
+) -> Result<Option<&'static str>, AllocError> {
+    let rows = alike(alloc, rows)?;
+    let chart = Chart {
+        lanes: &[Lane {
+            name: "lane",
+            room: 0,
+        }],
+        rows: &rows,
+        bars: &[
+            Bar {
+                first: 758,
+                last: 762,
+                side: Side::Left,
+                track: 0,
+                text: "call 1",
+            },
+            Bar {
+                first: 759,
+                last: 760,
+                side: Side::Right,
+                track: 0,
+                text: "call 2",
+            },
+        ],
+        left: "undone",
+        right: "",
+    };
+    missing(alloc, chart, lines)
+}
+
+/// Names above the first page, above the second and below the last; the last row of the first page, and the one behind.
+const PAGES: &[&str] = &[
+    " width=\"429\" height=\"920\" ",
+    "<text x=\"225\" y=\"42\" text-anchor=\"middle\">lane</text>\n",
+    "<text x=\"225\" y=\"862\" text-anchor=\"middle\">lane</text>\n",
+    "<text x=\"225\" y=\"910\" text-anchor=\"middle\">lane</text>\n",
+    "<text x=\"12\" y=\"844\" text-anchor=\"start\">row</text>\n",
+    "<text x=\"12\" y=\"884\" text-anchor=\"start\">row</text>\n",
+];
+
+/// The last row of a column, its lane, and the part of a bar there; the first row of the next column, its lane, and the other
+/// parts of the bars, with their texts between them and the lane.
+const COLUMNS: &[&str] = &[
+    " width=\"858\" height=\"15640\" ",
+    "<line x1=\"225\" y1=\"46\" x2=\"225\" y2=\"15618\" stroke=\"#000\"/>\n",
+    "<text x=\"225\" y=\"15630\" text-anchor=\"middle\">lane</text>\n",
+    "<rect x=\"129\" y=\"15572\" width=\"11\" height=\"38\" fill=\"url(#hatched)\" stroke=\"#000\"/>\n",
+    "<line x1=\"121\" y1=\"15580\" x2=\"129\" y2=\"15580\" stroke=\"#000\"/>\n",
+    "<text x=\"12\" y=\"15604\" text-anchor=\"start\">row</text>\n",
+    "<line x1=\"429\" y1=\"0\" x2=\"429\" y2=\"15640\" stroke=\"#000\" stroke-dasharray=\"1 5\"/>\n",
+    "<line x1=\"654\" y1=\"46\" x2=\"654\" y2=\"78\" stroke=\"#000\"/>\n",
+    "<text x=\"654\" y=\"42\" text-anchor=\"middle\">lane</text>\n",
+    "<text x=\"654\" y=\"90\" text-anchor=\"middle\">lane</text>\n",
+    "<rect x=\"558\" y=\"52\" width=\"11\" height=\"18\" fill=\"url(#hatched)\" stroke=\"#000\"/>\n",
+    "<line x1=\"569\" y1=\"60\" x2=\"574\" y2=\"60\" stroke=\"#000\"/>\n",
+    "<text x=\"578\" y=\"64\" text-anchor=\"start\">call 1</text>\n",
+    "<rect x=\"734\" y=\"52\" width=\"11\" height=\"18\" fill=\"url(#dotted)\" stroke=\"#000\"/>\n",
+    "<line x1=\"729\" y1=\"60\" x2=\"734\" y2=\"60\" stroke=\"#000\"/>\n",
+    "<text x=\"725\" y=\"64\" text-anchor=\"end\">call 2</text>\n",
+    "<text x=\"441\" y=\"64\" text-anchor=\"start\">row</text>\n",
+];
+
+#[test]
+fn names_stand_again_behind_forty_rows_and_760_are_a_column(rt: HostRuntime) -> Result<(), Fail> {
+    for (rows, lines) in [(41, PAGES), (761, COLUMNS)] {
+        let missing = missing_of_many(rt.alloc(), rows, lines)?;
+        assert!(rt; missing.is_none(), "{rows}: {missing:?}");
+    }
     Ok(())
 }

@@ -1,8 +1,10 @@
 //! Messages on A from words (TS 48.008 clause 3.2.1).
-ghost use Rattle.std.specs.Prelude.{◌≡◌, ◌≢◌, ◌++◌, Some, None, OnOk, IfOk, IfErr, option_map};
-ghost use Rattle.std.specs.Result.{result_ok};
+ghost use Rattle.std.specs.Prelude.{◌≡◌, ◌≢◌, ◌++◌, Some, None, OnOk, IfOk, IfErr, codes, option_map};
+ghost use Rattle.message_fields.specs.Faults.{Value, read_of, fault_of, Answers};
 ghost use Rattle.message_fields.specs.Words.{parts_of};
+ghost use Rattle.message_fields.specs.declared.fault.Allowed.TheVariants.{Cells};
 ghost use Rattle.message_fields.specs.declared.fault.FieldFault.TheVariants.{NoMemory};
+ghost use Rattle.encoded_messages.specs.Faults as faults;
 ghost use Rattle.encoded_messages.specs.A as said;
 
 use crate::fault::MessageFault;
@@ -25,8 +27,9 @@ fn cell_of(text: &str) -> Option<CellId>
 }
 
 /// The cell of a field.
+#[tactic(auto, unfolding(crate::specs::A::cell_at))]
 fn cell<'a>(fields: &'a str, key: &'static str) -> Result<CellId, FieldFault<'a>>
-    ensures { result_ok result ≡ said.cell_at key.now fields.now }
+    ensures { read_of result ≡ said.cell_at key.now fields.now }
 {
     let value = value(fields, key)?;
     let allowed = Allowed::Cell;
@@ -46,7 +49,8 @@ fn add_cells<'a, A: Allocator>(
     ensures read { OnOk result (option_map (λ more. cells.old.items ++ more)
         (said.cells_of (parts_of list.now)) ≡ Some cells.new.items) }
     ensures unread { IfErr result (λ fault. fault ≢ NoMemory →
-        said.cells_of (parts_of list.now) ≡ None) }
+        (said.cells_of (parts_of list.now) ≡ None)
+        × (fault_of fault ≡ Value (codes "cells") value.now Cells)) }
 {
     let (first, rest) = match first_part(list) {
         Some((first, rest)) => (first, Some(rest)),
@@ -67,9 +71,9 @@ fn add_cells<'a, A: Allocator>(
 }
 
 /// The cells of a HANDOVER REQUIRED.
+#[tactic(auto, unfolding(crate::specs::A::cells_at))]
 fn cells<A: Allocator + Copy>(alloc: A, fields: &str) -> Result<CellList<A>, FieldFault<'_>>
-    ensures read { IfOk result (λ cells. said.cells_at fields.now ≡ Some cells) }
-    ensures unread { IfErr result (λ fault. fault ≢ NoMemory → said.cells_at fields.now ≡ None) }
+    ensures { Answers result (said.cells_at fields.now) }
 {
     let value = value(fields, "cells")?;
     let mut cells = Vec::new(alloc);
@@ -78,10 +82,9 @@ fn cells<A: Allocator + Copy>(alloc: A, fields: &str) -> Result<CellList<A>, Fie
 }
 
 /// The classmark of a HANDOVER REQUEST: of type 1 where it is one octet.
+#[tactic(auto, unfolding(crate::specs::A::classmark_at))]
 fn classmark<A: Allocator>(alloc: A, fields: &str) -> Result<Classmark<A>, FieldFault<'_>>
-    ensures read { IfOk result (λ mark. said.classmark_at fields.now ≡ Some mark) }
-    ensures unread { IfErr result (λ fault. fault ≢ NoMemory →
-        said.classmark_at {A = A} fields.now ≡ None) }
+    ensures { Answers result (said.classmark_at fields.now) }
 {
     let octets = octets(alloc, fields, "classmark", 0)?;
     if let [octet] = octets.as_slice() {
@@ -90,12 +93,11 @@ fn classmark<A: Allocator>(alloc: A, fields: &str) -> Result<Classmark<A>, Field
     Ok(Classmark::Two(Octets::from_vec(octets)))
 }
 
-/// The serving cell and the target cell of a HANDOVER REQUEST, which has no other fields than it may have.
+/// The serving cell and the target cell of a HANDOVER REQUEST.
 #[tactic(auto, unfolding(crate::specs::A::request_cells))]
 fn request_cells(fields: &str) -> Result<(CellId, CellId), FieldFault<'_>>
-    ensures { result_ok result ≡ said.request_cells fields.now }
+    ensures { read_of result ≡ said.request_cells fields.now }
 {
-    only_keys(fields, "channel encryption classmark serving target")?;
     let serving = cell(fields, "serving")?;
     let target = cell(fields, "target")?;
     Ok((serving, target))
@@ -107,14 +109,13 @@ fn handover_request<A: Allocator + Copy>(
     alloc: A,
     fields: &str,
 ) -> Result<Bssmap<A>, FieldFault<'_>>
-    ensures read { IfOk result (λ message. said.handover_request fields.now ≡ Some message) }
-    ensures unread { IfErr result (λ fault. fault ≢ NoMemory →
-        said.handover_request {A = A} fields.now ≡ None) }
+    ensures { Answers result (said.handover_request fields.now) }
 {
-    let (serving, target) = request_cells(fields)?;
+    only_keys(fields, "channel encryption classmark serving target")?;
     let channel = Octets::from_vec(octets(alloc, fields, "channel", 2)?);
     let encryption = Octets::from_vec(octets(alloc, fields, "encryption", 1)?);
     let classmark = classmark(alloc, fields)?;
+    let (serving, target) = request_cells(fields)?;
     Ok(Bssmap::HandoverRequest {
         channel,
         encryption,
@@ -130,9 +131,7 @@ fn handover_required<A: Allocator + Copy>(
     alloc: A,
     fields: &str,
 ) -> Result<Bssmap<A>, FieldFault<'_>>
-    ensures read { IfOk result (λ message. said.handover_required fields.now ≡ Some message) }
-    ensures unread { IfErr result (λ fault. fault ≢ NoMemory →
-        said.handover_required {A = A} fields.now ≡ None) }
+    ensures { Answers result (said.handover_required fields.now) }
 {
     only_keys(fields, "cause response cells")?;
     let cause = octet(fields, "cause")?;
@@ -148,9 +147,7 @@ fn handover_required<A: Allocator + Copy>(
 /// The layer 3 message of a message that has nothing else.
 #[tactic(auto, unfolding(crate::specs::A::layer3_alone))]
 fn layer3_alone<A: Allocator>(alloc: A, fields: &str) -> Result<Octets<A>, FieldFault<'_>>
-    ensures read { IfOk result (λ layer3. said.layer3_alone fields.now ≡ Some layer3) }
-    ensures unread { IfErr result (λ fault. fault ≢ NoMemory →
-        said.layer3_alone fields.now ≡ None) }
+    ensures { Answers result (said.layer3_alone fields.now) }
 {
     only_keys(fields, "layer3")?;
     Ok(Octets::from_vec(octets(alloc, fields, "layer3", 1)?))
@@ -159,7 +156,7 @@ fn layer3_alone<A: Allocator>(alloc: A, fields: &str) -> Result<Octets<A>, Field
 /// HANDOVER COMPLETE
 #[tactic(auto, unfolding(crate::specs::A::handover_complete))]
 fn handover_complete<A: Allocator>(fields: &str) -> Result<Bssmap<A>, FieldFault<'_>>
-    ensures { result_ok result ≡ said.handover_complete fields.now }
+    ensures { read_of result ≡ said.handover_complete fields.now }
 {
     only_keys(fields, "rr")?;
     Ok(Bssmap::HandoverComplete {
@@ -170,7 +167,7 @@ fn handover_complete<A: Allocator>(fields: &str) -> Result<Bssmap<A>, FieldFault
 /// HANDOVER FAILURE
 #[tactic(auto, unfolding(crate::specs::A::handover_failure))]
 fn handover_failure<A: Allocator>(fields: &str) -> Result<Bssmap<A>, FieldFault<'_>>
-    ensures { result_ok result ≡ said.handover_failure fields.now }
+    ensures { read_of result ≡ said.handover_failure fields.now }
 {
     only_keys(fields, "cause rr")?;
     Ok(Bssmap::HandoverFailure {
@@ -182,7 +179,7 @@ fn handover_failure<A: Allocator>(fields: &str) -> Result<Bssmap<A>, FieldFault<
 /// HANDOVER PERFORMED
 #[tactic(auto, unfolding(crate::specs::A::handover_performed))]
 fn handover_performed<A: Allocator>(fields: &str) -> Result<Bssmap<A>, FieldFault<'_>>
-    ensures { result_ok result ≡ said.handover_performed fields.now }
+    ensures { read_of result ≡ said.handover_performed fields.now }
 {
     only_keys(fields, "cause cell")?;
     Ok(Bssmap::HandoverPerformed {
@@ -194,7 +191,7 @@ fn handover_performed<A: Allocator>(fields: &str) -> Result<Bssmap<A>, FieldFaul
 /// The cause of a message that has nothing else.
 #[tactic(auto, unfolding(crate::specs::A::cause_alone))]
 fn cause_alone(fields: &str) -> Result<u8, FieldFault<'_>>
-    ensures { result_ok result ≡ said.cause_alone fields.now }
+    ensures { read_of result ≡ said.cause_alone fields.now }
 {
     only_keys(fields, "cause")?;
     octet(fields, "cause")
@@ -203,7 +200,7 @@ fn cause_alone(fields: &str) -> Result<u8, FieldFault<'_>>
 /// A message without fields.
 #[tactic(auto, unfolding(crate::specs::A::no_fields))]
 fn alone<A: Allocator>(fields: &str, message: Bssmap<A>) -> Result<Bssmap<A>, FieldFault<'_>>
-    ensures { result_ok result ≡ said.no_fields fields.now message }
+    ensures { read_of result ≡ said.no_fields fields.now message }
 {
     only_keys(fields, "")?;
     Ok(message)
@@ -215,7 +212,7 @@ fn short_message<'a, A: Allocator>(
     name: &'a str,
     fields: &'a str,
 ) -> Result<Bssmap<A>, MessageFault<'a>>
-    ensures { result_ok result ≡ said.short_message name.now fields.now }
+    ensures { faults.read_of result ≡ said.short_message name.now fields.now }
 {
     match name {
         "HANDOVER COMPLETE" => Ok(handover_complete(fields)?),
@@ -243,9 +240,7 @@ fn message_of<'a, A: Allocator + Copy>(
     name: &'a str,
     fields: &'a str,
 ) -> Result<Bssmap<A>, MessageFault<'a>>
-    ensures read { IfOk result (λ message. said.message_of name.now fields.now ≡ Some message) }
-    ensures unread { IfErr result (λ fault. fault ≢ MessageFault.NoMemory →
-        said.message_of {A = A} name.now fields.now ≡ None) }
+    ensures { faults.Answers result (said.message_of name.now fields.now) }
 {
     match name {
         "HANDOVER REQUEST" => Ok(handover_request(alloc, fields)?),
@@ -263,8 +258,8 @@ fn message_of<'a, A: Allocator + Copy>(
 /// The octets of the message on A that a text says: its canonical text.
 pub fn encode_a<A: Allocator + Copy>(alloc: A, text: &str) -> Result<Vec<u8, A>, MessageFault<'_>>
     ensures octets { IfOk result (λ octets. said.Writes A text.now octets.items) }
-    ensures refused { IfErr result (λ fault. fault ≢ MessageFault.NoMemory →
-        said.IsRefused A text.now) }
+    ensures fault { IfErr result (λ fault. fault ≢ MessageFault.NoMemory →
+        said.HasFault A text.now (faults.fault_of fault)) }
 {
     let (name, fields) = name_and_fields(text);
     let message = message_of(alloc, name, fields)?;

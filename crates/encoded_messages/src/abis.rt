@@ -1,8 +1,7 @@
 //! Messages on Abis from words (TS 48.058 clause 8).
-ghost use Rattle.std.specs.Prelude.{◌≡◌, ◌≢◌, Some, None, IfOk, IfErr};
-ghost use Rattle.std.specs.Result.{result_ok};
-ghost use Rattle.message_fields.specs.declared.fault.FieldFault.TheVariants.{NoMemory};
-ghost use Rattle.rsl_messages.specs.Texts.{canonical_text};
+ghost use Rattle.std.specs.Prelude.{◌≡◌, ◌≢◌, IfOk, IfErr};
+ghost use Rattle.message_fields.specs.Faults.{read_of, Answers};
+ghost use Rattle.encoded_messages.specs.Faults as faults;
 ghost use Rattle.encoded_messages.specs.Abis as said;
 
 use crate::fault::MessageFault;
@@ -14,8 +13,9 @@ use rsl_messages::{ChanBits, Octets, Rsl, encode, fits};
 use std::alloc::Allocator;
 
 /// The channel that a message is about.
+#[tactic(auto, unfolding(crate::specs::Abis::channel))]
 fn channel(fields: &str) -> Result<ChanBits, FieldFault<'_>>
-    ensures { result_ok result ≡ said.channel fields.now }
+    ensures { read_of result ≡ said.channel fields.now }
 {
     Ok(ChanBits {
         tn: small(fields, "tn", 7)?,
@@ -25,55 +25,45 @@ fn channel(fields: &str) -> Result<ChanBits, FieldFault<'_>>
 /// DATA REQUEST
 #[tactic(auto, unfolding(crate::specs::Abis::data_request))]
 fn data_request<A: Allocator>(alloc: A, fields: &str) -> Result<Rsl<A>, FieldFault<'_>>
-    ensures read { IfOk result (λ message. said.data_request fields.now ≡ Some message) }
-    ensures unread { IfErr result (λ fault. fault ≢ NoMemory →
-        said.data_request {A = A} fields.now ≡ None) }
+    ensures { Answers result (said.data_request fields.now) }
 {
     only_keys(fields, "tn link layer3")?;
     let channel = channel(fields)?;
     let link = octet(fields, "link")?;
-    match octets(alloc, fields, "layer3", 1) {
-        Ok(octets) => Ok(Rsl::DataRequest {
-            channel,
-            link,
-            layer3: Octets::from_vec(octets),
-        }),
-        Err(fault) => Err(fault),
-    }
+    let layer3 = Octets::from_vec(octets(alloc, fields, "layer3", 1)?);
+    Ok(Rsl::DataRequest {
+        channel,
+        link,
+        layer3,
+    })
 }
 
 /// DATA INDICATION
 #[tactic(auto, unfolding(crate::specs::Abis::data_indication))]
 fn data_indication<A: Allocator>(alloc: A, fields: &str) -> Result<Rsl<A>, FieldFault<'_>>
-    ensures read { IfOk result (λ message. said.data_indication fields.now ≡ Some message) }
-    ensures unread { IfErr result (λ fault. fault ≢ NoMemory →
-        said.data_indication {A = A} fields.now ≡ None) }
+    ensures { Answers result (said.data_indication fields.now) }
 {
     only_keys(fields, "tn link layer3")?;
     let channel = channel(fields)?;
     let link = octet(fields, "link")?;
-    match octets(alloc, fields, "layer3", 1) {
-        Ok(octets) => Ok(Rsl::DataIndication {
-            channel,
-            link,
-            layer3: Octets::from_vec(octets),
-        }),
-        Err(fault) => Err(fault),
-    }
+    let layer3 = Octets::from_vec(octets(alloc, fields, "layer3", 1)?);
+    Ok(Rsl::DataIndication {
+        channel,
+        link,
+        layer3,
+    })
 }
 
 /// CHANNEL ACTIVATION
 #[tactic(auto, unfolding(crate::specs::Abis::activation))]
 fn activation<A: Allocator>(alloc: A, fields: &str) -> Result<Rsl<A>, FieldFault<'_>>
-    ensures read { IfOk result (λ message. said.activation fields.now ≡ Some message) }
-    ensures unread { IfErr result (λ fault. fault ≢ NoMemory →
-        said.activation {A = A} fields.now ≡ None) }
+    ensures { Answers result (said.activation fields.now) }
 {
     only_keys(fields, "tn activation mode reference")?;
     let channel = channel(fields)?;
     let activation = octet(fields, "activation")?;
-    let reference = optional_octet(fields, "reference")?;
     let mode = Octets::from_vec(octets(alloc, fields, "mode", 1)?);
+    let reference = optional_octet(fields, "reference")?;
     Ok(Rsl::ChannelActivation {
         channel,
         activation,
@@ -85,7 +75,7 @@ fn activation<A: Allocator>(alloc: A, fields: &str) -> Result<Rsl<A>, FieldFault
 /// CHANNEL ACTIVATION ACK
 #[tactic(auto, unfolding(crate::specs::Abis::activation_ack))]
 fn activation_ack<A: Allocator>(fields: &str) -> Result<Rsl<A>, FieldFault<'_>>
-    ensures { result_ok result ≡ said.activation_ack fields.now }
+    ensures { read_of result ≡ said.activation_ack fields.now }
 {
     only_keys(fields, "tn frame")?;
     Ok(Rsl::ChannelActivationAck {
@@ -97,7 +87,7 @@ fn activation_ack<A: Allocator>(fields: &str) -> Result<Rsl<A>, FieldFault<'_>>
 /// The fields of CHANNEL ACTIVATION NACK and of CONNECTION FAILURE INDICATION: channel and cause.
 #[tactic(auto, unfolding(crate::specs::Abis::cause))]
 fn cause(fields: &str) -> Result<(ChanBits, u8), FieldFault<'_>>
-    ensures { result_ok result ≡ said.cause fields.now }
+    ensures { read_of result ≡ said.cause fields.now }
 {
     only_keys(fields, "tn cause")?;
     let channel = channel(fields)?;
@@ -108,7 +98,7 @@ fn cause(fields: &str) -> Result<(ChanBits, u8), FieldFault<'_>>
 /// HANDOVER DETECTION
 #[tactic(auto, unfolding(crate::specs::Abis::detection))]
 fn detection<A: Allocator>(fields: &str) -> Result<Rsl<A>, FieldFault<'_>>
-    ensures { result_ok result ≡ said.detection fields.now }
+    ensures { read_of result ≡ said.detection fields.now }
 {
     only_keys(fields, "tn delay")?;
     Ok(Rsl::HandoverDetection {
@@ -120,15 +110,13 @@ fn detection<A: Allocator>(fields: &str) -> Result<Rsl<A>, FieldFault<'_>>
 /// MEASUREMENT RESULT
 #[tactic(auto, unfolding(crate::specs::Abis::measurement))]
 fn measurement<A: Allocator + Copy>(alloc: A, fields: &str) -> Result<Rsl<A>, FieldFault<'_>>
-    ensures read { IfOk result (λ message. said.measurement fields.now ≡ Some message) }
-    ensures unread { IfErr result (λ fault. fault ≢ NoMemory →
-        said.measurement {A = A} fields.now ≡ None) }
+    ensures { Answers result (said.measurement fields.now) }
 {
     only_keys(fields, "tn number uplink power layer3")?;
     let channel = channel(fields)?;
     let number = octet(fields, "number")?;
-    let power = octet(fields, "power")?;
     let uplink = Octets::from_vec(octets(alloc, fields, "uplink", 0)?);
+    let power = octet(fields, "power")?;
     let layer3 = optional_octets(alloc, fields, "layer3", 1)?.map(|octets| Octets::from_vec(
         octets,
     ));
@@ -144,7 +132,7 @@ fn measurement<A: Allocator + Copy>(alloc: A, fields: &str) -> Result<Rsl<A>, Fi
 /// The channel of a message that has nothing else.
 #[tactic(auto, unfolding(crate::specs::Abis::channel_alone))]
 fn channel_alone(fields: &str) -> Result<ChanBits, FieldFault<'_>>
-    ensures { result_ok result ≡ said.channel_alone fields.now }
+    ensures { read_of result ≡ said.channel_alone fields.now }
 {
     only_keys(fields, "tn")?;
     channel(fields)
@@ -156,7 +144,7 @@ fn short_message<'a, A: Allocator>(
     name: &'a str,
     fields: &'a str,
 ) -> Result<Rsl<A>, MessageFault<'a>>
-    ensures { result_ok result ≡ said.short_message name.now fields.now }
+    ensures { faults.read_of result ≡ said.short_message name.now fields.now }
 {
     match name {
         "CHANNEL ACTIVATION ACK" => Ok(activation_ack(fields)?),
@@ -186,9 +174,7 @@ fn message_of<'a, A: Allocator + Copy>(
     name: &'a str,
     fields: &'a str,
 ) -> Result<Rsl<A>, MessageFault<'a>>
-    ensures read { IfOk result (λ message. said.message_of name.now fields.now ≡ Some message) }
-    ensures unread { IfErr result (λ fault. fault ≢ MessageFault.NoMemory →
-        said.message_of {A = A} name.now fields.now ≡ None) }
+    ensures { faults.Answers result (said.message_of name.now fields.now) }
 {
     match name {
         "DATA REQUEST" => Ok(data_request(alloc, fields)?),
@@ -205,8 +191,8 @@ pub fn encode_abis<A: Allocator + Copy>(
     text: &str,
 ) -> Result<Vec<u8, A>, MessageFault<'_>>
     ensures octets { IfOk result (λ octets. said.Writes A text.now octets.items) }
-    ensures refused { IfErr result (λ fault. fault ≢ MessageFault.NoMemory →
-        said.IsRefused A text.now) }
+    ensures fault { IfErr result (λ fault. fault ≢ MessageFault.NoMemory →
+        said.HasFault A text.now (faults.fault_of fault)) }
 {
     let (name, fields) = name_and_fields(text);
     let message = message_of(alloc, name, fields)?;

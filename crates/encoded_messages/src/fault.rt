@@ -26,9 +26,9 @@ pub enum MessageFault<'a> {
 }
 
 impl<'a> From<FieldFault<'a>> for MessageFault<'a> {
-    ghost use Rattle.encoded_messages.specs.Faults.{fault_of};
+    ghost use Rattle.encoded_messages.specs.Faults.{from_field};
 
-    ghost from_gives = { λ field fault. fault ≡ fault_of field };
+    ghost from_gives = { λ field fault. fault ≡ from_field field };
 
     fn from(fault: FieldFault<'a>) -> MessageFault<'a> {
         match fault {

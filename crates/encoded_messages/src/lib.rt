@@ -21,6 +21,11 @@
 //! | rr | HANDOVER COMPLETE, HANDOVER FAILURE, CHANNEL RELEASE | cause |
 //! | rr | PHYSICAL INFORMATION | ta |
 //! | rr | MEASUREMENT REPORT | ba dtx full ba3g valid sub si23 qfull qsub count, and n for each neighbour |
+//!
+//! Where a text says no message that can be written, the fault is the first of these: the name is none of the link's; a
+//! word behind it is no field of the message, where the first such word is named; a field, in the order of the table, is
+//! missing, stands twice, or has a value that it may not have, where of several `n` the first such is named; there are
+//! other than so many `n` as `count` says; the message is too long.
 #![tactic(auto)]
 
 mod a;

@@ -1,9 +1,9 @@
 //! Radio resource messages from words (TS 44.018 section 9.1).
-ghost use Rattle.std.specs.Prelude.{◌≡◌, ◌≢◌, ◌++◌, Some, None, OnOk, IfOk, IfErr, IfSome, All, codes, option_map};
-ghost use Rattle.std.specs.Result.{result_ok};
-ghost use Rattle.message_fields.specs.Words.{words_of, values_of};
+ghost use Rattle.std.specs.Prelude.{◌≡◌, ◌≢◌, ◌++◌, Ok, Err, OnOk, IfOk, IfErr, IfSome, MatchResult, All};
+ghost use Rattle.message_fields.specs.Faults.{read_of, read_map, fault_of};
 ghost use Rattle.message_fields.specs.declared.fault.FieldFault.TheVariants.{NoMemory};
 ghost use Rattle.rr_elements.specs.MeasResults.{HeadFits, NcellFits, used_count};
+ghost use Rattle.encoded_messages.specs.Faults as faults;
 ghost use Rattle.encoded_messages.specs.Rr as said;
 
 use crate::fault::MessageFault;
@@ -18,7 +18,7 @@ use std::alloc::Allocator;
 /// The cell that a handover goes to.
 #[tactic(auto, unfolding(crate::specs::Rr::cell))]
 fn cell(fields: &str) -> Result<CellDescription, FieldFault<'_>>
-    ensures { result_ok result ≡ said.cell fields.now }
+    ensures { read_of result ≡ said.cell fields.now }
 {
     let arfcn = number(fields, "arfcn", 1023)?;
     let ncc = small(fields, "ncc", 7)?;
@@ -32,7 +32,7 @@ fn cell(fields: &str) -> Result<CellDescription, FieldFault<'_>>
 /// The channel that a handover goes to.
 #[tactic(auto, unfolding(crate::specs::Rr::channel))]
 fn channel(fields: &str) -> Result<ChanDescription, FieldFault<'_>>
-    ensures { result_ok result ≡ said.channel fields.now }
+    ensures { read_of result ≡ said.channel fields.now }
 {
     let tn = small(fields, "tn", 7)?;
     let tsc = small(fields, "tsc", 7)?;
@@ -46,7 +46,7 @@ fn channel(fields: &str) -> Result<ChanDescription, FieldFault<'_>>
 /// The power command and the access type.
 #[tactic(auto, unfolding(crate::specs::Rr::power))]
 fn power(fields: &str) -> Result<Power, FieldFault<'_>>
-    ensures { result_ok result ≡ said.power fields.now }
+    ensures { read_of result ≡ said.power fields.now }
 {
     let atc = flag(fields, "atc")?;
     let level = small(fields, "power", 31)?;
@@ -59,7 +59,7 @@ fn power(fields: &str) -> Result<Power, FieldFault<'_>>
 /// HANDOVER COMMAND
 #[tactic(auto, unfolding(crate::specs::Rr::handover_command))]
 fn handover_command(fields: &str) -> Result<Rr, FieldFault<'_>>
-    ensures { result_ok result ≡ said.handover_command fields.now }
+    ensures { read_of result ≡ said.handover_command fields.now }
 {
     only_keys(fields, "arfcn ncc bcc tn tsc carrier reference atc power")?;
     let cell = match cell(fields) {
@@ -85,7 +85,7 @@ fn handover_command(fields: &str) -> Result<Rr, FieldFault<'_>>
 /// The cause of a message that has nothing else.
 #[tactic(auto, unfolding(crate::specs::Rr::cause_alone))]
 fn cause_alone(fields: &str) -> Result<RrCause, FieldFault<'_>>
-    ensures { result_ok result ≡ said.cause_alone fields.now }
+    ensures { read_of result ≡ said.cause_alone fields.now }
 {
     only_keys(fields, "cause")?;
     Ok(RrCause(octet(fields, "cause")?))
@@ -94,7 +94,7 @@ fn cause_alone(fields: &str) -> Result<RrCause, FieldFault<'_>>
 /// PHYSICAL INFORMATION
 #[tactic(auto, unfolding(crate::specs::Rr::physical_information))]
 fn physical_information(fields: &str) -> Result<Rr, FieldFault<'_>>
-    ensures { result_ok result ≡ said.physical_information fields.now }
+    ensures { read_of result ≡ said.physical_information fields.now }
 {
     only_keys(fields, "ta")?;
     Ok(Rr::PhysicalInformation(octet(fields, "ta")?))
@@ -103,7 +103,7 @@ fn physical_information(fields: &str) -> Result<Rr, FieldFault<'_>>
 /// The fields of a MEASUREMENT REPORT before the neighbours.
 #[tactic(auto, unfolding(crate::specs::Rr::head))]
 fn head(fields: &str) -> Result<MeasHead, FieldFault<'_>>
-    ensures head { result_ok result ≡ said.head fields.now }
+    ensures head { read_of result ≡ said.head fields.now }
     ensures fits { IfOk result HeadFits }
 {
     Ok(MeasHead {
@@ -139,12 +139,11 @@ fn add_neighbours<'a, A: Allocator>(
     fields: &'a str,
 ) -> Result<(), FieldFault<'a>>
     requires { All NcellFits found.old.items }
-    ensures read { OnOk result (option_map (λ more. found.old.items ++ more)
-        (said.neighbours_of (values_of (codes "n") (words_of fields.now))) ≡
-        Some found.new.items) }
+    ensures read { OnOk result (read_map (λ more. found.old.items ++ more)
+        (said.neighbours_in fields.now) ≡ Ok found.new.items) }
     ensures fits { OnOk result (All NcellFits found.new.items) }
-    ensures unread { IfErr result (λ fault. fault ≢ NoMemory →
-        said.neighbours_of (values_of (codes "n") (words_of fields.now)) ≡ None) }
+    ensures fault { IfErr result (λ fault. fault ≢ NoMemory →
+        said.neighbours_in fields.now ≡ Err (fault_of fault)) }
 {
     let Some((value, rest)) = leading_value(fields, "n") else {
         return Ok(());
@@ -170,17 +169,30 @@ fn used(count: u8) -> usize
     }
 }
 
-/// MEASUREMENT REPORT
-#[tactic(auto, unfolding(crate::specs::Rr::measurement_report))]
-fn measurement_report<A: Allocator>(alloc: A, fields: &str) -> Result<Rr, MessageFault<'_>>
-    ensures read { IfOk result (λ message. said.measurement_report fields.now ≡ Some message) }
-    ensures unread { IfErr result (λ fault. fault ≢ MessageFault.NoMemory →
-        said.measurement_report fields.now ≡ None) }
+/// What is measured, which is a MEASUREMENT REPORT once there are as many neighbours as it says.
+#[tactic(auto, unfolding(crate::specs::Rr::measured))]
+fn measured<A: Allocator>(
+    alloc: A,
+    fields: &str,
+) -> Result<(MeasHead, Vec<Ncell, A>), FieldFault<'_>>
+    ensures measured { MatchResult result
+        (λ found. said.measured fields.now ≡ Ok (found.0, found.1.items))
+        (λ fault. fault ≢ NoMemory → said.measured fields.now ≡ Err (fault_of fault)) }
+    ensures fits { IfOk result (λ found. HeadFits found.0 × All NcellFits found.1.items) }
 {
     only_keys(fields, "ba dtx full ba3g valid sub si23 qfull qsub count n")?;
     let head = head(fields)?;
     let mut neighbours = Vec::new(alloc);
     add_neighbours(&mut neighbours, fields)?;
+    Ok((head, neighbours))
+}
+
+/// MEASUREMENT REPORT
+#[tactic(auto, unfolding(crate::specs::Rr::measurement_report))]
+fn measurement_report<A: Allocator>(alloc: A, fields: &str) -> Result<Rr, MessageFault<'_>>
+    ensures { faults.Answers result (said.measurement_report fields.now) }
+{
+    let (head, neighbours) = measured(alloc, fields)?;
     let found = neighbours.len();
     if found != used(head.count) {
         let count = head.count;
@@ -199,9 +211,7 @@ fn message_of<'a, A: Allocator>(
     name: &'a str,
     fields: &'a str,
 ) -> Result<Rr, MessageFault<'a>>
-    ensures read { IfOk result (λ message. said.message_of name.now fields.now ≡ Some message) }
-    ensures unread { IfErr result (λ fault. fault ≢ MessageFault.NoMemory →
-        said.message_of name.now fields.now ≡ None) }
+    ensures { faults.Answers result (said.message_of name.now fields.now) }
 {
     match name {
         "HANDOVER COMMAND" => match handover_command(fields) {
@@ -223,8 +233,8 @@ fn message_of<'a, A: Allocator>(
 /// The octets of the radio resource message that a text says: its canonical text.
 pub fn encode_rr<A: Allocator + Copy>(alloc: A, text: &str) -> Result<Vec<u8, A>, MessageFault<'_>>
     ensures octets { IfOk result (λ octets. said.Writes text.now octets.items) }
-    ensures refused { IfErr result (λ fault. fault ≢ MessageFault.NoMemory →
-        said.IsRefused text.now) }
+    ensures fault { IfErr result (λ fault. fault ≢ MessageFault.NoMemory →
+        said.HasFault text.now (faults.fault_of fault)) }
 {
     let (name, fields) = name_and_fields(text);
     match message_of(alloc, name, fields) {

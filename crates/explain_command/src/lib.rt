@@ -5,7 +5,7 @@ ghost use Rattle.std.specs.Prelude.{◌≡◌, ◌↔◌, true, IfOk};
 ghost use Rattle.explanations.specs.Questions.{IsKnown};
 
 use clap::{Arg, ArgAction, ArgMatches, Command, value_parser};
-use explanations::{Link, Question, answer_to};
+use explanations::{Argument, Link, Question, answer_to, argument_of};
 use std::alloc::{AllocError, Global};
 use std::io::{self, Write};
 
@@ -59,8 +59,11 @@ const FAULT_HELP: &str = "\
 Links: rr is the radio path (TS 44.018), a the switching centre (TS 48.008), abis the base station
 (TS 48.058).
 
-Statuses: 0 the fault has words, 2 there is none of this number, or the words of the command are
-wrong, 3 memory was refused.
+ARGUMENT is a message type or an element identifier (0 to 255), an offset (on a 3 to 254, on abis 1
+to 1023), or on rr what is wrong with the element (1 to 4), in decimal as decode prints it.
+
+Statuses: 0 the fault has words, 2 there is none of this number, it can't have this argument, or the
+words of the command are wrong, 3 memory was refused.
 
 As in: bsc_lab explain fault abis 3 26";
 
@@ -125,7 +128,27 @@ pub fn question_of(explain: &ArgMatches<'_>) -> Option<Question> {
     }
 }
 
-/// Says on `errors` that nothing has this number.
+/// Says on `errors` which numbers the argument of a fault may be, where this isn't one of them.
+fn say_range<E: Write>(
+    fault: (Link, u8),
+    what: Argument,
+    argument: usize,
+    errors: &mut E,
+) -> io::Result<()> {
+    let (link, number) = fault;
+    match what.range() {
+        Some((low, high)) => writeln!(
+            errors,
+            "error: the argument of fault {link} {number} is {what}, {low} to {high}, found {argument}"
+        ),
+        None => writeln!(
+            errors,
+            "error: fault {link} {number} has no argument, found {argument}"
+        ),
+    }
+}
+
+/// Says on `errors` why there are no words for a question.
 fn say_unknown<E: Write>(question: Question, errors: &mut E) -> io::Result<()> {
     match question {
         Question::Refusal(number) => {
@@ -135,14 +158,17 @@ fn say_unknown<E: Write>(question: Question, errors: &mut E) -> io::Result<()> {
             )
         }
         Question::Cause(link, cause) => writeln!(errors, "error: there is no cause {link} {cause}"),
-        Question::Fault(link, number, _) => {
-            writeln!(errors, "error: there is no fault {link} {number}")
-        }
+        Question::Fault(link, number, argument) => match (argument_of(link, number), argument) {
+            (Some(what), Some(argument)) => say_range((link, number), what, argument, errors),
+            (Some(_), None) | (None, _) => {
+                writeln!(errors, "error: there is no fault {link} {number}")
+            }
+        },
     }
 }
 
 /// Prints the answer to a question in one line to `out`, and answers true. Where there is no refusal or no fault of the
-/// number, `errors` says so, nothing is printed, and the answer is false.
+/// number, or the fault can't have the argument, `errors` says so, nothing is printed, and the answer is false.
 pub fn explain<W: Write, E: Write>(
     question: Question,
     out: &mut W,

@@ -1,2 +1,4 @@
+pub mod Arguments
 pub mod Faults
+pub mod Kinds
 pub mod Questions

@@ -1,9 +1,66 @@
 //! Why octets are no message, in words.
-ghost use Rattle.std.specs.Prelude.{◌≡◌, ◌↔◌, ◌<◌, ◌≤◌, IsSome};
-ghost use Rattle.explanations.specs.Faults.{most_faults};
+ghost use Rattle.std.specs.Prelude.{◌≡◌, ◌↔◌, IsTrue, IsSome, option_map};
+ghost use Rattle.explanations.specs.Arguments.{range_of, is_within};
+ghost use Rattle.explanations.specs.Kinds.{argument_of_kind};
+ghost use Rattle.explanations.specs.Faults.{faults_on, argument_at, is_fault};
 
 use crate::link::Link;
 use std::fmt;
+
+/// What the argument of a fault is.
+#[derive(Clone, Copy, Debug, PartialEq, Eq)]
+pub enum Argument {
+    /// The fault has none.
+    Absent,
+    /// The type of a message: 0 to 255.
+    MessageType,
+    /// The identifier of an element: 0 to 255.
+    Identifier,
+    /// Where in a message on A an element begins, by the octets before it: 3 to 254.
+    OffsetOnA,
+    /// The same on Abis, or where the type is missing: 1 to 1023.
+    OffsetOnAbis,
+    /// What is wrong with an element of the radio path, by its number: 1 to 4.
+    ElementFault,
+}
+
+impl Argument {
+    /// The least and the greatest number that the argument may be; `None` where there is none.
+    pub fn range(self) -> Option<(usize, usize)>
+        ensures range { result ≡ range_of self }
+    {
+        match self {
+            Argument::Absent => None,
+            Argument::MessageType | Argument::Identifier => Some((0, 255)),
+            Argument::OffsetOnA => Some((3, 254)),
+            Argument::OffsetOnAbis => Some((1, 1023)),
+            Argument::ElementFault => Some((1, 4)),
+        }
+    }
+
+    /// Whether the argument may be this number.
+    fn allows(self, number: usize) -> bool
+        ensures { result ≡ is_within (range_of self) number }
+    {
+        match self.range() {
+            Some((low, high)) => low <= number && number <= high,
+            None => false,
+        }
+    }
+}
+
+/// What the argument is, in words.
+impl fmt::Display for Argument {
+    fn fmt<W: fmt::Write>(&self, f: &mut fmt::Formatter<W>) -> fmt::Result {
+        f.write_str(match self {
+            Argument::Absent => "nothing",
+            Argument::MessageType => "a message type",
+            Argument::Identifier => "an element identifier",
+            Argument::OffsetOnA | Argument::OffsetOnAbis => "an offset",
+            Argument::ElementFault => "the number of what is wrong with the element",
+        })
+    }
+}
 
 /// What is wrong with octets.
 #[derive(Clone, Copy, Debug, PartialEq, Eq)]
@@ -15,8 +72,25 @@ enum Kind {
     Missing,
     Bad,
     BadOnRadioPath,
-    Cut,
+    CutOnA,
+    CutOnAbis,
     TooLong,
+}
+
+impl Kind {
+    /// What the fault's argument is.
+    fn argument(self) -> Argument
+        ensures { result ≡ argument_of_kind self }
+    {
+        match self {
+            Kind::OtherLink | Kind::BadLength | Kind::Short | Kind::TooLong => Argument::Absent,
+            Kind::UnknownType => Argument::MessageType,
+            Kind::Missing | Kind::Bad => Argument::Identifier,
+            Kind::BadOnRadioPath => Argument::ElementFault,
+            Kind::CutOnA => Argument::OffsetOnA,
+            Kind::CutOnAbis => Argument::OffsetOnAbis,
+        }
+    }
 }
 
 /// Why octets are no message, with the fault's argument where it is known.
@@ -28,7 +102,7 @@ pub struct Fault {
 
 /// A fault on the radio path.
 fn rr_kind(number: u8) -> Option<Kind>
-    ensures { IsSome result ↔ ((0 < number) × (number ≤ 4)) }
+    ensures { option_map argument_of_kind result ≡ argument_at (faults_on Link.Rr) number }
 {
     match number {
         1 => Some(Kind::OtherLink),
@@ -41,7 +115,7 @@ fn rr_kind(number: u8) -> Option<Kind>
 
 /// A fault on A.
 fn a_kind(number: u8) -> Option<Kind>
-    ensures { IsSome result ↔ ((0 < number) × (number ≤ 6)) }
+    ensures { option_map argument_of_kind result ≡ argument_at (faults_on Link.A) number }
 {
     match number {
         1 => Some(Kind::OtherLink),
@@ -49,21 +123,21 @@ fn a_kind(number: u8) -> Option<Kind>
         3 => Some(Kind::UnknownType),
         4 => Some(Kind::Missing),
         5 => Some(Kind::Bad),
-        6 => Some(Kind::Cut),
+        6 => Some(Kind::CutOnA),
         _ => None,
     }
 }
 
 /// A fault on Abis.
 fn abis_kind(number: u8) -> Option<Kind>
-    ensures { IsSome result ↔ ((0 < number) × (number ≤ 6)) }
+    ensures { option_map argument_of_kind result ≡ argument_at (faults_on Link.Abis) number }
 {
     match number {
         1 => Some(Kind::OtherLink),
         2 => Some(Kind::UnknownType),
         3 => Some(Kind::Missing),
         4 => Some(Kind::Bad),
-        5 => Some(Kind::Cut),
+        5 => Some(Kind::CutOnAbis),
         6 => Some(Kind::TooLong),
         _ => None,
     }
@@ -71,7 +145,7 @@ fn abis_kind(number: u8) -> Option<Kind>
 
 /// What is wrong, by the number of a fault of a link.
 fn kind_of(link: Link, number: u8) -> Option<Kind>
-    ensures { IsSome result ↔ ((0 < number) × (number ≤ most_faults link)) }
+    ensures { option_map argument_of_kind result ≡ argument_at (faults_on link) number }
 {
     match link {
         Link::Rr => rr_kind(number),
@@ -80,14 +154,26 @@ fn kind_of(link: Link, number: u8) -> Option<Kind>
     }
 }
 
-/// The fault of this number on a link, with its argument where that is known: there are four on the radio path, six on A
-/// and on Abis each, numbered from 1.
-pub fn fault_of(link: Link, number: u8, argument: Option<usize>) -> Option<Fault>
-    ensures some { IsSome result ↔ ((0 < number) × (number ≤ most_faults link)) }
+/// What the argument of the fault of this number on a link is; `None` where there is no such fault.
+pub fn argument_of(link: Link, number: u8) -> Option<Argument>
+    ensures argument { result ≡ argument_at (faults_on link) number }
 {
     match kind_of(link, number) {
-        Some(kind) => Some(Fault { kind, argument }),
+        Some(kind) => Some(kind.argument()),
         None => None,
+    }
+}
+
+/// The fault of this number on a link, with its argument where that is known: there are four on the radio path, six on A
+/// and on Abis each, numbered from 1. `None` where there is no such fault, or where it can't have this argument
+/// ([`argument_of`]).
+pub fn fault_of(link: Link, number: u8, argument: Option<usize>) -> Option<Fault>
+    ensures some { IsSome result ↔ IsTrue (is_fault link number argument) }
+{
+    let kind = kind_of(link, number)?;
+    match argument {
+        Some(value) if !kind.argument().allows(value) => None,
+        Some(_) | None => Some(Fault { kind, argument }),
     }
 }
 
@@ -100,7 +186,7 @@ fn words(kind: Kind) -> &'static str {
         Kind::Short => "the message is cut",
         Kind::Missing => "an element is missing",
         Kind::Bad | Kind::BadOnRadioPath => "an element is bad",
-        Kind::Cut => "an element is cut",
+        Kind::CutOnA | Kind::CutOnAbis => "an element is cut",
         Kind::TooLong => "too long",
     }
 }
@@ -127,7 +213,7 @@ impl fmt::Display for Fault {
             Kind::UnknownType => write!(f, ": {argument:02X}"),
             Kind::Missing | Kind::Bad => write!(f, ": identifier {argument:02X}"),
             Kind::BadOnRadioPath => write!(f, ": {}", element_words(argument)),
-            Kind::Cut => write!(f, " at offset {argument}"),
+            Kind::CutOnA | Kind::CutOnAbis => write!(f, " at offset {argument}"),
             Kind::OtherLink | Kind::BadLength | Kind::Short | Kind::TooLong => Ok(()),
         }
     }

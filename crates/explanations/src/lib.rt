@@ -8,7 +8,7 @@ mod fault;
 mod link;
 
 use cause_words::{a_cause, abis_cause, refusal_name, refusal_words, rr_cause};
-pub use fault::{Fault, fault_of};
+pub use fault::{Argument, Fault, argument_of, fault_of};
 pub use link::Link;
 use std::fmt;
 
@@ -20,7 +20,7 @@ pub enum Question {
     /// A cause on a link, any octet (TS 48.008 clause 3.2.2.5, TS 44.018 clause 10.5.2.31, TS 48.058 clause 9.3.26).
     Cause(Link, u8),
     /// A fault of octets that are no message of a link, by its number from 1 on, and the fault's argument, where it is
-    /// known. Ours, of no standard.
+    /// known ([`Argument`]). Ours, of no standard.
     Fault(Link, u8, Option<usize>),
 }
 
@@ -51,7 +51,8 @@ fn refusal(number: u8) -> Option<Answer>
     Some(Answer::Refusal(refusal_name(number)?, refusal_words(number)?))
 }
 
-/// What is said; `None` where there is no refusal or no fault of this number. It takes no memory.
+/// What is said; `None` where there is no refusal or no fault of this number, or where the fault can't have this argument. It
+/// takes no memory.
 pub fn answer_to(question: Question) -> Option<Answer>
     ensures known { IsSome result ↔ IsKnown question }
 {

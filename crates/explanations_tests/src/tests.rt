@@ -1,4 +1,4 @@
-use explanations::{Link, Question, answer_to};
+use explanations::{Link, Question, answer_to, argument_of};
 use std::test::Fail;
 
 /// What is asked, and what is said.
@@ -48,11 +48,11 @@ const ANSWERS: &[(Question, &str)] = &[
     (Question::Fault(Link::A, 4, None), "an element is missing"),
     (Question::Fault(Link::A, 5, None), "an element is bad"),
     (
-        Question::Fault(Link::A, 6, Some(300)),
-        "an element is cut at offset 300",
+        Question::Fault(Link::A, 6, Some(254)),
+        "an element is cut at offset 254",
     ),
     (
-        Question::Fault(Link::Rr, 1, Some(5)),
+        Question::Fault(Link::Rr, 1, None),
         "no message of this link",
     ),
     (Question::Fault(Link::Rr, 2, None), "unknown type"),
@@ -77,6 +77,30 @@ const UNKNOWN: &[Question] = &[
     Question::Fault(Link::Abis, 7, Some(1)),
 ];
 
+/// Faults, and what is said of the argument of each: what it is, the least and the greatest.
+const ARGUMENTS: &[(Link, u8, &str)] = &[
+    (Link::Rr, 1, "nothing"),
+    (Link::Rr, 2, "a message type, 0 to 255"),
+    (Link::Rr, 3, "nothing"),
+    (
+        Link::Rr,
+        4,
+        "the number of what is wrong with the element, 1 to 4",
+    ),
+    (Link::A, 1, "nothing"),
+    (Link::A, 2, "nothing"),
+    (Link::A, 3, "a message type, 0 to 255"),
+    (Link::A, 4, "an element identifier, 0 to 255"),
+    (Link::A, 5, "an element identifier, 0 to 255"),
+    (Link::A, 6, "an offset, 3 to 254"),
+    (Link::Abis, 1, "nothing"),
+    (Link::Abis, 2, "a message type, 0 to 255"),
+    (Link::Abis, 3, "an element identifier, 0 to 255"),
+    (Link::Abis, 4, "an element identifier, 0 to 255"),
+    (Link::Abis, 5, "an offset, 1 to 1023"),
+    (Link::Abis, 6, "nothing"),
+];
+
 #[test]
 fn refusals_causes_and_faults_are_said_in_words(rt: HostRuntime) -> Result<(), Fail> {
     for (question, wanted) in ANSWERS {
@@ -88,6 +112,26 @@ fn refusals_causes_and_faults_are_said_in_words(rt: HostRuntime) -> Result<(), F
     }
     for question in UNKNOWN {
         assert!(rt; answer_to(*question).is_none());
+    }
+    Ok(())
+}
+
+#[test]
+fn arguments_are_told_and_no_others_are_taken(rt: HostRuntime) -> Result<(), Fail> {
+    for (link, number, wanted) in ARGUMENTS {
+        let what = argument_of(*link, *number).ok_or("no such fault")?;
+        let (text, outside) = match what.range() {
+            Some((low, high)) => (
+                format!(in rt.alloc(); "{what}, {low} to {high}")?,
+                [low.wrapping_sub(1), high.wrapping_add(1)],
+            ),
+            None => (what.to_string(rt.alloc())?, [0, 1]),
+        };
+        assert!(rt; text.as_str() == *wanted, "{link} {number}: {text}");
+        for argument in &outside {
+            let asked = Question::Fault(*link, *number, Some(*argument));
+            assert!(rt; answer_to(asked).is_none(), "{link} {number} {argument}");
+        }
     }
     Ok(())
 }

@@ -1,7 +1,8 @@
 //! Why a file can't be read or written, in a few words for a person.
-//!
-//! No clause says which words these are: that is shown by tests.
 #![tactic(auto)]
+
+ghost use Rattle.std.specs.Prelude.{◌≡◌, option_map};
+ghost use Rattle.file_reasons.specs.Words.{words_of};
 
 use std::fmt;
 use std::io::{self, ErrorKind};
@@ -12,7 +13,9 @@ use std::io::{self, ErrorKind};
 pub struct Reason<'a>(pub &'a io::Error);
 
 /// What is said of the errors that a person meets. All others, and those that the system may get, have its own words.
-fn words_of(kind: ErrorKind) -> Option<&'static str> {
+fn words_of(kind: ErrorKind) -> Option<&'static str>
+    ensures { option_map (λ words. words.now) result ≡ words_of kind }
+{
     match kind {
         ErrorKind::NotFound => Some("no such file"),
         ErrorKind::PermissionDenied => Some("no permission"),
@@ -26,6 +29,11 @@ fn words_of(kind: ErrorKind) -> Option<&'static str> {
 }
 
 impl fmt::Display for Reason<'_> {
+    ghost use Rattle.std.specs.IoError.{error_kind};
+    ghost use Rattle.file_reasons.specs.Words.{words_of};
+
+    ghost output = { λ reason. words_of (error_kind reason.0.now) };
+
     fn fmt<W: fmt::Write>(&self, f: &mut fmt::Formatter<W>) -> fmt::Result {
         match words_of(self.0.kind()) {
             Some(words) => f.write_str(words),

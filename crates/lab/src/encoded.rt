@@ -1,6 +1,9 @@
 //! One message in octets, from its name and its fields.
 //!
 //! No clause says which octets are printed: that is shown by tests. What octets a text says is said in `encoded_messages`.
+ghost use Rattle.std.specs.Prelude.{◌≡◌, ◌≢◌, Ok, OnOk, IfErr};
+ghost use Rattle.lab.specs.Encoded.{CanBeWritten};
+
 use crate::decoded::Link;
 use crate::run::{LabFault, Status};
 use encoded_messages::{MessageFault, encode_a, encode_abis, encode_rr};
@@ -12,7 +15,11 @@ fn octets<A: Allocator + Copy>(
     alloc: A,
     link: Link,
     text: &str,
-) -> Result<Vec<u8, A>, MessageFault<'_>> {
+) -> Result<Vec<u8, A>, MessageFault<'_>>
+    ensures written { OnOk result (CanBeWritten A link text.now) }
+    ensures fault { IfErr result (λ fault. fault ≢ MessageFault.NoMemory →
+        CanBeWritten A link text.now → ⊥) }
+{
     match link {
         Link::Rr => encode_rr(alloc, text),
         Link::A => encode_a(alloc, text),
@@ -31,7 +38,11 @@ pub fn encode_run<A: Allocator + Copy, W: Write, E: Write>(
     text: &str,
     out: &mut W,
     errors: &mut E,
-) -> Result<Status, LabFault> {
+) -> Result<Status, LabFault>
+    ensures done { result ≡ Ok Status.Done → CanBeWritten A link text.now }
+    ensures differs { result ≢ Ok Status.Differs }
+    ensures refused { result ≡ Ok Status.Refused → CanBeWritten A link text.now → ⊥ }
+{
     match octets(alloc, link, text) {
         Ok(octets) => {
             let line = hex::encode(alloc, octets.as_slice()).map_err(|_| LabFault::NoMemory)?;

@@ -1,8 +1,9 @@
 //! A run of which each line of a script is told what came of it.
-ghost use Rattle.std.specs.Prelude.{◌≡◌, [], ◌∷◌, true, is_some, IfOk, OnOk};
+ghost use Rattle.std.specs.Prelude.{◌≡◌, ℕ, List, [], ◌∷◌, Bool, true, is_some, length, IfOk, OnOk};
 ghost use Rattle.lab_script.specs.Script.{AreThere, is_item_there};
 ghost use Rattle.lab.specs.Turns.{inputs_in};
 ghost use Rattle.lab.specs.Course.{Played, Went, has_peer};
+ghost use Rattle.lab.specs.Heard.{HearsAll, IsTold};
 ghost use Rattle.lab.specs.Sites.{views_of};
 
 use crate::course::Course;
@@ -14,11 +15,18 @@ use std::str;
 /// Who is told what comes of the lines of a script, part by part: a part is what stands before the first line that gives
 /// something, or behind one up to the next.
 pub(crate) trait Listener {
+    /// Told what came, it answers whether the run goes on, and is then another.
+    ghost Hears: { Self → List ℕ → Bool → Self → Type 0 };
+    /// Told what came last, without the trace's end and with it, it answers whether that is well.
+    ghost HearsEnd: { Self → List ℕ → List ℕ → Bool → Type 0 };
+
     /// What comes of the next part but the last, as it is printed; answers whether the run goes on.
-    fn hear(&mut self, came: &str) -> Result<bool, LabFault>;
+    fn hear(&mut self, came: &str) -> Result<bool, LabFault>
+        ensures hears { IfOk result (λ on. Hears self.old came.now on self.new) };
 
     /// What comes of the last part, without the trace's end and with it; answers whether that is well.
-    fn hear_last(&mut self, came: &str, ended: &str) -> Result<bool, LabFault>;
+    fn hear_last(&mut self, came: &str, ended: &str) -> Result<bool, LabFault>
+        ensures hears { IfOk result (λ well. HearsEnd self.old came.now ended.now well) };
 }
 
 /// Does what a line of a script gives, and adds what is printed of that to a list, which lacks nothing but memory.
@@ -51,6 +59,7 @@ fn follow_heard<A: Allocator + Copy, L: Listener>(
 ) -> Result<bool, LabFault>
     requires there { is_item_there (has_peer course.old) item ≡ true }
     ensures went { IfOk result (λ on. on ≡ true → Went (inputs_in (item ∷ [])) course.old course.new) }
+    ensures heard { IfOk result (λ on. (text : List ℕ) × L.Hears listener.old text on listener.new) }
 {
     if !listener.hear(text_of(printed))? {
         return Ok(false);
@@ -70,6 +79,8 @@ fn follow_all<A: Allocator + Copy, L: Listener>(
 ) -> Result<bool, LabFault>
     requires there { AreThere (has_peer course.old) items.items }
     ensures went { IfOk result (λ on. on ≡ true → Went (inputs_in items.items) course.old course.new) }
+    ensures heard { IfOk result (λ on.
+        HearsAll L.Hears listener.old (length items.items) on listener.new) }
 {
     for item in items {
         if !follow_heard(course, item, printed, listener)? {
@@ -95,7 +106,10 @@ fn hear_end<A: Allocator + Copy, L: Listener>(
     course: &Course<A>,
     printed: &mut Vec<u8, A>,
     listener: &mut L,
-) -> Result<bool, LabFault> {
+) -> Result<bool, LabFault>
+    ensures heard { IfOk result (λ well. (came : List ℕ) × (ended : List ℕ) ×
+        L.HearsEnd listener.old came ended well) }
+{
     let came = printed.len();
     print_ends(course, printed)?;
     let before = printed.get(..came).unwrap_or(&[]);
@@ -112,6 +126,8 @@ fn follow_to_end<A: Allocator + Copy, L: Listener>(
 ) -> Result<bool, LabFault>
     requires there { AreThere (has_peer course.old) items.items }
     ensures went { IfOk result (λ well. well ≡ true → Went (inputs_in items.items) course.old course.new) }
+    ensures told { IfOk result (λ well.
+        IsTold L.Hears L.HearsEnd listener.old (length items.items) well) }
 {
     let mut printed = Vec::new(alloc);
     if !follow_all(course, items, &mut printed, listener)? {
@@ -130,6 +146,8 @@ pub(crate) fn run_heard<A: Allocator + Copy, L: Listener>(
 ) -> Result<bool, LabFault>
     requires there { AreThere (is_some sites.peer) items.items }
     ensures played { IfOk result (λ well. well ≡ true → Played A (views_of sites) (inputs_in items.items)) }
+    ensures told { IfOk result (λ well.
+        IsTold L.Hears L.HearsEnd listener.old (length items.items) well) }
 {
     let mut course = fresh_course(alloc, sites)?;
     follow_to_end(alloc, &mut course, items, listener)

@@ -1,5 +1,5 @@
 //! Scripts that are recorded: what comes of each line is written behind it, as comments that expect it.
-ghost use Rattle.std.specs.Prelude.{◌≡◌, ◌⊎◌, Ok, Err, None, IsSome, IsSomeAnd, is_some};
+ghost use Rattle.std.specs.Prelude.{◌≡◌, ◌≢◌, ◌⊎◌, Ok, Err, None, IsSome, IsSomeAnd, is_some, true};
 ghost use Rattle.cell_table.specs.SiteFile.{described_site, IsBlankFile};
 ghost use Rattle.lab_script.specs.Script.{first_unread, items_of};
 ghost use Rattle.lab.specs.Turns.{inputs_in};
@@ -72,6 +72,11 @@ impl<W: Write, A: Allocator + Copy> Recorder<'_, W, A> {
 }
 
 impl<W: Write, A: Allocator + Copy> Listener for Recorder<'_, W, A> {
+    // Each run goes on, and is well.
+    ghost Hears = { λ _ _ on _. on ≡ true };
+
+    ghost HearsEnd = { λ _ _ _ well. well ≡ true };
+
     fn hear(&mut self, came: &str) -> Result<bool, LabFault> {
         self.print_came(came)?;
         Ok(true)
@@ -92,6 +97,7 @@ fn record_script<A: Allocator + Copy, W: Write>(
 ) -> Result<Status, LabFault>
     ensures done { result ≡ Ok Status.Done → first_unread (is_some sites.peer) script.now ≡ None }
     ensures played { result ≡ Ok Status.Done → Played A (views_of sites) (inputs_in (items_of script.now)) }
+    ensures differs { result ≢ Ok Status.Differs }
     ensures refused { result ≡ Ok Status.Refused →
         IsSome (first_unread (is_some sites.peer) script.now) }
 {
@@ -110,7 +116,7 @@ fn record_script<A: Allocator + Copy, W: Write>(
         Ok(Status::Done)
     } else {
         // a recorder lets each run go on
-        Ok(Status::Differs)
+        unreachable!()
     }
 }
 
@@ -131,6 +137,7 @@ pub fn record_run<A: Allocator + Copy, W: Write>(
     out: &mut W,
 ) -> Result<Status, LabFault>
     ensures played { result ≡ Ok Status.Done → IsPlayed A site.now (texts_of peer.entry) script.now }
+    ensures differs { result ≢ Ok Status.Differs }
     ensures refused { result ≡ Ok Status.Refused →
         (described_site site.now ≡ None)
         ⊎ IsSomeAnd (texts_of peer.entry) (λ text. described_site text ≡ None)

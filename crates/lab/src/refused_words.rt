@@ -16,31 +16,30 @@ fn shown_words(alloc: Global, words: &[&str]) -> Result<Vec<String>, AllocError>
     Ok(shown)
 }
 
-/// What stands between two parts of a line: of one paragraph, or of two.
-fn joint(is_new: bool) -> &'static str {
-    if is_new { "; " } else { " " }
-}
-
-/// Adds a part to a line, behind those that it has.
-fn push_part(line: &mut String, part: &str, is_new: bool) -> Result<(), AllocError> {
-    if !line.is_empty() {
-        line.push_str(joint(is_new))?;
+/// Adds what stands between two parts of a line, the second of which may begin a paragraph.
+fn push_joint(line: &mut String, is_paragraph: bool) -> Result<(), AllocError> {
+    if line.is_empty() {
+        return Ok(());
     }
-    line.push_str(part.trim())
+    line.push_str(if is_paragraph { "; " } else { " " })?;
+    Ok(())
 }
 
 /// The lines of `clap`'s text in one: its paragraphs, which empty lines separate, without the last, which names `--help`.
 fn in_one_line(alloc: Global, text: &str) -> Result<String, AllocError> {
     let mut line = String::new(alloc);
-    let mut is_new = false;
+    let mut is_paragraph = false;
     for part in text.lines() {
         if part.starts_with("For more information") {
             break;
         }
-        if !part.is_empty() {
-            push_part(&mut line, part, is_new)?;
+        if part.is_empty() {
+            is_paragraph = true;
+        } else {
+            push_joint(&mut line, is_paragraph)?;
+            line.push_str(part.trim())?;
+            is_paragraph = false;
         }
-        is_new = part.is_empty();
     }
     Ok(line)
 }

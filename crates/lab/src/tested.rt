@@ -1,10 +1,13 @@
 //! Scripts that test themselves: what comes of each line is compared with the comments behind it.
-ghost use Rattle.std.specs.Prelude.{◌≡◌, ◌≢◌, ◌⊎◌, Ok, Err, None, IsSome, IsSomeAnd, is_some};
+ghost use Rattle.std.specs.Prelude.{◌≡◌, ◌≢◌, ◌⊎◌, ◌↔◌, Ok, Err, None, IfOk, IsSome, IsSomeAnd, is_some, true, length};
 ghost use Rattle.cell_table.specs.SiteFile.{described_site, IsBlankFile};
+ghost use Rattle.expected_lines.specs.Lines as expected;
+ghost use Rattle.expected_lines.specs.Meeting.{AreMet};
 ghost use Rattle.lab_script.specs.Script.{first_unread, items_of};
 ghost use Rattle.lab.specs.Turns.{inputs_in};
 ghost use Rattle.lab.specs.Course.{IsPlayed, Played};
 ghost use Rattle.lab.specs.Sites.{texts_of, views_of};
+ghost use Rattle.lab.specs.Tests as said;
 
 use crate::heard::{Listener, run_heard};
 use crate::run::{LabFault, Sites, Status, read_sites, refuse_site};
@@ -34,10 +37,10 @@ struct Tester<'a, W: Write, A: Allocator + Copy> {
 }
 
 /// The lines of what a run printed.
-pub(crate) fn printed_lines<A: Allocator>(
-    alloc: A,
-    printed: &str,
-) -> Result<Vec<&str, A>, LabFault> {
+pub(crate) fn printed_lines<A: Allocator>(alloc: A, printed: &str) -> Result<Vec<&str, A>, LabFault>
+    ensures { IfOk result (λ lines.
+        expected.texts_of lines.items ≡ said.printed_lines printed.now) }
+{
     let mut lines = lines_of(alloc, printed)?;
     // nothing stands behind the last line feed
     lines.pop();
@@ -59,14 +62,19 @@ fn number_of(lines: &[&str], place: usize, difference: Difference) -> usize {
 }
 
 /// The lines of the part that begins at a place.
-fn part_at<'a>(lines: &'a [&'a str], place: usize) -> &'a [&'a str] {
-    let left = lines.get(place..).unwrap_or(&[]);
-    left.get(..part_end(left)).unwrap_or(left)
+fn part_at<'a>(lines: &'a [&'a str], place: usize) -> &'a [&'a str]
+    ensures { expected.texts_of result.now ≡ said.part_at (expected.texts_of lines.now) place }
+{
+    let (_, left) = lines.split_at(place.min(lines.len()));
+    let (part, _) = left.split_at(part_end(left));
+    part
 }
 
 impl<W: Write, A: Allocator + Copy> Tester<'_, W, A> {
     /// Prints that the script differs from what came of the part at the place.
-    fn miss(&mut self, difference: Difference, came: &[&str]) -> Result<(), LabFault> {
+    fn miss(&mut self, difference: Difference, came: &[&str]) -> Result<(), LabFault>
+        ensures { self.new.lines.now ≡ self.old.lines.now }
+    {
         let part = part_at(self.lines, self.place);
         let miss = Miss::Differs {
             line: number_of(part, self.place, difference),
@@ -80,6 +88,15 @@ impl<W: Write, A: Allocator + Copy> Tester<'_, W, A> {
 }
 
 impl<W: Write, A: Allocator + Copy> Listener for Tester<'_, W, A> {
+    // The run goes on just where what came is what the part expects, and the next part is the one behind.
+    ghost Hears = { λ t came on u. let part = said.part_at (expected.texts_of t.lines.now) t.place in
+        ((on ≡ true) ↔ AreMet part (said.printed_lines came)) × (u.lines.now ≡ t.lines.now)
+        × (on ≡ true → u.place ≡ said.next_place (expected.texts_of t.lines.now) t.place) };
+    // It is well just where that is what the part expects, with the trace's end or without it.
+    ghost HearsEnd = { λ t came ended well. let part = said.part_at (expected.texts_of t.lines.now) t.place in
+        (well ≡ true) ↔ (AreMet part (said.printed_lines came)
+        ⊎ AreMet part (said.printed_lines ended)) };
+
     fn hear(&mut self, came: &str) -> Result<bool, LabFault> {
         let came = printed_lines(self.alloc, came)?;
         let part = part_at(self.lines, self.place);
@@ -123,6 +140,10 @@ fn test_script<A: Allocator + Copy, W: Write>(
 ) -> Result<Status, LabFault>
     ensures done { result ≡ Ok Status.Done → first_unread (is_some sites.peer) script.now ≡ None }
     ensures played { result ≡ Ok Status.Done → Played A (views_of sites) (inputs_in (items_of script.now)) }
+    ensures met { result ≡ Ok Status.Done →
+        said.IsMet script.now (length (items_of {A = A} script.now)) }
+    ensures missed { result ≡ Ok Status.Differs →
+        said.IsMissed script.now (length (items_of {A = A} script.now)) }
     ensures refused { result ≡ Ok Status.Refused →
         IsSome (first_unread (is_some sites.peer) script.now) }
 {
@@ -167,6 +188,13 @@ pub fn test_run<A: Allocator + Copy, W: Write>(
     out: &mut W,
 ) -> Result<Status, LabFault>
     ensures played { result ≡ Ok Status.Done → IsPlayed A site.now (texts_of peer.entry) script.now }
+
+    // There are texts, one for each line that gives something, and what stands behind the lines expects them, or doesn't.
+    ensures met { result ≡ Ok Status.Done →
+        said.IsMet script.now (length (items_of {A = A} script.now)) }
+    ensures missed { result ≡ Ok Status.Differs →
+        said.IsMissed script.now (length (items_of {A = A} script.now)) }
+
     ensures refused { result ≡ Ok Status.Refused →
         (described_site site.now ≡ None)
         ⊎ IsSomeAnd (texts_of peer.entry) (λ text. described_site text ≡ None)

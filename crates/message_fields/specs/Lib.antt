@@ -1,4 +1,5 @@
 pub mod Chains
 pub mod Words
 pub mod Values
+pub mod Faults
 pub mod Fields

@@ -1,7 +1,11 @@
 //! What the fields of a message say, each of which stands once.
-ghost use Rattle.std.specs.Prelude.{◌≡◌, ◌≢◌, ◌<◌, ◌≤◌, ◌∷◌, [], IfOk, IfErr, IfSome, MatchOption, Some, None, length, is_ok, option_map};
-ghost use Rattle.std.specs.Result.{result_ok};
+//!
+//! A reader of one field answers the first of these that is so: the field is missing; it stands twice; its value is
+//! another than it may be, and then the fault has the value and what it may be.
+ghost use Rattle.std.specs.Prelude.{◌≡◌, ◌≢◌, ◌<◌, ◌≤◌, ◌∷◌, [], Ok, Err, IfOk, IfSome, MatchOption, MatchResult, length, option_map};
+ghost use Rattle.std.specs.Result.{result_map_both};
 ghost use Rattle.message_fields.specs.Words.{words_of, values_of};
+ghost use Rattle.message_fields.specs.Faults.{read_of, fault_of};
 ghost use Rattle.message_fields.specs.Fields as said;
 ghost use Rattle.message_fields.specs.declared.fault.FieldFault.TheVariants.{NoMemory};
 
@@ -11,9 +15,9 @@ use crate::words::{first_unknown, first_value};
 use std::alloc::Allocator;
 
 /// Refuses the first word that is no field with one of these keys, which stand with one blank between any two.
-#[tactic(auto, unfolding(crate::specs::Fields::have_keys))]
+#[tactic(auto, unfolding(crate::specs::Fields::only_keys))]
 pub fn only_keys<'a>(fields: &'a str, keys: &str) -> Result<(), FieldFault<'a>>
-    ensures keys { is_ok result ≡ said.have_keys keys.now fields.now }
+    ensures keys { read_of result ≡ said.only_keys keys.now fields.now }
 {
     if fields.is_empty() {
         return Ok(());
@@ -37,7 +41,7 @@ pub fn leading_value<'a>(fields: &'a str, key: &str) -> Option<(&'a str, &'a str
 /// The value of the only field with this key.
 #[tactic(auto, unfolding(crate::specs::Fields::value_at))]
 pub fn value<'a>(fields: &'a str, key: &'static str) -> Result<&'a str, FieldFault<'a>>
-    ensures value { option_map (λ value. value.now) (result_ok result) ≡
+    ensures value { result_map_both (λ value. value.now) fault_of result ≡
         said.value_at key.now fields.now }
 {
     let Some((value, rest)) = first_value(fields, key) else {
@@ -50,8 +54,9 @@ pub fn value<'a>(fields: &'a str, key: &'static str) -> Result<&'a str, FieldFau
 }
 
 /// The number of a field, which is at most this one.
+#[tactic(auto, unfolding(crate::specs::Fields::number_at))]
 pub fn number<'a>(fields: &'a str, key: &'static str, most: u16) -> Result<u16, FieldFault<'a>>
-    ensures number { result_ok result ≡ said.number_at most key.now fields.now }
+    ensures number { read_of result ≡ said.number_at most key.now fields.now }
     ensures most { IfOk result (λ number. number ≤ most) }
 {
     let value = value(fields, key)?;
@@ -64,8 +69,9 @@ pub fn number<'a>(fields: &'a str, key: &'static str, most: u16) -> Result<u16, 
 }
 
 /// The octet of a field, in decimal, which is at most this one.
+#[tactic(auto, unfolding(crate::specs::Fields::number_at))]
 pub fn small<'a>(fields: &'a str, key: &'static str, most: u8) -> Result<u8, FieldFault<'a>>
-    ensures number { result_ok result ≡ said.number_at most key.now fields.now }
+    ensures number { read_of result ≡ said.number_at most key.now fields.now }
     ensures most { IfOk result (λ number. number ≤ most) }
 {
     let value = value(fields, key)?;
@@ -79,14 +85,15 @@ pub fn small<'a>(fields: &'a str, key: &'static str, most: u8) -> Result<u8, Fie
 
 /// The octet of a field, in decimal.
 pub fn octet<'a>(fields: &'a str, key: &'static str) -> Result<u8, FieldFault<'a>>
-    ensures number { result_ok result ≡ said.number_at 255 key.now fields.now }
+    ensures number { read_of result ≡ said.number_at 255 key.now fields.now }
 {
     small(fields, key, 255)
 }
 
 /// The octet of a field, in decimal, or `-`.
+#[tactic(auto, unfolding(crate::specs::Fields::optional_octet_at))]
 pub fn optional_octet<'a>(fields: &'a str, key: &'static str) -> Result<Option<u8>, FieldFault<'a>>
-    ensures number { result_ok result ≡ said.optional_octet_at key.now fields.now }
+    ensures number { read_of result ≡ said.optional_octet_at key.now fields.now }
 {
     let value = value(fields, key)?;
     if value == "-" {
@@ -103,8 +110,9 @@ pub fn optional_octet<'a>(fields: &'a str, key: &'static str) -> Result<Option<u
 }
 
 /// The flag of a field.
+#[tactic(auto, unfolding(crate::specs::Fields::flag_at))]
 pub fn flag<'a>(fields: &'a str, key: &'static str) -> Result<bool, FieldFault<'a>>
-    ensures flag { result_ok result ≡ said.flag_at key.now fields.now }
+    ensures flag { read_of result ≡ said.flag_at key.now fields.now }
 {
     let value = value(fields, key)?;
     let allowed = Allowed::Flag;
@@ -115,17 +123,18 @@ pub fn flag<'a>(fields: &'a str, key: &'static str) -> Result<bool, FieldFault<'
     })
 }
 
-/// The octets of a field, in hexadecimal, so many or more.
+/// The octets of a field, in hexadecimal, so many or more. `NoMemory`: memory was refused, and nothing is said of the text.
+#[tactic(auto, unfolding(crate::specs::Fields::octets_at))]
 pub fn octets<'a, A: Allocator>(
     alloc: A,
     fields: &'a str,
     key: &'static str,
     least: usize,
 ) -> Result<Vec<u8, A>, FieldFault<'a>>
-    ensures read { IfOk result (λ octets.
-        said.octets_at least key.now fields.now ≡ Some octets.items) }
-    ensures unread { IfErr result (λ fault. fault ≢ NoMemory →
-        said.octets_at least key.now fields.now ≡ None) }
+    ensures octets { MatchResult result
+        (λ octets. said.octets_at least key.now fields.now ≡ Ok octets.items)
+        (λ fault. fault ≢ NoMemory →
+        said.octets_at least key.now fields.now ≡ Err (fault_of fault)) }
 {
     let value = value(fields, key)?;
     match octets_in(alloc, value, least) {
@@ -139,17 +148,19 @@ pub fn octets<'a, A: Allocator>(
     }
 }
 
-/// The octets of a field, in hexadecimal, so many or more, or `-`.
+/// The octets of a field, in hexadecimal, so many or more, or `-`. `NoMemory` as of [`octets`].
+#[tactic(auto, unfolding(crate::specs::Fields::optional_octets_at))]
 pub fn optional_octets<'a, A: Allocator>(
     alloc: A,
     fields: &'a str,
     key: &'static str,
     least: usize,
 ) -> Result<Option<Vec<u8, A>>, FieldFault<'a>>
-    ensures read { IfOk result (λ found. said.optional_octets_at least key.now fields.now ≡
-        Some (option_map (λ octets. octets.items) found)) }
-    ensures unread { IfErr result (λ fault. fault ≢ NoMemory →
-        said.optional_octets_at least key.now fields.now ≡ None) }
+    ensures octets { MatchResult result
+        (λ found. said.optional_octets_at least key.now fields.now ≡
+        Ok (option_map (λ octets. octets.items) found))
+        (λ fault. fault ≢ NoMemory →
+        said.optional_octets_at least key.now fields.now ≡ Err (fault_of fault)) }
 {
     let value = value(fields, key)?;
     if value == "-" {

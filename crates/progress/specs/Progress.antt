@@ -1,6 +1,9 @@
 -- What a `Progress` shows to its callers.
 use Rattle.std.specs.Prelude.{ℕ}
-use Rattle.progress.specs.declared.Progress.{Progress}
+use Rattle.progress.specs.declared.progress.Progress.{Progress}
+use Rattle.progress.specs.declared.tally.Counted.{Counted}
+use Rattle.progress.specs.Lines.{Stand}
+use Rattle.progress.specs.Tallies as tallies
 
 -- what octets are passed on to
 abbrev pub out_of : {W E : Type 0} → Progress W E → W
@@ -10,9 +13,13 @@ out_of p = p.out
 abbrev pub terminal_of : {W E : Type 0} → Progress W E → E
 terminal_of p = p.terminal
 
--- the lines that passed
-abbrev pub lines_of : {W E : Type 0} → Progress W E → ℕ
-lines_of p = p.lines
+-- which lines count
+abbrev pub counted_of : {W E : Type 0} → Progress W E → Counted
+counted_of p = p.tally.counted
+
+-- how far the counting is
+abbrev pub stand_of : {W E : Type 0} → Progress W E → Stand
+stand_of p = tallies.stand_of p.tally
 
 -- how many lines make a step
 abbrev pub step_of : {W E : Type 0} → Progress W E → ℕ

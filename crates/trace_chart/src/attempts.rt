@@ -5,67 +5,101 @@ use std::alloc::{AllocError, Allocator, Global};
 use std::collections::BTreeMap;
 use trace_lines::Replied;
 
-/// An attempt that is open.
+/// How far an attempt came.
 #[derive(Clone, Copy)]
-struct Open {
-    /// The row in which it opened.
-    first: u32,
-    /// Its channel; none of one to another controller.
-    target: Option<ChanId>,
-    /// Whether the channel's activation was sent and not refused.
-    is_sent: bool,
+enum Course {
+    /// It is open; whether the activation of its channel was sent and not refused.
+    Open { is_sent: bool },
+    /// The call has moved.
+    Complete,
+    /// It was undone, and the release of its channel is awaited.
+    Awaited,
+    /// It was undone, and this was its last row.
+    Undone(u32),
 }
 
-/// Rows of an attempt that was undone.
+/// An attempt.
 #[derive(Clone, Copy)]
-pub(crate) struct Undone {
-    pub(crate) first: u32,
-    /// The last row; `None` while the release of the channel is awaited.
-    pub(crate) last: Option<u32>,
+pub(crate) struct Attempt {
     pub(crate) call: u16,
+    /// The row in which it opened.
+    pub(crate) first: u32,
+    /// Its channel; none of one to another controller.
+    target: Option<ChanId>,
+    course: Course,
+}
+
+impl Attempt {
+    /// The last row of one that was undone. While the release of its channel is awaited that is the last of all rows.
+    pub(crate) fn last_of(&self, last_of_all: u32) -> Option<u32> {
+        match self.course {
+            Course::Open { .. } | Course::Complete => None,
+            Course::Awaited => Some(last_of_all),
+            Course::Undone(row) => Some(row),
+        }
+    }
+
+    /// The channel whose release is awaited where it is undone now.
+    fn awaited(&self) -> Option<ChanId> {
+        match self.course {
+            Course::Open { is_sent: true } => self.target,
+            Course::Open { is_sent: false }
+            | Course::Complete
+            | Course::Awaited
+            | Course::Undone(_) => None,
+        }
+    }
 }
 
 /// The attempts of one controller.
 #[derive(Drop)]
 pub(crate) struct Attempts<A: Allocator = Global> {
-    open: BTreeMap<u16, Open, A>,
-    /// The place, among those that were undone, of the one whose channel's release is awaited.
+    /// All, in the order in which they opened.
+    all: Vec<Attempt, A>,
+    /// The place of each call's open one.
+    open: BTreeMap<u16, usize, A>,
+    /// The place of the one that was undone, and whose channel's release is awaited.
     awaited: BTreeMap<ChanId, usize, A>,
-    undone: Vec<Undone, A>,
 }
 
 impl<A: Allocator + Copy> Attempts<A> {
     /// No attempt.
     pub(crate) fn new(alloc: A) -> Attempts<A> {
         Attempts {
+            all: Vec::new(alloc),
             open: BTreeMap::new(alloc),
             awaited: BTreeMap::new(alloc),
-            undone: Vec::new(alloc),
         }
     }
 
-    /// Those that were undone.
-    pub(crate) fn undone(&self) -> &[Undone] {
-        &self.undone
+    /// All, in the order in which they opened.
+    pub(crate) fn all(&self) -> &[Attempt] {
+        &self.all
     }
 
     /// An attempt opens.
     fn begin(&mut self, row: u32, call: u16, target: Option<ChanId>) -> Result<(), AllocError> {
-        self.open.insert(
+        self.open.insert(call, self.all.len())?;
+        self.all.push(Attempt {
             call,
-            Open {
-                first: row,
-                target,
-                is_sent: false,
-            },
-        )?;
+            first: row,
+            target,
+            course: Course::Open { is_sent: false },
+        })?;
         Ok(())
+    }
+
+    /// The attempt at a place came so far.
+    fn advance(&mut self, place: usize, course: Course) {
+        if let Some(attempt) = self.all.get_mut(place) {
+            attempt.course = course;
+        }
     }
 
     /// The activation of an attempt's channel is sent.
     fn send(&mut self, call: u16) {
-        if let Some(open) = self.open.get_mut(&call) {
-            open.is_sent = true;
+        if let Some(place) = self.open.get(&call).copied() {
+            self.advance(place, Course::Open { is_sent: true });
         }
     }
 
@@ -74,40 +108,44 @@ impl<A: Allocator + Copy> Attempts<A> {
         let Some(call) = call else {
             return;
         };
-        if let Some(open) = self.open.get_mut(&call)
-            && open.target == Some(chan)
+        if let Some(place) = self.open.get(&call).copied()
+            && let Some(attempt) = self.all.get_mut(place)
+            && attempt.target == Some(chan)
         {
-            open.is_sent = false;
+            attempt.course = Course::Open { is_sent: false };
+        }
+    }
+
+    /// The call of an attempt has moved.
+    fn complete(&mut self, call: u16) {
+        if let Some(place) = self.open.remove(&call) {
+            self.advance(place, Course::Complete);
         }
     }
 
     /// An attempt is undone.
     fn undo(&mut self, row: u32, call: u16) -> Result<(), AllocError> {
-        let Some(open) = self.open.remove(&call) else {
+        let Some(place) = self.open.remove(&call) else {
             return Ok(());
         };
-        let awaited = if open.is_sent { open.target } else { None };
-        if let Some(chan) = awaited {
-            self.awaited.insert(chan, self.undone.len())?;
-        }
-        let last = match awaited {
-            Some(_) => None,
-            None => Some(row),
+        let awaited = match self.all.get(place) {
+            Some(attempt) => attempt.awaited(),
+            None => None,
         };
-        self.undone.push(Undone {
-            first: open.first,
-            last,
-            call,
-        })?;
+        match awaited {
+            Some(chan) => {
+                self.awaited.insert(chan, place)?;
+                self.advance(place, Course::Awaited);
+            }
+            None => self.advance(place, Course::Undone(row)),
+        }
         Ok(())
     }
 
     /// A channel is released.
     fn release(&mut self, row: u32, chan: ChanId) {
-        if let Some(place) = self.awaited.remove(&chan)
-            && let Some(undone) = self.undone.get_mut(place)
-        {
-            undone.last = Some(row);
+        if let Some(place) = self.awaited.remove(&chan) {
+            self.advance(place, Course::Undone(row));
         }
     }
 
@@ -126,7 +164,7 @@ impl<A: Allocator + Copy> Attempts<A> {
             }
             Event::Undo(call, _) => self.undo(row, call),
             Event::Complete(call) | Event::Left(call) => {
-                self.open.remove(&call);
+                self.complete(call);
                 Ok(())
             }
             Event::Released(chan) => {

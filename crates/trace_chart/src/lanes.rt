@@ -1,4 +1,5 @@
 //! Who stands where.
+use chart::Side;
 use trace_text::trace::Mark;
 
 /// The lanes of one controller.
@@ -14,7 +15,7 @@ const TWO: &[&str] = &[
 ];
 
 /// The names of the lanes.
-pub(crate) fn lanes(has_peer: bool) -> &'static [&'static str] {
+pub(crate) fn lane_names(has_peer: bool) -> &'static [&'static str] {
     if has_peer { TWO } else { ALONE }
 }
 
@@ -36,3 +37,14 @@ pub(crate) fn controller(mark: Mark) -> u32 {
 
 /// The place of the switching centre.
 pub(crate) const CENTRE: u32 = 2;
+
+/// What the bars of a side are: those at the left the first controller's, those at the right the second's.
+pub(crate) fn bars_are(has_peer: bool, side: Side) -> &'static str {
+    if !has_peer {
+        return "undone attempts";
+    }
+    match side {
+        Side::Left => "undone attempts of controller 1",
+        Side::Right => "undone attempts of controller 2",
+    }
+}

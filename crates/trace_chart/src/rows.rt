@@ -1,7 +1,8 @@
 //! The rows of a chart.
 use crate::attempts::Attempts;
-use crate::lanes::{CENTRE, controller, lanes, stations};
-use chart::{Band, Chart, Row};
+use crate::bars::{Marked, bars_of, push_marked};
+use crate::lanes::{CENTRE, bars_are, controller, lane_names, stations};
+use chart::{Bar, Chart, Lane, Row, Shape, Side, text_room};
 use ho_procedure::exchange::Inbound;
 use line_words::{WordsFault, message_name};
 use std::alloc::{AllocError, Allocator, Global};
@@ -9,27 +10,46 @@ use std::io::{self, Write};
 use trace_lines::{TraceLine, What};
 use trace_text::trace::Mark;
 
-/// What a row shows.
+/// What happens in a row.
 #[derive(Clone, Copy)]
-enum Shape {
-    Heading,
+enum Happening {
+    Nothing,
     Arrow { from: u32, to: u32 },
     Note { lane: u32 },
 }
 
-/// A row, with its text.
+impl Happening {
+    /// So much of the room between a lane and the next a text of so many letters needs: an arrow's between them all, a
+    /// note's at one of them a half.
+    fn needs(&self, lane: u32, letters: u32) -> u32 {
+        match self {
+            Happening::Arrow { from, to } if *from.min(to) == lane => letters,
+            Happening::Note { lane: at } if *at == lane || at.saturating_sub(1) == lane =>
+                letters.div_ceil(2),
+            Happening::Nothing | Happening::Arrow { .. } | Happening::Note { .. } => 0,
+        }
+    }
+}
+
+/// A row, with its texts.
 #[derive(Drop)]
 struct Drawn<A: Allocator = Global> {
-    shape: Shape,
+    heading: String<A>,
+    happening: Happening,
     text: String<A>,
 }
 
-/// A band, with its text.
-#[derive(Drop)]
-struct Marked<A: Allocator = Global> {
-    first: u32,
-    last: u32,
-    text: String<A>,
+/// A row as a chart has it.
+fn row_of<A: Allocator>(drawn: &Drawn<A>) -> Row<'_> {
+    let text = drawn.text.as_str();
+    Row {
+        heading: drawn.heading.as_str(),
+        shape: match drawn.happening {
+            Happening::Nothing => Shape::Nothing,
+            Happening::Arrow { from, to } => Shape::Arrow { from, to, text },
+            Happening::Note { lane } => Shape::Note { lane, text },
+        },
+    }
 }
 
 /// The chart of the lines that were added.
@@ -55,30 +75,21 @@ fn behind_word(text: &str) -> &str {
     }
 }
 
-/// The bands as a chart has them.
-fn bands_of<A: Allocator + Copy>(
-    alloc: A,
-    marked: &[Marked<A>],
-) -> Result<Vec<Band<'_>, A>, AllocError> {
-    let mut bands = Vec::new(alloc);
-    for band in marked {
-        bands.push(Band {
-            first: band.first,
-            last: band.last,
-            text: band.text.as_str(),
-        })?;
-    }
-    Ok(bands)
-}
-
-/// Prints the chart that these make.
+/// Prints the chart of these.
 fn print_chart<'a, W: Write>(
     out: &mut W,
-    lanes: &'a [&'a str],
+    has_peer: bool,
+    lanes: &'a [Lane<'a>],
     rows: &'a [Row<'a>],
-    bands: &'a [Band<'a>],
+    bars: &'a [Bar<'a>],
 ) -> io::Result<()> {
-    let chart = Chart { lanes, rows, bands };
+    let chart = Chart {
+        lanes,
+        rows,
+        bars,
+        left: bars_are(has_peer, Side::Left),
+        right: bars_are(has_peer, Side::Right),
+    };
     write!(out, "{chart}")
 }
 
@@ -101,20 +112,40 @@ impl<A: Allocator + Copy> TraceChart<A> {
     }
 
     /// Adds a row.
-    fn push(&mut self, shape: Shape, text: String<A>) -> Result<(), AllocError> {
-        self.rows.push(Drawn { shape, text })?;
+    fn push(
+        &mut self,
+        heading: String<A>,
+        happening: Happening,
+        text: String<A>,
+    ) -> Result<(), AllocError> {
+        self.rows.push(Drawn {
+            heading,
+            happening,
+            text,
+        })?;
         Ok(())
+    }
+
+    /// Adds a row with a heading alone.
+    fn head(&mut self, heading: String<A>) -> Result<(), AllocError> {
+        self.push(heading, Happening::Nothing, String::new(self.alloc))
     }
 
     /// Adds a note at a controller.
     fn note(&mut self, mark: Mark, text: &str) -> Result<(), AllocError> {
         let lane = controller(mark);
         let text = String::from_str(self.alloc, text)?;
-        self.push(Shape::Note { lane }, text)
+        self.push(String::new(self.alloc), Happening::Note { lane }, text)
     }
 
     /// Adds the arrow of a message between a controller and another lane, where there is a message.
-    fn arrow(&mut self, mark: Mark, is_sent: bool, input: &Inbound<A>) -> Result<(), AllocError> {
+    fn arrow(
+        &mut self,
+        heading: String<A>,
+        mark: Mark,
+        is_sent: bool,
+        input: &Inbound<A>,
+    ) -> Result<(), AllocError> {
         let name = message_name(self.alloc, input)?;
         let (other, text) = match input {
             Inbound::Abis { cell, trx, .. } => (
@@ -129,21 +160,23 @@ impl<A: Allocator + Copy> TraceChart<A> {
         } else {
             (other, controller(mark))
         };
-        self.push(Shape::Arrow { from, to }, text)
+        self.push(heading, Happening::Arrow { from, to }, text)
     }
 
-    /// Adds the heading of an input, and its arrow.
+    /// Adds an input: its number beside its arrow, or in a row of its own with its words.
     fn input(&mut self, mark: Mark, text: &str, input: &Inbound<A>) -> Result<(), AllocError> {
         self.inputs = self.inputs.saturating_add(1);
         let number = self.inputs;
-        let heading = match input {
-            Inbound::Abis { .. } | Inbound::A { .. } => format!(in self.alloc; "{number}")?,
-            Inbound::Expiry { .. } | Inbound::Operator(_) => {
-                format!(in self.alloc; "{number} {mark}{}", behind_word(text))?
+        match input {
+            Inbound::Abis { .. } | Inbound::A { .. } => {
+                let heading = format!(in self.alloc; "{number}")?;
+                self.arrow(heading, mark, false, input)
             }
-        };
-        self.push(Shape::Heading, heading)?;
-        self.arrow(mark, false, input)
+            Inbound::Expiry { .. } | Inbound::Operator(_) => {
+                let heading = format!(in self.alloc; "{number} {mark}{}", behind_word(text))?;
+                self.head(heading)
+            }
+        }
     }
 
     /// The attempts of a controller.
@@ -164,7 +197,7 @@ impl<A: Allocator + Copy> TraceChart<A> {
         let mark = line.mark;
         match &line.what {
             What::Input(input) => self.input(mark, text, input),
-            What::Sent(sent) => self.arrow(mark, true, sent),
+            What::Sent(sent) => self.arrow(String::new(self.alloc), mark, true, sent),
             What::Asked(event, replied) => {
                 let row = count(&self.rows);
                 self.attempts(mark).ask(row, *event, *replied, call)?;
@@ -180,56 +213,62 @@ impl<A: Allocator + Copy> TraceChart<A> {
             }
             What::Limit => {
                 let text = String::from_str(self.alloc, text)?;
-                self.push(Shape::Heading, text)
+                self.head(text)
             }
             What::End(_) => self.note(mark, behind_word(text)),
         }
-    }
-
-    /// The bands of the attempts of a controller that were undone.
-    fn push_marked(
-        &self,
-        attempts: &Attempts<A>,
-        marked: &mut Vec<Marked<A>, A>,
-    ) -> Result<(), AllocError> {
-        let last = count(&self.rows).saturating_sub(1);
-        for undone in attempts.undone() {
-            marked.push(Marked {
-                first: undone.first,
-                last: undone.last.unwrap_or(last),
-                text: format!(in self.alloc; "undone: call {}", undone.call)?,
-            })?;
-        }
-        Ok(())
     }
 
     /// The rows as a chart has them.
     fn drawn(&self) -> Result<Vec<Row<'_>, A>, AllocError> {
         let mut rows = Vec::new(self.alloc);
         for row in &self.rows {
-            let text = row.text.as_str();
-            rows.push(match row.shape {
-                Shape::Heading => Row::Heading(text),
-                Shape::Arrow { from, to } => Row::Arrow { from, to, text },
-                Shape::Note { lane } => Row::Note { lane, text },
-            })?;
+            rows.push(row_of(row))?;
         }
         Ok(rows)
     }
 
-    /// The bands, with their texts.
+    /// So many letters have to have room between a lane and the next.
+    fn room_behind(&self, lane: u32) -> u32 {
+        let mut room = 0;
+        for row in &self.rows {
+            let letters = text_room(&row.text);
+            room = row.happening.needs(lane, letters).max(room);
+        }
+        room
+    }
+
+    /// The lanes, with as much room as the texts between them need.
+    fn lanes(&self) -> Result<Vec<Lane<'static>, A>, AllocError> {
+        let mut lanes = Vec::new(self.alloc);
+        for name in lane_names(self.has_peer) {
+            let room = self.room_behind(count(&lanes));
+            lanes.push(Lane { name: *name, room })?;
+        }
+        Ok(lanes)
+    }
+
+    /// The bars, with their texts.
     fn marked(&self) -> Result<Vec<Marked<A>, A>, AllocError> {
+        let last = count(&self.rows).saturating_sub(1);
         let mut marked = Vec::new(self.alloc);
-        self.push_marked(&self.first, &mut marked)?;
-        self.push_marked(&self.peer, &mut marked)?;
+        push_marked(self.alloc, &self.first, Side::Left, last, &mut marked)?;
+        push_marked(self.alloc, &self.peer, Side::Right, last, &mut marked)?;
         Ok(marked)
     }
 
     /// Writes the chart as an SVG that stands alone. Nothing is written where memory is refused.
     pub fn write_to<W: Write>(&self, out: &mut W) -> Result<(), WordsFault> {
+        let lanes = self.lanes()?;
         let rows = self.drawn()?;
         let marked = self.marked()?;
-        let bands = bands_of(self.alloc, &marked)?;
-        Ok(print_chart(out, lanes(self.has_peer), rows.as_slice(), bands.as_slice())?)
+        let bars = bars_of(self.alloc, &marked)?;
+        Ok(print_chart(
+            out,
+            self.has_peer,
+            lanes.as_slice(),
+            rows.as_slice(),
+            bars.as_slice(),
+        )?)
     }
 }

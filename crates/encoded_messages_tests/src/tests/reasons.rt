@@ -186,6 +186,42 @@ const FAULTS: &[(Link, &str, &str)] = &[
         "CHANNEL RELEASE\u{7} cause=1",
         "\"CHANNEL RELEASE\\u{7}\" is no message of the link",
     ),
+    // what has more than one fault: the name, a word that is no field, the fields in the order of the table, the count
+    (
+        Link::A,
+        "CLEAR COMMANDS cause=256 now",
+        "\"CLEAR COMMANDS\" is no message of the link",
+    ),
+    (
+        Link::Abis,
+        "CHANNEL ACTIVATION tn=8 tn=8 now then",
+        "\"now\" is no field of the message",
+    ),
+    (
+        Link::Abis,
+        "CHANNEL ACTIVATION reference=x activation=2 tn=3",
+        "mode is missing",
+    ),
+    (
+        Link::Abis,
+        "MEASUREMENT RESULT power=256 layer3= uplink=x number=0 tn=0",
+        "uplink is octets in hexadecimal, found \"x\"",
+    ),
+    (
+        Link::A,
+        "HANDOVER REQUEST serving=1 target=2 channel=010 encryption=0",
+        "channel is 2 octets or more in hexadecimal, found \"010\"",
+    ),
+    (
+        Link::A,
+        "HANDOVER FAILURE rr=256 cause=1 cause=1",
+        "cause stands twice",
+    ),
+    (
+        Link::Rr,
+        "MEASUREMENT REPORT n=0/32/0 n=64/0/0 ba=0 dtx=0 full=30 ba3g=0 valid=1 sub=30 si23=0 qfull=0 qsub=0 count=1",
+        "n is a level 0 to 63, a position 0 to 31 and a code 0 to 63, as in 40/2/21, found \"0/32/0\"",
+    ),
 ];
 
 /// A text is refused, with this reason.

@@ -140,6 +140,18 @@ const LINES: &[(&[&str], u8, &str, &str)] = &[
     (&["explain", "refused", "10"], 2, "", "no refusal 10"),
     (&["explain", "fault", "rr", "5"], 2, "", "no fault rr 5"),
     (
+        &["explain", "fault", "abis", "3", "256"],
+        2,
+        "",
+        "an element identifier, 0 to 255, found 256",
+    ),
+    (
+        &["explain", "fault", "a", "2", "1"],
+        2,
+        "",
+        "fault a 2 has no argument",
+    ),
+    (
         &[
             "run",
             "/dev/null",

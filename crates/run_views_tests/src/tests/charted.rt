@@ -1,5 +1,5 @@
 use super::{ALONE, SITE, write_in_pieces};
-use chart::{Band, Chart, Row};
+use chart::{Bar, Chart, Lane, Row, Shape, Side};
 use run_views::{Sites, Viewer, Views};
 use std::alloc::Global;
 use std::test::Fail;
@@ -35,88 +35,166 @@ sim limit
 end channels=0 calls=0 references=0 timers=0
 ";
 
-const ONE_ROWS: &[Row<'_>] = &[
-    Row::Heading("1 handover 1 1"),
-    Row::Note {
-        lane: 1,
-        text: "take 1 internal 1/1/3 -> done",
+/// The longest note has 53 letters, and room for half of them at either side of the controller.
+const ONE_LANES: &[Lane<'_>] = &[
+    Lane {
+        name: "stations",
+        room: 27,
     },
-    Row::Note {
-        lane: 1,
-        text: "activate 1 -> done",
+    Lane {
+        name: "controller",
+        room: 27,
     },
-    Row::Arrow {
-        from: 1,
-        to: 0,
-        text: "1/1 CHANNEL ACTIVATION",
-    },
-    Row::Heading("2 expire 1 T3103"),
-    Row::Note {
-        lane: 1,
-        text: "undo 1 t3103 -> record 0/0/3 on internal sent 1/1/3 0",
-    },
-    Row::Arrow {
-        from: 1,
-        to: 0,
-        text: "1/1 RF CHANNEL RELEASE",
-    },
-    Row::Arrow {
-        from: 1,
-        to: 2,
-        text: "CLEAR REQUEST, call 1",
-    },
-    Row::Heading("3"),
-    Row::Arrow {
-        from: 0,
-        to: 1,
-        text: "1/1 RF CHANNEL RELEASE ACK",
-    },
-    Row::Note {
-        lane: 1,
-        text: "released 1/1/3 -> done",
-    },
-    Row::Heading("4 handover 1 64"),
-    Row::Note {
-        lane: 1,
-        text: "require 1 -> done",
-    },
-    Row::Heading("5 undo 1"),
-    Row::Note {
-        lane: 1,
-        text: "undo 1 asked -> record 0/0/3 on outgoing required - -",
-    },
-    Row::Heading("6 handover 2 1"),
-    Row::Note {
-        lane: 1,
-        text: "none free in cell 1",
-    },
-    Row::Heading("7"),
-    Row::Arrow {
-        from: 0,
-        to: 1,
-        text: "0/0 no message",
-    },
-    Row::Note {
-        lane: 1,
-        text: "fault abis 5 1",
-    },
-    Row::Heading("sim limit"),
-    Row::Note {
-        lane: 1,
-        text: "channels=0 calls=0 references=0 timers=0",
+    Lane {
+        name: "switching centre",
+        room: 0,
     },
 ];
 
-const ONE_BANDS: &[Band<'_>] = &[
-    Band {
-        first: 1,
-        last: 10,
-        text: "undone: call 1",
+const ONE_ROWS: &[Row<'_>] = &[
+    Row {
+        heading: "1 handover 1 1",
+        shape: Shape::Nothing,
     },
-    Band {
-        first: 12,
-        last: 14,
-        text: "undone: call 1",
+    Row {
+        heading: "",
+        shape: Shape::Note {
+            lane: 1,
+            text: "take 1 internal 1/1/3 -> done",
+        },
+    },
+    Row {
+        heading: "",
+        shape: Shape::Note {
+            lane: 1,
+            text: "activate 1 -> done",
+        },
+    },
+    Row {
+        heading: "",
+        shape: Shape::Arrow {
+            from: 1,
+            to: 0,
+            text: "1/1 CHANNEL ACTIVATION",
+        },
+    },
+    Row {
+        heading: "2 expire 1 T3103",
+        shape: Shape::Nothing,
+    },
+    Row {
+        heading: "",
+        shape: Shape::Note {
+            lane: 1,
+            text: "undo 1 t3103 -> record 0/0/3 on internal sent 1/1/3 0",
+        },
+    },
+    Row {
+        heading: "",
+        shape: Shape::Arrow {
+            from: 1,
+            to: 0,
+            text: "1/1 RF CHANNEL RELEASE",
+        },
+    },
+    Row {
+        heading: "",
+        shape: Shape::Arrow {
+            from: 1,
+            to: 2,
+            text: "CLEAR REQUEST, call 1",
+        },
+    },
+    Row {
+        heading: "3",
+        shape: Shape::Arrow {
+            from: 0,
+            to: 1,
+            text: "1/1 RF CHANNEL RELEASE ACK",
+        },
+    },
+    Row {
+        heading: "",
+        shape: Shape::Note {
+            lane: 1,
+            text: "released 1/1/3 -> done",
+        },
+    },
+    Row {
+        heading: "4 handover 1 64",
+        shape: Shape::Nothing,
+    },
+    Row {
+        heading: "",
+        shape: Shape::Note {
+            lane: 1,
+            text: "require 1 -> done",
+        },
+    },
+    Row {
+        heading: "5 undo 1",
+        shape: Shape::Nothing,
+    },
+    Row {
+        heading: "",
+        shape: Shape::Note {
+            lane: 1,
+            text: "undo 1 asked -> record 0/0/3 on outgoing required - -",
+        },
+    },
+    Row {
+        heading: "6 handover 2 1",
+        shape: Shape::Nothing,
+    },
+    Row {
+        heading: "",
+        shape: Shape::Note {
+            lane: 1,
+            text: "none free in cell 1",
+        },
+    },
+    Row {
+        heading: "7",
+        shape: Shape::Arrow {
+            from: 0,
+            to: 1,
+            text: "0/0 no message",
+        },
+    },
+    Row {
+        heading: "",
+        shape: Shape::Note {
+            lane: 1,
+            text: "fault abis 5 1",
+        },
+    },
+    Row {
+        heading: "sim limit",
+        shape: Shape::Nothing,
+    },
+    Row {
+        heading: "",
+        shape: Shape::Note {
+            lane: 1,
+            text: "channels=0 calls=0 references=0 timers=0",
+        },
+    },
+];
+
+const ONE_BARS: &[Bar<'_>] = &[
+    Bar {
+        first: 1,
+        last: 9,
+        side: Side::Left,
+        track: 0,
+        text: "call 1",
+    },
+    Bar {
+        first: 11,
+        last: 13,
+        side: Side::Left,
+        track: 0,
+        text: "call 1",
     },
 ];
 
@@ -130,43 +208,133 @@ const TWO: &str = "1: in handover 1 64
 2: in abis 0 0 082701091100
 ";
 
-const TWO_ROWS: &[Row<'_>] = &[
-    Row::Heading("1 1: handover 1 64"),
-    Row::Arrow {
-        from: 1,
-        to: 2,
-        text: "HANDOVER REQUIRED, call 1",
+/// Between the stations and their controller 34 letters of a message have room, before the controller half of a note's 52.
+const TWO_LANES: &[Lane<'_>] = &[
+    Lane {
+        name: "stations 1",
+        room: 0,
     },
-    Row::Note {
-        lane: 3,
-        text: "take 40000 incoming 0/0/1 -> done",
+    Lane {
+        name: "controller 1",
+        room: 25,
     },
-    Row::Note {
-        lane: 3,
-        text: "activate 40000 -> done",
+    Lane {
+        name: "switching centre",
+        room: 26,
     },
-    Row::Note {
-        lane: 3,
-        text: "undo 40000 asked -> record - - incoming sent 0/0/1 0",
+    Lane {
+        name: "controller 2",
+        room: 34,
     },
-    Row::Arrow {
-        from: 3,
-        to: 4,
-        text: "0/0 DATA REQUEST: HANDOVER COMMAND",
-    },
-    Row::Heading("2"),
-    Row::Arrow {
-        from: 4,
-        to: 3,
-        text: "0/0 HANDOVER DETECTION",
+    Lane {
+        name: "stations 2",
+        room: 0,
     },
 ];
 
-const TWO_BANDS: &[Band<'_>] = &[Band {
+const TWO_ROWS: &[Row<'_>] = &[
+    Row {
+        heading: "1 1: handover 1 64",
+        shape: Shape::Nothing,
+    },
+    Row {
+        heading: "",
+        shape: Shape::Arrow {
+            from: 1,
+            to: 2,
+            text: "HANDOVER REQUIRED, call 1",
+        },
+    },
+    Row {
+        heading: "",
+        shape: Shape::Note {
+            lane: 3,
+            text: "take 40000 incoming 0/0/1 -> done",
+        },
+    },
+    Row {
+        heading: "",
+        shape: Shape::Note {
+            lane: 3,
+            text: "activate 40000 -> done",
+        },
+    },
+    Row {
+        heading: "",
+        shape: Shape::Note {
+            lane: 3,
+            text: "undo 40000 asked -> record - - incoming sent 0/0/1 0",
+        },
+    },
+    Row {
+        heading: "",
+        shape: Shape::Arrow {
+            from: 3,
+            to: 4,
+            text: "0/0 DATA REQUEST: HANDOVER COMMAND",
+        },
+    },
+    Row {
+        heading: "2",
+        shape: Shape::Arrow {
+            from: 4,
+            to: 3,
+            text: "0/0 HANDOVER DETECTION",
+        },
+    },
+];
+
+const TWO_BARS: &[Bar<'_>] = &[Bar {
     first: 2,
-    last: 7,
-    text: "undone: call 40000",
+    last: 6,
+    side: Side::Right,
+    track: 0,
+    text: "call 40000",
 }];
+
+/// Five attempts. That of call 1 is undone, as is that of call 2, which opens while that of call 1 is open; the channel of
+/// call 2 was refused, so no release of it is awaited. Call 3 arrives. The attempt of call 4 opens in the line behind the
+/// last one of call 2, that of call 5 while the others are open; the release of its channel never comes.
+const THREE: &str = "in handover 1 1
+event take 1 internal 1/1/3 -> done
+event activate 1 -> done
+in handover 2 1
+event take 2 internal 1/1/4 -> done
+event activate 2 -> done
+event take 3 internal 1/1/5 -> done
+event activate 3 -> done
+event refuse 1/1/4 -> owned 2
+event undo 2 asked -> record 0/0/4 on internal sent 1/1/4 0
+event take 4 internal 1/1/4 -> done
+event complete 3 -> done
+event undo 1 asked -> record 0/0/3 on internal sent 1/1/3 0
+event take 5 internal 1/1/5 -> done
+event activate 5 -> done
+event undo 5 t3103 -> record 0/0/5 on internal sent 1/1/5 0
+event undo 4 asked -> record 0/0/4 on internal taken 1/1/4 -
+event released 1/1/3 -> done
+";
+
+/// The bars of calls 1, 2, 4 and 5: along rows 1 to 17, 4 to 9, 10 to 16, and 13 to the last, 17. Each stands beside those
+/// that its attempt found. Headings have 14 letters, so the first bar is at 12 + 98 + 96.
+const THREE_BARS: &[&str] = &[
+    "<rect x=\"206\" y=\"72\" width=\"11\" height=\"338\" fill=\"url(#hatched)\" stroke=\"#000\"/>
+<line x1=\"198\" y1=\"80\" x2=\"206\" y2=\"80\" stroke=\"#000\"/>
+<text x=\"194\" y=\"84\" text-anchor=\"end\">call 1</text>
+",
+    "<rect x=\"222\" y=\"132\" width=\"11\" height=\"118\" fill=\"url(#hatched)\" stroke=\"#000\"/>
+<line x1=\"198\" y1=\"140\" x2=\"222\" y2=\"140\" stroke=\"#000\"/>
+<text x=\"194\" y=\"144\" text-anchor=\"end\">call 2</text>
+",
+    "<rect x=\"222\" y=\"252\" width=\"11\" height=\"138\" fill=\"url(#hatched)\" stroke=\"#000\"/>
+<line x1=\"198\" y1=\"260\" x2=\"222\" y2=\"260\" stroke=\"#000\"/>
+<text x=\"194\" y=\"264\" text-anchor=\"end\">call 4</text>
+",
+    "<rect x=\"238\" y=\"312\" width=\"11\" height=\"98\" fill=\"url(#hatched)\" stroke=\"#000\"/>
+<line x1=\"198\" y1=\"320\" x2=\"238\" y2=\"320\" stroke=\"#000\"/>
+<text x=\"194\" y=\"324\" text-anchor=\"end\">call 5</text>
+",
+];
 
 /// Two controllers' sites.
 const PAIR: Sites<'_> = Sites {
@@ -186,29 +354,42 @@ fn chart_of(alloc: Global, sites: Sites<'_>, trace: &str) -> Result<String, Fail
     Ok(String::from_utf8(svg)?)
 }
 
+/// What is to be drawn of the run of one controller.
+const ONE_CHART: Chart<'_> = Chart {
+    lanes: ONE_LANES,
+    rows: ONE_ROWS,
+    bars: ONE_BARS,
+    left: "undone attempts",
+    right: "undone attempts",
+};
+
+/// What is to be drawn of the run of two.
+const TWO_CHART: Chart<'_> = Chart {
+    lanes: TWO_LANES,
+    rows: TWO_ROWS,
+    bars: TWO_BARS,
+    left: "undone attempts of controller 1",
+    right: "undone attempts of controller 2",
+};
+
 #[test]
 fn a_trace_is_a_chart(rt: HostRuntime) -> Result<(), Fail> {
-    let wanted = Chart {
-        lanes: &["stations", "controller", "switching centre"],
-        rows: ONE_ROWS,
-        bands: ONE_BANDS,
-    };
-    let wanted = wanted.to_string(rt.alloc())?;
-    let svg = chart_of(rt.alloc(), ALONE, ONE)?;
-    assert!(rt; svg.as_str() == wanted.as_str(), "{svg}");
-    let wanted = Chart {
-        lanes: &[
-            "stations 1",
-            "controller 1",
-            "switching centre",
-            "controller 2",
-            "stations 2",
-        ],
-        rows: TWO_ROWS,
-        bands: TWO_BANDS,
-    };
-    let wanted = wanted.to_string(rt.alloc())?;
-    let svg = chart_of(rt.alloc(), PAIR, TWO)?;
-    assert!(rt; svg.as_str() == wanted.as_str(), "{svg}");
+    for (sites, trace, chart) in [(ALONE, ONE, ONE_CHART), (PAIR, TWO, TWO_CHART)] {
+        let wanted = chart.to_string(rt.alloc())?;
+        let svg = chart_of(rt.alloc(), sites, trace)?;
+        assert!(rt; svg.as_str() == wanted.as_str(), "{svg}");
+    }
+    Ok(())
+}
+
+#[test]
+fn attempts_that_are_open_at_once_have_bars_beside_one_another(
+    rt: HostRuntime,
+) -> Result<(), Fail> {
+    let svg = chart_of(rt.alloc(), ALONE, THREE)?;
+    for bar in THREE_BARS {
+        assert!(rt; svg.as_str().contains(*bar), "{bar} {svg}");
+    }
+    assert!(rt; !svg.as_str().contains(">call 3<"), "{svg}");
     Ok(())
 }
