@@ -1,6 +1,7 @@
 -- The reports that are kept of each call.
 use Rattle.std.specs.Prelude.{ℕ, ◌≡◌, ◌≢◌, ◌==◌, ◌≤◌, Bool, List, [], ◌∷◌, ◌++◌, find, slice_set, slice_index_or, All}
 use Rattle.std.specs.Option.{option_map_or}
+use Rattle.cell_table.specs.Limits.{most_reports}
 use Rattle.rr_elements.specs.MeasResults.{Results}
 use Rattle.measurements.specs.Reports.{Reports, no_reports, last_valid}
 
@@ -47,4 +48,4 @@ SameReportsBut call old new = (other : ℕ) → other ≢ call → reports_of ne
 pub record AreKept (entries : List Entry) (width : ℕ) : Type 0 where
   pub wide : All (λ e. e.1.width ≡ width) entries
   pub some : 1 ≤ width
-  pub most : width ≤ 32
+  pub most : width ≤ most_reports

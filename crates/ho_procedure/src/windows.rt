@@ -1,5 +1,6 @@
 //! The reports that are kept of each call.
 ghost use Rattle.std.specs.Prelude.{◌≡◌, ◌≤◌, ◌<◌, ℕ, true, not, filter, None, IsTrue, OnOk, IfSome, IfNone, vec_len, vec_capacity};
+ghost use Rattle.cell_table.specs.Limits.{most_reports};
 ghost use Rattle.measurements.specs.Reports.{no_reports};
 ghost use Rattle.std.specs.List.{position};
 ghost use Rattle.ho_procedure.specs.Windows.{reports_of, is_of, with_report, IsNoted, SameReports, SameReportsBut};
@@ -43,7 +44,7 @@ impl<A: Allocator + Copy> Windows<A> {
     /// No call has a report. The last `width` valid reports of a call count, 1 to 32.
     pub(crate) fn new(alloc: A, width: usize) -> Windows<A>
         requires some { 1 ≤ width }
-        requires most { width ≤ 32 }
+        requires most { width ≤ most_reports }
         ensures none { (call : ℕ) → reports_of result call ≡ no_reports width }
         ensures width { result.width ≡ width }
     {

@@ -222,7 +222,6 @@ pub const FAULTY: &[(&str, &str, &str)] = &[
     ("tch = [3]", "tch = [0, 1, 2, 3, 4, 5, 6, 7, 0, 8]", "3 tch"),
     // one past each limit that isn't above
     ("ci = 100", "ci = -1", "3 ci"),
-    ("arfcn = 875", "arfcn = 1024", "3 arfcn"),
     ("tch = [2, 3]", "tch = [8]", "3 tch"),
     ("tch = [3]", "tch = [-1]", "3 tch"),
     ("window = 2", "window = 65536", "3 window"),

@@ -1,6 +1,6 @@
 //! Handovers to and from another controller, over one controller: the switching centre's side is in the script. Octets are
 //! worked out by hand from TS 48.008 clause 3.2 and TS 44.018 clause 9.1.
-use super::traces::{CONFIRMED, OPENS, Step, is_traced};
+use super::traces::{CONFIRMED, OPENS, Step, are_traced};
 use std::test::Fail;
 
 /// Call 1 is to move to the cell of another controller.
@@ -335,8 +335,5 @@ const ROWS: &[(&[Step], &str)] = &[
 
 #[test]
 fn calls_leave_and_come(rt: HostRuntime) -> Result<(), Fail> {
-    for (steps, in_use) in ROWS {
-        is_traced(&rt, rt.alloc(), *steps, *in_use)?;
-    }
-    Ok(())
+    are_traced(&rt, rt.alloc(), ROWS)
 }

@@ -287,28 +287,35 @@ fn twice_words(kind: &str) -> &'static str {
     }
 }
 
-/// Asserts that a site is refused as it is printed, and that one line says so with the same key, kind or cell.
-fn agrees(rt: &(impl Files + AllocGlobal + Abort), site: &str, printed: &str) -> Result<(), Fail> {
+/// What a run over a site that is refused prints, and what it says.
+fn refused_texts(
+    rt: &(impl Files + AllocGlobal + Abort),
+    site: &str,
+) -> Result<(String, String), Fail> {
     fs::write(rt, FAULTY_FILE, site)?;
     let mut out = Vec::new(rt.alloc());
     let mut errors = Vec::new(rt.alloc());
+    let paths = SitePaths {
+        first: FAULTY_FILE,
+        peer: None,
+    };
     let ended = run_files(
         rt,
-        SitePaths {
-            first: FAULTY_FILE,
-            peer: None,
-        },
+        paths,
         "/dev/null",
         &Views::plain(),
         &mut out,
         &mut errors,
     );
-    assert_eq!(rt; ended, Ok(Status::Refused), "{printed}");
-    let wanted = format!(in rt.alloc(); "site {printed}\n")?;
-    assert_eq!(rt; str::from_utf8(&out)?, wanted.as_str());
+    assert_eq!(rt; ended, Ok(Status::Refused), "{site}");
+    let text = String::from_utf8(out)?;
+    Ok((text, String::from_utf8(errors)?))
+}
+
+/// Asserts that one line says the key, kind or cell that is printed.
+fn names(rt: &(impl AllocGlobal + Abort), line: &str, printed: &str) -> Result<(), Fail> {
     let (number, named) = printed.split_once(" ").unwrap_or((printed, ""));
     let words = wanted_words(rt.alloc(), number, named)?;
-    let line = str::from_utf8(&errors)?;
     // what isn't TOML is said with its line and column
     let has_place = !line.starts_with("faulty.toml: ");
     assert_eq!(rt; has_place, number == "1", "{line}");
@@ -320,12 +327,26 @@ fn agrees(rt: &(impl Files + AllocGlobal + Abort), site: &str, printed: &str) ->
     Ok(())
 }
 
+/// Asserts that a site is refused as it is printed, and that one line says so with the same key, kind or cell.
+fn agrees(rt: &(impl Files + AllocGlobal + Abort), site: &str, printed: &str) -> Result<(), Fail> {
+    let (text, line) = refused_texts(rt, site)?;
+    let said = text.strip_prefix("site ").unwrap_or("").strip_suffix('\n');
+    assert_eq!(rt; said, Some(printed));
+    names(rt, &line, printed)
+}
+
+/// Each site, in which a text stands in another's place, is refused as it is printed.
+fn agree(rt: &(impl Files + AllocGlobal + Abort), rows: &[(&str, &str, &str)]) -> Result<(), Fail> {
+    for (old, new, printed) in rows {
+        let site = changed(rt.alloc(), SITE, *old, *new)?.expect(rt, *old);
+        agrees(rt, &site, *printed)?;
+    }
+    Ok(())
+}
+
 #[test]
 fn the_line_names_what_is_printed(rt: HostRuntime) -> Result<(), Fail> {
-    for (old, new, printed) in FAULTY {
-        let site = changed(rt.alloc(), SITE, *old, *new)?;
-        agrees(&rt, &site.expect(&rt, *old), *printed)?;
-    }
+    agree(&rt, FAULTY)?;
     fs::remove_file(&rt, FAULTY_FILE)?;
     Ok(())
 }

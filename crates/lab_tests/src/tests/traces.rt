@@ -481,7 +481,11 @@ pub(super) fn is_traced(
 }
 
 /// All scripts of a table print what they say.
-fn are_traced(rt: &impl Abort, alloc: Global, traces: &[(&[Step], &str)]) -> Result<(), Fail> {
+pub(super) fn are_traced(
+    rt: &impl Abort,
+    alloc: Global,
+    traces: &[(&[Step], &str)],
+) -> Result<(), Fail> {
     for (steps, in_use) in traces {
         is_traced(rt, alloc, *steps, *in_use)?;
     }

@@ -483,18 +483,22 @@ fn are_answered<'a>(
     assert!(rt; is_fit, "{text}");
 }
 
+/// All words of a table are answered by a text that is shown.
+fn are_shown<'a>(rt: &impl Abort, alloc: Global, rows: &'a [(&'a [&'a str], &'a str)]) {
+    for (words, part) in rows {
+        are_answered(rt, alloc, *words, Answer::Shown, (*part, ""));
+    }
+}
+
+/// All words of a table are refused.
+fn are_refused<'a>(rt: &impl Abort, alloc: Global, rows: &'a [(&'a [&'a str], &'a str, &'a str)]) {
+    for (words, mistake, allowed) in rows {
+        are_answered(rt, alloc, *words, Answer::Refused, (*mistake, *allowed));
+    }
+}
+
 #[test]
 fn help_and_version_are_shown_and_other_words_refused(rt: HostRuntime) {
-    for (words, part) in SHOWS {
-        are_answered(&rt, rt.alloc(), *words, Answer::Shown, (*part, ""));
-    }
-    for (words, mistake, allowed) in REFUSALS {
-        are_answered(
-            &rt,
-            rt.alloc(),
-            *words,
-            Answer::Refused,
-            (*mistake, *allowed),
-        );
-    }
+    are_shown(&rt, rt.alloc(), SHOWS);
+    are_refused(&rt, rt.alloc(), REFUSALS);
 }

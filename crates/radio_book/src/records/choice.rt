@@ -1,16 +1,21 @@
 //! Channels and references are chosen: the lowest that are free.
 ghost use Rattle.std.specs.Prelude.{◌≡◌, ◌↔◌, ◌/◌, ◌%◌, IfSome, IfNone, find};
+ghost use Rattle.cell_table.specs.Limits.{timeslots_of_trx};
 ghost use Rattle.radio_book.specs.Sound.{IsSound};
 ghost use Rattle.radio_book.specs.State.{record_of};
 ghost use Rattle.radio_book.specs.Choice.{IsFreeIn, NoneFree, IsNumberFree, MayReserve, taken_channel, is_free_traffic, channels_of, free_count};
 
 use crate::event::{CallRecord, Reference, Stage};
 use crate::records::Records;
+use cell_table::limits::{MOST_TRX, TIMESLOTS_OF_TRX};
 use channel_fsm::{ChanId, ChanState};
 use std::alloc::Allocator;
 
-/// How many channels a cell can have: four TRX of eight timeslots.
-const PLACES: u8 = 32;
+/// The timeslots of a TRX.
+const TIMESLOTS: u8 = TIMESLOTS_OF_TRX as u8;
+
+/// How many channels a cell can have.
+const PLACES: u8 = MOST_TRX as u8 * TIMESLOTS;
 
 impl<A: Allocator + Copy> Records<A> {
     /// The free traffic channel of the cell with the lowest TRX, then timeslot.
@@ -77,13 +82,13 @@ impl<A: Allocator + Copy> Records<A> {
     }
 
     /// The lowest number whose reference in the cell isn't in use. There is one, since those in use are of
-    /// attempts with different channels of the cell, and those are at most 32.
+    /// attempts with different channels of the cell, and those are no more than its places.
     fn free_number(&self, cell: u8) -> u8
         requires { IsSound self.now }
         ensures { IsNumberFree self.now cell result }
     {
-        // Called for its clause alone: a cell has no more than 32 channels by the limits of every site, and those
-        // only a call of a reader hands out.
+        // Called for its clause alone: a cell has no more channels than places by the limits of every site, and
+        // those only a call of a reader hands out.
         let _cells = self.site.cells();
         for number in 0..PLACES + 1 {
             if self.references.get(Reference { cell, number }).is_none() {
@@ -96,12 +101,12 @@ impl<A: Allocator + Copy> Records<A> {
 
 /// The channel at a place among those that a cell can have.
 fn channel_at(cell: u8, place: u8) -> ChanId
-    ensures { result ≡ record { cell = cell; trx = place / 8; tn = place % 8 } }
+    ensures { result ≡ record { cell = cell; trx = place / timeslots_of_trx; tn = place % timeslots_of_trx } }
 {
     ChanId {
         cell,
-        trx: place / 8,
-        tn: place % 8,
+        trx: place / TIMESLOTS,
+        tn: place % TIMESLOTS,
     }
 }
 
