@@ -100,15 +100,23 @@ fn fault_command<'a>(alloc: Global) -> Result<Command<'a>, AllocError> {
         .arg(argument_argument(alloc))
 }
 
+/// A command with one more of its own.
+fn with<'a>(
+    command: Command<'a>,
+    next: Result<Command<'a>, AllocError>,
+) -> Result<Command<'a>, AllocError> {
+    command.subcommand(next?)
+}
+
 /// The command: `explain refused N`, `explain cause LINK N`, `explain fault LINK N [ARGUMENT]`.
 pub fn explain_command<'a>(alloc: Global) -> Result<Command<'a>, AllocError> {
-    Command::new(alloc, "explain")
+    let command = Command::new(alloc, "explain")
         .about("Says in words what a number stands for, as in: explain refused 6")
         .after_help(HELP)
-        .subcommand_required(true)
-        .subcommand(refused_command(alloc)?)?
-        .subcommand(cause_command(alloc)?)?
-        .subcommand(fault_command(alloc)?)
+        .subcommand_required(true);
+    let command = with(command, refused_command(alloc))?;
+    let command = with(command, cause_command(alloc))?;
+    with(command, fault_command(alloc))
 }
 
 /// What the words behind `explain` ask; `None` where they weren't matched by [`explain_command`].
