@@ -215,7 +215,7 @@ abbrev pub names_target : Option Attempt → Bool
 names_target None = true
 names_target (Some a) = not (is_switched_on a.stage) || is_named a.target
 
--- a message can name the serving channel, unless it is held: then the station knows nothing of it
+-- a message can name the serving channel, unless it is held: the station refused it, so there is nothing to release
 abbrev pub names_serving : CallRecord → Option ChanState → Bool
 names_serving r None = is_named r.serving
 names_serving r (Some Free) = is_named r.serving
@@ -251,7 +251,7 @@ release_serving cause r (Some Off) tail = release_plan r.serving tail
 unfoldable pub clear_serving : ℕ → Option ℕ → CallRecord → Option ChanState → Plan → Plan
 clear_serving c cause r s tail = once_done (event.Clear c) (release_serving cause r s tail)
 
--- the target is released, and then a call of this controller is cleared
+-- the target is released, and then the call is cleared, unless its record went with an attempt that came in
 unfoldable pub clear_undone : ℕ → Option ℕ → CallRecord → Option ChanState → Plan → Plan
 clear_undone c cause r s tail = release_target r.attempt (if is_own r.attempt then clear_serving c cause r s tail else tail)
 
@@ -291,11 +291,11 @@ acknowledge c m = once_done (event.Command c) (Sends (handover_request_ack c m) 
 abbrev pub incoming_command : SiteView → ℕ → ChanId → Option ℕ → Plan
 incoming_command site c x reference = if_reference reference (λ n. if_command (command_to site x n) (acknowledge c))
 
--- an attempt that leaves has no target here
+-- an attempt that leaves has no target here; if it had one, nothing would be sent
 abbrev pub command_plan : SiteView → ℕ → ChanId → Option ChanId → Attempt → AttemptKind → Plan
 command_plan site c x serving a Internal = internal_command site c x serving a.reference
 command_plan site c x serving a Incoming = incoming_command site c x a.reference
-command_plan site c x serving a Outgoing = Ends
+command_plan site c x serving a Outgoing = Asks (event.Command c) nothing_more
 
 unfoldable pub confirm_rest : SiteView → ℕ → ChanId → Option ChanId → Option Attempt → Plan
 confirm_rest site c x serving None = Ends
@@ -385,7 +385,7 @@ incoming_complete c cause = once_done (event.Complete c) (Sends (handover_comple
 abbrev pub complete_by : SiteView → ℕ → ℕ → ChanId → Option ChanId → AttemptKind → Plan
 complete_by site c cause x serving Internal = internal_complete site c x serving
 complete_by site c cause x serving Incoming = incoming_complete c cause
-complete_by site c cause x serving Outgoing = Ends
+complete_by site c cause x serving Outgoing = Asks (event.Complete c) nothing_more
 
 unfoldable pub complete_rest : SiteView → ℕ → ℕ → ChanId → Option ChanId → Option Attempt → Plan
 complete_rest site c cause x serving None = Ends

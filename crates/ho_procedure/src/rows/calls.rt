@@ -142,7 +142,7 @@ fn clear_serving<D: DeskView + Drop, A: Allocator + Copy>(
     Ok(release_serving(work, cause, shown))
 }
 
-/// The target is released, where it was switched on; then a call of this controller is cleared.
+/// The target is released, where it was switched on; then the call is cleared, if its record is still there.
 #[tactic(auto, using(crate::proofs::Asking::row_steps), unfolding(crate::specs::Procedure::clear_undone))]
 fn clear_undone<D: DeskView + Drop, A: Allocator + Copy>(
     work: &mut Work<D, A>,

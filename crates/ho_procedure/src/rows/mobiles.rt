@@ -6,7 +6,7 @@ ghost use Rattle.ho_procedure.specs.Going.{Goes, Passes, IsForeign, last_reports
 ghost use Rattle.ho_procedure.specs.Procedure.{try_plan, rank_plan, report_plan, internal_complete, incoming_complete, complete_rest, complete_plan, take_back, tell_returned, outgoing_return, return_rest, return_plan};
 
 use super::handovers::start;
-use super::parts::{ask_done, ask_record, look, owner, release_target};
+use super::parts::{ask_done, ask_last, ask_record, look, owner, release_target};
 use crate::causes::REVERSION_TO_OLD_CHANNEL;
 use crate::records::{
     is_commanded, is_nameable, is_on, is_ordered, is_serving, is_target, names_target, traffic_cell,
@@ -189,7 +189,7 @@ fn complete_rest<D: DeskView + Drop, A: Allocator + Copy>(
     match attempt.kind {
         AttemptKind::Internal => complete_internal(work, site, call, chan, serving),
         AttemptKind::Incoming => complete_incoming(work, call, cause),
-        AttemptKind::Outgoing => Ok(()),
+        AttemptKind::Outgoing => ask_last(work, Event::Complete(call)),
     }
 }
 

@@ -1,10 +1,10 @@
 //! Parts that several rows have.
-ghost use Rattle.std.specs.Prelude.{◌≡◌, ◌≤◌, ◌+◌, ℕ, List, Option, None, true, Ok, IfOk, IfErr};
+ghost use Rattle.std.specs.Prelude.{◌≡◌, ◌≤◌, ◌+◌, ℕ, List, Option, None, true, Ok, OnOk, IfOk, IfErr};
 ghost use Rattle.channel_fsm.specs.declared.ChanState.{ChanState};
 ghost use Rattle.radio_book.specs.declared.event.CallRecord.{CallRecord};
-ghost use Rattle.ho_procedure.specs.Plan.{Plan, Ends, At, call_dropped};
+ghost use Rattle.ho_procedure.specs.Plan.{Plan, Ends, Asks, At, call_dropped};
 ghost use Rattle.ho_procedure.specs.Going.{Goes, Passes, IsForeign, last_reports, then, then_of, then_shown, stops_at};
-ghost use Rattle.ho_procedure.specs.Procedure.{once_done, once_recorded, owned, looked, release_target, turn_away, failure_of};
+ghost use Rattle.ho_procedure.specs.Procedure.{nothing_more, once_done, once_recorded, owned, looked, release_target, turn_away, failure_of};
 
 use crate::causes::EQUIPMENT_FAILURE;
 use crate::records::{is_nameable, is_switched_on};
@@ -60,6 +60,23 @@ pub(super) fn look<D: DeskView + Drop, A: Allocator + Copy>(
         Reply::Record(record, state) => Ok(Some(Shown { record, state })),
         Reply::Done | Reply::Owned(_) | Reply::Refused(_) => Ok(None),
     }
+}
+
+/// An event is asked, and the row is over.
+#[tactic(auto, using(crate::proofs::Asking::row_steps))]
+pub(super) fn ask_last<D: DeskView + Drop, A: Allocator + Copy>(
+    work: &mut Work<D, A>,
+    event: Event,
+) -> Result<(), DeskFault>
+    ensures row { OnOk result (Goes D.log D.says work.old
+        (Asks event nothing_more) work.new (At Ends)) }
+    ensures stops { IfErr result (λ f. Goes D.log D.says work.old
+        (Asks event nothing_more) work.new (stops_at f)) }
+    ensures foreign { IfErr result (λ f. IsForeign f → D.may_be_foreign work.old.view) }
+    ensures foreign_kept { D.may_be_foreign work.new.view → D.may_be_foreign work.old.view }
+{
+    work.ask(event)?;
+    Ok(())
 }
 
 /// An event is asked; the row goes on where it is done.

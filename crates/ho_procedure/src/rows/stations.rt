@@ -4,7 +4,7 @@ ghost use Rattle.ho_procedure.specs.Plan.{Plan, Ends, At};
 ghost use Rattle.ho_procedure.specs.Going.{Goes, Passes, IsForeign, stops_at};
 ghost use Rattle.ho_procedure.specs.Procedure.{send_command, internal_command, acknowledge, incoming_command, confirm_rest, confirm_plan, refused_target, refuse_plan, released_plan, connection_failure_plan, tell_detected, detect_rest, detect_plan};
 
-use super::parts::{ask_done, ask_record, look, owner, tell_failure};
+use super::parts::{ask_done, ask_last, ask_record, look, owner, tell_failure};
 use crate::causes::{EQUIPMENT_FAILURE, RADIO_INTERFACE_FAILURE};
 use crate::commands::command_to;
 use crate::records::{is_nameable, is_serving, is_target, is_target_in};
@@ -149,7 +149,7 @@ fn confirm_rest<D: DeskView + Drop, A: Allocator + Copy>(
     match attempt.kind {
         AttemptKind::Internal => command(work, site, call, chan, serving, attempt.reference),
         AttemptKind::Incoming => command_incoming(work, site, call, chan, attempt.reference),
-        AttemptKind::Outgoing => Ok(()),
+        AttemptKind::Outgoing => ask_last(work, Event::Command(call)),
     }
 }
 
@@ -247,8 +247,7 @@ pub(crate) fn release<D: DeskView + Drop, A: Allocator + Copy>(
     ensures foreign { IfErr result (λ f. IsForeign f → D.may_be_foreign work.old.view) }
     ensures foreign_kept { D.may_be_foreign work.new.view → D.may_be_foreign work.old.view }
 {
-    work.ask(Event::Released(chan))?;
-    Ok(())
+    ask_last(work, Event::Released(chan))
 }
 
 /// A station lost the mobile on a channel.
