@@ -489,6 +489,19 @@ fn usage_after(rt: &(impl AllocGlobal + Abort), site: &str, rows: &[Row]) -> Res
     played(rt, rt.alloc(), &mut radio, rows)
 }
 
+/// These rows lead back to the book that was there before them.
+fn leads_back(
+    rt: &impl Abort,
+    alloc: Global,
+    radio: &mut Radio<Global>,
+    rows: &[Row],
+) -> Result<(), Fail> {
+    let before = radio.view().desk().book().copy()?;
+    play(rt, alloc, alloc, radio, rows)?;
+    assert!(rt; before == *radio.view().desk().book());
+    Ok(())
+}
+
 /// The book of a site has what a table says after each of its lists of rows. (A table has one test: the prover takes them
 /// apart.)
 fn are_played_at(

@@ -2,7 +2,7 @@
 use super::rows::Given::{A, Abis, Expiry, Operator};
 use super::rows::Sent::{OnA, OnAbis};
 use super::rows::{ACTIVATED, OPENS, OPENS_TARGET, RELEASED, Row, SENT, STARTS, STEADY};
-use super::{Played, are_played};
+use super::{Played, are_played, leads_back, opened, play};
 use attempt_journal::Timer;
 use channel_fsm::ChanState;
 use ho_procedure::exchange::Line;
@@ -11,7 +11,7 @@ use radio_book::event::Reply::{Done, Owned, Record, Refused};
 use radio_book::event::{
     Attempt, AttemptKind, CallRecord, Event, Kind, Refusal, Reply, Stage, Why,
 };
-use sample_sites::{HOME, TARGET};
+use sample_sites::{HOME, TARGET, THREE_CHANNELS};
 use std::test::Fail;
 
 /// The record of call 1, for which HANDOVER REQUIRED was sent.
@@ -612,6 +612,26 @@ const IDLE: &[Played] = &[
 #[test]
 fn calls_leave(rt: HostRuntime) -> Result<(), Fail> {
     are_played(&rt, LEAVING)
+}
+
+/// Each way back of a call that was to leave.
+const WAYS_BACK: &[&[Row]] = &[
+    &[LEAVES, REJECTS],
+    &[LEAVES, EXPIRES_T7],
+    &[LEAVES, ORDERS, EXPIRES_T8],
+    &[LEAVES, UNDOES_REQUIRED],
+    &[LEAVES, ORDERS, UNDOES_ORDERED],
+    &[LEAVES, ORDERS, RETURNS],
+];
+
+#[test]
+fn a_call_that_comes_back_leaves_the_book_as_it_was(rt: HostRuntime) -> Result<(), Fail> {
+    let mut radio = opened(rt.alloc(), rt.alloc(), THREE_CHANNELS)?;
+    play(&rt, rt.alloc(), rt.alloc(), &mut radio, &[OPENS, ACTIVATED])?;
+    for way in WAYS_BACK {
+        leads_back(&rt, rt.alloc(), &mut radio, *way)?;
+    }
+    Ok(())
 }
 
 #[test]

@@ -68,12 +68,21 @@ const ARRIVED: Step = (
     ],
 );
 
-/// Call 2 has the one channel of cell 1.
-const TAKEN: Step = (
-    "open 2 1 1 3",
+/// Call 1 begins on the one channel of cell 1.
+const OPENS_THERE: Step = (
+    "open 1 1 1 3",
     &[
-        "event open 2 1/1/3 -> done",
+        "event open 1 1/1/3 -> done",
         "out abis 1 1 0821010b0300060400010801",
+    ],
+);
+
+/// It is on.
+const ON_THERE: Step = (
+    "abis 1 1 0822010b080000",
+    &[
+        "event confirm 1/1/3 -> owned 1",
+        "event look 1 -> record 1/1/3 on",
     ],
 );
 
@@ -298,7 +307,8 @@ const ROWS: &[(&[Step], &str)] = &[
     // no channel is free; the encryption permits no call in clear; the cell is another's
     (
         &[
-            TAKEN,
+            OPENS_THERE,
+            ON_THERE,
             (
                 "a 9 0019100b030108010a01011d330505010017006605050100170065",
                 &[
