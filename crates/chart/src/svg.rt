@@ -10,6 +10,9 @@ use std::fmt;
 /// How wide a bar is.
 const BAR: u32 = 11;
 
+/// How the line is drawn between a bar that goes on and its text.
+const DASHES: &str = " stroke-dasharray=\"2 2\"";
+
 /// So many letters have room of what the bars of a side are.
 const LEGEND: u32 = 60;
 
@@ -231,22 +234,23 @@ fn print_bars<W: fmt::Write>(
     bars: &[Bar<'_>],
 ) -> fmt::Result {
     for bar in bars {
-        print_bar(f, layout, bar)?;
+        print_bar(f, layout, bars, bar)?;
     }
     Ok(())
 }
 
-/// A bar along the rows that are there.
+/// A bar along the rows that are there, one of these.
 fn print_bar<W: fmt::Write>(
     f: &mut fmt::Formatter<W>,
     layout: &Layout<'_>,
+    bars: &[Bar<'_>],
     bar: &Bar<'_>,
 ) -> fmt::Result {
     let last = bar.last.min(layout.last_row());
     if bar.first > last {
         return Ok(());
     }
-    print_parts(f, layout, bar, last)?;
+    print_parts(f, layout, bars, bar, last)?;
     print_bar_text(f, layout, bar)
 }
 
@@ -254,6 +258,7 @@ fn print_bar<W: fmt::Write>(
 fn print_parts<W: fmt::Write>(
     f: &mut fmt::Formatter<W>,
     layout: &Layout<'_>,
+    bars: &[Bar<'_>],
     bar: &Bar<'_>,
     last: u32,
 ) -> fmt::Result {
@@ -261,7 +266,7 @@ fn print_parts<W: fmt::Write>(
     for column in begin..column_of(last).saturating_add(1) {
         print_part(f, layout, bar, last, column)?;
         if column > begin {
-            print_onward_text(f, layout, bar, column)?;
+            print_onward_text(f, layout, bar, column, onward_place(bars, bar, column))?;
         }
     }
     Ok(())
@@ -282,6 +287,21 @@ fn print_part<W: fmt::Write>(
     print_outline(f, x, top, bottom.saturating_sub(top), bar.side)
 }
 
+/// A line in a row at this height, between a bar and its text.
+fn print_leader<W: fmt::Write>(
+    f: &mut fmt::Formatter<W>,
+    y: u32,
+    line: (u32, u32),
+    dashes: &str,
+) -> fmt::Result {
+    let (from, to) = line;
+    let y = y.saturating_sub(4);
+    writeln!(
+        f,
+        "<line x1=\"{from}\" y1=\"{y}\" x2=\"{to}\" y2=\"{y}\" stroke=\"#000\"{dashes}/>"
+    )
+}
+
 /// A text in a row at this height, and a line between it and its bar.
 fn print_label<W: fmt::Write>(
     f: &mut fmt::Formatter<W>,
@@ -291,12 +311,7 @@ fn print_label<W: fmt::Write>(
     anchor: Anchor,
     text: Fitted<'_>,
 ) -> fmt::Result {
-    let (from, to) = line;
-    let line_y = y.saturating_sub(4);
-    writeln!(
-        f,
-        "<line x1=\"{from}\" y1=\"{line_y}\" x2=\"{to}\" y2=\"{line_y}\" stroke=\"#000\"/>"
-    )?;
+    print_leader(f, y, line, "")?;
     print_text(f, x, y, anchor, text)
 }
 
@@ -322,15 +337,43 @@ fn print_bar_text<W: fmt::Write>(
     }
 }
 
-/// The text of a bar that goes on in a column. It stands in the row that has its track's number, so that the texts of
-/// several bars don't cover one another.
+/// Whether a bar ends before another, or with it and stands nearer or began earlier.
+fn ends_before(one: &Bar<'_>, other: &Bar<'_>) -> bool {
+    if one.last != other.last {
+        return one.last < other.last;
+    }
+    if one.track != other.track {
+        return one.track < other.track;
+    }
+    one.first < other.first
+}
+
+/// Whether a bar that began in a column before goes on in this one.
+fn goes_on(bar: &Bar<'_>, column: u32) -> bool {
+    column_of(bar.first) < column && column <= column_of(bar.last)
+}
+
+/// The row of the column in which the text of a bar that goes on there stands: so many bars on its side go on there and end
+/// before it. So the texts of several bars don't cover one another, and each stands beside its bar.
+fn onward_place(bars: &[Bar<'_>], bar: &Bar<'_>, column: u32) -> u32 {
+    let mut place: u32 = 0;
+    for other in bars {
+        if other.side == bar.side && goes_on(other, column) && ends_before(other, bar) {
+            place = place.saturating_add(1);
+        }
+    }
+    place
+}
+
+/// The text of a bar that goes on in a column, in a row of it. The line to its bar is dashed.
 fn print_onward_text<W: fmt::Write>(
     f: &mut fmt::Formatter<W>,
     layout: &Layout<'_>,
     bar: &Bar<'_>,
     column: u32,
+    place: u32,
 ) -> fmt::Result {
-    let y = row_y(bar.track);
+    let y = row_y(place);
     let x = layout.onward_text_x(column, bar.side);
     let bar_x = layout.bar_x(column, bar.side, bar.track);
     let text = Fitted {
@@ -340,9 +383,13 @@ fn print_onward_text<W: fmt::Write>(
     match bar.side {
         Side::Left => {
             let line = (bar_x.saturating_add(BAR), x.saturating_sub(4));
-            print_label(f, y, line, x, Anchor::Start, text)
+            print_leader(f, y, line, DASHES)?;
+            print_text(f, x, y, Anchor::Start, text)
         }
-        Side::Right => { print_label(f, y, (x.saturating_add(4), bar_x), x, Anchor::End, text) }
+        Side::Right => {
+            print_leader(f, y, (x.saturating_add(4), bar_x), DASHES)?;
+            print_text(f, x, y, Anchor::End, text)
+        }
     }
 }
 

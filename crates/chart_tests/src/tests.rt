@@ -407,10 +407,10 @@ const COLUMNS: &[&str] = &[
     "<text x=\"654\" y=\"42\" text-anchor=\"middle\">lane</text>\n",
     "<text x=\"654\" y=\"90\" text-anchor=\"middle\">lane</text>\n",
     "<rect x=\"558\" y=\"52\" width=\"11\" height=\"18\" fill=\"url(#hatched)\" stroke=\"#000\"/>\n",
-    "<line x1=\"569\" y1=\"60\" x2=\"574\" y2=\"60\" stroke=\"#000\"/>\n",
+    "<line x1=\"569\" y1=\"60\" x2=\"574\" y2=\"60\" stroke=\"#000\" stroke-dasharray=\"2 2\"/>\n",
     "<text x=\"578\" y=\"64\" text-anchor=\"start\">call 1</text>\n",
     "<rect x=\"734\" y=\"52\" width=\"11\" height=\"18\" fill=\"url(#dotted)\" stroke=\"#000\"/>\n",
-    "<line x1=\"729\" y1=\"60\" x2=\"734\" y2=\"60\" stroke=\"#000\"/>\n",
+    "<line x1=\"729\" y1=\"60\" x2=\"734\" y2=\"60\" stroke=\"#000\" stroke-dasharray=\"2 2\"/>\n",
     "<text x=\"725\" y=\"64\" text-anchor=\"end\">call 2</text>\n",
     "<text x=\"441\" y=\"64\" text-anchor=\"start\">row</text>\n",
 ];
@@ -421,5 +421,48 @@ fn names_stand_again_behind_forty_rows_and_760_are_a_column(rt: HostRuntime) -> 
         let missing = missing_of_many(rt.alloc(), rows, lines)?;
         assert!(rt; missing.is_none(), "{rows}: {missing:?}");
     }
+    Ok(())
+}
+
+/// Rows from 757 on at the left, up to this row, on this track.
+fn from_757(last: u32, track: u32, text: &'static str) -> Bar<'static> {
+    Bar {
+        first: 757,
+        last,
+        side: Side::Left,
+        track,
+        text,
+    }
+}
+
+/// Each bar that goes on behind row 759 has its text in a row of its own, that which ends first in the first.
+const IN_ROWS_OF_THEIR_OWN: &[&str] = &[
+    " y=\"64\" text-anchor=\"start\">call 2</text>\n",
+    " y=\"84\" text-anchor=\"start\">call 4</text>\n",
+    " y=\"104\" text-anchor=\"start\">call 1</text>\n",
+    " y=\"124\" text-anchor=\"start\">call 3</text>\n",
+];
+
+#[test]
+fn texts_of_bars_that_go_on_do_not_cover_one_another(rt: HostRuntime) -> Result<(), Fail> {
+    let rows = alike(rt.alloc(), 768)?;
+    let chart = Chart {
+        lanes: &[Lane {
+            name: "lane",
+            room: 0,
+        }],
+        rows: &rows,
+        bars: &[
+            from_757(764, 0, "call 1"),
+            from_757(761, 7, "call 2"),
+            from_757(766, 7, "call 3"),
+            from_757(763, 7, "call 4"),
+            from_757(759, 1, "call 5"),
+        ],
+        left: "undone",
+        right: "",
+    };
+    let missing = missing(rt.alloc(), chart, IN_ROWS_OF_THEIR_OWN)?;
+    assert!(rt; missing.is_none(), "{missing:?}");
     Ok(())
 }

@@ -332,6 +332,14 @@ pub fn run_files<R: Files + AllocGlobal, W: Write, E: Write>(
     run_read(rt, sites, script, &texts, views, out, errors)
 }
 
+/// Whether words stand behind a line of a trace, counted from 1.
+fn has_words(trace: &str, number: usize) -> bool {
+    match trace.split('\n').nth(number.saturating_sub(1)) {
+        Some(line) => line.contains(" # "),
+        None => false,
+    }
+}
+
 /// Says why nothing is taken out of a trace over a site, both given as texts, of which the site's describes one: in the order
 /// in which [`rewind_run`] looks.
 fn say_unwound<E: Write>(
@@ -351,6 +359,10 @@ fn say_unwound<E: Write>(
         return Ok(());
     }
     match foreign_line(alloc, site, trace)? {
+        Some(number) if has_words(trace, number) => writeln!(
+            errors,
+            "{path}:{number}: words stand behind this event, as run prints it with --words"
+        )?,
         Some(number) => writeln!(
             errors,
             "{path}:{number}: the site's book gives another reply to this event"

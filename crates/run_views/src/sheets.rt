@@ -88,9 +88,14 @@ fn write_pcap<F: Write + Drop, W: Write, A: Allocator + Copy, E: Write>(
     };
     let left_out = capture.left_out();
     if left_out > 0 {
+        let (messages, are) = if left_out == 1 {
+            ("message", "is")
+        } else {
+            ("messages", "are")
+        };
         writeln!(
             errors,
-            "{}: {left_out} messages are too long for a packet, and left out",
+            "{}: {left_out} {messages} {are} too long for a packet, and left out",
             Escaped(sheet.path)
         )?;
     }
@@ -116,7 +121,11 @@ fn write_chart<F: Write + Drop, W: Write, A: Allocator + Copy, E: Write>(
     match chart.write_to(&mut sheet.out) {
         Ok(()) => {}
         Err(WordsFault::NoMemory) => return Err(WordsFault::NoMemory),
+        // what couldn't be written is still in the buffer: writing it again tells why
         Err(WordsFault::Write) => {
+            if let Err(error) = sheet.out.flush() {
+                return Err(say_unwritten(sheet.path, error, errors));
+            }
             writeln!(errors, "{}: the file can't be written", Escaped(sheet.path))?;
             return Err(WordsFault::Write);
         }

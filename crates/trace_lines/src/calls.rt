@@ -88,7 +88,22 @@ fn call_of_line(line: Line) -> u16 {
     }
 }
 
-/// The channel that a message on Abis is about; `None` where the octets are no message.
+/// The channel that octets name which are no message: their first element is a channel number, of a full rate channel (TS
+/// 48.058 clause 9.3.1).
+fn channel_named(cell: u8, trx: u8, octets: &[u8]) -> Option<ChanId> {
+    let identifier = *octets.get(2)?;
+    let number = *octets.get(3)?;
+    if identifier != 0x01 || number < 0x08 || number > 0x0F {
+        return None;
+    }
+    Some(ChanId {
+        cell,
+        trx,
+        tn: number & 0x07,
+    })
+}
+
+/// The channel that octets on Abis are about, also where an element of theirs is wrong. `None` where they name none.
 fn channel_in<A: Allocator + Copy>(
     alloc: A,
     cell: u8,
@@ -99,13 +114,12 @@ fn channel_in<A: Allocator + Copy>(
         Ok(message) => Ok(Some(chan_of(cell, trx, &message))),
         Err(RslFault::NoMemory) => Err(AllocError),
         Err(
-            RslFault::NotRsl
-            | RslFault::UnknownType(_)
+            RslFault::UnknownType(_)
             | RslFault::Missing(_)
             | RslFault::BadElement(_)
-            | RslFault::Torn(_)
-            | RslFault::TooLong,
-        ) => Ok(None),
+            | RslFault::Torn(_),
+        ) => Ok(channel_named(cell, trx, octets)),
+        Err(RslFault::NotRsl | RslFault::TooLong) => Ok(None),
     }
 }
 

@@ -28,6 +28,13 @@ const UNWOUND: &[(&str, usize, &str, &str)] = &[
         "line 3\n",
         ":3: the site's book gives another reply to this event\n",
     ),
+    // what run --words prints
+    (
+        "event look 1 -> refused 1 # call 1; NoCall: there is no such call\n",
+        1,
+        "line 1\n",
+        ":1: words stand behind this event, as run prints it with --words\n",
+    ),
     (
         "event look 1 -> refused 1\n",
         1,

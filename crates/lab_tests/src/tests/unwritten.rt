@@ -3,6 +3,7 @@ use lab::files::run_files;
 use lab::run::{LabFault, exit_status};
 use lab::site_files::SitePaths;
 use run_views::Views;
+use std::alloc::{AllocError, Global};
 use std::process::Abort;
 use std::rt::Files;
 use std::test::Fail;
@@ -20,31 +21,38 @@ const CHART_FILE: &str = "unwritten.svg";
 /// A device that can be opened for writing, and has no room for an octet.
 const FULL: &str = "/dev/full";
 
+/// The files of a run.
+#[derive(Clone, Copy)]
+struct Named<'a> {
+    site: &'a str,
+    script: &'a str,
+    pcap: &'a str,
+    chart: &'a str,
+}
+
 /// A run whose capture and chart go to these files, one of which has no room: the trace is printed to its end, and what
 /// is said names that file.
-fn says_why(rt: &(impl Files + AllocGlobal + Abort), pcap: &str, chart: &str) -> Result<(), Fail> {
+fn says_why(
+    rt: &(impl Files + AllocGlobal + Abort),
+    named: Named<'_>,
+    trace: &str,
+) -> Result<(), Fail> {
     let views = Views {
         words: false,
         state: false,
-        pcap: Some(pcap),
-        chart: Some(chart),
+        pcap: Some(named.pcap),
+        chart: Some(named.chart),
+    };
+    let paths = SitePaths {
+        first: named.site,
+        peer: None,
     };
     let mut out = Vec::new(rt.alloc());
     let mut errors = Vec::new(rt.alloc());
-    let ended = run_files(
-        rt,
-        SitePaths {
-            first: SITE_FILE,
-            peer: None,
-        },
-        SCRIPT_FILE,
-        &views,
-        &mut out,
-        &mut errors,
-    );
+    let ended = run_files(rt, paths, named.script, &views, &mut out, &mut errors);
     assert_eq!(rt; ended, Err(LabFault::Write));
     assert_eq!(rt; exit_status(ended), 2);
-    assert_eq!(rt; str::from_utf8(&out)?, ONE_CALL.1);
+    assert_eq!(rt; str::from_utf8(&out)?, trace);
     let said = str::from_utf8(&errors)?;
     assert!(rt; said.starts_with("/dev/full: no space left"), "{said}");
     assert_eq!(rt; said.lines().count(), 1, "{said}");
@@ -62,9 +70,56 @@ fn is_charted(rt: &(impl Files + AllocGlobal + Abort)) -> Result<(), Fail> {
 #[test]
 fn a_file_without_room_is_named(rt: HostRuntime) -> Result<(), Fail> {
     write_files(&rt, &[(SITE_FILE, SITE), (SCRIPT_FILE, ONE_CALL.0)])?;
-    says_why(&rt, FULL, CHART_FILE)?;
+    let named = Named {
+        site: SITE_FILE,
+        script: SCRIPT_FILE,
+        pcap: PCAP_FILE,
+        chart: CHART_FILE,
+    };
+    says_why(
+        &rt,
+        Named {
+            pcap: FULL,
+            ..named
+        },
+        ONE_CALL.1,
+    )?;
     is_charted(&rt)?;
-    says_why(&rt, PCAP_FILE, FULL)?;
+    says_why(
+        &rt,
+        Named {
+            chart: FULL,
+            ..named
+        },
+        ONE_CALL.1,
+    )?;
     assert_eq!(rt; fs::read(&rt, PCAP_FILE)?.len(), 24 + 4 * 59 + 27);
     remove_files(&rt, &[SITE_FILE, SCRIPT_FILE, PCAP_FILE, CHART_FILE])
+}
+
+/// The files of a run whose chart has over 8 KiB.
+const LONG: Named<'static> = Named {
+    site: "unwritten_long.toml",
+    script: "unwritten_long.txt",
+    pcap: "unwritten_long.pcap",
+    chart: FULL,
+};
+
+/// So many times this text.
+fn repeated(alloc: Global, text: &str, times: usize) -> Result<String, AllocError> {
+    let mut made = String::new(alloc);
+    for _ in 0..times {
+        made.push_str(text)?;
+    }
+    Ok(made)
+}
+
+#[test]
+fn a_long_chart_without_room_is_named(rt: HostRuntime) -> Result<(), Fail> {
+    let script = repeated(rt.alloc(), "handover 1 99\n", 300)?;
+    let mut trace = repeated(rt.alloc(), "in handover 1 99\n", 300)?;
+    trace.push_str("end channels=0 calls=0 references=0 timers=0\n")?;
+    write_files(&rt, &[(LONG.site, SITE), (LONG.script, &script)])?;
+    says_why(&rt, LONG, &trace)?;
+    remove_files(&rt, &[LONG.site, LONG.script, LONG.pcap])
 }

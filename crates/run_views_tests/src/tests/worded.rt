@@ -53,6 +53,8 @@ fault abis 5 1 # no call; an element is cut at offset 1
 in a 2 000121 # call 2; CLEAR COMPLETE; ignored: no row
 sim limit # what still waited was dropped
 in abis 0 0 0824010b1a0101 # call 1; CONNECTION FAILURE INDICATION tn=3 cause=1; radio link failure; ignored: no row
+in abis 0 0 0822010b08 # call 1
+fault abis 5 4 # call 1; an element is cut at offset 4
 ",
     // lines of no trace
     "line 3
