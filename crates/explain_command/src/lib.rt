@@ -156,6 +156,14 @@ fn say_range<E: Write>(
     }
 }
 
+/// The greatest number of a fault on a link; the least is 1.
+fn last_fault(link: Link) -> u8 {
+    match link {
+        Link::Rr => 4,
+        Link::A | Link::Abis => 6,
+    }
+}
+
 /// Says on `errors` why there are no words for a question.
 fn say_unknown<E: Write>(question: Question, errors: &mut E) -> io::Result<()> {
     match question {
@@ -169,7 +177,11 @@ fn say_unknown<E: Write>(question: Question, errors: &mut E) -> io::Result<()> {
         Question::Fault(link, number, argument) => match (argument_of(link, number), argument) {
             (Some(what), Some(argument)) => say_range((link, number), what, argument, errors),
             (Some(_), None) | (None, _) => {
-                writeln!(errors, "error: there is no fault {link} {number}")
+                let last = last_fault(link);
+                writeln!(
+                    errors,
+                    "error: there is no fault {link} {number}, they are 1 to {last}"
+                )
             }
         },
     }

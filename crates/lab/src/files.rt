@@ -332,11 +332,20 @@ pub fn run_files<R: Files + AllocGlobal, W: Write, E: Write>(
     run_read(rt, sites, script, &texts, views, out, errors)
 }
 
-/// Whether words stand behind a line of a trace, counted from 1.
-fn has_words(trace: &str, number: usize) -> bool {
-    match trace.split('\n').nth(number.saturating_sub(1)) {
-        Some(line) => line.contains(" # "),
-        None => false,
+/// A line of a trace, counted from 1.
+fn line_of(trace: &str, number: usize) -> &str {
+    trace
+        .split('\n')
+        .nth(number.saturating_sub(1))
+        .unwrap_or("")
+}
+
+/// Why a line of a trace can't be read.
+fn unread_reason(line: &str) -> &'static str {
+    if line.starts_with("1: ") || line.starts_with("2: ") {
+        "a line of the trace of two controllers, and rewind takes that of one"
+    } else {
+        "no line of the trace of one controller, as run prints it without --words"
     }
 }
 
@@ -352,14 +361,12 @@ fn say_unwound<E: Write>(
 ) -> Result<(), LabFault> {
     let path = Escaped(path);
     if let Some(number) = first_unread(trace) {
-        writeln!(
-            errors,
-            "{path}:{number}: no line of the trace of one controller, as run prints it without --words"
-        )?;
+        let reason = unread_reason(line_of(trace, number));
+        writeln!(errors, "{path}:{number}: {reason}")?;
         return Ok(());
     }
     match foreign_line(alloc, site, trace)? {
-        Some(number) if has_words(trace, number) => writeln!(
+        Some(number) if line_of(trace, number).contains(" # ") => writeln!(
             errors,
             "{path}:{number}: words stand behind this event, as run prints it with --words"
         )?,

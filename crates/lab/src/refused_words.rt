@@ -44,12 +44,44 @@ fn in_one_line(alloc: Global, text: &str) -> Result<String, AllocError> {
     Ok(line)
 }
 
-/// The command that words are for: the one that the first of them names, or else the whole.
+/// The command that words are for: the one that the first of them names, behind `help` the next, or else the whole.
 fn named<'c, 'a>(command: &'c Command<'a>, words: &[String]) -> &'c Command<'a> {
-    match words.first() {
+    match words.iter().find(|word| word.as_str() != "help") {
         Some(word) => command.find_subcommand(word).unwrap_or(command),
         None => command,
     }
+}
+
+/// The usage of `decode`, of which `clap` shows a part that can't stand alone.
+const DECODE_USAGE: &str =
+    "; Usage: bsc_lab decode <LINK> <HEX>, or bsc_lab decode [LINK] --from <FILE> [--all]";
+
+/// A line with the usage of `decode` whole.
+fn with_decode_usage(alloc: Global, line: &str) -> Result<String, AllocError> {
+    let before = match line.split_once("; Usage: ") {
+        Some((before, _)) => before,
+        None => line,
+    };
+    let mut whole = String::from_str(alloc, before)?;
+    whole.push_str(DECODE_USAGE)?;
+    Ok(whole)
+}
+
+/// Numbers among the words, and what they may be.
+const NUMBERS: &[(&str, &str)] = &[
+    ("'<LINE>'", "; LINE is a number from 1 on"),
+    ("'<N>'", "; N is a number from 0 to 255"),
+    ("'[ARGUMENT]'", "; ARGUMENT is a number"),
+];
+
+/// Adds what a number may be that `clap` refuses.
+fn push_numbers(line: &mut String) -> Result<(), AllocError> {
+    for (name, allowed) in NUMBERS {
+        if line.contains(*name) {
+            line.push_str(*allowed)?;
+        }
+    }
+    Ok(())
 }
 
 /// Adds which words may stand for the COMMAND of a usage.
@@ -92,6 +124,12 @@ fn line_of(
     }
     if line.contains("[OPTIONS]") || kind == ErrorKind::UnknownArgument {
         push_options(&mut line, command)?;
+    }
+    if kind == ErrorKind::ValueValidation {
+        push_numbers(&mut line)?;
+    }
+    if command.get_name() == "decode" {
+        return with_decode_usage(alloc, &line);
     }
     Ok(line)
 }

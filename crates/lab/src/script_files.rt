@@ -76,6 +76,8 @@ pub fn test_files<R: Files + AllocGlobal, W: Write, E: Write>(
         number = number.saturating_add(1);
         let test = Numbered { number, name };
         ended = worse(ended, test_file(rt, &sites, test, out, errors)?);
+        // whoever reads the tests sees each as soon as it ended
+        out.flush()?;
     }
     Ok(ended)
 }

@@ -12,8 +12,8 @@ ghost use Rattle.lab.specs.Tests as said;
 use crate::heard::{Listener, run_heard};
 use crate::run::{LabFault, Sites, Status, read_sites, refuse_site};
 use expected_lines::{
-    Difference, Miss, expected_in, find_difference, find_last_difference, lines_of, part_end,
-    print_met, print_miss,
+    Difference, Miss, expected_in, find_difference, find_last_difference, is_any, lines_of,
+    part_end, print_met, print_miss,
 };
 use lab_script::script::{ScriptFault, read_script};
 use std::alloc::{Allocator, Global};
@@ -70,6 +70,24 @@ fn part_at<'a>(lines: &'a [&'a str], place: usize) -> &'a [&'a str]
     part
 }
 
+/// Whether the last that lines expect is any lines.
+fn is_any_before(lines: &[&str]) -> bool {
+    match lines.iter().rev().find_map(|line| expected_in(*line)) {
+        Some(text) => is_any(text),
+        None => false,
+    }
+}
+
+/// The line that came where a part differs: behind `..`, which takes all that came, the last of them.
+fn came_at<'a>(part: &[&str], came: &[&'a str], difference: Difference) -> Option<&'a str> {
+    let (before, _) = part.split_at(difference.line.min(part.len()));
+    match came.get(difference.came) {
+        Some(line) => Some(*line),
+        None if is_any_before(before) => came.last().copied(),
+        None => None,
+    }
+}
+
 impl<W: Write, A: Allocator + Copy> Tester<'_, W, A> {
     /// Prints that the script differs from what came of the part at the place.
     fn miss(&mut self, difference: Difference, came: &[&str]) -> Result<(), LabFault>
@@ -81,7 +99,7 @@ impl<W: Write, A: Allocator + Copy> Tester<'_, W, A> {
             expected: part
                 .get(difference.line)
                 .and_then(|line| expected_in(*line)),
-            came: came.get(difference.came).copied(),
+            came: came_at(part, came, difference),
         };
         Ok(print_miss(self.out, self.test.number, self.test.name, miss)?)
     }

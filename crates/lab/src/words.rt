@@ -164,7 +164,7 @@ fn check_command<'a>(alloc: Global) -> Result<Command<'a>, AllocError> {
 /// What stands behind the help of `check`.
 const CHECK_HELP: &str = "\
 Prints a line for each own cell, one for each cell of others, and a warning for each key that is
-ignored, neighbour carrier that no cell has, and cell without neighbours.
+ignored, neighbour carrier that no other cell has, and cell without neighbours.
 
 Statuses: 0 the site can be read, 2 the file or the site is refused, 3 memory was refused.
 

@@ -80,7 +80,7 @@ impl fmt::Display for Reason<'_> {
         let word = self.found;
         let found = Shown {
             word,
-            nothing: "nothing",
+            nothing: "two blanks, or one at the end",
         };
         let more = Shown {
             word,
@@ -88,7 +88,10 @@ impl fmt::Display for Reason<'_> {
         };
         match self.fault {
             Fault::ByteOrderMark => write!(f, "a byte order mark stands before the first word"),
-            Fault::NoPeer => write!(f, "2: is for a second controller, and there is none"),
+            Fault::NoPeer => write!(
+                f,
+                "2: is for a second controller, and there is none (--peer SITE)"
+            ),
             Fault::Keyword => write!(f, "a line begins with {KEYWORDS}, found {more}"),
             Fault::PeerKeyword => write!(f, "behind 2: stands {PEER_KEYWORDS}, found {found}"),
             Fault::PeerSim => write!(f, "sim is for both controllers, and stands without 2:"),

@@ -83,13 +83,13 @@ const UNREAD: &[(&str, Fault, &str, &str)] = &[
         "open  1 0 0 3",
         Fault::Word(Slot::Call),
         "",
-        "CALL is 0 to 65535, found nothing",
+        "CALL is 0 to 65535, found two blanks, or one at the end",
     ),
     (
         "undo ",
         Fault::Word(Slot::Call),
         "",
-        "CALL is 0 to 65535, found nothing",
+        "CALL is 0 to 65535, found two blanks, or one at the end",
     ),
     (
         "undo 1\r",
@@ -167,7 +167,7 @@ const UNREAD: &[(&str, Fault, &str, &str)] = &[
         "2: ",
         Fault::PeerKeyword,
         "",
-        "behind 2: stands open, handover, undo, clear, expire, abis, a, refuse, hold, let, mobile or hangup, found nothing",
+        "behind 2: stands open, handover, undo, clear, expire, abis, a, refuse, hold, let, mobile or hangup, found two blanks, or one at the end",
     ),
     (
         "2: sim 1",
@@ -247,7 +247,7 @@ const LINES: &[(&str, usize, bool, &str)] = &[
         "undo 1\n2: undo 1",
         2,
         false,
-        "2: is for a second controller, and there is none",
+        "2: is for a second controller, and there is none (--peer SITE)",
     ),
     (
         "hold 0 0 3\nsim\n",

@@ -16,6 +16,7 @@ IsNeighbour site cell other = (other ≢ cell) × (place : ℕ) × (bsic : ℕ) 
 abbrev pub HasNeighbour : SiteView → ℕ → Type 0
 HasNeighbour site cell = (other : ℕ) × (other < cell_numbers) × IsNeighbour site cell other
 
--- a cell, own or outside, has this BCCH carrier
-abbrev pub IsCarrier : SiteView → ℕ → Type 0
-IsCarrier site carrier = (cell : ℕ) × (cell < cell_numbers) × (option_map (λ c. c.bcch) (identity_at site cell) ≡ Some carrier)
+-- another cell, own or outside, has this BCCH carrier
+abbrev pub IsCarrierOfAnother : SiteView → ℕ → ℕ → Type 0
+IsCarrierOfAnother site cell carrier =
+    (other : ℕ) × (other < cell_numbers) × (other ≢ cell) × (option_map (λ c. c.bcch) (identity_at site other) ≡ Some carrier)

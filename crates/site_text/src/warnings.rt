@@ -1,7 +1,7 @@
 //! What a site file may have, and who wrote it surely meant otherwise.
 ghost use Rattle.std.specs.Prelude.{◌≡◌, ◌↔◌, IsTrue};
 ghost use Rattle.cell_table.specs.SiteFile.{key_name};
-ghost use Rattle.site_text.specs.Cells.{IsCarrier};
+ghost use Rattle.site_text.specs.Cells.{IsCarrierOfAnother};
 ghost use Rattle.site_text.specs.Keys.{keys_of, IsNameOf};
 
 use crate::cells::{CELL_NUMBERS, has_neighbours};
@@ -101,12 +101,12 @@ fn warn_of_file<W: Write>(document: &Value, out: &mut W) -> io::Result<()> {
     Ok(())
 }
 
-/// Whether a cell, own or outside, has this carrier.
-fn is_carrier<A: Allocator + Copy>(site: &Site<A>, carrier: u16) -> bool
-    ensures { IsTrue result ↔ IsCarrier site.now carrier }
+/// Whether another cell, own or outside, has this carrier.
+fn is_carrier_of_another<A: Allocator + Copy>(site: &Site<A>, cell: u8, carrier: u16) -> bool
+    ensures { IsTrue result ↔ IsCarrierOfAnother site.now cell carrier }
 {
-    for cell in 0..CELL_NUMBERS {
-        if site.bcch(cell) == Some(carrier) {
+    for other in 0..CELL_NUMBERS {
+        if other != cell && site.bcch(other) == Some(carrier) {
             return true;
         }
     }
@@ -121,10 +121,10 @@ fn warn_of_neighbours<A: Allocator + Copy, W: Write>(
     out: &mut W,
 ) -> io::Result<()> {
     for carrier in ba {
-        if !is_carrier(site, *carrier) {
+        if !is_carrier_of_another(site, cell, *carrier) {
             writeln!(
                 out,
-                "warning: cell {cell}: ba: no cell has the carrier {carrier}"
+                "warning: cell {cell}: ba: no other cell has the carrier {carrier}"
             )?;
         }
     }
@@ -135,7 +135,7 @@ fn warn_of_neighbours<A: Allocator + Copy, W: Write>(
 }
 
 /// Prints what is allowed in a site's file and surely meant otherwise, one a line: first the keys that are ignored, then
-/// cell by cell the carriers in `ba` that no cell has, and whether it has no neighbours. `document` is the file's text as
+/// cell by cell the carriers in `ba` that no other cell has, and whether it has no neighbours. `document` is the file's text as
 /// TOML, and `site` the site that it describes.
 pub fn print_warnings<A: Allocator + Copy, W: Write>(
     site: &Site<A>,

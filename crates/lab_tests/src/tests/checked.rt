@@ -34,7 +34,7 @@ fn a_site_is_printed(rt: HostRuntime) -> Result<(), Fail> {
     let text = "cell 0 lac=23 ci=100 bcch=60 bsic=1/1 power=5 channels 0/0/2 0/0/3 neighbours 1 64
 cell 1 lac=23 ci=101 bcch=871 bsic=2/5 power=5 channels 1/1/3 neighbours 0
 outside 64 lac=23 ci=102 bcch=62 bsic=3/0
-warning: cell 0: ba: no cell has the carrier 70
+warning: cell 0: ba: no other cell has the carrier 70
 ";
     check_ends(&rt, SITE_FILE, Ok(Status::Done), (text, ""))?;
     fs::remove_file(&rt, SITE_FILE)?;

@@ -290,7 +290,7 @@ const TESTS: &[(&str, Status, &str)] = &[
     (
         "open 1 0 0 3\n#> ..\n#> out a 1 00\nclear 1",
         Status::Differs,
-        "not ok 1 - script\n# line 3\n# expected: out a 1 00\n# came nothing more\n",
+        "not ok 1 - script\n# line 3\n# expected: out a 1 00\n# came: out abis 0 0 0821010b0300060400010801\n",
     ),
     // nothing comes before the first line
     (

@@ -30,7 +30,7 @@ const UNREAD: &[(&str, &str, &str)] = &[
     (
         "2: undo 1\n",
         "line 1\n",
-        "1: 2: is for a second controller, and there is none",
+        "1: 2: is for a second controller, and there is none (--peer SITE)",
     ),
     (
         "mobile 1 arrive\n",

@@ -268,7 +268,10 @@ const SHOWS: &[(&[&str], &str)] = &[
     (&["help", "encode"], "rr, a, abis"),
     (&["help", "encode"], "the fields in any order"),
     (&["check", "--help"], "The site file"),
-    (&["help", "check"], "neighbour carrier that no cell has"),
+    (
+        &["help", "check"],
+        "neighbour carrier that no other cell has",
+    ),
     (&["rewind", "--help"], "The trace, as run prints it"),
     (&["help", "rewind"], "counted from 1"),
     (&["--help"], "explain refused 6"),
