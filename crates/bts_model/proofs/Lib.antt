@@ -1,5 +1,6 @@
 mod KeyFacts
 mod MapFacts
+mod Numbered
 mod Results
 mod ReleaseFacts
 mod KeptFacts

@@ -11,6 +11,10 @@ use Rattle.bts_model.specs.declared.answer.Answer.{Answer}
 use Rattle.bts_model.specs.declared.answer.Answer.TheVariants.{ActivationAck, ActivationNack, ReleaseAck, Detection, Complete, Failure}
 use Rattle.bts_model.specs.declared.answer.StationOut.{StationOut}
 
+-- the cause of a refused activation (clause 9.3.26)
+abbrev pub equipment_failure : ℕ
+equipment_failure = 0x20
+
 -- DATA INDICATION on the main channel, SAPI 0, with a message of the mobile (clauses 8.3.2 and 9.3.2)
 abbrev pub indication_octets : ChanBits → Rr → List ℕ
 indication_octets channel message = canonical_text {A = Unit} (DataIndication channel 0 (rr_text message))
@@ -21,7 +25,7 @@ indication_octets channel message = canonical_text {A = Unit} (DataIndication ch
 -- 10.5.2.31).
 abbrev pub octets_of : ChanBits → Answer → List ℕ
 octets_of channel ActivationAck = canonical_text {A = Unit} (ChannelActivationAck channel 0)
-octets_of channel ActivationNack = canonical_text {A = Unit} (ChannelActivationNack channel 0x20)
+octets_of channel ActivationNack = canonical_text {A = Unit} (ChannelActivationNack channel equipment_failure)
 octets_of channel ReleaseAck = canonical_text {A = Unit} (RfChannelReleaseAck channel)
 octets_of channel Detection = canonical_text {A = Unit} (HandoverDetection channel (Some 0))
 octets_of channel Complete = indication_octets channel (HandoverComplete (record { 0 = 0 }))

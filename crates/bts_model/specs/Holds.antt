@@ -1,5 +1,5 @@
 -- What stations keep back. Ours, of no standard.
-use Rattle.std.specs.Prelude.{ℕ, Bool, true, false, ◌&&◌, not, if◌then◌else◌, List, [], ◌∷◌, ◌++◌, filter, Option, Some, None, is_some}
+use Rattle.std.specs.Prelude.{ℕ, Bool, true, false, ◌&&◌, not, if◌then◌else◌, List, [], ◌∷◌, filter, flat_map, Option, Some, None, is_some}
 use Rattle.std.specs.List.{position}
 use Rattle.bts_model.specs.declared.place.Place.{Place}
 use Rattle.bts_model.specs.declared.answer.Answer.{Answer}
@@ -34,8 +34,7 @@ listed x (Some answer) = (x, answer) ∷ []
 
 -- what the holds of a channel have kept, in the order of the holds
 abbrev pub kept_of : Place → List Hold → List (Place × Answer)
-kept_of x [] = []
-kept_of x (h ∷ holds) = listed x (kept_by x h) ++ kept_of x holds
+kept_of x holds = flat_map (λ h. listed x (kept_by x h)) holds
 
 -- the holds of other channels
 abbrev pub others : Place → List Hold → List Hold

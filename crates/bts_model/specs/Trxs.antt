@@ -1,5 +1,6 @@
 -- Which TRX the sites of the controllers have.
-use Rattle.std.specs.Prelude.{ℕ, zero, suc, Bool, ◌==◌, ◌&&◌, List, [], ◌∷◌, ◌++◌, length, Option, Some, None, slice_get, option_map, unwrap_or}
+use Rattle.std.specs.Prelude.{ℕ, Bool, ◌==◌, ◌&&◌, List, length, filter_map, flat_map, Option, Some, None, slice_get, option_map, unwrap_or}
+use Rattle.std.specs.List.{range_with_len, enumerate_from}
 use Rattle.cell_table.specs.declared.tables.CellIdentity.{CellIdentity}
 use Rattle.cell_table.specs.Views.{TrxView, SiteView}
 use Rattle.cell_table.specs.Site.{trx_at, identity_at}
@@ -16,40 +17,20 @@ trx_with k cell trx None t = None
 abbrev pub trx_of : ℕ → SiteView → ℕ → ℕ → Option Trx
 trx_of k site cell trx = trx_with k cell trx (identity_at site cell) (trx_at site cell trx)
 
-abbrev pub listed : Option Trx → List Trx
-listed None = []
-listed (Some t) = t ∷ []
-
--- the first n TRX of a cell, in their order; then all
-abbrev pub first_trxs : ℕ → SiteView → ℕ → ℕ → List Trx
-first_trxs k site cell zero = []
-first_trxs k site cell (suc n) = first_trxs k site cell n ++ listed (trx_of k site cell n)
-
 abbrev pub trx_count : SiteView → ℕ → ℕ
 trx_count site cell = unwrap_or (option_map (λ c. length c.trx) (slice_get site.cells cell)) 0
 
+-- the TRX of a cell, in their order
 abbrev pub trxs_of_cell : ℕ → SiteView → ℕ → List Trx
-trxs_of_cell k site cell = first_trxs k site cell (trx_count site cell)
+trxs_of_cell k site cell = filter_map (trx_of k site cell) (range_with_len 0 (trx_count site cell))
 
--- those of the first n own cells of a site; then of all
-abbrev pub first_cells : ℕ → SiteView → ℕ → List Trx
-first_cells k site zero = []
-first_cells k site (suc n) = first_cells k site n ++ trxs_of_cell k site n
-
+-- those of the own cells of a site
 abbrev pub trxs_of_site : ℕ → SiteView → List Trx
-trxs_of_site k site = first_cells k site (length site.cells)
+trxs_of_site k site = flat_map (trxs_of_cell k site) (range_with_len 0 (length site.cells))
 
-abbrev pub trxs_at : ℕ → Option SiteView → List Trx
-trxs_at k None = []
-trxs_at k (Some site) = trxs_of_site k site
-
--- those of the first n controllers; then of all
-abbrev pub first_sites : List SiteView → ℕ → List Trx
-first_sites sites zero = []
-first_sites sites (suc n) = first_sites sites n ++ trxs_at n (slice_get sites n)
-
+-- those of the sites of all controllers
 abbrev pub trxs_of : List SiteView → List Trx
-trxs_of sites = first_sites sites (length sites)
+trxs_of sites = flat_map (λ (k, site). trxs_of_site k site) (enumerate_from 0 sites)
 
 -- the channel is one of the TRX
 abbrev pub is_on : Place → Trx → Bool

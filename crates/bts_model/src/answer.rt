@@ -10,6 +10,9 @@ use rr_messages::Rr;
 use rsl_messages::{ChanBits, Octets, Rsl, encode};
 use std::alloc::{AllocError, Allocator, Global};
 
+/// The cause of a refused activation (TS 48.058 clause 9.3.26).
+const EQUIPMENT_FAILURE: u8 = 0x20;
+
 /// What a station says of a channel, or passes on from the mobile on it.
 #[derive(Clone, Copy)]
 pub enum Answer {
@@ -83,7 +86,7 @@ fn message_of<A: Allocator + Copy>(
         Answer::ActivationAck => Ok(Rsl::ChannelActivationAck { channel, frame: 0 }),
         Answer::ActivationNack => Ok(Rsl::ChannelActivationNack {
             channel,
-            cause: 0x20,
+            cause: EQUIPMENT_FAILURE,
         }),
         Answer::ReleaseAck => Ok(Rsl::RfChannelReleaseAck { channel }),
         Answer::Detection => Ok(Rsl::HandoverDetection {

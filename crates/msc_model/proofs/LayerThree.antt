@@ -9,7 +9,7 @@ use Rattle.octet_elements.specs.Values.{octets_in}
 use Rattle.bssmap_messages.specs.declared.head.MessageKind.{MessageKind}
 use Rattle.bssmap_messages.specs.declared.head.MessageKind.TheVariants as kind
 use Rattle.bssmap_messages.specs.declared.message.Bssmap.{Bssmap}
-use Rattle.bssmap_messages.specs.declared.message.Bssmap.TheVariants.{HandoverRequest, HandoverRequired, HandoverRequestAck, HandoverCommand, HandoverComplete, HandoverFailure, HandoverPerformed, HandoverRequiredReject, HandoverDetect, ClearCommand, ClearComplete, ClearRequest}
+use Rattle.bssmap_messages.specs.declared.message.Bssmap.TheVariants.{HandoverRequest, HandoverRequired, HandoverRequestAck, HandoverCommand, HandoverComplete, HandoverFailure, HandoverPerformed, HandoverRequiredReject, ClearCommand, ClearRequest}
 use Rattle.bssmap_messages.specs.Forms.{interface_a}
 use Rattle.bssmap_messages.specs.Messages.{said, value_of, handover_request, handover_required, layer_3_alone, handover_complete, handover_failure, handover_performed, cause_alone}
 use Rattle.bssmap_messages.specs.Texts.{IsTextOf}

@@ -1,2 +1,3 @@
 mod LayerThree
+mod Numbered
 mod Written

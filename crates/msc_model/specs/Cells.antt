@@ -1,5 +1,6 @@
 -- Which cells the sites of the controllers have, and which of them a cell identifier names.
-use Rattle.std.specs.Prelude.{ℕ, zero, suc, Bool, true, ◌==◌, ◌&&◌, not, List, [], ◌∷◌, ◌++◌, length, find, Option, Some, None, slice_get}
+use Rattle.std.specs.Prelude.{ℕ, Bool, true, ◌==◌, ◌&&◌, not, List, length, find, filter_map, flat_map, Option, Some, None}
+use Rattle.std.specs.List.{range_with_len, enumerate_from}
 use Rattle.cell_table.specs.declared.tables.CellIdentity.{CellIdentity}
 use Rattle.cell_table.specs.Views.{SiteView}
 use Rattle.cell_table.specs.Site.{identity_at}
@@ -14,29 +15,13 @@ cell_with k (Some c) = Some (record { controller = k; lac = c.lac; ci = c.ci })
 abbrev pub cell_of : ℕ → SiteView → ℕ → Option Cell
 cell_of k site cell = cell_with k (identity_at site cell)
 
-abbrev pub listed : Option Cell → List Cell
-listed None = []
-listed (Some c) = c ∷ []
-
--- the first n own cells of a site, in their order; then all
-abbrev pub first_cells : ℕ → SiteView → ℕ → List Cell
-first_cells k site zero = []
-first_cells k site (suc n) = first_cells k site n ++ listed (cell_of k site n)
-
+-- the own cells of a site, in their order
 abbrev pub cells_of_site : ℕ → SiteView → List Cell
-cells_of_site k site = first_cells k site (length site.cells)
+cells_of_site k site = filter_map (cell_of k site) (range_with_len 0 (length site.cells))
 
-abbrev pub cells_at : ℕ → Option SiteView → List Cell
-cells_at k None = []
-cells_at k (Some site) = cells_of_site k site
-
--- those of the first n controllers; then of all
-abbrev pub first_sites : List SiteView → ℕ → List Cell
-first_sites sites zero = []
-first_sites sites (suc n) = first_sites sites n ++ cells_at n (slice_get sites n)
-
+-- those of the sites of all controllers
 abbrev pub cells_of : List SiteView → List Cell
-cells_of sites = first_sites sites (length sites)
+cells_of sites = flat_map (λ (k, site). cells_of_site k site) (enumerate_from 0 sites)
 
 -- A cell identifier names a cell by location area code and cell identity, or by the latter alone (TS 48.008 clause
 -- 3.2.2.17).

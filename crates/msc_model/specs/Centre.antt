@@ -1,6 +1,6 @@
 -- What a simulated switching centre is: the cells of its controllers, the joins, and the calls that have stood in one.
 -- Ours, of no standard.
-use Rattle.std.specs.Prelude.{◌≡◌, List, [], ◌∷◌, ◌++◌, refl}
+use Rattle.std.specs.Prelude.{List, [], ◌∷◌, ◌++◌, refl}
 use Rattle.std.specs.Coded.{Coded, code_by, coded×, coded_list}
 use Rattle.cell_table.specs.Views.{SiteView}
 use Rattle.msc_model.specs.declared.cell.Cell.{Cell}

@@ -1,6 +1,5 @@
 -- What comes of octets that a controller sends for a call (TS 48.008 clauses 3.1.5 and 3.1.9).
 use Rattle.std.specs.Prelude.{◌≡◌, ℕ, if◌then◌else◌, List, [], ◌∷◌, map, Option, Some, None, IsSome, slice_get}
-use Rattle.bssmap_messages.specs.declared.message.CellId.{CellId}
 use Rattle.bssmap_messages.specs.declared.message.Bssmap.{Bssmap}
 use Rattle.bssmap_messages.specs.declared.message.Bssmap.TheVariants.{HandoverRequest, HandoverRequired, HandoverRequestAck, HandoverCommand, HandoverComplete, HandoverFailure, HandoverPerformed, HandoverRequiredReject, HandoverDetect, ClearCommand, ClearComplete, ClearRequest}
 use Rattle.bssmap_messages.specs.Messages.{KeepsList}
@@ -15,17 +14,19 @@ use Rattle.msc_model.specs.Messages.{request}
 use Rattle.msc_model.specs.Routes.{route_of}
 
 -- The causes that the centre sends of its own (clause 3.2.2.5).
-abbrev pub CALL_CONTROL : ℕ
-CALL_CONTROL = 0x09
 
-abbrev pub REVERSION_TO_OLD_CHANNEL : ℕ
-REVERSION_TO_OLD_CHANNEL = 0x0A
+abbrev pub call_control : ℕ
+call_control = 0x09
 
-abbrev pub HANDOVER_SUCCESSFUL : ℕ
-HANDOVER_SUCCESSFUL = 0x0B
+-- radio interface failure, reversion to old channel
+abbrev pub reversion_to_old_channel : ℕ
+reversion_to_old_channel = 0x0A
 
-abbrev pub NO_RADIO_RESOURCE : ℕ
-NO_RADIO_RESOURCE = 0x21
+abbrev pub handover_successful : ℕ
+handover_successful = 0x0B
+
+abbrev pub no_radio_resource_available : ℕ
+no_radio_resource_available = 0x21
 
 -- the centre after it, and the messages that it sends, each to a call
 pub record Outcome (A : Type 0) : Type 0 where
@@ -47,7 +48,7 @@ unmoved w = record { centre = w; sent = [] }
 -- HANDOVER REQUIRED (clause 3.1.5.1): a join of the asker ends. Where no other controller has the cell, or there is no
 -- number left, it is rejected with 'no radio resource available'.
 abbrev pub rejected : {A : Type 0} → CentreState → Connection → Outcome A
-rejected w asker = record { centre = without w asker; sent = (asker, HandoverRequiredReject NO_RADIO_RESOURCE) ∷ [] }
+rejected w asker = record { centre = without w asker; sent = (asker, HandoverRequiredReject no_radio_resource_available) ∷ [] }
 
 -- Else HANDOVER REQUEST goes to the controller of the target cell for a new call (clause 3.1.5.2), to which the asker is
 -- joined.
@@ -70,12 +71,12 @@ acknowledged w layer3 (Some j) = record { centre = w; sent = (j.asker, HandoverC
 -- HANDOVER COMPLETE (clauses 3.1.5.3 and 3.1.9): the asker is cleared with 'handover successful', and the join ends.
 abbrev pub completed : {A : Type 0} → CentreState → Connection → Option Join → Outcome A
 completed w from None = unmoved w
-completed w from (Some j) = record { centre = without w from; sent = (j.asker, ClearCommand HANDOVER_SUCCESSFUL) ∷ [] }
+completed w from (Some j) = record { centre = without w from; sent = (j.asker, ClearCommand handover_successful) ∷ [] }
 
 -- HANDOVER FAILURE: from the target's side (clause 3.1.5.2) the asker is rejected with its cause; from the asker (3.1.5.3)
 -- the target's side is cleared with 'radio interface failure, reversion to old channel'. The join ends.
 abbrev pub failed_to : {A : Type 0} → Connection → ℕ → Join → Connection × Bssmap A
-failed_to from cause j = if is_same from j.asker then (j.target, ClearCommand REVERSION_TO_OLD_CHANNEL) else (j.asker, HandoverRequiredReject cause)
+failed_to from cause j = if is_same from j.asker then (j.target, ClearCommand reversion_to_old_channel) else (j.asker, HandoverRequiredReject cause)
 
 abbrev pub failed : {A : Type 0} → CentreState → Connection → ℕ → Option Join → Outcome A
 failed w from cause None = unmoved w
@@ -92,7 +93,7 @@ cleared w from cause join = record { centre = without w from; sent = (from, Clea
 
 -- The centre hangs up (clause 3.1.9): the call is cleared with 'call control'.
 abbrev pub hung_up : {A : Type 0} → Connection → Connection × Bssmap A
-hung_up call = (call, ClearCommand CALL_CONTROL)
+hung_up call = (call, ClearCommand call_control)
 
 -- What comes of a message. What else may stand on A isn't for the centre, or needs no answer.
 abbrev pub Comes : {A : Type 0} → CentreState → Connection → Bssmap A → CentreState → List (CentreOut A) → Type 0

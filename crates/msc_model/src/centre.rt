@@ -26,7 +26,7 @@ const REVERSION_TO_OLD_CHANNEL: u8 = 0x0A;
 
 const HANDOVER_SUCCESSFUL: u8 = 0x0B;
 
-const NO_RADIO_RESOURCE: u8 = 0x21;
+const NO_RADIO_RESOURCE_AVAILABLE: u8 = 0x21;
 
 /// A switching centre between some controllers. It hands a call over from one to another: the call that asks is joined
 /// to a new call of the other controller, until the handover is complete or has failed, or the call is cleared.
@@ -190,7 +190,7 @@ impl<A: Allocator + Copy> Centre<A> {
         ensures gives { IfOk result (λ outs. Gives (rejected self.old asker) self.new outs.items) }
         ensures unchanged { OnErr result (self.new ≡ self.old) }
     {
-        let message = required_reject(NO_RADIO_RESOURCE);
+        let message = required_reject(NO_RADIO_RESOURCE_AVAILABLE);
         let outs = one_message(self.allocator(), asker, &message)?;
         part(&mut self.joins, asker);
         Ok(outs)

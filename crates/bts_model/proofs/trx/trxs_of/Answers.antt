@@ -1,0 +1,8 @@
+use Rattle.std.proofs.Common.{rules, arith}
+use Rattle.bts_model.specs.Trxs.{trxs_of_site}
+use Rattle.bts_model.proofs.Numbered.{enumerated_next}
+use Rattle.bts_model.proofs.trx.trxs_of.Goals as goal
+
+pub loop-controller-preserved : goal.loop-controller-preserved
+loop-controller-preserved g c =
+    rw (enumerated_next trxs_of_site c.args.sites.now (λ site. site.value) c.loop-controller.controller c.index-sites-controller.result (omega arith) c.index-sites-controller.is) (search rules)
