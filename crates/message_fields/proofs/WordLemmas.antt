@@ -1,9 +1,10 @@
 -- Facts of the words of a text, and of the fields among them.
-use Rattle.std.proofs.Common.{◌≡◌, ℕ, ◌+◌, ◌<◌, ◌∷◌, List, [], Bool, true, false, Option, Some, None, refl, ap, ◌∙◌, arith, length, length-drop, nat_lt, option_map, ◌==◌, Bor, MatchOption, IfSome}
-use Rattle.std.specs.List.{slice_split, onto_first, position_or_len, before_first, after_first}
+use Rattle.std.proofs.Common.{◌≡◌, ℕ, ◌+◌, ◌<◌, ◌∷◌, List, [], Bool, true, false, not, Option, Some, None, refl, ap, sym, inl, inr, if◌then◌else◌, ◌∙◌, arith, length, length-drop, nat_lt, option_map, ◌==◌, Bor, MatchOption, IfSome}
+use Rattle.std.specs.List.{find, slice_split, onto_first, position_or_len, before_first, after_first}
 use Rattle.std.proofs.lemmas.List.Splits.{slice_split-cons_no, slice_split_first}
+use Rattle.std.proofs.lemmas.Bool.{cases_Bool}
 use Rattle.std.proofs.lemmas.Bool.Decides.{Decides-ltb}
-use Rattle.message_fields.specs.Words.{cut_at}
+use Rattle.message_fields.specs.Words.{cut_at, is_known, first_unknown}
 
 -- how a text is cut at the first of its bytes that is such
 abbrev pub Cut : (ℕ → Bool) → List ℕ → Option (Bor (List ℕ) × Bor (List ℕ)) → Type 0
@@ -43,3 +44,11 @@ cut_first mark text None h =
 cut_first mark text (Some x) h =
     let within : nat_lt (position_or_len (λ b. b == mark) text) (length text) ≡ true = (Decides-ltb (position_or_len (λ b. b == mark) text) (length text)).1 h.0 in
     rw (within, h.1, h.2) refl
+
+-- the first word that isn't known, found by the test
+pub find_unknown : (keys : List ℕ) (words : List (List ℕ)) → find (λ word. not (is_known keys word)) words ≡ first_unknown keys words
+find_unknown keys [] = refl
+find_unknown keys (word ∷ words) = elim (cases_Bool (is_known keys word)) [
+  | inl e ↦ ap (λ b. if not b then Some word else find (λ w. not (is_known keys w)) words) e ∙ find_unknown keys words ∙ ap (λ b. if b then first_unknown keys words else Some word) (sym e)
+  | inr e ↦ ap (λ b. if not b then Some word else find (λ w. not (is_known keys w)) words) e ∙ ap (λ b. if b then first_unknown keys words else Some word) (sym e)
+]

@@ -58,11 +58,34 @@ impl fmt::Display for Allowed {
     }
 }
 
-/// Why the fields of a message can't be read. What of the text is shown has its control characters escaped.
+/// The most characters of a text that a reason shows.
+const MOST_SHOWN: usize = 60;
+
+/// The front of a text that a reason doesn't show whole.
+fn front(text: &str) -> Option<&str> {
+    let (end, _) = text.char_indices().nth(MOST_SHOWN)?;
+    text.get(..end)
+}
+
+/// A text as a reason shows it: in quotes, with its control characters escaped. A longer one, which may fill a screen, is
+/// cut behind its first 60 characters, and `..` stands behind the quotes.
+#[derive(Clone, Copy)]
+pub struct Shown<'a>(pub &'a str);
+
+impl fmt::Display for Shown<'_> {
+    fn fmt<W: fmt::Write>(&self, f: &mut fmt::Formatter<W>) -> fmt::Result {
+        match front(self.0) {
+            Some(front) => write!(f, "{front:?}.."),
+            None => write!(f, "{:?}", self.0),
+        }
+    }
+}
+
+/// Why the fields of a message can't be read. What of the text is shown is so as [`Shown`] shows it.
 #[derive(Clone, Copy, Debug, PartialEq, Eq, Error)]
 pub enum FieldFault<'a> {
     // A word that is no field of the message.
-    #[error("{0:?} is no field of the message")]
+    #[error("{} is no field of the message", Shown(.0))]
     Unknown(&'a str),
     // A field that is missing.
     #[error("{0} is missing")]
@@ -71,7 +94,7 @@ pub enum FieldFault<'a> {
     #[error("{0} stands twice")]
     Twice(&'static str),
     // A field whose value is another than it may be.
-    #[error("{key} is {allowed}, found {value:?}")]
+    #[error("{key} is {allowed}, found {}", Shown(.value))]
     Value {
         key: &'static str,
         value: &'a str,

@@ -11,7 +11,7 @@ mod name;
 mod values;
 mod words;
 
-pub use fault::{Allowed, FieldFault};
+pub use fault::{Allowed, FieldFault, Shown};
 pub use fields::{
     flag, leading_value, number, octet, octets, only_keys, optional_octet, optional_octets, small,
     value,

@@ -60,12 +60,7 @@ pub(crate) fn first_unknown<'a>(keys: &str, text: &'a str) -> Option<&'a str>
     ensures { option_map (λ word. word.now) result ≡ said.first_unknown keys.now
         (said.words_of text.now) }
 {
-    match first_word(text) {
-        Some((word, _)) if !is_known(keys, word) => Some(word),
-        Some((_, rest)) => first_unknown(keys, rest),
-        None if !is_known(keys, text) => Some(text),
-        None => None,
-    }
+    text.split(' ').find(|word| !is_known(keys, word))
 }
 
 /// The value of a word that is a field with this key.
@@ -85,13 +80,12 @@ pub(crate) fn first_value<'a>(text: &'a str, key: &str) -> Option<(&'a str, &'a 
         found.0.now ∷ said.values_of key.now (said.words_of found.1.now)) }
     ensures less { IfSome result (λ found. length found.1.now < length text.now) }
 {
-    match first_word(text) {
-        Some((word, rest)) => {
-            match value_in(word, key) {
-                Some(value) => Some((value, rest)),
-                None => first_value(rest, key),
-            }
+    let mut left = text;
+    while let Some((word, rest)) = first_word(left) {
+        if let Some(value) = value_in(word, key) {
+            return Some((value, rest));
         }
-        None => Some((value_in(text, key)?, "")),
+        left = rest;
     }
+    Some((value_in(left, key)?, ""))
 }
