@@ -1,5 +1,5 @@
 //! Messages on A from words (TS 48.008 clause 3.2.1).
-ghost use Rattle.std.specs.Prelude.{◌≡◌, ◌≢◌, ◌++◌, Some, None, OnOk, IfOk, IfErr, codes, option_map};
+ghost use Rattle.std.specs.Prelude.{◌≡◌, ◌≢◌, ◌++◌, ◌∷◌, [], Some, None, OnOk, IfOk, IfErr, codes, option_map};
 ghost use Rattle.message_fields.specs.Faults.{Value, read_of, fault_of, Answers};
 ghost use Rattle.message_fields.specs.Words.{parts_of};
 ghost use Rattle.message_fields.specs.declared.fault.Allowed.TheVariants.{Cells};
@@ -40,34 +40,45 @@ fn cell<'a>(fields: &'a str, key: &'static str) -> Result<CellId, FieldFault<'a>
     })
 }
 
-/// Adds the cells of a list, which is the value of a field or its end.
-fn add_cells<'a, A: Allocator>(
+/// Adds the cell of a part of a list, which is the value of a field.
+fn add_cell<'a, A: Allocator>(
     cells: &mut Vec<CellId, A>,
     value: &'a str,
-    list: &str,
+    part: &str,
 ) -> Result<(), FieldFault<'a>>
-    ensures read { OnOk result (option_map (λ more. cells.old.items ++ more)
-        (said.cells_of (parts_of list.now)) ≡ Some cells.new.items) }
-    ensures unread { IfErr result (λ fault. fault ≢ NoMemory →
-        (said.cells_of (parts_of list.now) ≡ None)
+    ensures read { OnOk result (option_map (λ cell. cells.old.items ++ cell ∷ [])
+        (said.cell_of part.now) ≡ Some cells.new.items) }
+    ensures unread { IfErr result (λ fault. fault ≢ NoMemory → (said.cell_of part.now ≡ None)
         × (fault_of fault ≡ Value (codes "cells") value.now Cells)) }
 {
-    let (first, rest) = match first_part(list) {
-        Some((first, rest)) => (first, Some(rest)),
-        None => (list, None),
-    };
-    let Some(cell) = cell_of(first) else {
+    let Some(cell) = cell_of(part) else {
         return Err(FieldFault::Value {
             key: "cells",
             value,
             allowed: Allowed::Cells,
         });
     };
-    cells.push(cell).map_err(|_| FieldFault::NoMemory)?;
-    match rest {
-        Some(rest) => add_cells(cells, value, rest),
-        None => Ok(()),
+    cells.push(cell).map_err(|_| FieldFault::NoMemory)
+}
+
+/// Adds the cells of a list, which is the value of a field. The list may be as long as a text, so its parts take turns in
+/// one frame of the stack.
+fn add_cells<'a, A: Allocator>(
+    cells: &mut Vec<CellId, A>,
+    value: &'a str,
+) -> Result<(), FieldFault<'a>>
+    ensures read { OnOk result (option_map (λ more. cells.old.items ++ more)
+        (said.cells_of (parts_of value.now)) ≡ Some cells.new.items) }
+    ensures unread { IfErr result (λ fault. fault ≢ NoMemory →
+        (said.cells_of (parts_of value.now) ≡ None)
+        × (fault_of fault ≡ Value (codes "cells") value.now Cells)) }
+{
+    let mut left = value;
+    while let Some((part, rest)) = first_part(left) {
+        add_cell(cells, value, part)?;
+        left = rest;
     }
+    add_cell(cells, value, left)
 }
 
 /// The cells of a HANDOVER REQUIRED.
@@ -77,7 +88,7 @@ fn cells<A: Allocator + Copy>(alloc: A, fields: &str) -> Result<CellList<A>, Fie
 {
     let value = value(fields, "cells")?;
     let mut cells = Vec::new(alloc);
-    add_cells(&mut cells, value, value)?;
+    add_cells(&mut cells, value)?;
     CellList::new(alloc, &cells).map_err(|_| FieldFault::NoMemory)
 }
 

@@ -1,15 +1,15 @@
 //! Why a text can't be written as a message.
 ghost use Rattle.std.specs.Prelude.{◌≡◌};
 
-use message_fields::FieldFault;
+use message_fields::{FieldFault, Shown};
 use std::alloc::AllocError;
 use thiserror::Error;
 
-/// Why a text can't be written as a message. What of the text is shown has its control characters escaped.
+/// Why a text can't be written as a message. What of the text is shown is so as [`Shown`] shows it.
 #[derive(Clone, Copy, Debug, PartialEq, Eq, Error)]
 pub enum MessageFault<'a> {
     // What stands before the first field is no name of a message of the link.
-    #[error("{0:?} is no message of the link")]
+    #[error("{} is no message of the link", Shown(.0))]
     Name(&'a str),
     // A field is missing, unknown, twice, or out of its range.
     #[error(transparent)]

@@ -1,6 +1,7 @@
 //! Radio resource messages from words (TS 44.018 section 9.1).
-ghost use Rattle.std.specs.Prelude.{◌≡◌, ◌≢◌, ◌++◌, Ok, Err, OnOk, IfOk, IfErr, IfSome, MatchResult, All};
-ghost use Rattle.message_fields.specs.Faults.{read_of, read_map, fault_of};
+ghost use Rattle.std.specs.Prelude.{◌≡◌, ◌≢◌, ◌++◌, ◌∷◌, [], Ok, Err, Some, None, codes, option_map, OnOk, IfOk, IfErr, IfSome, MatchResult, All};
+ghost use Rattle.message_fields.specs.Faults.{Value, read_of, read_map, fault_of};
+ghost use Rattle.message_fields.specs.declared.fault.Allowed.TheVariants.{Neighbour};
 ghost use Rattle.message_fields.specs.declared.fault.FieldFault.TheVariants.{NoMemory};
 ghost use Rattle.rr_elements.specs.MeasResults.{HeadFits, NcellFits, used_count};
 ghost use Rattle.encoded_messages.specs.Faults as faults;
@@ -133,7 +134,31 @@ fn neighbour_of(text: &str) -> Option<Ncell>
     })
 }
 
-/// Adds the neighbours among fields, in their order.
+/// Adds the neighbour that the value of a field says.
+fn add_neighbour<'a, A: Allocator>(
+    found: &mut Vec<Ncell, A>,
+    value: &'a str,
+) -> Result<(), FieldFault<'a>>
+    requires { All NcellFits found.old.items }
+    ensures read { OnOk result (option_map (λ neighbour. found.old.items ++ neighbour ∷ [])
+        (said.neighbour_of value.now) ≡ Some found.new.items) }
+    ensures fits { OnOk result (All NcellFits found.new.items) }
+    ensures unread { IfErr result (λ fault. fault ≢ NoMemory →
+        (said.neighbour_of value.now ≡ None)
+        × (fault_of fault ≡ Value (codes "n") value.now Neighbour)) }
+{
+    let Some(neighbour) = neighbour_of(value) else {
+        return Err(FieldFault::Value {
+            key: "n",
+            value,
+            allowed: Allowed::Neighbour,
+        });
+    };
+    found.push(neighbour).map_err(|_| FieldFault::NoMemory)
+}
+
+/// Adds the neighbours among fields, in their order. There may be as many as a text has words, so they take turns in one
+/// frame of the stack.
 fn add_neighbours<'a, A: Allocator>(
     found: &mut Vec<Ncell, A>,
     fields: &'a str,
@@ -145,18 +170,12 @@ fn add_neighbours<'a, A: Allocator>(
     ensures fault { IfErr result (λ fault. fault ≢ NoMemory →
         said.neighbours_in fields.now ≡ Err (fault_of fault)) }
 {
-    let Some((value, rest)) = leading_value(fields, "n") else {
-        return Ok(());
-    };
-    let Some(neighbour) = neighbour_of(value) else {
-        return Err(FieldFault::Value {
-            key: "n",
-            value,
-            allowed: Allowed::Neighbour,
-        });
-    };
-    found.push(neighbour).map_err(|_| FieldFault::NoMemory)?;
-    add_neighbours(found, rest)
+    let mut left = fields;
+    while let Some((value, rest)) = leading_value(left, "n") {
+        add_neighbour(found, value)?;
+        left = rest;
+    }
+    Ok(())
 }
 
 /// How many neighbours stand in a MEASUREMENT REPORT with this count.
