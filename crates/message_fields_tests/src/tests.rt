@@ -165,6 +165,87 @@ fn reasons(rt: HostRuntime) -> Result<(), Fail> {
     )
 }
 
+/// A front, and so many times a part behind it.
+fn with_many(alloc: Global, front: &str, part: &str, count: usize) -> Result<String, Fail> {
+    let parts = part.repeat(alloc, count)?;
+    Ok(format!(in alloc; "{front}{parts}")?)
+}
+
+/// Each reader goes to the end of many fields `cause`.
+fn are_read(rt: &impl Abort, fields: &str) {
+    assert!(rt; only_keys(fields, "cause") == Ok(()));
+    assert_eq!(rt; value(fields, "cause"), Err(FieldFault::Twice("cause")));
+    assert_eq!(rt; value(fields, "rr"), Err(FieldFault::Missing("rr")));
+    assert_eq!(rt; leading_value(fields, "rr"), None);
+}
+
+#[test]
+fn many_fields(rt: HostRuntime) -> Result<(), Fail> {
+    let fields = with_many(rt.alloc(), "cause=9", " cause=9", 20_000)?;
+    are_read(&rt, fields.as_str());
+    Ok(())
+}
+
+/// Fields of a front and so many parts behind it, whose value is no flag, and the reason.
+const LONG_VALUES: &[(&str, &str, usize, &str)] = &[
+    (
+        "k=",
+        "1234567890",
+        6,
+        "k is 0 or 1, found \"123456789012345678901234567890123456789012345678901234567890\"",
+    ),
+    (
+        "k=1",
+        "2345678901",
+        6,
+        "k is 0 or 1, found \"123456789012345678901234567890123456789012345678901234567890\"..",
+    ),
+    (
+        "k=1",
+        "2345678901",
+        13_000,
+        "k is 0 or 1, found \"123456789012345678901234567890123456789012345678901234567890\"..",
+    ),
+    (
+        "k=\t",
+        "ä23456789€",
+        6,
+        "k is 0 or 1, found \"\\tä23456789€ä23456789€ä23456789€ä23456789€ä23456789€ä23456789\"..",
+    ),
+];
+
+/// A wrong value of a front and so many parts behind it is shown so.
+fn is_shown(
+    rt: &impl Abort,
+    alloc: Global,
+    front: &str,
+    part: &str,
+    count: usize,
+    wanted: &str,
+) -> Result<(), Fail> {
+    let fields = with_many(alloc, front, part, count)?;
+    is_said(rt, alloc, flag(fields.as_str(), "k"), wanted)
+}
+
+#[test]
+fn long_values_are_cut(rt: HostRuntime) -> Result<(), Fail> {
+    for (front, part, count, wanted) in LONG_VALUES {
+        is_shown(&rt, rt.alloc(), *front, *part, *count, *wanted)?;
+    }
+    Ok(())
+}
+
+#[test]
+fn long_words_are_cut(rt: HostRuntime) -> Result<(), Fail> {
+    let unknown = only_keys(
+        "x123456789x123456789x123456789x123456789x123456789x123456789x=1 k=1",
+        "k",
+    );
+    let said =
+        "\"x123456789x123456789x123456789x123456789x123456789x123456789\".. is no field of the message";
+    is_said(&rt, rt.alloc(), unknown, said)
+}
+
 #[test]
 fn memory_is_refused(rt: HostRuntime) {
     let heap = RefusingHeap::refusing_nth(rt.alloc(), 1);

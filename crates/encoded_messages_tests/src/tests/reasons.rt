@@ -296,3 +296,72 @@ fn too_many_octets(rt: HostRuntime) -> Result<(), Fail> {
     }
     Ok(())
 }
+
+/// A text of a front and so many times a part behind it is refused, with this reason.
+fn many_are_refused(
+    rt: &impl Abort,
+    alloc: Global,
+    link: Link,
+    front: &str,
+    part: &str,
+    count: usize,
+    wanted: &str,
+) -> Result<(), Fail> {
+    let parts = part.repeat(alloc, count)?;
+    let text = format!(in alloc; "{front}{parts}")?;
+    is_refused(rt, alloc, link, text.as_str(), wanted)
+}
+
+/// Fronts of texts, what stands many times behind each, how often, and why the text is no message.
+const MANY: &[(Link, &str, &str, usize, &str)] = &[
+    (
+        Link::A,
+        "CLEAR COMMAND cause=9",
+        " cause=9",
+        20_000,
+        "cause stands twice",
+    ),
+    (
+        Link::A,
+        "HANDOVER FAILURE rr=1",
+        " rr=1",
+        20_000,
+        "cause is missing",
+    ),
+    (
+        Link::A,
+        "HANDOVER REQUIRED cause=12 response=1 cells=23/102",
+        ",23/102",
+        20_000,
+        "the message can't be written: it, or a list of octets in it, is too long",
+    ),
+    (
+        Link::A,
+        "HANDOVER REQUIRED cause=12 response=1 cells=",
+        "23/102,",
+        20_000,
+        "cells is a list of cells with their location areas, as in 23/102,23/103, found \"23/102,23/102,23/102,23/102,23/102,23/102,23/102,23/102,23/1\"..",
+    ),
+    (
+        Link::Rr,
+        "MEASUREMENT REPORT ba=0 dtx=0 full=30 ba3g=0 valid=1 sub=30 si23=0 qfull=0 qsub=0 count=1",
+        " n=1/2/3",
+        8_000,
+        "count says 1 neighbours, where 7 says none: found 8000",
+    ),
+    (
+        Link::A,
+        "CLEAR COMMAND",
+        "S",
+        131_000,
+        "\"CLEAR COMMANDSSSSSSSSSSSSSSSSSSSSSSSSSSSSSSSSSSSSSSSSSSSSSSS\".. is no message of the link",
+    ),
+];
+
+#[test]
+fn long_texts_of_no_message(rt: HostRuntime) -> Result<(), Fail> {
+    for (link, front, part, count, reason) in MANY {
+        many_are_refused(&rt, rt.alloc(), *link, *front, *part, *count, *reason)?;
+    }
+    Ok(())
+}
