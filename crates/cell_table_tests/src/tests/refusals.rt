@@ -71,6 +71,10 @@ const TEXTS: &[(&str, SiteFault)] = &[
         Range(Key::Cell),
     ),
     (
+        "cell = []\n[handover]\nwindow = 2\nmargin = 3\nminimum = 10\n[[outside]]\nlac = 23\nci = 102\nbcch = 62\nncc = 3\nbcc = 0\n",
+        Range(Key::Cell),
+    ),
+    (
         "cell = 3\n[handover]\nwindow = 2\nmargin = 3\nminimum = 10\n",
         Range(Key::Cell),
     ),
