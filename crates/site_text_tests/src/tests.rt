@@ -33,7 +33,7 @@ outside 64 lac=23 ci=102 bcch=62 bsic=3/0
 fn own_and_outside_cells(rt: HostRuntime) -> Result<(), Fail> {
     let text = printed(rt.alloc(), THREE_CHANNELS)?;
     let wanted = format!(in rt.alloc();
-        "{CELLS}warning: cell 0: ba: no cell has the carrier 70\n"
+        "{CELLS}warning: cell 0: ba: no other cell has the carrier 70\n"
     )?;
     assert_eq!(rt; text.as_str(), wanted.as_str());
     Ok(())
@@ -56,6 +56,7 @@ cell 2 lac=1 ci=2 bcch=20 bsic=7/7 power=5 channels 2/0/1 neighbours 0 1
 outside 64 lac=2 ci=0 bcch=0 bsic=3/4
 outside 65 lac=2 ci=1 bcch=30 bsic=0/1
 outside 66 lac=2 ci=2 bcch=40 bsic=0/1
+warning: cell 0: ba: no other cell has the carrier 10
 ",
     ),
 ];
@@ -73,45 +74,49 @@ fn sites_are_printed(rt: HostRuntime) -> Result<(), Fail> {
 const WARNINGS: &[(&str, &str, &str)] = &[
     ("[62, 70, 871]", "[62, 871]", ""),
     // its own carrier, which it has itself, names no neighbour
-    ("[62, 70, 871]", "[60, 871]", ""),
+    (
+        "[62, 70, 871]",
+        "[60, 871]",
+        "warning: cell 0: ba: no other cell has the carrier 60\n",
+    ),
     (
         "[62, 70, 871]",
         "[60]",
-        "warning: cell 0 has no neighbours\n",
+        "warning: cell 0: ba: no other cell has the carrier 60\nwarning: cell 0 has no neighbours\n",
     ),
     (
         "[62, 70, 871]",
         "[0, 1023]",
-        "warning: cell 0: ba: no cell has the carrier 0
-warning: cell 0: ba: no cell has the carrier 1023
+        "warning: cell 0: ba: no other cell has the carrier 0
+warning: cell 0: ba: no other cell has the carrier 1023
 warning: cell 0 has no neighbours
 ",
     ),
     (
         "ba = [60]",
         "ba = []",
-        "warning: cell 0: ba: no cell has the carrier 70\nwarning: cell 1 has no neighbours\n",
+        "warning: cell 0: ba: no other cell has the carrier 70\nwarning: cell 1 has no neighbours\n",
     ),
     (
         "[handover]\n",
         "colour = 1\n[handover]\nwindows = 2\n",
         "warning: unknown key \"colour\" is ignored
 warning: handover: unknown key \"windows\" is ignored
-warning: cell 0: ba: no cell has the carrier 70
+warning: cell 0: ba: no other cell has the carrier 70
 ",
     ),
     (
         "power = 5\nba = [60]",
         "power = 5\nPower = 6\nba = [60]",
         "warning: cell 1: unknown key \"Power\" is ignored
-warning: cell 0: ba: no cell has the carrier 70
+warning: cell 0: ba: no other cell has the carrier 70
 ",
     ),
     (
         "{ arfcn = 875, ",
         "{ arfcn = 875, tsc = 5, ",
         "warning: cell 1, trx 1: unknown key \"tsc\" is ignored
-warning: cell 0: ba: no cell has the carrier 70
+warning: cell 0: ba: no other cell has the carrier 70
 ",
     ),
     // a key of an own cell; a control character in a key is escaped
@@ -120,7 +125,7 @@ warning: cell 0: ba: no cell has the carrier 70
         "bcc = 0\npower = 5\n\"a\\nb\" = 1\n",
         "warning: outside 0 (cell 64): unknown key \"a\\nb\" is ignored
 warning: outside 0 (cell 64): unknown key \"power\" is ignored
-warning: cell 0: ba: no cell has the carrier 70
+warning: cell 0: ba: no other cell has the carrier 70
 ",
     ),
 ];
