@@ -15,21 +15,28 @@ use Rattle.bts_model.specs.declared.answer.StationOut.{StationOut}
 abbrev pub equipment_failure : ℕ
 equipment_failure = 0x20
 
+-- the causes of a handover that is complete, normal event, and of one that failed, abnormal release, unspecified
+-- (TS 44.018 clause 10.5.2.31)
+abbrev pub normal_event : ℕ
+normal_event = 0
+
+abbrev pub abnormal_release : ℕ
+abnormal_release = 1
+
 -- DATA INDICATION on the main channel, SAPI 0, with a message of the mobile (clauses 8.3.2 and 9.3.2)
 abbrev pub indication_octets : ChanBits → Rr → List ℕ
 indication_octets channel message = canonical_text {A = Unit} (DataIndication channel 0 (rr_text message))
 
 -- The octets of an answer: an activation is acknowledged with frame number 0 (clause 8.4.2), and refused with cause
 -- 'equipment failure' (clauses 8.4.3 and 9.3.26); a handover is detected with access delay 0 (clause 8.4.7), complete
--- with cause 'normal event', and failed with 'abnormal release, unspecified' (TS 44.018 clauses 9.1.16, 9.1.17 and
--- 10.5.2.31).
+-- in a normal event, and failed in an abnormal release (TS 44.018 clauses 9.1.16 and 9.1.17).
 abbrev pub octets_of : ChanBits → Answer → List ℕ
 octets_of channel ActivationAck = canonical_text {A = Unit} (ChannelActivationAck channel 0)
 octets_of channel ActivationNack = canonical_text {A = Unit} (ChannelActivationNack channel equipment_failure)
 octets_of channel ReleaseAck = canonical_text {A = Unit} (RfChannelReleaseAck channel)
 octets_of channel Detection = canonical_text {A = Unit} (HandoverDetection channel (Some 0))
-octets_of channel Complete = indication_octets channel (HandoverComplete (record { 0 = 0 }))
-octets_of channel Failure = indication_octets channel (HandoverFailure (record { 0 = 1 }))
+octets_of channel Complete = indication_octets channel (HandoverComplete (record { 0 = normal_event }))
+octets_of channel Failure = indication_octets channel (HandoverFailure (record { 0 = abnormal_release }))
 
 -- an answer about a channel comes from the channel's TRX
 abbrev pub out_of : {A : Type 0} → Place × Answer → StationOut A

@@ -13,6 +13,12 @@ use std::alloc::{AllocError, Allocator, Global};
 /// The cause of a refused activation (TS 48.058 clause 9.3.26).
 const EQUIPMENT_FAILURE: u8 = 0x20;
 
+/// The cause of a handover that is complete: normal event (TS 44.018 clause 10.5.2.31).
+const NORMAL_EVENT: RrCause = RrCause(0);
+
+/// The cause of one that failed: abnormal release, unspecified (the same clause).
+const ABNORMAL_RELEASE: RrCause = RrCause(1);
+
 /// What a station says of a channel, or passes on from the mobile on it.
 #[derive(Clone, Copy)]
 pub enum Answer {
@@ -93,8 +99,8 @@ fn message_of<A: Allocator + Copy>(
             channel,
             delay: Some(0),
         }),
-        Answer::Complete => from_mobile(alloc, channel, &Rr::HandoverComplete(RrCause(0))),
-        Answer::Failure => from_mobile(alloc, channel, &Rr::HandoverFailure(RrCause(1))),
+        Answer::Complete => from_mobile(alloc, channel, &Rr::HandoverComplete(NORMAL_EVENT)),
+        Answer::Failure => from_mobile(alloc, channel, &Rr::HandoverFailure(ABNORMAL_RELEASE)),
     }
 }
 

@@ -5,7 +5,7 @@ ghost use Rattle.std.specs.Prelude.{◌≡◌, ◌↔◌, true, IfOk};
 ghost use Rattle.explanations.specs.Questions.{IsKnown};
 
 use clap::{Arg, ArgAction, ArgMatches, Command, value_parser};
-use explanations::{Argument, Link, Question, answer_to, argument_of};
+use explanations::{Argument, Link, Question, answer_to, argument_of, last_fault};
 use std::alloc::{AllocError, Global};
 use std::io::{self, Write};
 
@@ -153,14 +153,6 @@ fn say_range<E: Write>(
             errors,
             "error: fault {link} {number} has no argument, found {argument}"
         ),
-    }
-}
-
-/// The greatest number of a fault on a link; the least is 1.
-fn last_fault(link: Link) -> u8 {
-    match link {
-        Link::Rr => 4,
-        Link::A | Link::Abis => 6,
     }
 }
 

@@ -1,5 +1,5 @@
 //! Why octets are no message, in words.
-ghost use Rattle.std.specs.Prelude.{◌≡◌, ◌↔◌, IsTrue, IsSome, option_map};
+ghost use Rattle.std.specs.Prelude.{◌≡◌, ◌↔◌, length, IsTrue, IsSome, option_map};
 ghost use Rattle.explanations.specs.Arguments.{range_of, is_within};
 ghost use Rattle.explanations.specs.Kinds.{argument_of_kind};
 ghost use Rattle.explanations.specs.Faults.{faults_on, argument_at, is_fault};
@@ -154,6 +154,16 @@ fn kind_of(link: Link, number: u8) -> Option<Kind>
     }
 }
 
+/// So many faults a link has: they are numbered from 1 to this.
+pub fn last_fault(link: Link) -> u8
+    ensures last { result ≡ length (faults_on link) }
+{
+    match link {
+        Link::Rr => 4,
+        Link::A | Link::Abis => 6,
+    }
+}
+
 /// What the argument of the fault of this number on a link is; `None` where there is no such fault.
 pub fn argument_of(link: Link, number: u8) -> Option<Argument>
     ensures argument { result ≡ argument_at (faults_on link) number }
@@ -164,8 +174,8 @@ pub fn argument_of(link: Link, number: u8) -> Option<Argument>
     }
 }
 
-/// The fault of this number on a link, with its argument where that is known: there are four on the radio path, six on A
-/// and on Abis each, numbered from 1. `None` where there is no such fault, or where it can't have this argument
+/// The fault of this number on a link, with its argument where that is known; the numbers are those from 1 to
+/// [`last_fault`]. `None` where there is no such fault, or where it can't have this argument
 /// ([`argument_of`]).
 pub fn fault_of(link: Link, number: u8, argument: Option<usize>) -> Option<Fault>
     ensures some { IsSome result ↔ IsTrue (is_fault link number argument) }

@@ -8,7 +8,7 @@ mod fault;
 mod link;
 
 use cause_words::{a_cause, abis_cause, refusal_name, refusal_words, rr_cause};
-pub use fault::{Argument, Fault, argument_of, fault_of};
+pub use fault::{Argument, Fault, argument_of, fault_of, last_fault};
 pub use link::Link;
 use std::fmt;
 

@@ -1,4 +1,4 @@
-use explanations::{Link, Question, answer_to, argument_of};
+use explanations::{Link, Question, answer_to, argument_of, last_fault};
 use std::test::Fail;
 
 /// What is asked, and what is said.
@@ -134,6 +134,19 @@ fn arguments_are_told_and_no_others_are_taken(rt: HostRuntime) -> Result<(), Fai
         }
     }
     Ok(())
+}
+
+/// Links, and the number of each one's last fault.
+const LAST: &[(Link, u8)] = &[(Link::Rr, 4), (Link::A, 6), (Link::Abis, 6)];
+
+#[test]
+fn the_numbers_of_faults_end(rt: HostRuntime) {
+    for (link, wanted) in LAST {
+        let last = last_fault(*link);
+        assert!(rt; last == *wanted, "{link}: {last}");
+        assert!(rt; argument_of(*link, last).is_some(), "{link}");
+        assert!(rt; argument_of(*link, last + 1).is_none(), "{link}");
+    }
 }
 
 /// Names, and whether they are a link's.
