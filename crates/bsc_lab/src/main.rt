@@ -22,10 +22,54 @@ use file_reasons::Reason;
 use lab::program::perform;
 use lab::run::{LabFault, Status, exit_status};
 use progress::{Counted, Erasing, Keeping, Progress};
-use std::env;
+use std::env::{self, FillError};
 use std::io::{self, BufWriter, IsTerminal, LineWriter, Read, Write};
 use std::process::ExitCode;
 use std::rt::{Env, Files};
+use std::str;
+
+/// The octets of a word of the command line, of which the program's name is 0; nothing behind the last word.
+fn word_octets<R: Env + AllocGlobal>(rt: &R, number: usize) -> Result<Option<Vec<u8>>, LabFault> {
+    let mut octets = Vec::new(rt.alloc());
+    let mut room: usize = 256;
+    for _ in 0..usize::BITS {
+        octets.resize(room, 0u8)?;
+        match rt.arg(number, octets.as_mut_slice()) {
+            Ok(length) => {
+                octets.truncate(length);
+                return Ok(Some(octets));
+            }
+            Err(FillError::NotPresent) => return Ok(None),
+            Err(FillError::TooLong) => room = room.saturating_mul(2),
+        }
+    }
+    Err(LabFault::NoMemory)
+}
+
+/// The number of the first word of the command line that isn't UTF-8, of which the program's name is 0.
+fn first_odd_word<R: Env + AllocGlobal>(rt: &R) -> Result<Option<usize>, LabFault> {
+    for number in 0..usize::MAX {
+        match word_octets(rt, number)? {
+            Some(octets) if str::from_utf8(&octets).is_err() => return Ok(Some(number)),
+            Some(_) => {}
+            None => return Ok(None),
+        }
+    }
+    Ok(None)
+}
+
+/// Says that a word of the command line isn't UTF-8, and which.
+fn say_odd_word<R: Env + AllocGlobal, E: Write>(rt: &R, errors: &mut E) -> Result<(), LabFault> {
+    match first_odd_word(rt)? {
+        Some(0) => writeln!(errors, "error: the program's name isn't UTF-8")?,
+        Some(number) => writeln!(
+            errors,
+            "error: word {number} of the command line isn't UTF-8"
+        )?,
+        None => writeln!(errors, "error: a word of the command line isn't UTF-8")?,
+    }
+    Ok(())
+}
 
 /// The words of the command line; nothing where one isn't UTF-8, as `errors` then says.
 fn words_of<R: Env + AllocGlobal, E: Write>(
@@ -36,7 +80,7 @@ fn words_of<R: Env + AllocGlobal, E: Write>(
         Ok(words) => Ok(Some(words.collect(rt.alloc())?)),
         Err(error) if error.kind() == io::ErrorKind::OutOfMemory => Err(LabFault::NoMemory),
         Err(_) => {
-            writeln!(errors, "error: a word of the command line isn't UTF-8")?;
+            say_odd_word(rt, errors)?;
             Ok(None)
         }
     }

@@ -7,7 +7,9 @@ ghost use Rattle.lab.specs.Encoded.{CanBeWritten};
 use crate::decoded::Link;
 use crate::run::{LabFault, Status};
 use encoded_messages::{MessageFault, encode_a, encode_abis, encode_rr};
+use message_fields::FieldFault;
 use std::alloc::Allocator;
+use std::fmt;
 use std::io::Write;
 
 /// The octets of the message that a text says.
@@ -24,6 +26,44 @@ fn octets<A: Allocator + Copy>(
         Link::Rr => encode_rr(alloc, text),
         Link::A => encode_a(alloc, text),
         Link::Abis => encode_abis(alloc, text),
+    }
+}
+
+/// The name of a link.
+fn name_of(link: Link) -> &'static str {
+    match link {
+        Link::Rr => "rr",
+        Link::A => "a",
+        Link::Abis => "abis",
+    }
+}
+
+/// Why a text says no message of a link that can be written. Behind a name that is no message, a word that is no field and
+/// a field that is missing it says where messages and fields are listed.
+#[derive(Clone, Copy)]
+struct EncodeReason<'a> {
+    link: Link,
+    fault: MessageFault<'a>,
+}
+
+impl fmt::Display for EncodeReason<'_> {
+    fn fmt<W: fmt::Write>(&self, f: &mut fmt::Formatter<W>) -> fmt::Result {
+        let fault = self.fault;
+        match fault {
+            MessageFault::Name(_) => {
+                let link = name_of(self.link);
+                write!(f, "{fault} {link}: bsc_lab help encode lists them")
+            }
+            MessageFault::Field(FieldFault::Unknown(_) | FieldFault::Missing(_)) => {
+                write!(f, "{fault}: bsc_lab help encode lists the fields")
+            }
+            MessageFault::Field(
+                FieldFault::Twice(_) | FieldFault::Value { .. } | FieldFault::NoMemory,
+            )
+            | MessageFault::Neighbours { .. }
+            | MessageFault::TooLong
+            | MessageFault::NoMemory => write!(f, "{fault}"),
+        }
     }
 }
 
@@ -51,7 +91,7 @@ pub fn encode_run<A: Allocator + Copy, W: Write, E: Write>(
         }
         Err(MessageFault::NoMemory) => Err(LabFault::NoMemory),
         Err(fault) => {
-            writeln!(errors, "{fault}")?;
+            writeln!(errors, "{}", EncodeReason { link, fault })?;
             Ok(Status::Refused)
         }
     }

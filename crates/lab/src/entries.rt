@@ -19,6 +19,15 @@ pub struct Entry {
     pub event: Event,
 }
 
+/// An entry that has another reply than the book gives.
+#[derive(Clone, Copy, Debug, PartialEq, Eq)]
+pub struct Foreign {
+    /// The number of its line, counted from 1.
+    pub line: usize,
+    /// What the book replies.
+    pub reply: Reply,
+}
+
 /// What stands in an entry's line behind `event `: the text of the event, and that of its reply.
 fn halves(text: &str) -> Option<(&str, &str)>
     ensures { option_map (λ cut. (cut.0.now, cut.1.now)) result ≡
@@ -89,24 +98,26 @@ pub fn entries_of<A: Allocator + Copy>(alloc: A, trace: &str) -> Result<Vec<Entr
 }
 
 /// The text of the reply in a line that is an entry.
-fn reply_text(line: &str) -> Option<&str> {
+pub(crate) fn reply_text(line: &str) -> Option<&str> {
     let (_, reply) = halves(entry_text(without_return(line))?)?;
     Some(reply)
 }
 
-/// The number of the first line of a trace whose entry doesn't have this reply, counted from 1, by the replies to all
-/// entries.
+/// The first entry of a trace whose line doesn't have the text of its reply, by the book's replies to all entries.
 pub fn first_other<A: Allocator + Copy>(
     alloc: A,
     trace: &str,
     entries: &[Entry],
     replies: &[Reply],
-) -> Result<Option<usize>, AllocError> {
+) -> Result<Option<Foreign>, AllocError> {
     let texts = trace.split('\n').filter_map(|line| reply_text(line));
     for ((entry, reply), text) in entries.iter().zip(replies.iter()).zip(texts) {
         let said = ReplyText(*reply).to_string(alloc)?;
         if said.as_str() != text {
-            return Ok(Some(entry.line()));
+            return Ok(Some(Foreign {
+                line: entry.line(),
+                reply: *reply,
+            }));
         }
     }
     Ok(None)

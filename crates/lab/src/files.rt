@@ -4,8 +4,8 @@ ghost use Rattle.std.specs.Str.{IsUtf8};
 ghost use Rattle.std.specs.Str.Lossy.{utf8_valid_len};
 ghost use Rattle.lab.specs.Files.{longest_file};
 
-use crate::entries::first_unread;
-use crate::rewound::{foreign_line, rewind_run};
+use crate::entries::{Foreign, first_unread, reply_text};
+use crate::rewound::{foreign_entry, rewind_run};
 use crate::run::{LabFault, Status, lab_run};
 use crate::run_reason::say_refusal;
 use crate::site_files::{SitePaths, SiteTexts, site_texts};
@@ -13,12 +13,14 @@ use crate::site_reason::say_reason;
 use crate::view_paths::{named_twice, refuse_twice};
 use escaped_text::Escaped;
 use file_reasons::Reason;
+use message_fields::Shown;
 use run_views::{Sheets, Sites, Viewer, Views, WordsFault, open_sheets};
 use std::alloc::{Allocator, Global};
 use std::fmt;
 use std::fs::File;
 use std::io::{self, Read, Write};
 use std::rt::Files;
+use trace_text::trace::ReplyText;
 
 /// The most octets that a file may have: 64 MiB.
 pub const LONGEST_FILE: u64 = 64 << 20;
@@ -349,6 +351,33 @@ fn unread_reason(line: &str) -> &'static str {
     }
 }
 
+/// Says that an entry of a trace has another reply than the book gives. Words behind an entry, which are no part of a reply
+/// either, are named as such.
+fn say_foreign<E: Write>(
+    path: Escaped<'_>,
+    trace: &str,
+    foreign: Foreign,
+    errors: &mut E,
+) -> io::Result<()> {
+    let Foreign {
+        line: number,
+        reply,
+    } = foreign;
+    let line = line_of(trace, number);
+    if line.contains(" # ") {
+        return writeln!(
+            errors,
+            "{path}:{number}: words stand behind this event, as run prints it with --words"
+        );
+    }
+    let found = Shown(reply_text(line).unwrap_or(""));
+    writeln!(
+        errors,
+        "{path}:{number}: the book of this site replies \"{}\" here, and the trace says {found}",
+        ReplyText(reply)
+    )
+}
+
 /// Says why nothing is taken out of a trace over a site, both given as texts, of which the site's describes one: in the order
 /// in which [`rewind_run`] looks.
 fn say_unwound<E: Write>(
@@ -365,15 +394,8 @@ fn say_unwound<E: Write>(
         writeln!(errors, "{path}:{number}: {reason}")?;
         return Ok(());
     }
-    match foreign_line(alloc, site, trace)? {
-        Some(number) if line_of(trace, number).contains(" # ") => writeln!(
-            errors,
-            "{path}:{number}: words stand behind this event, as run prints it with --words"
-        )?,
-        Some(number) => writeln!(
-            errors,
-            "{path}:{number}: the site's book gives another reply to this event"
-        )?,
+    match foreign_entry(alloc, site, trace)? {
+        Some(foreign) => say_foreign(path, trace, foreign, errors)?,
         None => writeln!(
             errors,
             "{path}: no attempt that is undone later opens in line {line}"

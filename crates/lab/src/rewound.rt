@@ -6,7 +6,7 @@ ghost use Rattle.radio_book.specs.NoTrace.{LeavesNoTrace};
 ghost use Rattle.lab.specs.Entries as said;
 ghost use Rattle.lab.specs.Rewound.{AreSameReplies, IsSame, StandsIn, LeavesATrace, NoneOpens, InEntries, InTrace};
 
-use crate::entries::{Entry, entries_of, first_other, first_unread};
+use crate::entries::{Entry, Foreign, entries_of, first_other, first_unread};
 use crate::run::{LabFault, Status, refuse_site};
 use cell_table::{Site, SiteFault};
 use radio_book::book::Book;
@@ -151,14 +151,14 @@ fn rewind_line<A: Allocator + Copy, W: Write>(
     }
 }
 
-/// The number of the first line whose event has another reply than the book gives.
+/// The first entry that has another reply than the book gives.
 fn first_foreign<A: Allocator + Copy>(
     alloc: A,
     book: &Book<A>,
     trace: &str,
     entries: &[Entry],
     events: &[Event],
-) -> Result<Option<usize>, AllocError> {
+) -> Result<Option<Foreign>, AllocError> {
     let (_, replies) = run(alloc, book, events)?;
     first_other(alloc, trace, entries, &replies)
 }
@@ -168,19 +168,19 @@ fn foreign_in<A: Allocator + Copy>(
     alloc: A,
     book: &Book<A>,
     trace: &str,
-) -> Result<Option<usize>, AllocError> {
+) -> Result<Option<Foreign>, AllocError> {
     let entries = entries_of(alloc, trace)?;
     let events = events_of(alloc, &entries)?;
     first_foreign(alloc, book, trace, &entries, &events)
 }
 
-/// The number of the first line of a trace whose event has another reply than the empty book of a site gives, counted from
-/// 1; nothing where each has the book's. The lines of the trace can be read, and the text describes a site.
-pub(crate) fn foreign_line(
+/// The first entry of a trace that has another reply than the empty book of a site gives; nothing where each has the
+/// book's. The lines of the trace can be read, and the text describes a site.
+pub(crate) fn foreign_entry(
     alloc: Global,
     site: &str,
     trace: &str,
-) -> Result<Option<usize>, LabFault> {
+) -> Result<Option<Foreign>, LabFault> {
     let site = match Site::read(alloc, alloc, site) {
         Ok(site) => site,
         Err(SiteFault::NoMemory) => return Err(LabFault::NoMemory),
@@ -207,7 +207,7 @@ fn rewind_entries<A: Allocator + Copy, W: Write>(
     let entries = entries_of(alloc, trace)?;
     let events = events_of(alloc, &entries)?;
     match first_foreign(alloc, book, trace, &entries, &events)? {
-        Some(number) => refuse_line(number, out),
+        Some(foreign) => refuse_line(foreign.line, out),
         None => rewind_line(alloc, book, &entries, &events, line, out),
     }
 }

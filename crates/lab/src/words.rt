@@ -242,7 +242,7 @@ Lines of a FILE have a message's octets each, in hexadecimal: blanks, tabs and c
 around octets, and what stands behind a # is a note, which is kept. Each is answered by one line,
 with its number. Without LINK each line begins with its own, as in: abis 08 2e 01 0b
 
-Messages: those of bsc_lab help encode.
+Messages and their fields: those of bsc_lab help encode.
 
 Statuses: 0 all are messages, 2 one was refused or a file can't be read, 3 memory was refused.
 
@@ -311,16 +311,43 @@ const ENCODE_HELP: &str = "\
 Links: rr is the radio path (TS 44.018), a the switching centre (TS 48.008), abis the base station
 (TS 48.058).
 
-Fields: numbers in decimal, yes as 1 and no as 0, octets in hexadecimal, - for what is absent.
+Fields are KEY=VALUE, each once (n once for each neighbour, or not at all), in any order. Numbers
+are in decimal, yes is 1 and no 0, octets are in hexadecimal, and - is what is absent. A cell is as
+in 23/102, cells as in 23/102,23/103, and n, a neighbour's level, position and code, as in 40/2/21.
 
-Messages of rr: HANDOVER COMMAND, HANDOVER COMPLETE, HANDOVER FAILURE, CHANNEL RELEASE, PHYSICAL
-INFORMATION, MEASUREMENT REPORT.
-Of a: HANDOVER REQUIRED, HANDOVER REQUIRED REJECT, HANDOVER REQUEST, HANDOVER REQUEST ACKNOWLEDGE,
-HANDOVER COMMAND, HANDOVER DETECT, HANDOVER COMPLETE, HANDOVER FAILURE, HANDOVER PERFORMED, CLEAR
-REQUEST, CLEAR COMMAND, CLEAR COMPLETE.
-Of abis: CHANNEL ACTIVATION, CHANNEL ACTIVATION ACK, CHANNEL ACTIVATION NACK, RF CHANNEL RELEASE, RF
-CHANNEL RELEASE ACK, CONNECTION FAILURE INDICATION, DATA REQUEST, DATA INDICATION, HANDOVER
-DETECTION, MEASUREMENT RESULT.
+Messages of rr                   Fields
+  HANDOVER COMMAND               arfcn ncc bcc tn tsc carrier reference atc power
+  HANDOVER COMPLETE              cause
+  HANDOVER FAILURE               cause
+  CHANNEL RELEASE                cause
+  PHYSICAL INFORMATION           ta
+  MEASUREMENT REPORT             ba dtx full ba3g valid sub si23 qfull qsub count n
+
+Messages of a                    Fields
+  HANDOVER REQUIRED              cause response cells
+  HANDOVER REQUIRED REJECT       cause
+  HANDOVER REQUEST               channel encryption classmark serving target
+  HANDOVER REQUEST ACKNOWLEDGE   layer3
+  HANDOVER COMMAND               layer3
+  HANDOVER DETECT                (none)
+  HANDOVER COMPLETE              rr
+  HANDOVER FAILURE               cause rr
+  HANDOVER PERFORMED             cause cell
+  CLEAR REQUEST                  cause
+  CLEAR COMMAND                  cause
+  CLEAR COMPLETE                 (none)
+
+Messages of abis                 Fields
+  CHANNEL ACTIVATION             tn activation mode reference
+  CHANNEL ACTIVATION ACK         tn frame
+  CHANNEL ACTIVATION NACK        tn cause
+  RF CHANNEL RELEASE             tn
+  RF CHANNEL RELEASE ACK         tn
+  CONNECTION FAILURE INDICATION  tn cause
+  DATA REQUEST                   tn link layer3
+  DATA INDICATION                tn link layer3
+  HANDOVER DETECTION             tn delay
+  MEASUREMENT RESULT             tn number uplink power layer3
 
 Statuses: 0 the octets are printed, 2 the message is refused, 3 memory was refused.
 

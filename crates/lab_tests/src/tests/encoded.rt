@@ -3,6 +3,7 @@ use super::failing::Failing;
 use lab::decoded::{Link, decode_run};
 use lab::encoded::encode_run;
 use lab::run::{LabFault, Status};
+use lab::words::{Job, read_words};
 use refusing_heap::RefusingHeap;
 use std::alloc::Global;
 use std::process::Abort;
@@ -66,16 +67,136 @@ fn what_is_decoded_is_encoded(rt: HostRuntime) -> Result<(), Fail> {
     Ok(())
 }
 
+/// What the help of `encode` lists of a link: a message and its fields on each line but the first.
+fn listed(help: &str, link: Link) -> &str {
+    let heading = match link {
+        Link::Rr => "Messages of rr ",
+        Link::A => "Messages of a ",
+        Link::Abis => "Messages of abis ",
+    };
+    let (_, behind) = help.split_once(heading).unwrap_or(("", ""));
+    let (list, _) = behind.split_once("\n\n").unwrap_or(("", ""));
+    list
+}
+
+/// What a line of the help has behind the names of a message's fields.
+fn end_of_line(text: &str) -> Option<&'static str> {
+    if !text.contains('=') {
+        Some("(none)")
+    } else if text.starts_with("MEASUREMENT REPORT ") {
+        Some("n")
+    } else {
+        None
+    }
+}
+
+/// Whether a line of the help lists the message of a text: its name and the names of its fields, in their order.
+fn lists(line: &str, text: &str) -> bool {
+    let mut words = line.split_whitespace();
+    for word in text.split(' ') {
+        let name = match word.split_once('=') {
+            Some((name, _)) => name,
+            None => word,
+        };
+        if name != "n" && words.next() != Some(name) {
+            return false;
+        }
+    }
+    words.next() == end_of_line(text)
+}
+
+/// The help lists the messages of these texts.
+fn are_listed(rt: &impl Abort, help: &str, link: Link, rows: &[(&str, &str)]) {
+    let list = listed(help, link);
+    for (_, text) in rows {
+        let is_listed = list.lines().any(|line| lists(line, text));
+        assert!(rt; is_listed, "{text}: {list}");
+    }
+}
+
+#[test]
+fn the_help_lists_messages_and_fields_as_they_are_decoded(rt: HostRuntime) {
+    match read_words(rt.alloc(), &["help", "encode"]) {
+        Ok(Job::Show(help)) => {
+            for (link, rows) in TABLES {
+                are_listed(&rt, &help, *link, *rows);
+            }
+        }
+        _ => assert!(rt; false, "a help"),
+    }
+}
+
+/// Texts that say no message of a link, and what is said of each.
+const REASONS: &[(Link, &str, &str)] = &[
+    (
+        Link::Rr,
+        "CLEAR COMPLETE",
+        "\"CLEAR COMPLETE\" is no message of the link rr: bsc_lab help encode lists them\n",
+    ),
+    (
+        Link::A,
+        "CLEAR cause=9",
+        "\"CLEAR\" is no message of the link a: bsc_lab help encode lists them\n",
+    ),
+    (
+        Link::Abis,
+        "",
+        "\"\" is no message of the link abis: bsc_lab help encode lists them\n",
+    ),
+    (
+        Link::Abis,
+        "RF CHANNEL RELEASE tn=3 frame=4660",
+        "\"frame=4660\" is no field of the message: bsc_lab help encode lists the fields\n",
+    ),
+    (
+        Link::A,
+        "CLEAR COMPLETE rr=\u{1b}",
+        "\"rr=\\u{1b}\" is no field of the message: bsc_lab help encode lists the fields\n",
+    ),
+    (
+        Link::A,
+        "CLEAR COMMAND",
+        "cause is missing: bsc_lab help encode lists the fields\n",
+    ),
+    (
+        Link::A,
+        "CLEAR COMMAND cause=9 cause=9",
+        "cause stands twice\n",
+    ),
+    (
+        Link::Rr,
+        "HANDOVER COMPLETE cause=256",
+        "cause is 0 to 255, found \"256\"\n",
+    ),
+    (
+        Link::Rr,
+        "MEASUREMENT REPORT ba=0 dtx=0 full=30 ba3g=0 valid=1 sub=30 si23=0 qfull=0 qsub=0 count=1",
+        "count says 1 neighbours, where 7 says none: found 0\n",
+    ),
+];
+
+/// Asserts what is said of a text that is refused, and that nothing else is printed.
+fn is_refused(
+    rt: &impl Abort,
+    alloc: Global,
+    link: Link,
+    text: &str,
+    wanted: &str,
+) -> Result<(), Fail> {
+    let mut out = Vec::new(alloc);
+    let mut errors = Vec::new(alloc);
+    let status = encode_run(alloc, link, text, &mut out, &mut errors);
+    assert_eq!(rt; status, Ok(Status::Refused), "{text}");
+    assert_eq!(rt; str::from_utf8(&errors)?, wanted, "{text}");
+    assert!(rt; out.is_empty(), "{text}");
+    Ok(())
+}
+
 #[test]
 fn a_reason_stands_on_standard_error(rt: HostRuntime) -> Result<(), Fail> {
-    let mut out = Vec::new(rt.alloc());
-    let mut errors = Vec::new(rt.alloc());
-    let text = "HANDOVER COMPLETE cause=256";
-    let status = encode_run(rt.alloc(), Link::Rr, text, &mut out, &mut errors);
-    assert_eq!(rt; status, Ok(Status::Refused));
-    let said = str::from_utf8(&errors)?;
-    assert_eq!(rt; said, "cause is 0 to 255, found \"256\"\n");
-    assert!(rt; out.is_empty());
+    for (link, text, wanted) in REASONS {
+        is_refused(&rt, rt.alloc(), *link, *text, *wanted)?;
+    }
     Ok(())
 }
 

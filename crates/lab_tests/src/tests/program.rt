@@ -54,6 +54,12 @@ const LINES: &[(&[&str], u8, &str, &str)] = &[
         "tn is 0 to 7, found \"8\"\n",
     ),
     (
+        &["encode", "a", "CLEAR"],
+        2,
+        "",
+        "no message of the link a: bsc_lab help encode lists them\n",
+    ),
+    (
         &["run", "no site", "no script"],
         2,
         "file no site\n",

@@ -20,13 +20,51 @@ const UNWOUND: &[(&str, usize, &str, &str)] = &[
         "event look 1 -> done\n",
         1,
         "line 1\n",
-        ":1: the site's book gives another reply to this event\n",
+        ":1: the book of this site replies \"refused 1\" here, and the trace says \"done\"\n",
     ),
     (
-        "in clear 1\nevent look 1 -> refused 1\r\nevent look 1 -> done\nevent look 1 -> done\n",
+        "in clear 1\nevent look 1 -> refused 1\r\nevent look 1 -> done\nevent look 1 -> owned 1\n",
         2,
         "line 3\n",
-        ":3: the site's book gives another reply to this event\n",
+        ":3: the book of this site replies \"refused 1\" here, and the trace says \"done\"\n",
+    ),
+    (
+        "event open 1 0/0/3 -> done\nevent confirm 0/0/3 -> owned 1\nevent look 1 -> record 0/0/4 on\n",
+        1,
+        "line 3\n",
+        ":3: the book of this site replies \"record 0/0/3 on\" here, and the trace says \"record 0/0/4 on\"\n",
+    ),
+    // what a trace never has
+    (
+        "event look 1 -> refused 1 \r\n",
+        1,
+        "line 1\n",
+        ":1: the book of this site replies \"refused 1\" here, and the trace says \"refused 1 \"\n",
+    ),
+    (
+        "event look 1 -> \n",
+        1,
+        "line 1\n",
+        ":1: the book of this site replies \"refused 1\" here, and the trace says \"\"\n",
+    ),
+    (
+        "event look 1 -> \u{1b}[31m -> \tdone\n",
+        1,
+        "line 1\n",
+        ":1: the book of this site replies \"refused 1\" here, and the trace says \"\\u{1b}[31m -> \\tdone\"\n",
+    ),
+    // sixty characters, and one more
+    (
+        "event look 1 -> x123456789x123456789x123456789x123456789x123456789x123456789\n",
+        1,
+        "line 1\n",
+        ":1: the book of this site replies \"refused 1\" here, and the trace says \"x123456789x123456789x123456789x123456789x123456789x123456789\"\n",
+    ),
+    (
+        "event look 1 -> x123456789x123456789x123456789x123456789x123456789x123456789y\n",
+        1,
+        "line 1\n",
+        ":1: the book of this site replies \"refused 1\" here, and the trace says \"x123456789x123456789x123456789x123456789x123456789x123456789\"..\n",
     ),
     // what run --words prints
     (
