@@ -310,8 +310,9 @@ fn run_read<R: Files + AllocGlobal, W: Write, E: Write>(
 /// Runs the script of one file over the site of another, or over two where a peer's is named, and prints the trace to
 /// `out`, as [`lab_run`] does of texts.
 ///
-/// Where views are asked for, their files are made before the run begins, and written once it ended; one that can't be
-/// written is refused as one that can't be read, and so is, before anything is read, one that is another file of the run.
+/// Where views are asked for, their files are opened or made, and emptied once each is open, before the run begins, and
+/// written once it ended; one that can't be written is refused as one that can't be read, and so is, before anything is
+/// read, one that is another file of the run.
 ///
 /// The site's file is read first, then the peer's, then the script's. Where a file isn't there, can't be read, isn't
 /// UTF-8 or has more than [`LONGEST_FILE`] octets, `file` and its path are printed and nothing else, and the answer is

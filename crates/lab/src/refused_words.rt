@@ -7,7 +7,7 @@ use clap::{Command, Error};
 use escaped_text::Escaped;
 use std::alloc::{AllocError, Global};
 
-/// The words with their control characters escaped.
+/// The words as they may be shown.
 fn shown_words(alloc: Global, words: &[&str]) -> Result<Vec<String>, AllocError> {
     let mut shown = Vec::new(alloc);
     for word in words {
@@ -150,7 +150,7 @@ fn refusal<'a>(
 ) -> Result<String, AllocError> {
     let Some(error) = fault_of(command, words) else {
         // with its escapes a word is refused where it is without
-        return String::from_str(alloc, "error: a word has a control character");
+        return String::from_str(alloc, "error: a word has a character that can't be shown");
     };
     match error.kind() {
         ErrorKind::OutOfMemory => Err(AllocError),
@@ -158,8 +158,8 @@ fn refusal<'a>(
     }
 }
 
-/// Why the words of a command line are refused, in one line without its end. What a word has of control characters is
-/// escaped before `clap` reads it, so that no line feed of a word is taken for one of `clap`'s text.
+/// Why the words of a command line are refused, in one line without its end. What of a word can't be shown is escaped
+/// before `clap` reads it, so that no line feed of a word is taken for one of `clap`'s text.
 pub(crate) fn refused_line(alloc: Global, words: &[&str]) -> Result<String, AllocError> {
     let shown = shown_words(alloc, words)?;
     let mut command = lab_command(alloc)?;

@@ -5,7 +5,7 @@ use escaped_text::Escaped;
 use file_reasons::Reason;
 use line_words::WordsFault;
 use std::alloc::Allocator;
-use std::fs::File;
+use std::fs::{OpenFile, OpenOptions};
 use std::io::{self, BufWriter, Write};
 use std::rt::Files;
 
@@ -23,30 +23,72 @@ pub struct Sheets<'a, F: Write + Drop> {
     chart: Option<Sheet<'a, F>>,
 }
 
-/// A file made anew, or emptied; nothing where it can't be written, and then its path was printed, and on `errors` why.
+/// Says that a file can't be written: its path on `out`, and on `errors` why. Nothing is said where memory was refused.
+fn refuse<W: Write, E: Write>(
+    path: &str,
+    error: io::Error,
+    out: &mut W,
+    errors: &mut E,
+) -> Result<(), WordsFault> {
+    if error.kind() == io::ErrorKind::OutOfMemory {
+        return Err(WordsFault::NoMemory);
+    }
+    writeln!(errors, "{}: {}", Escaped(path), Reason(&error))?;
+    Ok(writeln!(out, "file {path}")?)
+}
+
+/// A file that is open for writing, made where there is none, and otherwise as it was; nothing where it can't be written,
+/// and then its path was printed, and on `errors` why.
 fn open_sheet<'a, R: Files + AllocGlobal, W: Write, E: Write>(
     rt: &R,
     path: &'a str,
     out: &mut W,
     errors: &mut E,
 ) -> Result<Option<Sheet<'a, R::File>>, WordsFault> {
-    match File::create(rt, path) {
+    match OpenOptions::new().write(true).create(true).open(rt, path) {
         Ok(file) => match BufWriter::new(rt.alloc(), file) {
             Ok(out) => Ok(Some(Sheet { path, out })),
             // a buffer lacks nothing but memory
             Err(_) => Err(WordsFault::NoMemory),
         },
-        Err(error) if error.kind() == io::ErrorKind::OutOfMemory => Err(WordsFault::NoMemory),
         Err(error) => {
-            writeln!(errors, "{}: {}", Escaped(path), Reason(&error))?;
-            writeln!(out, "file {path}")?;
+            refuse(path, error, out, errors)?;
             Ok(None)
         }
     }
 }
 
-/// Makes the files of views, that of the capture first; nothing where one can't be written, and then the path of the first
-/// such was printed, and on `errors` why.
+/// Makes a file empty. A device has nothing to lose, and no length to set.
+fn clear<F: OpenFile>(file: &F) -> io::Result<()> {
+    if file.metadata()?.is_file() {
+        file.set_len(0)
+    } else {
+        Ok(())
+    }
+}
+
+/// Empties the file of a view that is asked for. Whether it is empty now; otherwise its path was printed, and on `errors`
+/// why.
+fn empty_sheet<F: Write + OpenFile + Drop, W: Write, E: Write>(
+    sheet: Option<&Sheet<'_, F>>,
+    out: &mut W,
+    errors: &mut E,
+) -> Result<bool, WordsFault> {
+    let Some(sheet) = sheet else {
+        return Ok(true);
+    };
+    match clear(sheet.out.get_ref()) {
+        Ok(()) => Ok(true),
+        Err(error) => {
+            refuse(sheet.path, error, out, errors)?;
+            Ok(false)
+        }
+    }
+}
+
+/// Opens the files of views, that of the capture first, and makes those that aren't there; nothing where one can't be
+/// written, and then the path of the first such was printed, and on `errors` why. Files are emptied once all are open, so
+/// that none is where another can't be opened.
 pub fn open_sheets<'a, R: Files + AllocGlobal, W: Write, E: Write>(
     rt: &R,
     views: &Views<'a>,
@@ -67,7 +109,9 @@ pub fn open_sheets<'a, R: Files + AllocGlobal, W: Write, E: Write>(
         },
         None => None,
     };
-    Ok(Some(Sheets { pcap, chart }))
+    let are_empty = empty_sheet(pcap.as_ref(), out, errors)?
+        && empty_sheet(chart.as_ref(), out, errors)?;
+    Ok(are_empty.then_some(Sheets { pcap, chart }))
 }
 
 /// Says on `errors` that a file can't be written.

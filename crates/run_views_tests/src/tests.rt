@@ -1,6 +1,7 @@
 //! A trace is written to a viewer, whole or in small pieces.
 mod captured;
 mod charted;
+mod opened;
 mod stated;
 mod worded;
 

@@ -7,7 +7,7 @@ use std::fmt;
 /// The most characters of a word that are shown.
 const MOST_SHOWN: usize = 60;
 
-/// A word as it is shown: its front, with control characters escaped.
+/// A word as it is shown: its front, as [`Escaped`].
 #[derive(Clone, Copy)]
 struct Shown<'a> {
     word: &'a str,

@@ -7,7 +7,7 @@ use ho_procedure::exchange::Inbound;
 use line_words::{WordsFault, message_name};
 use std::alloc::{AllocError, Allocator, Global};
 use std::io::{self, Write};
-use trace_lines::{TraceLine, What};
+use trace_lines::{TraceLine, What, channel_of};
 use trace_text::trace::Mark;
 
 /// What happens in a row.
@@ -73,6 +73,45 @@ fn behind_word(text: &str) -> &str {
         Some((_, rest)) => rest,
         None => text,
     }
+}
+
+/// The place of the other end of a message, where there is a message.
+fn other_lane<A: Allocator>(mark: Mark, input: &Inbound<A>) -> Option<u32> {
+    match input {
+        Inbound::Abis { .. } => Some(stations(mark)),
+        Inbound::A { .. } => Some(CENTRE),
+        Inbound::Expiry { .. } | Inbound::Operator(_) => None,
+    }
+}
+
+/// Appends where on Abis a message goes or comes from: its channel; its cell and TRX, where its octets name no channel.
+fn push_place<A: Allocator + Copy>(
+    alloc: A,
+    text: &mut String<A>,
+    input: &Inbound<A>,
+) -> Result<(), AllocError> {
+    match input {
+        Inbound::Abis { cell, trx, .. } => match channel_of(alloc, input)? {
+            Some(chan) => write!(text, "{chan} "),
+            None => write!(text, "{cell}/{trx} "),
+        },
+        Inbound::A { .. } | Inbound::Expiry { .. } | Inbound::Operator(_) => Ok(()),
+    }
+}
+
+/// The text of a message's arrow: on Abis where it goes or comes from; its name; its call, where that is known.
+fn arrow_text<A: Allocator + Copy>(
+    alloc: A,
+    input: &Inbound<A>,
+    call: Option<u16>,
+) -> Result<String<A>, AllocError> {
+    let mut text = String::new(alloc);
+    push_place(alloc, &mut text, input)?;
+    text.push_str(&message_name(alloc, input)?)?;
+    if let Some(call) = call {
+        write!(text, ", call {call}")?;
+    }
+    Ok(text)
 }
 
 /// Prints the chart of these.
@@ -145,32 +184,34 @@ impl<A: Allocator + Copy> TraceChart<A> {
         mark: Mark,
         is_sent: bool,
         input: &Inbound<A>,
+        call: Option<u16>,
     ) -> Result<(), AllocError> {
-        let name = message_name(self.alloc, input)?;
-        let (other, text) = match input {
-            Inbound::Abis { cell, trx, .. } => (
-                stations(mark),
-                format!(in self.alloc; "{cell}/{trx} {name}")?,
-            ),
-            Inbound::A { call, .. } => (CENTRE, format!(in self.alloc; "{name}, call {call}")?),
-            Inbound::Expiry { .. } | Inbound::Operator(_) => return Ok(()),
+        let Some(other) = other_lane(mark, input) else {
+            return Ok(());
         };
         let (from, to) = if is_sent {
             (controller(mark), other)
         } else {
             (other, controller(mark))
         };
+        let text = arrow_text(self.alloc, input, call)?;
         self.push(heading, Happening::Arrow { from, to }, text)
     }
 
     /// Adds an input: its number beside its arrow, or in a row of its own with its words.
-    fn input(&mut self, mark: Mark, text: &str, input: &Inbound<A>) -> Result<(), AllocError> {
+    fn input(
+        &mut self,
+        mark: Mark,
+        text: &str,
+        input: &Inbound<A>,
+        call: Option<u16>,
+    ) -> Result<(), AllocError> {
         self.inputs = self.inputs.saturating_add(1);
         let number = self.inputs;
         match input {
             Inbound::Abis { .. } | Inbound::A { .. } => {
                 let heading = format!(in self.alloc; "{number}")?;
-                self.arrow(heading, mark, false, input)
+                self.arrow(heading, mark, false, input, call)
             }
             Inbound::Expiry { .. } | Inbound::Operator(_) => {
                 let heading = format!(in self.alloc; "{number} {mark}{}", behind_word(text))?;
@@ -196,8 +237,8 @@ impl<A: Allocator + Copy> TraceChart<A> {
     ) -> Result<(), AllocError> {
         let mark = line.mark;
         match &line.what {
-            What::Input(input) => self.input(mark, text, input),
-            What::Sent(sent) => self.arrow(String::new(self.alloc), mark, true, sent),
+            What::Input(input) => self.input(mark, text, input, call),
+            What::Sent(sent) => self.arrow(String::new(self.alloc), mark, true, sent, call),
             What::Asked(event, replied) => {
                 let row = count(&self.rows);
                 self.attempts(mark).ask(row, *event, *replied, call)?;

@@ -1,10 +1,9 @@
 //! Which call a line is about.
+use crate::channels::channel_of;
 use crate::line::{Replied, TraceLine, What};
 use channel_fsm::ChanId;
 use ho_procedure::exchange::{Inbound, Line};
-use ho_procedure::naming::chan_of;
 use radio_book::event::Event;
-use rsl_messages::RslFault;
 use std::alloc::{AllocError, Allocator, Global};
 use std::collections::BTreeMap;
 use trace_text::trace::Mark;
@@ -88,41 +87,6 @@ fn call_of_line(line: Line) -> u16 {
     }
 }
 
-/// The channel that octets name which are no message: their first element is a channel number, of a full rate channel (TS
-/// 48.058 clause 9.3.1).
-fn channel_named(cell: u8, trx: u8, octets: &[u8]) -> Option<ChanId> {
-    let identifier = *octets.get(2)?;
-    let number = *octets.get(3)?;
-    if identifier != 0x01 || number < 0x08 || number > 0x0F {
-        return None;
-    }
-    Some(ChanId {
-        cell,
-        trx,
-        tn: number & 0x07,
-    })
-}
-
-/// The channel that octets on Abis are about, also where an element of theirs is wrong. `None` where they name none.
-fn channel_in<A: Allocator + Copy>(
-    alloc: A,
-    cell: u8,
-    trx: u8,
-    octets: &[u8],
-) -> Result<Option<ChanId>, AllocError> {
-    match rsl_messages::decode(alloc, octets) {
-        Ok(message) => Ok(Some(chan_of(cell, trx, &message))),
-        Err(RslFault::NoMemory) => Err(AllocError),
-        Err(
-            RslFault::UnknownType(_)
-            | RslFault::Missing(_)
-            | RslFault::BadElement(_)
-            | RslFault::Torn(_),
-        ) => Ok(channel_named(cell, trx, octets)),
-        Err(RslFault::NotRsl | RslFault::TooLong) => Ok(None),
-    }
-}
-
 impl<A: Allocator + Copy> Known<A> {
     /// No call is known.
     fn new(alloc: A) -> Known<A> {
@@ -137,29 +101,13 @@ impl<A: Allocator + Copy> Known<A> {
         self.channels.get(&chan).copied()
     }
 
-    /// The call of a message on Abis.
-    fn on_abis(
-        &self,
-        alloc: A,
-        cell: u8,
-        trx: u8,
-        octets: &[u8],
-    ) -> Result<Option<u16>, AllocError> {
-        match channel_in(alloc, cell, trx, octets)? {
-            Some(chan) => Ok(self.had(chan)),
-            None => Ok(None),
-        }
-    }
-
     /// The call of an input, or of a message.
     fn of_input(&self, alloc: A, input: &Inbound<A>) -> Result<Option<u16>, AllocError> {
         match input {
-            Inbound::Abis { cell, trx, bytes } => self.on_abis(
-                alloc,
-                *cell,
-                *trx,
-                bytes.as_slice(),
-            ),
+            Inbound::Abis { .. } => match channel_of(alloc, input)? {
+                Some(chan) => Ok(self.had(chan)),
+                None => Ok(None),
+            },
             Inbound::A { call, .. } | Inbound::Expiry { call, .. } => Ok(Some(*call)),
             Inbound::Operator(line) => Ok(Some(call_of_line(*line))),
         }

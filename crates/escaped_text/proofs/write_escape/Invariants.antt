@@ -7,4 +7,4 @@ use Rattle.escaped_text.proofs.write_escape.Given as goal
 abbrev pub invariant-loop-character : goal.invariant-loop-character
 invariant-loop-character g l =
     IsPlainFormatter l.initial.f → (done : List ℕ) × HasWritten g.W.Write.write_str_gives l.initial.f done l.f
-    × (done ++ encode_utf8_all (escape_rest l.character-iterator) ≡ encode_utf8_all (escape_default l.fn.control))
+    × (done ++ encode_utf8_all (escape_rest l.character-iterator) ≡ encode_utf8_all (escape_default l.fn.escaped))

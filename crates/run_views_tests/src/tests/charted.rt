@@ -12,7 +12,8 @@ const CHART: Views<'_> = Views {
     chart: Some("file"),
 };
 
-/// An attempt that is undone, another that is undone before its activation, a fault, and the end.
+/// An attempt that is undone, another that is undone before its activation, octets that name no channel, octets that name
+/// one and are cut behind it, a message about a channel that no call had, and the end.
 const ONE: &str = "in handover 1 1
 event take 1 internal 1/1/3 -> done
 event activate 1 -> done
@@ -31,15 +32,19 @@ in handover 2 1
 none free 1
 in abis 0 0 08
 fault abis 5 1
+in abis 1 1 0822010b08
+fault abis 5 4
+in abis 2 0 0833010f
 sim limit
 end channels=0 calls=0 references=0 timers=0
 ";
 
-/// The longest note has 53 letters, and room for half of them at either side of the controller.
+/// The longest text of an arrow between the stations and the controller has 36 letters. The longest note has 53, and room for
+/// half of them at either side of the controller.
 const ONE_LANES: &[Lane<'_>] = &[
     Lane {
         name: "stations",
-        room: 27,
+        room: 36,
     },
     Lane {
         name: "controller",
@@ -75,7 +80,7 @@ const ONE_ROWS: &[Row<'_>] = &[
         shape: Shape::Arrow {
             from: 1,
             to: 0,
-            text: "1/1 CHANNEL ACTIVATION",
+            text: "1/1/3 CHANNEL ACTIVATION, call 1",
         },
     },
     Row {
@@ -94,7 +99,7 @@ const ONE_ROWS: &[Row<'_>] = &[
         shape: Shape::Arrow {
             from: 1,
             to: 0,
-            text: "1/1 RF CHANNEL RELEASE",
+            text: "1/1/3 RF CHANNEL RELEASE, call 1",
         },
     },
     Row {
@@ -110,7 +115,7 @@ const ONE_ROWS: &[Row<'_>] = &[
         shape: Shape::Arrow {
             from: 0,
             to: 1,
-            text: "1/1 RF CHANNEL RELEASE ACK",
+            text: "1/1/3 RF CHANNEL RELEASE ACK, call 1",
         },
     },
     Row {
@@ -169,6 +174,29 @@ const ONE_ROWS: &[Row<'_>] = &[
         },
     },
     Row {
+        heading: "8",
+        shape: Shape::Arrow {
+            from: 0,
+            to: 1,
+            text: "1/1/3 no message, call 1",
+        },
+    },
+    Row {
+        heading: "",
+        shape: Shape::Note {
+            lane: 1,
+            text: "fault abis 5 4",
+        },
+    },
+    Row {
+        heading: "9",
+        shape: Shape::Arrow {
+            from: 0,
+            to: 1,
+            text: "2/0/7 RF CHANNEL RELEASE ACK",
+        },
+    },
+    Row {
         heading: "sim limit",
         shape: Shape::Nothing,
     },
@@ -208,7 +236,7 @@ const TWO: &str = "1: in handover 1 64
 2: in abis 0 0 082701091100
 ";
 
-/// Between the stations and their controller 34 letters of a message have room, before the controller half of a note's 52.
+/// Between the stations and their controller 48 letters of a message have room, before the controller half of a note's 52.
 const TWO_LANES: &[Lane<'_>] = &[
     Lane {
         name: "stations 1",
@@ -224,7 +252,7 @@ const TWO_LANES: &[Lane<'_>] = &[
     },
     Lane {
         name: "controller 2",
-        room: 34,
+        room: 48,
     },
     Lane {
         name: "stations 2",
@@ -271,7 +299,7 @@ const TWO_ROWS: &[Row<'_>] = &[
         shape: Shape::Arrow {
             from: 3,
             to: 4,
-            text: "0/0 DATA REQUEST: HANDOVER COMMAND",
+            text: "0/0/1 DATA REQUEST: HANDOVER COMMAND, call 40000",
         },
     },
     Row {
@@ -279,7 +307,7 @@ const TWO_ROWS: &[Row<'_>] = &[
         shape: Shape::Arrow {
             from: 4,
             to: 3,
-            text: "0/0 HANDOVER DETECTION",
+            text: "0/0/1 HANDOVER DETECTION, call 40000",
         },
     },
 ];
