@@ -97,18 +97,13 @@ fn book_of<A: Allocator + Copy>(alloc: A, scratch: Global, text: &str) -> Result
     Ok(Book::new(alloc, site)?)
 }
 
-fn is_answered(rt: &impl Abort, found: Answer, row: &Row) {
-    let (ask, answer) = row;
-    assert_eq!(rt; found, *answer, "{ask:?}");
-}
-
 fn play<A: Allocator + Copy>(
     rt: &impl Abort,
     book: &mut Book<A>,
     rows: &[Row],
 ) -> Result<(), Fail> {
-    for row in rows {
-        is_answered(rt, put(book, row.0)?, row);
+    for (ask, answer) in rows {
+        assert_eq!(rt; put(book, *ask)?, *answer, "{ask:?}");
     }
     Ok(())
 }
@@ -279,8 +274,11 @@ fn refuses<A: Allocator + Copy>(
     rows: &[(Event, Refusal)],
 ) -> Result<(), Fail> {
     for (event, refusal) in rows {
-        let row = (Step(*event), Says(Refused(*refusal)));
-        is_answered(rt, put(book, row.0)?, &row);
+        assert_eq!(rt;
+            put(book, Step(*event))?,
+            Says(Refused(*refusal)),
+            "{event:?}"
+        );
     }
     Ok(())
 }

@@ -98,10 +98,6 @@ fn held_by<A: Allocator + Copy>(book: &Book<A>) -> Held {
     (usage.channels, usage.calls, usage.references, usage.timers)
 }
 
-fn is_accepted(rt: &impl Abort, reply: &Reply, event: Event, name: &str) {
-    assert!(rt; !matches!(reply, Reply::Refused(_)), "{name}: {event:?}");
-}
-
 // Asks events that are accepted.
 fn prepare<A: Allocator + Copy>(
     rt: &impl Abort,
@@ -109,18 +105,14 @@ fn prepare<A: Allocator + Copy>(
     course: &Course,
 ) -> Result<(), AllocError> {
     for event in course.before {
-        is_accepted(rt, &book.step(*event)?, *event, course.name);
+        let reply = book.step(*event)?;
+        assert!(rt;
+            !matches!(reply, Reply::Refused(_)),
+            "{}: {event:?}",
+            course.name
+        );
     }
     Ok(())
-}
-
-fn is_told(rt: &impl Abort, reply: &Reply, step: &(Event, Told), name: &str) {
-    let (event, told) = step;
-    assert!(rt; *reply == reply_of(*told), "{name}: {event:?}");
-}
-
-fn is_held<A: Allocator + Copy>(rt: &impl Abort, book: &Book<A>, course: &Course) {
-    assert!(rt; held_by(book) == course.held, "{}", course.name);
 }
 
 fn follows<A: Allocator + Copy>(
@@ -128,10 +120,11 @@ fn follows<A: Allocator + Copy>(
     book: &mut Book<A>,
     course: &Course,
 ) -> Result<(), AllocError> {
-    for step in course.steps {
-        is_told(rt, &book.step(step.0)?, step, course.name);
+    for (event, told) in course.steps {
+        let reply = book.step(*event)?;
+        assert!(rt; reply == reply_of(*told), "{}: {event:?}", course.name);
     }
-    is_held(rt, book, course);
+    assert!(rt; held_by(book) == course.held, "{}", course.name);
     Ok(())
 }
 
@@ -145,8 +138,8 @@ fn events_of(alloc: Global, course: &Course) -> Result<Vec<Event>, AllocError> {
 
 fn are_told(rt: &impl Abort, replies: &[Reply], course: &Course) {
     assert!(rt; replies.len() == course.steps.len(), "{}", course.name);
-    for (reply, step) in replies.iter().zip(course.steps) {
-        is_told(rt, reply, step, course.name);
+    for (reply, (event, told)) in replies.iter().zip(course.steps) {
+        assert!(rt; *reply == reply_of(*told), "{}: {event:?}", course.name);
     }
 }
 
@@ -160,7 +153,7 @@ fn runs<A: Allocator + Copy>(
 ) -> Result<(), AllocError> {
     let (after, replies) = run(alloc, book, events)?;
     are_told(rt, replies.as_slice(), course);
-    is_held(rt, &after, course);
+    assert!(rt; held_by(&after) == course.held, "{}", course.name);
     Ok(())
 }
 

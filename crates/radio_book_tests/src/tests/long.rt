@@ -286,15 +286,11 @@ fn is_round(rt: &impl Abort, book: &mut Book<Global>, round: usize) -> Result<()
     Ok(())
 }
 
-fn is_used_so(rt: &impl Abort, found: Usage, wanted: Usage, round: usize) {
-    assert_eq!(rt; found, wanted, "{round}");
-}
-
 fn each_round(rt: &impl Abort, book: &mut Book<Global>) -> Result<(), AllocError> {
     for (round, (channels, calls, references, timers)) in USAGES.iter().enumerate() {
         is_round(rt, book, round)?;
         let usage = holds(*channels, *calls, *references, *timers);
-        is_used_so(rt, book.usage(), usage, round);
+        assert_eq!(rt; book.usage(), usage, "{round}");
     }
     Ok(())
 }

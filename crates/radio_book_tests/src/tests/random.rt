@@ -163,18 +163,13 @@ impl Dice {
         }
     }
 
-    // An event, which is asked of the book.
-    fn asked(&mut self, book: &mut Book<Global>) -> Result<Event, AllocError> {
-        let event = self.next_event(book)?;
-        book.step(event)?;
-        Ok(event)
-    }
-
     // A list of events. The book, in which nothing is in use at first, goes along.
-    fn events(&mut self, alloc: Global, book: &mut Book<Global>) -> Result<Vec<Event>, AllocError> {
+    fn events(&mut self, alloc: Global, mut book: Book<Global>) -> Result<Vec<Event>, AllocError> {
         let mut events = Vec::new(alloc);
         for _ in 0..LONGEST {
-            events.push(self.asked(book)?)?;
+            let event = self.next_event(&mut book)?;
+            events.push(event)?;
+            book.step(event)?;
         }
         Ok(events)
     }
@@ -398,7 +393,7 @@ fn is_played(
     met: &mut Met,
 ) -> Result<(), AllocError> {
     let mut dice = Dice { seed, thrown: 0 };
-    let events = dice.events(rt.alloc(), &mut book.copy()?)?;
+    let events = dice.events(rt.alloc(), book.copy()?)?;
     let (_, replies) = run(rt.alloc(), book, &events)?;
     rewinds_each(rt, book, &events, &replies, met)
 }

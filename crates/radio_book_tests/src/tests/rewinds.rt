@@ -11,7 +11,7 @@ use radio_book::event::Reply::{Done, Owned, Refused};
 use radio_book::event::{Attempt, AttemptKind, CallRecord, Event, Kind, Reply, Stage, Timer, Why};
 use radio_book::rewind::{RewindFault, Rewound, rewind};
 use refusing_heap::RefusingHeap;
-use std::alloc::{AllocError, Allocator, Global};
+use std::alloc::{AllocError, Allocator};
 use std::process::Abort;
 use std::test::Fail;
 
@@ -505,19 +505,15 @@ fn all_stand(rt: &impl Abort, replies: &[Reply], places: &[usize], wanted: &[Rep
     }
 }
 
-fn is_seen(rt: &impl Abort, found: &Reply, look: &(Event, Reply), name: &str) {
-    let (event, reply) = look;
-    assert!(rt; found == reply, "{name}: {event:?}");
-}
-
 fn looks_so<A: Allocator + Copy>(
     rt: &impl Abort,
     book: &mut Book<A>,
     looks: &[(Event, Reply)],
     name: &str,
 ) -> Result<(), AllocError> {
-    for look in looks {
-        is_seen(rt, &book.step(look.0)?, look, name);
+    for (event, reply) in looks {
+        let got = book.step(*event)?;
+        assert!(rt; got == *reply, "{name}: {event:?}");
     }
     Ok(())
 }
@@ -572,16 +568,12 @@ fn each_undone_attempt_is_taken_out_as_worked_out(rt: HostRuntime) -> Result<(),
     Ok(())
 }
 
-fn is_missing(rt: &(impl AllocGlobal + Abort), book: &Book<Global>, missing: &Missing) {
-    let fault = rewind(rt.alloc(), book, missing.events, missing.at).err();
-    assert!(rt; fault == Some(RewindFault::NoAttempt), "{}", missing.at);
-}
-
 #[test]
 fn where_no_undone_attempt_opens_there_is_none(rt: HostRuntime) -> Result<(), Fail> {
     let book = book_after(&rt, rt.alloc(), STEADY)?;
     for missing in MISSING {
-        is_missing(&rt, &book, missing);
+        let fault = rewind(rt.alloc(), &book, missing.events, missing.at).err();
+        assert!(&rt; fault == Some(RewindFault::NoAttempt), "{}", missing.at);
     }
     Ok(())
 }
@@ -600,14 +592,9 @@ fn meets_refusal(rt: &(impl AllocGlobal + Abort), before: u64, n: u64) -> Result
     Ok(refused)
 }
 
-fn make_book(rt: &impl AllocGlobal, heap: &RefusingHeap) -> Result<(), Fail> {
-    let _book = book_after(rt, heap, STEADY)?;
-    Ok(())
-}
-
 fn requests_of_the_book(rt: &impl AllocGlobal) -> Result<u64, Fail> {
     let heap = RefusingHeap::ample(rt.alloc());
-    make_book(rt, &heap)?;
+    let _book = book_after(rt, &heap, STEADY)?;
     Ok(heap.requests())
 }
 
