@@ -171,7 +171,7 @@ const REASONS: &[(Link, &str, &str)] = &[
     (
         Link::Rr,
         "MEASUREMENT REPORT ba=0 dtx=0 full=30 ba3g=0 valid=1 sub=30 si23=0 qfull=0 qsub=0 count=1",
-        "count says 1 neighbours, where 7 says none: found 0\n",
+        "count is 1 (7 says that there are none), and n stands 0 times\n",
     ),
 ];
 
