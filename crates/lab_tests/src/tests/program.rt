@@ -57,7 +57,7 @@ const LINES: &[(&[&str], u8, &str, &str)] = &[
         &["encode", "a", "CLEAR"],
         2,
         "",
-        "no message of the link a: bsc_lab help encode lists them\n",
+        "no message of the link a: a name stands before fields as KEY=VALUE, and bsc_lab help encode lists both\n",
     ),
     (
         &["run", "no site", "no script"],
