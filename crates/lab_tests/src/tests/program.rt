@@ -167,7 +167,7 @@ const LINES: &[(&[&str], u8, &str, &str)] = &[
         ],
         2,
         "file no folder/a.pcap\n",
-        "no folder/a.pcap: no such file",
+        "no folder/a.pcap: its folder isn't there",
     ),
     (
         &[
@@ -179,7 +179,7 @@ const LINES: &[(&[&str], u8, &str, &str)] = &[
         ],
         2,
         "file no folder/a.svg\n",
-        "no folder/a.svg: no such file",
+        "no folder/a.svg: its folder isn't there",
     ),
     (
         &["run", "a", "b", "--pcap", "c", "--chart", "c"],
