@@ -177,7 +177,9 @@ pub fn refusal_words(number: u8) -> Option<&'static str>
         5 => Some("the channel lies in the cell where the call is served"),
         6 => Some("this channel isn't free"),
         7 => Some("this handover reference is in use"),
-        8 => Some("this channel doesn't wait for this message of its station"),
+        8 => Some(
+            "this channel is in use for no call, or doesn't wait for this message of its station",
+        ),
         9 => Some("the timer isn't armed for the call"),
         _ => None,
     }

@@ -160,7 +160,7 @@ const REFUSALS: &[(u8, &str, &str)] = &[
     (
         8,
         "Unexpected",
-        "this channel doesn't wait for this message of its station",
+        "this channel is in use for no call, or doesn't wait for this message of its station",
     ),
     (9, "NotArmed", "the timer isn't armed for the call"),
 ];

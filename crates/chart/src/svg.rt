@@ -254,7 +254,14 @@ fn print_bar<W: fmt::Write>(
     print_bar_text(f, layout, bar)
 }
 
-/// A bar down to this row: a part of it in each column that it goes through.
+/// The place in a column, counted from its first row, of the last row there of a bar that ends in this row, there or behind.
+fn last_place(last: u32, column: u32) -> u32 {
+    last.saturating_sub(column.saturating_mul(COLUMN))
+        .min(COLUMN - 1)
+}
+
+/// A bar down to this row: a part of it in each column that it goes through. Its text stands beside each further part, but
+/// where that is too short for it: more bars end before it there than it has rows, so the text would stand below it.
 fn print_parts<W: fmt::Write>(
     f: &mut fmt::Formatter<W>,
     layout: &Layout<'_>,
@@ -265,8 +272,9 @@ fn print_parts<W: fmt::Write>(
     let begin = column_of(bar.first);
     for column in begin..column_of(last).saturating_add(1) {
         print_part(f, layout, bar, last, column)?;
-        if column > begin {
-            print_onward_text(f, layout, bar, column, onward_place(bars, bar, column))?;
+        let place = onward_place(bars, bar, column);
+        if column > begin && place <= last_place(last, column) {
+            print_onward_text(f, layout, bar, column, place)?;
         }
     }
     Ok(())
@@ -354,7 +362,7 @@ fn goes_on(bar: &Bar<'_>, column: u32) -> bool {
 }
 
 /// The row of the column in which the text of a bar that goes on there stands: so many bars on its side go on there and end
-/// before it. So the texts of several bars don't cover one another, and each stands beside its bar.
+/// before it. So the texts of several bars don't cover one another. The row may lie below the bar.
 fn onward_place(bars: &[Bar<'_>], bar: &Bar<'_>, column: u32) -> u32 {
     let mut place: u32 = 0;
     for other in bars {

@@ -466,3 +466,36 @@ fn texts_of_bars_that_go_on_do_not_cover_one_another(rt: HostRuntime) -> Result<
     assert!(rt; missing.is_none(), "{missing:?}");
     Ok(())
 }
+
+/// The first two of the bars that go on have their texts in the two rows of the last column.
+const IN_TWO_ROWS: &[&str] = &[
+    " y=\"64\" text-anchor=\"start\">call 8</text>\n",
+    " y=\"84\" text-anchor=\"start\">call 1</text>\n",
+];
+
+#[test]
+fn a_bar_that_is_too_short_for_its_text_goes_on_without(rt: HostRuntime) -> Result<(), Fail> {
+    let rows = alike(rt.alloc(), 762)?;
+    let chart = Chart {
+        lanes: &[],
+        rows: &rows,
+        bars: &[
+            from_757(761, 0, "call 1"),
+            from_757(761, 1, "call 2"),
+            from_757(761, 2, "call 3"),
+            from_757(761, 3, "call 4"),
+            from_757(761, 4, "call 5"),
+            from_757(761, 5, "call 6"),
+            from_757(761, 6, "call 7"),
+            from_757(760, 7, "call 8"),
+        ],
+        left: "undone",
+        right: "",
+    };
+    let missing = missing(rt.alloc(), chart, IN_TWO_ROWS)?;
+    assert!(rt; missing.is_none(), "{missing:?}");
+    let svg = chart.to_string(rt.alloc())?;
+    let onward = svg.as_str().matches("text-anchor=\"start\">call ").count();
+    assert_eq!(rt; onward, 2, "{svg}");
+    Ok(())
+}

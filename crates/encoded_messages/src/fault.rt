@@ -15,7 +15,7 @@ pub enum MessageFault<'a> {
     #[error(transparent)]
     Field(FieldFault<'a>),
     // There are not as many neighbours as the count says.
-    #[error("count says {count} neighbours, where 7 says none: found {found}")]
+    #[error("count is {count} (7 says that there are none), and n stands {found} times")]
     Neighbours { count: u8, found: usize },
     // Each field is in its range, and the message has no canonical text.
     #[error("the message can't be written: it, or a list of octets in it, is too long")]

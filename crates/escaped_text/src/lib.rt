@@ -9,30 +9,44 @@ ghost use Rattle.escaped_text.specs.Escapes.{is_unseen, shown_character, shown_t
 
 use std::fmt;
 
-/// A text whose control characters, and those that can't be seen or turn the direction of text, are written by their
-/// escapes, as `\n`, `\t`, `\r` and, of all others, `\u{1b}` with the character's number in hexadecimal. All other
+/// A text whose control characters, and those that can't be seen, look like a space or turn the direction of text, are
+/// written by their escapes, as `\n`, `\t`, `\r` and, of all others, `\u{1b}` with the character's number in hexadecimal. All other
 /// characters stand as they are, `\` too: what is written is for a person, and isn't read back.
 ///
-/// These can't be seen, or turn the direction: U+00AD, U+061C, U+180E, U+200B to U+200F, U+2028 to U+202E, U+2060 to
-/// U+206F, U+FEFF, U+FFF9 to U+FFFB, U+E0000 to U+E007F.
+/// These can't be seen, look like a space, or turn the direction: U+00A0, U+00AD, U+034F, U+061C, U+115F, U+1160, U+1680,
+/// U+17B4, U+17B5, U+180B to U+180F, U+2000 to U+200F, U+2028 to U+202F, U+205F to U+206F, U+2800, U+3000, U+3164, U+FE00
+/// to U+FE0F, U+FEFF, U+FFA0, U+FFF9 to U+FFFB, U+1D173 to U+1D17A, U+E0000 to U+E007F, U+E0100 to U+E01EF.
 #[derive(Clone, Copy, Debug, PartialEq, Eq)]
 pub struct Escaped<'a>(pub &'a str);
 
-/// Whether a character, which is no control character, can't be seen, or turns the direction of the text behind it.
+/// Whether a character, which is no control character, can't be seen, looks like a space and is another character, or
+/// turns the direction of the text behind it.
 fn is_unseen(character: char) -> bool
     ensures { result ≡ is_unseen character }
 {
     matches!(
         character,
-        '\u{AD}'
+        '\u{A0}'
+            | '\u{AD}'
+            | '\u{34F}'
             | '\u{61C}'
-            | '\u{180E}'
-            | '\u{200B}'..='\u{200F}'
-            | '\u{2028}'..='\u{202E}'
-            | '\u{2060}'..='\u{206F}'
+            | '\u{115F}'..='\u{1160}'
+            | '\u{1680}'
+            | '\u{17B4}'..='\u{17B5}'
+            | '\u{180B}'..='\u{180F}'
+            | '\u{2000}'..='\u{200F}'
+            | '\u{2028}'..='\u{202F}'
+            | '\u{205F}'..='\u{206F}'
+            | '\u{2800}'
+            | '\u{3000}'
+            | '\u{3164}'
+            | '\u{FE00}'..='\u{FE0F}'
             | '\u{FEFF}'
+            | '\u{FFA0}'
             | '\u{FFF9}'..='\u{FFFB}'
+            | '\u{1D173}'..='\u{1D17A}'
             | '\u{E0000}'..='\u{E007F}'
+            | '\u{E0100}'..='\u{E01EF}'
     )
 }
 

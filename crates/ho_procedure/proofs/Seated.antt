@@ -1,4 +1,4 @@
--- A desk with its only seat.
+-- A desk with its only caller.
 use Rattle.std.proofs.Common.{◌≡◌, ℕ, List, [], ◌∷◌, ◌++◌, Option, Some, None, Result, Ok, Err, IfOk, OnErr, IfSome, MatchOption, refl, sym, subst}
 use Rattle.channel_fsm.specs.declared.ChanId.{ChanId}
 use Rattle.radio_book.specs.declared.event.Kind.{Kind}
@@ -9,13 +9,12 @@ use Rattle.radio_book.specs.Choice.{IsFreeIn, TakesFree, ReservesFree}
 use Rattle.radio_book.specs.Choice as free
 use Rattle.radio_desk.specs.declared.seat.Receipt.{Receipt}
 use Rattle.radio_desk.specs.declared.desk.DeskFault.{DeskFault}
-use Rattle.radio_desk.specs.Desk.{DeskState, HoldsLast, IsForeign, IsJudged, IsSameDesk}
+use Rattle.radio_desk.specs.Desk.{DeskState, IsForeign, IsJudged, IsSameDesk}
 use Rattle.ho_procedure.specs.Claims.{Entry, Claim, NoneFree, Chosen, IsThere, IsTrueAfter}
 
--- a seat that the history holds isn't foreign
-pub not_foreign : (history : List Entry) (last : Option Receipt) (place : ℕ) → HoldsLast history last → IsForeign history last place → ⊥
-not_foreign history None place held foreign = foreign
-not_foreign history (Some r) place held foreign = foreign.1 held
+-- a seat without a receipt isn't foreign
+pub not_foreign : (history : List Entry) (last : Option Receipt) (place : ℕ) → last ≡ None → IsForeign history last place → ⊥
+not_foreign history last place new foreign = subst (λ s. IsForeign history s place) new foreign
 
 -- what is true of a desk was true before, as long as it opens with the same book
 pub still_true : (opening opening' : State) → opening' ≡ opening → (log : List Entry) → (claim : Claim) → IsTrueAfter opening' log claim → IsTrueAfter opening log claim

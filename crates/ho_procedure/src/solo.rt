@@ -10,37 +10,32 @@ use radio_desk::seat::{Receipt, Seat};
 use std::alloc::{Allocator, Global};
 use std::marker::Model;
 
-/// A desk with its only seat. Contracts see it as the desk.
+/// A desk with its only caller. Contracts see it as the desk.
 ///
 /// It says that no channel of a cell is free only where the desk's book has none, chooses what is free there, and its
-/// desk never finds its seat foreign.
+/// desk never finds it foreign: it asks each time from a new seat, since a desk that nobody else asks has no receipt to
+/// compare.
 #[derive(Drop)]
 pub struct Solo<A: Allocator = Global> {
     desk: Desk<A>,
-    seat: Seat,
 }
 
 impl<A: Allocator> Model for Solo<A> {
-    ghost use Rattle.radio_desk.specs.Desk.{DeskState, desk_code, HoldsLast};
+    ghost use Rattle.radio_desk.specs.Desk.{DeskState, desk_code};
 
     ghost Value = { DeskState };
 
     ghost coded = { desk_code };
 
     ghost view = { λ solo. solo.desk };
-
-    ghost invariant = { λ solo. HoldsLast solo.desk.history solo.seat };
 }
 
 impl<A: Allocator> Solo<A> {
-    /// A desk, with a new seat.
+    /// A desk, whose seats are all new.
     pub fn new(desk: Desk<A>) -> Solo<A>
         ensures desk { result ≡ desk }
     {
-        Solo {
-            desk,
-            seat: Seat::new(),
-        }
+        Solo { desk }
     }
 
     /// Its desk.
@@ -64,7 +59,7 @@ impl<A: Allocator + Copy> DeskView for Solo<A> {
     ghost may_be_foreign = { λ solo. ⊥ };
 
     fn judge(&mut self, event: Event) -> Result<Receipt, DeskFault> {
-        self.desk.judge(&mut self.seat, event)
+        self.desk.judge(&mut Seat::new(), event)
     }
 
     fn judge_take(
@@ -74,11 +69,11 @@ impl<A: Allocator + Copy> DeskView for Solo<A> {
         cell: u8,
     ) -> Result<Option<Receipt>, DeskFault> {
         let _entries = self.desk.len();
-        self.desk.judge_take(&mut self.seat, call, kind, cell)
+        self.desk.judge_take(&mut Seat::new(), call, kind, cell)
     }
 
     fn judge_reserve(&mut self, call: u16) -> Result<Receipt, DeskFault> {
         let _entries = self.desk.len();
-        self.desk.judge_reserve(&mut self.seat, call)
+        self.desk.judge_reserve(&mut Seat::new(), call)
     }
 }

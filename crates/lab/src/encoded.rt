@@ -52,7 +52,10 @@ impl fmt::Display for EncodeReason<'_> {
         match fault {
             MessageFault::Name(_) => {
                 let link = name_of(self.link);
-                write!(f, "{fault} {link}: bsc_lab help encode lists them")
+                write!(
+                    f,
+                    "{fault} {link}: a name stands before fields as KEY=VALUE, and bsc_lab help encode lists both"
+                )
             }
             MessageFault::Field(FieldFault::Unknown(_) | FieldFault::Missing(_)) => {
                 write!(f, "{fault}: bsc_lab help encode lists the fields")

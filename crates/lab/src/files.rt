@@ -17,7 +17,7 @@ use message_fields::Shown;
 use run_views::{Sheets, Sites, Viewer, Views, WordsFault, open_sheets};
 use std::alloc::{Allocator, Global};
 use std::fmt;
-use std::fs::File;
+use std::fs::{File, OpenFile};
 use std::io::{self, Read, Write};
 use std::rt::Files;
 use trace_text::trace::ReplyText;
@@ -219,8 +219,9 @@ fn ended_viewed(
     Ok(status)
 }
 
-/// Runs a script for a viewer, and writes what that gathered until the run ended, be it early.
-fn run_for<F: Write + Drop, W: Write, E: Write>(
+/// Runs a script for a viewer, and writes what that gathered until the run ended, be it early; nothing where the script or a
+/// site is refused, so that the files are as they were.
+fn run_for<F: Write + OpenFile + Drop, W: Write, E: Write>(
     alloc: Global,
     texts: &RunTexts,
     viewer: &mut Viewer<'_, W>,
@@ -229,12 +230,16 @@ fn run_for<F: Write + Drop, W: Write, E: Write>(
 ) -> Result<Status, LabFault> {
     let ended = run_texts_plainly(alloc, texts, viewer);
     let closed = viewer.finish();
-    let written = sheets.finish(viewer, errors);
+    let written = match &ended {
+        // nothing was run
+        Ok(Status::Refused) => Ok(()),
+        Ok(Status::Done | Status::Differs) | Err(_) => sheets.finish(viewer, errors),
+    };
     ended_viewed(viewer.fault(), ended, closed, written)
 }
 
 /// Runs a script with views, whose files are open.
-fn run_onto<F: Write + Drop, W: Write, E: Write>(
+fn run_onto<F: Write + OpenFile + Drop, W: Write, E: Write>(
     alloc: Global,
     texts: &RunTexts,
     views: &Views<'_>,
@@ -310,9 +315,9 @@ fn run_read<R: Files + AllocGlobal, W: Write, E: Write>(
 /// Runs the script of one file over the site of another, or over two where a peer's is named, and prints the trace to
 /// `out`, as [`lab_run`] does of texts.
 ///
-/// Where views are asked for, their files are opened or made, and emptied once each is open, before the run begins, and
-/// written once it ended; one that can't be written is refused as one that can't be read, and so is, before anything is
-/// read, one that is another file of the run.
+/// Where views are asked for, their files are opened or made before the run begins, and emptied and written once it ended,
+/// but not where a site or the script is refused; one that can't be opened is refused as one that can't be read, and so
+/// is, before anything is read, one that is another file of the run.
 ///
 /// The site's file is read first, then the peer's, then the script's. Where a file isn't there, can't be read, isn't
 /// UTF-8 or has more than [`LONGEST_FILE`] octets, `file` and its path are printed and nothing else, and the answer is
@@ -326,7 +331,7 @@ pub fn run_files<R: Files + AllocGlobal, W: Write, E: Write>(
     out: &mut W,
     errors: &mut E,
 ) -> Result<Status, LabFault> {
-    if let Some(path) = named_twice(sites, script, views) {
+    if let Some(path) = named_twice(rt, sites, script, views) {
         return refuse_twice(path, out, errors);
     }
     let Some(texts) = run_texts(rt, sites, script, out, errors)? else {
@@ -347,6 +352,8 @@ fn line_of(trace: &str, number: usize) -> &str {
 fn unread_reason(line: &str) -> &'static str {
     if line.starts_with("1: ") || line.starts_with("2: ") {
         "a line of the trace of two controllers, and rewind takes that of one"
+    } else if line.starts_with("event ") {
+        "no event with its reply, as run prints it: event look 1 -> refused 1"
     } else {
         "no line of the trace of one controller, as run prints it without --words"
     }

@@ -67,17 +67,28 @@ fn with_decode_usage(alloc: Global, line: &str) -> Result<String, AllocError> {
     Ok(whole)
 }
 
-/// Numbers among the words, and what they may be.
-const NUMBERS: &[(&str, &str)] = &[
-    ("'<LINE>'", "; LINE is a number from 1 on"),
-    ("'<N>'", "; N is a number from 0 to 255"),
-    ("'[ARGUMENT]'", "; ARGUMENT is a number"),
+/// Commands with numbers among their words, those numbers, and what they may be.
+const NUMBERS: &[(&str, &str, &str)] = &[
+    ("rewind", "'<LINE>'", "; LINE is a number from 1 on"),
+    ("refused", "'<N>'", "; N is a number from 1 to 9"),
+    ("cause", "'<N>'", "; N is a number from 0 to 255"),
+    (
+        "fault",
+        "'<N>'",
+        "; N is a number from 1 to 6, on rr from 1 to 4",
+    ),
+    ("fault", "'[ARGUMENT]'", "; ARGUMENT is a number"),
 ];
 
+/// Whether words are for a command: the first of them names it, or the one behind that does.
+fn are_for(words: &[String], command: &str) -> bool {
+    words.iter().take(2).any(|word| word.as_str() == command)
+}
+
 /// Adds what a number may be that `clap` refuses.
-fn push_numbers(line: &mut String) -> Result<(), AllocError> {
-    for (name, allowed) in NUMBERS {
-        if line.contains(*name) {
+fn push_numbers(line: &mut String, words: &[String]) -> Result<(), AllocError> {
+    for (command, name, allowed) in NUMBERS {
+        if line.contains(*name) && are_for(words, *command) {
             line.push_str(*allowed)?;
         }
     }
@@ -126,7 +137,7 @@ fn line_of(
         push_options(&mut line, command)?;
     }
     if kind == ErrorKind::ValueValidation {
-        push_numbers(&mut line)?;
+        push_numbers(&mut line, words)?;
     }
     if command.get_name() == "decode" {
         return with_decode_usage(alloc, &line);

@@ -11,7 +11,7 @@ const LINES: &[(&str, &str)] = &[
     ),
     (
         "event released 0/0/3 -> refused 8 0/0/3",
-        "no call; Unexpected: this channel doesn't wait for this message of its station",
+        "no call; Unexpected: this channel is in use for no call, or doesn't wait for this message of its station",
     ),
     ("in open 1 0 0 3", "call 1"),
     ("event open 1 0/0/3 -> done", "call 1"),

@@ -23,7 +23,16 @@ pub struct Sheets<'a, F: Write + Drop> {
     chart: Option<Sheet<'a, F>>,
 }
 
-/// Says that a file can't be written: its path on `out`, and on `errors` why. Nothing is said where memory was refused.
+/// Why a file can't be opened or made, in a few words: one that isn't there would be made, so its folder isn't.
+fn say_unopened<E: Write>(path: &str, error: &io::Error, errors: &mut E) -> io::Result<()> {
+    if error.kind() == io::ErrorKind::NotFound {
+        writeln!(errors, "{}: its folder isn't there", Escaped(path))
+    } else {
+        writeln!(errors, "{}: {}", Escaped(path), Reason(error))
+    }
+}
+
+/// Says that a file can't be opened: its path on `out`, and on `errors` why. Nothing is said where memory was refused.
 fn refuse<W: Write, E: Write>(
     path: &str,
     error: io::Error,
@@ -33,11 +42,11 @@ fn refuse<W: Write, E: Write>(
     if error.kind() == io::ErrorKind::OutOfMemory {
         return Err(WordsFault::NoMemory);
     }
-    writeln!(errors, "{}: {}", Escaped(path), Reason(&error))?;
+    say_unopened(path, &error, errors)?;
     Ok(writeln!(out, "file {path}")?)
 }
 
-/// A file that is open for writing, made where there is none, and otherwise as it was; nothing where it can't be written,
+/// A file that is open for writing, made where there is none, and otherwise as it was; nothing where it can't be opened,
 /// and then its path was printed, and on `errors` why.
 fn open_sheet<'a, R: Files + AllocGlobal, W: Write, E: Write>(
     rt: &R,
@@ -67,28 +76,9 @@ fn clear<F: OpenFile>(file: &F) -> io::Result<()> {
     }
 }
 
-/// Empties the file of a view that is asked for. Whether it is empty now; otherwise its path was printed, and on `errors`
-/// why.
-fn empty_sheet<F: Write + OpenFile + Drop, W: Write, E: Write>(
-    sheet: Option<&Sheet<'_, F>>,
-    out: &mut W,
-    errors: &mut E,
-) -> Result<bool, WordsFault> {
-    let Some(sheet) = sheet else {
-        return Ok(true);
-    };
-    match clear(sheet.out.get_ref()) {
-        Ok(()) => Ok(true),
-        Err(error) => {
-            refuse(sheet.path, error, out, errors)?;
-            Ok(false)
-        }
-    }
-}
-
 /// Opens the files of views, that of the capture first, and makes those that aren't there; nothing where one can't be
-/// written, and then the path of the first such was printed, and on `errors` why. Files are emptied once all are open, so
-/// that none is where another can't be opened.
+/// opened, and then the path of the first such was printed, and on `errors` why. What stands in them stays until they are
+/// written ([`Sheets::finish`]).
 pub fn open_sheets<'a, R: Files + AllocGlobal, W: Write, E: Write>(
     rt: &R,
     views: &Views<'a>,
@@ -109,9 +99,7 @@ pub fn open_sheets<'a, R: Files + AllocGlobal, W: Write, E: Write>(
         },
         None => None,
     };
-    let are_empty = empty_sheet(pcap.as_ref(), out, errors)?
-        && empty_sheet(chart.as_ref(), out, errors)?;
-    Ok(are_empty.then_some(Sheets { pcap, chart }))
+    Ok(Some(Sheets { pcap, chart }))
 }
 
 /// Says on `errors` that a file can't be written.
@@ -121,8 +109,19 @@ fn say_unwritten<E: Write>(path: &str, error: io::Error, errors: &mut E) -> Word
     }
 }
 
+/// Empties the file of a view, before that is written. Where it can't be emptied, `errors` says why.
+fn clear_sheet<F: Write + OpenFile + Drop, E: Write>(
+    sheet: &Sheet<'_, F>,
+    errors: &mut E,
+) -> Result<(), WordsFault> {
+    match clear(sheet.out.get_ref()) {
+        Ok(()) => Ok(()),
+        Err(error) => Err(say_unwritten(sheet.path, error, errors)),
+    }
+}
+
 /// Writes a capture to its file.
-fn write_pcap<F: Write + Drop, W: Write, A: Allocator + Copy, E: Write>(
+fn write_pcap<F: Write + OpenFile + Drop, W: Write, A: Allocator + Copy, E: Write>(
     sheet: Option<Sheet<'_, F>>,
     viewer: &Viewer<'_, W, A>,
     errors: &mut E,
@@ -130,6 +129,7 @@ fn write_pcap<F: Write + Drop, W: Write, A: Allocator + Copy, E: Write>(
     let (Some(mut sheet), Some(capture)) = (sheet, viewer.capture()) else {
         return Ok(());
     };
+    clear_sheet(&sheet, errors)?;
     let left_out = capture.left_out();
     if left_out > 0 {
         let (messages, are) = if left_out == 1 {
@@ -154,7 +154,7 @@ fn write_pcap<F: Write + Drop, W: Write, A: Allocator + Copy, E: Write>(
 }
 
 /// Writes a chart to its file.
-fn write_chart<F: Write + Drop, W: Write, A: Allocator + Copy, E: Write>(
+fn write_chart<F: Write + OpenFile + Drop, W: Write, A: Allocator + Copy, E: Write>(
     sheet: Option<Sheet<'_, F>>,
     viewer: &Viewer<'_, W, A>,
     errors: &mut E,
@@ -162,6 +162,7 @@ fn write_chart<F: Write + Drop, W: Write, A: Allocator + Copy, E: Write>(
     let (Some(mut sheet), Some(chart)) = (sheet, viewer.chart()) else {
         return Ok(());
     };
+    clear_sheet(&sheet, errors)?;
     match chart.write_to(&mut sheet.out) {
         Ok(()) => {}
         Err(WordsFault::NoMemory) => return Err(WordsFault::NoMemory),
@@ -180,8 +181,8 @@ fn write_chart<F: Write + Drop, W: Write, A: Allocator + Copy, E: Write>(
     }
 }
 
-impl<F: Write + Drop> Sheets<'_, F> {
-    /// Writes what a viewer has gathered, the capture first. Where one of the files can't be written, `errors` says why,
+impl<F: Write + OpenFile + Drop> Sheets<'_, F> {
+    /// Empties the files and writes what a viewer has gathered, the capture first. Where one of the files can't be written, `errors` says why,
     /// and the other is written all the same.
     pub fn finish<W: Write, A: Allocator + Copy, E: Write>(
         self,

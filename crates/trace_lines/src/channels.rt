@@ -20,7 +20,8 @@ fn channel_named(cell: u8, trx: u8, octets: &[u8]) -> Option<ChanId> {
     })
 }
 
-/// The channel that octets on Abis are about, also where an element of theirs is wrong. `None` where they name none.
+/// The channel that octets on Abis are about, also where an element of theirs is wrong or they are too long. `None` where
+/// they name none.
 fn channel_in<A: Allocator + Copy>(
     alloc: A,
     cell: u8,
@@ -34,9 +35,10 @@ fn channel_in<A: Allocator + Copy>(
             RslFault::UnknownType(_)
             | RslFault::Missing(_)
             | RslFault::BadElement(_)
-            | RslFault::Torn(_),
+            | RslFault::Torn(_)
+            | RslFault::TooLong,
         ) => Ok(channel_named(cell, trx, octets)),
-        Err(RslFault::NotRsl | RslFault::TooLong) => Ok(None),
+        Err(RslFault::NotRsl) => Ok(None),
     }
 }
 

@@ -144,12 +144,12 @@ const FAULTS: &[(Link, &str, &str)] = &[
     (
         Link::Rr,
         "MEASUREMENT REPORT ba=0 dtx=0 full=30 ba3g=0 valid=1 sub=30 si23=0 qfull=0 qsub=0 count=2 n=40/2/21",
-        "count says 2 neighbours, where 7 says none: found 1",
+        "count is 2 (7 says that there are none), and n stands 1 times",
     ),
     (
         Link::Rr,
         "MEASUREMENT REPORT ba=0 dtx=0 full=30 ba3g=0 valid=1 sub=30 si23=0 qfull=0 qsub=0 count=7 n=40/2/21",
-        "count says 7 neighbours, where 7 says none: found 1",
+        "count is 7 (7 says that there are none), and n stands 1 times",
     ),
     (
         Link::Abis,
@@ -347,7 +347,7 @@ const MANY: &[(Link, &str, &str, usize, &str)] = &[
         "MEASUREMENT REPORT ba=0 dtx=0 full=30 ba3g=0 valid=1 sub=30 si23=0 qfull=0 qsub=0 count=1",
         " n=1/2/3",
         8_000,
-        "count says 1 neighbours, where 7 says none: found 8000",
+        "count is 1 (7 says that there are none), and n stands 8000 times",
     ),
     (
         Link::A,

@@ -131,17 +131,23 @@ const REASONS: &[(Link, &str, &str)] = &[
     (
         Link::Rr,
         "CLEAR COMPLETE",
-        "\"CLEAR COMPLETE\" is no message of the link rr: bsc_lab help encode lists them\n",
+        "\"CLEAR COMPLETE\" is no message of the link rr: a name stands before fields as KEY=VALUE, and bsc_lab help encode lists both\n",
     ),
     (
         Link::A,
         "CLEAR cause=9",
-        "\"CLEAR\" is no message of the link a: bsc_lab help encode lists them\n",
+        "\"CLEAR\" is no message of the link a: a name stands before fields as KEY=VALUE, and bsc_lab help encode lists both\n",
     ),
     (
         Link::Abis,
         "",
-        "\"\" is no message of the link abis: bsc_lab help encode lists them\n",
+        "\"\" is no message of the link abis: a name stands before fields as KEY=VALUE, and bsc_lab help encode lists both\n",
+    ),
+    // a field without its `=`
+    (
+        Link::Abis,
+        "RF CHANNEL RELEASE tn 3",
+        "\"RF CHANNEL RELEASE tn 3\" is no message of the link abis: a name stands before fields as KEY=VALUE, and bsc_lab help encode lists both\n",
     ),
     (
         Link::Abis,
@@ -171,7 +177,7 @@ const REASONS: &[(Link, &str, &str)] = &[
     (
         Link::Rr,
         "MEASUREMENT REPORT ba=0 dtx=0 full=30 ba3g=0 valid=1 sub=30 si23=0 qfull=0 qsub=0 count=1",
-        "count says 1 neighbours, where 7 says none: found 0\n",
+        "count is 1 (7 says that there are none), and n stands 0 times\n",
     ),
 ];
 

@@ -57,7 +57,7 @@ const LINES: &[(&[&str], u8, &str, &str)] = &[
         &["encode", "a", "CLEAR"],
         2,
         "",
-        "no message of the link a: bsc_lab help encode lists them\n",
+        "no message of the link a: a name stands before fields as KEY=VALUE, and bsc_lab help encode lists both\n",
     ),
     (
         &["run", "no site", "no script"],
@@ -144,6 +144,43 @@ const LINES: &[(&[&str], u8, &str, &str)] = &[
         "",
     ),
     (&["explain", "refused", "10"], 2, "", "no refusal 10"),
+    // what a number may be that is none
+    (
+        &["explain", "refused", "256"],
+        2,
+        "",
+        "N is a number from 1 to 9\n",
+    ),
+    (
+        &["explain", "refused", "cause"],
+        2,
+        "",
+        "string; N is a number from 1 to 9\n",
+    ),
+    (
+        &["explain", "cause", "rr", "256"],
+        2,
+        "",
+        "N is a number from 0 to 255\n",
+    ),
+    (
+        &["explain", "fault", "a", "x"],
+        2,
+        "",
+        "N is a number from 1 to 6, on rr from 1 to 4\n",
+    ),
+    (
+        &["explain", "fault", "a", "3", "x"],
+        2,
+        "",
+        "string; ARGUMENT is a number\n",
+    ),
+    (
+        &["rewind", "a", "b", "0"],
+        2,
+        "",
+        "LINE is a number from 1 on\n",
+    ),
     (&["explain", "fault", "rr", "5"], 2, "", "no fault rr 5"),
     (
         &["explain", "fault", "abis", "3", "256"],
@@ -167,7 +204,7 @@ const LINES: &[(&[&str], u8, &str, &str)] = &[
         ],
         2,
         "file no folder/a.pcap\n",
-        "no folder/a.pcap: no such file",
+        "no folder/a.pcap: its folder isn't there",
     ),
     (
         &[
@@ -179,7 +216,7 @@ const LINES: &[(&[&str], u8, &str, &str)] = &[
         ],
         2,
         "file no folder/a.svg\n",
-        "no folder/a.svg: no such file",
+        "no folder/a.svg: its folder isn't there",
     ),
     (
         &["run", "a", "b", "--pcap", "c", "--chart", "c"],

@@ -13,7 +13,13 @@ const UNWOUND: &[(&str, usize, &str, &str)] = &[
         "event look 1 -> done\nevent look 01 -> done",
         1,
         "line 2\n",
-        ":2: no line of the trace of one controller, as run prints it without --words\n",
+        ":2: no event with its reply, as run prints it: event look 1 -> refused 1\n",
+    ),
+    (
+        "event look 1\nevent look 1 -> done",
+        2,
+        "line 1\n",
+        ":1: no event with its reply, as run prints it: event look 1 -> refused 1\n",
     ),
     // another reply than the book's
     (

@@ -98,3 +98,87 @@ fn a_run_is_viewed(rt: HostRuntime) -> Result<(), Fail> {
     ends_early(&rt)?;
     remove_files(&rt, &[SITE_FILE, SCRIPT_FILE, PCAP_FILE, CHART_FILE])
 }
+
+/// The capture and the chart at these paths.
+fn views_at<'a>(pcap: &'a str, chart: &'a str) -> Views<'a> {
+    Views {
+        pcap: Some(pcap),
+        chart: Some(chart),
+        ..ALL
+    }
+}
+
+/// The script of a file that is missing a word, and files of views that are there: what is printed, and what is said, all
+/// files staying as they are.
+const KEPT: &[(&str, &str, &str, &str)] = &[
+    (
+        "kept.pcap",
+        "kept.svg",
+        "line 1\n",
+        "kept.txt:1: CELL is missing in open CALL CELL TRX TN\n",
+    ),
+    (
+        "./kept.toml",
+        "kept.svg",
+        "file ./kept.toml\n",
+        "./kept.toml: named twice\n",
+    ),
+    (
+        "kept.pcap",
+        "./kept.txt",
+        "file ./kept.txt\n",
+        "./kept.txt: named twice\n",
+    ),
+    (
+        "kept.pcap",
+        ".//kept.pcap",
+        "file .//kept.pcap\n",
+        ".//kept.pcap: named twice\n",
+    ),
+    // a device has nothing to lose
+    (
+        "/dev/null",
+        "/dev/null",
+        "line 1\n",
+        "kept.txt:1: CELL is missing in open CALL CELL TRX TN\n",
+    ),
+];
+
+/// The files of a run that is refused, and what stands in them.
+const REFUSED: &[(&str, &str)] = &[
+    ("kept.toml", SITE),
+    ("kept.txt", "open 1\n"),
+    ("kept.pcap", "an old capture"),
+    ("kept.svg", "an old chart"),
+];
+
+/// A run with these views is refused, and no file is another than it was.
+fn keeps_all(
+    rt: &(impl Files + AllocGlobal + Abort),
+    views: &Views<'_>,
+    text: &str,
+    said: &str,
+) -> Result<(), Fail> {
+    let paths = SitePaths {
+        first: "kept.toml",
+        peer: None,
+    };
+    let mut out = Vec::new(rt.alloc());
+    let mut errors = Vec::new(rt.alloc());
+    let ended = run_files(rt, paths, "kept.txt", views, &mut out, &mut errors);
+    assert_eq!(rt; (ended, str::from_utf8(&out)?), (Ok(Status::Refused), text));
+    assert_eq!(rt; str::from_utf8(&errors)?, said);
+    for (path, old) in REFUSED {
+        assert_eq!(rt; fs::read_to_string(rt, *path)?.as_str(), *old, "{path}");
+    }
+    Ok(())
+}
+
+#[test]
+fn a_run_that_is_refused_changes_no_file(rt: HostRuntime) -> Result<(), Fail> {
+    write_files(&rt, REFUSED)?;
+    for (pcap, chart, text, said) in KEPT {
+        keeps_all(&rt, &views_at(*pcap, *chart), *text, *said)?;
+    }
+    remove_files(&rt, &["kept.toml", "kept.txt", "kept.pcap", "kept.svg"])
+}

@@ -1,4 +1,5 @@
-use run_views::{Views, open_sheets};
+use super::ALONE;
+use run_views::{Viewer, Views, open_sheets};
 use std::process::Abort;
 use std::rt::Files;
 use std::test::Fail;
@@ -10,37 +11,42 @@ const PCAP: &str = "opened.pcap";
 const CHART: &str = "opened.svg";
 
 /// What stands in both before they are opened.
-const OLD: &str = "as it was";
+const OLD: &str = "as it was, and that is longer than a capture without packets";
 
 /// Where a capture and a chart are to be written; what is printed, and what is said, where one of them can't be: nothing where
-/// both are open; what stands in the files of the test afterwards.
-const OPENED: &[((&str, &str), (&str, &str), (&str, &str))] = &[
-    ((PCAP, CHART), ("", ""), ("", "")),
-    // a device has no length
-    (("/dev/full", CHART), ("", ""), (OLD, "")),
-    ((PCAP, "/dev/null"), ("", ""), ("", OLD)),
-    // nothing is lost where a file can't be made
+/// both are open.
+const OPENED: &[((&str, &str), (&str, &str))] = &[
+    ((PCAP, CHART), ("", "")),
+    (("/dev/full", CHART), ("", "")),
+    ((PCAP, "/dev/null"), ("", "")),
     (
         (PCAP, "no folder/a.svg"),
-        ("file no folder/a.svg\n", "no folder/a.svg: no such file\n"),
-        (OLD, OLD),
+        (
+            "file no folder/a.svg\n",
+            "no folder/a.svg: its folder isn't there\n",
+        ),
     ),
-    ((PCAP, "/"), ("file /\n", "/: is a folder\n"), (OLD, OLD)),
+    ((PCAP, "/"), ("file /\n", "/: is a folder\n")),
     (
         ("no folder/a.pcap", CHART),
         (
             "file no folder/a.pcap\n",
-            "no folder/a.pcap: no such file\n",
+            "no folder/a.pcap: its folder isn't there\n",
         ),
-        (OLD, OLD),
     ),
     // the capture comes first
-    (
-        ("/", "no folder/a.svg"),
-        ("file /\n", "/: is a folder\n"),
-        (OLD, OLD),
-    ),
+    (("/", "no folder/a.svg"), ("file /\n", "/: is a folder\n")),
 ];
+
+/// The capture and the chart of these paths.
+fn views_at<'a>(paths: (&'a str, &'a str)) -> Views<'a> {
+    Views {
+        words: false,
+        state: false,
+        pcap: Some(paths.0),
+        chart: Some(paths.1),
+    }
+}
 
 /// Opens the files of these paths: what is printed and what is said then.
 fn open_them(
@@ -48,12 +54,7 @@ fn open_them(
     paths: (&str, &str),
     texts: (&str, &str),
 ) -> Result<(), Fail> {
-    let views = Views {
-        words: false,
-        state: false,
-        pcap: Some(paths.0),
-        chart: Some(paths.1),
-    };
+    let views = views_at(paths);
     let mut out = Vec::new(rt.alloc());
     let mut errors = Vec::new(rt.alloc());
     let is_open = open_sheets(rt, &views, &mut out, &mut errors)?.is_some();
@@ -63,19 +64,51 @@ fn open_them(
     Ok(())
 }
 
-#[test]
-fn no_file_is_emptied_where_another_cannot_be_made(rt: HostRuntime) -> Result<(), Fail> {
-    for (paths, texts, left) in OPENED {
-        fs::write(&rt, PCAP, OLD)?;
-        fs::write(&rt, CHART, OLD)?;
-        open_them(&rt, *paths, *texts)?;
-        let pcap = fs::read_to_string(&rt, PCAP)?;
-        let chart = fs::read_to_string(&rt, CHART)?;
-        assert_eq!(rt; (pcap.as_str(), chart.as_str()), *left, "{paths:?}");
-    }
-    fs::remove_file(&rt, PCAP)?;
-    fs::remove_file(&rt, CHART)?;
+/// Writes what stood in both files before.
+fn write_old(rt: &impl Files) -> Result<(), Fail> {
+    fs::write(rt, PCAP, OLD)?;
+    fs::write(rt, CHART, OLD)?;
     Ok(())
+}
+
+/// Removes both files.
+fn remove_both(rt: &impl Files) -> Result<(), Fail> {
+    fs::remove_file(rt, PCAP)?;
+    fs::remove_file(rt, CHART)?;
+    Ok(())
+}
+
+/// No file is emptied when it is opened, and both are when they are written: a capture without packets has 24 octets.
+fn opens_and_writes(rt: &(impl Files + AllocGlobal + Abort)) -> Result<(), Fail> {
+    let alloc = rt.alloc();
+    for (paths, texts) in OPENED {
+        open_them(rt, *paths, *texts)?;
+        assert_eq!(rt; fs::read_to_string(rt, PCAP)?.as_str(), OLD, "{paths:?}");
+        assert_eq!(rt; fs::read_to_string(rt, CHART)?.as_str(), OLD, "{paths:?}");
+    }
+    let views = views_at((PCAP, CHART));
+    let mut out = Vec::new(alloc);
+    let mut errors = Vec::new(alloc);
+    let Some(sheets) = open_sheets(rt, &views, &mut out, &mut errors)? else {
+        assert!(rt; false, "files are open");
+        return Ok(());
+    };
+    let viewer = Viewer::new(alloc, alloc, &views, ALONE, &mut out)?;
+    sheets.finish(&viewer, &mut errors)?;
+    assert_eq!(rt; fs::read(rt, PCAP)?.len(), 24);
+    let chart = fs::read_to_string(rt, CHART)?;
+    assert!(rt;
+        chart.starts_with("<svg ") && chart.ends_with("</svg>\n"),
+        "{chart}"
+    );
+    Ok(())
+}
+
+#[test]
+fn no_file_is_emptied_before_it_is_written(rt: HostRuntime) -> Result<(), Fail> {
+    write_old(&rt)?;
+    opens_and_writes(&rt)?;
+    remove_both(&rt)
 }
 
 #[test]

@@ -92,6 +92,26 @@ fn words_stand_behind_each_line(rt: HostRuntime) -> Result<(), Fail> {
     Ok(())
 }
 
+/// Whether the words behind a fault of 1,025 octets, which are too long, name a call: these octets, and then zeros.
+const TOO_LONG: &[(&str, &str)] = &[
+    ("0822010b", "fault abis 6 # call 1;"),
+    // another timeslot, and another element
+    ("08220108", "fault abis 6 # no call;"),
+    ("0822020b", "fault abis 6 # no call;"),
+];
+
+#[test]
+fn octets_that_are_too_long_are_about_their_channel(rt: HostRuntime) -> Result<(), Fail> {
+    let opened = "in open 1 0 0 3\nevent open 1 0/0/3 -> done\n";
+    for (front, fault) in TOO_LONG {
+        let zeros = "00".repeat(rt.alloc(), 1_021)?;
+        let trace = format!(in rt.alloc(); "{opened}in abis 0 0 {front}{zeros}\nfault abis 6\n")?;
+        let text = printed(rt.alloc(), &WORDS, &trace, 10_000)?;
+        assert!(rt; text.as_str().contains(*fault), "{text}");
+    }
+    Ok(())
+}
+
 /// The first trace, with words.
 fn first_trace() -> &'static str {
     TRACES.first().copied().unwrap_or("")
