@@ -2,7 +2,10 @@
 
 /// A text of [`THREE_CHANNELS`](crate::THREE_CHANNELS), what stands in its place, and why the site is refused then, as the
 /// program prints it behind `site`: the number of the fault, and the key, the kind or the cell.
-pub const FAULTY: &[(&str, &str, &str)] = &[
+pub type Faulty = (&'static str, &'static str, &'static str);
+
+/// What isn't TOML, and what is wrong with the keys of a handover.
+pub const FAULTY_HANDOVER: &[Faulty] = &[
     // what isn't TOML
     ("window = 2", "window = ", "1"),
     ("window = 2", "window = 2\nwindow = 2", "1"),
@@ -24,7 +27,10 @@ pub const FAULTY: &[(&str, &str, &str)] = &[
     ("minimum = 10\n", "", "2 minimum"),
     ("minimum = 10", "minimum = 64", "3 minimum"),
     ("minimum = 10", "minimum = 1979-05-27", "3 minimum"),
-    // what every cell has
+];
+
+/// What is wrong with the keys of a cell, its BA list among them.
+pub const FAULTY_CELLS: &[Faulty] = &[
     ("lac = 23\n", "", "2 lac"),
     ("lac = 23", "lac = 65536", "3 lac"),
     ("ci = 100\n", "", "2 ci"),
@@ -47,7 +53,10 @@ pub const FAULTY: &[(&str, &str, &str)] = &[
         "ba = [0, 0, 0, 0, 0, 0, 0, 0, 0, 0, 0, 0, 0, 0, 0, 0, 0, 0, 0, 0, 0, 0, 0, 0, 0, 0, 0, 0, 0, 0, 0, 0, 0]",
         "3 ba",
     ),
-    // the TRX
+];
+
+/// What is wrong with a TRX.
+pub const FAULTY_TRX: &[Faulty] = &[
     ("trx = [{ arfcn = 60, tch = [2, 3] }]\n", "", "2 trx"),
     ("trx = [{ arfcn = 60, tch = [2, 3] }]", "trx = 1", "3 trx"),
     ("trx = [{ arfcn = 60, tch = [2, 3] }]", "trx = []", "3 trx"),
@@ -83,7 +92,10 @@ pub const FAULTY: &[(&str, &str, &str)] = &[
         "3 tch",
     ),
     ("tch = [3]", "tch = [8]", "3 tch"),
-    // the cells of others
+];
+
+/// What is wrong with the cells of others, and what stands twice.
+pub const FAULTY_OUTSIDE: &[Faulty] = &[
     ("[[outside]]", "[outside]", "3 outside"),
     ("[[outside]]\nlac = 23\n", "[[outside]]\n", "2 lac"),
     ("ci = 102", "ci = -1", "3 ci"),
@@ -108,7 +120,10 @@ pub const FAULTY: &[(&str, &str, &str)] = &[
     ),
     ("tch = [2, 3]", "tch = [1, 2, 3, 4, 5, 6, 7, 2]", "4 slot"),
     ("ba = [60]", "ba = [60, 60]", "4 neighbour"),
-    // a cell that can't carry a call
+];
+
+/// Cells that can't carry a call, and the first of several checks that fail.
+pub const FAULTY_TOGETHER: &[Faulty] = &[
     ("tch = [2, 3]", "tch = []", "5 0"),
     ("tch = [3]", "tch = []", "5 1"),
     // the first of several checks that fail

@@ -4,7 +4,9 @@
 mod faulty;
 
 use channel_fsm::ChanId;
-pub use faulty::FAULTY;
+pub use faulty::{
+    FAULTY_CELLS, FAULTY_HANDOVER, FAULTY_OUTSIDE, FAULTY_TOGETHER, FAULTY_TRX, Faulty,
+};
 use std::alloc::{AllocError, Global};
 use std::fmt::Write;
 

@@ -2,7 +2,9 @@ use super::{changed, fault_of};
 use cell_table::SiteFault::{Missing, NoMemory, NoTraffic, Range, Toml, Twice};
 use cell_table::{Key, Site, SiteFault};
 use refusing_heap::RefusingHeap;
-use sample_sites::FAULTY;
+use sample_sites::{
+    FAULTY_CELLS, FAULTY_HANDOVER, FAULTY_OUTSIDE, FAULTY_TOGETHER, FAULTY_TRX, Faulty,
+};
 use std::alloc::{AllocError, Global};
 use std::process::Abort;
 use std::test::Fail;
@@ -129,15 +131,24 @@ fn is_refused_for(rt: &(impl AllocGlobal + Abort), text: &str, printed: &str) ->
     Ok(())
 }
 
-#[test]
-fn what_is_one_key_away_is_refused(rt: HostRuntime) -> Result<(), Fail> {
+/// Sites in which a text stands in another's place are refused as it is said, and ask for no memory but `toml`'s.
+fn are_refused_for(rt: &(impl AllocGlobal + Abort), rows: &[Faulty]) -> Result<(), Fail> {
     let heap = RefusingHeap::refusing_from(rt.alloc(), 1);
-    for (old, new, printed) in FAULTY {
-        let text = changed(&rt, rt.alloc(), *old, *new)?;
-        is_refused_for(&rt, &text, *printed)?;
-        asks_for_none(&rt, rt.alloc(), &heap, &text);
+    for (old, new, printed) in rows {
+        let text = changed(rt, rt.alloc(), *old, *new)?;
+        is_refused_for(rt, &text, *printed)?;
+        asks_for_none(rt, rt.alloc(), &heap, &text);
     }
     Ok(())
+}
+
+#[test]
+fn what_is_one_key_away_is_refused(rt: HostRuntime) -> Result<(), Fail> {
+    are_refused_for(&rt, FAULTY_HANDOVER)?;
+    are_refused_for(&rt, FAULTY_CELLS)?;
+    are_refused_for(&rt, FAULTY_TRX)?;
+    are_refused_for(&rt, FAULTY_OUTSIDE)?;
+    are_refused_for(&rt, FAULTY_TOGETHER)
 }
 
 #[test]

@@ -23,32 +23,32 @@ use std::test::Fail;
 
 /// What came before, an input, and how many requests for memory it makes at least: one for each table of the book that
 /// gets its first entry, for the first entries of the history, for each list that a message keeps, for the list of messages
-/// and for a buffer of each; none where a buffer is left from before.
+/// and for a buffer of each; none where a buffer is left from before. The inputs of a call.
 const REQUESTS: &[(&[Row], Row, u64)] = &[
     (&[], OPENS, 5),
     (&[OPENS], ACTIVATED, 1),
-    (&[OPENS, ACTIVATED], STARTS, 2),
-    (&[OPENS, ACTIVATED, STARTS], UNDOES, 1),
     (&[OPENS, ACTIVATED], CLEARS, 1),
-    (&[OPENS, ACTIVATED, STARTS], TARGET_ACTIVATED, 1),
-    (&[OPENS, ACTIVATED, STARTS], TARGET_REFUSES, 1),
     (&[OPENS, ACTIVATED, CLEARS], RELEASED, 0),
     (&[OPENS, ACTIVATED], FAILS, 1),
-    (&[OPENS, ACTIVATED, STARTS, TARGET_ACTIVATED], DETECTS, 0),
-    (
-        &[OPENS, ACTIVATED, STARTS, TARGET_ACTIVATED, DETECTS],
-        COMPLETES,
-        1,
-    ),
-    (
-        &[OPENS, ACTIVATED, STARTS, TARGET_ACTIVATED, DETECTS],
-        EXPIRES,
-        1,
-    ),
-    (&[OPENS, ACTIVATED, STARTS, TARGET_ACTIVATED], RETURNS, 1),
-    (&[OPENS, ACTIVATED], REPORTS, 3),
-    (&[OPENS, ACTIVATED, REPORTS], REPORTS_AGAIN, 3),
     (&[OPENS, ACTIVATED], CLEAR_COMMAND, 2),
+    (&[OPENS], CLEARS_PENDING, 2),
+    (&[OPENS_OTHER], REFUSED_AT_ONCE, 2),
+    (&[OPENS_OTHER, REFUSED_AT_ONCE], CLEAR_COMMAND_HELD, 2),
+    (&[OPENS, ACTIVATED, CLEAR_COMMAND], CLEAR_COMMAND_AGAIN, 1),
+];
+
+/// The same of a handover.
+const MOVING: &[(&[Row], Row, u64)] = &[
+    (&[OPENS, ACTIVATED], STARTS, 2),
+    (&[OPENS, ACTIVATED, STARTS], UNDOES, 1),
+    (&[OPENS, ACTIVATED, STARTS], TARGET_ACTIVATED, 1),
+    (&[OPENS, ACTIVATED, STARTS], TARGET_REFUSES, 1),
+    (&[OPENS, ACTIVATED, STARTS, TARGET_ACTIVATED], DETECTS, 0),
+];
+
+/// The same of one whose mobile was commanded to the target.
+const COMMANDED: &[(&[Row], Row, u64)] = &[
+    (&[OPENS, ACTIVATED, STARTS, TARGET_ACTIVATED], RETURNS, 1),
     (
         &[OPENS, ACTIVATED, STARTS, TARGET_ACTIVATED],
         CLEAR_COMMAND_COMMANDED,
@@ -69,15 +69,31 @@ const REQUESTS: &[(&[Row], Row, u64)] = &[
         COMPLETES_UNSEEN,
         1,
     ),
+];
+
+/// The same of one whose mobile was detected there.
+const DETECTED: &[(&[Row], Row, u64)] = &[
+    (
+        &[OPENS, ACTIVATED, STARTS, TARGET_ACTIVATED, DETECTS],
+        COMPLETES,
+        1,
+    ),
+    (
+        &[OPENS, ACTIVATED, STARTS, TARGET_ACTIVATED, DETECTS],
+        EXPIRES,
+        1,
+    ),
     (
         &[OPENS, ACTIVATED, STARTS, TARGET_ACTIVATED, DETECTS, EXPIRES],
         EXPIRES_AGAIN,
         1,
     ),
-    (&[OPENS], CLEARS_PENDING, 2),
-    (&[OPENS_OTHER], REFUSED_AT_ONCE, 2),
-    (&[OPENS_OTHER, REFUSED_AT_ONCE], CLEAR_COMMAND_HELD, 2),
-    (&[OPENS, ACTIVATED, CLEAR_COMMAND], CLEAR_COMMAND_AGAIN, 1),
+];
+
+/// The same of reports.
+const REPORTED: &[(&[Row], Row, u64)] = &[
+    (&[OPENS, ACTIVATED], REPORTS, 3),
+    (&[OPENS, ACTIVATED, REPORTS], REPORTS_AGAIN, 3),
     (&[OPENS, ACTIVATED], MEASURES, 1),
     (&[OPENS, ACTIVATED, STARTS], REPORTS_MOVING, 3),
 ];
@@ -118,7 +134,7 @@ const INCOMING: &[(&[Row], Row, u64)] = &[
     ),
 ];
 
-/// The same of a call that leaves for another controller. To reject it asks for none.
+/// The same of a call that is to leave for another controller. To reject it asks for none.
 const OUTGOING: &[(&[Row], Row, u64)] = &[
     (&[OPENS, ACTIVATED], outgoing::LEAVES, 1),
     (&[OPENS, ACTIVATED, outgoing::LEAVES], outgoing::ORDERS, 4),
@@ -143,6 +159,10 @@ const OUTGOING: &[(&[Row], Row, u64)] = &[
         outgoing::REPORTS_AGAIN,
         4,
     ),
+];
+
+/// The same of one whose mobile was sent there.
+const ORDERED: &[(&[Row], Row, u64)] = &[
     (
         &[OPENS, ACTIVATED, outgoing::LEAVES, outgoing::ORDERS],
         outgoing::RETURNS,
@@ -356,7 +376,15 @@ fn are_answered(
 
 #[test]
 fn refused_memory_is_answered(rt: HostRuntime) -> Result<(), Fail> {
-    are_answered(&rt, THREE_CHANNELS, REQUESTS)
+    are_answered(&rt, THREE_CHANNELS, REQUESTS)?;
+    are_answered(&rt, THREE_CHANNELS, REPORTED)
+}
+
+#[test]
+fn refused_memory_is_answered_while_a_call_moves(rt: HostRuntime) -> Result<(), Fail> {
+    are_answered(&rt, THREE_CHANNELS, MOVING)?;
+    are_answered(&rt, THREE_CHANNELS, COMMANDED)?;
+    are_answered(&rt, THREE_CHANNELS, DETECTED)
 }
 
 #[test]
@@ -366,7 +394,8 @@ fn refused_memory_is_answered_while_a_call_comes(rt: HostRuntime) -> Result<(), 
 
 #[test]
 fn refused_memory_is_answered_while_a_call_leaves(rt: HostRuntime) -> Result<(), Fail> {
-    are_answered(&rt, THREE_CHANNELS, OUTGOING)
+    are_answered(&rt, THREE_CHANNELS, OUTGOING)?;
+    are_answered(&rt, THREE_CHANNELS, ORDERED)
 }
 
 #[test]

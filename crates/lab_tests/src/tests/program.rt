@@ -10,7 +10,10 @@ use std::test::Fail;
 const STDIN: &[u8] = b"rr 06 2c 00 77 # note";
 
 /// The words of a command line, the status that it ends with, what it prints, and a part of what it says of an error.
-const LINES: &[(&[&str], u8, &str, &str)] = &[
+type Line = (&'static [&'static str], u8, &'static str, &'static str);
+
+/// Messages.
+const MESSAGES: &[Line] = &[
     (
         &["decode", "rr", "062c00"],
         0,
@@ -59,6 +62,10 @@ const LINES: &[(&[&str], u8, &str, &str)] = &[
         "",
         "no message of the link a: a name stands before fields as KEY=VALUE, and bsc_lab help encode lists both\n",
     ),
+];
+
+/// The same of files.
+const FILES: &[Line] = &[
     (
         &["run", "no site", "no script"],
         2,
@@ -119,6 +126,10 @@ const LINES: &[(&[&str], u8, &str, &str)] = &[
         "file no site\n",
         "no site: no such file",
     ),
+];
+
+/// The same of what is said in words.
+const EXPLAINED: &[Line] = &[
     (
         &["explain", "refused", "6"],
         0,
@@ -143,6 +154,10 @@ const LINES: &[(&[&str], u8, &str, &str)] = &[
         "an element is cut at offset 1\n",
         "",
     ),
+];
+
+/// The same of what is no number of a refusal, a cause or a fault, or of a line.
+const NUMBERS: &[Line] = &[
     (&["explain", "refused", "10"], 2, "", "no refusal 10"),
     // what a number may be that is none
     (
@@ -194,6 +209,10 @@ const LINES: &[(&[&str], u8, &str, &str)] = &[
         "",
         "fault a 2 has no argument",
     ),
+];
+
+/// The same of the files of views, and of what is no command.
+const VIEWS: &[Line] = &[
     (
         &[
             "run",
@@ -271,12 +290,21 @@ fn ends(
     Ok(())
 }
 
-#[test]
-fn command_lines_end_with_their_status(rt: HostRuntime) -> Result<(), Fail> {
-    for (words, status, text, part) in LINES {
-        ends(&rt, *words, *status, *text, *part)?;
+/// All command lines of a table end as they say.
+fn all_end(rt: &(impl Files + AllocGlobal + Abort), lines: &[Line]) -> Result<(), Fail> {
+    for (words, status, text, part) in lines {
+        ends(rt, *words, *status, *text, *part)?;
     }
     Ok(())
+}
+
+#[test]
+fn command_lines_end_with_their_status(rt: HostRuntime) -> Result<(), Fail> {
+    all_end(&rt, MESSAGES)?;
+    all_end(&rt, FILES)?;
+    all_end(&rt, EXPLAINED)?;
+    all_end(&rt, NUMBERS)?;
+    all_end(&rt, VIEWS)
 }
 
 #[test]

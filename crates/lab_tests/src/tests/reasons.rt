@@ -3,7 +3,9 @@ use lab::files::run_files;
 use lab::run::Status;
 use lab::site_files::SitePaths;
 use run_views::Views;
-use sample_sites::{FAULTY, changed};
+use sample_sites::{
+    FAULTY_CELLS, FAULTY_HANDOVER, FAULTY_OUTSIDE, FAULTY_TOGETHER, FAULTY_TRX, Faulty, changed,
+};
 use std::alloc::{AllocError, Global};
 use std::process::Abort;
 use std::rt::Files;
@@ -336,7 +338,7 @@ fn agrees(rt: &(impl Files + AllocGlobal + Abort), site: &str, printed: &str) ->
 }
 
 /// Each site, in which a text stands in another's place, is refused as it is printed.
-fn agree(rt: &(impl Files + AllocGlobal + Abort), rows: &[(&str, &str, &str)]) -> Result<(), Fail> {
+fn agree(rt: &(impl Files + AllocGlobal + Abort), rows: &[Faulty]) -> Result<(), Fail> {
     for (old, new, printed) in rows {
         let site = changed(rt.alloc(), SITE, *old, *new)?.expect(rt, *old);
         agrees(rt, &site, *printed)?;
@@ -346,7 +348,11 @@ fn agree(rt: &(impl Files + AllocGlobal + Abort), rows: &[(&str, &str, &str)]) -
 
 #[test]
 fn the_line_names_what_is_printed(rt: HostRuntime) -> Result<(), Fail> {
-    agree(&rt, FAULTY)?;
+    agree(&rt, FAULTY_HANDOVER)?;
+    agree(&rt, FAULTY_CELLS)?;
+    agree(&rt, FAULTY_TRX)?;
+    agree(&rt, FAULTY_OUTSIDE)?;
+    agree(&rt, FAULTY_TOGETHER)?;
     fs::remove_file(&rt, FAULTY_FILE)?;
     Ok(())
 }

@@ -246,7 +246,7 @@ fn decode_names_a_file(rt: HostRuntime) {
     }
 }
 
-/// Words that ask for a text, and a part of it.
+/// Words that are answered by a text, and a part of it: what commands are for, and what their words are.
 const SHOWS: &[(&[&str], &str)] = &[
     (&["--help"], "Runs a script over a site"),
     (&["help"], "Runs a script over a site"),
@@ -272,6 +272,10 @@ const SHOWS: &[(&[&str], &str)] = &[
         &["help", "check"],
         "neighbour carrier that no other cell has",
     ),
+];
+
+/// The same of options and of numbers.
+const SHOWS_OPTIONS: &[(&[&str], &str)] = &[
     (&["rewind", "--help"], "The trace, as run prints it"),
     (&["help", "rewind"], "counted from 1"),
     (&["--help"], "explain refused 6"),
@@ -281,6 +285,10 @@ const SHOWS: &[(&[&str], &str)] = &[
     (&["run", "--help"], "--chart <FILE>"),
     (&["explain", "--help"], "explain cause a 33"),
     (&["explain", "fault", "--help"], "abis the base station"),
+];
+
+/// The same of statuses and examples, and of versions.
+const SHOWS_STATUSES: &[(&[&str], &str)] = &[
     (&["help", "run"], "\n  mobile CELL TRX TN HABIT "),
     (&["help", "run"], "Statuses: 0 "),
     (&["help", "run"], "As in: bsc_lab run "),
@@ -351,6 +359,10 @@ const REFUSALS: &[(&[&str], &str, &str)] = &[
         "'--words'",
         "bsc_lab rewind <SITE> <TRACE> <LINE>",
     ),
+];
+
+/// The same of sites that are checked, and of what is said in words.
+const REFUSALS_OF_CHECK: &[(&[&str], &str, &str)] = &[
     (&["check"], "not provided: <SITE>", "bsc_lab check <SITE>"),
     (
         &["check", "a.toml", "b.toml"],
@@ -371,6 +383,10 @@ const REFUSALS: &[(&[&str], &str, &str)] = &[
         "'2'",
         "bsc_lab explain fault <LINK> <N> [ARGUMENT]",
     ),
+];
+
+/// The same of messages in words.
+const REFUSALS_OF_ENCODE: &[(&[&str], &str, &str)] = &[
     (
         &["encode"],
         "not provided: <LINK> <TEXT>",
@@ -387,6 +403,10 @@ const REFUSALS: &[(&[&str], &str, &str)] = &[
         "'COMPLETE'",
         "bsc_lab encode <LINK> <TEXT>",
     ),
+];
+
+/// The same of messages in octets.
+const REFUSALS_OF_DECODE: &[(&[&str], &str, &str)] = &[
     (&["decode"], "not provided: <LINK> <HEX>", "bsc_lab decode "),
     (&["decode", "rr"], "not provided: <HEX>", "bsc_lab decode "),
     (&["decode", "A", "00"], "'A'", "rr, a, abis"),
@@ -412,6 +432,10 @@ const REFUSALS: &[(&[&str], &str, &str)] = &[
         "'--from <FILE>'",
         "bsc_lab decode ",
     ),
+];
+
+/// The same of a rewind, and of words with ends of lines, blanks and control characters.
+const REFUSALS_OF_REWIND: &[(&[&str], &str, &str)] = &[
     (
         &["rewind"],
         "not provided: <SITE> <TRACE> <LINE>",
@@ -504,5 +528,11 @@ fn are_refused<'a>(rt: &impl Abort, alloc: Global, rows: &'a [(&'a [&'a str], &'
 #[test]
 fn help_and_version_are_shown_and_other_words_refused(rt: HostRuntime) {
     are_shown(&rt, rt.alloc(), SHOWS);
+    are_shown(&rt, rt.alloc(), SHOWS_OPTIONS);
+    are_shown(&rt, rt.alloc(), SHOWS_STATUSES);
     are_refused(&rt, rt.alloc(), REFUSALS);
+    are_refused(&rt, rt.alloc(), REFUSALS_OF_CHECK);
+    are_refused(&rt, rt.alloc(), REFUSALS_OF_ENCODE);
+    are_refused(&rt, rt.alloc(), REFUSALS_OF_DECODE);
+    are_refused(&rt, rt.alloc(), REFUSALS_OF_REWIND);
 }
