@@ -21,7 +21,7 @@ fn words_of(kind: ErrorKind) -> Option<&'static str>
         ErrorKind::PermissionDenied => Some("no permission"),
         ErrorKind::IsADirectory => Some("is a folder"),
         ErrorKind::NotADirectory => Some("a part of its path is no folder"),
-        ErrorKind::ReadOnlyFilesystem => Some("may be read alone"),
+        ErrorKind::ReadOnlyFilesystem => Some("can only be read"),
         ErrorKind::StorageFull => Some("no space left"),
         ErrorKind::BrokenPipe => Some("nobody reads it any more"),
         _ => None,

@@ -7,6 +7,7 @@ use line_words::WordsFault;
 use std::alloc::Allocator;
 use std::fs::{OpenFile, OpenOptions};
 use std::io::{self, BufWriter, Write};
+use std::os::unix::fs::MetadataExt;
 use std::rt::Files;
 
 /// A file that is open for writing, with its path.
@@ -23,10 +24,14 @@ pub struct Sheets<'a, F: Write + Drop> {
     chart: Option<Sheet<'a, F>>,
 }
 
-/// Why a file can't be opened or made, in a few words: one that isn't there would be made, so its folder isn't.
+/// Why a file can't be opened or made, in a few words: one that isn't there would be made, so it is its folder's fault.
 fn say_unopened<E: Write>(path: &str, error: &io::Error, errors: &mut E) -> io::Result<()> {
     if error.kind() == io::ErrorKind::NotFound {
-        writeln!(errors, "{}: its folder isn't there", Escaped(path))
+        writeln!(
+            errors,
+            "{}: its folder isn't there, or takes no new file",
+            Escaped(path)
+        )
     } else {
         writeln!(errors, "{}: {}", Escaped(path), Reason(error))
     }
@@ -76,9 +81,34 @@ fn clear<F: OpenFile>(file: &F) -> io::Result<()> {
     }
 }
 
+/// Whether two files that are open are one regular file; no, where that isn't known. Files that a test stands in for have
+/// no number.
+fn is_one_file<F: OpenFile>(one: &F, other: &F) -> bool {
+    match (one.metadata(), other.metadata()) {
+        (Ok(one), Ok(other)) => {
+            one.is_file() && one.ino() != 0 && one.dev() == other.dev() && one.ino() == other.ino()
+        }
+        (Err(_), _) | (_, Err(_)) => false,
+    }
+}
+
+/// The path of the chart, where it is written to the file of the capture, under another path or the same: one of them
+/// would be lost.
+fn named_twice<'a, F: Write + OpenFile + Drop>(
+    pcap: Option<&Sheet<'a, F>>,
+    chart: Option<&Sheet<'a, F>>,
+) -> Option<&'a str> {
+    let (pcap, chart) = (pcap?, chart?);
+    if is_one_file(pcap.out.get_ref(), chart.out.get_ref()) {
+        Some(chart.path)
+    } else {
+        None
+    }
+}
+
 /// Opens the files of views, that of the capture first, and makes those that aren't there; nothing where one can't be
-/// opened, and then the path of the first such was printed, and on `errors` why. What stands in them stays until they are
-/// written ([`Sheets::finish`]).
+/// opened, or both are one regular file, and then the path of the first such was printed, and on `errors` why. What stands
+/// in them stays until they are written ([`Sheets::finish`]).
 pub fn open_sheets<'a, R: Files + AllocGlobal, W: Write, E: Write>(
     rt: &R,
     views: &Views<'a>,
@@ -99,6 +129,11 @@ pub fn open_sheets<'a, R: Files + AllocGlobal, W: Write, E: Write>(
         },
         None => None,
     };
+    if let Some(path) = named_twice(pcap.as_ref(), chart.as_ref()) {
+        writeln!(errors, "{}: named twice", Escaped(path))?;
+        writeln!(out, "file {path}")?;
+        return Ok(None);
+    }
     Ok(Some(Sheets { pcap, chart }))
 }
 

@@ -20,15 +20,19 @@ fn channel_named(cell: u8, trx: u8, octets: &[u8]) -> Option<ChanId> {
     })
 }
 
-/// The channel that octets on Abis are about, also where an element of theirs is wrong or they are too long. `None` where
-/// they name none.
+/// No message on Abis has more octets.
+const MOST_OCTETS: usize = 1024;
+
+/// The channel that octets on Abis are about, also where an element of theirs is wrong. Of octets that are too long it is
+/// that of their front. `None` where they name none.
 fn channel_in<A: Allocator + Copy>(
     alloc: A,
     cell: u8,
     trx: u8,
     octets: &[u8],
 ) -> Result<Option<ChanId>, AllocError> {
-    match rsl_messages::decode(alloc, octets) {
+    let front = octets.get(..MOST_OCTETS).unwrap_or(octets);
+    match rsl_messages::decode(alloc, front) {
         Ok(message) => Ok(Some(chan_of(cell, trx, &message))),
         Err(RslFault::NoMemory) => Err(AllocError),
         Err(

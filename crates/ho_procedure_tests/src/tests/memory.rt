@@ -6,8 +6,8 @@ use super::reports::{
 use super::rows::{
     ACTIVATED, CLEAR_COMMAND, CLEAR_COMMAND_AGAIN, CLEAR_COMMAND_COMMANDED, CLEAR_COMMAND_HELD,
     CLEARS, CLEARS_COMMANDED, CLEARS_PENDING, COMPLETES, COMPLETES_UNSEEN, DETECTS, EXPIRES,
-    EXPIRES_AGAIN, FAILS, OPENS, OPENS_OTHER, OPENS_TARGET, REFUSED_AT_ONCE, RELEASED, RETURNS,
-    Row, STARTS, TARGET_ACTIVATED, TARGET_REFUSES, UNDOES, UNDOES_COMMANDED,
+    EXPIRES_AGAIN, FAILS, OPENS, OPENS_AGAIN, OPENS_OTHER, OPENS_TARGET, REFUSED_AT_ONCE, RELEASED,
+    RETURNS, Row, STARTS, TARGET_ACTIVATED, TARGET_REFUSES, UNDOES, UNDOES_COMMANDED,
 };
 use super::{
     Radio, are_first_messages, comes_to, entries, inbound, incoming, opened, outgoing, play,
@@ -28,7 +28,7 @@ const REQUESTS: &[(&[Row], Row, u64)] = &[
     (&[], OPENS, 5),
     (&[OPENS], ACTIVATED, 1),
     (&[OPENS, ACTIVATED], CLEARS, 1),
-    (&[OPENS, ACTIVATED, CLEARS], RELEASED, 0),
+    (&[OPENS, OPENS_AGAIN, CLEARS_PENDING], RELEASED, 1),
     (&[OPENS, ACTIVATED], FAILS, 1),
     (&[OPENS, ACTIVATED], CLEAR_COMMAND, 2),
     (&[OPENS], CLEARS_PENDING, 2),
@@ -134,11 +134,11 @@ const INCOMING: &[(&[Row], Row, u64)] = &[
     ),
 ];
 
-/// The same of a call that is to leave for another controller. To reject it asks for none.
+/// The same of a call that is to leave for another controller.
 const OUTGOING: &[(&[Row], Row, u64)] = &[
     (&[OPENS, ACTIVATED], outgoing::LEAVES, 1),
     (&[OPENS, ACTIVATED, outgoing::LEAVES], outgoing::ORDERS, 4),
-    (&[OPENS, ACTIVATED, outgoing::LEAVES], outgoing::REJECTS, 0),
+    (&[OPENS, ACTIVATED, outgoing::LEAVES], outgoing::REJECTS, 1),
     (
         &[OPENS, ACTIVATED, outgoing::LEAVES],
         outgoing::EXPIRES_T7,

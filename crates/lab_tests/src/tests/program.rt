@@ -223,7 +223,7 @@ const VIEWS: &[Line] = &[
         ],
         2,
         "file no folder/a.pcap\n",
-        "no folder/a.pcap: its folder isn't there",
+        "no folder/a.pcap: its folder isn't there, or takes no new file",
     ),
     (
         &[
@@ -235,7 +235,7 @@ const VIEWS: &[Line] = &[
         ],
         2,
         "file no folder/a.svg\n",
-        "no folder/a.svg: its folder isn't there",
+        "no folder/a.svg: its folder isn't there, or takes no new file",
     ),
     (
         &["run", "a", "b", "--pcap", "c", "--chart", "c"],

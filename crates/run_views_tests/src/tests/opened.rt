@@ -23,7 +23,7 @@ const OPENED: &[((&str, &str), (&str, &str))] = &[
         (PCAP, "no folder/a.svg"),
         (
             "file no folder/a.svg\n",
-            "no folder/a.svg: its folder isn't there\n",
+            "no folder/a.svg: its folder isn't there, or takes no new file\n",
         ),
     ),
     ((PCAP, "/"), ("file /\n", "/: is a folder\n")),
@@ -31,11 +31,18 @@ const OPENED: &[((&str, &str), (&str, &str))] = &[
         ("no folder/a.pcap", CHART),
         (
             "file no folder/a.pcap\n",
-            "no folder/a.pcap: its folder isn't there\n",
+            "no folder/a.pcap: its folder isn't there, or takes no new file\n",
         ),
     ),
     // the capture comes first
     (("/", "no folder/a.svg"), ("file /\n", "/: is a folder\n")),
+    // one file under two paths
+    (
+        (PCAP, "./opened.pcap"),
+        ("file ./opened.pcap\n", "./opened.pcap: named twice\n"),
+    ),
+    // a device may be named twice
+    (("/dev/null", "/dev/null"), ("", "")),
 ];
 
 /// The capture and the chart of these paths.
@@ -121,5 +128,13 @@ fn a_capture_that_was_made_stays_empty_where_the_chart_cannot_be_made(
     let octets = fs::read(&rt, made)?;
     assert!(rt; octets.is_empty());
     fs::remove_file(&rt, made)?;
+    Ok(())
+}
+
+#[test]
+fn a_file_that_is_to_be_made_is_known_under_two_paths(rt: HostRuntime) -> Result<(), Fail> {
+    let texts = ("file ./opened_once\n", "./opened_once: named twice\n");
+    open_them(&rt, ("opened_once", "./opened_once"), texts)?;
+    fs::remove_file(&rt, "opened_once")?;
     Ok(())
 }

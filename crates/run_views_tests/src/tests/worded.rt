@@ -98,6 +98,8 @@ const TOO_LONG: &[(&str, &str)] = &[
     // another timeslot, and another element
     ("08220108", "fault abis 6 # no call;"),
     ("0822020b", "fault abis 6 # no call;"),
+    // another protocol
+    ("0f01010b", "fault abis 6 # no call;"),
 ];
 
 #[test]
