@@ -16,6 +16,7 @@ pub mod encoded;
 pub mod entries;
 pub mod files;
 mod heard;
+mod help;
 pub mod noting;
 pub mod program;
 pub mod recorded;
@@ -30,6 +31,7 @@ pub mod site_files;
 mod site_reason;
 pub mod tested;
 pub mod turn;
+mod undecoded;
 mod view_paths;
 pub mod words;
 

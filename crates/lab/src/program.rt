@@ -5,6 +5,7 @@ use crate::encoded::encode_run;
 use crate::files::{rewind_files, run_files};
 use crate::run::{LabFault, Status};
 use crate::script_files::{record_file, test_files};
+use crate::undecoded::say_undecoded;
 use crate::words::{Job, WordsFault, read_words};
 use decoded_lines::answer_file;
 use explain_command::explain;
@@ -32,11 +33,6 @@ fn refuse_words<E: Write>(reason: &str, errors: &mut E) -> Result<Status, LabFau
     Ok(Status::Refused)
 }
 
-/// Whether a text is written in pairs of hexadecimal digits.
-fn is_hexadecimal(text: &str) -> bool {
-    text.len() % 2 == 0 && text.bytes().all(|octet| octet.is_ascii_hexdigit())
-}
-
 /// Prints one message in words; where the text is refused, `errors` says why.
 fn decode<W: Write, E: Write>(
     alloc: Global,
@@ -47,12 +43,7 @@ fn decode<W: Write, E: Write>(
 ) -> Result<Status, LabFault> {
     let status = decode_run(alloc, link, text, out)?;
     if status == Status::Refused {
-        let reason = if is_hexadecimal(text) {
-            "the octets are no message of the link: bsc_lab explain fault says more"
-        } else {
-            "each octet is two hexadecimal digits, and nothing stands between them"
-        };
-        writeln!(errors, "{reason}")?;
+        say_undecoded(alloc, link, text, errors)?;
     }
     Ok(status)
 }

@@ -1,30 +1,9 @@
 //! The words of the commands that test and record scripts.
+use crate::help::{RECORD_HELP, TEST_HELP};
 use crate::site_files::SitePaths;
 use crate::words::{argument, peer_argument, with_script};
 use clap::{ArgMatches, Command};
 use std::alloc::{AllocError, Global};
-
-/// What stands behind the help of `test`.
-const TEST_HELP: &str = "\
-Comments behind a script line, #> and a line of the trace, are in order the trace lines that it
-gives; #> .. stands for any lines, or none. A script line with no such comment isn't looked at.
-Those behind the last one may end with the trace's end.
-
-Lines of a script: those of bsc_lab help run.
-
-Statuses: 0 all hold, 1 one differs, 2 one is refused, or the site, 3 memory was refused.
-
-As in: bsc_lab test site.toml one.txt another.txt";
-
-/// What stands behind the help of `record`.
-const RECORD_HELP: &str = "\
-Comments that begin with #> are written anew; all else stays as it is.
-
-Lines of a script: those of bsc_lab help run.
-
-Statuses: 0 recorded, 2 a file, the site or a script line is refused, 3 memory was refused.
-
-As in: bsc_lab record site.toml script.txt > recorded.txt";
 
 /// `test SITE SCRIPT.. [--peer SITE]`
 pub(crate) fn test_command<'a>(alloc: Global) -> Result<Command<'a>, AllocError> {

@@ -1,6 +1,7 @@
 //! The words of the command line.
 ghost use Rattle.std.specs.Prelude.{◌≡◌};
 
+use crate::help::{CHECK_HELP, DECODE_HELP, ENCODE_HELP, REWIND_HELP, RUN_HELP};
 use crate::refused_words::refused_line;
 use crate::script_words::{record_command, script_paths, site_paths, test_command};
 use crate::site_files::SitePaths;
@@ -129,30 +130,6 @@ fn run_command<'a>(alloc: Global) -> Result<Command<'a>, AllocError> {
     view_options(alloc, with_script(alloc, command)?)
 }
 
-/// What stands behind the help of `run`.
-const RUN_HELP: &str = "\
-Lines of a script (one blank between two words, numbers in decimal, HEX in hexadecimal):
-  open CALL CELL TRX TN       an operator opens a call on a channel
-  handover CALL CELL          an operator asks for the handover of a call to a cell
-  undo CALL                   an operator takes the handover of a call back
-  clear CALL                  an operator ends a call
-  expire CALL TIMER           T3103, T7 or T8 of a call runs out
-  abis CELL TRX HEX           a message comes from a TRX of a cell
-  a CALL HEX                  a message comes about a call
-  sim                         from here on stations, mobiles and a switching centre are simulated
-  refuse CELL TRX TN          behind sim: the station refuses the channel's next activation
-  hold CELL TRX TN            behind sim: the station keeps its next acknowledgement back
-  let CELL TRX TN             behind sim: the station sends what it has kept back
-  mobile CELL TRX TN HABIT    behind sim: arrive, return or vanish, when commanded to move
-  hangup CALL                 behind sim: the switching centre hangs up
-  2: LINE                     with --peer: each of these but sim, for the second controller
-  # TEXT                      a comment
-
-Statuses: 0 the script was run, 2 a file, the site or a line of the script is refused, or what is
-printed can't be written, 3 memory was refused.
-
-As in: bsc_lab run site.toml script.txt --words";
-
 /// `check SITE`
 fn check_command<'a>(alloc: Global) -> Result<Command<'a>, AllocError> {
     Command::new(alloc, "check")
@@ -160,15 +137,6 @@ fn check_command<'a>(alloc: Global) -> Result<Command<'a>, AllocError> {
         .after_help(CHECK_HELP)
         .arg(argument(alloc, "SITE", "The site file"))
 }
-
-/// What stands behind the help of `check`.
-const CHECK_HELP: &str = "\
-Prints a line for each own cell, one for each cell of others, and a warning for each key that is
-ignored, neighbour carrier that no other cell has, and cell without neighbours.
-
-Statuses: 0 the site can be read, 2 the file or the site is refused, 3 memory was refused.
-
-As in: bsc_lab check site.toml";
 
 /// `rewind SITE TRACE LINE`
 fn rewind_command<'a>(alloc: Global) -> Result<Command<'a>, AllocError> {
@@ -183,17 +151,6 @@ fn rewind_command<'a>(alloc: Global) -> Result<Command<'a>, AllocError> {
         ))?
         .arg(line_argument(alloc))
 }
-
-/// What stands behind the help of `rewind`.
-const REWIND_HELP: &str = "\
-Prints how many events are left (others), whether no release of the target is awaited (settled),
-the line of the first event that was refused for the attempt's sake (held), and whether the book
-and the replies are the same without the attempt.
-
-Statuses: 0 they are, 1 they differ, 2 a file, the site or a line of the trace is refused, or no
-undone attempt opens in the line, 3 memory was refused.
-
-As in: bsc_lab rewind site.toml run.trace 8";
 
 /// `LINE`
 fn line_argument<'a>(alloc: Global) -> Arg<'a> {
@@ -232,21 +189,6 @@ fn with_argument<'a>(
 ) -> Result<Command<'a>, AllocError> {
     command.arg(argument?)
 }
-
-/// What stands behind the help of `decode`.
-const DECODE_HELP: &str = "\
-Links: rr is the radio path (TS 44.018), a the switching centre (TS 48.008), abis the base station
-(TS 48.058).
-
-Lines of a FILE have a message's octets each, in hexadecimal: blanks, tabs and colons may stand
-around octets, and what stands behind a # is a note, which is kept. Each is answered by one line,
-with its number. Without LINK each line begins with its own, as in: abis 08 2e 01 0b
-
-Messages and their fields: those of bsc_lab help encode.
-
-Statuses: 0 all are messages, 2 one was refused or a file can't be read, 3 memory was refused.
-
-As in: bsc_lab decode --from messages.txt --all";
 
 /// An argument that has to be given by its place, unless a file is.
 fn unless_from<'a>(alloc: Global, name: &'a str, help: &'a str) -> Result<Arg<'a>, AllocError> {
@@ -305,53 +247,6 @@ fn encode_command<'a>(alloc: Global) -> Result<Command<'a>, AllocError> {
         .arg(link)?
         .arg(text)
 }
-
-/// What stands behind the help of `encode`.
-const ENCODE_HELP: &str = "\
-Links: rr is the radio path (TS 44.018), a the switching centre (TS 48.008), abis the base station
-(TS 48.058).
-
-Fields are KEY=VALUE, each once (n once for each neighbour, or not at all), in any order. Numbers
-are in decimal, yes is 1 and no 0, octets are in hexadecimal, and - is what is absent. A cell is as
-in 23/102, cells as in 23/102,23/103, and n, a neighbour's level, position and code, as in 40/2/21.
-
-Messages of rr                   Fields
-  HANDOVER COMMAND               arfcn ncc bcc tn tsc carrier reference atc power
-  HANDOVER COMPLETE              cause
-  HANDOVER FAILURE               cause
-  CHANNEL RELEASE                cause
-  PHYSICAL INFORMATION           ta
-  MEASUREMENT REPORT             ba dtx full ba3g valid sub si23 qfull qsub count n
-
-Messages of a                    Fields
-  HANDOVER REQUIRED              cause response cells
-  HANDOVER REQUIRED REJECT       cause
-  HANDOVER REQUEST               channel encryption classmark serving target
-  HANDOVER REQUEST ACKNOWLEDGE   layer3
-  HANDOVER COMMAND               layer3
-  HANDOVER DETECT                (none)
-  HANDOVER COMPLETE              rr
-  HANDOVER FAILURE               cause rr
-  HANDOVER PERFORMED             cause cell
-  CLEAR REQUEST                  cause
-  CLEAR COMMAND                  cause
-  CLEAR COMPLETE                 (none)
-
-Messages of abis                 Fields
-  CHANNEL ACTIVATION             tn activation mode reference
-  CHANNEL ACTIVATION ACK         tn frame
-  CHANNEL ACTIVATION NACK        tn cause
-  RF CHANNEL RELEASE             tn
-  RF CHANNEL RELEASE ACK         tn
-  CONNECTION FAILURE INDICATION  tn cause
-  DATA REQUEST                   tn link layer3
-  DATA INDICATION                tn link layer3
-  HANDOVER DETECTION             tn delay
-  MEASUREMENT RESULT             tn number uplink power layer3
-
-Statuses: 0 the octets are printed, 2 the message is refused, 3 memory was refused.
-
-As in: bsc_lab encode a \"CLEAR COMMAND cause=9\"";
 
 /// The job of `encode`.
 fn encode_job<'a>(encode: &ArgMatches<'a>) -> Option<Job<'a>> {

@@ -36,13 +36,13 @@ const MESSAGES: &[Line] = &[
         &["decode", "rr", "06ff"],
         2,
         "fault rr 2 255\n",
-        "no message of the link: bsc_lab explain fault says more\n",
+        "the octets are no message of the link: unknown type: FF\n",
     ),
     (
         &["decode", "abis", "0g"],
         2,
         "hex\n",
-        "each octet is two hexadecimal digits",
+        "nothing stands between them: character 2 is 'g'\n",
     ),
     (
         &["encode", "a", "CLEAR COMMAND cause=9"],

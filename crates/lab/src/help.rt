@@ -1,0 +1,171 @@
+//! What stands behind the help of each command: its script lines or its messages, its statuses, and an example. No line has
+//! over 100 columns.
+
+/// A help with the lines of a script between its front and its end.
+macro_rules! with_script_lines {
+    ($front:literal, $end:literal) => {
+        concat!(
+            $front,
+            "\
+Lines of a script (one blank between two words, numbers in decimal, HEX in hexadecimal):
+  open CALL CELL TRX TN       an operator opens a call on a channel
+  handover CALL CELL          an operator asks for the handover of a call to a cell
+  undo CALL                   an operator takes the handover of a call back
+  clear CALL                  an operator ends a call
+  expire CALL TIMER           T3103, T7 or T8 of a call runs out
+  abis CELL TRX HEX           a message comes from a TRX of a cell
+  a CALL HEX                  a message comes about a call
+  sim                         from here on stations, mobiles and a switching centre are simulated
+  refuse CELL TRX TN          behind sim: the station refuses the channel's next activation
+  hold CELL TRX TN            behind sim: the station keeps its next acknowledgement back
+  let CELL TRX TN             behind sim: the station sends what it has kept back
+  mobile CELL TRX TN HABIT    behind sim: arrive, return or vanish, when commanded to move
+  hangup CALL                 behind sim: the switching centre hangs up
+  2: LINE                     with --peer: each of these but sim, for the second controller
+  # TEXT                      a comment",
+            $end
+        )
+    };
+}
+
+/// A help with the messages and their fields between its front and its end.
+macro_rules! with_messages {
+    ($front:literal, $end:literal) => {
+        concat!(
+            $front,
+            "\
+Messages of rr                   Fields
+  HANDOVER COMMAND               arfcn ncc bcc tn tsc carrier reference atc power
+  HANDOVER COMPLETE              cause
+  HANDOVER FAILURE               cause
+  CHANNEL RELEASE                cause
+  PHYSICAL INFORMATION           ta
+  MEASUREMENT REPORT             ba dtx full ba3g valid sub si23 qfull qsub count n
+
+Messages of a                    Fields
+  HANDOVER REQUIRED              cause response cells
+  HANDOVER REQUIRED REJECT       cause
+  HANDOVER REQUEST               channel encryption classmark serving target
+  HANDOVER REQUEST ACKNOWLEDGE   layer3
+  HANDOVER COMMAND               layer3
+  HANDOVER DETECT                (none)
+  HANDOVER COMPLETE              rr
+  HANDOVER FAILURE               cause rr
+  HANDOVER PERFORMED             cause cell
+  CLEAR REQUEST                  cause
+  CLEAR COMMAND                  cause
+  CLEAR COMPLETE                 (none)
+
+Messages of abis                 Fields
+  CHANNEL ACTIVATION             tn activation mode reference
+  CHANNEL ACTIVATION ACK         tn frame
+  CHANNEL ACTIVATION NACK        tn cause
+  RF CHANNEL RELEASE             tn
+  RF CHANNEL RELEASE ACK         tn
+  CONNECTION FAILURE INDICATION  tn cause
+  DATA REQUEST                   tn link layer3
+  DATA INDICATION                tn link layer3
+  HANDOVER DETECTION             tn delay
+  MEASUREMENT RESULT             tn number uplink power layer3",
+            $end
+        )
+    };
+}
+
+/// What stands behind the help of `run`.
+pub(crate) const RUN_HELP: &str = with_script_lines!(
+    "",
+    "
+
+Statuses: 0 the script was run, 2 a file, the site or a line of the script is refused, or what is
+printed can't be written, 3 memory was refused.
+
+As in: bsc_lab run site.toml script.txt --words"
+);
+
+/// What stands behind the help of `test`.
+pub(crate) const TEST_HELP: &str = with_script_lines!(
+    "\
+Comments behind a script line, #> and a line of the trace, are in order the trace lines that it
+gives; #> .. stands for any lines, or none. A script line with no such comment isn't looked at.
+Those behind the last one may end with the trace's end.
+
+",
+    "
+
+Statuses: 0 all hold, 1 one differs, 2 one is refused, or the site, 3 memory was refused.
+
+As in: bsc_lab test site.toml one.txt another.txt"
+);
+
+/// What stands behind the help of `record`.
+pub(crate) const RECORD_HELP: &str = with_script_lines!(
+    "\
+Comments that begin with #> are written anew; all else stays as it is. Write to another file than
+SCRIPT: a shell empties that first.
+
+",
+    "
+
+Statuses: 0 recorded, 2 a file, the site or a script line is refused, 3 memory was refused.
+
+As in: bsc_lab record site.toml script.txt > recorded.txt"
+);
+
+/// What stands behind the help of `check`.
+pub(crate) const CHECK_HELP: &str = "\
+Prints a line for each own cell, one for each cell of others, and a warning for each key that is
+ignored, neighbour carrier that no other cell has, and cell without neighbours.
+
+Statuses: 0 the site can be read, 2 the file or the site is refused, 3 memory was refused.
+
+As in: bsc_lab check site.toml";
+
+/// What stands behind the help of `rewind`.
+pub(crate) const REWIND_HELP: &str = "\
+Prints how many events are left (others), whether no release of the target is awaited (settled),
+the line of the first event that was refused for the attempt's sake (held), and whether the book
+and the replies are the same without the attempt.
+
+Statuses: 0 they are, 1 they differ, 2 a file, the site or a line of the trace is refused, or no
+undone attempt opens in the line, 3 memory was refused.
+
+As in: bsc_lab rewind site.toml run.trace 8";
+
+/// What stands behind the help of `decode`.
+pub(crate) const DECODE_HELP: &str = with_messages!(
+    "\
+Links: rr is the radio path (TS 44.018), a the switching centre (TS 48.008), abis the base station
+(TS 48.058).
+
+Lines of a FILE have a message's octets each, in hexadecimal: blanks, tabs and colons may stand
+around octets, and what stands behind a # is a note, which is kept. Each is answered by one line,
+with its number. Without LINK each line begins with its own, as in: abis 08 2e 01 0b
+A line that is refused is answered by fault and its numbers (bsc_lab explain fault says them in
+words), hex (it isn't hexadecimal), link (it begins with no link) or long (over 65,536 octets).
+
+",
+    "
+
+Statuses: 0 all are messages, 2 one was refused or a file can't be read, 3 memory was refused.
+
+As in: bsc_lab decode --from messages.txt --all"
+);
+
+/// What stands behind the help of `encode`.
+pub(crate) const ENCODE_HELP: &str = with_messages!(
+    "\
+Links: rr is the radio path (TS 44.018), a the switching centre (TS 48.008), abis the base station
+(TS 48.058).
+
+Fields are KEY=VALUE, each once (n once for each neighbour, or not at all), in any order. Numbers
+are in decimal, yes is 1 and no 0, octets are in hexadecimal, and - is what is absent. A cell is as
+in 23/102, cells as in 23/102,23/103, and n, a neighbour's level, position and code, as in 40/2/21.
+
+",
+    "
+
+Statuses: 0 the octets are printed, 2 the message is refused, 3 memory was refused.
+
+As in: bsc_lab encode a \"CLEAR COMMAND cause=9\""
+);
