@@ -6,6 +6,7 @@ ghost use Rattle.lab.specs.Encoded.{CanBeWritten};
 
 use crate::decoded::Link;
 use crate::run::{LabFault, Status};
+use crate::undecoded::explained;
 use encoded_messages::{MessageFault, encode_a, encode_abis, encode_rr};
 use message_fields::FieldFault;
 use std::alloc::Allocator;
@@ -29,15 +30,6 @@ fn octets<A: Allocator + Copy>(
     }
 }
 
-/// The name of a link.
-fn name_of(link: Link) -> &'static str {
-    match link {
-        Link::Rr => "rr",
-        Link::A => "a",
-        Link::Abis => "abis",
-    }
-}
-
 /// Why a text says no message of a link that can be written. Behind a name that is no message, a word that is no field and
 /// a field that is missing it says where messages and fields are listed.
 #[derive(Clone, Copy)]
@@ -51,7 +43,7 @@ impl fmt::Display for EncodeReason<'_> {
         let fault = self.fault;
         match fault {
             MessageFault::Name(_) => {
-                let link = name_of(self.link);
+                let link = explained(self.link);
                 write!(
                     f,
                     "{fault} {link}: a name stands before fields as KEY=VALUE, and bsc_lab help encode lists both"

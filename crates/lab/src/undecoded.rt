@@ -6,8 +6,8 @@ use std::alloc::Global;
 use std::io::Write;
 use std::str;
 
-/// The same link for an explanation.
-fn explained(link: Link) -> explanations::Link {
+/// The same link for an explanation; it is printed by its name.
+pub(crate) fn explained(link: Link) -> explanations::Link {
     match link {
         Link::Rr => explanations::Link::Rr,
         Link::A => explanations::Link::A,
