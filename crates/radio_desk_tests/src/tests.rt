@@ -52,7 +52,7 @@ fn desk_of<A: Allocator + Copy>(alloc: A, scratch: Global) -> Result<Desk<A>, Fa
 }
 
 // Call 1 comes to rest, moves to cell 1 and back; refused events are entries too, and a cell without a free channel isn't.
-const COURSE: [(Ask, Entry); 13] = [
+const COURSE: &[(Ask, Entry)] = &[
     (Judge(Open(1, HOME)), Some((Open(1, HOME), Done))),
     (
         Judge(Open(2, HOME)),
@@ -86,6 +86,33 @@ fn receipt_of(place: usize, entry: Entry) -> Option<Receipt> {
     })
 }
 
+// The last receipt of a seat is this one.
+fn is_last(rt: &impl Abort, seat: &Seat, expected: Option<Receipt>, ask: Ask) {
+    assert_eq!(rt; seat.last(), expected, "{ask:?}");
+}
+
+// The entry of a desk at a place is this one.
+fn is_entry(rt: &impl Abort, desk: &Desk<Global>, place: usize, entry: Entry, ask: Ask) {
+    assert_eq!(rt; desk.entry(place).copied(), entry, "{ask:?}");
+}
+
+// An ask leads to this entry, and to its receipt.
+fn leads_to(
+    rt: &impl Abort,
+    desk: &mut Desk<Global>,
+    seat: &mut Seat,
+    ask: Ask,
+    entry: Entry,
+) -> Result<(), Fail> {
+    let place = desk.len();
+    let last = seat.last();
+    let expected = receipt_of(place, entry);
+    assert_eq!(rt; put(desk, seat, ask)?, expected, "{ask:?}");
+    is_last(rt, seat, expected.or(last), ask);
+    is_entry(rt, desk, place, entry, ask);
+    Ok(())
+}
+
 fn play(
     rt: &impl Abort,
     desk: &mut Desk<Global>,
@@ -93,26 +120,29 @@ fn play(
     course: &[(Ask, Entry)],
 ) -> Result<(), Fail> {
     for (ask, entry) in course {
-        let place = desk.len();
-        let last = seat.last();
-        let expected = receipt_of(place, *entry);
-        assert_eq!(rt; put(desk, seat, *ask)?, expected, "{ask:?}");
-        assert_eq!(rt; seat.last(), expected.or(last), "{ask:?}");
-        assert_eq!(rt; desk.entry(place).copied(), *entry, "{ask:?}");
+        leads_to(rt, desk, seat, *ask, *entry)?;
     }
+    Ok(())
+}
+
+// The history has so many entries, and none behind them.
+fn has_entries(rt: &impl Abort, desk: &Desk<Global>, count: usize) {
+    assert_eq!(rt; (desk.len(), desk.entry(count).is_none()), (count, true));
+}
+
+fn goes_on(rt: &impl Abort, desk: &mut Desk<Global>) -> Result<(), Fail> {
+    let mut seat = Seat::new();
+    assert!(rt; seat.last().is_none());
+    has_entries(rt, desk, 0);
+    play(rt, desk, &mut seat, COURSE)?;
+    has_entries(rt, desk, 11);
     Ok(())
 }
 
 #[test]
 fn each_answer_is_an_entry_and_the_last_receipt(rt: HostRuntime) -> Result<(), Fail> {
     let mut desk = desk_of(rt.alloc(), rt.alloc())?;
-    let mut seat = Seat::new();
-    assert_eq!(rt; seat.last(), None);
-    assert_eq!(rt; desk.len(), 0);
-    play(&rt, &mut desk, &mut seat, &COURSE)?;
-    assert_eq!(rt; desk.len(), 11);
-    assert_eq!(rt; desk.entry(11).copied(), None);
-    Ok(())
+    goes_on(&rt, &mut desk)
 }
 
 fn books_of(rt: &impl Abort, desk: &Desk<Global>) {
@@ -135,7 +165,7 @@ fn books_of(rt: &impl Abort, desk: &Desk<Global>) {
 #[test]
 fn the_opening_book_stays_and_the_book_goes_on(rt: HostRuntime) -> Result<(), Fail> {
     let mut desk = desk_of(rt.alloc(), rt.alloc())?;
-    play(&rt, &mut desk, &mut Seat::new(), &COURSE)?;
+    play(&rt, &mut desk, &mut Seat::new(), COURSE)?;
     books_of(&rt, &desk);
     Ok(())
 }

@@ -1,5 +1,5 @@
 //! Memory is refused in each call of a desk.
-use super::{COURSE, Desk, DeskFault, HOME, Open, Receipt, Seat, desk_of, put};
+use super::{Ask, COURSE, Desk, DeskFault, Entry, HOME, Open, Receipt, Seat, desk_of, put};
 use cell_table::Site;
 use radio_book::book::{Book, Usage};
 use refusing_heap::RefusingHeap;
@@ -19,9 +19,14 @@ fn shown(desk: &Desk<&RefusingHeap>, seat: &Seat) -> (usize, Usage, Usage, Optio
 }
 
 // Asks until memory is refused; then desk and seat are as they were. Whether it was.
-fn asks_all(rt: &impl Abort, heap: &RefusingHeap, desk: &mut Desk<&RefusingHeap>) -> bool {
+fn asks_all(
+    rt: &impl Abort,
+    heap: &RefusingHeap,
+    desk: &mut Desk<&RefusingHeap>,
+    course: &[(Ask, Entry)],
+) -> bool {
     let mut seat = Seat::new();
-    for (ask, _) in &COURSE {
+    for (ask, _) in course {
         let before = shown(desk, &seat);
         let refused = heap.refused();
         let answer = put(desk, &mut seat, *ask);
@@ -42,7 +47,7 @@ fn asks_all(rt: &impl Abort, heap: &RefusingHeap, desk: &mut Desk<&RefusingHeap>
 fn meets_refusal(rt: &(impl AllocGlobal + Abort), made: u64, n: u64) -> Result<bool, Fail> {
     let heap = RefusingHeap::refusing_nth(rt.alloc(), made.saturating_add(n));
     let mut desk = desk_of(&heap, rt.alloc())?;
-    Ok(asks_all(rt, &heap, &mut desk))
+    Ok(asks_all(rt, &heap, &mut desk, COURSE))
 }
 
 // How many requests make a desk.
