@@ -2,6 +2,7 @@ use super::{ALONE, SITE, write_in_pieces};
 use chart::{Bar, Chart, Lane, Row, Shape, Side};
 use run_views::{Sites, Viewer, Views};
 use std::alloc::Global;
+use std::process::Abort;
 use std::test::Fail;
 
 /// A chart alone.
@@ -400,14 +401,34 @@ const TWO_CHART: Chart<'_> = Chart {
     right: "undone attempts of controller 2",
 };
 
+/// What is drawn of a trace is this chart.
+fn is_drawn(
+    rt: &(impl AllocGlobal + Abort),
+    sites: Sites<'_>,
+    trace: &str,
+    chart: &Chart<'_>,
+) -> Result<(), Fail> {
+    let wanted = chart.to_string(rt.alloc())?;
+    let svg = chart_of(rt.alloc(), sites, trace)?;
+    assert!(rt; svg.as_str() == wanted.as_str(), "{svg}");
+    Ok(())
+}
+
 #[test]
 fn a_trace_is_a_chart(rt: HostRuntime) -> Result<(), Fail> {
-    for (sites, trace, chart) in [(ALONE, ONE, ONE_CHART), (PAIR, TWO, TWO_CHART)] {
-        let wanted = chart.to_string(rt.alloc())?;
-        let svg = chart_of(rt.alloc(), sites, trace)?;
-        assert!(rt; svg.as_str() == wanted.as_str(), "{svg}");
+    is_drawn(&rt, ALONE, ONE, &ONE_CHART)
+}
+
+#[test]
+fn a_trace_of_two_controllers_is_a_chart(rt: HostRuntime) -> Result<(), Fail> {
+    is_drawn(&rt, PAIR, TWO, &TWO_CHART)
+}
+
+/// The chart has these bars.
+fn has_bars(rt: &impl Abort, svg: &str, bars: &[&str]) {
+    for bar in bars {
+        assert!(rt; svg.contains(*bar), "{bar} {svg}");
     }
-    Ok(())
 }
 
 #[test]
@@ -415,9 +436,7 @@ fn attempts_that_are_open_at_once_have_bars_beside_one_another(
     rt: HostRuntime,
 ) -> Result<(), Fail> {
     let svg = chart_of(rt.alloc(), ALONE, THREE)?;
-    for bar in THREE_BARS {
-        assert!(rt; svg.as_str().contains(*bar), "{bar} {svg}");
-    }
+    has_bars(&rt, &svg, THREE_BARS);
     assert!(rt; !svg.as_str().contains(">call 3<"), "{svg}");
     Ok(())
 }

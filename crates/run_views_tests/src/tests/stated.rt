@@ -1,7 +1,7 @@
 use super::{ALONE, SITE, write_in_pieces};
 use run_views::{Sites, Viewer, Views};
 use std::alloc::{AllocError, Global};
-use std::str;
+use std::process::Abort;
 use std::test::Fail;
 
 /// Words and what the book holds.
@@ -105,16 +105,25 @@ fn plain_of(alloc: Global, text: &str) -> Result<String, AllocError> {
     Ok(plain)
 }
 
+/// What is printed of a trace, with what the books hold.
+fn stated(alloc: Global, sites: Sites<'_>, plain: &str) -> Result<String, Fail> {
+    let mut out = Vec::new(alloc);
+    let mut viewer = Viewer::new(alloc, alloc, &STATE, sites, &mut out)?;
+    write_in_pieces(&mut viewer, plain, 32)?;
+    drop(viewer);
+    Ok(String::from_utf8(out)?)
+}
+
+/// What the books hold stands behind each input of this text.
+fn is_stated(rt: &(impl AllocGlobal + Abort), sites: Sites<'_>, wanted: &str) -> Result<(), Fail> {
+    let plain = plain_of(rt.alloc(), wanted)?;
+    let text = stated(rt.alloc(), sites, &plain)?;
+    assert!(rt; text.as_str() == wanted, "{text}");
+    Ok(())
+}
+
 #[test]
 fn what_the_books_hold_stands_behind_each_input(rt: HostRuntime) -> Result<(), Fail> {
-    for (sites, wanted) in [(ALONE, ONE), (PAIR, TWO)] {
-        let plain = plain_of(rt.alloc(), wanted)?;
-        let mut out = Vec::new(rt.alloc());
-        let mut viewer = Viewer::new(rt.alloc(), rt.alloc(), &STATE, sites, &mut out)?;
-        write_in_pieces(&mut viewer, &plain, 32)?;
-        drop(viewer);
-        let text = str::from_utf8(&out)?;
-        assert!(rt; text == wanted, "{text}");
-    }
-    Ok(())
+    is_stated(&rt, ALONE, ONE)?;
+    is_stated(&rt, PAIR, TWO)
 }
