@@ -2,6 +2,7 @@ use super::{ALONE, write_in_pieces};
 use run_views::{Viewer, Views};
 use std::alloc::Global;
 use std::io::Write;
+use std::process::Abort;
 use std::test::Fail;
 
 /// A capture alone.
@@ -42,38 +43,42 @@ const FILE: &str = concat!(
     "001afd09000305070242fe0242fe0e000c1104010c1b1a050100170066",
 );
 
-/// What a viewer has captured, in hexadecimal, and how many messages it left out.
-fn capture_of<W: Write>(
-    alloc: Global,
+/// A viewer has captured the file above, and left nothing out.
+fn has_captured<W: Write>(
+    rt: &(impl AllocGlobal + Abort),
     viewer: &Viewer<'_, W, Global>,
-) -> Result<Option<(String, u64)>, Fail> {
-    match viewer.capture() {
-        Some(capture) => {
-            let octets = hex::encode(alloc, capture.octets())?;
-            Ok(Some((octets, capture.left_out())))
-        }
-        None => Ok(None),
-    }
+) -> Result<(), Fail> {
+    let Some(capture) = viewer.capture() else {
+        assert!(rt; false, "a capture is asked for");
+        return Ok(());
+    };
+    let octets = hex::encode(rt.alloc(), capture.octets())?;
+    assert!(rt; octets.as_str() == FILE, "{octets}");
+    assert_eq!(rt; capture.left_out(), 0);
+    Ok(())
 }
 
-/// The capture of a trace, as above, and what is printed beside it.
-fn captured(alloc: Global, trace: &str) -> Result<(Option<(String, u64)>, String), Fail> {
-    let mut out = Vec::new(alloc);
-    let mut viewer = Viewer::new(alloc, alloc, &PCAP, ALONE, &mut out)?;
-    write_in_pieces(&mut viewer, trace, 64)?;
-    let capture = capture_of(alloc, &viewer)?;
+/// A viewer captures the trace.
+fn captures<W: Write>(
+    rt: &(impl AllocGlobal + Abort),
+    viewer: &mut Viewer<'_, W, Global>,
+) -> Result<(), Fail> {
+    write_in_pieces(viewer, TRACE, 64)?;
+    has_captured(rt, viewer)
+}
+
+/// What is printed beside the capture.
+fn printed_beside(rt: &(impl AllocGlobal + Abort)) -> Result<String, Fail> {
+    let mut out = Vec::new(rt.alloc());
+    let mut viewer = Viewer::new(rt.alloc(), rt.alloc(), &PCAP, ALONE, &mut out)?;
+    captures(rt, &mut viewer)?;
     drop(viewer);
-    Ok((capture, String::from_utf8(out)?))
+    Ok(String::from_utf8(out)?)
 }
 
 #[test]
 fn each_message_of_a_trace_is_captured(rt: HostRuntime) -> Result<(), Fail> {
-    let (capture, text) = captured(rt.alloc(), TRACE)?;
-    let is_file = match capture {
-        Some((octets, left_out)) => octets.as_str() == FILE && left_out == 0,
-        None => false,
-    };
-    assert!(rt; is_file);
-    assert!(rt; text.as_str() == TRACE);
+    let text = printed_beside(&rt)?;
+    assert!(rt; text.as_str() == TRACE, "{text}");
     Ok(())
 }
