@@ -31,11 +31,28 @@ fn write_in_pieces<W: Write, A: Allocator + Copy>(
     viewer.finish()
 }
 
+/// Shows a run whose trace is written in pieces of so many octets.
+fn show<W: Write>(
+    alloc: Global,
+    views: &Views<'_>,
+    sites: Sites<'_>,
+    trace: &str,
+    len: usize,
+    out: &mut W,
+) -> Result<(), WordsFault> {
+    let mut viewer = Viewer::new(alloc, alloc, views, sites, out)?;
+    write_in_pieces(&mut viewer, trace, len)
+}
+
 /// What is printed of a trace that is written in pieces of so many octets.
-fn printed(alloc: Global, views: &Views<'_>, trace: &str, len: usize) -> Result<String, Fail> {
+fn printed(
+    alloc: Global,
+    views: &Views<'_>,
+    sites: Sites<'_>,
+    trace: &str,
+    len: usize,
+) -> Result<String, Fail> {
     let mut out = Vec::new(alloc);
-    let mut viewer = Viewer::new(alloc, alloc, views, ALONE, &mut out)?;
-    write_in_pieces(&mut viewer, trace, len)?;
-    drop(viewer);
+    show(alloc, views, sites, trace, len, &mut out)?;
     Ok(String::from_utf8(out)?)
 }

@@ -1,7 +1,8 @@
 use super::{ALONE, SITE, write_in_pieces};
 use chart::{Bar, Chart, Lane, Row, Shape, Side};
-use run_views::{Sites, Viewer, Views};
+use run_views::{Sites, Viewer, Views, WordsFault};
 use std::alloc::Global;
+use std::io::Write;
 use std::process::Abort;
 use std::test::Fail;
 
@@ -371,15 +372,35 @@ const PAIR: Sites<'_> = Sites {
     peer: Some(SITE),
 };
 
-/// The chart of a trace.
-fn chart_of(alloc: Global, sites: Sites<'_>, trace: &str) -> Result<String, Fail> {
+/// Draws what a viewer is shown.
+fn draw<W: Write>(
+    viewer: &mut Viewer<'_, W, Global>,
+    trace: &str,
+    svg: &mut Vec<u8>,
+) -> Result<(), WordsFault> {
+    write_in_pieces(viewer, trace, 64)?;
+    match viewer.chart() {
+        Some(chart) => chart.write_to(svg),
+        None => Ok(()),
+    }
+}
+
+/// Draws a trace.
+fn draw_run(
+    alloc: Global,
+    sites: Sites<'_>,
+    trace: &str,
+    svg: &mut Vec<u8>,
+) -> Result<(), WordsFault> {
     let mut out = Vec::new(alloc);
     let mut viewer = Viewer::new(alloc, alloc, &CHART, sites, &mut out)?;
-    write_in_pieces(&mut viewer, trace, 64)?;
+    draw(&mut viewer, trace, svg)
+}
+
+/// The chart of a trace.
+fn chart_of(alloc: Global, sites: Sites<'_>, trace: &str) -> Result<String, Fail> {
     let mut svg = Vec::new(alloc);
-    if let Some(chart) = viewer.chart() {
-        chart.write_to(&mut svg)?;
-    }
+    draw_run(alloc, sites, trace, &mut svg)?;
     Ok(String::from_utf8(svg)?)
 }
 

@@ -1,5 +1,5 @@
-use super::{ALONE, SITE, write_in_pieces};
-use run_views::{Sites, Viewer, Views};
+use super::{ALONE, SITE, printed};
+use run_views::{Sites, Views};
 use std::alloc::{AllocError, Global};
 use std::process::Abort;
 use std::test::Fail;
@@ -105,19 +105,10 @@ fn plain_of(alloc: Global, text: &str) -> Result<String, AllocError> {
     Ok(plain)
 }
 
-/// What is printed of a trace, with what the books hold.
-fn stated(alloc: Global, sites: Sites<'_>, plain: &str) -> Result<String, Fail> {
-    let mut out = Vec::new(alloc);
-    let mut viewer = Viewer::new(alloc, alloc, &STATE, sites, &mut out)?;
-    write_in_pieces(&mut viewer, plain, 32)?;
-    drop(viewer);
-    Ok(String::from_utf8(out)?)
-}
-
 /// What the books hold stands behind each input of this text.
 fn is_stated(rt: &(impl AllocGlobal + Abort), sites: Sites<'_>, wanted: &str) -> Result<(), Fail> {
     let plain = plain_of(rt.alloc(), wanted)?;
-    let text = stated(rt.alloc(), sites, &plain)?;
+    let text = printed(rt.alloc(), &STATE, sites, &plain, 32)?;
     assert!(rt; text.as_str() == wanted, "{text}");
     Ok(())
 }

@@ -83,10 +83,10 @@ fn words_stand_behind_each_line(rt: HostRuntime) -> Result<(), Fail> {
     for wanted in TRACES {
         let trace = without_words(rt.alloc(), *wanted)?;
         for len in [1, 7, 10_000] {
-            let text = printed(rt.alloc(), &WORDS, &trace, len)?;
+            let text = printed(rt.alloc(), &WORDS, ALONE, &trace, len)?;
             assert!(rt; text.as_str() == *wanted, "{text}");
         }
-        let plain = printed(rt.alloc(), &Views::plain(), &trace, 64)?;
+        let plain = printed(rt.alloc(), &Views::plain(), ALONE, &trace, 64)?;
         assert!(rt; plain.as_str() == trace.as_str(), "{plain}");
     }
     Ok(())
@@ -108,7 +108,7 @@ fn octets_that_are_too_long_are_about_their_channel(rt: HostRuntime) -> Result<(
     for (front, fault) in TOO_LONG {
         let zeros = "00".repeat(rt.alloc(), 1_021)?;
         let trace = format!(in rt.alloc(); "{opened}in abis 0 0 {front}{zeros}\nfault abis 6\n")?;
-        let text = printed(rt.alloc(), &WORDS, &trace, 10_000)?;
+        let text = printed(rt.alloc(), &WORDS, ALONE, &trace, 10_000)?;
         assert!(rt; text.as_str().contains(*fault), "{text}");
     }
     Ok(())
