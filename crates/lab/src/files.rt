@@ -219,8 +219,8 @@ fn ended_viewed(
     Ok(status)
 }
 
-/// Runs a script for a viewer, and writes what that gathered until the run ended, be it early; nothing where the script or a
-/// site is refused, so that the files are as they were.
+/// Runs a script for a viewer, and writes what that gathered until the run ended, be it early; nothing where nothing was run,
+/// as where the script or a site is refused, so that the files are as they were.
 fn run_for<F: Write + OpenFile + Drop, W: Write, E: Write>(
     alloc: Global,
     texts: &RunTexts,
@@ -230,10 +230,10 @@ fn run_for<F: Write + OpenFile + Drop, W: Write, E: Write>(
 ) -> Result<Status, LabFault> {
     let ended = run_texts_plainly(alloc, texts, viewer);
     let closed = viewer.finish();
-    let written = match &ended {
-        // nothing was run
-        Ok(Status::Refused) => Ok(()),
-        Ok(Status::Done | Status::Differs) | Err(_) => sheets.finish(viewer, errors),
+    let written = if viewer.has_begun() {
+        sheets.finish(viewer, errors)
+    } else {
+        Ok(())
     };
     ended_viewed(viewer.fault(), ended, closed, written)
 }
@@ -255,7 +255,7 @@ fn run_onto<F: Write + OpenFile + Drop, W: Write, E: Write>(
     run_for(alloc, texts, &mut viewer, sheets, errors)
 }
 
-/// The same as [`run_texts_plainly`], with views; nothing where one of their files can't be written, and then its path was
+/// The same as [`run_texts_plainly`], with views; nothing where one of their files can't be opened, and then its path was
 /// printed, and on `errors` why. What came of the run until it ended is in the files, be it early.
 fn run_texts_viewed<R: Files + AllocGlobal, W: Write, E: Write>(
     rt: &R,
@@ -317,7 +317,7 @@ fn run_read<R: Files + AllocGlobal, W: Write, E: Write>(
 ///
 /// Where views are asked for, their files are opened or made before the run begins, and emptied and written once it ended,
 /// but not where a site or the script is refused; one that can't be opened is refused as one that can't be read, and so
-/// is, before anything is read, one that is another file of the run.
+/// is, before anything is read, one that is another file of the run. One file that is made for both is refused then.
 ///
 /// The site's file is read first, then the peer's, then the script's. Where a file isn't there, can't be read, isn't
 /// UTF-8 or has more than [`LONGEST_FILE`] octets, `file` and its path are printed and nothing else, and the answer is

@@ -1,6 +1,7 @@
 //! Why octets, or a text that is to write some, are no message, in words.
 use crate::decoded::{Link, decode_run};
 use crate::run::LabFault;
+use escaped_text::Escaped;
 use explanations::{Answer, Question, answer_to};
 use std::alloc::Global;
 use std::io::Write;
@@ -15,16 +16,13 @@ pub(crate) fn explained(link: Link) -> explanations::Link {
     }
 }
 
-/// The first character of a text that is no hexadecimal digit, and its place, counted from 1.
-fn no_digit(text: &str) -> Option<(usize, char)> {
-    let mut place = 0_usize;
-    for found in text.chars() {
-        place = place.saturating_add(1);
-        if !found.is_ascii_hexdigit() {
-            return Some((place, found));
-        }
-    }
-    None
+/// The first character of a text that is no hexadecimal digit, and its place, counted from 1. All in front of it have one
+/// octet each.
+fn no_digit(text: &str) -> Option<(usize, &str)> {
+    let at = text.find(|found: char| !found.is_ascii_hexdigit())?;
+    let rest = text.get(at..)?;
+    let found = rest.chars().next()?;
+    Some((at.saturating_add(1), rest.get(..found.len_utf8())?))
 }
 
 /// The fault that a line says, as one message is answered: `fault`, the link, the fault's number, and its argument.
@@ -46,9 +44,10 @@ fn say_fault<E: Write>(
     errors: &mut E,
 ) -> Result<(), LabFault> {
     let mut line = Vec::new(alloc);
-    decode_run(alloc, link, text, &mut line)?;
+    // a list lacks nothing but memory
+    decode_run(alloc, link, text, &mut line).map_err(|_| LabFault::NoMemory)?;
     match fault_in(link, str::from_utf8(&line).unwrap_or("")) {
-        Some(fault) => writeln!(errors, "the octets are no message of the link: {fault}")?,
+        Some(fault) => writeln!(errors, "{fault}")?,
         None => writeln!(errors, "the octets are no message of the link")?,
     }
     Ok(())
@@ -65,11 +64,15 @@ pub(crate) fn say_undecoded<E: Write>(
     let digits = "each octet is two hexadecimal digits, and nothing stands between them";
     match no_digit(text) {
         Some((place, found)) => {
-            writeln!(errors, "{digits}: character {place} is {found:?}")?;
+            writeln!(
+                errors,
+                "{digits}: character {place} is '{}'",
+                Escaped(found)
+            )?;
             Ok(())
         }
         None if text.len() % 2 == 1 => {
-            writeln!(errors, "{digits}: there are {} digits", text.len())?;
+            writeln!(errors, "{digits}: the last has one")?;
             Ok(())
         }
         None => say_fault(alloc, link, text, errors),

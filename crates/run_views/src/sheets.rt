@@ -155,6 +155,24 @@ fn clear_sheet<F: Write + OpenFile + Drop, E: Write>(
     }
 }
 
+/// Says on `errors` how many messages a capture hasn't, if any.
+fn say_left_out<E: Write>(path: &str, left_out: u64, errors: &mut E) -> Result<(), WordsFault> {
+    if left_out == 0 {
+        return Ok(());
+    }
+    let (messages, are) = if left_out == 1 {
+        ("message", "is")
+    } else {
+        ("messages", "are")
+    };
+    writeln!(
+        errors,
+        "{}: {left_out} {messages} {are} too long for a packet, and left out",
+        Escaped(path)
+    )?;
+    Ok(())
+}
+
 /// Writes a capture to its file.
 fn write_pcap<F: Write + OpenFile + Drop, W: Write, A: Allocator + Copy, E: Write>(
     sheet: Option<Sheet<'_, F>>,
@@ -165,27 +183,15 @@ fn write_pcap<F: Write + OpenFile + Drop, W: Write, A: Allocator + Copy, E: Writ
         return Ok(());
     };
     clear_sheet(&sheet, errors)?;
-    let left_out = capture.left_out();
-    if left_out > 0 {
-        let (messages, are) = if left_out == 1 {
-            ("message", "is")
-        } else {
-            ("messages", "are")
-        };
-        writeln!(
-            errors,
-            "{}: {left_out} {messages} {are} too long for a packet, and left out",
-            Escaped(sheet.path)
-        )?;
-    }
     match sheet.out.write_all(capture.octets()) {
         Ok(()) => {}
         Err(error) => return Err(say_unwritten(sheet.path, error, errors)),
     }
     match sheet.out.flush() {
-        Ok(()) => Ok(()),
-        Err(error) => Err(say_unwritten(sheet.path, error, errors)),
+        Ok(()) => {}
+        Err(error) => return Err(say_unwritten(sheet.path, error, errors)),
     }
+    say_left_out(sheet.path, capture.left_out(), errors)
 }
 
 /// Writes a chart to its file.
@@ -217,8 +223,8 @@ fn write_chart<F: Write + OpenFile + Drop, W: Write, A: Allocator + Copy, E: Wri
 }
 
 impl<F: Write + OpenFile + Drop> Sheets<'_, F> {
-    /// Empties the files and writes what a viewer has gathered, the capture first. Where one of the files can't be written, `errors` says why,
-    /// and the other is written all the same.
+    /// Empties the files and writes what a viewer has gathered, the capture first. Where one of the files can't be
+    /// written, `errors` says why, and the other is written all the same.
     pub fn finish<W: Write, A: Allocator + Copy, E: Write>(
         self,
         viewer: &Viewer<'_, W, A>,

@@ -30,6 +30,8 @@ pub struct Viewer<'a, W: Write, A: Allocator + Copy = Global> {
     capture: Option<TraceCapture<A>>,
     chart: Option<TraceChart<A>>,
     fault: Option<WordsFault>,
+    /// Whether a line of a trace was written.
+    has_begun: bool,
     alloc: A,
 }
 
@@ -122,6 +124,7 @@ impl<'a, W: Write, A: Allocator + Copy> Viewer<'a, W, A> {
             capture,
             chart,
             fault: None,
+            has_begun: false,
             alloc,
         })
     }
@@ -134,6 +137,11 @@ impl<'a, W: Write, A: Allocator + Copy> Viewer<'a, W, A> {
     /// The chart of the lines so far, where one is asked for.
     pub fn chart(&self) -> Option<&TraceChart<A>> {
         self.chart.as_ref()
+    }
+
+    /// Whether a line of a trace was written. None is where a site or a script is refused: nothing was run.
+    pub fn has_begun(&self) -> bool {
+        self.has_begun
     }
 
     /// Why a write failed, where one did: a writer's caller is told no more than that.
@@ -229,6 +237,7 @@ impl<'a, W: Write, A: Allocator + Copy> Viewer<'a, W, A> {
 
     /// Passes a line of the trace on.
     fn show(&mut self, text: &str, line: &TraceLine<A>) -> Result<(), WordsFault> {
+        self.has_begun = true;
         let call = self.calls.call_of(line)?;
         self.settle(ends_input(&line.what))?;
         self.gather(text, line, call)?;

@@ -20,28 +20,42 @@ fn channel_named(cell: u8, trx: u8, octets: &[u8]) -> Option<ChanId> {
     })
 }
 
-/// No message on Abis has more octets.
-const MOST_OCTETS: usize = 1024;
+/// Whether octets are of another protocol, by their head alone: its first octet says so (TS 48.058 clause 9.1).
+fn is_other_protocol<A: Allocator + Copy>(alloc: A, octets: &[u8]) -> Result<bool, AllocError> {
+    let head = octets.get(..2).unwrap_or(octets);
+    match rsl_messages::decode(alloc, head) {
+        Err(RslFault::NoMemory) => Err(AllocError),
+        Err(RslFault::NotRsl) => Ok(true),
+        Ok(_)
+        | Err(
+            RslFault::UnknownType(_)
+            | RslFault::Missing(_)
+            | RslFault::BadElement(_)
+            | RslFault::Torn(_)
+            | RslFault::TooLong,
+        ) => Ok(false),
+    }
+}
 
-/// The channel that octets on Abis are about, also where an element of theirs is wrong. Of octets that are too long it is
-/// that of their front. `None` where they name none.
+/// The channel that octets on Abis are about, also where an element of theirs is wrong or they are too long. `None` where
+/// they name none, or are of another protocol.
 fn channel_in<A: Allocator + Copy>(
     alloc: A,
     cell: u8,
     trx: u8,
     octets: &[u8],
 ) -> Result<Option<ChanId>, AllocError> {
-    let front = octets.get(..MOST_OCTETS).unwrap_or(octets);
-    match rsl_messages::decode(alloc, front) {
+    match rsl_messages::decode(alloc, octets) {
         Ok(message) => Ok(Some(chan_of(cell, trx, &message))),
         Err(RslFault::NoMemory) => Err(AllocError),
         Err(
             RslFault::UnknownType(_)
             | RslFault::Missing(_)
             | RslFault::BadElement(_)
-            | RslFault::Torn(_)
-            | RslFault::TooLong,
+            | RslFault::Torn(_),
         ) => Ok(channel_named(cell, trx, octets)),
+        Err(RslFault::TooLong) if is_other_protocol(alloc, octets)? => Ok(None),
+        Err(RslFault::TooLong) => Ok(channel_named(cell, trx, octets)),
         Err(RslFault::NotRsl) => Ok(None),
     }
 }

@@ -36,7 +36,37 @@ const MESSAGES: &[Line] = &[
         &["decode", "rr", "06ff"],
         2,
         "fault rr 2 255\n",
-        "the octets are no message of the link: unknown type: FF\n",
+        "unknown type: FF\n",
+    ),
+    (
+        &["decode", "rr", ""],
+        2,
+        "fault rr 1\n",
+        "no message of this link\n",
+    ),
+    (
+        &["decode", "abis", "0822010b"],
+        2,
+        "fault abis 3 8\n",
+        "an element is missing: identifier 08\n",
+    ),
+    (
+        &["decode", "rr", "062"],
+        2,
+        "hex\n",
+        "nothing stands between them: the last has one\n",
+    ),
+    (
+        &["decode", "rr", "0g1"],
+        2,
+        "hex\n",
+        "nothing stands between them: character 2 is 'g'\n",
+    ),
+    (
+        &["decode", "rr", "0\u{2800}\u{1b}"],
+        2,
+        "hex\n",
+        "nothing stands between them: character 2 is '\\u{2800}'\n",
     ),
     (
         &["decode", "abis", "0g"],
@@ -236,6 +266,12 @@ const VIEWS: &[Line] = &[
         2,
         "file no folder/a.svg\n",
         "no folder/a.svg: its folder isn't there, or takes no new file",
+    ),
+    (
+        &["run", "/dev/null", "/dev/null", "--pcap", "no\u{1b}/a"],
+        2,
+        "file no\u{1b}/a\n",
+        "no\\u{1b}/a: its folder isn't there, or takes no new file",
     ),
     (
         &["run", "a", "b", "--pcap", "c", "--chart", "c"],

@@ -4,6 +4,7 @@ use lab::files::run_files;
 use lab::run::{LabFault, Status};
 use lab::site_files::SitePaths;
 use run_views::Views;
+use std::os::unix::fs::symlink;
 use std::process::Abort;
 use std::rt::Files;
 use std::test::Fail;
@@ -78,15 +79,14 @@ fn prints_words(rt: &(impl Files + AllocGlobal + Abort)) -> Result<(), Fail> {
     Ok(())
 }
 
-/// A write that fails ends the run behind its fourth line, which is the second message's: the chart is written all the same.
+/// A write that fails ends the run behind its first message: the files have what came up to there all the same.
 fn ends_early(rt: &(impl Files + AllocGlobal + Abort)) -> Result<(), Fail> {
     let mut out = Failing::after(rt.alloc(), 15);
     let mut errors = Vec::new(rt.alloc());
     let ended = run_files(rt, PATHS, SCRIPT_FILE, &ALL, &mut out, &mut errors);
     assert_eq!(rt; ended, Err(LabFault::Write));
-    let chart = fs::read_to_string(rt, CHART_FILE)?;
-    assert!(rt; chart.ends_with("</svg>\n"));
-    Ok(())
+    // the message has 12 octets
+    files_have(rt, 24 + 59 + 12, 1)
 }
 
 #[test]
@@ -95,6 +95,7 @@ fn a_run_is_viewed(rt: HostRuntime) -> Result<(), Fail> {
     prints_words(&rt)?;
     // the header, and four packets: 56 octets, 3 and the message's 12, 7, 4 and 4
     files_have(&rt, 24 + 4 * 59 + 27, 4)?;
+    write_files(&rt, &[(PCAP_FILE, "old"), (CHART_FILE, "old")])?;
     ends_early(&rt)?;
     remove_files(&rt, &[SITE_FILE, SCRIPT_FILE, PCAP_FILE, CHART_FILE])
 }
@@ -128,6 +129,13 @@ const KEPT: &[(&str, &str, &str, &str)] = &[
         "./kept.txt",
         "file ./kept.txt\n",
         "./kept.txt: named twice\n",
+    ),
+    // a link is the file that it names
+    (
+        "kept.link",
+        "kept.svg",
+        "file kept.link\n",
+        "kept.link: named twice\n",
     ),
     (
         "kept.pcap",
@@ -168,17 +176,63 @@ fn keeps_all(
     let ended = run_files(rt, paths, "kept.txt", views, &mut out, &mut errors);
     assert_eq!(rt; (ended, str::from_utf8(&out)?), (Ok(Status::Refused), text));
     assert_eq!(rt; str::from_utf8(&errors)?, said);
+    stay(rt)
+}
+
+/// What stands in the files is what stood there before.
+fn stay(rt: &(impl Files + AllocGlobal + Abort)) -> Result<(), Fail> {
     for (path, old) in REFUSED {
         assert_eq!(rt; fs::read_to_string(rt, *path)?.as_str(), *old, "{path}");
     }
     Ok(())
 }
 
+/// A refusal that can't be printed changes no file, either.
+fn says_nothing(rt: &(impl Files + AllocGlobal + Abort)) -> Result<(), Fail> {
+    let paths = SitePaths {
+        first: "kept.toml",
+        peer: None,
+    };
+    let views = views_at("kept.pcap", "kept.svg");
+    let mut out = Failing::after(rt.alloc(), 0);
+    let mut errors = Vec::new(rt.alloc());
+    let ended = run_files(rt, paths, "kept.txt", &views, &mut out, &mut errors);
+    assert_eq!(rt; ended, Err(LabFault::Write));
+    stay(rt)
+}
+
+/// A view that is the peer's site, under another path, is refused.
+fn names_its_peer(rt: &(impl Files + AllocGlobal + Abort)) -> Result<(), Fail> {
+    let paths = SitePaths {
+        first: "/dev/null",
+        peer: Some("kept.toml"),
+    };
+    let views = views_at("kept.pcap", "./kept.toml");
+    let mut out = Vec::new(rt.alloc());
+    let mut errors = Vec::new(rt.alloc());
+    let ended = run_files(rt, paths, "kept.txt", &views, &mut out, &mut errors);
+    assert_eq!(rt; ended, Ok(Status::Refused));
+    assert_eq!(rt; str::from_utf8(&errors)?, "./kept.toml: named twice\n");
+    stay(rt)
+}
+
 #[test]
 fn a_run_that_is_refused_changes_no_file(rt: HostRuntime) -> Result<(), Fail> {
     write_files(&rt, REFUSED)?;
+    symlink(&rt, "kept.toml", "kept.link")?;
     for (pcap, chart, text, said) in KEPT {
         keeps_all(&rt, &views_at(*pcap, *chart), *text, *said)?;
     }
-    remove_files(&rt, &["kept.toml", "kept.txt", "kept.pcap", "kept.svg"])
+    says_nothing(&rt)?;
+    names_its_peer(&rt)?;
+    remove_files(
+        &rt,
+        &[
+            "kept.toml",
+            "kept.txt",
+            "kept.pcap",
+            "kept.svg",
+            "kept.link",
+        ],
+    )
 }

@@ -13,6 +13,9 @@ const CHART: &str = "opened.svg";
 /// What stands in both before they are opened.
 const OLD: &str = "as it was, and that is longer than a capture without packets";
 
+/// What stands in the file of a chart before it is written, so often: that is longer than a chart without rows.
+const LONGER: usize = 100;
+
 /// Where a capture and a chart are to be written; what is printed, and what is said, where one of them can't be: nothing where
 /// both are open.
 const OPENED: &[((&str, &str), (&str, &str))] = &[
@@ -93,6 +96,7 @@ fn opens_and_writes(rt: &(impl Files + AllocGlobal + Abort)) -> Result<(), Fail>
         assert_eq!(rt; fs::read_to_string(rt, PCAP)?.as_str(), OLD, "{paths:?}");
         assert_eq!(rt; fs::read_to_string(rt, CHART)?.as_str(), OLD, "{paths:?}");
     }
+    fs::write(rt, CHART, OLD.repeat(alloc, LONGER)?.as_str())?;
     let views = views_at((PCAP, CHART));
     let mut out = Vec::new(alloc);
     let mut errors = Vec::new(alloc);

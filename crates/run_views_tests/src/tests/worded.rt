@@ -98,8 +98,9 @@ const TOO_LONG: &[(&str, &str)] = &[
     // another timeslot, and another element
     ("08220108", "fault abis 6 # no call;"),
     ("0822020b", "fault abis 6 # no call;"),
-    // another protocol
+    // another protocol, and another element in front of the number
     ("0f01010b", "fault abis 6 # no call;"),
+    ("082208123401", "fault abis 6 # no call;"),
 ];
 
 #[test]
