@@ -348,14 +348,13 @@ fn line_of(trace: &str, number: usize) -> &str {
         .unwrap_or("")
 }
 
-/// Why a line of a trace can't be read.
+/// Why a line of a trace can't be read: it is one of two controllers, or one that begins with `event `; all others are
+/// passed over.
 fn unread_reason(line: &str) -> &'static str {
     if line.starts_with("1: ") || line.starts_with("2: ") {
         "a line of the trace of two controllers, and rewind takes that of one"
-    } else if line.starts_with("event ") {
-        "no event with its reply, as run prints it: event look 1 -> refused 1"
     } else {
-        "no line of the trace of one controller, as run prints it without --words"
+        "no event with its reply, as run prints it: event look 1 -> refused 1"
     }
 }
 

@@ -81,6 +81,17 @@ fn printed<A: Allocator + Copy>(
     Ok((status, String::from_utf8(out)?))
 }
 
+/// A command has ended so, and printed this.
+fn ends_so(
+    rt: &impl Abort,
+    (ended, text): (Result<Status, LabFault>, &str),
+    (wanted, printed): (Status, &str),
+    what: &str,
+) {
+    assert_eq!(rt; ended, Ok(wanted), "{what}: {text}");
+    assert!(rt; text == printed, "{what}: {text}");
+}
+
 /// A run over these sites ends so and prints this.
 fn prints_of(
     rt: &impl Abort,
@@ -92,11 +103,7 @@ fn prints_of(
     wanted: &str,
 ) -> Result<(), Fail> {
     let (status, text) = printed(alloc, alloc, site, peer, script)?;
-    assert_eq!(rt;
-        (status, text.as_str()),
-        (Ok(ended), wanted),
-        "{site} {script}"
-    );
+    ends_so(rt, (status, text.as_str()), (ended, wanted), script);
     Ok(())
 }
 

@@ -1,4 +1,4 @@
-use super::{ONE_CALL, SITE};
+use super::{ONE_CALL, SITE, ends_so};
 use lab::files::run_files;
 use lab::run::Status;
 use lab::site_files::SitePaths;
@@ -87,11 +87,7 @@ fn run_of_ends(
         &mut out,
         &mut errors,
     );
-    assert_eq!(rt;
-        (ended, str::from_utf8(&out)?),
-        (Ok(wanted), text),
-        "{site} {script}"
-    );
+    ends_so(rt, (ended, str::from_utf8(&out)?), (wanted, text), script);
     let line = str::from_utf8(&errors)?;
     let is_said = line.starts_with(said) && line.is_empty() == said.is_empty();
     assert!(rt; is_said, "{site} {script}: {line}");

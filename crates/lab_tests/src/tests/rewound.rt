@@ -1,4 +1,4 @@
-use super::{ONE_CALL, SITE};
+use super::{ONE_CALL, SITE, ends_so};
 use lab::rewound::rewind_run;
 use lab::run::{LabFault, Status};
 use refusing_heap::RefusingHeap;
@@ -116,11 +116,7 @@ fn is_rewound(
     wanted: &str,
 ) -> Result<(), Fail> {
     let (status, text) = printed(alloc, alloc, trace, line)?;
-    assert_eq!(rt;
-        (status, text.as_str()),
-        (Ok(ended), wanted),
-        "{trace} {line}"
-    );
+    ends_so(rt, (status, text.as_str()), (ended, wanted), trace);
     Ok(())
 }
 

@@ -1,7 +1,7 @@
 //! Scripts that test themselves, and that are recorded.
 use super::failing::Failing;
 use super::peer::PEER;
-use super::{SITE, write_files};
+use super::{SITE, ends_so, write_files};
 use lab::recorded::record_run;
 use lab::run::{LabFault, Status};
 use lab::script_files::{record_file, test_files};
@@ -145,8 +145,12 @@ fn record_of(
 /// A record meets its test.
 fn is_met(rt: &impl Abort, alloc: Global, peer: Option<&str>, record: &str) -> Result<(), Fail> {
     let (status, text) = tested(alloc, alloc, peer, record)?;
-    let met = (Ok(Status::Done), "ok 1 - script\n");
-    assert_eq!(rt; (status, text.as_str()), met, "{record}");
+    ends_so(
+        rt,
+        (status, text.as_str()),
+        (Status::Done, "ok 1 - script\n"),
+        record,
+    );
     Ok(())
 }
 
@@ -211,15 +215,28 @@ abis 0 0 0822010b081234
 #> end channels=1 calls=1 references=0 timers=0
 ";
 
+/// The record of a script over one site ends so, and is this.
+fn records_so(
+    rt: &impl Abort,
+    alloc: Global,
+    script: &str,
+    wanted: (Status, &str),
+) -> Result<(), Fail> {
+    let (status, text) = recorded(alloc, alloc, None, script)?;
+    ends_so(rt, (status, text.as_str()), wanted, script);
+    Ok(())
+}
+
 #[test]
 fn a_script_is_recorded(rt: HostRuntime) -> Result<(), Fail> {
-    let (status, text) = recorded(rt.alloc(), rt.alloc(), None, SCRIPT)?;
-    assert_eq!(rt; (status, text.as_str()), (Ok(Status::Done), RECORD));
-    for (script, wanted) in [("open 1", "line 1\n"), ("\n2: clear 1", "line 2\n")] {
-        let (status, text) = recorded(rt.alloc(), rt.alloc(), None, script)?;
-        assert_eq!(rt; (status, text.as_str()), (Ok(Status::Refused), wanted));
-    }
-    Ok(())
+    records_so(&rt, rt.alloc(), SCRIPT, (Status::Done, RECORD))?;
+    records_so(&rt, rt.alloc(), "open 1", (Status::Refused, "line 1\n"))?;
+    records_so(
+        &rt,
+        rt.alloc(),
+        "\n2: clear 1",
+        (Status::Refused, "line 2\n"),
+    )
 }
 
 /// Scripts, each with another last line, and their records: how a line ends stays as it is, but that comments which follow
@@ -259,8 +276,7 @@ const LAST_LINES: &[(&str, &str)] = &[
 #[test]
 fn each_line_ends_as_it_did(rt: HostRuntime) -> Result<(), Fail> {
     for (script, record) in LAST_LINES {
-        let (status, text) = recorded(rt.alloc(), rt.alloc(), None, *script)?;
-        assert_eq!(rt; (status, text.as_str()), (Ok(Status::Done), *record));
+        records_so(&rt, rt.alloc(), *script, (Status::Done, *record))?;
     }
     Ok(())
 }
@@ -312,11 +328,22 @@ const TESTS: &[(&str, Status, &str)] = &[
     ),
 ];
 
+/// The test of a script over one site ends so, and prints this.
+fn is_tested(
+    rt: &impl Abort,
+    alloc: Global,
+    script: &str,
+    wanted: (Status, &str),
+) -> Result<(), Fail> {
+    let (status, text) = tested(alloc, alloc, None, script)?;
+    ends_so(rt, (status, text.as_str()), wanted, script);
+    Ok(())
+}
+
 #[test]
 fn scripts_are_tested(rt: HostRuntime) -> Result<(), Fail> {
     for (script, ended, wanted) in TESTS {
-        let (status, text) = tested(rt.alloc(), rt.alloc(), None, *script)?;
-        assert_eq!(rt; (status, text.as_str()), (Ok(*ended), *wanted), "{script}");
+        is_tested(&rt, rt.alloc(), *script, (*ended, *wanted))?;
     }
     Ok(())
 }
@@ -439,7 +466,12 @@ fn files_end(
     let mut out = Vec::new(rt.alloc());
     let mut errors = Vec::new(rt.alloc());
     let ended = test_files(rt, paths, scripts, &mut out, &mut errors);
-    assert_eq!(rt; (ended, str::from_utf8(&out)?), (Ok(wanted.0), wanted.1));
+    ends_so(
+        rt,
+        (ended, str::from_utf8(&out)?),
+        (wanted.0, wanted.1),
+        wanted.2,
+    );
     let said = str::from_utf8(&errors)?;
     assert!(rt;
         said.starts_with(wanted.2) && said.is_empty() == wanted.2.is_empty(),
@@ -512,7 +544,12 @@ fn a_file_is_recorded(rt: &(impl Files + AllocGlobal + Abort)) -> Result<(), Fai
     let mut out = Vec::new(rt.alloc());
     let mut errors = Vec::new(rt.alloc());
     let ended = record_file(rt, PATHS, "tested_met.txt", &mut out, &mut errors);
-    assert_eq!(rt; (ended, str::from_utf8(&out)?), (Ok(Status::Done), RECORD));
+    ends_so(
+        rt,
+        (ended, str::from_utf8(&out)?),
+        (Status::Done, RECORD),
+        "a file",
+    );
     Ok(())
 }
 

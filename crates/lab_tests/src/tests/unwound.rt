@@ -1,5 +1,5 @@
 //! Why nothing is taken out of a trace, for a person.
-use super::SITE;
+use super::{SITE, ends_so};
 use lab::files::rewind_files;
 use lab::run::Status;
 use std::process::Abort;
@@ -106,9 +106,11 @@ fn says(
     let mut out = Vec::new(rt.alloc());
     let mut errors = Vec::new(rt.alloc());
     let ended = rewind_files(rt, SITE_FILE, TRACE_FILE, line, &mut out, &mut errors);
-    assert_eq!(rt;
+    ends_so(
+        rt,
         (ended, str::from_utf8(&out)?),
-        (Ok(Status::Refused), printed)
+        (Status::Refused, printed),
+        said,
     );
     let wanted = format!(in rt.alloc(); "{SHOWN_FILE}{said}")?;
     assert_eq!(rt; str::from_utf8(&errors)?, wanted.as_str());

@@ -1,5 +1,5 @@
 use super::failing::Failing;
-use super::{ONE_CALL, SITE, remove_files, write_files};
+use super::{ONE_CALL, SITE, ends_so, remove_files, write_files};
 use lab::files::run_files;
 use lab::run::{LabFault, Status};
 use lab::site_files::SitePaths;
@@ -74,7 +74,12 @@ fn prints_words(rt: &(impl Files + AllocGlobal + Abort)) -> Result<(), Fail> {
     let mut out = Vec::new(rt.alloc());
     let mut errors = Vec::new(rt.alloc());
     let ended = run_files(rt, PATHS, SCRIPT_FILE, &ALL, &mut out, &mut errors);
-    assert_eq!(rt; (ended, str::from_utf8(&out)?), (Ok(Status::Done), WORDED));
+    ends_so(
+        rt,
+        (ended, str::from_utf8(&out)?),
+        (Status::Done, WORDED),
+        SCRIPT_FILE,
+    );
     assert!(rt; errors.is_empty());
     Ok(())
 }
@@ -174,7 +179,12 @@ fn keeps_all(
     let mut out = Vec::new(rt.alloc());
     let mut errors = Vec::new(rt.alloc());
     let ended = run_files(rt, paths, "kept.txt", views, &mut out, &mut errors);
-    assert_eq!(rt; (ended, str::from_utf8(&out)?), (Ok(Status::Refused), text));
+    ends_so(
+        rt,
+        (ended, str::from_utf8(&out)?),
+        (Status::Refused, text),
+        said,
+    );
     assert_eq!(rt; str::from_utf8(&errors)?, said);
     stay(rt)
 }

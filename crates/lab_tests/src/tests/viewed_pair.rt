@@ -1,5 +1,5 @@
 use super::peer::PEER;
-use super::{SITE, remove_files, write_files};
+use super::{SITE, ends_so, remove_files, write_files};
 use lab::files::run_files;
 use lab::run::Status;
 use lab::site_files::SitePaths;
@@ -85,7 +85,12 @@ fn prints_words(rt: &(impl Files + AllocGlobal + Abort)) -> Result<(), Fail> {
     let mut out = Vec::new(rt.alloc());
     let mut errors = Vec::new(rt.alloc());
     let ended = run_files(rt, PATHS, SCRIPT_FILE, &ALL, &mut out, &mut errors);
-    assert_eq!(rt; (ended, str::from_utf8(&out)?), (Ok(Status::Done), WORDED));
+    ends_so(
+        rt,
+        (ended, str::from_utf8(&out)?),
+        (Status::Done, WORDED),
+        SCRIPT_FILE,
+    );
     assert!(rt; errors.is_empty());
     Ok(())
 }

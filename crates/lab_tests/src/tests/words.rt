@@ -309,7 +309,13 @@ const SHOWS_STATUSES: &[(&[&str], &str)] = &[
         &["help", "decode"],
         "\n  CHANNEL ACTIVATION NACK        tn cause\n",
     ),
+    (
+        &["help", "decode"],
+        "by fault and its numbers (bsc_lab explain fault says them",
+    ),
+    (&["help", "decode"], "long (over 65,536 octets)"),
     (&["help", "decode"], "link (it begins with no link)"),
+    (&["help", "record"], "Write to another file than\nSCRIPT:"),
     (&["help", "test"], "\n  mobile CELL TRX TN HABIT "),
     (&["help", "record"], "\n  mobile CELL TRX TN HABIT "),
     (&["help", "explain"], "Statuses: 0 "),

@@ -137,8 +137,8 @@ fn a_capture_that_was_made_stays_empty_where_the_chart_cannot_be_made(
 
 #[test]
 fn a_file_that_is_to_be_made_is_known_under_two_paths(rt: HostRuntime) -> Result<(), Fail> {
-    let texts = ("file ./opened_once\n", "./opened_once: named twice\n");
-    open_them(&rt, ("opened_once", "./opened_once"), texts)?;
-    fs::remove_file(&rt, "opened_once")?;
+    let texts = ("file ./opened\u{1b}\n", "./opened\\u{1b}: named twice\n");
+    open_them(&rt, ("opened\u{1b}", "./opened\u{1b}"), texts)?;
+    fs::remove_file(&rt, "opened\u{1b}")?;
     Ok(())
 }
