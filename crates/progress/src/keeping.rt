@@ -42,7 +42,7 @@ impl<W: Write> Keeping<W> {
 impl<W: Write> Write for Keeping<W> {
     ghost use Rattle.std.specs.Prelude.{◌≡◌, OnOk, IfErr};
     ghost use Rattle.std.specs.Io.{WritesAtMost};
-    ghost use Rattle.std.specs.Io.KnownBytes.{Keeps, WriteAppends};
+    ghost use Rattle.std.specs.Io.KnownBytes.{Appends, Keeps, WriteAppends};
     ghost use Rattle.progress.specs.Keeping.{out_of, error_of, IsKept};
 
     ghost contents = { λ k. W.contents (out_of k) };
@@ -57,6 +57,23 @@ impl<W: Write> Write for Keeping<W> {
     {
         match self.out.write(octets) {
             Ok(passed) => Ok(passed),
+            Err(error) => {
+                self.keep(&error);
+                Err(error)
+            }
+        }
+    }
+
+    /// Passes all octets on at once, as `out` does it: a trace is written in many small pieces.
+    #[inline(always)]
+    fn write_all(&mut self, octets: &[u8]) -> io::Result<()>
+        ensures bytes { OnOk result (Appends (W.contents (out_of self.old))
+            (W.contents (out_of self.new)) octets.now) }
+        ensures ok { OnOk result (error_of self.new ≡ error_of self.old) }
+        ensures err { IfErr result (λ error. IsKept error (error_of self.old) (error_of self.new)) }
+    {
+        match self.out.write_all(octets) {
+            Ok(()) => Ok(()),
             Err(error) => {
                 self.keep(&error);
                 Err(error)

@@ -83,6 +83,21 @@ fn the_first_error_is_kept(rt: HostRuntime) {
 }
 
 #[test]
+fn the_error_of_a_whole_write_is_kept() -> Result<(), Fail> {
+    let full = &[Some(ErrorKind::StorageFull)];
+    let mut keeping = Keeping::new(Answers {
+        left: full.as_slice(),
+    });
+    let failed = keeping.write_all(b"ok 1\n").is_err();
+    let kept = keeping.error().map(|error| error.kind());
+    if failed && kept == Some(ErrorKind::StorageFull) {
+        Ok(())
+    } else {
+        Err(Fail::from("an error that is kept"))
+    }
+}
+
+#[test]
 fn octets_pass(rt: HostRuntime) -> Result<(), Fail> {
     let mut out = Vec::new(rt.alloc());
     let mut keeping = Keeping::new(&mut out);
