@@ -3,7 +3,25 @@ use bench_cases::case::{CASES, Case, find};
 use bench_cases::fault::Fault;
 use bench_cases::sum_of;
 use bench_cases::words::{Job, read_words};
+use std::fmt::Debug;
 use std::process::Abort;
+
+// Each test asserts by these: an assertion in a function of its own is proved once, and a call of it costs little.
+
+/// What was found is what was wanted.
+fn equals<T: Copy + Debug + PartialEq>(rt: &impl Abort, found: T, wanted: T) {
+    assert_eq!(rt; found, wanted);
+}
+
+/// What was found at this place is what was wanted.
+fn equals_at<T: Copy + Debug + PartialEq, W: Copy + Debug>(
+    rt: &impl Abort,
+    found: T,
+    wanted: T,
+    at: W,
+) {
+    assert_eq!(rt; found, wanted, "{at:?}");
+}
 
 /// The sum of two iterations of each case on its own octets, worked out from the definitions of the sums:
 ///
@@ -62,18 +80,19 @@ fn case(rt: &impl Abort, name: &str) -> Case {
 fn have_sums<R: Abort + AllocGlobal>(rt: &R, sums: &[(&str, u64)]) {
     for (name, want) in sums {
         let case = case(rt, name);
-        assert_eq!(rt;
+        equals_at(
+            rt,
             sum_of(rt.alloc(), case, 2, case.octets),
             Ok(*want),
-            "{name}"
+            name,
         );
-        assert_eq!(rt; sum_of(rt.alloc(), case, 0, case.octets), Ok(0), "{name}");
+        equals_at(rt, sum_of(rt.alloc(), case, 0, case.octets), Ok(0), name);
     }
 }
 
 #[test]
 fn each_case_has_its_sum(rt: HostRuntime) {
-    assert_eq!(rt; CASES.len(), SUMS.len());
+    equals(&rt, CASES.len(), SUMS.len());
     have_sums(&rt, &SUMS);
 }
 
@@ -82,7 +101,7 @@ fn other_octets_of_the_message(rt: HostRuntime) {
     // reference 255 wraps to 0: 3 + 2 + 10 + 255, then 3 + 2 + 10
     let octets = [8, 0x21, 1, 0x0B, 3, 2, 6, 4, 0, 1, 8, 1, 9, 255];
     let activation = case(&rt, "chan_act.dec");
-    assert_eq!(rt; sum_of(rt.alloc(), activation, 2, &octets), Ok(285));
+    equals(&rt, sum_of(rt.alloc(), activation, 2, &octets), Ok(285));
 }
 
 /// The cases that read their octets as one message, whether to read it again, to write it or to keep it.
@@ -112,7 +131,7 @@ const REQUIRED: [&str; 2] = ["ho_required.dec", "ho_required.enc"];
 fn refuse<R: Abort + AllocGlobal>(rt: &R, names: &[&str], octets: &[u8]) {
     for name in names {
         let sum = sum_of(rt.alloc(), case(rt, name), 1, octets);
-        assert_eq!(rt; sum, Err(Fault::Words), "{name}");
+        equals_at(rt, sum, Err(Fault::Words), name);
     }
 }
 
@@ -142,7 +161,7 @@ const WRONG: [&[&str]; 9] = [
 fn ask_for_nothing<R: Abort + AllocGlobal>(rt: &R, table: &[&[&str]]) {
     for words in table {
         let fault = read_words(rt.alloc(), words).err();
-        assert_eq!(rt; fault, Some(Fault::Words), "{words:?}");
+        equals_at(rt, fault, Some(Fault::Words), words);
     }
 }
 
@@ -163,7 +182,7 @@ fn asked<R: Abort + AllocGlobal>(
             count,
             octets,
         } => {
-            assert_eq!(rt; octets.as_slice(), want);
+            equals(rt, octets.as_slice(), want);
             (case.name, count)
         }
         Job::All { count } => ("all", count),
@@ -172,18 +191,20 @@ fn asked<R: Abort + AllocGlobal>(
 
 #[test]
 fn words_that_ask_for_cases(rt: HostRuntime) {
-    assert_eq!(rt; asked(&rt, &["all", "7"], &[]), Ok(("all", 7)));
-    assert_eq!(rt;
+    equals(&rt, asked(&rt, &["all", "7"], &[]), Ok(("all", 7)));
+    equals(
+        &rt,
         asked(&rt, &["ho_command.enc", "3", "062B"], &[6, 0x2B]),
-        Ok(("ho_command.enc", 3))
+        Ok(("ho_command.enc", 3)),
     );
-    assert_eq!(rt;
+    equals(
+        &rt,
         asked(
             &rt,
             &["ho_command.dec", "4"],
-            case(&rt, "ho_command.dec").octets
+            case(&rt, "ho_command.dec").octets,
         ),
-        Ok(("ho_command.dec", 4))
+        Ok(("ho_command.dec", 4)),
     );
 }
 
@@ -196,6 +217,6 @@ fn statuses(rt: HostRuntime) {
         (Fault::Setting, 1),
     ];
     for (fault, status) in statuses {
-        assert_eq!(rt; fault.status(), status, "{fault}");
+        equals_at(&rt, fault.status(), status, fault);
     }
 }

@@ -10,8 +10,36 @@ use cell_table::ranges::{arfcn_range, tch_range};
 use cell_table::{Allowed, Key, Site, SiteFault, What};
 use sample_sites::THREE_CHANNELS as SITE;
 use std::alloc::{AllocError, Global};
+use std::fmt::Debug;
 use std::process::Abort;
 use std::test::Fail;
+
+// Each test asserts by these: an assertion in a function of its own is proved once, and a call of it costs little.
+
+/// What was found is what was wanted.
+fn equals<T: Copy + Debug + PartialEq>(rt: &impl Abort, found: T, wanted: T) {
+    assert_eq!(rt; found, wanted);
+}
+
+/// What was found at this place is what was wanted.
+fn equals_at<T: Copy + Debug + PartialEq, W: Copy + Debug>(
+    rt: &impl Abort,
+    found: T,
+    wanted: T,
+    at: W,
+) {
+    assert_eq!(rt; found, wanted, "{at:?}");
+}
+
+/// This is so.
+fn holds(rt: &impl Abort, is_so: bool) {
+    assert!(rt; is_so);
+}
+
+/// This is so at this place.
+fn holds_at<W: Copy + Debug>(rt: &impl Abort, is_so: bool, at: W) {
+    assert!(rt; is_so, "{at:?}");
+}
 
 /// The site file with the first place of a text replaced.
 fn changed(rt: &impl Abort, alloc: Global, old: &str, new: &str) -> Result<String, AllocError> {
@@ -50,18 +78,19 @@ fn each_key_has_its_range(rt: HostRuntime) {
             least: low,
             most: high,
         } = key.allowed();
-        assert_eq!(rt; (low, high), (*least, *most), "{key}");
+        equals_at(&rt, (low, high), (*least, *most), key);
     }
-    assert_eq!(rt;
+    equals(
+        &rt,
         arfcn_range(60, true),
         Allowed {
             least: 60,
-            most: 60
-        }
+            most: 60,
+        },
     );
-    assert_eq!(rt; arfcn_range(60, false), Key::Arfcn.allowed());
-    assert_eq!(rt; tch_range(true), Allowed { least: 1, most: 7 });
-    assert_eq!(rt; tch_range(false), Key::Tch.allowed());
+    equals(&rt, arfcn_range(60, false), Key::Arfcn.allowed());
+    equals(&rt, tch_range(true), Allowed { least: 1, most: 7 });
+    equals(&rt, tch_range(false), Key::Tch.allowed());
 }
 
 #[test]
@@ -104,7 +133,7 @@ fn faults_are_printed(rt: HostRuntime) -> Result<(), Fail> {
     ];
     for (fault, text) in rows {
         let printed = format!(in rt.alloc(); "{fault}")?;
-        assert_eq!(rt; printed.as_str(), text);
+        equals(&rt, printed.as_str(), text);
     }
     Ok(())
 }

@@ -4,11 +4,39 @@ use decoded_lines::{
 };
 use refusing_heap::RefusingHeap;
 use std::alloc::Global;
+use std::fmt::Debug;
 use std::io::{self, Write};
 use std::process::Abort;
 use std::rt::Files;
 use std::test::Fail;
 use std::{fs, str};
+
+// Each test asserts by these: an assertion in a function of its own is proved once, and a call of it costs little.
+
+/// What was found is what was wanted.
+fn equals<T: Copy + Debug + PartialEq>(rt: &impl Abort, found: T, wanted: T) {
+    assert_eq!(rt; found, wanted);
+}
+
+/// What was found at this place is what was wanted.
+fn equals_at<T: Copy + Debug + PartialEq, W: Copy + Debug>(
+    rt: &impl Abort,
+    found: T,
+    wanted: T,
+    at: W,
+) {
+    assert_eq!(rt; found, wanted, "{at:?}");
+}
+
+/// This is so.
+fn holds(rt: &impl Abort, is_so: bool) {
+    assert!(rt; is_so);
+}
+
+/// This is so at this place.
+fn holds_at<W: Copy + Debug>(rt: &impl Abort, is_so: bool, at: W) {
+    assert!(rt; is_so, "{at:?}");
+}
 
 /// The names of links, and other names.
 const NAMES: &[(&[u8], Option<Link>)] = &[
@@ -24,7 +52,7 @@ const NAMES: &[(&[u8], Option<Link>)] = &[
 #[test]
 fn links_by_name(rt: HostRuntime) {
     for (name, link) in NAMES {
-        assert_eq!(rt; link_named(*name), *link, "{}", name.escape_ascii());
+        equals_at(&rt, link_named(*name), *link, *name);
     }
 }
 
@@ -82,10 +110,10 @@ fn answers(
         detail: Detail::Fields,
     };
     match answer_lines(rt.alloc(), asked, &mut reader, &mut out) {
-        Ok(Counts { messages, refused }) => assert_eq!(rt; (messages, refused), counts),
-        Err(_) => assert!(rt; false, "{}", lines.escape_ascii()),
+        Ok(Counts { messages, refused }) => equals(rt, (messages, refused), counts),
+        Err(_) => holds_at(rt, false, lines),
     }
-    assert_eq!(rt; str::from_utf8(&out)?, text);
+    equals(rt, str::from_utf8(&out)?, text);
     Ok(())
 }
 
@@ -134,8 +162,11 @@ fn all_is_said_of_messages(rt: HostRuntime) -> Result<(), Fail> {
         };
         let mut out = Vec::new(rt.alloc());
         let mut reader: &[u8] = *lines;
-        assert!(rt; answer_lines(rt.alloc(), asked, &mut reader, &mut out).is_ok());
-        assert_eq!(rt; str::from_utf8(&out)?, *text);
+        holds(
+            &rt,
+            answer_lines(rt.alloc(), asked, &mut reader, &mut out).is_ok(),
+        );
+        equals(&rt, str::from_utf8(&out)?, *text);
     }
     Ok(())
 }
@@ -157,12 +188,8 @@ fn answers_file(
     let mut out = Vec::new(rt.alloc());
     let mut errors = Vec::new(rt.alloc());
     let ended = answer_file(rt, FIELDS, path, input, &mut out, &mut errors);
-    assert_eq!(rt;
-        (ended, str::from_utf8(&out)?),
-        (Ok(wanted), text),
-        "{path}"
-    );
-    assert_eq!(rt; str::from_utf8(&errors)?, said, "{path}");
+    equals_at(rt, (ended, str::from_utf8(&out)?), (Ok(wanted), text), path);
+    equals_at(rt, str::from_utf8(&errors)?, said, path);
     Ok(())
 }
 
@@ -246,12 +273,13 @@ fn a_reader_that_breaks_off(rt: HostRuntime) -> Result<(), Fail> {
     let mut errors = Vec::new(rt.alloc());
     let input = Broken(b"rr 062c00\nrr 06");
     let ended = answer_file(&rt, FIELDS, "-", input, &mut out, &mut errors);
-    assert_eq!(rt; ended, Ok(false));
-    assert_eq!(rt;
+    equals(&rt, ended, Ok(false));
+    equals(
+        &rt,
         str::from_utf8(&out)?,
-        "1 HANDOVER COMPLETE cause=0\nfile -\n"
+        "1 HANDOVER COMPLETE cause=0\nfile -\n",
     );
-    assert!(rt; str::from_utf8(&errors)?.starts_with("-: "));
+    holds(&rt, str::from_utf8(&errors)?.starts_with("-: "));
     Ok(())
 }
 
@@ -300,7 +328,7 @@ fn writes_all(rt: &(impl Abort + AllocGlobal), before: u64) -> bool {
         Err(LinesFault::Write) => out.failed,
         Err(LinesFault::NoMemory) | Err(LinesFault::Read(_)) => false,
     };
-    assert!(rt; same, "{before}");
+    holds_at(rt, same, before);
     !out.failed
 }
 
@@ -308,7 +336,7 @@ fn writes_all(rt: &(impl Abort + AllocGlobal), before: u64) -> bool {
 fn each_write_fails(rt: HostRuntime) -> Result<(), Fail> {
     for before in 0..200 {
         if writes_all(&rt, before) {
-            assert!(rt; 10 <= before, "{before} writes");
+            holds_at(&rt, 10 <= before, (before, "writes"));
             return Ok(());
         }
     }
@@ -332,7 +360,7 @@ fn has_memory(rt: &(impl Abort + AllocGlobal), number: u64) -> bool {
         Err(LinesFault::NoMemory) => heap.was_refused(),
         Err(LinesFault::Write) | Err(LinesFault::Read(_)) => false,
     };
-    assert!(rt; same, "request {number}");
+    holds_at(rt, same, ("request", number));
     !heap.was_refused()
 }
 
@@ -340,7 +368,7 @@ fn has_memory(rt: &(impl Abort + AllocGlobal), number: u64) -> bool {
 fn each_request_for_memory_is_refused(rt: HostRuntime) -> Result<(), Fail> {
     for number in 1..200 {
         if has_memory(&rt, number) {
-            assert!(rt; 3 <= number, "{number} requests");
+            holds_at(&rt, 3 <= number, (number, "requests"));
             return Ok(());
         }
     }

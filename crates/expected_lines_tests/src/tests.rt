@@ -5,9 +5,37 @@ use expected_lines::{
 };
 use refusing_heap::RefusingHeap;
 use std::alloc::Global;
+use std::fmt::Debug;
 use std::process::Abort;
 use std::str;
 use std::test::Fail;
+
+// Each test asserts by these: an assertion in a function of its own is proved once, and a call of it costs little.
+
+/// What was found is what was wanted.
+fn equals<T: Copy + Debug + PartialEq>(rt: &impl Abort, found: T, wanted: T) {
+    assert_eq!(rt; found, wanted);
+}
+
+/// What was found at this place is what was wanted.
+fn equals_at<T: Copy + Debug + PartialEq, W: Copy + Debug>(
+    rt: &impl Abort,
+    found: T,
+    wanted: T,
+    at: W,
+) {
+    assert_eq!(rt; found, wanted, "{at:?}");
+}
+
+/// This is so.
+fn holds(rt: &impl Abort, is_so: bool) {
+    assert!(rt; is_so);
+}
+
+/// This is so at this place.
+fn holds_at<W: Copy + Debug>(rt: &impl Abort, is_so: bool, at: W) {
+    assert!(rt; is_so, "{at:?}");
+}
 
 /// Lines, what each expects, and whether it gives something.
 const LINES: &[(&str, Option<&str>, bool)] = &[
@@ -30,8 +58,8 @@ const LINES: &[(&str, Option<&str>, bool)] = &[
 #[test]
 fn lines_expect(rt: HostRuntime) {
     for (line, expected, gives) in LINES {
-        assert_eq!(rt; expected_in(*line), *expected, "{line}");
-        assert_eq!(rt; is_script_line(*line), *gives, "{line}");
+        equals_at(&rt, expected_in(*line), *expected, line);
+        equals_at(&rt, is_script_line(*line), *gives, line);
     }
     for (text, any) in [
         ("..", true),
@@ -40,18 +68,18 @@ fn lines_expect(rt: HostRuntime) {
         ("", false),
         (".. ", false),
     ] {
-        assert_eq!(rt; is_any(text), any, "{text}");
+        equals_at(&rt, is_any(text), any, text);
     }
 }
 
 #[test]
 fn texts_have_lines(rt: HostRuntime) -> Result<(), Fail> {
     let lines = lines_of(rt.alloc(), "a\r\n\n# b\r\r\nc")?;
-    assert_eq!(rt; lines.as_slice(), ["a", "", "# b\r", "c"].as_slice());
-    assert_eq!(rt; part_end(&lines), 0);
-    assert_eq!(rt; part_end(&["", "# b", "#> c", "d"]), 3);
-    assert_eq!(rt; part_end(&["", "# b"]), 2);
-    assert_eq!(rt; without_return("a\r"), "a");
+    equals(&rt, lines.as_slice(), ["a", "", "# b\r", "c"].as_slice());
+    equals(&rt, part_end(&lines), 0);
+    equals(&rt, part_end(&["", "# b", "#> c", "d"]), 3);
+    equals(&rt, part_end(&["", "# b"]), 2);
+    equals(&rt, without_return("a\r"), "a");
     Ok(())
 }
 
@@ -118,7 +146,7 @@ fn places_of(found: Option<Difference>) -> Places {
 fn lines_that_came_are_compared(rt: HostRuntime) -> Result<(), Fail> {
     for (lines, came, wanted) in DIFFERENCES {
         let found = places_of(find_difference(rt.alloc(), *lines, *came)?);
-        assert_eq!(rt; found, *wanted, "{lines:?} {came:?}");
+        equals_at(&rt, found, *wanted, (lines, came));
     }
     Ok(())
 }
@@ -140,7 +168,7 @@ const ENDS: &[(&[&str], Places)] = &[
 fn the_end_may_be_expected(rt: HostRuntime) -> Result<(), Fail> {
     for (lines, wanted) in ENDS {
         let found = find_last_difference(rt.alloc(), *lines, &["a"], &["a", "end 1", "end 2"])?;
-        assert_eq!(rt; places_of(found), *wanted, "{lines:?}");
+        equals_at(&rt, places_of(found), *wanted, lines);
     }
     Ok(())
 }
@@ -149,8 +177,8 @@ fn the_end_may_be_expected(rt: HostRuntime) -> Result<(), Fail> {
 fn compares_without(rt: &impl Abort, alloc: Global, n: u64) -> bool {
     let heap = RefusingHeap::refusing_nth(alloc, n);
     match find_difference(&heap, &["#> a", "#> ..", "#> d"], &["a", "b", "c", "d"]) {
-        Ok(found) => assert!(rt; found.is_none() && !heap.was_refused()),
-        Err(_) => assert!(rt; heap.was_refused()),
+        Ok(found) => holds(rt, found.is_none() && !heap.was_refused()),
+        Err(_) => holds(rt, heap.was_refused()),
     }
     !heap.was_refused()
 }
@@ -164,7 +192,7 @@ fn each_request_for_memory_is_refused(rt: HostRuntime) {
         }
         tried = n;
     }
-    assert!(rt; 2 < tried && tried < 99, "{tried} requests");
+    holds_at(&rt, 2 < tried && tried < 99, (tried, "requests"));
 }
 
 /// What is printed of three tests that aren't met and of one that is.
@@ -203,7 +231,7 @@ fn tests_are_printed(rt: HostRuntime) -> Result<(), Fail> {
     print_miss(&mut out, 3, "c", Miss::Unread(7))?;
     print_miss(&mut out, 4, "d", Miss::NoFile)?;
     print_met(&mut out, 5, "e")?;
-    assert_eq!(rt; str::from_utf8(&out)?, PRINTED);
+    equals(&rt, str::from_utf8(&out)?, PRINTED);
     Ok(())
 }
 
@@ -212,6 +240,6 @@ fn lines_are_recorded(rt: HostRuntime) -> Result<(), Fail> {
     let mut out = Vec::new(rt.alloc());
     print_recorded(&mut out, &["a", "b"], ending_of("open"))?;
     print_recorded(&mut out, &["c"], ending_of("open\r"))?;
-    assert_eq!(rt; str::from_utf8(&out)?, "#> a\n#> b\n#> c\r\n");
+    equals(&rt, str::from_utf8(&out)?, "#> a\n#> b\n#> c\r\n");
     Ok(())
 }

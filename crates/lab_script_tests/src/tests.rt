@@ -5,8 +5,31 @@ use ho_procedure::exchange::{Inbound, Line};
 use lab_script::script::{Given, Item, ScriptFault, Side, first_unread, is_octets, read_script};
 use refusing_heap::RefusingHeap;
 use std::alloc::Global;
+use std::fmt::Debug;
 use std::process::Abort;
 use std::test::Fail;
+
+// Each test asserts by these: an assertion in a function of its own is proved once, and a call of it costs little.
+
+/// What was found is what was wanted.
+fn equals<T: Copy + Debug + PartialEq>(rt: &impl Abort, found: T, wanted: T) {
+    assert_eq!(rt; found, wanted);
+}
+
+/// What was found at this place is what was wanted.
+fn equals_at<T: Copy + Debug + PartialEq, W: Copy + Debug>(
+    rt: &impl Abort,
+    found: T,
+    wanted: T,
+    at: W,
+) {
+    assert_eq!(rt; found, wanted, "{at:?}");
+}
+
+/// This is so at this place.
+fn holds_at<W: Copy + Debug>(rt: &impl Abort, is_so: bool, at: W) {
+    assert!(rt; is_so, "{at:?}");
+}
 
 /// Lines that can't be read, with a peer or without.
 const NO_LINES: &[&str] = &[
@@ -319,12 +342,12 @@ fn is_read(
     script: &str,
     wanted: &[Gives<'static>],
 ) -> Result<(), Fail> {
-    assert_eq!(rt; first_unread(script, false), None, "{script}");
+    equals_at(rt, first_unread(script, false), None, script);
     let items = read_script(alloc, script, false)?;
-    assert_eq!(rt; items.len(), wanted.len(), "{script}");
+    equals_at(rt, items.len(), wanted.len(), script);
     for (item, wanted) in items.iter().zip(wanted.iter()) {
-        assert_eq!(rt; given_by(item), *wanted, "{script}");
-        assert_eq!(rt; item.side, Side::First, "{script}");
+        equals_at(rt, given_by(item), *wanted, script);
+        equals_at(rt, item.side, Side::First, script);
     }
     Ok(())
 }
@@ -341,19 +364,19 @@ fn lines_give_items(rt: HostRuntime) -> Result<(), Fail> {
 fn lines_of_two_controllers_give_items(rt: HostRuntime) -> Result<(), Fail> {
     let (script, wanted) = OF_TWO;
     let items = read_script(rt.alloc(), script, true)?;
-    assert_eq!(rt; items.len(), wanted.len());
+    equals(&rt, items.len(), wanted.len());
     for (item, (side, gives)) in items.iter().zip(wanted.iter()) {
-        assert_eq!(rt; item.side, *side);
-        assert_eq!(rt; given_by(item), *gives);
+        equals(&rt, item.side, *side);
+        equals(&rt, given_by(item), *gives);
     }
     Ok(())
 }
 
 /// This is the first line of a script that can't be read.
 fn is_unread(rt: &impl Abort, alloc: Global, script: &str, has_peer: bool, number: usize) {
-    assert_eq!(rt; first_unread(script, has_peer), Some(number), "{script}");
+    equals_at(rt, first_unread(script, has_peer), Some(number), script);
     let answer = read_script(alloc, script, has_peer).err();
-    assert_eq!(rt; answer, Some(ScriptFault::Line(number)), "{script}");
+    equals_at(rt, answer, Some(ScriptFault::Line(number)), script);
 }
 
 #[test]
@@ -376,7 +399,7 @@ fn the_first_line_that_is_none(rt: HostRuntime) {
 fn a_line_for_a_peer_that_is_not_there(rt: HostRuntime) {
     for (script, number) in WITH_PEER {
         is_unread(&rt, rt.alloc(), *script, false, *number);
-        assert_eq!(rt; first_unread(*script, true), None, "{script}");
+        equals_at(&rt, first_unread(*script, true), None, script);
     }
     for (script, number) in UNREAD_WITH_PEER {
         is_unread(&rt, rt.alloc(), *script, true, *number);
@@ -403,7 +426,7 @@ const OCTETS: &[(&str, bool)] = &[
 #[test]
 fn octets_are_pairs_of_hexadecimal_digits(rt: HostRuntime) {
     for (text, wanted) in OCTETS {
-        assert_eq!(rt; is_octets(*text), *wanted, "{text}");
+        equals_at(&rt, is_octets(*text), *wanted, text);
     }
 }
 
@@ -417,7 +440,7 @@ fn reads_without(rt: &impl Abort, alloc: Global, n: u64) -> bool {
     } else {
         None
     };
-    assert_eq!(rt; fault, wanted, "{n}");
+    equals_at(rt, fault, wanted, n);
     fault.is_none()
 }
 
@@ -431,5 +454,5 @@ fn each_request_for_memory_is_refused(rt: HostRuntime) {
         tried = n;
     }
     // the list of items, and the octets of each message
-    assert!(rt; 3 <= tried && tried < 99, "{tried} requests");
+    holds_at(&rt, 3 <= tried && tried < 99, (tried, "requests"));
 }

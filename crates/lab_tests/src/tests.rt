@@ -28,10 +28,38 @@ mod words;
 use lab::run::{LabFault, Status, lab_run};
 use sample_sites::THREE_CHANNELS as SITE;
 use std::alloc::{Allocator, Global};
+use std::fmt::Debug;
 use std::fs;
 use std::process::Abort;
 use std::rt::Files;
 use std::test::Fail;
+
+// Each test asserts by these: an assertion in a function of its own is proved once, and a call of it costs little.
+
+/// What was found is what was wanted.
+fn equals<T: Copy + Debug + PartialEq>(rt: &impl Abort, found: T, wanted: T) {
+    assert_eq!(rt; found, wanted);
+}
+
+/// What was found at this place is what was wanted.
+fn equals_at<T: Copy + Debug + PartialEq, W: Copy + Debug>(
+    rt: &impl Abort,
+    found: T,
+    wanted: T,
+    at: W,
+) {
+    assert_eq!(rt; found, wanted, "{at:?}");
+}
+
+/// This is so.
+fn holds(rt: &impl Abort, is_so: bool) {
+    assert!(rt; is_so);
+}
+
+/// This is so at this place.
+fn holds_at<W: Copy + Debug>(rt: &impl Abort, is_so: bool, at: W) {
+    assert!(rt; is_so, "{at:?}");
+}
 
 /// A call from its begin to its end, and what it prints.
 const ONE_CALL: (&str, &str) = (
@@ -88,8 +116,8 @@ fn ends_so(
     (wanted, printed): (Status, &str),
     what: &str,
 ) {
-    assert_eq!(rt; ended, Ok(wanted), "{what}: {text}");
-    assert!(rt; text == printed, "{what}: {text}");
+    equals_at(rt, ended, Ok(wanted), (what, text));
+    equals_at(rt, text, printed, what);
 }
 
 /// A run over these sites ends so and prints this.

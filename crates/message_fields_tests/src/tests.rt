@@ -5,8 +5,36 @@ use message_fields::{
 };
 use refusing_heap::RefusingHeap;
 use std::alloc::Global;
+use std::fmt::Debug;
 use std::process::Abort;
 use std::test::Fail;
+
+// Each test asserts by these: an assertion in a function of its own is proved once, and a call of it costs little.
+
+/// What was found is what was wanted.
+fn equals<T: Copy + Debug + PartialEq>(rt: &impl Abort, found: T, wanted: T) {
+    assert_eq!(rt; found, wanted);
+}
+
+/// What was found at this place is what was wanted.
+fn equals_at<T: Copy + Debug + PartialEq, W: Copy + Debug>(
+    rt: &impl Abort,
+    found: T,
+    wanted: T,
+    at: W,
+) {
+    assert_eq!(rt; found, wanted, "{at:?}");
+}
+
+/// This is so.
+fn holds(rt: &impl Abort, is_so: bool) {
+    assert!(rt; is_so);
+}
+
+/// This is so at this place.
+fn holds_at<W: Copy + Debug>(rt: &impl Abort, is_so: bool, at: W) {
+    assert!(rt; is_so, "{at:?}");
+}
 
 #[test]
 fn names_and_fields(rt: HostRuntime) {
@@ -23,7 +51,7 @@ fn names_and_fields(rt: HostRuntime) {
         (" a=1", "", "a=1"),
         ("A ", "A ", ""),
     ] {
-        assert_eq!(rt; name_and_fields(*text), (*name, *fields), "{text:?}");
+        equals_at(&rt, name_and_fields(*text), (*name, *fields), text);
     }
 }
 
@@ -44,21 +72,21 @@ fn keys_of_fields(rt: HostRuntime) {
             Some(word) => Err(FieldFault::Unknown(word)),
             None => Ok(()),
         };
-        assert!(rt; only_keys(*fields, "tn cause") == wanted, "{fields:?}");
+        equals_at(&rt, only_keys(*fields, "tn cause"), wanted, fields);
     }
-    assert!(rt; only_keys("=1", "") == Err(FieldFault::Unknown("=1")));
+    equals(&rt, only_keys("=1", ""), Err(FieldFault::Unknown("=1")));
 }
 
 #[test]
 fn values_of_fields(rt: HostRuntime) {
     let fields = "a=1 b= n=x a=2 c n=y=z";
-    assert_eq!(rt; value(fields, "b"), Ok(""));
-    assert_eq!(rt; value(fields, "a"), Err(FieldFault::Twice("a")));
-    assert_eq!(rt; value(fields, "c"), Err(FieldFault::Missing("c")));
-    assert_eq!(rt; value("", "c"), Err(FieldFault::Missing("c")));
-    assert_eq!(rt; leading_value(fields, "n"), Some(("x", "a=2 c n=y=z")));
-    assert_eq!(rt; leading_value("a=2 c n=y=z", "n"), Some(("y=z", "")));
-    assert_eq!(rt; leading_value("", "n"), None);
+    equals(&rt, value(fields, "b"), Ok(""));
+    equals(&rt, value(fields, "a"), Err(FieldFault::Twice("a")));
+    equals(&rt, value(fields, "c"), Err(FieldFault::Missing("c")));
+    equals(&rt, value("", "c"), Err(FieldFault::Missing("c")));
+    equals(&rt, leading_value(fields, "n"), Some(("x", "a=2 c n=y=z")));
+    equals(&rt, leading_value("a=2 c n=y=z", "n"), Some(("y=z", "")));
+    equals(&rt, leading_value("", "n"), None);
 }
 
 /// Texts, and the greatest number where they write one.
@@ -80,49 +108,52 @@ const NUMBERS: &[(&str, u16, Option<u16>)] = &[
 #[test]
 fn numbers(rt: HostRuntime) {
     for (fields, most, wanted) in NUMBERS {
-        assert_eq!(rt; number(*fields, "k", *most).ok(), *wanted, "{fields}");
+        equals_at(&rt, number(*fields, "k", *most).ok(), *wanted, fields);
     }
-    assert_eq!(rt; small("k=7", "k", 7), Ok(7));
-    assert!(rt; small("k=8", "k", 7).is_err());
-    assert_eq!(rt; octet("k=255", "k"), Ok(255));
-    assert!(rt; octet("k=256", "k").is_err());
-    assert_eq!(rt; optional_octet("k=255", "k"), Ok(Some(255)));
-    assert_eq!(rt; optional_octet("k=-", "k"), Ok(None));
-    assert!(rt; optional_octet("k=--", "k").is_err());
-    assert_eq!(rt; flag("k=0", "k"), Ok(false));
-    assert_eq!(rt; flag("k=1", "k"), Ok(true));
-    assert!(rt; flag("k=01", "k").is_err());
+    equals(&rt, small("k=7", "k", 7), Ok(7));
+    holds(&rt, small("k=8", "k", 7).is_err());
+    equals(&rt, octet("k=255", "k"), Ok(255));
+    holds(&rt, octet("k=256", "k").is_err());
+    equals(&rt, optional_octet("k=255", "k"), Ok(Some(255)));
+    equals(&rt, optional_octet("k=-", "k"), Ok(None));
+    holds(&rt, optional_octet("k=--", "k").is_err());
+    equals(&rt, flag("k=0", "k"), Ok(false));
+    equals(&rt, flag("k=1", "k"), Ok(true));
+    holds(&rt, flag("k=01", "k").is_err());
 }
 
 #[test]
 fn octets_of_fields(rt: HostRuntime) -> Result<(), Fail> {
     let alloc = rt.alloc();
     let found = octets(alloc, "k=0aFf", "k", 2).expect(&rt, "two octets");
-    assert_eq!(rt; found.as_slice(), [10, 255].as_slice());
+    equals(&rt, found.as_slice(), [10, 255].as_slice());
     for text in &["k=0aFf", "k=0", "k=0g", "k=-", "k=0a:ff:00"] {
-        assert!(rt; octets(alloc, *text, "k", 3).is_err(), "{text}");
+        holds_at(&rt, octets(alloc, *text, "k", 3).is_err(), text);
     }
     let none = octets(alloc, "k=", "k", 0).expect(&rt, "no octets");
-    assert!(rt; none.is_empty());
+    holds(&rt, none.is_empty());
     let absent = optional_octets(alloc, "k=-", "k", 1).expect(&rt, "nothing");
-    assert!(rt; absent.is_none());
+    holds(&rt, absent.is_none());
     let one = optional_octets(alloc, "k=06", "k", 1).expect(&rt, "one octet");
-    assert!(rt; one.is_some_and(|octets| octets.as_slice() == [6].as_slice()));
-    assert!(rt; optional_octets(alloc, "k=", "k", 1).is_err());
+    holds(
+        &rt,
+        one.is_some_and(|octets| octets.as_slice() == [6].as_slice()),
+    );
+    holds(&rt, optional_octets(alloc, "k=", "k", 1).is_err());
     Ok(())
 }
 
 #[test]
 fn cells_and_neighbours(rt: HostRuntime) {
-    assert_eq!(rt; cell_in("23/65535"), Some((23, 65535)));
+    equals(&rt, cell_in("23/65535"), Some((23, 65535)));
     for text in &[
         "", "23", "23/", "/1", "-/102", "23/1/2", "65536/1", "23/65536",
     ] {
-        assert_eq!(rt; cell_in(*text), None, "{text}");
+        equals_at(&rt, cell_in(*text), None, text);
     }
-    assert_eq!(rt; neighbour_in("63/31/63"), Some((63, 31, 63)));
+    equals(&rt, neighbour_in("63/31/63"), Some((63, 31, 63)));
     for text in &["", "1/2", "64/31/63", "63/32/63", "63/31/64", "1/2/3/4"] {
-        assert_eq!(rt; neighbour_in(*text), None, "{text}");
+        equals_at(&rt, neighbour_in(*text), None, text);
     }
 }
 
@@ -134,8 +165,8 @@ fn is_said<T: Drop>(
     wanted: &str,
 ) -> Result<(), Fail> {
     match found {
-        Ok(_) => assert!(rt; false, "{wanted}"),
-        Err(fault) => assert_eq!(rt; fault.to_string(alloc)?.as_str(), wanted),
+        Ok(_) => holds_at(rt, false, wanted),
+        Err(fault) => equals(rt, fault.to_string(alloc)?.as_str(), wanted),
     }
     Ok(())
 }
@@ -173,10 +204,10 @@ fn with_many(alloc: Global, front: &str, part: &str, count: usize) -> Result<Str
 
 /// Each reader goes to the end of many fields `cause`.
 fn are_read(rt: &impl Abort, fields: &str) {
-    assert!(rt; only_keys(fields, "cause") == Ok(()));
-    assert_eq!(rt; value(fields, "cause"), Err(FieldFault::Twice("cause")));
-    assert_eq!(rt; value(fields, "rr"), Err(FieldFault::Missing("rr")));
-    assert_eq!(rt; leading_value(fields, "rr"), None);
+    equals(rt, only_keys(fields, "cause"), Ok(()));
+    equals(rt, value(fields, "cause"), Err(FieldFault::Twice("cause")));
+    equals(rt, value(fields, "rr"), Err(FieldFault::Missing("rr")));
+    equals(rt, leading_value(fields, "rr"), None);
 }
 
 #[test]
@@ -250,8 +281,8 @@ fn long_words_are_cut(rt: HostRuntime) -> Result<(), Fail> {
 fn memory_is_refused(rt: HostRuntime) {
     let heap = RefusingHeap::refusing_nth(rt.alloc(), 1);
     let refused = octets(&heap, "k=06", "k", 1).err();
-    assert!(rt; refused == Some(FieldFault::NoMemory));
+    equals(&rt, refused, Some(FieldFault::NoMemory));
     let heap = RefusingHeap::refusing_nth(rt.alloc(), 1);
     let refused = optional_octets(&heap, "k=06", "k", 1).err();
-    assert!(rt; refused == Some(FieldFault::NoMemory));
+    equals(&rt, refused, Some(FieldFault::NoMemory));
 }

@@ -15,9 +15,37 @@ use radio_desk::desk::{Desk, DeskFault};
 use radio_desk::seat::{Receipt, Seat};
 use sample_sites::{HOME, OTHER, TARGET, THREE_CHANNELS};
 use std::alloc::{Allocator, Global};
+use std::fmt::Debug;
 use std::process::Abort;
 use std::sync::Arc;
 use std::test::Fail;
+
+// Each test asserts by these: an assertion in a function of its own is proved once, and a call of it costs little.
+
+/// What was found is what was wanted.
+fn equals<T: Copy + Debug + PartialEq>(rt: &impl Abort, found: T, wanted: T) {
+    assert_eq!(rt; found, wanted);
+}
+
+/// What was found at this place is what was wanted.
+fn equals_at<T: Copy + Debug + PartialEq, W: Copy + Debug>(
+    rt: &impl Abort,
+    found: T,
+    wanted: T,
+    at: W,
+) {
+    assert_eq!(rt; found, wanted, "{at:?}");
+}
+
+/// This is so.
+fn holds(rt: &impl Abort, is_so: bool) {
+    assert!(rt; is_so);
+}
+
+/// This is so at this place.
+fn holds_at<W: Copy + Debug>(rt: &impl Abort, is_so: bool, at: W) {
+    assert!(rt; is_so, "{at:?}");
+}
 
 // What is asked at a desk.
 #[derive(Clone, Copy, Debug)]
@@ -88,12 +116,12 @@ fn receipt_of(place: usize, entry: Entry) -> Option<Receipt> {
 
 // The last receipt of a seat is this one.
 fn is_last(rt: &impl Abort, seat: &Seat, expected: Option<Receipt>, ask: Ask) {
-    assert_eq!(rt; seat.last(), expected, "{ask:?}");
+    equals_at(rt, seat.last(), expected, ask);
 }
 
 // The entry of a desk at a place is this one.
 fn is_entry(rt: &impl Abort, desk: &Desk<Global>, place: usize, entry: Entry, ask: Ask) {
-    assert_eq!(rt; desk.entry(place).copied(), entry, "{ask:?}");
+    equals_at(rt, desk.entry(place).copied(), entry, ask);
 }
 
 // An ask leads to this entry, and to its receipt.
@@ -107,7 +135,7 @@ fn leads_to(
     let place = desk.len();
     let last = seat.last();
     let expected = receipt_of(place, entry);
-    assert_eq!(rt; put(desk, seat, ask)?, expected, "{ask:?}");
+    equals_at(rt, put(desk, seat, ask)?, expected, ask);
     is_last(rt, seat, expected.or(last), ask);
     is_entry(rt, desk, place, entry, ask);
     Ok(())
@@ -127,12 +155,12 @@ fn play(
 
 // The history has so many entries, and none behind them.
 fn has_entries(rt: &impl Abort, desk: &Desk<Global>, count: usize) {
-    assert_eq!(rt; (desk.len(), desk.entry(count).is_none()), (count, true));
+    equals(rt, (desk.len(), desk.entry(count).is_none()), (count, true));
 }
 
 fn goes_on(rt: &impl Abort, desk: &mut Desk<Global>) -> Result<(), Fail> {
     let mut seat = Seat::new();
-    assert!(rt; seat.last().is_none());
+    holds(rt, seat.last().is_none());
     has_entries(rt, desk, 0);
     play(rt, desk, &mut seat, COURSE)?;
     has_entries(rt, desk, 11);
@@ -147,18 +175,20 @@ fn each_answer_is_an_entry_and_the_last_receipt(rt: HostRuntime) -> Result<(), F
 
 fn books_of(rt: &impl Abort, desk: &Desk<Global>) {
     let (opening, book) = (desk.opening().usage(), desk.book().usage());
-    assert_eq!(rt;
+    equals(
+        rt,
         (
             opening.channels,
             opening.calls,
             opening.references,
-            opening.timers
+            opening.timers,
         ),
-        (0, 0, 0, 0)
+        (0, 0, 0, 0),
     );
-    assert_eq!(rt;
+    equals(
+        rt,
         (book.channels, book.calls, book.references, book.timers),
-        (2, 1, 1, 1)
+        (2, 1, 1, 1),
     );
 }
 

@@ -4,8 +4,36 @@ use rr_elements::{
 };
 use sample_reports::{HEAD, NEIGHBOUR};
 use std::alloc::{AllocError, Allocator, Global};
+use std::fmt::Debug;
 use std::process::Abort;
 use std::test::Fail;
+
+// Each test asserts by these: an assertion in a function of its own is proved once, and a call of it costs little.
+
+/// What was found is what was wanted.
+fn equals<T: Copy + Debug + PartialEq>(rt: &impl Abort, found: T, wanted: T) {
+    assert_eq!(rt; found, wanted);
+}
+
+/// What was found at this place is what was wanted.
+fn equals_at<T: Copy + Debug + PartialEq, W: Copy + Debug>(
+    rt: &impl Abort,
+    found: T,
+    wanted: T,
+    at: W,
+) {
+    assert_eq!(rt; found, wanted, "{at:?}");
+}
+
+/// This is so.
+fn holds(rt: &impl Abort, is_so: bool) {
+    assert!(rt; is_so);
+}
+
+/// This is so at this place.
+fn holds_at<W: Copy + Debug>(rt: &impl Abort, is_so: bool, at: W) {
+    assert!(rt; is_so, "{at:?}");
+}
 
 /// Results of one neighbour: level 40, position 2, code 21.
 const ONE: [u8; 16] = [
@@ -45,8 +73,8 @@ fn write<A: Allocator + Copy>(element: &Element, out: &mut Vec<u8, A>) -> Result
 /// The element is written as these octets.
 fn is_written<R: Abort + AllocGlobal>(rt: &R, element: Element, octets: &[u8]) {
     let mut out = Vec::new(rt.alloc());
-    assert!(rt; write(&element, &mut out).is_ok());
-    assert_eq!(rt; out.as_slice(), octets);
+    holds(rt, write(&element, &mut out).is_ok());
+    equals(rt, out.as_slice(), octets);
 }
 
 const CELLS: [([u8; 2], u16, u8, u8); 6] = [
@@ -61,13 +89,16 @@ const CELLS: [([u8; 2], u16, u8, u8); 6] = [
 fn cells<R: Abort + AllocGlobal>(rt: &R, table: &[([u8; 2], u16, u8, u8)]) {
     for (octets, arfcn, ncc, bcc) in table {
         let cell = CellDescription::decode(octets).expect(rt, "octets of a cell");
-        assert!(rt;
-            CellDescription::new(*arfcn, *ncc, *bcc) == Ok(cell),
-            "{arfcn}"
+        equals_at(
+            rt,
+            CellDescription::new(*arfcn, *ncc, *bcc),
+            Ok(cell),
+            arfcn,
         );
-        assert!(rt;
+        holds_at(
+            rt,
             cell.arfcn() == *arfcn && cell.ncc() == *ncc && cell.bcc() == *bcc,
-            "{arfcn}"
+            arfcn,
         );
         is_written(rt, Element::Cell(cell), octets);
     }
@@ -88,12 +119,14 @@ const CHANNELS: [([u8; 3], u8, u8, u16); 4] = [
 fn channels<R: Abort + AllocGlobal>(rt: &R, table: &[([u8; 3], u8, u8, u16)]) {
     for (octets, tn, tsc, carrier) in table {
         let channel = ChanDescription::decode(octets).expect(rt, "octets of a channel");
-        assert!(rt;
-            ChanDescription::new(*tn, *tsc, *carrier) == Ok(channel),
-            "{carrier}"
+        equals_at(
+            rt,
+            ChanDescription::new(*tn, *tsc, *carrier),
+            Ok(channel),
+            carrier,
         );
-        assert!(rt; channel.tn() == *tn && channel.tsc() == *tsc, "{carrier}");
-        assert!(rt; channel.carrier() == *carrier, "{carrier}");
+        holds_at(rt, channel.tn() == *tn && channel.tsc() == *tsc, carrier);
+        equals_at(rt, channel.carrier(), *carrier, carrier);
         is_written(rt, Element::Channel(channel), octets);
     }
 }
@@ -102,15 +135,15 @@ fn channels<R: Abort + AllocGlobal>(rt: &R, table: &[([u8; 3], u8, u8, u16)]) {
 fn reads_and_writes_a_channel(rt: HostRuntime) {
     // Spare bits are ignored.
     let spare = ChanDescription::decode(&[0x0B, 0xAF, 0x6B]);
-    assert!(rt; spare == ChanDescription::new(3, 5, 875));
+    equals(&rt, spare, ChanDescription::new(3, 5, 875));
     channels(&rt, &CHANNELS);
 }
 
 fn powers<R: Abort + AllocGlobal>(rt: &R, table: &[(u8, bool, u8)]) {
     for (octet, atc, level) in table {
         let power = Power::decode(&[*octet]).expect(rt, "an octet of power");
-        assert!(rt; Power::new(*atc, *level) == Ok(power), "{octet}");
-        assert!(rt; power.atc() == *atc && power.level() == *level, "{octet}");
+        equals_at(rt, Power::new(*atc, *level), Ok(power), octet);
+        holds_at(rt, power.atc() == *atc && power.level() == *level, octet);
         is_written(rt, Element::Power(power), &[*octet]);
     }
 }
@@ -118,17 +151,18 @@ fn powers<R: Abort + AllocGlobal>(rt: &R, table: &[(u8, bool, u8)]) {
 #[test]
 fn reads_and_writes_power(rt: HostRuntime) {
     // Bits 7 and 6 are ignored.
-    assert!(rt; Power::decode(&[0x65]) == Power::new(false, 5));
+    equals(&rt, Power::decode(&[0x65]), Power::new(false, 5));
     powers(&rt, &[(0x05, false, 5), (0x80, true, 0), (0x9F, true, 31)]);
 }
 
 fn causes<R: Abort + AllocGlobal>(rt: &R, octets: &[u8]) {
     for octet in octets {
         let cause = RrCause(*octet);
-        assert!(rt; RrCause::decode(&[*octet]) == Ok(cause), "{octet}");
-        assert!(rt;
+        equals_at(rt, RrCause::decode(&[*octet]), Ok(cause), octet);
+        holds_at(
+            rt,
             RrCause::new(*octet) == Ok(cause) && cause.value() == *octet,
-            "{octet}"
+            octet,
         );
         is_written(rt, Element::Cause(cause), &[*octet]);
     }
@@ -148,14 +182,17 @@ fn results<R: Abort + AllocGlobal>(
     written: &[u8; 16],
 ) {
     let results = MeasResults::decode(octets).expect(rt, "octets of results");
-    assert!(rt; MeasResults::new(head, neighbours) == Ok(results));
-    assert!(rt; results.head() == head && results.neighbours() == neighbours);
+    equals(rt, MeasResults::new(head, neighbours), Ok(results));
+    holds(
+        rt,
+        results.head() == head && results.neighbours() == neighbours,
+    );
     is_written(rt, Element::Results(results), written);
 }
 
 #[test]
 fn reads_and_writes_results(rt: HostRuntime) {
-    assert!(rt; NEIGHBOUR.fits() && HEAD.fits());
+    holds(&rt, NEIGHBOUR.fits() && HEAD.fits());
     results(&rt, &ONE, HEAD, &[NEIGHBOUR], &ONE);
 }
 
@@ -237,7 +274,7 @@ fn refuse_other_lengths(rt: &impl Abort, octets: &[u8; 18]) {
             MeasResults::decode(octets).err() == length,
         ];
         let other = [len != 2, len != 3, len != 1, len != 1, len != 16];
-        assert!(rt; refused == other, "{len}");
+        equals_at(rt, refused, other, len);
     }
 }
 
@@ -259,7 +296,7 @@ const OTHER_CHANNELS: [([u8; 3], ElementFault); 4] = [
 
 fn refuse_channels(rt: &impl Abort, table: &[([u8; 3], ElementFault)]) {
     for (octets, fault) in table {
-        assert_eq!(rt; ChanDescription::decode(octets), Err(*fault));
+        equals(rt, ChanDescription::decode(octets), Err(*fault));
     }
 }
 
@@ -272,23 +309,23 @@ const BAD: Option<ElementFault> = Some(ElementFault::BadRange);
 
 #[test]
 fn refuses_cells_that_do_not_fit(rt: HostRuntime) {
-    assert_eq!(rt; CellDescription::new(1024, 7, 7).err(), BAD);
-    assert_eq!(rt; CellDescription::new(1023, 8, 7).err(), BAD);
-    assert_eq!(rt; CellDescription::new(1023, 7, 8).err(), BAD);
+    equals(&rt, CellDescription::new(1024, 7, 7).err(), BAD);
+    equals(&rt, CellDescription::new(1023, 8, 7).err(), BAD);
+    equals(&rt, CellDescription::new(1023, 7, 8).err(), BAD);
 }
 
 #[test]
 fn refuses_channels_that_do_not_fit(rt: HostRuntime) {
-    assert_eq!(rt; ChanDescription::new(8, 7, 1023).err(), BAD);
-    assert_eq!(rt; ChanDescription::new(7, 8, 1023).err(), BAD);
-    assert_eq!(rt; ChanDescription::new(7, 7, 1024).err(), BAD);
-    assert_eq!(rt; Power::new(true, 32).err(), BAD);
+    equals(&rt, ChanDescription::new(8, 7, 1023).err(), BAD);
+    equals(&rt, ChanDescription::new(7, 8, 1023).err(), BAD);
+    equals(&rt, ChanDescription::new(7, 7, 1024).err(), BAD);
+    equals(&rt, Power::new(true, 32).err(), BAD);
 }
 
 fn refuse_heads(rt: &impl Abort, heads: &[MeasHead]) {
     for head in heads {
         let fault = MeasResults::new(*head, &[NEIGHBOUR]).err();
-        assert_eq!(rt; fault, BAD, "{}", head.count);
+        equals_at(rt, fault, BAD, head.count);
     }
 }
 
@@ -309,8 +346,8 @@ fn refuses_heads_that_do_not_fit(rt: HostRuntime) {
 
 fn refuse_neighbours(rt: &impl Abort, neighbours: &[Ncell]) {
     for neighbour in neighbours {
-        assert_eq!(rt; MeasResults::new(HEAD, &[*neighbour]).err(), BAD);
-        assert!(rt; !neighbour.fits());
+        equals(rt, MeasResults::new(HEAD, &[*neighbour]).err(), BAD);
+        holds(rt, !neighbour.fits());
     }
 }
 
@@ -340,10 +377,14 @@ fn refused(count: u8, neighbours: &[Ncell]) -> Option<ElementFault> {
 
 #[test]
 fn results_have_as_many_neighbours_as_the_count_says(rt: HostRuntime) {
-    assert!(rt; refused(5, &[NEIGHBOUR; 6]) == Some(ElementFault::BadRange));
-    assert!(rt; refused(6, &[NEIGHBOUR; 6]) == None);
-    assert!(rt; refused(0, &[]) == None);
-    assert!(rt; refused(7, &[]) == None);
+    equals(
+        &rt,
+        refused(5, &[NEIGHBOUR; 6]),
+        Some(ElementFault::BadRange),
+    );
+    equals(&rt, refused(6, &[NEIGHBOUR; 6]), None);
+    equals(&rt, refused(0, &[]), None);
+    equals(&rt, refused(7, &[]), None);
 }
 
 /// One of each element.
@@ -364,8 +405,12 @@ fn write_all(rt: &impl Abort, heap: &RefusingHeap<Global>, elements: &[Element])
     for element in elements {
         let (refused, len) = (heap.refused(), out.len());
         let failed = write(element, &mut out).is_err();
-        assert!(rt; failed == (refused < heap.refused()), "after {len} octets");
-        assert!(rt; !failed || out.len() == len, "after {len} octets");
+        holds_at(
+            rt,
+            failed == (refused < heap.refused()),
+            ("after", len, "octets"),
+        );
+        holds_at(rt, !failed || out.len() == len, ("after", len, "octets"));
     }
 }
 
@@ -385,15 +430,15 @@ fn refusals(rt: &(impl AllocGlobal + Abort), elements: &[Element]) -> u64 {
 #[test]
 fn answers_each_refusal(rt: HostRuntime) -> Result<(), Fail> {
     let refused = refusals(&rt, &one_of_each()?);
-    assert!(rt; 1 < refused && refused < 99, "{refused} requests");
+    holds_at(&rt, 1 < refused && refused < 99, (refused, "requests"));
     Ok(())
 }
 
 // The elements, of 23 octets together, in a list that has room for all and one octet more: its room stays.
 fn keep_room(rt: &impl Abort, elements: &[Element], out: &mut Vec<u8, &RefusingHeap<Global>>) {
     for element in elements {
-        assert!(rt; write(element, out).is_ok());
-        assert!(rt; out.capacity() == 47);
+        holds(rt, write(element, out).is_ok());
+        equals(rt, out.capacity(), 47);
     }
 }
 
@@ -403,7 +448,7 @@ fn write_in_room(rt: &impl Abort, heap: &RefusingHeap<Global>, elements: &[Eleme
     heap.refuse_from_now();
     keep_room(rt, elements, &mut out);
     keep_room(rt, elements, &mut out);
-    assert!(rt; out.len() == 46 && !heap.was_refused());
+    holds(rt, out.len() == 46 && !heap.was_refused());
 }
 
 #[test]
@@ -414,7 +459,7 @@ fn keeps_the_room_of_a_list(rt: HostRuntime) -> Result<(), Fail> {
 
 fn have_texts<R: Abort + AllocGlobal>(rt: &R, table: &[(ElementFault, &str)]) -> Result<(), Fail> {
     for (fault, text) in table {
-        assert_eq!(rt; format!(in rt.alloc(); "{fault}")?.as_str(), *text);
+        equals(rt, format!(in rt.alloc(); "{fault}")?.as_str(), *text);
     }
     Ok(())
 }

@@ -10,12 +10,20 @@ use rr_elements::ElementFault;
 use rr_messages::RrFault;
 use rsl_messages::{Octets, RslFault};
 use std::alloc::{AllocError, Global};
+use std::fmt::Debug;
 use std::process::Abort;
 use std::str;
 use std::test::Fail;
 use trace_text::trace::{
     Mark, Step, print_end, print_fault, print_input, print_limit, print_sent, print_steps,
 };
+
+// Each test asserts by these: an assertion in a function of its own is proved once, and a call of it costs little.
+
+/// What was found is what was wanted.
+fn equals<T: Copy + Debug + PartialEq>(rt: &impl Abort, found: T, wanted: T) {
+    assert_eq!(rt; found, wanted);
+}
 
 /// Faults that octets on their way through a reader never have.
 const FAULTS: &[(Bad, &str)] = &[
@@ -37,7 +45,7 @@ fn faults_that_octets_never_have(rt: HostRuntime) -> Result<(), Fail> {
     for (fault, expected) in FAULTS {
         let mut out = Vec::new(rt.alloc());
         print_fault(&mut out, Mark::Alone, *fault)?;
-        assert_eq!(rt; str::from_utf8(&out)?, *expected);
+        equals(&rt, str::from_utf8(&out)?, *expected);
     }
     Ok(())
 }
@@ -198,7 +206,7 @@ fn prints(
 ) -> Result<(), Fail> {
     let mut out = Vec::new(alloc);
     print_steps(&mut out, Mark::Alone, &[Step::Asked(event, reply)])?;
-    assert_eq!(rt; str::from_utf8(&out)?, line);
+    equals(rt, str::from_utf8(&out)?, line);
     Ok(())
 }
 
@@ -302,7 +310,7 @@ fn inputs_are_printed(rt: HostRuntime) -> Result<(), Fail> {
         let input: Inbound<Global> = Inbound::Operator(*line);
         let mut out = Vec::new(rt.alloc());
         print_input(&mut out, Mark::Alone, &input)?;
-        assert_eq!(rt; str::from_utf8(&out)?, *expected);
+        equals(&rt, str::from_utf8(&out)?, *expected);
     }
     Ok(())
 }
@@ -323,7 +331,7 @@ fn expiries_are_printed(rt: HostRuntime) -> Result<(), Fail> {
         };
         let mut out = Vec::new(rt.alloc());
         print_input(&mut out, Mark::Alone, &input)?;
-        assert_eq!(rt; str::from_utf8(&out)?, *expected);
+        equals(&rt, str::from_utf8(&out)?, *expected);
     }
     Ok(())
 }
@@ -344,7 +352,7 @@ fn messages_are_printed_with_their_call_or_station(rt: HostRuntime) -> Result<()
     };
     print_input(&mut out, Mark::Alone, &message)?;
     let expected = "in a 65535 0004220401af\nin abis 255 3 08\n";
-    assert_eq!(rt; str::from_utf8(&out)?, expected);
+    equals(&rt, str::from_utf8(&out)?, expected);
     Ok(())
 }
 
@@ -363,7 +371,7 @@ fn sent_messages_are_printed_in_their_order(rt: HostRuntime) -> Result<(), Fail>
     };
     print_sent(&mut out, Mark::Alone, &[on_a, on_abis])?;
     let expected = "out a 1 0004220401af\nout abis 63 3 082e010b\n";
-    assert_eq!(rt; str::from_utf8(&out)?, expected);
+    equals(&rt, str::from_utf8(&out)?, expected);
     Ok(())
 }
 
@@ -378,7 +386,7 @@ fn a_cell_without_a_free_channel_stands_among_the_events(rt: HostRuntime) -> Res
     print_steps(&mut out, Mark::Alone, &steps)?;
     print_limit(&mut out)?;
     let expected = "event look 1 -> done\nnone free 63\nevent activate 1 -> done\nsim limit\n";
-    assert_eq!(rt; str::from_utf8(&out)?, expected);
+    equals(&rt, str::from_utf8(&out)?, expected);
     Ok(())
 }
 
@@ -393,7 +401,7 @@ fn each_count_is_printed_in_its_place(rt: HostRuntime) -> Result<(), Fail> {
     let mut out = Vec::new(rt.alloc());
     print_end(&mut out, Mark::Alone, usage)?;
     let expected = "end channels=1 calls=2 references=3 timers=4\n";
-    assert_eq!(rt; str::from_utf8(&out)?, expected);
+    equals(&rt, str::from_utf8(&out)?, expected);
     Ok(())
 }
 
@@ -433,7 +441,7 @@ fn each_line_of_a_controller_is_marked(rt: HostRuntime) -> Result<(), Fail> {
     for (mark, expected) in MARKS {
         let mut out = Vec::new(rt.alloc());
         print_marked(&mut out, *mark)?;
-        assert_eq!(rt; str::from_utf8(&out)?, *expected);
+        equals(&rt, str::from_utf8(&out)?, *expected);
     }
     Ok(())
 }
@@ -453,6 +461,6 @@ fn marked_messages_stand_one_behind_the_other(rt: HostRuntime) -> Result<(), Fai
     let second = clear_request(rt.alloc(), 2)?;
     print_sent(&mut out, Mark::Peer, &[first, second])?;
     let expected = "2: out a 1 0004220401af\n2: out a 2 0004220401af\n";
-    assert_eq!(rt; str::from_utf8(&out)?, expected);
+    equals(&rt, str::from_utf8(&out)?, expected);
     Ok(())
 }

@@ -1,4 +1,4 @@
-use super::{SITE, changed};
+use super::{SITE, changed, equals, holds, holds_at};
 use cell_table::Site;
 use refusing_heap::RefusingHeap;
 use std::process::Abort;
@@ -59,8 +59,8 @@ fn sites_are_equal_where_every_key_says_the_same(rt: HostRuntime) -> Result<(), 
     for (old, new, same) in CHANGES {
         let text = changed(&rt, rt.alloc(), old, new)?;
         let other = Site::read(rt.alloc(), rt.alloc(), text.as_str()).expect(&rt, new);
-        assert!(rt; (site == other) == *same, "{old} -> {new}");
-        assert!(rt; (other == site) == *same, "{new} -> {old}");
+        holds_at(&rt, (site == other) == *same, (old, "->", new));
+        holds_at(&rt, (other == site) == *same, (new, "->", old));
     }
     Ok(())
 }
@@ -70,7 +70,7 @@ fn comparing_sites_takes_no_memory(rt: HostRuntime) {
     let heap = RefusingHeap::refusing_nth(rt.alloc(), 3);
     let one = Site::read(&heap, rt.alloc(), SITE).expect(&rt, "the first");
     let other = Site::read(&heap, rt.alloc(), SITE).expect(&rt, "the second");
-    assert!(rt; one == other);
-    assert!(rt; !heap.was_refused());
-    assert_eq!(rt; heap.requests(), 2);
+    holds(&rt, one == other);
+    holds(&rt, !heap.was_refused());
+    equals(&rt, heap.requests(), 2);
 }

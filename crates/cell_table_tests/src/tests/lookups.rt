@@ -1,4 +1,4 @@
-use super::SITE;
+use super::{SITE, equals, equals_at, holds_at};
 use cell_table::Site;
 use channel_fsm::ChanId;
 use sample_sites::{MANY_CHANNELS, SCATTERED};
@@ -80,57 +80,61 @@ const CODES: &[(u16, u16, Option<u8>)] = &[
 ];
 
 fn says_of_all(rt: &impl Abort, site: &Site<Global>) {
-    assert_eq!(rt; (site.window(), site.margin(), site.minimum()), (2, 3, 10));
-    assert_eq!(rt; (site.cells(), site.outside_cells()), (2, 1));
+    equals(
+        rt,
+        (site.window(), site.margin(), site.minimum()),
+        (2, 3, 10),
+    );
+    equals(rt, (site.cells(), site.outside_cells()), (2, 1));
 }
 
 fn says_of_cells(rt: &impl Abort, site: &Site<Global>) {
     for (cell, lac, ci, bcch, ncc, bcc) in CELLS {
-        assert!(rt; site.lac(*cell) == Some(*lac), "{cell}");
-        assert!(rt; site.ci(*cell) == Some(*ci), "{cell}");
-        assert!(rt; site.bcch(*cell) == Some(*bcch), "{cell}");
-        assert!(rt; site.ncc(*cell) == Some(*ncc), "{cell}");
-        assert!(rt; site.bcc(*cell) == Some(*bcc), "{cell}");
+        equals_at(rt, site.lac(*cell), Some(*lac), cell);
+        equals_at(rt, site.ci(*cell), Some(*ci), cell);
+        equals_at(rt, site.bcch(*cell), Some(*bcch), cell);
+        equals_at(rt, site.ncc(*cell), Some(*ncc), cell);
+        equals_at(rt, site.bcc(*cell), Some(*bcc), cell);
     }
 }
 
 fn says_of_no_cells(rt: &impl Abort, site: &Site<Global>) {
     for cell in NO_CELLS {
-        assert!(rt; site.lac(*cell).is_none(), "{cell}");
-        assert!(rt; site.ci(*cell).is_none(), "{cell}");
-        assert!(rt; site.bcch(*cell).is_none(), "{cell}");
-        assert!(rt; site.ncc(*cell).is_none(), "{cell}");
-        assert!(rt; site.bcc(*cell).is_none(), "{cell}");
+        holds_at(rt, site.lac(*cell).is_none(), cell);
+        holds_at(rt, site.ci(*cell).is_none(), cell);
+        holds_at(rt, site.bcch(*cell).is_none(), cell);
+        holds_at(rt, site.ncc(*cell).is_none(), cell);
+        holds_at(rt, site.bcc(*cell).is_none(), cell);
     }
 }
 
 fn says_of_own(rt: &impl Abort, site: &Site<Global>) {
     for (cell, power, ba, trx) in OWN {
-        assert!(rt; site.power(*cell) == Some(*power), "{cell}");
-        assert!(rt; site.ba(*cell) == Some(*ba), "{cell}");
-        assert!(rt; site.trx(*cell) == Some(*trx), "{cell}");
+        equals_at(rt, site.power(*cell), Some(*power), cell);
+        equals_at(rt, site.ba(*cell), Some(*ba), cell);
+        equals_at(rt, site.trx(*cell), Some(*trx), cell);
     }
 }
 
 fn says_of_no_own(rt: &impl Abort, site: &Site<Global>) {
     for cell in NO_OWN {
-        assert!(rt; site.power(*cell).is_none(), "{cell}");
-        assert!(rt; site.ba(*cell).is_none(), "{cell}");
-        assert!(rt; site.trx(*cell).is_none(), "{cell}");
+        holds_at(rt, site.power(*cell).is_none(), cell);
+        holds_at(rt, site.ba(*cell).is_none(), cell);
+        holds_at(rt, site.trx(*cell).is_none(), cell);
     }
 }
 
 fn says_of_trx(rt: &impl Abort, site: &Site<Global>) {
     for (cell, trx, arfcn, tch) in TRX {
-        assert!(rt; site.arfcn(*cell, *trx) == Some(*arfcn), "{cell} {trx}");
-        assert!(rt; site.tch(*cell, *trx) == Some(*tch), "{cell} {trx}");
+        equals_at(rt, site.arfcn(*cell, *trx), Some(*arfcn), (cell, trx));
+        equals_at(rt, site.tch(*cell, *trx), Some(*tch), (cell, trx));
     }
 }
 
 fn says_of_no_trx(rt: &impl Abort, site: &Site<Global>) {
     for (cell, trx) in NO_TRX {
-        assert!(rt; site.arfcn(*cell, *trx).is_none(), "{cell} {trx}");
-        assert!(rt; site.tch(*cell, *trx).is_none(), "{cell} {trx}");
+        holds_at(rt, site.arfcn(*cell, *trx).is_none(), (cell, trx));
+        holds_at(rt, site.tch(*cell, *trx).is_none(), (cell, trx));
     }
 }
 
@@ -141,14 +145,14 @@ fn numbers_channels(rt: &impl Abort, site: &Site<Global>, rows: &[((u8, u8, u8),
             trx: *trx,
             tn: *tn,
         };
-        assert!(rt; site.index_of(chan) == *wanted, "{chan}");
-        assert!(rt; site.is_traffic(chan) == wanted.is_some(), "{chan}");
+        equals_at(rt, site.index_of(chan), *wanted, chan);
+        equals_at(rt, site.is_traffic(chan), wanted.is_some(), chan);
     }
 }
 
 fn finds_cells(rt: &impl Abort, site: &Site<Global>) {
     for (lac, ci, wanted) in CODES {
-        assert!(rt; site.cell_of(*lac, *ci) == *wanted, "{lac} {ci}");
+        equals_at(rt, site.cell_of(*lac, *ci), *wanted, (lac, ci));
     }
 }
 

@@ -1,4 +1,4 @@
-use super::SITE;
+use super::{SITE, equals};
 use cell_table::{Site, SiteFault};
 use refusing_heap::RefusingHeap;
 use std::alloc::Global;
@@ -7,7 +7,7 @@ use std::process::Abort;
 /// Whether the site file is read over a heap; where it isn't, that is since memory was refused.
 fn is_read(rt: &impl Abort, scratch: Global, heap: &RefusingHeap) -> bool {
     let fault = Site::read(heap, scratch, SITE).err();
-    assert_eq!(rt; fault, heap.was_refused().then_some(SiteFault::NoMemory));
+    equals(rt, fault, heap.was_refused().then_some(SiteFault::NoMemory));
     fault.is_none()
 }
 
@@ -22,5 +22,5 @@ fn each_refused_request_is_an_allocation_failure(rt: HostRuntime) {
         refusals = n;
     }
     // A site is kept in one piece.
-    assert_eq!(rt; refusals, 1);
+    equals(&rt, refusals, 1);
 }

@@ -1,4 +1,4 @@
-use super::{SITE, changed};
+use super::{SITE, changed, equals_at};
 use cell_table::Site;
 use std::alloc::Global;
 use std::process::Abort;
@@ -44,10 +44,10 @@ fn names(rt: &impl Abort, alloc: Global, text: &str, rows: &[Name]) {
     let site = Site::read(alloc, alloc, text).expect(rt, text);
     for ((cell, neighbour), wanted) in rows {
         let name = site.neighbour_name(*cell, *neighbour);
-        assert!(rt; name == *wanted, "{cell} {neighbour}");
+        equals_at(rt, name, *wanted, (cell, neighbour));
         if let Some((position, bsic)) = name {
             let found = site.by_bsic(*cell, position, bsic);
-            assert!(rt; found == Some(*neighbour), "{cell} {neighbour}");
+            equals_at(rt, found, Some(*neighbour), (cell, neighbour));
         }
     }
 }

@@ -1,4 +1,4 @@
-use super::{SITE, changed};
+use super::{SITE, changed, equals_at};
 use cell_table::Site;
 use std::alloc::Global;
 use std::process::Abort;
@@ -71,7 +71,7 @@ fn names(rt: &impl Abort, alloc: Global, text: &str, rows: &[Named]) {
     let site = Site::read(alloc, alloc, text).expect(rt, text);
     for ((cell, position, bsic), wanted) in rows {
         let found = site.by_bsic(*cell, *position, *bsic);
-        assert!(rt; found == *wanted, "{cell} {position} {bsic}");
+        equals_at(rt, found, *wanted, (cell, position, bsic));
     }
 }
 

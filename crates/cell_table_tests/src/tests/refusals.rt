@@ -1,4 +1,4 @@
-use super::{changed, fault_of};
+use super::{changed, equals, equals_at, fault_of, holds_at};
 use cell_table::SiteFault::{Missing, NoMemory, NoTraffic, Range, Toml, Twice};
 use cell_table::{Key, Site, SiteFault};
 use refusing_heap::RefusingHeap;
@@ -116,18 +116,15 @@ fn said(alloc: Global, fault: SiteFault) -> Result<String, AllocError> {
 
 /// A text is refused without a request for memory.
 fn asks_for_none(rt: &impl Abort, scratch: Global, heap: &RefusingHeap, text: &str) {
-    assert!(rt; Site::read(heap, scratch, text).is_err(), "{text}");
-    assert_eq!(rt; heap.requests(), 0, "{text}");
+    holds_at(rt, Site::read(heap, scratch, text).is_err(), text);
+    equals_at(rt, heap.requests(), 0, text);
 }
 
 /// A text is refused for this fault, as the program prints it.
 fn is_refused_for(rt: &(impl AllocGlobal + Abort), text: &str, printed: &str) -> Result<(), Fail> {
     let fault = fault_of(rt.alloc(), text).expect(rt, text);
     let said = said(rt.alloc(), fault)?;
-    assert!(rt;
-        said.as_str() == printed,
-        "{said} in place of {printed}: {text}"
-    );
+    equals_at(rt, said.as_str(), printed, text);
     Ok(())
 }
 
@@ -155,15 +152,15 @@ fn what_is_one_key_away_is_refused(rt: HostRuntime) -> Result<(), Fail> {
 fn what_is_allowed_is_read(rt: HostRuntime) -> Result<(), Fail> {
     for (old, new) in ALLOWED {
         let text = changed(&rt, rt.alloc(), *old, *new)?;
-        assert_eq!(rt; fault_of(rt.alloc(), &text), None, "{old} -> {new}");
+        equals_at(&rt, fault_of(rt.alloc(), &text), None, (old, "->", new));
     }
-    assert_eq!(rt; fault_of(rt.alloc(), NO_OUTSIDE), None);
+    equals(&rt, fault_of(rt.alloc(), NO_OUTSIDE), None);
     Ok(())
 }
 
 #[test]
 fn texts_without_a_site_are_refused(rt: HostRuntime) {
     for (text, fault) in TEXTS {
-        assert_eq!(rt; fault_of(rt.alloc(), *text), Some(*fault), "{text}");
+        equals_at(&rt, fault_of(rt.alloc(), *text), Some(*fault), text);
     }
 }

@@ -1,4 +1,4 @@
-use super::{SITE, fault_of};
+use super::{SITE, equals, equals_at, fault_of};
 use cell_table::SiteFault::{Range, Toml};
 use cell_table::{Key, SiteFault};
 use sample_sites::site_of_cells;
@@ -19,7 +19,7 @@ const COUNTS: &[(u16, u16, Option<SiteFault>)] = &[
 fn a_site_has_at_most_64_cells_and_as_many_of_others(rt: HostRuntime) -> Result<(), Fail> {
     for (own, outside, fault) in COUNTS {
         let text = site_of_cells(rt.alloc(), *own, 1, *outside)?;
-        assert_eq!(rt; fault_of(rt.alloc(), &text), *fault, "{own} {outside}");
+        equals_at(&rt, fault_of(rt.alloc(), &text), *fault, (own, outside));
     }
     Ok(())
 }
@@ -42,7 +42,7 @@ fn text_of_arrays(alloc: Global, arrays: u32) -> Result<String, AllocError> {
 fn what_is_nested_more_than_80_deep_is_refused(rt: HostRuntime) -> Result<(), Fail> {
     for (arrays, fault) in [(80, None), (81, Some(Toml)), (1000, Some(Toml))] {
         let text = text_of_arrays(rt.alloc(), arrays)?;
-        assert_eq!(rt; fault_of(rt.alloc(), &text), fault, "{arrays}");
+        equals_at(&rt, fault_of(rt.alloc(), &text), fault, arrays);
     }
     Ok(())
 }
@@ -60,6 +60,6 @@ fn text_of_comments(alloc: Global, comments: u32) -> Result<String, AllocError> 
 #[test]
 fn a_file_of_1_mb_is_read(rt: HostRuntime) -> Result<(), Fail> {
     let text = text_of_comments(rt.alloc(), 16384)?;
-    assert_eq!(rt; fault_of(rt.alloc(), &text), None);
+    equals(&rt, fault_of(rt.alloc(), &text), None);
     Ok(())
 }

@@ -1,4 +1,4 @@
-use super::SITE;
+use super::{SITE, equals_at, holds_at};
 use lab::check::check_file;
 use lab::run::{LabFault, Status};
 use sample_sites::changed;
@@ -21,10 +21,10 @@ fn check_ends(
     let mut out = Vec::new(rt.alloc());
     let mut errors = Vec::new(rt.alloc());
     let ended = check_file(rt, path, &mut out, &mut errors);
-    assert_eq!(rt; (ended, str::from_utf8(&out)?), (wanted, text), "{path}");
+    equals_at(rt, (ended, str::from_utf8(&out)?), (wanted, text), path);
     let line = str::from_utf8(&errors)?;
     let is_said = line.starts_with(said) && line.is_empty() == said.is_empty();
-    assert!(rt; is_said, "{path}: {line}");
+    holds_at(rt, is_said, (path, line));
     Ok(())
 }
 

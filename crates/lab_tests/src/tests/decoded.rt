@@ -1,4 +1,5 @@
 use super::failing::Failing;
+use super::{equals_at, holds_at};
 use lab::decoded::{Link, decode_run};
 use lab::run::{LabFault, Status};
 use refusing_heap::RefusingHeap;
@@ -253,10 +254,11 @@ fn prints<A: Allocator + Copy>(
     (hex, line): (&str, &str),
 ) -> Result<(), Fail> {
     let (status, text) = printed(alloc, scratch, link, hex)?;
-    assert_eq!(rt;
+    equals_at(
+        rt,
         (status, text.strip_suffix('\n')),
         (Ok(ended), Some(line)),
-        "{hex}"
+        hex,
     );
     Ok(())
 }
@@ -333,8 +335,8 @@ fn prints_without(
     } else {
         (Ok(Status::Done), Some(wanted))
     };
-    assert_eq!(rt; (status, text.strip_suffix('\n')), (ended, line), "{n}");
-    assert_eq!(rt; text.is_empty(), line.is_none(), "{n}");
+    equals_at(rt, (status, text.strip_suffix('\n')), (ended, line), n);
+    equals_at(rt, text.is_empty(), line.is_none(), n);
     Ok(line.is_some())
 }
 
@@ -350,12 +352,12 @@ fn writes_all(
     let status = decode_run(alloc, link, hex, &mut out);
     let text = String::from_utf8(out.text)?;
     if out.failed {
-        assert_eq!(rt; status, Err(LabFault::Write), "{n}");
-        assert!(rt; wanted.starts_with(text.as_str()), "{n}: {text}");
+        equals_at(rt, status, Err(LabFault::Write), n);
+        holds_at(rt, wanted.starts_with(text.as_str()), (n, text.as_str()));
         return Ok(false);
     }
-    assert!(rt; status.is_ok(), "{n}");
-    assert_eq!(rt; text.strip_suffix('\n'), Some(wanted), "{n}");
+    holds_at(rt, status.is_ok(), n);
+    equals_at(rt, text.strip_suffix('\n'), Some(wanted), n);
     Ok(true)
 }
 
@@ -382,7 +384,7 @@ fn failures_of(
 fn each_request_for_memory_is_refused(rt: HostRuntime) -> Result<(), Fail> {
     for (link, row, at_least) in REQUESTS {
         let tried = failures_of(&rt, Failure::Request, *link, *row)?;
-        assert!(rt; *at_least <= tried, "{}: {tried} requests", row.0);
+        holds_at(&rt, *at_least <= tried, (row.0, tried, "requests"));
     }
     Ok(())
 }
@@ -400,7 +402,7 @@ fn texts_that_take_no_memory(rt: HostRuntime) -> Result<(), Fail> {
 fn each_write_fails(rt: HostRuntime) -> Result<(), Fail> {
     for (link, row) in WRITES {
         let tried = failures_of(&rt, Failure::Write, *link, *row)?;
-        assert!(rt; 1 <= tried, "{}: {tried} writes", row.0);
+        holds_at(&rt, 1 <= tried, (row.0, tried, "writes"));
     }
     Ok(())
 }

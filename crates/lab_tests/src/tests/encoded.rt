@@ -1,5 +1,6 @@
 use super::decoded::{ON_A, ON_A_WITH_CELLS, ON_ABIS, RADIO, REPORTS};
 use super::failing::Failing;
+use super::{equals, equals_at, holds, holds_at};
 use lab::decoded::{Link, decode_run};
 use lab::encoded::encode_run;
 use lab::run::{LabFault, Status};
@@ -35,16 +36,16 @@ fn written(alloc: Global, link: Link, text: &str) -> Result<Option<String>, Fail
 /// of a message that can't be written says so by a cell without a location area.
 fn comes_back(rt: &impl Abort, alloc: Global, link: Link, text: &str) -> Result<(), Fail> {
     let Some(hex) = written(alloc, link, text)? else {
-        assert!(rt; text.contains("-/"), "{text}");
+        holds_at(rt, text.contains("-/"), text);
         return Ok(());
     };
     let mut out = Vec::new(alloc);
     let status = decode_run(alloc, link, &hex, &mut out);
     let read = str::from_utf8(&out)?.strip_suffix('\n').unwrap_or("");
-    assert_eq!(rt; (status, read), (Ok(Status::Done), text), "{hex}");
+    equals_at(rt, (status, read), (Ok(Status::Done), text), hex.as_str());
     let again = written(alloc, link, read)?;
     let same = again.is_some_and(|again| again.as_str() == hex.as_str());
-    assert!(rt; same, "{hex}");
+    holds_at(rt, same, hex.as_str());
     Ok(())
 }
 
@@ -113,7 +114,7 @@ fn are_listed(rt: &impl Abort, help: &str, link: Link, rows: &[(&str, &str)]) {
     let list = listed(help, link);
     for (_, text) in rows {
         let is_listed = list.lines().any(|line| lists(line, text));
-        assert!(rt; is_listed, "{text}: {list}");
+        holds_at(rt, is_listed, (text, list));
     }
 }
 
@@ -127,7 +128,7 @@ fn the_help_lists_messages_and_fields_as_they_are_decoded(rt: HostRuntime) {
             are_listed(&rt, &help, Link::A, ON_A);
             are_listed(&rt, &help, Link::A, ON_A_WITH_CELLS);
         }
-        _ => assert!(rt; false, "a help"),
+        _ => holds_at(&rt, false, "a help"),
     }
 }
 
@@ -197,9 +198,9 @@ fn is_refused(
     let mut out = Vec::new(alloc);
     let mut errors = Vec::new(alloc);
     let status = encode_run(alloc, link, text, &mut out, &mut errors);
-    assert_eq!(rt; status, Ok(Status::Refused), "{text}");
-    assert_eq!(rt; str::from_utf8(&errors)?, wanted, "{text}");
-    assert!(rt; out.is_empty(), "{text}");
+    equals_at(rt, status, Ok(Status::Refused), text);
+    equals_at(rt, str::from_utf8(&errors)?, wanted, text);
+    holds_at(rt, out.is_empty(), text);
     Ok(())
 }
 
@@ -218,9 +219,9 @@ fn a_refused_request_and_a_failed_write(rt: HostRuntime) {
     let mut out = Vec::new(rt.alloc());
     let mut errors = Vec::new(rt.alloc());
     let ended = encode_run(&heap, Link::Rr, text, &mut out, &mut errors);
-    assert_eq!(rt; ended, Err(LabFault::NoMemory));
-    assert!(rt; out.is_empty() && errors.is_empty());
+    equals(&rt, ended, Err(LabFault::NoMemory));
+    holds(&rt, out.is_empty() && errors.is_empty());
     let mut out = Failing::after(rt.alloc(), 1);
     let ended = encode_run(rt.alloc(), Link::Rr, text, &mut out, &mut errors);
-    assert_eq!(rt; ended, Err(LabFault::Write));
+    equals(&rt, ended, Err(LabFault::Write));
 }

@@ -1,4 +1,4 @@
-use super::{ONE_CALL, SITE, ends_so};
+use super::{ONE_CALL, SITE, ends_so, holds_at};
 use lab::files::run_files;
 use lab::run::Status;
 use lab::site_files::SitePaths;
@@ -90,7 +90,7 @@ fn run_of_ends(
     ends_so(rt, (ended, str::from_utf8(&out)?), (wanted, text), script);
     let line = str::from_utf8(&errors)?;
     let is_said = line.starts_with(said) && line.is_empty() == said.is_empty();
-    assert!(rt; is_said, "{site} {script}: {line}");
+    holds_at(rt, is_said, (site, script, line));
     Ok(())
 }
 

@@ -1,5 +1,5 @@
 //! Scripts over four cells.
-use super::{printed, prints};
+use super::{equals, holds_at, printed, prints};
 use lab::run::Status;
 use std::test::Fail;
 
@@ -313,10 +313,10 @@ const UNDONE: usize = 35;
 #[test]
 fn two_hundred_lines_leave_nothing(rt: HostRuntime) -> Result<(), Fail> {
     let (status, text) = printed(rt.alloc(), rt.alloc(), FOUR_CELLS, None, LONG)?;
-    assert!(rt; status == Ok(Status::Done));
-    assert!(rt; lines_with(&text, "event complete ") == ARRIVALS);
-    assert!(rt; lines_with(&text, "event undo ") == UNDONE);
+    equals(&rt, status, Ok(Status::Done));
+    equals(&rt, lines_with(&text, "event complete "), ARRIVALS);
+    equals(&rt, lines_with(&text, "event undo "), UNDONE);
     let end = "\nend channels=0 calls=0 references=0 timers=0\n";
-    assert!(rt; text.ends_with(end), "{text}");
+    holds_at(&rt, text.ends_with(end), text.as_str());
     Ok(())
 }

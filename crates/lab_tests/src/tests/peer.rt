@@ -1,7 +1,7 @@
 //! Two controllers with simulated stations and a simulated switching centre. Traces are worked out by hand from the tables of
 //! the procedure, of the stations and of the switching centre, octets from TS 48.008 clause 3.2, TS 48.058 clause 8 and TS
 //! 44.018 clause 9.1.
-use super::{SITE, printed, prints_of};
+use super::{SITE, equals_at, holds_at, printed, prints_of};
 use lab::run::{LabFault, Status};
 use refusing_heap::RefusingHeap;
 use std::alloc::Global;
@@ -619,11 +619,11 @@ fn refusals_have_no_mark(rt: HostRuntime) -> Result<(), Fail> {
 fn moves_without(rt: &impl Abort, alloc: Global, n: u64) -> Result<bool, Fail> {
     let heap = RefusingHeap::refusing_nth(alloc, n);
     let (status, text) = printed(&heap, alloc, SITE, Some(PEER), MOVES.0)?;
-    assert!(rt; MOVES.1.starts_with(text.as_str()), "{n}: {text}");
+    holds_at(rt, MOVES.1.starts_with(text.as_str()), (n, text.as_str()));
     match status {
-        Ok(Status::Done) => assert_eq!(rt; text.as_str(), MOVES.1, "{n}"),
-        Err(LabFault::NoMemory) => assert!(rt; heap.was_refused(), "{n}"),
-        _ => assert!(rt; false, "{n}: {text}"),
+        Ok(Status::Done) => equals_at(rt, text.as_str(), MOVES.1, n),
+        Err(LabFault::NoMemory) => holds_at(rt, heap.was_refused(), n),
+        _ => holds_at(rt, false, (n, text.as_str())),
     }
     Ok(!heap.was_refused())
 }
@@ -632,10 +632,10 @@ fn moves_without(rt: &impl Abort, alloc: Global, n: u64) -> Result<bool, Fail> {
 fn each_request_of_two_controllers_is_refused(rt: HostRuntime) -> Result<(), Fail> {
     for n in 1..2000 {
         if moves_without(&rt, rt.alloc(), n)? {
-            assert!(rt; 20 < n, "{n} requests");
+            holds_at(&rt, 20 < n, (n, "requests"));
             return Ok(());
         }
     }
-    assert!(rt; false, "two thousand requests");
+    holds_at(&rt, false, "two thousand requests");
     Ok(())
 }

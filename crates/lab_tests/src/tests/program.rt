@@ -1,4 +1,5 @@
 use super::failing::Failing;
+use super::{equals, equals_at, holds_at};
 use lab::program::perform;
 use lab::run::{LabFault, Status, exit_status};
 use std::process::Abort;
@@ -307,7 +308,7 @@ const VIEWS: &[Line] = &[
 fn says(rt: &impl Abort, errors: &str, part: &str) {
     let lines = if part.is_empty() { 0 } else { 1 };
     let said = errors.contains(part) && errors.lines().count() == lines;
-    assert!(rt; said, "{part}: {errors}");
+    holds_at(rt, said, (part, errors));
 }
 
 /// Asserts how a command line ends, and what it prints and says.
@@ -321,7 +322,7 @@ fn ends(
     let mut out = Vec::new(rt.alloc());
     let mut errors = Vec::new(rt.alloc());
     let status = exit_status(perform(rt, words, STDIN, &mut out, &mut errors));
-    assert_eq!(rt; (status, str::from_utf8(&out)?), (wanted, text), "{part}");
+    equals_at(rt, (status, str::from_utf8(&out)?), (wanted, text), part);
     says(rt, str::from_utf8(&errors)?, part);
     Ok(())
 }
@@ -349,15 +350,15 @@ fn a_text_that_is_not_written_is_a_fault(rt: HostRuntime) {
         let mut out = Failing::after(rt.alloc(), 0);
         let mut errors = Failing::after(rt.alloc(), 0);
         let ended = perform(&rt, words, STDIN, &mut out, &mut errors);
-        assert_eq!(rt; ended, Err(LabFault::Write));
+        equals(&rt, ended, Err(LabFault::Write));
     }
 }
 
 #[test]
 fn statuses(rt: HostRuntime) {
-    assert_eq!(rt; exit_status(Ok(Status::Done)), 0);
-    assert_eq!(rt; exit_status(Ok(Status::Differs)), 1);
-    assert_eq!(rt; exit_status(Ok(Status::Refused)), 2);
-    assert_eq!(rt; exit_status(Err(LabFault::Write)), 2);
-    assert_eq!(rt; exit_status(Err(LabFault::NoMemory)), 3);
+    equals(&rt, exit_status(Ok(Status::Done)), 0);
+    equals(&rt, exit_status(Ok(Status::Differs)), 1);
+    equals(&rt, exit_status(Ok(Status::Refused)), 2);
+    equals(&rt, exit_status(Err(LabFault::Write)), 2);
+    equals(&rt, exit_status(Err(LabFault::NoMemory)), 3);
 }

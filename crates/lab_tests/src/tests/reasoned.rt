@@ -1,3 +1,4 @@
+use super::holds_at;
 use lab::script::first_unread;
 use script_reasons::script_reason;
 use std::process::Abort;
@@ -111,7 +112,7 @@ fn agrees(rt: &(impl AllocGlobal + Abort), front: &str, rest: &str) -> Result<()
     for has_peer in [false, true] {
         let is_read = first_unread(&line, has_peer).is_none();
         let has_reason = script_reason(&line, 1, has_peer).is_some();
-        assert!(rt; is_read != has_reason, "{}", line.escape_debug());
+        holds_at(rt, is_read != has_reason, line.as_str());
     }
     Ok(())
 }

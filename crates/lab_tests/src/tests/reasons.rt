@@ -1,4 +1,4 @@
-use super::SITE;
+use super::{SITE, equals, equals_at, holds_at};
 use lab::files::run_files;
 use lab::run::Status;
 use lab::site_files::SitePaths;
@@ -235,9 +235,9 @@ fn says(
         &mut out,
         &mut errors,
     );
-    assert_eq!(rt; ended, Ok(Status::Refused), "{said}");
-    assert_eq!(rt; str::from_utf8(&out)?, printed);
-    assert_eq!(rt; str::from_utf8(&errors)?, said);
+    equals_at(rt, ended, Ok(Status::Refused), said);
+    equals(rt, str::from_utf8(&out)?, printed);
+    equals(rt, str::from_utf8(&errors)?, said);
     Ok(())
 }
 
@@ -309,7 +309,7 @@ fn refused_texts(
         &mut out,
         &mut errors,
     );
-    assert_eq!(rt; ended, Ok(Status::Refused), "{site}");
+    equals_at(rt, ended, Ok(Status::Refused), site);
     let text = String::from_utf8(out)?;
     Ok((text, String::from_utf8(errors)?))
 }
@@ -320,12 +320,13 @@ fn names(rt: &(impl AllocGlobal + Abort), line: &str, printed: &str) -> Result<(
     let words = wanted_words(rt.alloc(), number, named)?;
     // what isn't TOML is said with its line and column
     let has_place = !line.starts_with("faulty.toml: ");
-    assert_eq!(rt; has_place, number == "1", "{line}");
-    assert!(rt;
+    equals_at(rt, has_place, number == "1", line);
+    holds_at(
+        rt,
         line.starts_with("faulty.toml:") && line.contains(words.as_str()),
-        "{printed}: {line}"
+        (printed, line),
     );
-    assert_eq!(rt; line.lines().count(), 1, "{line}");
+    equals_at(rt, line.lines().count(), 1, line);
     Ok(())
 }
 
@@ -333,7 +334,7 @@ fn names(rt: &(impl AllocGlobal + Abort), line: &str, printed: &str) -> Result<(
 fn agrees(rt: &(impl Files + AllocGlobal + Abort), site: &str, printed: &str) -> Result<(), Fail> {
     let (text, line) = refused_texts(rt, site)?;
     let said = text.strip_prefix("site ").unwrap_or("").strip_suffix('\n');
-    assert_eq!(rt; said, Some(printed));
+    equals(rt, said, Some(printed));
     names(rt, &line, printed)
 }
 

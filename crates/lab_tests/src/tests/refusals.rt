@@ -1,5 +1,5 @@
 use super::failing::Failing;
-use super::{ONE_CALL, SITE, printed, prints};
+use super::{ONE_CALL, SITE, equals, equals_at, holds_at, printed, prints};
 use lab::run::{LabFault, Status, lab_run};
 use refusing_heap::RefusingHeap;
 use sample_sites::{NO_CELL, NO_TRAFFIC, SAME_IDENTITY};
@@ -64,10 +64,10 @@ fn prints_unless(
     text: &str,
     wanted: &str,
 ) {
-    assert_eq!(rt; status.err(), fault, "{text}");
+    equals_at(rt, status.err(), fault, text);
     match fault {
-        Some(_) => assert!(rt; wanted.starts_with(text), "{text}"),
-        None => assert_eq!(rt; text, wanted),
+        Some(_) => holds_at(rt, wanted.starts_with(text), text),
+        None => equals(rt, text, wanted),
     }
 }
 
@@ -79,7 +79,7 @@ fn runs_over(rt: &impl Abort, alloc: Global, heap: &RefusingHeap) -> Result<bool
     } else {
         None
     };
-    assert!(rt; status != Ok(Status::Refused), "{text}");
+    holds_at(rt, status != Ok(Status::Refused), text.as_str());
     prints_unless(rt, fault, status, &text, ONE_CALL.1);
     Ok(fault.is_none())
 }
@@ -99,7 +99,7 @@ fn each_request_for_memory_is_refused(rt: HostRuntime) -> Result<(), Fail> {
         }
         tried = n;
     }
-    assert!(rt; 10 < tried && tried < 999, "{tried} requests");
+    holds_at(&rt, 10 < tried && tried < 999, (tried, "requests"));
     Ok(())
 }
 
@@ -144,7 +144,7 @@ fn failures_of(
 fn each_write_fails(rt: HostRuntime) -> Result<(), Fail> {
     for (site, (script, wanted), at_least) in WRITES {
         let tried = failures_of(&rt, *site, *script, *wanted)?;
-        assert!(rt; *at_least <= tried && tried < 1000, "{tried} writes");
+        holds_at(&rt, *at_least <= tried && tried < 1000, (tried, "writes"));
     }
     Ok(())
 }

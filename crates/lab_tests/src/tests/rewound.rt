@@ -1,4 +1,4 @@
-use super::{ONE_CALL, SITE, ends_so};
+use super::{ONE_CALL, SITE, ends_so, equals_at, holds_at};
 use lab::rewound::rewind_run;
 use lab::run::{LabFault, Status};
 use refusing_heap::RefusingHeap;
@@ -224,9 +224,9 @@ fn runs_without(rt: &impl Abort, alloc: Global, n: u64) -> Result<bool, Fail> {
     let heap = RefusingHeap::refusing_nth(alloc, n);
     let (status, text) = printed(&heap, alloc, UNDONE, 6)?;
     match status {
-        Ok(Status::Done) => assert_eq!(rt; text.as_str(), ROWS[0].3, "{n}"),
-        Err(LabFault::NoMemory) => assert!(rt; heap.was_refused() && text.is_empty(), "{n}"),
-        _ => assert!(rt; false, "{n}: {text}"),
+        Ok(Status::Done) => equals_at(rt, text.as_str(), ROWS[0].3, n),
+        Err(LabFault::NoMemory) => holds_at(rt, heap.was_refused() && text.is_empty(), n),
+        _ => holds_at(rt, false, (n, text.as_str())),
     }
     Ok(!heap.was_refused())
 }
@@ -235,10 +235,10 @@ fn runs_without(rt: &impl Abort, alloc: Global, n: u64) -> Result<bool, Fail> {
 fn each_request_of_a_rewind_is_refused(rt: HostRuntime) -> Result<(), Fail> {
     for n in 1..1000 {
         if runs_without(&rt, rt.alloc(), n)? {
-            assert!(rt; 10 < n, "{n} requests");
+            holds_at(&rt, 10 < n, (n, "requests"));
             return Ok(());
         }
     }
-    assert!(rt; false, "a thousand requests");
+    holds_at(&rt, false, "a thousand requests");
     Ok(())
 }

@@ -1,7 +1,7 @@
 //! Scripts with simulated stations and mobiles. Traces are worked out by hand from the tables of the procedure, of the
 //! stations and of the switching centre.
 use super::peer::PEER;
-use super::{SITE, printed, prints};
+use super::{SITE, equals, holds, printed, prints};
 use lab::run::Status;
 use std::alloc::{AllocError, Global};
 use std::process::Abort;
@@ -248,11 +248,15 @@ fn lines_that_are(text: &str, wanted: &str) -> usize {
 fn is_cut(rt: &impl Abort, alloc: Global, calls: u16, cut: usize) -> Result<(), Fail> {
     let script = held_script(alloc, calls)?;
     let (status, text) = printed(alloc, alloc, SITE, None, &script)?;
-    assert!(rt; status == Ok(Status::Done));
-    assert!(rt; lines_that_are(&text, "in abis 0 0 0822010b080000") == 5000);
-    assert!(rt; lines_that_are(&text, "sim limit") == cut);
+    equals(rt, status, Ok(Status::Done));
+    equals(
+        rt,
+        lines_that_are(&text, "in abis 0 0 0822010b080000"),
+        5000,
+    );
+    equals(rt, lines_that_are(&text, "sim limit"), cut);
     let end = "\nend channels=0 calls=0 references=0 timers=0\n";
-    assert!(rt; text.ends_with(end));
+    holds(rt, text.ends_with(end));
     Ok(())
 }
 
@@ -266,8 +270,12 @@ fn ten_thousand_answers_to_one_line_are_handled(rt: HostRuntime) -> Result<(), F
 fn the_limit_has_no_mark(rt: HostRuntime) -> Result<(), Fail> {
     let script = held_script(rt.alloc(), 5001)?;
     let (status, text) = printed(rt.alloc(), rt.alloc(), SITE, Some(PEER), &script)?;
-    assert!(rt; status == Ok(Status::Done));
-    assert!(rt; lines_that_are(&text, "1: in abis 0 0 0822010b080000") == 5000);
-    assert!(rt; lines_that_are(&text, "sim limit") == 1);
+    equals(&rt, status, Ok(Status::Done));
+    equals(
+        &rt,
+        lines_that_are(&text, "1: in abis 0 0 0822010b080000"),
+        5000,
+    );
+    equals(&rt, lines_that_are(&text, "sim limit"), 1);
     Ok(())
 }

@@ -1,7 +1,7 @@
 //! Scripts that test themselves, and that are recorded.
 use super::failing::Failing;
 use super::peer::PEER;
-use super::{SITE, ends_so, write_files};
+use super::{SITE, ends_so, equals, equals_at, holds_at, write_files};
 use lab::recorded::record_run;
 use lab::run::{LabFault, Status};
 use lab::script_files::{record_file, test_files};
@@ -109,9 +109,9 @@ fn differs_at(
     line: usize,
 ) -> Result<(), Fail> {
     let (status, text) = tested(alloc, alloc, peer, script)?;
-    assert_eq!(rt; status, Ok(Status::Differs), "{script}");
+    equals_at(rt, status, Ok(Status::Differs), script);
     let said = format!(in alloc; "not ok 1 - script\n# line {line}\n# expected: ")?;
-    assert!(rt; text.starts_with(said.as_str()), "{script}{text}");
+    holds_at(rt, text.starts_with(said.as_str()), (script, text.as_str()));
     Ok(())
 }
 
@@ -138,7 +138,7 @@ fn record_of(
     script: &str,
 ) -> Result<String, Fail> {
     let (status, record) = recorded(alloc, alloc, peer, script)?;
-    assert_eq!(rt; status, Ok(Status::Done), "{script}");
+    equals_at(rt, status, Ok(Status::Done), script);
     Ok(record)
 }
 
@@ -157,7 +157,7 @@ fn is_met(rt: &impl Abort, alloc: Global, peer: Option<&str>, record: &str) -> R
 /// A record has all else that the script has.
 fn has_the_rest(rt: &impl Abort, alloc: Global, record: &str, script: &str) -> Result<(), Fail> {
     let kept = bare(alloc, record)?;
-    assert_eq!(rt; kept.trim_end(), bare(alloc, script)?.trim_end());
+    equals(rt, kept.trim_end(), bare(alloc, script)?.trim_end());
     Ok(())
 }
 
@@ -169,7 +169,7 @@ fn is_its_record(
     record: &str,
 ) -> Result<(), Fail> {
     let again = record_of(rt, alloc, peer, record)?;
-    assert_eq!(rt; again.as_str(), record);
+    equals(rt, again.as_str(), record);
     Ok(())
 }
 
@@ -358,14 +358,15 @@ fn works_without(rt: &impl Abort, alloc: Global, n: u64, is_test: bool) -> Resul
     };
     let wanted = if is_test { "ok 1 - script\n" } else { RECORD };
     match status {
-        Ok(Status::Done) => assert_eq!(rt; text.as_str(), wanted, "{n}"),
+        Ok(Status::Done) => equals_at(rt, text.as_str(), wanted, n),
         Err(LabFault::NoMemory) => {
-            assert!(rt;
+            holds_at(
+                rt,
                 heap.was_refused() && wanted.starts_with(text.as_str()),
-                "{n}: {text}"
+                (n, text.as_str()),
             )
         }
-        _ => assert!(rt; false, "{n}: {text}"),
+        _ => holds_at(rt, false, (n, text.as_str())),
     }
     Ok(!heap.was_refused())
 }
@@ -380,7 +381,7 @@ fn each_request_of_a_test_is_refused(rt: HostRuntime) -> Result<(), Fail> {
             }
             tried = n;
         }
-        assert!(rt; 20 < tried && tried < 1999, "{tried} requests");
+        holds_at(&rt, 20 < tried && tried < 1999, (tried, "requests"));
     }
     Ok(())
 }
@@ -391,12 +392,12 @@ fn each_write_of_a_record_fails(rt: HostRuntime) -> Result<(), Fail> {
         let mut out = Failing::after(rt.alloc(), before);
         let status = record_run(rt.alloc(), rt.alloc(), SITE, None, SCRIPT, &mut out);
         if !out.failed {
-            assert!(rt; 20 < before, "{before} writes");
+            holds_at(&rt, 20 < before, (before, "writes"));
             return Ok(());
         }
-        assert_eq!(rt; status, Err(LabFault::Write));
+        equals(&rt, status, Err(LabFault::Write));
     }
-    assert!(rt; false, "a thousand writes");
+    holds_at(&rt, false, "a thousand writes");
     Ok(())
 }
 
@@ -473,9 +474,10 @@ fn files_end(
         wanted.2,
     );
     let said = str::from_utf8(&errors)?;
-    assert!(rt;
+    holds_at(
+        rt,
         said.starts_with(wanted.2) && said.is_empty() == wanted.2.is_empty(),
-        "{said}"
+        said,
     );
     Ok(())
 }

@@ -1,4 +1,4 @@
-use super::SITE;
+use super::{SITE, equals, equals_at, holds};
 use lab::files::run_files;
 use lab::run::{LabFault, Status};
 use lab::script_files::{record_file, test_files};
@@ -94,12 +94,12 @@ fn says(
     let mut out = Vec::new(rt.alloc());
     let mut errors = Vec::new(rt.alloc());
     let status = ended(rt, command, &mut out, &mut errors);
-    assert_eq!(rt; status, Ok(Status::Refused), "{line}");
+    equals_at(rt, status, Ok(Status::Refused), line);
     let wanted = format!(in rt.alloc(); "{SHOWN_FILE}:{line}\n")?;
-    assert_eq!(rt; str::from_utf8(&errors)?, wanted.as_str());
+    equals(rt, str::from_utf8(&errors)?, wanted.as_str());
     match command {
-        Command::Run | Command::Record => assert_eq!(rt; str::from_utf8(&out)?, printed),
-        Command::Test => assert!(rt; out.starts_with(b"1..1\nnot ok 1 - ")),
+        Command::Run | Command::Record => equals(rt, str::from_utf8(&out)?, printed),
+        Command::Test => holds(rt, out.starts_with(b"1..1\nnot ok 1 - ")),
     }
     Ok(())
 }

@@ -1,5 +1,5 @@
 //! Why nothing is taken out of a trace, for a person.
-use super::{SITE, ends_so};
+use super::{SITE, ends_so, equals};
 use lab::files::rewind_files;
 use lab::run::Status;
 use std::process::Abort;
@@ -113,7 +113,7 @@ fn says(
         said,
     );
     let wanted = format!(in rt.alloc(); "{SHOWN_FILE}{said}")?;
-    assert_eq!(rt; str::from_utf8(&errors)?, wanted.as_str());
+    equals(rt, str::from_utf8(&errors)?, wanted.as_str());
     Ok(())
 }
 

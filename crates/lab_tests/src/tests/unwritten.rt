@@ -1,4 +1,4 @@
-use super::{ONE_CALL, SITE, remove_files, write_files};
+use super::{ONE_CALL, SITE, equals, equals_at, holds, holds_at, remove_files, write_files};
 use lab::files::run_files;
 use lab::run::{LabFault, exit_status};
 use lab::site_files::SitePaths;
@@ -50,20 +50,20 @@ fn says_why(
     let mut out = Vec::new(rt.alloc());
     let mut errors = Vec::new(rt.alloc());
     let ended = run_files(rt, paths, named.script, &views, &mut out, &mut errors);
-    assert_eq!(rt; ended, Err(LabFault::Write));
-    assert_eq!(rt; exit_status(ended), 2);
-    assert_eq!(rt; str::from_utf8(&out)?, trace);
+    equals(rt, ended, Err(LabFault::Write));
+    equals(rt, exit_status(ended), 2);
+    equals(rt, str::from_utf8(&out)?, trace);
     let said = str::from_utf8(&errors)?;
-    assert!(rt; said.starts_with("/dev/full: no space left"), "{said}");
-    assert_eq!(rt; said.lines().count(), 1, "{said}");
+    holds_at(rt, said.starts_with("/dev/full: no space left"), said);
+    equals_at(rt, said.lines().count(), 1, said);
     Ok(())
 }
 
 /// The chart is written all the same where the capture has no room.
 fn is_charted(rt: &(impl Files + AllocGlobal + Abort)) -> Result<(), Fail> {
     let chart = fs::read_to_string(rt, CHART_FILE)?;
-    assert_eq!(rt; chart.matches("marker-end").count(), 4, "{chart}");
-    assert!(rt; chart.ends_with("</svg>\n"));
+    equals_at(rt, chart.matches("marker-end").count(), 4, chart.as_str());
+    holds(rt, chart.ends_with("</svg>\n"));
     Ok(())
 }
 
@@ -93,7 +93,7 @@ fn a_file_without_room_is_named(rt: HostRuntime) -> Result<(), Fail> {
         },
         ONE_CALL.1,
     )?;
-    assert_eq!(rt; fs::read(&rt, PCAP_FILE)?.len(), 24 + 4 * 59 + 27);
+    equals(&rt, fs::read(&rt, PCAP_FILE)?.len(), 24 + 4 * 59 + 27);
     remove_files(&rt, &[SITE_FILE, SCRIPT_FILE, PCAP_FILE, CHART_FILE])
 }
 

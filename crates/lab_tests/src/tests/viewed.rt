@@ -1,5 +1,5 @@
 use super::failing::Failing;
-use super::{ONE_CALL, SITE, ends_so, remove_files, write_files};
+use super::{ONE_CALL, SITE, ends_so, equals, equals_at, holds, remove_files, write_files};
 use lab::files::run_files;
 use lab::run::{LabFault, Status};
 use lab::site_files::SitePaths;
@@ -56,10 +56,15 @@ fn files_have(
     pcap: usize,
     arrows: usize,
 ) -> Result<(), Fail> {
-    assert_eq!(rt; fs::read(rt, PCAP_FILE)?.len(), pcap);
+    equals(rt, fs::read(rt, PCAP_FILE)?.len(), pcap);
     let chart = fs::read_to_string(rt, CHART_FILE)?;
-    assert_eq!(rt; chart.matches("marker-end").count(), arrows, "{chart}");
-    assert!(rt; chart.ends_with("</svg>\n"));
+    equals_at(
+        rt,
+        chart.matches("marker-end").count(),
+        arrows,
+        chart.as_str(),
+    );
+    holds(rt, chart.ends_with("</svg>\n"));
     Ok(())
 }
 
@@ -80,7 +85,7 @@ fn prints_words(rt: &(impl Files + AllocGlobal + Abort)) -> Result<(), Fail> {
         (Status::Done, WORDED),
         SCRIPT_FILE,
     );
-    assert!(rt; errors.is_empty());
+    holds(rt, errors.is_empty());
     Ok(())
 }
 
@@ -89,7 +94,7 @@ fn ends_early(rt: &(impl Files + AllocGlobal + Abort)) -> Result<(), Fail> {
     let mut out = Failing::after(rt.alloc(), 15);
     let mut errors = Vec::new(rt.alloc());
     let ended = run_files(rt, PATHS, SCRIPT_FILE, &ALL, &mut out, &mut errors);
-    assert_eq!(rt; ended, Err(LabFault::Write));
+    equals(rt, ended, Err(LabFault::Write));
     // the message has 12 octets
     files_have(rt, 24 + 59 + 12, 1)
 }
@@ -185,14 +190,14 @@ fn keeps_all(
         (Status::Refused, text),
         said,
     );
-    assert_eq!(rt; str::from_utf8(&errors)?, said);
+    equals(rt, str::from_utf8(&errors)?, said);
     stay(rt)
 }
 
 /// What stands in the files is what stood there before.
 fn stay(rt: &(impl Files + AllocGlobal + Abort)) -> Result<(), Fail> {
     for (path, old) in REFUSED {
-        assert_eq!(rt; fs::read_to_string(rt, *path)?.as_str(), *old, "{path}");
+        equals_at(rt, fs::read_to_string(rt, *path)?.as_str(), *old, path);
     }
     Ok(())
 }
@@ -207,7 +212,7 @@ fn says_nothing(rt: &(impl Files + AllocGlobal + Abort)) -> Result<(), Fail> {
     let mut out = Failing::after(rt.alloc(), 0);
     let mut errors = Vec::new(rt.alloc());
     let ended = run_files(rt, paths, "kept.txt", &views, &mut out, &mut errors);
-    assert_eq!(rt; ended, Err(LabFault::Write));
+    equals(rt, ended, Err(LabFault::Write));
     stay(rt)
 }
 
@@ -221,8 +226,8 @@ fn names_its_peer(rt: &(impl Files + AllocGlobal + Abort)) -> Result<(), Fail> {
     let mut out = Vec::new(rt.alloc());
     let mut errors = Vec::new(rt.alloc());
     let ended = run_files(rt, paths, "kept.txt", &views, &mut out, &mut errors);
-    assert_eq!(rt; ended, Ok(Status::Refused));
-    assert_eq!(rt; str::from_utf8(&errors)?, "./kept.toml: named twice\n");
+    equals(rt, ended, Ok(Status::Refused));
+    equals(rt, str::from_utf8(&errors)?, "./kept.toml: named twice\n");
     stay(rt)
 }
 

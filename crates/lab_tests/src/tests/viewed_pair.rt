@@ -1,5 +1,5 @@
 use super::peer::PEER;
-use super::{SITE, ends_so, remove_files, write_files};
+use super::{SITE, ends_so, equals, equals_at, holds, holds_at, remove_files, write_files};
 use lab::files::run_files;
 use lab::run::Status;
 use lab::site_files::SitePaths;
@@ -91,16 +91,16 @@ fn prints_words(rt: &(impl Files + AllocGlobal + Abort)) -> Result<(), Fail> {
         (Status::Done, WORDED),
         SCRIPT_FILE,
     );
-    assert!(rt; errors.is_empty());
+    holds(rt, errors.is_empty());
     Ok(())
 }
 
 /// The chart has the messages, and lanes of both controllers.
 fn is_charted(rt: &(impl Files + AllocGlobal + Abort)) -> Result<(), Fail> {
     let chart = fs::read_to_string(rt, CHART_FILE)?;
-    assert_eq!(rt; chart.matches("marker-end").count(), 6, "{chart}");
-    assert!(rt; chart.contains(">controller 2<"), "{chart}");
-    assert!(rt; chart.contains(">stations 2<"), "{chart}");
+    equals_at(rt, chart.matches("marker-end").count(), 6, chart.as_str());
+    holds_at(rt, chart.contains(">controller 2<"), chart.as_str());
+    holds_at(rt, chart.contains(">stations 2<"), chart.as_str());
     Ok(())
 }
 
@@ -112,7 +112,7 @@ fn a_run_of_two_controllers_is_viewed(rt: HostRuntime) -> Result<(), Fail> {
     )?;
     prints_words(&rt)?;
     // the header, and six packets: 56 octets, 3 and the message's 12, 12, 7, 7, 4 and 4
-    assert_eq!(rt; fs::read(&rt, PCAP_FILE)?.len(), 24 + 6 * 59 + 46);
+    equals(&rt, fs::read(&rt, PCAP_FILE)?.len(), 24 + 6 * 59 + 46);
     is_charted(&rt)?;
     remove_files(
         &rt,

@@ -1,3 +1,4 @@
+use super::{equals, equals_at, holds, holds_at};
 use decoded_lines::{Detail, Link};
 use explanations::Question;
 use lab::words::{Job, WordsFault, read_words};
@@ -40,11 +41,11 @@ fn run_names_its_files(rt: HostRuntime) {
                     views,
                 },
             ) => {
-                assert_eq!(rt; (sites.first, script), (*wanted_site, *wanted_script));
-                assert_eq!(rt; sites.peer, *wanted_peer);
-                assert!(rt; views.is_plain());
+                equals(&rt, (sites.first, script), (*wanted_site, *wanted_script));
+                equals(&rt, sites.peer, *wanted_peer);
+                holds(&rt, views.is_plain());
             }
-            _ => assert!(rt; false, "a run"),
+            _ => holds_at(&rt, false, "a run"),
         }
     }
 }
@@ -72,10 +73,10 @@ fn test_names_its_files(rt: HostRuntime) {
         let job = read_words(rt.alloc(), *words);
         match &job {
             Ok(Job::Test { sites, scripts }) => {
-                assert_eq!(rt; (sites.first, sites.peer), (*first, *peer));
-                assert_eq!(rt; scripts.as_slice(), *wanted);
+                equals(&rt, (sites.first, sites.peer), (*first, *peer));
+                equals(&rt, scripts.as_slice(), *wanted);
             }
-            _ => assert!(rt; false, "a test"),
+            _ => holds_at(&rt, false, "a test"),
         }
     }
     match read_words(
@@ -83,18 +84,22 @@ fn test_names_its_files(rt: HostRuntime) {
         &["record", "a.toml", "b.txt", "--peer", "c.toml"],
     ) {
         Ok(Job::Record { sites, script }) => {
-            assert_eq!(rt;
+            equals(
+                &rt,
                 (sites.first, sites.peer, script),
-                ("a.toml", Some("c.toml"), "b.txt")
+                ("a.toml", Some("c.toml"), "b.txt"),
             );
         }
-        _ => assert!(rt; false, "a record"),
+        _ => holds_at(&rt, false, "a record"),
     }
     for words in [
         &["test", "a.toml"].as_slice(),
         &["record", "a.toml", "b.txt", "c.txt"].as_slice(),
     ] {
-        assert!(rt; matches!(read_words(rt.alloc(), words), Err(WordsFault::Refused(_))));
+        holds(
+            &rt,
+            matches!(read_words(rt.alloc(), words), Err(WordsFault::Refused(_))),
+        );
     }
 }
 
@@ -161,14 +166,14 @@ const QUESTIONS: &[(&[&str], Question)] = &[
 fn views_and_explanations_are_asked_for(rt: HostRuntime) {
     for (words, wanted) in VIEWS {
         match read_words(rt.alloc(), *words) {
-            Ok(Job::Run { views, .. }) => assert_eq!(rt; views, *wanted),
-            _ => assert!(rt; false, "a run"),
+            Ok(Job::Run { views, .. }) => equals(&rt, views, *wanted),
+            _ => holds_at(&rt, false, "a run"),
         }
     }
     for (words, wanted) in QUESTIONS {
         match read_words(rt.alloc(), *words) {
-            Ok(Job::Explain(question)) => assert_eq!(rt; question, *wanted),
-            _ => assert!(rt; false, "a question"),
+            Ok(Job::Explain(question)) => equals(&rt, question, *wanted),
+            _ => holds_at(&rt, false, "a question"),
         }
     }
 }
@@ -177,17 +182,17 @@ fn views_and_explanations_are_asked_for(rt: HostRuntime) {
 fn rewind_names_two_files_and_a_line(rt: HostRuntime) {
     match read_words(rt.alloc(), &["rewind", "a.toml", "b.trace", "8"]) {
         Ok(Job::Rewind { site, trace, line }) => {
-            assert_eq!(rt; (site, trace, line), ("a.toml", "b.trace", 8));
+            equals(&rt, (site, trace, line), ("a.toml", "b.trace", 8));
         }
-        _ => assert!(rt; false, "a rewind"),
+        _ => holds_at(&rt, false, "a rewind"),
     }
 }
 
 #[test]
 fn check_names_a_file(rt: HostRuntime) {
     match read_words(rt.alloc(), &["check", "a.toml"]) {
-        Ok(Job::Check { site }) => assert_eq!(rt; site, "a.toml"),
-        _ => assert!(rt; false, "a check"),
+        Ok(Job::Check { site }) => equals(&rt, site, "a.toml"),
+        _ => holds_at(&rt, false, "a check"),
     }
 }
 
@@ -208,9 +213,9 @@ fn decode_names_a_link_and_octets(rt: HostRuntime) {
     for (words, wanted, hex) in DECODES {
         match read_words(rt.alloc(), *words) {
             Ok(Job::Decode { link, text }) => {
-                assert_eq!(rt; (link, text), (*wanted, *hex));
+                equals(&rt, (link, text), (*wanted, *hex));
             }
-            _ => assert!(rt; false, "{hex}: a message"),
+            _ => holds_at(&rt, false, (hex, "a message")),
         }
     }
 }
@@ -239,9 +244,13 @@ fn decode_names_a_file(rt: HostRuntime) {
     for (words, link, detail, file) in FILES {
         match read_words(rt.alloc(), *words) {
             Ok(Job::DecodeLines { asked, path }) => {
-                assert_eq!(rt; (asked.link, asked.detail, path), (*link, *detail, *file));
+                equals(
+                    &rt,
+                    (asked.link, asked.detail, path),
+                    (*link, *detail, *file),
+                );
             }
-            _ => assert!(rt; false, "{file}: a file"),
+            _ => holds_at(&rt, false, (file, "a file")),
         }
     }
 }
@@ -508,19 +517,19 @@ fn are_answered<'a>(
         Ok(Job::Show(text)) => (Answer::Shown, text),
         Err(WordsFault::Refused(text)) => (Answer::Refused, text),
         _ => {
-            assert!(rt; false, "{}: a text", parts.0);
+            holds_at(rt, false, (parts.0, "a text"));
             return;
         }
     };
-    assert_eq!(rt; answer, wanted, "{}", parts.0);
+    equals_at(rt, answer, wanted, parts.0);
     let has_parts = text.contains(parts.0) && text.contains(parts.1);
-    assert!(rt; has_parts, "{}, {}: {text}", parts.0, parts.1);
+    holds_at(rt, has_parts, (parts.0, parts.1, text.as_str()));
     let is_fit = match wanted {
         // a terminal shows so many columns
         Answer::Shown => text.lines().all(|line| line.chars().count() <= 100),
         Answer::Refused => !text.contains(char::is_control),
     };
-    assert!(rt; is_fit, "{text}");
+    holds_at(rt, is_fit, text.as_str());
 }
 
 /// All words of a table are answered by a text that is shown.

@@ -2,7 +2,7 @@
 use super::{
     Activate, Ask, Clear, Command, Complete, Confirm, Desk, DeskFault, Detect, Event, HOME, Judge,
     JudgeReserve, JudgeTake, Kind, Left, Look, OTHER, Open, Order, Owner, Refuse, Released,
-    Require, Reserve, Seat, TARGET, Take, Timer, Undo, Why, desk_of, put,
+    Require, Reserve, Seat, TARGET, Take, Timer, Undo, Why, desk_of, equals, equals_at, put,
 };
 use std::alloc::Global;
 use std::process::Abort;
@@ -74,7 +74,7 @@ fn comes_to_each(
         } else {
             Err(DeskFault::Foreign(0))
         };
-        assert_eq!(rt; answer, expected, "{event:?} at {judged:?}");
+        equals_at(rt, answer, expected, (event, "at", judged));
     }
     Ok(())
 }
@@ -149,13 +149,14 @@ const ASKS: [Ask; 3] = [
 fn refuses(rt: &impl Abort, desk: &mut Desk<Global>, seat: &mut Seat, place: usize) {
     for ask in &ASKS {
         let last = seat.last();
-        assert_eq!(rt;
+        equals_at(
+            rt,
             put(desk, seat, *ask),
             Err(DeskFault::Foreign(place)),
-            "{ask:?}"
+            ask,
         );
-        assert_eq!(rt; desk.len(), place.saturating_add(1), "{ask:?}");
-        assert_eq!(rt; seat.last(), last, "{ask:?}");
+        equals_at(rt, desk.len(), place.saturating_add(1), ask);
+        equals_at(rt, seat.last(), last, ask);
     }
 }
 
@@ -186,8 +187,12 @@ fn past_the_end(rt: &(impl AllocGlobal + Abort), opening: &Desk<Global>) -> Resu
     let mut seat = Seat::new();
     after(opening, rt.alloc(), &mut seat, &[Look(1), Look(1)])?;
     let mut desk = after(opening, rt.alloc(), &mut Seat::new(), &[Look(1)])?;
-    assert_eq!(rt; desk.judge(&mut seat, Look(1)), Err(DeskFault::Foreign(1)));
-    assert_eq!(rt; desk.len(), 1);
+    equals(
+        rt,
+        desk.judge(&mut seat, Look(1)),
+        Err(DeskFault::Foreign(1)),
+    );
+    equals(rt, desk.len(), 1);
     Ok(())
 }
 
@@ -201,8 +206,12 @@ fn at_a_new_desk(rt: &(impl AllocGlobal + Abort), opening: &Desk<Global>) -> Res
     let mut seat = Seat::new();
     after(opening, rt.alloc(), &mut seat, &[Look(1)])?;
     let mut desk = after(opening, rt.alloc(), &mut Seat::new(), &[])?;
-    assert_eq!(rt; desk.judge(&mut seat, Look(1)), Err(DeskFault::Foreign(0)));
-    assert_eq!(rt; desk.len(), 0);
+    equals(
+        rt,
+        desk.judge(&mut seat, Look(1)),
+        Err(DeskFault::Foreign(0)),
+    );
+    equals(rt, desk.len(), 0);
     Ok(())
 }
 

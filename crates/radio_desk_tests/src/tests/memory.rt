@@ -1,5 +1,8 @@
 //! Memory is refused in each call of a desk.
-use super::{Ask, COURSE, Desk, DeskFault, Entry, HOME, Open, Receipt, Seat, desk_of, put};
+use super::{
+    Ask, COURSE, Desk, DeskFault, Entry, HOME, Open, Receipt, Seat, desk_of, equals_at, holds_at,
+    put,
+};
 use cell_table::Site;
 use radio_book::book::{Book, Usage};
 use refusing_heap::RefusingHeap;
@@ -30,13 +33,14 @@ fn asks_all(
         let before = shown(desk, &seat);
         let refused = heap.refused();
         let answer = put(desk, &mut seat, *ask);
-        assert_eq!(rt;
+        equals_at(
+            rt,
             answer == Err(DeskFault::NoMemory),
             heap.refused() != refused,
-            "{ask:?}"
+            ask,
         );
         if answer.is_err() {
-            assert_eq!(rt; shown(desk, &seat), before, "{ask:?}");
+            equals_at(rt, shown(desk, &seat), before, ask);
             return true;
         }
     }
@@ -68,7 +72,7 @@ fn a_refused_request_changes_nothing(rt: HostRuntime) -> Result<(), Fail> {
         refused = n;
     }
     // The history, channels, calls and references each ask once at least.
-    assert!(rt; 4 <= refused && refused < 99, "{refused}");
+    holds_at(&rt, 4 <= refused && refused < 99, refused);
     Ok(())
 }
 
@@ -95,7 +99,7 @@ fn is_made_or_refused(rt: &(impl AllocGlobal + Abort), before: u64, n: u64) -> R
     let heap = RefusingHeap::refusing_nth(rt.alloc(), before.saturating_add(n));
     let book = book_with_a_call(rt, &heap)?;
     let is_made = Desk::new(&heap, book).is_ok();
-    assert_eq!(rt; is_made, !heap.was_refused(), "{n}");
+    equals_at(rt, is_made, !heap.was_refused(), n);
     Ok(!is_made)
 }
 
@@ -110,6 +114,6 @@ fn a_desk_is_made_unless_memory_is_refused(rt: HostRuntime) -> Result<(), Fail> 
         refused = n;
     }
     // Channels and calls are copied.
-    assert!(rt; 2 <= refused && refused < 99, "{refused}");
+    holds_at(&rt, 2 <= refused && refused < 99, refused);
     Ok(())
 }

@@ -1,4 +1,4 @@
-use super::{ALONE, write_in_pieces};
+use super::{ALONE, equals, holds_at, write_in_pieces};
 use run_views::{Viewer, Views};
 use std::alloc::Global;
 use std::io::Write;
@@ -49,12 +49,12 @@ fn has_captured<W: Write>(
     viewer: &Viewer<'_, W, Global>,
 ) -> Result<(), Fail> {
     let Some(capture) = viewer.capture() else {
-        assert!(rt; false, "a capture is asked for");
+        holds_at(rt, false, "a capture is asked for");
         return Ok(());
     };
     let octets = hex::encode(rt.alloc(), capture.octets())?;
-    assert!(rt; octets.as_str() == FILE, "{octets}");
-    assert_eq!(rt; capture.left_out(), 0);
+    equals(rt, octets.as_str(), FILE);
+    equals(rt, capture.left_out(), 0);
     Ok(())
 }
 
@@ -77,6 +77,6 @@ fn captures_beside(rt: &(impl AllocGlobal + Abort), out: &mut Vec<u8>) -> Result
 fn each_message_of_a_trace_is_captured(rt: HostRuntime) -> Result<(), Fail> {
     let mut out = Vec::new(rt.alloc());
     captures_beside(&rt, &mut out)?;
-    assert!(rt; out.as_slice() == TRACE.as_bytes());
+    equals(&rt, out.as_slice(), TRACE.as_bytes());
     Ok(())
 }

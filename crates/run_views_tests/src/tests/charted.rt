@@ -1,4 +1,4 @@
-use super::{ALONE, SITE, write_in_pieces};
+use super::{ALONE, SITE, equals, holds_at, write_in_pieces};
 use chart::{Bar, Chart, Lane, Row, Shape, Side};
 use run_views::{Sites, Viewer, Views, WordsFault};
 use std::alloc::Global;
@@ -431,7 +431,7 @@ fn is_drawn(
 ) -> Result<(), Fail> {
     let wanted = chart.to_string(rt.alloc())?;
     let svg = chart_of(rt.alloc(), sites, trace)?;
-    assert!(rt; svg.as_str() == wanted.as_str(), "{svg}");
+    equals(rt, svg.as_str(), wanted.as_str());
     Ok(())
 }
 
@@ -448,7 +448,7 @@ fn a_trace_of_two_controllers_is_a_chart(rt: HostRuntime) -> Result<(), Fail> {
 /// The chart has these bars.
 fn has_bars(rt: &impl Abort, svg: &str, bars: &[&str]) {
     for bar in bars {
-        assert!(rt; svg.contains(*bar), "{bar} {svg}");
+        holds_at(rt, svg.contains(*bar), (bar, svg));
     }
 }
 
@@ -458,6 +458,6 @@ fn attempts_that_are_open_at_once_have_bars_beside_one_another(
 ) -> Result<(), Fail> {
     let svg = chart_of(rt.alloc(), ALONE, THREE)?;
     has_bars(&rt, &svg, THREE_BARS);
-    assert!(rt; !svg.as_str().contains(">call 3<"), "{svg}");
+    holds_at(&rt, !svg.as_str().contains(">call 3<"), svg.as_str());
     Ok(())
 }

@@ -1,4 +1,4 @@
-use super::ALONE;
+use super::{ALONE, equals, equals_at, holds, holds_at};
 use run_views::{Viewer, Views, open_sheets};
 use std::process::Abort;
 use std::rt::Files;
@@ -69,8 +69,8 @@ fn open_them(
     let mut errors = Vec::new(rt.alloc());
     let is_open = open_sheets(rt, &views, &mut out, &mut errors)?.is_some();
     let (printed, said) = (str::from_utf8(&out)?, str::from_utf8(&errors)?);
-    assert_eq!(rt; (printed, said), texts);
-    assert_eq!(rt; is_open, texts.0.is_empty(), "{printed}");
+    equals(rt, (printed, said), texts);
+    equals_at(rt, is_open, texts.0.is_empty(), printed);
     Ok(())
 }
 
@@ -93,24 +93,25 @@ fn opens_and_writes(rt: &(impl Files + AllocGlobal + Abort)) -> Result<(), Fail>
     let alloc = rt.alloc();
     for (paths, texts) in OPENED {
         open_them(rt, *paths, *texts)?;
-        assert_eq!(rt; fs::read_to_string(rt, PCAP)?.as_str(), OLD, "{paths:?}");
-        assert_eq!(rt; fs::read_to_string(rt, CHART)?.as_str(), OLD, "{paths:?}");
+        equals_at(rt, fs::read_to_string(rt, PCAP)?.as_str(), OLD, paths);
+        equals_at(rt, fs::read_to_string(rt, CHART)?.as_str(), OLD, paths);
     }
     fs::write(rt, CHART, OLD.repeat(alloc, LONGER)?.as_str())?;
     let views = views_at((PCAP, CHART));
     let mut out = Vec::new(alloc);
     let mut errors = Vec::new(alloc);
     let Some(sheets) = open_sheets(rt, &views, &mut out, &mut errors)? else {
-        assert!(rt; false, "files are open");
+        holds_at(rt, false, "files are open");
         return Ok(());
     };
     let viewer = Viewer::new(alloc, alloc, &views, ALONE, &mut out)?;
     sheets.finish(&viewer, &mut errors)?;
-    assert_eq!(rt; fs::read(rt, PCAP)?.len(), 24);
+    equals(rt, fs::read(rt, PCAP)?.len(), 24);
     let chart = fs::read_to_string(rt, CHART)?;
-    assert!(rt;
+    holds_at(
+        rt,
         chart.starts_with("<svg ") && chart.ends_with("</svg>\n"),
-        "{chart}"
+        chart.as_str(),
     );
     Ok(())
 }
@@ -130,7 +131,7 @@ fn a_capture_that_was_made_stays_empty_where_the_chart_cannot_be_made(
     let texts = ("file /\n", "/: is a folder\n");
     open_them(&rt, (made, "/"), texts)?;
     let octets = fs::read(&rt, made)?;
-    assert!(rt; octets.is_empty());
+    holds(&rt, octets.is_empty());
     fs::remove_file(&rt, made)?;
     Ok(())
 }

@@ -1,4 +1,4 @@
-use super::{ALONE, printed, write_in_pieces};
+use super::{ALONE, equals, equals_at, holds_at, printed, write_in_pieces};
 use refusing_heap::RefusingHeap;
 use run_views::{Viewer, Views, WordsFault};
 use std::alloc::{AllocError, Global};
@@ -84,10 +84,10 @@ fn words_stand_behind_each_line(rt: HostRuntime) -> Result<(), Fail> {
         let trace = without_words(rt.alloc(), *wanted)?;
         for len in [1, 7, 10_000] {
             let text = printed(rt.alloc(), &WORDS, ALONE, &trace, len)?;
-            assert!(rt; text.as_str() == *wanted, "{text}");
+            equals(&rt, text.as_str(), *wanted);
         }
         let plain = printed(rt.alloc(), &Views::plain(), ALONE, &trace, 64)?;
-        assert!(rt; plain.as_str() == trace.as_str(), "{plain}");
+        equals(&rt, plain.as_str(), trace.as_str());
     }
     Ok(())
 }
@@ -110,7 +110,7 @@ fn octets_that_are_too_long_are_about_their_channel(rt: HostRuntime) -> Result<(
         let zeros = "00".repeat(rt.alloc(), 1_021)?;
         let trace = format!(in rt.alloc(); "{opened}in abis 0 0 {front}{zeros}\nfault abis 6\n")?;
         let text = printed(rt.alloc(), &WORDS, ALONE, &trace, 10_000)?;
-        assert!(rt; text.as_str().contains(*fault), "{text}");
+        holds_at(&rt, text.as_str().contains(*fault), text.as_str());
     }
     Ok(())
 }
@@ -129,12 +129,12 @@ fn is_whole(rt: &(impl AllocGlobal + Abort), n: u64, trace: &str) -> Result<bool
     let ended = write_in_pieces(&mut viewer, trace, 16);
     drop(viewer);
     let text = str::from_utf8(&out)?;
-    assert!(rt; wanted.starts_with(text), "{n}: {text}");
+    holds_at(rt, wanted.starts_with(text), (n, text));
     if heap.was_refused() {
-        assert!(rt; ended == Err(WordsFault::NoMemory), "{n}");
+        equals_at(rt, ended, Err(WordsFault::NoMemory), n);
         return Ok(false);
     }
-    assert!(rt; ended.is_ok() && text == wanted, "{n}");
+    holds_at(rt, ended.is_ok() && text == wanted, n);
     Ok(true)
 }
 
@@ -146,6 +146,6 @@ fn refused_memory_ends_a_trace_in_mid_stream(rt: HostRuntime) -> Result<(), Fail
             return Ok(());
         }
     }
-    assert!(rt; false, "some run isn't refused");
+    holds_at(&rt, false, "some run isn't refused");
     Ok(())
 }
