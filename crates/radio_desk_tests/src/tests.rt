@@ -72,11 +72,13 @@ fn put<A: Allocator + Copy>(
     }
 }
 
-fn desk_of<A: Allocator + Copy>(alloc: A, scratch: Global) -> Result<Desk<A>, Fail> {
+fn book_of<A: Allocator + Copy>(alloc: A, scratch: Global) -> Result<Book<A>, Fail> {
     let site = Site::read(alloc, scratch, THREE_CHANNELS)?;
-    let site = Arc::new(alloc, site)?;
-    let book = Book::new(alloc, site)?;
-    Ok(Desk::new(alloc, book)?)
+    Ok(Book::new(alloc, Arc::new(alloc, site)?)?)
+}
+
+fn desk_of<A: Allocator + Copy>(alloc: A, scratch: Global) -> Result<Desk<A>, Fail> {
+    Ok(Desk::new(alloc, book_of(alloc, scratch)?)?)
 }
 
 // Call 1 comes to rest, moves to cell 1 and back; refused events are entries too, and a cell without a free channel isn't.
@@ -192,12 +194,16 @@ fn books_of(rt: &impl Abort, desk: &Desk<Global>) {
     );
 }
 
+fn books_after(rt: &impl Abort, desk: &mut Desk<Global>) -> Result<(), Fail> {
+    play(rt, desk, &mut Seat::new(), COURSE)?;
+    books_of(rt, desk);
+    Ok(())
+}
+
 #[test]
 fn the_opening_book_stays_and_the_book_goes_on(rt: HostRuntime) -> Result<(), Fail> {
     let mut desk = desk_of(rt.alloc(), rt.alloc())?;
-    play(&rt, &mut desk, &mut Seat::new(), COURSE)?;
-    books_of(&rt, &desk);
-    Ok(())
+    books_after(&rt, &mut desk)
 }
 
 // Call 1 on its channel.

@@ -45,17 +45,39 @@ const EVENTS: [Event; 33] = [
     Left(2),
 ];
 
-// A desk at which this event alone was judged.
-fn desk_after(
-    opening: &Desk<Global>,
-    alloc: Global,
+// A desk that opens with the book of another.
+fn copy_of(opening: &Desk<Global>, alloc: Global) -> Result<Desk<Global>, Fail> {
+    Ok(Desk::new(alloc, opening.book().copy()?)?)
+}
+
+// Asks the events at a desk.
+fn judge_all(desk: &mut Desk<Global>, seat: &mut Seat, events: &[Event]) -> Result<(), Fail> {
+    for event in events {
+        desk.judge(seat, *event)?;
+    }
+    Ok(())
+}
+
+// A seat with which the events were asked at a desk.
+fn seat_at(desk: &mut Desk<Global>, events: &[Event]) -> Result<Seat, Fail> {
+    let mut seat = Seat::new();
+    judge_all(desk, &mut seat, events)?;
+    Ok(seat)
+}
+
+// A seat with which the events were asked at a desk that opens with the book of another.
+fn seat_after(opening: &Desk<Global>, alloc: Global, events: &[Event]) -> Result<Seat, Fail> {
+    seat_at(&mut copy_of(opening, alloc)?, events)
+}
+
+// Comes with a seat to a desk at which an event was judged. The place of the receipt, or why there is none.
+fn comes_to(
+    desk: &mut Desk<Global>,
     seat: &mut Seat,
-    event: Event,
-) -> Result<Desk<Global>, Fail> {
-    let book = opening.book().copy()?;
-    let mut desk = Desk::new(alloc, book)?;
-    desk.judge(seat, event)?;
-    Ok(desk)
+    judged: Event,
+) -> Result<Result<usize, DeskFault>, Fail> {
+    desk.judge(&mut Seat::new(), judged)?;
+    Ok(desk.judge(seat, Look(9)).map(|receipt| receipt.place))
 }
 
 // Comes with the receipt of an event to desks at which each of the events was judged.
@@ -65,10 +87,8 @@ fn comes_to_each(
     event: Event,
 ) -> Result<(), Fail> {
     for judged in &EVENTS {
-        let mut seat = Seat::new();
-        let mut desk = desk_after(opening, rt.alloc(), &mut Seat::new(), *judged)?;
-        desk_after(opening, rt.alloc(), &mut seat, event)?;
-        let answer = desk.judge(&mut seat, Look(9)).map(|receipt| receipt.place);
+        let mut seat = seat_after(opening, rt.alloc(), &[event])?;
+        let answer = comes_to(&mut copy_of(opening, rt.alloc())?, &mut seat, *judged)?;
         let expected = if *judged == event {
             Ok(1)
         } else {
@@ -79,13 +99,16 @@ fn comes_to_each(
     Ok(())
 }
 
-#[test]
-fn an_entry_is_told_from_every_other(rt: HostRuntime) -> Result<(), Fail> {
-    let opening = desk_of(rt.alloc(), rt.alloc())?;
+fn each_comes_to_each(rt: &(impl AllocGlobal + Abort), opening: &Desk<Global>) -> Result<(), Fail> {
     for event in &EVENTS {
-        comes_to_each(&rt, &opening, *event)?;
+        comes_to_each(rt, opening, *event)?;
     }
     Ok(())
+}
+
+#[test]
+fn an_entry_is_told_from_every_other(rt: HostRuntime) -> Result<(), Fail> {
+    each_comes_to_each(&rt, &desk_of(rt.alloc(), rt.alloc())?)
 }
 
 // Two courses that end with the same event, which gets another answer in each.
@@ -124,99 +147,75 @@ const OTHER_REPLIES: [(&[Event], &[Event]); 9] = [
     ),
 ];
 
-// Asks the events at a desk that opens with this book.
-fn after(
-    opening: &Desk<Global>,
-    alloc: Global,
-    seat: &mut Seat,
-    events: &[Event],
-) -> Result<Desk<Global>, Fail> {
-    let book = opening.book().copy()?;
-    let mut desk = Desk::new(alloc, book)?;
-    for event in events {
-        desk.judge(seat, *event)?;
-    }
-    Ok(desk)
-}
-
-const ASKS: [Ask; 3] = [
+const ASKS: [Ask; 4] = [
+    Judge(Look(1)),
     Judge(Open(3, TARGET)),
     JudgeTake(3, Kind::Incoming, 1),
     JudgeReserve(1),
 ];
 
-// Each call of the desk refuses the seat, and leaves both as they were.
+// Each call of the desk refuses the seat, whose last receipt is of this place, and leaves both as they were.
 fn refuses(rt: &impl Abort, desk: &mut Desk<Global>, seat: &mut Seat, place: usize) {
     for ask in &ASKS {
-        let last = seat.last();
+        let (len, last) = (desk.len(), seat.last());
         equals_at(
             rt,
             put(desk, seat, *ask),
             Err(DeskFault::Foreign(place)),
             ask,
         );
-        equals_at(rt, desk.len(), place.saturating_add(1), ask);
-        equals_at(rt, seat.last(), last, ask);
+        equals_at(rt, (desk.len(), seat.last()), (len, last), ask);
     }
 }
 
+// A desk at which the events were judged refuses the seat.
+fn refuses_after(
+    rt: &impl Abort,
+    desk: &mut Desk<Global>,
+    seat: &mut Seat,
+    events: &[Event],
+    place: usize,
+) -> Result<(), Fail> {
+    judge_all(desk, &mut Seat::new(), events)?;
+    equals(rt, desk.len(), events.len());
+    refuses(rt, desk, seat, place);
+    Ok(())
+}
+
+// The receipt of one course is refused at a desk at which the other was judged.
 fn is_told_apart(
     rt: &(impl AllocGlobal + Abort),
     opening: &Desk<Global>,
     one: &[Event],
     other: &[Event],
 ) -> Result<(), Fail> {
-    let mut seat = Seat::new();
-    after(opening, rt.alloc(), &mut seat, one)?;
-    let mut desk = after(opening, rt.alloc(), &mut Seat::new(), other)?;
-    refuses(rt, &mut desk, &mut seat, other.len().saturating_sub(1));
+    let mut seat = seat_after(opening, rt.alloc(), one)?;
+    let place = one.len().saturating_sub(1);
+    let mut desk = copy_of(opening, rt.alloc())?;
+    refuses_after(rt, &mut desk, &mut seat, other, place)
+}
+
+fn are_told_apart(rt: &(impl AllocGlobal + Abort), opening: &Desk<Global>) -> Result<(), Fail> {
+    for (one, other) in &OTHER_REPLIES {
+        is_told_apart(rt, opening, one, other)?;
+        is_told_apart(rt, opening, other, one)?;
+    }
     Ok(())
 }
 
 #[test]
 fn another_reply_to_the_same_event_is_foreign(rt: HostRuntime) -> Result<(), Fail> {
-    let opening = desk_of(rt.alloc(), rt.alloc())?;
-    for (one, other) in &OTHER_REPLIES {
-        is_told_apart(&rt, &opening, one, other)?;
-        is_told_apart(&rt, &opening, other, one)?;
-    }
-    Ok(())
-}
-
-fn past_the_end(rt: &(impl AllocGlobal + Abort), opening: &Desk<Global>) -> Result<(), Fail> {
-    let mut seat = Seat::new();
-    after(opening, rt.alloc(), &mut seat, &[Look(1), Look(1)])?;
-    let mut desk = after(opening, rt.alloc(), &mut Seat::new(), &[Look(1)])?;
-    equals(
-        rt,
-        desk.judge(&mut seat, Look(1)),
-        Err(DeskFault::Foreign(1)),
-    );
-    equals(rt, desk.len(), 1);
-    Ok(())
+    are_told_apart(&rt, &desk_of(rt.alloc(), rt.alloc())?)
 }
 
 #[test]
 fn a_receipt_of_a_place_past_the_end_is_foreign(rt: HostRuntime) -> Result<(), Fail> {
     let opening = desk_of(rt.alloc(), rt.alloc())?;
-    past_the_end(&rt, &opening)
-}
-
-fn at_a_new_desk(rt: &(impl AllocGlobal + Abort), opening: &Desk<Global>) -> Result<(), Fail> {
-    let mut seat = Seat::new();
-    after(opening, rt.alloc(), &mut seat, &[Look(1)])?;
-    let mut desk = after(opening, rt.alloc(), &mut Seat::new(), &[])?;
-    equals(
-        rt,
-        desk.judge(&mut seat, Look(1)),
-        Err(DeskFault::Foreign(0)),
-    );
-    equals(rt, desk.len(), 0);
-    Ok(())
+    is_told_apart(&rt, &opening, &[Look(1), Look(1)], &[Look(1)])
 }
 
 #[test]
 fn a_receipt_is_foreign_at_a_new_desk(rt: HostRuntime) -> Result<(), Fail> {
     let opening = desk_of(rt.alloc(), rt.alloc())?;
-    at_a_new_desk(&rt, &opening)
+    is_told_apart(&rt, &opening, &[Look(1)], &[])
 }

@@ -1,14 +1,12 @@
 //! Memory is refused in each call of a desk.
 use super::{
-    Ask, COURSE, Desk, DeskFault, Entry, HOME, Open, Receipt, Seat, desk_of, equals_at, holds_at,
-    put,
+    Ask, COURSE, Desk, DeskFault, Entry, HOME, Open, Receipt, Seat, book_of, desk_of, equals_at,
+    holds_at, put,
 };
-use cell_table::Site;
 use radio_book::book::{Book, Usage};
 use refusing_heap::RefusingHeap;
-use sample_sites::THREE_CHANNELS;
+use std::alloc::Global;
 use std::process::Abort;
-use std::sync::Arc;
 use std::test::Fail;
 
 // What a desk and a seat show, which takes no memory.
@@ -47,17 +45,30 @@ fn asks_all(
     false
 }
 
+// Asks the course of a desk on this heap. Whether memory was refused.
+fn is_refused_at_a_desk(
+    rt: &(impl AllocGlobal + Abort),
+    heap: &RefusingHeap,
+) -> Result<bool, Fail> {
+    let mut desk = desk_of(heap, rt.alloc())?;
+    Ok(asks_all(rt, heap, &mut desk, COURSE))
+}
+
 // Asks the course of a desk whose heap refuses the n-th request after those that make the desk. Whether there was one.
 fn meets_refusal(rt: &(impl AllocGlobal + Abort), made: u64, n: u64) -> Result<bool, Fail> {
     let heap = RefusingHeap::refusing_nth(rt.alloc(), made.saturating_add(n));
-    let mut desk = desk_of(&heap, rt.alloc())?;
-    Ok(asks_all(rt, &heap, &mut desk, COURSE))
+    is_refused_at_a_desk(rt, &heap)
+}
+
+fn make_desk(heap: &RefusingHeap, scratch: Global) -> Result<(), Fail> {
+    desk_of(heap, scratch)?;
+    Ok(())
 }
 
 // How many requests make a desk.
 fn requests_of_a_desk(rt: &impl AllocGlobal) -> Result<u64, Fail> {
     let heap = RefusingHeap::ample(rt.alloc());
-    let _desk = desk_of(&heap, rt.alloc())?;
+    make_desk(&heap, rt.alloc())?;
     Ok(heap.requests())
 }
 
@@ -81,24 +92,33 @@ fn book_with_a_call<'a>(
     rt: &impl AllocGlobal,
     heap: &'a RefusingHeap,
 ) -> Result<Book<&'a RefusingHeap>, Fail> {
-    let site = Site::read(heap, rt.alloc(), THREE_CHANNELS)?;
-    let site = Arc::new(heap, site)?;
-    let mut book = Book::new(heap, site)?;
+    let mut book = book_of(heap, rt.alloc())?;
     book.step(Open(1, HOME))?;
     Ok(book)
 }
 
+fn make_book(rt: &impl AllocGlobal, heap: &RefusingHeap) -> Result<(), Fail> {
+    book_with_a_call(rt, heap)?;
+    Ok(())
+}
+
+// How many requests make a book with a call.
 fn requests_of_a_book(rt: &impl AllocGlobal) -> Result<u64, Fail> {
     let heap = RefusingHeap::ample(rt.alloc());
-    let _book = book_with_a_call(rt, &heap)?;
+    make_book(rt, &heap)?;
     Ok(heap.requests())
+}
+
+// Whether memory is enough for a desk that opens with a book of a call.
+fn is_made(rt: &impl AllocGlobal, heap: &RefusingHeap) -> Result<bool, Fail> {
+    let book = book_with_a_call(rt, heap)?;
+    Ok(Desk::new(heap, book).is_ok())
 }
 
 // Makes a desk with a heap that refuses the n-th request after those of the book. Whether there was one.
 fn is_made_or_refused(rt: &(impl AllocGlobal + Abort), before: u64, n: u64) -> Result<bool, Fail> {
     let heap = RefusingHeap::refusing_nth(rt.alloc(), before.saturating_add(n));
-    let book = book_with_a_call(rt, &heap)?;
-    let is_made = Desk::new(&heap, book).is_ok();
+    let is_made = is_made(rt, &heap)?;
     equals_at(rt, is_made, !heap.was_refused(), n);
     Ok(!is_made)
 }
