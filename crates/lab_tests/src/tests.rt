@@ -26,13 +26,14 @@ mod viewed_pair;
 mod words;
 
 use lab::run::{LabFault, Status, lab_run};
+use refusing_heap::RefusingHeap;
 use sample_sites::THREE_CHANNELS as SITE;
 use std::alloc::{Allocator, Global};
 use std::fmt::Debug;
-use std::fs;
 use std::process::Abort;
 use std::rt::Files;
 use std::test::Fail;
+use std::{fs, str};
 
 // Each test asserts by these: an assertion in a function of its own is proved once, and a call of it costs little.
 
@@ -118,6 +119,53 @@ fn ends_so(
 ) {
     equals_at(rt, ended, Ok(wanted), (what, text));
     equals_at(rt, text, printed, what);
+}
+
+/// How a command ends, what it prints, and what it says of errors.
+type Ending<'a> = (Result<Status, LabFault>, &'a str, &'a str);
+
+/// A command has ended so.
+fn ends_saying(
+    rt: &impl Abort,
+    ended: Result<Status, LabFault>,
+    (out, errors): (&[u8], &[u8]),
+    wanted: Ending<'_>,
+    what: &str,
+) -> Result<(), Fail> {
+    let found = (ended, str::from_utf8(out)?, str::from_utf8(errors)?);
+    equals_at(rt, found, wanted, what);
+    Ok(())
+}
+
+/// The same where what it says only begins so: it says nothing where nothing is wanted.
+fn ends_beginning(
+    rt: &impl Abort,
+    ended: Result<Status, LabFault>,
+    (out, errors): (&[u8], &[u8]),
+    wanted: Ending<'_>,
+    what: &str,
+) -> Result<(), Fail> {
+    let (printed, said) = (str::from_utf8(out)?, str::from_utf8(errors)?);
+    equals_at(rt, (ended, printed), (wanted.0, wanted.1), what);
+    let begins = said.starts_with(wanted.2) && said.is_empty() == wanted.2.is_empty();
+    holds_at(rt, begins, (what, said));
+    Ok(())
+}
+
+/// A command has printed all of a text, or a front of it where memory was refused.
+fn is_whole_or_cut(
+    rt: &impl Abort,
+    heap: &RefusingHeap,
+    (ended, text): (Result<Status, LabFault>, &str),
+    wanted: &str,
+    n: u64,
+) {
+    holds_at(rt, wanted.starts_with(text), (n, text));
+    match ended {
+        Ok(Status::Done) => equals_at(rt, text, wanted, n),
+        Err(LabFault::NoMemory) => holds_at(rt, heap.was_refused(), n),
+        _ => holds_at(rt, false, (n, text)),
+    }
 }
 
 /// A run over these sites ends so and prints this.

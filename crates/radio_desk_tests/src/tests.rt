@@ -81,6 +81,17 @@ fn desk_of<A: Allocator + Copy>(alloc: A, scratch: Global) -> Result<Desk<A>, Fa
     Ok(Desk::new(alloc, book_of(alloc, scratch)?)?)
 }
 
+// Plays at a new desk, which is owned here alone: each function that owns one is dear to prove.
+fn at_a_new_desk<R: AllocGlobal, F: FnOnce(&R, &mut Desk<Global>) -> Result<(), Fail>>(
+    rt: &R,
+    play: F,
+) -> Result<(), Fail>
+    requires { F.IsAlwaysCallable play }
+{
+    let mut desk = desk_of(rt.alloc(), rt.alloc())?;
+    play(rt, &mut desk)
+}
+
 // Call 1 comes to rest, moves to cell 1 and back; refused events are entries too, and a cell without a free channel isn't.
 const COURSE: &[(Ask, Entry)] = &[
     (Judge(Open(1, HOME)), Some((Open(1, HOME), Done))),
@@ -171,8 +182,7 @@ fn goes_on(rt: &impl Abort, desk: &mut Desk<Global>) -> Result<(), Fail> {
 
 #[test]
 fn each_answer_is_an_entry_and_the_last_receipt(rt: HostRuntime) -> Result<(), Fail> {
-    let mut desk = desk_of(rt.alloc(), rt.alloc())?;
-    goes_on(&rt, &mut desk)
+    at_a_new_desk(&rt, |rt, desk| goes_on(rt, desk))
 }
 
 fn books_of(rt: &impl Abort, desk: &Desk<Global>) {
@@ -202,8 +212,7 @@ fn books_after(rt: &impl Abort, desk: &mut Desk<Global>) -> Result<(), Fail> {
 
 #[test]
 fn the_opening_book_stays_and_the_book_goes_on(rt: HostRuntime) -> Result<(), Fail> {
-    let mut desk = desk_of(rt.alloc(), rt.alloc())?;
-    books_after(&rt, &mut desk)
+    at_a_new_desk(&rt, |rt, desk| books_after(rt, desk))
 }
 
 // Call 1 on its channel.
@@ -245,6 +254,5 @@ fn two_callers(rt: &impl Abort, desk: &mut Desk<Global>) -> Result<(), Fail> {
 
 #[test]
 fn each_caller_sees_what_others_did(rt: HostRuntime) -> Result<(), Fail> {
-    let mut desk = desk_of(rt.alloc(), rt.alloc())?;
-    two_callers(&rt, &mut desk)
+    at_a_new_desk(&rt, |rt, desk| two_callers(rt, desk))
 }

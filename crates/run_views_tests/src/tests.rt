@@ -61,15 +61,16 @@ fn write_in_pieces<W: Write, A: Allocator + Copy>(
 }
 
 /// Shows a run whose trace is written in pieces of so many octets.
-fn show<W: Write>(
-    alloc: Global,
+fn show<A: Allocator + Copy, W: Write>(
+    alloc: A,
+    scratch: Global,
     views: &Views<'_>,
     sites: Sites<'_>,
     trace: &str,
     len: usize,
     out: &mut W,
 ) -> Result<(), WordsFault> {
-    let mut viewer = Viewer::new(alloc, alloc, views, sites, out)?;
+    let mut viewer = Viewer::new(alloc, scratch, views, sites, out)?;
     write_in_pieces(&mut viewer, trace, len)
 }
 
@@ -82,6 +83,6 @@ fn printed(
     len: usize,
 ) -> Result<String, Fail> {
     let mut out = Vec::new(alloc);
-    show(alloc, views, sites, trace, len, &mut out)?;
+    show(alloc, alloc, views, sites, trace, len, &mut out)?;
     Ok(String::from_utf8(out)?)
 }

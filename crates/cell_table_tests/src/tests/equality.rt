@@ -1,7 +1,6 @@
 use super::{SITE, changed, equals, holds, holds_at};
 use cell_table::Site;
 use refusing_heap::RefusingHeap;
-use std::process::Abort;
 use std::test::Fail;
 
 /// A text of the site file, what stands in its place, and whether the site is the same then.

@@ -1,4 +1,4 @@
-use super::{SITE, equals_at, holds_at};
+use super::{SITE, ends_beginning};
 use lab::check::check_file;
 use lab::run::{LabFault, Status};
 use sample_sites::changed;
@@ -21,11 +21,8 @@ fn check_ends(
     let mut out = Vec::new(rt.alloc());
     let mut errors = Vec::new(rt.alloc());
     let ended = check_file(rt, path, &mut out, &mut errors);
-    equals_at(rt, (ended, str::from_utf8(&out)?), (wanted, text), path);
-    let line = str::from_utf8(&errors)?;
-    let is_said = line.starts_with(said) && line.is_empty() == said.is_empty();
-    holds_at(rt, is_said, (path, line));
-    Ok(())
+    let texts = (out.as_slice(), errors.as_slice());
+    ends_beginning(rt, ended, texts, (wanted, text, said), path)
 }
 
 #[test]

@@ -1,6 +1,6 @@
 use super::decoded::{ON_A, ON_A_WITH_CELLS, ON_ABIS, RADIO, REPORTS};
 use super::failing::Failing;
-use super::{equals, equals_at, holds, holds_at};
+use super::{ends_saying, equals, equals_at, holds, holds_at};
 use lab::decoded::{Link, decode_run};
 use lab::encoded::encode_run;
 use lab::run::{LabFault, Status};
@@ -11,13 +11,16 @@ use std::process::Abort;
 use std::str;
 use std::test::Fail;
 
-/// What a text is in octets, as it is printed without its line feed; nothing where it is refused, with a reason.
-fn written(alloc: Global, link: Link, text: &str) -> Result<Option<String>, Fail> {
-    let mut out = Vec::new(alloc);
-    let mut errors = Vec::new(alloc);
-    match encode_run(alloc, link, text, &mut out, &mut errors) {
+/// The line that was printed; nothing where a reason was said, and nothing printed.
+fn line_of(
+    alloc: Global,
+    ended: Result<Status, LabFault>,
+    out: &[u8],
+    errors: &[u8],
+) -> Result<Option<String>, Fail> {
+    match ended {
         Ok(Status::Done) => {
-            let line = str::from_utf8(&out)?.strip_suffix('\n').unwrap_or("");
+            let line = str::from_utf8(out)?.strip_suffix('\n').unwrap_or("");
             Ok(Some(String::from_str(alloc, line)?))
         }
         Ok(Status::Refused) => {
@@ -30,6 +33,14 @@ fn written(alloc: Global, link: Link, text: &str) -> Result<Option<String>, Fail
         Ok(Status::Differs) => Err(Fail::from("a status of other work")),
         Err(_) => Err(Fail::from("memory and writes")),
     }
+}
+
+/// What a text is in octets, as it is printed without its line feed; nothing where it is refused, with a reason.
+fn written(alloc: Global, link: Link, text: &str) -> Result<Option<String>, Fail> {
+    let mut out = Vec::new(alloc);
+    let mut errors = Vec::new(alloc);
+    let ended = encode_run(alloc, link, text, &mut out, &mut errors);
+    line_of(alloc, ended, out.as_slice(), errors.as_slice())
 }
 
 /// A text comes back from the octets that it is written in, and these octets from the text that they are read as. A text
@@ -198,10 +209,8 @@ fn is_refused(
     let mut out = Vec::new(alloc);
     let mut errors = Vec::new(alloc);
     let status = encode_run(alloc, link, text, &mut out, &mut errors);
-    equals_at(rt, status, Ok(Status::Refused), text);
-    equals_at(rt, str::from_utf8(&errors)?, wanted, text);
-    holds_at(rt, out.is_empty(), text);
-    Ok(())
+    let texts = (out.as_slice(), errors.as_slice());
+    ends_saying(rt, status, texts, (Ok(Status::Refused), "", wanted), text)
 }
 
 #[test]

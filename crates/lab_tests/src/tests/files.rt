@@ -1,4 +1,4 @@
-use super::{ONE_CALL, SITE, ends_so, holds_at};
+use super::{ONE_CALL, SITE, ends_beginning};
 use lab::files::run_files;
 use lab::run::Status;
 use lab::site_files::SitePaths;
@@ -87,11 +87,8 @@ fn run_of_ends(
         &mut out,
         &mut errors,
     );
-    ends_so(rt, (ended, str::from_utf8(&out)?), (wanted, text), script);
-    let line = str::from_utf8(&errors)?;
-    let is_said = line.starts_with(said) && line.is_empty() == said.is_empty();
-    holds_at(rt, is_said, (site, script, line));
-    Ok(())
+    let texts = (out.as_slice(), errors.as_slice());
+    ends_beginning(rt, ended, texts, (Ok(wanted), text, said), script)
 }
 
 #[test]

@@ -1,8 +1,8 @@
 //! Two controllers with simulated stations and a simulated switching centre. Traces are worked out by hand from the tables of
 //! the procedure, of the stations and of the switching centre, octets from TS 48.008 clause 3.2, TS 48.058 clause 8 and TS
 //! 44.018 clause 9.1.
-use super::{SITE, equals_at, holds_at, printed, prints_of};
-use lab::run::{LabFault, Status};
+use super::{SITE, holds_at, is_whole_or_cut, printed, prints_of};
+use lab::run::Status;
 use refusing_heap::RefusingHeap;
 use std::alloc::Global;
 use std::process::Abort;
@@ -619,12 +619,7 @@ fn refusals_have_no_mark(rt: HostRuntime) -> Result<(), Fail> {
 fn moves_without(rt: &impl Abort, alloc: Global, n: u64) -> Result<bool, Fail> {
     let heap = RefusingHeap::refusing_nth(alloc, n);
     let (status, text) = printed(&heap, alloc, SITE, Some(PEER), MOVES.0)?;
-    holds_at(rt, MOVES.1.starts_with(text.as_str()), (n, text.as_str()));
-    match status {
-        Ok(Status::Done) => equals_at(rt, text.as_str(), MOVES.1, n),
-        Err(LabFault::NoMemory) => holds_at(rt, heap.was_refused(), n),
-        _ => holds_at(rt, false, (n, text.as_str())),
-    }
+    is_whole_or_cut(rt, &heap, (status, text.as_str()), MOVES.1, n);
     Ok(!heap.was_refused())
 }
 

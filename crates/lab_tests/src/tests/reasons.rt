@@ -1,4 +1,4 @@
-use super::{SITE, equals, equals_at, holds_at};
+use super::{SITE, ends_saying, equals, equals_at, holds_at};
 use lab::files::run_files;
 use lab::run::Status;
 use lab::site_files::SitePaths;
@@ -235,10 +235,8 @@ fn says(
         &mut out,
         &mut errors,
     );
-    equals_at(rt, ended, Ok(Status::Refused), said);
-    equals(rt, str::from_utf8(&out)?, printed);
-    equals(rt, str::from_utf8(&errors)?, said);
-    Ok(())
+    let texts = (out.as_slice(), errors.as_slice());
+    ends_saying(rt, ended, texts, (Ok(Status::Refused), printed, said), said)
 }
 
 /// Texts that are no TOML, and the line and column where that shows: a byte order mark is passed over.
@@ -252,16 +250,35 @@ const NO_TOML: &[(&str, &str)] = &[
 const AWAITED: &str =
     "invalid value, expected a string, number, boolean, date-time, array or inline table";
 
+/// Asserts that this line is said of a site.
+fn says_line(
+    rt: &(impl Files + AllocGlobal + Abort),
+    site: &str,
+    printed: &str,
+    line: &str,
+) -> Result<(), Fail> {
+    let said = format!(in rt.alloc(); "refused.toml: {line}\n")?;
+    says(rt, site, printed, &said)
+}
+
+/// Asserts that at a place of a text which is no TOML something else is awaited.
+fn says_awaited(
+    rt: &(impl Files + AllocGlobal + Abort),
+    site: &str,
+    place: &str,
+) -> Result<(), Fail> {
+    let said = format!(in rt.alloc(); "refused.toml:{place}: {AWAITED}\n")?;
+    says(rt, site, "site 1\n", &said)
+}
+
 #[test]
 fn a_refused_site_is_explained_in_one_line(rt: HostRuntime) -> Result<(), Fail> {
     for (old, new, printed, line) in REASONS {
-        let site = changed(rt.alloc(), SITE, *old, *new)?;
-        let said = format!(in rt.alloc(); "refused.toml: {line}\n")?;
-        says(&rt, &site.expect(&rt, *old), *printed, &said)?;
+        let site = changed(rt.alloc(), SITE, *old, *new)?.expect(&rt, *old);
+        says_line(&rt, &site, *printed, *line)?;
     }
     for (site, place) in NO_TOML {
-        let said = format!(in rt.alloc(); "refused.toml:{place}: {AWAITED}\n")?;
-        says(&rt, *site, "site 1\n", &said)?;
+        says_awaited(&rt, *site, *place)?;
     }
     fs::remove_file(&rt, REFUSED_FILE)?;
     Ok(())

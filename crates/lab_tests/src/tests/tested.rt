@@ -1,7 +1,10 @@
 //! Scripts that test themselves, and that are recorded.
 use super::failing::Failing;
 use super::peer::PEER;
-use super::{SITE, ends_so, equals, equals_at, holds_at, write_files};
+use super::{
+    SITE, ends_beginning, ends_saying, ends_so, equals, equals_at, holds_at, is_whole_or_cut,
+    write_files,
+};
 use lab::recorded::record_run;
 use lab::run::{LabFault, Status};
 use lab::script_files::{record_file, test_files};
@@ -357,17 +360,7 @@ fn works_without(rt: &impl Abort, alloc: Global, n: u64, is_test: bool) -> Resul
         recorded(&heap, alloc, None, SCRIPT)?
     };
     let wanted = if is_test { "ok 1 - script\n" } else { RECORD };
-    match status {
-        Ok(Status::Done) => equals_at(rt, text.as_str(), wanted, n),
-        Err(LabFault::NoMemory) => {
-            holds_at(
-                rt,
-                heap.was_refused() && wanted.starts_with(text.as_str()),
-                (n, text.as_str()),
-            )
-        }
-        _ => holds_at(rt, false, (n, text.as_str())),
-    }
+    is_whole_or_cut(rt, &heap, (status, text.as_str()), wanted, n);
     Ok(!heap.was_refused())
 }
 
@@ -467,19 +460,9 @@ fn files_end(
     let mut out = Vec::new(rt.alloc());
     let mut errors = Vec::new(rt.alloc());
     let ended = test_files(rt, paths, scripts, &mut out, &mut errors);
-    ends_so(
-        rt,
-        (ended, str::from_utf8(&out)?),
-        (wanted.0, wanted.1),
-        wanted.2,
-    );
-    let said = str::from_utf8(&errors)?;
-    holds_at(
-        rt,
-        said.starts_with(wanted.2) && said.is_empty() == wanted.2.is_empty(),
-        said,
-    );
-    Ok(())
+    let texts = (out.as_slice(), errors.as_slice());
+    let wanted = (Ok(wanted.0), wanted.1, wanted.2);
+    ends_beginning(rt, ended, texts, wanted, wanted.2)
 }
 
 /// The sites that are there.
@@ -546,13 +529,8 @@ fn a_file_is_recorded(rt: &(impl Files + AllocGlobal + Abort)) -> Result<(), Fai
     let mut out = Vec::new(rt.alloc());
     let mut errors = Vec::new(rt.alloc());
     let ended = record_file(rt, PATHS, "tested_met.txt", &mut out, &mut errors);
-    ends_so(
-        rt,
-        (ended, str::from_utf8(&out)?),
-        (Status::Done, RECORD),
-        "a file",
-    );
-    Ok(())
+    let texts = (out.as_slice(), errors.as_slice());
+    ends_saying(rt, ended, texts, (Ok(Status::Done), RECORD, ""), "a file")
 }
 
 #[test]

@@ -84,6 +84,23 @@ fn ended<R: Files + AllocGlobal>(
     }
 }
 
+/// Behind the name of the file and a colon this line is said.
+fn is_said(rt: &impl Abort, said: &str, line: &str) {
+    let behind = said
+        .strip_prefix(SHOWN_FILE)
+        .and_then(|rest| rest.strip_prefix(":"))
+        .and_then(|rest| rest.strip_suffix('\n'));
+    equals(rt, behind, Some(line));
+}
+
+/// This was printed, but by a test, which says that the script isn't right.
+fn is_printed(rt: &impl Abort, command: Command, found: &str, printed: &str) {
+    match command {
+        Command::Run | Command::Record => equals(rt, found, printed),
+        Command::Test => holds(rt, found.starts_with("1..1\nnot ok 1 - ")),
+    }
+}
+
 /// Asserts that a command refuses the script, what it prints but of a test, and what it says.
 fn says(
     rt: &(impl Files + AllocGlobal + Abort),
@@ -95,12 +112,8 @@ fn says(
     let mut errors = Vec::new(rt.alloc());
     let status = ended(rt, command, &mut out, &mut errors);
     equals_at(rt, status, Ok(Status::Refused), line);
-    let wanted = format!(in rt.alloc(); "{SHOWN_FILE}:{line}\n")?;
-    equals(rt, str::from_utf8(&errors)?, wanted.as_str());
-    match command {
-        Command::Run | Command::Record => equals(rt, str::from_utf8(&out)?, printed),
-        Command::Test => holds(rt, out.starts_with(b"1..1\nnot ok 1 - ")),
-    }
+    is_said(rt, str::from_utf8(&errors)?, line);
+    is_printed(rt, command, str::from_utf8(&out)?, printed);
     Ok(())
 }
 

@@ -1,5 +1,5 @@
 //! Why nothing is taken out of a trace, for a person.
-use super::{SITE, ends_so, equals};
+use super::{SITE, equals, equals_at};
 use lab::files::rewind_files;
 use lab::run::Status;
 use std::process::Abort;
@@ -94,6 +94,11 @@ const TRACE_FILE: &str = "unwound\t.trace";
 
 const SHOWN_FILE: &str = "unwound\\t.trace";
 
+/// Behind the name of the file this is said.
+fn is_said(rt: &impl Abort, said: &str, wanted: &str) {
+    equals(rt, said.strip_prefix(SHOWN_FILE), Some(wanted));
+}
+
 /// Asserts that nothing is taken out of a trace, what is printed, and what is said.
 fn says(
     rt: &(impl Files + AllocGlobal + Abort),
@@ -106,14 +111,9 @@ fn says(
     let mut out = Vec::new(rt.alloc());
     let mut errors = Vec::new(rt.alloc());
     let ended = rewind_files(rt, SITE_FILE, TRACE_FILE, line, &mut out, &mut errors);
-    ends_so(
-        rt,
-        (ended, str::from_utf8(&out)?),
-        (Status::Refused, printed),
-        said,
-    );
-    let wanted = format!(in rt.alloc(); "{SHOWN_FILE}{said}")?;
-    equals(rt, str::from_utf8(&errors)?, wanted.as_str());
+    let printed = (Ok(Status::Refused), printed);
+    equals_at(rt, (ended, str::from_utf8(&out)?), printed, said);
+    is_said(rt, str::from_utf8(&errors)?, said);
     Ok(())
 }
 

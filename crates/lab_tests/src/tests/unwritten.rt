@@ -1,4 +1,6 @@
-use super::{ONE_CALL, SITE, equals, equals_at, holds, holds_at, remove_files, write_files};
+use super::{
+    ONE_CALL, SITE, ends_beginning, equals, equals_at, holds, holds_at, remove_files, write_files,
+};
 use lab::files::run_files;
 use lab::run::{LabFault, exit_status};
 use lab::site_files::SitePaths;
@@ -30,6 +32,12 @@ struct Named<'a> {
     chart: &'a str,
 }
 
+/// One line says that there is no space.
+fn has_no_space(rt: &impl Abort, said: &str) {
+    holds_at(rt, said.starts_with("/dev/full: no space left"), said);
+    equals_at(rt, said.lines().count(), 1, said);
+}
+
 /// A run whose capture and chart go to these files, one of which has no room: the trace is printed to its end, and what
 /// is said names that file.
 fn says_why(
@@ -50,13 +58,11 @@ fn says_why(
     let mut out = Vec::new(rt.alloc());
     let mut errors = Vec::new(rt.alloc());
     let ended = run_files(rt, paths, named.script, &views, &mut out, &mut errors);
-    equals(rt, ended, Err(LabFault::Write));
     equals(rt, exit_status(ended), 2);
-    equals(rt, str::from_utf8(&out)?, trace);
-    let said = str::from_utf8(&errors)?;
-    holds_at(rt, said.starts_with("/dev/full: no space left"), said);
-    equals_at(rt, said.lines().count(), 1, said);
-    Ok(())
+    has_no_space(rt, str::from_utf8(&errors)?);
+    let texts = (out.as_slice(), errors.as_slice());
+    let wanted = (Err(LabFault::Write), trace, "/dev/full: no space left");
+    ends_beginning(rt, ended, texts, wanted, named.pcap)
 }
 
 /// The chart is written all the same where the capture has no room.

@@ -1,5 +1,7 @@
 use super::failing::Failing;
-use super::{ONE_CALL, SITE, ends_so, equals, equals_at, holds, remove_files, write_files};
+use super::{
+    ONE_CALL, SITE, ends_saying, equals, equals_at, holds, remove_files, write_files,
+};
 use lab::files::run_files;
 use lab::run::{LabFault, Status};
 use lab::site_files::SitePaths;
@@ -79,14 +81,14 @@ fn prints_words(rt: &(impl Files + AllocGlobal + Abort)) -> Result<(), Fail> {
     let mut out = Vec::new(rt.alloc());
     let mut errors = Vec::new(rt.alloc());
     let ended = run_files(rt, PATHS, SCRIPT_FILE, &ALL, &mut out, &mut errors);
-    ends_so(
+    let texts = (out.as_slice(), errors.as_slice());
+    ends_saying(
         rt,
-        (ended, str::from_utf8(&out)?),
-        (Status::Done, WORDED),
+        ended,
+        texts,
+        (Ok(Status::Done), WORDED, ""),
         SCRIPT_FILE,
-    );
-    holds(rt, errors.is_empty());
-    Ok(())
+    )
 }
 
 /// A write that fails ends the run behind its first message: the files have what came up to there all the same.
@@ -170,8 +172,8 @@ const REFUSED: &[(&str, &str)] = &[
     ("kept.svg", "an old chart"),
 ];
 
-/// A run with these views is refused, and no file is another than it was.
-fn keeps_all(
+/// A run with these views is refused.
+fn is_refused(
     rt: &(impl Files + AllocGlobal + Abort),
     views: &Views<'_>,
     text: &str,
@@ -184,20 +186,21 @@ fn keeps_all(
     let mut out = Vec::new(rt.alloc());
     let mut errors = Vec::new(rt.alloc());
     let ended = run_files(rt, paths, "kept.txt", views, &mut out, &mut errors);
-    ends_so(
-        rt,
-        (ended, str::from_utf8(&out)?),
-        (Status::Refused, text),
-        said,
-    );
-    equals(rt, str::from_utf8(&errors)?, said);
-    stay(rt)
+    let texts = (out.as_slice(), errors.as_slice());
+    ends_saying(rt, ended, texts, (Ok(Status::Refused), text, said), said)
+}
+
+/// What stands in a file is what stood there before.
+fn stays(rt: &(impl Files + AllocGlobal + Abort), path: &str, old: &str) -> Result<(), Fail> {
+    let text = fs::read_to_string(rt, path)?;
+    equals_at(rt, text.as_str(), old, path);
+    Ok(())
 }
 
 /// What stands in the files is what stood there before.
 fn stay(rt: &(impl Files + AllocGlobal + Abort)) -> Result<(), Fail> {
     for (path, old) in REFUSED {
-        equals_at(rt, fs::read_to_string(rt, *path)?.as_str(), *old, path);
+        stays(rt, *path, *old)?;
     }
     Ok(())
 }
@@ -213,7 +216,7 @@ fn says_nothing(rt: &(impl Files + AllocGlobal + Abort)) -> Result<(), Fail> {
     let mut errors = Vec::new(rt.alloc());
     let ended = run_files(rt, paths, "kept.txt", &views, &mut out, &mut errors);
     equals(rt, ended, Err(LabFault::Write));
-    stay(rt)
+    Ok(())
 }
 
 /// A view that is the peer's site, under another path, is refused.
@@ -226,9 +229,15 @@ fn names_its_peer(rt: &(impl Files + AllocGlobal + Abort)) -> Result<(), Fail> {
     let mut out = Vec::new(rt.alloc());
     let mut errors = Vec::new(rt.alloc());
     let ended = run_files(rt, paths, "kept.txt", &views, &mut out, &mut errors);
-    equals(rt, ended, Ok(Status::Refused));
-    equals(rt, str::from_utf8(&errors)?, "./kept.toml: named twice\n");
-    stay(rt)
+    let texts = (out.as_slice(), errors.as_slice());
+    let (printed, said) = ("file ./kept.toml\n", "./kept.toml: named twice\n");
+    ends_saying(
+        rt,
+        ended,
+        texts,
+        (Ok(Status::Refused), printed, said),
+        "a peer",
+    )
 }
 
 #[test]
@@ -236,10 +245,12 @@ fn a_run_that_is_refused_changes_no_file(rt: HostRuntime) -> Result<(), Fail> {
     write_files(&rt, REFUSED)?;
     symlink(&rt, "kept.toml", "kept.link")?;
     for (pcap, chart, text, said) in KEPT {
-        keeps_all(&rt, &views_at(*pcap, *chart), *text, *said)?;
+        is_refused(&rt, &views_at(*pcap, *chart), *text, *said)?;
+        stay(&rt)?;
     }
     says_nothing(&rt)?;
     names_its_peer(&rt)?;
+    stay(&rt)?;
     remove_files(
         &rt,
         &[

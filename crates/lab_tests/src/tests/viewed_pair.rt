@@ -1,5 +1,5 @@
 use super::peer::PEER;
-use super::{SITE, ends_so, equals, equals_at, holds, holds_at, remove_files, write_files};
+use super::{SITE, ends_saying, equals, equals_at, holds_at, remove_files, write_files};
 use lab::files::run_files;
 use lab::run::Status;
 use lab::site_files::SitePaths;
@@ -85,14 +85,14 @@ fn prints_words(rt: &(impl Files + AllocGlobal + Abort)) -> Result<(), Fail> {
     let mut out = Vec::new(rt.alloc());
     let mut errors = Vec::new(rt.alloc());
     let ended = run_files(rt, PATHS, SCRIPT_FILE, &ALL, &mut out, &mut errors);
-    ends_so(
+    let texts = (out.as_slice(), errors.as_slice());
+    ends_saying(
         rt,
-        (ended, str::from_utf8(&out)?),
-        (Status::Done, WORDED),
+        ended,
+        texts,
+        (Ok(Status::Done), WORDED, ""),
         SCRIPT_FILE,
-    );
-    holds(rt, errors.is_empty());
-    Ok(())
+    )
 }
 
 /// The chart has the messages, and lanes of both controllers.

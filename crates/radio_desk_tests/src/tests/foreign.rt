@@ -2,7 +2,7 @@
 use super::{
     Activate, Ask, Clear, Command, Complete, Confirm, Desk, DeskFault, Detect, Event, HOME, Judge,
     JudgeReserve, JudgeTake, Kind, Left, Look, OTHER, Open, Order, Owner, Refuse, Released,
-    Require, Reserve, Seat, TARGET, Take, Timer, Undo, Why, desk_of, equals, equals_at, put,
+    Require, Reserve, Seat, TARGET, Take, Timer, Undo, Why, at_a_new_desk, equals, equals_at, put,
 };
 use std::alloc::Global;
 use std::process::Abort;
@@ -80,6 +80,17 @@ fn comes_to(
     Ok(desk.judge(seat, Look(9)).map(|receipt| receipt.place))
 }
 
+// Comes with the receipt of one event to a desk at which another was judged.
+fn comes_after(
+    alloc: Global,
+    opening: &Desk<Global>,
+    event: Event,
+    judged: Event,
+) -> Result<Result<usize, DeskFault>, Fail> {
+    let mut seat = seat_after(opening, alloc, &[event])?;
+    comes_to(&mut copy_of(opening, alloc)?, &mut seat, judged)
+}
+
 // Comes with the receipt of an event to desks at which each of the events was judged.
 fn comes_to_each(
     rt: &(impl AllocGlobal + Abort),
@@ -87,8 +98,7 @@ fn comes_to_each(
     event: Event,
 ) -> Result<(), Fail> {
     for judged in &EVENTS {
-        let mut seat = seat_after(opening, rt.alloc(), &[event])?;
-        let answer = comes_to(&mut copy_of(opening, rt.alloc())?, &mut seat, *judged)?;
+        let answer = comes_after(rt.alloc(), opening, event, *judged)?;
         let expected = if *judged == event {
             Ok(1)
         } else {
@@ -108,7 +118,7 @@ fn each_comes_to_each(rt: &(impl AllocGlobal + Abort), opening: &Desk<Global>) -
 
 #[test]
 fn an_entry_is_told_from_every_other(rt: HostRuntime) -> Result<(), Fail> {
-    each_comes_to_each(&rt, &desk_of(rt.alloc(), rt.alloc())?)
+    at_a_new_desk(&rt, |rt, opening| each_comes_to_each(rt, opening))
 }
 
 // Two courses that end with the same event, which gets another answer in each.
@@ -205,17 +215,20 @@ fn are_told_apart(rt: &(impl AllocGlobal + Abort), opening: &Desk<Global>) -> Re
 
 #[test]
 fn another_reply_to_the_same_event_is_foreign(rt: HostRuntime) -> Result<(), Fail> {
-    are_told_apart(&rt, &desk_of(rt.alloc(), rt.alloc())?)
+    at_a_new_desk(&rt, |rt, opening| are_told_apart(rt, opening))
 }
 
 #[test]
 fn a_receipt_of_a_place_past_the_end_is_foreign(rt: HostRuntime) -> Result<(), Fail> {
-    let opening = desk_of(rt.alloc(), rt.alloc())?;
-    is_told_apart(&rt, &opening, &[Look(1), Look(1)], &[Look(1)])
+    at_a_new_desk(&rt, |rt, opening| {
+        is_told_apart(rt, opening, &[Look(1), Look(1)], &[Look(1)])
+    })
 }
 
 #[test]
 fn a_receipt_is_foreign_at_a_new_desk(rt: HostRuntime) -> Result<(), Fail> {
-    let opening = desk_of(rt.alloc(), rt.alloc())?;
-    is_told_apart(&rt, &opening, &[Look(1)], &[])
+    at_a_new_desk(
+        &rt,
+        |rt, opening| is_told_apart(rt, opening, &[Look(1)], &[]),
+    )
 }

@@ -1,5 +1,8 @@
 use super::{ALONE, equals, equals_at, holds, holds_at};
-use run_views::{Viewer, Views, open_sheets};
+use run_views::{Sheets, Viewer, Views, WordsFault, open_sheets};
+use std::alloc::Global;
+use std::fs::OpenFile;
+use std::io::Write;
 use std::process::Abort;
 use std::rt::Files;
 use std::test::Fail;
@@ -58,20 +61,39 @@ fn views_at<'a>(paths: (&'a str, &'a str)) -> Views<'a> {
     }
 }
 
+/// Whether the files of these paths are open.
+fn are_open(
+    rt: &(impl Files + AllocGlobal),
+    paths: (&str, &str),
+    out: &mut Vec<u8>,
+    errors: &mut Vec<u8>,
+) -> Result<bool, Fail> {
+    Ok(open_sheets(rt, &views_at(paths), out, errors)?.is_some())
+}
+
+/// This was printed, and that was said: nothing where the files are open.
+fn are_said(
+    rt: &impl Abort,
+    is_open: bool,
+    (out, errors): (&[u8], &[u8]),
+    texts: (&str, &str),
+) -> Result<(), Fail> {
+    let (printed, said) = (str::from_utf8(out)?, str::from_utf8(errors)?);
+    equals(rt, (printed, said), texts);
+    equals_at(rt, is_open, texts.0.is_empty(), printed);
+    Ok(())
+}
+
 /// Opens the files of these paths: what is printed and what is said then.
 fn open_them(
     rt: &(impl Files + AllocGlobal + Abort),
     paths: (&str, &str),
     texts: (&str, &str),
 ) -> Result<(), Fail> {
-    let views = views_at(paths);
     let mut out = Vec::new(rt.alloc());
     let mut errors = Vec::new(rt.alloc());
-    let is_open = open_sheets(rt, &views, &mut out, &mut errors)?.is_some();
-    let (printed, said) = (str::from_utf8(&out)?, str::from_utf8(&errors)?);
-    equals(rt, (printed, said), texts);
-    equals_at(rt, is_open, texts.0.is_empty(), printed);
-    Ok(())
+    let is_open = are_open(rt, paths, &mut out, &mut errors)?;
+    are_said(rt, is_open, (out.as_slice(), errors.as_slice()), texts)
 }
 
 /// Writes what stood in both files before.
@@ -88,25 +110,54 @@ fn remove_both(rt: &impl Files) -> Result<(), Fail> {
     Ok(())
 }
 
-/// No file is emptied when it is opened, and both are when they are written: a capture without packets has 24 octets.
-fn opens_and_writes(rt: &(impl Files + AllocGlobal + Abort)) -> Result<(), Fail> {
-    let alloc = rt.alloc();
+/// This file is as it was.
+fn is_old(
+    rt: &(impl Files + AllocGlobal + Abort),
+    path: &str,
+    paths: (&str, &str),
+) -> Result<(), Fail> {
+    let text = fs::read_to_string(rt, path)?;
+    equals_at(rt, text.as_str(), OLD, paths);
+    Ok(())
+}
+
+/// No file is emptied when it is opened.
+fn opens_each(rt: &(impl Files + AllocGlobal + Abort)) -> Result<(), Fail> {
     for (paths, texts) in OPENED {
         open_them(rt, *paths, *texts)?;
-        equals_at(rt, fs::read_to_string(rt, PCAP)?.as_str(), OLD, paths);
-        equals_at(rt, fs::read_to_string(rt, CHART)?.as_str(), OLD, paths);
+        is_old(rt, PCAP, *paths)?;
+        is_old(rt, CHART, *paths)?;
     }
-    fs::write(rt, CHART, OLD.repeat(alloc, LONGER)?.as_str())?;
+    Ok(())
+}
+
+/// Writes a capture and a chart of no run to files that are open.
+fn write_sheets<F: Write + OpenFile + Drop>(
+    alloc: Global,
+    sheets: Sheets<'_, F>,
+    out: &mut Vec<u8>,
+    errors: &mut Vec<u8>,
+) -> Result<(), WordsFault> {
     let views = views_at((PCAP, CHART));
-    let mut out = Vec::new(alloc);
-    let mut errors = Vec::new(alloc);
-    let Some(sheets) = open_sheets(rt, &views, &mut out, &mut errors)? else {
+    let viewer = Viewer::new(alloc, alloc, &views, ALONE, out)?;
+    sheets.finish(&viewer, errors)
+}
+
+/// Opens both files, and writes them.
+fn open_and_write(
+    rt: &(impl Files + AllocGlobal + Abort),
+    out: &mut Vec<u8>,
+    errors: &mut Vec<u8>,
+) -> Result<(), Fail> {
+    let Some(sheets) = open_sheets(rt, &views_at((PCAP, CHART)), out, errors)? else {
         holds_at(rt, false, "files are open");
         return Ok(());
     };
-    let viewer = Viewer::new(alloc, alloc, &views, ALONE, &mut out)?;
-    sheets.finish(&viewer, &mut errors)?;
-    equals(rt, fs::read(rt, PCAP)?.len(), 24);
+    Ok(write_sheets(rt.alloc(), sheets, out, errors)?)
+}
+
+/// The chart is whole: nothing is left of the longer text that stood there.
+fn is_chart(rt: &(impl Files + AllocGlobal + Abort)) -> Result<(), Fail> {
     let chart = fs::read_to_string(rt, CHART)?;
     holds_at(
         rt,
@@ -116,10 +167,19 @@ fn opens_and_writes(rt: &(impl Files + AllocGlobal + Abort)) -> Result<(), Fail>
     Ok(())
 }
 
+/// Both files are emptied when they are written: a capture without packets has 24 octets.
+fn writes_both(rt: &(impl Files + AllocGlobal + Abort)) -> Result<(), Fail> {
+    fs::write(rt, CHART, OLD.repeat(rt.alloc(), LONGER)?.as_str())?;
+    open_and_write(rt, &mut Vec::new(rt.alloc()), &mut Vec::new(rt.alloc()))?;
+    equals(rt, fs::read(rt, PCAP)?.len(), 24);
+    is_chart(rt)
+}
+
 #[test]
 fn no_file_is_emptied_before_it_is_written(rt: HostRuntime) -> Result<(), Fail> {
     write_old(&rt)?;
-    opens_and_writes(&rt)?;
+    opens_each(&rt)?;
+    writes_both(&rt)?;
     remove_both(&rt)
 }
 

@@ -1,6 +1,6 @@
-use super::{ALONE, equals, equals_at, holds_at, printed, write_in_pieces};
+use super::{ALONE, equals, equals_at, holds_at, printed, show};
 use refusing_heap::RefusingHeap;
-use run_views::{Viewer, Views, WordsFault};
+use run_views::{Views, WordsFault};
 use std::alloc::{AllocError, Global};
 use std::process::Abort;
 use std::str;
@@ -78,16 +78,32 @@ fn without_words(alloc: Global, text: &str) -> Result<String, AllocError> {
     Ok(plain)
 }
 
+/// What is printed of a trace that is written in pieces of so many octets is this.
+fn is_printed(
+    rt: &(impl AllocGlobal + Abort),
+    views: &Views<'_>,
+    trace: &str,
+    len: usize,
+    wanted: &str,
+) -> Result<(), Fail> {
+    let text = printed(rt.alloc(), views, ALONE, trace, len)?;
+    equals(rt, text.as_str(), wanted);
+    Ok(())
+}
+
+/// These words stand behind the lines, whichever pieces they are written in, and none where none are asked for.
+fn stand_behind_each_line(rt: &(impl AllocGlobal + Abort), wanted: &str) -> Result<(), Fail> {
+    let trace = without_words(rt.alloc(), wanted)?;
+    for len in [1, 7, 10_000] {
+        is_printed(rt, &WORDS, &trace, len, wanted)?;
+    }
+    is_printed(rt, &Views::plain(), &trace, 64, &trace)
+}
+
 #[test]
 fn words_stand_behind_each_line(rt: HostRuntime) -> Result<(), Fail> {
     for wanted in TRACES {
-        let trace = without_words(rt.alloc(), *wanted)?;
-        for len in [1, 7, 10_000] {
-            let text = printed(rt.alloc(), &WORDS, ALONE, &trace, len)?;
-            equals(&rt, text.as_str(), *wanted);
-        }
-        let plain = printed(rt.alloc(), &Views::plain(), ALONE, &trace, 64)?;
-        equals(&rt, plain.as_str(), trace.as_str());
+        stand_behind_each_line(&rt, *wanted)?;
     }
     Ok(())
 }
@@ -103,14 +119,24 @@ const TOO_LONG: &[(&str, &str)] = &[
     ("082208123401", "fault abis 6 # no call;"),
 ];
 
+/// A trace of these octets and zeros, which are too long.
+fn trace_of_too_long(alloc: Global, front: &str) -> Result<String, Fail> {
+    let opened = "in open 1 0 0 3\nevent open 1 0/0/3 -> done\n";
+    let zeros = "00".repeat(alloc, 1_021)?;
+    Ok(format!(in alloc; "{opened}in abis 0 0 {front}{zeros}\nfault abis 6\n")?)
+}
+
+/// The words behind the fault of a trace begin so.
+fn are_about(rt: &(impl AllocGlobal + Abort), trace: &str, fault: &str) -> Result<(), Fail> {
+    let text = printed(rt.alloc(), &WORDS, ALONE, trace, 10_000)?;
+    holds_at(rt, text.as_str().contains(fault), text.as_str());
+    Ok(())
+}
+
 #[test]
 fn octets_that_are_too_long_are_about_their_channel(rt: HostRuntime) -> Result<(), Fail> {
-    let opened = "in open 1 0 0 3\nevent open 1 0/0/3 -> done\n";
     for (front, fault) in TOO_LONG {
-        let zeros = "00".repeat(rt.alloc(), 1_021)?;
-        let trace = format!(in rt.alloc(); "{opened}in abis 0 0 {front}{zeros}\nfault abis 6\n")?;
-        let text = printed(rt.alloc(), &WORDS, ALONE, &trace, 10_000)?;
-        holds_at(&rt, text.as_str().contains(*fault), text.as_str());
+        are_about(&rt, &trace_of_too_long(rt.alloc(), front)?, fault)?;
     }
     Ok(())
 }
@@ -120,22 +146,44 @@ fn first_trace() -> &'static str {
     TRACES.first().copied().unwrap_or("")
 }
 
-/// Whether the first trace is printed whole where the nth request for memory is refused; a front of it is, if not.
-fn is_whole(rt: &(impl AllocGlobal + Abort), n: u64, trace: &str) -> Result<bool, Fail> {
+/// A run has printed the first trace whole; where memory was refused it has ended so, and printed a front of it. Whether
+/// none was refused.
+fn is_whole_or_cut(
+    rt: &impl Abort,
+    heap: &RefusingHeap,
+    ended: Result<(), WordsFault>,
+    text: &str,
+    n: u64,
+) -> bool {
     let wanted = first_trace();
-    let heap = RefusingHeap::refusing_nth(rt.alloc(), n);
-    let mut out = Vec::new(rt.alloc());
-    let mut viewer = Viewer::new(&heap, rt.alloc(), &WORDS, ALONE, &mut out)?;
-    let ended = write_in_pieces(&mut viewer, trace, 16);
-    drop(viewer);
-    let text = str::from_utf8(&out)?;
     holds_at(rt, wanted.starts_with(text), (n, text));
-    if heap.was_refused() {
-        equals_at(rt, ended, Err(WordsFault::NoMemory), n);
-        return Ok(false);
-    }
-    holds_at(rt, ended.is_ok() && text == wanted, n);
-    Ok(true)
+    let is_refused = heap.was_refused();
+    let fault = is_refused.then_some(WordsFault::NoMemory);
+    equals_at(
+        rt,
+        (ended.err(), is_refused || text == wanted),
+        (fault, true),
+        n,
+    );
+    !is_refused
+}
+
+/// Whether the first trace is printed whole by a heap; a front of it is, if not.
+fn is_whole_of(
+    rt: &(impl AllocGlobal + Abort),
+    heap: &RefusingHeap,
+    n: u64,
+    trace: &str,
+) -> Result<bool, Fail> {
+    let mut out = Vec::new(rt.alloc());
+    let ended = show(heap, rt.alloc(), &WORDS, ALONE, trace, 16, &mut out);
+    Ok(is_whole_or_cut(rt, heap, ended, str::from_utf8(&out)?, n))
+}
+
+/// The same where the nth request for memory is refused.
+fn is_whole(rt: &(impl AllocGlobal + Abort), n: u64, trace: &str) -> Result<bool, Fail> {
+    let heap = RefusingHeap::refusing_nth(rt.alloc(), n);
+    is_whole_of(rt, &heap, n, trace)
 }
 
 #[test]
