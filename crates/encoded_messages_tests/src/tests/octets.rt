@@ -1,7 +1,9 @@
 //! What is read and printed is written as it was, and what is written is read as the text.
 use super::{Link, encoded};
+use bssmap_messages::Bssmap;
 use encoded_messages::MessageFault;
 use refusing_heap::RefusingHeap;
+use rsl_messages::Rsl;
 use std::alloc::Global;
 use std::process::Abort;
 use std::test::Fail;
@@ -26,33 +28,41 @@ fn printed_rr(alloc: Global, octets: &[u8]) -> Result<Option<Printed>, Fail> {
     }))
 }
 
+/// The canonical octets of a message on A, if it has any.
+fn canonical_a(alloc: Global, message: &Bssmap<Global>) -> Result<Option<Vec<u8>>, Fail> {
+    if bssmap_messages::fits(message) {
+        Ok(Some(bssmap_messages::encode(alloc, message)?))
+    } else {
+        Ok(None)
+    }
+}
+
 fn printed_a(alloc: Global, octets: &[u8]) -> Result<Option<Printed>, Fail> {
     let Ok(message) = bssmap_messages::decode(alloc, octets) else {
         return Ok(None);
     };
-    let canonical = if bssmap_messages::fits(&message) {
-        Some(bssmap_messages::encode(alloc, &message)?)
-    } else {
-        None
-    };
     Ok(Some(Printed {
         text: BssmapText(&message).to_string(alloc)?,
-        canonical,
+        canonical: canonical_a(alloc, &message)?,
     }))
+}
+
+/// The canonical octets of a message on Abis, if it has any.
+fn canonical_abis(alloc: Global, message: &Rsl<Global>) -> Result<Option<Vec<u8>>, Fail> {
+    if rsl_messages::fits(message) {
+        Ok(Some(rsl_messages::encode(alloc, message)?))
+    } else {
+        Ok(None)
+    }
 }
 
 fn printed_abis(alloc: Global, octets: &[u8]) -> Result<Option<Printed>, Fail> {
     let Ok(message) = rsl_messages::decode(alloc, octets) else {
         return Ok(None);
     };
-    let canonical = if rsl_messages::fits(&message) {
-        Some(rsl_messages::encode(alloc, &message)?)
-    } else {
-        None
-    };
     Ok(Some(Printed {
         text: AbisText(&message).to_string(alloc)?,
-        canonical,
+        canonical: canonical_abis(alloc, &message)?,
     }))
 }
 
@@ -162,31 +172,41 @@ fn written_of(alloc: Global, link: Link, text: &str) -> Option<Vec<u8>> {
     encoded(alloc, link, text).ok()
 }
 
-/// What was printed of octets is written as the canonical octets of their message, which are printed as it was; and is
-/// refused where there are none.
+/// These octets are printed with this text.
+fn is_printed(
+    rt: &impl Abort,
+    alloc: Global,
+    link: Link,
+    octets: &[u8],
+    text: &str,
+) -> Result<(), Fail> {
+    let again = print_message(alloc, link, octets)?;
+    let is_same = again.is_some_and(|again| again.text.as_str() == text);
+    assert!(rt; is_same, "{text}");
+    Ok(())
+}
+
+/// What was printed is written as the canonical octets, which are printed as it was; it is refused where there are none.
+fn is_written(
+    rt: &impl Abort,
+    alloc: Global,
+    link: Link,
+    text: &str,
+    canonical: Option<&[u8]>,
+) -> Result<(), Fail> {
+    let written = written_of(alloc, link, text);
+    assert!(rt; written.as_deref() == canonical, "{text}");
+    match canonical {
+        Some(octets) => is_printed(rt, alloc, link, octets, text),
+        None => Ok(()),
+    }
+}
+
+/// Octets are a message, and what is printed of it is written as its canonical octets.
 fn comes_back(rt: &impl Abort, alloc: Global, link: Link, hex: &str) -> Result<(), Fail> {
     let octets = hex::decode(alloc, hex)?;
-    let Some(said) = print_message(alloc, link, &octets)? else {
-        assert!(rt; false, "{hex}");
-        return Ok(());
-    };
-    let text = said.text.as_str();
-    let written = written_of(alloc, link, text);
-    let Some(canonical) = &said.canonical else {
-        assert!(rt; written.is_none(), "{text}");
-        return Ok(());
-    };
-    let Some(written) = written else {
-        assert!(rt; false, "{text}");
-        return Ok(());
-    };
-    assert!(rt; written.as_slice() == canonical.as_slice(), "{text}");
-    let again = print_message(alloc, link, &written)?;
-    assert!(rt;
-        again.is_some_and(|again| again.text.as_str() == text),
-        "{text}"
-    );
-    Ok(())
+    let said = print_message(alloc, link, &octets)?.expect(rt, hex);
+    is_written(rt, alloc, link, &said.text, said.canonical.as_deref())
 }
 
 #[test]
@@ -332,24 +352,38 @@ const TEXTS: &[(Link, &str, &str)] = &[
     (Link::A, "CLEAR REQUEST cause=0", "000422040100"),
 ];
 
+/// The octets of a text are these, in hexadecimal.
+fn is_hex(
+    rt: &impl Abort,
+    alloc: Global,
+    octets: &[u8],
+    wanted: &str,
+    text: &str,
+) -> Result<(), Fail> {
+    let written = hex::encode(alloc, octets)?;
+    assert!(rt; written.as_str() == wanted, "{text}");
+    Ok(())
+}
+
+/// What is printed of these octets is written as they are.
+fn is_written_again(
+    rt: &impl Abort,
+    alloc: Global,
+    link: Link,
+    octets: &[u8],
+    text: &str,
+) -> Result<(), Fail> {
+    let said = print_message(alloc, link, octets)?.expect(rt, text);
+    let again = written_of(alloc, link, &said.text);
+    assert!(rt; again.as_deref() == Some(octets), "{text}");
+    Ok(())
+}
+
 /// A text says the message of these octets, which are printed as a text that says it too.
 fn says(rt: &impl Abort, alloc: Global, link: Link, text: &str, wanted: &str) -> Result<(), Fail> {
-    let Ok(octets) = encoded(alloc, link, text) else {
-        assert!(rt; false, "{text}");
-        return Ok(());
-    };
-    let written = hex::encode(alloc, octets.as_slice())?;
-    assert_eq!(rt; written.as_str(), wanted, "{text}");
-    let Some(said) = print_message(alloc, link, &octets)? else {
-        assert!(rt; false, "{text}");
-        return Ok(());
-    };
-    let Ok(again) = encoded(alloc, link, said.text.as_str()) else {
-        assert!(rt; false, "{text}");
-        return Ok(());
-    };
-    assert!(rt; again.as_slice() == octets.as_slice(), "{text}");
-    Ok(())
+    let octets = written_of(alloc, link, text).expect(rt, text);
+    is_hex(rt, alloc, &octets, wanted, text)?;
+    is_written_again(rt, alloc, link, &octets, text)
 }
 
 #[test]
