@@ -1,177 +1,92 @@
-//! Courses of events with their replies: asked one after another, and run as a list.
+//! Courses: events with their replies, asked one after another, and run as a list; and what is left of them without an
+//! attempt that is undone in them. They stand in a text, with a blank line between any two:
+//!
+//! | Lines of a course | What they say |
+//! |---|---|
+//! | `# NAME` | |
+//! | `EVENT -> REPLY` | what is asked, and answered |
+//! | `usage -> ..` | what the book holds in the end |
+//! | `without PLACE -> others .., settled .., held .., books .., replies ..` | what `rewind` gives for the attempt that opens at this place among the events, counted from 0: the places of the others, whether no release is awaited any more, the place of the first held refusal, whether the two books are equal, and whether the others got the same replies; or why it gives nothing |
+//! | `alone`, and lines | the others, and their replies without the attempt, where these differ |
+//! | `after that`, and lines | what the book without the attempt answers then |
+//! | `after all`, and lines | what the book after all events answers, where it differs |
+//!
+//! Any number of attempts may be taken out, each with its own lines.
+use super::asks::{are_replied, events_of, is_answered, play};
 use super::book_of;
-use channel_fsm::{ChanId, ChanState};
 use radio_book::book::Book;
-use radio_book::event::{Attempt, AttemptKind, CallRecord, Event, Refusal, Reply, Stage};
+use radio_book::event::{Event, Reply};
 use radio_book::rewind::{Rewound, rewind};
 use radio_book::run::run;
 use std::alloc::{AllocError, Allocator, Global};
+use std::fmt;
 use std::process::Abort;
 use std::test::Fail;
 
-// A reply; of a record, what it shows of a call.
-#[derive(Clone, Copy, Debug)]
-pub(super) enum Told {
-    Done,
-    Owned(u16),
-    Refused(Refusal),
-    // A call that rests on its channel, and one whose channel isn't active yet.
-    Rests(u16, ChanId),
-    Waits(u16, ChanId),
-    // A call that moves from its channel to a target.
-    Moves(u16, ChanId, Stage, ChanId, Option<u8>),
-    // A call that comes from another controller to a target.
-    Comes(Stage, ChanId, Option<u8>),
-    // A call that leaves its channel for another controller.
-    Leaves(u16, ChanId, Stage),
+#[derive(Clone, Copy)]
+pub(super) struct Course<'a> {
+    pub(super) name: &'a str,
+    pub(super) steps: &'a str,
+    // What the book holds in the end.
+    end: &'a str,
 }
 
-use Told::{Comes, Done, Leaves, Moves, Owned, Refused, Rests, Waits};
-
-// How many channels, calls, references and timers a book holds.
-type Held = (usize, usize, usize, usize);
-
-// What stays of a course without the attempt that opens at a place and is undone. No release of its target is awaited in
-// the end, and the books are the same; the replies to the others are where no refusal is held, and only there.
-pub(super) struct Without {
-    pub(super) at: usize,
-    pub(super) others: &'static [usize],
-    pub(super) held: Option<usize>,
+// What stands before and behind a mark; all and nothing where there is none.
+fn cut<'a>(text: &'a str, mark: &str) -> (&'a str, &'a str) {
+    text.split_once(mark).unwrap_or((text, ""))
 }
 
-// Events with their replies, from the book of a site after some others, and what it holds in the end.
-pub(super) struct Course {
-    pub(super) name: &'static str,
-    pub(super) site: &'static str,
-    pub(super) before: &'static [Event],
-    pub(super) steps: &'static [(Event, Told)],
-    pub(super) held: Held,
-    // The attempts that can be taken out.
-    pub(super) undone: &'static [Without],
+pub(super) fn course_of<'a>(rt: &impl Abort, text: &'a str) -> Course<'a> {
+    let (text, _) = cut(text, "\nwithout ");
+    let (steps, end) = text.rsplit_once('\n').expect(rt, text);
+    let (name, steps) = cut(steps, "\n");
+    Course { name, steps, end }
 }
 
-fn shows(serving: Option<ChanId>, state: Option<ChanState>, attempt: Option<Attempt>) -> Reply {
-    Reply::Record(CallRecord { serving, attempt }, state)
+// What is done with a course.
+#[derive(Clone, Copy)]
+pub(super) enum Manner {
+    // Its lines are asked.
+    Asked,
+    // It is run as a list, and then its lines are asked.
+    RunAndAsked,
+    // Each attempt that was undone in it is taken out.
+    TakenOut,
 }
 
-fn attempt(
-    kind: AttemptKind,
-    stage: Stage,
-    target: Option<ChanId>,
-    reference: Option<u8>,
-) -> Option<Attempt> {
-    Some(Attempt {
-        kind,
-        stage,
-        target,
-        reference,
-    })
-}
-
-fn reply_of(told: Told) -> Reply {
-    match told {
-        Done => Reply::Done,
-        Owned(call) => Reply::Owned(call),
-        Refused(refusal) => Reply::Refused(refusal),
-        Rests(call, x) => shows(Some(x), Some(ChanState::On(call)), None),
-        Waits(call, x) => shows(Some(x), Some(ChanState::Pending(call)), None),
-        Moves(call, x, stage, target, reference) => shows(
-            Some(x),
-            Some(ChanState::On(call)),
-            attempt(AttemptKind::Internal, stage, Some(target), reference),
-        ),
-        Comes(stage, target, reference) => shows(
-            None,
-            None,
-            attempt(AttemptKind::Incoming, stage, Some(target), reference),
-        ),
-        Leaves(call, x, stage) => shows(
-            Some(x),
-            Some(ChanState::On(call)),
-            attempt(AttemptKind::Outgoing, stage, None, None),
-        ),
-    }
-}
-
-fn held_by<A: Allocator + Copy>(book: &Book<A>) -> Held {
-    let usage = book.usage();
-    (usage.channels, usage.calls, usage.references, usage.timers)
-}
-
-// Asks events that are accepted.
-fn prepare<A: Allocator + Copy>(
-    rt: &impl Abort,
-    book: &mut Book<A>,
-    course: &Course,
+fn ends_so<A: Allocator + Copy>(
+    rt: &(impl AllocGlobal + Abort),
+    after: &mut Book<A>,
+    replies: &[Reply],
+    course: Course<'_>,
 ) -> Result<(), AllocError> {
-    for event in course.before {
-        let reply = book.step(*event)?;
-        assert!(rt;
-            !matches!(reply, Reply::Refused(_)),
-            "{}: {event:?}",
-            course.name
-        );
-    }
-    Ok(())
+    are_replied(rt, course.name, course.steps, replies)?;
+    is_answered(rt, after, course.name, course.end)
 }
 
-fn follows<A: Allocator + Copy>(
-    rt: &impl Abort,
-    book: &mut Book<A>,
-    course: &Course,
-) -> Result<(), AllocError> {
-    for (event, told) in course.steps {
-        let reply = book.step(*event)?;
-        assert!(rt; reply == reply_of(*told), "{}: {event:?}", course.name);
-    }
-    assert!(rt; held_by(book) == course.held, "{}", course.name);
-    Ok(())
-}
-
-fn events_of(alloc: Global, course: &Course) -> Result<Vec<Event>, AllocError> {
-    let mut events = Vec::new(alloc);
-    for (event, _) in course.steps {
-        events.push(*event)?;
-    }
-    Ok(events)
-}
-
-fn are_told(rt: &impl Abort, replies: &[Reply], course: &Course) {
-    assert!(rt; replies.len() == course.steps.len(), "{}", course.name);
-    for (reply, (event, told)) in replies.iter().zip(course.steps) {
-        assert!(rt; *reply == reply_of(*told), "{}: {event:?}", course.name);
-    }
-}
-
-// A run leads where the steps lead.
-fn runs<A: Allocator + Copy>(
-    rt: &impl Abort,
+// A run of the events leads where the steps lead.
+pub(super) fn runs<A: Allocator + Copy>(
+    rt: &(impl AllocGlobal + Abort),
     alloc: A,
     book: &Book<A>,
     events: &[Event],
-    course: &Course,
+    course: Course<'_>,
 ) -> Result<(), AllocError> {
-    let (after, replies) = run(alloc, book, events)?;
-    are_told(rt, replies.as_slice(), course);
-    assert!(rt; held_by(&after) == course.held, "{}", course.name);
-    Ok(())
+    let (mut after, replies) = run(alloc, book, events)?;
+    ends_so(rt, &mut after, &replies, course)
 }
 
-// The run leaves the book as it is, so the steps can be asked of it afterwards.
-fn plays(
+// The run leaves the book as it is, so that the steps can be asked of it afterwards.
+fn is_run_and_asked(
     rt: &(impl AllocGlobal + Abort),
     book: &mut Book<Global>,
-    course: &Course,
+    text: &str,
 ) -> Result<(), AllocError> {
-    prepare(rt, book, course)?;
-    let events = events_of(rt.alloc(), course)?;
-    runs(rt, rt.alloc(), book, events.as_slice(), course)?;
-    follows(rt, book, course)
-}
-
-pub(super) fn is_right(rt: &(impl AllocGlobal + Abort), course: &Course) -> Result<(), Fail> {
-    let mut book = book_of(rt.alloc(), rt.alloc(), course.site)?;
-    Ok(plays(rt, &mut book, course)?)
+    let course = course_of(rt, text);
+    let events = events_of(rt, course.steps)?;
+    runs(rt, rt.alloc(), book, &events, course)?;
+    play(rt, book, course.name, course.steps)?;
+    is_answered(rt, book, course.name, course.end)
 }
 
 // Each of the others got the reply that it gets alone.
@@ -181,43 +96,134 @@ fn replies_are_the_same(rewound: &Rewound<Global>) -> bool {
             return false;
         }
     }
-    true
+    rewound.others.len() == rewound.without_replies.len()
 }
 
-fn is_as_worked_out(
-    rt: &impl Abort,
-    rewound: &Rewound<Global>,
-    without: &Without,
-    name: &'static str,
-) {
-    let at = without.at;
-    assert!(rt; rewound.others.as_slice() == without.others, "{name}: {at}");
-    assert!(rt; rewound.settled, "{name}: {at}");
-    assert!(rt; rewound.held == without.held, "{name}: {at}");
-    assert!(rt; rewound.whole == rewound.without, "{name}: {at}");
-    let same = replies_are_the_same(rewound);
-    assert!(rt; same == without.held.is_none(), "{name}: {at}");
+#[derive(Clone, Copy)]
+struct RewoundText<'a>(&'a Rewound<Global>);
+
+fn same_or_differ(same: bool) -> &'static str {
+    if same { "same" } else { "differ" }
 }
 
-fn takes_each_out(
-    rt: &(impl AllocGlobal + Abort),
-    book: &Book<Global>,
-    events: &[Event],
-    course: &Course,
-) {
-    for without in course.undone {
-        match rewind(rt.alloc(), book, events, without.at) {
-            Ok(rewound) => is_as_worked_out(rt, &rewound, without, course.name),
-            Err(fault) => panic!(rt; "{}: {}: {fault}", course.name, without.at),
+impl fmt::Display for RewoundText<'_> {
+    fn fmt<W: fmt::Write>(&self, f: &mut fmt::Formatter<W>) -> fmt::Result {
+        let rewound = self.0;
+        f.write_str("others")?;
+        for place in rewound.others.iter() {
+            write!(f, " {place}")?;
         }
+        let settled = if rewound.settled { "yes" } else { "no" };
+        write!(f, ", settled {settled}, held ")?;
+        match rewound.held {
+            Some(place) => write!(f, "{place}")?,
+            None => f.write_str("-")?,
+        }
+        let books = same_or_differ(rewound.whole == rewound.without);
+        let replies = same_or_differ(replies_are_the_same(rewound));
+        write!(f, ", books {books}, replies {replies}")
     }
 }
 
-// Takes each attempt out of the course that was taken back in it.
-pub(super) fn is_without(rt: &(impl AllocGlobal + Abort), course: &Course) -> Result<(), Fail> {
-    let mut book = book_of(rt.alloc(), rt.alloc(), course.site)?;
-    prepare(rt, &mut book, course)?;
-    let events = events_of(rt.alloc(), course)?;
-    takes_each_out(rt, &book, events.as_slice(), course);
+fn is_given(
+    rt: &(impl AllocGlobal + Abort),
+    course: Course<'_>,
+    line: &str,
+    given: &impl fmt::Display,
+) -> Result<(), AllocError> {
+    let text = format!(in rt.alloc(); "{given}")?;
+    let (_, wanted) = cut(line, " -> ");
+    assert!(rt; wanted == text.as_str(), "{}: {line}: {text}", course.name);
+    Ok(())
+}
+
+fn is_as_worked_out(
+    rt: &(impl AllocGlobal + Abort),
+    rewound: &mut Rewound<Global>,
+    course: Course<'_>,
+    part: &str,
+) -> Result<(), AllocError> {
+    let (part, after_all) = cut(part, "\nafter all\n");
+    let (part, after_that) = cut(part, "\nafter that\n");
+    let (line, alone) = cut(part, "\nalone\n");
+    is_given(rt, course, line, &RewoundText(rewound))?;
+    are_replied(rt, course.name, course.steps, &rewound.whole_replies)?;
+    if !alone.is_empty() {
+        are_replied(rt, course.name, alone, &rewound.without_replies)?;
+    }
+    play(rt, &mut rewound.without, course.name, after_that)?;
+    let differs = !after_all.is_empty();
+    let after_all = if differs { after_all } else { after_that };
+    play(rt, &mut rewound.whole, course.name, after_all)
+}
+
+fn is_taken_out(
+    rt: &(impl AllocGlobal + Abort),
+    book: &Book<Global>,
+    events: &[Event],
+    course: Course<'_>,
+    part: &str,
+) -> Result<(), AllocError> {
+    let (place, _) = cut(part, " -> ");
+    let place = place.parse().ok().expect(rt, part);
+    match rewind(rt.alloc(), book, events, place) {
+        Ok(mut rewound) => is_as_worked_out(rt, &mut rewound, course, part),
+        Err(fault) => is_given(rt, course, part, &fault),
+    }
+}
+
+fn are_taken_out(
+    rt: &(impl AllocGlobal + Abort),
+    book: &Book<Global>,
+    text: &str,
+) -> Result<(), AllocError> {
+    let course = course_of(rt, text);
+    let events = events_of(rt, course.steps)?;
+    for part in text.split("\nwithout ").skip(1) {
+        is_taken_out(rt, book, &events, course, part)?;
+    }
+    Ok(())
+}
+
+fn is_played(
+    rt: &(impl AllocGlobal + Abort),
+    book: &mut Book<Global>,
+    before: &str,
+    manner: Manner,
+    text: &str,
+) -> Result<(), Fail> {
+    play(rt, book, "before", before)?;
+    let (name, lines) = text.split_once('\n').expect(rt, text);
+    match manner {
+        Manner::Asked => play(rt, book, name, lines)?,
+        Manner::RunAndAsked => is_run_and_asked(rt, book, text)?,
+        Manner::TakenOut => are_taken_out(rt, book, text)?,
+    }
+    Ok(())
+}
+
+// One call while the book is owned keeps this cheap to prove.
+fn is_played_on(
+    rt: &(impl AllocGlobal + Abort),
+    site: &str,
+    before: &str,
+    manner: Manner,
+    text: &str,
+) -> Result<(), Fail> {
+    let mut book = book_of(rt.alloc(), rt.alloc(), site)?;
+    is_played(rt, &mut book, before, manner, text)
+}
+
+// Plays each course on a book of the site of its own, after other lines.
+pub(super) fn are_played(
+    rt: &(impl AllocGlobal + Abort),
+    site: &str,
+    before: &str,
+    manner: Manner,
+    courses: &str,
+) -> Result<(), Fail> {
+    for text in courses.split("\n\n") {
+        is_played_on(rt, site, before, manner, text)?;
+    }
     Ok(())
 }

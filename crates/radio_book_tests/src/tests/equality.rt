@@ -1,177 +1,219 @@
 //! When two books are equal.
-use super::{HOME, OTHER, TARGET, THREE_CHANNELS, book_of};
+use super::asks::play;
+use super::{THREE_CHANNELS, book_of};
 use radio_book::book::Book;
-use radio_book::event::Event::{
-    Activate, Clear, Confirm, Open, Order, Refuse, Released, Require, Reserve, Take, Undo,
-};
-use radio_book::event::Reply::Refused;
-use radio_book::event::{Event, Kind, Why};
-use refusing_heap::RefusingHeap;
 use sample_sites::changed;
-use std::alloc::{AllocError, Allocator, Global};
+use std::alloc::{AllocError, Global};
 use std::process::Abort;
 use std::test::Fail;
 
-// Two lists of events, each of which is accepted from an empty book, and whether they lead to equal books.
-type Pair = (&'static [Event], &'static [Event], bool);
+// Two lists of what is asked of an empty book and answered, with a blank line between any two pairs: whether the books that
+// they lead to are the same, or differ.
+const PAIRS: &str = "\
+# two empty books
+usage -> channels=0 calls=0 references=0 timers=0
+same
+usage -> channels=0 calls=0 references=0 timers=0
 
-const STEADY: &[Event] = &[Open(1, HOME), Confirm(HOME)];
+# two calls, in another order
+open 1 0/0/3 -> done
+open 2 0/0/2 -> done
+same
+open 2 0/0/2 -> done
+open 1 0/0/3 -> done
 
-const TAKEN: &[Event] = &[
-    Open(1, HOME),
-    Confirm(HOME),
-    Take(1, Kind::Internal, TARGET),
-];
+# an attempt is undone, and its target released
+open 1 0/0/3 -> done
+confirm 0/0/3 -> owned 1
+same
+open 1 0/0/3 -> done
+confirm 0/0/3 -> owned 1
+take 1 internal 1/1/3 -> done
+reserve 1 0 -> done
+activate 1 -> done
+undo 1 asked -> record 0/0/3 on internal sent 1/1/3 0
+released 1/1/3 -> done
 
-const RESERVED: &[Event] = &[
-    Open(1, HOME),
-    Confirm(HOME),
-    Take(1, Kind::Internal, TARGET),
-    Reserve(1, 0),
-];
+# an attempt after one that is undone
+open 1 0/0/3 -> done
+confirm 0/0/3 -> owned 1
+take 1 internal 1/1/3 -> done
+same
+open 1 0/0/3 -> done
+confirm 0/0/3 -> owned 1
+require 1 -> done
+undo 1 asked -> record 0/0/3 on outgoing required - -
+take 1 internal 1/1/3 -> done
 
-const REFUSED: &[Event] = &[
-    Open(1, HOME),
-    Confirm(HOME),
-    Take(1, Kind::Internal, TARGET),
-    Reserve(1, 0),
-    Activate(1),
-    Refuse(TARGET),
-];
+# nothing and something
+usage -> channels=0 calls=0 references=0 timers=0
+differ
+open 1 0/0/3 -> done
+confirm 0/0/3 -> owned 1
 
-const UNDONE: &[Event] = &[
-    Open(1, HOME),
-    Confirm(HOME),
-    Take(1, Kind::Internal, TARGET),
-    Reserve(1, 0),
-    Activate(1),
-    Undo(1, Why::Asked),
-];
+# a channel in another state, and the rest the same
+open 1 0/0/3 -> done
+differ
+open 1 0/0/3 -> done
+confirm 0/0/3 -> owned 1
 
-const RELEASED: &[Event] = &[
-    Open(1, HOME),
-    Confirm(HOME),
-    Take(1, Kind::Internal, TARGET),
-    Reserve(1, 0),
-    Activate(1),
-    Undo(1, Why::Asked),
-    Released(TARGET),
-];
+# a channel that is off, and the rest the same
+open 1 0/0/3 -> done
+confirm 0/0/3 -> owned 1
+differ
+open 1 0/0/3 -> done
+confirm 0/0/3 -> owned 1
+take 1 internal 1/1/3 -> done
+reserve 1 0 -> done
+activate 1 -> done
+undo 1 asked -> record 0/0/3 on internal sent 1/1/3 0
 
-const REQUIRED: &[Event] = &[Open(1, HOME), Confirm(HOME), Require(1)];
+# another channel
+open 1 0/0/3 -> done
+differ
+open 1 0/0/2 -> done
 
-const ORDERED: &[Event] = &[Open(1, HOME), Confirm(HOME), Require(1), Order(1)];
+# another record, and the rest the same
+open 1 0/0/3 -> done
+confirm 0/0/3 -> owned 1
+take 1 internal 1/1/3 -> done
+reserve 1 0 -> done
+differ
+open 1 0/0/3 -> done
+confirm 0/0/3 -> owned 1
+take 1 internal 1/1/3 -> done
+reserve 1 0 -> done
+activate 1 -> done
+refuse 1/1/3 -> owned 1
 
-const PAIRS: &[Pair] = &[
-    // the same in another order, and what comes back to the same
-    (&[], &[], true),
-    (
-        &[Open(1, HOME), Open(2, OTHER)],
-        &[Open(2, OTHER), Open(1, HOME)],
-        true,
-    ),
-    (STEADY, RELEASED, true),
-    (
-        TAKEN,
-        &[
-            Open(1, HOME),
-            Confirm(HOME),
-            Require(1),
-            Undo(1, Why::Asked),
-            Take(1, Kind::Internal, TARGET),
-        ],
-        true,
-    ),
-    // nothing and something
-    (&[], STEADY, false),
-    // a channel in another state, and the rest the same
-    (&[Open(1, HOME)], STEADY, false),
-    (STEADY, UNDONE, false),
-    // another channel
-    (&[Open(1, HOME)], &[Open(1, OTHER)], false),
-    // a record, and the rest the same
-    (RESERVED, REFUSED, false),
-    // another call
-    (&[Open(1, HOME)], &[Open(2, HOME)], false),
-    // a reference, which its attempt has too
-    (TAKEN, RESERVED, false),
-    (
-        RESERVED,
-        &[
-            Open(1, HOME),
-            Confirm(HOME),
-            Take(1, Kind::Internal, TARGET),
-            Reserve(1, 1),
-        ],
-        false,
-    ),
-    // a timer, with the stage that arms it
-    (STEADY, REQUIRED, false),
-    (REQUIRED, ORDERED, false),
-    // calls that are gone leave nothing, their channels what is awaited of a station
-    (
-        &[],
-        &[Open(1, HOME), Confirm(HOME), Clear(1), Released(HOME)],
-        true,
-    ),
-    (&[], &[Open(1, HOME), Confirm(HOME), Clear(1)], false),
-];
+# another call
+open 1 0/0/3 -> done
+differ
+open 2 0/0/3 -> done
 
-fn lead<A: Allocator + Copy>(
-    rt: &impl Abort,
-    book: &mut Book<A>,
-    events: &[Event],
-) -> Result<(), AllocError> {
-    for event in events {
-        let reply = book.step(*event)?;
-        assert!(rt; !matches!(reply, Refused(_)), "{event:?}");
+# a reference, which its attempt has too
+open 1 0/0/3 -> done
+confirm 0/0/3 -> owned 1
+take 1 internal 1/1/3 -> done
+differ
+open 1 0/0/3 -> done
+confirm 0/0/3 -> owned 1
+take 1 internal 1/1/3 -> done
+reserve 1 0 -> done
+
+# another reference, which its attempt has too
+open 1 0/0/3 -> done
+confirm 0/0/3 -> owned 1
+take 1 internal 1/1/3 -> done
+reserve 1 0 -> done
+differ
+open 1 0/0/3 -> done
+confirm 0/0/3 -> owned 1
+take 1 internal 1/1/3 -> done
+reserve 1 1 -> done
+
+# a timer, with the stage that arms it
+open 1 0/0/3 -> done
+confirm 0/0/3 -> owned 1
+differ
+open 1 0/0/3 -> done
+confirm 0/0/3 -> owned 1
+require 1 -> done
+
+# another timer, with the stage that arms it
+open 1 0/0/3 -> done
+confirm 0/0/3 -> owned 1
+require 1 -> done
+differ
+open 1 0/0/3 -> done
+confirm 0/0/3 -> owned 1
+require 1 -> done
+order 1 -> done
+
+# calls that are gone leave nothing
+usage -> channels=0 calls=0 references=0 timers=0
+same
+open 1 0/0/3 -> done
+confirm 0/0/3 -> owned 1
+clear 1 -> done
+released 0/0/3 -> done
+
+# but their channels leave what is awaited of a station
+usage -> channels=0 calls=0 references=0 timers=0
+differ
+open 1 0/0/3 -> done
+confirm 0/0/3 -> owned 1
+clear 1 -> done";
+
+fn sides(pair: &str) -> Option<(&str, &str, bool)> {
+    let (_, lines) = pair.split_once('\n')?;
+    if let Some((first, second)) = lines.split_once("\nsame\n") {
+        return Some((first, second, true));
     }
+    let (first, second) = lines.split_once("\ndiffer\n")?;
+    Some((first, second, false))
+}
+
+// Whether the first list leads from the first book where the second leads from the second.
+fn leads_to_the_same(
+    rt: &(impl AllocGlobal + Abort),
+    one: &mut Book<Global>,
+    other: &mut Book<Global>,
+    pair: &str,
+) -> Result<(), AllocError> {
+    let (first, second, equal) = sides(pair).expect(rt, pair);
+    play(rt, one, pair, first)?;
+    play(rt, other, pair, second)?;
+    assert!(rt;
+        (*one == *other) == equal && (*other == *one) == equal,
+        "{pair}"
+    );
     Ok(())
 }
 
-fn led(rt: &(impl AllocGlobal + Abort), events: &[Event]) -> Result<Book<Global>, Fail> {
-    let mut book = book_of(rt.alloc(), rt.alloc(), THREE_CHANNELS)?;
-    lead(rt, &mut book, events)?;
-    Ok(book)
+fn are_compared(
+    rt: &(impl AllocGlobal + Abort),
+    book: &Book<Global>,
+    pair: &str,
+) -> Result<(), AllocError> {
+    let mut one = book.copy()?;
+    let mut other = book.copy()?;
+    leads_to_the_same(rt, &mut one, &mut other, pair)
 }
 
-fn compare(rt: &(impl AllocGlobal + Abort), pair: &Pair) -> Result<(), Fail> {
-    let (first, second, equal) = *pair;
-    let one = led(rt, first)?;
-    let other = led(rt, second)?;
-    assert!(rt; (one == other) == equal, "{first:?} and {second:?}");
-    assert!(rt; (other == one) == equal, "{second:?} and {first:?}");
+fn each_is_compared(rt: &(impl AllocGlobal + Abort), book: &Book<Global>) -> Result<(), Fail> {
+    for pair in PAIRS.split("\n\n") {
+        are_compared(rt, book, pair)?;
+    }
     Ok(())
 }
 
 #[test]
 fn books_are_equal_where_they_hold_the_same(rt: HostRuntime) -> Result<(), Fail> {
-    for pair in PAIRS {
-        compare(&rt, pair)?;
-    }
+    let book = book_of(rt.alloc(), rt.alloc(), THREE_CHANNELS)?;
+    each_is_compared(&rt, &book)
+}
+
+fn is_equal_to_that_of(
+    rt: &(impl AllocGlobal + Abort),
+    book: &Book<Global>,
+    site: &str,
+    equal: bool,
+) -> Result<(), Fail> {
+    let other = book_of(rt.alloc(), rt.alloc(), site)?;
+    assert!(rt; (*book == other) == equal);
     Ok(())
+}
+
+fn is_of_its_site(rt: &(impl AllocGlobal + Abort), book: &Book<Global>) -> Result<(), Fail> {
+    let text = changed(rt.alloc(), THREE_CHANNELS, "margin = 3", "margin = 4")?;
+    let wide = text.expect(rt, "the site's margin");
+    is_equal_to_that_of(rt, book, THREE_CHANNELS, true)?;
+    is_equal_to_that_of(rt, book, &wide, false)
 }
 
 #[test]
 fn books_of_sites_that_differ_are_not_equal(rt: HostRuntime) -> Result<(), Fail> {
-    let text = changed(rt.alloc(), THREE_CHANNELS, "margin = 3", "margin = 4")?;
-    let text = text.expect(&rt, "the site's margin");
-    let narrow = book_of(rt.alloc(), rt.alloc(), THREE_CHANNELS)?;
-    let again = book_of(rt.alloc(), rt.alloc(), THREE_CHANNELS)?;
-    let wide = book_of(rt.alloc(), rt.alloc(), &text)?;
-    assert!(rt; narrow == again);
-    assert!(rt; narrow != wide);
-    Ok(())
-}
-
-#[test]
-fn comparing_takes_no_memory(rt: HostRuntime) -> Result<(), Fail> {
-    let heap = RefusingHeap::ample(rt.alloc());
-    let mut book = book_of(&heap, rt.alloc(), THREE_CHANNELS)?;
-    lead(&rt, &mut book, RESERVED)?;
-    let copy = book.copy()?;
-    let before = heap.requests();
-    assert!(rt; book == copy);
-    assert_eq!(rt; heap.requests(), before);
-    Ok(())
+    let book = book_of(rt.alloc(), rt.alloc(), THREE_CHANNELS)?;
+    is_of_its_site(&rt, &book)
 }

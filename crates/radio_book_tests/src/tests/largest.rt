@@ -1,13 +1,13 @@
 //! The largest site, 64 cells with four TRX each: a call on each of its traffic channels, 31 in each cell.
-use super::Ask::FreeIn;
-use super::{Answer, Ask, book_of, holds, play};
+use super::asks::play;
+use super::book_of;
 use channel_fsm::ChanId;
 use radio_book::book::Book;
 use radio_book::event::Event;
 use radio_book::event::Event::{Clear, Open};
 use radio_book::event::Reply::Done;
 use sample_sites::site_of_cells;
-use std::alloc::Global;
+use std::alloc::{AllocError, Global};
 use std::process::Abort;
 use std::test::Fail;
 
@@ -34,26 +34,30 @@ fn event_at(turn: Turn, place: u16) -> Event {
     }
 }
 
-fn each_is_done(rt: &impl Abort, book: &mut Book<Global>, turn: Turn) -> Result<(), Fail> {
+fn each_is_done(rt: &impl Abort, book: &mut Book<Global>, turn: Turn) -> Result<(), AllocError> {
     for place in 0..2048u16 {
         // not for the broadcast channel of a cell
         if place % 32 != 0 {
-            assert_eq!(rt; book.step(event_at(turn, place))?, Done, "{place}");
+            let reply = book.step(event_at(turn, place))?;
+            assert!(rt; reply == Done, "{place}");
         }
     }
     Ok(())
 }
 
-fn fills_and_empties(rt: &impl Abort, book: &mut Book<Global>) -> Result<(), Fail> {
+const FULL: &str = "\
+usage -> channels=1984 calls=1984 references=0 timers=0
+free_in 0 -> 0
+free_in 63 -> 0";
+
+const RELEASING: &str = "usage -> channels=1984 calls=0 references=0 timers=0";
+
+fn fills_and_empties(rt: &(impl AllocGlobal + Abort), book: &mut Book<Global>) -> Result<(), Fail> {
     each_is_done(rt, book, Turn::Begin)?;
-    let full = [
-        (Ask::Usage, holds(1984, 1984, 0)),
-        (FreeIn(0), Answer::Free(0)),
-        (FreeIn(63), Answer::Free(0)),
-    ];
-    play(rt, book, &full)?;
+    play(rt, book, "full", FULL)?;
     each_is_done(rt, book, Turn::End)?;
-    play(rt, book, &[(Ask::Usage, holds(1984, 0, 0))])
+    play(rt, book, "emptied", RELEASING)?;
+    Ok(())
 }
 
 #[test]

@@ -1,262 +1,350 @@
-//! Memory is refused in each call of a book.
-use super::Answer::{Chose, NoneFree, Says};
-use super::Ask::{FreeIn, ReserveAny, Step, TakeAny};
-use super::{
-    Answer, Ask, DONE, HIGHEST, HOME, HOME_OF_1, HOME_OF_16, LOWEST, MANY_CHANNELS, NO_TRAFFIC,
-    ON_OTHER, OTHER, Row, TARGET, THREE_CHANNELS, book_of, home_of, outgoing, play, put, undone,
-};
-use channel_fsm::ChanState;
-use radio_book::book::{Book, Usage};
-use radio_book::event::Event::{
-    Activate, Clear, Command, Complete, Confirm, Detect, Left, Look, Open, Order, Owner, Refuse,
-    Released, Require, Reserve, Take, Undo,
-};
-use radio_book::event::Refusal::{NoCall, NoChannel};
-use radio_book::event::Reply::{Done, Owned, Record, Refused};
-use radio_book::event::{Kind, Stage, Why};
+//! Memory is refused in each call of a book, in a run and in a rewind.
+use super::asks::{ask_of, events_of, is_answered, is_said, play, put, text_of};
+use super::courses::{course_of, runs};
+use super::rewinds::TAKEN_BACK;
+use super::runs::OVERTAKEN;
+use super::{MANY_CHANNELS, STEADY, THREE_CHANNELS, book_of};
+use radio_book::book::Book;
+use radio_book::rewind::{RewindFault, rewind};
 use refusing_heap::RefusingHeap;
 use std::alloc::AllocError;
 use std::process::Abort;
 use std::test::Fail;
 
-// An ask that takes memory, and its answer where calls 1, 2, .. up to `open` are open in cell 0 and these steps came
-// after.
-//
-// A table asks for memory with its first entry, and where the 15 entries of a node are full.
-struct Request {
-    open: u16,
-    steps: &'static [Row],
-    ask: Ask,
-    answer: Answer,
+// What is tried of a book whose heap refuses memory.
+#[derive(Clone, Copy)]
+enum Trial<'a> {
+    Nothing,
+    // A line is asked, and where memory was refused, once more.
+    Asked(&'a str),
+    // Lines are asked, and no memory is left.
+    AskedWithoutMemory(&'a str),
+    Run(&'a str),
+    Rewound(&'a str),
+    Compared,
 }
 
-const CONFIRMED: Row = (Step(Confirm(HOME_OF_1)), Says(Owned(1)));
+// What shows the book itself, and calls 1, 2 and 16. It takes no memory.
+const SHOWN: &str = "\
+usage
+free_in 0
+free_in 1
+look 1
+look 2
+look 16";
 
-const MOVES: Row = (Step(Take(1, Kind::Internal, LOWEST)), DONE);
-
-const REQUESTS: &[Request] = &[
-    Request {
-        open: 0,
-        steps: &[],
-        ask: Step(Open(1, HOME_OF_1)),
-        answer: DONE,
-    },
-    Request {
-        open: 15,
-        steps: &[],
-        ask: Step(Open(16, HOME_OF_16)),
-        answer: DONE,
-    },
-    Request {
-        open: 0,
-        steps: &[],
-        ask: Step(Take(1, Kind::Incoming, HIGHEST)),
-        answer: DONE,
-    },
-    Request {
-        open: 0,
-        steps: &[],
-        ask: TakeAny(1, Kind::Incoming, 1),
-        answer: Chose(Take(1, Kind::Incoming, LOWEST), Done),
-    },
-    Request {
-        open: 15,
-        steps: &[],
-        ask: Step(Take(16, Kind::Incoming, HIGHEST)),
-        answer: DONE,
-    },
-    Request {
-        open: 15,
-        steps: &[],
-        ask: TakeAny(16, Kind::Incoming, 1),
-        answer: Chose(Take(16, Kind::Incoming, LOWEST), Done),
-    },
-    Request {
-        open: 15,
-        steps: &[CONFIRMED],
-        ask: Step(Take(1, Kind::Internal, HIGHEST)),
-        answer: DONE,
-    },
-    Request {
-        open: 15,
-        steps: &[CONFIRMED],
-        ask: TakeAny(1, Kind::Internal, 1),
-        answer: Chose(Take(1, Kind::Internal, LOWEST), Done),
-    },
-    Request {
-        open: 1,
-        steps: &[CONFIRMED, MOVES],
-        ask: Step(Reserve(1, 7)),
-        answer: DONE,
-    },
-    Request {
-        open: 1,
-        steps: &[CONFIRMED, MOVES],
-        ask: ReserveAny(1),
-        answer: Chose(Reserve(1, 0), Done),
-    },
-];
-
-// Makes an empty book the one before the ask.
-fn prepare(rt: &impl Abort, book: &mut Book<&RefusingHeap>, request: &Request) -> Result<(), Fail> {
-    for before in 0..request.open {
-        let call = before.saturating_add(1);
-        assert_eq!(rt; book.step(Open(call, home_of(call)))?, Done, "{call}");
+fn shown(
+    rt: &(impl AllocGlobal + Abort),
+    book: &mut Book<&RefusingHeap>,
+) -> Result<String, AllocError> {
+    let mut shown = String::new(rt.alloc());
+    for line in SHOWN.lines() {
+        let answer = put(book, ask_of(rt, line))?;
+        shown.push_str(&text_of(rt, answer)?)?;
+        shown.push('\n')?;
     }
-    play(rt, book, request.steps)
+    Ok(shown)
 }
 
-// How many requests come before the ask.
-fn requests_before(rt: &(impl AllocGlobal + Abort), request: &Request) -> Result<u64, Fail> {
-    let heap = RefusingHeap::ample(rt.alloc());
-    let mut book = book_of(&heap, rt.alloc(), MANY_CHANNELS)?;
-    prepare(rt, &mut book, request)?;
-    Ok(heap.requests())
+fn is_asked_again(
+    rt: &(impl AllocGlobal + Abort),
+    book: &mut Book<&RefusingHeap>,
+    line: &str,
+    before: &str,
+) -> Result<(), AllocError> {
+    let after = shown(rt, book)?;
+    assert!(rt; after.as_str() == before, "{line}: {after}");
+    is_answered(rt, book, "again", line)
 }
 
-// What a book shows of itself and of calls 1, 2 and 16, which takes no memory.
-fn shown(book: &mut Book<&RefusingHeap>) -> Result<[Answer; 6], AllocError> {
-    Ok([
-        put(book, Ask::Usage)?,
-        put(book, FreeIn(0))?,
-        put(book, FreeIn(1))?,
-        put(book, Step(Look(1)))?,
-        put(book, Step(Look(2)))?,
-        put(book, Step(Look(16)))?,
-    ])
-}
-
-// Asks, and where memory was refused, and only there, sees the book as it was and asks again.
-fn ask_twice(
-    rt: &impl Abort,
+// Where memory was refused, and only there, the book is as it was, and answers the second time.
+fn is_asked(
+    rt: &(impl AllocGlobal + Abort),
     book: &mut Book<&RefusingHeap>,
     heap: &RefusingHeap,
-    ask: Ask,
-) -> Result<Answer, AllocError> {
-    let before = shown(book)?;
-    let answer = put(book, ask);
-    assert_eq!(rt; answer.is_err(), heap.was_refused(), "{ask:?}");
-    if answer.is_ok() {
-        return answer;
+    line: &str,
+) -> Result<(), AllocError> {
+    let before = shown(rt, book)?;
+    let answer = put(book, ask_of(rt, line));
+    assert!(rt; answer.is_err() == heap.was_refused(), "{line}");
+    match answer {
+        Ok(answer) => is_said(rt, "once", line, answer),
+        Err(_) => is_asked_again(rt, book, line, &before),
     }
-    assert_eq!(rt; shown(book)?, before, "{ask:?}");
-    put(book, ask)
 }
 
-// Asks the book before the ask, which gives the expected answer: whether memory was refused.
-fn answers_request(
-    rt: &impl Abort,
+fn is_asked_without_memory(
+    rt: &(impl AllocGlobal + Abort),
     book: &mut Book<&RefusingHeap>,
     heap: &RefusingHeap,
-    request: &Request,
-) -> Result<bool, Fail> {
-    prepare(rt, book, request)?;
-    let answer = ask_twice(rt, book, heap, request.ask)?;
-    assert_eq!(rt; answer, request.answer, "{:?}", request.ask);
-    Ok(heap.was_refused())
+    lines: &str,
+) -> Result<(), AllocError> {
+    heap.refuse_from_now();
+    play(rt, book, "without memory", lines)?;
+    assert!(rt; heap.refused() == 0);
+    Ok(())
 }
 
-// Whether an ask met the refusal of the n-th request.
-fn meets_refusal(rt: &(impl AllocGlobal + Abort), request: &Request, n: u64) -> Result<bool, Fail> {
+// The book that a run begins with stays as it is, whether memory is refused or not.
+fn is_run(
+    rt: &(impl AllocGlobal + Abort),
+    book: &mut Book<&RefusingHeap>,
+    heap: &RefusingHeap,
+    text: &str,
+) -> Result<(), AllocError> {
+    let course = course_of(rt, text);
+    let events = events_of(rt, course.steps)?;
+    let refused = runs(rt, heap, book, &events, course).is_err();
+    assert!(rt; refused == heap.was_refused(), "{}", heap.requests());
+    let before = "usage -> channels=1 calls=1 references=0 timers=0";
+    is_answered(rt, book, course.name, before)
+}
+
+// Where memory was refused that is answered, or, where less did as well, what is answered with ample memory.
+fn is_rewound(
+    rt: &(impl AllocGlobal + Abort),
+    book: &Book<&RefusingHeap>,
+    heap: &RefusingHeap,
+    text: &str,
+) -> Result<(), AllocError> {
+    let events = events_of(rt, course_of(rt, text).steps)?;
+    match rewind(heap, book, &events, 0) {
+        Ok(rewound) => assert!(rt; rewound.others.as_slice() == [4].as_slice()),
+        Err(fault) => assert!(rt; heap.was_refused() && fault == RewindFault::NoMemory),
+    }
+    Ok(())
+}
+
+fn is_compared(
+    rt: &impl Abort,
+    book: &Book<&RefusingHeap>,
+    heap: &RefusingHeap,
+) -> Result<(), AllocError> {
+    let copy = book.copy()?;
+    let before = heap.requests();
+    assert!(rt; *book == copy && heap.requests() == before);
+    Ok(())
+}
+
+fn is_tried(
+    rt: &(impl AllocGlobal + Abort),
+    book: &mut Book<&RefusingHeap>,
+    heap: &RefusingHeap,
+    before: &[&str],
+    trial: Trial<'_>,
+) -> Result<(), AllocError> {
+    for lines in before {
+        play(rt, book, "before", *lines)?;
+    }
+    match trial {
+        Trial::Nothing => Ok(()),
+        Trial::Asked(line) => is_asked(rt, book, heap, line),
+        Trial::AskedWithoutMemory(lines) => is_asked_without_memory(rt, book, heap, lines),
+        Trial::Run(text) => is_run(rt, book, heap, text),
+        Trial::Rewound(text) => is_rewound(rt, book, heap, text),
+        Trial::Compared => is_compared(rt, book, heap),
+    }
+}
+
+#[derive(Clone, Copy)]
+struct Requests {
+    made: u64,
+    refused: u64,
+}
+
+fn counts(
+    rt: &(impl AllocGlobal + Abort),
+    book: &mut Book<&RefusingHeap>,
+    heap: &RefusingHeap,
+    before: &[&str],
+    trial: Trial<'_>,
+) -> Result<Requests, Fail> {
+    is_tried(rt, book, heap, before, trial)?;
+    Ok(Requests {
+        made: heap.requests(),
+        refused: heap.refused(),
+    })
+}
+
+// Tries it of a book of a site after other lines, on a heap that refuses the n-th request. One call while the heap and the
+// book are owned keeps this cheap to prove.
+fn tried_refusing(
+    rt: &(impl AllocGlobal + Abort),
+    n: u64,
+    site: &str,
+    before: &[&str],
+    trial: Trial<'_>,
+) -> Result<Requests, Fail> {
     let heap = RefusingHeap::refusing_nth(rt.alloc(), n);
-    let mut book = book_of(&heap, rt.alloc(), MANY_CHANNELS)?;
-    answers_request(rt, &mut book, &heap, request)
+    let mut book = book_of(&heap, rt.alloc(), site)?;
+    counts(rt, &mut book, &heap, before, trial)
 }
 
-// How many requests of an ask were refused in turn before one met no refusal.
-fn refusals_of(rt: &(impl AllocGlobal + Abort), request: &Request) -> Result<u64, Fail> {
-    let before = requests_before(rt, request)?;
+// Tries it with each request refused in turn that comes behind what was before, until one meets no refusal: so many are at
+// least there.
+fn meets_each_refusal(
+    rt: &(impl AllocGlobal + Abort),
+    least: u64,
+    site: &str,
+    before: &[&str],
+    trial: Trial<'_>,
+) -> Result<(), Fail> {
+    let first = tried_refusing(rt, u64::MAX, site, before, Trial::Nothing)?.made;
     let mut tried = 0u64;
     for n in 1..100 {
-        if !meets_refusal(rt, request, before.saturating_add(n))? {
+        let requests = tried_refusing(rt, first.saturating_add(n), site, before, trial)?;
+        if requests.refused == 0 {
             break;
         }
         tried = n;
     }
-    Ok(tried)
+    assert!(rt; least <= tried && tried < 99, "{tried} requests");
+    Ok(())
 }
 
-#[test]
-fn each_refusal_of_memory_is_answered(rt: HostRuntime) -> Result<(), Fail> {
-    for request in REQUESTS {
-        let tried = refusals_of(&rt, request)?;
-        assert!(rt;
-            1 <= tried && tried < 99,
-            "{:?}: {tried} requests",
-            request.ask
-        );
+const FIFTEEN_CALLS: &str = "\
+open 1 0/0/2 -> done
+open 2 0/0/3 -> done
+open 3 0/0/4 -> done
+open 4 0/0/5 -> done
+open 5 0/0/6 -> done
+open 6 0/0/7 -> done
+open 7 0/1/1 -> done
+open 8 0/1/2 -> done
+open 9 0/1/3 -> done
+open 10 0/1/4 -> done
+open 11 0/1/5 -> done
+open 12 0/1/6 -> done
+open 13 0/1/7 -> done
+open 14 0/2/1 -> done
+open 15 0/2/2 -> done";
+
+// What takes memory, and what came before. A table asks for memory with its first entry, and where the 15 entries of a node
+// are full.
+struct Takes {
+    before: &'static [&'static str],
+    lines: &'static str,
+}
+
+const TAKES: &[Takes] = &[
+    Takes {
+        before: &[],
+        lines: "open 1 0/0/2 -> done
+take 1 incoming 1/3/7 -> done
+take_any 1 incoming 1 -> take 1 incoming 1/0/1 -> done",
+    },
+    Takes {
+        before: &[FIFTEEN_CALLS],
+        lines: "open 16 0/2/3 -> done
+take 16 incoming 1/3/7 -> done
+take_any 16 incoming 1 -> take 16 incoming 1/0/1 -> done",
+    },
+    Takes {
+        before: &[FIFTEEN_CALLS, "confirm 0/0/2 -> owned 1"],
+        lines: "take 1 internal 1/3/7 -> done
+take_any 1 internal 1 -> take 1 internal 1/0/1 -> done",
+    },
+    Takes {
+        before: &[
+            "open 1 0/0/2 -> done",
+            "confirm 0/0/2 -> owned 1",
+            "take 1 internal 1/0/1 -> done",
+        ],
+        lines: "reserve 1 7 -> done
+reserve_any 1 -> reserve 1 0 -> done",
+    },
+];
+
+fn each_meets_each_refusal(rt: &(impl AllocGlobal + Abort), takes: &Takes) -> Result<(), Fail> {
+    for line in takes.lines.lines() {
+        meets_each_refusal(rt, 1, MANY_CHANNELS, takes.before, Trial::Asked(line))?;
     }
     Ok(())
 }
 
-// Call 1 has an attempt with a reference, and the channel of call 2 is asked for.
-const FULL: [Row; 5] = [
-    (Step(Open(1, HOME)), DONE),
-    (Step(Open(2, OTHER)), DONE),
-    (Step(Confirm(HOME)), Says(Owned(1))),
-    (Step(Take(1, Kind::Internal, TARGET)), DONE),
-    (Step(Reserve(1, 0)), DONE),
-];
-
-// What a book answers that has no memory left.
-fn answers_after_the_last(
-    rt: &impl Abort,
-    book: &mut Book<&RefusingHeap>,
-    heap: &RefusingHeap,
-    rows: &[Row],
-) -> Result<(), Fail> {
-    play(rt, book, &FULL)?;
-    heap.refuse_from_now();
-    play(rt, book, rows)?;
-    assert_eq!(rt; heap.refused(), 0);
+#[test]
+fn each_refusal_of_memory_is_answered(rt: HostRuntime) -> Result<(), Fail> {
+    for takes in TAKES {
+        each_meets_each_refusal(&rt, takes)?;
+    }
     Ok(())
 }
 
-fn answers_without_memory(rt: &(impl AllocGlobal + Abort), rows: &[Row]) -> Result<(), Fail> {
-    let heap = RefusingHeap::ample(rt.alloc());
-    let mut book = book_of(&heap, rt.alloc(), THREE_CHANNELS)?;
-    answers_after_the_last(rt, &mut book, &heap, rows)
+#[test]
+fn each_refusal_of_memory_in_a_run_is_answered(rt: HostRuntime) -> Result<(), Fail> {
+    meets_each_refusal(&rt, 3, THREE_CHANNELS, &[STEADY], Trial::Run(OVERTAKEN))
 }
+
+#[test]
+fn each_refusal_of_memory_in_a_rewind_is_answered(rt: HostRuntime) -> Result<(), Fail> {
+    meets_each_refusal(
+        &rt,
+        1,
+        THREE_CHANNELS,
+        &[STEADY],
+        Trial::Rewound(TAKEN_BACK),
+    )
+}
+
+// Call 1 has an attempt with a reference, and the channel of call 2 is asked for.
+const FULL: &str = "\
+open 1 0/0/3 -> done
+open 2 0/0/2 -> done
+confirm 0/0/3 -> owned 1
+take 1 internal 1/1/3 -> done
+reserve 1 0 -> done";
+
+const TAKES_NONE: &[&str] = &[
+    // what succeeds without memory
+    "\
+activate 1 -> done
+confirm 1/1/3 -> owned 1
+refuse 0/0/2 -> owned 2
+look 2 -> record 0/0/2 held
+command 1 -> done
+detect 1/1/3 -> owned 1
+undo 1 asked -> record 0/0/3 on internal detected 1/1/3 0
+released 1/1/3 -> done
+require 1 -> done
+order 1 -> done
+owner 0/0/3 -> owned 1
+undo 1 asked -> record 0/0/3 on outgoing ordered - -
+clear 1 -> done
+clear 2 -> done
+open 3 1/0/3 -> refused 4
+take_any 3 incoming 9 -> none free
+reserve_any 3 -> reserve 3 0 -> refused 1",
+    // a handover is completed, and a call leaves
+    "\
+activate 1 -> done
+confirm 1/1/3 -> owned 1
+command 1 -> done
+complete 1 -> done
+released 0/0/3 -> done
+require 1 -> done
+order 1 -> done
+left 1 -> done
+released 1/1/3 -> done",
+];
 
 #[test]
 fn what_takes_no_memory_succeeds_without(rt: HostRuntime) -> Result<(), Fail> {
-    let rows = [
-        (Step(Activate(1)), DONE),
-        (Step(Confirm(TARGET)), Says(Owned(1))),
-        (Step(Refuse(OTHER)), Says(Owned(2))),
-        (
-            Step(Look(2)),
-            Says(Record(ON_OTHER, Some(ChanState::Held(2)))),
-        ),
-        (Step(Command(1)), DONE),
-        (Step(Detect(TARGET)), Says(Owned(1))),
-        (Step(Undo(1, Why::Asked)), undone(Stage::Detected, Some(0))),
-        (Step(Released(TARGET)), DONE),
-        (Step(Require(1)), DONE),
-        (Step(Order(1)), DONE),
-        (Step(Owner(HOME)), Says(Owned(1))),
-        (Step(Undo(1, Why::Asked)), outgoing(Stage::Ordered)),
-        (Step(Clear(1)), DONE),
-        (Step(Clear(2)), DONE),
-        (Step(Open(3, NO_TRAFFIC)), Says(Refused(NoChannel))),
-        (TakeAny(3, Kind::Incoming, 9), NoneFree),
-        (ReserveAny(3), Chose(Reserve(3, 0), Refused(NoCall))),
-    ];
-    answers_without_memory(&rt, &rows)
+    for lines in TAKES_NONE {
+        let trial = Trial::AskedWithoutMemory(*lines);
+        tried_refusing(&rt, u64::MAX, THREE_CHANNELS, &[FULL], trial)?;
+    }
+    Ok(())
 }
 
+// Call 1 has an attempt with a reference.
+const RESERVED: &str = "\
+open 1 0/0/3 -> done
+confirm 0/0/3 -> owned 1
+take 1 internal 1/1/3 -> done
+reserve 1 0 -> done";
+
 #[test]
-fn a_handover_is_completed_and_a_call_leaves_without_memory(rt: HostRuntime) -> Result<(), Fail> {
-    let rows = [
-        (Step(Activate(1)), DONE),
-        (Step(Confirm(TARGET)), Says(Owned(1))),
-        (Step(Command(1)), DONE),
-        (Step(Complete(1)), DONE),
-        (Step(Released(HOME)), DONE),
-        (Step(Require(1)), DONE),
-        (Step(Order(1)), DONE),
-        (Step(Left(1)), DONE),
-        (Step(Released(TARGET)), DONE),
-    ];
-    answers_without_memory(&rt, &rows)
+fn comparing_takes_no_memory(rt: HostRuntime) -> Result<(), Fail> {
+    tried_refusing(&rt, u64::MAX, THREE_CHANNELS, &[RESERVED], Trial::Compared)?;
+    Ok(())
 }

@@ -2,7 +2,6 @@
 ghost use Rattle.std.specs.Prelude.{◌<◌};
 
 use super::book_of;
-use super::overlaps::{FAR_1, FAR_2, MIDDLE_1, MIDDLE_2, NEAR_1, NEAR_2};
 use channel_fsm::{ChanId, ChanState};
 use radio_book::book::Book;
 use radio_book::event::Event::{
@@ -17,6 +16,44 @@ use sample_sites::SIX_CHANNELS;
 use std::alloc::{AllocError, Global};
 use std::process::Abort;
 use std::test::Fail;
+
+// The channels of cell 0, of cell 1,
+const NEAR_1: ChanId = ChanId {
+    cell: 0,
+    trx: 0,
+    tn: 1,
+};
+
+const NEAR_2: ChanId = ChanId {
+    cell: 0,
+    trx: 0,
+    tn: 2,
+};
+
+const MIDDLE_1: ChanId = ChanId {
+    cell: 1,
+    trx: 0,
+    tn: 1,
+};
+
+const MIDDLE_2: ChanId = ChanId {
+    cell: 1,
+    trx: 0,
+    tn: 2,
+};
+
+// and of cell 2.
+const FAR_1: ChanId = ChanId {
+    cell: 2,
+    trx: 0,
+    tn: 1,
+};
+
+const FAR_2: ChanId = ChanId {
+    cell: 2,
+    trx: 0,
+    tn: 2,
+};
 
 // How many lists are made, and how many events the longest has.
 const LISTS: u64 = 2000;

@@ -1,286 +1,199 @@
 //! An attempt of each kind is taken back at each stage: because it was asked, and because its timer ran out.
-use super::Answer::Says;
-use super::Ask::Step;
-use super::{
-    ACTIVATE, Answer, Ask, CONFIRM, DONE, RESERVE, RESTING, Row, STEADY, TARGET, THREE_CHANNELS,
-    book_of, moving, outgoing, play,
-};
-use channel_fsm::ChanState;
-use radio_book::book::{Book, Usage};
-use radio_book::event::Event::{
-    Clear, Command, Confirm, Detect, Look, Open, Order, Refuse, Released, Require, Take, Undo,
-};
-use radio_book::event::Refusal::{ChannelBusy, NoCall, NotArmed};
-use radio_book::event::Reply::{Owned, Record, Refused};
-use radio_book::event::{Attempt, AttemptKind, CallRecord, Kind, Stage, Timer, Why};
-use std::alloc::Global;
-use std::process::Abort;
+use super::courses::{Manner, are_played};
+use super::{STEADY, THREE_CHANNELS};
+use std::alloc::{AllocError, Global};
 use std::test::Fail;
 
-const REFUSE: Row = (Step(Refuse(TARGET)), Says(Owned(1)));
+// Call 1 comes to a stage, where the timers that aren't armed are refused, is shown there, and comes back; a target that may
+// be active waits for its release then, any other is free. So for each reason that there is. `KIND`, `RECORD` and `ENDS`
+// stand for what differs by where the call comes from.
+const STAGES: &str = "\
+# taken
+take 1 KIND 1/1/3 -> done
+undo 1 t3103 -> refused 9
+undo 1 t7 -> refused 9
+undo 1 t8 -> refused 9
+look 1 -> RECORD taken 1/1/3 -
+undo 1 asked -> RECORD taken 1/1/3 -
+open 7 1/1/3 -> done
+confirm 1/1/3 -> owned 7
+clear 7 -> done
+released 1/1/3 -> done
+ENDS
 
-const COMMAND: Row = (Step(Command(1)), DONE);
+# reserved
+take 1 KIND 1/1/3 -> done
+reserve 1 7 -> done
+undo 1 t3103 -> refused 9
+undo 1 t7 -> refused 9
+undo 1 t8 -> refused 9
+look 1 -> RECORD reserved 1/1/3 7
+undo 1 asked -> RECORD reserved 1/1/3 7
+open 7 1/1/3 -> done
+confirm 1/1/3 -> owned 7
+clear 7 -> done
+released 1/1/3 -> done
+ENDS
 
-const DETECT: Row = (Step(Detect(TARGET)), Says(Owned(1)));
+# sent
+take 1 KIND 1/1/3 -> done
+reserve 1 7 -> done
+activate 1 -> done
+undo 1 t3103 -> refused 9
+undo 1 t7 -> refused 9
+undo 1 t8 -> refused 9
+look 1 -> RECORD sent 1/1/3 7
+undo 1 asked -> RECORD sent 1/1/3 7
+open 7 1/1/3 -> refused 6 1/1/3
+released 1/1/3 -> done
+ENDS
 
-const REQUIRE: Row = (Step(Require(1)), DONE);
+# refused
+take 1 KIND 1/1/3 -> done
+reserve 1 7 -> done
+activate 1 -> done
+refuse 1/1/3 -> owned 1
+undo 1 t3103 -> refused 9
+undo 1 t7 -> refused 9
+undo 1 t8 -> refused 9
+look 1 -> RECORD refused 1/1/3 7
+undo 1 asked -> RECORD refused 1/1/3 7
+open 7 1/1/3 -> done
+confirm 1/1/3 -> owned 7
+clear 7 -> done
+released 1/1/3 -> done
+ENDS
 
-const ORDER: Row = (Step(Order(1)), DONE);
+# confirmed
+take 1 KIND 1/1/3 -> done
+reserve 1 7 -> done
+activate 1 -> done
+confirm 1/1/3 -> owned 1
+undo 1 t3103 -> refused 9
+undo 1 t7 -> refused 9
+undo 1 t8 -> refused 9
+look 1 -> RECORD confirmed 1/1/3 7
+undo 1 asked -> RECORD confirmed 1/1/3 7
+open 7 1/1/3 -> refused 6 1/1/3
+released 1/1/3 -> done
+ENDS
 
-const T3103: Why = Why::Expired(Timer::T3103);
+# commanded
+take 1 KIND 1/1/3 -> done
+reserve 1 7 -> done
+activate 1 -> done
+confirm 1/1/3 -> owned 1
+command 1 -> done
+undo 1 t7 -> refused 9
+undo 1 t8 -> refused 9
+look 1 -> RECORD commanded 1/1/3 7
+undo 1 asked -> RECORD commanded 1/1/3 7
+open 7 1/1/3 -> refused 6 1/1/3
+released 1/1/3 -> done
+ENDS
+take 1 KIND 1/1/3 -> done
+reserve 1 7 -> done
+activate 1 -> done
+confirm 1/1/3 -> owned 1
+command 1 -> done
+undo 1 t7 -> refused 9
+undo 1 t8 -> refused 9
+look 1 -> RECORD commanded 1/1/3 7
+undo 1 t3103 -> RECORD commanded 1/1/3 7
+open 7 1/1/3 -> refused 6 1/1/3
+released 1/1/3 -> done
+ENDS
 
-const T7: Why = Why::Expired(Timer::T7);
+# detected
+take 1 KIND 1/1/3 -> done
+reserve 1 7 -> done
+activate 1 -> done
+confirm 1/1/3 -> owned 1
+command 1 -> done
+detect 1/1/3 -> owned 1
+undo 1 t7 -> refused 9
+undo 1 t8 -> refused 9
+look 1 -> RECORD detected 1/1/3 7
+undo 1 asked -> RECORD detected 1/1/3 7
+open 7 1/1/3 -> refused 6 1/1/3
+released 1/1/3 -> done
+ENDS
+take 1 KIND 1/1/3 -> done
+reserve 1 7 -> done
+activate 1 -> done
+confirm 1/1/3 -> owned 1
+command 1 -> done
+detect 1/1/3 -> owned 1
+undo 1 t7 -> refused 9
+undo 1 t8 -> refused 9
+look 1 -> RECORD detected 1/1/3 7
+undo 1 t3103 -> RECORD detected 1/1/3 7
+open 7 1/1/3 -> refused 6 1/1/3
+released 1/1/3 -> done
+ENDS";
 
-const T8: Why = Why::Expired(Timer::T8);
-
-const NOT_ARMED: Answer = Says(Refused(NotArmed));
-
-// Timers of call 1 that aren't armed.
-const NO_T3103: Row = (Step(Undo(1, T3103)), NOT_ARMED);
-
-const NO_T7: Row = (Step(Undo(1, T7)), NOT_ARMED);
-
-const NO_T8: Row = (Step(Undo(1, T8)), NOT_ARMED);
-
-// The steps of call 1 to a stage, behind the Take where there is one; the reference that its attempt has then, the
-// expiries that are refused there, the reasons for an undo, and whether it leaves a target waiting for its release.
-struct Way {
-    steps: &'static [Row],
-    stage: Stage,
-    reference: Option<u8>,
-    unarmed: &'static [Row],
-    reasons: &'static [Why],
-    awaited: bool,
+fn with(alloc: Global, kind: &str, record: &str, ends: &str) -> Result<String, AllocError> {
+    let text = STAGES.replace(alloc, "KIND", kind)?;
+    let text = text.replace(alloc, "RECORD", record)?;
+    text.replace(alloc, "ENDS", ends)
 }
 
-const WAYS: &[Way] = &[
-    Way {
-        steps: &[],
-        stage: Stage::Taken,
-        reference: None,
-        unarmed: &[NO_T3103, NO_T7, NO_T8],
-        reasons: &[Why::Asked],
-        awaited: false,
-    },
-    Way {
-        steps: &[RESERVE],
-        stage: Stage::Reserved,
-        reference: Some(7),
-        unarmed: &[NO_T3103, NO_T7, NO_T8],
-        reasons: &[Why::Asked],
-        awaited: false,
-    },
-    Way {
-        steps: &[RESERVE, ACTIVATE],
-        stage: Stage::Sent,
-        reference: Some(7),
-        unarmed: &[NO_T3103, NO_T7, NO_T8],
-        reasons: &[Why::Asked],
-        awaited: true,
-    },
-    Way {
-        steps: &[RESERVE, ACTIVATE, REFUSE],
-        stage: Stage::Refused,
-        reference: Some(7),
-        unarmed: &[NO_T3103, NO_T7, NO_T8],
-        reasons: &[Why::Asked],
-        awaited: false,
-    },
-    Way {
-        steps: &[RESERVE, ACTIVATE, CONFIRM],
-        stage: Stage::Confirmed,
-        reference: Some(7),
-        unarmed: &[NO_T3103, NO_T7, NO_T8],
-        reasons: &[Why::Asked],
-        awaited: true,
-    },
-    Way {
-        steps: &[RESERVE, ACTIVATE, CONFIRM, COMMAND],
-        stage: Stage::Commanded,
-        reference: Some(7),
-        unarmed: &[NO_T7, NO_T8],
-        reasons: &[Why::Asked, T3103],
-        awaited: true,
-    },
-    Way {
-        steps: &[RESERVE, ACTIVATE, CONFIRM, COMMAND, DETECT],
-        stage: Stage::Detected,
-        reference: Some(7),
-        unarmed: &[NO_T7, NO_T8],
-        reasons: &[Why::Asked, T3103],
-        awaited: true,
-    },
-];
-
-// A target that may be active waits for its release.
-const AWAITED: [Row; 2] = [
-    (Step(Open(7, TARGET)), Says(Refused(ChannelBusy(TARGET)))),
-    (Step(Released(TARGET)), DONE),
-];
-
-// Any other target is free.
-const FREE: [Row; 4] = [
-    (Step(Open(7, TARGET)), DONE),
-    (Step(Confirm(TARGET)), Says(Owned(7))),
-    (Step(Clear(7)), DONE),
-    (Step(Released(TARGET)), DONE),
-];
-
-const fn counts(channels: usize, calls: usize) -> Row {
-    let usage = Usage {
-        channels,
-        calls,
-        references: 0,
-        timers: 0,
-    };
-    (Ask::Usage, Answer::Holds(usage))
-}
-
-// Call 1 opens an attempt, goes a way, is shown so, and comes back.
-fn comes_back(
-    rt: &impl Abort,
-    book: &mut Book<Global>,
-    kind: Kind,
-    way: &Way,
-    why: Why,
-    shown: Answer,
-) -> Result<(), Fail> {
-    let after: &[Row] = if way.awaited { &AWAITED } else { &FREE };
-    play(rt, book, &[(Step(Take(1, kind, TARGET)), DONE)])?;
-    play(rt, book, way.steps)?;
-    play(rt, book, way.unarmed)?;
-    play(
-        rt,
-        book,
-        &[(Step(Look(1)), shown), (Step(Undo(1, why)), shown)],
-    )?;
-    play(rt, book, after)
-}
-
-// What is shown of call 1 where it comes from another controller.
-fn coming(way: &Way) -> Answer {
-    let record = CallRecord {
-        serving: None,
-        attempt: Some(Attempt {
-            kind: AttemptKind::Incoming,
-            stage: way.stage,
-            target: Some(TARGET),
-            reference: way.reference,
-        }),
-    };
-    Says(Record(record, None))
-}
-
-fn comes_back_and_is_forgotten(
-    rt: &impl Abort,
-    book: &mut Book<Global>,
-    way: &Way,
-    why: Why,
-) -> Result<(), Fail> {
-    comes_back(rt, book, Kind::Incoming, way, why, coming(way))?;
-    let ends = [counts(0, 0), (Step(Look(1)), Says(Refused(NoCall)))];
-    play(rt, book, &ends)
-}
-
-fn comes_and_goes(rt: &(impl AllocGlobal + Abort), way: &Way) -> Result<(), Fail> {
-    let mut book = book_of(rt.alloc(), rt.alloc(), THREE_CHANNELS)?;
-    for why in way.reasons {
-        comes_back_and_is_forgotten(rt, &mut book, way, *why)?;
-    }
-    Ok(())
-}
+const FORGOTTEN: &str = "\
+usage -> channels=0 calls=0 references=0 timers=0
+look 1 -> refused 1";
 
 #[test]
 fn each_stage_of_a_call_that_comes_is_undone(rt: HostRuntime) -> Result<(), Fail> {
-    for way in WAYS {
-        comes_and_goes(&rt, way)?;
-    }
-    Ok(())
+    let courses = with(rt.alloc(), "incoming", "record - - incoming", FORGOTTEN)?;
+    are_played(&rt, THREE_CHANNELS, "", Manner::Asked, &courses)
 }
 
-fn comes_back_and_rests(
-    rt: &impl Abort,
-    book: &mut Book<Global>,
-    way: &Way,
-    why: Why,
-) -> Result<(), Fail> {
-    let shown = Says(Record(moving(way.stage, way.reference), Some(ChanState::On(1))));
-    comes_back(rt, book, Kind::Internal, way, why, shown)?;
-    let ends = [
-        counts(1, 1),
-        (Step(Look(1)), Says(Record(RESTING, Some(ChanState::On(1))))),
-    ];
-    play(rt, book, &ends)
-}
-
-fn moves_and_rests(rt: &(impl AllocGlobal + Abort), way: &Way) -> Result<(), Fail> {
-    let mut book = book_of(rt.alloc(), rt.alloc(), THREE_CHANNELS)?;
-    play(rt, &mut book, &STEADY)?;
-    for why in way.reasons {
-        comes_back_and_rests(rt, &mut book, way, *why)?;
-    }
-    Ok(())
-}
+const AT_REST: &str = "\
+usage -> channels=1 calls=1 references=0 timers=0
+look 1 -> record 0/0/3 on";
 
 #[test]
 fn each_stage_of_a_call_that_moves_is_undone(rt: HostRuntime) -> Result<(), Fail> {
-    for way in WAYS {
-        moves_and_rests(&rt, way)?;
-    }
-    Ok(())
+    let courses = with(rt.alloc(), "internal", "record 0/0/3 on internal", AT_REST)?;
+    are_played(&rt, THREE_CHANNELS, STEADY, Manner::Asked, &courses)
 }
 
-// The ways of a call that is to leave for another controller.
-const LEAVING: &[Way] = &[
-    Way {
-        steps: &[REQUIRE],
-        stage: Stage::Required,
-        reference: None,
-        unarmed: &[NO_T3103, NO_T8],
-        reasons: &[Why::Asked, T7],
-        awaited: false,
-    },
-    Way {
-        steps: &[REQUIRE, ORDER],
-        stage: Stage::Ordered,
-        reference: None,
-        unarmed: &[NO_T3103, NO_T7],
-        reasons: &[Why::Asked, T8],
-        awaited: false,
-    },
-];
+const LEAVING: &str = "\
+# required
+require 1 -> done
+undo 1 t3103 -> refused 9
+undo 1 t8 -> refused 9
+look 1 -> record 0/0/3 on outgoing required - -
+undo 1 asked -> record 0/0/3 on outgoing required - -
+usage -> channels=1 calls=1 references=0 timers=0
+look 1 -> record 0/0/3 on
+require 1 -> done
+undo 1 t3103 -> refused 9
+undo 1 t8 -> refused 9
+look 1 -> record 0/0/3 on outgoing required - -
+undo 1 t7 -> record 0/0/3 on outgoing required - -
+usage -> channels=1 calls=1 references=0 timers=0
+look 1 -> record 0/0/3 on
 
-fn is_to_leave_and_rests(
-    rt: &impl Abort,
-    book: &mut Book<Global>,
-    way: &Way,
-    why: Why,
-) -> Result<(), Fail> {
-    let shown = outgoing(way.stage);
-    play(rt, book, way.steps)?;
-    play(rt, book, way.unarmed)?;
-    let ends = [
-        (Step(Look(1)), shown),
-        (Step(Undo(1, why)), shown),
-        counts(1, 1),
-        (Step(Look(1)), Says(Record(RESTING, Some(ChanState::On(1))))),
-    ];
-    play(rt, book, &ends)
-}
-
-fn leaves_and_rests(rt: &(impl AllocGlobal + Abort), way: &Way) -> Result<(), Fail> {
-    let mut book = book_of(rt.alloc(), rt.alloc(), THREE_CHANNELS)?;
-    play(rt, &mut book, &STEADY)?;
-    for why in way.reasons {
-        is_to_leave_and_rests(rt, &mut book, way, *why)?;
-    }
-    Ok(())
-}
+# ordered
+require 1 -> done
+order 1 -> done
+undo 1 t3103 -> refused 9
+undo 1 t7 -> refused 9
+look 1 -> record 0/0/3 on outgoing ordered - -
+undo 1 asked -> record 0/0/3 on outgoing ordered - -
+usage -> channels=1 calls=1 references=0 timers=0
+look 1 -> record 0/0/3 on
+require 1 -> done
+order 1 -> done
+undo 1 t3103 -> refused 9
+undo 1 t7 -> refused 9
+look 1 -> record 0/0/3 on outgoing ordered - -
+undo 1 t8 -> record 0/0/3 on outgoing ordered - -
+usage -> channels=1 calls=1 references=0 timers=0
+look 1 -> record 0/0/3 on";
 
 #[test]
 fn each_stage_of_a_call_that_leaves_is_undone(rt: HostRuntime) -> Result<(), Fail> {
-    for way in LEAVING {
-        leaves_and_rests(&rt, way)?;
-    }
-    Ok(())
+    are_played(&rt, THREE_CHANNELS, STEADY, Manner::Asked, LEAVING)
 }

@@ -1,206 +1,127 @@
 //! Attempts that are taken back or completed, among other events.
-use super::courses::Told::{Comes, Done, Leaves, Moves, Owned, Refused, Rests, Waits};
-use super::courses::{Course, is_right};
-use super::{HOME, OTHER, TARGET, THREE_CHANNELS};
-use radio_book::event::Event::{
-    Activate, Command, Complete, Confirm, Detect, Look, Open, Order, Owner, Refuse, Released,
-    Require, Reserve, Take, Undo,
-};
-use radio_book::event::Refusal::{ChannelBusy, NoCall, RefBusy, Unexpected, WrongPhase};
-use radio_book::event::{Event, Kind, Stage, Why};
+use super::courses::{Manner, are_played};
+use super::{STEADY, THREE_CHANNELS};
 use std::test::Fail;
 
-// Call 1 is steady on its channel.
-const STEADY: &[Event] = &[Open(1, HOME), Confirm(HOME)];
+const BESIDE_A_CALL: &str = "\
+# a call begins between the steps of an attempt
+take 1 internal 1/1/3 -> done
+reserve 1 0 -> done
+activate 1 -> done
+confirm 1/1/3 -> owned 1
+open 2 0/0/2 -> done
+command 1 -> done
+undo 1 asked -> record 0/0/3 on internal commanded 1/1/3 0
+released 1/1/3 -> done
+look 1 -> record 0/0/3 on
+look 2 -> record 0/0/2 pending
+usage -> channels=2 calls=2 references=0 timers=0
 
-const COURSES: &[Course] = &[
-    Course {
-        name: "a call begins between the steps of an attempt",
-        site: THREE_CHANNELS,
-        before: STEADY,
-        steps: &[
-            (Take(1, Kind::Internal, TARGET), Done),
-            (Reserve(1, 0), Done),
-            (Activate(1), Done),
-            (Confirm(TARGET), Owned(1)),
-            (Open(2, OTHER), Done),
-            (Command(1), Done),
-            (
-                Undo(1, Why::Asked),
-                Moves(1, HOME, Stage::Commanded, TARGET, Some(0)),
-            ),
-            (Released(TARGET), Done),
-            (Look(1), Rests(1, HOME)),
-            (Look(2), Waits(2, OTHER)),
-        ],
-        held: (2, 2, 0, 0),
-        undone: &[],
-    },
-    Course {
-        name: "the others alone",
-        site: THREE_CHANNELS,
-        before: STEADY,
-        steps: &[
-            (Open(2, OTHER), Done),
-            (Look(1), Rests(1, HOME)),
-            (Look(2), Waits(2, OTHER)),
-        ],
-        held: (2, 2, 0, 0),
-        undone: &[],
-    },
-    Course {
-        name: "a refused target awaits no release",
-        site: THREE_CHANNELS,
-        before: STEADY,
-        steps: &[
-            (Take(1, Kind::Internal, TARGET), Done),
-            (Reserve(1, 0), Done),
-            (Activate(1), Done),
-            (Refuse(TARGET), Owned(1)),
-            (
-                Undo(1, Why::Asked),
-                Moves(1, HOME, Stage::Refused, TARGET, Some(0)),
-            ),
-            (Open(2, TARGET), Done),
-            (Look(1), Rests(1, HOME)),
-            (Look(2), Waits(2, TARGET)),
-        ],
-        held: (2, 2, 0, 0),
-        undone: &[],
-    },
-    Course {
-        name: "an acknowledgement after the undo",
-        site: THREE_CHANNELS,
-        before: STEADY,
-        steps: &[
-            (Take(1, Kind::Internal, TARGET), Done),
-            (Reserve(1, 0), Done),
-            (Activate(1), Done),
-            (
-                Undo(1, Why::Asked),
-                Moves(1, HOME, Stage::Sent, TARGET, Some(0)),
-            ),
-            (Confirm(TARGET), Refused(Unexpected(TARGET))),
-            (Released(TARGET), Done),
-            (Released(TARGET), Refused(Unexpected(TARGET))),
-            (Owner(TARGET), Refused(Unexpected(TARGET))),
-            (Look(1), Rests(1, HOME)),
-        ],
-        held: (1, 1, 0, 0),
-        undone: &[],
-    },
-    Course {
-        name: "a call is refused for the target",
-        site: THREE_CHANNELS,
-        before: STEADY,
-        steps: &[
-            (Take(1, Kind::Internal, TARGET), Done),
-            (Open(2, TARGET), Refused(ChannelBusy(TARGET))),
-            (
-                Undo(1, Why::Asked),
-                Moves(1, HOME, Stage::Taken, TARGET, None),
-            ),
-            (Look(1), Rests(1, HOME)),
-            (Look(2), Refused(NoCall)),
-        ],
-        held: (1, 1, 0, 0),
-        undone: &[],
-    },
-    Course {
-        name: "that call alone",
-        site: THREE_CHANNELS,
-        before: STEADY,
-        steps: &[
-            (Open(2, TARGET), Done),
-            (Look(1), Rests(1, HOME)),
-            (Look(2), Waits(2, TARGET)),
-        ],
-        held: (2, 2, 0, 0),
-        undone: &[],
-    },
-    Course {
-        name: "a reference is refused for the one of an attempt that comes",
-        site: THREE_CHANNELS,
-        before: &[],
-        steps: &[
-            (Take(8, Kind::Incoming, OTHER), Done),
-            (Take(9, Kind::Incoming, HOME), Done),
-            (Reserve(8, 5), Done),
-            (Reserve(9, 5), Refused(RefBusy(0, 5))),
-            (Undo(8, Why::Asked), Comes(Stage::Reserved, OTHER, Some(5))),
-            (Look(8), Refused(NoCall)),
-            (Look(9), Comes(Stage::Taken, HOME, None)),
-        ],
-        held: (1, 1, 0, 0),
-        undone: &[],
-    },
-    Course {
-        name: "that attempt alone",
-        site: THREE_CHANNELS,
-        before: &[],
-        steps: &[
-            (Take(9, Kind::Incoming, HOME), Done),
-            (Reserve(9, 5), Done),
-            (Look(9), Comes(Stage::Reserved, HOME, Some(5))),
-        ],
-        held: (1, 1, 1, 0),
-        undone: &[],
-    },
-    Course {
-        name: "a call begins while another is to leave",
-        site: THREE_CHANNELS,
-        before: STEADY,
-        steps: &[
-            (Require(1), Done),
-            (Open(2, OTHER), Done),
-            (Order(1), Done),
-            (Undo(1, Why::Asked), Leaves(1, HOME, Stage::Ordered)),
-            (Look(1), Rests(1, HOME)),
-            (Look(2), Waits(2, OTHER)),
-        ],
-        held: (2, 2, 0, 0),
-        undone: &[],
-    },
-    Course {
-        name: "an attempt that is complete can't be taken back",
-        site: THREE_CHANNELS,
-        before: STEADY,
-        steps: &[
-            (Take(1, Kind::Internal, TARGET), Done),
-            (Reserve(1, 0), Done),
-            (Activate(1), Done),
-            (Confirm(TARGET), Owned(1)),
-            (Command(1), Done),
-            (Complete(1), Done),
-            (Undo(1, Why::Asked), Refused(WrongPhase)),
-            (Look(1), Rests(1, TARGET)),
-        ],
-        held: (2, 1, 0, 0),
-        undone: &[],
-    },
-    Course {
-        name: "the mobile is seen on the target alone",
-        site: THREE_CHANNELS,
-        before: STEADY,
-        steps: &[
-            (Take(1, Kind::Internal, TARGET), Done),
-            (Reserve(1, 0), Done),
-            (Activate(1), Done),
-            (Confirm(TARGET), Owned(1)),
-            (Command(1), Done),
-            (Detect(HOME), Refused(Unexpected(HOME))),
-            (Detect(TARGET), Owned(1)),
-            (Look(1), Moves(1, HOME, Stage::Detected, TARGET, Some(0))),
-        ],
-        held: (2, 1, 1, 1),
-        undone: &[],
-    },
-];
+# the others alone
+open 2 0/0/2 -> done
+look 1 -> record 0/0/3 on
+look 2 -> record 0/0/2 pending
+usage -> channels=2 calls=2 references=0 timers=0
+
+# a refused target awaits no release
+take 1 internal 1/1/3 -> done
+reserve 1 0 -> done
+activate 1 -> done
+refuse 1/1/3 -> owned 1
+undo 1 asked -> record 0/0/3 on internal refused 1/1/3 0
+open 2 1/1/3 -> done
+look 1 -> record 0/0/3 on
+look 2 -> record 1/1/3 pending
+usage -> channels=2 calls=2 references=0 timers=0
+
+# an acknowledgement after the undo
+take 1 internal 1/1/3 -> done
+reserve 1 0 -> done
+activate 1 -> done
+undo 1 asked -> record 0/0/3 on internal sent 1/1/3 0
+confirm 1/1/3 -> refused 8 1/1/3
+released 1/1/3 -> done
+released 1/1/3 -> refused 8 1/1/3
+owner 1/1/3 -> refused 8 1/1/3
+look 1 -> record 0/0/3 on
+usage -> channels=1 calls=1 references=0 timers=0
+
+# a call is refused for the target
+take 1 internal 1/1/3 -> done
+open 2 1/1/3 -> refused 6 1/1/3
+undo 1 asked -> record 0/0/3 on internal taken 1/1/3 -
+look 1 -> record 0/0/3 on
+look 2 -> refused 1
+usage -> channels=1 calls=1 references=0 timers=0
+
+# that call alone
+open 2 1/1/3 -> done
+look 1 -> record 0/0/3 on
+look 2 -> record 1/1/3 pending
+usage -> channels=2 calls=2 references=0 timers=0
+
+# a call begins while another is to leave
+require 1 -> done
+open 2 0/0/2 -> done
+order 1 -> done
+undo 1 asked -> record 0/0/3 on outgoing ordered - -
+look 1 -> record 0/0/3 on
+look 2 -> record 0/0/2 pending
+usage -> channels=2 calls=2 references=0 timers=0
+
+# an attempt that is complete can't be taken back
+take 1 internal 1/1/3 -> done
+reserve 1 0 -> done
+activate 1 -> done
+confirm 1/1/3 -> owned 1
+command 1 -> done
+complete 1 -> done
+undo 1 asked -> refused 3
+look 1 -> record 1/1/3 on
+usage -> channels=2 calls=1 references=0 timers=0
+
+# the mobile is seen on the target alone
+take 1 internal 1/1/3 -> done
+reserve 1 0 -> done
+activate 1 -> done
+confirm 1/1/3 -> owned 1
+command 1 -> done
+detect 0/0/3 -> refused 8 0/0/3
+detect 1/1/3 -> owned 1
+look 1 -> record 0/0/3 on internal detected 1/1/3 0
+usage -> channels=2 calls=1 references=1 timers=1";
+
+const OF_CALLS_THAT_COME: &str = "\
+# a reference is refused for the one of an attempt that comes
+take 8 incoming 0/0/2 -> done
+take 9 incoming 0/0/3 -> done
+reserve 8 5 -> done
+reserve 9 5 -> refused 7 0 5
+undo 8 asked -> record - - incoming reserved 0/0/2 5
+look 8 -> refused 1
+look 9 -> record - - incoming taken 0/0/3 -
+usage -> channels=1 calls=1 references=0 timers=0
+
+# that attempt alone
+take 9 incoming 0/0/3 -> done
+reserve 9 5 -> done
+look 9 -> record - - incoming reserved 0/0/3 5
+usage -> channels=1 calls=1 references=1 timers=0";
 
 #[test]
 fn each_attempt_goes_as_worked_out(rt: HostRuntime) -> Result<(), Fail> {
-    for course in COURSES {
-        is_right(&rt, course)?;
-    }
-    Ok(())
+    are_played(
+        &rt,
+        THREE_CHANNELS,
+        STEADY,
+        Manner::RunAndAsked,
+        BESIDE_A_CALL,
+    )?;
+    are_played(
+        &rt,
+        THREE_CHANNELS,
+        "",
+        Manner::RunAndAsked,
+        OF_CALLS_THAT_COME,
+    )
 }
