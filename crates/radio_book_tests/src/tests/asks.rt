@@ -40,20 +40,34 @@ pub(super) enum Answer {
     Holds(Usage),
 }
 
+#[derive(Clone, Copy)]
+struct UsageText(Usage);
+
+impl fmt::Display for UsageText {
+    fn fmt<W: fmt::Write>(&self, f: &mut fmt::Formatter<W>) -> fmt::Result {
+        let usage = self.0;
+        write!(f, "channels={} calls={} ", usage.channels, usage.calls)?;
+        write!(f, "references={} timers={}", usage.references, usage.timers)
+    }
+}
+
+#[derive(Clone, Copy)]
+struct ChoiceText(Event, Reply);
+
+impl fmt::Display for ChoiceText {
+    fn fmt<W: fmt::Write>(&self, f: &mut fmt::Formatter<W>) -> fmt::Result {
+        write!(f, "{} -> {}", EventText(self.0), ReplyText(self.1))
+    }
+}
+
 impl fmt::Display for Answer {
     fn fmt<W: fmt::Write>(&self, f: &mut fmt::Formatter<W>) -> fmt::Result {
         match *self {
             Answer::Replied(_, reply) => write!(f, "{}", ReplyText(reply)),
-            Answer::Chose(event, reply) => {
-                write!(f, "{} -> {}", EventText(event), ReplyText(reply))
-            }
+            Answer::Chose(event, reply) => write!(f, "{}", ChoiceText(event, reply)),
             Answer::NoneFree => f.write_str("none free"),
             Answer::Free(channels) => write!(f, "{channels}"),
-            Answer::Holds(usage) => write!(
-                f,
-                "channels={} calls={} references={} timers={}",
-                usage.channels, usage.calls, usage.references, usage.timers
-            ),
+            Answer::Holds(usage) => write!(f, "{}", UsageText(usage)),
         }
     }
 }
@@ -66,25 +80,46 @@ fn kind_of(text: &str) -> Option<Kind> {
     }
 }
 
+fn call_of(text: &str) -> Option<u16> {
+    text.parse().ok()
+}
+
+fn cell_of(text: &str) -> Option<u8> {
+    text.parse().ok()
+}
+
 fn take_any(text: &str) -> Option<Ask> {
     let (call, text) = text.split_once(' ')?;
     let (kind, cell) = text.split_once(' ')?;
-    Some(Ask::TakeAny(call.parse().ok()?, kind_of(kind)?, cell.parse().ok()?))
+    Some(Ask::TakeAny(call_of(call)?, kind_of(kind)?, cell_of(cell)?))
+}
+
+fn reserve_any(text: &str) -> Option<Ask> {
+    Some(Ask::ReserveAny(call_of(text)?))
+}
+
+fn free_in(text: &str) -> Option<Ask> {
+    Some(Ask::FreeIn(cell_of(text)?))
 }
 
 fn named_as_a_method(text: &str) -> Option<Ask> {
-    match text.split_once(' ') {
-        Some(("take_any", rest)) => take_any(rest),
-        Some(("reserve_any", call)) => Some(Ask::ReserveAny(call.parse().ok()?)),
-        Some(("free_in", cell)) => Some(Ask::FreeIn(cell.parse().ok()?)),
-        None if text == "usage" => Some(Ask::Usage),
-        Some(_) | None => None,
+    let (method, rest) = text.split_once(' ').unwrap_or((text, ""));
+    match method {
+        "take_any" => take_any(rest),
+        "reserve_any" => reserve_any(rest),
+        "free_in" => free_in(rest),
+        "usage" if rest.is_empty() => Some(Ask::Usage),
+        _ => None,
     }
 }
 
-// What a line asks.
+// What a line asks, and what it says is answered.
+fn sides(line: &str) -> (&str, &str) {
+    line.split_once(" -> ").unwrap_or((line, ""))
+}
+
 pub(super) fn ask_of(rt: &impl Abort, line: &str) -> Ask {
-    let (asked, _) = line.split_once(" -> ").unwrap_or((line, ""));
+    let (asked, _) = sides(line);
     let ask = match read_event(asked) {
         Some(event) => Some(Ask::Step(event)),
         None => named_as_a_method(asked),
@@ -131,7 +166,12 @@ pub(super) fn text_of(
     Ok(text)
 }
 
-// The name of the course that a line stands in is there for what is printed where a test fails.
+// A line says this text. The name of its course is there for what is printed where a test fails.
+pub(super) fn says(rt: &impl Abort, name: &str, line: &str, text: &str) {
+    let (_, said) = sides(line);
+    assert!(rt; text == said, "{name}: {line}: {text}");
+}
+
 pub(super) fn is_said(
     rt: &(impl AllocGlobal + Abort),
     name: &str,
@@ -139,8 +179,7 @@ pub(super) fn is_said(
     answer: Answer,
 ) -> Result<(), AllocError> {
     let text = text_of(rt, answer)?;
-    let said = line.split_once(" -> ").map(|(_, said)| said);
-    assert!(rt; said == Some(text.as_str()), "{name}: {line}: {text}");
+    says(rt, name, line, &text);
     Ok(())
 }
 
@@ -167,7 +206,7 @@ pub(super) fn play<A: Allocator + Copy>(
 }
 
 fn event_of(rt: &impl Abort, line: &str) -> Event {
-    let (asked, _) = line.split_once(" -> ").unwrap_or((line, ""));
+    let (asked, _) = sides(line);
     read_event(asked).expect(rt, line)
 }
 
@@ -183,15 +222,30 @@ pub(super) fn events_of(
     Ok(events)
 }
 
+fn are_as_many(rt: &impl Abort, name: &str, lines: &str, replies: &[Reply]) {
+    let count = lines.lines().count();
+    assert!(rt; count == replies.len(), "{name}: {count}");
+}
+
+fn is_replied(
+    rt: &(impl AllocGlobal + Abort),
+    name: &str,
+    line: &str,
+    reply: Reply,
+) -> Result<(), AllocError> {
+    let event = event_of(rt, line);
+    is_said(rt, name, line, Answer::Replied(event, reply))
+}
+
 pub(super) fn are_replied(
     rt: &(impl AllocGlobal + Abort),
     name: &str,
     lines: &str,
     replies: &[Reply],
 ) -> Result<(), AllocError> {
-    assert!(rt; lines.lines().count() == replies.len(), "{name}");
+    are_as_many(rt, name, lines, replies);
     for (line, reply) in lines.lines().zip(replies) {
-        is_said(rt, name, line, Answer::Replied(event_of(rt, line), *reply))?;
+        is_replied(rt, name, line, *reply)?;
     }
     Ok(())
 }

@@ -12,7 +12,7 @@
 //! | `after all`, and lines | what the book after all events answers, where it differs |
 //!
 //! Any number of attempts may be taken out, each with its own lines.
-use super::asks::{are_replied, events_of, is_answered, play};
+use super::asks::{are_replied, events_of, is_answered, play, says};
 use super::book_of;
 use radio_book::book::Book;
 use radio_book::event::{Event, Reply};
@@ -77,6 +77,17 @@ pub(super) fn runs<A: Allocator + Copy>(
 }
 
 // The run leaves the book as it is, so that the steps can be asked of it afterwards.
+fn runs_and_asks(
+    rt: &(impl AllocGlobal + Abort),
+    book: &mut Book<Global>,
+    events: &[Event],
+    course: Course<'_>,
+) -> Result<(), AllocError> {
+    runs(rt, rt.alloc(), book, events, course)?;
+    play(rt, book, course.name, course.steps)?;
+    is_answered(rt, book, course.name, course.end)
+}
+
 fn is_run_and_asked(
     rt: &(impl AllocGlobal + Abort),
     book: &mut Book<Global>,
@@ -84,9 +95,7 @@ fn is_run_and_asked(
 ) -> Result<(), AllocError> {
     let course = course_of(rt, text);
     let events = events_of(rt, course.steps)?;
-    runs(rt, rt.alloc(), book, &events, course)?;
-    play(rt, book, course.name, course.steps)?;
-    is_answered(rt, book, course.name, course.end)
+    runs_and_asks(rt, book, &events, course)
 }
 
 // Each of the others got the reply that it gets alone.
@@ -100,31 +109,50 @@ fn replies_are_the_same(rewound: &Rewound<Global>) -> bool {
 }
 
 #[derive(Clone, Copy)]
-struct RewoundText<'a>(&'a Rewound<Global>);
+struct PlacesText<'a>(&'a [usize]);
+
+impl fmt::Display for PlacesText<'_> {
+    fn fmt<W: fmt::Write>(&self, f: &mut fmt::Formatter<W>) -> fmt::Result {
+        for place in self.0 {
+            write!(f, " {place}")?;
+        }
+        Ok(())
+    }
+}
+
+#[derive(Clone, Copy)]
+struct HeldText(Option<usize>);
+
+impl fmt::Display for HeldText {
+    fn fmt<W: fmt::Write>(&self, f: &mut fmt::Formatter<W>) -> fmt::Result {
+        match self.0 {
+            Some(place) => write!(f, "{place}"),
+            None => f.write_str("-"),
+        }
+    }
+}
 
 fn same_or_differ(same: bool) -> &'static str {
     if same { "same" } else { "differ" }
 }
 
+#[derive(Clone, Copy)]
+struct RewoundText<'a>(&'a Rewound<Global>);
+
 impl fmt::Display for RewoundText<'_> {
     fn fmt<W: fmt::Write>(&self, f: &mut fmt::Formatter<W>) -> fmt::Result {
         let rewound = self.0;
-        f.write_str("others")?;
-        for place in rewound.others.iter() {
-            write!(f, " {place}")?;
-        }
+        let others = PlacesText(&rewound.others);
         let settled = if rewound.settled { "yes" } else { "no" };
-        write!(f, ", settled {settled}, held ")?;
-        match rewound.held {
-            Some(place) => write!(f, "{place}")?,
-            None => f.write_str("-")?,
-        }
+        let held = HeldText(rewound.held);
         let books = same_or_differ(rewound.whole == rewound.without);
         let replies = same_or_differ(replies_are_the_same(rewound));
-        write!(f, ", books {books}, replies {replies}")
+        write!(f, "others{others}, settled {settled}, held {held}, ")?;
+        write!(f, "books {books}, replies {replies}")
     }
 }
 
+// What `rewind` gives, as its line says.
 fn is_given(
     rt: &(impl AllocGlobal + Abort),
     course: Course<'_>,
@@ -132,8 +160,7 @@ fn is_given(
     given: &impl fmt::Display,
 ) -> Result<(), AllocError> {
     let text = format!(in rt.alloc(); "{given}")?;
-    let (_, wanted) = cut(line, " -> ");
-    assert!(rt; wanted == text.as_str(), "{}: {line}: {text}", course.name);
+    says(rt, course.name, line, &text);
     Ok(())
 }
 
@@ -157,6 +184,12 @@ fn is_as_worked_out(
     play(rt, &mut rewound.whole, course.name, after_all)
 }
 
+// The place that a part begins with.
+fn place_in(rt: &impl Abort, part: &str) -> usize {
+    let (place, _) = cut(part, " -> ");
+    place.parse().ok().expect(rt, part)
+}
+
 fn is_taken_out(
     rt: &(impl AllocGlobal + Abort),
     book: &Book<Global>,
@@ -164,12 +197,23 @@ fn is_taken_out(
     course: Course<'_>,
     part: &str,
 ) -> Result<(), AllocError> {
-    let (place, _) = cut(part, " -> ");
-    let place = place.parse().ok().expect(rt, part);
-    match rewind(rt.alloc(), book, events, place) {
+    match rewind(rt.alloc(), book, events, place_in(rt, part)) {
         Ok(mut rewound) => is_as_worked_out(rt, &mut rewound, course, part),
         Err(fault) => is_given(rt, course, part, &fault),
     }
+}
+
+fn each_is_taken_out(
+    rt: &(impl AllocGlobal + Abort),
+    book: &Book<Global>,
+    events: &[Event],
+    text: &str,
+) -> Result<(), AllocError> {
+    let course = course_of(rt, text);
+    for part in text.split("\nwithout ").skip(1) {
+        is_taken_out(rt, book, events, course, part)?;
+    }
+    Ok(())
 }
 
 fn are_taken_out(
@@ -177,15 +221,25 @@ fn are_taken_out(
     book: &Book<Global>,
     text: &str,
 ) -> Result<(), AllocError> {
-    let course = course_of(rt, text);
-    let events = events_of(rt, course.steps)?;
-    for part in text.split("\nwithout ").skip(1) {
-        is_taken_out(rt, book, &events, course, part)?;
-    }
-    Ok(())
+    let events = events_of(rt, course_of(rt, text).steps)?;
+    each_is_taken_out(rt, book, &events, text)
 }
 
 fn is_played(
+    rt: &(impl AllocGlobal + Abort),
+    book: &mut Book<Global>,
+    manner: Manner,
+    text: &str,
+) -> Result<(), AllocError> {
+    let (name, lines) = text.split_once('\n').expect(rt, text);
+    match manner {
+        Manner::Asked => play(rt, book, name, lines),
+        Manner::RunAndAsked => is_run_and_asked(rt, book, text),
+        Manner::TakenOut => are_taken_out(rt, book, text),
+    }
+}
+
+fn is_played_after(
     rt: &(impl AllocGlobal + Abort),
     book: &mut Book<Global>,
     before: &str,
@@ -193,12 +247,7 @@ fn is_played(
     text: &str,
 ) -> Result<(), Fail> {
     play(rt, book, "before", before)?;
-    let (name, lines) = text.split_once('\n').expect(rt, text);
-    match manner {
-        Manner::Asked => play(rt, book, name, lines)?,
-        Manner::RunAndAsked => is_run_and_asked(rt, book, text)?,
-        Manner::TakenOut => are_taken_out(rt, book, text)?,
-    }
+    is_played(rt, book, manner, text)?;
     Ok(())
 }
 
@@ -211,7 +260,7 @@ fn is_played_on(
     text: &str,
 ) -> Result<(), Fail> {
     let mut book = book_of(rt.alloc(), rt.alloc(), site)?;
-    is_played(rt, &mut book, before, manner, text)
+    is_played_after(rt, &mut book, before, manner, text)
 }
 
 // Plays each course on a book of the site of its own, after other lines.

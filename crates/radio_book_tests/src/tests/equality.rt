@@ -154,8 +154,8 @@ fn sides(pair: &str) -> Option<(&str, &str, bool)> {
     Some((first, second, false))
 }
 
-// Whether the first list leads from the first book where the second leads from the second.
-fn leads_to_the_same(
+// The two lists lead from the two books to the same, or not, as the pair says.
+fn lead_to_the_same(
     rt: &(impl AllocGlobal + Abort),
     one: &mut Book<Global>,
     other: &mut Book<Global>,
@@ -171,14 +171,22 @@ fn leads_to_the_same(
     Ok(())
 }
 
+fn is_compared_with_a_copy(
+    rt: &(impl AllocGlobal + Abort),
+    one: &mut Book<Global>,
+    pair: &str,
+) -> Result<(), AllocError> {
+    let mut other = one.copy()?;
+    lead_to_the_same(rt, one, &mut other, pair)
+}
+
 fn are_compared(
     rt: &(impl AllocGlobal + Abort),
     book: &Book<Global>,
     pair: &str,
 ) -> Result<(), AllocError> {
     let mut one = book.copy()?;
-    let mut other = book.copy()?;
-    leads_to_the_same(rt, &mut one, &mut other, pair)
+    is_compared_with_a_copy(rt, &mut one, pair)
 }
 
 fn each_is_compared(rt: &(impl AllocGlobal + Abort), book: &Book<Global>) -> Result<(), Fail> {

@@ -1,12 +1,11 @@
 //! The largest site, 64 cells with four TRX each: a call on each of its traffic channels, 31 in each cell.
 use super::asks::play;
-use super::book_of;
+use super::book_of_64_cells;
 use channel_fsm::ChanId;
 use radio_book::book::Book;
 use radio_book::event::Event;
 use radio_book::event::Event::{Clear, Open};
 use radio_book::event::Reply::Done;
-use sample_sites::site_of_cells;
 use std::alloc::{AllocError, Global};
 use std::process::Abort;
 use std::test::Fail;
@@ -62,7 +61,6 @@ fn fills_and_empties(rt: &(impl AllocGlobal + Abort), book: &mut Book<Global>) -
 
 #[test]
 fn each_channel_of_the_largest_site_serves_a_call(rt: HostRuntime) -> Result<(), Fail> {
-    let text = site_of_cells(rt.alloc(), 64, 4, 0)?;
-    let mut book = book_of(rt.alloc(), rt.alloc(), text.as_str())?;
+    let mut book = book_of_64_cells(&rt)?;
     fills_and_empties(&rt, &mut book)
 }

@@ -2,7 +2,7 @@
 //! be taken out of the list. What is answered, and how much the book holds after each round, is worked out by the table.
 ghost use Rattle.std.specs.Prelude.{◌<◌};
 
-use super::book_of;
+use super::{at_places, book_of_64_cells};
 use channel_fsm::{ChanId, ChanState};
 use radio_book::book::{Book, Usage};
 use radio_book::event::Event::{
@@ -14,7 +14,6 @@ use radio_book::event::Reply::{Done, Owned, Record, Refused};
 use radio_book::event::{Attempt, AttemptKind, CallRecord, Event, Kind, Reply, Stage, Timer, Why};
 use radio_book::rewind::{RewindFault, Rewound, rewind};
 use radio_book::run::run;
-use sample_sites::site_of_cells;
 use std::alloc::{AllocError, Global};
 use std::process::Abort;
 use std::test::Fail;
@@ -25,7 +24,7 @@ const CALLS: u16 = 496;
 const ROUNDS: usize = 10;
 
 // What happens to a call in a round. Its home is the channel that it begins on, its target lies in the cell beside.
-#[derive(Clone, Copy, Debug)]
+#[derive(Clone, Copy)]
 enum Turn {
     Opens,
     HomeIsOn,
@@ -278,32 +277,24 @@ fn is_round(rt: &impl Abort, book: &mut Book<Global>, round: usize) -> Result<()
     for call in 0..CALLS {
         let turn = turn_in(round, call);
         let reply = book.step(asked(turn, call))?;
-        assert!(rt;
-            reply == answered(turn, call),
-            "{call}: {turn:?}: {reply:?}"
-        );
+        assert!(rt; reply == answered(turn, call), "{call}: {round}");
     }
     Ok(())
 }
 
-fn each_round(rt: &impl Abort, book: &mut Book<Global>) -> Result<(), AllocError> {
+fn each_round(rt: &impl Abort, book: &mut Book<Global>) -> Result<(), Fail> {
     for (round, (channels, calls, references, timers)) in USAGES.iter().enumerate() {
         is_round(rt, book, round)?;
         let usage = holds(*channels, *calls, *references, *timers);
-        assert_eq!(rt; book.usage(), usage, "{round}");
+        assert!(rt; book.usage() == usage, "{round}");
     }
     Ok(())
-}
-
-fn book_of_64_cells(rt: &(impl AllocGlobal + Abort)) -> Result<Book<Global>, Fail> {
-    let text = site_of_cells(rt.alloc(), 64, 4, 0)?;
-    book_of(rt.alloc(), rt.alloc(), text.as_str())
 }
 
 #[test]
 fn hundreds_of_calls_hand_over_round_by_round(rt: HostRuntime) -> Result<(), Fail> {
     let mut book = book_of_64_cells(&rt)?;
-    Ok(each_round(&rt, &mut book)?)
+    each_round(&rt, &mut book)
 }
 
 // The whole list, 4,960 events.
@@ -334,19 +325,24 @@ fn runs(
     wanted: &[Reply],
 ) -> Result<(), AllocError> {
     let (after, replies) = run(rt.alloc(), book, events)?;
-    assert!(rt; replies.as_slice() == wanted);
-    assert_eq!(rt; after.usage(), holds(620, 620, 0, 0));
-    assert_eq!(rt; book.usage(), holds(0, 0, 0, 0));
+    let answered = replies.as_slice() == wanted;
+    let kept = book.usage() == holds(0, 0, 0, 0);
+    assert!(rt; answered && kept && after.usage() == holds(620, 620, 0, 0));
+    Ok(())
+}
+
+fn all_rounds_run(rt: &(impl AllocGlobal + Abort), book: &Book<Global>) -> Result<(), Fail> {
+    let events = events(rt.alloc())?;
+    let replies = replies(rt.alloc())?;
+    assert!(rt; events.len() == 4960);
+    runs(rt, book, &events, &replies)?;
     Ok(())
 }
 
 #[test]
 fn all_rounds_run_from_a_copy(rt: HostRuntime) -> Result<(), Fail> {
     let book = book_of_64_cells(&rt)?;
-    let events = events(rt.alloc())?;
-    let replies = replies(rt.alloc())?;
-    assert!(&rt; events.len() == 4960);
-    Ok(runs(&rt, &book, &events, &replies)?)
+    all_rounds_run(&rt, &book)
 }
 
 // An attempt that was undone: its call, the rounds that are its own steps or a station's on its target up to the release,
@@ -393,53 +389,47 @@ fn all_but(alloc: Global, attempted: &Attempted) -> Result<Vec<usize>, AllocErro
     Ok(places)
 }
 
-// The replies at all places but those of an attempt.
-fn replies_but(alloc: Global, attempted: &Attempted) -> Result<Vec<Reply>, AllocError> {
-    let mut replies = Vec::new(alloc);
-    for round in 0..ROUNDS {
-        for call in 0..CALLS {
-            if call != attempted.call || !attempted.own.contains(&round) {
-                replies.push(answered(turn_in(round, call), call))?;
-            }
-        }
-    }
-    Ok(replies)
-}
-
 // Where no refusal was held nothing of the attempt is left; where one was, the call that was refused is on the target.
 fn is_taken_out(
     rt: &impl Abort,
     rewound: &Rewound<Global>,
     attempted: &Attempted,
+    places: &[usize],
     replies: &[Reply],
 ) {
-    let held = attempted.held.map(|round| place_in(round, attempted.call));
+    let held = match attempted.held {
+        Some(round) => Some(place_in(round, attempted.call)),
+        None => None,
+    };
     let calls = if held.is_some() { 621 } else { 620 };
-    assert!(rt; rewound.settled, "{}", attempted.call);
-    assert!(rt; rewound.held == held, "{}", attempted.call);
-    assert_eq!(rt; rewound.whole.usage(), holds(620, 620, 0, 0));
-    assert_eq!(rt; rewound.without.usage(), holds(calls, calls, 0, 0));
-    assert!(rt; (rewound.whole == rewound.without) == held.is_none());
-    assert!(rt; (rewound.without_replies.as_slice() == replies) == held.is_none());
+    let others = rewound.others.as_slice() == places;
+    let counted = rewound.whole.usage() == holds(620, 620, 0, 0)
+        && rewound.without.usage() == holds(calls, calls, 0, 0);
+    let same = rewound.whole == rewound.without;
+    let answered = rewound.without_replies.as_slice() == replies;
+    assert!(rt;
+        others && rewound.settled && rewound.held == held && counted,
+        "{}",
+        attempted.call
+    );
+    assert!(rt;
+        same == held.is_none() && answered == held.is_none(),
+        "{}",
+        attempted.call
+    );
 }
 
 fn rewinds(
     rt: &(impl AllocGlobal + Abort),
     book: &Book<Global>,
     events: &[Event],
+    replies: &[Reply],
     attempted: &Attempted,
 ) -> Result<(), AllocError> {
     let places = all_but(rt.alloc(), attempted)?;
-    let replies = replies_but(rt.alloc(), attempted)?;
+    let replies = at_places(rt.alloc(), replies, &places)?;
     match rewind(rt.alloc(), book, events, place_in(2, attempted.call)) {
-        Ok(rewound) => {
-            assert!(rt;
-                rewound.others.as_slice() == places.as_slice(),
-                "{}",
-                attempted.call
-            );
-            is_taken_out(rt, &rewound, attempted, &replies);
-        }
+        Ok(rewound) => is_taken_out(rt, &rewound, attempted, &places, &replies),
         Err(fault) => panic!(rt; "{}: {fault}", attempted.call),
     }
     Ok(())
@@ -448,16 +438,30 @@ fn rewinds(
 // A call that moved, one that left, and one between whose steps the place lies.
 const MISSING: [usize; 3] = [2 * 496 + 252, 2 * 496 + 251, 3 * 496 + 250];
 
+fn finds_none(
+    rt: &(impl AllocGlobal + Abort),
+    book: &Book<Global>,
+    events: &[Event],
+    places: &[usize],
+) {
+    for at in places {
+        let fault = rewind(rt.alloc(), book, events, *at).err();
+        assert!(rt; fault == Some(RewindFault::NoAttempt), "{at}");
+    }
+}
+
+fn each_is_taken_out(rt: &(impl AllocGlobal + Abort), book: &Book<Global>) -> Result<(), Fail> {
+    let events = events(rt.alloc())?;
+    let replies = replies(rt.alloc())?;
+    for attempted in UNDONE {
+        rewinds(rt, book, &events, &replies, attempted)?;
+    }
+    finds_none(rt, book, &events, &MISSING);
+    Ok(())
+}
+
 #[test]
 fn each_of_many_attempts_is_taken_out(rt: HostRuntime) -> Result<(), Fail> {
     let book = book_of_64_cells(&rt)?;
-    let events = events(rt.alloc())?;
-    for attempted in UNDONE {
-        rewinds(&rt, &book, &events, attempted)?;
-    }
-    for at in &MISSING {
-        let fault = rewind(rt.alloc(), &book, &events, *at).err();
-        assert!(&rt; fault == Some(RewindFault::NoAttempt), "{at}");
-    }
-    Ok(())
+    each_is_taken_out(&rt, &book)
 }

@@ -1,7 +1,7 @@
 //! Undone attempts in lists of events that a counter makes, taken out: what `rewind` gives is what the others alone lead to.
 ghost use Rattle.std.specs.Prelude.{◌<◌};
 
-use super::book_of;
+use super::{at_places, book_of};
 use channel_fsm::{ChanId, ChanState};
 use radio_book::book::Book;
 use radio_book::event::Event::{
@@ -322,32 +322,25 @@ impl Met {
     }
 }
 
-// The items at the places.
-fn at_places<T: Copy>(alloc: Global, all: &[T], places: &[usize]) -> Result<Vec<T>, AllocError> {
-    let mut found = Vec::new(alloc);
-    for place in places {
-        if let Some(item) = all.get(*place) {
-            found.push(*item)?;
-        }
-    }
-    Ok(found)
+fn are_the_same(
+    rt: &impl Abort,
+    events: &[Event],
+    one: (&Book<Global>, &[Reply]),
+    other: (&Book<Global>, &[Reply]),
+) {
+    assert!(rt; *one.0 == *other.0 && one.1 == other.1, "{events:?}");
 }
 
-// The book and the replies without the attempt are those that the others alone lead to.
-fn others_lead_there(
+// The events lead to this book, and get these replies.
+fn lead_to(
     rt: &(impl AllocGlobal + Abort),
     book: &Book<Global>,
     events: &[Event],
-    rewound: &Rewound<Global>,
+    after: &Book<Global>,
+    replies: &[Reply],
 ) -> Result<(), AllocError> {
-    let others = at_places(rt.alloc(), events, &rewound.others)?;
-    assert!(rt; others.len() == rewound.others.len());
-    let (alone, replies) = run(rt.alloc(), book, &others)?;
-    assert!(rt; alone == rewound.without, "{others:?}");
-    assert!(rt;
-        replies.as_slice() == rewound.without_replies.as_slice(),
-        "{others:?}"
-    );
+    let (got, answered) = run(rt.alloc(), book, events)?;
+    are_the_same(rt, events, (&got, &answered), (after, replies));
     Ok(())
 }
 
@@ -360,25 +353,29 @@ fn leaves_no_trace(
         return Ok(());
     }
     let replies = at_places(rt.alloc(), &rewound.whole_replies, &rewound.others)?;
-    assert!(rt; rewound.whole == rewound.without);
-    assert!(rt; replies.as_slice() == rewound.without_replies.as_slice());
+    let same = replies.as_slice() == rewound.without_replies.as_slice();
+    assert!(rt; same && rewound.whole == rewound.without);
     Ok(())
 }
 
-// What is found at the opening of an undone attempt.
+// What is found at the opening of an undone attempt: the book and the replies without it are those that the others alone
+// lead to.
 fn is_taken_out(
     rt: &(impl AllocGlobal + Abort),
     book: &Book<Global>,
     events: &[Event],
     rewound: &Rewound<Global>,
 ) -> Result<(), AllocError> {
-    let (whole, replies) = run(rt.alloc(), book, events)?;
-    assert!(rt; whole == rewound.whole, "{events:?}");
-    assert!(rt;
-        replies.as_slice() == rewound.whole_replies.as_slice(),
-        "{events:?}"
-    );
-    others_lead_there(rt, book, events, rewound)?;
+    lead_to(rt, book, events, &rewound.whole, &rewound.whole_replies)?;
+    let others = at_places(rt.alloc(), events, &rewound.others)?;
+    assert!(rt; others.len() == rewound.others.len());
+    lead_to(
+        rt,
+        book,
+        &others,
+        &rewound.without,
+        &rewound.without_replies,
+    )?;
     leaves_no_trace(rt, rewound)
 }
 
@@ -441,9 +438,14 @@ fn is_played(
 // of them before their channel is asked for, and so settled. In one of ten the channel is asked for or active, and in one
 // of ten another call asks for it or for the number meanwhile: there are six channels, and two numbers. What was held shows
 // in the books. Of the Takes that are asked for any channel, one in four is refused at least.
-#[test]
-fn attempts_are_taken_out_of_lists_made_by_a_counter(rt: HostRuntime) -> Result<(), Fail> {
-    let book = book_of(rt.alloc(), rt.alloc(), SIX_CHANNELS)?;
+fn is_enough(rt: &impl Abort, met: &Met) {
+    let tried = met.attempts >= 2000 && met.settled >= 1000;
+    let held = met.held >= 200 && met.differ >= 200;
+    let others = met.awaited >= 200 && met.same >= 500 && met.missing >= 500;
+    assert!(rt; tried && held && others, "{met:?}");
+}
+
+fn are_played(rt: &(impl AllocGlobal + Abort), book: &Book<Global>) -> Result<(), Fail> {
     let mut met = Met {
         attempts: 0,
         settled: 0,
@@ -454,11 +456,14 @@ fn attempts_are_taken_out_of_lists_made_by_a_counter(rt: HostRuntime) -> Result<
         missing: 0,
     };
     for seed in 0..LISTS {
-        is_played(&rt, &book, seed, &mut met)?;
+        is_played(rt, book, seed, &mut met)?;
     }
-    assert!(&rt; met.attempts >= 2000 && met.settled >= 1000, "{met:?}");
-    assert!(&rt; met.held >= 200 && met.differ >= 200, "{met:?}");
-    assert!(&rt; met.awaited >= 200 && met.same >= 500, "{met:?}");
-    assert!(&rt; met.missing >= 500, "{met:?}");
+    is_enough(rt, &met);
     Ok(())
+}
+
+#[test]
+fn attempts_are_taken_out_of_lists_made_by_a_counter(rt: HostRuntime) -> Result<(), Fail> {
+    let book = book_of(rt.alloc(), rt.alloc(), SIX_CHANNELS)?;
+    are_played(&rt, &book)
 }
