@@ -108,7 +108,6 @@ fn named_as_a_method(text: &str) -> Option<Ask> {
         "take_any" => take_any(rest),
         "reserve_any" => reserve_any(rest),
         "free_in" => free_in(rest),
-        "usage" if rest.is_empty() => Some(Ask::Usage),
         _ => None,
     }
 }
@@ -122,6 +121,7 @@ pub(super) fn ask_of(rt: &impl Abort, line: &str) -> Ask {
     let (asked, _) = sides(line);
     let ask = match read_event(asked) {
         Some(event) => Some(Ask::Step(event)),
+        None if asked == "usage" => Some(Ask::Usage),
         None => named_as_a_method(asked),
     };
     ask.expect(rt, line)
@@ -156,14 +156,17 @@ fn is_of_its_call(answer: Answer) -> bool {
         || state == ChanState::On(call)
 }
 
-// The text of an answer, as it stands in a line.
+// The text of what is answered to a line.
 pub(super) fn text_of(
     rt: &(impl AllocGlobal + Abort),
+    line: &str,
     answer: Answer,
 ) -> Result<String, AllocError> {
-    let text = format!(in rt.alloc(); "{answer}")?;
-    assert!(rt; is_of_its_call(answer), "{text}");
-    Ok(text)
+    assert!(rt;
+        is_of_its_call(answer),
+        "{line}: the channel of another call"
+    );
+    format!(in rt.alloc(); "{answer}")
 }
 
 // A line says this text. The name of its course is there for what is printed where a test fails.
@@ -178,7 +181,7 @@ pub(super) fn is_said(
     line: &str,
     answer: Answer,
 ) -> Result<(), AllocError> {
-    let text = text_of(rt, answer)?;
+    let text = text_of(rt, line, answer)?;
     says(rt, name, line, &text);
     Ok(())
 }

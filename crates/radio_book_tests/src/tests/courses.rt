@@ -39,6 +39,7 @@ fn cut<'a>(text: &'a str, mark: &str) -> (&'a str, &'a str) {
 pub(super) fn course_of<'a>(rt: &impl Abort, text: &'a str) -> Course<'a> {
     let (text, _) = cut(text, "\nwithout ");
     let (steps, end) = text.rsplit_once('\n').expect(rt, text);
+    assert!(rt; end.starts_with("usage -> "), "{text}");
     let (name, steps) = cut(steps, "\n");
     Course { name, steps, end }
 }

@@ -40,7 +40,7 @@ fn shown(
     let mut shown = String::new(rt.alloc());
     for line in SHOWN.lines() {
         let answer = put(book, ask_of(rt, line))?;
-        shown.push_str(&text_of(rt, answer)?)?;
+        shown.push_str(&text_of(rt, line, answer)?)?;
         shown.push('\n')?;
     }
     Ok(shown)
