@@ -225,11 +225,6 @@ pub(super) fn events_of(
     Ok(events)
 }
 
-fn are_as_many(rt: &impl Abort, name: &str, lines: &str, replies: &[Reply]) {
-    let count = lines.lines().count();
-    assert!(rt; count == replies.len(), "{name}: {count}");
-}
-
 fn is_replied(
     rt: &(impl AllocGlobal + Abort),
     name: &str,
@@ -246,9 +241,11 @@ pub(super) fn are_replied(
     lines: &str,
     replies: &[Reply],
 ) -> Result<(), AllocError> {
-    are_as_many(rt, name, lines, replies);
-    for (line, reply) in lines.lines().zip(replies) {
+    let mut rest = replies.iter();
+    for line in lines.lines() {
+        let reply = rest.next().expect(rt, line);
         is_replied(rt, name, line, *reply)?;
     }
+    assert!(rt; rest.next().is_none(), "{name}");
     Ok(())
 }

@@ -11,7 +11,8 @@
 //! | `after that`, and lines | what the book without the attempt answers then |
 //! | `after all`, and lines | what the book after all events answers, where it differs |
 //!
-//! Any number of attempts may be taken out, each with its own lines.
+//! Any number of attempts may be taken out, each with its own lines. A course that is asked and no more may have any lines
+//! of [`asks`](super::asks).
 use super::asks::{are_replied, events_of, is_answered, play, says};
 use super::book_of;
 use radio_book::book::Book;

@@ -200,13 +200,18 @@ impl Dice {
         }
     }
 
-    // A list of events. The book, in which nothing is in use at first, goes along.
-    fn events(&mut self, alloc: Global, mut book: Book<Global>) -> Result<Vec<Event>, AllocError> {
+    // The next event, with which the book goes along.
+    fn step(&mut self, book: &mut Book<Global>) -> Result<Event, AllocError> {
+        let event = self.next_event(book)?;
+        book.step(event)?;
+        Ok(event)
+    }
+
+    // A list of events. In the book nothing is in use at first.
+    fn events(&mut self, alloc: Global, book: &mut Book<Global>) -> Result<Vec<Event>, AllocError> {
         let mut events = Vec::new(alloc);
         for _ in 0..LONGEST {
-            let event = self.next_event(&mut book)?;
-            events.push(event)?;
-            book.step(event)?;
+            events.push(self.step(book)?)?;
         }
         Ok(events)
     }
@@ -420,16 +425,21 @@ fn rewinds_each(
     Ok(())
 }
 
+// The list of a seed.
+fn events_of(alloc: Global, book: &Book<Global>, seed: u64) -> Result<Vec<Event>, AllocError> {
+    let mut dice = Dice { seed, thrown: 0 };
+    let mut copy = book.copy()?;
+    dice.events(alloc, &mut copy)
+}
+
 fn is_played(
     rt: &(impl AllocGlobal + Abort),
     book: &Book<Global>,
-    seed: u64,
+    events: &[Event],
     met: &mut Met,
 ) -> Result<(), AllocError> {
-    let mut dice = Dice { seed, thrown: 0 };
-    let events = dice.events(rt.alloc(), book.copy()?)?;
-    let (_, replies) = run(rt.alloc(), book, &events)?;
-    rewinds_each(rt, book, &events, &replies, met)
+    let (_, replies) = run(rt.alloc(), book, events)?;
+    rewinds_each(rt, book, events, &replies, met)
 }
 
 // The least that the lists must have for the test to say something. Of the forty events of a list about half are the next
@@ -456,7 +466,8 @@ fn are_played(rt: &(impl AllocGlobal + Abort), book: &Book<Global>) -> Result<()
         missing: 0,
     };
     for seed in 0..LISTS {
-        is_played(rt, book, seed, &mut met)?;
+        let events = events_of(rt.alloc(), book, seed)?;
+        is_played(rt, book, &events, &mut met)?;
     }
     is_enough(rt, &met);
     Ok(())
