@@ -1,72 +1,49 @@
 //! Requests for a call that comes which are admitted, and which of the site's cells they name.
-use super::incoming::{
-    ACKNOWLEDGED, ATTEMPT, COMES, COMES_WITHOUT_AREA, IS_NEW, NO_CELL, NO_RESOURCE, REFUSES,
-};
-use super::rows::Given::{A, Abis};
-use super::rows::Sent::{OnA, OnAbis};
-use super::rows::{OPENS_TARGET, Row};
-use super::{Played, are_played_at, opened, play};
-use channel_fsm::ChanId;
-use radio_book::event::Event::{Activate, Command, Confirm, Look, Reserve, Take};
-use radio_book::event::Reply::{Done, Owned, Record, Refused};
-use radio_book::event::{Attempt, CallRecord, Kind, Refusal, Reply, Stage};
+use super::player::{Radio, are_played, follows_lines, opened};
 use sample_sites::THREE_CHANNELS;
+use std::alloc::Global;
 use std::process::Abort;
 use std::test::Fail;
 
 /// Each of these requests leads to the channel of cell 1.
-const ADMITTED: &[Row] = &[
-    COMES,
-    COMES_WITHOUT_AREA,
-    // what is in the upper four bits beside speech
-    Row {
-        given: A(9, "0019100b031108010a01011d330505010017006605050100170065"),
-        ..COMES
-    },
-    // full rate preferred, half rate preferred, and either
-    Row {
-        given: A(9, "0019100b03010a050a01011d330505010017006605050100170065"),
-        ..COMES
-    },
-    Row {
-        given: A(9, "0019100b03010b050a01011d330505010017006605050100170065"),
-        ..COMES
-    },
-    Row {
-        given: A(9, "0019100b03010f050a01011d330505010017006605050100170065"),
-        ..COMES
-    },
-    // no speech version
-    Row {
-        given: A(9, "0018100b0201080a01011d330505010017006605050100170065"),
-        ..COMES
-    },
-    // no encryption or A5/1, with a key
-    Row {
-        given: A(
-            9,
-            "001a100b030108010a0203001d330505010017006605050100170065",
-        ),
-        ..COMES
-    },
-    // classmark 2
-    Row {
-        given: A(
-            9,
-            "001c100b030108010a010112033319810505010017006605050100170065",
-        ),
-        ..COMES
-    },
-];
+const ADMITTED: &str =
+    "in a 9 0019100b030108010a01011d330505010017006605050100170065  call 9 is to come to cell 1
+in a 9 0017100b030108010a01011d33050501001700660503020065  the cell is named by its cell identity alone
+in a 9 0019100b031108010a01011d330505010017006605050100170065  what is in the upper four bits beside speech
+in a 9 0019100b03010a050a01011d330505010017006605050100170065  full rate preferred, half rate preferred, and either
+in a 9 0019100b03010b050a01011d330505010017006605050100170065
+in a 9 0019100b03010f050a01011d330505010017006605050100170065
+in a 9 0018100b0201080a01011d330505010017006605050100170065  no speech version
+in a 9 001a100b030108010a0203001d330505010017006605050100170065  no encryption or A5/1, with a key
+in a 9 001c100b030108010a010112033319810505010017006605050100170065  classmark 2
+";
+
+/// What comes of each, and then its channel is refused.
+const TAKEN_AND_REFUSED: &str = "event look 9 -> refused 1
+event take 9 incoming 1/1/3 -> done
+event reserve 9 0 -> done
+event activate 9 -> done
+out abis 1 1 0821010b03020604000108010900
+in abis 1 1 0823010b1a0120
+event refuse 1/1/3 -> owned 9
+event look 9 -> record - - incoming refused 1/1/3 0
+event undo 9 asked -> record - - incoming refused 1/1/3 0
+out a 9 000416040120
+";
 
 /// Each of these requests is admitted, and its channel refused then.
-fn are_admitted(rt: &(impl AllocGlobal + Abort), requests: &[Row]) -> Result<(), Fail> {
-    let alloc = rt.alloc();
-    let mut radio = opened(alloc, alloc, THREE_CHANNELS)?;
-    for request in requests {
-        play(rt, alloc, alloc, &mut radio, &[*request, REFUSES])?;
+fn are_admitted(rt: &impl Abort, alloc: Global, radio: &mut Radio<Global>) -> Result<(), Fail> {
+    for request in ADMITTED.lines() {
+        let lines = format!(in alloc; "{request}\n{TAKEN_AND_REFUSED}")?;
+        follows_lines(rt, alloc, radio, &lines)?;
     }
     Ok(())
+}
+
+#[test]
+fn requests_are_admitted(rt: HostRuntime) -> Result<(), Fail> {
+    let mut radio = opened(rt.alloc(), rt.alloc(), THREE_CHANNELS)?;
+    are_admitted(&rt, rt.alloc(), &mut radio)
 }
 
 /// Three cells, the last two of which have one cell identity: cell 1 in location area 24, cell 2 in location area 23. Each has
@@ -104,89 +81,78 @@ ba = []
 trx = [{ arfcn = 62, tch = [4] }]
 ";
 
-/// The one channel of cell 2 there.
-const IN_AREA_23: ChanId = ChanId {
-    cell: 2,
-    trx: 0,
-    tn: 4,
-};
-
-const CONFIRMED_IN_AREA_23: Reply = Record(
-    CallRecord {
-        serving: None,
-        attempt: Some(Attempt {
-            stage: Stage::Confirmed,
-            target: Some(IN_AREA_23),
-            ..ATTEMPT
-        }),
-    },
-    None,
-);
-
-/// Call 9 is to come to the cell of location area 23.
-const COMES_TO_AREA_23: Row = Row {
-    events: &[
-        (Look(9), Refused(Refusal::NoCall)),
-        (Take(9, Kind::Incoming, IN_AREA_23), Done),
-        (Reserve(9, 0), Done),
-        (Activate(9), Done),
-    ],
-    out: &[OnAbis(2, 0, "0821010c03020604000108010900")],
-    ..COMES
-};
-
-/// Its channel is active: the command names that cell, with its power.
-const ACKNOWLEDGED_IN_AREA_23: Row = Row {
-    given: Abis(2, 0, "0822010c080000"),
-    events: &[
-        (Confirm(IN_AREA_23), Owned(9)),
-        (Look(9), CONFIRMED_IN_AREA_23),
-        (Command(9), Done),
-    ],
-    out: &[OnA(9, "000c121709062b183e0c003e0009")],
-};
-
-/// It is to come to the cell of location area 24.
-const COMES_TO_AREA_24: Row = Row {
-    given: A(9, "0019100b030108010a01011d330505010017006605050100180065"),
-    ..COMES
-};
-
-/// No cell of this identity is in location area 25.
-const COMES_TO_AREA_25: Row = Row {
-    given: A(9, "0019100b030108010a01011d330505010017006605050100190065"),
-    events: IS_NEW,
-    out: NO_CELL,
-};
-
-/// The first cell of the identity has no free channel.
-const COMES_WITHOUT_AREA_TO_NO_CHANNEL: Row = Row {
-    events: IS_NEW,
-    out: NO_RESOURCE,
-    ..COMES_WITHOUT_AREA
-};
-
 /// Requests for one of two cells with one identity.
-const NAMED: &[Played] = &[
-    // by the identity alone it is the first in the site, and no other
-    (&[COMES_WITHOUT_AREA, ACKNOWLEDGED], (1, 1, 1, 1)),
-    (
-        &[OPENS_TARGET, COMES_WITHOUT_AREA_TO_NO_CHANNEL],
-        (1, 1, 0, 0),
-    ),
-    // with a location area code it is the one that lies there
-    (&[COMES_TO_AREA_24, ACKNOWLEDGED], (1, 1, 1, 1)),
-    (&[COMES_TO_AREA_23, ACKNOWLEDGED_IN_AREA_23], (1, 1, 1, 1)),
-    (&[OPENS_TARGET, COMES_TO_AREA_23], (2, 2, 1, 0)),
-    (&[COMES_TO_AREA_25], (0, 0, 0, 0)),
-];
+const NAMED: &str = "by the identity alone it is the first in the site
+in a 9 0017100b030108010a01011d33050501001700660503020065  the cell is named by its cell identity alone
+event look 9 -> refused 1
+event take 9 incoming 1/1/3 -> done
+event reserve 9 0 -> done
+event activate 9 -> done
+out abis 1 1 0821010b03020604000108010900
+in abis 1 1 0822010b080000  the channel is active: the centre gets the command for the mobile
+event confirm 1/1/3 -> owned 9
+event look 9 -> record - - incoming confirmed 1/1/3 0
+event command 9 -> done
+out a 9 000c121709062bd5670ba36b0005
+end channels=1 calls=1 references=1 timers=1
 
-#[test]
-fn requests_are_admitted(rt: HostRuntime) -> Result<(), Fail> {
-    are_admitted(&rt, ADMITTED)
-}
+by the identity alone it is no other than the first
+in open 2 1 1 3
+event open 2 1/1/3 -> done
+out abis 1 1 0821010b0300060400010801
+in a 9 0017100b030108010a01011d33050501001700660503020065  the first cell of the identity has no free channel
+event look 9 -> refused 1
+out a 9 000416040121
+end channels=1 calls=1 references=0 timers=0
+
+with location area 24 it is the one that lies there
+in a 9 0019100b030108010a01011d330505010017006605050100180065  it is to come to the cell of location area 24
+event look 9 -> refused 1
+event take 9 incoming 1/1/3 -> done
+event reserve 9 0 -> done
+event activate 9 -> done
+out abis 1 1 0821010b03020604000108010900
+in abis 1 1 0822010b080000  the channel is active: the centre gets the command for the mobile
+event confirm 1/1/3 -> owned 9
+event look 9 -> record - - incoming confirmed 1/1/3 0
+event command 9 -> done
+out a 9 000c121709062bd5670ba36b0005
+end channels=1 calls=1 references=1 timers=1
+
+with location area 23 it is the one that lies there
+in a 9 0019100b030108010a01011d330505010017006605050100170065  call 9 is to come to the cell of location area 23
+event look 9 -> refused 1
+event take 9 incoming 2/0/4 -> done
+event reserve 9 0 -> done
+event activate 9 -> done
+out abis 2 0 0821010c03020604000108010900
+in abis 2 0 0822010c080000  its channel is active: the command names that cell, with its power
+event confirm 2/0/4 -> owned 9
+event look 9 -> record - - incoming confirmed 2/0/4 0
+event command 9 -> done
+out a 9 000c121709062b183e0c003e0009
+end channels=1 calls=1 references=1 timers=1
+
+it is the one in location area 23 where the other has no free channel
+in open 2 1 1 3
+event open 2 1/1/3 -> done
+out abis 1 1 0821010b0300060400010801
+in a 9 0019100b030108010a01011d330505010017006605050100170065  call 9 is to come to the cell of location area 23
+event look 9 -> refused 1
+event take 9 incoming 2/0/4 -> done
+event reserve 9 0 -> done
+event activate 9 -> done
+out abis 2 0 0821010c03020604000108010900
+end channels=2 calls=2 references=1 timers=0
+
+no cell of the identity lies in location area 25
+in a 9 0019100b030108010a01011d330505010017006605050100190065  no cell of this identity is in location area 25
+event look 9 -> refused 1
+out a 9 000416040151
+end channels=0 calls=0 references=0 timers=0
+";
 
 #[test]
 fn of_two_cells_with_one_identity_the_first_is_taken(rt: HostRuntime) -> Result<(), Fail> {
-    are_played_at(&rt, ONE_IDENTITY, NAMED)
+    are_played(&rt, ONE_IDENTITY, NAMED)
 }

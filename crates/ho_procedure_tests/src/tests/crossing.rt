@@ -1,17 +1,6 @@
 //! A call that leaves one controller for another, played through both: what the one sends to the switching centre and the
 //! mobile is what the other has made.
-use super::outgoing::{HAS_LEFT, LEAVES, ORDERS};
-use super::rows::Given::{A, Abis};
-use super::rows::Sent::{OnA, OnAbis};
-use super::rows::{ACTIVATED, OPENS, RELEASED, Row};
-use super::usage_after;
-use channel_fsm::ChanId;
-use radio_book::book::Usage;
-use radio_book::event::Event::{
-    Activate, Command, Complete, Confirm, Detect, Look, Owner, Reserve, Take,
-};
-use radio_book::event::Reply::{Done, Owned, Record, Refused};
-use radio_book::event::{Attempt, AttemptKind, CallRecord, Kind, Refusal, Reply, Stage};
+use super::player::are_played;
 use sample_sites::THREE_CHANNELS;
 use std::test::Fail;
 
@@ -31,107 +20,50 @@ ba = []
 trx = [{ arfcn = 62, tch = [1] }]
 ";
 
-/// Its one channel.
-const NEW: ChanId = ChanId {
-    cell: 0,
-    trx: 0,
-    tn: 1,
-};
-
-const CONFIRMED: Reply = Record(
-    CallRecord {
-        serving: None,
-        attempt: Some(Attempt {
-            kind: AttemptKind::Incoming,
-            stage: Stage::Confirmed,
-            target: Some(NEW),
-            reference: Some(0),
-        }),
-    },
-    None,
-);
-
-const DETECTED: Reply = Record(
-    CallRecord {
-        serving: None,
-        attempt: Some(Attempt {
-            kind: AttemptKind::Incoming,
-            stage: Stage::Detected,
-            target: Some(NEW),
-            reference: Some(0),
-        }),
-    },
-    None,
-);
-
 /// What the old controller does: the mobile is sent with the command that the new one has made.
-const OLD_SIDE: &[Row] = &[
-    OPENS,
-    ACTIVATED,
-    LEAVES,
-    Row {
-        given: A(1, "000c131709062b183e09003e0007"),
-        out: &[OnAbis(0, 0, "0301010b02000b0009062b183e09003e0007")],
-        ..ORDERS
-    },
-    HAS_LEFT,
-    RELEASED,
-];
+const OLD_SIDE: &str = "the call leaves the old controller
+from a call that is to leave
+in a 1 000c131709062b183e09003e0007
+event look 1 -> record 0/0/3 on outgoing required - -
+event order 1 -> done
+out abis 0 0 0301010b02000b0009062b183e09003e0007
+in a 1 00042004010b  the call has left: the centre ends it, since the handover was successful
+event look 1 -> record 0/0/3 on outgoing ordered - -
+event left 1 -> done
+out abis 0 0 082e010b
+out a 1 000121
+in abis 0 0 0833010b  the channel of call 1 is released
+event released 0/0/3 -> done
+end channels=0 calls=0 references=0 timers=0
+";
 
-/// What the new one does, which knows the call by another number.
-const NEW_SIDE: &[Row] = &[
-    Row {
-        given: A(
-            40000,
-            "0019100b030108010a01011d330505010017006405050100170066",
-        ),
-        events: &[
-            (Look(40000), Refused(Refusal::NoCall)),
-            (Take(40000, Kind::Incoming, NEW), Done),
-            (Reserve(40000, 0), Done),
-            (Activate(40000), Done),
-        ],
-        out: &[OnAbis(0, 0, "0821010903020604000108010900")],
-    },
-    Row {
-        given: Abis(0, 0, "08220109080000"),
-        events: &[
-            (Confirm(NEW), Owned(40000)),
-            (Look(40000), CONFIRMED),
-            (Command(40000), Done),
-        ],
-        out: &[OnA(40000, "000c121709062b183e09003e0007")],
-    },
-    Row {
-        given: Abis(0, 0, "082701091100"),
-        events: &[(Detect(NEW), Owned(40000)), (Look(40000), DETECTED)],
-        out: &[OnA(40000, "00011b")],
-    },
-    Row {
-        given: Abis(0, 0, "0302010902000b0003062c00"),
-        events: &[
-            (Owner(NEW), Owned(40000)),
-            (Look(40000), DETECTED),
-            (Complete(40000), Done),
-        ],
-        out: &[OnA(40000, "0003141500")],
-    },
-];
+/// What the new one does.
+const NEW_SIDE: &str = "it comes to the new one, which knows it by another number
+in a 40000 0019100b030108010a01011d330505010017006405050100170066
+event look 40000 -> refused 1
+event take 40000 incoming 0/0/1 -> done
+event reserve 40000 0 -> done
+event activate 40000 -> done
+out abis 0 0 0821010903020604000108010900
+in abis 0 0 08220109080000
+event confirm 0/0/1 -> owned 40000
+event look 40000 -> record - - incoming confirmed 0/0/1 0
+event command 40000 -> done
+out a 40000 000c121709062b183e09003e0007
+in abis 0 0 082701091100
+event detect 0/0/1 -> owned 40000
+event look 40000 -> record - - incoming detected 0/0/1 0
+out a 40000 00011b
+in abis 0 0 0302010902000b0003062c00
+event owner 0/0/1 -> owned 40000
+event look 40000 -> record - - incoming detected 0/0/1 0
+event complete 40000 -> done
+out a 40000 0003141500
+end channels=1 calls=1 references=0 timers=0
+";
 
 #[test]
 fn a_call_crosses(rt: HostRuntime) -> Result<(), Fail> {
-    let nothing = Usage {
-        channels: 0,
-        calls: 0,
-        references: 0,
-        timers: 0,
-    };
-    let one_call = Usage {
-        channels: 1,
-        calls: 1,
-        ..nothing
-    };
-    assert_eq!(rt; usage_after(&rt, THREE_CHANNELS, OLD_SIDE)?, nothing);
-    assert_eq!(rt; usage_after(&rt, ONE_CELL, NEW_SIDE)?, one_call);
-    Ok(())
+    are_played(&rt, THREE_CHANNELS, OLD_SIDE)?;
+    are_played(&rt, ONE_CELL, NEW_SIDE)
 }

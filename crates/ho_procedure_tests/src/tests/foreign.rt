@@ -1,12 +1,11 @@
 //! A view whose desk doesn't know its last receipt.
 ghost use Rattle.std.specs.Prelude.{[]};
 
-use super::rows::{ACTIVATED, CLEARS_COMMANDED, OPENS, Row, STARTS, TARGET_ACTIVATED};
-use super::{are_first_messages, inbound};
+use super::player::input_of;
 use crate::leaving::Leaving;
 use cell_table::Site;
 use ho_procedure::controller::Controller;
-use ho_procedure::exchange::Fault;
+use ho_procedure::exchange::{Fault, Outbound};
 use ho_procedure::view::DeskView;
 use radio_book::book::Book;
 use radio_book::event::{Event, Kind};
@@ -15,8 +14,10 @@ use radio_desk::seat::Receipt;
 use sample_sites::THREE_CHANNELS;
 use std::alloc::Global;
 use std::process::Abort;
+use std::str;
 use std::sync::Arc;
 use std::test::Fail;
+use trace_text::trace::{Mark, print_sent};
 
 /// Each event is answered so, for the receipt of place 7.
 #[derive(Drop)]
@@ -54,9 +55,9 @@ fn is_foreign(
     rt: &impl Abort,
     alloc: Global,
     controller: &mut Controller<Elsewhere, Global>,
-    row: Row,
+    input: &str,
 ) -> Result<(), Fail> {
-    match controller.handle(inbound(alloc, alloc, row.given)?) {
+    match controller.handle(input_of(alloc, input)?) {
         Err(Fault::Desk(place, out)) => assert_eq!(rt; (place, out.len()), (7, 0)),
         Ok(_out) => assert!(rt; false),
         Err(Fault::NoMemory(_out)) => assert!(rt; false),
@@ -70,35 +71,55 @@ fn a_foreign_seat_is_told(rt: HostRuntime) -> Result<(), Fail> {
     let site = Site::read(rt.alloc(), rt.alloc(), THREE_CHANNELS)?;
     let site = Arc::new(rt.alloc(), site)?;
     let mut controller = Controller::new(rt.alloc(), Elsewhere, site);
-    is_foreign(&rt, rt.alloc(), &mut controller, OPENS)?;
-    is_foreign(&rt, rt.alloc(), &mut controller, STARTS)
+    is_foreign(&rt, rt.alloc(), &mut controller, "open 1 0 0 3")?;
+    is_foreign(&rt, rt.alloc(), &mut controller, "handover 1 1")
 }
+
+/// A call whose mobile is sent to its target: nine events.
+const BEFORE: &str = "open 1 0 0 3
+abis 0 0 0822010b081234
+handover 1 1
+abis 1 1 0822010b080000";
 
 /// These inputs are handled to their end.
 fn are_handled(
     rt: &impl Abort,
     alloc: Global,
     controller: &mut Controller<Leaving, Global>,
-    rows: &[Row],
+    inputs: &str,
 ) -> Result<(), Fail> {
-    for row in rows {
-        let done = controller.handle(inbound(alloc, alloc, row.given)?);
-        assert!(rt; done.is_ok(), "{:?}", row.given);
+    for input in inputs.lines() {
+        let done = controller.handle(input_of(alloc, input)?);
+        assert!(rt; done.is_ok(), "{input}");
     }
     Ok(())
 }
 
-/// The input gets as far as its first message.
-fn owes_one(
+/// These messages are sent.
+fn are_sent(
+    rt: &impl Abort,
+    alloc: Global,
+    sent: &[Outbound<Global>],
+    wanted: &str,
+) -> Result<(), Fail> {
+    let mut out = Vec::new(alloc);
+    print_sent(&mut out, Mark::Alone, sent)?;
+    assert_eq!(rt; str::from_utf8(&out)?, wanted);
+    Ok(())
+}
+
+/// The input gets as far as these messages.
+fn owes(
     rt: &impl Abort,
     alloc: Global,
     controller: &mut Controller<Leaving, Global>,
-    row: Row,
+    input: &str,
+    wanted: &str,
 ) -> Result<(), Fail> {
-    match controller.handle(inbound(alloc, alloc, row.given)?) {
+    match controller.handle(input_of(alloc, input)?) {
         Err(Fault::Desk(place, out)) => {
-            assert_eq!(rt; (place, out.len()), (7, 1));
-            are_first_messages(rt, alloc, out.as_slice(), row)?;
+            assert_eq!(rt; place, 7);
+            are_sent(rt, alloc, out.as_slice(), wanted)?;
         }
         Ok(_out) => assert!(rt; false),
         Err(Fault::NoMemory(_out)) => assert!(rt; false),
@@ -107,7 +128,7 @@ fn owes_one(
     Ok(())
 }
 
-/// The rows before have nine events; then the call is looked at, and its attempt taken back.
+/// The call is looked at, its attempt taken back, and its target released; it isn't ended any more.
 #[test]
 fn what_is_owed_is_told_where_a_seat_becomes_foreign(rt: HostRuntime) -> Result<(), Fail> {
     let site = Site::read(rt.alloc(), rt.alloc(), THREE_CHANNELS)?;
@@ -115,7 +136,12 @@ fn what_is_owed_is_told_where_a_seat_becomes_foreign(rt: HostRuntime) -> Result<
     let book = Book::new(rt.alloc(), site.clone()?)?;
     let view = Leaving::new(Desk::new(rt.alloc(), book)?, 11);
     let mut controller = Controller::new(rt.alloc(), view, site);
-    let before = &[OPENS, ACTIVATED, STARTS, TARGET_ACTIVATED];
-    are_handled(&rt, rt.alloc(), &mut controller, before)?;
-    owes_one(&rt, rt.alloc(), &mut controller, CLEARS_COMMANDED)
+    are_handled(&rt, rt.alloc(), &mut controller, BEFORE)?;
+    owes(
+        &rt,
+        rt.alloc(),
+        &mut controller,
+        "clear 1",
+        "out abis 1 1 082e010b\n",
+    )
 }

@@ -1,208 +1,68 @@
 //! Allocation failures while an input is handled.
-use super::reports::{
-    MEASURES, REPORTS, REPORTS_AGAIN, REPORTS_BOTH, REPORTS_BOTH_AGAIN, REPORTS_MOVING,
-    TWO_NEIGHBOURS,
+//!
+//! A line `requests` in a course says how many requests for memory the input before it makes at least: one for each table
+//! of the book that gets its first entry, for the first entries of the history, for each list that a message keeps, for the
+//! list of messages and for a buffer of each; none where a buffer is left from before. Each of them is refused in turn.
+use super::beginnings::BEGINNINGS;
+use super::player::{
+    Radio, cut_beginning, cut_line, follows, input_of, opened, print_asked, push_line, trace_to,
 };
-use super::rows::{
-    ACTIVATED, CLEAR_COMMAND, CLEAR_COMMAND_AGAIN, CLEAR_COMMAND_COMMANDED, CLEAR_COMMAND_HELD,
-    CLEARS, CLEARS_COMMANDED, CLEARS_PENDING, COMPLETES, COMPLETES_UNSEEN, DETECTS, EXPIRES,
-    EXPIRES_AGAIN, FAILS, OPENS, OPENS_AGAIN, OPENS_OTHER, OPENS_TARGET, REFUSED_AT_ONCE, RELEASED,
-    RETURNS, Row, STARTS, TARGET_ACTIVATED, TARGET_REFUSES, UNDOES, UNDOES_COMMANDED,
-};
-use super::{
-    Radio, are_first_messages, comes_to, entries, inbound, incoming, opened, outgoing, play,
-};
-use ho_procedure::exchange::{Fault, Inbound};
-use radio_book::event::{Event, Reply};
+use super::reports::TWO_NEIGHBOURS;
+use super::{calls, incoming, outgoing, reports};
+use ho_procedure::exchange::{Fault, Inbound, Outbound};
+use radio_book::event::Event;
 use radio_book::run::run;
 use refusing_heap::RefusingHeap;
 use sample_sites::THREE_CHANNELS;
 use std::alloc::{AllocError, Global};
 use std::process::Abort;
+use std::str;
 use std::test::Fail;
+use trace_text::trace::{Mark, print_sent};
 
-/// What came before, an input, and how many requests for memory it makes at least: one for each table of the book that
-/// gets its first entry, for the first entries of the history, for each list that a message keeps, for the list of messages
-/// and for a buffer of each; none where a buffer is left from before. The inputs of a call.
-const REQUESTS: &[(&[Row], Row, u64)] = &[
-    (&[], OPENS, 5),
-    (&[OPENS], ACTIVATED, 1),
-    (&[OPENS, ACTIVATED], CLEARS, 1),
-    (&[OPENS, OPENS_AGAIN, CLEARS_PENDING], RELEASED, 1),
-    (&[OPENS, ACTIVATED], FAILS, 1),
-    (&[OPENS, ACTIVATED], CLEAR_COMMAND, 2),
-    (&[OPENS], CLEARS_PENDING, 2),
-    (&[OPENS_OTHER], REFUSED_AT_ONCE, 2),
-    (&[OPENS_OTHER, REFUSED_AT_ONCE], CLEAR_COMMAND_HELD, 2),
-    (&[OPENS, ACTIVATED, CLEAR_COMMAND], CLEAR_COMMAND_AGAIN, 1),
-];
+/// Inputs whose requests no other course counts.
+const INPUTS: &str = "a call ends before its channel is active
+in open 1 0 0 3
+event open 1 0/0/3 -> done
+out abis 0 0 0821010b0300060400010801
+in clear 1
+event look 1 -> record 0/0/3 pending
+event clear 1 -> done
+out abis 0 0 082e010b
+requests 2
 
-/// The same of a handover.
-const MOVING: &[(&[Row], Row, u64)] = &[
-    (&[OPENS, ACTIVATED], STARTS, 2),
-    (&[OPENS, ACTIVATED, STARTS], UNDOES, 1),
-    (&[OPENS, ACTIVATED, STARTS], TARGET_ACTIVATED, 1),
-    (&[OPENS, ACTIVATED, STARTS], TARGET_REFUSES, 1),
-    (&[OPENS, ACTIVATED, STARTS, TARGET_ACTIVATED], DETECTS, 0),
-];
+a measurement result has no report
+from a call that is on
+in abis 0 0 0828010b1b001903001e000400
+requests 1
 
-/// The same of one whose mobile was commanded to the target.
-const COMMANDED: &[(&[Row], Row, u64)] = &[
-    (&[OPENS, ACTIVATED, STARTS, TARGET_ACTIVATED], RETURNS, 1),
-    (
-        &[OPENS, ACTIVATED, STARTS, TARGET_ACTIVATED],
-        CLEAR_COMMAND_COMMANDED,
-        3,
-    ),
-    (
-        &[OPENS, ACTIVATED, STARTS, TARGET_ACTIVATED],
-        UNDOES_COMMANDED,
-        1,
-    ),
-    (
-        &[OPENS, ACTIVATED, STARTS, TARGET_ACTIVATED],
-        CLEARS_COMMANDED,
-        1,
-    ),
-    (
-        &[OPENS, ACTIVATED, STARTS, TARGET_ACTIVATED],
-        COMPLETES_UNSEEN,
-        1,
-    ),
-];
+a report comes while its call moves already
+from a call that is to move
+in abis 0 0 0828010b1b001903001e0004000b001206151e1e006812a000000000000000000000
+event owner 0/0/3 -> owned 1
+event look 1 -> record 0/0/3 on internal sent 1/1/3 0
+requests 3
+";
 
-/// The same of one whose mobile was detected there.
-const DETECTED: &[(&[Row], Row, u64)] = &[
-    (
-        &[OPENS, ACTIVATED, STARTS, TARGET_ACTIVATED, DETECTS],
-        COMPLETES,
-        1,
-    ),
-    (
-        &[OPENS, ACTIVATED, STARTS, TARGET_ACTIVATED, DETECTS],
-        EXPIRES,
-        1,
-    ),
-    (
-        &[OPENS, ACTIVATED, STARTS, TARGET_ACTIVATED, DETECTS, EXPIRES],
-        EXPIRES_AGAIN,
-        1,
-    ),
-];
+/// An input to a controller of a site, what came before, and what comes of it.
+#[derive(Drop)]
+struct Case<'a> {
+    site: &'a str,
+    before: &'a str,
+    input: &'a str,
+    comes: &'a str,
+}
 
-/// The same of reports.
-const REPORTED: &[(&[Row], Row, u64)] = &[
-    (&[OPENS, ACTIVATED], REPORTS, 3),
-    (&[OPENS, ACTIVATED, REPORTS], REPORTS_AGAIN, 3),
-    (&[OPENS, ACTIVATED], MEASURES, 1),
-    (&[OPENS, ACTIVATED, STARTS], REPORTS_MOVING, 3),
-];
-
-/// The same of a call that comes from another controller.
-const INCOMING: &[(&[Row], Row, u64)] = &[
-    (&[], incoming::COMES, 8),
-    (&[], incoming::COMES_FOR_DATA, 5),
-    (&[OPENS_TARGET], incoming::COMES_TO_NO_CHANNEL, 4),
-    (&[incoming::COMES], incoming::ACKNOWLEDGED, 2),
-    (&[incoming::COMES], incoming::REFUSES, 2),
-    (&[incoming::COMES], incoming::UNDOES_SENT, 3),
-    (&[incoming::COMES], incoming::CLEARS_SENT, 2),
-    (
-        &[incoming::COMES, incoming::ACKNOWLEDGED],
-        incoming::SEEN,
-        2,
-    ),
-    (
-        &[incoming::COMES, incoming::ACKNOWLEDGED],
-        incoming::EXPIRES,
-        3,
-    ),
-    (
-        &[incoming::COMES, incoming::ACKNOWLEDGED],
-        incoming::CLEAR_COMMAND_COMMANDED,
-        3,
-    ),
-    (
-        &[incoming::COMES, incoming::ACKNOWLEDGED],
-        incoming::ARRIVES_UNSEEN_WITH_CAUSE,
-        3,
-    ),
-    (
-        &[incoming::COMES, incoming::ACKNOWLEDGED, incoming::SEEN],
-        incoming::ARRIVES,
-        3,
-    ),
-];
-
-/// The same of a call that is to leave for another controller.
-const OUTGOING: &[(&[Row], Row, u64)] = &[
-    (&[OPENS, ACTIVATED], outgoing::LEAVES, 1),
-    (&[OPENS, ACTIVATED, outgoing::LEAVES], outgoing::ORDERS, 4),
-    (&[OPENS, ACTIVATED, outgoing::LEAVES], outgoing::REJECTS, 1),
-    (
-        &[OPENS, ACTIVATED, outgoing::LEAVES],
-        outgoing::EXPIRES_T7,
-        1,
-    ),
-    (
-        &[OPENS, ACTIVATED, outgoing::LEAVES],
-        outgoing::UNDOES_REQUIRED,
-        1,
-    ),
-    (
-        &[OPENS, ACTIVATED, outgoing::LEAVES],
-        outgoing::CLEAR_COMMAND_REQUIRED,
-        3,
-    ),
-    (
-        &[OPENS, ACTIVATED, outgoing::REPORTS],
-        outgoing::REPORTS_AGAIN,
-        4,
-    ),
-];
-
-/// The same of one whose mobile was sent there.
-const ORDERED: &[(&[Row], Row, u64)] = &[
-    (
-        &[OPENS, ACTIVATED, outgoing::LEAVES, outgoing::ORDERS],
-        outgoing::RETURNS,
-        2,
-    ),
-    (
-        &[OPENS, ACTIVATED, outgoing::LEAVES, outgoing::ORDERS],
-        outgoing::EXPIRES_T8,
-        1,
-    ),
-    (
-        &[OPENS, ACTIVATED, outgoing::LEAVES, outgoing::ORDERS],
-        outgoing::CLEARS_ORDERED,
-        1,
-    ),
-    (
-        &[OPENS, ACTIVATED, outgoing::LEAVES, outgoing::ORDERS],
-        outgoing::HAS_LEFT,
-        2,
-    ),
-];
-
-/// The same where the first candidate has no free channel.
-const SECOND_CANDIDATE: &[(&[Row], Row, u64)] = &[(
-    &[OPENS, ACTIVATED, OPENS_TARGET, REPORTS_BOTH],
-    REPORTS_BOTH_AGAIN,
-    4,
-)];
-
-/// An input to a controller after some rows.
+/// An input to a controller after what came before.
 fn input_after<'a>(
     rt: &impl Abort,
     heap: &'a RefusingHeap,
     scratch: Global,
     radio: &mut Radio<&'a RefusingHeap>,
-    before: &[Row],
-    row: Row,
+    case: &Case<'_>,
 ) -> Result<Inbound<&'a RefusingHeap>, Fail> {
-    play(rt, heap, scratch, radio, before)?;
-    Ok(inbound(heap, scratch, row.given)?)
+    follows(rt, heap, scratch, radio, case.before)?;
+    input_of(heap, case.input)
 }
 
 /// How many requests for memory a heap has had when an input comes.
@@ -211,48 +71,30 @@ fn requests_after<'a>(
     heap: &'a RefusingHeap,
     scratch: Global,
     radio: &mut Radio<&'a RefusingHeap>,
-    before: &[Row],
-    row: Row,
+    case: &Case<'_>,
 ) -> Result<u64, Fail> {
-    input_after(rt, heap, scratch, radio, before, row)?;
+    input_after(rt, heap, scratch, radio, case)?;
     Ok(heap.requests())
 }
 
-fn requests_before(
-    rt: &(impl AllocGlobal + Abort),
-    site: &str,
-    before: &[Row],
-    row: Row,
-) -> Result<u64, Fail> {
+fn requests_before(rt: &(impl AllocGlobal + Abort), case: &Case<'_>) -> Result<u64, Fail> {
     let heap = RefusingHeap::ample(rt.alloc());
-    let mut radio = opened(&heap, rt.alloc(), site)?;
-    requests_after(rt, &heap, rt.alloc(), &mut radio, before, row)
+    let mut radio = opened(&heap, rt.alloc(), case.site)?;
+    requests_after(rt, &heap, rt.alloc(), &mut radio, case)
 }
 
-/// Adds the events of the first of these entries, so many at most.
-fn push_events(
-    events: &mut Vec<Event>,
-    entries: &[(Event, Reply)],
-    count: usize,
-) -> Result<(), AllocError> {
-    for (event, _) in entries.iter().take(count) {
-        events.push(*event)?;
-    }
-    Ok(())
-}
-
-/// All events of the rows before, and so many of a row.
-fn events_of(
-    alloc: Global,
-    before: &[Row],
-    row: Row,
-    count: usize,
+/// All events that a controller has asked.
+fn events_of<'a>(
+    scratch: Global,
+    radio: &Radio<&'a RefusingHeap>,
 ) -> Result<Vec<Event>, AllocError> {
-    let mut events = Vec::new(alloc);
-    for row in before {
-        push_events(&mut events, row.events, row.events.len())?;
+    let desk = radio.view().desk();
+    let mut events = Vec::new(scratch);
+    for place in 0..desk.len() {
+        if let Some((event, _)) = desk.entry(place) {
+            events.push(*event)?;
+        }
     }
-    push_events(&mut events, row.events, count)?;
     Ok(events)
 }
 
@@ -269,45 +111,87 @@ fn is_run<'a>(
     Ok(())
 }
 
-/// The events asked from this place on are a beginning of the row's, and the book is what they lead to.
-fn is_beginning<'a>(
+/// The lines of what comes of an input that are messages.
+fn messages_in(scratch: Global, comes: &str) -> Result<String, AllocError> {
+    let mut messages = String::new(scratch);
+    for line in comes.lines() {
+        if line.starts_with("out ") {
+            push_line(&mut messages, line)?;
+        }
+    }
+    Ok(messages)
+}
+
+/// The events asked from this place on are the first that an input leads to.
+fn asked_first<'a>(
+    rt: &impl Abort,
+    scratch: Global,
+    radio: &Radio<&'a RefusingHeap>,
+    place: usize,
+    comes: &str,
+) -> Result<(), Fail> {
+    let mut asked = Vec::new(scratch);
+    print_asked(rt, radio.view().desk(), place, &mut asked)?;
+    let asked = str::from_utf8(&asked)?;
+    assert!(rt; comes.starts_with(asked), "{asked}");
+    Ok(())
+}
+
+/// These messages are the first that an input leads to.
+fn sent_first<'a>(
+    rt: &impl Abort,
+    scratch: Global,
+    sent: &[Outbound<&'a RefusingHeap>],
+    comes: &str,
+) -> Result<(), Fail> {
+    let mut out = Vec::new(scratch);
+    print_sent(&mut out, Mark::Alone, sent)?;
+    let sent = str::from_utf8(&out)?;
+    let messages = messages_in(scratch, comes)?;
+    assert!(rt; messages.starts_with(sent), "{sent}");
+    Ok(())
+}
+
+/// An input came to its end.
+fn comes_so<'a>(
+    rt: &impl Abort,
+    scratch: Global,
+    radio: &Radio<&'a RefusingHeap>,
+    place: usize,
+    sent: &[Outbound<&'a RefusingHeap>],
+    comes: &str,
+) -> Result<(), Fail> {
+    let mut out = Vec::new(scratch);
+    print_asked(rt, radio.view().desk(), place, &mut out)?;
+    print_sent(&mut out, Mark::Alone, sent)?;
+    assert_eq!(rt; str::from_utf8(&out)?, comes);
+    Ok(())
+}
+
+/// An input was handled, or memory was refused. Then the events are the first that it leads to, the messages too, and the
+/// book is what all events lead to.
+fn ends_so<'a>(
     rt: &impl Abort,
     scratch: Global,
     heap: &'a RefusingHeap,
     radio: &Radio<&'a RefusingHeap>,
     place: usize,
-    before: &[Row],
-    row: Row,
+    answer: &Result<Vec<Outbound<&'a RefusingHeap>, &'a RefusingHeap>, Fault<&'a RefusingHeap>>,
+    comes: &str,
 ) -> Result<(), Fail> {
-    let asked = entries(rt, radio, place, row);
-    assert!(rt; asked <= row.events.len(), "{:?}", row.given);
-    let events = events_of(scratch, before, row, asked)?;
-    is_run(rt, heap, radio, events.as_slice())
-}
-
-/// Handles an input. Where memory is refused, the events are the first of the row, and the messages too.
-fn handle<'a>(
-    rt: &impl Abort,
-    scratch: Global,
-    heap: &'a RefusingHeap,
-    radio: &mut Radio<&'a RefusingHeap>,
-    input: Inbound<&'a RefusingHeap>,
-    before: &[Row],
-    row: Row,
-) -> Result<(), Fail> {
-    let place = radio.view().desk().len();
-    match radio.handle(input) {
-        Ok(out) => {
-            assert!(rt; !heap.was_refused(), "{:?}", row.given);
-            comes_to(rt, scratch, radio, place, out.as_slice(), row)
+    match answer {
+        Ok(sent) => {
+            assert!(rt; !heap.was_refused(), "{comes}");
+            comes_so(rt, scratch, radio, place, sent, comes)
         }
-        Err(Fault::NoMemory(out)) => {
-            assert!(rt; heap.was_refused(), "{:?}", row.given);
-            are_first_messages(rt, scratch, out.as_slice(), row)?;
-            is_beginning(rt, scratch, heap, radio, place, before, row)
+        Err(Fault::NoMemory(sent)) => {
+            assert!(rt; heap.was_refused(), "{comes}");
+            asked_first(rt, scratch, radio, place, comes)?;
+            sent_first(rt, scratch, sent, comes)?;
+            is_run(rt, heap, radio, events_of(scratch, radio)?.as_slice())
         }
         Err(Fault::Undecoded(..) | Fault::Desk(..)) => {
-            assert!(rt; false, "{:?}", row.given);
+            assert!(rt; false, "{comes}");
             Ok(())
         }
     }
@@ -318,38 +202,32 @@ fn handle_after<'a>(
     scratch: Global,
     heap: &'a RefusingHeap,
     radio: &mut Radio<&'a RefusingHeap>,
-    before: &[Row],
-    row: Row,
+    case: &Case<'_>,
 ) -> Result<(), Fail> {
-    let input = input_after(rt, heap, scratch, radio, before, row)?;
-    handle(rt, scratch, heap, radio, input, before, row)
+    let input = input_after(rt, heap, scratch, radio, case)?;
+    let place = radio.view().desk().len();
+    let answer = radio.handle(input);
+    ends_so(rt, scratch, heap, radio, place, &answer, case.comes)
 }
 
 /// Whether an input met the refusal of a request.
 fn meets_refusal(
     rt: &(impl AllocGlobal + Abort),
-    site: &str,
-    before: &[Row],
-    row: Row,
+    case: &Case<'_>,
     request: u64,
 ) -> Result<bool, Fail> {
     let heap = RefusingHeap::refusing_nth(rt.alloc(), request);
-    let mut radio = opened(&heap, rt.alloc(), site)?;
-    handle_after(rt, rt.alloc(), &heap, &mut radio, before, row)?;
+    let mut radio = opened(&heap, rt.alloc(), case.site)?;
+    handle_after(rt, rt.alloc(), &heap, &mut radio, case)?;
     Ok(heap.was_refused())
 }
 
 /// How many requests for memory were refused in turn before the input was handled.
-fn refusals_of(
-    rt: &(impl AllocGlobal + Abort),
-    site: &str,
-    before: &[Row],
-    row: Row,
-) -> Result<u64, Fail> {
-    let first = requests_before(rt, site, before, row)?;
+fn refusals_of(rt: &(impl AllocGlobal + Abort), case: &Case<'_>) -> Result<u64, Fail> {
+    let first = requests_before(rt, case)?;
     let mut tried = 0u64;
     for n in 1..100 {
-        if !meets_refusal(rt, site, before, row, first.saturating_add(n))? {
+        if !meets_refusal(rt, case, first.saturating_add(n))? {
             break;
         }
         tried = n;
@@ -357,48 +235,95 @@ fn refusals_of(
     Ok(tried)
 }
 
-/// Each request for memory is answered, of each of these inputs.
-fn are_answered(
+/// Each request for memory of an input is answered: at least so many.
+fn is_answered(
     rt: &(impl AllocGlobal + Abort),
     site: &str,
-    table: &[(&[Row], Row, u64)],
+    before: &str,
+    lines: &str,
+    at_least: u64,
 ) -> Result<(), Fail> {
-    for (before, row, at_least) in table {
-        let tried = refusals_of(rt, site, *before, *row)?;
-        assert!(rt;
-            *at_least <= tried && tried < 99,
-            "{:?}: {tried} requests",
-            row.given
-        );
+    let (input, comes) = cut_line(lines);
+    let case = Case {
+        site,
+        before,
+        input: input.strip_prefix("in ").ok_or("no input")?,
+        comes,
+    };
+    let tried = refusals_of(rt, &case)?;
+    assert!(rt; at_least <= tried && tried < 99, "{lines}{tried} requests");
+    Ok(())
+}
+
+/// Adds a line to those of an input, or to a next one's: then those of the input came before.
+fn push_next(before: &mut String, lines: &mut String, line: &str) -> Result<(), AllocError> {
+    if line.starts_with("in ") {
+        before.push_str(lines)?;
+        lines.clear();
+    }
+    push_line(lines, line)
+}
+
+/// The same of each input of a course that says how many.
+fn course_is_answered(
+    rt: &(impl AllocGlobal + Abort),
+    site: &str,
+    course: &str,
+) -> Result<(), Fail> {
+    let (_name, course) = cut_line(course);
+    let (beginning, course) = cut_beginning(course);
+    let mut before = trace_to(rt, rt.alloc(), beginning)?;
+    let mut lines = String::new(rt.alloc());
+    for line in course.lines() {
+        match line.strip_prefix("requests ") {
+            Some(number) => is_answered(rt, site, &before, &lines, number.parse()?)?,
+            None => push_next(&mut before, &mut lines, line)?,
+        }
+    }
+    Ok(())
+}
+
+/// The same of each course of a text. Some say how many.
+fn are_answered(rt: &(impl AllocGlobal + Abort), site: &str, courses: &str) -> Result<(), Fail> {
+    assert!(rt; courses.contains("\nrequests "));
+    for course in courses.split("\n\n") {
+        course_is_answered(rt, site, course)?;
     }
     Ok(())
 }
 
 #[test]
 fn refused_memory_is_answered(rt: HostRuntime) -> Result<(), Fail> {
-    are_answered(&rt, THREE_CHANNELS, REQUESTS)?;
-    are_answered(&rt, THREE_CHANNELS, REPORTED)
+    are_answered(&rt, THREE_CHANNELS, BEGINNINGS)?;
+    are_answered(&rt, THREE_CHANNELS, INPUTS)?;
+    are_answered(&rt, THREE_CHANNELS, calls::CALLS)?;
+    are_answered(&rt, THREE_CHANNELS, calls::ENDS)?;
+    are_answered(&rt, THREE_CHANNELS, reports::REPORTED)
 }
 
 #[test]
 fn refused_memory_is_answered_while_a_call_moves(rt: HostRuntime) -> Result<(), Fail> {
-    are_answered(&rt, THREE_CHANNELS, MOVING)?;
-    are_answered(&rt, THREE_CHANNELS, COMMANDED)?;
-    are_answered(&rt, THREE_CHANNELS, DETECTED)
+    are_answered(&rt, THREE_CHANNELS, calls::MOVES)?;
+    are_answered(&rt, THREE_CHANNELS, calls::TAKEN_BACK)
 }
 
 #[test]
 fn refused_memory_is_answered_while_a_call_comes(rt: HostRuntime) -> Result<(), Fail> {
-    are_answered(&rt, THREE_CHANNELS, INCOMING)
+    are_answered(&rt, THREE_CHANNELS, incoming::COMING)?;
+    are_answered(&rt, THREE_CHANNELS, incoming::TAKEN_BACK)?;
+    are_answered(&rt, THREE_CHANNELS, incoming::ENDED)?;
+    are_answered(&rt, THREE_CHANNELS, incoming::REFUSED)
 }
 
 #[test]
 fn refused_memory_is_answered_while_a_call_leaves(rt: HostRuntime) -> Result<(), Fail> {
-    are_answered(&rt, THREE_CHANNELS, OUTGOING)?;
-    are_answered(&rt, THREE_CHANNELS, ORDERED)
+    are_answered(&rt, THREE_CHANNELS, outgoing::LEAVING)?;
+    are_answered(&rt, THREE_CHANNELS, outgoing::TAKEN_BACK)?;
+    are_answered(&rt, THREE_CHANNELS, outgoing::ENDED)?;
+    are_answered(&rt, THREE_CHANNELS, outgoing::REPORTED)
 }
 
 #[test]
 fn refused_memory_is_answered_while_candidates_are_tried(rt: HostRuntime) -> Result<(), Fail> {
-    are_answered(&rt, TWO_NEIGHBOURS, SECOND_CANDIDATE)
+    are_answered(&rt, TWO_NEIGHBOURS, reports::SECOND_CANDIDATE)
 }

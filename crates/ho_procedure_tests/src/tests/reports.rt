@@ -1,12 +1,7 @@
-//! Measurement reports, and what their handling comes to.
-use super::rows::Given::Abis;
-use super::rows::Row;
-use super::rows::Sent::OnAbis;
-use channel_fsm::{ChanId, ChanState};
-use radio_book::event::Event::{Activate, Look, Owner, Reserve, Take};
-use radio_book::event::Reply::{Done, Owned, Record};
-use radio_book::event::{Attempt, AttemptKind, CallRecord, Kind, Reply, Stage};
-use sample_sites::{HOME, OTHER, TARGET};
+//! Measurement reports, and what comes of them.
+use super::player::are_played;
+use sample_sites::THREE_CHANNELS;
+use std::test::Fail;
 
 /// Three cells. Both others are neighbours of cell 0, and have one channel each.
 pub const TWO_NEIGHBOURS: &str = "[handover]
@@ -42,186 +37,175 @@ ba = [60]
 trx = [{ arfcn = 62, tch = [4] }]
 ";
 
-/// The one channel of cell 2 there.
-const SECOND: ChanId = ChanId {
-    cell: 2,
-    trx: 0,
-    tn: 4,
-};
+/// Reports begin a handover.
+pub const REPORTED: &str = "two reports begin a handover
+from a call that is on
+in abis 0 0 0828010b1b001903001e0004000b001206151e1e006812a000000000000000000000  level 30 here, 40 in cell 1
+event owner 0/0/3 -> owned 1
+event look 1 -> record 0/0/3 on
+requests 3
+in abis 0 0 0828010b1b001903001e0004000b001206151e1e006812a000000000000000000000  the second: call 1 moves
+event owner 0/0/3 -> owned 1
+event look 1 -> record 0/0/3 on
+event take 1 internal 1/1/3 -> done
+event reserve 1 0 -> done
+event activate 1 -> done
+out abis 1 1 0821010b03020604000108010900
+requests 3
+in abis 0 0 0828010b1b001903001e0004000b001206151e1e006812a000000000000000000000  call 1 moves already
+event owner 0/0/3 -> owned 1
+event look 1 -> record 0/0/3 on internal sent 1/1/3 0
+end channels=2 calls=1 references=1 timers=0
 
-const STEADY: Reply = Record(
-    CallRecord {
-        serving: Some(HOME),
-        attempt: None,
-    },
-    Some(ChanState::On(1)),
-);
+two reports reach the margin: twice 33 is 60 and the margin
+from a call that is on
+in abis 0 0 0828010b1b001903001e0004000b001206151e1e006112a000000000000000000000  level 30 here, 33 in cell 1
+event owner 0/0/3 -> owned 1
+event look 1 -> record 0/0/3 on
+in abis 0 0 0828010b1b001903001e0004000b001206151e1e006112a000000000000000000000  the second: call 1 moves
+event owner 0/0/3 -> owned 1
+event look 1 -> record 0/0/3 on
+event take 1 internal 1/1/3 -> done
+event reserve 1 0 -> done
+event activate 1 -> done
+out abis 1 1 0821010b03020604000108010900
+end channels=2 calls=1 references=1 timers=0
 
-const PENDING: Reply = Record(
-    CallRecord {
-        serving: Some(HOME),
-        attempt: None,
-    },
-    Some(ChanState::Pending(1)),
-);
+three reports don't reach it: twice 32 is too little
+from a call that is on
+in abis 0 0 0828010b1b001903001e0004000b001206151e1e006012a000000000000000000000  level 30 here, 32 in cell 1
+event owner 0/0/3 -> owned 1
+event look 1 -> record 0/0/3 on
+in abis 0 0 0828010b1b001903001e0004000b001206151e1e006012a000000000000000000000  level 30 here, 32 in cell 1
+event owner 0/0/3 -> owned 1
+event look 1 -> record 0/0/3 on
+in abis 0 0 0828010b1b001903001e0004000b001206151e1e006012a000000000000000000000  level 30 here, 32 in cell 1
+event owner 0/0/3 -> owned 1
+event look 1 -> record 0/0/3 on
+end channels=1 calls=1 references=0 timers=0
 
-const SENT: Reply = Record(
-    CallRecord {
-        serving: Some(HOME),
-        attempt: Some(Attempt {
-            kind: AttemptKind::Internal,
-            stage: Stage::Sent,
-            target: Some(TARGET),
-            reference: Some(0),
-        }),
-    },
-    Some(ChanState::On(1)),
-);
+reports that don't count
+in open 1 0 0 3
+event open 1 0/0/3 -> done
+out abis 0 0 0821010b0300060400010801
+in abis 0 0 0828010b1b001903001e0004000b001206151e1e006812a000000000000000000000  the channel is not active yet
+event owner 0/0/3 -> owned 1
+event look 1 -> record 0/0/3 pending
+in abis 0 0 0828010b1b001903001e0004000b001206151e1e006812a000000000000000000000  the channel is not active yet
+event owner 0/0/3 -> owned 1
+event look 1 -> record 0/0/3 pending
+in abis 0 0 0822010b081234  its channel is active
+event confirm 0/0/3 -> owned 1
+event look 1 -> record 0/0/3 on
+in abis 0 0 0828010b1b001903001e000400  a measurement result without a report
+in abis 0 0 0828010b1b001903001e0004000b001206151e5e006812a000000000000000000000  an invalid report
+event owner 0/0/3 -> owned 1
+event look 1 -> record 0/0/3 on
+in abis 0 0 0828010b1b001903001e0004000b001206151e5e006812a000000000000000000000  an invalid report
+event owner 0/0/3 -> owned 1
+event look 1 -> record 0/0/3 on
+in abis 0 0 0828010b1b001903001e0004000b001206151e1e006812a000000000000000000000  level 30 here, 40 in cell 1
+event owner 0/0/3 -> owned 1
+event look 1 -> record 0/0/3 on
+end channels=1 calls=1 references=0 timers=0
 
-const MOVED: Reply = Record(
-    CallRecord {
-        serving: Some(TARGET),
-        attempt: None,
-    },
-    Some(ChanState::On(1)),
-);
+a report of the target doesn't count
+from a call that is to move
+in abis 1 1 0828010b1b001903001e0004000b001206151e1e006812a000000000000000000000  a report of the target
+event owner 1/1/3 -> owned 1
+event look 1 -> record 0/0/3 on internal sent 1/1/3 0
+end channels=2 calls=1 references=1 timers=0
+";
 
-/// Level 30 here, 40 in cell 1: the first of two reports.
-pub const REPORTS: Row = Row {
-    given: Abis(
-        0,
-        0,
-        "0828010b1b001903001e0004000b001206151e1e006812a000000000000000000000",
-    ),
-    events: &[(Owner(HOME), Owned(1)), (Look(1), STEADY)],
-    out: &[],
-};
+/// Reports are forgotten.
+const FORGOTTEN: &str = "a report of the old cell is forgotten in the new one
+from a call that is on
+in abis 0 0 0828010b1b001903001e0004000b001206151e1e006812a000000000000000000000  level 30 here, 40 in cell 1
+event owner 0/0/3 -> owned 1
+event look 1 -> record 0/0/3 on
+in handover 1 1
+event take 1 internal 1/1/3 -> done
+event reserve 1 0 -> done
+event activate 1 -> done
+out abis 1 1 0821010b03020604000108010900
+in abis 1 1 0822010b080000  the target is active: the mobile is sent there
+event confirm 1/1/3 -> owned 1
+event look 1 -> record 0/0/3 on internal confirmed 1/1/3 0
+event command 1 -> done
+out abis 0 0 0301010b02000b0009062bd5670ba36b0005
+in abis 1 1 0827010b1102  the mobile reaches the target
+event detect 1/1/3 -> owned 1
+event look 1 -> record 0/0/3 on internal detected 1/1/3 0
+in abis 1 1 0302010b02000b0003062c00  the mobile has moved
+event owner 1/1/3 -> owned 1
+event look 1 -> record 0/0/3 on internal detected 1/1/3 0
+event complete 1 -> done
+out abis 0 0 082e010b
+out a 1 000b1704010c05050100170065
+in abis 0 0 0833010b  the channel of call 1 is released
+event released 0/0/3 -> done
+in abis 1 1 0828010b1b001903001e0004000b001206151e1e0068012000000000000000000000  level 30 here, 40 in cell 0
+event owner 1/1/3 -> owned 1
+event look 1 -> record 1/1/3 on
+in abis 1 1 0828010b1b001903001e0004000b001206151e1e0068012000000000000000000000  the second: call 1 moves back
+event owner 1/1/3 -> owned 1
+event look 1 -> record 1/1/3 on
+event take 1 internal 0/0/2 -> done
+event reserve 1 0 -> done
+event activate 1 -> done
+out abis 0 0 0821010a03020604000108010900
+end channels=2 calls=1 references=1 timers=0
 
-/// The second: call 1 moves.
-pub const REPORTS_AGAIN: Row = Row {
-    events: &[
-        (Owner(HOME), Owned(1)),
-        (Look(1), STEADY),
-        (Take(1, Kind::Internal, TARGET), Done),
-        (Reserve(1, 0), Done),
-        (Activate(1), Done),
-    ],
-    out: &[OnAbis(1, 1, "0821010b03020604000108010900")],
-    ..REPORTS
-};
+a report before an undo is forgotten after it
+from a call that is on
+in abis 0 0 0828010b1b001903001e0004000b001206151e1e006812a000000000000000000000  level 30 here, 40 in cell 1
+event owner 0/0/3 -> owned 1
+event look 1 -> record 0/0/3 on
+in handover 1 1
+event take 1 internal 1/1/3 -> done
+event reserve 1 0 -> done
+event activate 1 -> done
+out abis 1 1 0821010b03020604000108010900
+in undo 1
+event undo 1 asked -> record 0/0/3 on internal sent 1/1/3 0
+out abis 1 1 082e010b
+in abis 0 0 0828010b1b001903001e0004000b001206151e1e006812a000000000000000000000  level 30 here, 40 in cell 1
+event owner 0/0/3 -> owned 1
+event look 1 -> record 0/0/3 on
+end channels=2 calls=1 references=0 timers=0
+";
 
-/// One while it moves already.
-pub const REPORTS_MOVING: Row = Row {
-    events: &[(Owner(HOME), Owned(1)), (Look(1), SENT)],
-    ..REPORTS
-};
+/// The same where two cells are neighbours.
+pub const SECOND_CANDIDATE: &str = "the first candidate has no free channel: the second is tried
+from a call that is on
+in open 2 1 1 3
+event open 2 1/1/3 -> done
+out abis 1 1 0821010b0300060400010801
+in abis 0 0 0828010b1b001903001e0004000b001206151e1e00a80ab381800000000000000000  30 here, 40 in cell 1, 39 in cell 2
+event owner 0/0/3 -> owned 1
+event look 1 -> record 0/0/3 on
+in abis 0 0 0828010b1b001903001e0004000b001206151e1e00a80ab381800000000000000000  call 1 moves to cell 2
+event owner 0/0/3 -> owned 1
+event look 1 -> record 0/0/3 on
+event take 1 internal 2/0/4 -> done
+event reserve 1 0 -> done
+event activate 1 -> done
+out abis 2 0 0821010c03020604000108010900
+requests 4
+end channels=3 calls=2 references=1 timers=0
+";
 
-/// One before the channel is active, which doesn't count.
-pub const REPORTS_PENDING: Row = Row {
-    events: &[(Owner(HOME), Owned(1)), (Look(1), PENDING)],
-    ..REPORTS
-};
+#[test]
+fn reports_begin_handovers(rt: HostRuntime) -> Result<(), Fail> {
+    are_played(&rt, THREE_CHANNELS, REPORTED)
+}
 
-/// One of the target, which doesn't count.
-pub const REPORTS_OF_TARGET: Row = Row {
-    given: Abis(
-        1,
-        1,
-        "0828010b1b001903001e0004000b001206151e1e006812a000000000000000000000",
-    ),
-    events: &[(Owner(TARGET), Owned(1)), (Look(1), SENT)],
-    out: &[],
-};
+#[test]
+fn reports_are_forgotten(rt: HostRuntime) -> Result<(), Fail> {
+    are_played(&rt, THREE_CHANNELS, FORGOTTEN)
+}
 
-/// Level 33 in cell 1: in two reports 66, which is 60 and the margin.
-pub const REPORTS_33: Row = Row {
-    given: Abis(
-        0,
-        0,
-        "0828010b1b001903001e0004000b001206151e1e006112a000000000000000000000",
-    ),
-    ..REPORTS
-};
-
-pub const REPORTS_33_AGAIN: Row = Row {
-    given: Abis(
-        0,
-        0,
-        "0828010b1b001903001e0004000b001206151e1e006112a000000000000000000000",
-    ),
-    ..REPORTS_AGAIN
-};
-
-/// Level 32 in cell 1: in two reports 64, which is too little.
-pub const REPORTS_32: Row = Row {
-    given: Abis(
-        0,
-        0,
-        "0828010b1b001903001e0004000b001206151e1e006012a000000000000000000000",
-    ),
-    ..REPORTS
-};
-
-/// An invalid report, which doesn't count.
-pub const REPORTS_INVALID: Row = Row {
-    given: Abis(
-        0,
-        0,
-        "0828010b1b001903001e0004000b001206151e5e006812a000000000000000000000",
-    ),
-    ..REPORTS
-};
-
-/// A measurement result without a report.
-pub const MEASURES: Row = Row {
-    given: Abis(0, 0, "0828010b1b001903001e000400"),
-    events: &[],
-    out: &[],
-};
-
-/// In the cell that call 1 moved to: level 30 here, 40 in cell 0.
-pub const REPORTS_MOVED: Row = Row {
-    given: Abis(
-        1,
-        1,
-        "0828010b1b001903001e0004000b001206151e1e0068012000000000000000000000",
-    ),
-    events: &[(Owner(TARGET), Owned(1)), (Look(1), MOVED)],
-    out: &[],
-};
-
-/// The second there: call 1 moves back.
-pub const REPORTS_MOVED_AGAIN: Row = Row {
-    events: &[
-        (Owner(TARGET), Owned(1)),
-        (Look(1), MOVED),
-        (Take(1, Kind::Internal, OTHER), Done),
-        (Reserve(1, 0), Done),
-        (Activate(1), Done),
-    ],
-    out: &[OnAbis(0, 0, "0821010a03020604000108010900")],
-    ..REPORTS_MOVED
-};
-
-/// Level 30 here, 40 in cell 1 and 39 in cell 2, where both are neighbours.
-pub const REPORTS_BOTH: Row = Row {
-    given: Abis(
-        0,
-        0,
-        "0828010b1b001903001e0004000b001206151e1e00a80ab381800000000000000000",
-    ),
-    ..REPORTS
-};
-
-/// The second: no channel of cell 1 is free, and call 1 moves to cell 2.
-pub const REPORTS_BOTH_AGAIN: Row = Row {
-    events: &[
-        (Owner(HOME), Owned(1)),
-        (Look(1), STEADY),
-        (Take(1, Kind::Internal, SECOND), Done),
-        (Reserve(1, 0), Done),
-        (Activate(1), Done),
-    ],
-    out: &[OnAbis(2, 0, "0821010c03020604000108010900")],
-    ..REPORTS_BOTH
-};
+#[test]
+fn the_second_candidate_is_tried(rt: HostRuntime) -> Result<(), Fail> {
+    are_played(&rt, TWO_NEIGHBOURS, SECOND_CANDIDATE)
+}
