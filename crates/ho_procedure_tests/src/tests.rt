@@ -10,8 +10,10 @@ mod player;
 mod reports;
 mod texts;
 
-use player::{are_played, follows_lines, opened};
+use player::{Radio, are_played, follows_lines, opened};
 use sample_sites::THREE_CHANNELS;
+use std::alloc::Global;
+use std::process::Abort;
 use std::test::Fail;
 
 /// Octets that can't be read, and why.
@@ -50,10 +52,30 @@ event open 1 0/0/3 -> done
 out abis 0 0 0821010b0300060400010801
 ";
 
+/// How many events the view was asked that a controller gives back.
+fn asked(radio: Radio<Global>) -> usize {
+    radio.into_view().desk().len()
+}
+
+/// A controller after these lines.
+fn after(
+    rt: &impl Abort,
+    alloc: Global,
+    mut radio: Radio<Global>,
+    lines: &str,
+) -> Result<Radio<Global>, Fail> {
+    follows_lines(rt, alloc, &mut radio, lines)?;
+    Ok(radio)
+}
+
 #[test]
 fn a_controller_gives_its_view_back(rt: HostRuntime) -> Result<(), Fail> {
-    let mut radio = opened(rt.alloc(), rt.alloc(), THREE_CHANNELS)?;
-    follows_lines(&rt, rt.alloc(), &mut radio, OPENS)?;
-    assert_eq!(rt; radio.into_view().desk().len(), 1);
+    let radio = after(
+        &rt,
+        rt.alloc(),
+        opened(rt.alloc(), rt.alloc(), THREE_CHANNELS)?,
+        OPENS,
+    )?;
+    assert_eq!(rt; asked(radio), 1);
     Ok(())
 }

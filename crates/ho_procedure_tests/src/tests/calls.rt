@@ -147,8 +147,8 @@ out abis 0 0 0821010b0300060400010801
 in abis 0 0 0822010b081234  its channel is active
 event confirm 0/0/3 -> owned 1
 event look 1 -> record 0/0/3 on
-in handover 1 2
-in handover 1 0
+in handover 1 2  the site lacks the cell
+in handover 1 0  it is the cell that serves the call
 event take 1 internal 0/0/2 -> refused 5
 in undo 1
 event undo 1 asked -> refused 3
@@ -164,7 +164,7 @@ from a call that is on
 in open 2 0 0 2
 event open 2 0/0/2 -> done
 out abis 0 0 0821010a0300060400010801
-in handover 1 0
+in handover 1 0  no channel of its cell is free, which is looked at first
 end channels=2 calls=2 references=0 timers=0
 
 what comes too early, or from elsewhere, does nothing
@@ -176,7 +176,7 @@ event take 1 internal 1/1/3 -> done
 event reserve 1 0 -> done
 event activate 1 -> done
 out abis 1 1 0821010b03020604000108010900
-in handover 1 1
+in handover 1 1  it moves already: no channel of the cell is free
 in abis 1 1 0827010b1102  no mobile is awaited there
 event detect 1/1/3 -> refused 8 1/1/3
 in abis 1 1 0302010b02000b0003062c00  the mobile says that it has moved before it was sent

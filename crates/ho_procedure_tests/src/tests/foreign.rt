@@ -1,21 +1,17 @@
 //! A view whose desk doesn't know its last receipt.
 ghost use Rattle.std.specs.Prelude.{[]};
 
-use super::player::input_of;
+use super::player::{empty_desk, input_of, is_trace, shared_site};
 use crate::leaving::Leaving;
-use cell_table::Site;
 use ho_procedure::controller::Controller;
 use ho_procedure::exchange::{Fault, Outbound};
 use ho_procedure::view::DeskView;
-use radio_book::book::Book;
 use radio_book::event::{Event, Kind};
-use radio_desk::desk::{Desk, DeskFault};
+use radio_desk::desk::DeskFault;
 use radio_desk::seat::Receipt;
 use sample_sites::THREE_CHANNELS;
 use std::alloc::Global;
 use std::process::Abort;
-use std::str;
-use std::sync::Arc;
 use std::test::Fail;
 use trace_text::trace::{Mark, print_sent};
 
@@ -57,7 +53,7 @@ fn is_foreign(
     controller: &mut Controller<Elsewhere, Global>,
     input: &str,
 ) -> Result<(), Fail> {
-    match controller.handle(input_of(alloc, input)?) {
+    match controller.handle(input_of(rt, alloc, input)) {
         Err(Fault::Desk(place, out)) => assert_eq!(rt; (place, out.len()), (7, 0)),
         Ok(_out) => assert!(rt; false),
         Err(Fault::NoMemory(_out)) => assert!(rt; false),
@@ -66,13 +62,21 @@ fn is_foreign(
     Ok(())
 }
 
+/// Neither of these inputs does.
+fn are_foreign(
+    rt: &impl Abort,
+    alloc: Global,
+    controller: &mut Controller<Elsewhere, Global>,
+) -> Result<(), Fail> {
+    is_foreign(rt, alloc, controller, "open 1 0 0 3")?;
+    is_foreign(rt, alloc, controller, "handover 1 1")
+}
+
 #[test]
 fn a_foreign_seat_is_told(rt: HostRuntime) -> Result<(), Fail> {
-    let site = Site::read(rt.alloc(), rt.alloc(), THREE_CHANNELS)?;
-    let site = Arc::new(rt.alloc(), site)?;
+    let site = shared_site(rt.alloc(), rt.alloc(), THREE_CHANNELS)?;
     let mut controller = Controller::new(rt.alloc(), Elsewhere, site);
-    is_foreign(&rt, rt.alloc(), &mut controller, "open 1 0 0 3")?;
-    is_foreign(&rt, rt.alloc(), &mut controller, "handover 1 1")
+    are_foreign(&rt, rt.alloc(), &mut controller)
 }
 
 /// A call whose mobile is sent to its target: nine events.
@@ -89,7 +93,7 @@ fn are_handled(
     inputs: &str,
 ) -> Result<(), Fail> {
     for input in inputs.lines() {
-        let done = controller.handle(input_of(alloc, input)?);
+        let done = controller.handle(input_of(rt, alloc, input));
         assert!(rt; done.is_ok(), "{input}");
     }
     Ok(())
@@ -104,8 +108,7 @@ fn are_sent(
 ) -> Result<(), Fail> {
     let mut out = Vec::new(alloc);
     print_sent(&mut out, Mark::Alone, sent)?;
-    assert_eq!(rt; str::from_utf8(&out)?, wanted);
-    Ok(())
+    is_trace(rt, &out, wanted, "")
 }
 
 /// The input gets as far as these messages.
@@ -116,7 +119,7 @@ fn owes(
     input: &str,
     wanted: &str,
 ) -> Result<(), Fail> {
-    match controller.handle(input_of(alloc, input)?) {
+    match controller.handle(input_of(rt, alloc, input)) {
         Err(Fault::Desk(place, out)) => {
             assert_eq!(rt; place, 7);
             are_sent(rt, alloc, out.as_slice(), wanted)?;
@@ -128,20 +131,25 @@ fn owes(
     Ok(())
 }
 
+/// A controller whose desk doesn't know its seat any more once it has judged eleven events.
+fn leaving(alloc: Global) -> Result<Controller<Leaving, Global>, Fail> {
+    let site = shared_site(alloc, alloc, THREE_CHANNELS)?;
+    let desk = empty_desk(alloc, &site)?;
+    Ok(Controller::new(alloc, Leaving::new(desk, 11), site))
+}
+
 /// The call is looked at, its attempt taken back, and its target released; it isn't ended any more.
+fn is_owed(
+    rt: &impl Abort,
+    alloc: Global,
+    controller: &mut Controller<Leaving, Global>,
+) -> Result<(), Fail> {
+    are_handled(rt, alloc, controller, BEFORE)?;
+    owes(rt, alloc, controller, "clear 1", "out abis 1 1 082e010b\n")
+}
+
 #[test]
 fn what_is_owed_is_told_where_a_seat_becomes_foreign(rt: HostRuntime) -> Result<(), Fail> {
-    let site = Site::read(rt.alloc(), rt.alloc(), THREE_CHANNELS)?;
-    let site = Arc::new(rt.alloc(), site)?;
-    let book = Book::new(rt.alloc(), site.clone()?)?;
-    let view = Leaving::new(Desk::new(rt.alloc(), book)?, 11);
-    let mut controller = Controller::new(rt.alloc(), view, site);
-    are_handled(&rt, rt.alloc(), &mut controller, BEFORE)?;
-    owes(
-        &rt,
-        rt.alloc(),
-        &mut controller,
-        "clear 1",
-        "out abis 1 1 082e010b\n",
-    )
+    let mut controller = leaving(rt.alloc())?;
+    is_owed(&rt, rt.alloc(), &mut controller)
 }

@@ -245,7 +245,7 @@ const IDLE: &str = "before its channel is active
 from a call that is to come
 in a 9 0019100b030108010a01011d330505010017006605050100170065  it comes already
 event look 9 -> record - - incoming sent 1/1/3 0
-in abis 1 1 0827010b1102  no mobile is awaited, or it was seen already
+in abis 1 1 0827010b1102  no mobile is awaited yet
 event detect 1/1/3 -> refused 8 1/1/3
 in abis 1 1 0302010b02000b0003062c00  the mobile says that it has come before it was sent
 event owner 1/1/3 -> owned 9
@@ -266,7 +266,7 @@ end channels=1 calls=1 references=1 timers=0
 
 once its mobile was sent
 from a call whose mobile was sent here
-in abis 1 1 0822010b080000  it was active already, or isn't to be
+in abis 1 1 0822010b080000  it was active already
 event confirm 1/1/3 -> refused 8 1/1/3
 in expire 9 T7
 event undo 9 t7 -> refused 9
@@ -283,7 +283,7 @@ in abis 1 1 0827010b1102  the mobile is seen
 event detect 1/1/3 -> owned 9
 event look 9 -> record - - incoming detected 1/1/3 0
 out a 9 00011b
-in abis 1 1 0827010b1102  no mobile is awaited, or it was seen already
+in abis 1 1 0827010b1102  it was seen already
 event detect 1/1/3 -> refused 8 1/1/3
 end channels=1 calls=1 references=1 timers=1
 
@@ -293,9 +293,9 @@ in undo 9
 event undo 9 asked -> record - - incoming sent 1/1/3 0
 out abis 1 1 082e010b
 out a 9 000416040120
-in abis 1 1 0822010b080000  it was active already, or isn't to be
+in abis 1 1 0822010b080000  it isn't to be active any more
 event confirm 1/1/3 -> refused 8 1/1/3
-in abis 1 1 0827010b1102  no mobile is awaited, or it was seen already
+in abis 1 1 0827010b1102  no mobile is awaited any more
 event detect 1/1/3 -> refused 8 1/1/3
 in abis 1 1 0302010b02000b0003062c00  the mobile says that it has come
 event owner 1/1/3 -> refused 8 1/1/3
@@ -313,8 +313,8 @@ event released 1/1/3 -> done
 end channels=0 calls=0 references=0 timers=0
 ";
 
-/// Requests that a call can't come on. Of two faults that of the channel type is told before that of the encryption, this
-/// before that of the cell, and this before that there is no channel.
+/// Requests that a call can't come on. Of two faults that of the channel type is told before that of the encryption,
+/// this before that of the cell, and this before that there is no channel.
 pub const REFUSED: &str = "calls that are turned away
 in a 9 0019100b030208010a01011d330505010017006605050100170065  the channel is to be for data
 event look 9 -> refused 1
@@ -341,7 +341,7 @@ out a 9 000416040151
 in a 9 0019100b030108010a01011d330505010017006605050100170066  the cell is another controller's
 event look 9 -> refused 1
 out a 9 000416040151
-in a 9 0017100b030108010a01011d33050501001700660503020066
+in a 9 0017100b030108010a01011d33050501001700660503020066  the same, by its cell identity alone
 event look 9 -> refused 1
 out a 9 000416040151
 end channels=0 calls=0 references=0 timers=0
@@ -370,9 +370,9 @@ end channels=1 calls=1 references=0 timers=0
 
 a call that is here already
 from a call that is on
-in a 1 0019100b030108010a01011d330505010017006605050100170065
+in a 1 0019100b030108010a01011d330505010017006605050100170065  a request without a fault
 event look 1 -> record 0/0/3 on
-in a 1 0019100b030208010a01021d330505010017006605050100170063
+in a 1 0019100b030208010a01021d330505010017006605050100170063  one for data, A5/1 and no cell
 event look 1 -> record 0/0/3 on
 end channels=1 calls=1 references=0 timers=0
 ";

@@ -1,11 +1,13 @@
 //! Allocation failures while an input is handled.
 //!
-//! A line `requests` in a course says how many requests for memory the input before it makes at least: one for each table
-//! of the book that gets its first entry, for the first entries of the history, for each list that a message keeps, for the
-//! list of messages and for a buffer of each; none where a buffer is left from before. Each of them is refused in turn.
+//! A line `requests` in a course says how many requests for memory the input before it makes at least: one for each
+//! table of the book that gets its first entry, for the first entries of the history, for each list that a message keeps,
+//! for the list of messages and for a buffer of each; none where a buffer is left from before. Each of them is refused in
+//! turn.
 use super::beginnings::BEGINNINGS;
 use super::player::{
-    Radio, cut_beginning, cut_line, follows, input_of, opened, print_asked, push_line, trace_to,
+    Radio, cut_beginning, cut_line, follows, input_of, is_trace, opened, print_asked, push_line,
+    trace_to,
 };
 use super::reports::TWO_NEIGHBOURS;
 use super::{calls, incoming, outgoing, reports};
@@ -62,7 +64,7 @@ fn input_after<'a>(
     case: &Case<'_>,
 ) -> Result<Inbound<&'a RefusingHeap>, Fail> {
     follows(rt, heap, scratch, radio, case.before)?;
-    input_of(heap, case.input)
+    Ok(input_of(rt, heap, case.input))
 }
 
 /// How many requests for memory a heap has had when an input comes.
@@ -164,12 +166,11 @@ fn comes_so<'a>(
     let mut out = Vec::new(scratch);
     print_asked(rt, radio.view().desk(), place, &mut out)?;
     print_sent(&mut out, Mark::Alone, sent)?;
-    assert_eq!(rt; str::from_utf8(&out)?, comes);
-    Ok(())
+    is_trace(rt, &out, comes, "")
 }
 
-/// An input was handled, or memory was refused. Then the events are the first that it leads to, the messages too, and the
-/// book is what all events lead to.
+/// An input was handled, or memory was refused. Then the events are the first that it leads to, the messages too, and
+/// the book is what all events lead to.
 fn ends_so<'a>(
     rt: &impl Abort,
     scratch: Global,
@@ -210,16 +211,27 @@ fn handle_after<'a>(
     ends_so(rt, scratch, heap, radio, place, &answer, case.comes)
 }
 
-/// Whether an input met the refusal of a request.
-fn meets_refusal(
+/// Whether an input met a refusal of its heap.
+fn meets_refusal<'a>(
+    rt: &impl Abort,
+    scratch: Global,
+    heap: &'a RefusingHeap,
+    radio: &mut Radio<&'a RefusingHeap>,
+    case: &Case<'_>,
+) -> Result<bool, Fail> {
+    handle_after(rt, scratch, heap, radio, case)?;
+    Ok(heap.was_refused())
+}
+
+/// Whether it met the refusal of this request.
+fn meets_refusal_of(
     rt: &(impl AllocGlobal + Abort),
     case: &Case<'_>,
     request: u64,
 ) -> Result<bool, Fail> {
     let heap = RefusingHeap::refusing_nth(rt.alloc(), request);
     let mut radio = opened(&heap, rt.alloc(), case.site)?;
-    handle_after(rt, rt.alloc(), &heap, &mut radio, case)?;
-    Ok(heap.was_refused())
+    meets_refusal(rt, rt.alloc(), &heap, &mut radio, case)
 }
 
 /// How many requests for memory were refused in turn before the input was handled.
@@ -227,7 +239,7 @@ fn refusals_of(rt: &(impl AllocGlobal + Abort), case: &Case<'_>) -> Result<u64, 
     let first = requests_before(rt, case)?;
     let mut tried = 0u64;
     for n in 1..100 {
-        if !meets_refusal(rt, case, first.saturating_add(n))? {
+        if !meets_refusal_of(rt, case, first.saturating_add(n))? {
             break;
         }
         tried = n;

@@ -266,7 +266,7 @@ event require 1 -> refused 3
 in abis 0 0 0822010b081234  its channel is active
 event confirm 0/0/3 -> owned 1
 event look 1 -> record 0/0/3 on
-in handover 1 65
+in handover 1 65  the site names one cell of another controller
 in a 1 000c131709062bd5670ba36b2a05  a command, and no handover was asked for
 event look 1 -> record 0/0/3 on
 in a 1 00041a040121  a rejection, and no handover was asked for

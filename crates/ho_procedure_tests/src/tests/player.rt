@@ -1,10 +1,10 @@
 //! Courses as text, and how they are played.
 //!
 //! A text has courses, with an empty line between any two. A course is its name, in its first line, and the lines of a
-//! trace (`docs/PROGRAM.md`, "The trace") without `none free`: `in` and an input, `event` for each event that is asked
-//! with its reply, `out` for each message that is sent or `fault` where the input can't be read, and at last `end` with
-//! what the book holds. The player hands a controller the inputs, prints the trace of what comes of them, and compares it
-//! with the course.
+//! trace (`docs/PROGRAM.md`, "The trace") without `none free`: `in` and an input, `event` and an event that is asked with
+//! its reply, `out` and a message that is sent or `fault` where the input can't be read, and at last `end` with what the
+//! book holds. The player hands a controller the inputs, prints the trace of what comes of them, and compares it with the
+//! course.
 //!
 //! What stands behind two blanks in a line is a note. Where the second line is `from` and a name, the course goes on
 //! from the beginning of this name. The lines `requests` are for the tests of refused memory (`memory`).
@@ -28,15 +28,28 @@ use trace_text::trace::{Mark, Step, print_end, print_fault, print_input, print_s
 /// A controller that asks a desk of its own.
 pub type Radio<A> = Controller<Solo<A>, A>;
 
+/// The site that a text describes.
+pub fn shared_site<A: Allocator + Copy>(
+    alloc: A,
+    scratch: Global,
+    text: &str,
+) -> Result<Arc<Site<A>, A>, Fail> {
+    Ok(Arc::new(alloc, Site::read(alloc, scratch, text)?)?)
+}
+
+/// A desk at which nothing was asked, with an empty book.
+pub fn empty_desk<A: Allocator + Copy>(alloc: A, site: &Arc<Site<A>, A>) -> Result<Desk<A>, Fail> {
+    Ok(Desk::new(alloc, Book::new(alloc, site.clone()?)?)?)
+}
+
 /// A controller of a site, whose book is empty.
 pub fn opened<A: Allocator + Copy>(
     alloc: A,
     scratch: Global,
-    site: &str,
+    text: &str,
 ) -> Result<Radio<A>, Fail> {
-    let site = Arc::new(alloc, Site::read(alloc, scratch, site)?)?;
-    let book = Book::new(alloc, site.clone()?)?;
-    let desk = Desk::new(alloc, book)?;
+    let site = shared_site(alloc, scratch, text)?;
+    let desk = empty_desk(alloc, &site)?;
     Ok(Controller::new(alloc, Solo::new(desk), site))
 }
 
@@ -74,7 +87,7 @@ fn push_trace(trace: &mut String, lines: &str) -> Result<(), AllocError> {
 }
 
 /// These lines, and a trace behind them.
-fn before(alloc: Global, lines: &str, trace: &str) -> Result<String, AllocError> {
+fn put_before(alloc: Global, lines: &str, trace: &str) -> Result<String, AllocError> {
     let mut whole = String::new(alloc);
     push_trace(&mut whole, lines)?;
     whole.push_str(trace)?;
@@ -90,7 +103,7 @@ pub fn trace_to(rt: &impl Abort, alloc: Global, name: Option<&str>) -> Result<St
         let (name, lines) = cut_line(beginning);
         if sought == Some(name) {
             let (earlier, lines) = cut_beginning(lines);
-            trace = before(alloc, lines, &trace)?;
+            trace = put_before(alloc, lines, &trace)?;
             sought = earlier;
         }
     }
@@ -115,32 +128,10 @@ fn given<A: Allocator>(item: Item<A>) -> Option<Inbound<A>> {
 }
 
 /// The input that a line of a script gives.
-pub fn input_of<A: Allocator + Copy>(alloc: A, line: &str) -> Result<Inbound<A>, Fail> {
-    let item = read_script(alloc, line, false)?.pop().ok_or("no line")?;
-    Ok(given(item).ok_or("no input")?)
-}
-
-/// The call that an event is asked for.
-fn call_of(event: Event) -> Option<u16> {
-    match event {
-        Event::Open(call, _)
-        | Event::Clear(call)
-        | Event::Look(call)
-        | Event::Take(call, _, _)
-        | Event::Reserve(call, _)
-        | Event::Activate(call)
-        | Event::Command(call)
-        | Event::Complete(call)
-        | Event::Undo(call, _)
-        | Event::Require(call)
-        | Event::Order(call)
-        | Event::Left(call) => Some(call),
-        Event::Confirm(_)
-        | Event::Refuse(_)
-        | Event::Detect(_)
-        | Event::Released(_)
-        | Event::Owner(_) => None,
-    }
+pub fn input_of<A: Allocator + Copy>(rt: &impl Abort, alloc: A, line: &str) -> Inbound<A> {
+    let mut items = read_script(alloc, line, false).expect(rt, line);
+    let item = items.pop().expect(rt, line);
+    given(item).expect(rt, line)
 }
 
 /// The call that a channel in this state is in use for.
@@ -151,11 +142,18 @@ fn user_of(state: ChanState) -> Option<u16> {
     }
 }
 
-/// Where a record is replied, its channel is in use for the call that was asked for. (A trace shows the channel's state
-/// without its call.)
+/// Whether an event asks what the book has of a call.
+fn asks_record(event: Event, call: u16) -> bool {
+    matches!(event, Event::Look(asked) | Event::Undo(asked, _) if asked == call)
+}
+
+/// Whether the channel in a record is in use for the call whose record it is. (A trace shows the channel's state without
+/// its call.)
 fn is_own_record(event: Event, reply: Reply) -> bool {
     match reply {
-        Reply::Record(_, Some(state)) => user_of(state) == call_of(event),
+        Reply::Record(_, Some(state)) => {
+            user_of(state).is_some_and(|call| asks_record(event, call))
+        }
         Reply::Record(_, None) | Reply::Done | Reply::Owned(_) | Reply::Refused(_) => true,
     }
 }
@@ -226,9 +224,19 @@ fn play<A: Allocator + Copy>(
 ) -> Result<(), Fail> {
     for line in trace.lines() {
         if let Some(input) = line.strip_prefix("in ") {
-            take_turn(rt, radio, input_of(alloc, input)?, out)?;
+            take_turn(rt, radio, input_of(rt, alloc, input), out)?;
         }
     }
+    Ok(())
+}
+
+/// What was printed is this trace, line by line.
+pub fn is_trace(rt: &impl Abort, printed: &[u8], trace: &str, name: &str) -> Result<(), Fail> {
+    let mut wanted = trace.lines();
+    for line in str::from_utf8(printed)?.lines() {
+        assert_eq!(rt; Some(line), wanted.next(), "{name}");
+    }
+    assert_eq!(rt; None, wanted.next(), "{name}");
     Ok(())
 }
 
@@ -242,8 +250,7 @@ pub fn follows<A: Allocator + Copy>(
 ) -> Result<(), Fail> {
     let mut out = Vec::new(scratch);
     play(rt, alloc, radio, trace, &mut out)?;
-    assert_eq!(rt; str::from_utf8(&out)?, trace);
-    Ok(())
+    is_trace(rt, &out, trace, "")
 }
 
 /// The same of lines of a course without its end.
@@ -257,28 +264,43 @@ pub fn follows_lines(
     follows(rt, alloc, alloc, radio, &trace)
 }
 
-/// What a controller of a site prints of the inputs of a trace, with its end.
-fn printed(rt: &impl Abort, alloc: Global, site: &str, trace: &str) -> Result<Vec<u8>, Fail> {
-    let mut radio = opened(alloc, alloc, site)?;
+/// The same of a whole trace, which has this name.
+fn follows_to_end(
+    rt: &impl Abort,
+    alloc: Global,
+    radio: &mut Radio<Global>,
+    trace: &str,
+    name: &str,
+) -> Result<(), Fail> {
     let mut out = Vec::new(alloc);
-    play(rt, alloc, &mut radio, trace, &mut out)?;
+    play(rt, alloc, radio, trace, &mut out)?;
     print_end(&mut out, Mark::Alone, radio.view().desk().book().usage())?;
-    Ok(out)
+    is_trace(rt, &out, trace, name)
 }
 
-/// A course over an empty book of a site comes out as it says.
-fn is_played(rt: &impl Abort, alloc: Global, site: &str, course: &str) -> Result<(), Fail> {
+/// A trace over an empty book of a site comes out as it says.
+fn is_played(
+    rt: &impl Abort,
+    alloc: Global,
+    site: &str,
+    trace: &str,
+    name: &str,
+) -> Result<(), Fail> {
+    let mut radio = opened(alloc, alloc, site)?;
+    follows_to_end(rt, alloc, &mut radio, trace, name)
+}
+
+/// So does a course.
+fn course_is_played(rt: &impl Abort, alloc: Global, site: &str, course: &str) -> Result<(), Fail> {
     let (name, lines) = cut_line(course);
     let trace = trace_of(rt, alloc, lines)?;
-    let out = printed(rt, alloc, site, &trace)?;
-    assert_eq!(rt; str::from_utf8(&out)?, trace.as_str(), "{name}");
-    Ok(())
+    is_played(rt, alloc, site, &trace, name)
 }
 
 /// Each course of a text comes out as it says.
 pub fn are_played(rt: &(impl AllocGlobal + Abort), site: &str, courses: &str) -> Result<(), Fail> {
     for course in courses.split("\n\n") {
-        is_played(rt, rt.alloc(), site, course)?;
+        course_is_played(rt, rt.alloc(), site, course)?;
     }
     Ok(())
 }
