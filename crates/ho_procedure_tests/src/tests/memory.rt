@@ -79,10 +79,20 @@ fn requests_after<'a>(
     Ok(heap.requests())
 }
 
+/// The same of a heap that had none before.
+fn requests_of(
+    rt: &impl Abort,
+    heap: &RefusingHeap,
+    scratch: Global,
+    case: &Case<'_>,
+) -> Result<u64, Fail> {
+    let mut radio = opened(heap, scratch, case.site)?;
+    requests_after(rt, heap, scratch, &mut radio, case)
+}
+
 fn requests_before(rt: &(impl AllocGlobal + Abort), case: &Case<'_>) -> Result<u64, Fail> {
     let heap = RefusingHeap::ample(rt.alloc());
-    let mut radio = opened(&heap, rt.alloc(), case.site)?;
-    requests_after(rt, &heap, rt.alloc(), &mut radio, case)
+    requests_of(rt, &heap, rt.alloc(), case)
 }
 
 /// All events that a controller has asked.
@@ -223,15 +233,25 @@ fn meets_refusal<'a>(
     Ok(heap.was_refused())
 }
 
-/// Whether it met the refusal of this request.
+/// The same of a heap that had no requests before.
 fn meets_refusal_of(
+    rt: &impl Abort,
+    heap: &RefusingHeap,
+    scratch: Global,
+    case: &Case<'_>,
+) -> Result<bool, Fail> {
+    let mut radio = opened(heap, scratch, case.site)?;
+    meets_refusal(rt, scratch, heap, &mut radio, case)
+}
+
+/// Whether it met the refusal of this request.
+fn meets_refusal_at(
     rt: &(impl AllocGlobal + Abort),
     case: &Case<'_>,
     request: u64,
 ) -> Result<bool, Fail> {
     let heap = RefusingHeap::refusing_nth(rt.alloc(), request);
-    let mut radio = opened(&heap, rt.alloc(), case.site)?;
-    meets_refusal(rt, rt.alloc(), &heap, &mut radio, case)
+    meets_refusal_of(rt, &heap, rt.alloc(), case)
 }
 
 /// How many requests for memory were refused in turn before the input was handled.
@@ -239,7 +259,7 @@ fn refusals_of(rt: &(impl AllocGlobal + Abort), case: &Case<'_>) -> Result<u64, 
     let first = requests_before(rt, case)?;
     let mut tried = 0u64;
     for n in 1..100 {
-        if !meets_refusal_of(rt, case, first.saturating_add(n))? {
+        if !meets_refusal_at(rt, case, first.saturating_add(n))? {
             break;
         }
         tried = n;
@@ -276,7 +296,21 @@ fn push_next(before: &mut String, lines: &mut String, line: &str) -> Result<(), 
     push_line(lines, line)
 }
 
-/// The same of each input of a course that says how many.
+/// A line of a course says how many requests the input before it makes, and each is answered; or what comes next.
+fn line_is_answered(
+    rt: &(impl AllocGlobal + Abort),
+    site: &str,
+    before: &mut String,
+    lines: &mut String,
+    line: &str,
+) -> Result<(), Fail> {
+    match line.strip_prefix("requests ") {
+        Some(number) => is_answered(rt, site, before, lines, number.parse()?),
+        None => Ok(push_next(before, lines, line)?),
+    }
+}
+
+/// The same of each line of a course.
 fn course_is_answered(
     rt: &(impl AllocGlobal + Abort),
     site: &str,
@@ -287,10 +321,7 @@ fn course_is_answered(
     let mut before = trace_to(rt, rt.alloc(), beginning)?;
     let mut lines = String::new(rt.alloc());
     for line in course.lines() {
-        match line.strip_prefix("requests ") {
-            Some(number) => is_answered(rt, site, &before, &lines, number.parse()?)?,
-            None => push_next(&mut before, &mut lines, line)?,
-        }
+        line_is_answered(rt, site, &mut before, &mut lines, line)?;
     }
     Ok(())
 }

@@ -230,13 +230,18 @@ fn play<A: Allocator + Copy>(
     Ok(())
 }
 
+/// A line that was printed, or the end, is what a course of this name says.
+fn is_line(rt: &impl Abort, line: Option<&str>, wanted: Option<&str>, name: &str) {
+    assert_eq!(rt; line, wanted, "{name}");
+}
+
 /// What was printed is this trace, line by line.
 pub fn is_trace(rt: &impl Abort, printed: &[u8], trace: &str, name: &str) -> Result<(), Fail> {
     let mut wanted = trace.lines();
     for line in str::from_utf8(printed)?.lines() {
-        assert_eq!(rt; Some(line), wanted.next(), "{name}");
+        is_line(rt, Some(line), wanted.next(), name);
     }
-    assert_eq!(rt; None, wanted.next(), "{name}");
+    is_line(rt, None, wanted.next(), name);
     Ok(())
 }
 
