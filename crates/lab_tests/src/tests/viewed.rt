@@ -1,7 +1,5 @@
 use super::failing::Failing;
-use super::{
-    ONE_CALL, SITE, ends_saying, equals, equals_at, holds, remove_files, write_files,
-};
+use super::{ONE_CALL, SITE, ends_saying, equals, equals_at, holds, remove_files, write_files};
 use lab::files::run_files;
 use lab::run::{LabFault, Status};
 use lab::site_files::SitePaths;
