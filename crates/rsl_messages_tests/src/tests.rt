@@ -4,36 +4,8 @@ use rsl_messages::{
     reading_is_unique,
 };
 use std::alloc::{AllocError, Global};
-use std::fmt::Debug;
 use std::process::Abort;
 use std::test::Fail;
-
-// Each test asserts by these: an assertion in a function of its own is proved once, and a call of it costs little.
-
-/// What was found is what was wanted.
-fn equals<T: Copy + Debug + PartialEq>(rt: &impl Abort, found: T, wanted: T) {
-    assert_eq!(rt; found, wanted);
-}
-
-/// What was found at this place is what was wanted.
-fn equals_at<T: Copy + Debug + PartialEq, W: Copy + Debug>(
-    rt: &impl Abort,
-    found: T,
-    wanted: T,
-    at: W,
-) {
-    assert_eq!(rt; found, wanted, "{at:?}");
-}
-
-/// This is so.
-fn holds(rt: &impl Abort, is_so: bool) {
-    assert!(rt; is_so);
-}
-
-/// This is so at this place.
-fn holds_at<W: Copy + Debug>(rt: &impl Abort, is_so: bool, at: W) {
-    assert!(rt; is_so, "{at:?}");
-}
 
 const DATA_REQUEST: &[u8] = &[3, 1, 1, 0x0B, 2, 0, 0x0B, 0, 3, 6, 0x0D, 0];
 
@@ -226,7 +198,7 @@ fn says(
     expected: Fields<'static>,
 ) -> Result<(), Fail> {
     let message = decode(rt.alloc(), text)?;
-    holds_at(rt, fields_of(&message) == expected, text);
+    assert!(rt; fields_of(&message) == expected, "{text:?}");
     Ok(())
 }
 
@@ -250,8 +222,8 @@ fn is_written<'a>(
     message: &Rsl<&'a RefusingHeap>,
     written: &[u8],
 ) -> Result<(), RslFault> {
-    holds_at(rt, fits(message), written);
-    equals_at(rt, encode(heap, message)?.as_slice(), written, written);
+    assert!(rt; fits(message), "{written:?}");
+    assert!(rt; encode(heap, message)?.as_slice() == written, "{written:?}");
     Ok(())
 }
 
@@ -297,7 +269,7 @@ const OTHER_TEXTS: &[(&[u8], &[u8])] = &[
 fn reads_other_texts_of_a_message(rt: HostRuntime) -> Result<(), Fail> {
     let heap = RefusingHeap::ample(rt.alloc());
     for (text, written) in OTHER_TEXTS {
-        equals(&rt, is_written_as(&rt, &heap, text, written), Ok(()));
+        assert_eq!(rt; is_written_as(&rt, &heap, text, written), Ok(()));
     }
     Ok(())
 }
@@ -353,27 +325,29 @@ const FAULTS: &[(&[u8], RslFault)] = &[
 #[test]
 fn finds_the_first_fault(rt: HostRuntime) {
     for (octets, fault) in FAULTS {
-        equals_at(&rt, decode(rt.alloc(), octets).err(), Some(*fault), octets);
+        assert_eq!(rt;
+            decode(rt.alloc(), octets).err(),
+            Some(*fault),
+            "{octets:?}"
+        );
     }
 }
 
 #[test]
 fn has_at_most_1024_octets(rt: HostRuntime) {
-    equals(
-        &rt,
+    assert_eq!(rt;
         decode(rt.alloc(), &[0; 1025]).err(),
-        Some(RslFault::TooLong),
+        Some(RslFault::TooLong)
     );
-    equals(
-        &rt,
+    assert_eq!(rt;
         decode(rt.alloc(), &[0; 1024]).err(),
-        Some(RslFault::NotRsl),
+        Some(RslFault::NotRsl)
     );
     // each pair of zeros is an element that no message uses
     let mut octets = [0; 1024];
     octets[..4].copy_from_slice(RELEASE);
     let heap = RefusingHeap::ample(rt.alloc());
-    equals(&rt, is_written_as(&rt, &heap, &octets, RELEASE), Ok(()));
+    assert_eq!(rt; is_written_as(&rt, &heap, &octets, RELEASE), Ok(()));
 }
 
 /// What is wrong with the first n octets of a text.
@@ -403,11 +377,11 @@ fn finds_the_fault_of_each_front_of_a_text(rt: HostRuntime) {
     for sample in SAMPLES {
         for n in 0..sample.text.len() {
             let fault = decode(rt.alloc(), &sample.text[..n]).err();
-            equals_at(
-                &rt,
+            assert_eq!(rt;
                 fault,
                 fault_of_front(sample.elements, n),
-                (n, "of", sample.text),
+                "{n} of {:?}",
+                sample.text
             );
         }
     }
@@ -428,7 +402,7 @@ fn prints_faults(rt: HostRuntime) -> Result<(), Fail> {
         (RslFault::NoMemory, "memory was refused"),
     ];
     for (fault, text) in rows {
-        equals(&rt, format!(in rt.alloc(); "{fault}")?.as_str(), text);
+        assert_eq!(rt; format!(in rt.alloc(); "{fault}")?.as_str(), text);
     }
     Ok(())
 }
@@ -537,7 +511,7 @@ const SHAPES: &[(Shape, bool)] = &[
 fn fits_what_has_a_canonical_text(rt: HostRuntime) -> Result<(), Fail> {
     for (shape, fit) in SHAPES {
         let message = message_of(rt.alloc(), *shape)?;
-        equals_at(&rt, fits(&message), *fit, shape);
+        assert_eq!(rt; fits(&message), *fit, "{shape:?}");
     }
     Ok(())
 }
@@ -548,15 +522,10 @@ fn refused_requests(rt: &(impl AllocGlobal + Abort), text: &[u8]) -> Option<u64>
         let heap = RefusingHeap::refusing_nth(rt.alloc(), n);
         let done = is_written_as(rt, &heap, text, text);
         if !heap.was_refused() {
-            equals_at(rt, done, Ok(()), ("request", n, "of", text));
+            assert_eq!(rt; done, Ok(()), "request {n} of {text:?}");
             return Some(n - 1);
         }
-        equals_at(
-            rt,
-            done,
-            Err(RslFault::NoMemory),
-            ("request", n, "of", text),
-        );
+        assert_eq!(rt; done, Err(RslFault::NoMemory), "request {n} of {text:?}");
     }
     None
 }
@@ -566,7 +535,11 @@ fn refused_memory_is_the_only_want_of_memory(rt: HostRuntime) {
     for sample in SAMPLES {
         // the requests of `encode` come after one for each list
         let requests = refused_requests(&rt, sample.text);
-        holds_at(&rt, requests.is_some_and(|n| sample.lists < n), sample.text);
+        assert!(rt;
+            requests.is_some_and(|n| sample.lists < n),
+            "{:?}",
+            sample.text
+        );
     }
 }
 
@@ -590,14 +563,14 @@ const NO_REQUESTS: &[(&[u8], Option<RslFault>)] = &[
 fn memory_is_asked_for_lists_alone(rt: HostRuntime) {
     for (octets, fault) in NO_REQUESTS {
         let heap = RefusingHeap::refusing_from(rt.alloc(), 1);
-        equals(&rt, decode(&heap, octets).err(), *fault);
-        equals(&rt, heap.requests(), 0);
+        assert_eq!(rt; decode(&heap, octets).err(), *fault);
+        assert_eq!(rt; heap.requests(), 0);
     }
 }
 
 fn is_text_twice(rt: &impl Abort, octets: &[u8], text: &[u8]) {
     let (first, second) = octets.split_at(text.len().min(octets.len()));
-    holds_at(rt, first == text && second == text, text);
+    assert!(rt; first == text && second == text, "{text:?}");
 }
 
 /// Appends a message where no memory is needed.
@@ -606,8 +579,8 @@ fn appends<'a>(
     message: &Rsl<&'a RefusingHeap>,
     out: &mut Vec<u8, &'a RefusingHeap>,
 ) {
-    holds(rt, fits(message));
-    holds(rt, encode_into(message, out).is_ok());
+    assert!(rt; fits(message));
+    assert!(rt; encode_into(message, out).is_ok());
 }
 
 /// A message isn't written where no memory is left: neither into a full list nor into none.
@@ -617,9 +590,9 @@ fn is_not_written<'a>(
     message: &Rsl<&'a RefusingHeap>,
     full: &mut Vec<u8, &'a RefusingHeap>,
 ) {
-    holds(rt, fits(message));
-    holds(rt, encode_into(message, full).is_err());
-    holds(rt, encode(heap, message).is_err());
+    assert!(rt; fits(message));
+    assert!(rt; encode_into(message, full).is_err());
+    assert!(rt; encode(heap, message).is_err());
 }
 
 /// Writes a message where no memory is left: twice into one reservation, which keeps its room, then into a full list,
@@ -634,10 +607,10 @@ fn writes_twice<'a>(
     let room = out.capacity();
     appends(rt, message, out);
     appends(rt, message, out);
-    holds_at(rt, heap.refused() == 0 && out.capacity() == room, text);
+    assert!(rt; heap.refused() == 0 && out.capacity() == room, "{text:?}");
     is_text_twice(rt, out.as_slice(), text);
     is_not_written(rt, heap, message, out);
-    holds_at(rt, heap.refused() == 2 && out.capacity() == room, text);
+    assert!(rt; heap.refused() == 2 && out.capacity() == room, "{text:?}");
     is_text_twice(rt, out.as_slice(), text);
 }
 
@@ -648,7 +621,7 @@ fn is_written_in_room(
     sample: &Sample,
 ) -> Result<(), RslFault> {
     let message = decode(heap, sample.text)?;
-    equals(rt, heap.requests(), sample.lists);
+    assert_eq!(rt; heap.requests(), sample.lists);
     let mut out = Vec::with_capacity(heap, 2 * sample.text.len())?;
     heap.refuse_from_now();
     writes_twice(rt, heap, &message, &mut out, sample.text);
@@ -660,6 +633,6 @@ fn two_messages_fit_into_one_reservation(rt: HostRuntime) {
     for sample in SAMPLES {
         let heap = RefusingHeap::ample(rt.alloc());
         let done = is_written_in_room(&rt, &heap, sample);
-        equals_at(&rt, done, Ok(()), sample.text);
+        assert_eq!(rt; done, Ok(()), "{:?}", sample.text);
     }
 }

@@ -60,21 +60,6 @@ fn write_in_pieces<W: Write, A: Allocator + Copy>(
     viewer.finish()
 }
 
-/// Lets a viewer be seen, which is owned here alone: each function that owns one is dear to prove.
-fn view<A: Allocator + Copy, W: Write, F: FnOnce(&mut Viewer<'_, W, A>) -> Result<(), WordsFault>>(
-    alloc: A,
-    scratch: Global,
-    views: &Views<'_>,
-    sites: Sites<'_>,
-    out: &mut W,
-    see: F,
-) -> Result<(), WordsFault>
-    requires { F.IsAlwaysCallable see }
-{
-    let mut viewer = Viewer::new(alloc, scratch, views, sites, out)?;
-    see(&mut viewer)
-}
-
 /// Shows a run whose trace is written in pieces of so many octets.
 fn show<A: Allocator + Copy, W: Write>(
     alloc: A,
@@ -85,9 +70,8 @@ fn show<A: Allocator + Copy, W: Write>(
     len: usize,
     out: &mut W,
 ) -> Result<(), WordsFault> {
-    view(alloc, scratch, views, sites, out, |viewer| {
-        write_in_pieces(viewer, trace, len)
-    })
+    let mut viewer = Viewer::new(alloc, scratch, views, sites, out)?;
+    write_in_pieces(&mut viewer, trace, len)
 }
 
 /// What is printed of a trace that is written in pieces of so many octets.

@@ -86,10 +86,10 @@ fn is_asked_without_memory(
 }
 
 // The book that a run begins with stays as it is, whether memory is refused or not.
-fn is_run(
+fn is_run<'a>(
     rt: &(impl AllocGlobal + Abort),
-    book: &mut Book<&RefusingHeap>,
-    heap: &RefusingHeap,
+    book: &mut Book<&'a RefusingHeap>,
+    heap: &'a RefusingHeap,
     text: &str,
 ) -> Result<(), AllocError> {
     let course = course_of(rt, text);
@@ -101,10 +101,10 @@ fn is_run(
 }
 
 // Where memory was refused that is answered, or, where less did as well, what is answered with ample memory.
-fn is_rewound(
+fn is_rewound<'a>(
     rt: &(impl AllocGlobal + Abort),
-    book: &Book<&RefusingHeap>,
-    heap: &RefusingHeap,
+    book: &Book<&'a RefusingHeap>,
+    heap: &'a RefusingHeap,
     text: &str,
 ) -> Result<(), AllocError> {
     let events = events_of(rt, course_of(rt, text).steps)?;
@@ -126,10 +126,10 @@ fn is_compared(
     Ok(())
 }
 
-fn is_tried(
+fn is_tried<'a>(
     rt: &(impl AllocGlobal + Abort),
-    book: &mut Book<&RefusingHeap>,
-    heap: &RefusingHeap,
+    book: &mut Book<&'a RefusingHeap>,
+    heap: &'a RefusingHeap,
     before: &[&str],
     trial: Trial<'_>,
 ) -> Result<(), AllocError> {
@@ -152,10 +152,10 @@ struct Requests {
     refused: u64,
 }
 
-fn counts(
+fn counts<'a>(
     rt: &(impl AllocGlobal + Abort),
-    book: &mut Book<&RefusingHeap>,
-    heap: &RefusingHeap,
+    book: &mut Book<&'a RefusingHeap>,
+    heap: &'a RefusingHeap,
     before: &[&str],
     trial: Trial<'_>,
 ) -> Result<Requests, Fail> {

@@ -1,5 +1,5 @@
-use super::{ALONE, equals, view, write_in_pieces};
-use run_views::{Viewer, Views, WordsFault};
+use super::{ALONE, equals, holds_at, write_in_pieces};
+use run_views::{Viewer, Views};
 use std::alloc::Global;
 use std::io::Write;
 use std::process::Abort;
@@ -44,33 +44,33 @@ const FILE: &str = concat!(
 );
 
 /// A viewer has captured the file above, and left nothing out.
-fn has_captured<W: Write>(rt: &(impl AllocGlobal + Abort), viewer: &Viewer<'_, W, Global>) {
-    let capture = viewer.capture().expect(rt, "a capture is asked for");
-    let octets = hex::encode(rt.alloc(), capture.octets()).expect(rt, "memory");
+fn has_captured<W: Write>(
+    rt: &(impl AllocGlobal + Abort),
+    viewer: &Viewer<'_, W, Global>,
+) -> Result<(), Fail> {
+    let Some(capture) = viewer.capture() else {
+        holds_at(rt, false, "a capture is asked for");
+        return Ok(());
+    };
+    let octets = hex::encode(rt.alloc(), capture.octets())?;
     equals(rt, octets.as_str(), FILE);
     equals(rt, capture.left_out(), 0);
+    Ok(())
 }
 
 /// A viewer captures the trace.
 fn captures<W: Write>(
     rt: &(impl AllocGlobal + Abort),
     viewer: &mut Viewer<'_, W, Global>,
-) -> Result<(), WordsFault> {
+) -> Result<(), Fail> {
     write_in_pieces(viewer, TRACE, 64)?;
-    has_captured(rt, viewer);
-    Ok(())
+    has_captured(rt, viewer)
 }
 
 /// The same of a viewer that prints to this list.
-fn captures_beside(rt: &(impl AllocGlobal + Abort), out: &mut Vec<u8>) -> Result<(), WordsFault> {
-    view(
-        rt.alloc(),
-        rt.alloc(),
-        &PCAP,
-        ALONE,
-        out,
-        |viewer| captures(rt, viewer),
-    )
+fn captures_beside(rt: &(impl AllocGlobal + Abort), out: &mut Vec<u8>) -> Result<(), Fail> {
+    let mut viewer = Viewer::new(rt.alloc(), rt.alloc(), &PCAP, ALONE, out)?;
+    captures(rt, &mut viewer)
 }
 
 #[test]

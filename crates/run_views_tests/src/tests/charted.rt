@@ -1,4 +1,4 @@
-use super::{ALONE, SITE, equals, holds_at, view, write_in_pieces};
+use super::{ALONE, SITE, equals, holds_at, write_in_pieces};
 use chart::{Bar, Chart, Lane, Row, Shape, Side};
 use run_views::{Sites, Viewer, Views, WordsFault};
 use std::alloc::Global;
@@ -393,9 +393,8 @@ fn draw_run(
     svg: &mut Vec<u8>,
 ) -> Result<(), WordsFault> {
     let mut out = Vec::new(alloc);
-    view(alloc, alloc, &CHART, sites, &mut out, |viewer| {
-        draw(viewer, trace, svg)
-    })
+    let mut viewer = Viewer::new(alloc, alloc, &CHART, sites, &mut out)?;
+    draw(&mut viewer, trace, svg)
 }
 
 /// The chart of a trace.

@@ -1,5 +1,5 @@
-use super::{ALONE, equals, equals_at, holds, holds_at, view};
-use run_views::{Sheets, Views, WordsFault, open_sheets};
+use super::{ALONE, equals, equals_at, holds, holds_at};
+use run_views::{Sheets, Viewer, Views, WordsFault, open_sheets};
 use std::alloc::Global;
 use std::fs::OpenFile;
 use std::io::Write;
@@ -139,9 +139,8 @@ fn write_sheets<F: Write + OpenFile + Drop>(
     errors: &mut Vec<u8>,
 ) -> Result<(), WordsFault> {
     let views = views_at((PCAP, CHART));
-    view(alloc, alloc, &views, ALONE, out, |viewer| {
-        sheets.finish(viewer, errors)
-    })
+    let viewer = Viewer::new(alloc, alloc, &views, ALONE, out)?;
+    sheets.finish(&viewer, errors)
 }
 
 /// Opens both files, and writes them.
