@@ -108,7 +108,7 @@ fn are_sent(
 ) -> Result<(), Fail> {
     let mut out = Vec::new(alloc);
     print_sent(&mut out, Mark::Alone, sent)?;
-    is_trace(rt, &out, wanted, "")
+    is_trace(rt, &out, wanted, "messages that are owed")
 }
 
 /// The input gets as far as these messages.

@@ -140,12 +140,12 @@ fn asked_first<'a>(
     scratch: Global,
     radio: &Radio<&'a RefusingHeap>,
     place: usize,
-    comes: &str,
+    case: &Case<'_>,
 ) -> Result<(), Fail> {
     let mut asked = Vec::new(scratch);
     print_asked(rt, radio.view().desk(), place, &mut asked)?;
     let asked = str::from_utf8(&asked)?;
-    assert!(rt; comes.starts_with(asked), "{asked}");
+    assert!(rt; case.comes.starts_with(asked), "{}: {asked}", case.input);
     Ok(())
 }
 
@@ -154,13 +154,13 @@ fn sent_first<'a>(
     rt: &impl Abort,
     scratch: Global,
     sent: &[Outbound<&'a RefusingHeap>],
-    comes: &str,
+    case: &Case<'_>,
 ) -> Result<(), Fail> {
     let mut out = Vec::new(scratch);
     print_sent(&mut out, Mark::Alone, sent)?;
     let sent = str::from_utf8(&out)?;
-    let messages = messages_in(scratch, comes)?;
-    assert!(rt; messages.starts_with(sent), "{sent}");
+    let messages = messages_in(scratch, case.comes)?;
+    assert!(rt; messages.starts_with(sent), "{}: {sent}", case.input);
     Ok(())
 }
 
@@ -171,12 +171,12 @@ fn comes_so<'a>(
     radio: &Radio<&'a RefusingHeap>,
     place: usize,
     sent: &[Outbound<&'a RefusingHeap>],
-    comes: &str,
+    case: &Case<'_>,
 ) -> Result<(), Fail> {
     let mut out = Vec::new(scratch);
     print_asked(rt, radio.view().desk(), place, &mut out)?;
     print_sent(&mut out, Mark::Alone, sent)?;
-    is_trace(rt, &out, comes, "")
+    is_trace(rt, &out, case.comes, case.input)
 }
 
 /// An input was handled, or memory was refused. Then the events are the first that it leads to, the messages too, and
@@ -188,21 +188,21 @@ fn ends_so<'a>(
     radio: &Radio<&'a RefusingHeap>,
     place: usize,
     answer: &Result<Vec<Outbound<&'a RefusingHeap>, &'a RefusingHeap>, Fault<&'a RefusingHeap>>,
-    comes: &str,
+    case: &Case<'_>,
 ) -> Result<(), Fail> {
     match answer {
         Ok(sent) => {
-            assert!(rt; !heap.was_refused(), "{comes}");
-            comes_so(rt, scratch, radio, place, sent, comes)
+            assert!(rt; !heap.was_refused(), "{}", case.input);
+            comes_so(rt, scratch, radio, place, sent, case)
         }
         Err(Fault::NoMemory(sent)) => {
-            assert!(rt; heap.was_refused(), "{comes}");
-            asked_first(rt, scratch, radio, place, comes)?;
-            sent_first(rt, scratch, sent, comes)?;
+            assert!(rt; heap.was_refused(), "{}", case.input);
+            asked_first(rt, scratch, radio, place, case)?;
+            sent_first(rt, scratch, sent, case)?;
             is_run(rt, heap, radio, events_of(scratch, radio)?.as_slice())
         }
         Err(Fault::Undecoded(..) | Fault::Desk(..)) => {
-            assert!(rt; false, "{comes}");
+            assert!(rt; false, "{}", case.input);
             Ok(())
         }
     }
@@ -218,7 +218,7 @@ fn handle_after<'a>(
     let input = input_after(rt, heap, scratch, radio, case)?;
     let place = radio.view().desk().len();
     let answer = radio.handle(input);
-    ends_so(rt, scratch, heap, radio, place, &answer, case.comes)
+    ends_so(rt, scratch, heap, radio, place, &answer, case)
 }
 
 /// Whether an input met a refusal of its heap.

@@ -255,7 +255,8 @@ pub fn follows<A: Allocator + Copy>(
 ) -> Result<(), Fail> {
     let mut out = Vec::new(scratch);
     play(rt, alloc, radio, trace, &mut out)?;
-    is_trace(rt, &out, trace, "")
+    let (first, _) = cut_line(trace);
+    is_trace(rt, &out, trace, first)
 }
 
 /// The same of lines of a course without its end.

@@ -175,7 +175,7 @@ event look 1 -> record 0/0/3 on
 end channels=2 calls=1 references=0 timers=0
 ";
 
-/// The same where two cells are neighbours.
+/// Reports begin a handover where two cells are neighbours.
 pub const SECOND_CANDIDATE: &str = "the first candidate has no free channel: the second is tried
 from a call that is on
 in open 2 1 1 3

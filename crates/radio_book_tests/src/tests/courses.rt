@@ -37,11 +37,17 @@ fn cut<'a>(text: &'a str, mark: &str) -> (&'a str, &'a str) {
     text.split_once(mark).unwrap_or((text, ""))
 }
 
+// The name of a course, and the lines behind it.
+fn cut_name<'a>(rt: &impl Abort, text: &'a str) -> (&'a str, &'a str) {
+    let named = text.strip_prefix("# ").expect(rt, text);
+    cut(named, "\n")
+}
+
 pub(super) fn course_of<'a>(rt: &impl Abort, text: &'a str) -> Course<'a> {
     let (text, _) = cut(text, "\nwithout ");
     let (steps, end) = text.rsplit_once('\n').expect(rt, text);
     assert!(rt; end.starts_with("usage -> "), "{text}");
-    let (name, steps) = cut(steps, "\n");
+    let (name, steps) = cut_name(rt, steps);
     Course { name, steps, end }
 }
 
@@ -177,6 +183,7 @@ fn is_as_worked_out(
     let (line, alone) = cut(part, "\nalone\n");
     is_given(rt, course, line, &RewoundText(rewound))?;
     are_replied(rt, course.name, course.steps, &rewound.whole_replies)?;
+    is_answered(rt, &mut rewound.whole, course.name, course.end)?;
     if !alone.is_empty() {
         are_replied(rt, course.name, alone, &rewound.without_replies)?;
     }
@@ -233,7 +240,7 @@ fn is_played(
     manner: Manner,
     text: &str,
 ) -> Result<(), AllocError> {
-    let (name, lines) = text.split_once('\n').expect(rt, text);
+    let (name, lines) = cut_name(rt, text);
     match manner {
         Manner::Asked => play(rt, book, name, lines),
         Manner::RunAndAsked => is_run_and_asked(rt, book, text),

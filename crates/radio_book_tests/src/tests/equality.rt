@@ -146,7 +146,7 @@ confirm 0/0/3 -> owned 1
 clear 1 -> done";
 
 fn sides(pair: &str) -> Option<(&str, &str, bool)> {
-    let (_, lines) = pair.split_once('\n')?;
+    let (_, lines) = pair.strip_prefix("# ")?.split_once('\n')?;
     if let Some((first, second)) = lines.split_once("\nsame\n") {
         return Some((first, second, true));
     }
