@@ -31,11 +31,6 @@ fn equals_at<T: Copy + Debug + PartialEq, W: Copy + Debug>(
     assert_eq!(rt; found, wanted, "{at:?}");
 }
 
-/// This is so.
-fn holds(rt: &impl Abort, is_so: bool) {
-    assert!(rt; is_so);
-}
-
 /// This is so at this place.
 fn holds_at<W: Copy + Debug>(rt: &impl Abort, is_so: bool, at: W) {
     assert!(rt; is_so, "{at:?}");

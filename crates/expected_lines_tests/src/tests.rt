@@ -27,11 +27,6 @@ fn equals_at<T: Copy + Debug + PartialEq, W: Copy + Debug>(
     assert_eq!(rt; found, wanted, "{at:?}");
 }
 
-/// This is so.
-fn holds(rt: &impl Abort, is_so: bool) {
-    assert!(rt; is_so);
-}
-
 /// This is so at this place.
 fn holds_at<W: Copy + Debug>(rt: &impl Abort, is_so: bool, at: W) {
     assert!(rt; is_so, "{at:?}");
@@ -177,8 +172,8 @@ fn the_end_may_be_expected(rt: HostRuntime) -> Result<(), Fail> {
 fn compares_without(rt: &impl Abort, alloc: Global, n: u64) -> bool {
     let heap = RefusingHeap::refusing_nth(alloc, n);
     match find_difference(&heap, &["#> a", "#> ..", "#> d"], &["a", "b", "c", "d"]) {
-        Ok(found) => holds(rt, found.is_none() && !heap.was_refused()),
-        Err(_) => holds(rt, heap.was_refused()),
+        Ok(found) => equals_at(rt, (found.is_none(), heap.was_refused()), (true, false), n),
+        Err(_) => holds_at(rt, heap.was_refused(), n),
     }
     !heap.was_refused()
 }

@@ -26,11 +26,6 @@ fn equals_at<T: Copy + Debug + PartialEq, W: Copy + Debug>(
     assert_eq!(rt; found, wanted, "{at:?}");
 }
 
-/// This is so.
-fn holds(rt: &impl Abort, is_so: bool) {
-    assert!(rt; is_so);
-}
-
 /// This is so at this place.
 fn holds_at<W: Copy + Debug>(rt: &impl Abort, is_so: bool, at: W) {
     assert!(rt; is_so, "{at:?}");
@@ -111,15 +106,15 @@ fn numbers(rt: HostRuntime) {
         equals_at(&rt, number(*fields, "k", *most).ok(), *wanted, fields);
     }
     equals(&rt, small("k=7", "k", 7), Ok(7));
-    holds(&rt, small("k=8", "k", 7).is_err());
+    holds_at(&rt, small("k=8", "k", 7).is_err(), "k=8");
     equals(&rt, octet("k=255", "k"), Ok(255));
-    holds(&rt, octet("k=256", "k").is_err());
+    holds_at(&rt, octet("k=256", "k").is_err(), "k=256");
     equals(&rt, optional_octet("k=255", "k"), Ok(Some(255)));
     equals(&rt, optional_octet("k=-", "k"), Ok(None));
-    holds(&rt, optional_octet("k=--", "k").is_err());
+    holds_at(&rt, optional_octet("k=--", "k").is_err(), "k=--");
     equals(&rt, flag("k=0", "k"), Ok(false));
     equals(&rt, flag("k=1", "k"), Ok(true));
-    holds(&rt, flag("k=01", "k").is_err());
+    holds_at(&rt, flag("k=01", "k").is_err(), "k=01");
 }
 
 #[test]
@@ -131,15 +126,20 @@ fn octets_of_fields(rt: HostRuntime) -> Result<(), Fail> {
         holds_at(&rt, octets(alloc, *text, "k", 3).is_err(), text);
     }
     let none = octets(alloc, "k=", "k", 0).expect(&rt, "no octets");
-    holds(&rt, none.is_empty());
+    holds_at(&rt, none.is_empty(), "k=");
     let absent = optional_octets(alloc, "k=-", "k", 1).expect(&rt, "nothing");
-    holds(&rt, absent.is_none());
+    holds_at(&rt, absent.is_none(), "k=-");
     let one = optional_octets(alloc, "k=06", "k", 1).expect(&rt, "one octet");
-    holds(
+    holds_at(
         &rt,
         one.is_some_and(|octets| octets.as_slice() == [6].as_slice()),
+        "k=06",
     );
-    holds(&rt, optional_octets(alloc, "k=", "k", 1).is_err());
+    holds_at(
+        &rt,
+        optional_octets(alloc, "k=", "k", 1).is_err(),
+        "one at least",
+    );
     Ok(())
 }
 

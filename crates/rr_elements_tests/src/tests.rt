@@ -25,11 +25,6 @@ fn equals_at<T: Copy + Debug + PartialEq, W: Copy + Debug>(
     assert_eq!(rt; found, wanted, "{at:?}");
 }
 
-/// This is so.
-fn holds(rt: &impl Abort, is_so: bool) {
-    assert!(rt; is_so);
-}
-
 /// This is so at this place.
 fn holds_at<W: Copy + Debug>(rt: &impl Abort, is_so: bool, at: W) {
     assert!(rt; is_so, "{at:?}");
@@ -73,7 +68,7 @@ fn write<A: Allocator + Copy>(element: &Element, out: &mut Vec<u8, A>) -> Result
 /// The element is written as these octets.
 fn is_written<R: Abort + AllocGlobal>(rt: &R, element: Element, octets: &[u8]) {
     let mut out = Vec::new(rt.alloc());
-    holds(rt, write(&element, &mut out).is_ok());
+    holds_at(rt, write(&element, &mut out).is_ok(), octets);
     equals(rt, out.as_slice(), octets);
 }
 
@@ -183,16 +178,17 @@ fn results<R: Abort + AllocGlobal>(
 ) {
     let results = MeasResults::decode(octets).expect(rt, "octets of results");
     equals(rt, MeasResults::new(head, neighbours), Ok(results));
-    holds(
+    holds_at(
         rt,
         results.head() == head && results.neighbours() == neighbours,
+        octets,
     );
     is_written(rt, Element::Results(results), written);
 }
 
 #[test]
 fn reads_and_writes_results(rt: HostRuntime) {
-    holds(&rt, NEIGHBOUR.fits() && HEAD.fits());
+    holds_at(&rt, NEIGHBOUR.fits() && HEAD.fits(), "both fit");
     results(&rt, &ONE, HEAD, &[NEIGHBOUR], &ONE);
 }
 
@@ -347,7 +343,7 @@ fn refuses_heads_that_do_not_fit(rt: HostRuntime) {
 fn refuse_neighbours(rt: &impl Abort, neighbours: &[Ncell]) {
     for neighbour in neighbours {
         equals(rt, MeasResults::new(HEAD, &[*neighbour]).err(), BAD);
-        holds(rt, !neighbour.fits());
+        holds_at(rt, !neighbour.fits(), neighbour);
     }
 }
 
@@ -437,8 +433,8 @@ fn answers_each_refusal(rt: HostRuntime) -> Result<(), Fail> {
 // The elements, of 23 octets together, in a list that has room for all and one octet more: its room stays.
 fn keep_room(rt: &impl Abort, elements: &[Element], out: &mut Vec<u8, &RefusingHeap<Global>>) {
     for element in elements {
-        holds(rt, write(element, out).is_ok());
-        equals(rt, out.capacity(), 47);
+        holds_at(rt, write(element, out).is_ok(), out.len());
+        equals_at(rt, out.capacity(), 47, out.len());
     }
 }
 
@@ -448,7 +444,7 @@ fn write_in_room(rt: &impl Abort, heap: &RefusingHeap<Global>, elements: &[Eleme
     heap.refuse_from_now();
     keep_room(rt, elements, &mut out);
     keep_room(rt, elements, &mut out);
-    holds(rt, out.len() == 46 && !heap.was_refused());
+    equals(rt, (out.len(), heap.was_refused()), (46, false));
 }
 
 #[test]

@@ -1,4 +1,4 @@
-use super::{SITE, changed, equals, holds, holds_at};
+use super::{SITE, changed, equals, holds_at};
 use cell_table::Site;
 use refusing_heap::RefusingHeap;
 use std::test::Fail;
@@ -69,7 +69,6 @@ fn comparing_sites_takes_no_memory(rt: HostRuntime) {
     let heap = RefusingHeap::refusing_nth(rt.alloc(), 3);
     let one = Site::read(&heap, rt.alloc(), SITE).expect(&rt, "the first");
     let other = Site::read(&heap, rt.alloc(), SITE).expect(&rt, "the second");
-    holds(&rt, one == other);
-    holds(&rt, !heap.was_refused());
+    equals(&rt, (one == other, heap.was_refused()), (true, false));
     equals(&rt, heap.requests(), 2);
 }

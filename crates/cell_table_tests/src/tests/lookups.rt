@@ -90,51 +90,56 @@ fn says_of_all(rt: &impl Abort, site: &Site<Global>) {
 
 fn says_of_cells(rt: &impl Abort, site: &Site<Global>) {
     for (cell, lac, ci, bcch, ncc, bcc) in CELLS {
-        equals_at(rt, site.lac(*cell), Some(*lac), cell);
-        equals_at(rt, site.ci(*cell), Some(*ci), cell);
-        equals_at(rt, site.bcch(*cell), Some(*bcch), cell);
-        equals_at(rt, site.ncc(*cell), Some(*ncc), cell);
-        equals_at(rt, site.bcc(*cell), Some(*bcc), cell);
+        equals_at(rt, site.lac(*cell), Some(*lac), (cell, "lac"));
+        equals_at(rt, site.ci(*cell), Some(*ci), (cell, "ci"));
+        equals_at(rt, site.bcch(*cell), Some(*bcch), (cell, "bcch"));
+        equals_at(rt, site.ncc(*cell), Some(*ncc), (cell, "ncc"));
+        equals_at(rt, site.bcc(*cell), Some(*bcc), (cell, "bcc"));
     }
 }
 
 fn says_of_no_cells(rt: &impl Abort, site: &Site<Global>) {
     for cell in NO_CELLS {
-        holds_at(rt, site.lac(*cell).is_none(), cell);
-        holds_at(rt, site.ci(*cell).is_none(), cell);
-        holds_at(rt, site.bcch(*cell).is_none(), cell);
-        holds_at(rt, site.ncc(*cell).is_none(), cell);
-        holds_at(rt, site.bcc(*cell).is_none(), cell);
+        holds_at(rt, site.lac(*cell).is_none(), (cell, "lac"));
+        holds_at(rt, site.ci(*cell).is_none(), (cell, "ci"));
+        holds_at(rt, site.bcch(*cell).is_none(), (cell, "bcch"));
+        holds_at(rt, site.ncc(*cell).is_none(), (cell, "ncc"));
+        holds_at(rt, site.bcc(*cell).is_none(), (cell, "bcc"));
     }
 }
 
 fn says_of_own(rt: &impl Abort, site: &Site<Global>) {
     for (cell, power, ba, trx) in OWN {
-        equals_at(rt, site.power(*cell), Some(*power), cell);
-        equals_at(rt, site.ba(*cell), Some(*ba), cell);
-        equals_at(rt, site.trx(*cell), Some(*trx), cell);
+        equals_at(rt, site.power(*cell), Some(*power), (cell, "power"));
+        equals_at(rt, site.ba(*cell), Some(*ba), (cell, "ba"));
+        equals_at(rt, site.trx(*cell), Some(*trx), (cell, "trx"));
     }
 }
 
 fn says_of_no_own(rt: &impl Abort, site: &Site<Global>) {
     for cell in NO_OWN {
-        holds_at(rt, site.power(*cell).is_none(), cell);
-        holds_at(rt, site.ba(*cell).is_none(), cell);
-        holds_at(rt, site.trx(*cell).is_none(), cell);
+        holds_at(rt, site.power(*cell).is_none(), (cell, "power"));
+        holds_at(rt, site.ba(*cell).is_none(), (cell, "ba"));
+        holds_at(rt, site.trx(*cell).is_none(), (cell, "trx"));
     }
 }
 
 fn says_of_trx(rt: &impl Abort, site: &Site<Global>) {
     for (cell, trx, arfcn, tch) in TRX {
-        equals_at(rt, site.arfcn(*cell, *trx), Some(*arfcn), (cell, trx));
-        equals_at(rt, site.tch(*cell, *trx), Some(*tch), (cell, trx));
+        equals_at(
+            rt,
+            site.arfcn(*cell, *trx),
+            Some(*arfcn),
+            (cell, trx, "arfcn"),
+        );
+        equals_at(rt, site.tch(*cell, *trx), Some(*tch), (cell, trx, "tch"));
     }
 }
 
 fn says_of_no_trx(rt: &impl Abort, site: &Site<Global>) {
     for (cell, trx) in NO_TRX {
-        holds_at(rt, site.arfcn(*cell, *trx).is_none(), (cell, trx));
-        holds_at(rt, site.tch(*cell, *trx).is_none(), (cell, trx));
+        holds_at(rt, site.arfcn(*cell, *trx).is_none(), (cell, trx, "arfcn"));
+        holds_at(rt, site.tch(*cell, *trx).is_none(), (cell, trx, "tch"));
     }
 }
 
