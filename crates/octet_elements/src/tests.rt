@@ -8,7 +8,24 @@ use crate::values::{
 };
 use crate::write::{append_element, append_octets, element_len};
 use std::alloc::Global;
+use std::fmt::Debug;
+use std::process::Abort;
 use std::test::Fail;
+
+/// What was found is what was wanted. An assertion in a function of its own is proved once, and a call of it costs little.
+fn equals<T: Copy + Debug + PartialEq>(rt: &impl Abort, found: T, wanted: T) {
+    assert_eq!(rt; found, wanted);
+}
+
+/// What was found at this place is what was wanted.
+fn equals_at<T: Copy + Debug + PartialEq, W: Copy + Debug>(
+    rt: &impl Abort,
+    found: T,
+    wanted: T,
+    at: W,
+) {
+    assert_eq!(rt; found, wanted, "{at:?}");
+}
 
 /// A table with each form: 1 has two octets, 2 stands alone, 3 has a long length, others a length.
 struct Sample;
@@ -40,15 +57,15 @@ fn keeps_the_first_values(rt: HostRuntime) -> Result<(), Fail> {
     ];
     let mut found = Found::<Sample>::new();
     found.read(octets)?;
-    assert_eq!(rt; found.first(1), Some([10, 11].as_slice()));
-    assert_eq!(rt; found.first(5), Some([7].as_slice()));
-    assert_eq!(rt; found.second(5), Some([].as_slice()));
+    equals(&rt, found.first(1), Some([10, 11].as_slice()));
+    equals(&rt, found.first(5), Some([7].as_slice()));
+    equals(&rt, found.second(5), Some([].as_slice()));
     for other in [2, 3, 9] {
-        assert_eq!(rt; found.first(other), None);
-        assert_eq!(rt; found.second(other), None);
+        equals_at(&rt, found.first(other), None, other);
+        equals_at(&rt, found.second(other), None, other);
     }
-    assert_eq!(rt; found.second(1), None);
-    assert_eq!(rt; Found::<Sample>::new().first(1), None);
+    equals(&rt, found.second(1), None);
+    equals(&rt, Found::<Sample>::new().first(1), None);
     Ok(())
 }
 
@@ -56,21 +73,19 @@ fn keeps_the_first_values(rt: HostRuntime) -> Result<(), Fail> {
 fn reads_by_identifier(rt: HostRuntime) -> Result<(), Fail> {
     let mut found = Found::<Sample>::new();
     found.read(&[1, 1, 2, 5, 0])?;
-    assert_eq!(rt; found.octet(1), Ok(1));
-    assert_eq!(rt; found.optional_octet(9), Ok(None));
-    assert_eq!(rt; found.u16_be(1), Ok(258));
-    assert_eq!(rt; found.octets(5), Err(ValueFault::Bad(5)));
-    assert_eq!(rt; found.optional_octets(1), Ok(Some([1, 2].as_slice())));
-    assert_eq!(rt; found.any_octets(5), Ok([].as_slice()));
+    equals(&rt, found.octet(1), Ok(1));
+    equals(&rt, found.optional_octet(9), Ok(None));
+    equals(&rt, found.u16_be(1), Ok(258));
+    equals(&rt, found.octets(5), Err(ValueFault::Bad(5)));
+    equals(&rt, found.optional_octets(1), Ok(Some([1, 2].as_slice())));
+    equals(&rt, found.any_octets(5), Ok([].as_slice()));
     Ok(())
 }
 
 #[test]
 fn keeps_octets(rt: HostRuntime) -> Result<(), Fail> {
-    assert_eq!(rt;
-        Octets::new(rt.alloc(), &[1, 2])?.as_slice(),
-        [1, 2].as_slice()
-    );
+    let kept = Octets::new(rt.alloc(), &[1, 2])?;
+    equals(&rt, kept.as_slice(), [1, 2].as_slice());
     Ok(())
 }
 
@@ -87,7 +102,7 @@ fn names_the_torn_offset(rt: HostRuntime) {
     ];
     for (octets, at) in torn {
         let mut found = Found::<Sample>::new();
-        assert_eq!(rt; found.read(octets), Err(at));
+        equals_at(&rt, found.read(octets), Err(at), octets);
     }
 }
 
@@ -98,10 +113,10 @@ fn gives_the_leading_element(rt: HostRuntime) -> Result<(), Fail> {
     long[1] = 1;
     long[2] = 0;
     let found = leading_element::<Sample>(&long).ok_or("no element")?;
-    assert_eq!(rt; found.identifier, 3);
-    assert_eq!(rt; found.value.len(), 256);
-    assert_eq!(rt; found.rest, [6].as_slice());
-    assert!(rt; leading_element::<Sample>(&[]).is_none());
+    equals(&rt, found.identifier, 3);
+    equals(&rt, found.value.len(), 256);
+    equals(&rt, found.rest, [6].as_slice());
+    equals(&rt, leading_element::<Sample>(&[]).is_none(), true);
     Ok(())
 }
 
@@ -112,20 +127,24 @@ fn writes_elements(rt: HostRuntime) -> Result<(), Fail> {
     append_element::<Sample, Global>(&mut out, 1, &[10, 11]);
     append_element::<Sample, Global>(&mut out, 2, &[]);
     append_element::<Sample, Global>(&mut out, 5, &[7]);
-    assert_eq!(rt; out.as_slice(), [8, 33, 1, 10, 11, 2, 5, 1, 7].as_slice());
+    equals(
+        &rt,
+        out.as_slice(),
+        [8, 33, 1, 10, 11, 2, 5, 1, 7].as_slice(),
+    );
     let long = [0; 258];
     append_element::<Sample, Global>(&mut out, 3, &long);
-    assert_eq!(rt; &out[9..13], [3, 1, 2, 0].as_slice());
-    assert_eq!(rt; out.len(), 270);
+    equals(&rt, &out[9..13], [3, 1, 2, 0].as_slice());
+    equals(&rt, out.len(), 270);
     Ok(())
 }
 
 #[test]
 fn counts_octets(rt: HostRuntime) {
-    assert_eq!(rt; element_len::<Sample>(1, &[10, 11]), 3);
-    assert_eq!(rt; element_len::<Sample>(2, &[]), 1);
-    assert_eq!(rt; element_len::<Sample>(3, &[7]), 4);
-    assert_eq!(rt; element_len::<Sample>(5, &[]), 2);
+    equals(&rt, element_len::<Sample>(1, &[10, 11]), 3);
+    equals(&rt, element_len::<Sample>(2, &[]), 1);
+    equals(&rt, element_len::<Sample>(3, &[7]), 4);
+    equals(&rt, element_len::<Sample>(5, &[]), 2);
 }
 
 /// The element isn't there.
@@ -142,34 +161,34 @@ const LONG: Option<&[u8]> = Some(&[1, 2]);
 
 #[test]
 fn reads_the_first_octet(rt: HostRuntime) {
-    assert_eq!(rt; octet(7, ABSENT), Err(ValueFault::Absent(7)));
-    assert_eq!(rt; octet(7, EMPTY), Err(ValueFault::Bad(7)));
-    assert_eq!(rt; octet(7, LONG), Ok(1));
-    assert_eq!(rt; optional_octet(7, ABSENT), Ok(None));
-    assert_eq!(rt; optional_octet(7, EMPTY), Err(ValueFault::Bad(7)));
-    assert_eq!(rt; optional_octet(7, LONG), Ok(Some(1)));
+    equals(&rt, octet(7, ABSENT), Err(ValueFault::Absent(7)));
+    equals(&rt, octet(7, EMPTY), Err(ValueFault::Bad(7)));
+    equals(&rt, octet(7, LONG), Ok(1));
+    equals(&rt, optional_octet(7, ABSENT), Ok(None));
+    equals(&rt, optional_octet(7, EMPTY), Err(ValueFault::Bad(7)));
+    equals(&rt, optional_octet(7, LONG), Ok(Some(1)));
 }
 
 #[test]
 fn reads_and_writes_u16(rt: HostRuntime) {
-    assert_eq!(rt; u16_be(7, ABSENT), Err(ValueFault::Absent(7)));
-    assert_eq!(rt; u16_be(7, EMPTY), Err(ValueFault::Bad(7)));
-    assert_eq!(rt; u16_be(7, SHORT), Err(ValueFault::Bad(7)));
-    assert_eq!(rt; u16_be(7, LONG), Ok(258));
-    assert_eq!(rt; u16_of(255, 254), 65_534);
-    assert_eq!(rt; u16_octets(258), [1, 2]);
-    assert_eq!(rt; u16_octets(65_534), [255, 254]);
+    equals(&rt, u16_be(7, ABSENT), Err(ValueFault::Absent(7)));
+    equals(&rt, u16_be(7, EMPTY), Err(ValueFault::Bad(7)));
+    equals(&rt, u16_be(7, SHORT), Err(ValueFault::Bad(7)));
+    equals(&rt, u16_be(7, LONG), Ok(258));
+    equals(&rt, u16_of(255, 254), 65_534);
+    equals(&rt, u16_octets(258), [1, 2]);
+    equals(&rt, u16_octets(65_534), [255, 254]);
 }
 
 #[test]
 fn reads_whole_values(rt: HostRuntime) {
-    assert_eq!(rt; octets(7, ABSENT), Err(ValueFault::Absent(7)));
-    assert_eq!(rt; octets(7, EMPTY), Err(ValueFault::Bad(7)));
-    assert_eq!(rt; octets(7, LONG), Ok([1, 2].as_slice()));
-    assert_eq!(rt; optional_octets(7, ABSENT), Ok(None));
-    assert_eq!(rt; optional_octets(7, EMPTY), Err(ValueFault::Bad(7)));
-    assert_eq!(rt; optional_octets(7, SHORT), Ok(Some([3].as_slice())));
-    assert_eq!(rt; any_octets(7, ABSENT), Err(ValueFault::Absent(7)));
-    assert_eq!(rt; any_octets(7, EMPTY), Ok([].as_slice()));
-    assert_eq!(rt; any_octets(7, LONG), Ok([1, 2].as_slice()));
+    equals(&rt, octets(7, ABSENT), Err(ValueFault::Absent(7)));
+    equals(&rt, octets(7, EMPTY), Err(ValueFault::Bad(7)));
+    equals(&rt, octets(7, LONG), Ok([1, 2].as_slice()));
+    equals(&rt, optional_octets(7, ABSENT), Ok(None));
+    equals(&rt, optional_octets(7, EMPTY), Err(ValueFault::Bad(7)));
+    equals(&rt, optional_octets(7, SHORT), Ok(Some([3].as_slice())));
+    equals(&rt, any_octets(7, ABSENT), Err(ValueFault::Absent(7)));
+    equals(&rt, any_octets(7, EMPTY), Ok([].as_slice()));
+    equals(&rt, any_octets(7, LONG), Ok([1, 2].as_slice()));
 }
