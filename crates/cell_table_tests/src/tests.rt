@@ -88,47 +88,64 @@ fn each_key_has_its_range(rt: HostRuntime) {
     equals(&rt, tch_range(false), Key::Tch.allowed());
 }
 
-#[test]
-fn faults_are_printed(rt: HostRuntime) -> Result<(), Fail> {
-    let rows = [
-        (SiteFault::Toml, "the text isn't TOML"),
-        (
-            SiteFault::Missing(Key::Handover),
-            "the key handover is missing",
-        ),
-        (
-            SiteFault::Range(Key::Tch),
-            "the value of tch is of another kind than allowed, or out of its range",
-        ),
-        (
-            SiteFault::Twice(What::Identity),
-            "two cells have the same lac and ci",
-        ),
-        (
-            SiteFault::Twice(What::Colour),
-            "two cells have the same bcch, ncc and bcc",
-        ),
-        (
-            SiteFault::Twice(What::Carrier),
-            "two trx of a cell have the same arfcn",
-        ),
-        (
-            SiteFault::Twice(What::Slot),
-            "a trx names a timeslot twice in tch",
-        ),
-        (
-            SiteFault::Twice(What::Neighbour),
-            "a cell names a carrier twice in ba",
-        ),
-        (
-            SiteFault::NoTraffic(7),
-            "cell 7 has no traffic timeslot at tch",
-        ),
-        (SiteFault::NoMemory, "memory is refused"),
-    ];
-    for (fault, text) in rows {
+/// Faults of a text or of one key, and how each is printed.
+const FAULTS_OF_KEYS: &[(SiteFault, &str)] = &[
+    (SiteFault::Toml, "the text isn't TOML"),
+    (
+        SiteFault::Missing(Key::Handover),
+        "the key handover is missing",
+    ),
+    (
+        SiteFault::Range(Key::Tch),
+        "the value of tch is of another kind than allowed, or out of its range",
+    ),
+];
+
+/// The same of what stands twice.
+const FAULTS_OF_TWO: &[(SiteFault, &str)] = &[
+    (
+        SiteFault::Twice(What::Identity),
+        "two cells have the same lac and ci",
+    ),
+    (
+        SiteFault::Twice(What::Colour),
+        "two cells have the same bcch, ncc and bcc",
+    ),
+    (
+        SiteFault::Twice(What::Carrier),
+        "two trx of a cell have the same arfcn",
+    ),
+    (
+        SiteFault::Twice(What::Slot),
+        "a trx names a timeslot twice in tch",
+    ),
+    (
+        SiteFault::Twice(What::Neighbour),
+        "a cell names a carrier twice in ba",
+    ),
+];
+
+/// The same of a cell without traffic, and of memory.
+const OTHER_FAULTS: &[(SiteFault, &str)] = &[
+    (
+        SiteFault::NoTraffic(7),
+        "cell 7 has no traffic timeslot at tch",
+    ),
+    (SiteFault::NoMemory, "memory is refused"),
+];
+
+/// Each fault is printed so.
+fn are_printed(rt: &(impl AllocGlobal + Abort), faults: &[(SiteFault, &str)]) -> Result<(), Fail> {
+    for (fault, text) in faults {
         let printed = format!(in rt.alloc(); "{fault}")?;
-        equals(&rt, printed.as_str(), text);
+        equals_at(rt, printed.as_str(), *text, fault);
     }
     Ok(())
+}
+
+#[test]
+fn faults_are_printed(rt: HostRuntime) -> Result<(), Fail> {
+    are_printed(&rt, FAULTS_OF_KEYS)?;
+    are_printed(&rt, FAULTS_OF_TWO)?;
+    are_printed(&rt, OTHER_FAULTS)
 }
