@@ -13,11 +13,6 @@ use std::{fs, str};
 
 // Each test asserts by these: an assertion in a function of its own is proved once, and a call of it costs little.
 
-/// What was found is what was wanted.
-fn equals<T: Copy + Debug + PartialEq>(rt: &impl Abort, found: T, wanted: T) {
-    assert_eq!(rt; found, wanted);
-}
-
 /// What was found at this place is what was wanted.
 fn equals_at<T: Copy + Debug + PartialEq, W: Copy + Debug>(
     rt: &impl Abort,
@@ -26,11 +21,6 @@ fn equals_at<T: Copy + Debug + PartialEq, W: Copy + Debug>(
     at: W,
 ) {
     assert_eq!(rt; found, wanted, "{at:?}");
-}
-
-/// This is so.
-fn holds(rt: &impl Abort, is_so: bool) {
-    assert!(rt; is_so);
 }
 
 /// This is so at this place.
@@ -110,10 +100,10 @@ fn answers(
         detail: Detail::Fields,
     };
     match answer_lines(rt.alloc(), asked, &mut reader, &mut out) {
-        Ok(Counts { messages, refused }) => equals(rt, (messages, refused), counts),
-        Err(_) => holds_at(rt, false, lines),
+        Ok(Counts { messages, refused }) => equals_at(rt, (messages, refused), counts, text),
+        Err(_) => holds_at(rt, false, text),
     }
-    equals(rt, str::from_utf8(&out)?, text);
+    equals_at(rt, str::from_utf8(&out)?, text, link);
     Ok(())
 }
 
@@ -162,11 +152,9 @@ fn all_is_said_of_messages(rt: HostRuntime) -> Result<(), Fail> {
         };
         let mut out = Vec::new(rt.alloc());
         let mut reader: &[u8] = *lines;
-        holds(
-            &rt,
-            answer_lines(rt.alloc(), asked, &mut reader, &mut out).is_ok(),
-        );
-        equals(&rt, str::from_utf8(&out)?, *text);
+        let is_done = answer_lines(rt.alloc(), asked, &mut reader, &mut out).is_ok();
+        holds_at(&rt, is_done, text);
+        equals_at(&rt, str::from_utf8(&out)?, *text, link);
     }
     Ok(())
 }
@@ -273,13 +261,10 @@ fn a_reader_that_breaks_off(rt: HostRuntime) -> Result<(), Fail> {
     let mut errors = Vec::new(rt.alloc());
     let input = Broken(b"rr 062c00\nrr 06");
     let ended = answer_file(&rt, FIELDS, "-", input, &mut out, &mut errors);
-    equals(&rt, ended, Ok(false));
-    equals(
-        &rt,
-        str::from_utf8(&out)?,
-        "1 HANDOVER COMPLETE cause=0\nfile -\n",
-    );
-    holds(&rt, str::from_utf8(&errors)?.starts_with("-: "));
+    let (text, said) = (str::from_utf8(&out)?, str::from_utf8(&errors)?);
+    let wanted = "1 HANDOVER COMPLETE cause=0\nfile -\n";
+    equals_at(&rt, (ended, text), (Ok(false), wanted), said);
+    holds_at(&rt, said.starts_with("-: "), said);
     Ok(())
 }
 
