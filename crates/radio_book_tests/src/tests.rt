@@ -19,9 +19,15 @@ use channel_fsm::ChanId;
 use radio_book::book::Book;
 use sample_sites::{HOME, MANY_CHANNELS, OTHER, SCATTERED, TARGET, THREE_CHANNELS, site_of_cells};
 use std::alloc::{AllocError, Allocator, Global};
+use std::fmt::Debug;
 use std::process::Abort;
 use std::sync::Arc;
 use std::test::Fail;
+
+// This is so at this place. An assertion in a function of its own is proved once, and a call of it costs little.
+fn holds_at<W: Copy + Debug>(rt: &impl Abort, is_so: bool, at: W) {
+    assert!(rt; is_so, "{at:?}");
+}
 
 // Call 1 comes to rest on its channel, on the site of three channels: 0/0/2, 0/0/3 and 1/1/3.
 const STEADY: &str = "\

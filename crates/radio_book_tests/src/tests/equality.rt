@@ -1,6 +1,6 @@
 //! When two books are equal.
 use super::asks::play;
-use super::{THREE_CHANNELS, book_of};
+use super::{THREE_CHANNELS, book_of, holds_at};
 use radio_book::book::Book;
 use sample_sites::changed;
 use std::alloc::{AllocError, Global};
@@ -154,44 +154,63 @@ fn sides(pair: &str) -> Option<(&str, &str, bool)> {
     Some((first, second, false))
 }
 
-// The two lists lead from the two books to the same, or not, as the pair says.
+// Whose sites two books have.
+#[derive(Clone, Copy, Debug, PartialEq)]
+enum Sites {
+    Shared,
+    // Read apart from equal texts.
+    Alike,
+    Different,
+}
+
+// The two lists lead from the two books to the same, or not, as the pair says. Books of different sites are never the same.
 fn lead_to_the_same(
     rt: &(impl AllocGlobal + Abort),
     one: &mut Book<Global>,
     other: &mut Book<Global>,
+    sites: Sites,
     pair: &str,
 ) -> Result<(), AllocError> {
     let (first, second, equal) = sides(pair).expect(rt, pair);
     play(rt, one, pair, first)?;
     play(rt, other, pair, second)?;
-    assert!(rt;
-        (*one == *other) == equal && (*other == *one) == equal,
-        "{pair}"
-    );
+    let equal = equal && sites != Sites::Different;
+    holds_at(rt, (*one == *other) == equal, (sites, pair));
+    holds_at(rt, (*other == *one) == equal, ("back", sites, pair));
     Ok(())
 }
 
-fn is_compared_with_a_copy(
+fn is_compared_with(
     rt: &(impl AllocGlobal + Abort),
     one: &mut Book<Global>,
+    other: &Book<Global>,
+    sites: Sites,
     pair: &str,
 ) -> Result<(), AllocError> {
-    let mut other = one.copy()?;
-    lead_to_the_same(rt, one, &mut other, pair)
+    let mut other = other.copy()?;
+    lead_to_the_same(rt, one, &mut other, sites, pair)
 }
 
 fn are_compared(
     rt: &(impl AllocGlobal + Abort),
-    book: &Book<Global>,
+    one: &Book<Global>,
+    other: &Book<Global>,
+    sites: Sites,
     pair: &str,
 ) -> Result<(), AllocError> {
-    let mut one = book.copy()?;
-    is_compared_with_a_copy(rt, &mut one, pair)
+    let mut one = one.copy()?;
+    is_compared_with(rt, &mut one, other, sites, pair)
 }
 
-fn each_is_compared(rt: &(impl AllocGlobal + Abort), book: &Book<Global>) -> Result<(), Fail> {
+// The lists of each pair are asked of copies of two empty books.
+fn each_is_compared(
+    rt: &(impl AllocGlobal + Abort),
+    one: &Book<Global>,
+    other: &Book<Global>,
+    sites: Sites,
+) -> Result<(), Fail> {
     for pair in PAIRS.split("\n\n") {
-        are_compared(rt, book, pair)?;
+        are_compared(rt, one, other, sites, pair)?;
     }
     Ok(())
 }
@@ -199,25 +218,30 @@ fn each_is_compared(rt: &(impl AllocGlobal + Abort), book: &Book<Global>) -> Res
 #[test]
 fn books_are_equal_where_they_hold_the_same(rt: HostRuntime) -> Result<(), Fail> {
     let book = book_of(rt.alloc(), rt.alloc(), THREE_CHANNELS)?;
-    each_is_compared(&rt, &book)
+    each_is_compared(&rt, &book, &book, Sites::Shared)
 }
 
-fn is_equal_to_that_of(
+// The same of a book and one whose site is read from this text.
+fn each_is_compared_apart(
     rt: &(impl AllocGlobal + Abort),
     book: &Book<Global>,
-    site: &str,
-    equal: bool,
+    text: &str,
+    sites: Sites,
 ) -> Result<(), Fail> {
-    let other = book_of(rt.alloc(), rt.alloc(), site)?;
-    assert!(rt; (*book == other) == equal);
-    Ok(())
+    let other = book_of(rt.alloc(), rt.alloc(), text)?;
+    each_is_compared(rt, book, &other, sites)
+}
+
+#[test]
+fn books_are_equal_where_their_sites_are_alike(rt: HostRuntime) -> Result<(), Fail> {
+    let book = book_of(rt.alloc(), rt.alloc(), THREE_CHANNELS)?;
+    each_is_compared_apart(&rt, &book, THREE_CHANNELS, Sites::Alike)
 }
 
 fn is_of_its_site(rt: &(impl AllocGlobal + Abort), book: &Book<Global>) -> Result<(), Fail> {
     let text = changed(rt.alloc(), THREE_CHANNELS, "margin = 3", "margin = 4")?;
     let wide = text.expect(rt, "the site's margin");
-    is_equal_to_that_of(rt, book, THREE_CHANNELS, true)?;
-    is_equal_to_that_of(rt, book, &wide, false)
+    each_is_compared_apart(rt, book, &wide, Sites::Different)
 }
 
 #[test]

@@ -2,7 +2,7 @@
 //! be taken out of the list. What is answered, and how much the book holds after each round, is worked out by the table.
 ghost use Rattle.std.specs.Prelude.{◌<◌};
 
-use super::{at_places, book_of_64_cells};
+use super::{at_places, book_of_64_cells, holds_at};
 use channel_fsm::{ChanId, ChanState};
 use radio_book::book::{Book, Usage};
 use radio_book::event::Event::{
@@ -325,9 +325,9 @@ fn runs(
     wanted: &[Reply],
 ) -> Result<(), AllocError> {
     let (after, replies) = run(rt.alloc(), book, events)?;
-    let answered = replies.as_slice() == wanted;
-    let kept = book.usage() == holds(0, 0, 0, 0);
-    assert!(rt; answered && kept && after.usage() == holds(620, 620, 0, 0));
+    holds_at(rt, replies.as_slice() == wanted, "the replies");
+    holds_at(rt, book.usage() == holds(0, 0, 0, 0), "the first book");
+    holds_at(rt, after.usage() == holds(620, 620, 0, 0), "the last book");
     Ok(())
 }
 
@@ -389,6 +389,16 @@ fn all_but(alloc: Global, attempted: &Attempted) -> Result<Vec<usize>, AllocErro
     Ok(places)
 }
 
+// The book without an attempt of a call is the one with it, or it has a call more.
+fn books_are_same(rt: &impl Abort, rewound: &Rewound<Global>, call: u16, are_same: bool) {
+    let calls = if are_same { 620 } else { 621 };
+    let (whole, without) = (rewound.whole.usage(), rewound.without.usage());
+    holds_at(rt, whole == holds(620, 620, 0, 0), (call, "the whole"));
+    holds_at(rt, without == holds(calls, calls, 0, 0), (call, "without"));
+    let same = rewound.whole == rewound.without;
+    holds_at(rt, same == are_same, (call, "the books"));
+}
+
 // Where no refusal was held nothing of the attempt is left; where one was, the call that was refused is on the target.
 fn is_taken_out(
     rt: &impl Abort,
@@ -401,22 +411,13 @@ fn is_taken_out(
         Some(round) => Some(place_in(round, attempted.call)),
         None => None,
     };
-    let calls = if held.is_some() { 621 } else { 620 };
-    let others = rewound.others.as_slice() == places;
-    let counted = rewound.whole.usage() == holds(620, 620, 0, 0)
-        && rewound.without.usage() == holds(calls, calls, 0, 0);
-    let same = rewound.whole == rewound.without;
+    let at = attempted.call;
+    holds_at(rt, rewound.others.as_slice() == places, (at, "others"));
+    holds_at(rt, rewound.settled, (at, "settled"));
+    holds_at(rt, rewound.held == held, (at, "held", rewound.held));
+    books_are_same(rt, rewound, at, held.is_none());
     let answered = rewound.without_replies.as_slice() == replies;
-    assert!(rt;
-        others && rewound.settled && rewound.held == held && counted,
-        "{}",
-        attempted.call
-    );
-    assert!(rt;
-        same == held.is_none() && answered == held.is_none(),
-        "{}",
-        attempted.call
-    );
+    holds_at(rt, answered == held.is_none(), (at, "the replies"));
 }
 
 fn rewinds(

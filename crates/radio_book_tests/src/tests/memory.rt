@@ -3,7 +3,7 @@ use super::asks::{ask_of, events_of, is_answered, is_said, play, put, text_of};
 use super::courses::{course_of, runs};
 use super::rewinds::TAKEN_BACK;
 use super::runs::OVERTAKEN;
-use super::{MANY_CHANNELS, STEADY, THREE_CHANNELS, book_of};
+use super::{MANY_CHANNELS, STEADY, THREE_CHANNELS, book_of, holds_at};
 use radio_book::book::Book;
 use radio_book::rewind::{RewindFault, rewind};
 use refusing_heap::RefusingHeap;
@@ -66,7 +66,8 @@ fn is_asked(
 ) -> Result<(), AllocError> {
     let before = shown(rt, book)?;
     let answer = put(book, ask_of(rt, line));
-    assert!(rt; answer.is_err() == heap.was_refused(), "{line}");
+    let is_answered = answer.is_err() == heap.was_refused();
+    holds_at(rt, is_answered, (heap.refusals(), line));
     match answer {
         Ok(answer) => is_said(rt, "once", line, answer),
         Err(_) => is_asked_again(rt, book, line, &before),
@@ -81,7 +82,7 @@ fn is_asked_without_memory(
 ) -> Result<(), AllocError> {
     heap.refuse_from_now();
     play(rt, book, "without memory", lines)?;
-    assert!(rt; heap.refused() == 0);
+    holds_at(rt, heap.refused() == 0, lines);
     Ok(())
 }
 
@@ -95,9 +96,10 @@ fn is_run<'a>(
     let course = course_of(rt, text);
     let events = events_of(rt, course.steps)?;
     let refused = runs(rt, heap, book, &events, course).is_err();
-    assert!(rt; refused == heap.was_refused(), "{}", heap.requests());
+    holds_at(rt, refused == heap.was_refused(), heap.refusals());
+    let name = format!(in rt.alloc(); "{}, {:?}", course.name, heap.refusals())?;
     let before = "usage -> channels=1 calls=1 references=0 timers=0";
-    is_answered(rt, book, course.name, before)
+    is_answered(rt, book, &name, before)
 }
 
 // Where memory was refused that is answered, or, where less did as well, what is answered with ample memory.
@@ -108,9 +110,13 @@ fn is_rewound<'a>(
     text: &str,
 ) -> Result<(), AllocError> {
     let events = events_of(rt, course_of(rt, text).steps)?;
+    let at = heap.refusals();
     match rewind(heap, book, &events, 0) {
-        Ok(rewound) => assert!(rt; rewound.others.as_slice() == [4].as_slice()),
-        Err(fault) => assert!(rt; heap.was_refused() && fault == RewindFault::NoMemory),
+        Ok(rewound) => holds_at(rt, rewound.others.as_slice() == [4].as_slice(), at),
+        Err(fault) => {
+            let is_answered = heap.was_refused() && fault == RewindFault::NoMemory;
+            holds_at(rt, is_answered, (at, fault));
+        }
     }
     Ok(())
 }
@@ -122,7 +128,8 @@ fn is_compared(
 ) -> Result<(), AllocError> {
     let copy = book.copy()?;
     let before = heap.requests();
-    assert!(rt; *book == copy && heap.requests() == before);
+    holds_at(rt, *book == copy, "a copy");
+    holds_at(rt, heap.requests() == before, "no request");
     Ok(())
 }
 
