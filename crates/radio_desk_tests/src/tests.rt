@@ -3,7 +3,7 @@ mod memory;
 
 use cell_table::Site;
 use channel_fsm::{ChanId, ChanState};
-use radio_book::book::Book;
+use radio_book::book::{Book, Usage};
 use radio_book::event::Event::{
     Activate, Clear, Command, Complete, Confirm, Detect, Left, Look, Open, Order, Owner, Refuse,
     Released, Require, Reserve, Take, Undo,
@@ -22,11 +22,6 @@ use std::test::Fail;
 
 // Each test asserts by these: an assertion in a function of its own is proved once, and a call of it costs little.
 
-/// What was found is what was wanted.
-fn equals<T: Copy + Debug + PartialEq>(rt: &impl Abort, found: T, wanted: T) {
-    assert_eq!(rt; found, wanted);
-}
-
 /// What was found at this place is what was wanted.
 fn equals_at<T: Copy + Debug + PartialEq, W: Copy + Debug>(
     rt: &impl Abort,
@@ -35,11 +30,6 @@ fn equals_at<T: Copy + Debug + PartialEq, W: Copy + Debug>(
     at: W,
 ) {
     assert_eq!(rt; found, wanted, "{at:?}");
-}
-
-/// This is so.
-fn holds(rt: &impl Abort, is_so: bool) {
-    assert!(rt; is_so);
 }
 
 /// This is so at this place.
@@ -168,12 +158,18 @@ fn play(
 
 // The history has so many entries, and none behind them.
 fn has_entries(rt: &impl Abort, desk: &Desk<Global>, count: usize) {
-    equals(rt, (desk.len(), desk.entry(count).is_none()), (count, true));
+    equals_at(rt, desk.len(), count, "the entries of a desk");
+    equals_at(
+        rt,
+        desk.entry(count).copied(),
+        None,
+        "the entry behind the last",
+    );
 }
 
 fn goes_on(rt: &impl Abort, desk: &mut Desk<Global>) -> Result<(), Fail> {
     let mut seat = Seat::new();
-    holds(rt, seat.last().is_none());
+    equals_at(rt, seat.last(), None, "the receipt of a new seat");
     has_entries(rt, desk, 0);
     play(rt, desk, &mut seat, COURSE)?;
     has_entries(rt, desk, 11);
@@ -186,22 +182,20 @@ fn each_answer_is_an_entry_and_the_last_receipt(rt: HostRuntime) -> Result<(), F
 }
 
 fn books_of(rt: &impl Abort, desk: &Desk<Global>) {
-    let (opening, book) = (desk.opening().usage(), desk.book().usage());
-    equals(
-        rt,
-        (
-            opening.channels,
-            opening.calls,
-            opening.references,
-            opening.timers,
-        ),
-        (0, 0, 0, 0),
-    );
-    equals(
-        rt,
-        (book.channels, book.calls, book.references, book.timers),
-        (2, 1, 1, 1),
-    );
+    let opening = Usage {
+        channels: 0,
+        calls: 0,
+        references: 0,
+        timers: 0,
+    };
+    let book = Usage {
+        channels: 2,
+        calls: 1,
+        references: 1,
+        timers: 1,
+    };
+    equals_at(rt, desk.opening().usage(), opening, "the opening book");
+    equals_at(rt, desk.book().usage(), book, "the book");
 }
 
 fn books_after(rt: &impl Abort, desk: &mut Desk<Global>) -> Result<(), Fail> {

@@ -2,7 +2,7 @@
 use super::{
     Activate, Ask, Clear, Command, Complete, Confirm, Desk, DeskFault, Detect, Event, HOME, Judge,
     JudgeReserve, JudgeTake, Kind, Left, Look, OTHER, Open, Order, Owner, Refuse, Released,
-    Require, Reserve, Seat, TARGET, Take, Timer, Undo, Why, at_a_new_desk, equals, equals_at, put,
+    Require, Reserve, Seat, TARGET, Take, Timer, Undo, Why, at_a_new_desk, equals_at, put,
 };
 use std::alloc::Global;
 use std::process::Abort;
@@ -187,7 +187,7 @@ fn refuses_after(
     place: usize,
 ) -> Result<(), Fail> {
     judge_all(desk, &mut Seat::new(), events)?;
-    equals(rt, desk.len(), events.len());
+    equals_at(rt, desk.len(), events.len(), events);
     refuses(rt, desk, seat, place);
     Ok(())
 }
