@@ -1,9 +1,9 @@
 -- What cells say of the octets that they are read from.
-use Rattle.std.proofs.Common.{◌≡◌, ℕ, ◌+◌, ◌<◌, ◌%◌, List, [], ◌∷◌, ◌++◌, length, length-append, Option, Some, None, true, false, refl, sym, ◌∙◌, ap, arith, subst, IfSome, nat_eq, eqb, cond, Ok, Err, append_assoc, append-nil}
+use Rattle.std.proofs.Common.{◌≡◌, ℕ, ◌+◌, ◌<◌, ◌%◌, List, [], ◌∷◌, ◌++◌, length, length-append, Option, Some, None, true, false, refl, sym, ◌∙◌, ap, arith, subst, IfSome, nat_eq, eqb, cond, Ok, Err, append_assoc, append-nil, slice_index_or, take, drop, take_all, ◌-◌}
 use Rattle.std.proofs.lemmas.Bool.Decides.{nat_tests}
 use Rattle.std.specs.Option.{option_map, is_some}
 use Rattle.bssmap_messages.specs.declared.message.CellId.{CellId}
-use Rattle.bssmap_messages.specs.Values.{network_and_cell, area_and_cell, cell_alone, cell_of, or_next, cells_from, cells_after, only_cell, some_cells}
+use Rattle.bssmap_messages.specs.Values.{network_and_cell, area_and_cell, cell_alone, cell_of, or_next, cells_from, cells_after, only_cell, some_cells, cell_in, cells_in}
 use Rattle.octet_elements.specs.declared.values.ValueFault.TheVariants.{Bad}
 
 -- a cell of the form has so many octets
@@ -154,6 +154,13 @@ not_lone cell d v o some is = by_cells (cells_after d v) (after_some d v some) �
     by_cells (Some []) not = absurd (not refl)
     by_cells (Some (next ∷ cells)) not = refl
 
+-- such a value is no cell identifier
+pub not_lone_in : (cell : CellId) (value rest : List ℕ) → 0 < length value → 0 < length rest → cells_after (slice_index_or value 0 0) (take (length value - 1) (drop 1 value)) ≡ option_map (λ cells. cell ∷ cells) (cells_after (slice_index_or value 0 0) rest) → Err (Bad 0x05) ≡ cell_in (Some value)
+not_lone_in cell [] rest long some found = absurd (omega arith)
+not_lone_in cell (d ∷ v) rest long some found =
+    let all = take_all (length (d ∷ v) - 1) v (omega arith) in
+    not_lone cell d rest (cells_after d v) some (sym (ap (λ u. cells_after d u) all) ∙ found)
+
 -- octets of no cell are no lone cell
 pub none_lone : (o : Option (List CellId)) → IfSome o (λ cells. cells ≡ []) → Err (Bad 0x05) ≡ only_cell o
 none_lone None none = refl
@@ -167,6 +174,13 @@ some_are_read d v some whole = by_cells (cells_after d v) refl whole
     by_cells None is whole = absurd cc
     by_cells (Some []) is whole = absurd (after_some d v some is)
     by_cells (Some (cell ∷ cells)) is whole = (cell ∷ cells, refl, refl)
+
+-- such a value says them
+pub some_are_in : (value : List ℕ) → 0 < length (take (length value - 1) (drop 1 value)) → is_some (cells_after (slice_index_or value 0 0) (take (length value - 1) (drop 1 value))) ≡ true → (cells : List CellId) × (cells_after (slice_index_or value 0 0) (take (length value - 1) (drop 1 value)) ≡ Some cells) × (cells_in (Some value) ≡ Ok cells)
+some_are_in [] some whole = absurd (omega arith)
+some_are_in (d ∷ v) some whole =
+    let all = take_all (length (d ∷ v) - 1) v (omega arith) in
+    subst (λ u. 0 < length u → is_some (cells_after d u) ≡ true → (cells : List CellId) × (cells_after d u ≡ Some cells) × (some_cells (cells_after d v) ≡ Ok cells)) (sym all) (some_are_read d v) some whole
 
 -- one more cell is read
 pub mapped_more : (cells : List CellId) (cell : CellId) (all before rest : Option (List CellId)) → all ≡ option_map (λ more. cells ++ more) before → before ≡ option_map (λ more. cell ∷ more) rest → all ≡ option_map (λ more. (cells ++ cell ∷ []) ++ more) rest

@@ -3,7 +3,7 @@ ghost use Rattle.std.specs.Prelude.{◌≡◌, ◌<◌, ◌↔◌, [], ◌∷◌
 ghost use Rattle.std.specs.Option.{option_map};
 ghost use Rattle.bssmap_messages.specs.declared.message.CellId.{CellId};
 ghost use Rattle.octet_elements.specs.Values.{value_seen};
-ghost use Rattle.bssmap_messages.specs.Values.{cells_after, only_cell, some_cells, cell_in, cells_in};
+ghost use Rattle.bssmap_messages.specs.Values.{cells_after, cell_in, cells_in};
 
 use crate::message::CellId;
 use crate::table::{CELL_IDENTIFIER, CELL_IDENTIFIER_LIST};
@@ -71,25 +71,18 @@ fn leading_cell(discriminator: u8, octets: &[u8]) -> Option<(CellId, &[u8])>
     }
 }
 
-/// The cell of a cell identifier.
+/// The cell of a cell identifier, which has one.
 #[inline(always)]
 pub fn cell(value: Option<&[u8]>) -> Result<CellId, ValueFault>
     ensures { result ≡ cell_in (value_seen value.entry) }
 {
     match value {
         None => Err(ValueFault::Absent(CELL_IDENTIFIER)),
-        Some([discriminator, octets @ ..]) => only_cell(*discriminator, octets),
+        Some([discriminator, octets @ ..]) => match leading_cell(*discriminator, octets) {
+            Some((cell, rest)) if rest.is_empty() => Ok(cell),
+            _ => Err(ValueFault::Bad(CELL_IDENTIFIER)),
+        },
         Some([]) => Err(ValueFault::Bad(CELL_IDENTIFIER)),
-    }
-}
-
-/// The one cell after a discriminator.
-fn only_cell(discriminator: u8, octets: &[u8]) -> Result<CellId, ValueFault>
-    ensures { result ≡ only_cell (cells_after discriminator octets.now) }
-{
-    match leading_cell(discriminator, octets) {
-        Some((cell, rest)) if rest.is_empty() => Ok(cell),
-        _ => Err(ValueFault::Bad(CELL_IDENTIFIER)),
     }
 }
 
@@ -114,22 +107,12 @@ pub fn cells(value: Option<&[u8]>) -> Result<(u8, &[u8]), ValueFault>
 {
     match value {
         None => Err(ValueFault::Absent(CELL_IDENTIFIER_LIST)),
-        Some([discriminator, octets @ ..]) => some_cells(*discriminator, octets),
+        Some([discriminator, octets @ ..]) => match octets {
+            [] => Err(ValueFault::Bad(CELL_IDENTIFIER_LIST)),
+            _ if are_cells(*discriminator, octets) => Ok((*discriminator, octets)),
+            _ => Err(ValueFault::Bad(CELL_IDENTIFIER_LIST)),
+        },
         Some([]) => Err(ValueFault::Bad(CELL_IDENTIFIER_LIST)),
-    }
-}
-
-/// At least one cell after a discriminator.
-fn some_cells(discriminator: u8, octets: &[u8]) -> Result<(u8, &[u8]), ValueFault>
-    ensures ok { IfOk result (λ c. (cells : List CellId) ×
-        (cells_after c.0 c.1.now ≡ Some cells) ×
-        (some_cells (cells_after discriminator octets.now) ≡ Ok cells)) }
-    ensures err { IfErr result (λ e. some_cells (cells_after discriminator octets.now) ≡ Err e) }
-{
-    match octets {
-        [] => Err(ValueFault::Bad(CELL_IDENTIFIER_LIST)),
-        _ if are_cells(discriminator, octets) => Ok((discriminator, octets)),
-        _ => Err(ValueFault::Bad(CELL_IDENTIFIER_LIST)),
     }
 }
 

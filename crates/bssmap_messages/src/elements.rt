@@ -23,9 +23,10 @@ use crate::values::{channel_type, classmark, keep_classmark};
 use octet_elements::values::u16_octets;
 use octet_elements::{
     Found, Octets, append_element, append_octet, append_octets, append_optional_octet,
-    append_presence, octet_len, optional_octet_len, presence_len,
+    append_presence, element_len, octet_len, optional_octet_len, presence_len,
 };
 use std::alloc::Allocator;
+use std::slice;
 
 /// The message that elements say, or their first fault.
 type Read<A> = Result<Bssmap<A>, BssmapFault>;
@@ -154,15 +155,11 @@ fn have_areas(cells: &[CellId]) -> bool
     cells.iter().all(|cell| cell.lac.is_some())
 }
 
-/// How many octets an element with a length octet takes; the greatest number, where that is too great.
-fn counted_len(value_len: usize) -> usize
-    ensures { result ≡ min (2 + value_len) (2 ^ 64 - 1) }
-{
-    value_len.saturating_add(2)
-}
-
 /// How many octets a cell has in an element: location area code and cell identity.
 const CELL_LEN: usize = 4;
+
+/// How many octets stand before the cells of an element: identifier, length octet and discriminator.
+const CELLS_HEAD: usize = 3;
 
 /// How many octets the elements of a message take; the greatest number, where that is too great.
 #[tactic(auto, unfolding(crate::specs::Messages::layer_3_alone, crate::specs::Messages::handover_complete, crate::specs::Messages::handover_failure, crate::specs::Messages::handover_performed, crate::specs::Messages::cause_alone))]
@@ -175,28 +172,32 @@ pub fn elements_len<A: Allocator>(message: &Bssmap<A>) -> usize
             encryption,
             classmark,
             ..
-        } => counted_len(channel.as_slice().len())
-            .saturating_add(counted_len(encryption.as_slice().len()))
-            .saturating_add(classmark_len(classmark))
-            .saturating_add(2 * counted_len(1 + CELL_LEN)),
+        } => {
+            let (identifier, value) = classmark_element(classmark);
+            element_len::<InterfaceA>(CHANNEL_TYPE, channel.as_slice())
+                .saturating_add(element_len::<InterfaceA>(
+                    ENCRYPTION_INFORMATION,
+                    encryption.as_slice(),
+                ))
+                .saturating_add(element_len::<InterfaceA>(identifier, value))
+                .saturating_add(2 * (CELLS_HEAD + CELL_LEN))
+        }
         Bssmap::HandoverRequired {
             response,
             cells,
             ..
         } => {
+            let response_len = presence_len::<InterfaceA>(RESPONSE_REQUEST, *response);
             let cells_len = cells.as_slice().len().saturating_mul(CELL_LEN);
-            counted_len(cells_len.saturating_add(1))
-                .saturating_add(presence_len::<InterfaceA>(RESPONSE_REQUEST, *response))
-                .saturating_add(octet_len::<InterfaceA>(CAUSE))
+            (octet_len::<InterfaceA>(CAUSE) + response_len + CELLS_HEAD).saturating_add(cells_len)
         }
         Bssmap::HandoverRequestAck { layer3 } | Bssmap::HandoverCommand { layer3 } => {
-            counted_len(layer3.as_slice().len())
+            element_len::<InterfaceA>(LAYER_3_INFORMATION, layer3.as_slice())
         }
         Bssmap::HandoverComplete { rr } => optional_octet_len::<InterfaceA>(RR_CAUSE, *rr),
         Bssmap::HandoverFailure { rr, .. } => octet_len::<InterfaceA>(CAUSE)
             + optional_octet_len::<InterfaceA>(RR_CAUSE, *rr),
-        Bssmap::HandoverPerformed { .. } => octet_len::<InterfaceA>(CAUSE)
-            + counted_len(1 + CELL_LEN),
+        Bssmap::HandoverPerformed { .. } => octet_len::<InterfaceA>(CAUSE) + CELLS_HEAD + CELL_LEN,
         Bssmap::HandoverRequiredReject { .. }
         | Bssmap::ClearCommand { .. }
         | Bssmap::ClearRequest { .. } => octet_len::<InterfaceA>(CAUSE),
@@ -204,14 +205,13 @@ pub fn elements_len<A: Allocator>(message: &Bssmap<A>) -> usize
     }
 }
 
-/// How many octets the element of a classmark takes; the greatest number, where that is too great.
-fn classmark_len<A: Allocator>(classmark: &Classmark<A>) -> usize
-    ensures { result ≡
-        min (length (element_octets interface_a (classmark_element classmark.now))) (2 ^ 64 - 1) }
+/// The element of a classmark: its identifier and its value.
+fn classmark_element<A: Allocator>(classmark: &Classmark<A>) -> (u8, &[u8])
+    ensures { (result.0, result.1.now) ≡ classmark_element classmark.now }
 {
     match classmark {
-        Classmark::One(_) => octet_len::<InterfaceA>(CLASSMARK_1),
-        Classmark::Two(octets) => counted_len(octets.as_slice().len()),
+        Classmark::One(octet) => (CLASSMARK_1, slice::from_ref(octet)),
+        Classmark::Two(octets) => (CLASSMARK_2, octets.as_slice()),
     }
 }
 
@@ -236,22 +236,8 @@ fn append_cell<A: Allocator>(out: &mut Vec<u8, A>, cell: CellId)
     append_octets(out, &[CELL_IDENTIFIER, 5, AREA_AND_CELL, a, b, c, d]);
 }
 
-/// Appends a classmark, for which the list has room.
-fn append_classmark<A: Allocator>(out: &mut Vec<u8, A>, classmark: &Classmark<A>)
-    requires short { Fits interface_a (classmark_element classmark.now) }
-    requires room { HasRoom (element_octets interface_a (classmark_element classmark.now)) out.old }
-    ensures { Adds (element_octets interface_a (classmark_element classmark.now)) out.old out.new }
-{
-    match classmark {
-        Classmark::One(octet) => append_octet::<InterfaceA, A>(out, CLASSMARK_1, *octet),
-        Classmark::Two(octets) => {
-            append_element::<InterfaceA, A>(out, CLASSMARK_2, octets.as_slice());
-        }
-    }
-}
-
 /// Appends the elements of a HANDOVER REQUEST, for which the list has room.
-#[tactic(auto, using(crate::proofs::Lengths::request_length, crate::proofs::Lengths::classmark_fits), unfolding(crate::specs::Messages::handover_request))]
+#[tactic(auto, unfolding(crate::specs::Messages::handover_request))]
 fn append_request<A: Allocator + Copy>(
     out: &mut Vec<u8, A>,
     channel: &Octets<A>,
@@ -264,13 +250,13 @@ fn append_request<A: Allocator + Copy>(
         (handover_request.written (channel.now, (encryption.now, (classmark.now, (serving, target)))))) < limit }
     requires room { HasRoom (all_octets interface_a
         (handover_request.written (channel.now, (encryption.now, (classmark.now, (serving, target)))))) out.old }
-    ensures items { out.new.items ≡ out.old.items ++ all_octets interface_a
-        (handover_request.written (channel.now, (encryption.now, (classmark.now, (serving, target))))) }
-    ensures capacity { vec_capacity out.old ≤ vec_capacity out.new }
+    ensures { Adds (all_octets interface_a (handover_request.written
+        (channel.now, (encryption.now, (classmark.now, (serving, target)))))) out.old out.new }
 {
     append_element::<InterfaceA, A>(out, CHANNEL_TYPE, channel.as_slice());
     append_element::<InterfaceA, A>(out, ENCRYPTION_INFORMATION, encryption.as_slice());
-    append_classmark(out, classmark);
+    let (identifier, value) = classmark_element(classmark);
+    append_element::<InterfaceA, A>(out, identifier, value);
     append_cell(out, serving);
     append_cell(out, target);
 }

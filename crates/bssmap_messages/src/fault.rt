@@ -11,15 +11,13 @@ pub enum BssmapFault {
     /// There is no octet, or the first, the discriminator, is not 0.
     #[error("not a BSSMAP message")]
     NotBssmap,
-    /// There is no length octet, it does not count the octets that follow it, or it is 0 or above
-    /// 253.
+    /// There is no length octet, it doesn't count the octets that follow it, or it is 0 or above 253.
     #[error("wrong length octet")]
     Length,
     /// No message that is read here has this type.
     #[error("unknown message type 0x{0:02x}")]
     UnknownType(u8),
-    /// The mandatory element with this identifier is not there. Where there is no classmark it is
-    /// 0x12.
+    /// The mandatory element with this identifier is not there; 0x12 where there is no classmark.
     #[error("element 0x{0:02x} is missing")]
     Missing(u8),
     /// The element with this identifier has a value that can't be read.

@@ -4,8 +4,7 @@ ghost use Rattle.bssmap_messages.specs.Texts.{codec, CanonicalIsText};
 
 use std::alloc::Allocator;
 
-/// Octets have one reading: a text has one value and no fault but refused memory, and no octets have
-/// two faults.
+/// Octets have one reading: a text has one value and no fault but refused memory, and no octets have two faults.
 pub fn reading_is_unique<A: Allocator>()
     ensures unique { ReadingIsUnique (codec A) }
 {}

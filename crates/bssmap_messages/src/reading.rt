@@ -1,7 +1,6 @@
 //! Reading a message.
-ghost use Rattle.std.specs.Prelude.{IfOk, IfErr};
 ghost use Rattle.octet_elements.specs.Texts.{Decodes};
-ghost use Rattle.bssmap_messages.specs.Texts.{codec, IsTextOf, HasFault};
+ghost use Rattle.bssmap_messages.specs.Texts.{codec};
 
 use crate::elements::read_elements;
 use crate::fault::BssmapFault;
@@ -10,20 +9,6 @@ use crate::message::Bssmap;
 use crate::table::InterfaceA;
 use octet_elements::Found;
 use std::alloc::Allocator;
-
-/// Reads a message: its value, or its first fault.
-#[inline(always)]
-fn read_message<A: Allocator + Copy>(alloc: A, octets: &[u8]) -> Result<Bssmap<A>, BssmapFault>
-    ensures text { IfOk result (λ v. IsTextOf v octets.now) }
-    ensures fault { IfErr result (HasFault A octets.now) }
-{
-    let (kind, body) = read_head(octets)?;
-    let mut found = Found::<InterfaceA>::new();
-    match found.read(body) {
-        Ok(()) => read_elements(alloc, kind, &found),
-        Err(offset) => Err(BssmapFault::Torn(3 + offset)),
-    }
-}
 
 /// Reads a message.
 ///
@@ -34,5 +19,10 @@ fn read_message<A: Allocator + Copy>(alloc: A, octets: &[u8]) -> Result<Bssmap<A
 pub fn decode<A: Allocator + Copy>(alloc: A, octets: &[u8]) -> Result<Bssmap<A>, BssmapFault>
     ensures decodes { Decodes (codec A) octets.now result }
 {
-    read_message(alloc, octets)
+    let (kind, body) = read_head(octets)?;
+    let mut found = Found::<InterfaceA>::new();
+    match found.read(body) {
+        Ok(()) => read_elements(alloc, kind, &found),
+        Err(offset) => Err(BssmapFault::Torn(3 + offset)),
+    }
 }

@@ -1,4 +1,7 @@
 use Rattle.std.proofs.Common.{◌≡◌, length, ap, arith}
+use Rattle.octet_elements.specs.Elements.{element_octets}
+use Rattle.bssmap_messages.specs.Forms.{interface_a}
+use Rattle.bssmap_messages.specs.Values.{classmark_element}
 use Rattle.bssmap_messages.specs.Messages.{handover_request, handover_required}
 use Rattle.bssmap_messages.proofs.Lengths.{request_length, required_length}
 use Rattle.bssmap_messages.proofs.elements.elements_len.Goals as goal
@@ -10,6 +13,7 @@ returns-in-HandoverRequest g c =
     let long = request_length arm.channel arm.encryption arm.classmark arm.serving arm.target in
     let channel : length c.as_slice.result.now ≡ length arm.channel = ap length c.as_slice.ensures.octets in
     let encryption : length c.as_slice-in-HandoverRequest.result.now ≡ length arm.encryption = ap length c.as_slice-in-HandoverRequest.ensures.octets in
+    let classmark : length (element_octets interface_a (c.classmark_element-identifier.result.0, c.classmark_element-identifier.result.1.now)) ≡ length (element_octets interface_a (classmark_element arm.classmark)) = ap (λ e. length (element_octets interface_a e)) c.classmark_element-identifier.ensures in
     rw arm.is (omega arith)
 
 pub returns-in-HandoverRequired : goal.returns-in-HandoverRequired
@@ -18,5 +22,5 @@ returns-in-HandoverRequired g c =
     let arm = c.in-HandoverRequired in
     let long = required_length arm.cause arm.response arm.cells in
     let cells : length c.as_slice-in-HandoverRequired.result.now ≡ length arm.cells = ap length c.as_slice-in-HandoverRequired.ensures.cells in
-    let response = c.presence_len.ensures in
+    let response = c.presence_len-response_len.ensures in
     rw arm.is (omega arith)
