@@ -174,11 +174,9 @@ pub fn elements_len<A: Allocator>(message: &Bssmap<A>) -> usize
             ..
         } => {
             let (identifier, value) = classmark_element(classmark);
+            let encryption = encryption.as_slice();
             element_len::<InterfaceA>(CHANNEL_TYPE, channel.as_slice())
-                .saturating_add(element_len::<InterfaceA>(
-                    ENCRYPTION_INFORMATION,
-                    encryption.as_slice(),
-                ))
+                .saturating_add(element_len::<InterfaceA>(ENCRYPTION_INFORMATION, encryption))
                 .saturating_add(element_len::<InterfaceA>(identifier, value))
                 .saturating_add(2 * (CELLS_HEAD + CELL_LEN))
         }
@@ -253,9 +251,9 @@ fn append_request<A: Allocator + Copy>(
     ensures { Adds (all_octets interface_a (handover_request.written
         (channel.now, (encryption.now, (classmark.now, (serving, target)))))) out.old out.new }
 {
+    let (identifier, value) = classmark_element(classmark);
     append_element::<InterfaceA, A>(out, CHANNEL_TYPE, channel.as_slice());
     append_element::<InterfaceA, A>(out, ENCRYPTION_INFORMATION, encryption.as_slice());
-    let (identifier, value) = classmark_element(classmark);
     append_element::<InterfaceA, A>(out, identifier, value);
     append_cell(out, serving);
     append_cell(out, target);

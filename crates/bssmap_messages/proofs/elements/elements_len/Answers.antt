@@ -1,7 +1,4 @@
 use Rattle.std.proofs.Common.{◌≡◌, length, ap, arith}
-use Rattle.octet_elements.specs.Elements.{element_octets}
-use Rattle.bssmap_messages.specs.Forms.{interface_a}
-use Rattle.bssmap_messages.specs.Values.{classmark_element}
 use Rattle.bssmap_messages.specs.Messages.{handover_request, handover_required}
 use Rattle.bssmap_messages.proofs.Lengths.{request_length, required_length}
 use Rattle.bssmap_messages.proofs.elements.elements_len.Goals as goal
@@ -10,10 +7,7 @@ pub returns-in-HandoverRequest : goal.returns-in-HandoverRequest
 unfolding handover_request
 returns-in-HandoverRequest g c =
     let arm = c.in-HandoverRequest in
-    let long = request_length arm.channel arm.encryption arm.classmark arm.serving arm.target in
-    let channel : length c.as_slice.result.now ≡ length arm.channel = ap length c.as_slice.ensures.octets in
-    let encryption : length c.as_slice-in-HandoverRequest.result.now ≡ length arm.encryption = ap length c.as_slice-in-HandoverRequest.ensures.octets in
-    let classmark : length (element_octets interface_a (c.classmark_element-identifier.result.0, c.classmark_element-identifier.result.1.now)) ≡ length (element_octets interface_a (classmark_element arm.classmark)) = ap (λ e. length (element_octets interface_a e)) c.classmark_element-identifier.ensures in
+    let long = request_length arm.channel arm.encryption arm.classmark arm.serving arm.target _ _ _ c.as_slice.ensures.octets c.as_slice-encryption.ensures.octets c.classmark_element-identifier.ensures in
     rw arm.is (omega arith)
 
 pub returns-in-HandoverRequired : goal.returns-in-HandoverRequired
