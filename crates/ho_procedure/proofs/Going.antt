@@ -10,11 +10,11 @@ use Rattle.radio_book.specs.declared.event.Event.TheVariants.{Take, Reserve}
 use Rattle.radio_book.specs.declared.event.Reply.{Reply}
 use Rattle.radio_desk.specs.declared.desk.DeskFault.{DeskFault}
 use Rattle.radio_desk.specs.declared.desk.DeskFault.TheVariants.{Foreign, NoMemory}
-use Rattle.ho_procedure.specs.Claims.{Entry, Claim, NoneFree, Chosen}
+use Rattle.ho_procedure.specs.Claims.{Entry, Claim, NoneFree, Chosen, UnknownReceipt, IsForeign}
 use Rattle.ho_procedure.specs.Sent.{Sent}
 use Rattle.ho_procedure.specs.Plan.{Plan, Ends, Asks, Takes, Reserves, Sends, Notes, Ranks, Step, Asked, Chose, FoundNone, Posted, Noted, Ranked, AreCandidates, Moves, Leads, AsksDesk, TakesMemory, Until, At, AtMemory, AtDesk, LeadsUntil, entries_in, entries_of, messages_in, messages_of, ChoiceIn, ChoicesAt, is_accepted, call_dropped, dropped_if, reports_by, reports_after}
 use Rattle.ho_procedure.specs.declared.work.Work.{Work}
-use Rattle.ho_procedure.specs.Going.{Run, Goes, Passes, last_reports, stops_at}
+use Rattle.ho_procedure.specs.Going.{Run, Goes, Passes, MayStop, last_reports, stops_at}
 
 -- traces that lead on may be put together
 pub leads-append : (p q r : Plan) (t u : List Step) → Leads p t q → Leads q u r → Leads p (t ++ u) r
@@ -51,6 +51,11 @@ pub choices-said : (says says' : List Entry → Claim → Type 0) (log : List En
 choices-said says says' log [] k g = tt
 choices-said says says' log (s ∷ u) k g = (choice-said (says log) (says' log) s (k log) g.0, choices-said says says' (log ++ entries_in s) u k g.1)
 
+pub stop-said : (says says' : Claim → Type 0) (u : Until) → ((claim : Claim) → says' claim → says claim) → MayStop says' u → MayStop says u
+stop-said says says' (At p) k s = tt
+stop-said says says' AtMemory k s = tt
+stop-said says says' AtDesk k s = k UnknownReceipt s
+
 pub choices-append : (says says' : List Entry → Claim → Type 0) (log log' : List Entry) (t u : List Step) → ((es : List Entry) → (claim : Claim) → says' es claim → says es claim)
     → log' ≡ log ++ entries_of t → ChoicesAt says log t → ChoicesAt says' log' u → ChoicesAt says log (t ++ u)
 choices-append says says' log log' [] u k l f g = let P : List Entry → Type 0 = λ x. ChoicesAt says x u in subst P (l ∙ append-nil log) (choices-said says says' log' u k g)
@@ -68,12 +73,13 @@ joined {D} {A} {log} {says} {w} {w'} {w''} {p} {q} {u} f g = record {
   reports = λ call. g.reports call ∙ ap (λ x. reports_after call g.trace x) (f.reports call) ∙ sym (reports_after-append call f.trace g.trace (last_reports w.windows call));
   width = g.width ∙ f.width;
   said = λ es claim h. f.said es claim (g.said es claim h);
+  stop = stop-said (says w.view (log w''.view)) (says w'.view (log w''.view)) u (f.said (log w''.view)) g.stop;
 }
 
 -- nothing is done
 pub stays : {D A : Type 0} (log : D → List Entry) (says : D → List Entry → Claim → Type 0) (w : Work D A) (p q : Plan) → p ≡ q → Goes log says w p w (At q)
 unfolding Goes
-stays log says w p q e = record { trace = []; leads = e; entries = sym (append-nil (log w.view)); messages = sym (append-nil w.owed.items); choices = tt; reports = λ call. refl; width = refl; said = λ es claim h. h }
+stays log says w p q e = record { trace = []; leads = e; entries = sym (append-nil (log w.view)); messages = sym (append-nil w.owed.items); choices = tt; reports = λ call. refl; width = refl; said = λ es claim h. h; stop = tt }
 
 -- a step that asks the desk takes memory too
 pub asking_takes : (p : Plan) → AsksDesk p → TakesMemory p
@@ -88,16 +94,16 @@ asking_takes (Ranks site reports serving next) asks = absurd asks
 -- nothing is done where the plan asks the desk next, and this fault comes
 pub waits : {D A : Type 0} (log : D → List Entry) (says : D → List Entry → Claim → Type 0) (w w' : Work D A) (f : DeskFault) (p : Plan)
     → log w'.view ≡ log w.view → w'.owed.items ≡ w.owed.items → ((call : ℕ) → last_reports w'.windows call ≡ last_reports w.windows call) → w'.windows.width ≡ w.windows.width
-    → ((es : List Entry) → (claim : Claim) → says w'.view es claim → says w.view es claim) → AsksDesk p → Goes log says w p w' (stops_at f)
+    → ((es : List Entry) → (claim : Claim) → says w'.view es claim → says w.view es claim) → (IsForeign f → says w.view (log w.view) UnknownReceipt) → AsksDesk p → Goes log says w p w' (stops_at f)
 unfolding Goes stops_at
-waits log says w w' (Foreign place) p l o n i k a = record { trace = []; leads = (p, refl, a); entries = l ∙ sym (append-nil (log w.view)); messages = o ∙ sym (append-nil w.owed.items); choices = tt; reports = n; width = i; said = k }
-waits log says w w' NoMemory p l o n i k a = record { trace = []; leads = (p, refl, asking_takes p a); entries = l ∙ sym (append-nil (log w.view)); messages = o ∙ sym (append-nil w.owed.items); choices = tt; reports = n; width = i; said = k }
+waits log says w w' (Foreign place) p l o n i k h a = record { trace = []; leads = (p, refl, a); entries = l ∙ sym (append-nil (log w.view)); messages = o ∙ sym (append-nil w.owed.items); choices = tt; reports = n; width = i; said = k; stop = subst (λ es. says w.view es UnknownReceipt) (sym l) (h tt) }
+waits log says w w' NoMemory p l o n i k h a = record { trace = []; leads = (p, refl, asking_takes p a); entries = l ∙ sym (append-nil (log w.view)); messages = o ∙ sym (append-nil w.owed.items); choices = tt; reports = n; width = i; said = k; stop = tt }
 
 -- nothing is done where the plan takes memory next, and it is refused
 pub lacks : {D A : Type 0} (log : D → List Entry) (says : D → List Entry → Claim → Type 0) (w : Work D A) (f : DeskFault) (p : Plan) → f ≡ NoMemory → TakesMemory p → Goes log says w p w (stops_at f)
 unfolding Goes stops_at
 lacks log says w f p is t =
-    let here : Goes log says w p w (stops_at NoMemory) = record { trace = []; leads = (p, refl, t); entries = sym (append-nil (log w.view)); messages = sym (append-nil w.owed.items); choices = tt; reports = λ call. refl; width = refl; said = λ es claim h. h } in
+    let here : Goes log says w p w (stops_at NoMemory) = record { trace = []; leads = (p, refl, t); entries = sym (append-nil (log w.view)); messages = sym (append-nil w.owed.items); choices = tt; reports = λ call. refl; width = refl; said = λ es claim h. h; stop = tt } in
     subst (λ x. Goes log says w p w (stops_at x)) (sym is) here
 
 -- nothing is done, and the plan goes on
@@ -106,7 +112,7 @@ pub idles : {D A : Type 0} (log : D → List Entry) (says : D → List Entry →
     → Passes log says w p w' p
 unfolding Goes
 idles {D} {A} log says w w' p v o n i w'' u g =
-    let f : Run log says w p w' (At p) = record { trace = []; leads = refl; entries = ap log v ∙ sym (append-nil (log w.view)); messages = o ∙ sym (append-nil w.owed.items); choices = tt; reports = n; width = i; said = λ es claim h. let P : D → Type 0 = λ x. says x es claim in subst P v h } in
+    let f : Run log says w p w' (At p) = record { trace = []; leads = refl; entries = ap log v ∙ sym (append-nil (log w.view)); messages = o ∙ sym (append-nil w.owed.items); choices = tt; reports = n; width = i; said = λ es claim h. let P : D → Type 0 = λ x. says x es claim in subst P v h; stop = tt } in
     joined f g
 
 -- what was followed to a plan goes on from there
@@ -121,7 +127,7 @@ pub moved : {D A : Type 0} (log : D → List Entry) (says : D → List Entry →
     → ((es : List Entry) → (claim : Claim) → says w'.view es claim → says w.view es claim) → Passes log says w p w' q
 unfolding Goes
 moved {D} {A} log says w w' p s q m l o c n i k w'' u g =
-    let f : Run log says w p w' (At q) = record { trace = s ∷ []; leads = (q, m, refl); entries = l ∙ ap (λ x. log w.view ++ x) (sym (append-nil (entries_in s))); messages = o ∙ ap (λ x. w.owed.items ++ x) (sym (append-nil (messages_in s))); choices = (c, tt); reports = n; width = i; said = k } in
+    let f : Run log says w p w' (At q) = record { trace = s ∷ []; leads = (q, m, refl); entries = l ∙ ap (λ x. log w.view ++ x) (sym (append-nil (entries_in s))); messages = o ∙ ap (λ x. w.owed.items ++ x) (sym (append-nil (messages_in s))); choices = (c, tt); reports = n; width = i; said = k; stop = tt } in
     joined f g
 
 pub asked : {D A : Type 0} (log : D → List Entry) (says : D → List Entry → Claim → Type 0) (w w' : Work D A) (e : Event) (r : Reply) (next : Reply → Plan)

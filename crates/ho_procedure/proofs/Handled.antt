@@ -2,7 +2,7 @@
 use Rattle.std.proofs.Common.{◌≡◌, ℕ, inl, inr, List, [], ◌++◌, Result, Ok, Err, OnOk, IfErr, sym, ◌∙◌, ap, subst}
 use Rattle.radio_desk.specs.declared.desk.DeskFault.{DeskFault}
 use Rattle.radio_desk.specs.declared.desk.DeskFault.TheVariants as fault
-use Rattle.ho_procedure.specs.Claims.{Entry, Claim}
+use Rattle.ho_procedure.specs.Claims.{Entry, Claim, UnknownReceipt}
 use Rattle.ho_procedure.specs.Sent.{Sent}
 use Rattle.ho_procedure.specs.declared.work.Work.{Work}
 use Rattle.cell_table.specs.Site.{SiteView}
@@ -13,7 +13,7 @@ use Rattle.ho_procedure.specs.declared.following.Stop.{Stop}
 use Rattle.ho_procedure.specs.declared.following.Stop.TheVariants as stop
 use Rattle.ho_procedure.specs.Plan.{Plan, Ends, Until, At, AtMemory, AtDesk, messages_of}
 use Rattle.ho_procedure.specs.Going.{Goes, last_reports, stops_at}
-use Rattle.ho_procedure.specs.Following.{Stopped, IsStopFor}
+use Rattle.ho_procedure.specs.Following.{Stopped, StopsInRow, IsStopFor}
 use Rattle.ho_procedure.specs.Handling.{Handles, StopsForMemory, StopsAtDesk, IsRow, IsUndecoded, KeepsOctets}
 
 -- a row that a fault of the desk, or of memory, stopped
@@ -62,6 +62,11 @@ pub stops_at_desk : {A D : Type 0} (log : D → List Entry) (says : D → List E
     → Stopped log says w (IsRow site (last_reports w.windows) input) (IsUndecoded input) (KeepsOctets input) w' (stop.Foreign place) → w.owed.items ≡ [] → out ≡ w'.owed.items
     → StopsAtDesk log says site w.view w.windows input w'.view w'.windows out
 stops_at_desk log says site w w' input place out f none owed = (f.0, f.1, handled log says w w' f.0 AtDesk out f.2 none owed)
+
+pub stops_unknown : {A D : Type 0} (log : D → List Entry) (says : D → List Entry → Claim → Type 0) (w : Work D A) (IsRow : Plan → Type 0) (w' : Work D A)
+    → StopsInRow log says w IsRow w' AtDesk → says w.view (log w'.view) UnknownReceipt
+unfolding Goes
+stops_unknown log says w IsRow w' f = f.2.stop
 
 pub stopped_kept : {A D : Type 0} (log : D → List Entry) (says : D → List Entry → Claim → Type 0) (w : Work D A) (IsRow : Plan → Type 0) (CantBeRead : Link → Bad → Type 0) (MayRefuse : Type 0) (w' : Work D A) (s : Stop)
     → Stopped log says w IsRow CantBeRead MayRefuse w' s → (es : List Entry) → (claim : Claim) → says w'.view es claim → says w.view es claim

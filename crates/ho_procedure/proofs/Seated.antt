@@ -1,5 +1,5 @@
 -- A desk with its only caller.
-use Rattle.std.proofs.Common.{◌≡◌, ℕ, List, [], ◌∷◌, ◌++◌, Option, Some, None, Result, Ok, Err, IfOk, OnErr, IfSome, MatchOption, refl, sym, subst}
+use Rattle.std.proofs.Common.{◌≡◌, ◌↔◌, ℕ, List, [], ◌∷◌, ◌++◌, Option, Some, None, Result, Ok, Err, IfOk, IfErr, OnErr, IfSome, MatchOption, refl, sym, subst}
 use Rattle.channel_fsm.specs.declared.ChanId.{ChanId}
 use Rattle.radio_book.specs.declared.event.Kind.{Kind}
 use Rattle.radio_book.specs.declared.event.Event.TheVariants.{Take, Reserve}
@@ -9,12 +9,17 @@ use Rattle.radio_book.specs.Choice.{IsFreeIn, TakesFree, ReservesFree}
 use Rattle.radio_book.specs.Choice as free
 use Rattle.radio_desk.specs.declared.seat.Receipt.{Receipt}
 use Rattle.radio_desk.specs.declared.desk.DeskFault.{DeskFault}
-use Rattle.radio_desk.specs.Desk.{DeskState, IsForeign, IsJudged, IsSameDesk}
-use Rattle.ho_procedure.specs.Claims.{Entry, Claim, NoneFree, Chosen, IsThere, IsTrueAfter}
+use Rattle.radio_desk.specs.declared.desk.DeskFault.TheVariants.{Foreign, NoMemory}
+use Rattle.radio_desk.specs.Desk.{DeskState, IsJudged, IsSameDesk}
+use Rattle.radio_desk.specs.Desk as desk
+use Rattle.ho_procedure.specs.Claims.{Entry, Claim, NoneFree, Chosen, IsThere, IsTrueAfter, IsForeign}
 
 -- a seat without a receipt isn't foreign
-pub not_foreign : (history : List Entry) (last : Option Receipt) (place : ℕ) → last ≡ None → IsForeign history last place → ⊥
-not_foreign history last place new foreign = subst (λ s. IsForeign history s place) new foreign
+pub not_foreign : {X : Type 0} (history : List Entry) (last : Option Receipt) (result : Result X DeskFault)
+    → last ≡ None → ((place : ℕ) → (result ≡ Err (Foreign place)) ↔ desk.IsForeign history last place) → IfErr result (λ f. IsForeign f → ⊥)
+not_foreign history last (Ok x) new foreign = tt
+not_foreign history last (Err NoMemory) new foreign = λ is. is
+not_foreign history last (Err (Foreign place)) new foreign = λ is. subst (λ s. desk.IsForeign history s place) new ((foreign place).0 refl)
 
 -- what is true of a desk was true before, as long as it opens with the same book
 pub still_true : (opening opening' : State) → opening' ≡ opening → (log : List Entry) → (claim : Claim) → IsTrueAfter opening' log claim → IsTrueAfter opening log claim

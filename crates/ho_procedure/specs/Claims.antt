@@ -1,5 +1,5 @@
 -- What a view says of the book that it asks: what it may choose there, a free channel of a cell (TS 48.058 clause 4) or a
--- free Handover Reference (TS 44.018 clause 10.5.2.15), and which book it began with.
+-- free Handover Reference (TS 44.018 clause 10.5.2.15), which book it began with, and that its receipt isn't known there.
 use Rattle.std.specs.Prelude.{◌≡◌, ℕ, List}
 use Rattle.radio_book.specs.declared.event.Event.{Event}
 use Rattle.radio_book.specs.declared.event.Event.TheVariants.{Open, Clear, Look, Take, Reserve, Activate, Command, Complete, Undo, Confirm, Refuse, Detect, Released, Owner, Require, Order, Left}
@@ -8,16 +8,20 @@ use Rattle.radio_book.specs.State.{State, record_of}
 use Rattle.radio_book.specs.Run.{Leads}
 use Rattle.radio_book.specs.Choice.{IsFreeIn, MayReserve, taken_channel}
 use Rattle.radio_book.specs.Choice as free
+use Rattle.radio_desk.specs.declared.desk.DeskFault.{DeskFault}
+use Rattle.radio_desk.specs.declared.desk.DeskFault.TheVariants.{Foreign, NoMemory}
 
 -- an event that was asked, and its reply
 abbrev pub Entry : Type 0
 Entry = Event × Reply
 
--- No channel of a cell is free; this Take or Reserve chooses what is; or the book began as this one.
+-- No channel of a cell is free; this Take or Reserve chooses what is; the book began as this one; or the desk doesn't know
+-- the view's last receipt.
 pub data Claim : Type 0 where
   NoneFree : ℕ → Claim
   Chosen : Event → Claim
   Opening : State → Claim
+  UnknownReceipt : Claim
 
 -- the book has what is chosen: the channel is free, or the number is in the cell of the taken channel
 abbrev pub IsThere : State → Event → Type 0
@@ -39,8 +43,15 @@ IsThere b (Require c) = ⊥
 IsThere b (Order c) = ⊥
 IsThere b (Left c) = ⊥
 
--- a claim is true of the book that the entries lead to, or of the opening one, from which they lead
+-- A claim is true of the book that the entries lead to, or of the opening one, from which they lead. Where nobody else asks
+-- the desk, it knows each receipt.
 abbrev pub IsTrueAfter : State → List Entry → Claim → Type 0
 IsTrueAfter opening log (NoneFree cell) = (b : State) × Leads opening log b × free.NoneFree b cell
 IsTrueAfter opening log (Chosen e) = (b : State) × Leads opening log b × IsThere b e
 IsTrueAfter opening log (Opening book) = book ≡ opening
+IsTrueAfter opening log UnknownReceipt = ⊥
+
+-- the desk doesn't know the view's last receipt
+abbrev pub IsForeign : DeskFault → Type 0
+IsForeign (Foreign place) = Unit {0}
+IsForeign NoMemory = ⊥

@@ -26,11 +26,6 @@ Stopped log says w IsRow CantBeRead MayRefuse w' (stop.Unread l b) = CantBeRead 
 Stopped log says w IsRow CantBeRead MayRefuse w' stop.NoMemory = StopsInRow log says w IsRow w' AtMemory ⊎ (MayRefuse × (w' ≡ w))
 Stopped log says w IsRow CantBeRead MayRefuse w' (stop.Foreign place) = StopsInRow log says w IsRow w' AtDesk
 
-abbrev pub IsForeignStop : Stop → Type 0
-IsForeignStop (stop.Unread l b) = ⊥
-IsForeignStop stop.NoMemory = ⊥
-IsForeignStop (stop.Foreign place) = Unit {0}
-
 -- why a row stops by such a fault
 abbrev pub IsStopFor : DeskFault → Stop → Type 0
 IsStopFor (fault.Foreign place) s = s ≡ stop.Foreign place

@@ -9,16 +9,22 @@ use Rattle.ho_procedure.specs.declared.work.Work.{Work}
 use Rattle.ho_procedure.specs.declared.work.Course.{Course}
 use Rattle.ho_procedure.specs.declared.work.Course.TheVariants.{On, Over}
 use Rattle.ho_procedure.specs.declared.work.Shown.{Shown}
-use Rattle.ho_procedure.specs.Claims.{Entry, Claim}
+use Rattle.ho_procedure.specs.Claims.{Entry, Claim, UnknownReceipt}
 use Rattle.ho_procedure.specs.Windows.{Kept, reports_of}
-use Rattle.ho_procedure.specs.Plan.{Plan, Ends, Step, Until, AtMemory, AtDesk, LeadsUntil, ChoicesAt, entries_of, messages_of, reports_after}
+use Rattle.ho_procedure.specs.Plan.{Plan, Ends, Step, Until, At, AtMemory, AtDesk, LeadsUntil, ChoicesAt, entries_of, messages_of, reports_after}
 
 -- the last reports of a call
 abbrev pub last_reports : Kept → ℕ → List Results
 last_reports windows call = (reports_of windows call).reports
 
+-- What a view says where a trace leads so far: a row stops where it asks the desk only if that doesn't know the receipt.
+abbrev pub MayStop : (Claim → Type 0) → Until → Type 0
+MayStop says (At p) = Unit {0}
+MayStop says AtMemory = Unit {0}
+MayStop says AtDesk = says UnknownReceipt
+
 -- Some trace leads from the one plan to the other: its entries are what the view's log gained, its messages what is owed
--- since, its choices what the view says, and the reports of each call are those after it.
+-- since, its choices and where it stops what the view says, and the reports of each call are those after it.
 pub record Run {D A : Type 0} (log : D → List Entry) (says : D → List Entry → Claim → Type 0) (w : Work D A) (p : Plan) (w' : Work D A) (u : Until) : Type 0 where
   pub trace : List Step
   pub leads : LeadsUntil p trace u
@@ -28,6 +34,7 @@ pub record Run {D A : Type 0} (log : D → List Entry) (says : D → List Entry 
   pub reports : (call : ℕ) → last_reports w'.windows call ≡ reports_after call trace (last_reports w.windows call)
   pub width : w'.windows.width ≡ w.windows.width
   pub said : (es : List Entry) → (claim : Claim) → says w'.view es claim → says w.view es claim
+  pub stop : MayStop (says w.view (log w'.view)) u
 
 -- the same, closed: a caller needs no more than that it may be put together
 unfoldable pub Goes : {D A : Type 0} → (D → List Entry) → (D → List Entry → Claim → Type 0) → Work D A → Plan → Work D A → Until → Type 0
@@ -55,8 +62,3 @@ then tail Over = Ends
 unfoldable pub stops_at : DeskFault → Until
 stops_at (Foreign place) = AtDesk
 stops_at NoMemory = AtMemory
-
--- the desk doesn't know the view's last receipt
-abbrev pub IsForeign : DeskFault → Type 0
-IsForeign (Foreign place) = Unit {0}
-IsForeign NoMemory = ⊥

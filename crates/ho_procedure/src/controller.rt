@@ -1,6 +1,6 @@
 //! The controller: what it does for each input.
 ghost use Rattle.std.specs.Prelude.{◌≡◌, ℕ, List, [], IfOk, IfErr, Err};
-ghost use Rattle.ho_procedure.specs.Claims.{Entry, Claim};
+ghost use Rattle.ho_procedure.specs.Claims.{Entry, Claim, UnknownReceipt};
 ghost use Rattle.ho_procedure.specs.Sent.{all_sent};
 ghost use Rattle.ho_procedure.specs.Handling.{StopsBy, IsRow, IsUndecoded, AnswersFault, Handles, IsDeskFault};
 ghost use Rattle.ho_procedure.specs.Plan.{Plan, Ends, At};
@@ -106,10 +106,10 @@ impl<D: DeskView + Drop, A: Allocator + Copy> Controller<D, A> {
         ensures stops { IfErr result (StopsBy {A = A} D.log D.says self.old.2
             self.old.0 self.old.1 input self.new.0 self.new.1) }
         ensures site { self.new.2 ≡ self.old.2 }
-        ensures foreign { IfErr result (λ f. IsDeskFault f → D.may_be_foreign self.old.0) }
+        ensures foreign { IfErr result (λ f. IsDeskFault f →
+            D.says self.old.0 (D.log self.new.0) UnknownReceipt) }
         ensures said { (es : List Entry) → (claim : Claim) →
             D.says self.new.0 es claim → D.says self.old.0 es claim }
-        ensures foreign_kept { D.may_be_foreign self.new.0 → D.may_be_foreign self.old.0 }
     {
         rsl_messages::reading_is_unique::<A>();
         bssmap_messages::reading_is_unique::<A>();

@@ -11,9 +11,9 @@ ghost use Rattle.ho_procedure.specs.Decoding.{IsAbis, IsUnreadAbis, IsUnreadA};
 ghost use Rattle.ho_procedure.specs.Naming.{chan_of};
 ghost use Rattle.ho_procedure.specs.Procedure.{line_plan, abis_plan, a_plan, mobile_plan, measured_plan};
 ghost use Rattle.ho_procedure.specs.Plan.{Plan, Ends, At};
-ghost use Rattle.ho_procedure.specs.Going.{Goes, IsForeign, last_reports, stops_at};
+ghost use Rattle.ho_procedure.specs.Going.{Goes, last_reports, stops_at};
 ghost use Rattle.ho_procedure.specs.Handling.{IsRow, IsUndecoded, KeepsOctets};
-ghost use Rattle.ho_procedure.specs.Following.{Stopped, IsForeignStop, IsStopFor, IsStopOf, CanBePassedOn};
+ghost use Rattle.ho_procedure.specs.Following.{Stopped, IsStopFor, IsStopOf, CanBePassedOn};
 
 use crate::decoding::{Unread, decode_a, decode_abis};
 use crate::exchange::{Bad, Inbound, Line, Link};
@@ -46,7 +46,6 @@ pub(crate) enum Stop {
 
 fn stop_of(fault: DeskFault) -> Stop
     ensures stop { IsStopFor fault result }
-    ensures foreign { IsForeignStop result → IsForeign fault }
 {
     match fault {
         DeskFault::NoMemory => Stop::NoMemory,
@@ -73,8 +72,6 @@ fn follow_line<D: DeskView + Drop, A: Allocator + Copy>(
         (line_plan site.now line) work.new (At Ends)) }
     ensures stops { IfErr result (λ f. Goes D.log D.says work.old
         (line_plan site.now line) work.new (stops_at f)) }
-    ensures foreign { IfErr result (λ f. IsForeign f → D.may_be_foreign work.old.view) }
-    ensures foreign_kept { D.may_be_foreign work.new.view → D.may_be_foreign work.old.view }
 {
     match line {
         Line::Open { call, chan } => open(work, call, chan),
@@ -96,8 +93,6 @@ fn follow_mobile<D: DeskView + Drop, A: Allocator + Copy>(
         (mobile_plan site.now chan inside.now) work.new (At Ends)) }
     ensures stops { IfErr result (λ f. Goes D.log D.says work.old
         (mobile_plan site.now chan inside.now) work.new (stops_at f)) }
-    ensures foreign { IfErr result (λ f. IsForeign f → D.may_be_foreign work.old.view) }
-    ensures foreign_kept { D.may_be_foreign work.new.view → D.may_be_foreign work.old.view }
 {
     match inside {
         Some(Rr::HandoverComplete(cause)) => complete(work, site, chan, cause.0),
@@ -127,8 +122,6 @@ fn follow_measured<D: DeskView + Drop, A: Allocator + Copy>(
     ensures stops { IfErr result (λ f. Goes D.log D.says work.old
         (measured_plan site.now (last_reports work.old.windows) chan inside.now)
         work.new (stops_at f)) }
-    ensures foreign { IfErr result (λ f. IsForeign f → D.may_be_foreign work.old.view) }
-    ensures foreign_kept { D.may_be_foreign work.new.view → D.may_be_foreign work.old.view }
 {
     match inside {
         Some(Rr::MeasurementReport(results)) => report(work, site, chan, results),
@@ -159,8 +152,6 @@ fn follow_abis<D: DeskView + Drop, A: Allocator + Copy>(
     ensures stops { IfErr result (λ f. Goes D.log D.says work.old
         (abis_plan site.now (last_reports work.old.windows) chan message.now inside.now)
         work.new (stops_at f)) }
-    ensures foreign { IfErr result (λ f. IsForeign f → D.may_be_foreign work.old.view) }
-    ensures foreign_kept { D.may_be_foreign work.new.view → D.may_be_foreign work.old.view }
 {
     match message {
         Rsl::ChannelActivationAck { .. } => confirm(work, site, chan),
@@ -189,8 +180,6 @@ fn follow_a<D: DeskView + Drop, A: Allocator + Copy>(
         (a_plan site.now call message.now) work.new (At Ends)) }
     ensures stops { IfErr result (λ f. Goes D.log D.says work.old
         (a_plan site.now call message.now) work.new (stops_at f)) }
-    ensures foreign { IfErr result (λ f. IsForeign f → D.may_be_foreign work.old.view) }
-    ensures foreign_kept { D.may_be_foreign work.new.view → D.may_be_foreign work.old.view }
 {
     match message {
         Bssmap::ClearCommand { cause } => clear_command(work, call, *cause),
@@ -236,8 +225,6 @@ fn follow_abis_octets<D: DeskView + Drop, A: Allocator + Copy>(
         (last_reports work.old.windows) (chan_of cell trx message) message inside))
         (IsUnreadAbis A octets.now)
         ((message : Rsl A) × abis.IsTextOf message octets.now × HasOctets message) work.new) }
-    ensures foreign { IfErr result (λ f. IsForeignStop f → D.may_be_foreign work.old.view) }
-    ensures foreign_kept { D.may_be_foreign work.new.view → D.may_be_foreign work.old.view }
 {
     let (message, inside) = match decode_abis(work.alloc, octets) {
         Ok(read) => read,
@@ -267,8 +254,6 @@ fn follow_a_octets<D: DeskView + Drop, A: Allocator + Copy>(
         (IsUnreadA A octets.now)
         ((message : Bssmap A) × interface_a.IsTextOf message octets.now × KeepsList message)
         work.new) }
-    ensures foreign { IfErr result (λ f. IsForeignStop f → D.may_be_foreign work.old.view) }
-    ensures foreign_kept { D.may_be_foreign work.new.view → D.may_be_foreign work.old.view }
 {
     let message = match decode_a(work.alloc, octets) {
         Ok(message) => message,
@@ -294,8 +279,6 @@ pub(crate) fn follow<D: DeskView + Drop, A: Allocator + Copy>(
     ensures stops { IfErr result (Stopped D.log D.says work.old
         (IsRow {A = A} site.now (last_reports work.old.windows) input)
         (IsUndecoded {A = A} input) (KeepsOctets {A = A} input) work.new) }
-    ensures foreign { IfErr result (λ f. IsForeignStop f → D.may_be_foreign work.old.view) }
-    ensures foreign_kept { D.may_be_foreign work.new.view → D.may_be_foreign work.old.view }
 {
     let done = match input {
         Inbound::Abis { cell, trx, bytes } => {

@@ -20,7 +20,6 @@ impl<D: DeskView + Drop, A: Allocator + Copy> Work<D, A> {
         ensures goes { (next : Plan) → Passes D.log D.says self.old
             (Sends (activation chan) next) self.new next }
         ensures room { self.old.owed.room ≤ self.new.owed.room + 1 }
-        ensures foreign_kept { D.may_be_foreign self.new.view → D.may_be_foreign self.old.view }
     {
         self.owed.activation(chan);
     }
@@ -33,7 +32,6 @@ impl<D: DeskView + Drop, A: Allocator + Copy> Work<D, A> {
         ensures goes { (next : Plan) → Passes D.log D.says self.old
             (Sends (target_activation chan reference) next) self.new next }
         ensures room { self.old.owed.room ≤ self.new.owed.room + 1 }
-        ensures foreign_kept { D.may_be_foreign self.new.view → D.may_be_foreign self.old.view }
     {
         self.owed.target_activation(chan, reference);
     }
@@ -46,7 +44,6 @@ impl<D: DeskView + Drop, A: Allocator + Copy> Work<D, A> {
         ensures goes { (next : Plan) → Passes D.log D.says self.old
             (Sends (release chan) next) self.new next }
         ensures room { self.old.owed.room ≤ self.new.owed.room + 1 }
-        ensures foreign_kept { D.may_be_foreign self.new.view → D.may_be_foreign self.old.view }
     {
         self.owed.release(chan);
     }
@@ -59,7 +56,6 @@ impl<D: DeskView + Drop, A: Allocator + Copy> Work<D, A> {
         ensures goes { (next : Plan) → Passes D.log D.says self.old
             (Sends (to_mobile chan message.now) next) self.new next }
         ensures room { self.old.owed.room ≤ self.new.owed.room + 1 }
-        ensures foreign_kept { D.may_be_foreign self.new.view → D.may_be_foreign self.old.view }
     {
         self.owed.to_mobile(chan, message);
     }
@@ -72,7 +68,6 @@ impl<D: DeskView + Drop, A: Allocator + Copy> Work<D, A> {
         ensures goes { (next : Plan) → Passes D.log D.says self.old
             (Sends (channel_release chan cause) next) self.new next }
         ensures room { self.old.owed.room ≤ self.new.owed.room + 1 }
-        ensures foreign_kept { D.may_be_foreign self.new.view → D.may_be_foreign self.old.view }
     {
         self.owed.channel_release(chan, cause);
     }
@@ -84,7 +79,6 @@ impl<D: DeskView + Drop, A: Allocator + Copy> Work<D, A> {
         ensures goes { (next : Plan) → Passes D.log D.says self.old
             (Sends (clear_request call cause) next) self.new next }
         ensures room { self.old.owed.room ≤ self.new.owed.room + 1 }
-        ensures foreign_kept { D.may_be_foreign self.new.view → D.may_be_foreign self.old.view }
     {
         self.owed.clear_request(call, cause);
     }
@@ -96,7 +90,6 @@ impl<D: DeskView + Drop, A: Allocator + Copy> Work<D, A> {
         ensures goes { (next : Plan) → Passes D.log D.says self.old
             (Sends (clear_complete call) next) self.new next }
         ensures room { self.old.owed.room ≤ self.new.owed.room + 1 }
-        ensures foreign_kept { D.may_be_foreign self.new.view → D.may_be_foreign self.old.view }
     {
         self.owed.clear_complete(call);
     }
@@ -109,7 +102,6 @@ impl<D: DeskView + Drop, A: Allocator + Copy> Work<D, A> {
         ensures goes { (next : Plan) → Passes D.log D.says self.old
             (Sends (handover_performed call cell) next) self.new next }
         ensures room { self.old.owed.room ≤ self.new.owed.room + 1 }
-        ensures foreign_kept { D.may_be_foreign self.new.view → D.may_be_foreign self.old.view }
     {
         self.owed.handover_performed(call, cell);
     }
@@ -121,7 +113,6 @@ impl<D: DeskView + Drop, A: Allocator + Copy> Work<D, A> {
         requires area { IsSome cell.lac }
         ensures goes { (next : Plan) → Passes D.log D.says self.old
             (Sends (handover_required call cell) next) self.new next }
-        ensures foreign_kept { D.may_be_foreign self.new.view → D.may_be_foreign self.old.view }
     {
         self.owed.handover_required(call, cell);
     }
@@ -132,7 +123,6 @@ impl<D: DeskView + Drop, A: Allocator + Copy> Work<D, A> {
         requires { 1 ≤ self.old.owed.room }
         ensures goes { (next : Plan) → Passes D.log D.says self.old
             (Sends (handover_request_ack call message.now) next) self.new next }
-        ensures foreign_kept { D.may_be_foreign self.new.view → D.may_be_foreign self.old.view }
     {
         self.owed.handover_request_ack(call, message);
     }
@@ -143,7 +133,6 @@ impl<D: DeskView + Drop, A: Allocator + Copy> Work<D, A> {
         requires { 1 ≤ self.old.owed.room }
         ensures goes { (next : Plan) → Passes D.log D.says self.old
             (Sends (handover_detect call) next) self.new next }
-        ensures foreign_kept { D.may_be_foreign self.new.view → D.may_be_foreign self.old.view }
     {
         self.owed.handover_detect(call);
     }
@@ -154,7 +143,6 @@ impl<D: DeskView + Drop, A: Allocator + Copy> Work<D, A> {
         requires { 1 ≤ self.old.owed.room }
         ensures goes { (next : Plan) → Passes D.log D.says self.old
             (Sends (handover_complete call rr) next) self.new next }
-        ensures foreign_kept { D.may_be_foreign self.new.view → D.may_be_foreign self.old.view }
     {
         self.owed.handover_complete(call, rr);
     }
@@ -165,7 +153,6 @@ impl<D: DeskView + Drop, A: Allocator + Copy> Work<D, A> {
         requires { 1 ≤ self.old.owed.room }
         ensures goes { (next : Plan) → Passes D.log D.says self.old
             (Sends (handover_failure call cause rr) next) self.new next }
-        ensures foreign_kept { D.may_be_foreign self.new.view → D.may_be_foreign self.old.view }
     {
         self.owed.handover_failure(call, cause, rr);
     }
@@ -180,7 +167,6 @@ impl<D: DeskView + Drop, A: Allocator + Copy> Work<D, A> {
         requires short { length layer3.now ≤ 1015 }
         ensures goes { (next : Plan) → Passes D.log D.says self.old
             (Sends (data_request chan layer3.now) next) self.new next }
-        ensures foreign_kept { D.may_be_foreign self.new.view → D.may_be_foreign self.old.view }
     {
         self.owed.data_request(chan, layer3);
     }

@@ -56,8 +56,6 @@ impl<A: Allocator + Copy> DeskView for Solo<A> {
 
     ghost judged = { λ before receipt after. IsJudged before receipt after };
 
-    ghost may_be_foreign = { λ solo. ⊥ };
-
     fn judge(&mut self, event: Event) -> Result<Receipt, DeskFault> {
         self.desk.judge(&mut Seat::new(), event)
     }

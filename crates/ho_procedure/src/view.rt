@@ -1,8 +1,8 @@
 //! How a controller asks the book.
-ghost use Rattle.std.specs.Prelude.{◌≡◌, ◌∷◌, ◌++◌, [], ℕ, List, Err, IfOk, OnErr, IfSome, MatchOption};
+ghost use Rattle.std.specs.Prelude.{◌≡◌, ◌∷◌, ◌++◌, [], ℕ, List, IfOk, IfErr, OnErr, IfSome, MatchOption};
 ghost use Rattle.channel_fsm.specs.declared.ChanId.{ChanId};
 ghost use Rattle.radio_desk.specs.declared.seat.Receipt.{Receipt};
-ghost use Rattle.ho_procedure.specs.Claims.{Entry, Claim, NoneFree, Chosen};
+ghost use Rattle.ho_procedure.specs.Claims.{Entry, Claim, NoneFree, Chosen, UnknownReceipt, IsForeign};
 
 use radio_book::event::{Event, Kind};
 use radio_desk::desk::DeskFault;
@@ -12,18 +12,16 @@ use radio_desk::seat::Receipt;
 /// event with its reply, as its log.
 ///
 /// An answered event joins the log with its reply. After a fault, and where no channel is free, the log is as it was. What
-/// it says after a call it would have said before: so it says of one book that it began with.
+/// it says after a call it would have said before: so it says of one book that it began with. `Foreign` it answers only
+/// where it says that the desk doesn't know its last receipt; a view that never says so is never foreign.
 pub trait DeskView {
     ghost log: { Self → List Entry };
 
-    // what it says of its book, where it makes this claim after these entries
+    // what it says of its book, or of its last receipt, where it makes this claim after these entries
     ghost says: { Self → List Entry → Claim → Type 0 };
 
     // what a receipt says of the view before and after
     ghost judged: { Self → Receipt → Self → Type 0 };
-
-    // the desk may not know this view's last receipt
-    ghost may_be_foreign: { Self → Type 0 };
 
     /// Asks an event (`Desk::judge`). A refused event is answered, too, with its refusal.
     ///
@@ -34,11 +32,10 @@ pub trait DeskView {
             (log self.new ≡ log self.old ++ (r.event, r.reply) ∷ [])) }
         ensures receipt { IfOk result (λ r. judged self.old r self.new) }
         ensures err { OnErr result (log self.new ≡ log self.old) }
-        ensures foreign { (place : ℕ) → result ≡ Err (DeskFault.Foreign place) →
-            may_be_foreign self.old }
+        ensures foreign { IfErr result (λ f. IsForeign f →
+            says self.old (log self.old) UnknownReceipt) }
         ensures said { (es : List Entry) → (claim : Claim) →
-            says self.new es claim → says self.old es claim }
-        ensures foreign_kept { may_be_foreign self.new → may_be_foreign self.old };
+            says self.new es claim → says self.old es claim };
 
     /// Asks a Take of some free channel of a cell (`Desk::judge_take`). `None`: no channel of the cell is free, as of
     /// one that the site lacks, and nothing was asked. Faults as of `judge`.
@@ -51,11 +48,10 @@ pub trait DeskView {
         ensures receipt { IfOk result (λ answer. IfSome answer
             (λ r. judged self.old r self.new)) }
         ensures err { OnErr result (log self.new ≡ log self.old) }
-        ensures foreign { (place : ℕ) → result ≡ Err (DeskFault.Foreign place) →
-            may_be_foreign self.old }
+        ensures foreign { IfErr result (λ f. IsForeign f →
+            says self.old (log self.old) UnknownReceipt) }
         ensures said { (es : List Entry) → (claim : Claim) →
-            says self.new es claim → says self.old es claim }
-        ensures foreign_kept { may_be_foreign self.new → may_be_foreign self.old };
+            says self.new es claim → says self.old es claim };
 
     /// Asks a Reserve of some free Handover Reference, a number from 0 to 255 (TS 44.018 clause 10.5.2.15), in the cell
     /// of the call's target (`Desk::judge_reserve`). Faults as of `judge`.
@@ -65,9 +61,8 @@ pub trait DeskView {
             (log self.new ≡ log self.old ++ (r.event, r.reply) ∷ [])) }
         ensures receipt { IfOk result (λ r. judged self.old r self.new) }
         ensures err { OnErr result (log self.new ≡ log self.old) }
-        ensures foreign { (place : ℕ) → result ≡ Err (DeskFault.Foreign place) →
-            may_be_foreign self.old }
+        ensures foreign { IfErr result (λ f. IsForeign f →
+            says self.old (log self.old) UnknownReceipt) }
         ensures said { (es : List Entry) → (claim : Claim) →
-            says self.new es claim → says self.old es claim }
-        ensures foreign_kept { may_be_foreign self.new → may_be_foreign self.old };
+            says self.new es claim → says self.old es claim };
 }

@@ -5,7 +5,7 @@ ghost use Rattle.ho_candidates.specs.declared.listed.Candidate.{Candidate};
 ghost use Rattle.radio_book.specs.declared.event.Reply.{Reply};
 ghost use Rattle.ho_procedure.specs.Windows.{with_report};
 ghost use Rattle.ho_procedure.specs.Plan.{Plan, AreCandidates, Asks, Takes, Reserves, Notes, Ranks, AsksDesk, TakesMemory, is_accepted, call_dropped, dropped_if};
-ghost use Rattle.ho_procedure.specs.Going.{Goes, Passes, IsForeign, last_reports, stops_at};
+ghost use Rattle.ho_procedure.specs.Going.{Goes, Passes, last_reports, stops_at};
 
 use crate::outbox::Outbox;
 use crate::view::DeskView;
@@ -104,7 +104,6 @@ impl<D: DeskView + Drop, A: Allocator + Copy> Work<D, A> {
             Goes D.log D.says self.old p self.new (stops_at f)) }
         ensures no_memory { OnErr result (result ≡ Err DeskFault.NoMemory) }
         ensures windows { self.new.windows ≡ self.old.windows }
-        ensures foreign_kept { D.may_be_foreign self.new.view → D.may_be_foreign self.old.view }
     {
         Ok(self.owed.make_room(messages)?)
     }
@@ -119,7 +118,6 @@ impl<D: DeskView + Drop, A: Allocator + Copy> Work<D, A> {
         ensures err { IfErr result (λ f. (p : Plan) → AsksDesk p →
             Goes D.log D.says self.old p self.new (stops_at f)) }
         ensures no_memory { OnErr result (result ≡ Err DeskFault.NoMemory) }
-        ensures foreign_kept { D.may_be_foreign self.new.view → D.may_be_foreign self.old.view }
     {
         Ok(self.owed.make_unread_room(octets)?)
     }
@@ -136,7 +134,6 @@ impl<D: DeskView + Drop, A: Allocator + Copy> Work<D, A> {
             last_reports self.new.windows call ≡ last_reports self.old.windows call }
         ensures width { self.new.windows.width ≡ self.old.windows.width }
         ensures owed { self.new.owed ≡ self.old.owed }
-        ensures foreign_kept { D.may_be_foreign self.new.view → D.may_be_foreign self.old.view }
     {
         Ok(self.windows.make_room()?)
     }
@@ -155,8 +152,6 @@ impl<D: DeskView + Drop, A: Allocator + Copy> Work<D, A> {
         ensures kept { OnErr result (self.new.windows ≡ self.old.windows) }
         ensures width { self.new.windows.width ≡ self.old.windows.width }
         ensures ready { self.old.windows.is_ready ≡ true → self.new.windows.is_ready ≡ true }
-        ensures foreign { IfErr result (λ f. IsForeign f → D.may_be_foreign self.old.view) }
-        ensures foreign_kept { D.may_be_foreign self.new.view → D.may_be_foreign self.old.view }
     {
         let receipt = self.view.judge(event)?;
         drop_reports(&mut self.windows, event, receipt.reply);
@@ -180,8 +175,6 @@ impl<D: DeskView + Drop, A: Allocator + Copy> Work<D, A> {
         ensures err { IfErr result (λ f. (p : Plan) → AsksDesk p →
             Goes D.log D.says self.old p self.new (stops_at f)) }
         ensures owed { self.new.owed ≡ self.old.owed }
-        ensures foreign { IfErr result (λ f. IsForeign f → D.may_be_foreign self.old.view) }
-        ensures foreign_kept { D.may_be_foreign self.new.view → D.may_be_foreign self.old.view }
     {
         let Some(receipt) = self.view.judge_take(call, kind, cell)? else {
             return Ok(None);
@@ -200,8 +193,6 @@ impl<D: DeskView + Drop, A: Allocator + Copy> Work<D, A> {
         ensures err { IfErr result (λ f. (p : Plan) → AsksDesk p →
             Goes D.log D.says self.old p self.new (stops_at f)) }
         ensures owed { self.new.owed ≡ self.old.owed }
-        ensures foreign { IfErr result (λ f. IsForeign f → D.may_be_foreign self.old.view) }
-        ensures foreign_kept { D.may_be_foreign self.new.view → D.may_be_foreign self.old.view }
     {
         let receipt = self.view.judge_reserve(call)?;
         let Event::Reserve(_, number) = receipt.event else {
@@ -221,7 +212,6 @@ impl<D: DeskView + Drop, A: Allocator + Copy> Work<D, A> {
             (last_reports self.old.windows call) report.now }
         ensures width { self.new.windows.width ≡ self.old.windows.width }
         ensures owed { self.new.owed ≡ self.old.owed }
-        ensures foreign_kept { D.may_be_foreign self.new.view → D.may_be_foreign self.old.view }
     {
         self.windows.note(call, report);
     }

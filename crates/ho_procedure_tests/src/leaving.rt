@@ -50,15 +50,13 @@ impl<A: Allocator + Copy> Leaving<A> {
 
 impl<A: Allocator + Copy> DeskView for Leaving<A> {
     ghost use Rattle.radio_desk.specs.Desk.{IsJudged};
-    ghost use Rattle.ho_procedure.specs.Claims.{IsTrueAfter};
+    ghost use Rattle.ho_procedure_tests.specs.Leaving.{IsSaidAfter};
 
     ghost log = { λ leaving. leaving.history };
 
-    ghost says = { λ leaving log claim. IsTrueAfter leaving.opening log claim };
+    ghost says = { λ leaving log claim. IsSaidAfter leaving.opening log claim };
 
     ghost judged = { λ before receipt after. IsJudged before receipt after };
-
-    ghost may_be_foreign = { λ leaving. Unit };
 
     fn judge(&mut self, event: Event) -> Result<Receipt, DeskFault> {
         self.sits()?;

@@ -68,8 +68,6 @@ impl<A: Allocator + Copy> DeskView for Noting<A> {
 
     ghost judged = { λ noting receipt after. IsJudged noting receipt after };
 
-    ghost may_be_foreign = { λ noting. ⊥ };
-
     fn judge(&mut self, event: Event) -> Result<Receipt, DeskFault> {
         self.solo.judge(event)
     }

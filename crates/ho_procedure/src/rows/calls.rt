@@ -1,7 +1,7 @@
 //! Rows that begin and end a call.
 ghost use Rattle.std.specs.Prelude.{◌≡◌, ◌≤◌, ◌<◌, ◌+◌, ℕ, Ok, IfOk, OnOk, IfErr, Option, Some, None};
 ghost use Rattle.ho_procedure.specs.Plan.{Plan, Ends, At};
-ghost use Rattle.ho_procedure.specs.Going.{Goes, Passes, IsForeign, then, stops_at};
+ghost use Rattle.ho_procedure.specs.Going.{Goes, Passes, then, stops_at};
 ghost use Rattle.ho_procedure.specs.Procedure.{opened_plan, open_plan, release_serving, release_plan, told_release_plan, clear_serving, clear_undone, clear_named, clear_rest, clear_plan, left_channel, left_plan, clear_call, clear_command_rest, clear_command_plan, release_cause};
 
 use super::parts::{ask_done, ask_record, look, release_target};
@@ -19,7 +19,6 @@ use std::alloc::Allocator;
 fn activate<D: DeskView + Drop, A: Allocator + Copy>(work: &mut Work<D, A>, chan: ChanId)
     requires { 1 ≤ work.old.owed.room }
     ensures row { Goes D.log D.says work.old (opened_plan chan) work.new (At Ends) }
-    ensures foreign_kept { D.may_be_foreign work.new.view → D.may_be_foreign work.old.view }
 {
     if is_nameable(chan) {
         work.send_activation(chan);
@@ -37,8 +36,6 @@ pub(crate) fn open<D: DeskView + Drop, A: Allocator + Copy>(
         (open_plan call chan) work.new (At Ends)) }
     ensures stops { IfErr result (λ f. Goes D.log D.says work.old
         (open_plan call chan) work.new (stops_at f)) }
-    ensures foreign { IfErr result (λ f. IsForeign f → D.may_be_foreign work.old.view) }
-    ensures foreign_kept { D.may_be_foreign work.new.view → D.may_be_foreign work.old.view }
 {
     work.make_room(1)?;
     let Course::On = ask_done(work, Event::Open(call, chan))? else {
@@ -58,7 +55,6 @@ fn release<D: DeskView + Drop, A: Allocator + Copy>(
     ensures goes { (tail : Plan) → Passes D.log D.says work.old
         (release_plan chan tail) work.new (then tail result) }
     ensures room { work.old.owed.room ≤ work.new.owed.room + 1 }
-    ensures foreign_kept { D.may_be_foreign work.new.view → D.may_be_foreign work.old.view }
 {
     let Some(chan) = chan else {
         return Course::Over;
@@ -81,7 +77,6 @@ fn release_told<D: DeskView + Drop, A: Allocator + Copy>(
     ensures goes { (tail : Plan) → Passes D.log D.says work.old
         (told_release_plan cause chan tail) work.new (then tail result) }
     ensures room { work.old.owed.room ≤ work.new.owed.room + 2 }
-    ensures foreign_kept { D.may_be_foreign work.new.view → D.may_be_foreign work.old.view }
 {
     let Some(cause) = cause else {
         return release(work, chan);
@@ -108,7 +103,6 @@ fn release_serving<D: DeskView + Drop, A: Allocator + Copy>(
     ensures goes { (tail : Plan) → Passes D.log D.says work.old
         (release_serving cause shown.record shown.state tail) work.new (then tail result) }
     ensures room { work.old.owed.room ≤ work.new.owed.room + 2 }
-    ensures foreign_kept { D.may_be_foreign work.new.view → D.may_be_foreign work.old.view }
 {
     match shown.state {
         Some(ChanState::Held(_)) => Course::On,
@@ -133,8 +127,6 @@ fn clear_serving<D: DeskView + Drop, A: Allocator + Copy>(
     ensures stops { IfErr result (λ f. (tail : Plan) → Goes D.log D.says work.old
         (clear_serving call cause shown.record shown.state tail) work.new (stops_at f)) }
     ensures room { result ≡ Ok Course.On → work.old.owed.room ≤ work.new.owed.room + 2 }
-    ensures foreign { IfErr result (λ f. IsForeign f → D.may_be_foreign work.old.view) }
-    ensures foreign_kept { D.may_be_foreign work.new.view → D.may_be_foreign work.old.view }
 {
     let Course::On = ask_done(work, Event::Clear(call))? else {
         return Ok(Course::Over);
@@ -156,8 +148,6 @@ fn clear_undone<D: DeskView + Drop, A: Allocator + Copy>(
     ensures stops { IfErr result (λ f. (tail : Plan) → Goes D.log D.says work.old
         (clear_undone call cause shown.record shown.state tail) work.new (stops_at f)) }
     ensures room { result ≡ Ok Course.On → work.old.owed.room ≤ work.new.owed.room + 3 }
-    ensures foreign { IfErr result (λ f. IsForeign f → D.may_be_foreign work.old.view) }
-    ensures foreign_kept { D.may_be_foreign work.new.view → D.may_be_foreign work.old.view }
 {
     let Course::On = release_target(work, shown.record.attempt) else {
         return Ok(Course::Over);
@@ -182,8 +172,6 @@ fn clear_rest<D: DeskView + Drop, A: Allocator + Copy>(
     ensures stops { IfErr result (λ f. (tail : Plan) → Goes D.log D.says work.old
         (clear_rest call cause shown.record shown.state tail) work.new (stops_at f)) }
     ensures room { result ≡ Ok Course.On → work.old.owed.room ≤ work.new.owed.room + 3 }
-    ensures foreign { IfErr result (λ f. IsForeign f → D.may_be_foreign work.old.view) }
-    ensures foreign_kept { D.may_be_foreign work.new.view → D.may_be_foreign work.old.view }
 {
     if !names_releases(shown) {
         return Ok(Course::Over);
@@ -210,8 +198,6 @@ pub(crate) fn clear<D: DeskView + Drop, A: Allocator + Copy>(
         (clear_plan call) work.new (At Ends)) }
     ensures stops { IfErr result (λ f. Goes D.log D.says work.old
         (clear_plan call) work.new (stops_at f)) }
-    ensures foreign { IfErr result (λ f. IsForeign f → D.may_be_foreign work.old.view) }
-    ensures foreign_kept { D.may_be_foreign work.new.view → D.may_be_foreign work.old.view }
 {
     work.make_room(3)?;
     let Some(shown) = look(work, call)? else {
@@ -246,8 +232,6 @@ fn leave_channel<D: DeskView + Drop, A: Allocator + Copy>(
         (left_channel call serving) work.new (At Ends)) }
     ensures stops { IfErr result (λ f. Goes D.log D.says work.old
         (left_channel call serving) work.new (stops_at f)) }
-    ensures foreign { IfErr result (λ f. IsForeign f → D.may_be_foreign work.old.view) }
-    ensures foreign_kept { D.may_be_foreign work.new.view → D.may_be_foreign work.old.view }
 {
     let Course::On = ask_done(work, Event::Left(call))? else {
         return Ok(());
@@ -269,8 +253,6 @@ fn leave<D: DeskView + Drop, A: Allocator + Copy>(
         (left_plan call serving) work.new (At Ends)) }
     ensures stops { IfErr result (λ f. Goes D.log D.says work.old
         (left_plan call serving) work.new (stops_at f)) }
-    ensures foreign { IfErr result (λ f. IsForeign f → D.may_be_foreign work.old.view) }
-    ensures foreign_kept { D.may_be_foreign work.new.view → D.may_be_foreign work.old.view }
 {
     let Some(serving) = serving else {
         return Ok(());
@@ -294,8 +276,6 @@ fn clear_call<D: DeskView + Drop, A: Allocator + Copy>(
         (clear_call call cause shown.record shown.state) work.new (At Ends)) }
     ensures stops { IfErr result (λ f. Goes D.log D.says work.old
         (clear_call call cause shown.record shown.state) work.new (stops_at f)) }
-    ensures foreign { IfErr result (λ f. IsForeign f → D.may_be_foreign work.old.view) }
-    ensures foreign_kept { D.may_be_foreign work.new.view → D.may_be_foreign work.old.view }
 {
     let Course::On = clear_rest(work, call, Some(release_cause(cause)), shown)? else {
         return Ok(());
@@ -317,8 +297,6 @@ fn clear_command_rest<D: DeskView + Drop, A: Allocator + Copy>(
         (clear_command_rest call cause reply) work.new (At Ends)) }
     ensures stops { IfErr result (λ f. Goes D.log D.says work.old
         (clear_command_rest call cause reply) work.new (stops_at f)) }
-    ensures foreign { IfErr result (λ f. IsForeign f → D.may_be_foreign work.old.view) }
-    ensures foreign_kept { D.may_be_foreign work.new.view → D.may_be_foreign work.old.view }
 {
     match reply {
         Reply::Record(record, state) => {
@@ -358,8 +336,6 @@ pub(crate) fn clear_command<D: DeskView + Drop, A: Allocator + Copy>(
         (clear_command_plan call cause) work.new (At Ends)) }
     ensures stops { IfErr result (λ f. Goes D.log D.says work.old
         (clear_command_plan call cause) work.new (stops_at f)) }
-    ensures foreign { IfErr result (λ f. IsForeign f → D.may_be_foreign work.old.view) }
-    ensures foreign_kept { D.may_be_foreign work.new.view → D.may_be_foreign work.old.view }
 {
     work.make_room(4)?;
     let reply = work.ask(Event::Look(call))?;

@@ -1,7 +1,7 @@
 //! Rows of the messages of the switching centre about a handover between controllers.
 ghost use Rattle.std.specs.Prelude.{◌≡◌, ◌≤◌, ◌<◌, IfOk, OnOk, IfErr, length};
 ghost use Rattle.ho_procedure.specs.Plan.{Plan, Ends, At};
-ghost use Rattle.ho_procedure.specs.Going.{Goes, Passes, IsForeign, then, stops_at};
+ghost use Rattle.ho_procedure.specs.Going.{Goes, Passes, then, stops_at};
 ghost use Rattle.ho_procedure.specs.Procedure.{once_new, admit_plan, request_rest, request_plan, order_channel, order_plan, reject_plan};
 
 use super::handovers::go_on_taken;
@@ -32,8 +32,6 @@ fn admit<D: DeskView + Drop, A: Allocator + Copy>(
         (admit_plan call cell) work.new (At Ends)) }
     ensures stops { IfErr result (λ f. Goes D.log D.says work.old
         (admit_plan call cell) work.new (stops_at f)) }
-    ensures foreign { IfErr result (λ f. IsForeign f → D.may_be_foreign work.old.view) }
-    ensures foreign_kept { D.may_be_foreign work.new.view → D.may_be_foreign work.old.view }
 {
     let Some(cell) = cell else {
         turn_away(work, call, INVALID_MESSAGE_CONTENTS);
@@ -61,8 +59,6 @@ fn request_rest<D: DeskView + Drop, A: Allocator + Copy>(
         (request_rest site.now call channel.now encryption.now target) work.new (At Ends)) }
     ensures stops { IfErr result (λ f. Goes D.log D.says work.old
         (request_rest site.now call channel.now encryption.now target) work.new (stops_at f)) }
-    ensures foreign { IfErr result (λ f. IsForeign f → D.may_be_foreign work.old.view) }
-    ensures foreign_kept { D.may_be_foreign work.new.view → D.may_be_foreign work.old.view }
 {
     if !is_speech(channel) || is_half_rate(channel) {
         turn_away(work, call, NO_RADIO_RESOURCE_AVAILABLE);
@@ -86,8 +82,6 @@ fn ask_new<D: DeskView + Drop, A: Allocator + Copy>(
     ensures stops { IfErr result (λ f. (next : Plan) → Goes D.log D.says work.old
         (once_new call next) work.new (stops_at f)) }
     ensures owed { work.new.owed ≡ work.old.owed }
-    ensures foreign { IfErr result (λ f. IsForeign f → D.may_be_foreign work.old.view) }
-    ensures foreign_kept { D.may_be_foreign work.new.view → D.may_be_foreign work.old.view }
 {
     match work.ask(Event::Look(call))? {
         Reply::Refused(Refusal::NoCall) => Ok(Course::On),
@@ -122,8 +116,6 @@ pub(crate) fn request<D: DeskView + Drop, A: Allocator + Copy>(
         (request_plan site.now call channel.now encryption.now target) work.new (At Ends)) }
     ensures stops { IfErr result (λ f. Goes D.log D.says work.old
         (request_plan site.now call channel.now encryption.now target) work.new (stops_at f)) }
-    ensures foreign { IfErr result (λ f. IsForeign f → D.may_be_foreign work.old.view) }
-    ensures foreign_kept { D.may_be_foreign work.new.view → D.may_be_foreign work.old.view }
 {
     work.make_room(1)?;
     let Course::On = ask_new(work, call)? else {
@@ -147,8 +139,6 @@ fn order_channel<D: DeskView + Drop, A: Allocator + Copy>(
         (order_channel call layer3.now serving) work.new (At Ends)) }
     ensures stops { IfErr result (λ f. Goes D.log D.says work.old
         (order_channel call layer3.now serving) work.new (stops_at f)) }
-    ensures foreign { IfErr result (λ f. IsForeign f → D.may_be_foreign work.old.view) }
-    ensures foreign_kept { D.may_be_foreign work.new.view → D.may_be_foreign work.old.view }
 {
     work.make_unread_room(layer3.len())?;
     let Course::On = ask_done(work, Event::Order(call))? else {
@@ -171,8 +161,6 @@ pub(crate) fn order<D: DeskView + Drop, A: Allocator + Copy>(
         (order_plan call layer3.now) work.new (At Ends)) }
     ensures stops { IfErr result (λ f. Goes D.log D.says work.old
         (order_plan call layer3.now) work.new (stops_at f)) }
-    ensures foreign { IfErr result (λ f. IsForeign f → D.may_be_foreign work.old.view) }
-    ensures foreign_kept { D.may_be_foreign work.new.view → D.may_be_foreign work.old.view }
 {
     let Some(shown) = look(work, call)? else {
         return Ok(());
@@ -199,8 +187,6 @@ pub(crate) fn reject<D: DeskView + Drop, A: Allocator + Copy>(
         (reject_plan call) work.new (At Ends)) }
     ensures stops { IfErr result (λ f. Goes D.log D.says work.old
         (reject_plan call) work.new (stops_at f)) }
-    ensures foreign { IfErr result (λ f. IsForeign f → D.may_be_foreign work.old.view) }
-    ensures foreign_kept { D.may_be_foreign work.new.view → D.may_be_foreign work.old.view }
 {
     let Some(shown) = look(work, call)? else {
         return Ok(());

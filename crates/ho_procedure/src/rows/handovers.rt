@@ -1,7 +1,7 @@
 //! Rows that begin a handover and take it back.
 ghost use Rattle.std.specs.Prelude.{◌≡◌, ◌≤◌, ℕ, OnOk, IfErr, IfOk, IsSome, ◌<◌};
 ghost use Rattle.ho_procedure.specs.Plan.{Plan, Ends, At};
-ghost use Rattle.ho_procedure.specs.Going.{Goes, Passes, IsForeign, then, stops_at};
+ghost use Rattle.ho_procedure.specs.Going.{Goes, Passes, then, stops_at};
 ghost use Rattle.ho_procedure.specs.Procedure.{activate_plan, reserved_plan, reserve_plan, start_plan, taken_plan, require_plan, handover_plan, take_back, undo_plan, expiry_plan};
 
 use super::parts::{ask_done, ask_record, release_target, tell_failure};
@@ -32,8 +32,6 @@ fn activate<D: DeskView + Drop, A: Allocator + Copy>(
         (activate_plan call target reference) work.new (At Ends)) }
     ensures stops { IfErr result (λ f. Goes D.log D.says work.old
         (activate_plan call target reference) work.new (stops_at f)) }
-    ensures foreign { IfErr result (λ f. IsForeign f → D.may_be_foreign work.old.view) }
-    ensures foreign_kept { D.may_be_foreign work.new.view → D.may_be_foreign work.old.view }
 {
     let Course::On = ask_done(work, Event::Activate(call))? else {
         return Ok(());
@@ -57,8 +55,6 @@ fn go_on_reserved<D: DeskView + Drop, A: Allocator + Copy>(
         (reserved_plan call target reference reply) work.new (At Ends)) }
     ensures stops { IfErr result (λ f. Goes D.log D.says work.old
         (reserved_plan call target reference reply) work.new (stops_at f)) }
-    ensures foreign { IfErr result (λ f. IsForeign f → D.may_be_foreign work.old.view) }
-    ensures foreign_kept { D.may_be_foreign work.new.view → D.may_be_foreign work.old.view }
 {
     match reply {
         Reply::Done => activate(work, call, target, reference),
@@ -78,8 +74,6 @@ fn reserve<D: DeskView + Drop, A: Allocator + Copy>(
         (reserve_plan call target) work.new (At Ends)) }
     ensures stops { IfErr result (λ f. Goes D.log D.says work.old
         (reserve_plan call target) work.new (stops_at f)) }
-    ensures foreign { IfErr result (λ f. IsForeign f → D.may_be_foreign work.old.view) }
-    ensures foreign_kept { D.may_be_foreign work.new.view → D.may_be_foreign work.old.view }
 {
     if !is_nameable(target) {
         return Ok(());
@@ -101,8 +95,6 @@ pub(super) fn go_on_taken<D: DeskView + Drop, A: Allocator + Copy>(
         (taken_plan call target reply) work.new (At Ends)) }
     ensures stops { IfErr result (λ f. Goes D.log D.says work.old
         (taken_plan call target reply) work.new (stops_at f)) }
-    ensures foreign { IfErr result (λ f. IsForeign f → D.may_be_foreign work.old.view) }
-    ensures foreign_kept { D.may_be_foreign work.new.view → D.may_be_foreign work.old.view }
 {
     match reply {
         Reply::Done => reserve(work, call, target),
@@ -122,8 +114,6 @@ fn require<D: DeskView + Drop, A: Allocator + Copy>(
         (require_plan call cell) work.new (At Ends)) }
     ensures stops { IfErr result (λ f. Goes D.log D.says work.old
         (require_plan call cell) work.new (stops_at f)) }
-    ensures foreign { IfErr result (λ f. IsForeign f → D.may_be_foreign work.old.view) }
-    ensures foreign_kept { D.may_be_foreign work.new.view → D.may_be_foreign work.old.view }
 {
     work.make_room(1)?;
     let Course::On = ask_done(work, Event::Require(call))? else {
@@ -145,8 +135,6 @@ pub(super) fn start<D: DeskView + Drop, A: Allocator + Copy>(
         (start_plan site.now call cell tail) work.new (then tail course)) }
     ensures stops { IfErr result (λ f. (tail : Plan) → Goes D.log D.says work.old
         (start_plan site.now call cell tail) work.new (stops_at f)) }
-    ensures foreign { IfErr result (λ f. IsForeign f → D.may_be_foreign work.old.view) }
-    ensures foreign_kept { D.may_be_foreign work.new.view → D.may_be_foreign work.old.view }
 {
     if cell >= site.cells() {
         if let Some(outside) = cell_id_at(site, cell) {
@@ -174,8 +162,6 @@ pub(crate) fn handover<D: DeskView + Drop, A: Allocator + Copy>(
         (handover_plan site.now call cell) work.new (At Ends)) }
     ensures stops { IfErr result (λ f. Goes D.log D.says work.old
         (handover_plan site.now call cell) work.new (stops_at f)) }
-    ensures foreign { IfErr result (λ f. IsForeign f → D.may_be_foreign work.old.view) }
-    ensures foreign_kept { D.may_be_foreign work.new.view → D.may_be_foreign work.old.view }
 {
     let _ = start(work, site, call, cell)?;
     Ok(())
@@ -191,8 +177,6 @@ pub(crate) fn undo<D: DeskView + Drop, A: Allocator + Copy>(
         (undo_plan call) work.new (At Ends)) }
     ensures stops { IfErr result (λ f. Goes D.log D.says work.old
         (undo_plan call) work.new (stops_at f)) }
-    ensures foreign { IfErr result (λ f. IsForeign f → D.may_be_foreign work.old.view) }
-    ensures foreign_kept { D.may_be_foreign work.new.view → D.may_be_foreign work.old.view }
 {
     work.make_room(2)?;
     let Some(shown) = ask_record(work, Event::Undo(call, Why::Asked))? else {
@@ -216,8 +200,6 @@ pub(crate) fn expire<D: DeskView + Drop, A: Allocator + Copy>(
         (expiry_plan call timer) work.new (At Ends)) }
     ensures stops { IfErr result (λ f. Goes D.log D.says work.old
         (expiry_plan call timer) work.new (stops_at f)) }
-    ensures foreign { IfErr result (λ f. IsForeign f → D.may_be_foreign work.old.view) }
-    ensures foreign_kept { D.may_be_foreign work.new.view → D.may_be_foreign work.old.view }
 {
     work.make_room(2)?;
     let Some(shown) = ask_record(work, Event::Undo(call, Why::Expired(timer)))? else {

@@ -2,7 +2,7 @@
 ghost use Rattle.std.specs.Prelude.{◌≡◌, ◌≤◌, ◌<◌, ℕ, drop, List, OnOk, IfErr, IsTrue};
 ghost use Rattle.ho_procedure.specs.Windows.{with_report};
 ghost use Rattle.ho_procedure.specs.Plan.{Plan, Ends, At};
-ghost use Rattle.ho_procedure.specs.Going.{Goes, Passes, IsForeign, last_reports, stops_at};
+ghost use Rattle.ho_procedure.specs.Going.{Goes, Passes, last_reports, stops_at};
 ghost use Rattle.ho_procedure.specs.Procedure.{try_plan, rank_plan, report_plan, internal_complete, incoming_complete, complete_rest, complete_plan, take_back, tell_returned, outgoing_return, return_rest, return_plan};
 
 use super::handovers::start;
@@ -33,8 +33,6 @@ fn try_cells<D: DeskView + Drop, A: Allocator + Copy>(
         (try_plan site.now call candidates.now) work.new (At Ends)) }
     ensures stops { IfErr result (λ f. Goes D.log D.says work.old
         (try_plan site.now call candidates.now) work.new (stops_at f)) }
-    ensures foreign { IfErr result (λ f. IsForeign f → D.may_be_foreign work.old.view) }
-    ensures foreign_kept { D.may_be_foreign work.new.view → D.may_be_foreign work.old.view }
 {
     for candidate in candidates {
         let Course::On = start(work, site, call, candidate.cell)? else {
@@ -64,8 +62,6 @@ fn note_report<D: DeskView + Drop, A: Allocator + Copy>(
         (rank_plan site.now call cell
         (with_report site.now.handover.window (last_reports work.old.windows call) report.now)
         report.now attempt) work.new (stops_at f)) }
-    ensures foreign { IfErr result (λ f. IsForeign f → D.may_be_foreign work.old.view) }
-    ensures foreign_kept { D.may_be_foreign work.new.view → D.may_be_foreign work.old.view }
 {
     work.note(call, report);
     if !report.head().valid || attempt.is_some() {
@@ -90,8 +86,6 @@ pub(crate) fn report<D: DeskView + Drop, A: Allocator + Copy>(
     ensures stops { IfErr result (λ f. Goes D.log D.says work.old
         (report_plan site.now
         (last_reports work.old.windows) chan report.now) work.new (stops_at f)) }
-    ensures foreign { IfErr result (λ f. IsForeign f → D.may_be_foreign work.old.view) }
-    ensures foreign_kept { D.may_be_foreign work.new.view → D.may_be_foreign work.old.view }
 {
     work.make_window()?;
     let Some(call) = owner(work, Event::Owner(chan))? else {
@@ -119,8 +113,6 @@ fn complete_internal<D: DeskView + Drop, A: Allocator + Copy>(
         (internal_complete site.now call target serving) work.new (At Ends)) }
     ensures stops { IfErr result (λ f. Goes D.log D.says work.old
         (internal_complete site.now call target serving) work.new (stops_at f)) }
-    ensures foreign { IfErr result (λ f. IsForeign f → D.may_be_foreign work.old.view) }
-    ensures foreign_kept { D.may_be_foreign work.new.view → D.may_be_foreign work.old.view }
 {
     let Some(old) = serving else {
         return Ok(());
@@ -151,8 +143,6 @@ fn complete_incoming<D: DeskView + Drop, A: Allocator + Copy>(
         (incoming_complete call cause) work.new (At Ends)) }
     ensures stops { IfErr result (λ f. Goes D.log D.says work.old
         (incoming_complete call cause) work.new (stops_at f)) }
-    ensures foreign { IfErr result (λ f. IsForeign f → D.may_be_foreign work.old.view) }
-    ensures foreign_kept { D.may_be_foreign work.new.view → D.may_be_foreign work.old.view }
 {
     work.make_room(1)?;
     let Course::On = ask_done(work, Event::Complete(call))? else {
@@ -177,8 +167,6 @@ fn complete_rest<D: DeskView + Drop, A: Allocator + Copy>(
         (complete_rest site.now call cause chan serving attempt) work.new (At Ends)) }
     ensures stops { IfErr result (λ f. Goes D.log D.says work.old
         (complete_rest site.now call cause chan serving attempt) work.new (stops_at f)) }
-    ensures foreign { IfErr result (λ f. IsForeign f → D.may_be_foreign work.old.view) }
-    ensures foreign_kept { D.may_be_foreign work.new.view → D.may_be_foreign work.old.view }
 {
     let Some(attempt) = attempt else {
         return Ok(());
@@ -205,8 +193,6 @@ pub(crate) fn complete<D: DeskView + Drop, A: Allocator + Copy>(
         (complete_plan site.now chan cause) work.new (At Ends)) }
     ensures stops { IfErr result (λ f. Goes D.log D.says work.old
         (complete_plan site.now chan cause) work.new (stops_at f)) }
-    ensures foreign { IfErr result (λ f. IsForeign f → D.may_be_foreign work.old.view) }
-    ensures foreign_kept { D.may_be_foreign work.new.view → D.may_be_foreign work.old.view }
 {
     let Some(call) = owner(work, Event::Owner(chan))? else {
         return Ok(());
@@ -235,8 +221,6 @@ fn return_internal<D: DeskView + Drop, A: Allocator + Copy>(
         (take_back call (λ attempt. Ends)) work.new (At Ends)) }
     ensures stops { IfErr result (λ f. Goes D.log D.says work.old
         (take_back call (λ attempt. Ends)) work.new (stops_at f)) }
-    ensures foreign { IfErr result (λ f. IsForeign f → D.may_be_foreign work.old.view) }
-    ensures foreign_kept { D.may_be_foreign work.new.view → D.may_be_foreign work.old.view }
 {
     work.make_room(1)?;
     let Some(shown) = ask_record(work, Event::Undo(call, Why::Asked))? else {
@@ -255,7 +239,6 @@ fn tell_returned<D: DeskView + Drop, A: Allocator + Copy>(
 )
     requires { 1 ≤ work.old.owed.room }
     ensures row { Goes D.log D.says work.old (tell_returned call cause) work.new (At Ends) }
-    ensures foreign_kept { D.may_be_foreign work.new.view → D.may_be_foreign work.old.view }
 {
     work.send_handover_failure(call, REVERSION_TO_OLD_CHANNEL, Some(cause));
 }
@@ -271,8 +254,6 @@ fn return_outgoing<D: DeskView + Drop, A: Allocator + Copy>(
         (outgoing_return call cause) work.new (At Ends)) }
     ensures stops { IfErr result (λ f. Goes D.log D.says work.old
         (outgoing_return call cause) work.new (stops_at f)) }
-    ensures foreign { IfErr result (λ f. IsForeign f → D.may_be_foreign work.old.view) }
-    ensures foreign_kept { D.may_be_foreign work.new.view → D.may_be_foreign work.old.view }
 {
     work.make_room(1)?;
     let Some(_) = ask_record(work, Event::Undo(call, Why::Asked))? else {
@@ -294,8 +275,6 @@ fn return_rest<D: DeskView + Drop, A: Allocator + Copy>(
         (return_rest call cause attempt) work.new (At Ends)) }
     ensures stops { IfErr result (λ f. Goes D.log D.says work.old
         (return_rest call cause attempt) work.new (stops_at f)) }
-    ensures foreign { IfErr result (λ f. IsForeign f → D.may_be_foreign work.old.view) }
-    ensures foreign_kept { D.may_be_foreign work.new.view → D.may_be_foreign work.old.view }
 {
     let Some(attempt) = attempt else {
         return Ok(());
@@ -330,8 +309,6 @@ pub(crate) fn return_to<D: DeskView + Drop, A: Allocator + Copy>(
         (return_plan chan cause) work.new (At Ends)) }
     ensures stops { IfErr result (λ f. Goes D.log D.says work.old
         (return_plan chan cause) work.new (stops_at f)) }
-    ensures foreign { IfErr result (λ f. IsForeign f → D.may_be_foreign work.old.view) }
-    ensures foreign_kept { D.may_be_foreign work.new.view → D.may_be_foreign work.old.view }
 {
     let Some(call) = owner(work, Event::Owner(chan))? else {
         return Ok(());

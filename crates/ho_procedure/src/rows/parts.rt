@@ -3,7 +3,7 @@ ghost use Rattle.std.specs.Prelude.{◌≡◌, ◌≤◌, ◌+◌, ℕ, List, Op
 ghost use Rattle.channel_fsm.specs.declared.ChanState.{ChanState};
 ghost use Rattle.radio_book.specs.declared.event.CallRecord.{CallRecord};
 ghost use Rattle.ho_procedure.specs.Plan.{Plan, Ends, Asks, At, call_dropped};
-ghost use Rattle.ho_procedure.specs.Going.{Goes, Passes, IsForeign, last_reports, then, then_of, then_shown, stops_at};
+ghost use Rattle.ho_procedure.specs.Going.{Goes, Passes, last_reports, then, then_of, then_shown, stops_at};
 ghost use Rattle.ho_procedure.specs.Procedure.{nothing_more, once_done, once_recorded, owned, looked, release_target, turn_away, failure_of};
 
 use crate::causes::EQUIPMENT_FAILURE;
@@ -29,8 +29,6 @@ pub(super) fn owner<D: DeskView + Drop, A: Allocator + Copy>(
         last_reports work.new.windows call ≡ last_reports work.old.windows call }
     ensures width { work.new.windows.width ≡ work.old.windows.width }
     ensures ready { work.old.windows.is_ready ≡ true → work.new.windows.is_ready ≡ true }
-    ensures foreign { IfErr result (λ f. IsForeign f → D.may_be_foreign work.old.view) }
-    ensures foreign_kept { D.may_be_foreign work.new.view → D.may_be_foreign work.old.view }
 {
     match work.ask(event)? {
         Reply::Owned(call) => Ok(Some(call)),
@@ -53,8 +51,6 @@ pub(super) fn look<D: DeskView + Drop, A: Allocator + Copy>(
         last_reports work.new.windows other ≡ last_reports work.old.windows other }
     ensures width { work.new.windows.width ≡ work.old.windows.width }
     ensures ready { work.old.windows.is_ready ≡ true → work.new.windows.is_ready ≡ true }
-    ensures foreign { IfErr result (λ f. IsForeign f → D.may_be_foreign work.old.view) }
-    ensures foreign_kept { D.may_be_foreign work.new.view → D.may_be_foreign work.old.view }
 {
     match work.ask(Event::Look(call))? {
         Reply::Record(record, state) => Ok(Some(Shown { record, state })),
@@ -72,8 +68,6 @@ pub(super) fn ask_last<D: DeskView + Drop, A: Allocator + Copy>(
         (Asks event nothing_more) work.new (At Ends)) }
     ensures stops { IfErr result (λ f. Goes D.log D.says work.old
         (Asks event nothing_more) work.new (stops_at f)) }
-    ensures foreign { IfErr result (λ f. IsForeign f → D.may_be_foreign work.old.view) }
-    ensures foreign_kept { D.may_be_foreign work.new.view → D.may_be_foreign work.old.view }
 {
     work.ask(event)?;
     Ok(())
@@ -90,8 +84,6 @@ pub(super) fn ask_done<D: DeskView + Drop, A: Allocator + Copy>(
     ensures stops { IfErr result (λ f. (next : Plan) → Goes D.log D.says work.old
         (once_done event next) work.new (stops_at f)) }
     ensures owed { work.new.owed ≡ work.old.owed }
-    ensures foreign { IfErr result (λ f. IsForeign f → D.may_be_foreign work.old.view) }
-    ensures foreign_kept { D.may_be_foreign work.new.view → D.may_be_foreign work.old.view }
 {
     match work.ask(event)? {
         Reply::Done => Ok(Course::On),
@@ -111,8 +103,6 @@ pub(super) fn ask_record<D: DeskView + Drop, A: Allocator + Copy>(
     ensures stops { IfErr result (λ f. (next : CallRecord → Option ChanState → Plan) →
         Goes D.log D.says work.old (once_recorded event next) work.new (stops_at f)) }
     ensures owed { work.new.owed ≡ work.old.owed }
-    ensures foreign { IfErr result (λ f. IsForeign f → D.may_be_foreign work.old.view) }
-    ensures foreign_kept { D.may_be_foreign work.new.view → D.may_be_foreign work.old.view }
 {
     match work.ask(event)? {
         Reply::Record(record, state) => Ok(Some(Shown { record, state })),
@@ -130,7 +120,6 @@ pub(super) fn release_target<D: DeskView + Drop, A: Allocator + Copy>(
     ensures goes { (tail : Plan) → Passes D.log D.says work.old
         (release_target attempt tail) work.new (then tail result) }
     ensures room { work.old.owed.room ≤ work.new.owed.room + 1 }
-    ensures foreign_kept { D.may_be_foreign work.new.view → D.may_be_foreign work.old.view }
 {
     let Some(attempt) = attempt else {
         return Course::On;
@@ -157,7 +146,6 @@ pub(super) fn turn_away<D: DeskView + Drop, A: Allocator + Copy>(
 )
     requires { 1 ≤ work.old.owed.room }
     ensures row { Goes D.log D.says work.old (turn_away call cause) work.new (At Ends) }
-    ensures foreign_kept { D.may_be_foreign work.new.view → D.may_be_foreign work.old.view }
 {
     work.send_handover_failure(call, cause, None);
 }
@@ -171,7 +159,6 @@ pub(super) fn tell_failure<D: DeskView + Drop, A: Allocator + Copy>(
 )
     requires { 1 ≤ work.old.owed.room }
     ensures row { Goes D.log D.says work.old (failure_of call attempt) work.new (At Ends) }
-    ensures foreign_kept { D.may_be_foreign work.new.view → D.may_be_foreign work.old.view }
 {
     let Some(attempt) = attempt else {
         return;

@@ -1,7 +1,7 @@
 //! Rows of the messages of stations.
 ghost use Rattle.std.specs.Prelude.{◌≡◌, ◌≤◌, ◌<◌, ℕ, OnOk, IfErr};
 ghost use Rattle.ho_procedure.specs.Plan.{Plan, Ends, At};
-ghost use Rattle.ho_procedure.specs.Going.{Goes, Passes, IsForeign, stops_at};
+ghost use Rattle.ho_procedure.specs.Going.{Goes, Passes, stops_at};
 ghost use Rattle.ho_procedure.specs.Procedure.{send_command, internal_command, acknowledge, incoming_command, confirm_rest, confirm_plan, refused_target, refuse_plan, released_plan, connection_failure_plan, tell_detected, detect_rest, detect_plan};
 
 use super::parts::{ask_done, ask_last, ask_record, look, owner, tell_failure};
@@ -31,8 +31,6 @@ fn send_command<D: DeskView + Drop, A: Allocator + Copy>(
         (send_command call serving command.now) work.new (At Ends)) }
     ensures stops { IfErr result (λ f. Goes D.log D.says work.old
         (send_command call serving command.now) work.new (stops_at f)) }
-    ensures foreign { IfErr result (λ f. IsForeign f → D.may_be_foreign work.old.view) }
-    ensures foreign_kept { D.may_be_foreign work.new.view → D.may_be_foreign work.old.view }
 {
     let Course::On = ask_done(work, Event::Command(call))? else {
         return Ok(());
@@ -56,8 +54,6 @@ fn command<D: DeskView + Drop, A: Allocator + Copy>(
         (internal_command site.now call target serving reference) work.new (At Ends)) }
     ensures stops { IfErr result (λ f. Goes D.log D.says work.old
         (internal_command site.now call target serving reference) work.new (stops_at f)) }
-    ensures foreign { IfErr result (λ f. IsForeign f → D.may_be_foreign work.old.view) }
-    ensures foreign_kept { D.may_be_foreign work.new.view → D.may_be_foreign work.old.view }
 {
     let Some(serving) = serving else {
         return Ok(());
@@ -86,8 +82,6 @@ fn acknowledge<D: DeskView + Drop, A: Allocator + Copy>(
         (acknowledge call command.now) work.new (At Ends)) }
     ensures stops { IfErr result (λ f. Goes D.log D.says work.old
         (acknowledge call command.now) work.new (stops_at f)) }
-    ensures foreign { IfErr result (λ f. IsForeign f → D.may_be_foreign work.old.view) }
-    ensures foreign_kept { D.may_be_foreign work.new.view → D.may_be_foreign work.old.view }
 {
     let Course::On = ask_done(work, Event::Command(call))? else {
         return Ok(());
@@ -110,8 +104,6 @@ fn command_incoming<D: DeskView + Drop, A: Allocator + Copy>(
         (incoming_command site.now call target reference) work.new (At Ends)) }
     ensures stops { IfErr result (λ f. Goes D.log D.says work.old
         (incoming_command site.now call target reference) work.new (stops_at f)) }
-    ensures foreign { IfErr result (λ f. IsForeign f → D.may_be_foreign work.old.view) }
-    ensures foreign_kept { D.may_be_foreign work.new.view → D.may_be_foreign work.old.view }
 {
     let Some(reference) = reference else {
         return Ok(());
@@ -137,8 +129,6 @@ fn confirm_rest<D: DeskView + Drop, A: Allocator + Copy>(
         (confirm_rest site.now call chan serving attempt) work.new (At Ends)) }
     ensures stops { IfErr result (λ f. Goes D.log D.says work.old
         (confirm_rest site.now call chan serving attempt) work.new (stops_at f)) }
-    ensures foreign { IfErr result (λ f. IsForeign f → D.may_be_foreign work.old.view) }
-    ensures foreign_kept { D.may_be_foreign work.new.view → D.may_be_foreign work.old.view }
 {
     let Some(attempt) = attempt else {
         return Ok(());
@@ -164,8 +154,6 @@ pub(crate) fn confirm<D: DeskView + Drop, A: Allocator + Copy>(
         (confirm_plan site.now chan) work.new (At Ends)) }
     ensures stops { IfErr result (λ f. Goes D.log D.says work.old
         (confirm_plan site.now chan) work.new (stops_at f)) }
-    ensures foreign { IfErr result (λ f. IsForeign f → D.may_be_foreign work.old.view) }
-    ensures foreign_kept { D.may_be_foreign work.new.view → D.may_be_foreign work.old.view }
 {
     work.make_room(1)?;
     let Some(call) = owner(work, Event::Confirm(chan))? else {
@@ -195,8 +183,6 @@ fn refuse_target<D: DeskView + Drop, A: Allocator + Copy>(
         (refused_target call) work.new (At Ends)) }
     ensures stops { IfErr result (λ f. Goes D.log D.says work.old
         (refused_target call) work.new (stops_at f)) }
-    ensures foreign { IfErr result (λ f. IsForeign f → D.may_be_foreign work.old.view) }
-    ensures foreign_kept { D.may_be_foreign work.new.view → D.may_be_foreign work.old.view }
 {
     let Some(shown) = ask_record(work, Event::Undo(call, Why::Asked))? else {
         return Ok(());
@@ -215,8 +201,6 @@ pub(crate) fn refuse<D: DeskView + Drop, A: Allocator + Copy>(
         (refuse_plan chan) work.new (At Ends)) }
     ensures stops { IfErr result (λ f. Goes D.log D.says work.old
         (refuse_plan chan) work.new (stops_at f)) }
-    ensures foreign { IfErr result (λ f. IsForeign f → D.may_be_foreign work.old.view) }
-    ensures foreign_kept { D.may_be_foreign work.new.view → D.may_be_foreign work.old.view }
 {
     work.make_room(1)?;
     let Some(call) = owner(work, Event::Refuse(chan))? else {
@@ -244,8 +228,6 @@ pub(crate) fn release<D: DeskView + Drop, A: Allocator + Copy>(
         (released_plan chan) work.new (At Ends)) }
     ensures stops { IfErr result (λ f. Goes D.log D.says work.old
         (released_plan chan) work.new (stops_at f)) }
-    ensures foreign { IfErr result (λ f. IsForeign f → D.may_be_foreign work.old.view) }
-    ensures foreign_kept { D.may_be_foreign work.new.view → D.may_be_foreign work.old.view }
 {
     ask_last(work, Event::Released(chan))
 }
@@ -260,8 +242,6 @@ pub(crate) fn fail<D: DeskView + Drop, A: Allocator + Copy>(
         (connection_failure_plan chan) work.new (At Ends)) }
     ensures stops { IfErr result (λ f. Goes D.log D.says work.old
         (connection_failure_plan chan) work.new (stops_at f)) }
-    ensures foreign { IfErr result (λ f. IsForeign f → D.may_be_foreign work.old.view) }
-    ensures foreign_kept { D.may_be_foreign work.new.view → D.may_be_foreign work.old.view }
 {
     let Some(call) = owner(work, Event::Owner(chan))? else {
         return Ok(());
@@ -281,7 +261,6 @@ pub(crate) fn fail<D: DeskView + Drop, A: Allocator + Copy>(
 fn tell_detected<D: DeskView + Drop, A: Allocator + Copy>(work: &mut Work<D, A>, call: u16)
     requires { 1 ≤ work.old.owed.room }
     ensures row { Goes D.log D.says work.old (tell_detected call) work.new (At Ends) }
-    ensures foreign_kept { D.may_be_foreign work.new.view → D.may_be_foreign work.old.view }
 {
     work.send_handover_detect(call);
 }
@@ -295,7 +274,6 @@ fn detect_rest<D: DeskView + Drop, A: Allocator + Copy>(
 )
     requires { 1 ≤ work.old.owed.room }
     ensures row { Goes D.log D.says work.old (detect_rest call attempt) work.new (At Ends) }
-    ensures foreign_kept { D.may_be_foreign work.new.view → D.may_be_foreign work.old.view }
 {
     let Some(attempt) = attempt else {
         return;
@@ -316,8 +294,6 @@ pub(crate) fn detect<D: DeskView + Drop, A: Allocator + Copy>(
         (detect_plan chan) work.new (At Ends)) }
     ensures stops { IfErr result (λ f. Goes D.log D.says work.old
         (detect_plan chan) work.new (stops_at f)) }
-    ensures foreign { IfErr result (λ f. IsForeign f → D.may_be_foreign work.old.view) }
-    ensures foreign_kept { D.may_be_foreign work.new.view → D.may_be_foreign work.old.view }
 {
     work.make_room(1)?;
     let Some(call) = owner(work, Event::Detect(chan))? else {

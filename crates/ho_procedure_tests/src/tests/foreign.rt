@@ -26,8 +26,6 @@ impl DeskView for Elsewhere {
 
     ghost judged = { λ _ _ _. Unit };
 
-    ghost may_be_foreign = { λ _. Unit };
-
     fn judge(&mut self, _event: Event) -> Result<Receipt, DeskFault> {
         Err(DeskFault::Foreign(7))
     }

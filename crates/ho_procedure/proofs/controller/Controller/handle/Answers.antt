@@ -1,11 +1,23 @@
 use Rattle.std.proofs.Common.{◌∙◌, ap, subst}
-use Rattle.ho_procedure.proofs.Handled.{follow_kept}
+use Rattle.ho_procedure.proofs.Handled.{follow_kept, stops_unknown}
 use Rattle.ho_procedure.proofs.Undecoded.{EndsFor, StopsFor, ended}
 use Rattle.ho_procedure.proofs.controller.Controller.handle.Goals as goal
 use Rattle.ho_procedure.proofs.controller.Controller.handle.Goals.{in-Ok, in-Err-Unread, in-Err-NoMemory, in-Err-Foreign}
 
 pub returns-clause-said : goal.returns-clause-said
 returns-clause-said g c = rw (← c.self.view_is) (follow_kept _ _ _ _ _ _ _ _ c.follow-done.ensures.ok c.follow-done.ensures.stops)
+
+pub returns-clause-foreign : goal.returns-clause-foreign
+returns-clause-foreign g c =
+    elim c.match-done.branch [
+      | in-Ok v ↦ rw v.result-is tt
+      | in-Err-Unread v ↦ rw v.result-is (λ is. absurd is)
+      | in-Err-NoMemory v ↦ rw v.result-is (λ is. absurd is)
+      | in-Err-Foreign v ↦
+          let stops = rw v.in-Err-Foreign.is at c.follow-done.ensures.stops in
+          let unknown = rw (rw v.in-Err-Foreign.is at v.in-Err-Foreign.field-0-is) at stops in
+          rw v.result-is (λ is. rw (← c.self.view_is) (stops_unknown _ _ _ _ _ unknown))
+    ]
 
 pub returns-clause-exact : goal.returns-clause-exact
 returns-clause-exact g c link bad u =

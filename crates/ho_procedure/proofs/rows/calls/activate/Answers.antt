@@ -4,5 +4,5 @@ use Rattle.ho_procedure.proofs.Going.{stays}
 use Rattle.ho_procedure.proofs.Nameable.{opened}
 use Rattle.ho_procedure.proofs.rows.calls.activate.Goals as goal
 
-pub returns-then-is_nameable-clause-row : goal.returns-then-is_nameable-clause-row
-returns-then-is_nameable-clause-row g c = rw (opened c.args.chan (search rules)) (c.send_activation.ensures.goes Ends _ _ (stays _ _ _ _ _ refl))
+pub returns-then-is_nameable : goal.returns-then-is_nameable
+returns-then-is_nameable g c = record { row = rw (opened c.args.chan (search rules)) (c.send_activation.ensures.goes Ends _ _ (stays _ _ _ _ _ refl)) }

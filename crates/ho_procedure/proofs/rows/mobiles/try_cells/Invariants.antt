@@ -4,10 +4,5 @@ use Rattle.ho_procedure.specs.Procedure.{try_plan}
 use Rattle.ho_procedure.proofs.rows.mobiles.try_cells.Given as goal
 
 -- the cells before were tried: the rest of the row is left
-pub record Tried (F P : Type 0) : Type 0 where
-  pub kept : F
-  pub passes : P
-
 abbrev pub invariant-loop-candidate : goal.invariant-loop-candidate
-invariant-loop-candidate g l = Tried (g.D.DeskView.may_be_foreign l.work.view → g.D.DeskView.may_be_foreign l.fn.work.view)
-    (Passes g.D.DeskView.log g.D.DeskView.says l.fn.work (try_plan l.site l.call l.candidates) l.work (try_plan l.site l.call (drop l.candidate-index l.candidates)))
+invariant-loop-candidate g l = Passes g.D.DeskView.log g.D.DeskView.says l.fn.work (try_plan l.site l.call l.candidates) l.work (try_plan l.site l.call (drop l.candidate-index l.candidates))

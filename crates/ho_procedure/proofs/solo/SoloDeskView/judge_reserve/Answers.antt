@@ -5,7 +5,7 @@ pub returns-clause-ok : goal.returns-clause-ok
 returns-clause-ok g c = rw (← c.self.view_is) (reserve_chooses _ _ _ _ c.len-entries.ensures.legal c.judge_reserve.ensures.event c.judge_reserve.ensures.judged)
 
 pub returns-clause-foreign : goal.returns-clause-foreign
-returns-clause-foreign g c place is = not_foreign _ _ place c.new.ensures.none ((c.judge_reserve.ensures.foreign place).0 is)
+returns-clause-foreign g c = not_foreign _ _ _ c.new.ensures.none c.judge_reserve.ensures.foreign
 
 pub returns-clause-said : goal.returns-clause-said
 returns-clause-said g c = rw (← c.self.view_is) (still_true _ _ (judge_opens _ _ _ _ c.judge_reserve.ensures.judged c.judge_reserve.ensures.unchanged))

@@ -1,3 +1,4 @@
+use Rattle.ho_procedure_tests.proofs.StillSaid.{still_said}
 use Rattle.ho_procedure_tests.proofs.leaving.LeavingDeskView.judge_take.Goals as goal
 
 pub returns-in_err-sits-clause-said : goal.returns-in_err-sits-clause-said
@@ -7,4 +8,4 @@ pub returns-clause-ok : goal.returns-clause-ok
 returns-clause-ok g c = rw (← c.self.view_is) c.judge_take.ensures.ok
 
 pub returns-clause-said : goal.returns-clause-said
-returns-clause-said g c = rw (← c.self.view_is) c.judge_take.ensures.said
+returns-clause-said g c = rw (← c.self.view_is) (still_said _ _ c.judge_take.ensures.said)
