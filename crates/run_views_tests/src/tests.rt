@@ -15,11 +15,6 @@ use std::test::Fail;
 
 // Each test asserts by these: an assertion in a function of its own is proved once, and a call of it costs little.
 
-/// What was found is what was wanted.
-fn equals<T: Copy + Debug + PartialEq>(rt: &impl Abort, found: T, wanted: T) {
-    assert_eq!(rt; found, wanted);
-}
-
 /// What was found at this place is what was wanted.
 fn equals_at<T: Copy + Debug + PartialEq, W: Copy + Debug>(
     rt: &impl Abort,
@@ -28,11 +23,6 @@ fn equals_at<T: Copy + Debug + PartialEq, W: Copy + Debug>(
     at: W,
 ) {
     assert_eq!(rt; found, wanted, "{at:?}");
-}
-
-/// This is so.
-fn holds(rt: &impl Abort, is_so: bool) {
-    assert!(rt; is_so);
 }
 
 /// This is so at this place.

@@ -1,4 +1,4 @@
-use super::{ALONE, equals, holds_at, write_in_pieces};
+use super::{ALONE, equals_at, holds_at, write_in_pieces};
 use run_views::{Viewer, Views};
 use std::alloc::Global;
 use std::io::Write;
@@ -53,8 +53,8 @@ fn has_captured<W: Write>(
         return Ok(());
     };
     let octets = hex::encode(rt.alloc(), capture.octets())?;
-    equals(rt, octets.as_str(), FILE);
-    equals(rt, capture.left_out(), 0);
+    equals_at(rt, octets.as_str(), FILE, "the capture");
+    equals_at(rt, capture.left_out(), 0, "messages left out");
     Ok(())
 }
 
@@ -77,6 +77,6 @@ fn captures_beside(rt: &(impl AllocGlobal + Abort), out: &mut Vec<u8>) -> Result
 fn each_message_of_a_trace_is_captured(rt: HostRuntime) -> Result<(), Fail> {
     let mut out = Vec::new(rt.alloc());
     captures_beside(&rt, &mut out)?;
-    equals(&rt, out.as_slice(), TRACE.as_bytes());
+    equals_at(&rt, out.as_slice(), TRACE.as_bytes(), "what is printed");
     Ok(())
 }

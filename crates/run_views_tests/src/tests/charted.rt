@@ -1,4 +1,4 @@
-use super::{ALONE, SITE, equals, holds_at, write_in_pieces};
+use super::{ALONE, SITE, equals_at, holds_at, write_in_pieces};
 use chart::{Bar, Chart, Lane, Row, Shape, Side};
 use run_views::{Sites, Viewer, Views, WordsFault};
 use std::alloc::Global;
@@ -431,7 +431,7 @@ fn is_drawn(
 ) -> Result<(), Fail> {
     let wanted = chart.to_string(rt.alloc())?;
     let svg = chart_of(rt.alloc(), sites, trace)?;
-    equals(rt, svg.as_str(), wanted.as_str());
+    equals_at(rt, svg.as_str(), wanted.as_str(), trace);
     Ok(())
 }
 

@@ -1,4 +1,4 @@
-use super::{ALONE, equals, equals_at, holds, holds_at};
+use super::{ALONE, equals_at, holds_at};
 use run_views::{Sheets, Viewer, Views, WordsFault, open_sheets};
 use std::alloc::Global;
 use std::fs::OpenFile;
@@ -71,16 +71,17 @@ fn are_open(
     Ok(open_sheets(rt, &views_at(paths), out, errors)?.is_some())
 }
 
-/// This was printed, and that was said: nothing where the files are open.
+/// For these paths this was printed, and that was said: nothing where the files are open.
 fn are_said(
     rt: &impl Abort,
+    paths: (&str, &str),
     is_open: bool,
     (out, errors): (&[u8], &[u8]),
     texts: (&str, &str),
 ) -> Result<(), Fail> {
     let (printed, said) = (str::from_utf8(out)?, str::from_utf8(errors)?);
-    equals(rt, (printed, said), texts);
-    equals_at(rt, is_open, texts.0.is_empty(), printed);
+    equals_at(rt, (printed, said), texts, paths);
+    equals_at(rt, is_open, texts.0.is_empty(), paths);
     Ok(())
 }
 
@@ -93,7 +94,8 @@ fn open_them(
     let mut out = Vec::new(rt.alloc());
     let mut errors = Vec::new(rt.alloc());
     let is_open = are_open(rt, paths, &mut out, &mut errors)?;
-    are_said(rt, is_open, (out.as_slice(), errors.as_slice()), texts)
+    let said = (out.as_slice(), errors.as_slice());
+    are_said(rt, paths, is_open, said, texts)
 }
 
 /// Writes what stood in both files before.
@@ -171,7 +173,7 @@ fn is_chart(rt: &(impl Files + AllocGlobal + Abort)) -> Result<(), Fail> {
 fn writes_both(rt: &(impl Files + AllocGlobal + Abort)) -> Result<(), Fail> {
     fs::write(rt, CHART, OLD.repeat(rt.alloc(), LONGER)?.as_str())?;
     open_and_write(rt, &mut Vec::new(rt.alloc()), &mut Vec::new(rt.alloc()))?;
-    equals(rt, fs::read(rt, PCAP)?.len(), 24);
+    equals_at(rt, fs::read(rt, PCAP)?.len(), 24, PCAP);
     is_chart(rt)
 }
 
@@ -191,7 +193,7 @@ fn a_capture_that_was_made_stays_empty_where_the_chart_cannot_be_made(
     let texts = ("file /\n", "/: is a folder\n");
     open_them(&rt, (made, "/"), texts)?;
     let octets = fs::read(&rt, made)?;
-    holds(&rt, octets.is_empty());
+    equals_at(&rt, octets.len(), 0, made);
     fs::remove_file(&rt, made)?;
     Ok(())
 }

@@ -1,4 +1,4 @@
-use super::{ALONE, SITE, equals, printed};
+use super::{ALONE, SITE, equals_at, printed};
 use run_views::{Sites, Views};
 use std::alloc::{AllocError, Global};
 use std::process::Abort;
@@ -109,7 +109,7 @@ fn plain_of(alloc: Global, text: &str) -> Result<String, AllocError> {
 fn is_stated(rt: &(impl AllocGlobal + Abort), sites: Sites<'_>, wanted: &str) -> Result<(), Fail> {
     let plain = plain_of(rt.alloc(), wanted)?;
     let text = printed(rt.alloc(), &STATE, sites, &plain, 32)?;
-    equals(rt, text.as_str(), wanted);
+    equals_at(rt, text.as_str(), wanted, plain.as_str());
     Ok(())
 }
 

@@ -1,4 +1,4 @@
-use super::{ALONE, equals, equals_at, holds_at, printed, show};
+use super::{ALONE, equals_at, holds_at, printed, show};
 use refusing_heap::RefusingHeap;
 use run_views::{Views, WordsFault};
 use std::alloc::{AllocError, Global};
@@ -87,7 +87,7 @@ fn is_printed(
     wanted: &str,
 ) -> Result<(), Fail> {
     let text = printed(rt.alloc(), views, ALONE, trace, len)?;
-    equals(rt, text.as_str(), wanted);
+    equals_at(rt, text.as_str(), wanted, (len, "octets a piece"));
     Ok(())
 }
 
