@@ -195,9 +195,51 @@ requests 4
 end channels=3 calls=2 references=1 timers=0
 ";
 
+/// Invalid reports (MEAS-VALID is 1) would rank cell 2 first if they counted: their level of it is 63. Both valid ones rank
+/// cell 1 first.
+const INVALID: &str = "between two valid reports
+from a call that is on
+in abis 0 0 0828010b1b001903001e0004000b001206151e1e00a80ab381800000000000000000  30 here, 40 in cell 1, 39 in cell 2
+event owner 0/0/3 -> owned 1
+event look 1 -> record 0/0/3 on
+in abis 0 0 0828010b1b001903001e0004000b001206151e5e009e0abf81800000000000000000  invalid: 30 in cell 1, 63 in cell 2
+event owner 0/0/3 -> owned 1
+event look 1 -> record 0/0/3 on
+in abis 0 0 0828010b1b001903001e0004000b001206151e1e00a80ab381800000000000000000  the second that is valid
+event owner 0/0/3 -> owned 1
+event look 1 -> record 0/0/3 on
+event take 1 internal 1/1/3 -> done
+event reserve 1 0 -> done
+event activate 1 -> done
+out abis 1 1 0821010b03020604000108010900
+end channels=2 calls=1 references=1 timers=0
+
+before them
+from a call that is on
+in abis 0 0 0828010b1b001903001e0004000b001206151e5e009e0abf81800000000000000000  invalid: 30 in cell 1, 63 in cell 2
+event owner 0/0/3 -> owned 1
+event look 1 -> record 0/0/3 on
+in abis 0 0 0828010b1b001903001e0004000b001206151e1e00a80ab381800000000000000000  30 here, 40 in cell 1, 39 in cell 2
+event owner 0/0/3 -> owned 1
+event look 1 -> record 0/0/3 on
+in abis 0 0 0828010b1b001903001e0004000b001206151e1e00a80ab381800000000000000000  the second that is valid
+event owner 0/0/3 -> owned 1
+event look 1 -> record 0/0/3 on
+event take 1 internal 1/1/3 -> done
+event reserve 1 0 -> done
+event activate 1 -> done
+out abis 1 1 0821010b03020604000108010900
+end channels=2 calls=1 references=1 timers=0
+";
+
 #[test]
 fn reports_begin_handovers(rt: HostRuntime) -> Result<(), Fail> {
     are_played(&rt, THREE_CHANNELS, REPORTED)
+}
+
+#[test]
+fn an_invalid_report_ranks_no_cell(rt: HostRuntime) -> Result<(), Fail> {
+    are_played(&rt, TWO_NEIGHBOURS, INVALID)
 }
 
 #[test]
