@@ -37,11 +37,6 @@ use std::{fs, str};
 
 // Each test asserts by these: an assertion in a function of its own is proved once, and a call of it costs little.
 
-/// What was found is what was wanted.
-fn equals<T: Copy + Debug + PartialEq>(rt: &impl Abort, found: T, wanted: T) {
-    assert_eq!(rt; found, wanted);
-}
-
 /// What was found at this place is what was wanted.
 fn equals_at<T: Copy + Debug + PartialEq, W: Copy + Debug>(
     rt: &impl Abort,
@@ -50,11 +45,6 @@ fn equals_at<T: Copy + Debug + PartialEq, W: Copy + Debug>(
     at: W,
 ) {
     assert_eq!(rt; found, wanted, "{at:?}");
-}
-
-/// This is so.
-fn holds(rt: &impl Abort, is_so: bool) {
-    assert!(rt; is_so);
 }
 
 /// This is so at this place.

@@ -1,6 +1,6 @@
 use super::decoded::{ON_A, ON_A_WITH_CELLS, ON_ABIS, RADIO, REPORTS};
 use super::failing::Failing;
-use super::{ends_saying, equals, equals_at, holds, holds_at};
+use super::{ends_saying, equals_at, holds_at};
 use lab::decoded::{Link, decode_run};
 use lab::encoded::encode_run;
 use lab::run::{LabFault, Status};
@@ -228,9 +228,10 @@ fn a_refused_request_and_a_failed_write(rt: HostRuntime) {
     let mut out = Vec::new(rt.alloc());
     let mut errors = Vec::new(rt.alloc());
     let ended = encode_run(&heap, Link::Rr, text, &mut out, &mut errors);
-    equals(&rt, ended, Err(LabFault::NoMemory));
-    holds(&rt, out.is_empty() && errors.is_empty());
+    equals_at(&rt, ended, Err(LabFault::NoMemory), "a refused request");
+    let lengths = (out.len(), errors.len());
+    equals_at(&rt, lengths, (0, 0), "octets without memory");
     let mut out = Failing::after(rt.alloc(), 1);
     let ended = encode_run(rt.alloc(), Link::Rr, text, &mut out, &mut errors);
-    equals(&rt, ended, Err(LabFault::Write));
+    equals_at(&rt, ended, Err(LabFault::Write), "a failed write");
 }

@@ -1,5 +1,5 @@
 //! Scripts over four cells.
-use super::{equals, holds_at, printed, prints};
+use super::{equals_at, holds_at, printed, prints};
 use lab::run::Status;
 use std::test::Fail;
 
@@ -313,9 +313,10 @@ const UNDONE: usize = 35;
 #[test]
 fn two_hundred_lines_leave_nothing(rt: HostRuntime) -> Result<(), Fail> {
     let (status, text) = printed(rt.alloc(), rt.alloc(), FOUR_CELLS, None, LONG)?;
-    equals(&rt, status, Ok(Status::Done));
-    equals(&rt, lines_with(&text, "event complete "), ARRIVALS);
-    equals(&rt, lines_with(&text, "event undo "), UNDONE);
+    equals_at(&rt, status, Ok(Status::Done), "two hundred lines");
+    let (arrivals, undone) = ("event complete ", "event undo ");
+    equals_at(&rt, lines_with(&text, arrivals), ARRIVALS, arrivals);
+    equals_at(&rt, lines_with(&text, undone), UNDONE, undone);
     let end = "\nend channels=0 calls=0 references=0 timers=0\n";
     holds_at(&rt, text.ends_with(end), text.as_str());
     Ok(())

@@ -1,5 +1,5 @@
 use super::failing::Failing;
-use super::{equals, equals_at, holds_at};
+use super::{equals_at, holds_at};
 use lab::program::perform;
 use lab::run::{LabFault, Status, exit_status};
 use std::process::Abort;
@@ -350,15 +350,20 @@ fn a_text_that_is_not_written_is_a_fault(rt: HostRuntime) {
         let mut out = Failing::after(rt.alloc(), 0);
         let mut errors = Failing::after(rt.alloc(), 0);
         let ended = perform(&rt, words, STDIN, &mut out, &mut errors);
-        equals(&rt, ended, Err(LabFault::Write));
+        equals_at(&rt, ended, Err(LabFault::Write), words);
     }
+}
+
+/// The status of a command that has ended so.
+fn exits(rt: &impl Abort, ended: Result<Status, LabFault>, status: u8) {
+    equals_at(rt, exit_status(ended), status, ended);
 }
 
 #[test]
 fn statuses(rt: HostRuntime) {
-    equals(&rt, exit_status(Ok(Status::Done)), 0);
-    equals(&rt, exit_status(Ok(Status::Differs)), 1);
-    equals(&rt, exit_status(Ok(Status::Refused)), 2);
-    equals(&rt, exit_status(Err(LabFault::Write)), 2);
-    equals(&rt, exit_status(Err(LabFault::NoMemory)), 3);
+    exits(&rt, Ok(Status::Done), 0);
+    exits(&rt, Ok(Status::Differs), 1);
+    exits(&rt, Ok(Status::Refused), 2);
+    exits(&rt, Err(LabFault::Write), 2);
+    exits(&rt, Err(LabFault::NoMemory), 3);
 }

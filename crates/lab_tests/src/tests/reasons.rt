@@ -1,4 +1,4 @@
-use super::{SITE, ends_saying, equals, equals_at, holds_at};
+use super::{SITE, ends_saying, equals_at, holds_at};
 use lab::files::run_files;
 use lab::run::Status;
 use lab::site_files::SitePaths;
@@ -351,7 +351,7 @@ fn names(rt: &(impl AllocGlobal + Abort), line: &str, printed: &str) -> Result<(
 fn agrees(rt: &(impl Files + AllocGlobal + Abort), site: &str, printed: &str) -> Result<(), Fail> {
     let (text, line) = refused_texts(rt, site)?;
     let said = text.strip_prefix("site ").unwrap_or("").strip_suffix('\n');
-    equals(rt, said, Some(printed));
+    equals_at(rt, said, Some(printed), text.as_str());
     names(rt, &line, printed)
 }
 

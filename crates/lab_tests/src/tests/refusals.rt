@@ -1,5 +1,5 @@
 use super::failing::Failing;
-use super::{ONE_CALL, SITE, equals, equals_at, holds_at, printed, prints};
+use super::{ONE_CALL, SITE, equals_at, holds_at, printed, prints};
 use lab::run::{LabFault, Status, lab_run};
 use refusing_heap::RefusingHeap;
 use sample_sites::{NO_CELL, NO_TRAFFIC, SAME_IDENTITY};
@@ -67,7 +67,7 @@ fn prints_unless(
     equals_at(rt, status.err(), fault, text);
     match fault {
         Some(_) => holds_at(rt, wanted.starts_with(text), text),
-        None => equals(rt, text, wanted),
+        None => equals_at(rt, text, wanted, "a run without a refusal"),
     }
 }
 

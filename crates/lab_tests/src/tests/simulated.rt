@@ -1,7 +1,7 @@
 //! Scripts with simulated stations and mobiles. Traces are worked out by hand from the tables of the procedure, of the
 //! stations and of the switching centre.
 use super::peer::PEER;
-use super::{SITE, equals, holds, printed, prints};
+use super::{SITE, equals_at, holds_at, printed, prints};
 use lab::run::Status;
 use std::alloc::{AllocError, Global};
 use std::process::Abort;
@@ -248,15 +248,13 @@ fn lines_that_are(text: &str, wanted: &str) -> usize {
 fn is_cut(rt: &impl Abort, alloc: Global, calls: u16, cut: usize) -> Result<(), Fail> {
     let script = held_script(alloc, calls)?;
     let (status, text) = printed(alloc, alloc, SITE, None, &script)?;
-    equals(rt, status, Ok(Status::Done));
-    equals(
-        rt,
-        lines_that_are(&text, "in abis 0 0 0822010b080000"),
-        5000,
-    );
-    equals(rt, lines_that_are(&text, "sim limit"), cut);
+    equals_at(rt, status, Ok(Status::Done), calls);
+    let (acknowledged, limit) = ("in abis 0 0 0822010b080000", "sim limit");
+    let answers = lines_that_are(&text, acknowledged);
+    equals_at(rt, answers, 5000, (calls, acknowledged));
+    equals_at(rt, lines_that_are(&text, limit), cut, (calls, limit));
     let end = "\nend channels=0 calls=0 references=0 timers=0\n";
-    holds(rt, text.ends_with(end));
+    holds_at(rt, text.ends_with(end), (calls, end));
     Ok(())
 }
 
@@ -270,12 +268,10 @@ fn ten_thousand_answers_to_one_line_are_handled(rt: HostRuntime) -> Result<(), F
 fn the_limit_has_no_mark(rt: HostRuntime) -> Result<(), Fail> {
     let script = held_script(rt.alloc(), 5001)?;
     let (status, text) = printed(rt.alloc(), rt.alloc(), SITE, Some(PEER), &script)?;
-    equals(&rt, status, Ok(Status::Done));
-    equals(
-        &rt,
-        lines_that_are(&text, "1: in abis 0 0 0822010b080000"),
-        5000,
-    );
-    equals(&rt, lines_that_are(&text, "sim limit"), 1);
+    equals_at(&rt, status, Ok(Status::Done), "two controllers");
+    let (acknowledged, limit) = ("1: in abis 0 0 0822010b080000", "sim limit");
+    let answers = lines_that_are(&text, acknowledged);
+    equals_at(&rt, answers, 5000, acknowledged);
+    equals_at(&rt, lines_that_are(&text, limit), 1, limit);
     Ok(())
 }

@@ -2,8 +2,7 @@
 use super::failing::Failing;
 use super::peer::PEER;
 use super::{
-    SITE, ends_beginning, ends_saying, ends_so, equals, equals_at, holds_at, is_whole_or_cut,
-    write_files,
+    SITE, ends_beginning, ends_saying, ends_so, equals_at, holds_at, is_whole_or_cut, write_files,
 };
 use lab::recorded::record_run;
 use lab::run::{LabFault, Status};
@@ -160,7 +159,8 @@ fn is_met(rt: &impl Abort, alloc: Global, peer: Option<&str>, record: &str) -> R
 /// A record has all else that the script has.
 fn has_the_rest(rt: &impl Abort, alloc: Global, record: &str, script: &str) -> Result<(), Fail> {
     let kept = bare(alloc, record)?;
-    equals(rt, kept.trim_end(), bare(alloc, script)?.trim_end());
+    let wanted = bare(alloc, script)?;
+    equals_at(rt, kept.trim_end(), wanted.trim_end(), record);
     Ok(())
 }
 
@@ -172,7 +172,7 @@ fn is_its_record(
     record: &str,
 ) -> Result<(), Fail> {
     let again = record_of(rt, alloc, peer, record)?;
-    equals(rt, again.as_str(), record);
+    equals_at(rt, again.as_str(), record, peer);
     Ok(())
 }
 
@@ -388,7 +388,7 @@ fn each_write_of_a_record_fails(rt: HostRuntime) -> Result<(), Fail> {
             holds_at(&rt, 20 < before, (before, "writes"));
             return Ok(());
         }
-        equals(&rt, status, Err(LabFault::Write));
+        equals_at(&rt, status, Err(LabFault::Write), before);
     }
     holds_at(&rt, false, "a thousand writes");
     Ok(())

@@ -1,4 +1,4 @@
-use super::{SITE, equals, equals_at, holds};
+use super::{SITE, equals_at, holds_at};
 use lab::files::run_files;
 use lab::run::{LabFault, Status};
 use lab::script_files::{record_file, test_files};
@@ -90,14 +90,16 @@ fn is_said(rt: &impl Abort, said: &str, line: &str) {
         .strip_prefix(SHOWN_FILE)
         .and_then(|rest| rest.strip_prefix(":"))
         .and_then(|rest| rest.strip_suffix('\n'));
-    equals(rt, behind, Some(line));
+    equals_at(rt, behind, Some(line), said);
 }
 
 /// This was printed, but by a test, which says that the script isn't right.
-fn is_printed(rt: &impl Abort, command: Command, found: &str, printed: &str) {
+fn is_printed(rt: &impl Abort, command: Command, found: &str, printed: &str, line: &str) {
     match command {
-        Command::Run | Command::Record => equals(rt, found, printed),
-        Command::Test => holds(rt, found.starts_with("1..1\nnot ok 1 - ")),
+        Command::Run | Command::Record => equals_at(rt, found, printed, (command, line)),
+        Command::Test => {
+            holds_at(rt, found.starts_with("1..1\nnot ok 1 - "), (line, found));
+        }
     }
 }
 
@@ -111,9 +113,9 @@ fn says(
     let mut out = Vec::new(rt.alloc());
     let mut errors = Vec::new(rt.alloc());
     let status = ended(rt, command, &mut out, &mut errors);
-    equals_at(rt, status, Ok(Status::Refused), line);
+    equals_at(rt, status, Ok(Status::Refused), (command, line));
     is_said(rt, str::from_utf8(&errors)?, line);
-    is_printed(rt, command, str::from_utf8(&out)?, printed);
+    is_printed(rt, command, str::from_utf8(&out)?, printed, line);
     Ok(())
 }
 

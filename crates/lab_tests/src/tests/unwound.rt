@@ -1,5 +1,5 @@
 //! Why nothing is taken out of a trace, for a person.
-use super::{SITE, equals, equals_at};
+use super::{SITE, equals_at};
 use lab::files::rewind_files;
 use lab::run::Status;
 use std::process::Abort;
@@ -96,7 +96,7 @@ const SHOWN_FILE: &str = "unwound\\t.trace";
 
 /// Behind the name of the file this is said.
 fn is_said(rt: &impl Abort, said: &str, wanted: &str) {
-    equals(rt, said.strip_prefix(SHOWN_FILE), Some(wanted));
+    equals_at(rt, said.strip_prefix(SHOWN_FILE), Some(wanted), said);
 }
 
 /// Asserts that nothing is taken out of a trace, what is printed, and what is said.

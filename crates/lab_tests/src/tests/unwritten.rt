@@ -1,6 +1,4 @@
-use super::{
-    ONE_CALL, SITE, ends_beginning, equals, equals_at, holds, holds_at, remove_files, write_files,
-};
+use super::{ONE_CALL, SITE, ends_beginning, equals_at, holds_at, remove_files, write_files};
 use lab::files::run_files;
 use lab::run::{LabFault, exit_status};
 use lab::site_files::SitePaths;
@@ -58,7 +56,7 @@ fn says_why(
     let mut out = Vec::new(rt.alloc());
     let mut errors = Vec::new(rt.alloc());
     let ended = run_files(rt, paths, named.script, &views, &mut out, &mut errors);
-    equals(rt, exit_status(ended), 2);
+    equals_at(rt, exit_status(ended), 2, (named.pcap, named.chart));
     has_no_space(rt, str::from_utf8(&errors)?);
     let texts = (out.as_slice(), errors.as_slice());
     let wanted = (Err(LabFault::Write), trace, "/dev/full: no space left");
@@ -69,7 +67,7 @@ fn says_why(
 fn is_charted(rt: &(impl Files + AllocGlobal + Abort)) -> Result<(), Fail> {
     let chart = fs::read_to_string(rt, CHART_FILE)?;
     equals_at(rt, chart.matches("marker-end").count(), 4, chart.as_str());
-    holds(rt, chart.ends_with("</svg>\n"));
+    holds_at(rt, chart.ends_with("</svg>\n"), chart.as_str());
     Ok(())
 }
 
@@ -99,7 +97,8 @@ fn a_file_without_room_is_named(rt: HostRuntime) -> Result<(), Fail> {
         },
         ONE_CALL.1,
     )?;
-    equals(&rt, fs::read(&rt, PCAP_FILE)?.len(), 24 + 4 * 59 + 27);
+    let octets = fs::read(&rt, PCAP_FILE)?.len();
+    equals_at(&rt, octets, 24 + 4 * 59 + 27, PCAP_FILE);
     remove_files(&rt, &[SITE_FILE, SCRIPT_FILE, PCAP_FILE, CHART_FILE])
 }
 

@@ -1,5 +1,5 @@
 use super::failing::Failing;
-use super::{ONE_CALL, SITE, ends_saying, equals, equals_at, holds, remove_files, write_files};
+use super::{ONE_CALL, SITE, ends_saying, equals_at, holds_at, remove_files, write_files};
 use lab::files::run_files;
 use lab::run::{LabFault, Status};
 use lab::site_files::SitePaths;
@@ -56,7 +56,7 @@ fn files_have(
     pcap: usize,
     arrows: usize,
 ) -> Result<(), Fail> {
-    equals(rt, fs::read(rt, PCAP_FILE)?.len(), pcap);
+    equals_at(rt, fs::read(rt, PCAP_FILE)?.len(), pcap, PCAP_FILE);
     let chart = fs::read_to_string(rt, CHART_FILE)?;
     equals_at(
         rt,
@@ -64,7 +64,7 @@ fn files_have(
         arrows,
         chart.as_str(),
     );
-    holds(rt, chart.ends_with("</svg>\n"));
+    holds_at(rt, chart.ends_with("</svg>\n"), chart.as_str());
     Ok(())
 }
 
@@ -94,7 +94,7 @@ fn ends_early(rt: &(impl Files + AllocGlobal + Abort)) -> Result<(), Fail> {
     let mut out = Failing::after(rt.alloc(), 15);
     let mut errors = Vec::new(rt.alloc());
     let ended = run_files(rt, PATHS, SCRIPT_FILE, &ALL, &mut out, &mut errors);
-    equals(rt, ended, Err(LabFault::Write));
+    equals_at(rt, ended, Err(LabFault::Write), SCRIPT_FILE);
     // the message has 12 octets
     files_have(rt, 24 + 59 + 12, 1)
 }
@@ -213,7 +213,7 @@ fn says_nothing(rt: &(impl Files + AllocGlobal + Abort)) -> Result<(), Fail> {
     let mut out = Failing::after(rt.alloc(), 0);
     let mut errors = Vec::new(rt.alloc());
     let ended = run_files(rt, paths, "kept.txt", &views, &mut out, &mut errors);
-    equals(rt, ended, Err(LabFault::Write));
+    equals_at(rt, ended, Err(LabFault::Write), "kept.txt");
     Ok(())
 }
 

@@ -1,5 +1,5 @@
 use super::peer::PEER;
-use super::{SITE, ends_saying, equals, equals_at, holds_at, remove_files, write_files};
+use super::{SITE, ends_saying, equals_at, holds_at, remove_files, write_files};
 use lab::files::run_files;
 use lab::run::Status;
 use lab::site_files::SitePaths;
@@ -112,7 +112,8 @@ fn a_run_of_two_controllers_is_viewed(rt: HostRuntime) -> Result<(), Fail> {
     )?;
     prints_words(&rt)?;
     // the header, and six packets: 56 octets, 3 and the message's 12, 12, 7, 7, 4 and 4
-    equals(&rt, fs::read(&rt, PCAP_FILE)?.len(), 24 + 6 * 59 + 46);
+    let octets = fs::read(&rt, PCAP_FILE)?.len();
+    equals_at(&rt, octets, 24 + 6 * 59 + 46, PCAP_FILE);
     is_charted(&rt)?;
     remove_files(
         &rt,

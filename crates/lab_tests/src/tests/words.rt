@@ -1,4 +1,4 @@
-use super::{equals, equals_at, holds, holds_at};
+use super::{equals_at, holds_at};
 use decoded_lines::{Detail, Link};
 use explanations::Question;
 use lab::words::{Job, WordsFault, read_words};
@@ -41,11 +41,12 @@ fn run_names_its_files(rt: HostRuntime) {
                     views,
                 },
             ) => {
-                equals(&rt, (sites.first, script), (*wanted_site, *wanted_script));
-                equals(&rt, sites.peer, *wanted_peer);
-                holds(&rt, views.is_plain());
+                let wanted = (*wanted_site, *wanted_script);
+                equals_at(&rt, (sites.first, script), wanted, words);
+                equals_at(&rt, sites.peer, *wanted_peer, words);
+                holds_at(&rt, views.is_plain(), words);
             }
-            _ => holds_at(&rt, false, "a run"),
+            _ => holds_at(&rt, false, ("a run", words)),
         }
     }
 }
@@ -73,10 +74,10 @@ fn test_names_its_files(rt: HostRuntime) {
         let job = read_words(rt.alloc(), *words);
         match &job {
             Ok(Job::Test { sites, scripts }) => {
-                equals(&rt, (sites.first, sites.peer), (*first, *peer));
-                equals(&rt, scripts.as_slice(), *wanted);
+                equals_at(&rt, (sites.first, sites.peer), (*first, *peer), words);
+                equals_at(&rt, scripts.as_slice(), *wanted, words);
             }
-            _ => holds_at(&rt, false, "a test"),
+            _ => holds_at(&rt, false, ("a test", words)),
         }
     }
     match read_words(
@@ -84,11 +85,9 @@ fn test_names_its_files(rt: HostRuntime) {
         &["record", "a.toml", "b.txt", "--peer", "c.toml"],
     ) {
         Ok(Job::Record { sites, script }) => {
-            equals(
-                &rt,
-                (sites.first, sites.peer, script),
-                ("a.toml", Some("c.toml"), "b.txt"),
-            );
+            let found = (sites.first, sites.peer, script);
+            let wanted = ("a.toml", Some("c.toml"), "b.txt");
+            equals_at(&rt, found, wanted, "a record");
         }
         _ => holds_at(&rt, false, "a record"),
     }
@@ -96,10 +95,8 @@ fn test_names_its_files(rt: HostRuntime) {
         &["test", "a.toml"].as_slice(),
         &["record", "a.toml", "b.txt", "c.txt"].as_slice(),
     ] {
-        holds(
-            &rt,
-            matches!(read_words(rt.alloc(), words), Err(WordsFault::Refused(_))),
-        );
+        let is_refused = matches!(read_words(rt.alloc(), words), Err(WordsFault::Refused(_)));
+        holds_at(&rt, is_refused, words);
     }
 }
 
@@ -166,14 +163,14 @@ const QUESTIONS: &[(&[&str], Question)] = &[
 fn views_and_explanations_are_asked_for(rt: HostRuntime) {
     for (words, wanted) in VIEWS {
         match read_words(rt.alloc(), *words) {
-            Ok(Job::Run { views, .. }) => equals(&rt, views, *wanted),
-            _ => holds_at(&rt, false, "a run"),
+            Ok(Job::Run { views, .. }) => equals_at(&rt, views, *wanted, words),
+            _ => holds_at(&rt, false, ("a run", words)),
         }
     }
     for (words, wanted) in QUESTIONS {
         match read_words(rt.alloc(), *words) {
-            Ok(Job::Explain(question)) => equals(&rt, question, *wanted),
-            _ => holds_at(&rt, false, "a question"),
+            Ok(Job::Explain(question)) => equals_at(&rt, question, *wanted, words),
+            _ => holds_at(&rt, false, ("a question", words)),
         }
     }
 }
@@ -182,7 +179,8 @@ fn views_and_explanations_are_asked_for(rt: HostRuntime) {
 fn rewind_names_two_files_and_a_line(rt: HostRuntime) {
     match read_words(rt.alloc(), &["rewind", "a.toml", "b.trace", "8"]) {
         Ok(Job::Rewind { site, trace, line }) => {
-            equals(&rt, (site, trace, line), ("a.toml", "b.trace", 8));
+            let wanted = ("a.toml", "b.trace", 8);
+            equals_at(&rt, (site, trace, line), wanted, "a rewind");
         }
         _ => holds_at(&rt, false, "a rewind"),
     }
@@ -191,7 +189,7 @@ fn rewind_names_two_files_and_a_line(rt: HostRuntime) {
 #[test]
 fn check_names_a_file(rt: HostRuntime) {
     match read_words(rt.alloc(), &["check", "a.toml"]) {
-        Ok(Job::Check { site }) => equals(&rt, site, "a.toml"),
+        Ok(Job::Check { site }) => equals_at(&rt, site, "a.toml", "a check"),
         _ => holds_at(&rt, false, "a check"),
     }
 }
@@ -213,7 +211,7 @@ fn decode_names_a_link_and_octets(rt: HostRuntime) {
     for (words, wanted, hex) in DECODES {
         match read_words(rt.alloc(), *words) {
             Ok(Job::Decode { link, text }) => {
-                equals(&rt, (link, text), (*wanted, *hex));
+                equals_at(&rt, (link, text), (*wanted, *hex), words);
             }
             _ => holds_at(&rt, false, (hex, "a message")),
         }
@@ -244,11 +242,8 @@ fn decode_names_a_file(rt: HostRuntime) {
     for (words, link, detail, file) in FILES {
         match read_words(rt.alloc(), *words) {
             Ok(Job::DecodeLines { asked, path }) => {
-                equals(
-                    &rt,
-                    (asked.link, asked.detail, path),
-                    (*link, *detail, *file),
-                );
+                let found = (asked.link, asked.detail, path);
+                equals_at(&rt, found, (*link, *detail, *file), words);
             }
             _ => holds_at(&rt, false, (file, "a file")),
         }
