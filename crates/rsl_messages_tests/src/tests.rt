@@ -45,6 +45,8 @@ enum Fields<'a> {
     RfChannelReleaseAck(u8),
 }
 
+use Fields::{ChannelActivationAck, ChannelActivationNack, ConnectionFailureIndication};
+
 fn fields_of(message: &Rsl) -> Fields<'_> {
     match message {
         Rsl::DataRequest {
@@ -63,14 +65,10 @@ fn fields_of(message: &Rsl) -> Fields<'_> {
             channel,
             mode,
         } => Fields::ChannelActivation(channel.tn, *activation, mode.as_slice(), *reference),
-        Rsl::ChannelActivationAck { channel, frame } => {
-            Fields::ChannelActivationAck(channel.tn, *frame)
-        }
-        Rsl::ChannelActivationNack { channel, cause } => {
-            Fields::ChannelActivationNack(channel.tn, *cause)
-        }
+        Rsl::ChannelActivationAck { channel, frame } => ChannelActivationAck(channel.tn, *frame),
+        Rsl::ChannelActivationNack { channel, cause } => ChannelActivationNack(channel.tn, *cause),
         Rsl::ConnectionFailureIndication { channel, cause } => {
-            Fields::ConnectionFailureIndication(channel.tn, *cause)
+            ConnectionFailureIndication(channel.tn, *cause)
         }
         Rsl::HandoverDetection { channel, delay } => Fields::HandoverDetection(channel.tn, *delay),
         Rsl::MeasurementResult {
@@ -79,13 +77,10 @@ fn fields_of(message: &Rsl) -> Fields<'_> {
             channel,
             number,
             power,
-        } => Fields::MeasurementResult(
-            channel.tn,
-            *number,
-            uplink.as_slice(),
-            *power,
-            layer3.as_ref().map(|octets| octets.as_slice()),
-        ),
+        } => {
+            let layer3 = layer3.as_ref().map(|octets| octets.as_slice());
+            Fields::MeasurementResult(channel.tn, *number, uplink.as_slice(), *power, layer3)
+        }
         Rsl::RfChannelRelease { channel } => Fields::RfChannelRelease(channel.tn),
         Rsl::RfChannelReleaseAck { channel } => Fields::RfChannelReleaseAck(channel.tn),
     }
