@@ -354,7 +354,7 @@ fn a_text_that_is_not_written_is_a_fault(rt: HostRuntime) {
     }
 }
 
-/// The status of a command that has ended so.
+/// A command that has ended so exits with this status.
 fn exits(rt: &impl Abort, ended: Result<Status, LabFault>, status: u8) {
     equals_at(rt, exit_status(ended), status, ended);
 }
