@@ -18,6 +18,7 @@ pub fn append_octets<A: Allocator>(out: &mut Vec<u8, A>, octets: &[u8])
 }
 
 /// Appends an element for which the list has room.
+#[inline(always)]
 pub fn append_element<T: ElementTable, A: Allocator>(
     out: &mut Vec<u8, A>,
     identifier: u8,
@@ -39,7 +40,7 @@ pub fn append_element<T: ElementTable, A: Allocator>(
 }
 
 /// Appends an element whose value is one octet; the list has room for it.
-#[inline]
+#[inline(always)]
 pub fn append_octet<T: ElementTable, A: Allocator>(out: &mut Vec<u8, A>, identifier: u8, octet: u8)
     requires { HasRoom (element_octets T.form_of (identifier, octet ∷ [])) out.old }
     ensures { Adds (element_octets T.form_of (identifier, octet ∷ [])) out.old out.new }
