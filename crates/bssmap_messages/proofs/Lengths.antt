@@ -1,6 +1,6 @@
 -- How many octets elements have.
-use Rattle.std.proofs.Common.{◌≡◌, ℕ, ◌+◌, ◌*◌, ◌<◌, List, [], ◌∷◌, ◌++◌, length, length-append, flat_map, Bool, true, false, refl, sym, subst, ◌∙◌, ap, arith, append_assoc, append-nil}
-use Rattle.octet_elements.specs.Elements.{Element, Fits, all_octets, element_octets}
+use Rattle.std.proofs.Common.{◌≡◌, ℕ, ◌+◌, ◌*◌, ◌<◌, List, [], ◌∷◌, ◌++◌, length, length-append, flat_map, Bool, true, false, refl, sym, ◌∙◌, ap, arith, append_assoc, append-nil}
+use Rattle.octet_elements.specs.Elements.{Fits, all_octets, element_octets}
 use Rattle.bssmap_messages.specs.declared.message.CellId.{CellId}
 use Rattle.bssmap_messages.specs.declared.message.Classmark.{Classmark}
 use Rattle.bssmap_messages.specs.declared.message.Classmark.TheVariants.{One, Two}
@@ -17,21 +17,18 @@ own_length : {A : Type 0} (channel encryption : List ℕ) (classmark : Classmark
 own_length channel encryption (One octet) serving target = simp length-append (omega arith)
 own_length channel encryption (Two v) serving target = simp length-append (omega arith)
 
--- channel, encryption and the classmark's element are what they are equal to
-pub request_length : {A : Type 0} (channel encryption : List ℕ) (classmark : Classmark A) (serving target : CellId) (v w : List ℕ) (element : Element) → v ≡ channel → w ≡ encryption → element ≡ classmark_element classmark → length (all_octets interface_a ((CHANNEL_TYPE, channel) ∷ (ENCRYPTION_INFORMATION, encryption) ∷ classmark_element classmark ∷ (CELL_IDENTIFIER, cell_value serving) ∷ (CELL_IDENTIFIER, cell_value target) ∷ [])) ≡ 18 + length v + length w + length (element_octets interface_a element)
-request_length channel encryption classmark serving target v w element same alike is = own_length channel encryption classmark serving target ∙ (λ i. 18 + length (sym same i) + length (sym alike i) + length (element_octets interface_a (sym is i)))
+-- channel and encryption are what they are equal to
+pub request_length : {A : Type 0} (channel encryption : List ℕ) (classmark : Classmark A) (serving target : CellId) (v w : List ℕ) → v ≡ channel → w ≡ encryption → length (all_octets interface_a ((CHANNEL_TYPE, channel) ∷ (ENCRYPTION_INFORMATION, encryption) ∷ classmark_element classmark ∷ (CELL_IDENTIFIER, cell_value serving) ∷ (CELL_IDENTIFIER, cell_value target) ∷ [])) ≡ 18 + length v + length w + length (element_octets interface_a (classmark_element classmark))
+request_length channel encryption classmark serving target v w same alike = own_length channel encryption classmark serving target ∙ (λ i. 18 + length (sym same i) + length (sym alike i) + length (element_octets interface_a (classmark_element classmark)))
 
 pub required_length : (cause : ℕ) (response : Bool) (cells : List CellId) → length (all_octets interface_a ((CAUSE, cause ∷ []) ∷ where_true RESPONSE_REQUEST response ++ (CELL_IDENTIFIER_LIST, cells_value cells) ∷ [])) ≡ 6 + length (all_octets interface_a (where_true RESPONSE_REQUEST response)) + 4 * length cells
 required_length cause true cells = let all = cells_length cells in simp length-append (omega arith)
 required_length cause false cells = let all = cells_length cells in simp length-append (omega arith)
 
 -- an element of a classmark that is short can be spelled
-pub classmark_fits : {A : Type 0} (classmark : Classmark A) (element : Element) → element ≡ classmark_element classmark → length (element_octets interface_a element) < 256 → Fits interface_a element
-classmark_fits classmark element is short = subst (λ e. length (element_octets interface_a e) < 256 → Fits interface_a e) (sym is) (fits classmark) short
-  where
-    fits : {A : Type 0} (classmark : Classmark A) → length (element_octets interface_a (classmark_element classmark)) < 256 → Fits interface_a (classmark_element classmark)
-    fits (One octet) h = refl
-    fits (Two v) h = omega arith
+pub classmark_fits : {A : Type 0} (classmark : Classmark A) → length (element_octets interface_a (classmark_element classmark)) < 256 → Fits interface_a (classmark_element classmark)
+classmark_fits (One octet) short = refl
+classmark_fits (Two v) short = omega arith
 
 -- octets that were appended one after the other
 pub five_appended : (o p q r s t a b c d e : List ℕ) → p ≡ o ++ a → q ≡ p ++ b → r ≡ q ++ c → s ≡ r ++ d → t ≡ s ++ e → t ≡ o ++ (a ++ (b ++ (c ++ (d ++ (e ++ [])))))

@@ -1,5 +1,5 @@
 -- What cells say of the octets that they are read from.
-use Rattle.std.proofs.Common.{◌≡◌, ℕ, ◌+◌, ◌<◌, ◌%◌, List, [], ◌∷◌, ◌++◌, length, length-append, Option, Some, None, true, false, refl, sym, ◌∙◌, ap, arith, subst, IfSome, nat_eq, eqb, cond, Ok, Err, append_assoc, append-nil, slice_index_or, take, drop, take_all, ◌-◌}
+use Rattle.std.proofs.Common.{◌≡◌, ℕ, ◌+◌, ◌<◌, ◌%◌, List, [], ◌∷◌, ◌++◌, length, length-append, Option, Some, None, true, false, refl, sym, ◌∙◌, ap, arith, subst, IfSome, nat_eq, eqb, cond, Ok, Err, slice_index_or, take, drop, take_all, ◌-◌}
 use Rattle.std.proofs.lemmas.Bool.Decides.{nat_tests}
 use Rattle.std.specs.Option.{option_map, is_some}
 use Rattle.bssmap_messages.specs.declared.message.CellId.{CellId}
@@ -161,11 +161,6 @@ not_lone_in cell (d ∷ v) rest long some found =
     let all = take_all (length (d ∷ v) - 1) v (omega arith) in
     not_lone cell d rest (cells_after d v) some (sym (ap (λ u. cells_after d u) all) ∙ found)
 
--- octets of no cell are no lone cell
-pub none_lone : (o : Option (List CellId)) → IfSome o (λ cells. cells ≡ []) → Err (Bad 0x05) ≡ only_cell o
-none_lone None none = refl
-none_lone (Some cells) none = ap (λ found. only_cell (Some found)) (sym none)
-
 -- octets that are whole cells are some cells
 pub some_are_read : (d : ℕ) (v : List ℕ) → 0 < length v → is_some (cells_after d v) ≡ true → (cells : List CellId) × (cells_after d v ≡ Some cells) × (some_cells (cells_after d v) ≡ Ok cells)
 some_are_read d v some whole = by_cells (cells_after d v) refl whole
@@ -181,21 +176,3 @@ some_are_in [] some whole = absurd (omega arith)
 some_are_in (d ∷ v) some whole =
     let all = take_all (length (d ∷ v) - 1) v (omega arith) in
     subst (λ u. 0 < length u → is_some (cells_after d u) ≡ true → (cells : List CellId) × (cells_after d u ≡ Some cells) × (some_cells (cells_after d v) ≡ Ok cells)) (sym all) (some_are_read d v) some whole
-
--- one more cell is read
-pub mapped_more : (cells : List CellId) (cell : CellId) (all before rest : Option (List CellId)) → all ≡ option_map (λ more. cells ++ more) before → before ≡ option_map (λ more. cell ∷ more) rest → all ≡ option_map (λ more. (cells ++ cell ∷ []) ++ more) rest
-mapped_more cells cell all before rest is begins = is ∙ ap (option_map (λ more. cells ++ more)) begins ∙ by_rest rest
-  where
-    by_rest : (o : Option (List CellId)) → option_map (λ more. cells ++ more) (option_map (λ more. cell ∷ more) o) ≡ option_map (λ more. (cells ++ cell ∷ []) ++ more) o
-    by_rest None = refl
-    by_rest (Some more) = ap Some (sym (append_assoc cells (cell ∷ []) more))
-
--- none is read before the first
-pub mapped_none : (o : Option (List CellId)) → o ≡ option_map (λ more. [] ++ more) o
-mapped_none None = refl
-mapped_none (Some more) = refl
-
--- all are read
-pub mapped_all : (cells : List CellId) (all rest : Option (List CellId)) → all ≡ option_map (λ more. cells ++ more) rest → IfSome rest (λ more. more ≡ []) → is_some all ≡ true → all ≡ Some cells
-mapped_all cells all None is none some = absurd cc
-mapped_all cells all (Some more) is none some = is ∙ ap (λ t. Some (cells ++ t)) none ∙ ap Some (append-nil cells)

@@ -1,5 +1,4 @@
--- The head of a message: discriminator, length and type (TS 48.008 clauses 3.2.2.1 and 3.2.1, and
--- TS 48.006 clause 9.3 for the discriminator and the length).
+-- The head of a message: discriminator and length (TS 48.006 clause 9.3), type (TS 48.008 clauses 3.2.2.1 and 3.2.1).
 use Rattle.std.specs.Prelude.{◌≡◌, ◌≢◌, ◌⊎◌, ℕ, ◌<◌, ◌≤◌, List, [], ◌∷◌, length}
 use Rattle.bssmap_messages.specs.declared.fault.BssmapFault.{BssmapFault}
 use Rattle.bssmap_messages.specs.declared.fault.BssmapFault.TheVariants.{NotBssmap, Length, UnknownType, Torn, Missing, BadElement, NoMemory}

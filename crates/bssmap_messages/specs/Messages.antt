@@ -1,5 +1,4 @@
--- The messages (TS 48.008 clause 3.2.1): of each its type, and row by row its elements, as they are read and
--- as they are written.
+-- The messages (TS 48.008 clause 3.2.1): of each its type, and row by row its elements, as they are read and written.
 use Rattle.std.specs.Prelude.{ℕ, ◌+◌, ◌<◌, Bool, List, [], length, Option, Some, None, Result, Ok, Err, IsTrue, IsSome, is_some}
 use Rattle.std.specs.List.{list_all}
 use Rattle.octet_elements.specs.Elements.{Element}

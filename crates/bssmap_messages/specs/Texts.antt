@@ -1,5 +1,4 @@
--- Which octets are the text of a message, what is wrong with all others, and which text is written
--- (TS 48.008 clause 3.2).
+-- Which octets are the text of a message, what is wrong with others, which text is written (TS 48.008 clause 3.2).
 use Rattle.std.specs.Prelude.{ℕ, ◌+◌, ◌≤◌, ◌↔◌, List, ◌∷◌, length}
 use Rattle.octet_elements.specs.Elements.{all_octets}
 use Rattle.octet_elements.specs.Texts as texts

@@ -19,9 +19,6 @@ pub struct CellList<A: Allocator = Global> {
 }
 
 impl<A: Allocator> Model for CellList<A> {
-    ghost use Rattle.std.specs.Prelude.{List};
-    ghost use Rattle.bssmap_messages.specs.declared.message.CellId.{CellId};
-
     ghost Value = { List CellId };
 
     ghost view = { λ o. o.cells.items };
@@ -71,7 +68,7 @@ fn leading_cell(discriminator: u8, octets: &[u8]) -> Option<(CellId, &[u8])>
     }
 }
 
-/// The cell of a cell identifier, which has one.
+/// The cell of a cell identifier, whose value is to have exactly one.
 #[inline(always)]
 pub fn cell(value: Option<&[u8]>) -> Result<CellId, ValueFault>
     ensures { result ≡ cell_in (value_seen value.entry) }
@@ -86,7 +83,7 @@ pub fn cell(value: Option<&[u8]>) -> Result<CellId, ValueFault>
     }
 }
 
-/// Whether the octets after a discriminator, of which there is one, are whole cells.
+/// Whether the octets after a discriminator, at least one, are whole cells.
 fn are_cells(discriminator: u8, octets: &[u8]) -> bool
     requires { 0 < length octets.now }
     ensures { IsTrue result ↔ IsSome (cells_after discriminator octets.now) }
@@ -99,7 +96,7 @@ fn are_cells(discriminator: u8, octets: &[u8]) -> bool
     }
 }
 
-/// The discriminator of a cell identifier list and the octets of its cells, of which there is one.
+/// The discriminator of a cell identifier list and the octets of its cells, at least one.
 pub fn cells(value: Option<&[u8]>) -> Result<(u8, &[u8]), ValueFault>
     ensures ok { IfOk result (λ c. (cells : List CellId) ×
         (cells_after c.0 c.1.now ≡ Some cells) × (cells_in (value_seen value.entry) ≡ Ok cells)) }
@@ -107,12 +104,11 @@ pub fn cells(value: Option<&[u8]>) -> Result<(u8, &[u8]), ValueFault>
 {
     match value {
         None => Err(ValueFault::Absent(CELL_IDENTIFIER_LIST)),
-        Some([discriminator, octets @ ..]) => match octets {
-            [] => Err(ValueFault::Bad(CELL_IDENTIFIER_LIST)),
-            _ if are_cells(*discriminator, octets) => Ok((*discriminator, octets)),
-            _ => Err(ValueFault::Bad(CELL_IDENTIFIER_LIST)),
-        },
-        Some([]) => Err(ValueFault::Bad(CELL_IDENTIFIER_LIST)),
+        Some([discriminator, octets @ ..])
+            if !octets.is_empty() && are_cells(*discriminator, octets) => {
+            Ok((*discriminator, octets))
+        }
+        Some(_) => Err(ValueFault::Bad(CELL_IDENTIFIER_LIST)),
     }
 }
 

@@ -26,7 +26,6 @@ use octet_elements::{
     append_presence, element_len, octet_len, optional_octet_len, presence_len,
 };
 use std::alloc::Allocator;
-use std::slice;
 
 /// The message that elements say, or their first fault.
 type Read<A> = Result<Bssmap<A>, BssmapFault>;
@@ -173,11 +172,10 @@ pub fn elements_len<A: Allocator>(message: &Bssmap<A>) -> usize
             classmark,
             ..
         } => {
-            let (identifier, value) = classmark_element(classmark);
             let encryption = encryption.as_slice();
             element_len::<InterfaceA>(CHANNEL_TYPE, channel.as_slice())
                 .saturating_add(element_len::<InterfaceA>(ENCRYPTION_INFORMATION, encryption))
-                .saturating_add(element_len::<InterfaceA>(identifier, value))
+                .saturating_add(classmark_len(classmark))
                 .saturating_add(2 * (CELLS_HEAD + CELL_LEN))
         }
         Bssmap::HandoverRequired {
@@ -203,13 +201,27 @@ pub fn elements_len<A: Allocator>(message: &Bssmap<A>) -> usize
     }
 }
 
-/// The element of a classmark: its identifier and its value.
-fn classmark_element<A: Allocator>(classmark: &Classmark<A>) -> (u8, &[u8])
-    ensures { (result.0, result.1.now) ≡ classmark_element classmark.now }
+/// How many octets the element of a classmark takes.
+fn classmark_len<A: Allocator>(classmark: &Classmark<A>) -> usize
+    ensures { result ≡ length (element_octets interface_a (classmark_element classmark.now)) }
 {
     match classmark {
-        Classmark::One(octet) => (CLASSMARK_1, slice::from_ref(octet)),
-        Classmark::Two(octets) => (CLASSMARK_2, octets.as_slice()),
+        Classmark::One(_) => octet_len::<InterfaceA>(CLASSMARK_1),
+        Classmark::Two(octets) => element_len::<InterfaceA>(CLASSMARK_2, octets.as_slice()),
+    }
+}
+
+/// Appends a classmark, for which the list has room. In an arm of its own the compiler knows each identifier.
+fn append_classmark<A: Allocator>(out: &mut Vec<u8, A>, classmark: &Classmark<A>)
+    requires fits { Fits interface_a (classmark_element classmark.now) }
+    requires room { HasRoom (element_octets interface_a (classmark_element classmark.now)) out.old }
+    ensures { Adds (element_octets interface_a (classmark_element classmark.now)) out.old out.new }
+{
+    match classmark {
+        Classmark::One(octet) => append_octet::<InterfaceA, A>(out, CLASSMARK_1, *octet),
+        Classmark::Two(octets) => {
+            append_element::<InterfaceA, A>(out, CLASSMARK_2, octets.as_slice());
+        }
     }
 }
 
@@ -251,10 +263,9 @@ fn append_request<A: Allocator + Copy>(
     ensures { Adds (all_octets interface_a (handover_request.written
         (channel.now, (encryption.now, (classmark.now, (serving, target)))))) out.old out.new }
 {
-    let (identifier, value) = classmark_element(classmark);
     append_element::<InterfaceA, A>(out, CHANNEL_TYPE, channel.as_slice());
     append_element::<InterfaceA, A>(out, ENCRYPTION_INFORMATION, encryption.as_slice());
-    append_element::<InterfaceA, A>(out, identifier, value);
+    append_classmark(out, classmark);
     append_cell(out, serving);
     append_cell(out, target);
 }

@@ -1,4 +1,8 @@
 //! Why octets are no message.
+ghost use Rattle.std.specs.Prelude.{◌≡◌};
+ghost use Rattle.bssmap_messages.specs.declared.fault.BssmapFault.TheVariants.{NoMemory};
+ghost use Rattle.bssmap_messages.specs.Values.{fault_of};
+
 use octet_elements::ValueFault;
 use std::alloc::AllocError;
 use thiserror::Error;
@@ -32,9 +36,6 @@ pub enum BssmapFault {
 }
 
 impl From<AllocError> for BssmapFault {
-    ghost use Rattle.std.specs.Prelude.{◌≡◌};
-    ghost use Rattle.bssmap_messages.specs.declared.fault.BssmapFault.TheVariants.{NoMemory};
-
     ghost from_gives = { λ _ e. e ≡ NoMemory };
 
     fn from(_error: AllocError) -> BssmapFault {
@@ -43,9 +44,6 @@ impl From<AllocError> for BssmapFault {
 }
 
 impl From<ValueFault> for BssmapFault {
-    ghost use Rattle.std.specs.Prelude.{◌≡◌};
-    ghost use Rattle.bssmap_messages.specs.Values.{fault_of};
-
     ghost from_gives = { λ e f. f ≡ fault_of e };
 
     fn from(fault: ValueFault) -> BssmapFault {

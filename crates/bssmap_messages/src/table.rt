@@ -1,4 +1,6 @@
 //! The identifiers and forms of the elements on A (TS 48.008 clause 3.2.2).
+ghost use Rattle.bssmap_messages.specs.Forms.{interface_a, known};
+
 use octet_elements::{ElementTable, Form, PLACES};
 
 pub const CAUSE: u8 = 0x04;
@@ -25,8 +27,6 @@ pub const CLASSMARK_1: u8 = 0x1D;
 pub struct InterfaceA;
 
 impl ElementTable for InterfaceA {
-    ghost use Rattle.bssmap_messages.specs.Forms.{interface_a, known};
-
     ghost form_of = { interface_a };
 
     ghost known = { known };

@@ -7,7 +7,7 @@ pub returns-in-HandoverRequest : goal.returns-in-HandoverRequest
 unfolding handover_request
 returns-in-HandoverRequest g c =
     let arm = c.in-HandoverRequest in
-    let long = request_length arm.channel arm.encryption arm.classmark arm.serving arm.target _ _ _ c.as_slice.ensures.octets c.as_slice-encryption.ensures.octets c.classmark_element-identifier.ensures in
+    let long = request_length arm.channel arm.encryption arm.classmark arm.serving arm.target _ _ c.as_slice.ensures.octets c.as_slice-encryption.ensures.octets in
     rw arm.is (omega arith)
 
 pub returns-in-HandoverRequired : goal.returns-in-HandoverRequired
