@@ -1,21 +1,12 @@
 -- Texts of the short elements: each is read as its value, and what is written is a text.
-use Rattle.std.proofs.Common.{◌≡◌, ◌∙◌, ℕ, ◌+◌, ◌*◌, ◌/◌, ◌%◌, ◌^◌, ◌<◌, ◌==◌, Bool, true, false, List, length, refl, ap, arith, Ok}
-use Rattle.rr_elements.specs.Fields.{flag}
+use Rattle.std.proofs.Common.{◌≡◌, ◌∙◌, ℕ, ◌+◌, ◌*◌, ◌/◌, ◌%◌, ◌^◌, ◌<◌, List, length, refl, ap, arith, Ok}
 use Rattle.rr_elements.specs.CellDescription.{Cell, CellFits, IsCellText, cell_widths, cell_numbers, cell_text}
 use Rattle.rr_elements.specs.ChanDescription.{Chan, ChanFits, IsChanText, chan_widths, chan_numbers, chan_text}
 use Rattle.rr_elements.specs.Power.{PowerCommand, PowerFits, IsPowerText, power_widths, power_numbers, power_text}
 use Rattle.rr_elements.specs.RrCause.{IsCauseText, cause_widths, cause_numbers, cause_text}
 use Rattle.rr_elements.specs.declared.cause.RrCause.{RrCause}
 use Rattle.rr_elements.proofs.Readers.{cell_of, cell_said, chan_of, chan_said, power_of, power_said, cause_of, cause_said}
-use Rattle.rr_elements.proofs.FieldLemmas.{AreFields-field_octets}
-
-pub flag-one : (b : Bool) → (flag b == 1) ≡ b
-flag-one true = refl
-flag-one false = refl
-
-pub flag_below : (b : Bool) → flag b < 2
-flag_below true = omega arith
-flag_below false = omega arith
+use Rattle.bit_fields.proofs.FieldLemmas.{flag-one, flag_below, AreFields-field_octets}
 
 pub cell-said : (v : Cell) (octets : List ℕ) → IsCellText v octets → cell_said octets ≡ Ok v
 cell-said v octets text =

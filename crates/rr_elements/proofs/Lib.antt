@@ -1,10 +1,6 @@
-pub mod BitLemmas
-pub mod CutLemmas
 pub mod ElementLemmas
-pub mod FieldLemmas
 pub mod FaultLemmas
 pub mod KeptLemmas
 pub mod Readers
 pub mod ResultsLemmas
 pub mod ResultsTexts
-pub mod WordLemmas

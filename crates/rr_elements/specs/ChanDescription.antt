@@ -1,7 +1,7 @@
 -- Channel Description 2 (TS 44.018 section 10.5.2.5a), without an identifier: a full rate traffic channel that does not hop.
 use Rattle.std.specs.Prelude.{◌≡◌, ℕ, ◌/◌, ◌%◌, ◌^◌, ◌<◌, List, [], ◌∷◌, length}
 use Rattle.rr_elements.specs.Faults.{HasOtherLength}
-use Rattle.rr_elements.specs.Fields.{AreFields, AreFirstFields, field_octets}
+use Rattle.bit_fields.specs.Fields.{AreFields, AreFirstFields, field_octets}
 use Rattle.rr_elements.specs.declared.fault.ElementFault.{ElementFault}
 use Rattle.rr_elements.specs.declared.fault.ElementFault.TheVariants.{Length, BadType, Hopping}
 

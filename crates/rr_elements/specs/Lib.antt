@@ -1,6 +1,3 @@
-pub mod Appending
-pub mod Bits
-pub mod Fields
 pub mod Faults
 pub mod CellDescription
 pub mod ChanDescription

@@ -1,6 +1,6 @@
 -- RR Cause (TS 44.018 section 10.5.2.31), without an identifier: any octet.
 use Rattle.std.specs.Prelude.{ℕ, List, [], ◌∷◌}
-use Rattle.rr_elements.specs.Fields.{AreFields, field_octets}
+use Rattle.bit_fields.specs.Fields.{AreFields, field_octets}
 use Rattle.rr_elements.specs.declared.cause.RrCause.{RrCause}
 
 abbrev pub cause_widths : List ℕ

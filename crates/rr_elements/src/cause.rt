@@ -1,8 +1,8 @@
 //! RR Cause.
 ghost use Rattle.std.specs.Prelude.{◌≡◌, IfOk, IfErr, Ok};
 
-use crate::bits::{BitReader, BitWriter};
 use crate::fault::ElementFault;
+use bit_fields::{BitReader, BitWriter};
 use std::alloc::{AllocError, Allocator};
 
 /// Why a connection is released or a handover ended (TS 44.018 section 10.5.2.31): any octet.
@@ -12,7 +12,7 @@ pub struct RrCause(pub u8);
 impl RrCause {
     ghost use Rattle.rr_elements.specs.RrCause.{IsCauseText, cause_text};
     ghost use Rattle.rr_elements.specs.Faults.{HasOtherLength};
-    ghost use Rattle.rr_elements.specs.Appending.{IsAppended};
+    ghost use Rattle.bit_fields.specs.Appending.{IsAppended};
 
     /// The cause with this value; each octet is one, so no fault comes.
     pub fn new(value: u8) -> Result<Self, ElementFault>
@@ -43,7 +43,7 @@ impl RrCause {
         ensures text { IfOk result (λ v. IsCauseText v octets.now) }
         ensures fault { IfErr result (HasOtherLength 1 octets.now) }
     {
-        let mut bits = BitReader::new(octets, 1)?;
+        let mut bits = BitReader::new(octets, 1).ok_or(ElementFault::Length)?;
         let cause = bits.take(8);
         Ok(RrCause(cause))
     }

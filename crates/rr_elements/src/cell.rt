@@ -1,8 +1,8 @@
 //! Cell Description.
 ghost use Rattle.std.specs.Prelude.{◌≡◌, ◌<◌, IfOk, IfErr, Ok, Err};
 
-use crate::bits::{BitReader, BitWriter};
 use crate::fault::ElementFault;
+use bit_fields::{BitReader, BitWriter};
 use std::alloc::{AllocError, Allocator};
 use std::marker::Model;
 
@@ -29,7 +29,7 @@ impl Model for CellDescription {
 impl CellDescription {
     ghost use Rattle.rr_elements.specs.CellDescription.{Cell, CellFits, IsCellText, cell_text};
     ghost use Rattle.rr_elements.specs.Faults.{HasOtherLength};
-    ghost use Rattle.rr_elements.specs.Appending.{IsAppended};
+    ghost use Rattle.bit_fields.specs.Appending.{IsAppended};
 
     /// A description of the cell with this carrier (0 to 1023), network colour code and base
     /// station colour code (0 to 7 each); `BadRange` where one of them is more.
@@ -89,7 +89,7 @@ impl CellDescription {
         ensures text { IfOk result (λ v. IsCellText v octets.now) }
         ensures fault { IfErr result (HasOtherLength 2 octets.now) }
     {
-        let mut bits = BitReader::new(octets, 2)?;
+        let mut bits = BitReader::new(octets, 2).ok_or(ElementFault::Length)?;
         let high = bits.take(2);
         let network = bits.take(3);
         let station = bits.take(3);

@@ -1,8 +1,8 @@
 //! Channel Description 2.
 ghost use Rattle.std.specs.Prelude.{◌≡◌, ◌<◌, IfOk, IfErr, Ok, Err};
 
-use crate::bits::{BitReader, BitWriter};
 use crate::fault::ElementFault;
+use bit_fields::{BitReader, BitWriter};
 use std::alloc::{AllocError, Allocator};
 use std::marker::Model;
 
@@ -31,7 +31,7 @@ impl Model for ChanDescription {
 
 impl ChanDescription {
     ghost use Rattle.rr_elements.specs.ChanDescription.{Chan, ChanFits, IsChanText, chan_text, HasChanFault};
-    ghost use Rattle.rr_elements.specs.Appending.{IsAppended};
+    ghost use Rattle.bit_fields.specs.Appending.{IsAppended};
 
     /// The channel with this timeslot and training sequence code (0 to 7 each) and carrier (0 to
     /// 1023); `BadRange` where one of them is more.
@@ -95,7 +95,7 @@ impl ChanDescription {
         ensures text { IfOk result (λ v. IsChanText v octets.now) }
         ensures fault { IfErr result (HasChanFault octets.now) }
     {
-        let mut bits = BitReader::new(octets, 3)?;
+        let mut bits = BitReader::new(octets, 3).ok_or(ElementFault::Length)?;
         let kind = bits.take(5);
         let tn = bits.take(3);
         let tsc = bits.take(3);

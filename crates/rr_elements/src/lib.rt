@@ -1,7 +1,6 @@
 //! Elements of radio resource messages (TS 44.018 section 10.5.2).
 #![tactic(auto)]
 
-mod bits;
 mod cause;
 mod cell;
 mod channel;

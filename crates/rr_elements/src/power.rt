@@ -1,8 +1,8 @@
 //! Power Command and access type.
 ghost use Rattle.std.specs.Prelude.{◌≡◌, ◌<◌, IfOk, IfErr, Ok, Err};
 
-use crate::bits::{BitReader, BitWriter};
 use crate::fault::ElementFault;
+use bit_fields::{BitReader, BitWriter};
 use std::alloc::{AllocError, Allocator};
 use std::marker::Model;
 
@@ -29,7 +29,7 @@ impl Model for Power {
 impl Power {
     ghost use Rattle.rr_elements.specs.Power.{PowerCommand, PowerFits, IsPowerText, power_text};
     ghost use Rattle.rr_elements.specs.Faults.{HasOtherLength};
-    ghost use Rattle.rr_elements.specs.Appending.{IsAppended};
+    ghost use Rattle.bit_fields.specs.Appending.{IsAppended};
 
     /// This access type (`true`: the handover access is optional) and power level (0 to 31);
     /// `BadRange` where the level is more.
@@ -79,7 +79,7 @@ impl Power {
         ensures text { IfOk result (λ v. IsPowerText v octets.now) }
         ensures fault { IfErr result (HasOtherLength 1 octets.now) }
     {
-        let mut bits = BitReader::new(octets, 1)?;
+        let mut bits = BitReader::new(octets, 1).ok_or(ElementFault::Length)?;
         let atc = bits.take(1) == 1;
         let _ignored = bits.take(2);
         let level = bits.take(5);

@@ -1,11 +1,11 @@
 //! Measurement Results.
 ghost use Rattle.std.specs.Prelude.{◌≡◌, IfOk, IfErr, Ok, Err, All, length};
 
-use crate::bits::{BitReader, BitWriter};
 use crate::fault::ElementFault;
 use crate::measurement::{
     MeasHead, NO_NCELL, Ncell, all_fit, put_head, put_ncells, take_head, take_ncells,
 };
+use bit_fields::{BitReader, BitWriter};
 use std::alloc::{AllocError, Allocator};
 use std::marker::Model;
 
@@ -41,7 +41,7 @@ impl Model for MeasResults {
 impl MeasResults {
     ghost use Rattle.rr_elements.specs.MeasResults.{Results, ResultsFit, HeadFits, NcellFits, used_count, IsResultsText, results_text};
     ghost use Rattle.rr_elements.specs.Faults.{HasOtherLength};
-    ghost use Rattle.rr_elements.specs.Appending.{IsAppended};
+    ghost use Rattle.bit_fields.specs.Appending.{IsAppended};
 
     /// Results with these fields and neighbours. `BadRange` where a field does not fit its bits,
     /// or there are not as many neighbours as the count says (none where it is 7).
@@ -95,7 +95,7 @@ impl MeasResults {
         ensures text { IfOk result (λ v. IsResultsText v octets.now) }
         ensures fault { IfErr result (HasOtherLength 16 octets.now) }
     {
-        let mut bits = BitReader::sixteen(octets)?;
+        let mut bits = BitReader::sixteen(octets).ok_or(ElementFault::Length)?;
         let head = take_head(&mut bits);
         let places = take_ncells(bits, head.used());
         Ok(MeasResults { head, places })

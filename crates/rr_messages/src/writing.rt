@@ -1,7 +1,7 @@
 //! Messages as octets.
 ghost use Rattle.std.specs.Prelude.{◌≡◌, ◌+◌, ◌≤◌, ◌++◌, OnOk, IsOk, IfOk, vec_len, vec_capacity};
 ghost use Rattle.rr_messages.specs.Kind.{part_len};
-ghost use Rattle.rr_elements.specs.Appending.{IsAppended};
+ghost use Rattle.bit_fields.specs.Appending.{IsAppended};
 ghost use Rattle.rr_messages.specs.Rr.{kind_of, IsPart, IsRrText, part_text, rr_text, text_len};
 
 use crate::message::Rr;

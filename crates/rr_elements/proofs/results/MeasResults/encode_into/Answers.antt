@@ -1,6 +1,6 @@
-use Rattle.std.proofs.Common.{◌≡◌, ◌∙◌, ◌+◌, ◌-◌, ◌*◌, ◌/◌, ◌≤◌, ◌++◌, length, flat_map, ap, subst, refl, arith, rules}
-use Rattle.rr_elements.specs.Bits.{bits, bits_written, octets_of}
-use Rattle.rr_elements.specs.Appending.{IsAppended}
+use Rattle.std.proofs.Common.{◌≡◌, ◌∙◌, ◌+◌, ◌-◌, ◌*◌, ◌/◌, ◌≤◌, ◌++◌, length, flat_map, ap, subst, refl, arith}
+use Rattle.bit_fields.specs.Bits.{bits, bits_written, octets_of}
+use Rattle.bit_fields.specs.Appending.{IsAppended}
 use Rattle.rr_elements.specs.MeasResults.{head_widths, head_numbers, ncell_widths, ncell_numbers}
 use Rattle.rr_elements.proofs.KeptLemmas.{used_count_le}
 use Rattle.rr_elements.proofs.ResultsLemmas.{bits_written-results}

@@ -7,7 +7,7 @@ use Rattle.std.proofs.Math.Pow.{shr_lt}
 use Rattle.std.proofs.Math.Nat.{pow-le-pow_right, mod-eq_of_lt, zero-div, pow-suc, suc-mul}
 use Rattle.std.specs.Int.{byte_at, bytes_high_first, to_be_bytes, w128}
 use Rattle.std.specs.Int.RustNames.{bit_or}
-use Rattle.rr_elements.specs.Bits.{bits, number_of, cut, octets_of}
+use Rattle.bit_fields.specs.Bits.{bits, number_of, cut, octets_of}
 
 pub no_bits : (n : ℕ) → bits 0 n ≡ []
 unfolding bits

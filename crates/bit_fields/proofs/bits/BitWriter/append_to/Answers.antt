@@ -1,6 +1,6 @@
 use Rattle.std.proofs.Common.{rules}
-use Rattle.rr_elements.proofs.BitLemmas.{slice-octets_of, length-octets_of}
-use Rattle.rr_elements.proofs.bits.BitWriter.append_to.Goals as goal
+use Rattle.bit_fields.proofs.BitLemmas.{slice-octets_of, length-octets_of}
+use Rattle.bit_fields.proofs.bits.BitWriter.append_to.Goals as goal
 
 pub returns : goal.returns
 returns g c =

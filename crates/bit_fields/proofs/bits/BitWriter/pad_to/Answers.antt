@@ -1,6 +1,6 @@
-use Rattle.std.proofs.Common.{◌≡◌, ◌∙◌, ◌+◌, ◌-◌, sym, ap, length, arith}
-use Rattle.rr_elements.proofs.BitLemmas.{length-bits, pad_below, bits-pad}
-use Rattle.rr_elements.proofs.bits.BitWriter.pad_to.Goals as goal
+use Rattle.std.proofs.Common.{◌≡◌, ◌∙◌, ◌-◌, sym, ap, length, arith}
+use Rattle.bit_fields.proofs.BitLemmas.{length-bits, pad_below, bits-pad}
+use Rattle.bit_fields.proofs.bits.BitWriter.pad_to.Goals as goal
 
 pub overflow_sub-self : goal.overflow_sub-self
 overflow_sub-self c =

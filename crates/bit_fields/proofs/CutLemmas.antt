@@ -1,6 +1,6 @@
 -- Bit strings that are cut, and numbers that are written.
 use Rattle.std.proofs.Common.{◌≡◌, ◌∙◌, sym, ℕ, zero, suc, ◌+◌, List, [], ◌∷◌, ◌++◌, append_assoc, append-nil, length, take, drop, refl, ap, arith}
-use Rattle.rr_elements.specs.Bits.{bits, number_of, cut, after, repeated_widths, bits_written}
+use Rattle.bit_fields.specs.Bits.{bits, number_of, cut, after, repeated_widths, bits_written}
 
 pub cut-append : (ws vs bs : List ℕ) → cut (ws ++ vs) bs ≡ cut ws bs ++ cut vs (after ws bs)
 cut-append [] vs bs = refl

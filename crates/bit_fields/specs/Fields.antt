@@ -1,6 +1,6 @@
 -- Octets as fields: a table of widths, and the numbers of the fields.
 use Rattle.std.specs.Prelude.{◌≡◌, ℕ, ◌*◌, Bool, true, false, List, length, take}
-use Rattle.rr_elements.specs.Bits.{bits_of, total, cut, bits_written, octets_of}
+use Rattle.bit_fields.specs.Bits.{bits_of, total, cut, bits_written, octets_of}
 
 -- the octets are fields of these widths, and the fields are these numbers
 pub record AreFields (widths numbers octets : List ℕ) : Type 0 where

@@ -1,6 +1,6 @@
 use Rattle.std.proofs.Common.{◌≡◌, ◌∙◌, ◌+◌, ◌≤◌, sym, ap, length, arith}
-use Rattle.rr_elements.proofs.BitLemmas.{length-bits, put_number, put_below, bits-put}
-use Rattle.rr_elements.proofs.bits.BitWriter.put.Goals as goal
+use Rattle.bit_fields.proofs.BitLemmas.{length-bits, put_number, put_below, bits-put}
+use Rattle.bit_fields.proofs.bits.BitWriter.put.Goals as goal
 
 pub invariant_of-self : goal.invariant_of-self
 invariant_of-self c =

@@ -1,6 +1,6 @@
-use Rattle.std.proofs.Common.{◌≡◌, ◌∙◌, ◌+◌, ◌-◌, ◌*◌, ◌%◌, ◌^◌, sym, ap, length, arith}
-use Rattle.rr_elements.proofs.BitLemmas.{length-window, take-number, taken_below, taken_fits, take-rest}
-use Rattle.rr_elements.proofs.bits.BitReader.take.Goals as goal
+use Rattle.std.proofs.Common.{◌≡◌, ◌∙◌, ◌-◌, ◌*◌, ◌%◌, ◌^◌, sym, ap, length, arith}
+use Rattle.bit_fields.proofs.BitLemmas.{length-window, take-number, taken_below, taken_fits, take-rest}
+use Rattle.bit_fields.proofs.bits.BitReader.take.Goals as goal
 
 pub overflow_sub-self : goal.overflow_sub-self
 overflow_sub-self c =

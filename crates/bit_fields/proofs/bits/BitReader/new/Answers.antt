@@ -1,8 +1,8 @@
-use Rattle.std.proofs.Common.{◌≡◌, ◌∙◌, ◌+◌, ◌-◌, ◌*◌, sym, ap, length, take, arith, rules}
+use Rattle.std.proofs.Common.{◌≡◌, ◌∙◌, ◌*◌, sym, ap, length, take, arith, rules}
 use Rattle.std.proofs.Math.Seq.{take-length}
-use Rattle.rr_elements.specs.Bits.{bits, bits_of}
-use Rattle.rr_elements.proofs.BitLemmas.{length-bits, take-top}
-use Rattle.rr_elements.proofs.bits.BitReader.new.Goals as goal
+use Rattle.bit_fields.specs.Bits.{bits_of}
+use Rattle.bit_fields.proofs.BitLemmas.{length-bits, take-top}
+use Rattle.bit_fields.proofs.bits.BitReader.new.Goals as goal
 
 pub overflow_shl-result : goal.overflow_shl-result
 overflow_shl-result c =

@@ -1,14 +1,12 @@
-//! Bit strings of at most 128 bits, the most significant bit first.
-ghost use Rattle.std.specs.Prelude.{◌≡◌, [], ◌+◌, ◌-◌, ◌*◌, ◌%◌, ◌/◌, ◌^◌, ◌<◌, ◌≤◌, ◌++◌, length, take, drop, IfOk, IfErr, OnOk};
-ghost use Rattle.rr_elements.specs.Bits.{bits, bits_of, number_of, octets_of};
-ghost use Rattle.rr_elements.specs.Appending.{IsAppended};
-ghost use Rattle.rr_elements.specs.Faults.{HasOtherLength};
+//! A writer and a reader of bit strings.
+ghost use Rattle.std.specs.Prelude.{◌≡◌, ◌≢◌, [], ◌+◌, ◌-◌, ◌*◌, ◌%◌, ◌/◌, ◌^◌, ◌<◌, ◌≤◌, ◌++◌, length, take, drop, IfSome, IfNone, OnSome};
+ghost use Rattle.bit_fields.specs.Bits.{bits, bits_of, number_of, octets_of};
+ghost use Rattle.bit_fields.specs.Appending.{IsAppended};
 
-use crate::fault::ElementFault;
 use std::alloc::{AllocError, Allocator};
 use std::marker::Model;
 
-/// A bit string that grows.
+/// A bit string of 0 to 128 bits that grows at its end.
 #[derive(Drop)]
 pub struct BitWriter {
     number: u128,
@@ -17,7 +15,7 @@ pub struct BitWriter {
 
 impl Model for BitWriter {
     ghost use Rattle.std.specs.Prelude.{List, ℕ, ◌≤◌, ◌<◌, ◌^◌};
-    ghost use Rattle.rr_elements.specs.Bits.{bits};
+    ghost use Rattle.bit_fields.specs.Bits.{bits};
 
     ghost Value = { List ℕ };
 
@@ -28,13 +26,16 @@ impl Model for BitWriter {
 
 impl BitWriter {
     /// No bits.
+    #[inline]
     pub fn new() -> Self
         ensures { result ≡ [] }
     {
         BitWriter { number: 0, len: 0 }
     }
 
-    /// Puts a number of so many bits at the end.
+    /// Puts a number at the end as so many bits, at most eight. The number has no more bits than these, and the string
+    /// has room for them within its 128.
+    #[inline]
     pub fn put(&mut self, width: u32, value: u8)
         requires narrow { width ≤ 8 }
         requires fits { value < 2 ^ width }
@@ -46,7 +47,9 @@ impl BitWriter {
         self.len += width;
     }
 
-    /// Puts zeros at the end, until there are `len` bits.
+    /// Puts zeros at the end, until there are `len` bits, at most 128. At least one bit stands there before, and no more
+    /// than `len`.
+    #[inline]
     pub fn pad_to(&mut self, len: u32)
         requires some { 0 < length self.old }
         requires room { (length self.old ≤ len) × (len ≤ 128) }
@@ -57,7 +60,9 @@ impl BitWriter {
         self.len = len;
     }
 
-    /// Appends the octets of the bit string, all of them or none.
+    /// Appends the octets of the bit string, whose length is a multiple of eight: all of them, or none where memory is
+    /// refused, which comes only where the list has no room for them. The first bit is the first octet's highest.
+    #[inline]
     pub fn append_to<A: Allocator + Copy>(self, out: &mut Vec<u8, A>) -> Result<(), AllocError>
         requires whole { length self % 8 ≡ 0 }
         ensures written { IsAppended (octets_of self) (length self / 8) out.old out.new result }
@@ -68,16 +73,17 @@ impl BitWriter {
     }
 }
 
-/// The bits that are left of a bit string, at the top of the number.
+/// The bits that are left of a bit string, 0 to 128, which is read from its front.
 #[derive(Drop)]
 pub struct BitReader {
+    // The bits that are left stand at the top.
     number: u128,
     len: u32,
 }
 
 impl Model for BitReader {
     ghost use Rattle.std.specs.Prelude.{List, ℕ, ◌≤◌, take};
-    ghost use Rattle.rr_elements.specs.Bits.{bits};
+    ghost use Rattle.bit_fields.specs.Bits.{bits};
 
     ghost Value = { List ℕ };
 
@@ -87,50 +93,49 @@ impl Model for BitReader {
 }
 
 impl BitReader {
-    /// All bits of so many octets, one to sixteen; `Length` where there are fewer or more.
-    pub fn new(octets: &[u8], count: usize) -> Result<Self, ElementFault>
+    /// All bits of so many octets, one to sixteen; `None` where there are fewer or more.
+    #[inline]
+    pub fn new(octets: &[u8], count: usize) -> Option<Self>
         requires some { 0 < count }
         requires few { count ≤ 16 }
-        ensures bits { IfOk result (λ reader. reader ≡ bits_of octets.now) }
-        ensures len { IfOk result (λ reader. length reader ≡ 8 * count) }
-        ensures count { OnOk result (length octets.now ≡ count) }
-        ensures fault { IfErr result (HasOtherLength count octets.now) }
+        ensures bits { IfSome result (λ reader. reader ≡ bits_of octets.now) }
+        ensures len { IfSome result (λ reader. length reader ≡ 8 * count) }
+        ensures count { OnSome result (length octets.now ≡ count) }
+        ensures none { IfNone result (length octets.now ≢ count) }
     {
         if octets.len() != count {
-            return Err(ElementFault::Length);
+            return None;
         }
         let mut bits = BitWriter::new();
         for octet in octets {
             bits.put(8, *octet);
         }
-        Ok(BitReader {
+        Some(BitReader {
             number: bits.number << (128 - bits.len),
             len: bits.len,
         })
     }
 
-    /// All bits of sixteen octets, as two words; `Length` where there are fewer or more.
-    pub fn sixteen(octets: &[u8]) -> Result<Self, ElementFault>
-        ensures bits { IfOk result (λ reader. reader ≡ bits_of octets.now) }
-        ensures len { IfOk result (λ reader. length reader ≡ 128) }
-        ensures count { OnOk result (length octets.now ≡ 16) }
-        ensures fault { IfErr result (HasOtherLength 16 octets.now) }
+    /// All bits of sixteen octets, which are read as two words; `None` where there are fewer or more.
+    #[inline]
+    pub fn sixteen(octets: &[u8]) -> Option<Self>
+        ensures bits { IfSome result (λ reader. reader ≡ bits_of octets.now) }
+        ensures len { IfSome result (λ reader. length reader ≡ 128) }
+        ensures count { OnSome result (length octets.now ≡ 16) }
+        ensures none { IfNone result (length octets.now ≢ 16) }
     {
-        let Some((high, low)) = octets.split_first_chunk::<8>() else {
-            return Err(ElementFault::Length);
-        };
-        let Some(low) = low.as_array::<8>() else {
-            return Err(ElementFault::Length);
-        };
+        let (high, low) = octets.split_first_chunk::<8>()?;
+        let low = low.as_array::<8>()?;
         let high = u64::from_be_bytes(*high);
         let low = u64::from_be_bytes(*low);
-        Ok(BitReader {
+        Some(BitReader {
             number: (u128::from(high) << 64) | u128::from(low),
             len: 128,
         })
     }
 
-    /// The number of the next bits, at most eight.
+    /// The number of the next bits, one to eight, which are then read; so many are left.
+    #[inline]
     pub fn take(&mut self, width: u32) -> u8
         requires some { 0 < width }
         requires narrow { width ≤ 8 }

@@ -1,12 +1,25 @@
 -- Fields that are written and cut again.
-use Rattle.std.proofs.Common.{◌≡◌, ◌∙◌, sym, ℕ, zero, suc, ◌+◌, ◌*◌, ◌/◌, ◌%◌, ◌^◌, ◌<◌, List, [], ◌∷◌, ◌++◌, length, take, drop, replicate, refl, ap, arith}
+use Rattle.std.proofs.Common.{◌≡◌, ◌∙◌, sym, ℕ, zero, suc, ◌+◌, ◌*◌, ◌/◌, ◌%◌, ◌^◌, ◌<◌, ◌==◌, Bool, true, false, not, List, [], ◌∷◌, ◌++◌, length, take, drop, replicate, refl, ap, arith}
 use Rattle.std.proofs.lemmas.List.{take_at, drop_at}
 use Rattle.std.proofs.lemmas.List.Concat.{flat_map-cons}
 use Rattle.std.proofs.lemmas.Nat.{mod_below, pow_pos}
 use Rattle.std.proofs.Math.Nat.{mod-eq_of_lt}
-use Rattle.rr_elements.specs.Bits.{bits, bits_of, number_of, total, cut, bits_written}
-use Rattle.rr_elements.specs.Fields.{AreFields, field_octets}
-use Rattle.rr_elements.proofs.BitLemmas.{no_bits, length-bits, number_of-bits, bits-add, bits-same, bits-put, put_below, drop-bits, number_of-take-bits, length-octets_of}
+use Rattle.bit_fields.specs.Bits.{bits, bits_of, number_of, total, cut, bits_written}
+use Rattle.bit_fields.specs.Fields.{AreFields, field_octets, flag}
+use Rattle.bit_fields.proofs.BitLemmas.{no_bits, length-bits, number_of-bits, bits-add, bits-same, bits-put, put_below, drop-bits, number_of-take-bits, length-octets_of}
+
+-- a flag's bit is 1 where the flag is set, and 0 where it isn't
+pub flag-one : (b : Bool) → (flag b == 1) ≡ b
+flag-one true = refl
+flag-one false = refl
+
+pub flag-none : (b : Bool) → (flag (not b) == 0) ≡ b
+flag-none true = refl
+flag-none false = refl
+
+pub flag_below : (b : Bool) → flag b < 2
+flag_below true = omega arith
+flag_below false = omega arith
 
 -- each number fits its width
 abbrev pub FieldsFit : List ℕ → List ℕ → Type 0

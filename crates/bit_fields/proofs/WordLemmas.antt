@@ -1,14 +1,14 @@
 -- Sixteen octets as two words.
-use Rattle.std.proofs.Common.{◌≡◌, ◌∙◌, sym, ℕ, zero, suc, ◌*◌, ◌+◌, ◌%◌, ◌<◌, ◌^◌, List, [], ◌∷◌, ◌++◌, length, take, drop, replicate, flat_map, get_or, refl, ap, arith}
+use Rattle.std.proofs.Common.{◌≡◌, ◌∙◌, sym, ℕ, zero, suc, ◌*◌, ◌+◌, ◌%◌, ◌<◌, ◌^◌, List, [], ◌∷◌, ◌++◌, length, take, drop, get_or, ap, arith}
 use Rattle.std.proofs.lemmas.Grind.{flat_map-append}
 use Rattle.std.proofs.lemmas.List.{take-append-drop, length-take-le, length-drop, get_or-drop}
 use Rattle.std.proofs.lemmas.Nat.{be_bytes_8}
 use Rattle.std.proofs.Math.Seq.{take-length}
 use Rattle.std.specs.Int.{from_be_bytes, to_be_bytes, w64}
 use Rattle.std.specs.Int.RustNames.{bit_or}
-use Rattle.rr_elements.specs.Bits.{bits, bits_of, cut}
-use Rattle.rr_elements.proofs.BitLemmas.{length-bits, bits-put, cut-bits-eights, put_number}
-use Rattle.rr_elements.proofs.FieldLemmas.{bits_of-cut}
+use Rattle.bit_fields.specs.Bits.{bits, bits_of}
+use Rattle.bit_fields.proofs.BitLemmas.{length-bits, bits-put, cut-bits-eights, put_number}
+use Rattle.bit_fields.proofs.FieldLemmas.{bits_of-cut}
 
 -- the bits of a word are those of its octets
 bits-word : (octets : List ℕ) (n : ℕ) → length octets ≡ 8 → ((i : ℕ) → get_or octets i 0 < 256) → n ≡ from_be_bytes w64 octets → bits 64 n ≡ bits_of octets

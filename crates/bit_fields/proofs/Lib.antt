@@ -1,0 +1,4 @@
+pub mod BitLemmas
+pub mod CutLemmas
+pub mod FieldLemmas
+pub mod WordLemmas

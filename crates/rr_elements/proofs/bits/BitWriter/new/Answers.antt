@@ -1,7 +1,0 @@
-use Rattle.std.proofs.Common.{refl}
-use Rattle.rr_elements.specs.Bits.{bits}
-use Rattle.rr_elements.proofs.bits.BitWriter.new.Goals as goal
-
-pub returns : goal.returns
-unfolding bits
-returns c = refl
