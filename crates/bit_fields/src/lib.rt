@@ -6,5 +6,7 @@
 #![tactic(auto)]
 
 mod bits;
+#[cfg(test)]
+mod tests;
 
 pub use bits::{BitReader, BitWriter};
