@@ -11,9 +11,9 @@ use Rattle.rr_messages.specs.declared.kind.Kind.{Kind}
 use Rattle.rr_messages.specs.declared.kind.Kind.TheVariants as kind
 use Rattle.rr_messages.specs.declared.message.Rr.{Rr}
 use Rattle.rr_messages.specs.Kind.{type_of, part_len}
-use Rattle.rr_messages.specs.Rr.{kind_of, IsFramed, IsPart, IsRrText, HasPartFault, HasRrFault}
+use Rattle.rr_messages.specs.Rr.{IsRrText, HasPartFault, HasRrFault}
 use Rattle.rr_messages.proofs.Readers.{kind_at, command_said, part_said, body_said, in_message, rr_said}
-use Rattle.rr_messages.proofs.Texts.{command-cut, kind_at-type_of, framed-said, framed-body, text-said, one_value}
+use Rattle.rr_messages.proofs.Texts.{command-cut, kind_at-type_of, framed-said, framed-body, text-said}
 
 no_kind : (t : ℕ) → ((k : Kind) → t ≢ type_of k) → kind_at t ≡ None
 no_kind t none =
