@@ -1,3 +1,4 @@
+use Fields::{ChannelActivationAck, ChannelActivationNack, ConnectionFailureIndication};
 use refusing_heap::RefusingHeap;
 use rsl_messages::{
     ChanBits, Octets, Rsl, RslFault, canonical_is_text, decode, encode, encode_into, fits,
@@ -44,8 +45,6 @@ enum Fields<'a> {
     RfChannelRelease(u8),
     RfChannelReleaseAck(u8),
 }
-
-use Fields::{ChannelActivationAck, ChannelActivationNack, ConnectionFailureIndication};
 
 fn fields_of(message: &Rsl) -> Fields<'_> {
     match message {
