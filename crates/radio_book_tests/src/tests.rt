@@ -79,7 +79,7 @@ fn carry(rt: &impl Abort, site: &Site<Global>, traffic: &[(ChanId, bool)]) {
 
 fn is_of_three_channels(rt: &impl Abort, book: &Book<Global>) -> Result<(), Fail> {
     let site = book.site();
-    assert!(rt; site.cells() == 2);
+    holds_at(rt, site.cells() == 2, "the cells");
     carry(rt, site, &TRAFFIC);
     Ok(())
 }

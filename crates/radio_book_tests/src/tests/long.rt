@@ -334,7 +334,7 @@ fn runs(
 fn all_rounds_run(rt: &(impl AllocGlobal + Abort), book: &Book<Global>) -> Result<(), Fail> {
     let events = events(rt.alloc())?;
     let replies = replies(rt.alloc())?;
-    assert!(rt; events.len() == 4960);
+    holds_at(rt, events.len() == 4960, "the events");
     runs(rt, book, &events, &replies)?;
     Ok(())
 }

@@ -66,8 +66,8 @@ fn is_asked(
 ) -> Result<(), AllocError> {
     let before = shown(rt, book)?;
     let answer = put(book, ask_of(rt, line));
-    let is_answered = answer.is_err() == heap.was_refused();
-    holds_at(rt, is_answered, (heap.refusals(), line));
+    let tells_refusal = answer.is_err() == heap.was_refused();
+    holds_at(rt, tells_refusal, (heap.refusals(), line));
     match answer {
         Ok(answer) => is_said(rt, "once", line, answer),
         Err(_) => is_asked_again(rt, book, line, &before),
@@ -114,8 +114,8 @@ fn is_rewound<'a>(
     match rewind(heap, book, &events, 0) {
         Ok(rewound) => holds_at(rt, rewound.others.as_slice() == [4].as_slice(), at),
         Err(fault) => {
-            let is_answered = heap.was_refused() && fault == RewindFault::NoMemory;
-            holds_at(rt, is_answered, (at, fault));
+            let tells_refusal = heap.was_refused() && fault == RewindFault::NoMemory;
+            holds_at(rt, tells_refusal, (at, fault));
         }
     }
     Ok(())

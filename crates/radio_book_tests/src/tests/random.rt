@@ -1,7 +1,7 @@
 //! Undone attempts in lists of events that a counter makes, taken out: what `rewind` gives is what the others alone lead to.
 ghost use Rattle.std.specs.Prelude.{◌<◌};
 
-use super::{at_places, book_of};
+use super::{at_places, book_of, holds_at};
 use channel_fsm::{ChanId, ChanState};
 use radio_book::book::Book;
 use radio_book::event::Event::{
@@ -352,6 +352,7 @@ fn lead_to(
 // Where the attempt is settled and no refusal is held, it left no trace.
 fn leaves_no_trace(
     rt: &(impl AllocGlobal + Abort),
+    events: &[Event],
     rewound: &Rewound<Global>,
 ) -> Result<(), AllocError> {
     if !rewound.settled || rewound.held.is_some() {
@@ -359,7 +360,8 @@ fn leaves_no_trace(
     }
     let replies = at_places(rt.alloc(), &rewound.whole_replies, &rewound.others)?;
     let same = replies.as_slice() == rewound.without_replies.as_slice();
-    assert!(rt; same && rewound.whole == rewound.without);
+    holds_at(rt, same, (events, "the replies to the others"));
+    holds_at(rt, rewound.whole == rewound.without, (events, "the books"));
     Ok(())
 }
 
@@ -373,7 +375,11 @@ fn is_taken_out(
 ) -> Result<(), AllocError> {
     lead_to(rt, book, events, &rewound.whole, &rewound.whole_replies)?;
     let others = at_places(rt.alloc(), events, &rewound.others)?;
-    assert!(rt; others.len() == rewound.others.len());
+    holds_at(
+        rt,
+        others.len() == rewound.others.len(),
+        (events, "the others"),
+    );
     lead_to(
         rt,
         book,
@@ -381,7 +387,7 @@ fn is_taken_out(
         &rewound.without,
         &rewound.without_replies,
     )?;
-    leaves_no_trace(rt, rewound)
+    leaves_no_trace(rt, events, rewound)
 }
 
 // What `rewind` answers at a place.
