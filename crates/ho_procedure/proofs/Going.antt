@@ -24,7 +24,7 @@ leads-append p q r (s ∷ t) u f g = (f.0, f.1, leads-append f.0 q r t u f.2 g)
 pub leads-until : (p q : Plan) (t u : List Step) (z : Until) → Leads p t q → LeadsUntil q u z → LeadsUntil p (t ++ u) z
 leads-until p q t u (At r) f g = leads-append p q r t u f g
 leads-until p q t u AtMemory f g = (g.0, leads-append p q g.0 t u f g.1, g.2)
-leads-until p q t u AtDesk f g = (g.0, leads-append p q g.0 t u f g.1, g.2)
+leads-until p q t u (AtDesk place) f g = (g.0, leads-append p q g.0 t u f g.1, g.2)
 
 pub entries_of-append : (t u : List Step) → entries_of (t ++ u) ≡ entries_of t ++ entries_of u
 entries_of-append [] u = refl
@@ -54,7 +54,7 @@ choices-said says says' log (s ∷ u) k g = (choice-said (says log) (says' log) 
 pub stop-said : (says says' : Claim → Type 0) (u : Until) → ((claim : Claim) → says' claim → says claim) → MayStop says' u → MayStop says u
 stop-said says says' (At p) k s = tt
 stop-said says says' AtMemory k s = tt
-stop-said says says' AtDesk k s = k UnknownReceipt s
+stop-said says says' (AtDesk place) k s = k (UnknownReceipt place) s
 
 pub choices-append : (says says' : List Entry → Claim → Type 0) (log log' : List Entry) (t u : List Step) → ((es : List Entry) → (claim : Claim) → says' es claim → says es claim)
     → log' ≡ log ++ entries_of t → ChoicesAt says log t → ChoicesAt says' log' u → ChoicesAt says log (t ++ u)
@@ -94,9 +94,9 @@ asking_takes (Ranks site reports serving next) asks = absurd asks
 -- nothing is done where the plan asks the desk next, and this fault comes
 pub waits : {D A : Type 0} (log : D → List Entry) (says : D → List Entry → Claim → Type 0) (w w' : Work D A) (f : DeskFault) (p : Plan)
     → log w'.view ≡ log w.view → w'.owed.items ≡ w.owed.items → ((call : ℕ) → last_reports w'.windows call ≡ last_reports w.windows call) → w'.windows.width ≡ w.windows.width
-    → ((es : List Entry) → (claim : Claim) → says w'.view es claim → says w.view es claim) → (IsForeign f → says w.view (log w.view) UnknownReceipt) → AsksDesk p → Goes log says w p w' (stops_at f)
+    → ((es : List Entry) → (claim : Claim) → says w'.view es claim → says w.view es claim) → ((place : ℕ) → IsForeign f place → says w.view (log w.view) (UnknownReceipt place)) → AsksDesk p → Goes log says w p w' (stops_at f)
 unfolding Goes stops_at
-waits log says w w' (Foreign place) p l o n i k h a = record { trace = []; leads = (p, refl, a); entries = l ∙ sym (append-nil (log w.view)); messages = o ∙ sym (append-nil w.owed.items); choices = tt; reports = n; width = i; said = k; stop = subst (λ es. says w.view es UnknownReceipt) (sym l) (h tt) }
+waits log says w w' (Foreign place) p l o n i k h a = record { trace = []; leads = (p, refl, a); entries = l ∙ sym (append-nil (log w.view)); messages = o ∙ sym (append-nil w.owed.items); choices = tt; reports = n; width = i; said = k; stop = subst (λ es. says w.view es (UnknownReceipt place)) (sym l) (h place refl) }
 waits log says w w' NoMemory p l o n i k h a = record { trace = []; leads = (p, refl, asking_takes p a); entries = l ∙ sym (append-nil (log w.view)); messages = o ∙ sym (append-nil w.owed.items); choices = tt; reports = n; width = i; said = k; stop = tt }
 
 -- nothing is done where the plan takes memory next, and it is refused

@@ -60,27 +60,27 @@ stops_for_memory log says site w w' input out (inr f) none owed = inr (f.0, ap (
 -- the desk doesn't know the view's last receipt
 pub stops_at_desk : {A D : Type 0} (log : D → List Entry) (says : D → List Entry → Claim → Type 0) (site : SiteView) (w w' : Work D A) (input : Inbound A) (place : ℕ) (out : List Sent)
     → Stopped log says w (IsRow site (last_reports w.windows) input) (IsUndecoded input) (KeepsOctets input) w' (stop.Foreign place) → w.owed.items ≡ [] → out ≡ w'.owed.items
-    → StopsAtDesk log says site w.view w.windows input w'.view w'.windows out
-stops_at_desk log says site w w' input place out f none owed = (f.0, f.1, handled log says w w' f.0 AtDesk out f.2 none owed)
+    → StopsAtDesk log says site w.view w.windows input w'.view w'.windows out place
+stops_at_desk log says site w w' input place out f none owed = (f.0, f.1, handled log says w w' f.0 (AtDesk place) out f.2 none owed)
 
-pub stops_unknown : {A D : Type 0} (log : D → List Entry) (says : D → List Entry → Claim → Type 0) (w : Work D A) (IsRow : Plan → Type 0) (w' : Work D A)
-    → StopsInRow log says w IsRow w' AtDesk → says w.view (log w'.view) UnknownReceipt
+pub stops_unknown : {A D : Type 0} (log : D → List Entry) (says : D → List Entry → Claim → Type 0) (w : Work D A) (IsRow : Plan → Type 0) (w' : Work D A) (place : ℕ)
+    → StopsInRow log says w IsRow w' (AtDesk place) → says w.view (log w'.view) (UnknownReceipt place)
 unfolding Goes
-stops_unknown log says w IsRow w' f = f.2.stop
+stops_unknown log says w IsRow w' place f = f.2.stop
 
 pub stopped_kept : {A D : Type 0} (log : D → List Entry) (says : D → List Entry → Claim → Type 0) (w : Work D A) (IsRow : Plan → Type 0) (CantBeRead : Link → Bad → Type 0) (MayRefuse : Type 0) (w' : Work D A) (s : Stop)
     → Stopped log says w IsRow CantBeRead MayRefuse w' s → (es : List Entry) → (claim : Claim) → says w'.view es claim → says w.view es claim
 stopped_kept {A} {D} log says w IsRow CantBeRead MayRefuse w' (stop.Unread l b) f es claim h = subst (λ x. says x.view es claim) f.1 h
 stopped_kept {A} {D} log says w IsRow CantBeRead MayRefuse w' stop.NoMemory (inl f) es claim h = kept log says w w' f.0 AtMemory f.2 es claim h
 stopped_kept {A} {D} log says w IsRow CantBeRead MayRefuse w' stop.NoMemory (inr f) es claim h = subst (λ x. says x.view es claim) f.1 h
-stopped_kept {A} {D} log says w IsRow CantBeRead MayRefuse w' (stop.Foreign place) f es claim h = kept log says w w' f.0 AtDesk f.2 es claim h
+stopped_kept {A} {D} log says w IsRow CantBeRead MayRefuse w' (stop.Foreign place) f es claim h = kept log says w w' f.0 (AtDesk place) f.2 es claim h
 
 pub stopped_width : {A D : Type 0} (log : D → List Entry) (says : D → List Entry → Claim → Type 0) (w : Work D A) (IsRow : Plan → Type 0) (CantBeRead : Link → Bad → Type 0) (MayRefuse : Type 0) (w' : Work D A) (s : Stop)
     → Stopped log says w IsRow CantBeRead MayRefuse w' s → w'.windows.width ≡ w.windows.width
 stopped_width log says w IsRow CantBeRead MayRefuse w' (stop.Unread l b) f = ap (λ x. x.windows.width) f.1
 stopped_width log says w IsRow CantBeRead MayRefuse w' stop.NoMemory (inl f) = width_kept log says w w' f.0 AtMemory f.2
 stopped_width log says w IsRow CantBeRead MayRefuse w' stop.NoMemory (inr f) = ap (λ x. x.windows.width) f.1
-stopped_width log says w IsRow CantBeRead MayRefuse w' (stop.Foreign place) f = width_kept log says w w' f.0 AtDesk f.2
+stopped_width log says w IsRow CantBeRead MayRefuse w' (stop.Foreign place) f = width_kept log says w w' f.0 (AtDesk place) f.2
 
 pub follow_kept : {A D X : Type 0} (log : D → List Entry) (says : D → List Entry → Claim → Type 0) (w w' : Work D A) (IsRow : Plan → Type 0) (CantBeRead : Link → Bad → Type 0) (MayRefuse : Type 0) (result : Result X Stop)
     → OnOk result ((p : Plan) × IsRow p × Goes log says w p w' (At Ends)) → IfErr result (Stopped log says w IsRow CantBeRead MayRefuse w')

@@ -16,10 +16,10 @@ use Rattle.ho_procedure.specs.Claims.{Entry, Claim, NoneFree, Chosen, IsThere, I
 
 -- a seat without a receipt isn't foreign
 pub not_foreign : {X : Type 0} (history : List Entry) (last : Option Receipt) (result : Result X DeskFault)
-    → last ≡ None → ((place : ℕ) → (result ≡ Err (Foreign place)) ↔ desk.IsForeign history last place) → IfErr result (λ f. IsForeign f → ⊥)
+    → last ≡ None → ((place : ℕ) → (result ≡ Err (Foreign place)) ↔ desk.IsForeign history last place) → IfErr result (λ f. (place : ℕ) → IsForeign f place → ⊥)
 not_foreign history last (Ok x) new foreign = tt
-not_foreign history last (Err NoMemory) new foreign = λ is. is
-not_foreign history last (Err (Foreign place)) new foreign = λ is. subst (λ s. desk.IsForeign history s place) new ((foreign place).0 refl)
+not_foreign history last (Err NoMemory) new foreign = λ place is. is
+not_foreign history last (Err (Foreign place)) new foreign = λ _ is. subst (λ s. desk.IsForeign history s place) new ((foreign place).0 refl)
 
 -- what is true of a desk was true before, as long as it opens with the same book
 pub still_true : (opening opening' : State) → opening' ≡ opening → (log : List Entry) → (claim : Claim) → IsTrueAfter opening' log claim → IsTrueAfter opening log claim

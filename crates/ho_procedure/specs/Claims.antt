@@ -1,5 +1,6 @@
 -- What a view says of the book that it asks: what it may choose there, a free channel of a cell (TS 48.058 clause 4) or a
--- free Handover Reference (TS 44.018 clause 10.5.2.15), which book it began with, and that its receipt isn't known there.
+-- free Handover Reference (TS 44.018 clause 10.5.2.15), which book it began with, and that the desk doesn't know the view's
+-- last receipt.
 use Rattle.std.specs.Prelude.{◌≡◌, ℕ, List}
 use Rattle.radio_book.specs.declared.event.Event.{Event}
 use Rattle.radio_book.specs.declared.event.Event.TheVariants.{Open, Clear, Look, Take, Reserve, Activate, Command, Complete, Undo, Confirm, Refuse, Detect, Released, Owner, Require, Order, Left}
@@ -16,12 +17,12 @@ abbrev pub Entry : Type 0
 Entry = Event × Reply
 
 -- No channel of a cell is free; this Take or Reserve chooses what is; the book began as this one; or the desk doesn't know
--- the view's last receipt.
+-- the view's last receipt, which is of this place (counted from 0).
 pub data Claim : Type 0 where
   NoneFree : ℕ → Claim
   Chosen : Event → Claim
   Opening : State → Claim
-  UnknownReceipt : Claim
+  UnknownReceipt : ℕ → Claim
 
 -- the book has what is chosen: the channel is free, or the number is in the cell of the taken channel
 abbrev pub IsThere : State → Event → Type 0
@@ -49,9 +50,9 @@ abbrev pub IsTrueAfter : State → List Entry → Claim → Type 0
 IsTrueAfter opening log (NoneFree cell) = (b : State) × Leads opening log b × free.NoneFree b cell
 IsTrueAfter opening log (Chosen e) = (b : State) × Leads opening log b × IsThere b e
 IsTrueAfter opening log (Opening book) = book ≡ opening
-IsTrueAfter opening log UnknownReceipt = ⊥
+IsTrueAfter opening log (UnknownReceipt place) = ⊥
 
--- the desk doesn't know the view's last receipt
-abbrev pub IsForeign : DeskFault → Type 0
-IsForeign (Foreign place) = Unit {0}
-IsForeign NoMemory = ⊥
+-- the fault is that the desk doesn't know the view's last receipt, which is of this place
+abbrev pub IsForeign : DeskFault → ℕ → Type 0
+IsForeign (Foreign named) place = named ≡ place
+IsForeign NoMemory place = ⊥

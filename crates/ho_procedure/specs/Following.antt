@@ -24,7 +24,7 @@ StopsInRow log says w IsRow w' u = (p : Plan) × IsRow p × Goes log says w p w'
 abbrev pub Stopped : {D A : Type 0} → (D → List Entry) → (D → List Entry → Claim → Type 0) → Work D A → (Plan → Type 0) → (Link → Bad → Type 0) → Type 0 → Work D A → Stop → Type 0
 Stopped log says w IsRow CantBeRead MayRefuse w' (stop.Unread l b) = CantBeRead l b × (w' ≡ w)
 Stopped log says w IsRow CantBeRead MayRefuse w' stop.NoMemory = StopsInRow log says w IsRow w' AtMemory ⊎ (MayRefuse × (w' ≡ w))
-Stopped log says w IsRow CantBeRead MayRefuse w' (stop.Foreign place) = StopsInRow log says w IsRow w' AtDesk
+Stopped log says w IsRow CantBeRead MayRefuse w' (stop.Foreign place) = StopsInRow log says w IsRow w' (AtDesk place)
 
 -- why a row stops by such a fault
 abbrev pub IsStopFor : DeskFault → Stop → Type 0

@@ -17,14 +17,16 @@ use Rattle.ho_procedure.specs.Plan.{Plan, Ends, Step, Until, At, AtMemory, AtDes
 abbrev pub last_reports : Kept → ℕ → List Results
 last_reports windows call = (reports_of windows call).reports
 
--- What a view says where a trace leads so far: a row stops where it asks the desk only if that doesn't know the receipt.
+-- What a view says where a trace leads so far. A row stops at a step that asks the desk only where the view says, after the
+-- entries so far, that the desk doesn't know the view's last receipt, and of which place that is.
 abbrev pub MayStop : (Claim → Type 0) → Until → Type 0
 MayStop says (At p) = Unit {0}
 MayStop says AtMemory = Unit {0}
-MayStop says AtDesk = says UnknownReceipt
+MayStop says (AtDesk place) = says (UnknownReceipt place)
 
 -- Some trace leads from the one plan to the other: its entries are what the view's log gained, its messages what is owed
--- since, its choices and where it stops what the view says, and the reports of each call are those after it.
+-- since, and the reports of each call are those after it. Its choices are what the view says, and so is, where it stops for
+-- that, that the desk doesn't know the view's last receipt.
 pub record Run {D A : Type 0} (log : D → List Entry) (says : D → List Entry → Claim → Type 0) (w : Work D A) (p : Plan) (w' : Work D A) (u : Until) : Type 0 where
   pub trace : List Step
   pub leads : LeadsUntil p trace u
@@ -58,7 +60,8 @@ abbrev pub then : Plan → Course → Plan
 then tail On = tail
 then tail Over = Ends
 
--- where a row stops that a fault of the desk, or of memory, stopped: only for a receipt that isn't known a desk was asked
+-- Where a row stops that this fault stopped: at a step that asks the desk, which doesn't know the view's last receipt, of
+-- this place; or, where memory was refused, at a step that takes memory.
 unfoldable pub stops_at : DeskFault → Until
-stops_at (Foreign place) = AtDesk
+stops_at (Foreign place) = AtDesk place
 stops_at NoMemory = AtMemory

@@ -62,20 +62,21 @@ abbrev pub StopsForMemory : {A D : Type 0} → (D → List Entry) → (D → Lis
 StopsForMemory log says site v windows input v' windows' out =
     ((p : Plan) × IsRow site (last_reports windows) input p × Handles log says v windows p v' windows' out AtMemory) ⊎ (KeepsOctets input × (v' ≡ v) × (windows' ≡ windows) × (out ≡ []))
 
--- where the view's desk didn't know its last receipt: the row was followed up to a step that asks the desk
-abbrev pub StopsAtDesk : {A D : Type 0} → (D → List Entry) → (D → List Entry → Claim → Type 0) → SiteView → D → Kept → Inbound A → D → Kept → List Sent → Type 0
-StopsAtDesk log says site v windows input v' windows' out = (p : Plan) × IsRow site (last_reports windows) input p × Handles log says v windows p v' windows' out AtDesk
+-- where the desk didn't know the view's last receipt, of this place: the row was followed up to a step that asks the desk
+abbrev pub StopsAtDesk : {A D : Type 0} → (D → List Entry) → (D → List Entry → Claim → Type 0) → SiteView → D → Kept → Inbound A → D → Kept → List Sent → ℕ → Type 0
+StopsAtDesk log says site v windows input v' windows' out place = (p : Plan) × IsRow site (last_reports windows) input p × Handles log says v windows p v' windows' out (AtDesk place)
 
 -- what it comes to by the fault that is answered, with the messages that are owed
 abbrev pub StopsBy : {A D : Type 0} → (D → List Entry) → (D → List Entry → Claim → Type 0) → SiteView → D → Kept → Inbound A → D → Kept → Fault A → Type 0
 StopsBy log says site v windows input v' windows' (Undecoded link bad) = (v' ≡ v) × (windows' ≡ windows)
 StopsBy log says site v windows input v' windows' (NoMemory out) = StopsForMemory log says site v windows input v' windows' (all_sent out.items)
-StopsBy log says site v windows input v' windows' (Desk place out) = StopsAtDesk log says site v windows input v' windows' (all_sent out.items)
+StopsBy log says site v windows input v' windows' (Desk place out) = StopsAtDesk log says site v windows input v' windows' (all_sent out.items) place
 
-abbrev pub IsDeskFault : {A : Type 0} → Fault A → Type 0
-IsDeskFault (Undecoded link bad) = ⊥
-IsDeskFault (NoMemory out) = ⊥
-IsDeskFault (Desk place out) = Unit {0}
+-- the fault is that the desk doesn't know the view's last receipt, which is of this place
+abbrev pub IsDeskFault : {A : Type 0} → Fault A → ℕ → Type 0
+IsDeskFault (Undecoded link bad) place = ⊥
+IsDeskFault (NoMemory out) place = ⊥
+IsDeskFault (Desk named out) place = named ≡ place
 
 -- The answer where the octets of the input, or the text inside, have this fault: the fault. Or memory was refused, for which
 -- the message keeps octets, and nothing is owed.

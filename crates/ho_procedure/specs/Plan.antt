@@ -80,16 +80,17 @@ TakesMemory (Sends m next) = ⊥
 TakesMemory (Notes c reports next) = ⊥
 TakesMemory (Ranks site reports serving next) = Unit {0}
 
--- how far a trace leads: to a plan, to some plan whose next step takes memory, or to some whose next step asks a desk
+-- How far a trace leads: to a plan, to some plan whose next step takes memory, or to some whose next step asks a desk that
+-- doesn't know a receipt of this place.
 pub data Until : Type 0 where
   At : Plan → Until
   AtMemory : Until
-  AtDesk : Until
+  AtDesk : ℕ → Until
 
 abbrev pub LeadsUntil : Plan → List Step → Until → Type 0
 LeadsUntil p t (At q) = Leads p t q
 LeadsUntil p t AtMemory = (q : Plan) × Leads p t q × TakesMemory q
-LeadsUntil p t AtDesk = (q : Plan) × Leads p t q × AsksDesk q
+LeadsUntil p t (AtDesk place) = (q : Plan) × Leads p t q × AsksDesk q
 
 -- the events of a trace with their replies
 abbrev pub entries_in : Step → List Entry

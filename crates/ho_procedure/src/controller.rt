@@ -88,8 +88,8 @@ impl<D: DeskView + Drop, A: Allocator + Copy> Controller<D, A> {
     ///   the octets that their message keeps.
     /// - `NoMemory`: memory was refused. The row was followed up to a step that takes memory; or nothing was asked, and
     ///   the input is a message that keeps its octets.
-    /// - `Desk`: the view answered that its desk doesn't know the view's last receipt. The row was followed up to the
-    ///   step that the view was asked for.
+    /// - `Desk`: the view answered that its desk doesn't know the view's last receipt, of this place. The row was followed
+    ///   up to the step that the view was asked for.
     ///
     /// After `NoMemory` and `Desk` what was asked so far stands. Both have the messages up to there, which the caller
     /// sends.
@@ -106,8 +106,8 @@ impl<D: DeskView + Drop, A: Allocator + Copy> Controller<D, A> {
         ensures stops { IfErr result (StopsBy {A = A} D.log D.says self.old.2
             self.old.0 self.old.1 input self.new.0 self.new.1) }
         ensures site { self.new.2 ≡ self.old.2 }
-        ensures foreign { IfErr result (λ f. IsDeskFault f →
-            D.says self.old.0 (D.log self.new.0) UnknownReceipt) }
+        ensures foreign { IfErr result (λ f. (place : ℕ) → IsDeskFault f place →
+            D.says self.old.0 (D.log self.new.0) (UnknownReceipt place)) }
         ensures said { (es : List Entry) → (claim : Claim) →
             D.says self.new.0 es claim → D.says self.old.0 es claim }
     {

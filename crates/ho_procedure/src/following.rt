@@ -40,7 +40,7 @@ pub(crate) enum Stop {
     Unread(Link, Bad),
     /// Memory was refused.
     NoMemory,
-    /// The view's desk doesn't know its last receipt, of this place.
+    /// The desk doesn't know the view's last receipt, of this place.
     Foreign(usize),
 }
 

@@ -13,7 +13,8 @@ use radio_desk::seat::Receipt;
 ///
 /// An answered event joins the log with its reply. After a fault, and where no channel is free, the log is as it was. What
 /// it says after a call it would have said before: so it says of one book that it began with. `Foreign` it answers only
-/// where it says that the desk doesn't know its last receipt; a view that never says so is never foreign.
+/// where it says that the desk doesn't know the view's last receipt, of the place that it answers; a view that never says
+/// so is never foreign.
 pub trait DeskView {
     ghost log: { Self → List Entry };
 
@@ -32,8 +33,8 @@ pub trait DeskView {
             (log self.new ≡ log self.old ++ (r.event, r.reply) ∷ [])) }
         ensures receipt { IfOk result (λ r. judged self.old r self.new) }
         ensures err { OnErr result (log self.new ≡ log self.old) }
-        ensures foreign { IfErr result (λ f. IsForeign f →
-            says self.old (log self.old) UnknownReceipt) }
+        ensures foreign { IfErr result (λ f. (place : ℕ) → IsForeign f place →
+            says self.old (log self.old) (UnknownReceipt place)) }
         ensures said { (es : List Entry) → (claim : Claim) →
             says self.new es claim → says self.old es claim };
 
@@ -48,8 +49,8 @@ pub trait DeskView {
         ensures receipt { IfOk result (λ answer. IfSome answer
             (λ r. judged self.old r self.new)) }
         ensures err { OnErr result (log self.new ≡ log self.old) }
-        ensures foreign { IfErr result (λ f. IsForeign f →
-            says self.old (log self.old) UnknownReceipt) }
+        ensures foreign { IfErr result (λ f. (place : ℕ) → IsForeign f place →
+            says self.old (log self.old) (UnknownReceipt place)) }
         ensures said { (es : List Entry) → (claim : Claim) →
             says self.new es claim → says self.old es claim };
 
@@ -61,8 +62,8 @@ pub trait DeskView {
             (log self.new ≡ log self.old ++ (r.event, r.reply) ∷ [])) }
         ensures receipt { IfOk result (λ r. judged self.old r self.new) }
         ensures err { OnErr result (log self.new ≡ log self.old) }
-        ensures foreign { IfErr result (λ f. IsForeign f →
-            says self.old (log self.old) UnknownReceipt) }
+        ensures foreign { IfErr result (λ f. (place : ℕ) → IsForeign f place →
+            says self.old (log self.old) (UnknownReceipt place)) }
         ensures said { (es : List Entry) → (claim : Claim) →
             says self.new es claim → says self.old es claim };
 }

@@ -10,4 +10,4 @@ pub still_said : (opening opening' : State) → ((log : List Entry) → (claim :
 still_said opening opening' said log (NoneFree cell) holds = said log (NoneFree cell) holds
 still_said opening opening' said log (Chosen e) holds = said log (Chosen e) holds
 still_said opening opening' said log (Opening book) holds = said log (Opening book) holds
-still_said opening opening' said log UnknownReceipt holds = tt
+still_said opening opening' said log (UnknownReceipt place) holds = tt

@@ -1,4 +1,4 @@
-//! A view whose desk doesn't know its last receipt.
+//! A view whose desk doesn't know the view's last receipt.
 ghost use Rattle.std.specs.Prelude.{[]};
 
 use super::player::{empty_desk, input_of, is_trace, shared_site};

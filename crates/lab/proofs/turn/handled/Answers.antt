@@ -1,3 +1,4 @@
+use Rattle.std.proofs.Common.{refl}
 use Rattle.lab.proofs.TurnFacts.{opens_as_before}
 use Rattle.lab.proofs.turn.handled.Goals as goal
 
@@ -9,3 +10,10 @@ returns-in-Err-Undecoded-clause-opening g c = opens_as_before c.args.controller.
 
 pub returns-in-Err-NoMemory-clause-opening : goal.returns-in-Err-NoMemory-clause-opening
 returns-in-Err-NoMemory-clause-opening g c = opens_as_before c.args.controller.now c.handle.new.self c.handle.ensures.said
+
+-- such a view never says of any place that its receipt isn't known
+pub unreachable-requires : goal.unreachable-requires
+unreachable-requires g c =
+    let foreign = rw c.in-Err-Desk.is at c.handle.ensures.foreign in
+    let unknown = rw c.in-Err-Desk.field-0-is at foreign in
+    unknown _ refl

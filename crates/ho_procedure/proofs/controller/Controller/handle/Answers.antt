@@ -11,12 +11,12 @@ pub returns-clause-foreign : goal.returns-clause-foreign
 returns-clause-foreign g c =
     elim c.match-done.branch [
       | in-Ok v ↦ rw v.result-is tt
-      | in-Err-Unread v ↦ rw v.result-is (λ is. absurd is)
-      | in-Err-NoMemory v ↦ rw v.result-is (λ is. absurd is)
+      | in-Err-Unread v ↦ rw v.result-is (λ place is. absurd is)
+      | in-Err-NoMemory v ↦ rw v.result-is (λ place is. absurd is)
       | in-Err-Foreign v ↦
           let stops = rw v.in-Err-Foreign.is at c.follow-done.ensures.stops in
           let unknown = rw (rw v.in-Err-Foreign.is at v.in-Err-Foreign.field-0-is) at stops in
-          rw v.result-is (λ is. rw (← c.self.view_is) (stops_unknown _ _ _ _ _ unknown))
+          rw v.result-is (λ place is. rw (← is) (rw (← c.self.view_is) (stops_unknown _ _ _ _ _ _ unknown)))
     ]
 
 pub returns-clause-exact : goal.returns-clause-exact
