@@ -1,5 +1,5 @@
 //! The elements of each message: how they are read, how many octets they take, and how they are written.
-ghost use Rattle.std.specs.Prelude.{◌≡◌, ◌≤◌, ◌<◌, ◌+◌, ◌*◌, ◌^◌, ◌-◌, ◌++◌, ◌∷◌, ◌↔◌, [], min, IsTrue, is_some, length, flat_map, Ok, vec_len, vec_capacity};
+ghost use Rattle.std.specs.Prelude.{◌≡◌, ◌≤◌, ◌<◌, ◌+◌, ◌*◌, ◌^◌, ◌-◌, ◌++◌, ◌↔◌, min, IsTrue, is_some, length, flat_map, Ok, vec_len, vec_capacity};
 ghost use Rattle.std.specs.List.{list_all};
 ghost use Rattle.octet_elements.specs.Elements.{Fits, all_octets, element_octets};
 ghost use Rattle.octet_elements.specs.Lookup.{lookup, values_in};
@@ -274,7 +274,7 @@ fn append_request<A: Allocator + Copy>(
 fn append_cells<A: Allocator>(out: &mut Vec<u8, A>, cells: &[CellId])
     requires { vec_len out.old + 4 * length cells.now ≤ vec_capacity out.old }
     ensures items { out.new.items ≡ out.old.items ++ flat_map cell_octets cells.now }
-    ensures capacity { vec_capacity out.old ≤ vec_capacity out.new }
+    ensures capacity { vec_capacity out.new ≡ vec_capacity out.old }
 {
     for cell in cells {
         append_octets(out, &cell_octets(*cell));
@@ -293,7 +293,7 @@ pub fn append_required<A: Allocator>(
     requires room { HasRoom (all_octets interface_a (handover_required.written (cause, (response, cells.now)))) out.old }
     ensures items { out.new.items ≡ out.old.items ++
         all_octets interface_a (handover_required.written (cause, (response, cells.now))) }
-    ensures capacity { vec_capacity out.old ≤ vec_capacity out.new }
+    ensures capacity { vec_capacity out.new ≡ vec_capacity out.old }
 {
     append_octet::<InterfaceA, A>(out, CAUSE, cause);
     append_presence::<InterfaceA, A>(out, RESPONSE_REQUEST, response);
@@ -308,7 +308,7 @@ pub fn append_elements<A: Allocator + Copy>(message: &Bssmap<A>, out: &mut Vec<u
     requires short { length (all_octets interface_a (elements_of message.now)) < limit }
     requires room { HasRoom (all_octets interface_a (elements_of message.now)) out.old }
     ensures items { out.new.items ≡ out.old.items ++ all_octets interface_a (elements_of message.now) }
-    ensures capacity { vec_capacity out.old ≤ vec_capacity out.new }
+    ensures capacity { vec_capacity out.new ≡ vec_capacity out.old }
 {
     match message {
         Bssmap::HandoverRequest {

@@ -8,7 +8,7 @@ use crate::elements::{append_elements, append_required, can_be_said, elements_le
 use crate::head::LIMIT;
 use crate::message::{Bssmap, CellId};
 use crate::table::{InterfaceA, LAYER_3_INFORMATION, RESPONSE_REQUEST};
-use octet_elements::{append_element, append_octets, presence_len};
+use octet_elements::{append_element, append_octets, make_room, presence_len};
 use std::alloc::{AllocError, Allocator};
 
 /// Whether the message has a canonical text.
@@ -39,7 +39,7 @@ fn message_type<A: Allocator>(message: &Bssmap<A>) -> u8
 }
 
 /// Appends the canonical text of a message. A list with room for it is not moved: no memory is asked for, and its
-/// room is kept.
+/// capacity stays what it was.
 pub fn encode_into<A: Allocator + Copy>(
     message: &Bssmap<A>,
     out: &mut Vec<u8, A>,
@@ -48,7 +48,7 @@ pub fn encode_into<A: Allocator + Copy>(
     ensures appends { Appends (canonical_text message.now) out.old out.new result }
 {
     let len = 1 + elements_len(message);
-    out.reserve(2 + len)?;
+    make_room(out, 2 + len)?;
     append_octets(out, &[0, len as u8, message_type(message)]);
     append_elements(message, out);
     Ok(())
@@ -67,7 +67,7 @@ pub fn encode_request_ack_into<A: Allocator + Copy>(
         out.old out.new result }
 {
     let body = 3 + layer3.len();
-    out.reserve(2 + body)?;
+    make_room(out, 2 + body)?;
     append_octets(out, &[0, body as u8, 0x12]);
     append_element::<InterfaceA, A>(out, LAYER_3_INFORMATION, layer3);
     Ok(())
@@ -88,7 +88,7 @@ pub fn encode_required_into<A: Allocator + Copy>(
         out.old out.new result }
 {
     let body = 11 + presence_len::<InterfaceA>(RESPONSE_REQUEST, response);
-    out.reserve(2 + body)?;
+    make_room(out, 2 + body)?;
     append_octets(out, &[0, body as u8, 0x11]);
     append_required(out, cause, response, &[cell]);
     Ok(())

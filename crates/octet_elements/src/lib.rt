@@ -25,5 +25,5 @@ pub use octets::Octets;
 pub use values::ValueFault;
 pub use write::{
     append_element, append_octet, append_octets, append_optional_octet, append_presence,
-    element_len, octet_len, optional_octet_len, presence_len,
+    element_len, make_room, octet_len, optional_octet_len, presence_len,
 };

@@ -1,19 +1,38 @@
 //! Writing into a list that has room.
-ghost use Rattle.std.specs.Prelude.{◌≡◌, ◌∷◌, [], length};
+ghost use Rattle.std.specs.Prelude.{◌≡◌, ◌+◌, ◌≤◌, ◌∷◌, [], length, IsOk, OnOk, vec_len, vec_capacity};
 ghost use Rattle.octet_elements.specs.Elements.{element_octets, all_octets, Fits};
 ghost use Rattle.octet_elements.specs.Values.{where_some, where_true};
 ghost use Rattle.octet_elements.specs.Writing.{HasRoom, Adds};
 
 use crate::form::{ElementTable, Form};
-use std::alloc::Allocator;
+use std::alloc::{AllocError, Allocator};
 
-/// Appends octets for which the list has room.
+/// Makes room for so many octets more. A list that has room for them is left as it is; else memory is asked for, and
+/// where it is refused the list keeps its octets and its capacity.
+#[inline]
+pub fn make_room<A: Allocator>(out: &mut Vec<u8, A>, count: usize) -> Result<(), AllocError>
+    ensures items { out.new.items ≡ out.old.items }
+    ensures len { vec_len out.new ≡ vec_len out.old }
+    ensures ok { OnOk result (vec_len out.new + count ≤ vec_capacity out.new) }
+    ensures succeeds { vec_len out.old + count ≤ vec_capacity out.old → IsOk result }
+    ensures had_room { vec_len out.old + count ≤ vec_capacity out.old → out.new ≡ out.old }
+    ensures capacity { vec_capacity out.old ≤ vec_capacity out.new }
+{
+    // `reserve` looks for room itself, but `std` doesn't say that it then leaves the capacity as it was.
+    if out.capacity() - out.len() < count {
+        out.reserve(count)?;
+    }
+    Ok(())
+}
+
+/// Appends octets for which the list has room: its capacity stays what it was.
 pub fn append_octets<A: Allocator>(out: &mut Vec<u8, A>, octets: &[u8])
     requires { HasRoom octets.now out.old }
     ensures { Adds octets.now out.old out.new }
 {
-    if out.extend_from_slice(octets).is_err() {
-        unreachable!()
+    // Octet by octet: `std` doesn't say that `extend_from_slice` leaves the capacity as it was.
+    for octet in octets {
+        out.push_reserved(*octet);
     }
 }
 

@@ -8,7 +8,7 @@ use crate::head::head_octets;
 use crate::message::{ChanBits, Rsl};
 use crate::reading::LIMIT;
 use crate::table::{Abis, HANDOVER_REFERENCE};
-use octet_elements::{append_octets, optional_octet_len};
+use octet_elements::{append_octets, make_room, optional_octet_len};
 use std::alloc::{AllocError, Allocator};
 
 /// Whether the message has a canonical text.
@@ -54,12 +54,13 @@ pub fn fits<A: Allocator>(message: &Rsl<A>) -> bool
     }
 }
 
-/// Appends the canonical text of a message. A list with room for it is not moved: no memory is asked for.
+/// Appends the canonical text of a message. A list with room for it is not moved: no memory is asked for, and its
+/// capacity stays what it was.
 pub fn encode_into<A: Allocator>(message: &Rsl<A>, out: &mut Vec<u8, A>) -> Result<(), AllocError>
     requires { HasCanonical message.now }
     ensures appends { Appends (canonical_text message.now) out.old out.new result }
 {
-    out.reserve(2 + elements_len(message))?;
+    make_room(out, 2 + elements_len(message))?;
     append_octets(out, &head_octets(message));
     append_elements(message, out);
     Ok(())
@@ -79,7 +80,7 @@ pub fn encode_data_request_into<A: Allocator>(
     ensures appends { Appends (canonical_text {A = A} (Rsl.DataRequest channel link layer3.now))
         out.old out.new result }
 {
-    out.reserve(9 + layer3.len())?;
+    make_room(out, 9 + layer3.len())?;
     append_octets(out, &[3, 0x01]);
     append_data(out, channel, link, layer3);
     Ok(())
@@ -101,7 +102,10 @@ pub fn encode_activation_into<A: Allocator>(
         (canonical_text {A = A} (Rsl.ChannelActivation channel activation mode.now reference))
         out.old out.new result }
 {
-    out.reserve(8 + mode.len() + optional_octet_len::<Abis>(HANDOVER_REFERENCE, reference))?;
+    make_room(
+        out,
+        8 + mode.len() + optional_octet_len::<Abis>(HANDOVER_REFERENCE, reference),
+    )?;
     append_octets(out, &[8, 0x21]);
     append_activation(out, channel, activation, mode, reference);
     Ok(())
