@@ -3,6 +3,7 @@ ghost use Rattle.std.specs.Prelude.{◌≡◌, ◌≢◌, [], ◌+◌, ◌-◌, 
 ghost use Rattle.bit_fields.specs.Bits.{bits, bits_of, number_of, octets_of};
 ghost use Rattle.bit_fields.specs.Appending.{IsAppended};
 
+use octet_elements::{append_octets, make_room};
 use std::alloc::{AllocError, Allocator};
 use std::marker::Model;
 
@@ -61,15 +62,18 @@ impl BitWriter {
     }
 
     /// Appends the octets of the bit string, whose length is a multiple of eight: all of them, or none where memory is
-    /// refused, which comes only where the list has no room for them. The first bit is the first octet's highest.
+    /// refused, which comes only where the list has no room for them. A list that has room keeps its capacity. The first
+    /// bit is the first octet's highest.
     #[inline]
     pub fn append_to<A: Allocator + Copy>(self, out: &mut Vec<u8, A>) -> Result<(), AllocError>
         requires whole { length self % 8 ≡ 0 }
         ensures written { IsAppended (octets_of self) (length self / 8) out.old out.new result }
     {
         let octets = self.number.to_be_bytes();
-        let unused = 16 - (self.len / 8) as usize;
-        out.extend_from_slice(&octets[unused..])
+        let count = (self.len / 8) as usize;
+        make_room(out, count)?;
+        append_octets(out, &octets[16 - count..]);
+        Ok(())
     }
 }
 
@@ -134,7 +138,7 @@ impl BitReader {
         })
     }
 
-    /// The number of the next bits, one to eight, which are then read; so many are left.
+    /// The number of the next bits, one to eight, which are then read; at least so many are left before.
     #[inline]
     pub fn take(&mut self, width: u32) -> u8
         requires some { 0 < width }

@@ -28,7 +28,7 @@ impl RrCause {
         self.0
     }
 
-    /// Appends the element's one octet.
+    /// Appends the element's one octet. A list with room for it keeps its capacity.
     pub fn encode_into<A: Allocator + Copy>(&self, out: &mut Vec<u8, A>) -> Result<(), AllocError>
         ensures written { IsAppended (cause_text self.now) 1 out.old out.new result }
         ensures text { IsCauseText self.now (cause_text self.now) }

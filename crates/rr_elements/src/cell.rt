@@ -70,7 +70,7 @@ impl CellDescription {
         self.bcc
     }
 
-    /// Appends the element's two octets.
+    /// Appends the element's two octets. A list with room for them keeps its capacity.
     pub fn encode_into<A: Allocator + Copy>(&self, out: &mut Vec<u8, A>) -> Result<(), AllocError>
         ensures written { IsAppended (cell_text self.now) 2 out.old out.new result }
         ensures text { IsCellText self.now (cell_text self.now) }

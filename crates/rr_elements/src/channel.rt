@@ -72,7 +72,7 @@ impl ChanDescription {
         self.carrier
     }
 
-    /// Appends the element's three octets.
+    /// Appends the element's three octets. A list with room for them keeps its capacity.
     pub fn encode_into<A: Allocator + Copy>(&self, out: &mut Vec<u8, A>) -> Result<(), AllocError>
         ensures written { IsAppended (chan_text self.now) 3 out.old out.new result }
         ensures text { IsChanText self.now (chan_text self.now) }

@@ -61,7 +61,7 @@ impl Power {
         self.level
     }
 
-    /// Appends the element's one octet.
+    /// Appends the element's one octet. A list with room for it keeps its capacity.
     pub fn encode_into<A: Allocator + Copy>(&self, out: &mut Vec<u8, A>) -> Result<(), AllocError>
         ensures written { IsAppended (power_text self.now) 1 out.old out.new result }
         ensures text { IsPowerText self.now (power_text self.now) }

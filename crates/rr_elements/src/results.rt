@@ -78,7 +78,7 @@ impl MeasResults {
         &self.places[..self.head.used()]
     }
 
-    /// Appends the element's sixteen octets.
+    /// Appends the element's sixteen octets. A list with room for them keeps its capacity.
     pub fn encode_into<A: Allocator + Copy>(&self, out: &mut Vec<u8, A>) -> Result<(), AllocError>
         ensures written { IsAppended (results_text self.now) 16 out.old out.new result }
         ensures text { IsResultsText self.now (results_text self.now) }

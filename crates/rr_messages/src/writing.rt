@@ -6,6 +6,7 @@ ghost use Rattle.rr_messages.specs.Rr.{kind_of, IsPart, IsRrText, part_text, rr_
 
 use crate::message::Rr;
 use crate::reading::RADIO_RESOURCES;
+use octet_elements::make_room;
 use std::alloc::{AllocError, Allocator};
 
 // Appends the mandatory part, for which there is room.
@@ -14,7 +15,7 @@ fn append_part<A: Allocator + Copy>(message: &Rr, out: &mut Vec<u8, A>) -> Resul
     ensures ok { IsOk result }
     ensures items { out.new.items ≡ out.old.items ++ part_text message.now }
     ensures len { vec_len out.new ≡ vec_len out.old + part_len (kind_of message.now) }
-    ensures capacity { vec_capacity out.old ≤ vec_capacity out.new }
+    ensures capacity { vec_capacity out.new ≡ vec_capacity out.old }
     ensures part { IsPart message.now (part_text message.now) }
 {
     match message {
@@ -26,19 +27,22 @@ fn append_part<A: Allocator + Copy>(message: &Rr, out: &mut Vec<u8, A>) -> Resul
         } => {
             cell.encode_into(out)?;
             channel.encode_into(out)?;
-            out.push(*reference)?;
+            out.push_reserved(*reference);
             power.encode_into(out)
         }
         Rr::HandoverComplete(cause) | Rr::HandoverFailure(cause) | Rr::ChannelRelease(cause) => {
             cause.encode_into(out)
         }
-        Rr::PhysicalInformation(advance) => Ok(out.push(*advance)?),
+        Rr::PhysicalInformation(advance) => {
+            out.push_reserved(*advance);
+            Ok(())
+        }
         Rr::MeasurementReport(results) => results.encode_into(out),
     }
 }
 
-/// Appends a message. A list with room for it is not moved: no memory is asked for. Where memory is
-/// refused the list is as it was.
+/// Appends a message. A list with room for it is not moved: no memory is asked for, and its capacity
+/// stays what it was. Where memory is refused the list is as it was.
 pub fn encode_into<A: Allocator + Copy>(
     message: &Rr,
     out: &mut Vec<u8, A>,
@@ -50,7 +54,7 @@ pub fn encode_into<A: Allocator + Copy>(
     ensures text { OnOk result (IsRrText message.now (rr_text message.now)) }
 {
     let kind = message.kind();
-    out.reserve(2 + kind.part_len())?;
+    make_room(out, 2 + kind.part_len())?;
     out.push_reserved(RADIO_RESOURCES);
     out.push_reserved(kind.octet());
     append_part(message, out)
