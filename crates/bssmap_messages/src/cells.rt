@@ -112,7 +112,7 @@ pub fn cells(value: Option<&[u8]>) -> Result<(u8, &[u8]), ValueFault>
     }
 }
 
-/// The list of the cells after a discriminator.
+/// The list of the cells after a discriminator. Memory is asked for once: for cells of two octets, which are the shortest.
 pub fn read_cells<A: Allocator + Copy>(
     alloc: A,
     discriminator: u8,

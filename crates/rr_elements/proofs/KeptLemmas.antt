@@ -1,7 +1,7 @@
 -- How measurement results are kept: six places, the unused ones 0.
 use Rattle.std.proofs.Common.{◌≡◌, ◌∙◌, ℕ, ◌+◌, ◌-◌, ◌<◌, ◌≤◌, List, ◌++◌, length, take, drop, replicate, ap, arith, All}
 use Rattle.std.proofs.lemmas.Bool.Decides.{nat_tests}
-use Rattle.std.proofs.lemmas.List.{take_at, drop_at, drop-replicate, length-append, length-replicate, length-take-le}
+use Rattle.std.proofs.lemmas.List.{take_at, drop_at, drop-replicate, length-append, length-replicate}
 use Rattle.rr_elements.specs.declared.measurement.MeasHead.{MeasHead}
 use Rattle.rr_elements.specs.declared.measurement.Ncell.{Ncell}
 use Rattle.rr_elements.specs.MeasResults.{HeadFits, NcellFits, IsKept, used_count, no_ncell}
@@ -22,14 +22,4 @@ kept_new head cells fits each count =
       fits = rw front (record { head = fits; each = each; count = count });
       six = length-append cells _ ∙ ap (λ k. length cells + k) (ap length rest ∙ length-replicate (6 - length cells) no_ncell) ∙ omega arith;
       others = drop_at cells _ (used_count head.count) count ∙ rest ∙ ap (λ k. replicate (6 - k) no_ncell) count;
-    }
-
--- what was read is kept so
-pub kept_read : (head : MeasHead) (places : List Ncell) → HeadFits head → length places ≡ 6 → All NcellFits (take (used_count head.count) places) → drop (used_count head.count) places ≡ replicate (6 - used_count head.count) no_ncell → IsKept head places
-kept_read head places fits six each others =
-    let few = used_count_le head.count fits.count in
-    record {
-      fits = record { head = fits; each = each; count = length-take-le (used_count head.count) places (omega arith) };
-      six = six;
-      others = others;
     }

@@ -61,8 +61,5 @@ one_fault octets f g p q =
     cc
 
 -- what is wrong with what follows a type
-pub cut-fault : (k : Kind) (body : List ℕ) (f : RrFault) → (f ≡ Short) × (length body < part_len k) → HasRrFault (6 ∷ type_of k ∷ body) f
-cut-fault k body f (is, short) = rw is (inr (k, body, refl, short))
-
 pub element-fault : (k : Kind) (body : List ℕ) (f : ElementFault) → part_len k ≤ length body → HasPartFault k (take (part_len k) body) f → HasRrFault (6 ∷ type_of k ∷ body) (Element f)
 element-fault k body f long bad = (k, take (part_len k) body, framed-body k body long, bad)

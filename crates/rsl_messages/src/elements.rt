@@ -1,5 +1,5 @@
 //! The elements of each message: how they are read, and beside it how they are written.
-ghost use Rattle.std.specs.Prelude.{◌≡◌, ◌+◌, ◌-◌, ◌^◌, ◌<◌, ◌≤◌, min, length, Ok, Err, IfOk, IfSome};
+ghost use Rattle.std.specs.Prelude.{◌≡◌, ◌+◌, ◌-◌, ◌^◌, ◌<◌, ◌≤◌, min, length, Ok, Err, IfSome};
 ghost use Rattle.std.specs.Option.{option_map};
 ghost use Rattle.octet_elements.specs.Elements.{all_octets};
 ghost use Rattle.octet_elements.specs.Lookup.{lookup};
