@@ -8,7 +8,7 @@ use crate::form::{ElementTable, Form};
 use std::alloc::{AllocError, Allocator};
 
 /// Makes room for so many octets more. A list that has room for them is left as it is; else memory is asked for, and
-/// where it is refused the list keeps its octets and its capacity.
+/// where it is refused the list keeps its octets.
 #[inline]
 pub fn make_room<A: Allocator>(out: &mut Vec<u8, A>, count: usize) -> Result<(), AllocError>
     ensures items { out.new.items ≡ out.old.items }
