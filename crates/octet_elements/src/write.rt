@@ -25,15 +25,34 @@ pub fn make_room<A: Allocator>(out: &mut Vec<u8, A>, count: usize) -> Result<(),
     Ok(())
 }
 
+/// Appends a few octets for which the list has room, one by one.
+#[inline]
+fn append_few<A: Allocator>(out: &mut Vec<u8, A>, octets: &[u8])
+    requires { HasRoom octets.now out.old }
+    ensures { Adds octets.now out.old out.new }
+{
+    for octet in octets {
+        out.push_reserved(*octet);
+    }
+}
+
 /// Appends octets for which the list has room: its capacity stays what it was.
+#[inline]
 pub fn append_octets<A: Allocator>(out: &mut Vec<u8, A>, octets: &[u8])
     requires { HasRoom octets.now out.old }
     ensures { Adds octets.now out.old out.new }
 {
-    // Octet by octet: `std` doesn't say that `extend_from_slice` leaves the capacity as it was.
-    for octet in octets {
-        out.push_reserved(*octet);
+    // Octet by octet: `std` doesn't say that `extend_from_slice` leaves the capacity as it was. Four in one turn, since the
+    // compiled code then stores the list's length once for them.
+    let mut rest = octets;
+    while let [a, b, c, d, after @ ..] = rest {
+        out.push_reserved(*a);
+        out.push_reserved(*b);
+        out.push_reserved(*c);
+        out.push_reserved(*d);
+        rest = after;
     }
+    append_few(out, rest);
 }
 
 /// Appends an element for which the list has room.
