@@ -1,0 +1,188 @@
+//! A desk goes on: each answer is an entry of its history, and the last receipt of its seat.
+use super::Ask::{ReserveAny, Step, TakeAny};
+use super::{Ask, Entry, at_a_new_desk, equals_at, holds};
+use channel_fsm::ChanState;
+use radio_book::event::Event::{Activate, Command, Confirm, Look, Open, Reserve, Take};
+use radio_book::event::Refusal::{ChannelBusy, NoCall, SameCell, WrongPhase};
+use radio_book::event::Reply::{Done, Owned, Record, Refused};
+use radio_book::event::{CallRecord, Kind};
+use radio_desk::desk::{Desk, DeskFault};
+use radio_desk::seat::{Receipt, Seat};
+use sample_sites::{HOME, OTHER, TARGET};
+use std::alloc::{Allocator, Global};
+use std::process::Abort;
+use std::test::Fail;
+
+pub(super) fn put<A: Allocator + Copy>(
+    desk: &mut Desk<A>,
+    seat: &mut Seat,
+    ask: Ask,
+) -> Result<Option<Receipt>, DeskFault> {
+    match ask {
+        Step(event) => desk.judge(seat, event).map(Some),
+        TakeAny(call, kind, cell) => desk.judge_take(seat, call, kind, cell),
+        ReserveAny(call) => desk.judge_reserve(seat, call).map(Some),
+    }
+}
+
+// Call 1 comes to rest, moves to cell 1 and back; refused events are entries too, and a cell without a free channel isn't.
+pub(super) const COURSE: &[(Ask, Entry)] = &[
+    (Step(Open(1, HOME)), Some((Open(1, HOME), Done))),
+    (
+        Step(Open(2, HOME)),
+        Some((Open(2, HOME), Refused(ChannelBusy(HOME)))),
+    ),
+    (Step(Confirm(HOME)), Some((Confirm(HOME), Owned(1)))),
+    (ReserveAny(1), Some((Reserve(1, 0), Refused(WrongPhase)))),
+    (TakeAny(1, Kind::Internal, 7), None),
+    (
+        TakeAny(1, Kind::Internal, 1),
+        Some((Take(1, Kind::Internal, TARGET), Done)),
+    ),
+    (TakeAny(2, Kind::Incoming, 1), None),
+    (ReserveAny(1), Some((Reserve(1, 0), Done))),
+    (Step(Look(2)), Some((Look(2), Refused(NoCall)))),
+    (Step(Activate(1)), Some((Activate(1), Done))),
+    (
+        TakeAny(1, Kind::Internal, 0),
+        Some((Take(1, Kind::Internal, OTHER), Refused(WrongPhase))),
+    ),
+    (Step(Confirm(TARGET)), Some((Confirm(TARGET), Owned(1)))),
+    (Step(Command(1)), Some((Command(1), Done))),
+];
+
+// The receipt that the entry gets at a place.
+fn receipt_of(place: usize, entry: Entry) -> Option<Receipt> {
+    entry.map(|(event, reply)| Receipt {
+        place,
+        event,
+        reply,
+    })
+}
+
+// The last receipt of a seat is this one.
+fn is_last(rt: &impl Abort, seat: &Seat, expected: Option<Receipt>, ask: Ask) {
+    equals_at(rt, seat.last(), expected, ask);
+}
+
+// The entry of a desk at a place is this one.
+fn is_entry(rt: &impl Abort, desk: &Desk<Global>, place: usize, entry: Entry, ask: Ask) {
+    equals_at(rt, desk.entry(place).copied(), entry, ask);
+}
+
+// An ask leads to this entry, and to its receipt.
+fn leads_to(
+    rt: &impl Abort,
+    desk: &mut Desk<Global>,
+    seat: &mut Seat,
+    ask: Ask,
+    entry: Entry,
+) -> Result<(), Fail> {
+    let place = desk.len();
+    let last = seat.last();
+    let expected = receipt_of(place, entry);
+    equals_at(rt, put(desk, seat, ask)?, expected, ask);
+    is_last(rt, seat, expected.or(last), ask);
+    is_entry(rt, desk, place, entry, ask);
+    Ok(())
+}
+
+fn play(
+    rt: &impl Abort,
+    desk: &mut Desk<Global>,
+    seat: &mut Seat,
+    course: &[(Ask, Entry)],
+) -> Result<(), Fail> {
+    for (ask, entry) in course {
+        leads_to(rt, desk, seat, *ask, *entry)?;
+    }
+    Ok(())
+}
+
+// The history has so many entries, and none behind them.
+fn has_entries(rt: &impl Abort, desk: &Desk<Global>, count: usize) {
+    equals_at(rt, desk.len(), count, "the entries of a desk");
+    equals_at(
+        rt,
+        desk.entry(count).copied(),
+        None,
+        "the entry behind the last",
+    );
+}
+
+fn goes_on(rt: &impl Abort, desk: &mut Desk<Global>) -> Result<(), Fail> {
+    let mut seat = Seat::new();
+    equals_at(rt, seat.last(), None, "the receipt of a new seat");
+    has_entries(rt, desk, 0);
+    play(rt, desk, &mut seat, COURSE)?;
+    has_entries(rt, desk, 11);
+    Ok(())
+}
+
+#[test]
+fn each_answer_is_an_entry_and_the_last_receipt(rt: HostRuntime) -> Result<(), Fail> {
+    at_a_new_desk(&rt, |rt, desk| goes_on(rt, desk))
+}
+
+fn books_of(rt: &impl Abort, desk: &Desk<Global>) {
+    equals_at(
+        rt,
+        desk.opening().usage(),
+        holds(0, 0, 0, 0),
+        "the opening book",
+    );
+    equals_at(rt, desk.book().usage(), holds(2, 1, 1, 1), "the book");
+}
+
+fn books_after(rt: &impl Abort, desk: &mut Desk<Global>) -> Result<(), Fail> {
+    play(rt, desk, &mut Seat::new(), COURSE)?;
+    books_of(rt, desk);
+    Ok(())
+}
+
+#[test]
+fn the_opening_book_stays_and_the_book_goes_on(rt: HostRuntime) -> Result<(), Fail> {
+    at_a_new_desk(&rt, |rt, desk| books_after(rt, desk))
+}
+
+// Call 1 on its channel.
+const RESTING: CallRecord = CallRecord {
+    serving: Some(HOME),
+    attempt: None,
+};
+
+fn two_callers(rt: &impl Abort, desk: &mut Desk<Global>) -> Result<(), Fail> {
+    let (mut one, mut other) = (Seat::new(), Seat::new());
+    play(
+        rt,
+        desk,
+        &mut one,
+        &[(Step(Open(1, HOME)), Some((Open(1, HOME), Done)))],
+    )?;
+    let looked = Record(RESTING, Some(ChanState::Pending(1)));
+    play(
+        rt,
+        desk,
+        &mut other,
+        &[(Step(Look(1)), Some((Look(1), looked)))],
+    )?;
+    let same_cell = Refused(SameCell);
+    play(
+        rt,
+        desk,
+        &mut one,
+        &[(Step(Confirm(HOME)), Some((Confirm(HOME), Owned(1))))],
+    )?;
+    let moved = Take(1, Kind::Internal, OTHER);
+    play(
+        rt,
+        desk,
+        &mut other,
+        &[(TakeAny(1, Kind::Internal, 0), Some((moved, same_cell)))],
+    )
+}
+
+#[test]
+fn each_caller_sees_what_others_did(rt: HostRuntime) -> Result<(), Fail> {
+    at_a_new_desk(&rt, |rt, desk| two_callers(rt, desk))
+}
