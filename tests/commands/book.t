@@ -3,91 +3,91 @@ answers that line, so each command shows the words of all replies of its trace, 
 
 A call begins and ends:
 
-  $ ./lab rewind tests/book/site.toml tests/book/calls_begin_and_end.trace 1
+  $ ./lab rewind tests/book/site.toml tests/book/calls_begin_and_end.trace 1 2>/dev/null
   no attempt
   [2]
 
 A reference of a cell is used once:
 
-  $ ./lab rewind tests/book/site.toml tests/book/a_reference_is_used_once.trace 1
+  $ ./lab rewind tests/book/site.toml tests/book/a_reference_is_used_once.trace 1 2>/dev/null
   no attempt
   [2]
 
 An open attempt refuses:
 
-  $ ./lab rewind tests/book/site.toml tests/book/an_open_attempt_refuses.trace 1
+  $ ./lab rewind tests/book/site.toml tests/book/an_open_attempt_refuses.trace 1 2>/dev/null
   no attempt
   [2]
 
 No release is awaited after a refused activation:
 
-  $ ./lab rewind tests/book/site.toml tests/book/a_refused_activation.trace 1
+  $ ./lab rewind tests/book/site.toml tests/book/a_refused_activation.trace 1 2>/dev/null
   no attempt
   [2]
 
 An answer after the undo is unexpected:
 
-  $ ./lab rewind tests/book/site.toml tests/book/an_answer_after_the_undo.trace 1
+  $ ./lab rewind tests/book/site.toml tests/book/an_answer_after_the_undo.trace 1 2>/dev/null
   no attempt
   [2]
 
 Call 1 rests, and call 3 has begun on the channel of cell 1:
 
-  $ ./lab rewind tests/book/site.toml tests/book/the_first_refusal.trace 1
+  $ ./lab rewind tests/book/site.toml tests/book/the_first_refusal.trace 1 2>/dev/null
   no attempt
   [2]
 
 Any free channel is taken:
 
-  $ ./lab rewind tests/book/site.toml tests/book/any_free_channel.trace 1
+  $ ./lab rewind tests/book/site.toml tests/book/any_free_channel.trace 1 2>/dev/null
   no attempt
   [2]
 
 A call moves to its target:
 
-  $ ./lab rewind tests/book/site.toml tests/book/a_call_moves.trace 1
+  $ ./lab rewind tests/book/site.toml tests/book/a_call_moves.trace 1 2>/dev/null
   no attempt
   [2]
 
 A call of another controller comes or is forgotten:
 
-  $ ./lab rewind tests/book/site.toml tests/book/a_call_comes.trace 1
+  $ ./lab rewind tests/book/site.toml tests/book/a_call_comes.trace 1 2>/dev/null
   no attempt
   [2]
 
 A call leaves for another controller:
 
-  $ ./lab rewind tests/book/site.toml tests/book/a_call_leaves.trace 1
+  $ ./lab rewind tests/book/site.toml tests/book/a_call_leaves.trace 1 2>/dev/null
   no attempt
   [2]
 
 A move to another controller is taken back:
 
-  $ ./lab rewind tests/book/site.toml tests/book/a_call_leaves_and_is_taken_back.trace 1
+  $ ./lab rewind tests/book/site.toml tests/book/a_call_leaves_and_is_taken_back.trace 1 2>/dev/null
   no attempt
   [2]
 
 A call moves to its target, while another begins and comes too late for the channel:
 
-  $ ./lab rewind tests/book/site.toml tests/book/overtaken.trace 1
+  $ ./lab rewind tests/book/site.toml tests/book/overtaken.trace 1 2>/dev/null
   no attempt
   [2]
 
 Taken:
 
-  $ ./lab rewind tests/book/site.toml tests/book/each_stage_of_a_call_that_comes.trace 1
+  $ ./lab rewind tests/book/site.toml tests/book/each_stage_of_a_call_that_comes.trace 1 2>/dev/null
   no attempt
   [2]
 
 Taken:
 
-  $ ./lab rewind tests/book/site.toml tests/book/each_stage_of_a_call_that_moves.trace 1
+  $ ./lab rewind tests/book/site.toml tests/book/each_stage_of_a_call_that_moves.trace 1 2>/dev/null
   no attempt
   [2]
 
 Required:
 
-  $ ./lab rewind tests/book/site.toml tests/book/each_stage_of_a_call_that_leaves.trace 1
+  $ ./lab rewind tests/book/site.toml tests/book/each_stage_of_a_call_that_leaves.trace 1 2>/dev/null
   no attempt
   [2]
 
@@ -132,7 +132,7 @@ A call is refused for the target:
   held 5
   differs
   [1]
-  $ ./lab rewind tests/book/site.toml tests/book/undone_a_call_is_refused.trace 5
+  $ ./lab rewind tests/book/site.toml tests/book/undone_a_call_is_refused.trace 5 2>/dev/null
   no attempt
   [2]
 
@@ -184,7 +184,7 @@ An attempt is taken back after another that was completed:
   settled yes
   held -
   same
-  $ ./lab rewind tests/book/site.toml tests/book/undone_after_a_completed_one.trace 4
+  $ ./lab rewind tests/book/site.toml tests/book/undone_after_a_completed_one.trace 4 2>/dev/null
   no attempt
   [2]
 
@@ -195,7 +195,7 @@ A call is to leave again, once it has left and begun anew:
   settled yes
   held -
   same
-  $ ./lab rewind tests/book/site.toml tests/book/undone_after_one_that_left.trace 4
+  $ ./lab rewind tests/book/site.toml tests/book/undone_after_one_that_left.trace 4 2>/dev/null
   no attempt
   [2]
 
@@ -226,34 +226,34 @@ An attempt is taken back by a timer, and its call opens in the list:
 
 A handover that is completed:
 
-  $ ./lab rewind tests/book/site.toml tests/book/not_undone_a_completed_one.trace 4
+  $ ./lab rewind tests/book/site.toml tests/book/not_undone_a_completed_one.trace 4 2>/dev/null
   no attempt
   [2]
-  $ ./lab rewind tests/book/site.toml tests/book/not_undone_a_completed_one.trace 99
+  $ ./lab rewind tests/book/site.toml tests/book/not_undone_a_completed_one.trace 99 2>/dev/null
   no attempt
   [2]
 
 A call, a refused Take and an Undo open none:
 
-  $ ./lab rewind tests/book/site.toml tests/book/not_undone_what_opens_none.trace 5
+  $ ./lab rewind tests/book/site.toml tests/book/not_undone_what_opens_none.trace 5 2>/dev/null
   no attempt
   [2]
-  $ ./lab rewind tests/book/site.toml tests/book/not_undone_what_opens_none.trace 6
+  $ ./lab rewind tests/book/site.toml tests/book/not_undone_what_opens_none.trace 6 2>/dev/null
   no attempt
   [2]
-  $ ./lab rewind tests/book/site.toml tests/book/not_undone_what_opens_none.trace 7
+  $ ./lab rewind tests/book/site.toml tests/book/not_undone_what_opens_none.trace 7 2>/dev/null
   no attempt
   [2]
 
 An attempt that is open:
 
-  $ ./lab rewind tests/book/site.toml tests/book/not_undone_an_open_one.trace 4
+  $ ./lab rewind tests/book/site.toml tests/book/not_undone_an_open_one.trace 4 2>/dev/null
   no attempt
   [2]
 
 No events:
 
-  $ ./lab rewind tests/book/site.toml tests/book/not_undone_no_events.trace 99
+  $ ./lab rewind tests/book/site.toml tests/book/not_undone_no_events.trace 99 2>/dev/null
   no attempt
   [2]
 
@@ -299,7 +299,7 @@ A target awaits its release while its number goes to another attempt:
 
 Two calls change places:
 
-  $ ./lab rewind tests/book/six_channels.toml tests/book/overlap_two_change_places.trace 1
+  $ ./lab rewind tests/book/six_channels.toml tests/book/overlap_two_change_places.trace 1 2>/dev/null
   no attempt
   [2]
 
@@ -318,7 +318,7 @@ A call comes to the cell to which others move:
 
 A call leaves for another controller while another moves to its cell:
 
-  $ ./lab rewind tests/book/six_channels.toml tests/book/overlap_one_leaves_as_another_comes.trace 1
+  $ ./lab rewind tests/book/six_channels.toml tests/book/overlap_one_leaves_as_another_comes.trace 1 2>/dev/null
   no attempt
   [2]
 

@@ -60,16 +60,6 @@ fn receipt_of(place: usize, entry: Entry) -> Option<Receipt> {
     })
 }
 
-// The last receipt of a seat is this one.
-fn is_last(rt: &impl Abort, seat: &Seat, expected: Option<Receipt>, ask: Ask) {
-    equals_at(rt, seat.last(), expected, ask);
-}
-
-// The entry of a desk at a place is this one.
-fn is_entry(rt: &impl Abort, desk: &Desk<Global>, place: usize, entry: Entry, ask: Ask) {
-    equals_at(rt, desk.entry(place).copied(), entry, ask);
-}
-
 // An ask leads to this entry, and to its receipt.
 fn leads_to(
     rt: &impl Abort,
@@ -82,8 +72,8 @@ fn leads_to(
     let last = seat.last();
     let expected = receipt_of(place, entry);
     equals_at(rt, put(desk, seat, ask)?, expected, ask);
-    is_last(rt, seat, expected.or(last), ask);
-    is_entry(rt, desk, place, entry, ask);
+    equals_at(rt, seat.last(), expected.or(last), ask);
+    equals_at(rt, desk.entry(place).copied(), entry, ask);
     Ok(())
 }
 
@@ -153,33 +143,21 @@ const RESTING: CallRecord = CallRecord {
 
 fn two_callers(rt: &impl Abort, desk: &mut Desk<Global>) -> Result<(), Fail> {
     let (mut one, mut other) = (Seat::new(), Seat::new());
-    play(
-        rt,
-        desk,
-        &mut one,
-        &[(Step(Open(1, HOME)), Some((Open(1, HOME), Done)))],
-    )?;
     let looked = Record(RESTING, Some(ChanState::Pending(1)));
-    play(
-        rt,
-        desk,
-        &mut other,
-        &[(Step(Look(1)), Some((Look(1), looked)))],
-    )?;
-    let same_cell = Refused(SameCell);
-    play(
-        rt,
-        desk,
-        &mut one,
-        &[(Step(Confirm(HOME)), Some((Confirm(HOME), Owned(1))))],
-    )?;
-    let moved = Take(1, Kind::Internal, OTHER);
-    play(
-        rt,
-        desk,
-        &mut other,
-        &[(TakeAny(1, Kind::Internal, 0), Some((moved, same_cell)))],
-    )
+    let taken = Take(1, Kind::Internal, OTHER);
+    let asks = (
+        (Step(Open(1, HOME)), Some((Open(1, HOME), Done))),
+        (Step(Look(1)), Some((Look(1), looked))),
+        (Step(Confirm(HOME)), Some((Confirm(HOME), Owned(1)))),
+        (
+            TakeAny(1, Kind::Internal, 0),
+            Some((taken, Refused(SameCell))),
+        ),
+    );
+    play(rt, desk, &mut one, &[asks.0])?;
+    play(rt, desk, &mut other, &[asks.1])?;
+    play(rt, desk, &mut one, &[asks.2])?;
+    play(rt, desk, &mut other, &[asks.3])
 }
 
 #[test]

@@ -1,7 +1,6 @@
-//! Memory is refused in each call of a book, in a run and in a rewind.
+//! Memory is refused in each call of a book, and in a rewind, which asks three runs.
 use super::Ask::{ReserveAny, Step, TakeAny};
 use super::{Ask, STEADY, book_of, channel_at, equals_at, holds, holds_at, put_to_book, step_all};
-use channel_fsm::ChanId;
 use radio_book::book::{Book, Usage};
 use radio_book::event::Event::{
     Clear, Confirm, Detect, Left, Open, Order, Refuse, Require, Reserve, Take,
@@ -10,7 +9,6 @@ use radio_book::event::Kind::{Incoming, Internal};
 use radio_book::event::Reply::Done;
 use radio_book::event::{Event, Reply};
 use radio_book::rewind::{RewindFault, rewind};
-use radio_book::run::run;
 use refusing_heap::RefusingHeap;
 use sample_sites::{HOME, OTHER, TARGET, THREE_CHANNELS, site_of_cells};
 use std::alloc::AllocError;
@@ -25,7 +23,6 @@ enum Trial<'a> {
     Answered(Ask),
     // All this is asked when no memory is left, and the book holds so much then.
     WithoutMemory(&'a [Event], Usage),
-    Run(&'a [Event], Usage),
     Rewound(&'a [Event], &'a [usize]),
     Compared,
 }
@@ -70,28 +67,6 @@ fn needs_no_memory(
     Ok(())
 }
 
-// The book that a run begins with stays as it is, whether memory is refused or not.
-fn is_run<'a>(
-    rt: &impl Abort,
-    book: &Book<&'a RefusingHeap>,
-    heap: &'a RefusingHeap,
-    events: &[Event],
-    usage: Usage,
-) {
-    let before = book.usage();
-    let after = match run(heap, book, events) {
-        Ok((after, _)) => Some(after.usage()),
-        Err(_) => None,
-    };
-    let wanted = if heap.was_refused() {
-        None
-    } else {
-        Some(usage)
-    };
-    equals_at(rt, after, wanted, heap.refusals());
-    equals_at(rt, book.usage(), before, heap.refusals());
-}
-
 // Where memory was refused that is answered, or, where less did as well, what is answered with ample memory.
 fn is_rewound<'a>(
     rt: &impl Abort,
@@ -132,10 +107,6 @@ fn is_tried<'a>(
         Trial::Nothing => Ok(()),
         Trial::Answered(ask) => is_answered(rt, book, heap, ask),
         Trial::WithoutMemory(events, usage) => needs_no_memory(rt, book, heap, events, usage),
-        Trial::Run(events, usage) => {
-            is_run(rt, book, heap, events, usage);
-            Ok(())
-        }
         Trial::Rewound(events, others) => {
             is_rewound(rt, book, heap, events, others);
             Ok(())
@@ -215,26 +186,8 @@ fn meets_each_refusal(
     Ok(())
 }
 
-// On a site of two cells with 31 channels each: the first of cell 0, and two that no call has before.
-const FIRST: ChanId = ChanId {
-    cell: 0,
-    trx: 0,
-    tn: 1,
-};
-
-const UNUSED: ChanId = ChanId {
-    cell: 0,
-    trx: 2,
-    tn: 3,
-};
-
-const LAST: ChanId = ChanId {
-    cell: 1,
-    trx: 3,
-    tn: 7,
-};
-
-// What takes memory, behind so many calls and these events. A table asks for memory with its first entry, and where the 15
+// What takes memory, behind so many calls and these events, on a site of two cells with 31 channels each. Call 3 is on
+// the channel 0/0/3. A table asks for memory with its first entry, and where the 15
 // entries of a node are full.
 type Takes = (u16, &'static [Event], &'static [Ask]);
 
@@ -243,8 +196,8 @@ const TAKES: &[Takes] = &[
         0,
         &[],
         &[
-            Step(Open(1, UNUSED)),
-            Step(Take(1, Incoming, LAST)),
+            Step(Open(1, HOME)),
+            Step(Take(1, Incoming, TARGET)),
             TakeAny(1, Incoming, 1),
         ],
     ),
@@ -252,20 +205,20 @@ const TAKES: &[Takes] = &[
         15,
         &[],
         &[
-            Step(Open(16, UNUSED)),
-            Step(Take(16, Incoming, LAST)),
+            Step(Open(16, TARGET)),
+            Step(Take(16, Incoming, TARGET)),
             TakeAny(16, Incoming, 1),
         ],
     ),
     (
         15,
-        &[Confirm(FIRST)],
-        &[Step(Take(1, Internal, LAST)), TakeAny(1, Internal, 1)],
+        &[Confirm(HOME)],
+        &[Step(Take(3, Internal, TARGET)), TakeAny(3, Internal, 1)],
     ),
     (
-        1,
-        &[Confirm(FIRST), Take(1, Internal, LAST)],
-        &[Step(Reserve(1, 7)), ReserveAny(1)],
+        3,
+        &[Confirm(HOME), Take(3, Internal, TARGET)],
+        &[Step(Reserve(3, 7)), ReserveAny(3)],
     ),
 ];
 
@@ -314,14 +267,8 @@ const TAKEN_BACK: &[Event] = &[
 ];
 
 #[test]
-fn each_refusal_of_memory_in_a_run_is_answered(rt: HostRuntime) -> Result<(), Fail> {
-    let trial = Trial::Run(TAKEN_BACK, holds(2, 2, 0, 0));
-    meets_each_refusal(&rt, 3, AT_REST, trial)
-}
-
-#[test]
 fn each_refusal_of_memory_in_a_rewind_is_answered(rt: HostRuntime) -> Result<(), Fail> {
-    meets_each_refusal(&rt, 1, AT_REST, Trial::Rewound(TAKEN_BACK, &[4]))
+    meets_each_refusal(&rt, 3, AT_REST, Trial::Rewound(TAKEN_BACK, &[4]))
 }
 
 // Call 1 has an attempt with a reference, and call 2 has begun.
