@@ -1,6 +1,9 @@
 //! Memory is refused in each call of a book, and in a rewind, which asks three runs.
 use super::Ask::{ReserveAny, Step, TakeAny};
-use super::{Ask, STEADY, book_of, channel_at, equals_at, holds, holds_at, put_to_book, step_all};
+use super::{
+    ACTIVATE, Ask, COMMAND, CONFIRM, RELEASED, RESERVE, STEADY, TAKE, UNDO, book_of, channel_at,
+    equals_at, holds, holds_at, put_to_book, step_all,
+};
 use radio_book::book::{Book, Usage};
 use radio_book::event::Event::{
     Clear, Confirm, Detect, Left, Open, Order, Refuse, Require, Reserve, Take,
