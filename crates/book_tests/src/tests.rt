@@ -1,7 +1,6 @@
 mod choices;
 mod desk;
 mod desk_memory;
-mod equality;
 mod foreign;
 mod hundred;
 mod largest;
@@ -19,7 +18,7 @@ use radio_book::event::Kind::Internal;
 use radio_book::event::Why::Asked;
 use radio_book::event::{Event, Kind, Reply};
 use radio_desk::desk::Desk;
-use sample_sites::{HOME, TARGET, THREE_CHANNELS};
+use sample_sites::{HOME, TARGET, THREE_CHANNELS, changed};
 use std::alloc::{AllocError, Allocator, Global};
 use std::fmt::Debug;
 use std::process::Abort;
@@ -179,4 +178,31 @@ fn is_of_two_cells(rt: &impl Abort, book: &Book<Global>) -> Result<(), Fail> {
 #[test]
 fn the_site_of_a_book_is_the_one_given(rt: HostRuntime) -> Result<(), Fail> {
     at_a_new_book(&rt, THREE_CHANNELS, |rt, book| is_of_two_cells(rt, book))
+}
+
+// A book equals the empty book of the site that a text describes, or doesn't. What else they hold, rewinds compare.
+fn is_compared(
+    rt: &(impl AllocGlobal + Abort),
+    book: &Book<Global>,
+    text: &str,
+    wanted: bool,
+) -> Result<(), Fail> {
+    let other = book_of(rt.alloc(), rt.alloc(), text)?;
+    equals_at(rt, *book == other, wanted, text);
+    Ok(())
+}
+
+fn is_told_by_its_site(rt: &(impl AllocGlobal + Abort), book: &Book<Global>) -> Result<(), Fail> {
+    let wide = changed(rt.alloc(), THREE_CHANNELS, "margin = 3", "margin = 4")?;
+    is_compared(rt, book, THREE_CHANNELS, true)?;
+    is_compared(rt, book, &wide.expect(rt, "the site's margin"), false)
+}
+
+#[test]
+fn empty_books_are_equal_where_their_sites_are(rt: HostRuntime) -> Result<(), Fail> {
+    at_a_new_book(
+        &rt,
+        THREE_CHANNELS,
+        |rt, book| is_told_by_its_site(rt, book),
+    )
 }

@@ -1,11 +1,10 @@
 //! A desk goes on: each answer is an entry of its history, and the last receipt of its seat.
 use super::Ask::{ReserveAny, Step, TakeAny};
 use super::{Ask, Entry, at_a_new_desk, equals_at, holds};
-use channel_fsm::ChanState;
 use radio_book::event::Event::{Activate, Command, Confirm, Look, Open, Reserve, Take};
-use radio_book::event::Refusal::{ChannelBusy, NoCall, SameCell, WrongPhase};
-use radio_book::event::Reply::{Done, Owned, Record, Refused};
-use radio_book::event::{CallRecord, Kind};
+use radio_book::event::Kind;
+use radio_book::event::Refusal::{ChannelBusy, NoCall, WrongPhase};
+use radio_book::event::Reply::{Done, Owned, Refused};
 use radio_desk::desk::{Desk, DeskFault};
 use radio_desk::seat::{Receipt, Seat};
 use sample_sites::{HOME, OTHER, TARGET};
@@ -100,21 +99,8 @@ fn has_entries(rt: &impl Abort, desk: &Desk<Global>, count: usize) {
     );
 }
 
-fn goes_on(rt: &impl Abort, desk: &mut Desk<Global>) -> Result<(), Fail> {
-    let mut seat = Seat::new();
-    equals_at(rt, seat.last(), None, "the receipt of a new seat");
-    has_entries(rt, desk, 0);
-    play(rt, desk, &mut seat, COURSE)?;
-    has_entries(rt, desk, 11);
-    Ok(())
-}
-
-#[test]
-fn each_answer_is_an_entry_and_the_last_receipt(rt: HostRuntime) -> Result<(), Fail> {
-    at_a_new_desk(&rt, |rt, desk| goes_on(rt, desk))
-}
-
-fn books_of(rt: &impl Abort, desk: &Desk<Global>) {
+// The opening book stays, and the book goes on.
+fn has_books(rt: &impl Abort, desk: &Desk<Global>) {
     equals_at(
         rt,
         desk.opening().usage(),
@@ -124,43 +110,17 @@ fn books_of(rt: &impl Abort, desk: &Desk<Global>) {
     equals_at(rt, desk.book().usage(), holds(2, 1, 1, 1), "the book");
 }
 
-fn books_after(rt: &impl Abort, desk: &mut Desk<Global>) -> Result<(), Fail> {
-    play(rt, desk, &mut Seat::new(), COURSE)?;
-    books_of(rt, desk);
+fn goes_on(rt: &impl Abort, desk: &mut Desk<Global>) -> Result<(), Fail> {
+    let mut seat = Seat::new();
+    equals_at(rt, seat.last(), None, "the receipt of a new seat");
+    has_entries(rt, desk, 0);
+    play(rt, desk, &mut seat, COURSE)?;
+    has_entries(rt, desk, 11);
+    has_books(rt, desk);
     Ok(())
 }
 
 #[test]
-fn the_opening_book_stays_and_the_book_goes_on(rt: HostRuntime) -> Result<(), Fail> {
-    at_a_new_desk(&rt, |rt, desk| books_after(rt, desk))
-}
-
-// Call 1 on its channel.
-const RESTING: CallRecord = CallRecord {
-    serving: Some(HOME),
-    attempt: None,
-};
-
-fn two_callers(rt: &impl Abort, desk: &mut Desk<Global>) -> Result<(), Fail> {
-    let (mut one, mut other) = (Seat::new(), Seat::new());
-    let looked = Record(RESTING, Some(ChanState::Pending(1)));
-    let taken = Take(1, Kind::Internal, OTHER);
-    let asks = (
-        (Step(Open(1, HOME)), Some((Open(1, HOME), Done))),
-        (Step(Look(1)), Some((Look(1), looked))),
-        (Step(Confirm(HOME)), Some((Confirm(HOME), Owned(1)))),
-        (
-            TakeAny(1, Kind::Internal, 0),
-            Some((taken, Refused(SameCell))),
-        ),
-    );
-    play(rt, desk, &mut one, &[asks.0])?;
-    play(rt, desk, &mut other, &[asks.1])?;
-    play(rt, desk, &mut one, &[asks.2])?;
-    play(rt, desk, &mut other, &[asks.3])
-}
-
-#[test]
-fn each_caller_sees_what_others_did(rt: HostRuntime) -> Result<(), Fail> {
-    at_a_new_desk(&rt, |rt, desk| two_callers(rt, desk))
+fn each_answer_is_an_entry_and_the_last_receipt(rt: HostRuntime) -> Result<(), Fail> {
+    at_a_new_desk(&rt, |rt, desk| goes_on(rt, desk))
 }

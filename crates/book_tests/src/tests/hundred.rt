@@ -1,7 +1,5 @@
 //! A hundred events: ten calls begin on the first channels of cell 0 and move to those of cell 1, one event of each in turn.
 //! Those with an even number arrive; the timers of the others run out.
-ghost use Rattle.std.specs.Prelude.{◌<◌};
-
 use super::openings::rewinds;
 use super::worked::finds_none;
 use super::{at_a_new_book, channel_at, equals_at, holds, holds_at};
