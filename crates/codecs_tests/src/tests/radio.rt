@@ -48,20 +48,23 @@ fn messages_come_back(rt: HostRuntime) {
 
 const HOPPING: RrFault = RrFault::Element(ElementFault::Hopping);
 
+/// Octets that are no message, and why: a report that is cut, a channel that hops, a half rate channel, and a type that isn't
+/// known.
+const FAULTS: &[(&str, RrFault)] = &[
+    ("06151e1e006812a0000000000000000000", RrFault::Short),
+    ("062bd5670bb36b2a05", HOPPING),
+    (
+        "062bd56713a36b2a05",
+        RrFault::Element(ElementFault::BadType),
+    ),
+    ("06ff", RrFault::UnknownType(255)),
+];
+
 #[test]
 fn other_octets_are_no_message(rt: HostRuntime) {
-    // a report that is cut, a channel that hops, a half rate channel, and a type that isn't known
-    for (text, fault) in [
-        ("06151e1e006812a0000000000000000000", RrFault::Short),
-        ("062bd5670bb36b2a05", HOPPING),
-        (
-            "062bd56713a36b2a05",
-            RrFault::Element(ElementFault::BadType),
-        ),
-        ("06ff", RrFault::UnknownType(255)),
-    ] {
-        let found = decode(&octets_of(&rt, text)).err();
-        equals_at(&rt, found, Some(fault), text);
+    for (text, fault) in FAULTS {
+        let found = decode(&octets_of(&rt, *text)).err();
+        equals_at(&rt, found, Some(*fault), text);
     }
 }
 

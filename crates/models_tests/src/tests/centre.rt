@@ -17,7 +17,7 @@ pub(super) enum Ask {
     HangUp(usize, u16),
 }
 
-pub(super) use Ask::{HangUp, Send};
+use Ask::{HangUp, Send};
 
 /// A message from the centre: its controller and call, and the octets.
 pub(super) type Out = (usize, u16, &'static [u8]);

@@ -1,7 +1,8 @@
 //! Courses through a simulated world: what is sent or set, and what comes back.
+use super::stations::Ask::{Send, Set};
 use super::stations::{
     ACK, ACK_2, ACTIVATE, ACTIVATE_2, ACTIVATE_42, COMMAND, COMPLETE, DETECTION, FAILURE, NACK,
-    Out, RELEASE, RELEASED, Row, Send, Set, play,
+    Out, RELEASE, RELEASED, Row, play,
 };
 use bts_model::{Act, Habit};
 use channel_fsm::ChanId;

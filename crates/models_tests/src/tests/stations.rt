@@ -18,7 +18,7 @@ pub(super) enum Ask {
     Set(usize, ChanId, Act),
 }
 
-pub(super) use Ask::{Send, Set};
+use Ask::{Send, Set};
 
 /// A message from a station: its controller, cell and TRX, and the octets.
 pub(super) type Out = (usize, u8, u8, &'static [u8]);
@@ -33,10 +33,8 @@ pub(super) const ACTIVATE_2: &[u8] = b"\x08\x21\x01\x0a\x03\x00\x06\x04\x00\x01\
 
 pub(super) const ACTIVATE_42: &[u8] = b"\x08\x21\x01\x0b\x03\x02\x06\x04\x00\x01\x08\x01\x09\x2a";
 
-// RF CHANNEL RELEASE of timeslots 3 and 2.
+// RF CHANNEL RELEASE of timeslot 3.
 pub(super) const RELEASE: &[u8] = b"\x08\x2e\x01\x0b";
-
-pub(super) const RELEASE_2: &[u8] = b"\x08\x2e\x01\x0a";
 
 // What a station says of timeslots 3 and 2: CHANNEL ACTIVATION ACKNOWLEDGE with frame 0, NEGATIVE ACKNOWLEDGE with cause
 // 20, RF CHANNEL RELEASE ACKNOWLEDGE.
@@ -47,8 +45,6 @@ pub(super) const ACK_2: &[u8] = b"\x08\x22\x01\x0a\x08\x00\x00";
 pub(super) const NACK: &[u8] = b"\x08\x23\x01\x0b\x1a\x01\x20";
 
 pub(super) const RELEASED: &[u8] = b"\x08\x33\x01\x0b";
-
-pub(super) const RELEASED_2: &[u8] = b"\x08\x33\x01\x0a";
 
 // DATA REQUEST on timeslot 3 with a HANDOVER COMMAND to the target, reference 42.
 pub(super) const COMMAND: &[u8] =

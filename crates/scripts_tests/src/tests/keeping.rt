@@ -1,5 +1,5 @@
 //! Why a write failed is kept.
-use super::{Fail, equals_at};
+use super::{Fail, equals_at, holds_at};
 use progress::Keeping;
 use std::io::{self, BufWriter, ErrorKind, Write};
 
@@ -89,9 +89,8 @@ fn an_error_in_the_middle_is_kept_where_the_end_can_be_written(
             failed = 1;
         }
     }
-    assert!(rt; failed == 1);
-    assert!(rt; keeping.flush().is_ok());
+    holds_at(&rt, failed == 1 && keeping.flush().is_ok(), "the end");
     let kept = keeping.error().map(|error| error.kind());
-    assert!(rt; kept == Some(ErrorKind::StorageFull));
+    equals_at(&rt, kept, Some(ErrorKind::StorageFull), "kept");
     Ok(())
 }

@@ -6,24 +6,6 @@ use std::cell::RefCell;
 use std::io::{self, LineWriter, Write};
 use std::process::Abort;
 
-/// A writer that takes at most three octets at once.
-#[derive(Drop)]
-struct Few {
-    taken: Vec<u8>,
-}
-
-impl Write for Few {
-    fn write(&mut self, octets: &[u8]) -> io::Result<usize> {
-        let count = octets.len().min(3);
-        self.taken.extend_from_slice(&octets[..count])?;
-        Ok(count)
-    }
-
-    fn flush(&mut self) -> io::Result<()> {
-        Ok(())
-    }
-}
-
 /// A writer that takes nothing.
 #[derive(Drop)]
 struct Closed;
@@ -93,17 +75,6 @@ fn octets_pass_and_steps_are_said(rt: HostRuntime) -> Result<(), Fail> {
         holds_at(&rt, out.as_slice() == WHOLE, counted);
         equals_at(&rt, terminal.as_slice(), *said, step);
     }
-    Ok(())
-}
-
-#[test]
-fn a_writer_that_takes_few_octets_gets_all(rt: HostRuntime) -> Result<(), Fail> {
-    let few = Few {
-        taken: Vec::new(rt.alloc()),
-    };
-    let mut terminal = Vec::new(rt.alloc());
-    let few = write_pieces(few, &mut terminal, Counted::Scripts, 2)?;
-    holds_at(&rt, few.taken.as_slice() == WHOLE, "few");
     Ok(())
 }
 

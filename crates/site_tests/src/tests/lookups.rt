@@ -13,16 +13,29 @@ const CHANNELS: &[((u8, u8, u8), Option<usize>)] = &[
     ((1, 0, 3), None),
 ];
 
-/// What is said of cell 1, of an outside cell and of none.
+/// Cells, and the location area code and cell identity of each, its carrier and both colour codes.
+type Identity = (
+    u8,
+    Option<u16>,
+    Option<u16>,
+    Option<u16>,
+    Option<u8>,
+    Option<u8>,
+);
+
+/// An own cell, an outside cell and none.
+const IDENTITIES: &[Identity] = &[
+    (1, Some(23), Some(101), Some(871), Some(2), Some(5)),
+    (64, Some(23), Some(102), Some(62), Some(3), Some(0)),
+    (2, None, None, None, None, None),
+];
+
 fn says_of_cells(rt: &impl Abort, site: &Site<Global>) {
-    for (cell, wanted) in [
-        (1, (Some(23), Some(101), Some(871), Some(2), Some(5))),
-        (64, (Some(23), Some(102), Some(62), Some(3), Some(0))),
-        (2, (None, None, None, None, None)),
-    ] {
-        let code = (site.lac(cell), site.ci(cell), site.bcch(cell));
-        let found = (code.0, code.1, code.2, site.ncc(cell), site.bcc(cell));
-        equals_at(rt, found, wanted, cell);
+    for (cell, lac, ci, bcch, ncc, bcc) in IDENTITIES {
+        let cell = *cell;
+        equals_at(rt, (site.lac(cell), site.ci(cell)), (*lac, *ci), cell);
+        equals_at(rt, site.bcch(cell), *bcch, cell);
+        equals_at(rt, (site.ncc(cell), site.bcc(cell)), (*ncc, *bcc), cell);
     }
     equals(rt, (site.power(1), site.trx(1)), (Some(5), Some(2)));
     equals(rt, site.ba(0), Some([62, 70, 871].as_slice()));

@@ -133,11 +133,14 @@ fn text_of_arrays(alloc: Global, arrays: u32) -> Result<String, AllocError> {
     Ok(text)
 }
 
+/// How many arrays, and why the site is refused.
+const NESTED: &[(u32, Option<SiteFault>)] = &[(80, None), (81, Some(Toml)), (1000, Some(Toml))];
+
 #[test]
 fn what_is_nested_more_than_80_deep_is_refused(rt: HostRuntime) -> Result<(), Fail> {
-    for (arrays, fault) in [(80, None), (81, Some(Toml)), (1000, Some(Toml))] {
-        let text = text_of_arrays(rt.alloc(), arrays)?;
-        equals_at(&rt, fault_of(rt.alloc(), &text), fault, arrays);
+    for (arrays, fault) in NESTED {
+        let text = text_of_arrays(rt.alloc(), *arrays)?;
+        equals_at(&rt, fault_of(rt.alloc(), &text), *fault, arrays);
     }
     Ok(())
 }

@@ -52,6 +52,15 @@ const EVENTS: &[(Event, &str)] = &[
     (Event::Left(65534), "left 65534"),
 ];
 
+/// Texts that are no event.
+const NONE: &[&str] = &[
+    "",
+    "look 01",
+    "look 1 ",
+    "take 1 outgoing 0/0/3",
+    "confirm 0/0",
+];
+
 #[test]
 fn events_are_written_and_read(rt: HostRuntime) -> Result<(), Fail> {
     for (event, text) in EVENTS {
@@ -59,14 +68,8 @@ fn events_are_written_and_read(rt: HostRuntime) -> Result<(), Fail> {
         equals_at(&rt, written.as_str(), *text, text);
         equals_at(&rt, read_event(*text), Some(*event), text);
     }
-    for text in [
-        "",
-        "look 01",
-        "look 1 ",
-        "take 1 outgoing 0/0/3",
-        "confirm 0/0",
-    ] {
-        equals_at(&rt, read_event(text), None, text);
+    for text in NONE {
+        equals_at(&rt, read_event(*text), None, text);
     }
     Ok(())
 }

@@ -78,8 +78,8 @@ fn write_arguments(link: Link, said: &mut String) -> Result<(), Fail> {
 #[test]
 fn faults_have_arguments(rt: HostRuntime) -> Result<(), Fail> {
     let mut said = String::new(rt.alloc());
-    for name in ["rr", "a", "abis"] {
-        write_arguments(Link::named(name).ok_or("a link")?, &mut said)?;
+    for name in &["rr", "a", "abis"] {
+        write_arguments(Link::named(*name).ok_or("a link")?, &mut said)?;
     }
     equals_at(&rt, said.as_str(), ARGUMENTS, "arguments");
     Ok(())

@@ -162,6 +162,9 @@ const LINES: &[Line] = &[
     Line::Clear { call: 0 },
 ];
 
+/// Timers that run out for calls.
+const EXPIRIES: &[(u16, Timer)] = &[(1, Timer::T3103), (65535, Timer::T7), (0, Timer::T8)];
+
 const INPUTS_PRINTED: &str = "in open 65535 63 3 7
 in handover 1 255
 in undo 1
@@ -196,7 +199,8 @@ fn inputs_are_printed(rt: HostRuntime) -> Result<(), Fail> {
         let input: Inbound<Global> = Inbound::Operator(*line);
         print_input(&mut out, Mark::Alone, &input)?;
     }
-    for (call, timer) in [(1, Timer::T3103), (65535, Timer::T7), (0, Timer::T8)] {
+    for (call, timer) in EXPIRIES {
+        let (call, timer) = (*call, *timer);
         let input: Inbound<Global> = Inbound::Expiry { call, timer };
         print_input(&mut out, Mark::Alone, &input)?;
     }
