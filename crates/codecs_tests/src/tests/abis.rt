@@ -1,0 +1,158 @@
+//! Messages on Abis.
+use super::{Fail, RefusingHeap, equals_at, holds_at, is_hex, is_printed, octets_of};
+use rsl_messages::{
+    ChanBits, Rsl, RslFault, canonical_is_text, decode, encode, encode_into, fits,
+    reading_is_unique,
+};
+use std::alloc::{Allocator, Global};
+use std::process::Abort;
+
+/// A text of each message, and how many lists with an item the message keeps.
+const TEXTS: &[(&str, u64)] = &[
+    ("0301010b02000b0003060d00", 1),
+    ("0302010b02000b0003062c00", 1),
+    ("0821010b0302060400010801092a", 1),
+    ("0822010b081234", 0),
+    ("0823010a1a0120", 0),
+    ("0824010b1a0101", 0),
+    ("0827010b1102", 0),
+    (
+        "0828010b1b001903001e0004000b001206151e1e006812a000000000000000000000",
+        2,
+    ),
+    ("082e010b", 0),
+    ("0833010b", 0),
+];
+
+/// Reads a text over a heap, and writes what it says over the same.
+fn is_written_again(
+    rt: &(impl AllocGlobal + Abort),
+    heap: &RefusingHeap,
+    text: &str,
+) -> Result<(), RslFault> {
+    let message = decode(heap, &octets_of(rt, text))?;
+    is_written(rt, heap, &message, text)
+}
+
+/// A message is written over a heap as this text.
+fn is_written<'a>(
+    rt: &(impl AllocGlobal + Abort),
+    heap: &'a RefusingHeap,
+    message: &Rsl<&'a RefusingHeap>,
+    text: &str,
+) -> Result<(), RslFault> {
+    assert!(rt; fits(message), "{text}");
+    is_hex(rt, &encode(heap, message)?, text);
+    Ok(())
+}
+
+/// Each request for memory is refused in turn: how many there are.
+fn refused_requests(rt: &(impl AllocGlobal + Abort), text: &str) -> u64 {
+    for n in 1..100 {
+        let heap = RefusingHeap::refusing_nth(rt.alloc(), n);
+        let fault = is_written_again(rt, &heap, text).err();
+        let wanted = heap.was_refused().then_some(RslFault::NoMemory);
+        equals_at(rt, fault, wanted, (text, n));
+        if fault.is_none() {
+            return n.saturating_sub(1);
+        }
+    }
+    100
+}
+
+#[test]
+fn messages_come_back(rt: HostRuntime) {
+    for (text, lists) in TEXTS {
+        // one request for each list, and at least one to write
+        let requests = refused_requests(&rt, *text);
+        holds_at(&rt, *lists < requests && requests < 100, (text, requests));
+    }
+    reading_is_unique::<Global>();
+    canonical_is_text::<Global>();
+}
+
+/// Octets, why they are no message, and how many lists were kept until that was known: none, even where one is whole.
+const REQUESTS: &[(&str, Option<RslFault>, u64)] = &[
+    ("0821010b030006010009", Some(RslFault::Torn(9)), 0),
+    ("0821010b060100", Some(RslFault::Missing(3)), 0),
+    (
+        "0828010b1b0019010004000b0000",
+        Some(RslFault::BadElement(0x0B)),
+        0,
+    ),
+    ("0828010b1b0019000400", None, 0),
+];
+
+/// Reading octets takes memory for each list with an item, and for nothing else.
+fn takes_for_lists(
+    rt: &(impl AllocGlobal + Abort),
+    text: &str,
+    fault: Option<RslFault>,
+    lists: u64,
+) {
+    let heap = RefusingHeap::ample(rt.alloc());
+    let found = decode(&heap, &octets_of(rt, text)).err();
+    equals_at(rt, (found, heap.requests()), (fault, lists), text);
+}
+
+#[test]
+fn memory_is_asked_for_lists_alone(rt: HostRuntime) {
+    for (text, lists) in TEXTS {
+        takes_for_lists(&rt, *text, None, *lists);
+    }
+    for (text, fault, lists) in REQUESTS {
+        takes_for_lists(&rt, *text, *fault, *lists);
+    }
+}
+
+/// Whether a message is appended to what stands in a list.
+fn is_appended<A: Allocator>(rt: &impl Abort, message: &Rsl<A>, out: &mut Vec<u8, A>) -> bool {
+    assert!(rt; fits(message));
+    encode_into(message, out).is_ok()
+}
+
+#[test]
+fn a_message_is_appended(rt: HostRuntime) {
+    let channel = ChanBits { tn: 3 };
+    let heap = RefusingHeap::refusing_from(rt.alloc(), 1);
+    let failed = !is_appended(
+        &rt,
+        &Rsl::RfChannelRelease { channel },
+        &mut Vec::new(&heap),
+    );
+    holds_at(&rt, failed, "memory is refused");
+    let mut out = Vec::new(rt.alloc());
+    holds_at(
+        &rt,
+        is_appended(&rt, &Rsl::RfChannelRelease { channel }, &mut out),
+        "release",
+    );
+    is_hex(&rt, &out, "082e010b");
+}
+
+#[test]
+fn other_octets_are_no_message(rt: HostRuntime) {
+    // an element that is cut, and another discriminator
+    let torn = decode(rt.alloc(), &[8, 0x22, 1]).err();
+    equals_at(&rt, torn, Some(RslFault::Torn(2)), "torn");
+    let other = decode(rt.alloc(), &[4]).err();
+    equals_at(&rt, other, Some(RslFault::NotRsl), "another");
+    let long = decode(rt.alloc(), &[0; 1025]).err();
+    equals_at(&rt, long, Some(RslFault::TooLong), "1,025 octets");
+}
+
+#[test]
+fn faults_are_printed(rt: HostRuntime) -> Result<(), Fail> {
+    is_printed(
+        &rt,
+        RslFault::NotRsl,
+        "not a message of radio link layer or dedicated channel management",
+    )?;
+    let unknown = RslFault::UnknownType(15);
+    is_printed(&rt, unknown, "unknown message type 0x0f")?;
+    is_printed(&rt, RslFault::Missing(1), "element 0x01 is missing")?;
+    is_printed(&rt, RslFault::BadElement(26), "element 0x1a is bad")?;
+    is_printed(&rt, RslFault::Torn(12), "torn at offset 12")?;
+    is_printed(&rt, RslFault::TooLong, "longer than 1,024 octets")?;
+    is_printed(&rt, RslFault::NoMemory, "memory was refused")
+}

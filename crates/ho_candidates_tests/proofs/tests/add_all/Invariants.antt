@@ -1,5 +1,0 @@
-use Rattle.std.proofs.Common.{◌≡◌}
-use Rattle.ho_candidates_tests.proofs.tests.add_all.Given as goal
-
-abbrev pub invariant-loop-said : goal.invariant-loop-said
-invariant-loop-said g l = l.window.width ≡ l.fn.window.width

@@ -1,0 +1,300 @@
+//! A simulated switching centre: how a course is played in it, and that it answers where memory is refused. All octets are
+//! worked out by hand from TS 48.008 clause 3.2.
+use super::holds_at;
+use cell_table::Site;
+use msc_model::{Centre, CentreOut};
+use refusing_heap::RefusingHeap;
+use sample_sites::THREE_CHANNELS;
+use std::alloc::{AllocError, Allocator, Global};
+use std::process::Abort;
+use std::sync::Arc;
+use std::test::Fail;
+
+/// What is done: octets that a controller sends for a call, or the centre hangs up a call of a controller.
+#[derive(Clone, Copy, Debug)]
+pub(super) enum Ask {
+    Send(usize, u16, &'static [u8]),
+    HangUp(usize, u16),
+}
+
+use Ask::{HangUp, Send};
+
+/// A message from the centre: its controller and call, and the octets.
+pub(super) type Out = (usize, u16, &'static [u8]);
+
+/// What is done, and all that comes of it.
+pub(super) type Row = (Ask, &'static [Out]);
+
+/// The site of the second controller: one cell, 102 in location area 23. The first has cells 100 and 101 there.
+const PEER: &str = "[handover]
+window = 2
+margin = 3
+minimum = 10
+[[cell]]
+lac = 23
+ci = 102
+bcch = 62
+ncc = 3
+bcc = 0
+power = 7
+ba = []
+trx = [{ arfcn = 62, tch = [1] }]
+";
+
+/// The site of the third: cells 200 and 102 in location area 24.
+const FAR: &str = "[handover]
+window = 2
+margin = 3
+minimum = 10
+[[cell]]
+lac = 24
+ci = 200
+bcch = 70
+ncc = 4
+bcc = 1
+power = 7
+ba = []
+trx = [{ arfcn = 70, tch = [1] }]
+[[cell]]
+lac = 24
+ci = 102
+bcch = 71
+ncc = 4
+bcc = 2
+power = 7
+ba = []
+trx = [{ arfcn = 71, tch = [1] }]
+";
+
+const SITES: &[&str] = &[THREE_CHANNELS, PEER, FAR];
+
+// HANDOVER REQUIRED, cause 'better cell', for cell 102 and for cell 101, with a response asked for.
+pub(super) const REQUIRED_102: &[u8] = b"\x00\x0c\x11\x04\x01\x0c\x1b\x1a\x05\x01\x00\x17\x00\x66";
+
+pub(super) const REQUIRED_101: &[u8] = b"\x00\x0c\x11\x04\x01\x0c\x1b\x1a\x05\x01\x00\x17\x00\x65";
+
+// HANDOVER REQUEST from cell 100 to cell 102, and from 102 to 101.
+pub(super) const REQUEST_102: &[u8] =
+    b"\x00\x19\x10\x0b\x03\x01\x08\x01\x0a\x01\x01\x1d\x33\x05\x05\x01\x00\x17\x00\x64\x05\x05\x01\x00\x17\x00\x66";
+
+pub(super) const REQUEST_101: &[u8] =
+    b"\x00\x19\x10\x0b\x03\x01\x08\x01\x0a\x01\x01\x1d\x33\x05\x05\x01\x00\x17\x00\x66\x05\x05\x01\x00\x17\x00\x65";
+
+// HANDOVER REQUIRED REJECT, cause 'no radio resource available'.
+pub(super) const REJECT_21: &[u8] = b"\x00\x04\x1a\x04\x01\x21";
+
+// HANDOVER REQUEST ACKNOWLEDGE and HANDOVER COMMAND with one radio resource message.
+pub(super) const ACK: &[u8] = b"\x00\x0c\x12\x17\x09\x06\x2b\xd5\x67\x0b\xa3\x6b\x00\x05";
+
+pub(super) const COMMAND: &[u8] = b"\x00\x0c\x13\x17\x09\x06\x2b\xd5\x67\x0b\xa3\x6b\x00\x05";
+
+pub(super) const DETECT: &[u8] = b"\x00\x01\x1b";
+
+pub(super) const COMPLETE: &[u8] = b"\x00\x03\x14\x15\x00";
+
+// HANDOVER FAILURE: 'ciphering algorithm not supported', and 'reversion to old channel' with an RR cause.
+pub(super) const FAILURE_40: &[u8] = b"\x00\x04\x16\x04\x01\x40";
+
+pub(super) const FAILURE_0A: &[u8] = b"\x00\x06\x16\x04\x01\x0a\x15\x00";
+
+pub(super) const REJECT_40: &[u8] = b"\x00\x04\x1a\x04\x01\x40";
+
+// CLEAR REQUEST, 'radio interface failure', and CLEAR COMMANDs.
+pub(super) const CLEAR_REQUEST: &[u8] = b"\x00\x04\x22\x04\x01\x01";
+
+pub(super) const CLEAR_01: &[u8] = b"\x00\x04\x20\x04\x01\x01";
+
+pub(super) const CLEAR_09: &[u8] = b"\x00\x04\x20\x04\x01\x09";
+
+pub(super) const CLEAR_0A: &[u8] = b"\x00\x04\x20\x04\x01\x0a";
+
+pub(super) const CLEAR_0B: &[u8] = b"\x00\x04\x20\x04\x01\x0b";
+
+pub(super) const CLEARED: &[u8] = b"\x00\x01\x21";
+
+/// The first so many sites.
+fn sites_of<A: Allocator + Copy>(
+    alloc: A,
+    scratch: Global,
+    controllers: usize,
+) -> Result<Vec<Arc<Site<A>, A>, A>, Fail> {
+    let mut sites = Vec::new(alloc);
+    for text in SITES.iter().take(controllers) {
+        let site = Site::read(alloc, scratch, text)?;
+        sites.push(Arc::new(alloc, site)?)?;
+    }
+    Ok(sites)
+}
+
+fn put<A: Allocator + Copy>(
+    centre: &mut Centre<A>,
+    asked: Ask,
+) -> Result<Vec<CentreOut<A>, A>, AllocError> {
+    match asked {
+        Send(controller, call, octets) => centre.step(controller, call, octets),
+        HangUp(controller, call) => centre.hangup(controller, call),
+    }
+}
+
+/// The message is this one.
+fn is_out<A: Allocator + Copy>(out: &CentreOut<A>, wanted: &Out) -> bool {
+    let (controller, call, octets) = *wanted;
+    out.controller == controller && out.call == call && out.bytes.as_slice() == octets
+}
+
+/// The messages are these.
+fn hold_outs<A: Allocator + Copy>(
+    rt: &impl Abort,
+    asked: Ask,
+    outs: &[CentreOut<A>],
+    wanted: &[Out],
+) {
+    holds_at(rt, outs.len() == wanted.len(), asked);
+    for (out, wanted) in outs.iter().zip(wanted) {
+        holds_at(rt, is_out(out, wanted), asked);
+    }
+}
+
+/// Plays one row.
+fn play_row<A: Allocator + Copy>(rt: &impl Abort, centre: &mut Centre<A>, row: &Row) {
+    let (asked, wanted) = *row;
+    let outs = put(centre, asked).expect(rt, "memory");
+    hold_outs(rt, asked, outs.as_slice(), wanted);
+}
+
+fn play_rows<A: Allocator + Copy>(rt: &impl Abort, centre: &mut Centre<A>, course: &[Row]) {
+    for row in course {
+        play_row(rt, centre, row);
+    }
+}
+
+/// Plays a course in a new centre between so many controllers.
+pub(super) fn play<R: Abort + AllocGlobal>(
+    rt: &R,
+    controllers: usize,
+    course: &[Row],
+) -> Result<(), Fail> {
+    let sites = sites_of(rt.alloc(), rt.alloc(), controllers)?;
+    let mut centre = Centre::new(rt.alloc(), sites.as_slice()).expect(rt, "memory");
+    play_rows(rt, &mut centre, course);
+    Ok(())
+}
+
+// Each answer of the centre, and messages that take no memory.
+const COURSE: &[Row] = &[
+    (Send(0, 1, REQUIRED_102), &[(1, 40000, REQUEST_102)]),
+    (Send(1, 40000, ACK), &[(0, 1, COMMAND)]),
+    (Send(1, 40000, DETECT), &[]),
+    (Send(1, 40000, COMPLETE), &[(0, 1, CLEAR_0B)]),
+    (Send(1, 40000, COMPLETE), &[]),
+    (Send(1, 40000, ACK), &[]),
+    (Send(0, 1, REQUIRED_101), &[(0, 1, REJECT_21)]),
+    (Send(1, 7, REQUIRED_101), &[(0, 40000, REQUEST_101)]),
+    (Send(0, 40000, FAILURE_40), &[(1, 7, REJECT_40)]),
+    (Send(1, 7, REQUIRED_101), &[(0, 40001, REQUEST_101)]),
+    (Send(1, 7, FAILURE_0A), &[(0, 40001, CLEAR_0A)]),
+    (Send(1, 7, FAILURE_0A), &[]),
+    (Send(0, 2, REQUIRED_102), &[(1, 40001, REQUEST_102)]),
+    (
+        Send(0, 2, CLEAR_REQUEST),
+        &[(0, 2, CLEAR_01), (1, 40001, CLEAR_01)],
+    ),
+    (HangUp(0, 2), &[(0, 2, CLEAR_09)]),
+    (Send(0, 2, b"\x00\x03\x22\x04\x00"), &[]),
+];
+
+// Asks one row: the answer is an allocation failure exactly where memory was refused. Asked again, the centre, which is as
+// it was, gives what the row says.
+fn asks(rt: &impl Abort, heap: &RefusingHeap, centre: &mut Centre<&RefusingHeap>, row: &Row) {
+    let refused = heap.refused();
+    let is_answered = is_put(rt, centre, row);
+    holds_at(rt, is_answered == (heap.refused() == refused), row.0);
+    if !is_answered {
+        play_row(rt, centre, row);
+    }
+}
+
+// Whether a row's answer isn't an allocation failure; then it is what the row says.
+fn is_put(rt: &impl Abort, centre: &mut Centre<&RefusingHeap>, row: &Row) -> bool {
+    let (asked, wanted) = *row;
+    match put(centre, asked) {
+        Ok(outs) => {
+            hold_outs(rt, asked, outs.as_slice(), wanted);
+            true
+        }
+        Err(_) => false,
+    }
+}
+
+fn asks_all(rt: &impl Abort, heap: &RefusingHeap, centre: &mut Centre<&RefusingHeap>) {
+    for row in COURSE {
+        asks(rt, heap, centre, row);
+    }
+}
+
+// Plays the course in a centre whose heap refuses the n-th request after those that make the centre. Whether there was one.
+fn meets_refusal(rt: &(impl AllocGlobal + Abort), made: u64, n: u64) -> Result<bool, Fail> {
+    let heap = RefusingHeap::refusing_nth(rt.alloc(), made.saturating_add(n));
+    let sites = sites_of(&heap, rt.alloc(), 2)?;
+    let mut centre = Centre::new(&heap, sites.as_slice()).expect(rt, "memory");
+    asks_all(rt, &heap, &mut centre);
+    Ok(heap.was_refused())
+}
+
+// How many requests make a centre.
+fn requests_of_a_centre(rt: &(impl AllocGlobal + Abort)) -> Result<u64, Fail> {
+    let heap = RefusingHeap::ample(rt.alloc());
+    let sites = sites_of(&heap, rt.alloc(), 2)?;
+    let _centre = Centre::new(&heap, sites.as_slice()).expect(rt, "memory");
+    Ok(heap.requests())
+}
+
+#[test]
+fn a_refused_request_changes_nothing(rt: HostRuntime) -> Result<(), Fail> {
+    let made = requests_of_a_centre(&rt)?;
+    let mut refused = 0u64;
+    for n in 1..200 {
+        if !meets_refusal(&rt, made, n)? {
+            break;
+        }
+        refused = n;
+    }
+    // Each of the thirteen messages that are sent takes some, and so do joins and the calls that have stood in one.
+    holds_at(&rt, 28 <= refused && refused < 199, refused);
+    Ok(())
+}
+
+// How many requests make the sites.
+fn requests_of_sites(rt: &impl AllocGlobal) -> Result<u64, Fail> {
+    let heap = RefusingHeap::ample(rt.alloc());
+    let _sites = sites_of(&heap, rt.alloc(), 2)?;
+    Ok(heap.requests())
+}
+
+// Makes a centre with a heap that refuses the n-th request after those of the sites. Whether there was one.
+fn meets_refusal_when_made(
+    rt: &(impl AllocGlobal + Abort),
+    made: u64,
+    n: u64,
+) -> Result<bool, Fail> {
+    let heap = RefusingHeap::refusing_nth(rt.alloc(), made.saturating_add(n));
+    let sites = sites_of(&heap, rt.alloc(), 2)?;
+    let is_made = Centre::new(&heap, sites.as_slice()).is_ok();
+    holds_at(rt, is_made != heap.was_refused(), n);
+    Ok(!is_made)
+}
+
+#[test]
+fn a_centre_is_made_unless_memory_is_refused(rt: HostRuntime) -> Result<(), Fail> {
+    let made = requests_of_sites(&rt)?;
+    let mut refused = 0u64;
+    for n in 1..100 {
+        if !meets_refusal_when_made(&rt, made, n)? {
+            break;
+        }
+        refused = n;
+    }
+    // The list of cells.
+    holds_at(&rt, 1 <= refused && refused < 99, refused);
+    Ok(())
+}

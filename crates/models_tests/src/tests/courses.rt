@@ -1,0 +1,166 @@
+//! Courses through a simulated world: what is sent or set, and what comes back.
+use super::stations::Ask::{Send, Set};
+use super::stations::{
+    ACK, ACK_2, ACTIVATE, ACTIVATE_2, ACTIVATE_42, COMMAND, COMPLETE, DETECTION, FAILURE, NACK,
+    Out, RELEASE, RELEASED, Row, play,
+};
+use bts_model::{Act, Habit};
+use channel_fsm::ChanId;
+use sample_sites::{HOME, OTHER, TARGET};
+use std::test::Fail;
+
+const ACTIVATIONS: &[Row] = &[
+    // at first each channel is inactive, and its release is acknowledged
+    (Send(0, 0, 0, RELEASE), &[(0, 0, 0, RELEASED)]),
+    (Send(0, 0, 0, ACTIVATE), &[(0, 0, 0, ACK)]),
+    // an active channel isn't activated again
+    (Send(0, 0, 0, ACTIVATE_42), &[(0, 0, 0, NACK)]),
+    // other timeslots, TRX, cells and controllers have channels of their own
+    (Send(0, 0, 0, ACTIVATE_2), &[(0, 0, 0, ACK_2)]),
+    (Send(0, 1, 1, ACTIVATE_42), &[(0, 1, 1, ACK)]),
+    (Send(1, 0, 0, ACTIVATE), &[(1, 0, 0, ACK)]),
+    // a released channel is inactive
+    (Send(0, 0, 0, RELEASE), &[(0, 0, 0, RELEASED)]),
+    (Send(0, 0, 0, ACTIVATE), &[(0, 0, 0, ACK)]),
+    // a refusal is used up by the next activation of an inactive channel, and by nothing else
+    (Set(0, HOME, Act::Refuse), &[]),
+    (Send(0, 0, 0, ACTIVATE), &[(0, 0, 0, NACK)]),
+    (Send(0, 0, 0, RELEASE), &[(0, 0, 0, RELEASED)]),
+    (Send(0, 0, 0, ACTIVATE), &[(0, 0, 0, NACK)]),
+    (Send(0, 0, 0, ACTIVATE), &[(0, 0, 0, ACK)]),
+    // messages that a station doesn't get, or that are none
+    (Send(0, 0, 0, ACK), &[]),
+    (Send(0, 0, 0, DETECTION), &[]),
+    (Send(0, 0, 0, b"\x08\x2e\x01"), &[]),
+    (Send(0, 0, 0, &[0x03; 1025]), &[]),
+    // a message for the mobile that is none, and one that it doesn't answer
+    (
+        Send(0, 0, 0, b"\x03\x01\x01\x0b\x02\x00\x0b\x00\x01\x06"),
+        &[],
+    ),
+    (
+        Send(0, 0, 0, b"\x03\x01\x01\x0b\x02\x00\x0b\x00\x03\x06\x0d\x00"),
+        &[],
+    ),
+    // channels that the world lacks
+    (Send(0, 0, 1, ACTIVATE), &[]),
+    (Send(0, 64, 0, ACTIVATE), &[]),
+    (Send(usize::MAX, 0, 0, RELEASE), &[]),
+    (Set(0, ChanId { tn: 8, ..HOME }, Act::Hold), &[]),
+];
+
+#[test]
+fn channels_are_activated_and_released(rt: HostRuntime) -> Result<(), Fail> {
+    play(&rt, 2, ACTIVATIONS)?;
+    play(&rt, 0, &[(Send(0, 0, 0, ACTIVATE), &[])])
+}
+
+const HOLDS: &[Row] = &[
+    // one answer is kept, the next isn't; the channel is active all the same
+    (Set(0, HOME, Act::Hold), &[]),
+    (Set(0, OTHER, Act::Hold), &[]),
+    (Send(0, 0, 0, ACTIVATE), &[]),
+    (Send(0, 0, 0, ACTIVATE), &[(0, 0, 0, NACK)]),
+    (Send(1, 0, 0, ACTIVATE), &[(1, 0, 0, ACK)]),
+    (Set(0, HOME, Act::Release), &[(0, 0, 0, ACK)]),
+    (Set(0, HOME, Act::Release), &[]),
+    // a hold that comes later keeps its answer behind the first
+    (Set(0, HOME, Act::Hold), &[]),
+    (Send(0, 0, 0, RELEASE), &[]),
+    (Set(0, HOME, Act::Hold), &[]),
+    (Send(0, 0, 0, ACTIVATE), &[]),
+    (
+        Set(0, HOME, Act::Release),
+        &[(0, 0, 0, RELEASED), (0, 0, 0, ACK)],
+    ),
+    // what is sent ends a hold that has kept nothing too
+    (Set(0, HOME, Act::Hold), &[]),
+    (Set(0, HOME, Act::Release), &[]),
+    (Send(0, 0, 0, RELEASE), &[(0, 0, 0, RELEASED)]),
+    // acknowledgements alone are kept
+    (Set(0, HOME, Act::Refuse), &[]),
+    (Set(0, HOME, Act::Hold), &[]),
+    (Send(0, 0, 0, ACTIVATE), &[(0, 0, 0, NACK)]),
+];
+
+#[test]
+fn a_hold_keeps_one_answer(rt: HostRuntime) -> Result<(), Fail> {
+    play(&rt, 2, HOLDS)
+}
+
+const ARRIVAL: &[Out] = &[(0, 1, 1, DETECTION), (0, 1, 1, COMPLETE)];
+
+const ARRIVAL_AT_PEER: &[Out] = &[(1, 1, 1, DETECTION), (1, 1, 1, COMPLETE)];
+
+// The command with another timeslot, carrier or reference.
+const TO_TIMESLOT_2: &[u8] =
+    b"\x03\x01\x01\x0b\x02\x00\x0b\x00\x09\x06\x2b\xd5\x67\x0a\xa3\x6b\x2a\x05";
+
+const TO_CARRIER_871: &[u8] =
+    b"\x03\x01\x01\x0b\x02\x00\x0b\x00\x09\x06\x2b\xd5\x67\x0b\xa3\x67\x2a\x05";
+
+const WITH_REFERENCE_43: &[u8] =
+    b"\x03\x01\x01\x0b\x02\x00\x0b\x00\x09\x06\x2b\xd5\x67\x0b\xa3\x6b\x2b\x05";
+
+// The command to another cell, by its network colour code.
+const TO_NCC_3: &[u8] = b"\x03\x01\x01\x0b\x02\x00\x0b\x00\x09\x06\x2b\xdd\x67\x0b\xa3\x6b\x2a\x05";
+
+// The command with another training sequence and power.
+const WITH_TSC_0_AND_POWER_31: &[u8] =
+    b"\x03\x01\x01\x0b\x02\x00\x0b\x00\x09\x06\x2b\xd5\x67\x0b\x03\x6b\x2a\x9f";
+
+const HABITS: &[Row] = &[
+    // there is no mobile on an inactive channel
+    (Send(0, 0, 0, COMMAND), &[]),
+    (Send(0, 0, 0, ACTIVATE), &[(0, 0, 0, ACK)]),
+    // the target is inactive; active for no handover; active with the reference
+    (Send(0, 0, 0, COMMAND), &[(0, 0, 0, FAILURE)]),
+    (Send(0, 1, 1, ACTIVATE), &[(0, 1, 1, ACK)]),
+    (Send(0, 0, 0, COMMAND), &[(0, 0, 0, FAILURE)]),
+    (Send(0, 1, 1, RELEASE), &[(0, 1, 1, RELEASED)]),
+    (Send(0, 1, 1, ACTIVATE_42), &[(0, 1, 1, ACK)]),
+    (Send(0, 0, 0, COMMAND), ARRIVAL),
+    // a target that isn't quite that; what the command says beside doesn't count
+    (Send(0, 0, 0, TO_TIMESLOT_2), &[(0, 0, 0, FAILURE)]),
+    (Send(0, 0, 0, TO_CARRIER_871), &[(0, 0, 0, FAILURE)]),
+    (Send(0, 0, 0, WITH_REFERENCE_43), &[(0, 0, 0, FAILURE)]),
+    (Send(0, 0, 0, TO_NCC_3), &[(0, 0, 0, FAILURE)]),
+    (Send(0, 0, 0, WITH_TSC_0_AND_POWER_31), ARRIVAL),
+    // a habit stays with its channel; that of the target has no part in it
+    (Set(0, HOME, Act::Mobile(Habit::Return)), &[]),
+    (Send(0, 0, 0, COMMAND), &[(0, 0, 0, FAILURE)]),
+    (Set(0, HOME, Act::Mobile(Habit::Vanish)), &[]),
+    (Send(0, 0, 0, COMMAND), &[]),
+    (Send(0, 0, 0, RELEASE), &[(0, 0, 0, RELEASED)]),
+    (Send(0, 0, 0, ACTIVATE), &[(0, 0, 0, ACK)]),
+    (Send(0, 0, 0, COMMAND), &[]),
+    (Set(0, HOME, Act::Mobile(Habit::Arrive)), &[]),
+    (Set(0, TARGET, Act::Mobile(Habit::Vanish)), &[]),
+    (Send(0, 0, 0, COMMAND), ARRIVAL),
+];
+
+#[test]
+fn a_mobile_goes_by_the_habit_of_its_channel(rt: HostRuntime) -> Result<(), Fail> {
+    play(&rt, 1, HABITS)
+}
+
+const TWO_CONTROLLERS: &[Row] = &[
+    (Send(0, 0, 0, ACTIVATE), &[(0, 0, 0, ACK)]),
+    (Send(1, 0, 0, ACTIVATE), &[(1, 0, 0, ACK)]),
+    // the second controller's cell has the channel
+    (Send(1, 1, 1, ACTIVATE_42), &[(1, 1, 1, ACK)]),
+    (Send(0, 0, 0, COMMAND), ARRIVAL_AT_PEER),
+    // both have it
+    (Send(0, 1, 1, ACTIVATE_42), &[(0, 1, 1, ACK)]),
+    (Send(1, 0, 0, COMMAND), ARRIVAL),
+    // a mobile that comes back is heard of by its own controller
+    (Set(1, HOME, Act::Mobile(Habit::Return)), &[]),
+    (Send(1, 0, 0, COMMAND), &[(1, 0, 0, FAILURE)]),
+];
+
+#[test]
+fn of_two_controllers_with_the_colour_the_first_has_the_mobile(
+    rt: HostRuntime,
+) -> Result<(), Fail> {
+    play(&rt, 2, TWO_CONTROLLERS)
+}

@@ -1,3 +1,0 @@
-mod erasing;
-mod keeping;
-mod stepping;

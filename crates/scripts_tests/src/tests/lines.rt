@@ -1,0 +1,192 @@
+//! What the lines of a script give. Which lines can't be read, the contracts say; a few show that they say what is meant.
+use super::{Fail, Global, RefusingHeap, equals_at, holds_at};
+use attempt_journal::Timer;
+use bts_model::{Act, Habit, Setting};
+use channel_fsm::ChanId;
+use ho_procedure::exchange::{Inbound, Line};
+use lab_script::script::{Given, Item, ScriptFault, Side, first_unread, is_octets, read_script};
+use std::process::Abort;
+
+/// What a line gives, with octets that nobody owns.
+#[derive(Clone, Copy, Debug, PartialEq, Eq)]
+enum Gives<'a> {
+    Operator(Line),
+    Expiry(u16, Timer),
+    Abis(u8, u8, &'a [u8]),
+    A(u16, &'a [u8]),
+    Attach,
+    Set(Setting),
+    HangUp(u16),
+}
+
+use Gives::{A, Abis, Attach, Expiry, HangUp, Operator, Set};
+
+/// What is set at channel 255/254/7 of the first controller.
+const SETTING: Setting = Setting {
+    controller: 0,
+    cell: 255,
+    trx: 254,
+    tn: 7,
+    act: Act::Refuse,
+};
+
+/// A hold there, but of the second, which has the number 1.
+const PEER_HOLD: Setting = Setting {
+    controller: 1,
+    act: Act::Hold,
+    ..SETTING
+};
+
+const LET: Setting = Setting {
+    act: Act::Release,
+    ..SETTING
+};
+
+const ARRIVE: Setting = Setting {
+    act: Act::Mobile(Habit::Arrive),
+    ..SETTING
+};
+
+const RETURN: Setting = Setting {
+    act: Act::Mobile(Habit::Return),
+    ..SETTING
+};
+
+const VANISH: Setting = Setting {
+    act: Act::Mobile(Habit::Vanish),
+    ..SETTING
+};
+
+/// A script of each line that there is, for two controllers.
+const SCRIPT: &str = "# a comment\r\n \t\nopen 0001 255 254 07\r\nhandover 2 255
+undo 65535
+clear 0
+expire 1 T3103
+expire 1 T7
+2: expire 2 T8
+abis 255 1 0822010B08AbCd
+2: a 7 0000
+sim
+refuse 255 254 7
+2: hold 255 254 7
+let 255 254 7
+mobile 255 254 7 arrive
+mobile 255 254 7 return
+mobile 255 254 7 vanish
+2: hangup 9";
+
+/// What they give, and for which controller.
+const ITEMS: &[(Side, Gives<'static>)] = &[
+    (
+        Side::First,
+        Operator(Line::Open {
+            call: 1,
+            chan: ChanId {
+                cell: 255,
+                trx: 254,
+                tn: 7,
+            },
+        }),
+    ),
+    (Side::First, Operator(Line::Handover { call: 2, cell: 255 })),
+    (Side::First, Operator(Line::Undo { call: 65535 })),
+    (Side::First, Operator(Line::Clear { call: 0 })),
+    (Side::First, Expiry(1, Timer::T3103)),
+    (Side::First, Expiry(1, Timer::T7)),
+    (Side::Peer, Expiry(2, Timer::T8)),
+    (
+        Side::First,
+        Abis(255, 1, &[0x08, 0x22, 0x01, 0x0B, 0x08, 0xAB, 0xCD]),
+    ),
+    (Side::Peer, A(7, &[0, 0])),
+    (Side::First, Attach),
+    (Side::First, Set(SETTING)),
+    (Side::Peer, Set(PEER_HOLD)),
+    (Side::First, Set(LET)),
+    (Side::First, Set(ARRIVE)),
+    (Side::First, Set(RETURN)),
+    (Side::First, Set(VANISH)),
+    (Side::Peer, HangUp(9)),
+];
+
+fn input_of<'a>(input: &'a Inbound<Global>) -> Gives<'a> {
+    match input {
+        Inbound::Operator(line) => Operator(*line),
+        Inbound::Expiry { call, timer } => Expiry(*call, *timer),
+        Inbound::Abis { cell, trx, bytes } => Abis(*cell, *trx, bytes.as_slice()),
+        Inbound::A { call, bytes } => A(*call, bytes.as_slice()),
+    }
+}
+
+fn given_by<'a>(item: &'a Item<Global>) -> Gives<'a> {
+    match &item.given {
+        Given::Input(input) => input_of(input),
+        Given::Attach => Attach,
+        Given::Set(setting) => Set(*setting),
+        Given::HangUp(call) => HangUp(*call),
+    }
+}
+
+fn are_items(rt: &impl Abort, items: &[Item<Global>]) {
+    equals_at(rt, items.len(), ITEMS.len(), "items");
+    for (item, (side, gives)) in items.iter().zip(ITEMS) {
+        equals_at(
+            rt,
+            (item.side, given_by(item)),
+            (*side, *gives),
+            side.number(),
+        );
+    }
+}
+
+#[test]
+fn lines_give_items(rt: HostRuntime) {
+    let items = read_script(rt.alloc(), SCRIPT, true).expect(&rt, SCRIPT);
+    are_items(&rt, &items);
+}
+
+/// Scripts, and the first line of each that can't be read with a peer.
+const UNREAD: &[(&str, usize)] = &[
+    ("open 1 0 0 3\n\n# a comment\nundo x\nundo y\n", 4),
+    ("open 1 0 0 3\n2: hold 0 0 3\nsim\n", 2),
+    ("sim\nrefuse 0 0 3\nsim\nhangup\n", 4),
+];
+
+fn is_unread(rt: &impl Abort, alloc: Global, script: &str, has_peer: bool, number: usize) {
+    let first = first_unread(script, has_peer);
+    equals_at(rt, first, Some(number), script);
+    let fault = read_script(alloc, script, has_peer).err();
+    equals_at(rt, fault, Some(ScriptFault::Line(number)), script);
+}
+
+#[test]
+fn the_first_line_that_is_none(rt: HostRuntime) {
+    for (script, number) in UNREAD {
+        is_unread(&rt, rt.alloc(), *script, true, *number);
+    }
+    // no peer is there
+    is_unread(&rt, rt.alloc(), "undo 1\n\n2: clear 1\r\n", false, 3);
+    holds_at(&rt, is_octets("0833010B") && !is_octets("083"), "octets");
+}
+
+/// Whether a script was read over a heap that refuses this request, and met no refusal.
+fn reads_without(rt: &impl Abort, alloc: Global, n: u64) -> bool {
+    let heap = RefusingHeap::refusing_nth(alloc, n);
+    let fault = read_script(&heap, SCRIPT, true).err();
+    let wanted = heap.was_refused().then_some(ScriptFault::NoMemory);
+    equals_at(rt, fault, wanted, n);
+    fault.is_none()
+}
+
+#[test]
+fn each_request_for_memory_is_refused(rt: HostRuntime) {
+    let mut tried = 0u64;
+    for n in 1..100 {
+        if reads_without(&rt, rt.alloc(), n) {
+            break;
+        }
+        tried = n;
+    }
+    // the list of items, and the octets of each message
+    holds_at(&rt, 3 <= tried && tried < 99, (tried, "requests"));
+}

@@ -1,0 +1,171 @@
+//! Why a line of a script can't be read, in words: the line that `first_unread` names, which has a grammar of its own.
+use super::{Fail, equals_at};
+use lab_script::script::first_unread;
+use script_reasons::{line_reason, script_reason};
+use std::alloc::Global;
+use std::process::Abort;
+
+/// What a line begins with.
+const WORDS: &str =
+    "open, handover, undo, clear, expire, abis, a, sim, refuse, hold, let, mobile or hangup";
+
+/// Lines that can't be read, with a second controller, and why.
+const UNREAD: &[(&str, &str)] = &[
+    ("open 1 0 0 8", "TN is 0 to 7, found 8"),
+    ("open 65536 256 0 3", "CALL is 0 to 65535, found 65536"),
+    ("open 1 +1 0 3", "CELL is 0 to 255, found +1"),
+    ("hold 0 256 3", "TRX is 0 to 255, found 256"),
+    (
+        "abis 0 0 082",
+        "HEX is one octet or more, each in two hexadecimal digits, found 082",
+    ),
+    (
+        "a 1 0g",
+        "HEX is one octet or more, each in two hexadecimal digits, found 0g",
+    ),
+    ("expire 1 t7", "TIMER is T3103, T7 or T8, found t7"),
+    (
+        "2: mobile 0 0 3 stay",
+        "HABIT is arrive, return or vanish, found stay",
+    ),
+    (
+        "open  1 0 0 3",
+        "CALL is 0 to 65535, found two blanks, or one at the end",
+    ),
+    (
+        "undo ",
+        "CALL is 0 to 65535, found two blanks, or one at the end",
+    ),
+    ("undo 1\t", "CALL is 0 to 65535, found 1\\t"),
+    ("undo", "CALL is missing in undo CALL"),
+    ("open 1 0 0", "TN is missing in open CALL CELL TRX TN"),
+    ("mobile 0", "TRX is missing in mobile CELL TRX TN HABIT"),
+    ("clear 1 1 2", "nothing stands behind clear CALL, found 1"),
+    (
+        "abis 0 0 08 33",
+        "nothing stands behind abis CELL TRX HEX, found 33",
+    ),
+    ("sim ", "nothing stands behind sim, found a blank"),
+    (
+        "2: # a comment",
+        "behind 2: stands open, handover, undo, clear, expire, abis, a, refuse, hold, let, mobile or hangup, found #",
+    ),
+    (
+        "2: ",
+        "behind 2: stands open, handover, undo, clear, expire, abis, a, refuse, hold, let, mobile or hangup, found two blanks, or one at the end",
+    ),
+    (
+        "2: sim 1",
+        "sim is for both controllers, and stands without 2:",
+    ),
+    (
+        "\u{feff}sim",
+        "a byte order mark stands before the first word",
+    ),
+    // a word of more characters than are shown
+    (
+        "undo 0123456789012345678901234567890123456789012345678901234567890",
+        "CALL is 0 to 65535, found 012345678901234567890123456789012345678901234567890123456789..",
+    ),
+];
+
+/// Lines that begin with no word of theirs, and what is found there.
+const NO_KEYWORD: &[(&str, &str)] = &[
+    ("opan 1 0 0 3", "opan"),
+    (" open 1 0 0 3", "a blank"),
+    ("open\t1 0 0 3", "open\\t1"),
+    ("2:undo 1", "2:undo"),
+];
+
+/// A line can't be read, for this reason.
+fn is_unread(rt: &impl Abort, alloc: Global, line: &str, wanted: &str) -> Result<(), Fail> {
+    let said = match line_reason(line, true) {
+        Some(reason) => format!(in alloc; "{reason}")?,
+        None => String::new(alloc),
+    };
+    equals_at(rt, said.as_str(), wanted, line);
+    equals_at(rt, first_unread(line, true), Some(1), line);
+    Ok(())
+}
+
+#[test]
+fn lines_that_cannot_be_read(rt: HostRuntime) -> Result<(), Fail> {
+    for (line, words) in UNREAD {
+        is_unread(&rt, rt.alloc(), *line, *words)?;
+    }
+    for (line, found) in NO_KEYWORD {
+        let words = format!(in rt.alloc();
+            "a line begins with {WORDS}, with 2: and a blank, or with #, found {found}"
+        )?;
+        is_unread(&rt, rt.alloc(), *line, &words)?;
+    }
+    Ok(())
+}
+
+/// Scripts, the line of each that can't be read first, whether there is a second controller, and why.
+const SCRIPTS: &[(&str, usize, bool, &str)] = &[
+    (
+        "open 1 0 0 3\r\nopen 2 0 0 8\r\n",
+        2,
+        false,
+        "TN is 0 to 7, found 8",
+    ),
+    (
+        "undo 1\n2: undo 1",
+        2,
+        false,
+        "2: is for a second controller, and there is none (--peer SITE)",
+    ),
+    (
+        "hold 0 0 3\nsim\n",
+        1,
+        false,
+        "hold CELL TRX TN needs a line sim before it",
+    ),
+    (
+        "2: hangup 1\n",
+        1,
+        true,
+        "hangup CALL needs a line sim before it",
+    ),
+];
+
+#[test]
+fn lines_of_scripts(rt: HostRuntime) -> Result<(), Fail> {
+    for (script, number, has_peer, words) in SCRIPTS {
+        let said = match script_reason(*script, *number, *has_peer) {
+            Some(reason) => format!(in rt.alloc(); "{reason}")?,
+            None => String::new(rt.alloc()),
+        };
+        equals_at(&rt, said.as_str(), *words, script);
+        equals_at(&rt, first_unread(*script, *has_peer), Some(*number), script);
+    }
+    Ok(())
+}
+
+/// Lines that can be read with a second controller, once the simulators are attached.
+const READ: &str = "
+# 2: open
+open 0001 00 000 03
+handover 2 255
+undo 0
+clear 65535
+expire 1 T3103
+abis 0 0 0822010B08AbCd
+a 1 00
+sim
+refuse 0 0 3
+hold 0 0 3
+let 0 0 3
+mobile 0 0 3 arrive
+hangup 1
+2: open 1 0 0 3
+2: hangup 1";
+
+#[test]
+fn lines_that_can_be_read_have_no_reason(rt: HostRuntime) {
+    for line in READ.lines() {
+        equals_at(&rt, line_reason(line, true).is_none(), true, line);
+    }
+    equals_at(&rt, first_unread(READ, true), None, "the whole");
+}

@@ -1,0 +1,224 @@
+Messages on Abis (TS 48.058 clauses 8 and 9): what is read of the octets of each, and the octets that are written for it.
+
+  $ ./lab decode abis 0301010b02000b0003060d00
+  DATA REQUEST tn=3 link=0 layer3=060d00
+  $ ./lab encode abis "DATA REQUEST tn=3 link=0 layer3=060d00"
+  0301010b02000b0003060d00
+  $ ./lab decode abis 0302010b02000b0003062c00
+  DATA INDICATION tn=3 link=0 layer3=062c00
+  $ ./lab encode abis "DATA INDICATION tn=3 link=0 layer3=062c00"
+  0302010b02000b0003062c00
+  $ ./lab decode abis 0821010b0302060400010801092a
+  CHANNEL ACTIVATION tn=3 activation=2 mode=00010801 reference=42
+  $ ./lab encode abis "CHANNEL ACTIVATION tn=3 activation=2 mode=00010801 reference=42"
+  0821010b0302060400010801092a
+  $ ./lab decode abis 0822010b081234
+  CHANNEL ACTIVATION ACK tn=3 frame=4660
+  $ ./lab encode abis "CHANNEL ACTIVATION ACK tn=3 frame=4660"
+  0822010b081234
+  $ ./lab decode abis 0823010a1a0120
+  CHANNEL ACTIVATION NACK tn=2 cause=32
+  $ ./lab encode abis "CHANNEL ACTIVATION NACK tn=2 cause=32"
+  0823010a1a0120
+  $ ./lab decode abis 0824010b1a0101
+  CONNECTION FAILURE INDICATION tn=3 cause=1
+  $ ./lab encode abis "CONNECTION FAILURE INDICATION tn=3 cause=1"
+  0824010b1a0101
+  $ ./lab decode abis 0827010b1102
+  HANDOVER DETECTION tn=3 delay=2
+  $ ./lab encode abis "HANDOVER DETECTION tn=3 delay=2"
+  0827010b1102
+  $ ./lab decode abis 0828010b1b001903001e0004000b001206151e1e006812a000000000000000000000
+  MEASUREMENT RESULT tn=3 number=0 uplink=001e00 power=0 layer3=06151e1e006812a000000000000000000000
+  $ ./lab encode abis "MEASUREMENT RESULT tn=3 number=0 uplink=001e00 power=0 layer3=06151e1e006812a000000000000000000000"
+  0828010b1b001903001e0004000b001206151e1e006812a000000000000000000000
+  $ ./lab decode abis 082e010b
+  RF CHANNEL RELEASE tn=3
+  $ ./lab encode abis "RF CHANNEL RELEASE tn=3"
+  082e010b
+  $ ./lab decode abis 0833010b
+  RF CHANNEL RELEASE ACK tn=3
+  $ ./lab encode abis "RF CHANNEL RELEASE ACK tn=3"
+  0833010b
+  $ ./lab decode abis 0828010b1b0019000400
+  MEASUREMENT RESULT tn=3 number=0 uplink= power=0 layer3=-
+  $ ./lab encode abis "MEASUREMENT RESULT tn=3 number=0 uplink= power=0 layer3=-"
+  0828010b1b0019000400
+  $ ./lab decode abis 0301010b02000b00020628
+  DATA REQUEST tn=3 link=0 layer3=0628
+  $ ./lab encode abis "DATA REQUEST tn=3 link=0 layer3=0628"
+  0301010b02000b00020628
+  $ ./lab decode abis 0302010f02210b0001ff
+  DATA INDICATION tn=7 link=33 layer3=ff
+  $ ./lab encode abis "DATA INDICATION tn=7 link=33 layer3=ff"
+  0302010f02210b0001ff
+  $ ./lab decode abis 0821010803000601ab
+  CHANNEL ACTIVATION tn=0 activation=0 mode=ab reference=-
+  $ ./lab encode abis "CHANNEL ACTIVATION tn=0 activation=0 mode=ab reference=-"
+  0821010803000601ab
+  $ ./lab decode abis 082401091a0101
+  CONNECTION FAILURE INDICATION tn=1 cause=1
+  $ ./lab encode abis "CONNECTION FAILURE INDICATION tn=1 cause=1"
+  082401091a0101
+  $ ./lab decode abis 0827010b
+  HANDOVER DETECTION tn=3 delay=-
+  $ ./lab encode abis "HANDOVER DETECTION tn=3 delay=-"
+  0827010b
+  $ ./lab decode abis 0828010b1b05190004ff
+  MEASUREMENT RESULT tn=3 number=5 uplink= power=255 layer3=-
+  $ ./lab encode abis "MEASUREMENT RESULT tn=3 number=5 uplink= power=255 layer3=-"
+  0828010b1b05190004ff
+  $ ./lab decode abis 082e010c
+  RF CHANNEL RELEASE tn=4
+  $ ./lab encode abis "RF CHANNEL RELEASE tn=4"
+  082e010c
+
+Other octets that say a message: spare bits, elements that it has no use for, another order, elements that come again.
+
+  $ ./lab decode abis 092e010b
+  RF CHANNEL RELEASE tn=3
+  $ ./lab decode abis 0201010b02000b0003060d00
+  DATA REQUEST tn=3 link=0 layer3=060d00
+  $ ./lab decode abis 0822081234010b
+  CHANNEL ACTIVATION ACK tn=3 frame=4660
+  $ ./lab decode abis 082e010b010c
+  RF CHANNEL RELEASE tn=3
+  $ ./lab decode abis 082e010b011b
+  RF CHANNEL RELEASE tn=3
+  $ ./lab decode abis 083318010a01010b0001017f00010b
+  RF CHANNEL RELEASE ACK tn=3
+  $ ./lab decode abis 0824010b1a03010707
+  CONNECTION FAILURE INDICATION tn=3 cause=1
+  $ ./lab decode abis 0828040f19001b07010f
+  MEASUREMENT RESULT tn=7 number=7 uplink= power=15 layer3=-
+  $ ./lab decode abis 0828010f1b071900040f
+  MEASUREMENT RESULT tn=7 number=7 uplink= power=15 layer3=-
+  $ ./lab encode abis "MEASUREMENT RESULT tn=7 number=7 uplink= power=15 layer3=-"
+  0828010f1b071900040f
+
+Octets that say a message which is written with others, or with none.
+
+  $ ./lab decode abis 0827010f
+  HANDOVER DETECTION tn=7 delay=-
+
+Fields in another order, digits in capitals, zeros before numbers.
+
+  $ ./lab encode abis "CHANNEL ACTIVATION reference=042 mode=AB activation=0 tn=00"
+  0821010803000601ab092a
+
+Octets that are no message, and the first thing that is wrong with them.
+
+  $ ./lab decode abis "" 2>/dev/null
+  fault abis 1
+  [2]
+  $ ./lab decode abis 04 2>/dev/null
+  fault abis 1
+  [2]
+  $ ./lab decode abis 00 2>/dev/null
+  fault abis 1
+  [2]
+  $ ./lab decode abis 0a21010b 2>/dev/null
+  fault abis 1
+  [2]
+  $ ./lab decode abis 0c 2>/dev/null
+  fault abis 1
+  [2]
+  $ ./lab decode abis 08 2>/dev/null
+  fault abis 5 1
+  [2]
+  $ ./lab decode abis 09 2>/dev/null
+  fault abis 5 1
+  [2]
+  $ ./lab decode abis 02 2>/dev/null
+  fault abis 5 1
+  [2]
+  $ ./lab decode abis 0820 2>/dev/null
+  fault abis 2 32
+  [2]
+  $ ./lab decode abis 082001 2>/dev/null
+  fault abis 2 32
+  [2]
+  $ ./lab decode abis 0801 2>/dev/null
+  fault abis 2 1
+  [2]
+  $ ./lab decode abis 0321 2>/dev/null
+  fault abis 2 33
+  [2]
+  $ ./lab decode abis 0303010b 2>/dev/null
+  fault abis 2 3
+  [2]
+  $ ./lab decode abis 082201 2>/dev/null
+  fault abis 5 2
+  [2]
+  $ ./lab decode abis 0822010b0800 2>/dev/null
+  fault abis 5 4
+  [2]
+  $ ./lab decode abis 082e011b06 2>/dev/null
+  fault abis 5 4
+  [2]
+  $ ./lab decode abis 082e010b060200 2>/dev/null
+  fault abis 5 4
+  [2]
+  $ ./lab decode abis 0301010b02000b00 2>/dev/null
+  fault abis 5 6
+  [2]
+  $ ./lab decode abis 0301010b02000b010006 2>/dev/null
+  fault abis 5 6
+  [2]
+  $ ./lab decode abis 082e 2>/dev/null
+  fault abis 3 1
+  [2]
+  $ ./lab decode abis 0822080000 2>/dev/null
+  fault abis 3 1
+  [2]
+  $ ./lab decode abis 0822010b 2>/dev/null
+  fault abis 3 8
+  [2]
+  $ ./lab decode abis 0821010b0600 2>/dev/null
+  fault abis 3 3
+  [2]
+  $ ./lab decode abis 0821010b0300 2>/dev/null
+  fault abis 3 6
+  [2]
+  $ ./lab decode abis 0823010b 2>/dev/null
+  fault abis 3 26
+  [2]
+  $ ./lab decode abis 0302010b0b000106 2>/dev/null
+  fault abis 3 2
+  [2]
+  $ ./lab decode abis 0302010b0200 2>/dev/null
+  fault abis 3 11
+  [2]
+  $ ./lab decode abis 0828010b19000400 2>/dev/null
+  fault abis 3 27
+  [2]
+  $ ./lab decode abis 0828010b1b000400 2>/dev/null
+  fault abis 3 25
+  [2]
+  $ ./lab decode abis 0828010b1b001900 2>/dev/null
+  fault abis 3 4
+  [2]
+  $ ./lab decode abis 082e0113 2>/dev/null
+  fault abis 4 1
+  [2]
+  $ ./lab decode abis 082e011b010b 2>/dev/null
+  fault abis 4 1
+  [2]
+  $ ./lab decode abis 08210103 2>/dev/null
+  fault abis 4 1
+  [2]
+  $ ./lab decode abis 0821010b03000600 2>/dev/null
+  fault abis 4 6
+  [2]
+  $ ./lab decode abis 0823010b1a00 2>/dev/null
+  fault abis 4 26
+  [2]
+  $ ./lab decode abis 0824010b1a00 2>/dev/null
+  fault abis 4 26
+  [2]
+  $ ./lab decode abis 0301010b02000b0000 2>/dev/null
+  fault abis 4 11
+  [2]
+  $ ./lab decode abis 0828010b1b00190004000b0000 2>/dev/null
+  fault abis 4 11
+  [2]
