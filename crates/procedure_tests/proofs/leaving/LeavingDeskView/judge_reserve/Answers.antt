@@ -1,5 +1,5 @@
-use Rattle.ho_procedure_tests.proofs.StillSaid.{still_said}
-use Rattle.ho_procedure_tests.proofs.leaving.LeavingDeskView.judge_reserve.Goals as goal
+use Rattle.procedure_tests.proofs.StillSaid.{still_said}
+use Rattle.procedure_tests.proofs.leaving.LeavingDeskView.judge_reserve.Goals as goal
 
 pub returns-in_err-sits-clause-said : goal.returns-in_err-sits-clause-said
 returns-in_err-sits-clause-said g c = rw (← c.self.view_is) (λ es claim allows. allows)

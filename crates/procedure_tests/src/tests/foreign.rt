@@ -1,10 +1,10 @@
 //! A view whose desk doesn't know the view's last receipt.
 ghost use Rattle.std.specs.Prelude.{[]};
 
-use super::player::{empty_desk, input_of, is_trace, shared_site};
+use super::controllers::{are_handled, empty_desk, input_of, sent_lines, shared_site};
 use crate::leaving::Leaving;
 use ho_procedure::controller::Controller;
-use ho_procedure::exchange::{Fault, Outbound};
+use ho_procedure::exchange::Fault;
 use ho_procedure::view::DeskView;
 use radio_book::event::{Event, Kind};
 use radio_desk::desk::DeskFault;
@@ -13,7 +13,6 @@ use sample_sites::THREE_CHANNELS;
 use std::alloc::Global;
 use std::process::Abort;
 use std::test::Fail;
-use trace_text::trace::{Mark, print_sent};
 
 /// Each event is answered so, for the receipt of place 7.
 #[derive(Drop)]
@@ -44,15 +43,19 @@ impl DeskView for Elsewhere {
     }
 }
 
-/// The input gets no further than its first event.
-fn is_foreign(
+/// The input gets as far as these messages.
+fn owes<D: DeskView + Drop>(
     rt: &impl Abort,
     alloc: Global,
-    controller: &mut Controller<Elsewhere, Global>,
+    controller: &mut Controller<D, Global>,
     input: &str,
+    wanted: &str,
 ) -> Result<(), Fail> {
     match controller.handle(input_of(rt, alloc, input)) {
-        Err(Fault::Desk(place, out)) => assert_eq!(rt; (place, out.len()), (7, 0)),
+        Err(Fault::Desk(place, out)) => {
+            let sent = sent_lines(alloc, &out)?;
+            assert!(rt; place == 7 && sent.as_str() == wanted, "{input}: {sent}");
+        }
         Ok(_out) => assert!(rt; false),
         Err(Fault::NoMemory(_out)) => assert!(rt; false),
         Err(Fault::Undecoded(_link, _bad)) => assert!(rt; false),
@@ -60,14 +63,14 @@ fn is_foreign(
     Ok(())
 }
 
-/// Neither of these inputs does.
+/// Neither of these inputs gets further than its first event.
 fn are_foreign(
     rt: &impl Abort,
     alloc: Global,
     controller: &mut Controller<Elsewhere, Global>,
 ) -> Result<(), Fail> {
-    is_foreign(rt, alloc, controller, "open 1 0 0 3")?;
-    is_foreign(rt, alloc, controller, "handover 1 1")
+    owes(rt, alloc, controller, "open 1 0 0 3", "")?;
+    owes(rt, alloc, controller, "handover 1 1", "")
 }
 
 #[test]
@@ -83,52 +86,6 @@ abis 0 0 0822010b081234
 handover 1 1
 abis 1 1 0822010b080000";
 
-/// These inputs are handled to their end.
-fn are_handled(
-    rt: &impl Abort,
-    alloc: Global,
-    controller: &mut Controller<Leaving, Global>,
-    inputs: &str,
-) -> Result<(), Fail> {
-    for input in inputs.lines() {
-        let done = controller.handle(input_of(rt, alloc, input));
-        assert!(rt; done.is_ok(), "{input}");
-    }
-    Ok(())
-}
-
-/// These messages are sent.
-fn are_sent(
-    rt: &impl Abort,
-    alloc: Global,
-    sent: &[Outbound<Global>],
-    wanted: &str,
-) -> Result<(), Fail> {
-    let mut out = Vec::new(alloc);
-    print_sent(&mut out, Mark::Alone, sent)?;
-    is_trace(rt, &out, wanted, "messages that are owed")
-}
-
-/// The input gets as far as these messages.
-fn owes(
-    rt: &impl Abort,
-    alloc: Global,
-    controller: &mut Controller<Leaving, Global>,
-    input: &str,
-    wanted: &str,
-) -> Result<(), Fail> {
-    match controller.handle(input_of(rt, alloc, input)) {
-        Err(Fault::Desk(place, out)) => {
-            assert_eq!(rt; place, 7);
-            are_sent(rt, alloc, out.as_slice(), wanted)?;
-        }
-        Ok(_out) => assert!(rt; false),
-        Err(Fault::NoMemory(_out)) => assert!(rt; false),
-        Err(Fault::Undecoded(_link, _bad)) => assert!(rt; false),
-    }
-    Ok(())
-}
-
 /// A controller whose desk doesn't know its seat any more once it has judged eleven events.
 fn leaving(alloc: Global) -> Result<Controller<Leaving, Global>, Fail> {
     let site = shared_site(alloc, alloc, THREE_CHANNELS)?;
@@ -142,12 +99,11 @@ fn is_owed(
     alloc: Global,
     controller: &mut Controller<Leaving, Global>,
 ) -> Result<(), Fail> {
-    are_handled(rt, alloc, controller, BEFORE)?;
+    are_handled(rt, alloc, controller, BEFORE);
     owes(rt, alloc, controller, "clear 1", "out abis 1 1 082e010b\n")
 }
 
 #[test]
 fn what_is_owed_is_told_where_a_seat_becomes_foreign(rt: HostRuntime) -> Result<(), Fail> {
-    let mut controller = leaving(rt.alloc())?;
-    is_owed(&rt, rt.alloc(), &mut controller)
+    is_owed(&rt, rt.alloc(), &mut leaving(rt.alloc())?)
 }

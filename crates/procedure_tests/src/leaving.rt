@@ -50,7 +50,7 @@ impl<A: Allocator + Copy> Leaving<A> {
 
 impl<A: Allocator + Copy> DeskView for Leaving<A> {
     ghost use Rattle.radio_desk.specs.Desk.{IsJudged};
-    ghost use Rattle.ho_procedure_tests.specs.Leaving.{IsSaidAfter};
+    ghost use Rattle.procedure_tests.specs.Leaving.{IsSaidAfter};
 
     ghost log = { λ leaving. leaving.history };
 

@@ -2,7 +2,7 @@
 use Rattle.std.proofs.Common.{List}
 use Rattle.radio_book.specs.State.{State}
 use Rattle.ho_procedure.specs.Claims.{Entry, Claim, NoneFree, Chosen, Opening, UnknownReceipt, IsTrueAfter}
-use Rattle.ho_procedure_tests.specs.Leaving.{IsSaidAfter}
+use Rattle.procedure_tests.specs.Leaving.{IsSaidAfter}
 
 -- what isn't said of the receipt is said where it is true
 pub still_said : (opening opening' : State) → ((log : List Entry) → (claim : Claim) → IsTrueAfter opening' log claim → IsTrueAfter opening log claim)
