@@ -1,23 +1,18 @@
 //! What no clause says: the printed texts on the whole way from two files to a trace and from octets to a message in
 //! words, what is refused, allocation failures and failing writes.
 mod checked;
-mod crossing;
 mod decoded;
 mod encoded;
-mod external;
 mod failing;
 mod files;
-mod four_cells;
-mod hangup;
 mod peer;
 mod program;
 mod reasoned;
 mod reasons;
 mod refusals;
 mod rewound;
-mod simulated;
+mod rows;
 mod tested;
-mod traces;
 mod unread;
 mod unwound;
 mod unwritten;

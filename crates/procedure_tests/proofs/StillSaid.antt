@@ -1,0 +1,13 @@
+-- What was said of a desk before a call.
+use Rattle.std.proofs.Common.{List}
+use Rattle.radio_book.specs.State.{State}
+use Rattle.ho_procedure.specs.Claims.{Entry, Claim, NoneFree, Chosen, Opening, UnknownReceipt, IsTrueAfter}
+use Rattle.procedure_tests.specs.Leaving.{IsSaidAfter}
+
+-- what isn't said of the receipt is said where it is true
+pub still_said : (opening opening' : State) → ((log : List Entry) → (claim : Claim) → IsTrueAfter opening' log claim → IsTrueAfter opening log claim)
+    → (log : List Entry) → (claim : Claim) → IsSaidAfter opening' log claim → IsSaidAfter opening log claim
+still_said opening opening' said log (NoneFree cell) holds = said log (NoneFree cell) holds
+still_said opening opening' said log (Chosen e) holds = said log (Chosen e) holds
+still_said opening opening' said log (Opening book) holds = said log (Opening book) holds
+still_said opening opening' said log (UnknownReceipt place) holds = tt

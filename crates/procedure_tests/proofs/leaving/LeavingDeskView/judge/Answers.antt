@@ -1,0 +1,8 @@
+use Rattle.procedure_tests.proofs.StillSaid.{still_said}
+use Rattle.procedure_tests.proofs.leaving.LeavingDeskView.judge.Goals as goal
+
+pub returns-in_err-sits-clause-said : goal.returns-in_err-sits-clause-said
+returns-in_err-sits-clause-said g c = rw (← c.self.view_is) (λ es claim allows. allows)
+
+pub returns-clause-said : goal.returns-clause-said
+returns-clause-said g c = rw (← c.self.view_is) (still_said _ _ c.judge.ensures.said)
