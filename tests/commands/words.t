@@ -112,6 +112,12 @@ missing, and says what is allowed. Nothing stands on standard output.
   $ ./lab decode --from a --from b 2>&1 >>printed
   *'--from <FILE>'*bsc_lab decode * (glob)
   [2]
+  $ ./lab test a.toml 2>&1 >>printed
+  *not provided: *bsc_lab test * (glob)
+  [2]
+  $ ./lab record a.toml b.txt c.txt 2>&1 >>printed
+  *'c.txt'*bsc_lab record * (glob)
+  [2]
 
 A rewind, and words with ends of lines, blanks and control characters, none of which is in the line.
 
