@@ -283,11 +283,14 @@ fn is_drawn(
     rows: &[Line],
 ) -> Result<(), Fail> {
     let rows = rows_of(rt.alloc(), rows)?;
-    let wanted = Chart {
+    let drawn = Chart {
+        lanes: chart.lanes,
         rows: &rows,
-        ..*chart
-    }
-    .to_string(rt.alloc())?;
+        bars: chart.bars,
+        left: chart.left,
+        right: chart.right,
+    };
+    let wanted = drawn.to_string(rt.alloc())?;
     let svg = chart_of(rt.alloc(), sites, trace)?;
     equals_at(rt, svg.as_str(), wanted.as_str(), trace);
     Ok(())

@@ -5,15 +5,17 @@ use lab::run::{LabFault, Status, exit_status};
 use std::process::Abort;
 use std::test::Fail;
 
+/// What stands on standard input.
+const STDIN: &[u8] = b"rr 06 2c 00 77 # note";
+
 #[test]
 fn lines_of_standard_input_are_answered(rt: HostRuntime) -> Result<(), Fail> {
     let mut out = Vec::new(rt.alloc());
     let mut errors = Vec::new(rt.alloc());
-    let input: &[u8] = b"rr 06 2c 00 77 # note";
     let ended = perform(
         &rt,
         &["decode", "--from", "-"],
-        input,
+        STDIN,
         &mut out,
         &mut errors,
     );
@@ -33,11 +35,10 @@ fn lines_of_standard_input_are_answered(rt: HostRuntime) -> Result<(), Fail> {
 
 #[test]
 fn a_text_that_is_not_written_is_a_fault(rt: HostRuntime) {
-    let input: &[u8] = b"";
     for words in [&["--version"], &["runn"]] {
         let mut out = Failing::after(rt.alloc(), 0);
         let mut errors = Failing::after(rt.alloc(), 0);
-        let ended = perform(&rt, words, input, &mut out, &mut errors);
+        let ended = perform(&rt, words, STDIN, &mut out, &mut errors);
         equals_at(&rt, ended, Err(LabFault::Write), words);
     }
 }

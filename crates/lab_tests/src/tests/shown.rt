@@ -155,9 +155,15 @@ fn is_printed(
 fn stand_behind_each_line(rt: &(impl AllocGlobal + Abort), wanted: &str) -> Result<(), Fail> {
     let trace = plain_of(rt.alloc(), wanted)?;
     for len in [1, 7, 10_000] {
-        is_printed(rt, &WORDS, ALONE, (&trace, len), wanted)?;
+        is_printed(rt, &WORDS, ALONE, (trace.as_str(), len), wanted)?;
     }
-    is_printed(rt, &Views::plain(), ALONE, (&trace, 64), &trace)
+    is_printed(
+        rt,
+        &Views::plain(),
+        ALONE,
+        (trace.as_str(), 64),
+        trace.as_str(),
+    )
 }
 
 #[test]
@@ -172,7 +178,7 @@ fn words_stand_behind_each_line(rt: HostRuntime) -> Result<(), Fail> {
 #[test]
 fn what_the_books_hold_stands_behind_each_input(rt: HostRuntime) -> Result<(), Fail> {
     let plain = plain_of(rt.alloc(), STATED)?;
-    is_printed(&rt, &STATE, PAIR, (&plain, 32), STATED)
+    is_printed(&rt, &STATE, PAIR, (plain.as_str(), 32), STATED)
 }
 
 /// A run has printed the trace whole; where memory was refused it has ended so, and printed a front of it.

@@ -68,7 +68,8 @@ fn have_one_message(rt: &(impl Files + AllocGlobal + Abort)) -> Result<(), Fail>
 /// The files are as they were.
 fn are_old(rt: &(impl Files + AllocGlobal + Abort)) -> Result<(), Fail> {
     for path in [PCAP_FILE, CHART_FILE] {
-        equals_at(rt, fs::read_to_string(rt, path)?.as_str(), "old", path);
+        let text = fs::read_to_string(rt, path)?;
+        equals_at(rt, text.as_str(), "old", path);
     }
     Ok(())
 }

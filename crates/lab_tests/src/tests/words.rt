@@ -136,9 +136,16 @@ fn told(alloc: Global, job: &Job<'_>) -> Result<String, AllocError> {
 }
 
 /// These words ask for this.
-fn asks(rt: &(impl AllocGlobal + Abort), words: &[&str], wanted: &str) -> Result<(), Fail> {
+fn asks<'a>(
+    rt: &(impl AllocGlobal + Abort),
+    words: &'a [&'a str],
+    wanted: &str,
+) -> Result<(), Fail> {
     match read_words(rt.alloc(), words) {
-        Ok(job) => equals_at(rt, told(rt.alloc(), &job)?.as_str(), wanted, words),
+        Ok(job) => {
+            let found = told(rt.alloc(), &job)?;
+            equals_at(rt, found.as_str(), wanted, words);
+        }
         Err(_) => holds_at(rt, false, words),
     }
     Ok(())
