@@ -1,23 +1,21 @@
-//! What no clause says: the printed texts on the whole way from two files to a trace and from octets to a message in
-//! words, what is refused, allocation failures and failing writes.
-mod checked;
+//! What no clause says, and no command line shows: each worked row once on its public call, which job words ask for, refused
+//! memory and failing writes, a trace that a viewer is handed in pieces, charts and captures of what no script brings, and
+//! each small piece.
+mod charted;
 mod decoded;
+mod drawn;
 mod encoded;
 mod failing;
-mod files;
+mod packets;
 mod peer;
 mod program;
 mod reasoned;
-mod reasons;
 mod refusals;
 mod rewound;
 mod rows;
+mod shown;
 mod tested;
-mod unread;
-mod unwound;
-mod unwritten;
 mod viewed;
-mod viewed_pair;
 mod words;
 
 use lab::run::{LabFault, Status, lab_run};
@@ -119,21 +117,6 @@ fn ends_saying(
 ) -> Result<(), Fail> {
     let found = (ended, str::from_utf8(out)?, str::from_utf8(errors)?);
     equals_at(rt, found, wanted, what);
-    Ok(())
-}
-
-/// The same where what it says only begins so: it says nothing where nothing is wanted.
-fn ends_beginning(
-    rt: &impl Abort,
-    ended: Result<Status, LabFault>,
-    (out, errors): (&[u8], &[u8]),
-    wanted: Ending<'_>,
-    what: &str,
-) -> Result<(), Fail> {
-    let (printed, said) = (str::from_utf8(out)?, str::from_utf8(errors)?);
-    equals_at(rt, (ended, printed), (wanted.0, wanted.1), what);
-    let begins = said.starts_with(wanted.2) && said.is_empty() == wanted.2.is_empty();
-    holds_at(rt, begins, (what, said));
     Ok(())
 }
 

@@ -1,33 +1,12 @@
 use super::failing::Failing;
-use super::{ONE_CALL, SITE, equals_at, holds_at, printed, prints};
+use super::{ONE_CALL, SITE, equals_at, holds_at, printed};
 use lab::run::{LabFault, Status, lab_run};
 use refusing_heap::RefusingHeap;
-use sample_sites::{NO_CELL, NO_TRAFFIC, SAME_IDENTITY};
+use sample_sites::{NO_TRAFFIC, SAME_IDENTITY};
 use std::alloc::Global;
 use std::process::Abort;
 use std::str;
 use std::test::Fail;
-
-/// A site, a script, and the one line by which they are refused.
-const REFUSALS: &[(&str, &str, &str)] = &[
-    // the site is looked at before the script
-    ("", "no line", "site 2 handover\n"),
-    ("[", "no line", "site 1\n"),
-    ("handover = 3", "no line", "site 3 handover\n"),
-    (NO_CELL, "no line", "site 2 cell\n"),
-    (SAME_IDENTITY, "no line", "site 4 identity\n"),
-    (NO_TRAFFIC, "no line", "site 5 0\n"),
-    (SITE, "expire 1 T9", "line 1\n"),
-    (SITE, "hold 0 0 3\nsim\n", "line 1\n"),
-    (SITE, "open 1 0 0 3\nhangup 1\nsim\n", "line 2\n"),
-    (SITE, "sim\nopen 1 0 0 3\n2: undo 1\n", "line 3\n"),
-    // nothing runs before all lines are read
-    (
-        SITE,
-        "open 1 0 0 3\n\n# a comment\nundo x\nundo y\n",
-        "line 4\n",
-    ),
-];
 
 /// A site, a script with what they print, and in how many writes at least.
 const WRITES: &[(&str, (&str, &str), u64)] = &[
@@ -47,14 +26,6 @@ const WRITES: &[(&str, (&str, &str), u64)] = &[
         3,
     ),
 ];
-
-#[test]
-fn refusals_are_one_line(rt: HostRuntime) -> Result<(), Fail> {
-    for (site, script, wanted) in REFUSALS {
-        prints(&rt, rt.alloc(), *site, *script, Status::Refused, *wanted)?;
-    }
-    Ok(())
-}
 
 /// A run ended with this fault and printed a front of the wanted text, or with none and printed it all.
 fn prints_unless(

@@ -1,3 +1,5 @@
+//! Messages in a capture file.
+use super::{equals_at, holds_at};
 use capture::{Capture, CaptureFault, Link, Path, Side, Way};
 use refusing_heap::RefusingHeap;
 use std::alloc::Global;
@@ -128,7 +130,7 @@ fn each_message_is_a_packet(rt: HostRuntime) -> Result<(), Fail> {
         SECOND_PACKET,
         REQUIRED_PACKET,
     ];
-    assert!(rt; are_parts(capture.octets(), &parts));
+    holds_at(&rt, are_parts(capture.octets(), &parts), "four packets");
     Ok(())
 }
 
@@ -190,7 +192,7 @@ fn addresses_tell_the_link(rt: HostRuntime) -> Result<(), Fail> {
             link: *link,
         };
         let shown = has_addresses(rt.alloc(), path, *addresses)?;
-        assert!(rt; shown, "{addresses:?}");
+        holds_at(&rt, shown, addresses);
     }
     Ok(())
 }
@@ -209,9 +211,10 @@ fn captured(alloc: Global, path: Path, len: usize) -> Result<usize, CaptureFault
 #[test]
 fn what_no_packet_carries_is_too_long(rt: HostRuntime) {
     for (path, limit) in LIMITS {
-        assert!(rt; captured(rt.alloc(), *path, *limit).is_ok(), "{limit}");
+        let longest = captured(rt.alloc(), *path, *limit);
         let longer = captured(rt.alloc(), *path, *limit + 1);
-        assert!(rt; longer == Err(CaptureFault::TooLong), "{limit}");
+        holds_at(&rt, longest.is_ok(), *limit);
+        holds_at(&rt, longer == Err(CaptureFault::TooLong), *limit);
     }
 }
 
@@ -227,12 +230,12 @@ fn captures(
     let (len, refused) = (capture.octets().len(), heap.refused());
     let answer = capture.add(second, path, Way::Sent, message);
     if refused == heap.refused() {
-        assert!(rt; answer.is_ok());
+        holds_at(rt, answer.is_ok(), second);
     } else {
-        assert!(rt; answer == Err(CaptureFault::NoMemory));
-        assert_eq!(rt; capture.octets().len(), len);
+        holds_at(rt, answer == Err(CaptureFault::NoMemory), second);
+        equals_at(rt, capture.octets().len(), len, second);
         let again = capture.add(second, path, Way::Sent, message);
-        assert!(rt; again.is_ok());
+        holds_at(rt, again.is_ok(), second);
     }
 }
 
@@ -245,28 +248,33 @@ fn refused_memory_leaves_the_file_as_it_was(rt: HostRuntime) -> Result<(), Fail>
         captures(&rt, &heap, &mut capture, 1, ABIS, ACTIVATION);
         captures(&rt, &heap, &mut capture, 4, A, REQUIRED);
         let parts = [FILE, ACTIVATION_PACKET, REQUIRED_PACKET];
-        assert!(rt; are_parts(capture.octets(), &parts), "{n}");
+        holds_at(&rt, are_parts(capture.octets(), &parts), n);
         last = n;
         if !heap.was_refused() {
             break;
         }
     }
     // five requests at least were refused before none was
-    assert!(rt; last >= 7, "{last}");
+    holds_at(&rt, last >= 7, last);
     Ok(())
 }
 
 #[test]
 fn a_capture_needs_memory(rt: HostRuntime) {
     let heap = RefusingHeap::refusing_nth(rt.alloc(), 1);
-    assert!(rt; Capture::new(&heap).is_err());
+    holds_at(&rt, Capture::new(&heap).is_err(), "the header");
 }
 
 #[test]
 fn faults_say_why(rt: HostRuntime) -> Result<(), Fail> {
     let long = CaptureFault::TooLong.to_string(rt.alloc())?;
-    assert_eq!(rt; long.as_str(), "the message is too long for a packet");
+    equals_at(
+        &rt,
+        long.as_str(),
+        "the message is too long for a packet",
+        "too long",
+    );
     let memory = CaptureFault::NoMemory.to_string(rt.alloc())?;
-    assert_eq!(rt; memory.as_str(), "memory was refused");
+    equals_at(&rt, memory.as_str(), "memory was refused", "no memory");
     Ok(())
 }

@@ -1,5 +1,8 @@
-use super::{ALONE, SITE, equals_at, holds_at, write_in_pieces};
-use chart::{Bar, Chart, Lane, Row, Shape, Side};
+//! A trace is drawn as a sequence chart.
+use super::drawn::{Line, Place, rows_of};
+use super::shown::{ALONE, PAIR, write_in_pieces};
+use super::{equals_at, holds_at};
+use chart::{Bar, Chart, Lane, Side};
 use run_views::{Sites, Viewer, Views, WordsFault};
 use std::alloc::Global;
 use std::io::Write;
@@ -58,157 +61,42 @@ const ONE_LANES: &[Lane<'_>] = &[
     },
 ];
 
-const ONE_ROWS: &[Row<'_>] = &[
-    Row {
-        heading: "1 handover 1 1",
-        shape: Shape::Nothing,
-    },
-    Row {
-        heading: "",
-        shape: Shape::Note {
-            lane: 1,
-            text: "take 1 internal 1/1/3 -> done",
-        },
-    },
-    Row {
-        heading: "",
-        shape: Shape::Note {
-            lane: 1,
-            text: "activate 1 -> done",
-        },
-    },
-    Row {
-        heading: "",
-        shape: Shape::Arrow {
-            from: 1,
-            to: 0,
-            text: "1/1/3 CHANNEL ACTIVATION, call 1",
-        },
-    },
-    Row {
-        heading: "2 expire 1 T3103",
-        shape: Shape::Nothing,
-    },
-    Row {
-        heading: "",
-        shape: Shape::Note {
-            lane: 1,
-            text: "undo 1 t3103 -> record 0/0/3 on internal sent 1/1/3 0",
-        },
-    },
-    Row {
-        heading: "",
-        shape: Shape::Arrow {
-            from: 1,
-            to: 0,
-            text: "1/1/3 RF CHANNEL RELEASE, call 1",
-        },
-    },
-    Row {
-        heading: "",
-        shape: Shape::Arrow {
-            from: 1,
-            to: 2,
-            text: "CLEAR REQUEST, call 1",
-        },
-    },
-    Row {
-        heading: "3",
-        shape: Shape::Arrow {
-            from: 0,
-            to: 1,
-            text: "1/1/3 RF CHANNEL RELEASE ACK, call 1",
-        },
-    },
-    Row {
-        heading: "",
-        shape: Shape::Note {
-            lane: 1,
-            text: "released 1/1/3 -> done",
-        },
-    },
-    Row {
-        heading: "4 handover 1 64",
-        shape: Shape::Nothing,
-    },
-    Row {
-        heading: "",
-        shape: Shape::Note {
-            lane: 1,
-            text: "require 1 -> done",
-        },
-    },
-    Row {
-        heading: "5 undo 1",
-        shape: Shape::Nothing,
-    },
-    Row {
-        heading: "",
-        shape: Shape::Note {
-            lane: 1,
-            text: "undo 1 asked -> record 0/0/3 on outgoing required - -",
-        },
-    },
-    Row {
-        heading: "6 handover 2 1",
-        shape: Shape::Nothing,
-    },
-    Row {
-        heading: "",
-        shape: Shape::Note {
-            lane: 1,
-            text: "none free in cell 1",
-        },
-    },
-    Row {
-        heading: "7",
-        shape: Shape::Arrow {
-            from: 0,
-            to: 1,
-            text: "0/0 no message",
-        },
-    },
-    Row {
-        heading: "",
-        shape: Shape::Note {
-            lane: 1,
-            text: "fault abis 5 1",
-        },
-    },
-    Row {
-        heading: "8",
-        shape: Shape::Arrow {
-            from: 0,
-            to: 1,
-            text: "1/1/3 no message, call 1",
-        },
-    },
-    Row {
-        heading: "",
-        shape: Shape::Note {
-            lane: 1,
-            text: "fault abis 5 4",
-        },
-    },
-    Row {
-        heading: "9",
-        shape: Shape::Arrow {
-            from: 0,
-            to: 1,
-            text: "2/0/7 RF CHANNEL RELEASE ACK",
-        },
-    },
-    Row {
-        heading: "sim limit",
-        shape: Shape::Nothing,
-    },
-    Row {
-        heading: "",
-        shape: Shape::Note {
-            lane: 1,
-            text: "channels=0 calls=0 references=0 timers=0",
-        },
-    },
+const ONE_ROWS: &[Line] = &[
+    ("1 handover 1 1", Place::Nowhere, ""),
+    ("", Place::At(1), "take 1 internal 1/1/3 -> done"),
+    ("", Place::At(1), "activate 1 -> done"),
+    ("", Place::Between(1, 0), "1/1/3 CHANNEL ACTIVATION, call 1"),
+    ("2 expire 1 T3103", Place::Nowhere, ""),
+    (
+        "",
+        Place::At(1),
+        "undo 1 t3103 -> record 0/0/3 on internal sent 1/1/3 0",
+    ),
+    ("", Place::Between(1, 0), "1/1/3 RF CHANNEL RELEASE, call 1"),
+    ("", Place::Between(1, 2), "CLEAR REQUEST, call 1"),
+    (
+        "3",
+        Place::Between(0, 1),
+        "1/1/3 RF CHANNEL RELEASE ACK, call 1",
+    ),
+    ("", Place::At(1), "released 1/1/3 -> done"),
+    ("4 handover 1 64", Place::Nowhere, ""),
+    ("", Place::At(1), "require 1 -> done"),
+    ("5 undo 1", Place::Nowhere, ""),
+    (
+        "",
+        Place::At(1),
+        "undo 1 asked -> record 0/0/3 on outgoing required - -",
+    ),
+    ("6 handover 2 1", Place::Nowhere, ""),
+    ("", Place::At(1), "none free in cell 1"),
+    ("7", Place::Between(0, 1), "0/0 no message"),
+    ("", Place::At(1), "fault abis 5 1"),
+    ("8", Place::Between(0, 1), "1/1/3 no message, call 1"),
+    ("", Place::At(1), "fault abis 5 4"),
+    ("9", Place::Between(0, 1), "2/0/7 RF CHANNEL RELEASE ACK"),
+    ("sim limit", Place::Nowhere, ""),
+    ("", Place::At(1), "channels=0 calls=0 references=0 timers=0"),
 ];
 
 const ONE_BARS: &[Bar<'_>] = &[
@@ -262,56 +150,26 @@ const TWO_LANES: &[Lane<'_>] = &[
     },
 ];
 
-const TWO_ROWS: &[Row<'_>] = &[
-    Row {
-        heading: "1 1: handover 1 64",
-        shape: Shape::Nothing,
-    },
-    Row {
-        heading: "",
-        shape: Shape::Arrow {
-            from: 1,
-            to: 2,
-            text: "HANDOVER REQUIRED, call 1",
-        },
-    },
-    Row {
-        heading: "",
-        shape: Shape::Note {
-            lane: 3,
-            text: "take 40000 incoming 0/0/1 -> done",
-        },
-    },
-    Row {
-        heading: "",
-        shape: Shape::Note {
-            lane: 3,
-            text: "activate 40000 -> done",
-        },
-    },
-    Row {
-        heading: "",
-        shape: Shape::Note {
-            lane: 3,
-            text: "undo 40000 asked -> record - - incoming sent 0/0/1 0",
-        },
-    },
-    Row {
-        heading: "",
-        shape: Shape::Arrow {
-            from: 3,
-            to: 4,
-            text: "0/0/1 DATA REQUEST: HANDOVER COMMAND, call 40000",
-        },
-    },
-    Row {
-        heading: "2",
-        shape: Shape::Arrow {
-            from: 4,
-            to: 3,
-            text: "0/0/1 HANDOVER DETECTION, call 40000",
-        },
-    },
+const TWO_ROWS: &[Line] = &[
+    ("1 1: handover 1 64", Place::Nowhere, ""),
+    ("", Place::Between(1, 2), "HANDOVER REQUIRED, call 1"),
+    ("", Place::At(3), "take 40000 incoming 0/0/1 -> done"),
+    ("", Place::At(3), "activate 40000 -> done"),
+    (
+        "",
+        Place::At(3),
+        "undo 40000 asked -> record - - incoming sent 0/0/1 0",
+    ),
+    (
+        "",
+        Place::Between(3, 4),
+        "0/0/1 DATA REQUEST: HANDOVER COMMAND, call 40000",
+    ),
+    (
+        "2",
+        Place::Between(4, 3),
+        "0/0/1 HANDOVER DETECTION, call 40000",
+    ),
 ];
 
 const TWO_BARS: &[Bar<'_>] = &[Bar {
@@ -366,12 +224,6 @@ const THREE_BARS: &[&str] = &[
 ",
 ];
 
-/// Two controllers' sites.
-const PAIR: Sites<'_> = Sites {
-    first: SITE,
-    peer: Some(SITE),
-};
-
 /// Draws what a viewer is shown.
 fn draw<W: Write>(
     viewer: &mut Viewer<'_, W, Global>,
@@ -404,32 +256,41 @@ fn chart_of(alloc: Global, sites: Sites<'_>, trace: &str) -> Result<String, Fail
     Ok(String::from_utf8(svg)?)
 }
 
-/// What is to be drawn of the run of one controller.
+/// What is to be drawn of the run of one controller, but for its rows.
 const ONE_CHART: Chart<'_> = Chart {
     lanes: ONE_LANES,
-    rows: ONE_ROWS,
+    rows: &[],
     bars: ONE_BARS,
     left: "undone attempts",
     right: "undone attempts",
 };
 
-/// What is to be drawn of the run of two.
+/// What is to be drawn of the run of two, but for its rows.
 const TWO_CHART: Chart<'_> = Chart {
     lanes: TWO_LANES,
-    rows: TWO_ROWS,
+    rows: &[],
     bars: TWO_BARS,
     left: "undone attempts of controller 1",
     right: "undone attempts of controller 2",
 };
 
-/// What is drawn of a trace is this chart.
+/// What is drawn of a trace is this chart, with these rows.
 fn is_drawn(
     rt: &(impl AllocGlobal + Abort),
     sites: Sites<'_>,
     trace: &str,
     chart: &Chart<'_>,
+    rows: &[Line],
 ) -> Result<(), Fail> {
-    let wanted = chart.to_string(rt.alloc())?;
+    let rows = rows_of(rt.alloc(), rows)?;
+    let drawn = Chart {
+        lanes: chart.lanes,
+        rows: &rows,
+        bars: chart.bars,
+        left: chart.left,
+        right: chart.right,
+    };
+    let wanted = drawn.to_string(rt.alloc())?;
     let svg = chart_of(rt.alloc(), sites, trace)?;
     equals_at(rt, svg.as_str(), wanted.as_str(), trace);
     Ok(())
@@ -437,12 +298,12 @@ fn is_drawn(
 
 #[test]
 fn a_trace_is_a_chart(rt: HostRuntime) -> Result<(), Fail> {
-    is_drawn(&rt, ALONE, ONE, &ONE_CHART)
+    is_drawn(&rt, ALONE, ONE, &ONE_CHART, ONE_ROWS)
 }
 
 #[test]
 fn a_trace_of_two_controllers_is_a_chart(rt: HostRuntime) -> Result<(), Fail> {
-    is_drawn(&rt, PAIR, TWO, &TWO_CHART)
+    is_drawn(&rt, PAIR, TWO, &TWO_CHART, TWO_ROWS)
 }
 
 /// The chart has these bars.

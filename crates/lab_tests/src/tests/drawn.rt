@@ -1,6 +1,40 @@
+//! Charts, whatever they are of.
+use super::{equals_at, holds_at};
 use chart::{Bar, Chart, Escaped, Lane, Row, Shape, Side, text_room};
 use std::alloc::{AllocError, Global};
 use std::test::Fail;
+
+/// Where something happens in a row: at no lane, at one, or from one to another.
+#[derive(Clone, Copy, Debug)]
+pub(super) enum Place {
+    Nowhere,
+    At(u32),
+    Between(u32, u32),
+}
+
+/// A row in short: its heading, where something happens, and the text that stands there.
+pub(super) type Line = (&'static str, Place, &'static str);
+
+/// What happens there.
+fn shape_of(place: Place, text: &'static str) -> Shape<'static> {
+    match place {
+        Place::Nowhere => Shape::Nothing,
+        Place::At(lane) => Shape::Note { lane, text },
+        Place::Between(from, to) => Shape::Arrow { from, to, text },
+    }
+}
+
+/// The rows of a chart.
+pub(super) fn rows_of(alloc: Global, lines: &[Line]) -> Result<Vec<Row<'static>>, AllocError> {
+    let mut rows = Vec::new(alloc);
+    for (heading, place, text) in lines {
+        rows.push(Row {
+            heading: *heading,
+            shape: shape_of(*place, *text),
+        })?;
+    }
+    Ok(rows)
+}
 
 /// Texts, and how they stand in XML.
 const TEXTS: &[(&str, &str)] = &[
@@ -21,7 +55,7 @@ const TEXTS: &[(&str, &str)] = &[
 fn markup_and_control_characters_are_no_text(rt: HostRuntime) -> Result<(), Fail> {
     for (text, expected) in TEXTS {
         let escaped = Escaped(*text).to_string(rt.alloc())?;
-        assert!(rt; escaped.as_str() == *expected, "{expected}: {escaped}");
+        equals_at(&rt, escaped.as_str(), *expected, *text);
     }
     Ok(())
 }
@@ -37,8 +71,7 @@ const ROOMS: &[(&str, u32)] = &[
 #[test]
 fn what_is_outside_ascii_is_two_letters_wide(rt: HostRuntime) -> Result<(), Fail> {
     for (text, expected) in ROOMS {
-        let room = text_room(*text);
-        assert!(rt; room == *expected, "{text}: {room}");
+        equals_at(&rt, text_room(*text), *expected, *text);
     }
     Ok(())
 }
@@ -60,42 +93,12 @@ const LANES: &[Lane<'_>] = &[
 ];
 
 /// A row of each shape; the last arrow goes to its own lane.
-const ROWS: &[Row<'_>] = &[
-    Row {
-        heading: "in open 1 0 0 3",
-        shape: Shape::Nothing,
-    },
-    Row {
-        heading: "",
-        shape: Shape::Arrow {
-            from: 1,
-            to: 0,
-            text: "CHANNEL ACTIVATION",
-        },
-    },
-    Row {
-        heading: "2",
-        shape: Shape::Arrow {
-            from: 0,
-            to: 1,
-            text: "ACK & frame",
-        },
-    },
-    Row {
-        heading: "",
-        shape: Shape::Note {
-            lane: 1,
-            text: "look 1 -> done",
-        },
-    },
-    Row {
-        heading: "",
-        shape: Shape::Arrow {
-            from: 2,
-            to: 2,
-            text: "itself",
-        },
-    },
+const ROWS: &[Line] = &[
+    ("in open 1 0 0 3", Place::Nowhere, ""),
+    ("", Place::Between(1, 0), "CHANNEL ACTIVATION"),
+    ("2", Place::Between(0, 1), "ACK & frame"),
+    ("", Place::At(1), "look 1 -> done"),
+    ("", Place::Between(2, 2), "itself"),
 ];
 
 /// Rows 1 to 3 at the left, 2 to the last at the right.
@@ -166,15 +169,16 @@ const SVG: &str =
 
 #[test]
 fn a_chart_is_drawn(rt: HostRuntime) -> Result<(), Fail> {
+    let rows = rows_of(rt.alloc(), ROWS)?;
     let chart = Chart {
         lanes: LANES,
-        rows: ROWS,
+        rows: &rows,
         bars: BARS,
         left: "undone at <1>",
         right: "undone at 2",
     };
     let svg = chart.to_string(rt.alloc())?;
-    assert!(rt; svg.as_str() == SVG, "{svg}");
+    equals_at(&rt, svg.as_str(), SVG, "a chart");
     Ok(())
 }
 
@@ -285,7 +289,7 @@ const CUT: &[&str] = &[
 #[test]
 fn a_text_that_lacks_room_ends_in_two_dots(rt: HostRuntime) -> Result<(), Fail> {
     let missing = missing(rt.alloc(), LONG, CUT)?;
-    assert!(rt; missing.is_none(), "{missing:?}");
+    holds_at(&rt, missing.is_none(), missing);
     Ok(())
 }
 
@@ -329,9 +333,9 @@ const AT_THE_EDGE: &[&str] = &[
 #[test]
 fn lanes_and_rows_that_are_not_there_are_drawn_at_the_edge(rt: HostRuntime) -> Result<(), Fail> {
     let missing = missing(rt.alloc(), OUTSIDE, AT_THE_EDGE)?;
-    assert!(rt; missing.is_none(), "{missing:?}");
+    holds_at(&rt, missing.is_none(), missing);
     let svg = OUTSIDE.to_string(rt.alloc())?;
-    assert!(rt; !svg.as_str().contains("call 1"), "{svg}");
+    holds_at(&rt, !svg.as_str().contains("call 1"), svg.as_str());
     Ok(())
 }
 
@@ -419,7 +423,7 @@ const COLUMNS: &[&str] = &[
 fn names_stand_again_behind_forty_rows_and_760_are_a_column(rt: HostRuntime) -> Result<(), Fail> {
     for (rows, lines) in [(41, PAGES), (761, COLUMNS)] {
         let missing = missing_of_many(rt.alloc(), rows, lines)?;
-        assert!(rt; missing.is_none(), "{rows}: {missing:?}");
+        holds_at(&rt, missing.is_none(), (rows, missing));
     }
     Ok(())
 }
@@ -463,7 +467,7 @@ fn texts_of_bars_that_go_on_do_not_cover_one_another(rt: HostRuntime) -> Result<
         right: "",
     };
     let missing = missing(rt.alloc(), chart, IN_ROWS_OF_THEIR_OWN)?;
-    assert!(rt; missing.is_none(), "{missing:?}");
+    holds_at(&rt, missing.is_none(), missing);
     Ok(())
 }
 
@@ -493,9 +497,9 @@ fn a_bar_that_is_too_short_for_its_text_goes_on_without(rt: HostRuntime) -> Resu
         right: "",
     };
     let missing = missing(rt.alloc(), chart, IN_TWO_ROWS)?;
-    assert!(rt; missing.is_none(), "{missing:?}");
+    holds_at(&rt, missing.is_none(), missing);
     let svg = chart.to_string(rt.alloc())?;
     let onward = svg.as_str().matches("text-anchor=\"start\">call ").count();
-    assert_eq!(rt; onward, 2, "{svg}");
+    equals_at(&rt, onward, 2, svg.as_str());
     Ok(())
 }

@@ -1,5 +1,0 @@
-//! Tests of the public surface of `capture`, which is proved once and not again with them.
-#![tactic(auto)]
-
-#[cfg(test)]
-mod tests;

@@ -1,0 +1,22 @@
+What scripts print stands beside them in a .trace, what they draw in an .svg.
+
+  $ ls examples/*.trace examples/*.svg
+  examples/handover_arrives.trace
+  examples/handover_between.svg
+  examples/handover_between.trace
+  examples/handover_reported.trace
+  examples/handover_returns.svg
+  examples/handover_returns.trace
+  examples/handover_undone.trace
+  $ ./lab run examples/two_cells.toml examples/handover_arrives.txt >printed
+  $ diff examples/handover_arrives.trace printed
+  $ ./lab run examples/two_cells.toml examples/handover_reported.txt >printed
+  $ diff examples/handover_reported.trace printed
+  $ ./lab run examples/two_cells.toml examples/handover_returns.txt --chart chart.svg >printed
+  $ diff examples/handover_returns.trace printed
+  $ diff examples/handover_returns.svg chart.svg
+  $ ./lab run examples/two_cells.toml examples/handover_undone.txt >printed
+  $ diff examples/handover_undone.trace printed
+  $ ./lab run examples/two_cells.toml examples/handover_between.txt --peer examples/one_cell.toml --chart chart.svg >printed
+  $ diff examples/handover_between.trace printed
+  $ diff examples/handover_between.svg chart.svg

@@ -1,0 +1,44 @@
+What a number stands for.
+
+  $ ./lab explain refused 6
+  ChannelBusy: this channel isn't free
+  $ ./lab explain cause a 33
+  no radio resource available
+  $ ./lab explain fault abis 5
+  an element is cut
+  $ ./lab explain fault abis 5 1
+  an element is cut at offset 1
+
+A number that has no words is refused in one line on standard error, and so is one that is none.
+
+  $ ./lab explain refused 10 2>&1 >>printed
+  *no refusal 10* (glob)
+  [2]
+  $ ./lab explain refused 256 2>&1 >>printed
+  *N is a number from 1 to 9 (glob)
+  [2]
+  $ ./lab explain refused cause 2>&1 >>printed
+  *string; N is a number from 1 to 9 (glob)
+  [2]
+  $ ./lab explain cause rr 256 2>&1 >>printed
+  *N is a number from 0 to 255 (glob)
+  [2]
+  $ ./lab explain fault a x 2>&1 >>printed
+  *N is a number from 1 to 6, on rr from 1 to 4 (glob)
+  [2]
+  $ ./lab explain fault a 3 x 2>&1 >>printed
+  *string; ARGUMENT is a number (glob)
+  [2]
+  $ ./lab rewind a b 0 2>&1 >>printed
+  *LINE is a number from 1 on (glob)
+  [2]
+  $ ./lab explain fault rr 5 2>&1 >>printed
+  *no fault rr 5* (glob)
+  [2]
+  $ ./lab explain fault abis 3 256 2>&1 >>printed
+  error: the argument of fault abis 3 is an element identifier, 0 to 255, found 256
+  [2]
+  $ ./lab explain fault a 2 1 2>&1 >>printed
+  *fault a 2 has no argument* (glob)
+  [2]
+  $ cat printed

@@ -1,0 +1,159 @@
+What commands are for, and what their words are. No line has more than 100 columns.
+
+  $ ./lab --help >help
+  $ awk 'length > 100' help
+  $ grep -qF -- 'Runs a script over a site' help
+  $ grep -qF -- 'decode abis 082e010b' help
+  $ grep -qF -- 'encode abis "RF CHANNEL RELEASE tn=3"' help
+  $ grep -qF -- 'explain refused 6' help
+
+  $ ./lab help >help
+  $ awk 'length > 100' help
+  $ grep -qF -- 'Runs a script over a site' help
+
+  $ ./lab run --help >help
+  $ awk 'length > 100' help
+  $ grep -qF -- 'The site file' help
+  $ grep -qF -- 'The site file of a second controller' help
+  $ grep -qF -- --words help
+  $ grep -qF -- --state help
+  $ grep -qF -- '--pcap <FILE>' help
+  $ grep -qF -- '--chart <FILE>' help
+
+  $ ./lab help run >help
+  $ awk 'length > 100' help
+  $ grep -qF -- 'The script file' help
+  $ grep -qF -- '--peer <SITE>' help
+  $ grep -q '^  mobile CELL TRX TN HABIT ' help
+  $ grep -qF -- 'Statuses: 0 ' help
+  $ grep -qF -- 'As in: bsc_lab run ' help
+
+  $ ./lab decode --help >help
+  $ awk 'length > 100' help
+  $ grep -qF -- 'decode abis 082e010b' help
+  $ grep -qF -- 'rr is the radio path' help
+  $ grep -qF -- 'a the switching centre' help
+  $ grep -qF -- '--from <FILE>' help
+  $ grep -qF -- 'in hexadecimal' help
+
+  $ ./lab help decode >help
+  $ awk 'length > 100' help
+  $ grep -qF -- '- for standard input' help
+  $ grep -qF -- 'and on abis the rr message inside' help
+  $ grep -qF -- 'rr, a, abis' help
+  $ grep -qF -- 'Statuses: 0 ' help
+  $ grep -qF -- 'As in: bsc_lab decode ' help
+  $ grep -qxF -- '  CHANNEL ACTIVATION NACK        tn cause' help
+  $ grep -qF -- 'by fault and its numbers (bsc_lab explain fault says them' help
+  $ grep -qF -- 'long (over 65,536 octets)' help
+  $ grep -qF -- 'link (it begins with no link)' help
+
+  $ ./lab encode --help >help
+  $ awk 'length > 100' help
+  $ grep -qF -- 'encode a "CLEAR COMMAND cause=9"' help
+
+  $ ./lab help encode >help
+  $ awk 'length > 100' help
+  $ grep -qF -- 'rr, a, abis' help
+  $ grep -qF -- 'the fields in any order' help
+  $ grep -qF -- 'Statuses: 0 ' help
+  $ grep -qF -- 'As in: bsc_lab encode ' help
+  $ grep -qF -- 'Fields are KEY=VALUE' help
+
+  $ ./lab check --help >help
+  $ awk 'length > 100' help
+  $ grep -qF -- 'The site file' help
+
+  $ ./lab help check >help
+  $ awk 'length > 100' help
+  $ grep -qF -- 'neighbour carrier that no other cell has' help
+  $ grep -qF -- 'Statuses: 0 ' help
+  $ grep -qF -- 'As in: bsc_lab check ' help
+
+  $ ./lab rewind --help >help
+  $ awk 'length > 100' help
+  $ grep -qF -- 'The trace, as run prints it' help
+
+  $ ./lab help rewind >help
+  $ awk 'length > 100' help
+  $ grep -qF -- 'counted from 1' help
+  $ grep -qF -- 'Statuses: 0 ' help
+  $ grep -qF -- 'As in: bsc_lab rewind ' help
+
+  $ ./lab explain --help >help
+  $ awk 'length > 100' help
+  $ grep -qF -- 'explain cause a 33' help
+
+  $ ./lab explain fault --help >help
+  $ awk 'length > 100' help
+  $ grep -qF -- 'abis the base station' help
+  $ grep -qF -- 'As in: bsc_lab explain fault ' help
+
+  $ ./lab help test >help
+  $ awk 'length > 100' help
+  $ grep -qF -- 'Statuses: 0 ' help
+  $ grep -qF -- 'As in: bsc_lab test ' help
+  $ grep -q '^  mobile CELL TRX TN HABIT ' help
+
+  $ ./lab help record >help
+  $ awk 'length > 100' help
+  $ grep -qF -- 'Statuses: 0 ' help
+  $ grep -qF -- 'As in: bsc_lab record ' help
+  $ tr '\n' ' ' <help | grep -qF -- 'Write to another file than SCRIPT:'
+  $ grep -q '^  mobile CELL TRX TN HABIT ' help
+
+  $ ./lab help explain >help
+  $ awk 'length > 100' help
+  $ grep -qF -- 'Statuses: 0 ' help
+  $ grep -qF -- 'As in: bsc_lab explain ' help
+
+  $ ./lab explain refused --help >help
+  $ awk 'length > 100' help
+  $ grep -qF -- 'Statuses: 0 ' help
+
+  $ ./lab explain cause --help >help
+  $ awk 'length > 100' help
+  $ grep -qF -- 'As in: bsc_lab explain cause ' help
+
+  $ ./lab --version >help
+  $ awk 'length > 100' help
+  $ grep -qF -- 'bsc_lab 0.' help
+
+  $ ./lab -V >help
+  $ awk 'length > 100' help
+  $ grep -qF -- 'bsc_lab 0.' help
+
+The help of encode lists each message that decode prints, with its fields in their order.
+
+  $ ./lab help encode | tr -s ' ' >help
+  $ sed -n '/^Messages of rr /,/^$/p' help >rr
+  $ grep -q '^ HANDOVER COMMAND arfcn ncc bcc tn tsc carrier reference atc power$' rr
+  $ grep -q '^ HANDOVER COMPLETE cause$' rr
+  $ grep -q '^ HANDOVER FAILURE cause$' rr
+  $ grep -q '^ CHANNEL RELEASE cause$' rr
+  $ grep -q '^ PHYSICAL INFORMATION ta$' rr
+  $ grep -q '^ MEASUREMENT REPORT ba dtx full ba3g valid sub si23 qfull qsub count n' rr
+  $ sed -n '/^Messages of a /,/^$/p' help >a
+  $ grep -q '^ HANDOVER REQUEST ACKNOWLEDGE layer3$' a
+  $ grep -q '^ HANDOVER COMMAND layer3$' a
+  $ grep -q '^ HANDOVER COMPLETE rr$' a
+  $ grep -q '^ HANDOVER FAILURE cause rr$' a
+  $ grep -q '^ HANDOVER PERFORMED cause cell$' a
+  $ grep -q '^ HANDOVER REQUIRED REJECT cause$' a
+  $ grep -q '^ HANDOVER DETECT (none)$' a
+  $ grep -q '^ CLEAR COMMAND cause$' a
+  $ grep -q '^ CLEAR COMPLETE (none)$' a
+  $ grep -q '^ CLEAR REQUEST cause$' a
+  $ grep -q '^ HANDOVER REQUEST channel encryption classmark serving target$' a
+  $ grep -q '^ HANDOVER REQUIRED cause response cells$' a
+  $ sed -n '/^Messages of abis /,/^$/p' help >abis
+  $ grep -q '^ DATA REQUEST tn link layer3$' abis
+  $ grep -q '^ DATA INDICATION tn link layer3$' abis
+  $ grep -q '^ CHANNEL ACTIVATION tn activation mode reference$' abis
+  $ grep -q '^ CHANNEL ACTIVATION ACK tn frame$' abis
+  $ grep -q '^ CHANNEL ACTIVATION NACK tn cause$' abis
+  $ grep -q '^ CONNECTION FAILURE INDICATION tn cause$' abis
+  $ grep -q '^ HANDOVER DETECTION tn delay$' abis
+  $ grep -q '^ MEASUREMENT RESULT tn number uplink power layer3$' abis
+  $ grep -q '^ RF CHANNEL RELEASE tn$' abis
+  $ grep -q '^ RF CHANNEL RELEASE ACK tn$' abis

@@ -1,0 +1,148 @@
+A script is recorded: each line ends as it did, and comments that expected something are replaced.
+
+  $ printf '# A call.\r\nopen 1 0 0 3\r\n#> old\r\n\r\n# Its station answers.\nabis 0 0 0822010b081234' >script.txt
+  $ ./lab record examples/two_cells.toml script.txt
+  # A call.\r (esc)
+  open 1 0 0 3\r (esc)
+  #> in open 1 0 0 3\r (esc)
+  #> event open 1 0/0/3 -> done\r (esc)
+  #> out abis 0 0 0821010b0300060400010801\r (esc)
+  \r (esc)
+  # Its station answers.
+  abis 0 0 0822010b081234
+  #> in abis 0 0 0822010b081234
+  #> event confirm 0/0/3 -> owned 1
+  #> event look 1 -> record 0/0/3 on
+  #> end channels=1 calls=1 references=0 timers=0
+
+The record of a record is the same.
+
+  $ ./lab record examples/two_cells.toml script.txt >recorded.txt
+  $ ./lab record examples/two_cells.toml recorded.txt
+  # A call.\r (esc)
+  open 1 0 0 3\r (esc)
+  #> in open 1 0 0 3\r (esc)
+  #> event open 1 0/0/3 -> done\r (esc)
+  #> out abis 0 0 0821010b0300060400010801\r (esc)
+  \r (esc)
+  # Its station answers.
+  abis 0 0 0822010b081234
+  #> in abis 0 0 0822010b081234
+  #> event confirm 0/0/3 -> owned 1
+  #> event look 1 -> record 0/0/3 on
+  #> end channels=1 calls=1 references=0 timers=0
+
+Lines that can't be read.
+
+  $ printf 'open 1' >script.txt
+  $ ./lab record examples/two_cells.toml script.txt 2>/dev/null
+  line 1
+  [2]
+  $ printf '\n2: clear 1' >script.txt
+  $ ./lab record examples/two_cells.toml script.txt 2>/dev/null
+  line 2
+  [2]
+
+How a last line ends stays as it is, but that comments which follow begin a line.
+
+  $ printf '' >script.txt
+  $ ./lab record examples/two_cells.toml script.txt
+  #> end channels=0 calls=0 references=0 timers=0
+  $ printf '# note' >script.txt
+  $ ./lab record examples/two_cells.toml script.txt
+  #> end channels=0 calls=0 references=0 timers=0
+  # note (no-eol)
+  $ printf '# note\r\n\t' >script.txt
+  $ ./lab record examples/two_cells.toml script.txt
+  #> end channels=0 calls=0 references=0 timers=0
+  # note\r (esc)
+  \t (no-eol) (esc)
+  $ printf 'sim\n\n' >script.txt
+  $ ./lab record examples/two_cells.toml script.txt
+  sim
+  #> end channels=0 calls=0 references=0 timers=0
+  
+  $ printf 'sim' >script.txt
+  $ ./lab record examples/two_cells.toml script.txt
+  sim
+  #> end channels=0 calls=0 references=0 timers=0
+  $ printf 'sim\r' >script.txt
+  $ ./lab record examples/two_cells.toml script.txt
+  sim\r (esc)
+  #> end channels=0 calls=0 references=0 timers=0\r (esc)
+  $ printf 'sim\n# note\r' >script.txt
+  $ ./lab record examples/two_cells.toml script.txt
+  sim
+  #> end channels=0 calls=0 references=0 timers=0
+  # note\r (no-eol) (esc)
+  $ printf 'sim\n# note\n#> old' >script.txt
+  $ ./lab record examples/two_cells.toml script.txt
+  sim
+  #> end channels=0 calls=0 references=0 timers=0
+  # note
+
+What was recorded of a script meets its test. It has all else that the script has, is its own record, and each line of
+it that expects something is needed: with another, the test names that line.
+
+  $ is_recorded() {
+  >   ./lab record examples/two_cells.toml script.txt "$@" >recorded.txt
+  >   ./lab test examples/two_cells.toml recorded.txt "$@"
+  >   test "$(grep -v '^#>' recorded.txt)" = "$(grep -v '^#>' script.txt)" || echo 'all else differs'
+  >   ./lab record examples/two_cells.toml recorded.txt "$@" | cmp - recorded.txt
+  >   for line in $(sed -n '/^#>/=' recorded.txt); do
+  >     sed "$line"'s/\r*$/!/' recorded.txt >spoilt.txt
+  >     ./lab test examples/two_cells.toml spoilt.txt "$@" | sed -n '2,3p' >said
+  >     printf 'not ok 1 - spoilt.txt\n# line %s\n' "$line" | cmp - said
+  >   done
+  > }
+  $ printf '' >script.txt
+  $ is_recorded
+  1..1
+  ok 1 - recorded.txt
+  $ printf '# nothing\n\n' >script.txt
+  $ is_recorded
+  1..1
+  ok 1 - recorded.txt
+  $ printf 'sim' >script.txt
+  $ is_recorded
+  1..1
+  ok 1 - recorded.txt
+  $ cat >script.txt <<'END'
+  > open 1 0 0 3
+  > abis 0 0 0822010b081234
+  > clear 1
+  > abis 0 0 0833010b
+  > END
+  $ is_recorded
+  1..1
+  ok 1 - recorded.txt
+  $ printf '# a call\r\n\r\nopen 1 0 0 3\r\n# and its end\r\nclear 1\r\n' >script.txt
+  $ is_recorded
+  1..1
+  ok 1 - recorded.txt
+  $ printf 'open 1 0 0 3\n#> old\n# kept\n#> ..\nabis 0 0 0822010b081234\nabis 0 0 ff' >script.txt
+  $ is_recorded
+  1..1
+  ok 1 - recorded.txt
+  $ cat >script.txt <<'END'
+  > sim
+  > open 1 0 0 3
+  > mobile 0 0 3 return
+  > handover 1 1
+  > hold 0 0 3
+  > clear 1
+  > let 0 0 3
+  > END
+  $ is_recorded
+  1..1
+  ok 1 - recorded.txt
+  $ cat >script.txt <<'END'
+  > sim
+  > open 1 0 0 3
+  > handover 1 64
+  > 2: clear 40000
+  > hangup 1
+  > END
+  $ is_recorded --peer examples/one_cell.toml
+  1..1
+  ok 1 - recorded.txt

@@ -1,0 +1,339 @@
+An attempt that was undone is taken out of a trace. In the first trace its release is acknowledged; in the second it
+isn't yet; in the third call 2 is refused the channel that the attempt holds.
+
+  $ cat >undone.trace <<'END'
+  > in open 1 0 0 3
+  > event open 1 0/0/3 -> done
+  > out abis 0 0 0821010b0300060400010801
+  > event confirm 0/0/3 -> owned 1
+  > event look 1 -> record 0/0/3 on
+  > event take 1 internal 1/1/3 -> done
+  > event reserve 1 0 -> done
+  > event activate 1 -> done
+  > event undo 1 asked -> record 0/0/3 on internal sent 1/1/3 0
+  > event released 1/1/3 -> done
+  > end channels=1 calls=1 references=0 timers=0
+  > END
+  $ cat >awaited.trace <<'END'
+  > event open 1 0/0/3 -> done
+  > event confirm 0/0/3 -> owned 1
+  > event take 1 internal 1/1/3 -> done
+  > event reserve 1 0 -> done
+  > event activate 1 -> done
+  > event undo 1 asked -> record 0/0/3 on internal sent 1/1/3 0
+  > END
+  $ cat >held.trace <<'END'
+  > event open 1 0/0/3 -> done
+  > event confirm 0/0/3 -> owned 1
+  > event take 1 internal 1/1/3 -> done
+  > event open 2 1/1/3 -> refused 6 1/1/3
+  > event undo 1 asked -> record 0/0/3 on internal taken 1/1/3 -
+  > END
+  $ ./lab rewind examples/two_cells.toml undone.trace 6
+  others 3
+  settled yes
+  held -
+  same
+  $ ./lab rewind examples/two_cells.toml awaited.trace 3
+  others 2
+  settled no
+  held -
+  differs
+  [1]
+  $ ./lab rewind examples/two_cells.toml held.trace 3
+  others 3
+  settled yes
+  held 4
+  differs
+  [1]
+  $ ./lab rewind examples/two_cells.toml undone.trace 1 2>errors
+  no attempt
+  [2]
+  $ cat errors
+  undone.trace: no attempt that is undone later opens in line 1
+  $ ./lab rewind examples/two_cells.toml undone.trace 2 2>errors
+  no attempt
+  [2]
+  $ cat errors
+  undone.trace: no attempt that is undone later opens in line 2
+  $ ./lab rewind examples/two_cells.toml undone.trace 100 2>errors
+  no attempt
+  [2]
+  $ cat errors
+  undone.trace: no attempt that is undone later opens in line 100
+
+Nothing opens in a line that no trace has.
+
+  $ printf '' >run.trace
+  $ ./lab rewind examples/two_cells.toml run.trace 1 2>errors
+  no attempt
+  [2]
+  $ cat errors
+  run.trace: no attempt that is undone later opens in line 1
+  $ printf 'event look 1 -> done\nevent look 01 -> done' >run.trace
+  $ ./lab rewind examples/two_cells.toml run.trace 1 2>errors
+  line 2
+  [2]
+  $ cat errors
+  run.trace:2: no event with its reply, as run prints it: event look 1 -> refused 1
+  $ printf 'event look 1\n' >run.trace
+  $ ./lab rewind examples/two_cells.toml run.trace 1 2>/dev/null
+  line 1
+  [2]
+  $ printf '\n1: in clear 1\n' >run.trace
+  $ ./lab rewind examples/two_cells.toml run.trace 1 2>/dev/null
+  line 2
+  [2]
+  $ printf '\n\n2: event look 1 -> refused 1\n' >run.trace
+  $ ./lab rewind examples/two_cells.toml run.trace 1 2>/dev/null
+  line 3
+  [2]
+  $ printf 'event look 1 -> done\n' >run.trace
+  $ ./lab rewind examples/two_cells.toml run.trace 1 2>errors
+  line 1
+  [2]
+  $ cat errors
+  run.trace:1: the book of this site replies "refused 1" here, and the trace says "done"
+  $ printf 'event look 1 -> refused 1\r\nevent look 1 -> refused 1 \r\n' >run.trace
+  $ ./lab rewind examples/two_cells.toml run.trace 1 2>/dev/null
+  line 2
+  [2]
+  $ printf 'event look 1 -> refused 1\r\n' >run.trace
+  $ ./lab rewind examples/two_cells.toml run.trace 1 2>errors
+  no attempt
+  [2]
+  $ cat errors
+  run.trace: no attempt that is undone later opens in line 1
+
+Why nothing is taken out.
+
+  $ printf 'event look 1\nevent look 1 -> done' >run.trace
+  $ ./lab rewind examples/two_cells.toml run.trace 2 2>errors
+  line 1
+  [2]
+  $ cat errors
+  run.trace:1: no event with its reply, as run prints it: event look 1 -> refused 1
+  $ printf 'in clear 1\nevent look 1 -> refused 1\r\nevent look 1 -> done\nevent look 1 -> owned 1\n' >run.trace
+  $ ./lab rewind examples/two_cells.toml run.trace 2 2>errors
+  line 3
+  [2]
+  $ cat errors
+  run.trace:3: the book of this site replies "refused 1" here, and the trace says "done"
+  $ printf 'event open 1 0/0/3 -> done\nevent confirm 0/0/3 -> owned 1\nevent look 1 -> record 0/0/4 on\n' >run.trace
+  $ ./lab rewind examples/two_cells.toml run.trace 1 2>errors
+  line 3
+  [2]
+  $ cat errors
+  run.trace:3: the book of this site replies "record 0/0/3 on" here, and the trace says "record 0/0/4 on"
+  $ printf 'event look 1 -> refused 1 \r\n' >run.trace
+  $ ./lab rewind examples/two_cells.toml run.trace 1 2>errors
+  line 1
+  [2]
+  $ cat errors
+  run.trace:1: the book of this site replies "refused 1" here, and the trace says "refused 1 "
+  $ printf 'event look 1 -> \n' >run.trace
+  $ ./lab rewind examples/two_cells.toml run.trace 1 2>errors
+  line 1
+  [2]
+  $ cat errors
+  run.trace:1: the book of this site replies "refused 1" here, and the trace says ""
+  $ printf 'event look 1 -> \033[31m -> \tdone\n' >run.trace
+  $ ./lab rewind examples/two_cells.toml run.trace 1 2>errors
+  line 1
+  [2]
+  $ cat errors
+  run.trace:1: the book of this site replies "refused 1" here, and the trace says "\u{1b}[31m -> \tdone"
+  $ printf 'event look 1 -> x123456789x123456789x123456789x123456789x123456789x123456789\n' >run.trace
+  $ ./lab rewind examples/two_cells.toml run.trace 1 2>errors
+  line 1
+  [2]
+  $ cat errors
+  run.trace:1: the book of this site replies "refused 1" here, and the trace says "x123456789x123456789x123456789x123456789x123456789x123456789"
+  $ printf 'event look 1 -> x123456789x123456789x123456789x123456789x123456789x123456789y\n' >run.trace
+  $ ./lab rewind examples/two_cells.toml run.trace 1 2>errors
+  line 1
+  [2]
+  $ cat errors
+  run.trace:1: the book of this site replies "refused 1" here, and the trace says "x123456789x123456789x123456789x123456789x123456789x123456789"..
+  $ printf 'event look 1 -> refused 1 # call 1; NoCall: there is no such call\n' >run.trace
+  $ ./lab rewind examples/two_cells.toml run.trace 1 2>errors
+  line 1
+  [2]
+  $ cat errors
+  run.trace:1: words stand behind this event, as run prints it with --words
+  $ printf 'event look 1 -> refused 1\n' >run.trace
+  $ ./lab rewind examples/two_cells.toml run.trace 1 2>errors
+  no attempt
+  [2]
+  $ cat errors
+  run.trace: no attempt that is undone later opens in line 1
+
+A control character in the trace's name is escaped.
+
+  $ printf 'event look 1 -> refused 1\n' >"$(printf 'unwound\t.trace')"
+  $ ./lab rewind examples/two_cells.toml "$(printf 'unwound\t.trace')" 1 2>errors
+  no attempt
+  [2]
+  $ cat errors
+  unwound\t.trace: no attempt that is undone later opens in line 1
+
+Attempts are taken out of traces that were printed. Call 1 is on, and an attempt to move it opens in line 8: the station
+is asked to activate the target.
+
+
+It is taken back, and the release acknowledged.
+
+  $ cat >script.txt <<'END'
+  > open 1 0 0 3
+  > abis 0 0 0822010b081234
+  > handover 1 1
+  > undo 1
+  > abis 1 1 0833010b
+  > END
+  $ ./lab run examples/two_cells.toml script.txt >run.trace
+  $ ./lab rewind examples/two_cells.toml run.trace 8
+  others 3
+  settled yes
+  held -
+  same
+
+The station refuses the target, which another call has then: no release is awaited.
+
+  $ cat >script.txt <<'END'
+  > open 1 0 0 3
+  > abis 0 0 0822010b081234
+  > handover 1 1
+  > abis 1 1 0823010b1a0120
+  > open 2 1 1 3
+  > END
+  $ ./lab run examples/two_cells.toml script.txt >run.trace
+  $ ./lab rewind examples/two_cells.toml run.trace 8
+  others 4
+  settled yes
+  held -
+  same
+
+The station confirms a target that was given up; the second acknowledgement of its release is no part of the attempt.
+
+  $ cat >script.txt <<'END'
+  > open 1 0 0 3
+  > abis 0 0 0822010b081234
+  > handover 1 1
+  > undo 1
+  > abis 1 1 0822010b081234
+  > abis 1 1 0833010b
+  > abis 1 1 0833010b
+  > END
+  $ ./lab run examples/two_cells.toml script.txt >run.trace
+  $ ./lab rewind examples/two_cells.toml run.trace 8
+  others 4
+  settled yes
+  held -
+  same
+
+Call 2 is refused the target, in line 13, and would have got it.
+
+  $ cat >script.txt <<'END'
+  > open 1 0 0 3
+  > abis 0 0 0822010b081234
+  > handover 1 1
+  > open 2 1 1 3
+  > undo 1
+  > abis 1 1 0833010b
+  > END
+  $ ./lab run examples/two_cells.toml script.txt >run.trace
+  $ ./lab rewind examples/two_cells.toml run.trace 8
+  others 4
+  settled yes
+  held 13
+  differs
+  [1]
+
+The station's acknowledgement is still to come.
+
+  $ cat >script.txt <<'END'
+  > open 1 0 0 3
+  > abis 0 0 0822010b081234
+  > handover 1 1
+  > undo 1
+  > END
+  $ ./lab run examples/two_cells.toml script.txt >run.trace
+  $ ./lab rewind examples/two_cells.toml run.trace 8
+  others 3
+  settled no
+  held -
+  differs
+  [1]
+
+The call ends, and the attempt is undone with it.
+
+  $ cat >script.txt <<'END'
+  > open 1 0 0 3
+  > abis 0 0 0822010b081234
+  > handover 1 1
+  > clear 1
+  > abis 1 1 0833010b
+  > abis 0 0 0833010b
+  > END
+  $ ./lab run examples/two_cells.toml script.txt >run.trace
+  $ ./lab rewind examples/two_cells.toml run.trace 8
+  others 5
+  settled yes
+  held -
+  same
+
+It is never undone.
+
+  $ cat >script.txt <<'END'
+  > open 1 0 0 3
+  > abis 0 0 0822010b081234
+  > handover 1 1
+  > clear 2
+  > END
+  $ ./lab run examples/two_cells.toml script.txt >run.trace
+  $ ./lab rewind examples/two_cells.toml run.trace 8 2>errors
+  no attempt
+  [2]
+  $ cat errors
+  run.trace: no attempt that is undone later opens in line 8
+
+An attempt to move call 1 to another controller is taken back.
+
+  $ cat >script.txt <<'END'
+  > open 1 0 0 3
+  > abis 0 0 0822010b081234
+  > handover 1 64
+  > undo 1
+  > END
+  $ ./lab run examples/two_cells.toml script.txt >run.trace
+  $ ./lab rewind examples/two_cells.toml run.trace 8
+  others 3
+  settled yes
+  held -
+  same
+
+A call without an attempt has none in any line.
+
+  $ cat >script.txt <<'END'
+  > open 1 0 0 3
+  > abis 0 0 0822010b081234
+  > clear 1
+  > abis 0 0 0833010b
+  > END
+  $ ./lab run examples/two_cells.toml script.txt >run.trace
+  $ for line in $(seq 14); do ./lab rewind examples/two_cells.toml run.trace $line 2>/dev/null; done
+  no attempt
+  no attempt
+  no attempt
+  no attempt
+  no attempt
+  no attempt
+  no attempt
+  no attempt
+  no attempt
+  no attempt
+  no attempt
+  no attempt
+  no attempt
+  no attempt
+  [2]

@@ -1,0 +1,129 @@
+A script meets its comments, or the first line that isn't met is named, with what it expects and what came.
+
+
+Nothing is looked at.
+
+  $ printf 'open 1 0 0 3\nclear 1' >script.txt
+  $ ./lab test examples/two_cells.toml script.txt
+  1..1
+  ok 1 - script.txt
+
+Any lines.
+
+  $ printf 'open 1 0 0 3\n#> in open 1 0 0 3\n#> ..\nclear 1\n#> ..\n#> end channels=1 calls=0 references=0 timers=0' >script.txt
+  $ ./lab test examples/two_cells.toml script.txt
+  1..1
+  ok 1 - script.txt
+
+What comes of the first line differs, and of the second.
+
+  $ printf 'open 1 0 0 3\n\n#> in open 1 0 0 3\n#> event open 1 0/0/2 -> done\n#> ..\nclear 1\n#> no' >script.txt
+  $ ./lab test examples/two_cells.toml script.txt
+  1..1
+  not ok 1 - script.txt
+  # line 4
+  # expected: event open 1 0/0/2 -> done
+  # came: event open 1 0/0/3 -> done
+  [1]
+
+More comes than is expected.
+
+  $ printf 'open 1 0 0 3\nclear 1\n#> in clear 1\n# note' >script.txt
+  $ ./lab test examples/two_cells.toml script.txt
+  1..1
+  not ok 1 - script.txt
+  # line 3
+  # expected nothing more
+  # came: event look 1 -> record 0/0/3 pending
+  [1]
+
+A line that doesn't come.
+
+  $ printf 'open 1 0 0 3\n#> ..\n#> out a 1 00\nclear 1' >script.txt
+  $ ./lab test examples/two_cells.toml script.txt
+  1..1
+  not ok 1 - script.txt
+  # line 3
+  # expected: out a 1 00
+  # came: out abis 0 0 0821010b0300060400010801
+  [1]
+
+Nothing comes before the first line.
+
+  $ printf '#> in open 1 0 0 3\nopen 1 0 0 3' >script.txt
+  $ ./lab test examples/two_cells.toml script.txt
+  1..1
+  not ok 1 - script.txt
+  # line 1
+  # expected: in open 1 0 0 3
+  # came nothing more
+  [1]
+
+A script without lines has its end.
+
+  $ printf '#> end channels=0 calls=0 references=0 timers=0' >script.txt
+  $ ./lab test examples/two_cells.toml script.txt
+  1..1
+  ok 1 - script.txt
+
+A line can't be read.
+
+  $ printf 'open 1 0 0 3\n #> in open 1 0 0 3' >script.txt
+  $ ./lab test examples/two_cells.toml script.txt 2>/dev/null
+  1..1
+  not ok 1 - script.txt
+  # line 2 can't be read
+  [2]
+
+Scripts are tested one by one. One that is refused doesn't keep the others from their tests.
+
+  $ printf '# A call.\r\nopen 1 0 0 3\r\n#> in open 1 0 0 3\r\n#> event open 1 0/0/3 -> done\r\n#> out abis 0 0 0821010b0300060400010801\r\n\r\n# Its station answers.\nabis 0 0 0822010b081234\n#> in abis 0 0 0822010b081234\n#> event confirm 0/0/3 -> owned 1\n#> event look 1 -> record 0/0/3 on\n#> end channels=1 calls=1 references=0 timers=0\n' >met.txt
+  $ printf 'open 1 0 0 3\n#> in open 1 0 0 2\n' >differs.txt
+  $ printf 'open 1 0 0 8\n' >unread.txt
+  $ ./lab test examples/two_cells.toml met.txt
+  1..1
+  ok 1 - met.txt
+  $ ./lab test examples/two_cells.toml differs.txt met.txt
+  1..2
+  not ok 1 - differs.txt
+  # line 2
+  # expected: in open 1 0 0 2
+  # came: in open 1 0 0 3
+  ok 2 - met.txt
+  [1]
+  $ ./lab test examples/two_cells.toml unread.txt differs.txt 'no file' met.txt 2>errors
+  1..4
+  not ok 1 - unread.txt
+  # line 1 can't be read
+  not ok 2 - differs.txt
+  # line 2
+  # expected: in open 1 0 0 2
+  # came: in open 1 0 0 3
+  not ok 3 - no file
+  # the file can't be read
+  ok 4 - met.txt
+  [2]
+  $ cat errors
+  unread.txt:1: TN is 0 to 7, found 8
+  no file: no such file
+
+With a peer each line of the trace has its mark. A peer's file that is no site is refused, and so is a site's that isn't
+there.
+
+  $ ./lab test examples/two_cells.toml met.txt --peer examples/one_cell.toml
+  1..1
+  not ok 1 - met.txt
+  # line 3
+  # expected: in open 1 0 0 3
+  # came: 1: in open 1 0 0 3
+  [1]
+  $ ./lab test examples/two_cells.toml met.txt --peer met.txt 2>errors
+  site 1
+  [2]
+  $ cat errors
+  met\.txt:[0-9]+:[0-9]+: .* (re)
+  $ ./lab test 'no site' met.txt 2>errors
+  file no site
+  [2]
+  $ cat errors
+  no site: no such file

@@ -1,0 +1,180 @@
+Words that are no command line are refused in one line on standard error: it names the word that is wrong, or what is
+missing, and says what is allowed. Nothing stands on standard output.
+
+  $ ./lab 2>&1 >>printed
+  *subcommand*run, test, record, rewind, check, decode, encode, explain* (glob)
+  [2]
+  $ ./lab run 2>&1 >>printed
+  *not provided: <SITE> <SCRIPT>*bsc_lab run * (glob)
+  [2]
+  $ ./lab run a.toml 2>&1 >>printed
+  *not provided: <SCRIPT>*bsc_lab run * (glob)
+  [2]
+  $ ./lab run a.toml b.txt c.txt 2>&1 >>printed
+  *'c.txt'*--peer, --words, --state, --pcap, --chart* (glob)
+  [2]
+  $ ./lab runn a.toml b.txt 2>&1 >>printed
+  *'runn'*run, test, record, rewind, check, decode, encode, explain* (glob)
+  [2]
+  $ ./lab --verbose 2>&1 >>printed
+  *'--verbose'*run, test, record, rewind, check, decode, encode, explain* (glob)
+  [2]
+  $ ./lab run a b --quiet 2>&1 >>printed
+  *'--quiet'*--peer, --words, --state, --pcap, --chart* (glob)
+  [2]
+  $ ./lab run a.toml b.txt --peer 2>&1 >>printed
+  *'--peer <SITE>'* (glob)
+  [2]
+  $ ./lab run a.toml b.txt --peer c.toml --peer d.toml 2>&1 >>printed
+  *'--peer <SITE>'*bsc_lab run * (glob)
+  [2]
+  $ ./lab rewind a b 1 --peer c.toml 2>&1 >>printed
+  *'--peer'*bsc_lab rewind <SITE> <TRACE> <LINE>* (glob)
+  [2]
+  $ ./lab run a b --pcap 2>&1 >>printed
+  *'--pcap <FILE>'* (glob)
+  [2]
+  $ ./lab rewind a b 1 --words 2>&1 >>printed
+  *'--words'*bsc_lab rewind <SITE> <TRACE> <LINE>* (glob)
+  [2]
+  $ ./lab check 2>&1 >>printed
+  *not provided: <SITE>*bsc_lab check <SITE>* (glob)
+  [2]
+  $ ./lab check a.toml b.toml 2>&1 >>printed
+  *'b.toml'*bsc_lab check <SITE>* (glob)
+  [2]
+  $ ./lab explain 2>&1 >>printed
+  *subcommand*refused, cause, fault* (glob)
+  [2]
+  $ ./lab explain it 2>&1 >>printed
+  *'it'*refused, cause, fault* (glob)
+  [2]
+  $ ./lab explain refused 2>&1 >>printed
+  *not provided: <N>*bsc_lab explain refused <N>* (glob)
+  [2]
+  $ ./lab explain refused 256 2>&1 >>printed
+  *'256'*0..=255* (glob)
+  [2]
+  $ ./lab explain cause A 33 2>&1 >>printed
+  *'A'*rr, a, abis* (glob)
+  [2]
+  $ ./lab explain fault abis 5 1 2 2>&1 >>printed
+  *'2'*bsc_lab explain fault <LINK> <N> [ARGUMENT]* (glob)
+  [2]
+  $ ./lab encode 2>&1 >>printed
+  *not provided: <LINK> <TEXT>*bsc_lab encode <LINK> <TEXT>* (glob)
+  [2]
+  $ ./lab encode rr 2>&1 >>printed
+  *not provided: <TEXT>*bsc_lab encode <LINK> <TEXT>* (glob)
+  [2]
+  $ ./lab encode b 'CLEAR COMPLETE' 2>&1 >>printed
+  *'b'*rr, a, abis* (glob)
+  [2]
+  $ ./lab encode a CLEAR COMPLETE 2>&1 >>printed
+  *'COMPLETE'*bsc_lab encode <LINK> <TEXT>* (glob)
+  [2]
+  $ ./lab decode 2>&1 >>printed
+  *not provided: <LINK> <HEX>*bsc_lab decode * (glob)
+  [2]
+  $ ./lab decode rr 2>&1 >>printed
+  *not provided: <HEX>*bsc_lab decode * (glob)
+  [2]
+  $ ./lab decode A 00 2>&1 >>printed
+  *'A'*rr, a, abis* (glob)
+  [2]
+  $ ./lab decode RR 062c00 2>&1 >>printed
+  *'RR'*rr, a, abis* (glob)
+  [2]
+  $ ./lab decode '' 062c00 2>&1 >>printed
+  *'[LINK]'*rr, a, abis* (glob)
+  [2]
+  $ ./lab decode rr 06 2c00 2>&1 >>printed
+  *'2c00'*bsc_lab decode * (glob)
+  [2]
+  $ ./lab decode rr -0 2>&1 >>printed
+  *'-0'*bsc_lab decode * (glob)
+  [2]
+  $ ./lab decode --from 2>&1 >>printed
+  *'--from <FILE>'* (glob)
+  [2]
+  $ ./lab decode rr 06 --from - 2>&1 >>printed
+  *--from <FILE>*bsc_lab decode * (glob)
+  [2]
+  $ ./lab decode x --from - 2>&1 >>printed
+  *'x'*rr, a, abis* (glob)
+  [2]
+  $ ./lab decode rr 06 --all 2>&1 >>printed
+  *--all*bsc_lab decode * (glob)
+  [2]
+  $ ./lab decode rr --all 2>&1 >>printed
+  *not provided: --from <FILE>*bsc_lab decode * (glob)
+  [2]
+  $ ./lab decode --from a --from b 2>&1 >>printed
+  *'--from <FILE>'*bsc_lab decode * (glob)
+  [2]
+  $ ./lab test a.toml 2>&1 >>printed
+  *not provided: *bsc_lab test * (glob)
+  [2]
+  $ ./lab record a.toml b.txt c.txt 2>&1 >>printed
+  *'c.txt'*bsc_lab record * (glob)
+  [2]
+
+A rewind, and words with ends of lines, blanks and control characters, none of which is in the line.
+
+  $ ./lab rewind 2>&1 >>printed
+  *not provided: <SITE> <TRACE> <LINE>*bsc_lab rewind <SITE> <TRACE> <LINE>* (glob)
+  [2]
+  $ ./lab rewind a b 2>&1 >>printed
+  *not provided: <LINE>*bsc_lab rewind <SITE> <TRACE> <LINE>* (glob)
+  [2]
+  $ ./lab rewind a b 0 2>&1 >>printed
+  *'0'*1..18446744073709551615* (glob)
+  [2]
+  $ ./lab rewind a b -1 2>&1 >>printed
+  *'-1'*bsc_lab rewind <SITE> <TRACE> <LINE>* (glob)
+  [2]
+  $ ./lab rewind a b two 2>&1 >>printed
+  *'two'*'<LINE>'* (glob)
+  [2]
+  $ ./lab rewind a b 1 2 2>&1 >>printed
+  *'2'*bsc_lab rewind <SITE> <TRACE> <LINE>* (glob)
+  [2]
+  $ ./lab rewind a b 18446744073709551616 2>&1 >>printed
+  *'18446744073709551616'*'<LINE>'* (glob)
+  [2]
+  $ ./lab "$(printf 'ru\n\nn')" 2>errors
+  [2]
+  $ cat errors
+  *'ru\\n\\nn'*run, test, record, rewind, check, decode, encode, explain* (glob)
+  $ grep -c '[[:cntrl:]]' errors
+  0
+  [1]
+  $ ./lab decode "$(printf 'r\n  tip: r\033')" 00 2>errors
+  [2]
+  $ cat errors
+  *'r\\n  tip: r\\u{1b}'*rr, a, abis* (glob)
+  $ grep -c '[[:cntrl:]]' errors
+  0
+  [1]
+  $ ./lab check a.toml "$(printf '\n\nUsage: \r')" 2>errors
+  [2]
+  $ cat errors
+  *'\\n\\nUsage: \\r'*bsc_lab check <SITE>* (glob)
+  $ grep -c '[[:cntrl:]]' errors
+  0
+  [1]
+  $ ./lab "$(printf '\033[31m')" 2>errors
+  [2]
+  $ cat errors
+  *'\\u{1b}[31m'* (glob)
+  $ grep -c '[[:cntrl:]]' errors
+  0
+  [1]
+  $ cat printed
+
+The version.
+
+  $ ./lab --version
+  bsc_lab 0.1
+  $ ./lab -V
+  bsc_lab 0.1
