@@ -1,4 +1,4 @@
-//! What no clause says, and no command line shows: each worked row once on its public call, which job words ask for, refused
+//! What no clause says, and no command line shows: a few whole runs on the public calls, which job words ask for, refused
 //! memory and failing writes, a trace that a viewer is handed in pieces, charts and captures of what no script brings, and
 //! each small piece.
 mod charted;
