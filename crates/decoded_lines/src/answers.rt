@@ -4,8 +4,10 @@ ghost use Rattle.std.specs.Io.KnownBytes.{IsAtEnd};
 ghost use Rattle.octet_lines.specs.Reading.{longest_line, Gives};
 ghost use Rattle.decoded_lines.specs.Answers.{WritesMessage, TextSays, Judges, IsAdded, IsCounted, CountsFirst, AreGood};
 
-use crate::messages::{Detail, Link, PrintFault, link_named, print_message};
+use crate::messages::{Detail, link_named, print_message};
+use explanations::Link;
 use octet_lines::{Found, next_line, read_octets, said_in, word_and_rest};
+use screen_text::PrintFault;
 use std::alloc::{AllocError, Allocator};
 use std::io::{self, BufRead, Write};
 

@@ -6,5 +6,7 @@ mod file;
 mod messages;
 
 pub use answers::{Asked, Counts, LinesFault, answer_lines};
+pub use explanations::Link;
 pub use file::answer_file;
-pub use messages::{Detail, Link, PrintFault, link_named, print_message};
+pub use messages::{Detail, link_named, print_message, print_or_fault};
+pub use screen_text::PrintFault;

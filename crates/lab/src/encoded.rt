@@ -5,9 +5,8 @@ ghost use Rattle.std.specs.Prelude.{◌≡◌, ◌≢◌, Ok, OnOk, IfErr};
 ghost use Rattle.lab.specs.Encoded.{CanBeWritten};
 
 use crate::decoded::Link;
-use crate::run::{LabFault, Status};
-use crate::undecoded::explained;
 use encoded_messages::{MessageFault, encode_a, encode_abis, encode_rr};
+use lab_runs::run::{LabFault, Status};
 use message_fields::FieldFault;
 use std::alloc::Allocator;
 use std::fmt;
@@ -43,7 +42,7 @@ impl fmt::Display for EncodeReason<'_> {
         let fault = self.fault;
         match fault {
             MessageFault::Name(_) => {
-                let link = explained(self.link);
+                let link = self.link;
                 write!(
                     f,
                     "{fault} {link}: a name stands before fields as KEY=VALUE, and bsc_lab help encode lists both"

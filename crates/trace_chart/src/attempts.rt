@@ -1,13 +1,12 @@
 //! Attempts at handover, as far as the lines of a trace tell of them.
 use channel_fsm::ChanId;
-use radio_book::event::Event;
+use radio_book::event::{Event, Reply};
 use std::alloc::{AllocError, Allocator, Global};
 use std::collections::BTreeMap;
-use trace_lines::Replied;
 
 /// How far an attempt came.
 #[derive(Clone, Copy)]
-enum Course {
+enum Extent {
     /// It is open; whether the activation of its channel was sent and not refused.
     Open { is_sent: bool },
     /// The call has moved.
@@ -26,27 +25,27 @@ pub(crate) struct Attempt {
     pub(crate) first: u32,
     /// Its channel; none of one to another controller.
     target: Option<ChanId>,
-    course: Course,
+    extent: Extent,
 }
 
 impl Attempt {
     /// The last row of one that was undone. While the release of its channel is awaited that is the last of all rows.
     pub(crate) fn last_of(&self, last_of_all: u32) -> Option<u32> {
-        match self.course {
-            Course::Open { .. } | Course::Complete => None,
-            Course::Awaited => Some(last_of_all),
-            Course::Undone(row) => Some(row),
+        match self.extent {
+            Extent::Open { .. } | Extent::Complete => None,
+            Extent::Awaited => Some(last_of_all),
+            Extent::Undone(row) => Some(row),
         }
     }
 
     /// The channel whose release is awaited where it is undone now.
     fn awaited(&self) -> Option<ChanId> {
-        match self.course {
-            Course::Open { is_sent: true } => self.target,
-            Course::Open { is_sent: false }
-            | Course::Complete
-            | Course::Awaited
-            | Course::Undone(_) => None,
+        match self.extent {
+            Extent::Open { is_sent: true } => self.target,
+            Extent::Open { is_sent: false }
+            | Extent::Complete
+            | Extent::Awaited
+            | Extent::Undone(_) => None,
         }
     }
 }
@@ -84,22 +83,22 @@ impl<A: Allocator + Copy> Attempts<A> {
             call,
             first: row,
             target,
-            course: Course::Open { is_sent: false },
+            extent: Extent::Open { is_sent: false },
         })?;
         Ok(())
     }
 
     /// The attempt at a place came so far.
-    fn advance(&mut self, place: usize, course: Course) {
+    fn advance(&mut self, place: usize, extent: Extent) {
         if let Some(attempt) = self.all.get_mut(place) {
-            attempt.course = course;
+            attempt.extent = extent;
         }
     }
 
     /// The activation of an attempt's channel is sent.
     fn send(&mut self, call: u16) {
         if let Some(place) = self.open.get(&call).copied() {
-            self.advance(place, Course::Open { is_sent: true });
+            self.advance(place, Extent::Open { is_sent: true });
         }
     }
 
@@ -112,14 +111,14 @@ impl<A: Allocator + Copy> Attempts<A> {
             && let Some(attempt) = self.all.get_mut(place)
             && attempt.target == Some(chan)
         {
-            attempt.course = Course::Open { is_sent: false };
+            attempt.extent = Extent::Open { is_sent: false };
         }
     }
 
     /// The call of an attempt has moved.
     fn complete(&mut self, call: u16) {
         if let Some(place) = self.open.remove(&call) {
-            self.advance(place, Course::Complete);
+            self.advance(place, Extent::Complete);
         }
     }
 
@@ -135,9 +134,9 @@ impl<A: Allocator + Copy> Attempts<A> {
         match awaited {
             Some(chan) => {
                 self.awaited.insert(chan, place)?;
-                self.advance(place, Course::Awaited);
+                self.advance(place, Extent::Awaited);
             }
-            None => self.advance(place, Course::Undone(row)),
+            None => self.advance(place, Extent::Undone(row)),
         }
         Ok(())
     }
@@ -145,7 +144,7 @@ impl<A: Allocator + Copy> Attempts<A> {
     /// A channel is released.
     fn release(&mut self, row: u32, chan: ChanId) {
         if let Some(place) = self.awaited.remove(&chan) {
-            self.advance(place, Course::Undone(row));
+            self.advance(place, Extent::Undone(row));
         }
     }
 
@@ -188,12 +187,12 @@ impl<A: Allocator + Copy> Attempts<A> {
         &mut self,
         row: u32,
         event: Event,
-        replied: Replied,
+        reply: Reply,
         call: Option<u16>,
     ) -> Result<(), AllocError> {
-        match replied {
-            Replied::Done | Replied::Owned(_) | Replied::Record => self.accept(row, event, call),
-            Replied::Refused(_) => Ok(()),
+        match reply {
+            Reply::Done | Reply::Owned(_) | Reply::Record(..) => self.accept(row, event, call),
+            Reply::Refused(_) => Ok(()),
         }
     }
 }

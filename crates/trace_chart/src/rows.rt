@@ -3,12 +3,14 @@ use crate::attempts::Attempts;
 use crate::bars::{Marked, bars_of, push_marked};
 use crate::lanes::{CENTRE, bars_are, controller, lane_names, stations};
 use chart::{Bar, Chart, Lane, Row, Shape, Side, text_room};
+use event_text::writing::EventText;
 use ho_procedure::exchange::Inbound;
-use line_words::{WordsFault, message_name};
+use lab_runs::run::LabFault;
+use line_words::{Content, Place, message_name};
 use std::alloc::{AllocError, Allocator, Global};
 use std::io::{self, Write};
-use trace_lines::{TraceLine, What, channel_of};
-use trace_text::trace::Mark;
+use trace_text::bad::BadText;
+use trace_text::trace::{InboundText, Mark, ReplyText, Step, TraceLine, UsageText};
 
 /// What happens in a row.
 #[derive(Clone, Copy)]
@@ -63,51 +65,35 @@ pub struct TraceChart<A: Allocator = Global> {
     alloc: A,
 }
 
-/// A line without its mark and its first word.
-fn behind_word(text: &str) -> &str {
-    let text = text
-        .strip_prefix("1: ")
-        .or(text.strip_prefix("2: "))
-        .unwrap_or(text);
-    match text.split_once(' ') {
-        Some((_, rest)) => rest,
-        None => text,
-    }
-}
-
 /// The place of the other end of a message, where there is a message.
-fn other_lane<A: Allocator>(mark: Mark, input: &Inbound<A>) -> Option<u32> {
-    match input {
-        Inbound::Abis { .. } => Some(stations(mark)),
-        Inbound::A { .. } => Some(CENTRE),
-        Inbound::Expiry { .. } | Inbound::Operator(_) => None,
+fn other_lane<A: Allocator>(mark: Mark, content: &Content<A>) -> Option<u32> {
+    match content {
+        Content::Abis(..) => Some(stations(mark)),
+        Content::A(..) => Some(CENTRE),
+        Content::Nothing => None,
     }
 }
 
 /// Appends where on Abis a message goes or comes from: its channel; its cell and TRX, where its octets name no channel.
-fn push_place<A: Allocator + Copy>(
-    alloc: A,
-    text: &mut String<A>,
-    input: &Inbound<A>,
-) -> Result<(), AllocError> {
-    match input {
-        Inbound::Abis { cell, trx, .. } => match channel_of(alloc, input)? {
-            Some(chan) => write!(text, "{chan} "),
-            None => write!(text, "{cell}/{trx} "),
-        },
-        Inbound::A { .. } | Inbound::Expiry { .. } | Inbound::Operator(_) => Ok(()),
+fn push_place<A: Allocator>(text: &mut String<A>, place: Place) -> Result<(), AllocError> {
+    match place.chan {
+        Some(chan) => write!(text, "{chan} "),
+        None => write!(text, "{}/{} ", place.cell, place.trx),
     }
 }
 
 /// The text of a message's arrow: on Abis where it goes or comes from; its name; its call, where that is known.
 fn arrow_text<A: Allocator + Copy>(
     alloc: A,
-    input: &Inbound<A>,
+    content: &Content<A>,
     call: Option<u16>,
 ) -> Result<String<A>, AllocError> {
     let mut text = String::new(alloc);
-    push_place(alloc, &mut text, input)?;
-    text.push_str(&message_name(alloc, input)?)?;
+    match content {
+        Content::Abis(place, _) => push_place(&mut text, *place)?,
+        Content::A(..) | Content::Nothing => {}
+    }
+    text.push_str(&message_name(alloc, content)?)?;
     if let Some(call) = call {
         write!(text, ", call {call}")?;
     }
@@ -171,9 +157,8 @@ impl<A: Allocator + Copy> TraceChart<A> {
     }
 
     /// Adds a note at a controller.
-    fn note(&mut self, mark: Mark, text: &str) -> Result<(), AllocError> {
+    fn note(&mut self, mark: Mark, text: String<A>) -> Result<(), AllocError> {
         let lane = controller(mark);
-        let text = String::from_str(self.alloc, text)?;
         self.push(String::new(self.alloc), Happening::Note { lane }, text)
     }
 
@@ -183,10 +168,10 @@ impl<A: Allocator + Copy> TraceChart<A> {
         heading: String<A>,
         mark: Mark,
         is_sent: bool,
-        input: &Inbound<A>,
+        content: &Content<A>,
         call: Option<u16>,
     ) -> Result<(), AllocError> {
-        let Some(other) = other_lane(mark, input) else {
+        let Some(other) = other_lane(mark, content) else {
             return Ok(());
         };
         let (from, to) = if is_sent {
@@ -194,7 +179,7 @@ impl<A: Allocator + Copy> TraceChart<A> {
         } else {
             (other, controller(mark))
         };
-        let text = arrow_text(self.alloc, input, call)?;
+        let text = arrow_text(self.alloc, content, call)?;
         self.push(heading, Happening::Arrow { from, to }, text)
     }
 
@@ -202,8 +187,8 @@ impl<A: Allocator + Copy> TraceChart<A> {
     fn input(
         &mut self,
         mark: Mark,
-        text: &str,
         input: &Inbound<A>,
+        content: &Content<A>,
         call: Option<u16>,
     ) -> Result<(), AllocError> {
         self.inputs = self.inputs.saturating_add(1);
@@ -211,10 +196,10 @@ impl<A: Allocator + Copy> TraceChart<A> {
         match input {
             Inbound::Abis { .. } | Inbound::A { .. } => {
                 let heading = format!(in self.alloc; "{number}")?;
-                self.arrow(heading, mark, false, input, call)
+                self.arrow(heading, mark, false, content, call)
             }
             Inbound::Expiry { .. } | Inbound::Operator(_) => {
-                let heading = format!(in self.alloc; "{number} {mark}{}", behind_word(text))?;
+                let heading = format!(in self.alloc; "{number} {mark}{}", InboundText(input))?;
                 self.head(heading)
             }
         }
@@ -228,35 +213,44 @@ impl<A: Allocator + Copy> TraceChart<A> {
         }
     }
 
-    /// Adds a line, which is this text, about this call. Where memory is refused the chart may lack a row of it.
+    /// Adds what was asked of a book.
+    fn asked(&mut self, mark: Mark, step: Step, call: Option<u16>) -> Result<(), AllocError> {
+        let text = match step {
+            Step::Asked(event, reply) => {
+                let row = count(&self.rows);
+                self.attempts(mark).ask(row, event, reply, call)?;
+                format!(in self.alloc; "{} -> {}", EventText(event), ReplyText(reply))?
+            }
+            Step::NoneFree(cell) => format!(in self.alloc; "none free in cell {cell}")?,
+        };
+        self.note(mark, text)
+    }
+
+    /// Adds a line of a controller with this mark, which carries this, about this call. Where memory is refused the chart may
+    /// lack a row of it.
     pub fn add_line(
         &mut self,
-        text: &str,
-        line: &TraceLine<A>,
+        mark: Mark,
+        line: &TraceLine<'_, A>,
+        content: &Content<A>,
         call: Option<u16>,
     ) -> Result<(), AllocError> {
-        let mark = line.mark;
-        match &line.what {
-            What::Input(input) => self.input(mark, text, input, call),
-            What::Sent(sent) => self.arrow(String::new(self.alloc), mark, true, sent, call),
-            What::Asked(event, replied) => {
-                let row = count(&self.rows);
-                self.attempts(mark).ask(row, *event, *replied, call)?;
-                self.note(mark, behind_word(text))
+        match line {
+            TraceLine::Input(input) => self.input(mark, *input, content, call),
+            TraceLine::Sent(_) => self.arrow(String::new(self.alloc), mark, true, content, call),
+            TraceLine::Asked(step) => self.asked(mark, *step, call),
+            TraceLine::Fault(bad) => {
+                let text = format!(in self.alloc; "fault {}", BadText(*bad))?;
+                self.note(mark, text)
             }
-            What::NoneFree(cell) => {
-                let text = format!(in self.alloc; "none free in cell {cell}")?;
-                self.note(mark, &text)
-            }
-            What::Fault(..) => {
-                let text = format!(in self.alloc; "fault {}", behind_word(text))?;
-                self.note(mark, &text)
-            }
-            What::Limit => {
-                let text = String::from_str(self.alloc, text)?;
+            TraceLine::Limit => {
+                let text = format!(in self.alloc; "{line}")?;
                 self.head(text)
             }
-            What::End(_) => self.note(mark, behind_word(text)),
+            TraceLine::End(usage) => {
+                let text = format!(in self.alloc; "{}", UsageText(*usage))?;
+                self.note(mark, text)
+            }
         }
     }
 
@@ -299,7 +293,7 @@ impl<A: Allocator + Copy> TraceChart<A> {
     }
 
     /// Writes the chart as an SVG that stands alone. Nothing is written where memory is refused.
-    pub fn write_to<W: Write>(&self, out: &mut W) -> Result<(), WordsFault> {
+    pub fn write_to<W: Write>(&self, out: &mut W) -> Result<(), LabFault> {
         let lanes = self.lanes()?;
         let rows = self.drawn()?;
         let marked = self.marked()?;
