@@ -7,7 +7,7 @@ ghost use Rattle.lab.specs.Encoded.{CanBeWritten};
 use crate::decoded::Link;
 use encoded_messages::{MessageFault, encode_a, encode_abis, encode_rr};
 use lab_runs::run::{LabFault, Status};
-use message_fields::FieldFault;
+use encoded_messages::FieldFault;
 use std::alloc::Allocator;
 use std::fmt;
 use std::io::Write;

@@ -10,7 +10,7 @@ use crate::run_reason::say_refusal;
 use crate::site_files::{SitePaths, SiteTexts, say_site, site_texts};
 use crate::view_paths::{named_twice, refuse_twice};
 use lab_runs::run::{LabFault, Status, lab_run, run_for};
-use message_fields::Shown;
+use encoded_messages::Shown;
 use run_views::{Viewer, Views, open_sheets};
 use screen_text::{Escaped, Reason};
 use std::alloc::{Allocator, Global};
