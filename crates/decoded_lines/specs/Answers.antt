@@ -1,8 +1,8 @@
 -- Which lines say a message. A line is the list of its bytes, without its line feed.
 use Rattle.std.specs.Prelude.{◌≡◌, ◌≢◌, ◌⊎◌, ℕ, ◌≤◌, true, false, List, [], Option, Some, None, IfSome, All, length}
 use Rattle.std.specs.List.{slice_split}
-use Rattle.octet_lines.specs.Lines.{octets_of, text_in, is_blank, first_word, behind_word}
-use Rattle.octet_lines.specs.Reading.{is_feed, longest_line, first_line, behind_line}
+use Rattle.decoded_lines.specs.Lines.{octets_of, text_in, is_blank, first_word, behind_word}
+use Rattle.decoded_lines.specs.Reading.{is_feed, longest_line, first_line, behind_line}
 use Rattle.decoded_lines.specs.declared.answers.LinesFault.{LinesFault}
 use Rattle.decoded_lines.specs.declared.answers.LinesFault.TheVariants as lines
 use Rattle.decoded_lines.specs.declared.answers.Verdict.{Verdict}

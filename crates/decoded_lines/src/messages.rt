@@ -2,13 +2,14 @@
 ghost use Rattle.std.specs.Prelude.{◌≡◌, ◌≢◌, [], Ok, Err, None, true, false, IfOk, IfErr, IfSome, IsNone, IsSome};
 ghost use Rattle.decoded_lines.specs.Messages.{link_name, IsRrMessage, IsBssmapMessage, IsAbisMessage, IsMessage};
 
+use crate::spares::{print_a_spares, print_abis_spares, print_rr_rest};
+use crate::used::{used_on_a, used_on_abis};
 use bssmap_messages::{Bssmap, BssmapFault};
 use explanations::Link;
 use ho_procedure::exchange::Bad;
 use rr_messages::Rr;
 use rsl_messages::{Rsl, RslFault};
 use screen_text::PrintFault;
-use spare_elements::{print_a_spares, print_abis_spares, print_rr_rest, used_on_a, used_on_abis};
 use std::alloc::Allocator;
 use std::io::{self, Write};
 use trace_text::abis::AbisText;

@@ -7,12 +7,12 @@ ghost use Rattle.encoded_messages.specs.declared.field_fault.FieldFault.TheVaria
 ghost use Rattle.encoded_messages.specs.Faults as faults;
 ghost use Rattle.encoded_messages.specs.A as said;
 
+use crate::fault::MessageFault;
 use crate::field_fault::{Allowed, FieldFault};
 use crate::fields::{flag, octet, octets, only_keys, optional_octet, value};
 use crate::name::name_and_fields;
 use crate::values::cell_in;
 use crate::words::first_part;
-use crate::fault::MessageFault;
 use bssmap_messages::{Bssmap, CellId, CellList, Classmark, Octets, encode, fits};
 use std::alloc::Allocator;
 

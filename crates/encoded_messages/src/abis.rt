@@ -4,10 +4,10 @@ ghost use Rattle.encoded_messages.specs.FieldFaults.{read_of, Answers};
 ghost use Rattle.encoded_messages.specs.Faults as faults;
 ghost use Rattle.encoded_messages.specs.Abis as said;
 
+use crate::fault::MessageFault;
 use crate::field_fault::FieldFault;
 use crate::fields::{number, octet, octets, only_keys, optional_octet, optional_octets, small};
 use crate::name::name_and_fields;
-use crate::fault::MessageFault;
 use rsl_messages::{ChanBits, Octets, Rsl, encode, fits};
 use std::alloc::Allocator;
 

@@ -7,11 +7,11 @@ ghost use Rattle.rr_elements.specs.MeasResults.{HeadFits, NcellFits, used_count}
 ghost use Rattle.encoded_messages.specs.Faults as faults;
 ghost use Rattle.encoded_messages.specs.Rr as said;
 
+use crate::fault::MessageFault;
 use crate::field_fault::{Allowed, FieldFault};
 use crate::fields::{flag, leading_value, number, octet, only_keys, small};
 use crate::name::name_and_fields;
 use crate::values::neighbour_in;
-use crate::fault::MessageFault;
 use rr_elements::{CellDescription, ChanDescription, MeasHead, MeasResults, Ncell, Power, RrCause};
 use rr_messages::{Rr, encode};
 use std::alloc::Allocator;

@@ -5,9 +5,8 @@ ghost use Rattle.std.specs.Prelude.{◌≡◌, ◌≢◌, Ok, OnOk, IfErr};
 ghost use Rattle.lab.specs.Encoded.{CanBeWritten};
 
 use crate::decoded::Link;
-use encoded_messages::{MessageFault, encode_a, encode_abis, encode_rr};
+use encoded_messages::{FieldFault, MessageFault, encode_a, encode_abis, encode_rr};
 use lab_runs::run::{LabFault, Status};
-use encoded_messages::FieldFault;
 use std::alloc::Allocator;
 use std::fmt;
 use std::io::Write;

@@ -1,6 +1,6 @@
 //! The octets that a text writes.
 ghost use Rattle.std.specs.Prelude.{◌≡◌, IfOk, option_map};
-ghost use Rattle.octet_lines.specs.Lines as said;
+ghost use Rattle.decoded_lines.specs.Lines as said;
 
 use hex::FromHex;
 use std::alloc::{AllocError, Allocator};

@@ -1,9 +1,9 @@
 use Rattle.std.proofs.Common.{◌≡◌, ◌∙◌, Bool, length, vec_len, ap, sym, subst, arith}
-use Rattle.octet_lines.specs.declared.reader.Found.{Found}
-use Rattle.octet_lines.specs.Reading.{found_of, Gives}
-use Rattle.octet_lines.proofs.ReadingLemmas.{IsRead, read_again, read_more, gives_whole, gives_last, gives_end}
-use Rattle.octet_lines.proofs.reader.next_line.Goals.{in-Again, in-Open}
-use Rattle.octet_lines.proofs.reader.next_line.Goals as goal
+use Rattle.decoded_lines.specs.declared.reader.Found.{Found}
+use Rattle.decoded_lines.specs.Reading.{found_of, Gives}
+use Rattle.decoded_lines.proofs.ReadingLemmas.{IsRead, read_again, read_more, gives_whole, gives_last, gives_end}
+use Rattle.decoded_lines.proofs.reader.next_line.Goals.{in-Again, in-Open}
+use Rattle.decoded_lines.proofs.reader.next_line.Goals as goal
 
 pub returns-in-Whole-clause-found : goal.returns-in-Whole-clause-found
 returns-in-Whole-clause-found g c =

@@ -1,7 +1,7 @@
 use Rattle.std.proofs.Common.{◌++◌, ◌∙◌, List, ℕ, sym, ap, option_map}
-use Rattle.octet_lines.specs.Lines.{octets_of}
-use Rattle.octet_lines.proofs.OctetLemmas.{tail, skip, half, bad, more, done}
-use Rattle.octet_lines.proofs.octets.read_octets.Goals as goal
+use Rattle.decoded_lines.specs.Lines.{octets_of}
+use Rattle.decoded_lines.proofs.OctetLemmas.{tail, skip, half, bad, more, done}
+use Rattle.decoded_lines.proofs.octets.read_octets.Goals as goal
 
 pub loop-left-preserved-then-is_separator : goal.loop-left-preserved-then-is_separator
 loop-left-preserved-then-is_separator g c = record {

@@ -2,7 +2,7 @@
 ghost use Rattle.std.specs.Prelude.{◌≡◌, ◌<◌, ◌≤◌, ◌++◌, length, take, vec_len, Ok, Some, OnOk, OnErr, IfOk, IfSome};
 ghost use Rattle.std.specs.List.{position};
 ghost use Rattle.std.specs.Io.KnownBytes.{IsAtEnd};
-ghost use Rattle.octet_lines.specs.Reading as said;
+ghost use Rattle.decoded_lines.specs.Reading as said;
 
 use std::alloc::{AllocError, Allocator};
 use std::io::{self, BufRead, ErrorKind};

@@ -2,7 +2,7 @@
 ghost use Rattle.std.specs.Prelude.{◌≡◌, IfSome, is_none, option_map};
 ghost use Rattle.std.specs.List.{list_all, position};
 ghost use Rattle.std.specs.Str.Lines.{strip_carriage_return};
-ghost use Rattle.octet_lines.specs.Lines as said;
+ghost use Rattle.decoded_lines.specs.Lines as said;
 
 /// A line without the carriage return that may end it.
 pub fn without_return(line: &[u8]) -> &[u8]

@@ -2,10 +2,10 @@
 use Rattle.std.specs.Prelude.{◌≡◌, ◌≢◌, ℕ, ◌<◌, ◌≤◌, ◌==◌, Bool, true, false, nat_lt, if◌then◌else◌, List, [], ◌++◌, length, take, Option, Some, IfSome}
 use Rattle.std.specs.List.{list_any, before_first, after_first}
 use Rattle.std.specs.Io.KnownBytes.{Keeps, Consumes, IsAtEnd}
-use Rattle.octet_lines.specs.declared.reader.Found.{Found}
-use Rattle.octet_lines.specs.declared.reader.Found.TheVariants as found
-use Rattle.octet_lines.specs.declared.reader.Part.{Part}
-use Rattle.octet_lines.specs.declared.reader.Part.TheVariants as part
+use Rattle.decoded_lines.specs.declared.reader.Found.{Found}
+use Rattle.decoded_lines.specs.declared.reader.Found.TheVariants as found
+use Rattle.decoded_lines.specs.declared.reader.Part.{Part}
+use Rattle.decoded_lines.specs.declared.reader.Part.TheVariants as part
 
 -- a line feed
 abbrev pub is_feed : ℕ → Bool

@@ -3,7 +3,7 @@ use Rattle.std.proofs.Common.{◌≡◌, ℕ, ◌<◌, ◌≤◌, List, [], ◌�
 use Rattle.std.proofs.lemmas.List.{length-drop}
 use Rattle.std.proofs.Math.Seq.{take-length}
 use Rattle.std.specs.Fmt.{option_append}
-use Rattle.octet_lines.specs.Lines.{is_separator, octet_of, octets_of}
+use Rattle.decoded_lines.specs.Lines.{is_separator, octet_of, octets_of}
 
 pub behind_separator : (b : ℕ) (rest : List ℕ) → is_separator b ≡ true → octets_of (b ∷ rest) ≡ octets_of rest
 unfolding octets_of

@@ -1,7 +1,7 @@
 use Rattle.std.proofs.Common.{◌≡◌, ◌-◌, ◌≤◌, ◌∙◌, min, length, arith}
-use Rattle.octet_lines.specs.Reading.{most_kept}
-use Rattle.octet_lines.proofs.ReadingLemmas.{keep_part}
-use Rattle.octet_lines.proofs.reader.keep.Goals as goal
+use Rattle.decoded_lines.specs.Reading.{most_kept}
+use Rattle.decoded_lines.proofs.ReadingLemmas.{keep_part}
+use Rattle.decoded_lines.proofs.reader.keep.Goals as goal
 
 pub returns-clause-kept : goal.returns-clause-kept
 returns-clause-kept g c =

@@ -2,9 +2,9 @@ use Rattle.std.proofs.Common.{◌≡◌, ◌≢◌, ◌+◌, length, arith, rule
 use Rattle.std.specs.List.{position}
 use Rattle.std.specs.Io.BufRead.{FillKeeps}
 use Rattle.std.proofs.BufReadLemmas.{Consumes_shown}
-use Rattle.octet_lines.specs.Reading.{is_feed}
-use Rattle.octet_lines.proofs.ReadingLemmas.{passes_whole, passes_open, feed_within}
-use Rattle.octet_lines.proofs.reader.read_part.Goals as goal
+use Rattle.decoded_lines.specs.Reading.{is_feed}
+use Rattle.decoded_lines.proofs.ReadingLemmas.{passes_whole, passes_open, feed_within}
+use Rattle.decoded_lines.proofs.reader.read_part.Goals as goal
 
 pub returns-in_ok-keep-in-Some-clause-bounded : goal.returns-in_ok-keep-in-Some-clause-bounded
 returns-in_ok-keep-in-Some-clause-bounded g c = c.in_ok-keep-in-Some.ensures.bounded

@@ -1,7 +1,7 @@
 use Rattle.std.proofs.Common.{◌≤◌, vec_len, vec_items}
-use Rattle.octet_lines.specs.Reading.{most_kept}
-use Rattle.octet_lines.proofs.ReadingLemmas.{IsRead}
-use Rattle.octet_lines.proofs.reader.next_line.Given as goal
+use Rattle.decoded_lines.specs.Reading.{most_kept}
+use Rattle.decoded_lines.proofs.ReadingLemmas.{IsRead}
+use Rattle.decoded_lines.proofs.reader.next_line.Given as goal
 
 abbrev pub invariant-loop : goal.invariant-loop
 invariant-loop g l = record {

@@ -1,6 +1,6 @@
 use Rattle.std.proofs.Common.{◌≡◌, ◌++◌, length, option_map}
-use Rattle.octet_lines.specs.Lines.{octets_of}
-use Rattle.octet_lines.proofs.octets.read_octets.Given as goal
+use Rattle.decoded_lines.specs.Lines.{octets_of}
+use Rattle.decoded_lines.proofs.octets.read_octets.Given as goal
 
 abbrev pub invariant-loop-left : goal.invariant-loop-left
 invariant-loop-left g l = record {

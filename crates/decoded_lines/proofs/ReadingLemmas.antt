@@ -9,9 +9,9 @@ use Rattle.std.proofs.KnownBytes.{Consumes-kept, Consumes-trans, starts_with_res
 use Rattle.std.specs.List.{list_any, position, position_or_len}
 use Rattle.std.specs.Io.{StartsWith}
 use Rattle.std.specs.Io.KnownBytes.{Consumes}
-use Rattle.octet_lines.specs.Reading.{is_feed, longest_line, most_kept, kept, first_line, behind_line, found_of, Passes, Gives}
-use Rattle.octet_lines.specs.declared.reader.Found.TheVariants as found
-use Rattle.octet_lines.specs.declared.reader.Part.TheVariants as part
+use Rattle.decoded_lines.specs.Reading.{is_feed, longest_line, most_kept, kept, first_line, behind_line, found_of, Passes, Gives}
+use Rattle.decoded_lines.specs.declared.reader.Found.TheVariants as found
+use Rattle.decoded_lines.specs.declared.reader.Part.TheVariants as part
 
 -- a number is below another, or not
 is_below : (a b : ℕ) → a < b → nat_lt a b ≡ true
