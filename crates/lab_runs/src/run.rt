@@ -20,7 +20,7 @@ use thiserror::Error;
 /// How the work ended.
 #[derive(Clone, Copy, Debug, PartialEq, Eq)]
 pub enum Status {
-    /// All inputs were handled, an undone attempt left no trace, or the message, help or the version was printed.
+    /// A script was run to its end, an undone attempt left no trace, or the message, help or the version was printed.
     Done,
     /// An undone attempt left a trace: without it the book is another, or a reply to an event that stays. Or something else
     /// came of a script than its comments expect.
