@@ -1,4 +1,5 @@
 //! A listener that views a run.
+use crate::chart_rows::RunChart;
 use crate::options::Views;
 use capture::RunCapture;
 use cell_table::SiteFault;
@@ -9,7 +10,6 @@ use line_words::{Calls, Content, Held, content_of, print_ignored, print_words};
 use radio_book::book::Book;
 use std::alloc::{AllocError, Allocator, Global};
 use std::io::{self, Write};
-use trace_chart::TraceChart;
 use trace_text::trace::{Mark, TraceLine};
 
 /// Prints the trace of a run, with words and with what the books hold where that is asked for, and gathers its capture and its
@@ -22,7 +22,7 @@ pub struct Viewer<'a, W: Write, A: Allocator + Copy = Global> {
     /// What the books hold, where it is to be printed.
     held: Option<Held<A>>,
     capture: Option<RunCapture<A>>,
-    chart: Option<TraceChart<A>>,
+    chart: Option<RunChart<A>>,
     /// Whether something was run.
     has_begun: bool,
     alloc: A,
@@ -58,7 +58,7 @@ impl<'a, W: Write, A: Allocator + Copy> Viewer<'a, W, A> {
                 None
             },
             capture,
-            chart: views.chart.map(|_| TraceChart::new(alloc, has_peer)),
+            chart: views.chart.map(|_| RunChart::new(alloc, has_peer)),
             has_begun: false,
             alloc,
         })
@@ -70,7 +70,7 @@ impl<'a, W: Write, A: Allocator + Copy> Viewer<'a, W, A> {
     }
 
     /// The chart so far, where one is asked for.
-    pub fn chart(&self) -> Option<&TraceChart<A>> {
+    pub fn chart(&self) -> Option<&RunChart<A>> {
         self.chart.as_ref()
     }
 

@@ -56,7 +56,7 @@ fn row_of<A: Allocator>(drawn: &Drawn<A>) -> Row<'_> {
 
 /// The chart of the lines that were added.
 #[derive(Drop)]
-pub struct TraceChart<A: Allocator = Global> {
+pub struct RunChart<A: Allocator = Global> {
     has_peer: bool,
     inputs: u64,
     rows: Vec<Drawn<A>, A>,
@@ -123,10 +123,10 @@ fn count<T>(items: &[T]) -> u32 {
     u32::try_from(items.len()).unwrap_or(u32::MAX)
 }
 
-impl<A: Allocator + Copy> TraceChart<A> {
+impl<A: Allocator + Copy> RunChart<A> {
     /// A chart without a row, of one controller or of two.
-    pub fn new(alloc: A, has_peer: bool) -> TraceChart<A> {
-        TraceChart {
+    pub fn new(alloc: A, has_peer: bool) -> RunChart<A> {
+        RunChart {
             has_peer,
             inputs: 0,
             rows: Vec::new(alloc),
