@@ -96,7 +96,7 @@ impl<A: Allocator + Copy> RunCapture<A> {
                 self.add_input(mark, *input)
             }
             TraceLine::Sent(sent) => self.add_sent(mark, *sent),
-            TraceLine::Asked(_) | TraceLine::Fault(_) | TraceLine::Limit | TraceLine::End(_) => Ok(
+            TraceLine::Step(_) | TraceLine::Fault(_) | TraceLine::Limit | TraceLine::End(_) => Ok(
                 (),
             ),
         }

@@ -3,7 +3,7 @@ use crate::run::LabFault;
 use crate::turn::{Answer, Turn};
 use cell_table::SiteFault;
 use radio_book::book::Book;
-use std::alloc::{Allocator, Global};
+use std::alloc::Allocator;
 use std::io::{self, Write};
 use trace_text::trace::{
     Mark, print_end, print_fault, print_input, print_limit, print_sent, print_steps,
@@ -11,7 +11,7 @@ use trace_text::trace::{
 
 /// Who hears what comes of a script: what comes of each input, in their order, and what the books hold at the end; or that
 /// nothing is run, and why.
-pub trait Listener<A: Allocator + Copy = Global> {
+pub trait Listener<A: Allocator + Copy> {
     /// What came of an input; the controller's mark, and its book as it is now.
     fn hear_turn(&mut self, mark: Mark, turn: &Turn<A>, book: &Book<A>) -> Result<(), LabFault>;
 

@@ -146,8 +146,8 @@ impl<A: Allocator + Copy> Known<A> {
                 Ok(self.current)
             }
             TraceLine::Sent(_) => Ok(self.of_content(content)),
-            TraceLine::Asked(Step::Asked(event, reply)) => self.of_event(*event, *reply),
-            TraceLine::Asked(Step::NoneFree(_)) | TraceLine::Fault(_) => Ok(self.current),
+            TraceLine::Step(Step::Asked(event, reply)) => self.of_event(*event, *reply),
+            TraceLine::Step(Step::NoneFree(_)) | TraceLine::Fault(_) => Ok(self.current),
             TraceLine::Limit | TraceLine::End(_) => Ok(None),
         }
     }

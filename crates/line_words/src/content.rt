@@ -111,22 +111,36 @@ fn on_a<A: Allocator + Copy>(alloc: A, call: u16, octets: &[u8]) -> Result<Conte
     Ok(Content::A(call, message))
 }
 
+/// What an input carries.
+fn content_in<A: Allocator + Copy>(alloc: A, input: &Inbound<A>) -> Result<Content<A>, AllocError> {
+    match input {
+        Inbound::Abis { cell, trx, bytes } => on_abis(alloc, *cell, *trx, bytes.as_slice()),
+        Inbound::A { call, bytes } => on_a(alloc, *call, bytes.as_slice()),
+        Inbound::Expiry { .. } | Inbound::Operator(_) => Ok(Content::Nothing),
+    }
+}
+
+/// What a message that is sent carries.
+fn content_out<A: Allocator + Copy>(
+    alloc: A,
+    sent: &Outbound<A>,
+) -> Result<Content<A>, AllocError> {
+    match sent {
+        Outbound::Abis { cell, trx, bytes } => on_abis(alloc, *cell, *trx, bytes.as_slice()),
+        Outbound::A { call, bytes } => on_a(alloc, *call, bytes.as_slice()),
+    }
+}
+
 /// What a line carries.
 pub fn content_of<A: Allocator + Copy>(
     alloc: A,
     line: &TraceLine<'_, A>,
 ) -> Result<Content<A>, AllocError> {
     match line {
-        TraceLine::Input(Inbound::Abis { cell, trx, bytes })
-        | TraceLine::Sent(Outbound::Abis { cell, trx, bytes }) => {
-            on_abis(alloc, *cell, *trx, bytes.as_slice())
+        TraceLine::Input(input) => content_in(alloc, *input),
+        TraceLine::Sent(sent) => content_out(alloc, *sent),
+        TraceLine::Step(_) | TraceLine::Fault(_) | TraceLine::Limit | TraceLine::End(_) => {
+            Ok(Content::Nothing)
         }
-        TraceLine::Input(Inbound::A { call, bytes })
-        | TraceLine::Sent(Outbound::A { call, bytes }) => on_a(alloc, *call, bytes.as_slice()),
-        TraceLine::Input(Inbound::Expiry { .. } | Inbound::Operator(_))
-        | TraceLine::Asked(_)
-        | TraceLine::Fault(_)
-        | TraceLine::Limit
-        | TraceLine::End(_) => Ok(Content::Nothing),
     }
 }

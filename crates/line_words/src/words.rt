@@ -127,11 +127,11 @@ pub fn print_words<A: Allocator, W: Write>(
             print_call(out, call)?;
             print_message(out, content)
         }
-        TraceLine::Asked(Step::Asked(_, reply)) => {
+        TraceLine::Step(Step::Asked(_, reply)) => {
             print_call(out, call)?;
             print_reply(out, *reply)
         }
-        TraceLine::Asked(Step::NoneFree(_)) => print_call(out, call),
+        TraceLine::Step(Step::NoneFree(_)) => print_call(out, call),
         TraceLine::Fault(bad) => {
             print_call(out, call)?;
             print_bad(out, *bad)

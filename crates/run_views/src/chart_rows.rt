@@ -238,7 +238,7 @@ impl<A: Allocator + Copy> RunChart<A> {
         match line {
             TraceLine::Input(input) => self.input(mark, *input, content, call),
             TraceLine::Sent(_) => self.arrow(String::new(self.alloc), mark, true, content, call),
-            TraceLine::Asked(step) => self.asked(mark, *step, call),
+            TraceLine::Step(step) => self.asked(mark, *step, call),
             TraceLine::Fault(bad) => {
                 let text = format!(in self.alloc; "fault {}", BadText(*bad))?;
                 self.note(mark, text)

@@ -131,7 +131,7 @@ impl<'a, W: Write, A: Allocator + Copy> Viewer<'a, W, A> {
             if let Some(held) = &mut self.held {
                 held.note(mark, *step)?;
             }
-            self.show(mark, &TraceLine::Asked(*step))?;
+            self.show(mark, &TraceLine::Step(*step))?;
         }
         Ok(())
     }

@@ -260,7 +260,7 @@ pub enum TraceLine<'a, A: Allocator = Global> {
     /// An input is handled.
     Input(&'a Inbound<A>),
     /// The book was asked.
-    Asked(Step),
+    Step(Step),
     /// A message is sent.
     Sent(&'a Outbound<A>),
     /// The input's octets are no message of their link.
@@ -275,7 +275,7 @@ impl<A: Allocator> fmt::Display for TraceLine<'_, A> {
     fn fmt<W: fmt::Write>(&self, f: &mut fmt::Formatter<W>) -> fmt::Result {
         match self {
             TraceLine::Input(input) => write!(f, "in {}", InboundText(*input)),
-            TraceLine::Asked(step) => write!(f, "{step}"),
+            TraceLine::Step(step) => write!(f, "{step}"),
             TraceLine::Sent(message) => write!(f, "out {}", OutboundText(*message)),
             TraceLine::Fault(bad) => write!(f, "fault {}", BadText(*bad)),
             TraceLine::Limit => write!(f, "sim limit"),
