@@ -16,12 +16,11 @@
 #![tactic(auto)]
 
 ghost use Rattle.std.specs.Prelude.{◌≡◌, ◌<◌, None, IsSome, IsErr};
-ghost use Rattle.progress.specs.Keeping.{error_of};
+ghost use Rattle.screen_text.specs.Keeping.{error_of};
 
-use file_reasons::Reason;
 use lab::program::perform;
 use lab::run::{LabFault, Status, exit_status};
-use progress::{Counted, Erasing, Keeping, Progress};
+use screen_text::{Counted, Erasing, Keeping, Progress, Reason};
 use std::env::{self, FillError};
 use std::io::{self, BufWriter, IsTerminal, LineWriter, Read, Write};
 use std::process::ExitCode;

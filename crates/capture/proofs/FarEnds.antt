@@ -2,8 +2,8 @@
 use Rattle.std.proofs.Common.{◌≡◌, ◌<◌, ap, refl, ℕ, ◌+◌, ◌*◌, ◌/◌, ◌%◌, arith}
 use Rattle.capture.specs.declared.path.Side.{Side}
 use Rattle.capture.specs.declared.path.Side.TheVariants.{First, Peer}
-use Rattle.capture.specs.declared.path.Link.{Link}
-use Rattle.capture.specs.declared.path.Link.TheVariants.{Abis, A}
+use Rattle.capture.specs.declared.path.Wire.{Wire}
+use Rattle.capture.specs.declared.path.Wire.TheVariants.{Abis, A}
 use Rattle.capture.specs.Ends.{Fits, far, FarIsUnique}
 
 -- two numbers below a 256 each are told by their place

@@ -2,8 +2,8 @@
 use Rattle.std.specs.Prelude.{◌≡◌, ◌<◌, ℕ, ◌+◌, ◌*◌, ◌/◌, ◌%◌, ◌^◌}
 use Rattle.capture.specs.declared.path.Side.{Side}
 use Rattle.capture.specs.declared.path.Side.TheVariants.{First, Peer}
-use Rattle.capture.specs.declared.path.Link.{Link}
-use Rattle.capture.specs.declared.path.Link.TheVariants.{Abis, A}
+use Rattle.capture.specs.declared.path.Wire.{Wire}
+use Rattle.capture.specs.declared.path.Wire.TheVariants.{Abis, A}
 use Rattle.capture.specs.declared.path.Path.{Path}
 use Rattle.capture.specs.declared.path.Way.{Way}
 use Rattle.capture.specs.declared.path.Way.TheVariants.{Sent, Received}
@@ -25,12 +25,12 @@ near p = address 0 0 (number_of p.side)
 
 -- The other end: of a TRX 10.N.CELL.TRX, where N is the controller's number; of a call the centre, at the digits of the
 -- call's number: 10.(100 N + first digit).(the next two).(the last two).
-abbrev pub far : Side → Link → ℕ
+abbrev pub far : Side → Wire → ℕ
 far side (Abis cell trx) = address (number_of side) cell trx
 far side (A call) = address (100 * number_of side + call / 100 / 100) (call / 100 % 100) (call % 100)
 
 -- the ports that IPA's protocols have: 3003 of Abis, 5000 of A
-abbrev pub port_of : Link → ℕ
+abbrev pub port_of : Wire → ℕ
 port_of (Abis cell trx) = 3003
 port_of (A call) = 5000
 
@@ -49,10 +49,10 @@ abbrev pub begun : Stream
 begun = record { sent = 1; received = 1 }
 
 -- a link's numbers are those that its types have
-abbrev pub Fits : Link → Type 0
+abbrev pub Fits : Wire → Type 0
 Fits (Abis cell trx) = (cell < 256) × (trx < 256)
 Fits (A call) = call < 65536
 
 -- no two links of the controllers have the same other end
 abbrev pub FarIsUnique : Type 0
-FarIsUnique = (s t : Side) (k l : Link) → Fits k → Fits l → far s k ≡ far t l → (s ≡ t) × (k ≡ l)
+FarIsUnique = (s t : Side) (k l : Wire) → Fits k → Fits l → far s k ≡ far t l → (s ≡ t) × (k ≡ l)

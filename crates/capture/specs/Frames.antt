@@ -1,8 +1,8 @@
 -- How messages lie in a TCP stream.
 use Rattle.std.specs.Prelude.{ℕ, ◌+◌, List, [], ◌∷◌, ◌++◌, length}
 use Rattle.capture.specs.Numbers.{two}
-use Rattle.capture.specs.declared.path.Link.{Link}
-use Rattle.capture.specs.declared.path.Link.TheVariants.{Abis, A}
+use Rattle.capture.specs.declared.path.Wire.{Wire}
+use Rattle.capture.specs.declared.path.Wire.TheVariants.{Abis, A}
 
 -- IPA: how many octets the message has, two octets; which protocol it is of; the message
 abbrev pub ipa : ℕ → List ℕ → List ℕ
@@ -24,11 +24,11 @@ abbrev pub bssap : List ℕ
 bssap = 66 ∷ 254 ∷ []
 
 -- a message as it lies in the stream of its link: on Abis as IPA's protocol 0, on A in unitdata as IPA's protocol FD
-unfoldable pub frame : Link → List ℕ → List ℕ
+unfoldable pub frame : Wire → List ℕ → List ℕ
 frame (Abis cell trx) message = ipa 0 message
 frame (A call) message = ipa 253 (unitdata bssap bssap message)
 
 -- the longest message that a frame can carry: an internet datagram has 65535 octets, and unitdata's length is one octet
-abbrev pub limit : Link → ℕ
+abbrev pub limit : Wire → ℕ
 limit (Abis cell trx) = 65492
 limit (A call) = 255

@@ -3,17 +3,17 @@ ghost use Rattle.std.specs.Prelude.{◌≡◌, ◌≤◌, IfOk, length};
 ghost use Rattle.capture.specs.Frames.{frame, ipa, unitdata, bssap, limit};
 
 use crate::numbers::two;
-use crate::path::Link;
+use crate::path::Wire;
 use octet_elements::append_octets;
 use std::alloc::{AllocError, Allocator};
 
 /// How many octets a message on a link may have.
-pub fn limit(link: Link) -> usize
+pub fn limit(link: Wire) -> usize
     ensures limit { result ≡ limit link }
 {
     match link {
-        Link::Abis { .. } => 65_492,
-        Link::A { .. } => 255,
+        Wire::Abis { .. } => 65_492,
+        Wire::A { .. } => 255,
     }
 }
 
@@ -47,12 +47,12 @@ fn a_frame<A: Allocator>(alloc: A, message: &[u8]) -> Result<Vec<u8, A>, AllocEr
 
 /// A message as it lies in the TCP stream of its link.
 #[tactic(auto, unfolding(crate::specs::Frames::frame))]
-pub fn frame<A: Allocator>(alloc: A, link: Link, message: &[u8]) -> Result<Vec<u8, A>, AllocError>
+pub fn frame<A: Allocator>(alloc: A, link: Wire, message: &[u8]) -> Result<Vec<u8, A>, AllocError>
     requires short { length message.now ≤ limit link }
     ensures frame { IfOk result (λ f. f.items ≡ frame link message.now) }
 {
     match link {
-        Link::Abis { .. } => abis_frame(alloc, message),
-        Link::A { .. } => a_frame(alloc, message),
+        Wire::Abis { .. } => abis_frame(alloc, message),
+        Wire::A { .. } => a_frame(alloc, message),
     }
 }

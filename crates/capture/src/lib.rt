@@ -15,6 +15,7 @@ mod capture;
 mod checksum;
 mod frame;
 mod laws;
+mod messages;
 mod numbers;
 mod packet;
 mod path;
@@ -22,4 +23,5 @@ mod segment;
 
 pub use capture::{Capture, CaptureFault};
 pub use laws::{checks_succeed, far_is_unique};
-pub use path::{Link, Path, Side, Way};
+pub use messages::RunCapture;
+pub use path::{Path, Side, Way, Wire};

@@ -15,7 +15,7 @@ pub enum Side {
 
 /// A controller's link.
 #[derive(Clone, Copy, PartialEq, Eq, Debug)]
-pub enum Link {
+pub enum Wire {
     /// Abis, to a TRX of a cell.
     Abis { cell: u8, trx: u8 },
     /// A, to the switching centre, about a call.
@@ -26,7 +26,7 @@ pub enum Link {
 #[derive(Clone, Copy, PartialEq, Eq, Debug)]
 pub struct Path {
     pub side: Side,
-    pub link: Link,
+    pub link: Wire,
 }
 
 /// Which way a message goes.
@@ -65,13 +65,13 @@ fn number_of(side: Side) -> u8
 }
 
 /// The address of the other end of a link.
-pub fn far(side: Side, link: Link) -> u32
+pub fn far(side: Side, link: Wire) -> u32
     ensures far { result ≡ far side link }
 {
     let number = number_of(side);
     match link {
-        Link::Abis { cell, trx } => address(number, cell, trx),
-        Link::A { call } => address(
+        Wire::Abis { cell, trx } => address(number, cell, trx),
+        Wire::A { call } => address(
             100 * number + (call / 100 / 100) as u8,
             (call / 100 % 100) as u8,
             (call % 100) as u8,
@@ -80,12 +80,12 @@ pub fn far(side: Side, link: Link) -> u32
 }
 
 /// The port of a link.
-fn port_of(link: Link) -> u16
+fn port_of(link: Wire) -> u16
     ensures { result ≡ port_of link }
 {
     match link {
-        Link::Abis { .. } => 3003,
-        Link::A { .. } => 5000,
+        Wire::Abis { .. } => 3003,
+        Wire::A { .. } => 5000,
     }
 }
 

@@ -1,1 +1,3 @@
 mod LineLemmas
+mod OctetLemmas
+pub mod ReadingLemmas

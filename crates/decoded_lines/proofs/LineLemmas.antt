@@ -6,11 +6,11 @@ use Rattle.std.proofs.lemmas.List.Splits.{slice_split_first, slice_split_none}
 use Rattle.std.proofs.lemmas.Bool.{cases_Bool, true≢false}
 use Rattle.std.specs.List.{list_any, position_or_len, slice_split}
 use Rattle.std.specs.Io.KnownBytes.{IsAtEnd}
-use Rattle.octet_lines.specs.declared.reader.Found.TheVariants as found
-use Rattle.octet_lines.specs.Lines.{is_blank}
-use Rattle.octet_lines.specs.Reading.{is_feed, longest_line, first_line, behind_line, Gives}
-use Rattle.octet_lines.proofs.ReadingLemmas.{place_within, place_none, none_passes}
-use Rattle.decoded_lines.specs.declared.messages.Link.{Link}
+use Rattle.decoded_lines.specs.declared.reader.Found.TheVariants as found
+use Rattle.decoded_lines.specs.Lines.{is_blank}
+use Rattle.decoded_lines.specs.Reading.{is_feed, longest_line, first_line, behind_line, Gives}
+use Rattle.decoded_lines.proofs.ReadingLemmas.{place_within, place_none, none_passes}
+use Rattle.explanations.specs.declared.link.Link.{Link}
 use Rattle.decoded_lines.specs.declared.answers.Verdict.{Verdict}
 use Rattle.decoded_lines.specs.declared.answers.Verdict.TheVariants as verdict
 use Rattle.decoded_lines.specs.Answers.{IsGood, AreGood, Judges, IsAdded, IsCounted, CountsFirst}

@@ -1,15 +1,15 @@
 -- Which lines say a message. A line is the list of its bytes, without its line feed.
 use Rattle.std.specs.Prelude.{◌≡◌, ◌≢◌, ◌⊎◌, ℕ, ◌≤◌, true, false, List, [], Option, Some, None, IfSome, All, length}
 use Rattle.std.specs.List.{slice_split}
-use Rattle.octet_lines.specs.Lines.{octets_of, text_in, is_blank, first_word, behind_word}
-use Rattle.octet_lines.specs.Reading.{is_feed, longest_line, first_line, behind_line}
+use Rattle.decoded_lines.specs.Lines.{octets_of, text_in, is_blank, first_word, behind_word}
+use Rattle.decoded_lines.specs.Reading.{is_feed, longest_line, first_line, behind_line}
 use Rattle.decoded_lines.specs.declared.answers.LinesFault.{LinesFault}
 use Rattle.decoded_lines.specs.declared.answers.LinesFault.TheVariants as lines
 use Rattle.decoded_lines.specs.declared.answers.Verdict.{Verdict}
 use Rattle.decoded_lines.specs.declared.answers.Verdict.TheVariants as verdict
-use Rattle.decoded_lines.specs.declared.messages.Link.{Link}
-use Rattle.decoded_lines.specs.declared.messages.PrintFault.{PrintFault}
-use Rattle.decoded_lines.specs.declared.messages.PrintFault.TheVariants as print
+use Rattle.explanations.specs.declared.link.Link.{Link}
+use Rattle.screen_text.specs.declared.fault.PrintFault.{PrintFault}
+use Rattle.screen_text.specs.declared.fault.PrintFault.TheVariants as print
 use Rattle.decoded_lines.specs.Messages.{link_name, IsMessage}
 
 -- The octets of a text come from a link, and this is what writes them: the link that is given for all lines and the whole

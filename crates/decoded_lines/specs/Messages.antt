@@ -6,8 +6,8 @@ use Rattle.rsl_messages.specs.declared.message.Rsl.{Rsl}
 use Rattle.rsl_messages.specs.Texts.{IsTextOf}
 use Rattle.bssmap_messages.specs.declared.message.Bssmap.{Bssmap}
 use Rattle.bssmap_messages.specs.Texts as bssmap
-use Rattle.decoded_lines.specs.declared.messages.Link.{Link}
-use Rattle.decoded_lines.specs.declared.messages.Link.TheVariants as link
+use Rattle.explanations.specs.declared.link.Link.{Link}
+use Rattle.explanations.specs.declared.link.Link.TheVariants as link
 
 -- how a link is called
 abbrev pub link_name : Link → List ℕ

@@ -1,11 +1,15 @@
 //! Answers to lines of octet texts, one by one.
 ghost use Rattle.std.specs.Prelude.{◌≡◌, ◌≢◌, ◌≤◌, length, vec_len, Ok, true, false, OnOk, IfOk, IfSome};
 ghost use Rattle.std.specs.Io.KnownBytes.{IsAtEnd};
-ghost use Rattle.octet_lines.specs.Reading.{longest_line, Gives};
+ghost use Rattle.decoded_lines.specs.Reading.{longest_line, Gives};
 ghost use Rattle.decoded_lines.specs.Answers.{WritesMessage, TextSays, Judges, IsAdded, IsCounted, CountsFirst, AreGood};
 
-use crate::messages::{Detail, Link, PrintFault, link_named, print_message};
-use octet_lines::{Found, next_line, read_octets, said_in, word_and_rest};
+use crate::messages::{Detail, link_named, print_message};
+use crate::octets::read_octets;
+use crate::parts::{said_in, word_and_rest};
+use crate::reader::{Found, next_line};
+use explanations::Link;
+use screen_text::PrintFault;
 use std::alloc::{AllocError, Allocator};
 use std::io::{self, BufRead, Write};
 

@@ -5,9 +5,7 @@ ghost use Rattle.std.specs.Prelude.{◌≡◌, ◌≢◌, Ok, true, IfSome};
 ghost use Rattle.decoded_lines.specs.Answers.{AreGood};
 
 use crate::answers::{Asked, LinesFault, answer_lines};
-use crate::messages::PrintFault;
-use escaped_text::Escaped;
-use file_reasons::Reason;
+use screen_text::{Escaped, PrintFault, Reason};
 use std::alloc::Allocator;
 use std::fs::File;
 use std::io::{self, BufReader, Read, Write};

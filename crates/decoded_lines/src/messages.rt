@@ -1,29 +1,21 @@
 //! The links that messages come from, and messages in words.
-ghost use Rattle.std.specs.Prelude.{◌≡◌, ◌≢◌, [], Ok, Err, true, false, IfOk, IfErr, IfSome, IsNone};
+ghost use Rattle.std.specs.Prelude.{◌≡◌, ◌≢◌, [], Ok, Err, None, true, false, IfOk, IfErr, IfSome, IsNone, IsSome};
 ghost use Rattle.decoded_lines.specs.Messages.{link_name, IsRrMessage, IsBssmapMessage, IsAbisMessage, IsMessage};
 
+use crate::spares::{print_a_spares, print_abis_spares, print_rr_rest};
+use crate::used::{used_on_a, used_on_abis};
 use bssmap_messages::{Bssmap, BssmapFault};
+use explanations::Link;
 use ho_procedure::exchange::Bad;
 use rr_messages::Rr;
 use rsl_messages::{Rsl, RslFault};
-use spare_elements::{print_a_spares, print_abis_spares, print_rr_rest, used_on_a, used_on_abis};
-use std::alloc::{AllocError, Allocator};
+use screen_text::PrintFault;
+use std::alloc::Allocator;
 use std::io::{self, Write};
 use trace_text::abis::AbisText;
 use trace_text::bad::BadText;
 use trace_text::bssmap::BssmapText;
 use trace_text::rr::RrText;
-
-/// Where a message comes from.
-#[derive(Clone, Copy, Debug, PartialEq, Eq)]
-pub enum Link {
-    /// The radio path, between the network and a mobile (TS 44.018).
-    Rr,
-    /// A, between a base station controller and a switching centre (TS 48.008).
-    A,
-    /// Abis, between a base station controller and a base station (TS 48.058).
-    Abis,
-}
 
 /// How much is said of a message.
 #[derive(Clone, Copy, Debug, PartialEq, Eq)]
@@ -33,35 +25,6 @@ pub enum Detail {
     /// Behind them the elements in its octets that it doesn't use, and of a message on Abis the radio resource message
     /// inside.
     All,
-}
-
-/// Why a message, or what came of lines, isn't printed.
-#[derive(Clone, Copy, Debug, PartialEq, Eq)]
-pub enum PrintFault {
-    /// Memory was refused.
-    NoMemory,
-    /// A write failed.
-    Write,
-}
-
-impl From<AllocError> for PrintFault {
-    ghost use Rattle.decoded_lines.specs.declared.messages.PrintFault.TheVariants.{NoMemory};
-
-    ghost from_gives = { λ _ fault. fault ≡ NoMemory };
-
-    fn from(_: AllocError) -> PrintFault {
-        PrintFault::NoMemory
-    }
-}
-
-impl From<io::Error> for PrintFault {
-    ghost use Rattle.decoded_lines.specs.declared.messages.PrintFault.TheVariants.{Write};
-
-    ghost from_gives = { λ _ fault. fault ≡ Write };
-
-    fn from(_: io::Error) -> PrintFault {
-        PrintFault::Write
-    }
 }
 
 /// The link of this name.
@@ -81,13 +44,13 @@ pub fn link_named(name: &[u8]) -> Option<Link>
     None
 }
 
-/// Prints why octets are no message.
-fn refuse<W: Write>(fault: Bad, out: &mut W) -> Result<bool, PrintFault>
-    ensures refused { result ≢ Ok true }
+/// Prints why octets are no message, and answers that.
+fn refuse<W: Write>(fault: Bad, out: &mut W) -> Result<Option<Bad>, PrintFault>
+    ensures refused { result ≢ Ok None }
     ensures memory { result ≢ Err PrintFault.NoMemory }
 {
     write!(out, "fault {}", BadText(fault))?;
-    Ok(false)
+    Ok(Some(fault))
 }
 
 /// Prints what is asked for of a radio resource message behind its fields.
@@ -104,16 +67,16 @@ fn print_rr_more<W: Write>(
 }
 
 /// Prints a radio resource message, or why the octets are none.
-fn print_rr<W: Write>(detail: Detail, octets: &[u8], out: &mut W) -> Result<bool, PrintFault>
-    ensures message { result ≡ Ok true → IsRrMessage octets.now }
-    ensures refused { result ≡ Ok false → IsRrMessage octets.now → ⊥ }
+fn print_rr<W: Write>(detail: Detail, octets: &[u8], out: &mut W) -> Result<Option<Bad>, PrintFault>
+    ensures message { result ≡ Ok None → IsRrMessage octets.now }
+    ensures refused { IfOk result (λ fault. IsSome fault → IsRrMessage octets.now → ⊥) }
     ensures memory { result ≢ Err PrintFault.NoMemory }
 {
     match rr_messages::decode(octets) {
         Ok(message) => {
             write!(out, "{}", RrText(message))?;
             print_rr_more(detail, &message, octets, out)?;
-            Ok(true)
+            Ok(None)
         }
         Err(fault) => refuse(Bad::Rr(fault), out),
     }
@@ -167,16 +130,16 @@ fn print_bssmap<A: Allocator + Copy, W: Write>(
     detail: Detail,
     octets: &[u8],
     out: &mut W,
-) -> Result<bool, PrintFault>
-    ensures message { result ≡ Ok true → IsBssmapMessage A octets.now }
-    ensures refused { result ≡ Ok false → IsBssmapMessage A octets.now → ⊥ }
+) -> Result<Option<Bad>, PrintFault>
+    ensures message { result ≡ Ok None → IsBssmapMessage A octets.now }
+    ensures refused { IfOk result (λ fault. IsSome fault → IsBssmapMessage A octets.now → ⊥) }
     ensures memory { result ≡ Err PrintFault.NoMemory → IsBssmapMessage A octets.now }
 {
     match bssmap_messages::decode(alloc, octets) {
         Ok(message) => {
             write!(out, "{}", BssmapText(&message))?;
             print_bssmap_more(alloc, detail, &message, octets, out)?;
-            Ok(true)
+            Ok(None)
         }
         Err(fault) => refuse(bssmap_fault(fault)?, out),
     }
@@ -230,23 +193,24 @@ fn print_abis<A: Allocator + Copy, W: Write>(
     detail: Detail,
     octets: &[u8],
     out: &mut W,
-) -> Result<bool, PrintFault>
-    ensures message { result ≡ Ok true → IsAbisMessage A octets.now }
-    ensures refused { result ≡ Ok false → IsAbisMessage A octets.now → ⊥ }
+) -> Result<Option<Bad>, PrintFault>
+    ensures message { result ≡ Ok None → IsAbisMessage A octets.now }
+    ensures refused { IfOk result (λ fault. IsSome fault → IsAbisMessage A octets.now → ⊥) }
     ensures memory { result ≡ Err PrintFault.NoMemory → IsAbisMessage A octets.now }
 {
     match rsl_messages::decode(alloc, octets) {
         Ok(message) => {
             write!(out, "{}", AbisText(&message))?;
             print_abis_more(alloc, detail, &message, octets, out)?;
-            Ok(true)
+            Ok(None)
         }
         Err(fault) => refuse(abis_fault(fault)?, out),
     }
 }
 
 /// Prints a message of a link in words, or why the octets are none (`fault`, the link, and the number of the fault with
-/// its argument), without a line feed; whether they are one.
+/// its argument), without a line feed; answers why they are
+/// none, if so.
 ///
 /// With [`Detail::All`] there follow the elements that the message doesn't use, each as `unused=IDENTIFIER/VALUE` in
 /// hexadecimal ([`print_abis_spares`], [`print_a_spares`]), of a radio resource message what stands behind its mandatory
@@ -254,6 +218,26 @@ fn print_abis<A: Allocator + Copy, W: Write>(
 /// ` | ` and that as a radio resource message, or its fault. Octets that are a message are one whatever stands inside.
 ///
 /// `NoMemory` is answered only to octets that are a message, and that are some.
+pub fn print_or_fault<A: Allocator + Copy, W: Write>(
+    alloc: A,
+    link: Link,
+    detail: Detail,
+    octets: &[u8],
+    out: &mut W,
+) -> Result<Option<Bad>, PrintFault>
+    ensures message { result ≡ Ok None → IsMessage A link octets.now }
+    ensures refused { IfOk result (λ fault. IsSome fault → IsMessage A link octets.now → ⊥) }
+    ensures memory { result ≡ Err PrintFault.NoMemory → IsMessage A link octets.now }
+    ensures some { result ≡ Err PrintFault.NoMemory → octets.now ≢ [] }
+{
+    match link {
+        Link::Rr => print_rr(detail, octets, out),
+        Link::A => print_bssmap(alloc, detail, octets, out),
+        Link::Abis => print_abis(alloc, detail, octets, out),
+    }
+}
+
+/// The same; whether the octets are a message of the link.
 pub fn print_message<A: Allocator + Copy, W: Write>(
     alloc: A,
     link: Link,
@@ -266,9 +250,9 @@ pub fn print_message<A: Allocator + Copy, W: Write>(
     ensures memory { result ≡ Err PrintFault.NoMemory → IsMessage A link octets.now }
     ensures some { result ≡ Err PrintFault.NoMemory → octets.now ≢ [] }
 {
-    match link {
-        Link::Rr => print_rr(detail, octets, out),
-        Link::A => print_bssmap(alloc, detail, octets, out),
-        Link::Abis => print_abis(alloc, detail, octets, out),
+    match print_or_fault(alloc, link, detail, octets, out) {
+        Ok(None) => Ok(true),
+        Ok(Some(_)) => Ok(false),
+        Err(fault) => Err(fault),
     }
 }

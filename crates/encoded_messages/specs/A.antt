@@ -2,11 +2,11 @@
 -- that is no field of the message; then each field, in the order in which it stands here. A text is the list of its bytes;
 -- the words are ours, of no standard.
 use Rattle.std.specs.Prelude.{◌≡◌, ◌⊎◌, ℕ, if◌then◌else◌, List, [], ◌∷◌, codes, Option, Some, option_map, option_and_then, Ok, Err, IsOkAnd, bytes_eq}
-use Rattle.message_fields.specs.declared.fault.Allowed.TheVariants as may
-use Rattle.message_fields.specs.Faults.{Read as FieldRead, ◌>>=◌, ◌>>◌, read_map}
-use Rattle.message_fields.specs.Words.{parts_of}
-use Rattle.message_fields.specs.Values as value
-use Rattle.message_fields.specs.Fields.{name_of, fields_of, only_keys, field_at, number_at, flag_at, optional_octet_at, octets_at}
+use Rattle.encoded_messages.specs.declared.field_fault.Allowed.TheVariants as may
+use Rattle.encoded_messages.specs.FieldFaults.{Read as FieldRead, ◌>>=◌, ◌>>◌, read_map}
+use Rattle.encoded_messages.specs.Words.{parts_of}
+use Rattle.encoded_messages.specs.Values as value
+use Rattle.encoded_messages.specs.Fields.{name_of, fields_of, only_keys, field_at, number_at, flag_at, optional_octet_at, octets_at}
 use Rattle.bssmap_messages.specs.declared.message.CellId.{CellId}
 use Rattle.bssmap_messages.specs.declared.message.Classmark.{Classmark}
 use Rattle.bssmap_messages.specs.declared.message.Classmark.TheVariants.{One, Two}

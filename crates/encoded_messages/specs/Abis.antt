@@ -2,8 +2,8 @@
 -- that is no field of the message; then each field, in the order in which it stands here. A text is the list of its bytes;
 -- the words are ours, of no standard.
 use Rattle.std.specs.Prelude.{◌≡◌, ◌⊎◌, ℕ, if◌then◌else◌, List, codes, Ok, Err, IsOkAnd, bytes_eq}
-use Rattle.message_fields.specs.Faults.{Read as FieldRead, ◌>>=◌, ◌>>◌, read_map}
-use Rattle.message_fields.specs.Fields.{name_of, fields_of, only_keys, number_at, optional_octet_at, octets_at, optional_octets_at}
+use Rattle.encoded_messages.specs.FieldFaults.{Read as FieldRead, ◌>>=◌, ◌>>◌, read_map}
+use Rattle.encoded_messages.specs.Fields.{name_of, fields_of, only_keys, number_at, optional_octet_at, octets_at, optional_octets_at}
 use Rattle.rsl_messages.specs.declared.message.ChanBits.{ChanBits}
 use Rattle.rsl_messages.specs.declared.message.Rsl.{Rsl}
 use Rattle.rsl_messages.specs.declared.message.Rsl.TheVariants.{DataRequest, DataIndication, ChannelActivation, ChannelActivationAck, ChannelActivationNack, ConnectionFailureIndication, HandoverDetection, MeasurementResult, RfChannelRelease, RfChannelReleaseAck}

@@ -1,9 +1,9 @@
 -- Why a text can't be written as a message: the first thing that is wrong with it. A text is the list of its bytes. Ours, of
 -- no standard.
 use Rattle.std.specs.Prelude.{◌≡◌, ◌≢◌, ℕ, List, Result, Ok, Err}
-use Rattle.message_fields.specs.declared.fault.FieldFault.{FieldFault}
-use Rattle.message_fields.specs.declared.fault.FieldFault.TheVariants as of_field
-use Rattle.message_fields.specs.Faults as field
+use Rattle.encoded_messages.specs.declared.field_fault.FieldFault.{FieldFault}
+use Rattle.encoded_messages.specs.declared.field_fault.FieldFault.TheVariants as of_field
+use Rattle.encoded_messages.specs.FieldFaults as field
 use Rattle.encoded_messages.specs.declared.fault.MessageFault.{MessageFault}
 use Rattle.encoded_messages.specs.declared.fault.MessageFault.TheVariants as found
 

@@ -1,4 +1,9 @@
-pub mod Faults
-pub mod Abis
 pub mod A
+pub mod Abis
+pub mod Chains
+pub mod Faults
+pub mod FieldFaults
+pub mod Fields
 pub mod Rr
+pub mod Values
+pub mod Words

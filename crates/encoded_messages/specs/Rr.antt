@@ -2,11 +2,11 @@
 -- name; a word that is no field of the message; then each field, in the order in which it stands here; then the number of
 -- neighbours. A text is the list of its bytes; the words are ours, of no standard.
 use Rattle.std.specs.Prelude.{◌≡◌, ℕ, ◌==◌, if◌then◌else◌, List, [], ◌∷◌, length, codes, Option, option_map, ok_or, Ok, Err, IsOk, IsOkAnd, bytes_eq}
-use Rattle.message_fields.specs.declared.fault.Allowed.TheVariants as may
-use Rattle.message_fields.specs.Faults.{Value, Read as FieldRead, ◌>>=◌, ◌>>◌, read_map}
-use Rattle.message_fields.specs.Words.{words_of, values_of}
-use Rattle.message_fields.specs.Values as value
-use Rattle.message_fields.specs.Fields.{name_of, fields_of, only_keys, number_at, flag_at}
+use Rattle.encoded_messages.specs.declared.field_fault.Allowed.TheVariants as may
+use Rattle.encoded_messages.specs.FieldFaults.{Value, Read as FieldRead, ◌>>=◌, ◌>>◌, read_map}
+use Rattle.encoded_messages.specs.Words.{words_of, values_of}
+use Rattle.encoded_messages.specs.Values as value
+use Rattle.encoded_messages.specs.Fields.{name_of, fields_of, only_keys, number_at, flag_at}
 use Rattle.rr_elements.specs.CellDescription.{Cell}
 use Rattle.rr_elements.specs.ChanDescription.{Chan}
 use Rattle.rr_elements.specs.Power.{PowerCommand}

@@ -1,18 +1,19 @@
 //! Messages on A from words (TS 48.008 clause 3.2.1).
 ghost use Rattle.std.specs.Prelude.{◌≡◌, ◌≢◌, ◌++◌, ◌∷◌, [], Some, None, OnOk, IfOk, IfErr, codes, option_map};
-ghost use Rattle.message_fields.specs.Faults.{Value, read_of, fault_of, Answers};
-ghost use Rattle.message_fields.specs.Words.{parts_of};
-ghost use Rattle.message_fields.specs.declared.fault.Allowed.TheVariants.{Cells};
-ghost use Rattle.message_fields.specs.declared.fault.FieldFault.TheVariants.{NoMemory};
+ghost use Rattle.encoded_messages.specs.FieldFaults.{Value, read_of, fault_of, Answers};
+ghost use Rattle.encoded_messages.specs.Words.{parts_of};
+ghost use Rattle.encoded_messages.specs.declared.field_fault.Allowed.TheVariants.{Cells};
+ghost use Rattle.encoded_messages.specs.declared.field_fault.FieldFault.TheVariants.{NoMemory};
 ghost use Rattle.encoded_messages.specs.Faults as faults;
 ghost use Rattle.encoded_messages.specs.A as said;
 
 use crate::fault::MessageFault;
+use crate::field_fault::{Allowed, FieldFault};
+use crate::fields::{flag, octet, octets, only_keys, optional_octet, value};
+use crate::name::name_and_fields;
+use crate::values::cell_in;
+use crate::words::first_part;
 use bssmap_messages::{Bssmap, CellId, CellList, Classmark, Octets, encode, fits};
-use message_fields::{
-    Allowed, FieldFault, cell_in, first_part, flag, name_and_fields, octet, octets, only_keys,
-    optional_octet, value,
-};
 use std::alloc::Allocator;
 
 /// The cell that a text names.

@@ -1,14 +1,13 @@
 //! Messages on Abis from words (TS 48.058 clause 8).
 ghost use Rattle.std.specs.Prelude.{◌≡◌, ◌≢◌, IfOk, IfErr};
-ghost use Rattle.message_fields.specs.Faults.{read_of, Answers};
+ghost use Rattle.encoded_messages.specs.FieldFaults.{read_of, Answers};
 ghost use Rattle.encoded_messages.specs.Faults as faults;
 ghost use Rattle.encoded_messages.specs.Abis as said;
 
 use crate::fault::MessageFault;
-use message_fields::{
-    FieldFault, name_and_fields, number, octet, octets, only_keys, optional_octet, optional_octets,
-    small,
-};
+use crate::field_fault::FieldFault;
+use crate::fields::{number, octet, octets, only_keys, optional_octet, optional_octets, small};
+use crate::name::name_and_fields;
 use rsl_messages::{ChanBits, Octets, Rsl, encode, fits};
 use std::alloc::Allocator;
 

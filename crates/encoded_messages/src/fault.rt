@@ -1,7 +1,7 @@
 //! Why a text can't be written as a message.
 ghost use Rattle.std.specs.Prelude.{◌≡◌};
 
-use message_fields::{FieldFault, Shown};
+use crate::field_fault::{FieldFault, Shown};
 use std::alloc::AllocError;
 use thiserror::Error;
 

@@ -1,5 +1,9 @@
 //! Messages from words: the name and the fields that a message is printed as, read and written in octets.
 //!
+//! A text has words with one blank between any two: those of the message's name, and behind it its fields, `key=value`
+//! each, in any order. Numbers are in decimal, flags 0 or 1, octets two hexadecimal digits each, in either case, and `-`
+//! stands for what is absent. Fields are handed on as the text behind the name. Ours, of no standard.
+//!
 //! | Link | Message | Fields |
 //! |---|---|---|
 //! | abis | DATA REQUEST, DATA INDICATION | tn link layer3 |
@@ -31,9 +35,22 @@
 mod a;
 mod abis;
 mod fault;
+mod field_fault;
+mod fields;
+mod name;
 mod rr;
+mod values;
+mod words;
 
 pub use a::encode_a;
 pub use abis::encode_abis;
 pub use fault::MessageFault;
+pub use field_fault::{Allowed, FieldFault, Shown};
+pub use fields::{
+    flag, leading_value, number, octet, octets, only_keys, optional_octet, optional_octets, small,
+    value,
+};
+pub use name::name_and_fields;
 pub use rr::encode_rr;
+pub use values::{cell_in, neighbour_in};
+pub use words::first_part;

@@ -1,17 +1,17 @@
 //! Radio resource messages from words (TS 44.018 section 9.1).
 ghost use Rattle.std.specs.Prelude.{◌≡◌, ◌≢◌, ◌++◌, ◌∷◌, [], Ok, Err, Some, None, codes, option_map, OnOk, IfOk, IfErr, IfSome, MatchResult, All};
-ghost use Rattle.message_fields.specs.Faults.{Value, read_of, read_map, fault_of};
-ghost use Rattle.message_fields.specs.declared.fault.Allowed.TheVariants.{Neighbour};
-ghost use Rattle.message_fields.specs.declared.fault.FieldFault.TheVariants.{NoMemory};
+ghost use Rattle.encoded_messages.specs.FieldFaults.{Value, read_of, read_map, fault_of};
+ghost use Rattle.encoded_messages.specs.declared.field_fault.Allowed.TheVariants.{Neighbour};
+ghost use Rattle.encoded_messages.specs.declared.field_fault.FieldFault.TheVariants.{NoMemory};
 ghost use Rattle.rr_elements.specs.MeasResults.{HeadFits, NcellFits, used_count};
 ghost use Rattle.encoded_messages.specs.Faults as faults;
 ghost use Rattle.encoded_messages.specs.Rr as said;
 
 use crate::fault::MessageFault;
-use message_fields::{
-    Allowed, FieldFault, flag, leading_value, name_and_fields, neighbour_in, number, octet,
-    only_keys, small,
-};
+use crate::field_fault::{Allowed, FieldFault};
+use crate::fields::{flag, leading_value, number, octet, only_keys, small};
+use crate::name::name_and_fields;
+use crate::values::neighbour_in;
 use rr_elements::{CellDescription, ChanDescription, MeasHead, MeasResults, Ncell, Power, RrCause};
 use rr_messages::{Rr, encode};
 use std::alloc::Allocator;

@@ -4,10 +4,11 @@
 ghost use Rattle.std.specs.Prelude.{◌↔◌, ◌<◌, IsSome};
 ghost use Rattle.explanations.specs.Questions.{IsKnown};
 
+mod causes;
 mod fault;
 mod link;
 
-use cause_words::{a_cause, abis_cause, refusal_name, refusal_words, rr_cause};
+pub use causes::{a_cause, abis_cause, refusal_name, refusal_words, rr_cause};
 pub use fault::{Argument, Fault, argument_of, fault_of, last_fault};
 pub use link::Link;
 use std::fmt;

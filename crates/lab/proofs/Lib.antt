@@ -1,6 +1,1 @@
 pub mod EntryLemmas
-pub mod CourseFacts
-pub mod StepFacts
-pub mod TurnFacts
-pub mod HeardFacts
-pub mod TestFacts

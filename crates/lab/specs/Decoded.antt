@@ -1,7 +1,7 @@
 -- Which texts write a message in hexadecimal. A text is the list of its bytes.
 use Rattle.std.specs.Prelude.{ℕ, List, IsOkAnd}
 use Rattle.hex.specs.Hex.{decode_of}
-use Rattle.decoded_lines.specs.declared.messages.Link.{Link}
+use Rattle.explanations.specs.declared.link.Link.{Link}
 use Rattle.decoded_lines.specs.Messages.{IsMessage}
 
 -- the text is hexadecimal, and its octets are a text of a message of the link

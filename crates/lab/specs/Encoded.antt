@@ -1,7 +1,7 @@
 -- Which texts say a message that can be written. A text is the list of its bytes.
 use Rattle.std.specs.Prelude.{ℕ, List}
-use Rattle.decoded_lines.specs.declared.messages.Link.{Link}
-use Rattle.decoded_lines.specs.declared.messages.Link.TheVariants as link
+use Rattle.explanations.specs.declared.link.Link.{Link}
+use Rattle.explanations.specs.declared.link.Link.TheVariants as link
 use Rattle.encoded_messages.specs.Rr as rr
 use Rattle.encoded_messages.specs.A as a
 use Rattle.encoded_messages.specs.Abis as abis

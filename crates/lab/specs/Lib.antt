@@ -2,11 +2,5 @@ pub mod Decoded
 pub mod Encoded
 pub mod Entries
 pub mod Files
-pub mod Heard
 pub mod Rewound
-pub mod Sites
-pub mod Statuses
-pub mod Tests
-pub mod Turns
-pub mod Course
 pub use Rattle.lab_script.specs.Script

@@ -2,10 +2,12 @@
 //!
 //! No clause says what is printed; which site a text describes is said in `cell_table`.
 use crate::files::text_of;
-use crate::run::{LabFault, Status, refuse_site};
-use crate::site_reason::say_reason;
+use crate::site_files::say_site;
 use cell_table::Site;
+use lab_runs::listener::Printing;
+use lab_runs::run::{LabFault, Status, refuse_site};
 use site_text::{print_cells, print_warnings};
+use std::alloc::Global;
 use std::io::Write;
 use std::rt::Files;
 use toml::Value;
@@ -25,8 +27,8 @@ pub fn check_file<R: Files + AllocGlobal, W: Write, E: Write>(
     let site = match Site::read(alloc, alloc, &text) {
         Ok(site) => site,
         Err(fault) => {
-            let status = refuse_site(fault, out)?;
-            say_reason(alloc, path, &text, errors)?;
+            let status = refuse_site::<Global, _>(fault, &mut Printing::new(out))?;
+            say_site(alloc, path, &text, errors)?;
             return Ok(status);
         }
     };

@@ -4,9 +4,11 @@ ghost use Rattle.hex.specs.Hex.{decode_of};
 ghost use Rattle.lab_script.specs.Words.{octets_of};
 ghost use Rattle.lab.specs.Decoded.{IsMessageText};
 
-use crate::run::{LabFault, Status};
+use crate::faults::lab_result;
 pub use decoded_lines::Link;
-use decoded_lines::{Detail, PrintFault, print_message};
+use decoded_lines::{Detail, PrintFault, print_or_fault};
+use ho_procedure::exchange::Bad;
+use lab_runs::run::{LabFault, Status};
 use lab_script::script::is_octets;
 use std::alloc::{AllocError, Allocator};
 use std::io::Write;
@@ -31,12 +33,12 @@ fn octets<A: Allocator + Copy>(alloc: A, text: &str) -> Result<Option<Vec<u8, A>
 }
 
 /// Refuses a text that isn't hexadecimal, and prints so.
-fn refuse_text<W: Write>(out: &mut W) -> Result<Status, LabFault>
-    ensures refused { IfOk result (λ status. status ≡ Status.Refused) }
+fn refuse_text<W: Write>(out: &mut W) -> Result<Decoded, LabFault>
+    ensures refused { IfOk result (λ decoded. decoded ≡ Decoded.NotHex) }
     ensures write { IfErr result (λ fault. fault ≡ LabFault.Write) }
 {
     match writeln!(out, "hex") {
-        Ok(()) => Ok(Status::Refused),
+        Ok(()) => Ok(Decoded::NotHex),
         Err(_) => Err(LabFault::Write),
     }
 }
@@ -56,6 +58,40 @@ pub(crate) fn ended(printed: Result<bool, PrintFault>) -> Result<Status, LabFaul
     }
 }
 
+/// What a text that is to write a message in hexadecimal is.
+#[derive(Clone, Copy, Debug, PartialEq, Eq)]
+pub(crate) enum Decoded {
+    /// It writes one.
+    Message,
+    /// It isn't hexadecimal.
+    NotHex,
+    /// Its octets are no message of the link.
+    Bad(Bad),
+}
+
+/// Prints the message that a hexadecimal text writes on one line, as [`decode_run`] says; answers what the text is.
+pub(crate) fn decode_text<A: Allocator + Copy, W: Write>(
+    alloc: A,
+    link: Link,
+    text: &str,
+    out: &mut W,
+) -> Result<Decoded, LabFault>
+    ensures done { result ≡ Ok Decoded.Message → IsMessageText A link text.now }
+    ensures refused { IfOk result (λ decoded. decoded ≢ Decoded.Message → IsMessageText A link text.now → ⊥) }
+    ensures memory { result ≡ Err LabFault.NoMemory → is_some (octets_of text.now) ≡ true }
+{
+    let Some(octets) = octets(alloc, text)? else {
+        return refuse_text(out);
+    };
+    let printed = print_or_fault(alloc, link, Detail::Fields, &octets, out);
+    let fault = lab_result(printed)?;
+    writeln!(out)?;
+    Ok(match fault {
+        None => Decoded::Message,
+        Some(bad) => Decoded::Bad(bad),
+    })
+}
+
 /// Prints the message that a hexadecimal text writes, on one line.
 ///
 /// Octets that are no message of the link print `fault`, the link, and the number of the fault with its argument. A
@@ -72,10 +108,9 @@ pub fn decode_run<A: Allocator + Copy, W: Write>(
     ensures refused { result ≡ Ok Status.Refused → IsMessageText A link text.now → ⊥ }
     ensures memory { result ≡ Err LabFault.NoMemory → is_some (octets_of text.now) ≡ true }
 {
-    let Some(octets) = octets(alloc, text)? else {
-        return refuse_text(out);
-    };
-    let status = ended(print_message(alloc, link, Detail::Fields, &octets, out))?;
-    writeln!(out)?;
-    Ok(status)
+    match decode_text(alloc, link, text, out) {
+        Ok(Decoded::Message) => Ok(Status::Done),
+        Ok(Decoded::NotHex | Decoded::Bad(_)) => Ok(Status::Refused),
+        Err(fault) => Err(fault),
+    }
 }

@@ -5,10 +5,8 @@ ghost use Rattle.std.specs.Prelude.{◌≡◌, ◌≢◌, Ok, OnOk, IfErr};
 ghost use Rattle.lab.specs.Encoded.{CanBeWritten};
 
 use crate::decoded::Link;
-use crate::run::{LabFault, Status};
-use crate::undecoded::explained;
-use encoded_messages::{MessageFault, encode_a, encode_abis, encode_rr};
-use message_fields::FieldFault;
+use encoded_messages::{FieldFault, MessageFault, encode_a, encode_abis, encode_rr};
+use lab_runs::run::{LabFault, Status};
 use std::alloc::Allocator;
 use std::fmt;
 use std::io::Write;
@@ -43,7 +41,7 @@ impl fmt::Display for EncodeReason<'_> {
         let fault = self.fault;
         match fault {
             MessageFault::Name(_) => {
-                let link = explained(self.link);
+                let link = self.link;
                 write!(
                     f,
                     "{fault} {link}: a name stands before fields as KEY=VALUE, and bsc_lab help encode lists both"

@@ -6,18 +6,16 @@ ghost use Rattle.lab.specs.Files.{longest_file};
 
 use crate::entries::{Foreign, first_unread, reply_text};
 use crate::rewound::{foreign_entry, rewind_run};
-use crate::run::{LabFault, Status, lab_run};
 use crate::run_reason::say_refusal;
-use crate::site_files::{SitePaths, SiteTexts, site_texts};
-use crate::site_reason::say_reason;
+use crate::site_files::{SitePaths, SiteTexts, say_site, site_texts};
 use crate::view_paths::{named_twice, refuse_twice};
-use escaped_text::Escaped;
-use file_reasons::Reason;
-use message_fields::Shown;
-use run_views::{Sheets, Sites, Viewer, Views, WordsFault, open_sheets};
+use encoded_messages::Shown;
+use lab_runs::run::{LabFault, Status, lab_run, run_for};
+use run_views::{Viewer, Views, open_sheets};
+use screen_text::{Escaped, Reason};
 use std::alloc::{Allocator, Global};
 use std::fmt;
-use std::fs::{File, OpenFile};
+use std::fs::File;
 use std::io::{self, Read, Write};
 use std::rt::Files;
 use trace_text::trace::ReplyText;
@@ -185,129 +183,53 @@ fn run_texts<R: Files + AllocGlobal, W: Write, E: Write>(
     Ok(Some(RunTexts { sites, script }))
 }
 
-/// Why a run that was looked at didn't come to its end.
-fn fault_of(fault: WordsFault) -> LabFault {
-    match fault {
-        WordsFault::NoMemory => LabFault::NoMemory,
-        WordsFault::Write => LabFault::Write,
-    }
-}
-
-/// Runs a script over sites, all given as texts, and prints the trace, as [`lab_run`] does.
-fn run_texts_plainly<W: Write>(
-    alloc: Global,
-    texts: &RunTexts,
-    out: &mut W,
-) -> Result<Status, LabFault> {
-    let RunTexts { sites, script } = texts;
-    lab_run(alloc, alloc, sites.first(), sites.peer(), script, out)
-}
-
-/// How a run that was looked at ended: a fault of the views comes before the run's own.
+/// How a run that was viewed ended, and the writing of what was gathered of it: the run's fault comes first.
 fn ended_viewed(
-    fault: Option<WordsFault>,
     ended: Result<Status, LabFault>,
-    closed: Result<(), WordsFault>,
-    written: Result<(), WordsFault>,
+    written: Result<(), LabFault>,
 ) -> Result<Status, LabFault> {
-    if let Some(fault) = fault {
-        return Err(fault_of(fault));
-    }
     let status = ended?;
-    closed.map_err(fault_of)?;
-    written.map_err(fault_of)?;
+    written?;
     Ok(status)
 }
 
-/// Runs a script for a viewer, and writes what that gathered until the run ended, be it early; nothing where nothing was run,
-/// as where the script or a site is refused, so that the files are as they were.
-fn run_for<F: Write + OpenFile + Drop, W: Write, E: Write>(
-    alloc: Global,
+/// Runs a script over sites, all given as texts, with the views that are asked for; nothing where one of their files can't be
+/// opened, and then its path was printed, and on `errors` why. What came of the run until it ended, be it early, is written;
+/// but nothing where nothing was run, as where the script or a site is refused, so that the files are as they were.
+fn run_viewed<R: Files + AllocGlobal, W: Write, E: Write>(
+    rt: &R,
     texts: &RunTexts,
-    viewer: &mut Viewer<'_, W>,
-    sheets: Sheets<'_, F>,
+    views: &Views<'_>,
+    out: &mut W,
     errors: &mut E,
-) -> Result<Status, LabFault> {
-    let ended = run_texts_plainly(alloc, texts, viewer);
-    let closed = viewer.finish();
+) -> Result<Option<Status>, LabFault> {
+    let alloc = rt.alloc();
+    let RunTexts { sites, script } = texts;
+    let Some(sheets) = open_sheets(rt, views, out, errors)? else {
+        return Ok(None);
+    };
+    let peer = sites.peer();
+    let mut viewer = Viewer::new(alloc, views, peer.is_some(), out)?;
+    let ended = run_for(alloc, alloc, sites.first(), peer, script, &mut viewer);
     let written = if viewer.has_begun() {
-        sheets.finish(viewer, errors)
+        sheets.finish(&viewer, errors)
     } else {
         Ok(())
     };
-    ended_viewed(viewer.fault(), ended, closed, written)
+    Ok(Some(ended_viewed(ended, written)?))
 }
 
-/// Runs a script with views, whose files are open.
-fn run_onto<F: Write + OpenFile + Drop, W: Write, E: Write>(
+/// Says why the script of files that were read was refused, where it was; nothing where it was run.
+fn say_ended<E: Write>(
     alloc: Global,
+    paths: SitePaths<'_>,
+    path: &str,
     texts: &RunTexts,
-    views: &Views<'_>,
-    sheets: Sheets<'_, F>,
-    out: &mut W,
+    status: Status,
     errors: &mut E,
 ) -> Result<Status, LabFault> {
-    let sites = Sites {
-        first: texts.sites.first(),
-        peer: texts.sites.peer(),
-    };
-    let mut viewer = Viewer::new(alloc, alloc, views, sites, out).map_err(fault_of)?;
-    run_for(alloc, texts, &mut viewer, sheets, errors)
-}
-
-/// The same as [`run_texts_plainly`], with views; nothing where one of their files can't be opened, and then its path was
-/// printed, and on `errors` why. What came of the run until it ended is in the files, be it early.
-fn run_texts_viewed<R: Files + AllocGlobal, W: Write, E: Write>(
-    rt: &R,
-    texts: &RunTexts,
-    views: &Views<'_>,
-    out: &mut W,
-    errors: &mut E,
-) -> Result<Option<Status>, LabFault> {
-    match open_sheets(rt, views, out, errors) {
-        Ok(Some(sheets)) => Ok(Some(run_onto(rt.alloc(), texts, views, sheets, out, errors)?)),
-        Ok(None) => Ok(None),
-        Err(fault) => Err(fault_of(fault)),
-    }
-}
-
-/// Runs a script over sites, all given as texts, with the views that are asked for; nothing as of [`run_texts_viewed`].
-fn run_texts_seen<R: Files + AllocGlobal, W: Write, E: Write>(
-    rt: &R,
-    texts: &RunTexts,
-    views: &Views<'_>,
-    out: &mut W,
-    errors: &mut E,
-) -> Result<Option<Status>, LabFault> {
-    if views.is_plain() {
-        Ok(Some(run_texts_plainly(rt.alloc(), texts, out)?))
-    } else {
-        run_texts_viewed(rt, texts, views, out, errors)
-    }
-}
-
-/// Runs the script of files that were read, and says why it is refused, if it is.
-fn run_read<R: Files + AllocGlobal, W: Write, E: Write>(
-    rt: &R,
-    sites: SitePaths<'_>,
-    script: &str,
-    texts: &RunTexts,
-    views: &Views<'_>,
-    out: &mut W,
-    errors: &mut E,
-) -> Result<Status, LabFault> {
-    let Some(status) = run_texts_seen(rt, texts, views, out, errors)? else {
-        return Ok(Status::Refused);
-    };
     if status == Status::Refused {
-        say_refusal(
-            rt.alloc(),
-            sites,
-            &texts.sites,
-            script,
-            &texts.script,
-            errors,
-        )?;
+        say_refusal(alloc, paths, &texts.sites, path, &texts.script, errors)?;
     }
     Ok(status)
 }
@@ -337,7 +259,17 @@ pub fn run_files<R: Files + AllocGlobal, W: Write, E: Write>(
     let Some(texts) = run_texts(rt, sites, script, out, errors)? else {
         return Ok(Status::Refused);
     };
-    run_read(rt, sites, script, &texts, views, out, errors)
+    let alloc = rt.alloc();
+    let status = if views.is_plain() {
+        let RunTexts { sites, script } = &texts;
+        lab_run(alloc, alloc, sites.first(), sites.peer(), script, out)?
+    } else {
+        match run_viewed(rt, &texts, views, out, errors)? {
+            Some(status) => status,
+            None => return Ok(Status::Refused),
+        }
+    };
+    say_ended(alloc, sites, script, &texts, status, errors)
 }
 
 /// A line of a trace, counted from 1.
@@ -426,7 +358,7 @@ pub fn rewind_files<R: Files + AllocGlobal, W: Write, E: Write>(
         return Ok(Status::Refused);
     };
     let status = rewind_run(alloc, alloc, &site_text, &trace_text, line, out)?;
-    if status == Status::Refused && !say_reason(alloc, site, &site_text, errors)? {
+    if status == Status::Refused && !say_site(alloc, site, &site_text, errors)? {
         say_unwound(alloc, &site_text, trace, &trace_text, line, errors)?;
     }
     Ok(status)

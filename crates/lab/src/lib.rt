@@ -1,40 +1,30 @@
-//! The laboratory of the base station controller: runs of a script (`run`), with views of the run beside its trace, undone
-//! attempts taken out of a trace (`rewind`), the cells of a site and what is surely meant otherwise (`check`), one message
-//! in words or those of many lines (`decode`, with `--from`), a message's octets (`encode`), numbers in words (`explain`),
-//! scripts that test themselves (`test`, `record`), and the command line.
+//! The laboratory of the base station controller: what its commands do with files. `run` runs a script, with views of the run
+//! beside its trace; `rewind` takes an undone attempt out of a trace; `check` shows the cells of a site and what is surely
+//! meant otherwise; `decode` shows one message in words or those of many lines, `encode` a message's octets, `explain` a
+//! number in words; `test` and `record` are for scripts that test themselves.
 //!
-//! The controller's inputs and outputs (`exchange`), the reader of scripts (`script`) and the trace (`trace`, `bad`) are
-//! modules of crates below, exported here too. The procedure, views, messages in words and explanations have crates of
-//! their own.
+//! Runs, tests and records of scripts, and the words of the command line, are crates below, exported here too, as are the
+//! controller's inputs and outputs (`exchange`), the reader of scripts (`script`) and the trace (`trace`, `bad`).
 #![tactic(auto)]
 
 pub mod check;
-pub mod controllers;
-pub mod course;
 pub mod decoded;
 pub mod encoded;
 pub mod entries;
+mod explained;
+mod faults;
 pub mod files;
-mod heard;
-mod help;
-pub mod noting;
 pub mod program;
-pub mod recorded;
-mod refused_words;
 pub mod rewound;
-pub mod run;
 mod run_reason;
 pub mod script_files;
-mod script_words;
-mod simulators;
 pub mod site_files;
-mod site_reason;
-pub mod tested;
-pub mod turn;
 mod undecoded;
 mod view_paths;
-pub mod words;
 
 pub use ho_procedure::exchange;
+pub use lab_runs::{controllers, course, listener, noting, run, turn};
 pub use lab_script::script;
+pub use lab_words as words;
+pub use tested_scripts::{recorded, tested};
 pub use trace_text::{bad, trace};

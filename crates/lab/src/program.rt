@@ -1,15 +1,15 @@
 //! What the program does with the words of its command line.
 use crate::check::check_file;
-use crate::decoded::{Link, decode_run, ended};
+use crate::decoded::{Decoded, Link, decode_text, ended};
 use crate::encoded::encode_run;
+use crate::explained::explain;
 use crate::files::{rewind_files, run_files};
-use crate::run::{LabFault, Status};
 use crate::script_files::{record_file, test_files};
 use crate::undecoded::say_undecoded;
-use crate::words::{Job, WordsFault, read_words};
 use decoded_lines::answer_file;
-use explain_command::explain;
 use explanations::Question;
+use lab_runs::run::{LabFault, Status};
+use lab_words::{Job, WordsFault, read_words};
 use std::alloc::Global;
 use std::io::{Read, Write};
 use std::rt::Files;
@@ -41,11 +41,12 @@ fn decode<W: Write, E: Write>(
     out: &mut W,
     errors: &mut E,
 ) -> Result<Status, LabFault> {
-    let status = decode_run(alloc, link, text, out)?;
-    if status == Status::Refused {
-        say_undecoded(alloc, link, text, errors)?;
+    let decoded = decode_text(alloc, link, text, out)?;
+    say_undecoded(text, decoded, errors)?;
+    match decoded {
+        Decoded::Message => Ok(Status::Done),
+        Decoded::NotHex | Decoded::Bad(_) => Ok(Status::Refused),
     }
-    Ok(status)
 }
 
 /// Does what the words of a command line ask for, those after the program's own name: runs a script over a site

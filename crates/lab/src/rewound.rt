@@ -7,8 +7,9 @@ ghost use Rattle.lab.specs.Entries as said;
 ghost use Rattle.lab.specs.Rewound.{AreSameReplies, IsSame, StandsIn, LeavesATrace, NoneOpens, InEntries, InTrace};
 
 use crate::entries::{Entry, Foreign, entries_of, first_other, first_unread};
-use crate::run::{LabFault, Status, refuse_site};
 use cell_table::{Site, SiteFault};
+use lab_runs::listener::Printing;
+use lab_runs::run::{LabFault, Status, refuse_site};
 use radio_book::book::Book;
 use radio_book::event::{Event, Reply};
 use radio_book::rewind::{RewindFault, Rewound, rewind};
@@ -235,7 +236,7 @@ fn rewind_trace<A: Allocator + Copy, W: Write>(
     rewind_entries(alloc, &book, trace, line, out)
 }
 
-/// Takes an undone attempt out of a trace, as [`lab_run`](crate::run::lab_run) prints it from the empty book on, and
+/// Takes an undone attempt out of a trace, as [`lab_run`](lab_runs::run::lab_run) prints it from the empty book on, and
 /// prints what stays to `out`.
 ///
 /// The trace's lines that begin with `event ` are its events, of which the one in `line`, counted from 1, opened the
@@ -262,6 +263,6 @@ pub fn rewind_run<A: Allocator + Copy, W: Write>(
 {
     match Site::read(alloc, scratch, site) {
         Ok(site) => rewind_trace(alloc, site, trace, line, out),
-        Err(fault) => refuse_site(fault, out),
+        Err(fault) => refuse_site::<A, _>(fault, &mut Printing::new(out)),
     }
 }

@@ -2,10 +2,10 @@
 //!
 //! No clause says what the line holds. Which line of a script is refused is `read_script`'s to say, and why by which word
 //! `script_reasons` says.
-use crate::run::LabFault;
 use crate::site_files::{SitePaths, SiteTexts, say_reasons};
-use escaped_text::Escaped;
+use lab_runs::run::LabFault;
 use lab_script::script::{ScriptFault, read_script};
+use screen_text::Escaped;
 use script_reasons::script_reason;
 use std::alloc::Global;
 use std::io::Write;

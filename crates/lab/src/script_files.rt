@@ -1,15 +1,16 @@
 //! Tests and records of scripts in files.
 use crate::files::text_of;
-use crate::recorded::record_run;
-use crate::run::{LabFault, Status, read_sites, refuse_site};
 use crate::run_reason::{say_line, say_refusal};
 use crate::site_files::{SitePaths, SiteTexts, say_reasons, site_texts};
-use crate::tested::{Numbered, test_run};
 use cell_table::SiteFault;
-use expected_lines::{Miss, print_miss, print_plan};
+use lab_runs::listener::Printing;
+use lab_runs::run::{LabFault, Status, read_sites, refuse_site};
 use std::alloc::Global;
 use std::io::{self, Write};
 use std::rt::Files;
+use tested_scripts::recorded::record_run;
+use tested_scripts::tested::{Numbered, test_run};
+use tested_scripts::{Miss, print_miss, print_plan};
 
 /// Why the sites can't be run over, if they can't.
 fn fault_of(alloc: Global, texts: &SiteTexts) -> Option<SiteFault> {
@@ -65,7 +66,7 @@ pub fn test_files<R: Files + AllocGlobal, W: Write, E: Write>(
         return Ok(Status::Refused);
     };
     if let Some(fault) = fault_of(rt.alloc(), &sites) {
-        let status = refuse_site(fault, out)?;
+        let status = refuse_site::<Global, _>(fault, &mut Printing::new(out))?;
         say_reasons(rt.alloc(), paths, &sites, errors)?;
         return Ok(status);
     }

@@ -1,17 +1,12 @@
 //! The files of the sites of a run.
+use crate::faults::lab_result;
 use crate::files::text_of;
-use crate::run::LabFault;
-use crate::site_reason::say_reason;
+use lab_runs::run::LabFault;
+pub use lab_words::SitePaths;
+use site_text::say_reason;
 use std::alloc::Global;
 use std::io::Write;
 use std::rt::Files;
-
-/// The paths of the sites of a run: the first controller's, and the peer's where there is one.
-#[derive(Clone, Copy, Debug, PartialEq, Eq)]
-pub struct SitePaths<'a> {
-    pub first: &'a str,
-    pub peer: Option<&'a str>,
-}
 
 /// The texts of the sites of a run.
 #[derive(Drop)]
@@ -55,6 +50,16 @@ pub(crate) fn site_texts<R: Files + AllocGlobal, W: Write, E: Write>(
     }))
 }
 
+/// Says why a site is refused; answers whether it is.
+pub(crate) fn say_site<E: Write>(
+    alloc: Global,
+    path: &str,
+    text: &str,
+    errors: &mut E,
+) -> Result<bool, LabFault> {
+    lab_result(say_reason(alloc, path, text, errors))
+}
+
 /// Says why the first of the sites that is refused is; answers whether one is.
 pub(crate) fn say_reasons<E: Write>(
     alloc: Global,
@@ -62,11 +67,11 @@ pub(crate) fn say_reasons<E: Write>(
     texts: &SiteTexts,
     errors: &mut E,
 ) -> Result<bool, LabFault> {
-    if say_reason(alloc, paths.first, &texts.first, errors)? {
+    if say_site(alloc, paths.first, &texts.first, errors)? {
         return Ok(true);
     }
     match (paths.peer, texts.peer()) {
-        (Some(path), Some(text)) => say_reason(alloc, path, text, errors),
+        (Some(path), Some(text)) => say_site(alloc, path, text, errors),
         (Some(_), None) | (None, _) => Ok(false),
     }
 }

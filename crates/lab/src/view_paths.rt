@@ -1,8 +1,8 @@
 //! The files that a run writes to.
-use crate::run::{LabFault, Status};
 use crate::site_files::SitePaths;
-use escaped_text::Escaped;
+use lab_runs::run::{LabFault, Status};
 use run_views::Views;
+use screen_text::Escaped;
 use std::fs;
 use std::io::Write;
 use std::os::unix::fs::MetadataExt;

@@ -155,15 +155,15 @@ fn read_item<A: Allocator + Copy>(alloc: A, line: &str) -> Result<Option<Item<A>
 }
 
 /// Whether a line is a comment.
-fn is_comment(line: &str) -> bool
-    ensures { result ≡ said.is_comment line.now }
+pub fn is_comment(line: &str) -> bool
+    ensures comment { result ≡ said.is_comment line.now }
 {
     line.starts_with("#")
 }
 
 /// Whether a line has blanks and tabs alone.
-fn is_blank(line: &str) -> bool
-    ensures { result ≡ said.is_blank line.now }
+pub fn is_blank(line: &str) -> bool
+    ensures blank { result ≡ said.is_blank line.now }
 {
     line.bytes().all(|byte| byte == b' ' || byte == b'\t')
 }

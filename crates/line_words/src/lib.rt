@@ -1,11 +1,19 @@
-//! What stands behind a line of a trace, for people: the call, the message in words, the names of causes and refusals.
+//! What stands behind a line of a trace, for people: the call, the message in words, the names of causes and refusals; and
+//! the lines of what a book holds.
 //!
-//! Parts are joined by `; `. The first is the call, or `no call` where none is known.
+//! Words behind a line are joined by `; `. The first is the call, or `no call` where none is known.
 #![tactic(auto)]
 
+mod calls;
 mod causes;
+mod content;
+mod held;
 mod names;
+mod state;
 mod words;
 
+pub use calls::Calls;
+pub use content::{Content, Place, content_of};
 pub use names::message_name;
-pub use words::{WordsFault, print_ignored, print_words};
+pub use state::Held;
+pub use words::{print_ignored, print_words};

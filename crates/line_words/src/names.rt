@@ -1,8 +1,8 @@
 //! The names of messages, without their fields.
 use crate::causes::{a_layer3, abis_layer3};
-use bssmap_messages::{Bssmap, BssmapFault};
-use ho_procedure::exchange::Inbound;
-use rsl_messages::{Octets, Rsl, RslFault};
+use crate::content::Content;
+use bssmap_messages::Bssmap;
+use rsl_messages::{Octets, Rsl};
 use std::alloc::{AllocError, Allocator};
 use trace_text::abis::AbisText;
 use trace_text::bssmap::BssmapText;
@@ -58,23 +58,16 @@ fn a_name<A: Allocator + Copy>(alloc: A, message: &Bssmap<A>) -> Result<String<A
 const NO_MESSAGE: &str = "no message";
 
 /// The name of a message that comes or is sent, and behind a colon that of the radio resource message inside, where there
-/// is one: `DATA REQUEST: HANDOVER COMMAND`. `no message` where the octets are none, and of an expiry and an operator's
-/// line.
+/// is one: `DATA REQUEST: HANDOVER COMMAND`. `no message` where the octets are none, and where there are none.
 pub fn message_name<A: Allocator + Copy>(
     alloc: A,
-    input: &Inbound<A>,
+    content: &Content<A>,
 ) -> Result<String<A>, AllocError> {
-    match input {
-        Inbound::Abis { bytes, .. } => match rsl_messages::decode(alloc, bytes.as_slice()) {
-            Ok(message) => abis_name(alloc, &message),
-            Err(RslFault::NoMemory) => Err(AllocError),
-            Err(_) => String::from_str(alloc, NO_MESSAGE),
-        },
-        Inbound::A { bytes, .. } => match bssmap_messages::decode(alloc, bytes.as_slice()) {
-            Ok(message) => a_name(alloc, &message),
-            Err(BssmapFault::NoMemory) => Err(AllocError),
-            Err(_) => String::from_str(alloc, NO_MESSAGE),
-        },
-        Inbound::Expiry { .. } | Inbound::Operator(_) => String::from_str(alloc, NO_MESSAGE),
+    match content {
+        Content::Abis(_, Some(message)) => abis_name(alloc, message),
+        Content::A(_, Some(message)) => a_name(alloc, message),
+        Content::Abis(_, None) | Content::A(_, None) | Content::Nothing => {
+            String::from_str(alloc, NO_MESSAGE)
+        }
     }
 }

@@ -1,40 +1,20 @@
 //! The words of a line.
 use crate::causes::{Cause, a_cause, a_layer3, abis_cause, abis_layer3, passed_cause, rr_cause};
-use bssmap_messages::BssmapFault;
+use crate::content::Content;
+use bssmap_messages::Bssmap;
 use explanations::{Question, answer_to};
-use ho_procedure::exchange::Inbound;
+use ho_procedure::exchange::{Bad, Inbound};
+use radio_book::book::Usage;
+use radio_book::event::Reply;
 use rr_messages::Rr;
-use rsl_messages::{Octets, RslFault};
-use std::alloc::{AllocError, Allocator};
+use rsl_messages::{Octets, Rsl};
+use std::alloc::Allocator;
 use std::io::{self, Write};
-use thiserror::Error;
-use trace_lines::{Replied, TraceLine, What};
 use trace_text::abis::AbisText;
+use trace_text::bad::{NumberedFault, numbered};
 use trace_text::bssmap::BssmapText;
 use trace_text::rr::RrText;
-
-/// Why words aren't printed.
-#[derive(Clone, Copy, Debug, PartialEq, Eq, Error)]
-pub enum WordsFault {
-    /// Memory was refused.
-    #[error("memory was refused")]
-    NoMemory,
-    /// A write failed.
-    #[error("the output can't be written")]
-    Write,
-}
-
-impl From<AllocError> for WordsFault {
-    fn from(_: AllocError) -> WordsFault {
-        WordsFault::NoMemory
-    }
-}
-
-impl From<io::Error> for WordsFault {
-    fn from(_: io::Error) -> WordsFault {
-        WordsFault::Write
-    }
-}
+use trace_text::trace::{Step, TraceLine, refusal_number};
 
 /// What a number stands for, where it stands for anything.
 fn print_answer<W: Write>(out: &mut W, question: Question) -> io::Result<()> {
@@ -70,73 +50,60 @@ fn print_layer3<A: Allocator, W: Write>(out: &mut W, layer3: Option<&Octets<A>>)
     }
 }
 
-/// A message on Abis in words, where the octets are one.
-fn print_abis<A: Allocator + Copy, W: Write>(
-    alloc: A,
-    out: &mut W,
-    octets: &[u8],
-) -> Result<(), WordsFault> {
-    match rsl_messages::decode(alloc, octets) {
-        Ok(message) => {
-            write!(out, "; {}", AbisText(&message))?;
-            print_cause(out, abis_cause(&message))?;
-            Ok(print_layer3(out, abis_layer3(&message))?)
-        }
-        Err(RslFault::NoMemory) => Err(WordsFault::NoMemory),
-        Err(
-            RslFault::NotRsl
-            | RslFault::UnknownType(_)
-            | RslFault::Missing(_)
-            | RslFault::BadElement(_)
-            | RslFault::Torn(_)
-            | RslFault::TooLong,
-        ) => Ok(()),
-    }
+/// A message on Abis in words.
+fn print_abis<A: Allocator, W: Write>(out: &mut W, message: &Rsl<A>) -> io::Result<()> {
+    write!(out, "; {}", AbisText(message))?;
+    print_cause(out, abis_cause(message))?;
+    print_layer3(out, abis_layer3(message))
 }
 
-/// A message on A in words, where the octets are one.
-fn print_a<A: Allocator + Copy, W: Write>(
-    alloc: A,
-    out: &mut W,
-    octets: &[u8],
-) -> Result<(), WordsFault> {
-    match bssmap_messages::decode(alloc, octets) {
-        Ok(message) => {
-            write!(out, "; {}", BssmapText(&message))?;
-            print_cause(out, a_cause(&message))?;
-            print_cause(out, passed_cause(&message))?;
-            Ok(print_layer3(out, a_layer3(&message))?)
-        }
-        Err(BssmapFault::NoMemory) => Err(WordsFault::NoMemory),
-        Err(
-            BssmapFault::NotBssmap
-            | BssmapFault::Length
-            | BssmapFault::UnknownType(_)
-            | BssmapFault::Missing(_)
-            | BssmapFault::BadElement(_)
-            | BssmapFault::Torn(_),
-        ) => Ok(()),
-    }
+/// A message on A in words.
+fn print_a<A: Allocator, W: Write>(out: &mut W, message: &Bssmap<A>) -> io::Result<()> {
+    write!(out, "; {}", BssmapText(message))?;
+    print_cause(out, a_cause(message))?;
+    print_cause(out, passed_cause(message))?;
+    print_layer3(out, a_layer3(message))
 }
 
-/// A message in words; an expiry and an operator's line need none.
-fn print_message<A: Allocator + Copy, W: Write>(
-    alloc: A,
-    out: &mut W,
-    input: &Inbound<A>,
-) -> Result<(), WordsFault> {
-    match input {
-        Inbound::Abis { bytes, .. } => print_abis(alloc, out, bytes.as_slice()),
-        Inbound::A { bytes, .. } => print_a(alloc, out, bytes.as_slice()),
-        Inbound::Expiry { .. } | Inbound::Operator(_) => Ok(()),
+/// A message in words, where octets are one.
+fn print_message<A: Allocator, W: Write>(out: &mut W, content: &Content<A>) -> io::Result<()> {
+    match content {
+        Content::Abis(_, Some(message)) => print_abis(out, message),
+        Content::A(_, Some(message)) => print_a(out, message),
+        Content::Abis(_, None) | Content::A(_, None) | Content::Nothing => Ok(()),
     }
 }
 
 /// The name of a refusal.
-fn print_replied<W: Write>(out: &mut W, replied: Replied) -> io::Result<()> {
-    match replied {
-        Replied::Refused(number) => print_answer(out, Question::Refusal(number)),
-        Replied::Done | Replied::Owned(_) | Replied::Record => Ok(()),
+fn print_reply<W: Write>(out: &mut W, reply: Reply) -> io::Result<()> {
+    match reply {
+        Reply::Refused(refusal) => print_answer(out, Question::Refusal(refusal_number(refusal))),
+        Reply::Done | Reply::Owned(_) | Reply::Record(..) => Ok(()),
+    }
+}
+
+/// Why octets are no message.
+fn print_bad<W: Write>(out: &mut W, bad: Bad) -> io::Result<()> {
+    let NumberedFault {
+        link,
+        number,
+        argument,
+    } = numbered(bad);
+    print_answer(out, Question::Fault(link, number, argument))
+}
+
+/// What a book holds at the end.
+fn print_usage<W: Write>(out: &mut W, usage: Usage) -> io::Result<()> {
+    let Usage {
+        channels,
+        calls,
+        references,
+        timers,
+    } = usage;
+    if channels == 0 && calls == 0 && references == 0 && timers == 0 {
+        write!(out, "nothing is left")
+    } else {
+        write!(out, "this is left")
     }
 }
 
@@ -148,39 +115,37 @@ fn print_call<W: Write>(out: &mut W, call: Option<u16>) -> io::Result<()> {
     }
 }
 
-/// Prints what stands behind a line about this call, without ` # ` in front and without a line feed.
-pub fn print_words<A: Allocator + Copy, W: Write>(
-    alloc: A,
+/// Prints what stands behind a line that carries this, about this call, without ` # ` in front and without a line feed.
+pub fn print_words<A: Allocator, W: Write>(
     out: &mut W,
-    line: &TraceLine<A>,
+    line: &TraceLine<'_, A>,
+    content: &Content<A>,
     call: Option<u16>,
-) -> Result<(), WordsFault> {
-    match &line.what {
-        What::Input(message) | What::Sent(message) => {
+) -> io::Result<()> {
+    match line {
+        TraceLine::Input(_) | TraceLine::Sent(_) => {
             print_call(out, call)?;
-            print_message(alloc, out, message)
+            print_message(out, content)
         }
-        What::Asked(_, replied) => {
+        TraceLine::Step(Step::Asked(_, reply)) => {
             print_call(out, call)?;
-            Ok(print_replied(out, *replied)?)
+            print_reply(out, *reply)
         }
-        What::NoneFree(_) => Ok(print_call(out, call)?),
-        What::Fault(link, number, argument) => {
+        TraceLine::Step(Step::NoneFree(_)) => print_call(out, call),
+        TraceLine::Fault(bad) => {
             print_call(out, call)?;
-            Ok(print_answer(out, Question::Fault(*link, *number, *argument))?)
+            print_bad(out, *bad)
         }
-        What::Limit => Ok(write!(out, "what still waited was dropped")?),
-        What::End(true) => Ok(write!(out, "nothing is left")?),
-        What::End(false) => Ok(write!(out, "this is left")?),
+        TraceLine::Limit => write!(out, "what still waited was dropped"),
+        TraceLine::End(usage) => print_usage(out, *usage),
     }
 }
 
 /// Prints why nothing came of an input, behind its words: of a message, that no row expects it; of an operator's line,
 /// that the site has no such cell.
-pub fn print_ignored<W: Write>(out: &mut W, is_message: bool) -> io::Result<()> {
-    if is_message {
-        write!(out, "; ignored: no row")
-    } else {
-        write!(out, "; ignored: no such cell")
+pub fn print_ignored<A: Allocator, W: Write>(out: &mut W, input: &Inbound<A>) -> io::Result<()> {
+    match input {
+        Inbound::Abis { .. } | Inbound::A { .. } => write!(out, "; ignored: no row"),
+        Inbound::Expiry { .. } | Inbound::Operator(_) => write!(out, "; ignored: no such cell"),
     }
 }

@@ -1,13 +1,21 @@
 //! Views of a run: its trace with words and with what the books hold, as a capture file, and as a sequence chart.
 //!
-//! A run prints its trace to a [`Viewer`], which passes it on, line by line, and feeds what is asked for.
+//! A [`Viewer`] listens to a run, prints its trace, turn by turn, and gathers what else is asked for.
+//!
+//! In a chart each input has its number at the left; messages are arrows between stations, controllers and the switching
+//! centre; what was asked of the book, with its reply, is a note at the controller. Beside an undone attempt stands a bar, from
+//! the line in which it opens to the release of its channel, or, where none is awaited, to the line in which it is
+//! undone: at the left for the first controller, at the right for the second.
 #![tactic(auto)]
 
+mod attempts;
+mod bars;
+mod chart_rows;
+mod lanes;
 mod options;
 mod sheets;
 mod viewer;
 
-pub use line_words::WordsFault;
-pub use options::{Views, view_options, views_of};
+pub use options::Views;
 pub use sheets::{Sheets, open_sheets};
-pub use viewer::{Sites, Viewer};
+pub use viewer::Viewer;

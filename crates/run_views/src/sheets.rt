@@ -1,9 +1,8 @@
 //! The files of views.
 use crate::options::Views;
 use crate::viewer::Viewer;
-use escaped_text::Escaped;
-use file_reasons::Reason;
-use line_words::WordsFault;
+use lab_runs::run::LabFault;
+use screen_text::{Escaped, Reason};
 use std::alloc::Allocator;
 use std::fs::{OpenFile, OpenOptions};
 use std::io::{self, BufWriter, Write};
@@ -43,9 +42,9 @@ fn refuse<W: Write, E: Write>(
     error: io::Error,
     out: &mut W,
     errors: &mut E,
-) -> Result<(), WordsFault> {
+) -> Result<(), LabFault> {
     if error.kind() == io::ErrorKind::OutOfMemory {
-        return Err(WordsFault::NoMemory);
+        return Err(LabFault::NoMemory);
     }
     say_unopened(path, &error, errors)?;
     Ok(writeln!(out, "file {path}")?)
@@ -58,12 +57,12 @@ fn open_sheet<'a, R: Files + AllocGlobal, W: Write, E: Write>(
     path: &'a str,
     out: &mut W,
     errors: &mut E,
-) -> Result<Option<Sheet<'a, R::File>>, WordsFault> {
+) -> Result<Option<Sheet<'a, R::File>>, LabFault> {
     match OpenOptions::new().write(true).create(true).open(rt, path) {
         Ok(file) => match BufWriter::new(rt.alloc(), file) {
             Ok(out) => Ok(Some(Sheet { path, out })),
             // a buffer lacks nothing but memory
-            Err(_) => Err(WordsFault::NoMemory),
+            Err(_) => Err(LabFault::NoMemory),
         },
         Err(error) => {
             refuse(path, error, out, errors)?;
@@ -114,7 +113,7 @@ pub fn open_sheets<'a, R: Files + AllocGlobal, W: Write, E: Write>(
     views: &Views<'a>,
     out: &mut W,
     errors: &mut E,
-) -> Result<Option<Sheets<'a, R::File>>, WordsFault> {
+) -> Result<Option<Sheets<'a, R::File>>, LabFault> {
     let pcap = match views.pcap {
         Some(path) => match open_sheet(rt, path, out, errors)? {
             Some(sheet) => Some(sheet),
@@ -138,9 +137,9 @@ pub fn open_sheets<'a, R: Files + AllocGlobal, W: Write, E: Write>(
 }
 
 /// Says on `errors` that a file can't be written.
-fn say_unwritten<E: Write>(path: &str, error: io::Error, errors: &mut E) -> WordsFault {
+fn say_unwritten<E: Write>(path: &str, error: io::Error, errors: &mut E) -> LabFault {
     match writeln!(errors, "{}: {}", Escaped(path), Reason(&error)) {
-        Ok(()) | Err(_) => WordsFault::Write,
+        Ok(()) | Err(_) => LabFault::Write,
     }
 }
 
@@ -148,7 +147,7 @@ fn say_unwritten<E: Write>(path: &str, error: io::Error, errors: &mut E) -> Word
 fn clear_sheet<F: Write + OpenFile + Drop, E: Write>(
     sheet: &Sheet<'_, F>,
     errors: &mut E,
-) -> Result<(), WordsFault> {
+) -> Result<(), LabFault> {
     match clear(sheet.out.get_ref()) {
         Ok(()) => Ok(()),
         Err(error) => Err(say_unwritten(sheet.path, error, errors)),
@@ -156,7 +155,7 @@ fn clear_sheet<F: Write + OpenFile + Drop, E: Write>(
 }
 
 /// Says on `errors` how many messages a capture hasn't, if any.
-fn say_left_out<E: Write>(path: &str, left_out: u64, errors: &mut E) -> Result<(), WordsFault> {
+fn say_left_out<E: Write>(path: &str, left_out: u64, errors: &mut E) -> Result<(), LabFault> {
     if left_out == 0 {
         return Ok(());
     }
@@ -178,7 +177,7 @@ fn write_pcap<F: Write + OpenFile + Drop, W: Write, A: Allocator + Copy, E: Writ
     sheet: Option<Sheet<'_, F>>,
     viewer: &Viewer<'_, W, A>,
     errors: &mut E,
-) -> Result<(), WordsFault> {
+) -> Result<(), LabFault> {
     let (Some(mut sheet), Some(capture)) = (sheet, viewer.capture()) else {
         return Ok(());
     };
@@ -199,21 +198,21 @@ fn write_chart<F: Write + OpenFile + Drop, W: Write, A: Allocator + Copy, E: Wri
     sheet: Option<Sheet<'_, F>>,
     viewer: &Viewer<'_, W, A>,
     errors: &mut E,
-) -> Result<(), WordsFault> {
+) -> Result<(), LabFault> {
     let (Some(mut sheet), Some(chart)) = (sheet, viewer.chart()) else {
         return Ok(());
     };
     clear_sheet(&sheet, errors)?;
     match chart.write_to(&mut sheet.out) {
         Ok(()) => {}
-        Err(WordsFault::NoMemory) => return Err(WordsFault::NoMemory),
+        Err(LabFault::NoMemory) => return Err(LabFault::NoMemory),
         // what couldn't be written is still in the buffer: writing it again tells why
-        Err(WordsFault::Write) => {
+        Err(LabFault::Write) => {
             if let Err(error) = sheet.out.flush() {
                 return Err(say_unwritten(sheet.path, error, errors));
             }
             writeln!(errors, "{}: the file can't be written", Escaped(sheet.path))?;
-            return Err(WordsFault::Write);
+            return Err(LabFault::Write);
         }
     }
     match sheet.out.flush() {
@@ -229,7 +228,7 @@ impl<F: Write + OpenFile + Drop> Sheets<'_, F> {
         self,
         viewer: &Viewer<'_, W, A>,
         errors: &mut E,
-    ) -> Result<(), WordsFault> {
+    ) -> Result<(), LabFault> {
         let Sheets { pcap, chart } = self;
         let pcap = write_pcap(pcap, viewer, errors);
         let chart = write_chart(chart, viewer, errors);

@@ -3,6 +3,7 @@ use Rattle.std.specs.Prelude.{ℕ, ◌-◌, ◌==◌, ◌||◌, ◌&&◌, Bool, 
 use Rattle.std.specs.List.{slice_split, filter_map, list_all, starts_with}
 use Rattle.std.specs.Option.{option_or}
 use Rattle.std.specs.Str.Lines.{strip_carriage_return}
+use Rattle.lab_script.specs.Script.{is_comment, is_blank}
 use Rattle.script_reasons.specs.declared.forms.Slot.{Slot}
 use Rattle.script_reasons.specs.declared.forms.Form.{Form}
 use Rattle.script_reasons.specs.declared.reasons.Fault.{Fault}
@@ -54,13 +55,6 @@ words_reason is_peer (word ∷ words) = named_reason is_peer word words (form_na
 
 unfoldable pub text_reason : Bool → List ℕ → Option Wrong
 text_reason is_peer text = words_reason is_peer (words_of text)
-
-abbrev pub is_comment : List ℕ → Bool
-is_comment line = starts_with nat_eq line (codes "#")
-
--- blanks and tabs alone
-abbrev pub is_blank : List ℕ → Bool
-is_blank line = list_all (λ b. b == 32 || b == 9) line
 
 -- a comment or a blank line
 abbrev pub is_passed : List ℕ → Bool

@@ -6,6 +6,7 @@ ghost use Rattle.script_reasons.specs.Reasons as said;
 
 use crate::forms::{Form, Slot, form_named};
 use crate::words::cut_word;
+use lab_script::script::{is_blank, is_comment, without_return};
 
 /// What is wrong.
 #[derive(Clone, Copy, Debug, PartialEq, Eq)]
@@ -118,20 +119,6 @@ fn text_reason(is_peer: bool, text: &str) -> Option<Reason<'_>>
     }
 }
 
-/// Whether a line is a comment.
-fn is_comment(line: &str) -> bool
-    ensures { result ≡ said.is_comment line.now }
-{
-    line.starts_with("#")
-}
-
-/// Whether a line has blanks and tabs alone.
-fn is_blank(line: &str) -> bool
-    ensures { result ≡ said.is_blank line.now }
-{
-    line.bytes().all(|byte| byte == b' ' || byte == b'\t')
-}
-
 /// Whether a line is passed over.
 fn is_passed(line: &str) -> bool
     ensures { result ≡ said.is_passed line.now }
@@ -220,13 +207,6 @@ fn sim_reason<'a>(line: &str) -> Option<Reason<'a>>
         Some(fault) => Some(without_word(fault)),
         None => None,
     }
-}
-
-/// A line without the carriage return that may end it.
-fn without_return(line: &str) -> &str
-    ensures { result.now ≡ strip_carriage_return line.now }
-{
-    line.strip_suffix('\r').unwrap_or(line)
 }
 
 /// What stands in a text between the line feeds around this place, counted from 0.

@@ -1,7 +1,7 @@
 //! Reasons in words.
 use crate::forms::{Form, Slot};
 use crate::reasons::{Fault, Reason};
-use escaped_text::Escaped;
+use screen_text::Escaped;
 use std::fmt;
 
 /// The most characters of a word that are shown.

@@ -1,10 +1,13 @@
-//! A site as it was read, cell by cell, and what is allowed in its file and surely meant otherwise.
+//! A site as it was read, cell by cell, what is allowed in its file and surely meant otherwise, and where the first mistake of
+//! a file is that gives no site.
 #![tactic(auto)]
 
 mod cells;
 mod document;
+mod reason;
 mod warnings;
 
 pub use cells::print_cells;
 pub use document::{Place, entries};
+pub use reason::say_reason;
 pub use warnings::print_warnings;

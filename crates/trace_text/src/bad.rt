@@ -1,5 +1,6 @@
 //! Why octets are no message, as it is printed.
 use bssmap_messages::BssmapFault;
+use explanations::Link;
 use ho_procedure::exchange::Bad;
 use rr_elements::ElementFault;
 use rr_messages::RrFault;
@@ -12,13 +13,38 @@ use std::fmt;
 #[derive(Clone, Copy)]
 pub struct BadText(pub Bad);
 
+/// A fault by its number.
+#[derive(Clone, Copy, Debug, PartialEq, Eq)]
+pub struct NumberedFault {
+    /// Where the octets come from.
+    pub link: Link,
+    /// The number, from 1 on.
+    pub number: u8,
+    /// What the fault is of, where it is of something.
+    pub argument: Option<usize>,
+}
+
+/// The number of a fault, and its argument.
+pub fn numbered(bad: Bad) -> NumberedFault {
+    let (link, (number, argument)) = match bad {
+        Bad::Rr(fault) => (Link::Rr, rr_fault(fault)),
+        Bad::Bssmap(fault) => (Link::A, bssmap_fault(fault)),
+        Bad::Rsl(fault) => (Link::Abis, rsl_fault(fault)),
+    };
+    NumberedFault {
+        link,
+        number,
+        argument,
+    }
+}
+
 impl fmt::Display for BadText {
     fn fmt<W: fmt::Write>(&self, f: &mut fmt::Formatter<W>) -> fmt::Result {
-        let (link, (number, argument)) = match self.0 {
-            Bad::Rr(fault) => ("rr", rr_fault(fault)),
-            Bad::Bssmap(fault) => ("a", bssmap_fault(fault)),
-            Bad::Rsl(fault) => ("abis", rsl_fault(fault)),
-        };
+        let NumberedFault {
+            link,
+            number,
+            argument,
+        } = numbered(self.0);
         write!(f, "{link} {number}")?;
         match argument {
             Some(argument) => write!(f, " {argument}"),

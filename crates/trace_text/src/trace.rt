@@ -8,7 +8,7 @@ use event_text::writing::EventText;
 use ho_procedure::exchange::{Bad, Inbound, Line, Outbound};
 use radio_book::book::Usage;
 use radio_book::event::{Attempt, AttemptKind, CallRecord, Event, Refusal, Reply, Stage, Timer};
-use std::alloc::Allocator;
+use std::alloc::{Allocator, Global};
 use std::fmt;
 use std::io::{self, Write};
 
@@ -84,9 +84,9 @@ impl fmt::Display for TimerText {
     }
 }
 
-/// The line of a script that gives an input.
+/// The line of a script that gives an input, as it stands behind `in`.
 #[derive(Drop)]
-struct InboundText<'a, A: Allocator>(&'a Inbound<A>);
+pub struct InboundText<'a, A: Allocator>(pub &'a Inbound<A>);
 
 impl<A: Allocator> fmt::Display for InboundText<'_, A> {
     fn fmt<W: fmt::Write>(&self, f: &mut fmt::Formatter<W>) -> fmt::Result {
@@ -171,22 +171,39 @@ impl fmt::Display for AttemptText {
     }
 }
 
-/// A refusal: its number in the order in which refusals are tried, and its arguments.
+/// The number of a refusal, from 1 on, in the order in which refusals are tried.
+pub fn refusal_number(refusal: Refusal) -> u8 {
+    match refusal {
+        Refusal::NoCall => 1,
+        Refusal::CallExists => 2,
+        Refusal::WrongPhase => 3,
+        Refusal::NoChannel => 4,
+        Refusal::SameCell => 5,
+        Refusal::ChannelBusy(_) => 6,
+        Refusal::RefBusy(..) => 7,
+        Refusal::Unexpected(_) => 8,
+        Refusal::NotArmed => 9,
+    }
+}
+
+/// A refusal: its number, and its arguments.
 #[derive(Clone, Copy)]
 struct RefusalText(Refusal);
 
 impl fmt::Display for RefusalText {
     fn fmt<W: fmt::Write>(&self, f: &mut fmt::Formatter<W>) -> fmt::Result {
+        let number = refusal_number(self.0);
         match self.0 {
-            Refusal::NoCall => write!(f, "1"),
-            Refusal::CallExists => write!(f, "2"),
-            Refusal::WrongPhase => write!(f, "3"),
-            Refusal::NoChannel => write!(f, "4"),
-            Refusal::SameCell => write!(f, "5"),
-            Refusal::ChannelBusy(chan) => write!(f, "6 {chan}"),
-            Refusal::RefBusy(cell, number) => write!(f, "7 {cell} {number}"),
-            Refusal::Unexpected(chan) => write!(f, "8 {chan}"),
-            Refusal::NotArmed => write!(f, "9"),
+            Refusal::ChannelBusy(chan) | Refusal::Unexpected(chan) => {
+                write!(f, "{number} {chan}")
+            }
+            Refusal::RefBusy(cell, reference) => write!(f, "{number} {cell} {reference}"),
+            Refusal::NoCall
+            | Refusal::CallExists
+            | Refusal::WrongPhase
+            | Refusal::NoChannel
+            | Refusal::SameCell
+            | Refusal::NotArmed => write!(f, "{number}"),
         }
     }
 }
@@ -222,13 +239,67 @@ impl fmt::Display for ReplyText {
     }
 }
 
+/// What a book holds, as it stands behind `end`.
+#[derive(Clone, Copy)]
+pub struct UsageText(pub Usage);
+
+impl fmt::Display for UsageText {
+    fn fmt<W: fmt::Write>(&self, f: &mut fmt::Formatter<W>) -> fmt::Result {
+        let usage = self.0;
+        write!(
+            f,
+            "channels={} calls={} references={} timers={}",
+            usage.channels, usage.calls, usage.references, usage.timers
+        )
+    }
+}
+
+/// A line of the trace, behind its controller's mark.
+#[derive(Drop)]
+pub enum TraceLine<'a, A: Allocator = Global> {
+    /// An input is handled.
+    Input(&'a Inbound<A>),
+    /// The book was asked.
+    Step(Step),
+    /// A message is sent.
+    Sent(&'a Outbound<A>),
+    /// The input's octets are no message of their link.
+    Fault(Bad),
+    /// So many answers of what is simulated were handled for one line that the rest are dropped.
+    Limit,
+    /// What the book holds at the end.
+    End(Usage),
+}
+
+impl<A: Allocator> fmt::Display for TraceLine<'_, A> {
+    fn fmt<W: fmt::Write>(&self, f: &mut fmt::Formatter<W>) -> fmt::Result {
+        match self {
+            TraceLine::Input(input) => write!(f, "in {}", InboundText(*input)),
+            TraceLine::Step(step) => write!(f, "{step}"),
+            TraceLine::Sent(message) => write!(f, "out {}", OutboundText(*message)),
+            TraceLine::Fault(bad) => write!(f, "fault {}", BadText(*bad)),
+            TraceLine::Limit => write!(f, "sim limit"),
+            TraceLine::End(usage) => write!(f, "end {}", UsageText(*usage)),
+        }
+    }
+}
+
+/// Prints a line behind its controller's mark.
+fn print_line<A: Allocator, W: Write>(
+    out: &mut W,
+    mark: Mark,
+    line: &TraceLine<'_, A>,
+) -> io::Result<()> {
+    writeln!(out, "{mark}{line}")
+}
+
 /// Prints that an input is handled.
 pub fn print_input<A: Allocator, W: Write>(
     out: &mut W,
     mark: Mark,
     input: &Inbound<A>,
 ) -> io::Result<()> {
-    writeln!(out, "{mark}in {}", InboundText(input))
+    print_line(out, mark, &TraceLine::Input(input))
 }
 
 /// Prints what was asked of the book, in its order.
@@ -246,26 +317,22 @@ pub fn print_sent<A: Allocator, W: Write>(
     sent: &[Outbound<A>],
 ) -> io::Result<()> {
     for message in sent {
-        writeln!(out, "{mark}out {}", OutboundText(message))?;
+        print_line(out, mark, &TraceLine::Sent(message))?;
     }
     Ok(())
 }
 
 /// Prints why octets are no message of their link.
 pub fn print_fault<W: Write>(out: &mut W, mark: Mark, fault: Bad) -> io::Result<()> {
-    writeln!(out, "{mark}fault {}", BadText(fault))
+    print_line::<Global, _>(out, mark, &TraceLine::Fault(fault))
 }
 
 /// Prints that so many answers of what is simulated were handled for one line that the rest are dropped.
 pub fn print_limit<W: Write>(out: &mut W) -> io::Result<()> {
-    writeln!(out, "sim limit")
+    print_line::<Global, _>(out, Mark::Alone, &TraceLine::Limit)
 }
 
 /// Prints what the book holds at the end.
 pub fn print_end<W: Write>(out: &mut W, mark: Mark, usage: Usage) -> io::Result<()> {
-    writeln!(
-        out,
-        "{mark}end channels={} calls={} references={} timers={}",
-        usage.channels, usage.calls, usage.references, usage.timers
-    )
+    print_line::<Global, _>(out, mark, &TraceLine::End(usage))
 }

@@ -1,7 +1,7 @@
 use Rattle.std.proofs.Common.{◌≡◌, ◌++◌, length, option_map}
 use denote.Text.{Utf8}
 use denote.Shadow.{shadow}
-use Rattle.message_fields.specs.Words.{parts_of}
+use Rattle.encoded_messages.specs.Words.{parts_of}
 use Rattle.encoded_messages.specs.A.{cells_of}
 use Rattle.encoded_messages.proofs.a.add_cells.Given as goal
 

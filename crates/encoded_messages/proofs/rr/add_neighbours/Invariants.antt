@@ -1,7 +1,7 @@
 use Rattle.std.proofs.Common.{◌≡◌, ◌++◌, length, All}
 use denote.Text.{Utf8}
 use denote.Shadow.{shadow}
-use Rattle.message_fields.specs.Faults.{read_map}
+use Rattle.encoded_messages.specs.FieldFaults.{read_map}
 use Rattle.rr_elements.specs.MeasResults.{NcellFits}
 use Rattle.encoded_messages.specs.Rr.{neighbours_in}
 use Rattle.encoded_messages.proofs.rr.add_neighbours.Given as goal

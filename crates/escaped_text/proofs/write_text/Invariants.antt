@@ -1,8 +1,0 @@
-use Rattle.std.specs.List.{flat_map}
-use Rattle.std.specs.Fmt.{HasWritten, IsPlainFormatter}
-use Rattle.escaped_text.specs.Escapes.{shown_character}
-use Rattle.escaped_text.proofs.write_text.Given as goal
-
-abbrev pub invariant-loop-character : goal.invariant-loop-character
-invariant-loop-character g l =
-    IsPlainFormatter l.initial.f → HasWritten g.W.Write.write_str_gives l.initial.f (flat_map shown_character l.yielded) l.f

@@ -1,8 +1,0 @@
-use Rattle.std.proofs.Common.{◌≡◌, take, filter_map}
-use Rattle.expected_lines.specs.Lines.{texts_of}
-use Rattle.expected_lines.specs.Meeting.{behind}
-use Rattle.expected_lines.proofs.compare.behind_text.Given as goal
-
--- the places so far
-abbrev pub invariant-loop-place : goal.invariant-loop-place
-invariant-loop-place g l = l.found.items ≡ filter_map (behind (texts_of l.came) l.text) (take l.place-index l.places)

@@ -1,7 +1,0 @@
-use Rattle.std.proofs.Common.{[]}
-use Rattle.lab.specs.Course.{Went}
-use Rattle.lab.proofs.course.Course.settle.Given as goal
-
--- no input of a script was handled
-abbrev pub invariant-loop : goal.invariant-loop
-invariant-loop g l = Went [] l.fn.self l.self

@@ -1,6 +1,0 @@
-use Rattle.lab.proofs.CourseFacts.{heard_played}
-use Rattle.lab.specs.Sites.{views_of}
-use Rattle.lab.proofs.heard.run_heard.Goals as goal
-
-pub returns-clause-played : goal.returns-clause-played
-returns-clause-played g c = heard_played (views_of c.args.sites) _ c.in_ok-course.course c.follow_to_end.new.course c.follow_to_end.result c.in_ok-course.ensures.openings c.follow_to_end.ensures.went

@@ -1,4 +1,0 @@
-use Rattle.lab.proofs.noting.NotingDeskView.judge.Goals as goal
-
-pub returns-clause-said : goal.returns-clause-said
-returns-clause-said g c = rw (← c.self.view_is) c.judge.ensures.said

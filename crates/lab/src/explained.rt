@@ -1,0 +1,70 @@
+//! What a number stands for, in words.
+ghost use Rattle.std.specs.Prelude.{◌≡◌, ◌↔◌, true, IfOk};
+ghost use Rattle.explanations.specs.Questions.{IsKnown};
+
+use explanations::{Argument, Link, Question, answer_to, argument_of, last_fault};
+use std::io::{self, Write};
+
+/// Says on `errors` which numbers the argument of a fault may be, where this isn't one of them.
+fn say_range<E: Write>(
+    fault: (Link, u8),
+    what: Argument,
+    argument: usize,
+    errors: &mut E,
+) -> io::Result<()> {
+    let (link, number) = fault;
+    match what.range() {
+        Some((low, high)) => writeln!(
+            errors,
+            "error: the argument of fault {link} {number} is {what}, {low} to {high}, found {argument}"
+        ),
+        None => writeln!(
+            errors,
+            "error: fault {link} {number} has no argument, found {argument}"
+        ),
+    }
+}
+
+/// Says on `errors` why there are no words for a question.
+fn say_unknown<E: Write>(question: Question, errors: &mut E) -> io::Result<()> {
+    match question {
+        Question::Refusal(number) => {
+            writeln!(
+                errors,
+                "error: there is no refusal {number}, they are 1 to 9"
+            )
+        }
+        Question::Cause(link, cause) => writeln!(errors, "error: there is no cause {link} {cause}"),
+        Question::Fault(link, number, argument) => match (argument_of(link, number), argument) {
+            (Some(what), Some(argument)) => say_range((link, number), what, argument, errors),
+            (Some(_), None) | (None, _) => {
+                let last = last_fault(link);
+                writeln!(
+                    errors,
+                    "error: there is no fault {link} {number}, they are 1 to {last}"
+                )
+            }
+        },
+    }
+}
+
+/// Prints the answer to a question in one line to `out`, and answers true. Where there is no refusal or no fault of the
+/// number, or the fault can't have the argument, `errors` says so, nothing is printed, and the answer is false.
+pub fn explain<W: Write, E: Write>(
+    question: Question,
+    out: &mut W,
+    errors: &mut E,
+) -> io::Result<bool>
+    ensures answered { IfOk result (λ answered. answered ≡ true ↔ IsKnown question) }
+{
+    match answer_to(question) {
+        Some(answer) => {
+            writeln!(out, "{answer}")?;
+            Ok(true)
+        }
+        None => {
+            say_unknown(question, errors)?;
+            Ok(false)
+        }
+    }
+}

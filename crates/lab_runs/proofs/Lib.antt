@@ -1,0 +1,3 @@
+pub mod CourseFacts
+pub mod StepFacts
+pub mod TurnFacts

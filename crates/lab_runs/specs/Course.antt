@@ -1,0 +1,73 @@
+-- The course of a script. Ours, of no standard.
+use Rattle.std.specs.Prelude.{◌≡◌, ◌++◌, ℕ, Bool, List, map, [], ◌∷◌, Option, Some, None, is_some}
+use Rattle.cell_table.specs.Site.{SiteView}
+use Rattle.cell_table.specs.SiteFile.{described_site}
+use Rattle.radio_book.specs.State.{empty_book}
+use Rattle.ho_procedure.specs.declared.exchange.Inbound.{Inbound}
+use Rattle.ho_procedure.specs.Going.{last_reports}
+use Rattle.lab_script.specs.declared.side.Side.{Side}
+use Rattle.lab_script.specs.Script.{first_unread, items_of}
+use Rattle.lab_runs.specs.declared.turn.Turn.{Turn}
+use Rattle.lab_runs.specs.declared.controllers.Controllers.{Controllers}
+use Rattle.lab_runs.specs.declared.course.Course.{Course}
+use Rattle.lab_runs.specs.declared.course.Run.{Run}
+use Rattle.lab_runs.specs.Turns.{Position, AreTurns, scripted, inputs_in}
+
+abbrev pub option_list : {X : Type 0} → Option X → List X
+option_list None = []
+option_list (Some x) = x ∷ []
+
+-- a controller of the site over an empty book, which was given nothing yet
+pub record IsOpening (site : SiteView) (s : Position) : Type 0 where
+  pub opening : s.0.opening ≡ empty_book site
+  pub history : s.0.history ≡ []
+  pub reports : (call : ℕ) → last_reports s.1 call ≡ []
+  pub of_site : s.2 ≡ site
+
+-- one such of each site
+abbrev pub AreOpenings : List SiteView → List Position → Type 0
+AreOpenings [] [] = Unit {0}
+AreOpenings [] (s ∷ ss) = ⊥
+AreOpenings (site ∷ sites) [] = ⊥
+AreOpenings (site ∷ sites) (s ∷ ss) = IsOpening site s × AreOpenings sites ss
+
+-- the controllers: the first, and its peer where there is one
+abbrev pub positions_of : {A : Type 0} → Controllers A → List Position
+positions_of all = all.first ∷ option_list all.peer
+
+abbrev pub has_peer : {A : Type 0} → Course A → Bool
+has_peer c = is_some c.controllers.peer
+
+-- turns were added by which the controllers came where they are, and these are the inputs that a script gave them
+pub record Went {A : Type 0} (inputs : List (Side × Inbound A)) (c c' : Course A) : Type 0 where
+  pub turns : List (Turn A)
+  pub noted : c'.turns.items ≡ c.turns.items ++ turns
+  pub run : AreTurns (positions_of c.controllers) turns (positions_of c'.controllers)
+  pub peer : has_peer c' ≡ has_peer c
+  pub scripted : scripted turns ≡ inputs
+
+-- The run's turns lead, one by one, from controllers of the sites over empty books to those of the run, and a script gave
+-- these inputs of them, in their order and each for the controller that it names; all others are a simulator's by their
+-- source.
+pub record IsRunOf {A : Type 0} (sites : List SiteView) (inputs : List (Side × Inbound A)) (run : Run A) : Type 0 where
+  pub first : List Position
+  pub openings : AreOpenings sites first
+  pub turns : AreTurns first run.turns.items (positions_of run.controllers)
+  pub scripted : scripted run.turns.items ≡ inputs
+
+-- Turn by turn, from controllers of the sites over empty books on, everything was handled that these inputs are, in their
+-- order and each by the controller that it names, and between them what is a simulator's by its source.
+pub record Played (A : Type 0) (sites : List SiteView) (inputs : List (Side × Inbound A)) : Type 0 where
+  pub first : List Position
+  pub openings : AreOpenings sites first
+  pub turns : List (Turn A)
+  pub last : List Position
+  pub run : AreTurns first turns last
+  pub scripted : scripted turns ≡ inputs
+
+-- the texts are a site, a peer's where one is given, and a script for them, and all inputs of the script were handled
+pub record IsPlayed (A : Type 0) (site : List ℕ) (peer : Option (List ℕ)) (script : List ℕ) : Type 0 where
+  pub sites : List SiteView
+  pub described : map described_site (site ∷ option_list peer) ≡ map Some sites
+  pub readable : first_unread (is_some peer) script ≡ None
+  pub played : Played A sites (inputs_in (items_of script))

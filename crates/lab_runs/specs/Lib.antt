@@ -1,0 +1,4 @@
+pub mod Course
+pub mod Sites
+pub mod Statuses
+pub mod Turns

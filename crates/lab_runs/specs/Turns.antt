@@ -1,0 +1,94 @@
+-- Inputs, and what came of each. Ours, of no standard.
+use Rattle.std.specs.Prelude.{◌≡◌, ◌++◌, List, [], ◌∷◌, Option, Some, None, slice_get, slice_set}
+use Rattle.std.specs.List.{filter_map}
+use Rattle.cell_table.specs.Site.{SiteView}
+use Rattle.radio_book.specs.Run.{Leads}
+use Rattle.radio_desk.specs.Desk.{DeskState}
+use Rattle.trace_text.specs.declared.trace.Step.{Step}
+use Rattle.trace_text.specs.declared.trace.Step.TheVariants.{Asked, NoneFree}
+use Rattle.ho_procedure.specs.declared.exchange.Inbound.{Inbound}
+use Rattle.ho_procedure.specs.declared.exchange.Link.{Link}
+use Rattle.ho_procedure.specs.Claims.{Entry, Claim, IsTrueAfter}
+use Rattle.ho_procedure.specs.Windows.{Kept}
+use Rattle.ho_procedure.specs.Going.{last_reports}
+use Rattle.ho_procedure.specs.Sent.{all_sent}
+use Rattle.ho_procedure.specs.Plan.{Plan, Ends, At}
+use Rattle.ho_procedure.specs.Handling.{IsRow, IsUndecoded, Handles}
+use Rattle.lab_script.specs.declared.side.Side.{Side}
+use Rattle.lab_script.specs.declared.script.Given.{Given}
+use Rattle.lab_script.specs.declared.script.Given.TheVariants.{Input, Attach, Set, HangUp}
+use Rattle.lab_script.specs.declared.script.Item.{Item}
+use Rattle.lab_script.specs.Sides.{number_of}
+use Rattle.lab_runs.specs.declared.turn.Source.{Source}
+use Rattle.lab_runs.specs.declared.turn.Source.TheVariants.{Script, Simulator}
+use Rattle.lab_runs.specs.declared.turn.Answer.{Answer}
+use Rattle.lab_runs.specs.declared.turn.Answer.TheVariants.{Sent, Undecoded}
+use Rattle.lab_runs.specs.declared.turn.Turn.{Turn}
+
+-- a controller between two inputs: its desk, the last reports of each call, and its site
+abbrev pub Position : Type 0
+Position = DeskState × Kept × SiteView
+
+-- the events among what was asked, each with its reply
+abbrev pub entry_of : Step → Option Entry
+entry_of (Asked event reply) = Some (event, reply)
+entry_of (NoneFree cell) = None
+
+abbrev pub asked_in : List Step → List Entry
+asked_in steps = filter_map entry_of steps
+
+abbrev pub history_of : DeskState → List Entry
+history_of desk = desk.history
+
+abbrev pub says : DeskState → List Entry → Claim → Type 0
+says desk log claim = IsTrueAfter desk.opening log claim
+
+-- A controller answers an input so: it follows the input's row, and sends these messages; or the input has this fault, and
+-- nothing changes.
+abbrev pub Answers : {A : Type 0} → Position → Inbound A → Answer A → Position → Type 0
+Answers s input (Sent out) s' =
+    (p : Plan) × IsRow s.2 (last_reports s.1) input p × Handles history_of says s.0 s.1 p s'.0 s'.1 (all_sent out.items) (At Ends)
+Answers s input (Undecoded bad) s' = ((link : Link) × IsUndecoded input link bad) × (s'.0 ≡ s.0) × (s'.1 ≡ s.1)
+
+-- It answers the turn's input so. Its desk was asked what the turn says, and what was asked in all leads, reply by reply, from
+-- the book that it opened with to its book; that one and its site stay.
+pub record IsTurn {A : Type 0} (s : Position) (t : Turn A) (s' : Position) : Type 0 where
+  pub answers : Answers s t.input t.answer s'
+  pub asked : s'.0.history ≡ s.0.history ++ asked_in t.steps.items
+  pub legal : Leads s'.0.opening s'.0.history s'.0.book
+  pub opening : s'.0.opening ≡ s.0.opening
+  pub site : s'.2 ≡ s.2
+
+-- of some controllers, of which the first is the first, the one that the turn names answers so; every other stays as it is
+pub record IsTurnOf {A : Type 0} (all : List Position) (t : Turn A) (all' : List Position) : Type 0 where
+  pub before : Position
+  pub after : Position
+  pub there : slice_get all (number_of t.side) ≡ Some before
+  pub turn : IsTurn before t after
+  pub others : all' ≡ slice_set all (number_of t.side) after
+
+-- turn by turn
+abbrev pub AreTurns : {A : Type 0} → List Position → List (Turn A) → List Position → Type 0
+AreTurns all [] all' = all' ≡ all
+AreTurns all (t ∷ turns) all' = (m : List Position) × IsTurnOf all t m × AreTurns m turns all'
+
+-- the input of a turn, and the controller that it is for, where a script gave it
+abbrev pub listed : {A : Type 0} → Source → Side → Inbound A → List (Side × Inbound A)
+listed Script side input = (side, input) ∷ []
+listed Simulator side input = []
+
+-- the inputs that a script gave, in their order
+abbrev pub scripted : {A : Type 0} → List (Turn A) → List (Side × Inbound A)
+scripted [] = []
+scripted (t ∷ turns) = listed t.source t.side t.input ++ scripted turns
+
+-- the inputs among what a script gives
+abbrev pub input_in : {A : Type 0} → Side → Given A → List (Side × Inbound A)
+input_in side (Input input) = (side, input) ∷ []
+input_in side Attach = []
+input_in side (Set setting) = []
+input_in side (HangUp call) = []
+
+abbrev pub inputs_in : {A : Type 0} → List (Item A) → List (Side × Inbound A)
+inputs_in [] = []
+inputs_in (item ∷ items) = input_in item.side item.given ++ inputs_in items

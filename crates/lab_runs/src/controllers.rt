@@ -1,0 +1,150 @@
+//! The controllers of a course: that of the first site, and the peer's where there is one.
+ghost use Rattle.std.specs.Prelude.{◌≡◌, ◌∷◌, true, is_some, option_map, IfOk};
+ghost use Rattle.lab_script.specs.Sides.{is_there};
+ghost use Rattle.lab_runs.specs.Turns.{IsTurnOf};
+ghost use Rattle.lab_runs.specs.Course.{IsOpening, AreOpenings, positions_of, option_list};
+
+use crate::listener::Listener;
+use crate::noting::Noting;
+use crate::run::LabFault;
+use crate::turn::{Source, Turn, take_turn};
+use cell_table::Site;
+use ho_procedure::controller::Controller;
+use ho_procedure::exchange::Inbound;
+use lab_script::script::Side;
+use radio_book::book::Book;
+use radio_desk::desk::Desk;
+use std::alloc::{AllocError, Allocator, Global};
+use std::sync::Arc;
+use trace_text::trace::Mark;
+
+/// One controller or two: the first site's, and the peer's where there is one.
+#[derive(Drop)]
+pub struct Controllers<A: Allocator + Copy = Global> {
+    pub first: Controller<Noting<A>, A>,
+    pub peer: Option<Controller<Noting<A>, A>>,
+}
+
+/// A controller of the site that was given nothing yet, over an empty book.
+fn fresh<A: Allocator + Copy>(
+    alloc: A,
+    site: &Arc<Site<A>, A>,
+) -> Result<Controller<Noting<A>, A>, AllocError>
+    ensures opening { IfOk result (λ controller. IsOpening site.now.value controller) }
+{
+    let book = Book::new(alloc, site.clone()?)?;
+    let view = Noting::new(alloc, Desk::new(alloc, book)?);
+    Ok(Controller::new(alloc, view, site.clone()?))
+}
+
+/// The same of the peer's site, where there is one.
+fn fresh_peer<A: Allocator + Copy>(
+    alloc: A,
+    site: &Option<Arc<Site<A>, A>>,
+) -> Result<Option<Controller<Noting<A>, A>>, AllocError>
+    ensures opening { IfOk result (λ peer. AreOpenings
+        (option_list (option_map (λ site. site.value) site.now)) (option_list peer)) }
+    ensures peer { IfOk result (λ peer. is_some peer ≡ is_some site.now) }
+{
+    match site {
+        Some(site) => Ok(Some(fresh(alloc, site)?)),
+        None => Ok(None),
+    }
+}
+
+/// A controller's book.
+fn book_of<A: Allocator + Copy>(controller: &Controller<Noting<A>, A>) -> &Book<A> {
+    controller.view().desk().book()
+}
+
+impl<A: Allocator + Copy> Controllers<A> {
+    /// Controllers that were given nothing yet, over empty books, of a site and of a peer's where there is one.
+    pub(crate) fn new(
+        alloc: A,
+        site: &Arc<Site<A>, A>,
+        peer: &Option<Arc<Site<A>, A>>,
+    ) -> Result<Controllers<A>, AllocError>
+        ensures openings { IfOk result (λ all. AreOpenings
+            (site.now.value ∷ option_list (option_map (λ peer. peer.value) peer.now)) (positions_of all)) }
+        ensures peer { IfOk result (λ all. is_some all.peer ≡ is_some peer.now) }
+    {
+        Ok(Controllers {
+            first: fresh(alloc, site)?,
+            peer: fresh_peer(alloc, peer)?,
+        })
+    }
+
+    /// Whether the controller of this side is there.
+    pub(crate) fn has(&self, side: Side) -> bool
+        ensures there { result ≡ is_there (is_some self.now.peer) side }
+    {
+        match side {
+            Side::First => true,
+            Side::Peer => self.peer.is_some(),
+        }
+    }
+
+    /// What stands in front of the lines of a controller.
+    pub(crate) fn mark(&self, side: Side) -> Mark {
+        match side {
+            Side::First => {
+                if self.peer.is_some() {
+                    Mark::First
+                } else {
+                    Mark::Alone
+                }
+            }
+            Side::Peer => Mark::Peer,
+        }
+    }
+
+    /// A controller that is there handles an input, and says what came of it.
+    pub(crate) fn take_turn(
+        &mut self,
+        alloc: A,
+        side: Side,
+        source: Source,
+        input: Inbound<A>,
+    ) -> Result<Turn<A>, AllocError>
+        requires there { is_there (is_some self.old.peer) side ≡ true }
+        ensures turn { IfOk result (λ turn. IsTurnOf (positions_of self.old) turn (positions_of self.new)) }
+        ensures peer { is_some self.new.peer ≡ is_some self.old.peer }
+        ensures side { IfOk result (λ turn. turn.side ≡ side) }
+        ensures source { IfOk result (λ turn. turn.source ≡ source) }
+        ensures input { IfOk result (λ turn. turn.input ≡ input) }
+    {
+        match side {
+            Side::First => take_turn(alloc, &mut self.first, Side::First, source, input),
+            Side::Peer => match &mut self.peer {
+                Some(peer) => take_turn(alloc, peer, Side::Peer, source, input),
+                // asked for where there is one alone
+                None => unreachable!(),
+            },
+        }
+    }
+
+    /// Tells a listener what came of an input of one of the controllers.
+    pub(crate) fn tell<L: Listener<A>>(
+        &self,
+        turn: &Turn<A>,
+        listener: &mut L,
+    ) -> Result<(), LabFault> {
+        let mark = self.mark(turn.side);
+        match turn.side {
+            Side::First => listener.hear_turn(mark, turn, book_of(&self.first)),
+            Side::Peer => match &self.peer {
+                Some(peer) => listener.hear_turn(mark, turn, book_of(peer)),
+                None => Ok(()),
+            },
+        }
+    }
+
+    /// Tells a listener what the book of each holds at the end.
+    pub(crate) fn tell_ends<L: Listener<A>>(&self, listener: &mut L) -> Result<(), LabFault> {
+        listener.hear_end(self.mark(Side::First), book_of(&self.first))?;
+        match &self.peer {
+            Some(peer) => listener.hear_end(self.mark(Side::Peer), book_of(peer)),
+            None => Ok(()),
+        }
+    }
+}

@@ -1,0 +1,283 @@
+//! The course of a script: one controller or two on one thread, and the simulators around them.
+ghost use Rattle.std.specs.Prelude.{◌≡◌, [], ◌∷◌, true, is_some, option_map, IfOk, OnOk};
+ghost use Rattle.lab_script.specs.Sides.{is_there};
+ghost use Rattle.lab_script.specs.Script.{AreThere, is_item_there};
+ghost use Rattle.lab_runs.specs.Turns.{listed, inputs_in};
+ghost use Rattle.lab_runs.specs.Course.{Went, AreOpenings, positions_of, has_peer, option_list};
+
+use crate::controllers::Controllers;
+use crate::listener::Listener;
+use crate::run::LabFault;
+use crate::simulators::{Arrival, Simulators, Waiting};
+use crate::turn::{Answer, Source, Turn};
+use bts_model::Setting;
+use cell_table::Site;
+use ho_procedure::exchange::Inbound;
+use lab_script::script::{Given, Item, Side};
+use std::alloc::{AllocError, Allocator, Global};
+use std::collections::VecDeque;
+use std::sync::Arc;
+
+/// How many answers of simulators are handled for one line of a script.
+const MOST_ANSWERS: u16 = 10_000;
+
+/// Controllers, the simulators around them once a script attached them, and what came of each input.
+#[derive(Drop)]
+pub struct Course<A: Allocator + Copy = Global> {
+    sites: Vec<Arc<Site<A>, A>, A>,
+    /// The controllers as they are now.
+    pub controllers: Controllers<A>,
+    simulators: Option<Simulators<A>>,
+    /// What came of each input so far.
+    pub turns: Vec<Turn<A>, A>,
+    alloc: A,
+}
+
+/// What came of a script: each input that was handled, in their order, with what the controller that it was for asked and
+/// answered, and the controllers as they are at the end.
+#[derive(Drop)]
+pub struct Run<A: Allocator + Copy = Global> {
+    pub turns: Vec<Turn<A>, A>,
+    pub controllers: Controllers<A>,
+}
+
+/// The sites of one controller or two.
+fn sites_of<A: Allocator + Copy>(
+    alloc: A,
+    site: Arc<Site<A>, A>,
+    peer: Option<Arc<Site<A>, A>>,
+) -> Result<Vec<Arc<Site<A>, A>, A>, AllocError> {
+    let mut sites = Vec::new(alloc);
+    sites.push(site)?;
+    if let Some(peer) = peer {
+        sites.push(peer)?;
+    }
+    Ok(sites)
+}
+
+impl<A: Allocator + Copy> Course<A> {
+    /// Controllers that were given nothing yet, over empty books, of a site and of a peer's where there is one.
+    pub(crate) fn new(
+        alloc: A,
+        site: Arc<Site<A>, A>,
+        peer: Option<Arc<Site<A>, A>>,
+    ) -> Result<Course<A>, AllocError>
+        ensures openings { IfOk result (λ course. AreOpenings
+            (site.value ∷ option_list (option_map (λ peer. peer.value) peer))
+            (positions_of course.controllers)) }
+        ensures peer { IfOk result (λ course. has_peer course ≡ is_some peer) }
+        ensures turns { IfOk result (λ course. course.turns.items ≡ []) }
+    {
+        Ok(Course {
+            controllers: Controllers::new(alloc, &site, &peer)?,
+            sites: sites_of(alloc, site, peer)?,
+            simulators: None,
+            turns: Vec::new(alloc),
+            alloc,
+        })
+    }
+
+    /// From here on simulators answer, unless they do already.
+    fn attach(&mut self) -> Result<(), AllocError>
+        ensures { OnOk result (Went [] self.old self.new) }
+    {
+        if self.simulators.is_some() {
+            return Ok(());
+        }
+        self.simulators = Some(Simulators::new(self.alloc, self.sites.as_slice())?);
+        Ok(())
+    }
+
+    /// Asks something of a simulated station or of a mobile. What is sent then waits.
+    fn set(&mut self, setting: Setting, waiting: &mut Waiting<A>) -> Result<(), AllocError>
+        ensures { OnOk result (Went [] self.old self.new) }
+    {
+        match &mut self.simulators {
+            Some(simulators) => simulators.set(setting, waiting),
+            None => Ok(()),
+        }
+    }
+
+    /// The simulated switching centre hangs up a call. What it sends then waits.
+    fn hang_up(&self, side: Side, call: u16, waiting: &mut Waiting<A>) -> Result<(), AllocError> {
+        match &self.simulators {
+            Some(simulators) => simulators.hang_up(side, call, waiting),
+            None => Ok(()),
+        }
+    }
+
+    /// A controller that is there handles an input, and a listener is told what came of it. What simulators answer waits
+    /// behind all else.
+    fn handle<L: Listener<A>>(
+        &mut self,
+        side: Side,
+        source: Source,
+        input: Inbound<A>,
+        waiting: &mut Waiting<A>,
+        listener: &mut L,
+    ) -> Result<(), LabFault>
+        requires there { is_there (has_peer self.old) side ≡ true }
+        ensures { OnOk result (Went (listed source side input) self.old self.new) }
+    {
+        self.turns.reserve(1)?;
+        let turn = self.controllers.take_turn(self.alloc, side, source, input)?;
+        let told = tell(
+            &self.controllers,
+            &mut self.simulators,
+            &turn,
+            waiting,
+            listener,
+        );
+        self.turns.push_reserved(turn);
+        told
+    }
+
+    /// Handles what a simulator sends. The simulators know the controllers that are there and no other: what was for
+    /// another is passed over.
+    fn arrive<L: Listener<A>>(
+        &mut self,
+        arrival: Arrival<A>,
+        waiting: &mut Waiting<A>,
+        listener: &mut L,
+    ) -> Result<(), LabFault>
+        ensures { OnOk result (Went [] self.old self.new) }
+    {
+        if self.controllers.has(arrival.side) {
+            self.handle(
+                arrival.side,
+                Source::Simulator,
+                arrival.input,
+                waiting,
+                listener,
+            )
+        } else {
+            Ok(())
+        }
+    }
+
+    /// Handles what waits, and what is answered to that, until nothing is left.
+    fn settle<L: Listener<A>>(
+        &mut self,
+        waiting: &mut Waiting<A>,
+        listener: &mut L,
+    ) -> Result<(), LabFault>
+        ensures { OnOk result (Went [] self.old self.new) }
+    {
+        for _ in 0..MOST_ANSWERS {
+            let Some(arrival) = waiting.pop_front() else {
+                return Ok(());
+            };
+            self.arrive(arrival, waiting, listener)?;
+        }
+        drop_rest(waiting, listener)
+    }
+
+    /// Does what a line of a script gives. What simulators answer waits.
+    fn begin<L: Listener<A>>(
+        &mut self,
+        item: Item<A>,
+        waiting: &mut Waiting<A>,
+        listener: &mut L,
+    ) -> Result<(), LabFault>
+        requires there { is_item_there (has_peer self.old) item ≡ true }
+        ensures { OnOk result (Went (inputs_in (item ∷ [])) self.old self.new) }
+    {
+        let Item { side, given } = item;
+        match given {
+            Given::Input(input) => self.handle(side, Source::Script, input, waiting, listener),
+            Given::Attach => Ok(self.attach()?),
+            Given::Set(setting) => Ok(self.set(setting, waiting)?),
+            Given::HangUp(call) => Ok(self.hang_up(side, call, waiting)?),
+        }
+    }
+
+    /// Does what a line of a script gives, and then what waits behind that, until nothing of it is left.
+    pub fn follow<L: Listener<A>>(
+        &mut self,
+        item: Item<A>,
+        listener: &mut L,
+    ) -> Result<(), LabFault>
+        requires there { is_item_there (has_peer self.old) item ≡ true }
+        ensures went { OnOk result (Went (inputs_in (item ∷ [])) self.old self.new) }
+    {
+        let mut waiting = VecDeque::new(self.alloc);
+        self.begin(item, &mut waiting, listener)?;
+        self.settle(&mut waiting, listener)
+    }
+
+    /// Does what the lines of a script give, in their order, and then tells what the books hold.
+    pub(crate) fn run<L: Listener<A>>(
+        &mut self,
+        items: Vec<Item<A>, A>,
+        listener: &mut L,
+    ) -> Result<(), LabFault>
+        requires there { AreThere (has_peer self.old) items.items }
+        ensures { OnOk result (Went (inputs_in items.items) self.old self.new) }
+    {
+        let mut waiting = VecDeque::new(self.alloc);
+        for item in items {
+            self.begin(item, &mut waiting, listener)?;
+            self.settle(&mut waiting, listener)?;
+        }
+        self.tell_ends(listener)
+    }
+
+    /// Tells a listener what the books hold at the end.
+    pub fn tell_ends<L: Listener<A>>(&self, listener: &mut L) -> Result<(), LabFault> {
+        self.controllers.tell_ends(listener)
+    }
+
+    /// What came of it so far.
+    pub(crate) fn into_run(self) -> Run<A>
+        ensures turns { result.turns ≡ self.turns }
+        ensures controllers { result.controllers ≡ self.controllers }
+    {
+        let Course {
+            sites: _,
+            controllers,
+            simulators: _,
+            turns,
+            alloc: _,
+        } = self;
+        Run { turns, controllers }
+    }
+}
+
+/// Tells a listener what came of an input, and lets what simulators answer to that wait.
+fn tell<A: Allocator + Copy, L: Listener<A>>(
+    controllers: &Controllers<A>,
+    simulators: &mut Option<Simulators<A>>,
+    turn: &Turn<A>,
+    waiting: &mut Waiting<A>,
+    listener: &mut L,
+) -> Result<(), LabFault> {
+    controllers.tell(turn, listener)?;
+    Ok(pass_answer(simulators, turn, waiting)?)
+}
+
+/// Drops what still waits, and says so, where there is any.
+fn drop_rest<A: Allocator + Copy, L: Listener<A>>(
+    waiting: &mut Waiting<A>,
+    listener: &mut L,
+) -> Result<(), LabFault> {
+    if waiting.is_empty() {
+        return Ok(());
+    }
+    waiting.clear();
+    listener.hear_limit()
+}
+
+/// What simulators, where they are there, answer to what came of an input waits.
+fn pass_answer<A: Allocator + Copy>(
+    simulators: &mut Option<Simulators<A>>,
+    turn: &Turn<A>,
+    waiting: &mut Waiting<A>,
+) -> Result<(), AllocError> {
+    let Some(simulators) = simulators else {
+        return Ok(());
+    };
+    match &turn.answer {
+        Answer::Sent(sent) => simulators.pass_on(turn.side, sent, waiting),
+        Answer::Undecoded(_) => Ok(()),
+    }
+}

@@ -1,0 +1,15 @@
+//! Runs of a script by one controller or two on one thread, and the simulators around them. Who listens is told what came of
+//! each input, turn by turn; one listener prints the trace.
+//!
+//! A controller's view of its desk also notes where no channel was free (`noting`). A turn is one input and what came of it
+//! (`turn`). A course has the one controller or two of a run (`controllers`) and what is simulated around them
+//! (`simulators`), and plays the lines of a script with both (`course`, `run`).
+#![tactic(auto)]
+
+pub mod controllers;
+pub mod course;
+pub mod listener;
+pub mod noting;
+pub mod run;
+mod simulators;
+pub mod turn;

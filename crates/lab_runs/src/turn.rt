@@ -1,0 +1,188 @@
+//! One input, and what came of it.
+ghost use Rattle.std.specs.Prelude.{◌≡◌, ◌+◌, ◌++◌, ◌∷◌, [], List, drop, IfOk, OnOk, OnErr};
+ghost use Rattle.ho_procedure.specs.Sent.{Sent};
+ghost use Rattle.radio_book.specs.Run.{Leads};
+ghost use Rattle.ho_procedure.specs.Handling.{StopsForMemory};
+ghost use Rattle.lab_runs.specs.Turns.{asked_in, history_of, says, Answers, IsTurn};
+
+use crate::noting::{NoneFree, Noting};
+use ho_procedure::controller::Controller;
+use ho_procedure::exchange::{Bad, Fault, Inbound, Outbound};
+use lab_script::script::Side;
+use radio_book::event::{Event, Reply};
+use radio_desk::desk::Desk;
+use rsl_messages::Octets;
+use std::alloc::{AllocError, Allocator, Global};
+use trace_text::trace::Step;
+
+/// Where an input comes from.
+#[derive(Clone, Copy, Debug, PartialEq, Eq)]
+pub enum Source {
+    /// A line of the script gives it.
+    Script,
+    /// A simulated station, or the simulated switching centre, sends it.
+    Simulator,
+}
+
+/// What a controller answered to an input.
+#[derive(Drop)]
+pub enum Answer<A: Allocator = Global> {
+    /// It sent these messages.
+    Sent(Vec<Outbound<A>, A>),
+    /// The octets of the input are no message, or those of the radio resource message inside are none. Nothing was
+    /// asked, and nothing is sent.
+    Undecoded(Bad),
+}
+
+/// An input, what the controller asked of its book, and what it answered.
+#[derive(Drop)]
+pub struct Turn<A: Allocator = Global> {
+    /// The controller.
+    pub side: Side,
+    /// Where the input comes from.
+    pub source: Source,
+    /// What the controller was given.
+    pub input: Inbound<A>,
+    /// What it asked of its book, each event with its reply, and each cell without a free channel, in their order.
+    pub steps: Vec<Step, A>,
+    /// What it sent, or why its octets can't be read.
+    pub answer: Answer<A>,
+}
+
+/// The same input once more.
+fn copy_of<A: Allocator + Copy>(alloc: A, input: &Inbound<A>) -> Result<Inbound<A>, AllocError>
+    ensures { IfOk result (λ copy. copy ≡ input.now) }
+{
+    match input {
+        Inbound::Abis { cell, trx, bytes } => Ok(Inbound::Abis {
+            cell: *cell,
+            trx: *trx,
+            bytes: Octets::new(alloc, bytes.as_slice())?,
+        }),
+        Inbound::A { call, bytes } => Ok(Inbound::A {
+            call: *call,
+            bytes: Octets::new(alloc, bytes.as_slice())?,
+        }),
+        Inbound::Expiry { call, timer } => Ok(Inbound::Expiry {
+            call: *call,
+            timer: *timer,
+        }),
+        Inbound::Operator(line) => Ok(Inbound::Operator(*line)),
+    }
+}
+
+/// Appends the cells without a free channel that were found when so many events had been asked.
+#[tactic(auto, using(crate::proofs::StepFacts::none_more))]
+fn push_none_free<A: Allocator + Copy>(
+    steps: &mut Vec<Step, A>,
+    found: &[NoneFree],
+    place: usize,
+) -> Result<(), AllocError>
+    ensures { OnOk result (asked_in steps.new.items ≡ asked_in steps.old.items) }
+{
+    for none in found {
+        if none.place == place {
+            steps.push(Step::NoneFree(none.cell))?;
+        }
+    }
+    Ok(())
+}
+
+/// Appends an event with its reply.
+#[tactic(auto, using(crate::proofs::StepFacts::asked_more))]
+fn push_asked<A: Allocator + Copy>(
+    steps: &mut Vec<Step, A>,
+    event: Event,
+    reply: Reply,
+) -> Result<(), AllocError>
+    ensures { OnOk result (asked_in steps.new.items ≡
+        asked_in steps.old.items ++ (event, reply) ∷ []) }
+{
+    Ok(steps.push(Step::Asked(event, reply))?)
+}
+
+/// Appends what stands in a desk's history at a place, if anything does: so much less of the history is left.
+#[tactic(auto, using(crate::proofs::StepFacts::entry_noted, crate::proofs::StepFacts::past_noted))]
+fn push_entry<A: Allocator + Copy>(
+    steps: &mut Vec<Step, A>,
+    desk: &Desk<A>,
+    place: usize,
+) -> Result<(), AllocError>
+    ensures { OnOk result (asked_in steps.new.items ++ drop (place + 1) desk.now.history ≡
+        asked_in steps.old.items ++ drop place desk.now.history) }
+{
+    match desk.entry(place) {
+        Some((event, reply)) => push_asked(steps, *event, *reply),
+        None => Ok(()),
+    }
+}
+
+/// What was asked of a desk from its `first` event on, with the cells without a free channel that were found there.
+fn steps_from<A: Allocator + Copy>(
+    alloc: A,
+    desk: &Desk<A>,
+    found: &[NoneFree],
+    first: usize,
+) -> Result<Vec<Step, A>, AllocError>
+    ensures asked { IfOk result (λ steps. asked_in steps.items ≡ drop first desk.now.history) }
+    ensures legal { Leads desk.now.opening desk.now.history desk.now.book }
+{
+    let mut steps = Vec::new(alloc);
+    for place in first..desk.len() {
+        push_none_free(&mut steps, found, place)?;
+        push_entry(&mut steps, desk, place)?;
+    }
+    push_none_free(&mut steps, found, desk.len())?;
+    Ok(steps)
+}
+
+/// Handles an input.
+fn handled<A: Allocator + Copy>(
+    controller: &mut Controller<Noting<A>, A>,
+    input: Inbound<A>,
+) -> Result<Answer<A>, AllocError>
+    ensures answers { IfOk result (λ answer. Answers controller.old input answer controller.new) }
+    ensures stops { OnErr result ((owed : List Sent) × StopsForMemory {A = A} history_of says
+        controller.old.2 controller.old.0 controller.old.1 input
+        controller.new.0 controller.new.1 owed) }
+    ensures opening { controller.new.0.opening ≡ controller.old.0.opening }
+    ensures site { controller.new.2 ≡ controller.old.2 }
+{
+    match controller.handle(input) {
+        Ok(sent) => Ok(Answer::Sent(sent)),
+        Err(Fault::Undecoded(_, bad)) => Ok(Answer::Undecoded(bad)),
+        Err(Fault::NoMemory(_)) => Err(AllocError),
+        // the desk of a view of its own knows all of its receipts
+        Err(Fault::Desk(..)) => unreachable!(),
+    }
+}
+
+/// The controller of a side handles an input; says what came of it. Where memory is refused, what was asked so far
+/// stands, and what came of it isn't said.
+pub fn take_turn<A: Allocator + Copy>(
+    alloc: A,
+    controller: &mut Controller<Noting<A>, A>,
+    side: Side,
+    source: Source,
+    input: Inbound<A>,
+) -> Result<Turn<A>, AllocError>
+    ensures turn { IfOk result (λ turn. IsTurn controller.old turn controller.new) }
+    ensures side { IfOk result (λ turn. turn.side ≡ side) }
+    ensures source { IfOk result (λ turn. turn.source ≡ source) }
+    ensures input { IfOk result (λ turn. turn.input ≡ input) }
+{
+    let first = controller.view().desk().len();
+    let found = controller.view().none_free().len();
+    let given = copy_of(alloc, &input)?;
+    let answer = handled(controller, given)?;
+    let view = controller.view();
+    let found = view.none_free().get(found..).unwrap_or(&[]);
+    let steps = steps_from(alloc, view.desk(), found, first)?;
+    Ok(Turn {
+        side,
+        source,
+        input,
+        steps,
+        answer,
+    })
+}

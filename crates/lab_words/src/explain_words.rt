@@ -1,0 +1,131 @@
+//! The words of the command `explain`.
+use clap::{Arg, ArgAction, ArgMatches, Command, value_parser};
+use explanations::{Link, Question};
+use std::alloc::{AllocError, Global};
+
+/// The links by their names.
+const LINKS: &[&str] = &["rr", "a", "abis"];
+
+/// `LINK`
+fn link_argument<'a>(alloc: Global) -> Arg<'a> {
+    Arg::new(alloc, "LINK")
+        .required(true)
+        .action(ArgAction::Set)
+        .help("Where the number is from")
+        .value_parser(LINKS)
+}
+
+/// `N`
+fn number_argument<'a>(alloc: Global, help: &'a str) -> Arg<'a> {
+    Arg::new(alloc, "N")
+        .required(true)
+        .action(ArgAction::Set)
+        .help(help)
+        .value_parser(value_parser!(u8))
+}
+
+/// `ARGUMENT`
+fn argument_argument<'a>(alloc: Global) -> Arg<'a> {
+    Arg::new(alloc, "ARGUMENT")
+        .action(ArgAction::Set)
+        .help("The fault's argument, where it has one")
+        .value_parser(value_parser!(usize))
+}
+
+/// What stands behind the help of `explain` and of `explain refused`.
+const HELP: &str = "\
+Statuses: 0 the number has words, 2 it has none, or the words of the command are wrong, 3 memory
+was refused.
+
+As in: bsc_lab explain refused 6";
+
+/// What stands behind the help of `explain cause`.
+const CAUSE_HELP: &str = "\
+Links: rr is the radio path (TS 44.018), a the switching centre (TS 48.008), abis the base station
+(TS 48.058).
+
+Statuses: 0 the cause has words, 2 the words of the command are wrong, 3 memory was refused.
+
+As in: bsc_lab explain cause a 33";
+
+/// What stands behind the help of `explain fault`.
+const FAULT_HELP: &str = "\
+Links: rr is the radio path (TS 44.018), a the switching centre (TS 48.008), abis the base station
+(TS 48.058).
+
+ARGUMENT is a message type or an element identifier (0 to 255), an offset (on a 3 to 254, on abis 1
+to 1023), or on rr what is wrong with the element (1 to 4), in decimal as decode prints it.
+
+Statuses: 0 the fault has words, 2 there is none of this number, it can't have this argument, or the
+words of the command are wrong, 3 memory was refused.
+
+As in: bsc_lab explain fault abis 3 26";
+
+/// `refused N`
+fn refused_command<'a>(alloc: Global) -> Result<Command<'a>, AllocError> {
+    Command::new(alloc, "refused")
+        .about("A refusal of the book, as in: explain refused 6")
+        .after_help(HELP)
+        .arg(number_argument(
+            alloc,
+            "The refusal's number, 1 to 9, as a trace shows it behind refused",
+        ))
+}
+
+/// `cause LINK N`
+fn cause_command<'a>(alloc: Global) -> Result<Command<'a>, AllocError> {
+    Command::new(alloc, "cause")
+        .about("A cause that a message carries, as in: explain cause a 33")
+        .after_help(CAUSE_HELP)
+        .arg(link_argument(alloc))?
+        .arg(number_argument(alloc, "The cause in decimal, 0 to 255"))
+}
+
+/// `fault LINK N ARGUMENT`
+fn fault_command<'a>(alloc: Global) -> Result<Command<'a>, AllocError> {
+    Command::new(alloc, "fault")
+        .about("Why octets are no message, as in: explain fault abis 5")
+        .after_help(FAULT_HELP)
+        .arg(link_argument(alloc))?
+        .arg(number_argument(
+            alloc,
+            "The fault's number, as a trace shows it: 1 to 6, on rr 1 to 4",
+        ))?
+        .arg(argument_argument(alloc))
+}
+
+/// A command with one more of its own.
+fn with<'a>(
+    command: Command<'a>,
+    next: Result<Command<'a>, AllocError>,
+) -> Result<Command<'a>, AllocError> {
+    command.subcommand(next?)
+}
+
+/// The command: `explain refused N`, `explain cause LINK N`, `explain fault LINK N [ARGUMENT]`.
+pub(crate) fn explain_command<'a>(alloc: Global) -> Result<Command<'a>, AllocError> {
+    let command = Command::new(alloc, "explain")
+        .about("Says in words what a number stands for, as in: explain refused 6")
+        .after_help(HELP)
+        .subcommand_required(true);
+    let command = with(command, refused_command(alloc))?;
+    let command = with(command, cause_command(alloc))?;
+    with(command, fault_command(alloc))
+}
+
+/// What the words behind `explain` ask; `None` where they weren't matched by [`explain_command`].
+pub(crate) fn question_of(explain: &ArgMatches<'_>) -> Option<Question> {
+    match explain.subcommand()? {
+        ("refused", refused) => Some(Question::Refusal(refused.get_one::<u8>("N")?)),
+        ("cause", cause) => Some(Question::Cause(
+            Link::named(cause.get_str("LINK")?)?,
+            cause.get_one::<u8>("N")?,
+        )),
+        ("fault", fault) => Some(Question::Fault(
+            Link::named(fault.get_str("LINK")?)?,
+            fault.get_one::<u8>("N")?,
+            fault.get_one::<usize>("ARGUMENT"),
+        )),
+        _ => None,
+    }
+}

@@ -1,0 +1,13 @@
+//! The words of the command line: what they ask for, or why they are refused.
+#![tactic(auto)]
+
+mod explain_words;
+mod help;
+mod refused_words;
+mod script_words;
+mod site_paths;
+mod view_words;
+mod words;
+
+pub use site_paths::SitePaths;
+pub use words::{Job, WordsFault, read_words};

@@ -1,0 +1,40 @@
+//! The words of the commands that test and record scripts.
+use crate::help::{RECORD_HELP, TEST_HELP};
+use crate::site_paths::SitePaths;
+use crate::words::{argument, peer_argument, with_script};
+use clap::{ArgMatches, Command};
+use std::alloc::{AllocError, Global};
+
+/// `test SITE SCRIPT.. [--peer SITE]`
+pub(crate) fn test_command<'a>(alloc: Global) -> Result<Command<'a>, AllocError> {
+    Command::new(alloc, "test")
+        .about("Runs scripts, and says which print what their comments expect (TAP)")
+        .after_help(TEST_HELP)
+        .arg(argument(alloc, "SITE", "The site file"))?
+        .arg(argument(alloc, "SCRIPT", "The script files").num_args(1..))?
+        .arg(peer_argument(alloc))
+}
+
+/// `record SITE SCRIPT [--peer SITE]`
+pub(crate) fn record_command<'a>(alloc: Global) -> Result<Command<'a>, AllocError> {
+    let command = Command::new(alloc, "record")
+        .about("Runs a script and prints it with comments that expect what came of each line")
+        .after_help(RECORD_HELP);
+    with_script(alloc, command)
+}
+
+/// The paths of the sites.
+pub(crate) fn site_paths<'a>(matches: &ArgMatches<'a>) -> Option<SitePaths<'a>> {
+    Some(SitePaths {
+        first: matches.get_str("SITE")?,
+        peer: matches.get_str("PEER"),
+    })
+}
+
+/// The paths of the scripts.
+pub(crate) fn script_paths<'a>(
+    alloc: Global,
+    matches: &ArgMatches<'a>,
+) -> Result<Vec<&'a str>, AllocError> {
+    Vec::from_slice(alloc, matches.get_strs("SCRIPT").unwrap_or(&[]))
+}

@@ -1,0 +1,60 @@
+//! The words of a command line that ask for views of a run.
+use clap::{Arg, ArgAction, ArgMatches, Command};
+use run_views::Views;
+use std::alloc::{AllocError, Global};
+
+/// `--words`
+fn words_argument<'a>(alloc: Global) -> Arg<'a> {
+    Arg::new(alloc, "WORDS")
+        .long("words")
+        .action(ArgAction::SetTrue)
+        .help("Says the call, message, causes and refusals of each line in words, behind #")
+}
+
+/// `--state`
+fn state_argument<'a>(alloc: Global) -> Arg<'a> {
+    Arg::new(alloc, "STATE")
+        .long("state")
+        .action(ArgAction::SetTrue)
+        .help("Prints after each input what the book holds, and at the end what is left")
+}
+
+/// `--pcap FILE`
+fn pcap_argument<'a>(alloc: Global) -> Arg<'a> {
+    Arg::new(alloc, "PCAP")
+        .long("pcap")
+        .value_name("FILE")
+        .action(ArgAction::Set)
+        .help("Writes every message to this file, as a capture that Wireshark opens")
+}
+
+/// `--chart FILE`
+fn chart_argument<'a>(alloc: Global) -> Arg<'a> {
+    Arg::new(alloc, "CHART")
+        .long("chart")
+        .value_name("FILE")
+        .action(ArgAction::Set)
+        .help("Writes the run to this file, as a sequence chart in SVG")
+}
+
+/// Adds to a command the options `--words`, `--state`, `--pcap FILE` and `--chart FILE`.
+pub(crate) fn view_options<'a>(
+    alloc: Global,
+    command: Command<'a>,
+) -> Result<Command<'a>, AllocError> {
+    command
+        .arg(words_argument(alloc))?
+        .arg(state_argument(alloc))?
+        .arg(pcap_argument(alloc))?
+        .arg(chart_argument(alloc))
+}
+
+/// The views that the words of a command with these options ask for.
+pub(crate) fn views_of<'a>(matches: &ArgMatches<'a>) -> Views<'a> {
+    Views {
+        words: matches.get_flag("WORDS"),
+        state: matches.get_flag("STATE"),
+        pcap: matches.get_str("PCAP"),
+        chart: matches.get_str("CHART"),
+    }
+}

@@ -1,0 +1,186 @@
+//! Which call a line is about.
+use crate::content::Content;
+use channel_fsm::ChanId;
+use ho_procedure::exchange::{Inbound, Line};
+use radio_book::event::{Event, Reply};
+use std::alloc::{AllocError, Allocator, Global};
+use std::collections::BTreeMap;
+use trace_text::trace::{Mark, Step, TraceLine};
+
+/// The calls of one controller, as far as its lines told them.
+#[derive(Drop)]
+struct Known<A: Allocator = Global> {
+    /// The call of the input that was handled last.
+    current: Option<u16>,
+    /// The call that had a channel last.
+    channels: BTreeMap<ChanId, u16, A>,
+}
+
+/// What an event names.
+#[derive(Clone, Copy)]
+enum Named {
+    Call(u16),
+    Chan(ChanId),
+}
+
+/// What an event names: its call, or else its channel.
+fn named_by(event: Event) -> Named {
+    match event {
+        Event::Open(call, _)
+        | Event::Clear(call)
+        | Event::Look(call)
+        | Event::Take(call, _, _)
+        | Event::Reserve(call, _)
+        | Event::Activate(call)
+        | Event::Undo(call, _)
+        | Event::Command(call)
+        | Event::Complete(call)
+        | Event::Require(call)
+        | Event::Order(call)
+        | Event::Left(call) => Named::Call(call),
+        Event::Confirm(chan)
+        | Event::Refuse(chan)
+        | Event::Released(chan)
+        | Event::Detect(chan)
+        | Event::Owner(chan) => Named::Chan(chan),
+    }
+}
+
+/// The channel that an event gives a call.
+fn taken_by(event: Event) -> Option<(u16, ChanId)> {
+    match event {
+        Event::Open(call, chan) | Event::Take(call, _, chan) => Some((call, chan)),
+        Event::Clear(_)
+        | Event::Look(_)
+        | Event::Reserve(..)
+        | Event::Activate(_)
+        | Event::Undo(..)
+        | Event::Command(_)
+        | Event::Complete(_)
+        | Event::Require(_)
+        | Event::Order(_)
+        | Event::Left(_)
+        | Event::Confirm(_)
+        | Event::Refuse(_)
+        | Event::Released(_)
+        | Event::Detect(_)
+        | Event::Owner(_) => None,
+    }
+}
+
+/// Whether an event was accepted.
+fn is_accepted(reply: Reply) -> bool {
+    match reply {
+        Reply::Done | Reply::Owned(_) | Reply::Record(..) => true,
+        Reply::Refused(_) => false,
+    }
+}
+
+/// The call of what an operator asks for.
+fn call_of_line(line: Line) -> u16 {
+    match line {
+        Line::Open { call, .. }
+        | Line::Handover { call, .. }
+        | Line::Undo { call }
+        | Line::Clear { call } => call,
+    }
+}
+
+impl<A: Allocator + Copy> Known<A> {
+    /// No call is known.
+    fn new(alloc: A) -> Known<A> {
+        Known {
+            current: None,
+            channels: BTreeMap::new(alloc),
+        }
+    }
+
+    /// The call that had a channel last.
+    fn had(&self, chan: ChanId) -> Option<u16> {
+        self.channels.get(&chan).copied()
+    }
+
+    /// The call of octets that come or are sent.
+    fn of_content(&self, content: &Content<A>) -> Option<u16> {
+        match content {
+            Content::Abis(place, _) => self.had(place.chan?),
+            Content::A(call, _) => Some(*call),
+            Content::Nothing => None,
+        }
+    }
+
+    /// The call of an input.
+    fn of_input(&self, input: &Inbound<A>, content: &Content<A>) -> Option<u16> {
+        match input {
+            Inbound::Abis { .. } | Inbound::A { .. } => self.of_content(content),
+            Inbound::Expiry { call, .. } => Some(*call),
+            Inbound::Operator(line) => Some(call_of_line(*line)),
+        }
+    }
+
+    /// The call of an event. What it gives a call is kept.
+    fn of_event(&mut self, event: Event, reply: Reply) -> Result<Option<u16>, AllocError> {
+        if let Some((call, chan)) = taken_by(event)
+            && is_accepted(reply)
+        {
+            self.channels.insert(chan, call)?;
+        }
+        match named_by(event) {
+            Named::Call(call) => Ok(Some(call)),
+            Named::Chan(chan) => match reply {
+                Reply::Owned(call) => Ok(Some(call)),
+                Reply::Done | Reply::Record(..) | Reply::Refused(_) => Ok(self.had(chan)),
+            },
+        }
+    }
+
+    /// The call of a line.
+    fn of_line(
+        &mut self,
+        line: &TraceLine<'_, A>,
+        content: &Content<A>,
+    ) -> Result<Option<u16>, AllocError> {
+        match line {
+            TraceLine::Input(input) => {
+                self.current = self.of_input(*input, content);
+                Ok(self.current)
+            }
+            TraceLine::Sent(_) => Ok(self.of_content(content)),
+            TraceLine::Step(Step::Asked(event, reply)) => self.of_event(*event, *reply),
+            TraceLine::Step(Step::NoneFree(_)) | TraceLine::Fault(_) => Ok(self.current),
+            TraceLine::Limit | TraceLine::End(_) => Ok(None),
+        }
+    }
+}
+
+/// The calls of one controller or two, as far as the lines of their trace told them.
+#[derive(Drop)]
+pub struct Calls<A: Allocator = Global> {
+    first: Known<A>,
+    peer: Known<A>,
+}
+
+impl<A: Allocator + Copy> Calls<A> {
+    /// No call is known: the trace begins.
+    pub fn new(alloc: A) -> Calls<A> {
+        Calls {
+            first: Known::new(alloc),
+            peer: Known::new(alloc),
+        }
+    }
+
+    /// The call that the next line of the trace, which carries this, is about, 0 to 65535: the one that it names; of a
+    /// channel and of a message on Abis the call that had the channel last; of a fault and of a cell without a free channel
+    /// that of the input. `None` where no line before it told one.
+    pub fn call_of(
+        &mut self,
+        mark: Mark,
+        line: &TraceLine<'_, A>,
+        content: &Content<A>,
+    ) -> Result<Option<u16>, AllocError> {
+        match mark {
+            Mark::Alone | Mark::First => self.first.of_line(line, content),
+            Mark::Peer => self.peer.of_line(line, content),
+        }
+    }
+}

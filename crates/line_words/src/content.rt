@@ -1,0 +1,146 @@
+//! What the octets of a line are, decoded once for all that is said of it.
+use bssmap_messages::{Bssmap, BssmapFault};
+use channel_fsm::ChanId;
+use ho_procedure::exchange::{Inbound, Outbound};
+use ho_procedure::naming::chan_of;
+use rsl_messages::{Rsl, RslFault};
+use std::alloc::{AllocError, Allocator, Global};
+use trace_text::trace::TraceLine;
+
+/// Where on Abis octets go or come from.
+#[derive(Clone, Copy, Debug, PartialEq, Eq)]
+pub struct Place {
+    pub cell: u8,
+    pub trx: u8,
+    /// The channel that they are about: the one that their channel number names, also where they are wrong behind that.
+    /// `None` where they name none, or are of another protocol.
+    pub chan: Option<ChanId>,
+}
+
+/// What a line carries. A message is `None` where the octets are none.
+#[derive(Drop)]
+pub enum Content<A: Allocator = Global> {
+    /// Octets on Abis.
+    Abis(Place, Option<Rsl<A>>),
+    /// Octets on A about a call.
+    A(u16, Option<Bssmap<A>>),
+    /// No octets.
+    Nothing,
+}
+
+/// The channel that octets name which are no message: their first element is a channel number, of a full rate channel (TS
+/// 48.058 clause 9.3.1).
+fn channel_named(cell: u8, trx: u8, octets: &[u8]) -> Option<ChanId> {
+    let identifier = *octets.get(2)?;
+    let number = *octets.get(3)?;
+    if identifier != 0x01 || number < 0x08 || number > 0x0F {
+        return None;
+    }
+    Some(ChanId {
+        cell,
+        trx,
+        tn: number & 0x07,
+    })
+}
+
+/// Whether octets are of another protocol, by their head alone: its first octet says so (TS 48.058 clause 9.1).
+fn is_other_protocol<A: Allocator + Copy>(alloc: A, octets: &[u8]) -> Result<bool, AllocError> {
+    let head = octets.get(..2).unwrap_or(octets);
+    match rsl_messages::decode(alloc, head) {
+        Err(RslFault::NoMemory) => Err(AllocError),
+        Err(RslFault::NotRsl) => Ok(true),
+        Ok(_)
+        | Err(
+            RslFault::UnknownType(_)
+            | RslFault::Missing(_)
+            | RslFault::BadElement(_)
+            | RslFault::Torn(_)
+            | RslFault::TooLong,
+        ) => Ok(false),
+    }
+}
+
+/// The channel of octets that are no message for this reason, where they name one.
+fn channel_of_none<A: Allocator + Copy>(
+    alloc: A,
+    cell: u8,
+    trx: u8,
+    octets: &[u8],
+    fault: RslFault,
+) -> Result<Option<ChanId>, AllocError> {
+    match fault {
+        RslFault::NoMemory => Err(AllocError),
+        RslFault::UnknownType(_)
+        | RslFault::Missing(_)
+        | RslFault::BadElement(_)
+        | RslFault::Torn(_) => Ok(channel_named(cell, trx, octets)),
+        RslFault::TooLong if is_other_protocol(alloc, octets)? => Ok(None),
+        RslFault::TooLong => Ok(channel_named(cell, trx, octets)),
+        RslFault::NotRsl => Ok(None),
+    }
+}
+
+/// What octets on Abis are.
+fn on_abis<A: Allocator + Copy>(
+    alloc: A,
+    cell: u8,
+    trx: u8,
+    octets: &[u8],
+) -> Result<Content<A>, AllocError> {
+    let (chan, message) = match rsl_messages::decode(alloc, octets) {
+        Ok(message) => (Some(chan_of(cell, trx, &message)), Some(message)),
+        Err(fault) => (channel_of_none(alloc, cell, trx, octets, fault)?, None),
+    };
+    Ok(Content::Abis(Place { cell, trx, chan }, message))
+}
+
+/// What octets on A are.
+fn on_a<A: Allocator + Copy>(alloc: A, call: u16, octets: &[u8]) -> Result<Content<A>, AllocError> {
+    let message = match bssmap_messages::decode(alloc, octets) {
+        Ok(message) => Some(message),
+        Err(BssmapFault::NoMemory) => return Err(AllocError),
+        Err(
+            BssmapFault::NotBssmap
+            | BssmapFault::Length
+            | BssmapFault::UnknownType(_)
+            | BssmapFault::Missing(_)
+            | BssmapFault::BadElement(_)
+            | BssmapFault::Torn(_),
+        ) => None,
+    };
+    Ok(Content::A(call, message))
+}
+
+/// What an input carries.
+fn content_in<A: Allocator + Copy>(alloc: A, input: &Inbound<A>) -> Result<Content<A>, AllocError> {
+    match input {
+        Inbound::Abis { cell, trx, bytes } => on_abis(alloc, *cell, *trx, bytes.as_slice()),
+        Inbound::A { call, bytes } => on_a(alloc, *call, bytes.as_slice()),
+        Inbound::Expiry { .. } | Inbound::Operator(_) => Ok(Content::Nothing),
+    }
+}
+
+/// What a message that is sent carries.
+fn content_out<A: Allocator + Copy>(
+    alloc: A,
+    sent: &Outbound<A>,
+) -> Result<Content<A>, AllocError> {
+    match sent {
+        Outbound::Abis { cell, trx, bytes } => on_abis(alloc, *cell, *trx, bytes.as_slice()),
+        Outbound::A { call, bytes } => on_a(alloc, *call, bytes.as_slice()),
+    }
+}
+
+/// What a line carries.
+pub fn content_of<A: Allocator + Copy>(
+    alloc: A,
+    line: &TraceLine<'_, A>,
+) -> Result<Content<A>, AllocError> {
+    match line {
+        TraceLine::Input(input) => content_in(alloc, *input),
+        TraceLine::Sent(sent) => content_out(alloc, *sent),
+        TraceLine::Step(_) | TraceLine::Fault(_) | TraceLine::Limit | TraceLine::End(_) => {
+            Ok(Content::Nothing)
+        }
+    }
+}

@@ -1,0 +1,192 @@
+//! What the book of a controller holds, as lines.
+//!
+//! A book answers questions about a call and about a channel. Which there may be is kept from the events that were asked.
+use crate::held::{record_of, state_of, timer_of};
+use channel_fsm::{ChanId, ChanState};
+use lab_runs::run::LabFault;
+use radio_book::book::Book;
+use radio_book::event::{Attempt, Event, Reply, Timer};
+use std::alloc::{AllocError, Allocator, Global};
+use std::collections::BTreeSet;
+use std::io::{self, Write};
+use trace_text::trace::{Mark, ReplyText, Step};
+
+/// What the events of a controller named so far.
+#[derive(Drop)]
+struct Named<A: Allocator + Copy = Global> {
+    calls: BTreeSet<u16, A>,
+    channels: BTreeSet<ChanId, A>,
+    alloc: A,
+}
+
+/// The same of one controller or two.
+#[derive(Drop)]
+pub struct Held<A: Allocator + Copy = Global> {
+    first: Named<A>,
+    peer: Named<A>,
+}
+
+/// The call that an event may begin, and the channel that it then takes.
+fn begun_by(event: Event) -> Option<(u16, ChanId)> {
+    match event {
+        Event::Open(call, chan) | Event::Take(call, _, chan) => Some((call, chan)),
+        Event::Clear(_)
+        | Event::Look(_)
+        | Event::Reserve(..)
+        | Event::Activate(_)
+        | Event::Undo(..)
+        | Event::Command(_)
+        | Event::Complete(_)
+        | Event::Require(_)
+        | Event::Order(_)
+        | Event::Left(_)
+        | Event::Confirm(_)
+        | Event::Refuse(_)
+        | Event::Released(_)
+        | Event::Detect(_)
+        | Event::Owner(_) => None,
+    }
+}
+
+/// The name of a timer.
+fn timer_name(timer: Timer) -> &'static str {
+    match timer {
+        Timer::T3103 => "T3103",
+        Timer::T7 => "T7",
+        Timer::T8 => "T8",
+    }
+}
+
+/// Prints a channel that isn't free.
+fn print_channel<W: Write>(
+    out: &mut W,
+    mark: Mark,
+    chan: ChanId,
+    state: ChanState,
+) -> io::Result<()> {
+    let (word, call) = match state {
+        ChanState::Free => return Ok(()),
+        ChanState::Held(call) => ("held", call),
+        ChanState::Pending(call) => ("pending", call),
+        ChanState::On(call) => ("on", call),
+        ChanState::Off => return writeln!(out, "{mark}state channel {chan} off"),
+    };
+    writeln!(out, "{mark}state channel {chan} {word} call {call}")
+}
+
+/// Prints the reference and the timer of an attempt.
+fn print_attempt<W: Write>(out: &mut W, mark: Mark, call: u16, attempt: Attempt) -> io::Result<()> {
+    if let (Some(target), Some(number)) = (attempt.target, attempt.reference) {
+        let cell = target.cell;
+        writeln!(out, "{mark}state reference {cell} {number} call {call}")?;
+    }
+    match timer_of(attempt.stage) {
+        Some(timer) => writeln!(out, "{mark}state timer {} call {call}", timer_name(timer)),
+        None => Ok(()),
+    }
+}
+
+/// Prints those of these channels that aren't free. The book may have some of them as free then ([`state_of`]).
+fn print_channels<A: Allocator + Copy, W: Write>(
+    out: &mut W,
+    mark: Mark,
+    channels: &BTreeSet<ChanId, A>,
+    book: &mut Book<A>,
+) -> Result<(), LabFault> {
+    for chan in channels {
+        if let Some(state) = state_of(book, *chan)? {
+            print_channel(out, mark, *chan, state)?;
+        }
+    }
+    Ok(())
+}
+
+/// Prints those of these calls that there are, each with its reference and its timer.
+fn print_calls<A: Allocator + Copy, W: Write>(
+    out: &mut W,
+    mark: Mark,
+    calls: &BTreeSet<u16, A>,
+    book: &mut Book<A>,
+) -> Result<(), LabFault> {
+    for call in calls {
+        let Some((record, state)) = record_of(book, *call)? else {
+            continue;
+        };
+        let text = ReplyText(Reply::Record(record, state));
+        writeln!(out, "{mark}state call {call} {text}")?;
+        if let Some(attempt) = record.attempt {
+            print_attempt(out, mark, *call, attempt)?;
+        }
+    }
+    Ok(())
+}
+
+impl<A: Allocator + Copy> Named<A> {
+    /// Nothing was named.
+    fn new(alloc: A) -> Named<A> {
+        Named {
+            calls: BTreeSet::new(alloc),
+            channels: BTreeSet::new(alloc),
+            alloc,
+        }
+    }
+
+    /// An event was asked.
+    fn note(&mut self, event: Event) -> Result<(), AllocError> {
+        if let Some((call, chan)) = begun_by(event) {
+            self.calls.insert(call)?;
+            self.channels.insert(chan)?;
+        }
+        Ok(())
+    }
+
+    /// Prints all that a book holds.
+    fn print<W: Write>(&self, out: &mut W, mark: Mark, book: &Book<A>) -> Result<(), LabFault> {
+        let usage = book.usage();
+        if usage.channels == 0 && usage.calls == 0 {
+            return Ok(writeln!(out, "{mark}state empty")?);
+        }
+        // questions are events, too
+        let mut copy = book.copy()?;
+        print_channels(out, mark, &self.channels, &mut copy)?;
+        print_calls(out, mark, &self.calls, &mut copy)
+    }
+}
+
+impl<A: Allocator + Copy> Held<A> {
+    /// Nothing was asked of any book.
+    pub fn new(alloc: A) -> Held<A> {
+        Held {
+            first: Named::new(alloc),
+            peer: Named::new(alloc),
+        }
+    }
+
+    /// Keeps what an event of a controller names.
+    pub fn note(&mut self, mark: Mark, step: Step) -> Result<(), AllocError> {
+        match step {
+            Step::Asked(event, _) => self.named(mark).note(event),
+            Step::NoneFree(_) => Ok(()),
+        }
+    }
+
+    /// What a controller's events named.
+    fn named(&mut self, mark: Mark) -> &mut Named<A> {
+        match mark {
+            Mark::Alone | Mark::First => &mut self.first,
+            Mark::Peer => &mut self.peer,
+        }
+    }
+
+    /// Prints what the book of a controller, whose events were noted, holds, each line behind its mark: the channels that
+    /// aren't free, by cell, TRX and timeslot; the calls by number, as the book replies them, each with its handover
+    /// reference (cell and number) and its timer. `state empty` where there is nothing.
+    pub fn print<W: Write>(
+        &mut self,
+        out: &mut W,
+        mark: Mark,
+        book: &Book<A>,
+    ) -> Result<(), LabFault> {
+        self.named(mark).print(out, mark, book)
+    }
+}

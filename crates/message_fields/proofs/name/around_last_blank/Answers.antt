@@ -1,6 +1,0 @@
-use Rattle.std.proofs.Common.{lit<}
-use Rattle.message_fields.proofs.NameLemmas.{last_cut}
-use Rattle.message_fields.proofs.name.around_last_blank.Goals as goal
-
-pub returns : goal.returns
-returns c = last_cut 32 c.args.text.now c.rsplit_once.result c.rsplit_once.ensures.cases (lit< tt)

@@ -1,2 +1,0 @@
-mod OctetLemmas
-pub mod ReadingLemmas

@@ -1,6 +1,0 @@
--- How far a `Tally` is.
-use Rattle.progress.specs.declared.tally.Tally.{Tally}
-use Rattle.progress.specs.Lines.{Stand}
-
-abbrev pub stand_of : Tally → Stand
-stand_of t = record { number = t.number; begun = t.begun.items }

@@ -1,0 +1,309 @@
+//! The rows of a chart.
+use crate::attempts::Attempts;
+use crate::bars::{Marked, bars_of, push_marked};
+use crate::lanes::{CENTRE, bars_are, controller, lane_names, stations};
+use chart::{Bar, Chart, Lane, Row, Shape, Side, text_room};
+use event_text::writing::EventText;
+use ho_procedure::exchange::Inbound;
+use lab_runs::run::LabFault;
+use line_words::{Content, Place, message_name};
+use std::alloc::{AllocError, Allocator, Global};
+use std::io::{self, Write};
+use trace_text::bad::BadText;
+use trace_text::trace::{InboundText, Mark, ReplyText, Step, TraceLine, UsageText};
+
+/// What happens in a row.
+#[derive(Clone, Copy)]
+enum Happening {
+    Nothing,
+    Arrow { from: u32, to: u32 },
+    Note { lane: u32 },
+}
+
+impl Happening {
+    /// So much of the room between a lane and the next a text of so many letters needs: an arrow's between them all, a
+    /// note's at one of them a half.
+    fn needs(&self, lane: u32, letters: u32) -> u32 {
+        match self {
+            Happening::Arrow { from, to } if *from.min(to) == lane => letters,
+            Happening::Note { lane: at } if *at == lane || at.saturating_sub(1) == lane =>
+                letters.div_ceil(2),
+            Happening::Nothing | Happening::Arrow { .. } | Happening::Note { .. } => 0,
+        }
+    }
+}
+
+/// A row, with its texts.
+#[derive(Drop)]
+struct Drawn<A: Allocator = Global> {
+    heading: String<A>,
+    happening: Happening,
+    text: String<A>,
+}
+
+/// A row as a chart has it.
+fn row_of<A: Allocator>(drawn: &Drawn<A>) -> Row<'_> {
+    let text = drawn.text.as_str();
+    Row {
+        heading: drawn.heading.as_str(),
+        shape: match drawn.happening {
+            Happening::Nothing => Shape::Nothing,
+            Happening::Arrow { from, to } => Shape::Arrow { from, to, text },
+            Happening::Note { lane } => Shape::Note { lane, text },
+        },
+    }
+}
+
+/// The chart of the lines that were added.
+#[derive(Drop)]
+pub struct RunChart<A: Allocator = Global> {
+    has_peer: bool,
+    inputs: u64,
+    rows: Vec<Drawn<A>, A>,
+    first: Attempts<A>,
+    peer: Attempts<A>,
+    alloc: A,
+}
+
+/// The place of the other end of a message, where there is a message.
+fn other_lane<A: Allocator>(mark: Mark, content: &Content<A>) -> Option<u32> {
+    match content {
+        Content::Abis(..) => Some(stations(mark)),
+        Content::A(..) => Some(CENTRE),
+        Content::Nothing => None,
+    }
+}
+
+/// Appends where on Abis a message goes or comes from: its channel; its cell and TRX, where its octets name no channel.
+fn push_place<A: Allocator>(text: &mut String<A>, place: Place) -> Result<(), AllocError> {
+    match place.chan {
+        Some(chan) => write!(text, "{chan} "),
+        None => write!(text, "{}/{} ", place.cell, place.trx),
+    }
+}
+
+/// The text of a message's arrow: on Abis where it goes or comes from; its name; its call, where that is known.
+fn arrow_text<A: Allocator + Copy>(
+    alloc: A,
+    content: &Content<A>,
+    call: Option<u16>,
+) -> Result<String<A>, AllocError> {
+    let mut text = String::new(alloc);
+    match content {
+        Content::Abis(place, _) => push_place(&mut text, *place)?,
+        Content::A(..) | Content::Nothing => {}
+    }
+    text.push_str(&message_name(alloc, content)?)?;
+    if let Some(call) = call {
+        write!(text, ", call {call}")?;
+    }
+    Ok(text)
+}
+
+/// Prints the chart of these.
+fn print_chart<'a, W: Write>(
+    out: &mut W,
+    has_peer: bool,
+    lanes: &'a [Lane<'a>],
+    rows: &'a [Row<'a>],
+    bars: &'a [Bar<'a>],
+) -> io::Result<()> {
+    let chart = Chart {
+        lanes,
+        rows,
+        bars,
+        left: bars_are(has_peer, Side::Left),
+        right: bars_are(has_peer, Side::Right),
+    };
+    write!(out, "{chart}")
+}
+
+/// So many.
+fn count<T>(items: &[T]) -> u32 {
+    u32::try_from(items.len()).unwrap_or(u32::MAX)
+}
+
+impl<A: Allocator + Copy> RunChart<A> {
+    /// A chart without a row, of one controller or of two.
+    pub fn new(alloc: A, has_peer: bool) -> RunChart<A> {
+        RunChart {
+            has_peer,
+            inputs: 0,
+            rows: Vec::new(alloc),
+            first: Attempts::new(alloc),
+            peer: Attempts::new(alloc),
+            alloc,
+        }
+    }
+
+    /// Adds a row.
+    fn push(
+        &mut self,
+        heading: String<A>,
+        happening: Happening,
+        text: String<A>,
+    ) -> Result<(), AllocError> {
+        self.rows.push(Drawn {
+            heading,
+            happening,
+            text,
+        })?;
+        Ok(())
+    }
+
+    /// Adds a row with a heading alone.
+    fn head(&mut self, heading: String<A>) -> Result<(), AllocError> {
+        self.push(heading, Happening::Nothing, String::new(self.alloc))
+    }
+
+    /// Adds a note at a controller.
+    fn note(&mut self, mark: Mark, text: String<A>) -> Result<(), AllocError> {
+        let lane = controller(mark);
+        self.push(String::new(self.alloc), Happening::Note { lane }, text)
+    }
+
+    /// Adds the arrow of a message between a controller and another lane, where there is a message.
+    fn arrow(
+        &mut self,
+        heading: String<A>,
+        mark: Mark,
+        is_sent: bool,
+        content: &Content<A>,
+        call: Option<u16>,
+    ) -> Result<(), AllocError> {
+        let Some(other) = other_lane(mark, content) else {
+            return Ok(());
+        };
+        let (from, to) = if is_sent {
+            (controller(mark), other)
+        } else {
+            (other, controller(mark))
+        };
+        let text = arrow_text(self.alloc, content, call)?;
+        self.push(heading, Happening::Arrow { from, to }, text)
+    }
+
+    /// Adds an input: its number beside its arrow, or in a row of its own with its words.
+    fn input(
+        &mut self,
+        mark: Mark,
+        input: &Inbound<A>,
+        content: &Content<A>,
+        call: Option<u16>,
+    ) -> Result<(), AllocError> {
+        self.inputs = self.inputs.saturating_add(1);
+        let number = self.inputs;
+        match input {
+            Inbound::Abis { .. } | Inbound::A { .. } => {
+                let heading = format!(in self.alloc; "{number}")?;
+                self.arrow(heading, mark, false, content, call)
+            }
+            Inbound::Expiry { .. } | Inbound::Operator(_) => {
+                let heading = format!(in self.alloc; "{number} {mark}{}", InboundText(input))?;
+                self.head(heading)
+            }
+        }
+    }
+
+    /// The attempts of a controller.
+    fn attempts(&mut self, mark: Mark) -> &mut Attempts<A> {
+        match mark {
+            Mark::Alone | Mark::First => &mut self.first,
+            Mark::Peer => &mut self.peer,
+        }
+    }
+
+    /// Adds what was asked of a book.
+    fn asked(&mut self, mark: Mark, step: Step, call: Option<u16>) -> Result<(), AllocError> {
+        let text = match step {
+            Step::Asked(event, reply) => {
+                let row = count(&self.rows);
+                self.attempts(mark).ask(row, event, reply, call)?;
+                format!(in self.alloc; "{} -> {}", EventText(event), ReplyText(reply))?
+            }
+            Step::NoneFree(cell) => format!(in self.alloc; "none free in cell {cell}")?,
+        };
+        self.note(mark, text)
+    }
+
+    /// Adds a line of a controller with this mark, which carries this, about this call. Where memory is refused the chart may
+    /// lack a row of it.
+    pub fn add_line(
+        &mut self,
+        mark: Mark,
+        line: &TraceLine<'_, A>,
+        content: &Content<A>,
+        call: Option<u16>,
+    ) -> Result<(), AllocError> {
+        match line {
+            TraceLine::Input(input) => self.input(mark, *input, content, call),
+            TraceLine::Sent(_) => self.arrow(String::new(self.alloc), mark, true, content, call),
+            TraceLine::Step(step) => self.asked(mark, *step, call),
+            TraceLine::Fault(bad) => {
+                let text = format!(in self.alloc; "fault {}", BadText(*bad))?;
+                self.note(mark, text)
+            }
+            TraceLine::Limit => {
+                let text = format!(in self.alloc; "{line}")?;
+                self.head(text)
+            }
+            TraceLine::End(usage) => {
+                let text = format!(in self.alloc; "{}", UsageText(*usage))?;
+                self.note(mark, text)
+            }
+        }
+    }
+
+    /// The rows as a chart has them.
+    fn drawn(&self) -> Result<Vec<Row<'_>, A>, AllocError> {
+        let mut rows = Vec::new(self.alloc);
+        for row in &self.rows {
+            rows.push(row_of(row))?;
+        }
+        Ok(rows)
+    }
+
+    /// So many letters have to have room between a lane and the next.
+    fn room_behind(&self, lane: u32) -> u32 {
+        let mut room = 0;
+        for row in &self.rows {
+            let letters = text_room(&row.text);
+            room = row.happening.needs(lane, letters).max(room);
+        }
+        room
+    }
+
+    /// The lanes, with as much room as the texts between them need.
+    fn lanes(&self) -> Result<Vec<Lane<'static>, A>, AllocError> {
+        let mut lanes = Vec::new(self.alloc);
+        for name in lane_names(self.has_peer) {
+            let room = self.room_behind(count(&lanes));
+            lanes.push(Lane { name: *name, room })?;
+        }
+        Ok(lanes)
+    }
+
+    /// The bars, with their texts.
+    fn marked(&self) -> Result<Vec<Marked<A>, A>, AllocError> {
+        let last = count(&self.rows).saturating_sub(1);
+        let mut marked = Vec::new(self.alloc);
+        push_marked(self.alloc, &self.first, Side::Left, last, &mut marked)?;
+        push_marked(self.alloc, &self.peer, Side::Right, last, &mut marked)?;
+        Ok(marked)
+    }
+
+    /// Writes the chart as an SVG that stands alone. Nothing is written where memory is refused.
+    pub fn write_to<W: Write>(&self, out: &mut W) -> Result<(), LabFault> {
+        let lanes = self.lanes()?;
+        let rows = self.drawn()?;
+        let marked = self.marked()?;
+        let bars = bars_of(self.alloc, &marked)?;
+        Ok(print_chart(
+            out,
+            self.has_peer,
+            lanes.as_slice(),
+            rows.as_slice(),
+            bars.as_slice(),
+        )?)
+    }
+}

@@ -1,0 +1,7 @@
+pub mod Erasing
+pub mod Escapes
+pub mod Keeping
+pub mod Lines
+pub mod Progress
+pub mod Reasons
+pub mod Tallies

@@ -1,0 +1,4 @@
+pub mod HeardFacts
+pub mod LineLemmas
+pub mod MeetingLemmas
+pub mod TestFacts

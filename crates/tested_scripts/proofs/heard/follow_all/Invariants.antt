@@ -1,0 +1,14 @@
+use Rattle.std.proofs.Common.{length}
+use Rattle.lab_runs.specs.Turns.{inputs_in}
+use Rattle.lab_runs.specs.Course.{Went}
+use Rattle.tested_scripts.proofs.HeardFacts.{HasHeard}
+use Rattle.tested_scripts.proofs.heard.follow_all.Given as goal
+
+-- the lines so far were followed, and what came before each was heard
+abbrev pub invariant-loop-item : goal.invariant-loop-item
+invariant-loop-item g l = record {
+  can_next : (goal.iterator-loop-item g).can_next l.item-iterator;
+  is_finite : (goal.iterator-loop-item g).is_finite l.item-iterator;
+  went : Went (inputs_in l.yielded) l.fn.course l.course;
+  heard : HasHeard g.L.Listener.Hears l.fn.listener (length l.yielded) l.listener;
+}

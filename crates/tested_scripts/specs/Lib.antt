@@ -1,0 +1,4 @@
+pub mod Heard
+pub mod Lines
+pub mod Meeting
+pub mod Tests

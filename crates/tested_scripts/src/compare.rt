@@ -1,0 +1,258 @@
+//! Where lines that came differ from those that are expected.
+ghost use Rattle.std.specs.Prelude.{◌≡◌, ◌↔◌, ◌⊎◌, ◌≤◌, ◌∷◌, ◌++◌, ℕ, [], true, false, None, Some, IfOk, OnOk, IfSome, All, Contains, filter_map, length, slice_get, ◌<◌};
+ghost use Rattle.tested_scripts.specs.Lines.{texts_of, expected_in, is_any};
+ghost use Rattle.tested_scripts.specs.Meeting as said;
+
+use crate::lines::{expected_in, is_any, is_expectation};
+use std::alloc::{AllocError, Allocator};
+
+/// The first difference between the lines of a script that stand behind one that gives something, and the trace lines that
+/// came of that.
+#[derive(Clone, Copy, Debug, PartialEq, Eq)]
+pub struct Difference {
+    /// The place of the script's line whose expectation wasn't met; behind all where all were met and more came.
+    pub line: usize,
+    /// Up to this place, and to none further behind, those that came met what was expected before; it is behind all where
+    /// nothing more came.
+    pub came: usize,
+}
+
+/// Whether a text stands at a place.
+fn is_at(came: &[&str], place: usize, text: &str) -> bool
+    ensures { result ≡ said.is_at (texts_of came.now) place text.now }
+{
+    match came.get(place) {
+        Some(line) => *line == text,
+        None => false,
+    }
+}
+
+/// Appends the place behind another, where a text stands at that.
+fn push_behind<A: Allocator>(
+    found: &mut Vec<usize, A>,
+    came: &[&str],
+    text: &str,
+    place: usize,
+) -> Result<(), AllocError>
+    ensures { OnOk result (found.new.items ≡ found.old.items ++
+        filter_map (said.behind (texts_of came.now) text.now) (place ∷ [])) }
+{
+    if is_at(came, place, text) {
+        found.push(place + 1)?;
+    }
+    Ok(())
+}
+
+/// The places behind those of these places at which a text stands.
+fn behind_text<A: Allocator>(
+    alloc: A,
+    places: &[usize],
+    came: &[&str],
+    text: &str,
+) -> Result<Vec<usize, A>, AllocError>
+    ensures { IfOk result (λ found. found.items ≡
+        filter_map (said.behind (texts_of came.now) text.now) places.now) }
+{
+    let mut found = Vec::new(alloc);
+    for place in places {
+        push_behind(&mut found, came, text, *place)?;
+    }
+    Ok(found)
+}
+
+/// The least of some places.
+fn least(places: &[usize]) -> Option<usize>
+    ensures none { result ≡ None → places.now ≡ [] }
+    ensures least { IfSome result (λ place.
+        Contains places.now place × All (λ other. place ≤ other) places.now) }
+{
+    let mut least = *places.first()?;
+    for place in places {
+        least = least.min(*place);
+    }
+    Some(least)
+}
+
+/// All places from one on up to the end.
+fn places_from<A: Allocator>(
+    alloc: A,
+    first: usize,
+    came: &[&str],
+) -> Result<Vec<usize, A>, AllocError>
+    ensures { IfOk result (λ found. (p : ℕ) → Contains found.items p ↔
+        ((first ≤ p) × (p ≤ length (texts_of came.now)))) }
+{
+    let mut found = Vec::new(alloc);
+    let end = came.len() + 1;
+    for place in first.min(end)..end {
+        found.push(place)?;
+    }
+    Ok(found)
+}
+
+/// The places to which any lines lead from these places.
+fn behind_any<A: Allocator>(
+    alloc: A,
+    places: &[usize],
+    came: &[&str],
+    text: &str,
+) -> Result<Vec<usize, A>, AllocError>
+    requires { is_any text.now ≡ true }
+    ensures { IfOk result (λ found.
+        said.AreNext (texts_of came.now) (Some text.now) places.now found.items) }
+{
+    match least(places) {
+        Some(first) => places_from(alloc, first, came),
+        None => Ok(Vec::new(alloc)),
+    }
+}
+
+/// The places to which a line that expects something leads from these places.
+fn behind_expected<A: Allocator>(
+    alloc: A,
+    places: &[usize],
+    came: &[&str],
+    text: &str,
+) -> Result<Vec<usize, A>, AllocError>
+    ensures { IfOk result (λ found.
+        said.AreNext (texts_of came.now) (Some text.now) places.now found.items) }
+{
+    if is_any(text) {
+        behind_any(alloc, places, came, text)
+    } else {
+        behind_text(alloc, places, came, text)
+    }
+}
+
+/// The places to which a line of a script leads from these places.
+fn next_places<A: Allocator>(
+    alloc: A,
+    places: &[usize],
+    came: &[&str],
+    line: &str,
+) -> Result<Vec<usize, A>, AllocError>
+    ensures { IfOk result (λ found.
+        said.AreNext (texts_of came.now) (expected_in line.now) places.now found.items) }
+{
+    match expected_in(line) {
+        Some(text) => behind_expected(alloc, places, came, text),
+        None => Vec::from_slice(alloc, places),
+    }
+}
+
+/// The greatest of some places.
+fn greatest(places: &[usize]) -> Option<usize>
+    ensures none { result ≡ None → places.now ≡ [] }
+    ensures greatest { IfSome result (λ place.
+        Contains places.now place × All (λ other. other ≤ place) places.now) }
+{
+    let mut greatest = *places.first()?;
+    for place in places {
+        greatest = greatest.max(*place);
+    }
+    Some(greatest)
+}
+
+/// Whether a place is among some.
+fn has_place(places: &[usize], place: usize) -> bool
+    ensures has { result ≡ true → Contains places.now place }
+    ensures has_not { result ≡ false → ¬ Contains places.now place }
+{
+    for other in places {
+        if *other == place {
+            return true;
+        }
+    }
+    false
+}
+
+/// The line at a place.
+fn line_at<'a>(lines: &[&'a str], place: usize) -> &'a str
+    requires { place < length lines.now }
+    ensures { slice_get (texts_of lines.now) place ≡ Some result.now }
+{
+    match lines.get(place) {
+        Some(line) => *line,
+        None => "",
+    }
+}
+
+/// Where trace lines differ first from those that lines of a script expect, if they do.
+fn first_difference<A: Allocator + Copy>(
+    alloc: A,
+    lines: &[&str],
+    came: &[&str],
+) -> Result<Option<Difference>, AllocError>
+    ensures met { IfOk result (λ found. (found ≡ None) ↔ said.Reaches (texts_of came.now) (texts_of lines.now) 0
+        (length (texts_of came.now))) }
+    ensures first { IfOk result (λ found. IfSome found (said.IsFirst (texts_of lines.now) (texts_of came.now))) }
+{
+    let mut places = Vec::from_slice(alloc, &[0])?;
+    let mut furthest = 0;
+    for line in 0..lines.len() {
+        let next = next_places(alloc, &places, came, line_at(lines, line))?;
+        match greatest(&next) {
+            Some(place) => {
+                furthest = place;
+                places = next;
+            }
+            None => {
+                return Ok(Some(Difference {
+                    line,
+                    came: furthest,
+                }));
+            }
+        }
+    }
+    if has_place(&places, came.len()) {
+        return Ok(None);
+    }
+    Ok(Some(Difference {
+        line: lines.len(),
+        came: furthest,
+    }))
+}
+
+/// Whether lines of a script expect something.
+fn expect_any(lines: &[&str]) -> bool
+    ensures { result ≡ said.expect_any (texts_of lines.now) }
+{
+    lines.iter().any(|line| is_expectation(*line))
+}
+
+/// Where trace lines differ first from those that are expected: `lines` are those of a script that stand behind one that
+/// gives something, up to the next, and `came` is what came of that. `None` where all that is expected came, in this
+/// order, and nothing else; and where nothing is expected.
+pub fn find_difference<A: Allocator + Copy>(
+    alloc: A,
+    lines: &[&str],
+    came: &[&str],
+) -> Result<Option<Difference>, AllocError>
+    ensures met { IfOk result (λ found. (found ≡ None) ↔ said.AreMet (texts_of lines.now) (texts_of came.now)) }
+    ensures first { IfOk result (λ found. IfSome found (said.IsFirst (texts_of lines.now) (texts_of came.now))) }
+{
+    if expect_any(lines) {
+        first_difference(alloc, lines, came)
+    } else {
+        Ok(None)
+    }
+}
+
+/// The same of the last line of a script that gives something: `ended` is what came of it, with the lines behind that
+/// with which the trace ends, which may be expected, or may not.
+pub fn find_last_difference<A: Allocator + Copy>(
+    alloc: A,
+    lines: &[&str],
+    came: &[&str],
+    ended: &[&str],
+) -> Result<Option<Difference>, AllocError>
+    ensures met { IfOk result (λ found. (found ≡ None) ↔
+        (said.AreMet (texts_of lines.now) (texts_of came.now)
+        ⊎ said.AreMet (texts_of lines.now) (texts_of ended.now))) }
+    ensures first { IfOk result (λ found. IfSome found (said.IsFirst (texts_of lines.now) (texts_of ended.now))) }
+{
+    match find_difference(alloc, lines, came)? {
+        Some(_) => find_difference(alloc, lines, ended),
+        None => Ok(None),
+    }
+}

@@ -1,0 +1,14 @@
+//! Scripts that say what comes of them: which trace lines the comments behind a script line expect, whether a run gives those
+//! (`tested`), and the comments that what a run gives is recorded in (`recorded`).
+#![tactic(auto)]
+
+mod compare;
+mod heard;
+mod lines;
+mod printed;
+pub mod recorded;
+pub mod tested;
+
+pub use compare::{Difference, find_difference, find_last_difference};
+pub use lines::{expected_in, is_any, is_script_line, lines_of, part_end};
+pub use printed::{Miss, ending_of, print_met, print_miss, print_plan, print_recorded};

@@ -1,0 +1,92 @@
+//! What is printed of tests, which is TAP, and of a record.
+//!
+//! No clause says what is printed: that is shown by tests.
+use screen_text::Escaped;
+use std::fmt;
+use std::io::{self, Write};
+
+/// The name of a test: as [`Escaped`], and each `\` and `#` with a `\` before it, so that none begins a directive.
+#[derive(Clone, Copy)]
+struct Name<'a>(&'a str);
+
+impl fmt::Display for Name<'_> {
+    fn fmt<W: fmt::Write>(&self, f: &mut fmt::Formatter<W>) -> fmt::Result {
+        for character in self.0.chars() {
+            if character == '#' || character == '\\' {
+                f.write_char('\\')?;
+            }
+            let mut octets = [0; 4];
+            write!(f, "{}", Escaped(character.encode_utf8(&mut octets)))?;
+        }
+        Ok(())
+    }
+}
+
+/// Why a test isn't met.
+#[derive(Clone, Copy, Debug, PartialEq, Eq)]
+pub enum Miss<'a> {
+    /// A line of the script, counted from 1, expects another trace line than came; nothing more, where one is `None`.
+    Differs {
+        line: usize,
+        expected: Option<&'a str>,
+        came: Option<&'a str>,
+    },
+    /// A line of the script, counted from 1, can't be read.
+    Unread(usize),
+    /// The file can't be read.
+    NoFile,
+}
+
+/// Prints how many tests there are.
+pub fn print_plan<W: Write>(out: &mut W, count: usize) -> io::Result<()> {
+    writeln!(out, "1..{count}")
+}
+
+/// Prints that a test is met: its number, counted from 1, and its name.
+pub fn print_met<W: Write>(out: &mut W, number: usize, name: &str) -> io::Result<()> {
+    writeln!(out, "ok {number} - {}", Name(name))
+}
+
+/// Prints one side of a difference.
+fn print_side<W: Write>(out: &mut W, side: &str, line: Option<&str>) -> io::Result<()> {
+    match line {
+        Some(line) => writeln!(out, "# {side}: {}", Escaped(line)),
+        None => writeln!(out, "# {side} nothing more"),
+    }
+}
+
+/// Prints that a test isn't met, and why.
+pub fn print_miss<W: Write>(
+    out: &mut W,
+    number: usize,
+    name: &str,
+    miss: Miss<'_>,
+) -> io::Result<()> {
+    writeln!(out, "not ok {number} - {}", Name(name))?;
+    match miss {
+        Miss::Differs {
+            line,
+            expected,
+            came,
+        } => {
+            writeln!(out, "# line {line}")?;
+            print_side(out, "expected", expected)?;
+            print_side(out, "came", came)
+        }
+        Miss::Unread(line) => writeln!(out, "# line {line} can't be read"),
+        Miss::NoFile => writeln!(out, "# the file can't be read"),
+    }
+}
+
+/// What ends the lines of a text, by one of them that may have its carriage return.
+pub fn ending_of(line: &str) -> &'static str {
+    if line.ends_with('\r') { "\r\n" } else { "\n" }
+}
+
+/// Prints trace lines as the comments that expect them.
+pub fn print_recorded<W: Write>(out: &mut W, came: &[&str], ending: &str) -> io::Result<()> {
+    for line in came {
+        write!(out, "#> {line}{ending}")?;
+    }
+    Ok(())
+}
