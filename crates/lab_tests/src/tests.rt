@@ -15,6 +15,7 @@ mod rewound;
 mod rows;
 mod shown;
 mod tested;
+mod told;
 mod viewed;
 mod words;
 

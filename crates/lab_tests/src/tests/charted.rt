@@ -1,12 +1,17 @@
-//! A trace is drawn as a sequence chart.
+//! A run is drawn as a sequence chart.
 use super::drawn::{Line, Place, rows_of};
-use super::shown::{ALONE, PAIR, write_in_pieces};
+use super::told::{Given, Message, Told, tell_all};
 use super::{equals_at, holds_at};
+use channel_fsm::{ChanId, ChanState};
 use chart::{Bar, Chart, Lane, Side};
-use run_views::{Sites, Viewer, Views, WordsFault};
+use lab::exchange::{Bad, Line as Operator};
+use lab::trace::{Mark, Step};
+use radio_book::event::{Attempt, AttemptKind, CallRecord, Event, Kind, Reply, Stage, Timer, Why};
+use rsl_messages::RslFault;
+use run_views::{Viewer, Views};
 use std::alloc::Global;
-use std::io::Write;
 use std::process::Abort;
+use std::str;
 use std::test::Fail;
 
 /// A chart alone.
@@ -17,9 +22,124 @@ const CHART: Views<'_> = Views {
     chart: Some("file"),
 };
 
+/// Channels of three calls, and those that they are to move to.
+const SERVING_3: ChanId = ChanId {
+    cell: 0,
+    trx: 0,
+    tn: 3,
+};
+
+const SERVING_4: ChanId = ChanId { tn: 4, ..SERVING_3 };
+
+const SERVING_5: ChanId = ChanId { tn: 5, ..SERVING_3 };
+
+const TARGET_3: ChanId = ChanId {
+    cell: 1,
+    trx: 1,
+    tn: 3,
+};
+
+const TARGET_4: ChanId = ChanId { tn: 4, ..TARGET_3 };
+
+const TARGET_5: ChanId = ChanId { tn: 5, ..TARGET_3 };
+
+/// An attempt whose activation was sent.
+const SENT: Attempt = Attempt {
+    kind: AttemptKind::Internal,
+    stage: Stage::Sent,
+    target: Some(TARGET_3),
+    reference: Some(0),
+};
+
+/// The record of call 1 with it.
+const SENT_OF_1: Reply = Reply::Record(
+    CallRecord {
+        serving: Some(SERVING_3),
+        attempt: Some(SENT),
+    },
+    Some(ChanState::On(1)),
+);
+
 /// An attempt that is undone, another that is undone before its activation, octets that name no channel, octets that name
 /// one and are cut behind it, a message about a channel that no call had, and the end.
-const ONE: &str = "in handover 1 1
+const ONE: &[Told] = &[
+    Told::Turn(
+        Mark::Alone,
+        Given::Asks(Operator::Handover { call: 1, cell: 1 }),
+        &[
+            Step::Asked(Event::Take(1, Kind::Internal, TARGET_3), Reply::Done),
+            Step::Asked(Event::Activate(1), Reply::Done),
+        ],
+        &[Message::Abis(1, 1, "0821010b03020604000108010900")],
+    ),
+    Told::Turn(
+        Mark::Alone,
+        Given::Expires(1, Timer::T3103),
+        &[Step::Asked(Event::Undo(1, Why::Expired(Timer::T3103)), SENT_OF_1)],
+        &[
+            Message::Abis(1, 1, "082e010b"),
+            Message::A(1, "000422040100"),
+        ],
+    ),
+    Told::Turn(
+        Mark::Alone,
+        Given::Comes(Message::Abis(1, 1, "0833010b")),
+        &[Step::Asked(Event::Released(TARGET_3), Reply::Done)],
+        &[],
+    ),
+    Told::Turn(
+        Mark::Alone,
+        Given::Asks(Operator::Handover { call: 1, cell: 64 }),
+        &[Step::Asked(Event::Require(1), Reply::Done)],
+        &[],
+    ),
+    Told::Turn(
+        Mark::Alone,
+        Given::Asks(Operator::Undo { call: 1 }),
+        &[Step::Asked(
+            Event::Undo(1, Why::Asked),
+            Reply::Record(
+                CallRecord {
+                    serving: Some(SERVING_3),
+                    attempt: Some(Attempt {
+                        kind: AttemptKind::Outgoing,
+                        stage: Stage::Required,
+                        target: None,
+                        reference: None,
+                    }),
+                },
+                Some(ChanState::On(1)),
+            ),
+        )],
+        &[],
+    ),
+    Told::Turn(
+        Mark::Alone,
+        Given::Asks(Operator::Handover { call: 2, cell: 1 }),
+        &[Step::NoneFree(1)],
+        &[],
+    ),
+    Told::Undecoded(
+        Mark::Alone,
+        Given::Comes(Message::Abis(0, 0, "08")),
+        Bad::Rsl(RslFault::Torn(1)),
+    ),
+    Told::Undecoded(
+        Mark::Alone,
+        Given::Comes(Message::Abis(1, 1, "0822010b08")),
+        Bad::Rsl(RslFault::Torn(4)),
+    ),
+    Told::Turn(
+        Mark::Alone,
+        Given::Comes(Message::Abis(2, 0, "0833010f")),
+        &[],
+        &[],
+    ),
+    Told::Limit,
+    Told::End(Mark::Alone),
+];
+
+const ONE_TRACE: &str = "in handover 1 1
 event take 1 internal 1/1/3 -> done
 event activate 1 -> done
 out abis 1 1 0821010b03020604000108010900
@@ -117,8 +237,54 @@ const ONE_BARS: &[Bar<'_>] = &[
 ];
 
 /// Two controllers; the release of the channel of the undone attempt never comes.
-const TWO: &str = "1: in handover 1 64
+const TWO: &[Told] = &[
+    Told::Turn(
+        Mark::First,
+        Given::Asks(Operator::Handover { call: 1, cell: 64 }),
+        &[],
+        &[Message::A(1, "000c1104010c1b1a050100170066")],
+    ),
+    Told::Turn(
+        Mark::Peer,
+        Given::Asks(Operator::Undo { call: 40000 }),
+        &[
+            Step::Asked(Event::Take(40000, Kind::Incoming, ARRIVING), Reply::Done),
+            Step::Asked(Event::Activate(40000), Reply::Done),
+            Step::Asked(
+                Event::Undo(40000, Why::Asked),
+                Reply::Record(
+                    CallRecord {
+                        serving: None,
+                        attempt: Some(Attempt {
+                            kind: AttemptKind::Incoming,
+                            target: Some(ARRIVING),
+                            ..SENT
+                        }),
+                    },
+                    None,
+                ),
+            ),
+        ],
+        &[Message::Abis(0, 0, "0301010902000b0009062bd5670ba36b0005")],
+    ),
+    Told::Turn(
+        Mark::Peer,
+        Given::Comes(Message::Abis(0, 0, "082701091100")),
+        &[],
+        &[],
+    ),
+];
+
+/// The channel of the second controller's attempt.
+const ARRIVING: ChanId = ChanId {
+    cell: 0,
+    trx: 0,
+    tn: 1,
+};
+
+const TWO_TRACE: &str = "1: in handover 1 64
 1: out a 1 000c1104010c1b1a050100170066
+2: in undo 40000
 2: event take 40000 incoming 0/0/1 -> done
 2: event activate 40000 -> done
 2: event undo 40000 asked -> record - - incoming sent 0/0/1 0
@@ -153,6 +319,7 @@ const TWO_LANES: &[Lane<'_>] = &[
 const TWO_ROWS: &[Line] = &[
     ("1 1: handover 1 64", Place::Nowhere, ""),
     ("", Place::Between(1, 2), "HANDOVER REQUIRED, call 1"),
+    ("2 2: undo 40000", Place::Nowhere, ""),
     ("", Place::At(3), "take 40000 incoming 0/0/1 -> done"),
     ("", Place::At(3), "activate 40000 -> done"),
     (
@@ -166,15 +333,15 @@ const TWO_ROWS: &[Line] = &[
         "0/0/1 DATA REQUEST: HANDOVER COMMAND, call 40000",
     ),
     (
-        "2",
+        "3",
         Place::Between(4, 3),
         "0/0/1 HANDOVER DETECTION, call 40000",
     ),
 ];
 
 const TWO_BARS: &[Bar<'_>] = &[Bar {
-    first: 2,
-    last: 6,
+    first: 3,
+    last: 7,
     side: Side::Right,
     track: 0,
     text: "call 40000",
@@ -183,7 +350,76 @@ const TWO_BARS: &[Bar<'_>] = &[Bar {
 /// Five attempts. That of call 1 is undone, as is that of call 2, which opens while that of call 1 is open; the channel of
 /// call 2 was refused, so no release of it is awaited. Call 3 arrives. The attempt of call 4 opens in the line behind the
 /// last one of call 2, that of call 5 while the others are open; the release of its channel never comes.
-const THREE: &str = "in handover 1 1
+const THREE: &[Told] = &[
+    Told::Turn(
+        Mark::Alone,
+        Given::Asks(Operator::Handover { call: 1, cell: 1 }),
+        &[
+            Step::Asked(Event::Take(1, Kind::Internal, TARGET_3), Reply::Done),
+            Step::Asked(Event::Activate(1), Reply::Done),
+        ],
+        &[],
+    ),
+    Told::Turn(
+        Mark::Alone,
+        Given::Asks(Operator::Handover { call: 2, cell: 1 }),
+        &[
+            Step::Asked(Event::Take(2, Kind::Internal, TARGET_4), Reply::Done),
+            Step::Asked(Event::Activate(2), Reply::Done),
+            Step::Asked(Event::Take(3, Kind::Internal, TARGET_5), Reply::Done),
+            Step::Asked(Event::Activate(3), Reply::Done),
+            Step::Asked(Event::Refuse(TARGET_4), Reply::Owned(2)),
+            Step::Asked(Event::Undo(2, Why::Asked), SENT_OF_2),
+            Step::Asked(Event::Take(4, Kind::Internal, TARGET_4), Reply::Done),
+            Step::Asked(Event::Complete(3), Reply::Done),
+            Step::Asked(Event::Undo(1, Why::Asked), SENT_OF_1),
+            Step::Asked(Event::Take(5, Kind::Internal, TARGET_5), Reply::Done),
+            Step::Asked(Event::Activate(5), Reply::Done),
+            Step::Asked(Event::Undo(5, Why::Expired(Timer::T3103)), SENT_OF_5),
+            Step::Asked(Event::Undo(4, Why::Asked), TAKEN_OF_4),
+            Step::Asked(Event::Released(TARGET_3), Reply::Done),
+        ],
+        &[],
+    ),
+];
+
+/// The record of call 2, whose activation was sent, as was that of call 5; call 4 took a channel.
+const SENT_OF_2: Reply = Reply::Record(
+    CallRecord {
+        serving: Some(SERVING_4),
+        attempt: Some(Attempt {
+            target: Some(TARGET_4),
+            ..SENT
+        }),
+    },
+    Some(ChanState::On(2)),
+);
+
+const SENT_OF_5: Reply = Reply::Record(
+    CallRecord {
+        serving: Some(SERVING_5),
+        attempt: Some(Attempt {
+            target: Some(TARGET_5),
+            ..SENT
+        }),
+    },
+    Some(ChanState::On(5)),
+);
+
+const TAKEN_OF_4: Reply = Reply::Record(
+    CallRecord {
+        serving: Some(SERVING_4),
+        attempt: Some(Attempt {
+            stage: Stage::Taken,
+            target: Some(TARGET_4),
+            reference: None,
+            ..SENT
+        }),
+    },
+    Some(ChanState::On(4)),
+);
+
+const THREE_TRACE: &str = "in handover 1 1
 event take 1 internal 1/1/3 -> done
 event activate 1 -> done
 in handover 2 1
@@ -224,35 +460,21 @@ const THREE_BARS: &[&str] = &[
 ",
 ];
 
-/// Draws what a viewer is shown.
-fn draw<W: Write>(
-    viewer: &mut Viewer<'_, W, Global>,
+/// The chart of what a viewer is told; its trace is this.
+fn chart_of(
+    rt: &(impl AllocGlobal + Abort),
+    has_peer: bool,
+    all: &[Told],
     trace: &str,
-    svg: &mut Vec<u8>,
-) -> Result<(), WordsFault> {
-    write_in_pieces(viewer, trace, 64)?;
-    match viewer.chart() {
-        Some(chart) => chart.write_to(svg),
-        None => Ok(()),
+) -> Result<String, Fail> {
+    let mut out = Vec::new(rt.alloc());
+    let mut svg = Vec::new(rt.alloc());
+    let mut viewer = Viewer::new(rt.alloc(), &CHART, has_peer, &mut out)?;
+    tell_all(rt.alloc(), &mut viewer, all)?;
+    if let Some(chart) = viewer.chart() {
+        chart.write_to(&mut svg)?;
     }
-}
-
-/// Draws a trace.
-fn draw_run(
-    alloc: Global,
-    sites: Sites<'_>,
-    trace: &str,
-    svg: &mut Vec<u8>,
-) -> Result<(), WordsFault> {
-    let mut out = Vec::new(alloc);
-    let mut viewer = Viewer::new(alloc, alloc, &CHART, sites, &mut out)?;
-    draw(&mut viewer, trace, svg)
-}
-
-/// The chart of a trace.
-fn chart_of(alloc: Global, sites: Sites<'_>, trace: &str) -> Result<String, Fail> {
-    let mut svg = Vec::new(alloc);
-    draw_run(alloc, sites, trace, &mut svg)?;
+    equals_at(rt, str::from_utf8(&out)?, trace, "trace");
     Ok(String::from_utf8(svg)?)
 }
 
@@ -274,11 +496,11 @@ const TWO_CHART: Chart<'_> = Chart {
     right: "undone attempts of controller 2",
 };
 
-/// What is drawn of a trace is this chart, with these rows.
+/// What is drawn of a run is this chart, with these rows.
 fn is_drawn(
     rt: &(impl AllocGlobal + Abort),
-    sites: Sites<'_>,
-    trace: &str,
+    has_peer: bool,
+    (all, trace): (&[Told], &str),
     chart: &Chart<'_>,
     rows: &[Line],
 ) -> Result<(), Fail> {
@@ -291,19 +513,19 @@ fn is_drawn(
         right: chart.right,
     };
     let wanted = drawn.to_string(rt.alloc())?;
-    let svg = chart_of(rt.alloc(), sites, trace)?;
+    let svg = chart_of(rt, has_peer, all, trace)?;
     equals_at(rt, svg.as_str(), wanted.as_str(), trace);
     Ok(())
 }
 
 #[test]
-fn a_trace_is_a_chart(rt: HostRuntime) -> Result<(), Fail> {
-    is_drawn(&rt, ALONE, ONE, &ONE_CHART, ONE_ROWS)
+fn a_run_is_a_chart(rt: HostRuntime) -> Result<(), Fail> {
+    is_drawn(&rt, false, (ONE, ONE_TRACE), &ONE_CHART, ONE_ROWS)
 }
 
 #[test]
-fn a_trace_of_two_controllers_is_a_chart(rt: HostRuntime) -> Result<(), Fail> {
-    is_drawn(&rt, PAIR, TWO, &TWO_CHART, TWO_ROWS)
+fn a_run_of_two_controllers_is_a_chart(rt: HostRuntime) -> Result<(), Fail> {
+    is_drawn(&rt, true, (TWO, TWO_TRACE), &TWO_CHART, TWO_ROWS)
 }
 
 /// The chart has these bars.
@@ -317,7 +539,7 @@ fn has_bars(rt: &impl Abort, svg: &str, bars: &[&str]) {
 fn attempts_that_are_open_at_once_have_bars_beside_one_another(
     rt: HostRuntime,
 ) -> Result<(), Fail> {
-    let svg = chart_of(rt.alloc(), ALONE, THREE)?;
+    let svg = chart_of(&rt, false, THREE, THREE_TRACE)?;
     has_bars(&rt, &svg, THREE_BARS);
     holds_at(&rt, !svg.as_str().contains(">call 3<"), svg.as_str());
     Ok(())

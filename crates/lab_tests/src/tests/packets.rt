@@ -1,6 +1,6 @@
 //! Messages in a capture file.
 use super::{equals_at, holds_at};
-use capture::{Capture, CaptureFault, Link, Path, Side, Way};
+use capture::{Capture, CaptureFault, Path, Side, Way, Wire};
 use refusing_heap::RefusingHeap;
 use std::alloc::Global;
 use std::process::Abort;
@@ -9,13 +9,13 @@ use std::test::Fail;
 /// The first controller's link to TRX 0 of cell 0.
 const ABIS: Path = Path {
     side: Side::First,
-    link: Link::Abis { cell: 0, trx: 0 },
+    link: Wire::Abis { cell: 0, trx: 0 },
 };
 
 /// Its link to the switching centre, about call 1.
 const A: Path = Path {
     side: Side::First,
-    link: Link::A { call: 1 },
+    link: Wire::A { call: 1 },
 };
 
 const ACTIVATION: &[u8] = &[
@@ -135,20 +135,20 @@ fn each_message_is_a_packet(rt: HostRuntime) -> Result<(), Fail> {
 }
 
 /// Links, and the addresses of a message that is sent there: the controller's, and the other end's.
-const ADDRESSES: &[(Side, Link, &[u8])] = &[
+const ADDRESSES: &[(Side, Wire, &[u8])] = &[
     (
         Side::First,
-        Link::Abis { cell: 0, trx: 0 },
+        Wire::Abis { cell: 0, trx: 0 },
         &[10, 0, 0, 1, 10, 1, 0, 0],
     ),
     (
         Side::First,
-        Link::Abis { cell: 63, trx: 3 },
+        Wire::Abis { cell: 63, trx: 3 },
         &[10, 0, 0, 1, 10, 1, 63, 3],
     ),
     (
         Side::Peer,
-        Link::Abis {
+        Wire::Abis {
             cell: 255,
             trx: 255,
         },
@@ -156,22 +156,22 @@ const ADDRESSES: &[(Side, Link, &[u8])] = &[
     ),
     (
         Side::First,
-        Link::A { call: 0 },
+        Wire::A { call: 0 },
         &[10, 0, 0, 1, 10, 100, 0, 0],
     ),
     (
         Side::First,
-        Link::A { call: 65535 },
+        Wire::A { call: 65535 },
         &[10, 0, 0, 1, 10, 106, 55, 35],
     ),
     (
         Side::Peer,
-        Link::A { call: 40000 },
+        Wire::A { call: 40000 },
         &[10, 0, 0, 2, 10, 204, 0, 0],
     ),
     (
         Side::Peer,
-        Link::A { call: 1234 },
+        Wire::A { call: 1234 },
         &[10, 0, 0, 2, 10, 200, 12, 34],
     ),
 ];

@@ -237,7 +237,7 @@ end channels=1 calls=1 references=0 timers=0
 ];
 
 /// The script of a trace.
-fn script_of(alloc: Global, trace: &str) -> Result<String, AllocError> {
+pub(super) fn script_of(alloc: Global, trace: &str) -> Result<String, AllocError> {
     let mut script = String::new(alloc);
     for line in trace.lines() {
         if let Some(input) = line.strip_prefix("in ") {

@@ -1,24 +1,20 @@
-//! A trace is written to a viewer, whole or in small pieces.
-use super::{SITE, equals_at, holds_at};
+//! A run is told to a viewer, which prints its trace with words and with what the books hold.
+use super::rows::script_of;
+use super::told::{Given, Message, Told, empty_book, tell, tell_all};
+use super::{SITE, equals_at, holds_at, is_whole_or_cut};
+use channel_fsm::ChanId;
+use lab::exchange::Line;
+use lab::run::{LabFault, Status, run_for};
+use lab::trace::{Mark, Step};
+use radio_book::book::Book;
+use radio_book::event::{Event, Refusal, Reply, Why};
 use refusing_heap::RefusingHeap;
-use run_views::{Sites, Viewer, Views, WordsFault};
+use run_views::{Viewer, Views};
 use std::alloc::{AllocError, Allocator, Global};
 use std::io::Write;
 use std::process::Abort;
 use std::str;
 use std::test::Fail;
-
-/// One controller's site.
-pub(super) const ALONE: Sites<'_> = Sites {
-    first: SITE,
-    peer: None,
-};
-
-/// Two controllers' sites.
-pub(super) const PAIR: Sites<'_> = Sites {
-    first: SITE,
-    peer: Some(SITE),
-};
 
 /// Words alone.
 const WORDS: Views<'_> = Views {
@@ -36,31 +32,16 @@ const STATE: Views<'_> = Views {
     chart: None,
 };
 
-/// Writes a trace to a viewer in pieces of so many octets, and ends the run.
-pub(super) fn write_in_pieces<W: Write, A: Allocator + Copy>(
-    viewer: &mut Viewer<'_, W, A>,
-    trace: &str,
-    len: usize,
-) -> Result<(), WordsFault> {
-    for piece in trace.as_bytes().chunks(len.max(1)) {
-        if viewer.write_all(piece).is_err() {
-            return Err(viewer.fault().unwrap_or(WordsFault::Write));
-        }
-    }
-    viewer.finish()
-}
-
-/// Shows a run whose trace is written in pieces of so many octets.
+/// Runs a script over one site, with views.
 fn show<A: Allocator + Copy, W: Write>(
     alloc: A,
     scratch: Global,
     views: &Views<'_>,
-    sites: Sites<'_>,
-    (trace, len): (&str, usize),
+    (site, script): (&str, &str),
     out: &mut W,
-) -> Result<(), WordsFault> {
-    let mut viewer = Viewer::new(alloc, scratch, views, sites, out)?;
-    write_in_pieces(&mut viewer, trace, len)
+) -> Result<Status, LabFault> {
+    let mut viewer = Viewer::new(alloc, views, false, out)?;
+    run_for(alloc, scratch, site, None, script, &mut viewer)
 }
 
 /// A mobile comes back: the lines of a trace with their words.
@@ -90,21 +71,77 @@ event released 1/1/3 -> done # call 1
 end channels=1 calls=1 references=0 timers=0 # this is left
 ";
 
-/// A run that goes on behind what no short script brings, and lines of no trace.
-const OTHERS: &[&str] = &[
-    "in open 1 0 0 3 # call 1
+/// What no short script brings, and how it is printed.
+const OTHERS: &[Told] = &[
+    Told::Turn(
+        Mark::Alone,
+        Given::Asks(Line::Open {
+            call: 1,
+            chan: SERVING,
+        }),
+        &[Step::Asked(Event::Open(1, SERVING), Reply::Done)],
+        &[],
+    ),
+    Told::Limit,
+    Told::Turn(
+        Mark::Alone,
+        Given::Comes(Message::Abis(0, 0, "0824010b1a0101")),
+        &[],
+        &[],
+    ),
+];
+
+const SERVING: ChanId = ChanId {
+    cell: 0,
+    trx: 0,
+    tn: 3,
+};
+
+const OTHERS_PRINTED: &str = "in open 1 0 0 3 # call 1
 event open 1 0/0/3 -> done # call 1
 sim limit # what still waited was dropped
 in abis 0 0 0824010b1a0101 # call 1; CONNECTION FAILURE INDICATION tn=3 cause=1; radio link failure; ignored: no row
-",
-    "line 3
-site 2 handover
-file in a 1 000121
+";
 
-",
+/// Sites and scripts that are refused, and what is printed of each: nothing stands behind it.
+const REFUSED: &[(&str, &str, &str)] = &[
+    (SITE, "undo 1\n\nundo", "line 3\n"),
+    ("", "", "site 2 handover\n"),
 ];
 
-/// Two controllers, with what their books hold behind each input. The run ends early.
+/// Two controllers: a call begins at the second, and ends.
+const BEGUN: ChanId = ChanId {
+    cell: 0,
+    trx: 0,
+    tn: 2,
+};
+
+const TURNS: &[Told] = &[
+    Told::Turn(
+        Mark::First,
+        Given::Asks(Line::Undo { call: 1 }),
+        &[Step::Asked(Event::Undo(1, Why::Asked), Reply::Refused(Refusal::NoCall))],
+        &[],
+    ),
+    Told::Turn(
+        Mark::Peer,
+        Given::Asks(Line::Open {
+            call: 7,
+            chan: BEGUN,
+        }),
+        &[Step::Asked(Event::Open(7, BEGUN), Reply::Done)],
+        &[],
+    ),
+    Told::Limit,
+    Told::Turn(
+        Mark::Peer,
+        Given::Asks(Line::Clear { call: 7 }),
+        &[Step::Asked(Event::Clear(7), Reply::Done)],
+        &[],
+    ),
+];
+
+/// How these turns are printed, with what the books hold behind each input. The run ends early.
 const STATED: &str = "1: in undo 1 # call 1
 1: event undo 1 asked -> refused 1 # call 1; NoCall: there is no such call
 1: state empty
@@ -118,17 +155,14 @@ sim limit # what still waited was dropped
 2: state channel 0/0/2 off
 ";
 
-/// Appends a line without its words, unless it says what a book holds.
+/// Appends a line without its words.
 fn push_plain(plain: &mut String, line: &str) -> Result<(), AllocError> {
     let (text, _) = line.split_once(" # ").unwrap_or((line, ""));
-    if text.starts_with("1: state ") || text.starts_with("2: state ") {
-        return Ok(());
-    }
     plain.push_str(text)?;
     plain.push('\n')
 }
 
-/// What a run prints: the lines without words, and without what books hold.
+/// What a run prints: the lines without words.
 fn plain_of(alloc: Global, text: &str) -> Result<String, AllocError> {
     let mut plain = String::new(alloc);
     for line in text.lines() {
@@ -137,78 +171,108 @@ fn plain_of(alloc: Global, text: &str) -> Result<String, AllocError> {
     Ok(plain)
 }
 
-/// What is printed of a trace that is written in pieces of so many octets is this.
-fn is_printed(
+/// What is printed of a run is this, and it ends so.
+fn is_shown(
     rt: &(impl AllocGlobal + Abort),
     views: &Views<'_>,
-    sites: Sites<'_>,
-    pieces: (&str, usize),
-    wanted: &str,
+    (site, script): (&str, &str),
+    (status, wanted): (Status, &str),
 ) -> Result<(), Fail> {
     let mut out = Vec::new(rt.alloc());
-    show(rt.alloc(), rt.alloc(), views, sites, pieces, &mut out)?;
-    equals_at(rt, str::from_utf8(&out)?, wanted, pieces);
+    let ended = show(rt.alloc(), rt.alloc(), views, (site, script), &mut out);
+    equals_at(
+        rt,
+        (ended, str::from_utf8(&out)?),
+        (Ok(status), wanted),
+        script,
+    );
     Ok(())
 }
 
-/// These words stand behind the lines, whichever pieces they are written in, and none where none are asked for.
-fn stand_behind_each_line(rt: &(impl AllocGlobal + Abort), wanted: &str) -> Result<(), Fail> {
-    let trace = plain_of(rt.alloc(), wanted)?;
-    for len in [1, 7, 10_000] {
-        is_printed(rt, &WORDS, ALONE, (trace.as_str(), len), wanted)?;
-    }
-    is_printed(
-        rt,
-        &Views::plain(),
-        ALONE,
-        (trace.as_str(), 64),
-        trace.as_str(),
-    )
+/// What a viewer prints that is told this is that.
+fn is_printed(rt: &(impl AllocGlobal + Abort), all: &[Told], wanted: &str) -> Result<(), Fail> {
+    let mut out = Vec::new(rt.alloc());
+    let mut viewer = Viewer::new(rt.alloc(), &WORDS, false, &mut out)?;
+    tell_all(rt.alloc(), &mut viewer, all)?;
+    equals_at(rt, str::from_utf8(&out)?, wanted, "words");
+    Ok(())
 }
 
 #[test]
 fn words_stand_behind_each_line(rt: HostRuntime) -> Result<(), Fail> {
-    stand_behind_each_line(&rt, RETURNED)?;
-    for wanted in OTHERS {
-        stand_behind_each_line(&rt, *wanted)?;
+    let plain = plain_of(rt.alloc(), RETURNED)?;
+    let script = script_of(rt.alloc(), &plain)?;
+    let run = (SITE, script.as_str());
+    is_shown(&rt, &WORDS, run, (Status::Done, RETURNED))?;
+    is_shown(&rt, &Views::plain(), run, (Status::Done, plain.as_str()))?;
+    is_printed(&rt, OTHERS, OTHERS_PRINTED)
+}
+
+#[test]
+fn no_words_stand_behind_what_is_refused(rt: HostRuntime) -> Result<(), Fail> {
+    for (site, script, wanted) in REFUSED {
+        is_shown(&rt, &STATE, (*site, *script), (Status::Refused, *wanted))?;
+    }
+    Ok(())
+}
+
+/// Asks a book what a turn asked; it replies the same.
+fn ask(rt: &impl Abort, book: &mut Book<Global>, told: Told) -> Result<(), Fail> {
+    let steps = match told {
+        Told::Turn(_, _, steps, _) => steps,
+        Told::Undecoded(..) | Told::Limit | Told::End(_) => &[],
+    };
+    for step in steps {
+        match *step {
+            Step::Asked(event, reply) => equals_at(rt, book.step(event)?, reply, event),
+            Step::NoneFree(_) => {}
+        }
+    }
+    Ok(())
+}
+
+/// Tells a viewer what two controllers did. The first's book is empty, the peer's is asked.
+fn tell_turns<W: Write>(
+    rt: &(impl AllocGlobal + Abort),
+    viewer: &mut Viewer<'_, W, Global>,
+) -> Result<(), Fail> {
+    let mut first = empty_book(rt.alloc())?;
+    let mut peer = empty_book(rt.alloc())?;
+    for told in TURNS {
+        let book = match told {
+            Told::Turn(Mark::Peer, ..) => &mut peer,
+            Told::Turn(..) | Told::Undecoded(..) | Told::Limit | Told::End(_) => &mut first,
+        };
+        ask(rt, book, *told)?;
+        tell(rt.alloc(), viewer, *told, book)?;
     }
     Ok(())
 }
 
 #[test]
 fn what_the_books_hold_stands_behind_each_input(rt: HostRuntime) -> Result<(), Fail> {
-    let plain = plain_of(rt.alloc(), STATED)?;
-    is_printed(&rt, &STATE, PAIR, (plain.as_str(), 32), STATED)
+    let mut out = Vec::new(rt.alloc());
+    let mut viewer = Viewer::new(rt.alloc(), &STATE, true, &mut out)?;
+    tell_turns(&rt, &mut viewer)?;
+    equals_at(&rt, str::from_utf8(&out)?, STATED, "books");
+    Ok(())
 }
 
-/// A run has printed the trace whole; where memory was refused it has ended so, and printed a front of it.
-fn is_whole_or_cut(
-    rt: &impl Abort,
-    heap: &RefusingHeap,
-    (ended, text): (Result<(), WordsFault>, &str),
-    n: u64,
-) {
-    holds_at(rt, RETURNED.starts_with(text), (n, text));
-    let is_refused = heap.was_refused();
-    let fault = is_refused.then_some(WordsFault::NoMemory);
-    let is_whole = is_refused || text == RETURNED;
-    equals_at(rt, (ended.err(), is_whole), (fault, true), n);
-}
-
-/// Whether the trace is printed whole where the nth request for memory is refused.
-fn is_whole(rt: &(impl AllocGlobal + Abort), n: u64, trace: &str) -> Result<bool, Fail> {
+/// Whether the run is printed whole where the nth request for memory is refused. Where that ends it, a front of it was
+/// printed.
+fn is_whole(rt: &(impl AllocGlobal + Abort), n: u64, script: &str) -> Result<bool, Fail> {
     let heap = RefusingHeap::refusing_nth(rt.alloc(), n);
     let mut out = Vec::new(rt.alloc());
-    let ended = show(&heap, rt.alloc(), &WORDS, ALONE, (trace, 16), &mut out);
-    is_whole_or_cut(rt, &heap, (ended, str::from_utf8(&out)?), n);
+    let ended = show(&heap, rt.alloc(), &WORDS, (SITE, script), &mut out);
+    is_whole_or_cut(rt, &heap, (ended, str::from_utf8(&out)?), RETURNED, n);
     Ok(!heap.was_refused())
 }
 
 #[test]
 fn refused_memory_ends_a_trace_in_mid_stream(rt: HostRuntime) -> Result<(), Fail> {
-    let trace = plain_of(rt.alloc(), RETURNED)?;
+    let script = script_of(rt.alloc(), &plain_of(rt.alloc(), RETURNED)?)?;
     for n in 1..1_000 {
-        if is_whole(&rt, n, &trace)? {
+        if is_whole(&rt, n, &script)? {
             return Ok(());
         }
     }

@@ -1,12 +1,12 @@
 //! Comments that expect trace lines: which is the first that isn't met, and how that is printed.
 use super::{Fail, Global, RefusingHeap, equals, equals_at, holds_at};
-use expected_lines::{
-    Difference, Miss, ending_of, expected_in, find_difference, find_last_difference, is_any,
-    is_script_line, lines_of, part_end, print_met, print_miss, print_plan, print_recorded,
-    without_return,
-};
+use lab_script::script::without_return;
 use std::process::Abort;
 use std::str;
+use tested_scripts::{
+    Difference, Miss, ending_of, expected_in, find_difference, find_last_difference, is_any,
+    is_script_line, lines_of, part_end, print_met, print_miss, print_plan, print_recorded,
+};
 
 #[test]
 fn lines_expect(rt: HostRuntime) -> Result<(), Fail> {

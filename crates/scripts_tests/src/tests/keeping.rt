@@ -1,6 +1,6 @@
 //! Why a write failed is kept.
 use super::{Fail, equals_at, holds_at};
-use progress::Keeping;
+use screen_text::Keeping;
 use std::io::{self, BufWriter, ErrorKind, Write};
 
 /// A writer that answers each call by the next of these: it takes all, or has an error of this kind. Behind them it takes all.

@@ -1,6 +1,6 @@
 //! How many lines passed is said on a terminal.
 use super::{Fail, equals_at, holds_at};
-use progress::{Counted, Erasing, Progress};
+use screen_text::{Counted, Erasing, Progress};
 use std::alloc::Allocator;
 use std::cell::RefCell;
 use std::io::{self, LineWriter, Write};

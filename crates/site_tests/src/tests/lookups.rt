@@ -1,9 +1,10 @@
 //! What a site answers.
-use super::{Fail, SITE, changed, equals, equals_at};
+use super::{SITE, changed, equals, equals_at};
 use cell_table::Site;
 use channel_fsm::ChanId;
 use std::alloc::Global;
 use std::process::Abort;
+use std::test::Fail;
 
 /// Channels, and the place of each among the traffic channels.
 const CHANNELS: &[((u8, u8, u8), Option<usize>)] = &[

@@ -1,9 +1,9 @@
 //! Messages in words, and their fields. What is written for each message, and why a text says none, `tests/commands` shows.
 use super::{Fail, Global, RefusingHeap, equals, equals_at, holds_at};
-use encoded_messages::{MessageFault, encode_a, encode_abis, encode_rr};
-use message_fields::{
-    FieldFault, cell_in, flag, leading_value, name_and_fields, neighbour_in, number, octet, octets,
-    only_keys, optional_octet, optional_octets, small, value,
+use encoded_messages::{
+    FieldFault, MessageFault, cell_in, encode_a, encode_abis, encode_rr, flag, leading_value,
+    name_and_fields, neighbour_in, number, octet, octets, only_keys, optional_octet,
+    optional_octets, small, value,
 };
 use std::alloc::Allocator;
 use std::process::Abort;

@@ -1,22 +1,26 @@
 //! Causes, refusals and faults by their numbers. Which name each cause has, `tests/commands/causes.t` shows.
 use super::{Fail, equals, equals_at};
-use cause_words::{RESERVED, a_cause, abis_cause, refusal_name, refusal_words, rr_cause};
-use explanations::{Link, Question, answer_to, argument_of, last_fault};
+use explanations::{
+    Link, Question, a_cause, abis_cause, answer_to, argument_of, last_fault, refusal_name,
+    refusal_words, rr_cause,
+};
 use std::alloc::Global;
 use std::process::Abort;
 
+/// The name of a cause to which a standard gives none.
+const RESERVED: &str = "reserved";
+
 #[test]
 fn all_other_causes_are_reserved(rt: HostRuntime) {
-    let all = 0..=u8::MAX;
-    let on_a = all
-        .clone()
+    let on_a = (0..=u8::MAX)
         .filter(|cause| a_cause(*cause) != RESERVED)
         .count();
-    let on_radio = all
-        .clone()
+    let on_radio = (0..=u8::MAX)
         .filter(|cause| rr_cause(*cause) != RESERVED)
         .count();
-    let on_abis = all.filter(|cause| abis_cause(*cause) != RESERVED).count();
+    let on_abis = (0..=u8::MAX)
+        .filter(|cause| abis_cause(*cause) != RESERVED)
+        .count();
     equals(&rt, (on_a, on_radio, on_abis), (63, 20, 33));
     equals(&rt, refusal_name(6), Some("ChannelBusy"));
     equals(&rt, refusal_words(6), Some("this channel isn't free"));

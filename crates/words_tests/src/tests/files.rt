@@ -1,7 +1,6 @@
 //! Texts that come from files and their names, and why a file can't be read.
 use super::{Fail, equals, equals_at};
-use escaped_text::Escaped;
-use file_reasons::Reason;
+use screen_text::{Escaped, Reason};
 use std::io::{self, ErrorKind};
 
 /// Texts, and how they are shown.

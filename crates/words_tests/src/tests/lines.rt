@@ -1,9 +1,9 @@
 //! Messages in the lines of a file. What is said of more of them, `tests/commands/octet_lines.t` shows.
 use super::{Fail, Global, RefusingHeap, equals_at, holds_at};
 use decoded_lines::{
-    Asked, Counts, Detail, LinesFault, Link, answer_file, answer_lines, link_named,
+    Asked, Counts, Detail, LinesFault, Link, answer_file, answer_lines, link_named, print_a_spares,
+    print_abis_spares, print_rr_rest, used_on_a, used_on_abis,
 };
-use spare_elements::{print_a_spares, print_abis_spares, print_rr_rest, used_on_a, used_on_abis};
 use std::io::{self, Write};
 use std::process::Abort;
 use std::rt::Files;

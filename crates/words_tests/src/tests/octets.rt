@@ -1,6 +1,6 @@
 //! Lines of octets, one by one from a reader.
 use super::{Fail, Global, RefusingHeap, equals, equals_at, holds_at};
-use octet_lines::{
+use decoded_lines::{
     Found, LONGEST_LINE, is_blank, next_line, read_octets, said_in, text_and_note, without_return,
     word_and_rest,
 };

@@ -3,18 +3,20 @@ use super::{Fail, equals, equals_at};
 use bssmap_messages::BssmapFault;
 use channel_fsm::{ChanId, ChanState};
 use ho_procedure::exchange::{Bad, Inbound, Line, Outbound};
-use line_words::{print_ignored, print_words};
+use line_words::{Calls, content_of, print_ignored, print_words};
 use radio_book::book::Usage;
-use radio_book::event::{Attempt, AttemptKind, CallRecord, Event, Refusal, Reply, Stage, Timer};
+use radio_book::event::{
+    Attempt, AttemptKind, CallRecord, Event, Kind, Refusal, Reply, Stage, Timer, Why,
+};
 use rr_elements::ElementFault;
 use rr_messages::RrFault;
 use rsl_messages::{Octets, RslFault};
 use std::alloc::Global;
 use std::process::Abort;
 use std::str;
-use trace_lines::{Calls, read_line};
 use trace_text::trace::{
-    Mark, Step, print_end, print_fault, print_input, print_limit, print_sent, print_steps,
+    Mark, Step, TraceLine, print_end, print_fault, print_input, print_limit, print_sent,
+    print_steps,
 };
 
 const FIRST: ChanId = ChanId {
@@ -267,6 +269,68 @@ fn faults_limits_and_ends_are_printed(rt: HostRuntime) -> Result<(), Fail> {
     Ok(())
 }
 
+/// What a line of a trace carries. Messages are those of TRX 0 of cell 0, or about call 1, in hexadecimal.
+#[derive(Clone, Copy)]
+enum Said {
+    Asks(Line),
+    Expires(u16, Timer),
+    FromStation(&'static str),
+    ToStation(&'static str),
+    FromCentre(&'static str),
+    ToCentre(&'static str),
+    Book(Event, Reply),
+    NoneFree(u8),
+    Fault(Bad),
+    Limit,
+    End(Usage),
+}
+
+use Said::{
+    Asks, Book, End, Expires, FromCentre, FromStation, Limit, NoneFree, ToCentre, ToStation,
+};
+
+const SERVING: ChanId = ChanId {
+    cell: 0,
+    trx: 0,
+    tn: 3,
+};
+
+/// A call opens at that channel.
+const OPENS: Said = Asks(Line::Open {
+    call: 1,
+    chan: SERVING,
+});
+
+/// A call of the second controller.
+const PEER_OPENS: Said = Asks(Line::Open {
+    call: 7,
+    chan: SERVING,
+});
+
+/// The record of a call there.
+const ON: Reply = Reply::Record(
+    CallRecord {
+        serving: Some(SERVING),
+        attempt: None,
+    },
+    Some(ChanState::On(1)),
+);
+
+/// What a book holds that has a channel and a call.
+const ONE_LEFT: Usage = Usage {
+    channels: 1,
+    calls: 1,
+    references: 0,
+    timers: 0,
+};
+
+const NOTHING_LEFT: Usage = Usage {
+    channels: 0,
+    calls: 0,
+    references: 0,
+    timers: 0,
+};
+
 /// Lines of one trace, in their order, and behind an arrow what is said of each.
 const SAID: &str = "in abis 0 0 0833010b => no call; RF CHANNEL RELEASE ACK tn=3
 event released 0/0/3 -> refused 8 0/0/3 => no call; Unexpected: this channel is in use for no call, or doesn't wait for this message of its station
@@ -294,37 +358,178 @@ end channels=0 calls=0 references=0 timers=0 => nothing is left
 2: event open 7 0/0/3 -> done => call 7
 2: in abis 0 0 0824010b1a0101 => call 7; CONNECTION FAILURE INDICATION tn=3 cause=1; radio link failure
 1: in abis 0 0 0833010b => call 1; RF CHANNEL RELEASE ACK tn=3
-site 2 handover => 
-line 3 => 
-in => 
- => ";
+";
 
-/// These words stand behind a line.
+/// The same lines: whose each is, and what it carries.
+const LINES_SAID: &[(Mark, Said)] = &[
+    (Mark::Alone, FromStation("0833010b")),
+    (
+        Mark::Alone,
+        Book(
+            Event::Released(SERVING),
+            Reply::Refused(Refusal::Unexpected(SERVING)),
+        ),
+    ),
+    (Mark::Alone, OPENS),
+    (Mark::Alone, Book(Event::Open(1, SERVING), Reply::Done)),
+    (Mark::Alone, ToStation("0821010b0300060400010801")),
+    (Mark::Alone, FromStation("0822010b081234")),
+    (Mark::Alone, Book(Event::Confirm(SERVING), Reply::Owned(1))),
+    (Mark::Alone, Book(Event::Look(1), ON)),
+    (Mark::Alone, Asks(Line::Handover { call: 1, cell: 1 })),
+    (Mark::Alone, NoneFree(1)),
+    (Mark::Alone, Asks(Line::Handover { call: 2, cell: 1 })),
+    (
+        Mark::Alone,
+        Book(
+            Event::Take(2, Kind::Internal, SERVING),
+            Reply::Refused(Refusal::ChannelBusy(SERVING)),
+        ),
+    ),
+    (Mark::Alone, ToCentre("000c1104010c1b1a050100170066")),
+    (Mark::Alone, FromCentre("0005200401098f")),
+    (Mark::Alone, ToCentre("00061604010a1503")),
+    (Mark::Alone, FromStation("08")),
+    (Mark::Alone, Said::Fault(Bad::Rsl(RslFault::Torn(1)))),
+    (Mark::Alone, Expires(1, Timer::T3103)),
+    (
+        Mark::Alone,
+        Book(
+            Event::Undo(1, Why::Expired(Timer::T3103)),
+            Reply::Refused(Refusal::NotArmed),
+        ),
+    ),
+    (Mark::Alone, Limit),
+    (Mark::Alone, End(ONE_LEFT)),
+    (Mark::Alone, End(NOTHING_LEFT)),
+    (Mark::Peer, PEER_OPENS),
+    (Mark::Peer, Book(Event::Open(7, SERVING), Reply::Done)),
+    (Mark::Peer, FromStation("0824010b1a0101")),
+    (Mark::First, FromStation("0833010b")),
+];
+
+/// A line is printed so, and these words stand behind it.
+fn has_words(
+    rt: &impl Abort,
+    alloc: Global,
+    calls: &mut Calls<Global>,
+    (mark, line): (Mark, &TraceLine<'_, Global>),
+    (text, wanted): (&str, &str),
+) -> Result<(), Fail> {
+    let printed = format!(in alloc; "{mark}{line}")?;
+    equals(rt, printed.as_str(), text);
+    let mut out = Vec::new(alloc);
+    let content = content_of(alloc, line)?;
+    let call = calls.call_of(mark, line, &content)?;
+    print_words(&mut out, line, &content, call)?;
+    equals_at(rt, str::from_utf8(&out)?, wanted, text);
+    Ok(())
+}
+
+/// These octets of a station.
+fn on_abis(alloc: Global, text: &str) -> Result<Inbound<Global>, Fail> {
+    let octets = hex::decode(alloc, text)?;
+    let bytes = Octets::new(alloc, &octets)?;
+    Ok(Inbound::Abis {
+        cell: 0,
+        trx: 0,
+        bytes,
+    })
+}
+
+/// These octets of the switching centre.
+fn on_a(alloc: Global, text: &str) -> Result<Inbound<Global>, Fail> {
+    let octets = hex::decode(alloc, text)?;
+    let bytes = Octets::new(alloc, &octets)?;
+    Ok(Inbound::A { call: 1, bytes })
+}
+
+/// The input of a line, where it has one.
+fn input_of(alloc: Global, said: Said) -> Result<Option<Inbound<Global>>, Fail> {
+    Ok(match said {
+        Asks(line) => Some(Inbound::Operator(line)),
+        Expires(call, timer) => Some(Inbound::Expiry { call, timer }),
+        FromStation(text) => Some(on_abis(alloc, text)?),
+        FromCentre(text) => Some(on_a(alloc, text)?),
+        ToStation(_) | ToCentre(_) | Book(..) | NoneFree(_) | Said::Fault(_) | Limit | End(_) => {
+            None
+        }
+    })
+}
+
+/// The message that a line sends, where it sends one.
+fn sent_of(alloc: Global, said: Said) -> Result<Option<Outbound<Global>>, Fail> {
+    let given = match said {
+        ToStation(text) => on_abis(alloc, text)?,
+        ToCentre(text) => on_a(alloc, text)?,
+        Asks(_)
+        | Expires(..)
+        | FromStation(_)
+        | FromCentre(_)
+        | Book(..)
+        | NoneFree(_)
+        | Said::Fault(_)
+        | Limit
+        | End(_) => return Ok(None),
+    };
+    Ok(match given {
+        Inbound::Abis { cell, trx, bytes } => Some(Outbound::Abis { cell, trx, bytes }),
+        Inbound::A { call, bytes } => Some(Outbound::A { call, bytes }),
+        Inbound::Expiry { .. } | Inbound::Operator(_) => None,
+    })
+}
+
+/// What else a line carries.
+fn rest_of(said: Said) -> Option<TraceLine<'static, Global>> {
+    match said {
+        Book(event, reply) => Some(TraceLine::Step(Step::Asked(event, reply))),
+        NoneFree(cell) => Some(TraceLine::Step(Step::NoneFree(cell))),
+        Said::Fault(bad) => Some(TraceLine::Fault(bad)),
+        Limit => Some(TraceLine::Limit),
+        End(usage) => Some(TraceLine::End(usage)),
+        Asks(_) | Expires(..) | FromStation(_) | ToStation(_) | FromCentre(_) | ToCentre(_) => None,
+    }
+}
+
+/// What is said of a line is this.
 fn is_said(
     rt: &impl Abort,
     alloc: Global,
     calls: &mut Calls<Global>,
-    (text, wanted): (&str, &str),
+    (mark, said): (Mark, Said),
+    wanted: (&str, &str),
 ) -> Result<(), Fail> {
-    let mut out = Vec::new(alloc);
-    if let Some(line) = read_line(alloc, text)? {
-        let call = calls.call_of(&line)?;
-        print_words(alloc, &mut out, &line, call)?;
+    if let Some(input) = input_of(alloc, said)? {
+        has_words(rt, alloc, calls, (mark, &TraceLine::Input(&input)), wanted)?;
     }
-    equals_at(rt, str::from_utf8(&out)?, wanted, text);
-    Ok(())
+    if let Some(sent) = sent_of(alloc, said)? {
+        has_words(rt, alloc, calls, (mark, &TraceLine::Sent(&sent)), wanted)?;
+    }
+    match rest_of(said) {
+        Some(line) => has_words(rt, alloc, calls, (mark, &line), wanted),
+        None => Ok(()),
+    }
 }
 
 #[test]
 fn lines_have_words(rt: HostRuntime) -> Result<(), Fail> {
     let mut calls = Calls::new(rt.alloc());
-    for row in SAID.lines() {
-        let parts = row.split_once(" => ").ok_or("an arrow")?;
-        is_said(&rt, rt.alloc(), &mut calls, parts)?;
+    let mut rows = SAID.lines();
+    for line in LINES_SAID {
+        let row = rows.next().ok_or("a line")?;
+        let wanted = row.split_once(" => ").ok_or("an arrow")?;
+        is_said(&rt, rt.alloc(), &mut calls, *line, wanted)?;
     }
+    equals(&rt, rows.next(), None);
+    Ok(())
+}
+
+#[test]
+fn what_nothing_comes_of_has_words(rt: HostRuntime) -> Result<(), Fail> {
     let mut out = Vec::new(rt.alloc());
-    print_ignored(&mut out, true)?;
-    print_ignored(&mut out, false)?;
+    print_ignored(&mut out, &on_a(rt.alloc(), "000121")?)?;
+    let handover: Inbound<Global> = Inbound::Operator(Line::Handover { call: 1, cell: 99 });
+    print_ignored(&mut out, &handover)?;
     let wanted = "; ignored: no row; ignored: no such cell";
     equals(&rt, str::from_utf8(&out)?, wanted);
     Ok(())
