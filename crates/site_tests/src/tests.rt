@@ -15,6 +15,7 @@ use sample_sites::THREE_CHANNELS as SITE;
 use std::alloc::{AllocError, Allocator, Global};
 use std::fmt::Debug;
 use std::process::Abort;
+use std::test::Fail;
 
 // Each test asserts by these: an assertion in a function of its own is proved once, and a call of it costs little.
 

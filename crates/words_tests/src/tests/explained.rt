@@ -12,16 +12,11 @@ const RESERVED: &str = "reserved";
 
 #[test]
 fn all_other_causes_are_reserved(rt: HostRuntime) {
-    let on_a = (0..=u8::MAX)
-        .filter(|cause| a_cause(*cause) != RESERVED)
-        .count();
-    let on_radio = (0..=u8::MAX)
-        .filter(|cause| rr_cause(*cause) != RESERVED)
-        .count();
-    let on_abis = (0..=u8::MAX)
-        .filter(|cause| abis_cause(*cause) != RESERVED)
-        .count();
-    equals(&rt, (on_a, on_radio, on_abis), (63, 20, 33));
+    let on_a = (0..=u8::MAX).filter(|cause| a_cause(*cause) != RESERVED);
+    let on_radio = (0..=u8::MAX).filter(|cause| rr_cause(*cause) != RESERVED);
+    let on_abis = (0..=u8::MAX).filter(|cause| abis_cause(*cause) != RESERVED);
+    let found = (on_a.count(), on_radio.count(), on_abis.count());
+    equals(&rt, found, (63, 20, 33));
     equals(&rt, refusal_name(6), Some("ChannelBusy"));
     equals(&rt, refusal_words(6), Some("this channel isn't free"));
 }
