@@ -51,14 +51,14 @@ fn print_layer3<A: Allocator, W: Write>(out: &mut W, layer3: Option<&Octets<A>>)
 }
 
 /// A message on Abis in words.
-fn print_abis<A: Allocator, W: Write>(out: &mut W, message: &Rsl<A>) -> io::Result<()> {
+fn print_abis<A: Allocator + Copy, W: Write>(out: &mut W, message: &Rsl<A>) -> io::Result<()> {
     write!(out, "; {}", AbisText(message))?;
     print_cause(out, abis_cause(message))?;
     print_layer3(out, abis_layer3(message))
 }
 
 /// A message on A in words.
-fn print_a<A: Allocator, W: Write>(out: &mut W, message: &Bssmap<A>) -> io::Result<()> {
+fn print_a<A: Allocator + Copy, W: Write>(out: &mut W, message: &Bssmap<A>) -> io::Result<()> {
     write!(out, "; {}", BssmapText(message))?;
     print_cause(out, a_cause(message))?;
     print_cause(out, passed_cause(message))?;
@@ -66,7 +66,10 @@ fn print_a<A: Allocator, W: Write>(out: &mut W, message: &Bssmap<A>) -> io::Resu
 }
 
 /// A message in words, where octets are one.
-fn print_message<A: Allocator, W: Write>(out: &mut W, content: &Content<A>) -> io::Result<()> {
+fn print_message<A: Allocator + Copy, W: Write>(
+    out: &mut W,
+    content: &Content<A>,
+) -> io::Result<()> {
     match content {
         Content::Abis(_, Some(message)) => print_abis(out, message),
         Content::A(_, Some(message)) => print_a(out, message),
@@ -116,7 +119,7 @@ fn print_call<W: Write>(out: &mut W, call: Option<u16>) -> io::Result<()> {
 }
 
 /// Prints what stands behind a line that carries this, about this call, without ` # ` in front and without a line feed.
-pub fn print_words<A: Allocator, W: Write>(
+pub fn print_words<A: Allocator + Copy, W: Write>(
     out: &mut W,
     line: &TraceLine<'_, A>,
     content: &Content<A>,
