@@ -51,7 +51,7 @@ fn print_layer3<A: Allocator, W: Write>(out: &mut W, layer3: Option<&Octets<A>>)
 }
 
 /// A message on Abis in words.
-fn print_abis<A: Allocator, W: Write>(out: &mut W, message: &Rsl<A>) -> io::Result<()> {
+fn print_abis<A: Allocator + Copy, W: Write>(out: &mut W, message: &Rsl<A>) -> io::Result<()> {
     write!(out, "; {}", AbisText(message))?;
     print_cause(out, abis_cause(message))?;
     print_layer3(out, abis_layer3(message))

@@ -1,4 +1,6 @@
 //! Why something isn't printed.
+ghost use Rattle.std.specs.Prelude.{◌≡◌};
+
 use std::alloc::AllocError;
 use std::io;
 

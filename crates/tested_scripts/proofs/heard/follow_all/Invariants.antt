@@ -10,5 +10,5 @@ invariant-loop-item g l = record {
   can_next : (goal.iterator-loop-item g).can_next l.item-iterator;
   is_finite : (goal.iterator-loop-item g).is_finite l.item-iterator;
   went : Went (inputs_in l.yielded) l.fn.course l.course;
-  heard : HasHeard g.L.Listener.Hears l.fn.listener (length l.yielded) l.listener;
+  heard : HasHeard g.L.PartListener.Hears l.fn.listener (length l.yielded) l.listener;
 }
