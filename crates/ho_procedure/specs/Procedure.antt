@@ -237,6 +237,10 @@ names_target (Some a) = not (is_switched_on a.stage) || is_named a.target
 abbrev pub names_releases : CallRecord → Option ChanState → Bool
 names_releases r s = names_target r.attempt && (not (is_own r.attempt) || is_held s || is_named r.serving)
 
+-- the cause that a mobile is told, where it is on
+abbrev pub told_cause : Option ℕ → Option ChanState → Option ℕ
+told_cause cause s = if is_on s then cause else None
+
 -- where there is a cause, the mobile is told: CHANNEL RELEASE (TS 44.018 clause 3.4.13.1)
 abbrev pub told_first : Option ℕ → ChanId → Plan → Plan
 told_first None x tail = tail
@@ -245,7 +249,7 @@ told_first (Some cause) x tail = Sends (channel_release x cause) tail
 -- RF CHANNEL RELEASE of the serving channel (TS 48.058 clause 4.7), unless it is held; a mobile that is on is told why
 unfoldable pub release_serving : Option ℕ → CallRecord → Option ChanState → Plan → Plan
 release_serving cause r s tail =
-    if is_held s then tail else if_named r.serving (λ x. told_first (if is_on s then cause else None) x (Sends (release x) tail))
+    if is_held s then tail else if_named r.serving (λ x. told_first (told_cause cause s) x (Sends (release x) tail))
 
 -- The target is released, where it was switched on. Where a record remains, the call is cleared, and its serving channel
 -- released.

@@ -2,7 +2,7 @@
 ghost use Rattle.std.specs.Prelude.{◌≡◌, ◌≤◌, ◌<◌, ◌+◌, ℕ, Ok, IfOk, OnOk, IfErr, Option, Some, None};
 ghost use Rattle.ho_procedure.specs.Plan.{Plan, Ends, At};
 ghost use Rattle.ho_procedure.specs.Going.{Goes, Passes, then, stops_at};
-ghost use Rattle.ho_procedure.specs.Procedure.{opened_plan, open_plan, told_first, release_serving, clear_all, clear_rest, clear_plan, left_plan, clear_command_rest, clear_command_plan, release_cause};
+ghost use Rattle.ho_procedure.specs.Procedure.{opened_plan, open_plan, told_cause, told_first, release_serving, clear_all, clear_rest, clear_plan, left_plan, clear_command_rest, clear_command_plan, release_cause};
 
 use super::parts::{ask_done, ask_record, look, release_target};
 use crate::causes::{ABNORMAL_RELEASE, CALL_CONTROL, NORMAL_EVENT};
@@ -66,7 +66,7 @@ fn tell_first<D: DeskView + Drop, A: Allocator + Copy>(
 
 /// The cause that a mobile is told, where it is on.
 fn told_cause(cause: Option<u8>, state: Option<ChanState>) -> Option<u8>
-    ensures { result ≡ (if is_on state then cause else None) }
+    ensures { result ≡ told_cause cause state }
 {
     if is_on(state) { cause } else { None }
 }
