@@ -4,6 +4,7 @@ pub mod Going
 pub mod Reporting
 pub mod Ranking
 pub mod Seated
+pub mod Seats
 pub mod Handled
 pub mod Asking
 pub mod Nameable

@@ -210,62 +210,61 @@ abbrev pub is_own : Option Attempt → Bool
 is_own None = true
 is_own (Some a) = is_own_kind a.kind
 
+-- the channel is held: the station refused it, so there is nothing to release
+abbrev pub is_held : Option ChanState → Bool
+is_held None = false
+is_held (Some Free) = false
+is_held (Some (Held d)) = true
+is_held (Some (Pending d)) = false
+is_held (Some (On d)) = false
+is_held (Some Off) = false
+
+-- the channel is active for its call
+abbrev pub is_on : Option ChanState → Bool
+is_on None = false
+is_on (Some Free) = false
+is_on (Some (Held d)) = false
+is_on (Some (Pending d)) = false
+is_on (Some (On d)) = true
+is_on (Some Off) = false
+
 -- a message can name the target, where it was switched on
 abbrev pub names_target : Option Attempt → Bool
 names_target None = true
 names_target (Some a) = not (is_switched_on a.stage) || is_named a.target
 
--- a message can name the serving channel, unless it is held: the station refused it, so there is nothing to release
-abbrev pub names_serving : CallRecord → Option ChanState → Bool
-names_serving r None = is_named r.serving
-names_serving r (Some Free) = is_named r.serving
-names_serving r (Some (Held d)) = true
-names_serving r (Some (Pending d)) = is_named r.serving
-names_serving r (Some (On d)) = is_named r.serving
-names_serving r (Some Off) = is_named r.serving
-
--- the record names all that is released when its call is cleared
+-- the record names all that is released when its call is cleared: the target, and the serving channel unless it is held
 abbrev pub names_releases : CallRecord → Option ChanState → Bool
-names_releases r s = names_target r.attempt && (not (is_own r.attempt) || names_serving r s)
+names_releases r s = names_target r.attempt && (not (is_own r.attempt) || is_held s || is_named r.serving)
 
--- RF CHANNEL RELEASE of a channel (TS 48.058 clause 4.7); the mobile is told before where a cause is given: CHANNEL
--- RELEASE (TS 44.018 clause 3.4.13.1)
+-- the cause that a mobile is told, where it is on
+abbrev pub told_cause : Option ℕ → Option ChanState → Option ℕ
+told_cause cause s = if is_on s then cause else None
 
-abbrev pub release_plan : Option ChanId → Plan → Plan
-release_plan x tail = if_named x (λ x. Sends (release x) tail)
+-- where there is a cause, the mobile is told: CHANNEL RELEASE (TS 44.018 clause 3.4.13.1)
+abbrev pub told_first : Option ℕ → ChanId → Plan → Plan
+told_first None x tail = tail
+told_first (Some cause) x tail = Sends (channel_release x cause) tail
 
-abbrev pub told_release_plan : Option ℕ → Option ChanId → Plan → Plan
-told_release_plan None x tail = release_plan x tail
-told_release_plan (Some cause) x tail = if_named x (λ x. Sends (channel_release x cause) (Sends (release x) tail))
-
--- the serving channel is released, unless it was held; a mobile is told only where it was on
+-- RF CHANNEL RELEASE of the serving channel (TS 48.058 clause 4.7), unless it is held; a mobile that is on is told why
 unfoldable pub release_serving : Option ℕ → CallRecord → Option ChanState → Plan → Plan
-release_serving cause r None tail = release_plan r.serving tail
-release_serving cause r (Some Free) tail = release_plan r.serving tail
-release_serving cause r (Some (Held d)) tail = tail
-release_serving cause r (Some (Pending d)) tail = release_plan r.serving tail
-release_serving cause r (Some (On d)) tail = told_release_plan cause r.serving tail
-release_serving cause r (Some Off) tail = release_plan r.serving tail
+release_serving cause r s tail =
+    if is_held s then tail else if_named r.serving (λ x. told_first (told_cause cause s) x (Sends (release x) tail))
 
--- the call is cleared, and its serving channel released
-unfoldable pub clear_serving : ℕ → Option ℕ → CallRecord → Option ChanState → Plan → Plan
-clear_serving c cause r s tail = once_done (event.Clear c) (release_serving cause r s tail)
+-- The target is released, where it was switched on. Where a record remains, the call is cleared, and its serving channel
+-- released.
+unfoldable pub clear_all : ℕ → Option ℕ → Plan → CallRecord → Option ChanState → Plan
+clear_all c cause tail r s =
+    if names_releases r s then release_target r.attempt (if is_own r.attempt then once_done (event.Clear c) (release_serving cause r s tail) else tail) else Ends
 
--- the target is released, and then the call is cleared, unless its record went with an attempt that came in
-unfoldable pub clear_undone : ℕ → Option ℕ → CallRecord → Option ChanState → Plan → Plan
-clear_undone c cause r s tail = release_target r.attempt (if is_own r.attempt then clear_serving c cause r s tail else tail)
-
-abbrev pub clear_named : ℕ → Option ℕ → CallRecord → Option ChanState → Plan → Plan
-clear_named c cause r s tail = if names_releases r s then clear_undone c cause r s tail else Ends
-
--- what follows the look at a call that is cleared: an attempt that is open is taken back first
-unfoldable pub clear_rest : ℕ → Option ℕ → CallRecord → Option ChanState → Plan → Plan
-clear_rest c cause r s tail =
-    if names_releases r s then (if is_some r.attempt then once_recorded (event.Undo c Asked) (λ r s. clear_named c cause r s tail) else clear_undone c cause r s tail) else Ends
+-- What follows the look at a call that is cleared: an attempt that is open is taken back first.
+unfoldable pub clear_rest : ℕ → Option ℕ → Plan → CallRecord → Option ChanState → Plan
+clear_rest c cause tail r s =
+    if names_releases r s then (if is_some r.attempt then once_recorded (event.Undo c Asked) (clear_all c cause tail) else clear_all c cause tail r s) else Ends
 
 -- An operator clears a call.
 unfoldable pub clear_plan : ℕ → Plan
-clear_plan c = looked c (λ r s. clear_rest c None r s Ends)
+clear_plan c = looked c (clear_rest c None Ends)
 
 -- CHANNEL ACTIVATION ACKNOWLEDGE (TS 48.058 clause 8.4.2) of a target: HANDOVER COMMAND to the mobile on its old channel
 -- (TS 44.018 clause 3.4.4.1), or to the switching centre in a HANDOVER REQUEST ACKNOWLEDGE (TS 48.008 clause 3.1.5.2)
@@ -345,14 +344,6 @@ detect_plan x = owned (event.Detect x) (λ c. looked c (λ r s. detect_rest c r.
 
 -- MEASUREMENT REPORT (TS 44.018 clause 9.1.21) in a MEASUREMENT RESULT (TS 48.058 clause 8.4.8): where the call is served
 -- on the channel, the report counts; a valid one starts a handover to the first candidate that has a free channel
-
-abbrev pub is_on : Option ChanState → Bool
-is_on None = false
-is_on (Some Free) = false
-is_on (Some (Held d)) = false
-is_on (Some (Pending d)) = false
-is_on (Some (On d)) = true
-is_on (Some Off) = false
 
 unfoldable pub try_plan : SiteView → ℕ → List Candidate → Plan
 try_plan site c [] = Ends
@@ -434,18 +425,14 @@ if_no_call next (RefBusy cell n) = Ends
 if_no_call next (Unexpected x) = Ends
 if_no_call next NotArmed = Ends
 
-unfoldable pub left_channel : ℕ → ChanId → Plan
-left_channel c x = once_done (event.Left c) (Sends (release x) (Sends (clear_complete c) Ends))
-
+-- the call has left, and its channel is released
 unfoldable pub left_plan : ℕ → Option ChanId → Plan
-left_plan c serving = if_named serving (left_channel c)
-
-unfoldable pub clear_call : ℕ → ℕ → CallRecord → Option ChanState → Plan
-clear_call c cause r s = clear_rest c (Some (release_cause cause)) r s (Sends (clear_complete c) Ends)
+left_plan c serving = if_named serving (λ x. once_done (event.Left c) (Sends (release x) (Sends (clear_complete c) Ends)))
 
 unfoldable pub clear_command_rest : ℕ → ℕ → Reply → Plan
 clear_command_rest c cause Done = Ends
-clear_command_rest c cause (Record r s) = if awaits_leaving r.attempt then left_plan c r.serving else clear_call c cause r s
+clear_command_rest c cause (Record r s) =
+    if awaits_leaving r.attempt then left_plan c r.serving else clear_rest c (Some (release_cause cause)) (Sends (clear_complete c) Ends) r s
 clear_command_rest c cause (Owned d) = Ends
 clear_command_rest c cause (Refused refusal) = if_no_call (Sends (clear_complete c) Ends) refusal
 

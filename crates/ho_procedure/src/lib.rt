@@ -15,6 +15,7 @@ mod records;
 mod requests;
 mod rows;
 mod sending;
+pub mod shared;
 pub mod solo;
 mod texts;
 pub mod view;

@@ -3,7 +3,7 @@ ghost use Rattle.std.specs.Prelude.{◌≡◌, IfSome, IsSome};
 ghost use Rattle.radio_book.specs.Sound.{target_in};
 ghost use Rattle.radio_book.specs.Table.{is_target};
 ghost use Rattle.ho_procedure.specs.Messages.{is_nameable};
-ghost use Rattle.ho_procedure.specs.Procedure.{is_named, is_serving, is_switched_on, is_commanded, is_required, is_ordered, awaits_order, awaits_leaving, is_own, names_target, names_serving, names_releases, is_on, traffic_cell};
+ghost use Rattle.ho_procedure.specs.Procedure.{is_named, is_serving, is_switched_on, is_commanded, is_required, is_ordered, awaits_order, awaits_leaving, is_own, names_target, names_releases, is_held, is_on, traffic_cell};
 
 use crate::commands::cell_id_at;
 use crate::work::Shown;
@@ -160,17 +160,17 @@ pub(crate) fn names_target(attempt: Option<Attempt>) -> bool
     }
 }
 
-/// A message can name the serving channel, unless it is held.
-fn names_serving(shown: Shown) -> bool
-    ensures { result ≡ names_serving shown.record shown.state }
+/// The channel is held: its station refused it.
+pub(crate) fn is_held(state: Option<ChanState>) -> bool
+    ensures { result ≡ is_held state }
 {
-    match shown.state {
+    match state {
         Some(ChanState::Held(_)) => true,
         Some(ChanState::Free)
         | Some(ChanState::Pending(_))
         | Some(ChanState::On(_))
         | Some(ChanState::Off)
-        | None => is_named(shown.record.serving),
+        | None => false,
     }
 }
 
@@ -178,8 +178,8 @@ fn names_serving(shown: Shown) -> bool
 pub(crate) fn names_releases(shown: Shown) -> bool
     ensures { result ≡ names_releases shown.record shown.state }
 {
-    let serving_is_named = !is_own(shown.record.attempt) || names_serving(shown);
-    names_target(shown.record.attempt) && serving_is_named
+    let serving_is_named = is_held(shown.state) || is_named(shown.record.serving);
+    names_target(shown.record.attempt) && (!is_own(shown.record.attempt) || serving_is_named)
 }
 
 /// The channel is active for its call.

@@ -1,13 +1,15 @@
 //! The desk: an opening book, the history of what was asked since, and the book that it leads to.
-ghost use Rattle.std.specs.Prelude.{◌≡◌, ◌↔◌, ◌⊎◌, ◌+◌, ◌≤◌, ◌++◌, ◌∷◌, ℕ, [], length, vec_len, vec_capacity, Option, None, Some, Ok, Err, MatchOption, IfOk, IfSome, OnOk, OnErr, slice_get};
+ghost use Rattle.std.specs.Prelude.{◌≡◌, ◌↔◌, ◌⊎◌, IsTrue, ◌+◌, ◌≤◌, ◌++◌, ◌∷◌, ℕ, [], length, vec_len, vec_capacity, Option, None, Some, Ok, Err, MatchOption, IfOk, IfSome, OnOk, OnErr, slice_get};
 ghost use Rattle.radio_book.specs.declared.event.Event.{Event};
 ghost use Rattle.radio_book.specs.Run.{Leads};
 ghost use Rattle.radio_book.specs.Table.{row, NeedsRoom};
 ghost use Rattle.radio_book.specs.Choice.{NoneFree, TakesFree, ReservesFree};
-ghost use Rattle.radio_desk.specs.Desk.{HoldsLast, IsForeign, IsJudged, IsSameDesk};
+ghost use Rattle.radio_desk.specs.Desk.{IsEntryOf, HoldsLast, IsForeign, IsJudged, IsSameDesk};
+ghost use Rattle.radio_desk.specs.Tally.{count_of};
 
 use crate::entry::is_entry;
 use crate::seat::{Receipt, Seat};
+use crate::tally::{Tally, tally_of};
 use radio_book::book::Book;
 use radio_book::event::{Event, Kind, Reply};
 use std::alloc::{AllocError, Allocator, Global};
@@ -95,6 +97,24 @@ impl<A: Allocator + Copy> Desk<A> {
             (λ entry. slice_get self.now.history place ≡ Some entry.now) }
     {
         self.history.get(place)
+    }
+
+    /// Whether the receipt is of this history: at its place stands its event with its reply.
+    pub fn has(&self, receipt: &Receipt) -> bool
+        ensures entry { IsTrue result ↔ IsEntryOf self.now.history receipt.now }
+    {
+        has_entry(self.history.as_slice(), receipt)
+    }
+
+    /// How many calls began, how many attempts at handover, and how many of these were completed or taken back, by the
+    /// events that were accepted.
+    pub fn tally(&self) -> Tally
+        ensures calls { result.calls ≡ count_of (λ m. m.call) self.now.history }
+        ensures attempts { result.attempts ≡ count_of (λ m. m.attempt) self.now.history }
+        ensures completed { result.completed ≡ count_of (λ m. m.completed) self.now.history }
+        ensures undone { result.undone ≡ count_of (λ m. m.undone) self.now.history }
+    {
+        tally_of(self.history.as_slice())
     }
 
     /// The book that it opened with.
@@ -201,9 +221,20 @@ fn foreign_place(history: &[(Event, Reply)], seat: &Seat) -> Option<usize>
         (λ place. IsForeign history.now seat.now place) }
 {
     let last = seat.last()?;
-    match history.get(last.place) {
-        Some(entry) if is_entry(entry, last.event, last.reply) => None,
-        Some(_) | None => Some(last.place),
+    if has_entry(history, &last) {
+        None
+    } else {
+        Some(last.place)
+    }
+}
+
+/// At the receipt's place stands its event with its reply.
+fn has_entry(history: &[(Event, Reply)], receipt: &Receipt) -> bool
+    ensures { IsTrue result ↔ IsEntryOf history.now receipt.now }
+{
+    match history.get(receipt.place) {
+        Some(entry) => is_entry(entry, receipt.event, receipt.reply),
+        None => false,
     }
 }
 

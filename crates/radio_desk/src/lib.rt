@@ -6,3 +6,4 @@
 pub mod desk;
 pub mod entry;
 pub mod seat;
+pub mod tally;

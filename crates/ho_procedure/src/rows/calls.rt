@@ -2,11 +2,11 @@
 ghost use Rattle.std.specs.Prelude.{◌≡◌, ◌≤◌, ◌<◌, ◌+◌, ℕ, Ok, IfOk, OnOk, IfErr, Option, Some, None};
 ghost use Rattle.ho_procedure.specs.Plan.{Plan, Ends, At};
 ghost use Rattle.ho_procedure.specs.Going.{Goes, Passes, then, stops_at};
-ghost use Rattle.ho_procedure.specs.Procedure.{opened_plan, open_plan, release_serving, release_plan, told_release_plan, clear_serving, clear_undone, clear_named, clear_rest, clear_plan, left_channel, left_plan, clear_call, clear_command_rest, clear_command_plan, release_cause};
+ghost use Rattle.ho_procedure.specs.Procedure.{opened_plan, open_plan, told_cause, told_first, release_serving, clear_all, clear_rest, clear_plan, left_plan, clear_command_rest, clear_command_plan, release_cause};
 
 use super::parts::{ask_done, ask_record, look, release_target};
 use crate::causes::{ABNORMAL_RELEASE, CALL_CONTROL, NORMAL_EVENT};
-use crate::records::{awaits_leaving, is_nameable, is_own, names_releases};
+use crate::records::{awaits_leaving, is_held, is_nameable, is_on, is_own, names_releases};
 use crate::view::DeskView;
 use crate::work::{Course, Shown, Work};
 use channel_fsm::{ChanId, ChanState};
@@ -45,54 +45,33 @@ pub(crate) fn open<D: DeskView + Drop, A: Allocator + Copy>(
     Ok(())
 }
 
-/// A channel is released.
+/// Where there is a cause, the mobile is told.
 #[tactic(auto, using(crate::proofs::Asking::row_steps))]
-fn release<D: DeskView + Drop, A: Allocator + Copy>(
-    work: &mut Work<D, A>,
-    chan: Option<ChanId>,
-) -> Course
-    requires { 1 ≤ work.old.owed.room }
-    ensures goes { (tail : Plan) → Passes D.log D.says work.old
-        (release_plan chan tail) work.new (then tail result) }
-    ensures room { work.old.owed.room ≤ work.new.owed.room + 1 }
-{
-    let Some(chan) = chan else {
-        return Course::Over;
-    };
-    if !is_nameable(chan) {
-        return Course::Over;
-    }
-    work.send_release(chan);
-    Course::On
-}
-
-/// The same of a channel that is on; where there is a cause, the mobile is told before.
-#[tactic(auto, using(crate::proofs::Asking::row_steps))]
-fn release_told<D: DeskView + Drop, A: Allocator + Copy>(
+fn tell_first<D: DeskView + Drop, A: Allocator + Copy>(
     work: &mut Work<D, A>,
     cause: Option<u8>,
-    chan: Option<ChanId>,
-) -> Course
-    requires { 2 ≤ work.old.owed.room }
+    chan: ChanId,
+)
+    requires room { 1 ≤ work.old.owed.room }
+    requires timeslot { chan.tn < 8 }
     ensures goes { (tail : Plan) → Passes D.log D.says work.old
-        (told_release_plan cause chan tail) work.new (then tail result) }
-    ensures room { work.old.owed.room ≤ work.new.owed.room + 2 }
+        (told_first cause chan tail) work.new tail }
+    ensures room { work.old.owed.room ≤ work.new.owed.room + 1 }
 {
     let Some(cause) = cause else {
-        return release(work, chan);
+        return;
     };
-    let Some(chan) = chan else {
-        return Course::Over;
-    };
-    if !is_nameable(chan) {
-        return Course::Over;
-    }
     work.send_channel_release(chan, cause);
-    work.send_release(chan);
-    Course::On
 }
 
-/// The serving channel is released, unless it was held.
+/// The cause that a mobile is told, where it is on.
+fn told_cause(cause: Option<u8>, state: Option<ChanState>) -> Option<u8>
+    ensures { result ≡ told_cause cause state }
+{
+    if is_on(state) { cause } else { None }
+}
+
+/// The serving channel is released, unless it is held; a mobile that is on is told why.
 #[tactic(auto, using(crate::proofs::Asking::row_steps), unfolding(crate::specs::Procedure::release_serving))]
 fn release_serving<D: DeskView + Drop, A: Allocator + Copy>(
     work: &mut Work<D, A>,
@@ -104,39 +83,24 @@ fn release_serving<D: DeskView + Drop, A: Allocator + Copy>(
         (release_serving cause shown.record shown.state tail) work.new (then tail result) }
     ensures room { work.old.owed.room ≤ work.new.owed.room + 2 }
 {
-    match shown.state {
-        Some(ChanState::Held(_)) => Course::On,
-        Some(ChanState::On(_)) => release_told(work, cause, shown.record.serving),
-        Some(ChanState::Free) | Some(ChanState::Pending(_)) | Some(ChanState::Off) | None => {
-            release(work, shown.record.serving)
-        }
+    if is_held(shown.state) {
+        return Course::On;
     }
-}
-
-/// A call is cleared, and its serving channel released.
-#[tactic(auto, using(crate::proofs::Asking::row_steps), unfolding(crate::specs::Procedure::clear_serving))]
-fn clear_serving<D: DeskView + Drop, A: Allocator + Copy>(
-    work: &mut Work<D, A>,
-    call: u16,
-    cause: Option<u8>,
-    shown: Shown,
-) -> Result<Course, DeskFault>
-    requires { 2 ≤ work.old.owed.room }
-    ensures goes { IfOk result (λ course. (tail : Plan) → Passes D.log D.says work.old
-        (clear_serving call cause shown.record shown.state tail) work.new (then tail course)) }
-    ensures stops { IfErr result (λ f. (tail : Plan) → Goes D.log D.says work.old
-        (clear_serving call cause shown.record shown.state tail) work.new (stops_at f)) }
-    ensures room { result ≡ Ok Course.On → work.old.owed.room ≤ work.new.owed.room + 2 }
-{
-    let Course::On = ask_done(work, Event::Clear(call))? else {
-        return Ok(Course::Over);
+    let Some(chan) = shown.record.serving else {
+        return Course::Over;
     };
-    Ok(release_serving(work, cause, shown))
+    if !is_nameable(chan) {
+        return Course::Over;
+    }
+    tell_first(work, told_cause(cause, shown.state), chan);
+    work.send_release(chan);
+    Course::On
 }
 
-/// The target is released, where it was switched on; then the call is cleared, if its record is still there.
-#[tactic(auto, using(crate::proofs::Asking::row_steps), unfolding(crate::specs::Procedure::clear_undone))]
-fn clear_undone<D: DeskView + Drop, A: Allocator + Copy>(
+/// The target is released, where it was switched on. Where a record remains, the call is cleared, and its serving channel
+/// released.
+#[tactic(auto, using(crate::proofs::Asking::row_steps), unfolding(crate::specs::Procedure::clear_all))]
+fn clear_all<D: DeskView + Drop, A: Allocator + Copy>(
     work: &mut Work<D, A>,
     call: u16,
     cause: Option<u8>,
@@ -144,18 +108,24 @@ fn clear_undone<D: DeskView + Drop, A: Allocator + Copy>(
 ) -> Result<Course, DeskFault>
     requires { 3 ≤ work.old.owed.room }
     ensures goes { IfOk result (λ course. (tail : Plan) → Passes D.log D.says work.old
-        (clear_undone call cause shown.record shown.state tail) work.new (then tail course)) }
+        (clear_all call cause tail shown.record shown.state) work.new (then tail course)) }
     ensures stops { IfErr result (λ f. (tail : Plan) → Goes D.log D.says work.old
-        (clear_undone call cause shown.record shown.state tail) work.new (stops_at f)) }
+        (clear_all call cause tail shown.record shown.state) work.new (stops_at f)) }
     ensures room { result ≡ Ok Course.On → work.old.owed.room ≤ work.new.owed.room + 3 }
 {
+    if !names_releases(shown) {
+        return Ok(Course::Over);
+    }
     let Course::On = release_target(work, shown.record.attempt) else {
         return Ok(Course::Over);
     };
     if !is_own(shown.record.attempt) {
         return Ok(Course::On);
     }
-    clear_serving(work, call, cause, shown)
+    let Course::On = ask_done(work, Event::Clear(call))? else {
+        return Ok(Course::Over);
+    };
+    Ok(release_serving(work, cause, shown))
 }
 
 /// What follows the look at a call that is cleared: an attempt that is open is taken back first.
@@ -168,24 +138,21 @@ fn clear_rest<D: DeskView + Drop, A: Allocator + Copy>(
 ) -> Result<Course, DeskFault>
     requires { 3 ≤ work.old.owed.room }
     ensures goes { IfOk result (λ course. (tail : Plan) → Passes D.log D.says work.old
-        (clear_rest call cause shown.record shown.state tail) work.new (then tail course)) }
+        (clear_rest call cause tail shown.record shown.state) work.new (then tail course)) }
     ensures stops { IfErr result (λ f. (tail : Plan) → Goes D.log D.says work.old
-        (clear_rest call cause shown.record shown.state tail) work.new (stops_at f)) }
+        (clear_rest call cause tail shown.record shown.state) work.new (stops_at f)) }
     ensures room { result ≡ Ok Course.On → work.old.owed.room ≤ work.new.owed.room + 3 }
 {
     if !names_releases(shown) {
         return Ok(Course::Over);
     }
     if shown.record.attempt.is_none() {
-        return clear_undone(work, call, cause, shown);
+        return clear_all(work, call, cause, shown);
     }
     let Some(before) = ask_record(work, Event::Undo(call, Why::Asked))? else {
         return Ok(Course::Over);
     };
-    if !names_releases(before) {
-        return Ok(Course::Over);
-    }
-    clear_undone(work, call, cause, before)
+    clear_all(work, call, cause, before)
 }
 
 /// A call ends.
@@ -219,29 +186,7 @@ fn release_cause(cause: u8) -> u8
     }
 }
 
-/// A call has left: its channel is released.
-#[tactic(auto, using(crate::proofs::Asking::row_steps), unfolding(crate::specs::Procedure::left_channel))]
-fn leave_channel<D: DeskView + Drop, A: Allocator + Copy>(
-    work: &mut Work<D, A>,
-    call: u16,
-    serving: ChanId,
-) -> Result<(), DeskFault>
-    requires room { 2 ≤ work.old.owed.room }
-    requires timeslot { serving.tn < 8 }
-    ensures row { OnOk result (Goes D.log D.says work.old
-        (left_channel call serving) work.new (At Ends)) }
-    ensures stops { IfErr result (λ f. Goes D.log D.says work.old
-        (left_channel call serving) work.new (stops_at f)) }
-{
-    let Course::On = ask_done(work, Event::Left(call))? else {
-        return Ok(());
-    };
-    work.send_release(serving);
-    work.send_clear_complete(call);
-    Ok(())
-}
-
-/// The same, where a message can name its channel.
+/// A call has left: its channel is released, and CLEAR COMPLETE says so.
 #[tactic(auto, using(crate::proofs::Asking::row_steps), unfolding(crate::specs::Procedure::left_plan))]
 fn leave<D: DeskView + Drop, A: Allocator + Copy>(
     work: &mut Work<D, A>,
@@ -260,26 +205,10 @@ fn leave<D: DeskView + Drop, A: Allocator + Copy>(
     if !is_nameable(serving) {
         return Ok(());
     }
-    leave_channel(work, call, serving)
-}
-
-/// A call is cleared on command, and CLEAR COMPLETE says so.
-#[tactic(auto, using(crate::proofs::Asking::row_steps), unfolding(crate::specs::Procedure::clear_call))]
-fn clear_call<D: DeskView + Drop, A: Allocator + Copy>(
-    work: &mut Work<D, A>,
-    call: u16,
-    cause: u8,
-    shown: Shown,
-) -> Result<(), DeskFault>
-    requires { 4 ≤ work.old.owed.room }
-    ensures row { OnOk result (Goes D.log D.says work.old
-        (clear_call call cause shown.record shown.state) work.new (At Ends)) }
-    ensures stops { IfErr result (λ f. Goes D.log D.says work.old
-        (clear_call call cause shown.record shown.state) work.new (stops_at f)) }
-{
-    let Course::On = clear_rest(work, call, Some(release_cause(cause)), shown)? else {
+    let Course::On = ask_done(work, Event::Left(call))? else {
         return Ok(());
     };
+    work.send_release(serving);
     work.send_clear_complete(call);
     Ok(())
 }
@@ -301,10 +230,14 @@ fn clear_command_rest<D: DeskView + Drop, A: Allocator + Copy>(
     match reply {
         Reply::Record(record, state) => {
             if awaits_leaving(record.attempt) {
-                leave(work, call, record.serving)
-            } else {
-                clear_call(work, call, cause, Shown { record, state })
+                return leave(work, call, record.serving);
             }
+            let told = Some(release_cause(cause));
+            let Course::On = clear_rest(work, call, told, Shown { record, state })? else {
+                return Ok(());
+            };
+            work.send_clear_complete(call);
+            Ok(())
         }
         Reply::Refused(Refusal::NoCall) => {
             work.send_clear_complete(call);

@@ -1,0 +1,126 @@
+//! A desk that threads share.
+ghost use Rattle.std.specs.Prelude.{◌≡◌, ◌∷◌, ◌++◌, [], length, IfOk, OnErr};
+ghost use Rattle.radio_desk.specs.Receipts.{IsRising, Joined, receipted};
+
+use crate::view::DeskView;
+use radio_book::event::{Event, Kind};
+use radio_desk::desk::{Desk, DeskFault};
+use radio_desk::seat::{Receipt, Seat};
+use std::alloc::{Allocator, Global};
+use std::marker::Model;
+use std::sync::{Arc, Mutex, Wait};
+
+/// One thread's seat at a desk that threads share under one lock, with the receipts that it got there. Contracts see it as
+/// these receipts, in their order.
+///
+/// Each call takes the lock, and may wait for another thread to give it back. Between two calls others may have asked the
+/// desk. So it says nothing of the desk's book: any call may find no channel free, and may meet a desk that doesn't know
+/// its last receipt.
+#[derive(Drop)]
+pub struct Shared<R: Drop, A: Allocator = Global> {
+    rt: R,
+    lock: Arc<Mutex<Desk<A>>, A>,
+    seat: Seat,
+    receipts: Vec<Receipt, A>,
+}
+
+impl<R: Drop, A: Allocator> Model for Shared<R, A> {
+    ghost use Rattle.std.specs.Prelude.{List};
+    ghost use Rattle.radio_desk.specs.declared.seat.Receipt.{Receipt};
+    ghost use Rattle.radio_desk.specs.Receipts.{IsSeated};
+
+    ghost Value = { List Receipt };
+
+    ghost view = { λ shared. shared.receipts.items };
+
+    ghost invariant = { λ shared. IsSeated shared.receipts.items shared.seat };
+}
+
+impl<R: Drop, A: Allocator + Copy> Shared<R, A> {
+    /// A new seat at the desk under the lock. It has no receipt yet, and takes no memory: `alloc` serves for the receipts
+    /// to come.
+    pub fn new(rt: R, alloc: A, lock: Arc<Mutex<Desk<A>>, A>) -> Shared<R, A>
+        ensures none { result ≡ [] }
+    {
+        Shared {
+            rt,
+            lock,
+            seat: Seat::new(),
+            receipts: Vec::new(alloc),
+        }
+    }
+
+    /// How many receipts it has.
+    pub fn len(&self) -> usize
+        ensures len { result ≡ length self.now }
+    {
+        self.receipts.len()
+    }
+
+    /// Its receipts: one for each event that was answered, in their order, so that their places rise.
+    pub fn into_receipts(self) -> Vec<Receipt, A>
+        ensures receipts { result.items ≡ self }
+        ensures rising { IsRising result.items }
+    {
+        let Shared {
+            rt: _,
+            lock: _,
+            seat: _,
+            receipts,
+        } = self;
+        receipts
+    }
+}
+
+impl<R: Wait + Drop, A: Allocator + Copy> DeskView for Shared<R, A> {
+    ghost use Rattle.radio_desk.specs.Receipts.{Joined, receipted};
+
+    ghost log = { λ shared. receipted shared };
+
+    ghost says = { λ shared log claim. Unit {0} };
+
+    ghost judged = { λ before receipt after. Joined before receipt after };
+
+    // Room for the receipt is made before the event is asked: what was judged is kept.
+    #[tactic(auto, using(crate::proofs::Seats::receipted_more))]
+    fn judge(&mut self, event: Event) -> Result<Receipt, DeskFault>
+        ensures ok { IfOk result (λ r. (r.event ≡ event) ×
+            (receipted self.new ≡ receipted self.old ++ (r.event, r.reply) ∷ [])) }
+        ensures receipt { IfOk result (λ r. Joined self.old r self.new) }
+        ensures err { OnErr result (self.new ≡ self.old) }
+    {
+        self.receipts.reserve(1)?;
+        let receipt = self.lock.lock(&self.rt).judge(&mut self.seat, event)?;
+        self.receipts.push_reserved(receipt);
+        Ok(receipt)
+    }
+
+    #[tactic(auto, using(crate::proofs::Seats::receipted_more))]
+    fn judge_take(
+        &mut self,
+        call: u16,
+        kind: Kind,
+        cell: u8,
+    ) -> Result<Option<Receipt>, DeskFault> {
+        self.receipts.reserve(1)?;
+        let found = self
+            .lock
+            .lock(&self.rt)
+            .judge_take(&mut self.seat, call, kind, cell)?;
+        if let Some(receipt) = found {
+            self.receipts.push_reserved(receipt);
+        }
+        Ok(found)
+    }
+
+    #[tactic(auto, using(crate::proofs::Seats::receipted_more))]
+    fn judge_reserve(&mut self, call: u16) -> Result<Receipt, DeskFault> {
+        self.receipts.reserve(1)?;
+        let receipt = self
+            .lock
+            .lock(&self.rt)
+            .judge_reserve(&mut self.seat, call)?;
+        self.receipts.push_reserved(receipt);
+        Ok(receipt)
+    }
+}
