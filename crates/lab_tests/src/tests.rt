@@ -1,6 +1,6 @@
 //! What no clause says, and no command line shows: a few whole runs on the public calls, which job words ask for, refused
-//! memory and failing writes, a trace that a viewer is handed in pieces, charts and captures of what no script brings, and
-//! each small piece.
+//! memory and failing writes, turns that no short script brings and a viewer is told of, charts and captures of what no
+//! script brings, and each small piece.
 mod charted;
 mod decoded;
 mod drawn;

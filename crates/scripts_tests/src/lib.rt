@@ -1,5 +1,5 @@
-//! Tests of the public surface of `lab_script`, `script_reasons`, `expected_lines` and `progress`, which are proved once and
-//! not again with them.
+//! Tests of the public surface of `lab_script`, `script_reasons`, `tested_scripts` and `screen_text`, which are proved once
+//! and not again with them.
 #![tactic(auto)]
 
 #[cfg(test)]
