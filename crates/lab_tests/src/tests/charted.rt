@@ -139,6 +139,7 @@ const ONE: &[Told] = &[
     Told::End(Mark::Alone),
 ];
 
+/// Its trace.
 const ONE_TRACE: &str = "in handover 1 1
 event take 1 internal 1/1/3 -> done
 event activate 1 -> done
@@ -282,6 +283,7 @@ const ARRIVING: ChanId = ChanId {
     tn: 1,
 };
 
+/// The trace of both.
 const TWO_TRACE: &str = "1: in handover 1 64
 1: out a 1 000c1104010c1b1a050100170066
 2: in undo 40000
@@ -419,6 +421,7 @@ const TAKEN_OF_4: Reply = Reply::Record(
     Some(ChanState::On(4)),
 );
 
+/// The trace of the five.
 const THREE_TRACE: &str = "in handover 1 1
 event take 1 internal 1/1/3 -> done
 event activate 1 -> done

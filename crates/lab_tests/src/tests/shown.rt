@@ -109,13 +109,13 @@ const REFUSED: &[(&str, &str, &str)] = &[
     ("", "", "site 2 handover\n"),
 ];
 
-/// Two controllers: a call begins at the second, and ends.
 const BEGUN: ChanId = ChanId {
     cell: 0,
     trx: 0,
     tn: 2,
 };
 
+/// Two controllers: a call begins at the second, and ends.
 const TURNS: &[Told] = &[
     Told::Turn(
         Mark::First,
