@@ -30,6 +30,11 @@ fn target_of(call: u16) -> ChanId {
     channel_at(call.wrapping_add(33))
 }
 
+// The handover reference that a call reserves.
+fn number_of(call: u16) -> u8 {
+    (call % 32) as u8
+}
+
 fn arrives(call: u16) -> bool {
     call % 2 == 0
 }
@@ -40,7 +45,7 @@ fn asked(round: u16, call: u16) -> Event {
         (0, _) => Open(call, home),
         (1, _) => Confirm(home),
         (2, _) => Take(call, Kind::Internal, target),
-        (3, _) => Reserve(call, call as u8),
+        (3, _) => Reserve(call, number_of(call)),
         (4, _) => Activate(call),
         (5, _) => Confirm(target),
         (6, _) => Command(call),
@@ -59,7 +64,7 @@ fn shown(call: u16) -> Reply {
         kind: AttemptKind::Internal,
         stage: Stage::Commanded,
         target: Some(target_of(call)),
-        reference: Some(call as u8),
+        reference: Some(number_of(call)),
     };
     let record = CallRecord {
         serving: Some(home_of(call)),
