@@ -1,3 +1,4 @@
 mod LineLemmas
+mod MessageLemmas
 mod OctetLemmas
 pub mod ReadingLemmas

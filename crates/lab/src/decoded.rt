@@ -77,7 +77,8 @@ pub(crate) fn decode_text<A: Allocator + Copy, W: Write>(
     out: &mut W,
 ) -> Result<Decoded, LabFault>
     ensures done { result ≡ Ok Decoded.Message → IsMessageText A link text.now }
-    ensures refused { IfOk result (λ decoded. decoded ≢ Decoded.Message → IsMessageText A link text.now → ⊥) }
+    ensures hex { result ≡ Ok Decoded.NotHex → IsMessageText A link text.now → ⊥ }
+    ensures bad { (bad : Bad) → result ≡ Ok (Decoded.Bad bad) → IsMessageText A link text.now → ⊥ }
     ensures memory { result ≡ Err LabFault.NoMemory → is_some (octets_of text.now) ≡ true }
 {
     let Some(octets) = octets(alloc, text)? else {
@@ -86,10 +87,10 @@ pub(crate) fn decode_text<A: Allocator + Copy, W: Write>(
     let printed = print_or_fault(alloc, link, Detail::Fields, &octets, out);
     let fault = lab_result(printed)?;
     writeln!(out)?;
-    Ok(match fault {
-        None => Decoded::Message,
-        Some(bad) => Decoded::Bad(bad),
-    })
+    match fault {
+        None => Ok(Decoded::Message),
+        Some(bad) => Ok(Decoded::Bad(bad)),
+    }
 }
 
 /// Prints the message that a hexadecimal text writes, on one line.
@@ -110,7 +111,8 @@ pub fn decode_run<A: Allocator + Copy, W: Write>(
 {
     match decode_text(alloc, link, text, out) {
         Ok(Decoded::Message) => Ok(Status::Done),
-        Ok(Decoded::NotHex | Decoded::Bad(_)) => Ok(Status::Refused),
+        Ok(Decoded::NotHex) => Ok(Status::Refused),
+        Ok(Decoded::Bad(_)) => Ok(Status::Refused),
         Err(fault) => Err(fault),
     }
 }
