@@ -45,7 +45,7 @@ the script's, and both before the site is looked at.
   file /proc/self/exe
   [2]
   $ cat errors
-  /proc/self/exe: * (glob)
+  /proc/self/exe: isn't UTF-8 (octet * (glob)
   $ ./lab run /dev/null /dev/null 2>errors
   site 2 handover
   [2]

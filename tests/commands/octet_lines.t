@@ -1,14 +1,24 @@
-Lines of octets, each with its own link or all of one.
+Lines of octets, each with its own link or all of one. How many were messages, and how many were refused, is said on
+standard error.
 
-  $ printf '082e010b\n' | ./lab decode abis --from - 2>/dev/null
+  $ printf '' | ./lab decode --from - 2>errors
+  $ cat errors
+  -: messages 0, refused 0
+  $ printf '082e010b\n' | ./lab decode abis --from - 2>errors
   1 RF CHANNEL RELEASE tn=3
-  $ printf 'abis 08 2e 01 0b # released\r\n\n# a note alone\nrr\t06:2c:00#\n \t\na 000121' | ./lab decode --from - 2>/dev/null
+  $ cat errors
+  -: messages 1, refused 0
+  $ printf 'abis 08 2e 01 0b # released\r\n\n# a note alone\nrr\t06:2c:00#\n \t\na 000121' | ./lab decode --from - 2>errors
   1 RF CHANNEL RELEASE tn=3 # released
   4 HANDOVER COMPLETE cause=0 #
   6 CLEAR COMPLETE
-  $ printf '# note\n062C00\n' | ./lab decode rr --from - 2>/dev/null
+  $ cat errors
+  -: messages 3, refused 0
+  $ printf '# note\n062C00\n' | ./lab decode rr --from - 2>errors
   2 HANDOVER COMPLETE cause=0
-  $ printf 'rr 06ff\nrr 062c0\nRR 062c00\n abis 082e010b\nabis\na 0003160405 # cut\nrr 062c00\n' | ./lab decode --from - 2>/dev/null
+  $ cat errors
+  -: messages 1, refused 0
+  $ printf 'rr 06ff\nrr 062c0\nRR 062c00\n abis 082e010b\nabis\na 0003160405 # cut\nrr 062c00\n' | ./lab decode --from - 2>errors
   1 fault rr 2 255
   2 hex
   3 link
@@ -17,14 +27,20 @@ Lines of octets, each with its own link or all of one.
   6 fault a 6 3 # cut
   7 HANDOVER COMPLETE cause=0
   [2]
-  $ printf 'rr \377\376\n\377 06\nrr 062c00 # caf\303\251\n' | ./lab decode --from - 2>/dev/null
+  $ cat errors
+  -: messages 1, refused 6
+  $ printf 'rr \377\376\n\377 06\nrr 062c00 # caf\303\251\n' | ./lab decode --from - 2>errors
   1 hex
   2 link
   3 HANDOVER COMPLETE cause=0 # caf\xc3\xa9 (esc)
   [2]
-  $ printf 'rr 062c00\n' | ./lab decode rr --from - 2>/dev/null
+  $ cat errors
+  -: messages 1, refused 2
+  $ printf 'rr 062c00\n' | ./lab decode rr --from - 2>errors
   1 hex
   [2]
+  $ cat errors
+  -: messages 0, refused 1
 
 All that is said of messages: elements that they have no use for, and the message inside (TS 48.058 clause 8, TS 48.008
 clause 3.2.1, TS 44.018 clause 9.1).

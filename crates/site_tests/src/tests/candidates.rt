@@ -1,7 +1,7 @@
 //! The candidates that windows of reports give: each sum is worked out by hand.
 ghost use Rattle.std.specs.Prelude.{◌≡◌, ◌≤◌};
 
-use super::{Said, Window, add_all, holds_at};
+use super::{AllocError, Said, Window, add_all, changed, holds_at};
 use cell_table::Site;
 use ho_candidates::{Candidate, candidates};
 use refusing_heap::RefusingHeap;
@@ -91,6 +91,9 @@ const TWO_REPORTS: &[Row] = &[
     (0, &[AT_40, AT_33, AT_32], &[]),
 ];
 
+/// One report counts, and nothing is needed: each cell of the list is a candidate, the lower first.
+const ONE_REPORT: &[Row] = &[(0, &[QUIET], &[(1, 0), (64, 0)])];
+
 /// In cell 0: itself by (0, 10), cell 1 by (1, 0), cell 2 by (1, 63), cell 65 by (2, 1), cell 64 by (3, 28).
 const FROM_CELL_0: Said = Said {
     neighbours: &[(63, 0, 10), (8, 1, 0), (9, 1, 63), (8, 2, 1), (20, 3, 28)],
@@ -153,6 +156,15 @@ fn hold_all<R: Abort + AllocGlobal>(rt: &R, text: &str, rows: &[Row]) {
 #[test]
 fn windows_of_two_reports(rt: HostRuntime) {
     hold_all(&rt, THREE_CHANNELS, TWO_REPORTS);
+}
+
+#[test]
+fn windows_of_one_report(rt: HostRuntime) -> Result<(), AllocError> {
+    let two = "window = 2\nmargin = 3\nminimum = 10";
+    let one = "window = 1\nmargin = 0\nminimum = 0";
+    let text = changed(&rt, rt.alloc(), two, one)?;
+    hold_all(&rt, text.as_str(), ONE_REPORT);
+    Ok(())
 }
 
 #[test]

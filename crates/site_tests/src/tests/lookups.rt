@@ -64,9 +64,23 @@ fn a_site_says_what_its_file_does(rt: HostRuntime) -> Result<(), Fail> {
 /// What names a cell: a cell, a position in its neighbour list, and a base station identity code; and the cell.
 type Named = ((u8, u8, u8), Option<u8>);
 
-/// With `ba = [0, 871, 62]` in cell 0, and an outside cell on carrier 0 before the other: the list has 62 and 871, and
-/// carrier 0 last.
-const NAMED: &[Named] = &[
+/// In the site as it stands, with `ba = [62, 70, 871]` in cell 0: no cell has the carrier 70, and the list ends behind 871.
+const AS_IT_STANDS: &[Named] = &[
+    ((0, 0, 24), Some(64)),
+    ((0, 2, 21), Some(1)),
+    ((0, 1, 0), None),
+    ((0, 3, 0), None),
+];
+
+/// With `ba = [0, 871, 62]` in cell 0: the list has 62 and 871, and carrier 0 last.
+const WITH_CARRIER_0: &[Named] = &[
+    ((0, 0, 24), Some(64)),
+    ((0, 1, 21), Some(1)),
+    ((0, 2, 24), None),
+];
+
+/// The same, and an outside cell on carrier 0 before the other.
+const WITH_A_CELL_THERE: &[Named] = &[
     ((0, 0, 24), Some(65)),
     ((0, 1, 21), Some(1)),
     ((0, 2, 7), Some(64)),
@@ -77,8 +91,8 @@ const NAMED: &[Named] = &[
     ((64, 0, 24), None),
 ];
 
-fn names(rt: &impl Abort, site: &Site<Global>) {
-    for ((cell, position, bsic), wanted) in NAMED {
+fn names(rt: &impl Abort, site: &Site<Global>, rows: &[Named]) {
+    for ((cell, position, bsic), wanted) in rows {
         let found = site.by_bsic(*cell, *position, *bsic);
         equals_at(rt, found, *wanted, (cell, position, bsic));
         if let Some(neighbour) = *wanted {
@@ -88,13 +102,30 @@ fn names(rt: &impl Abort, site: &Site<Global>) {
     }
 }
 
+/// The same in the site file with the first place of a text replaced.
+fn names_in(
+    rt: &(impl AllocGlobal + Abort),
+    old: &str,
+    new: &str,
+    rows: &[Named],
+) -> Result<(), Fail> {
+    let text = changed(rt, rt.alloc(), old, new)?;
+    names(
+        rt,
+        &Site::read(rt.alloc(), rt.alloc(), text.as_str())?,
+        rows,
+    );
+    Ok(())
+}
+
 #[test]
 fn reports_name_neighbours(rt: HostRuntime) -> Result<(), Fail> {
+    let (three, other) = ("ba = [62, 70, 871]", "ba = [0, 871, 62]");
+    names_in(&rt, three, three, AS_IT_STANDS)?;
+    names_in(&rt, three, other, WITH_CARRIER_0)?;
     let rest = "\ntrx = [{ arfcn = 60, tch = [2, 3] }]\n";
-    let old = format!(in rt.alloc(); "ba = [62, 70, 871]{rest}")?;
-    let other = "[[outside]]\nlac = 23\nci = 103\nbcch = 0\nncc = 0\nbcc = 7\n";
-    let new = format!(in rt.alloc(); "ba = [0, 871, 62]{rest}{other}")?;
-    let text = changed(&rt, rt.alloc(), old.as_str(), new.as_str())?;
-    names(&rt, &Site::read(rt.alloc(), rt.alloc(), text.as_str())?);
-    Ok(())
+    let there = "[[outside]]\nlac = 23\nci = 103\nbcch = 0\nncc = 0\nbcc = 7\n";
+    let old = format!(in rt.alloc(); "{three}{rest}")?;
+    let new = format!(in rt.alloc(); "{other}{rest}{there}")?;
+    names_in(&rt, old.as_str(), new.as_str(), WITH_A_CELL_THERE)
 }
