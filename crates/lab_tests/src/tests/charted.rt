@@ -463,6 +463,23 @@ const THREE_BARS: &[&str] = &[
 ",
 ];
 
+/// Tells a viewer all of this, which prints it, and draws its chart. (A function that owned the viewer and what it prints to
+/// would get no proof.)
+fn draw(
+    alloc: Global,
+    has_peer: bool,
+    all: &[Told],
+    out: &mut Vec<u8>,
+    svg: &mut Vec<u8>,
+) -> Result<(), Fail> {
+    let mut viewer = Viewer::new(alloc, &CHART, has_peer, out)?;
+    tell_all(alloc, &mut viewer, all)?;
+    if let Some(chart) = viewer.chart() {
+        chart.write_to(svg)?;
+    }
+    Ok(())
+}
+
 /// The chart of what a viewer is told; its trace is this.
 fn chart_of(
     rt: &(impl AllocGlobal + Abort),
@@ -472,11 +489,7 @@ fn chart_of(
 ) -> Result<String, Fail> {
     let mut out = Vec::new(rt.alloc());
     let mut svg = Vec::new(rt.alloc());
-    let mut viewer = Viewer::new(rt.alloc(), &CHART, has_peer, &mut out)?;
-    tell_all(rt.alloc(), &mut viewer, all)?;
-    if let Some(chart) = viewer.chart() {
-        chart.write_to(&mut svg)?;
-    }
+    draw(rt.alloc(), has_peer, all, &mut out, &mut svg)?;
     equals_at(rt, str::from_utf8(&out)?, trace, "trace");
     Ok(String::from_utf8(svg)?)
 }

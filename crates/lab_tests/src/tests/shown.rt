@@ -189,11 +189,16 @@ fn is_shown(
     Ok(())
 }
 
+/// Tells a viewer all of this, which prints it with words.
+fn print_words(alloc: Global, all: &[Told], out: &mut Vec<u8>) -> Result<(), Fail> {
+    let mut viewer = Viewer::new(alloc, &WORDS, false, out)?;
+    tell_all(alloc, &mut viewer, all)
+}
+
 /// What a viewer prints that is told this is that.
 fn is_printed(rt: &(impl AllocGlobal + Abort), all: &[Told], wanted: &str) -> Result<(), Fail> {
     let mut out = Vec::new(rt.alloc());
-    let mut viewer = Viewer::new(rt.alloc(), &WORDS, false, &mut out)?;
-    tell_all(rt.alloc(), &mut viewer, all)?;
+    print_words(rt.alloc(), all, &mut out)?;
     equals_at(rt, str::from_utf8(&out)?, wanted, "words");
     Ok(())
 }
@@ -249,11 +254,16 @@ fn tell_turns<W: Write>(
     Ok(())
 }
 
+/// Prints what two controllers did, and what their books hold then.
+fn print_states(rt: &(impl AllocGlobal + Abort), out: &mut Vec<u8>) -> Result<(), Fail> {
+    let mut viewer = Viewer::new(rt.alloc(), &STATE, true, out)?;
+    tell_turns(rt, &mut viewer)
+}
+
 #[test]
 fn what_the_books_hold_stands_behind_each_input(rt: HostRuntime) -> Result<(), Fail> {
     let mut out = Vec::new(rt.alloc());
-    let mut viewer = Viewer::new(rt.alloc(), &STATE, true, &mut out)?;
-    tell_turns(&rt, &mut viewer)?;
+    print_states(&rt, &mut out)?;
     equals_at(&rt, str::from_utf8(&out)?, STATED, "books");
     Ok(())
 }
