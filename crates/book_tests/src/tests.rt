@@ -6,6 +6,7 @@ mod hundred;
 mod largest;
 mod memory;
 mod openings;
+mod stages;
 mod worked;
 
 use cell_table::Site;

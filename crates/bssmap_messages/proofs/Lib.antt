@@ -1,3 +1,4 @@
+pub mod LayerThree
 pub mod ReadCells
 pub mod Lengths
 pub mod Noted

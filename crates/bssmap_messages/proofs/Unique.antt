@@ -1,5 +1,5 @@
 -- Octets begin with one head, or have one fault in it.
-use Rattle.std.proofs.Common.{◌≡◌, ◌⊎◌, ℕ, ◌+◌, List, ◌∷◌, Option, Some, None, Result, Ok, Err, IfOk, IfErr, refl, sym, ◌∙◌, ap, cond, eqb, length, inl, inr}
+use Rattle.std.proofs.Common.{◌≡◌, ◌⊎◌, ℕ, ◌+◌, List, [], ◌∷◌, Option, Some, Result, Ok, Err, IfOk, IfErr, refl, sym, ◌∙◌, ap, eqb, find, length, inl, inr}
 use Rattle.octet_elements.specs.Texts.{HeadsAreUnique, Says, HasBodyFault}
 use Rattle.octet_elements.specs.declared.values.ValueFault.{ValueFault}
 use Rattle.octet_elements.specs.declared.values.ValueFault.TheVariants.{Absent, Bad}
@@ -18,12 +18,15 @@ pub one_carried : (octets x y : List ℕ) → Carries octets x → Carries octet
 one_carried octets x y p q =
     let same : 0 ∷ length x ∷ x ≡ 0 ∷ length y ∷ y = sym p.framed ∙ q.framed in cc
 
+kinds : List MessageKind
+kinds = kind.HandoverRequest ∷ kind.HandoverRequired ∷ kind.HandoverRequestAck ∷ kind.HandoverCommand ∷ kind.HandoverComplete ∷ kind.HandoverFailure ∷ kind.HandoverPerformed ∷ kind.HandoverRequiredReject ∷ kind.HandoverDetect ∷ kind.ClearCommand ∷ kind.ClearComplete ∷ kind.ClearRequest ∷ []
+
 -- which message has the type
 kind_at : ℕ → Option MessageKind
-kind_at t = cond (eqb t 0x10) (Some kind.HandoverRequest) (cond (eqb t 0x11) (Some kind.HandoverRequired) (cond (eqb t 0x12) (Some kind.HandoverRequestAck) (cond (eqb t 0x13) (Some kind.HandoverCommand) (cond (eqb t 0x14) (Some kind.HandoverComplete) (cond (eqb t 0x16) (Some kind.HandoverFailure) (cond (eqb t 0x17) (Some kind.HandoverPerformed) (cond (eqb t 0x1A) (Some kind.HandoverRequiredReject) (cond (eqb t 0x1B) (Some kind.HandoverDetect) (cond (eqb t 0x20) (Some kind.ClearCommand) (cond (eqb t 0x21) (Some kind.ClearComplete) (cond (eqb t 0x22) (Some kind.ClearRequest) None)))))))))))
+kind_at t = find (λ k. eqb t (type_of k)) kinds
 
 found_at : (k : MessageKind) → kind_at (type_of k) ≡ Some k
-unfolding kind_at
+unfolding kind_at kinds
 found_at kind.HandoverRequest = refl
 found_at kind.HandoverRequired = refl
 found_at kind.HandoverRequestAck = refl

@@ -22,7 +22,8 @@ use Rattle.bssmap_messages.specs.Forms.{interface_a}
 use Rattle.bssmap_messages.specs.Heads.{limit, Carries}
 use Rattle.bssmap_messages.specs.Messages.{said, value_of, type_of, kind_of, elements_of, CanBeSaid, handover_request, handover_required, layer_3_alone, handover_complete, handover_failure, handover_performed, cause_alone}
 use Rattle.bssmap_messages.specs.Texts.{codec, HasCanonical, canonical_text, written_octets}
-use Rattle.bssmap_messages.specs.Values.{channel_type_in, some_cells, cell_in, cells_in, cells_from, cell_octets, cell_value, cells_value}
+use Rattle.bssmap_messages.specs.Values.{channel_type_in, some_cells, cell_in, cells_in, cells_with_area, cell_octets, cell_value, cells_value}
+use Rattle.bssmap_messages.proofs.ReadCells.{with_area}
 use Rattle.bssmap_messages.proofs.Unique.{one_head}
 
 -- each cell has a location area code
@@ -57,14 +58,14 @@ and_true : (a b : Bool) → (a && b) ≡ true → (a ≡ true) × (b ≡ true)
 and_true true b h = (refl, h)
 and_true false b h = absurd cc
 
-areas_again : (cells : List CellId) → have_areas cells ≡ true → cells_from 1 (flat_map cell_octets cells) [] ≡ Some cells
+areas_again : (cells : List CellId) → have_areas cells ≡ true → cells_with_area (flat_map cell_octets cells) ≡ Some cells
 areas_again [] h = refl
 areas_again (cell ∷ cells) h =
     let each = and_true (is_some cell.lac) (have_areas cells) h in
     ap (option_map (λ more. area_again cell ∷ more)) (areas_again cells each.1) ∙ ap (λ c. Some (c ∷ cells)) (same_cell cell.lac cell.ci each.0)
 
 cells_again : (cells : List CellId) → 0 < length cells → have_areas cells ≡ true → cells_in (Some (cells_value cells)) ≡ Ok cells
-cells_again cells some h = ap some_cells (areas_again cells h) ∙ by_cells cells some
+cells_again cells some h = ap some_cells (with_area 1 (flat_map cell_octets cells) refl ∙ areas_again cells h) ∙ by_cells cells some
   where
     by_cells : (cells : List CellId) → 0 < length cells → some_cells (Some cells) ≡ Ok cells
     by_cells [] some = absurd (omega arith)
@@ -85,7 +86,7 @@ cell_fits cell read h same =
     let again : area_again cell ≡ read = cc in
     ap (λ c. is_some c.lac) (sym (again ∙ same))
 
-areas_read : (cells : List CellId) → (read : List CellId) × (cells_from 1 (flat_map cell_octets cells) [] ≡ Some read) × (have_areas read ≡ true)
+areas_read : (cells : List CellId) → (read : List CellId) × (cells_with_area (flat_map cell_octets cells) ≡ Some read) × (have_areas read ≡ true)
 areas_read [] = ([], refl, refl)
 areas_read (cell ∷ cells) =
     let rest = areas_read cells in
@@ -94,7 +95,7 @@ areas_read (cell ∷ cells) =
 cells_fit : (cells read : List CellId) → cells_in (Some (cells_value cells)) ≡ Ok read → read ≡ cells → (0 < length cells) × (have_areas cells ≡ true)
 cells_fit cells read h same =
     let all = areas_read cells in
-    by_cells all.0 all.2 (sym (ap some_cells all.1) ∙ h ∙ ap Ok same)
+    by_cells all.0 all.2 (sym (ap some_cells (with_area 1 (flat_map cell_octets cells) refl ∙ all.1)) ∙ h ∙ ap Ok same)
   where
     by_cells : (found : List CellId) → have_areas found ≡ true → some_cells (Some found) ≡ Ok cells → (0 < length cells) × (have_areas cells ≡ true)
     by_cells [] areas is = absurd cc

@@ -1,3 +1,4 @@
+pub mod Causes
 pub mod Forms
 pub mod Values
 pub mod Messages

@@ -40,37 +40,37 @@ abbrev pub kept_classmark : {A : Type 0} → ClassmarkValue → Classmark A
 kept_classmark (in_octets.One octet) = One octet
 kept_classmark (in_octets.Two v) = Two v.now
 
--- The octets of one cell (clause 3.2.2.17), by the low four bits of the discriminator: 0 is a mobile country
--- and network code of three octets, which isn't kept, location area code and cell identity; 1 the last two;
--- 2 the cell identity alone.
-abbrev pub area_and_cell : List ℕ → Option CellId
-area_and_cell (a ∷ b ∷ c ∷ d ∷ []) = Some (record { lac = Some (u16_of a b); ci = u16_of c d })
-area_and_cell _ = None
+-- Cells one after the other, up to the end of the octets: those that have a mobile country and network code of three
+-- octets, which isn't kept, location area code and cell identity; those that have the last two; those that have the cell
+-- identity alone.
+abbrev pub area_and_cell : ℕ → ℕ → ℕ → ℕ → CellId
+area_and_cell a b c d = record { lac = Some (u16_of a b); ci = u16_of c d }
 
-abbrev pub network_and_cell : List ℕ → Option CellId
-network_and_cell (a ∷ b ∷ c ∷ v) = area_and_cell v
-network_and_cell _ = None
+abbrev pub cell_alone : ℕ → ℕ → CellId
+cell_alone a b = record { lac = None; ci = u16_of a b }
 
-abbrev pub cell_alone : List ℕ → Option CellId
-cell_alone (a ∷ b ∷ []) = Some (record { lac = None; ci = u16_of a b })
-cell_alone _ = None
+abbrev pub cells_with_network : List ℕ → Option (List CellId)
+cells_with_network [] = Some []
+cells_with_network (x ∷ y ∷ z ∷ a ∷ b ∷ c ∷ d ∷ v) = option_map (λ cells. area_and_cell a b c d ∷ cells) (cells_with_network v)
+cells_with_network _ = None
 
-abbrev pub cell_of : ℕ → List ℕ → Option CellId
-cell_of form v = if form == 0 then network_and_cell v else if form == 1 then area_and_cell v else if form == 2 then cell_alone v else None
+abbrev pub cells_with_area : List ℕ → Option (List CellId)
+cells_with_area [] = Some []
+cells_with_area (a ∷ b ∷ c ∷ d ∷ v) = option_map (λ cells. area_and_cell a b c d ∷ cells) (cells_with_area v)
+cells_with_area _ = None
 
--- Cells one after the other: as soon as the octets behind the last cell are a cell, it is the next one. `begun`
--- are those that are none yet.
-abbrev pub or_next : Option CellId → Option (List CellId) → Option (List CellId) → Option (List CellId)
-or_next None more rest = more
-or_next (Some cell) more rest = option_map (λ cells. cell ∷ cells) rest
+abbrev pub cells_alone : List ℕ → Option (List CellId)
+cells_alone [] = Some []
+cells_alone (a ∷ b ∷ v) = option_map (λ cells. cell_alone a b ∷ cells) (cells_alone v)
+cells_alone _ = None
 
-abbrev pub cells_from : ℕ → List ℕ → List ℕ → Option (List CellId)
-cells_from form [] [] = Some []
-cells_from form [] (octet ∷ begun) = None
-cells_from form (octet ∷ v) begun = or_next (cell_of form (begun ++ octet ∷ [])) (cells_from form v (begun ++ octet ∷ [])) (cells_from form v [])
+-- The low four bits of the discriminator say which of these octets are (clause 3.2.2.17): 0, 1 and 2 in this order.
+abbrev pub cells_of_form : ℕ → List ℕ → Option (List CellId)
+cells_of_form form [] = Some []
+cells_of_form form (octet ∷ v) = if form == 0 then cells_with_network (octet ∷ v) else if form == 1 then cells_with_area (octet ∷ v) else if form == 2 then cells_alone (octet ∷ v) else None
 
 abbrev pub cells_after : ℕ → List ℕ → Option (List CellId)
-cells_after d v = cells_from (d % 16) v []
+cells_after d v = cells_of_form (d % 16) v
 
 -- exactly one cell
 abbrev pub only_cell : Option (List CellId) → Result CellId ValueFault

@@ -3,7 +3,7 @@ ghost use Rattle.std.specs.Prelude.{◌≡◌, ◌<◌, ◌↔◌, [], ◌∷◌
 ghost use Rattle.std.specs.Option.{option_map};
 ghost use Rattle.bssmap_messages.specs.declared.message.CellId.{CellId};
 ghost use Rattle.octet_elements.specs.Values.{value_seen};
-ghost use Rattle.bssmap_messages.specs.Values.{cells_after, cell_in, cells_in};
+ghost use Rattle.bssmap_messages.specs.Values.{area_and_cell, cells_after, cell_in, cells_in};
 
 use crate::message::CellId;
 use crate::table::{CELL_IDENTIFIER, CELL_IDENTIFIER_LIST};
@@ -45,6 +45,17 @@ impl<A: Allocator> CellList<A> {
     }
 }
 
+/// The cell with this location area code and cell identity.
+#[inline]
+fn area_and_cell(area_high: u8, area_low: u8, high: u8, low: u8) -> CellId
+    ensures { result ≡ area_and_cell area_high area_low high low }
+{
+    CellId {
+        lac: Some(u16_of(area_high, area_low)),
+        ci: u16_of(high, low),
+    }
+}
+
 /// The cell that the octets after a discriminator begin with, and the rest.
 fn leading_cell(discriminator: u8, octets: &[u8]) -> Option<(CellId, &[u8])>
     ensures found { IfSome result (λ f. cells_after discriminator octets.now ≡ option_map
@@ -54,11 +65,11 @@ fn leading_cell(discriminator: u8, octets: &[u8]) -> Option<(CellId, &[u8])>
         (λ cells. cells ≡ [])) }
 {
     match (discriminator % 16, octets) {
-        (0, [_, _, _, area_high, area_low, high, low, rest @ ..])
-        | (1, [area_high, area_low, high, low, rest @ ..]) => {
-            let lac = Some(u16_of(*area_high, *area_low));
-            let ci = u16_of(*high, *low);
-            Some((CellId { lac, ci }, rest))
+        (0, [_, _, _, area_high, area_low, high, low, rest @ ..]) => {
+            Some((area_and_cell(*area_high, *area_low, *high, *low), rest))
+        }
+        (1, [area_high, area_low, high, low, rest @ ..]) => {
+            Some((area_and_cell(*area_high, *area_low, *high, *low), rest))
         }
         (2, [high, low, rest @ ..]) => {
             let ci = u16_of(*high, *low);
@@ -99,7 +110,8 @@ fn are_cells(discriminator: u8, octets: &[u8]) -> bool
 /// The discriminator of a cell identifier list and the octets of its cells, at least one.
 pub fn cells(value: Option<&[u8]>) -> Result<(u8, &[u8]), ValueFault>
     ensures ok { IfOk result (λ c. (cells : List CellId) ×
-        (cells_after c.0 c.1.now ≡ Some cells) × (cells_in (value_seen value.entry) ≡ Ok cells)) }
+        (cells_after c.0 c.1.now ≡ Some cells) × (cells_in (value_seen value.entry) ≡ Ok cells) ×
+        (0 < length cells)) }
     ensures err { IfErr result (λ e. cells_in (value_seen value.entry) ≡ Err e) }
 {
     match value {

@@ -8,6 +8,31 @@ use crate::fault::BssmapFault;
 /// The greatest length octet.
 pub const LIMIT: usize = 253;
 
+// Types (TS 48.008 clause 3.2.2.1): what is read and what is written name them.
+pub const HANDOVER_REQUEST: u8 = 0x10;
+
+pub const HANDOVER_REQUIRED: u8 = 0x11;
+
+pub const HANDOVER_REQUEST_ACK: u8 = 0x12;
+
+pub const HANDOVER_COMMAND: u8 = 0x13;
+
+pub const HANDOVER_COMPLETE: u8 = 0x14;
+
+pub const HANDOVER_FAILURE: u8 = 0x16;
+
+pub const HANDOVER_PERFORMED: u8 = 0x17;
+
+pub const HANDOVER_REQUIRED_REJECT: u8 = 0x1A;
+
+pub const HANDOVER_DETECT: u8 = 0x1B;
+
+pub const CLEAR_COMMAND: u8 = 0x20;
+
+pub const CLEAR_COMPLETE: u8 = 0x21;
+
+pub const CLEAR_REQUEST: u8 = 0x22;
+
 /// Which message it is.
 #[derive(Clone, Copy, Debug, PartialEq, Eq)]
 pub enum MessageKind {
@@ -31,18 +56,18 @@ fn kind_for(message_type: u8) -> Option<MessageKind>
     ensures none { IfNone result ((kind : MessageKind) → message_type ≡ type_of kind → ⊥) }
 {
     match message_type {
-        0x10 => Some(MessageKind::HandoverRequest),
-        0x11 => Some(MessageKind::HandoverRequired),
-        0x12 => Some(MessageKind::HandoverRequestAck),
-        0x13 => Some(MessageKind::HandoverCommand),
-        0x14 => Some(MessageKind::HandoverComplete),
-        0x16 => Some(MessageKind::HandoverFailure),
-        0x17 => Some(MessageKind::HandoverPerformed),
-        0x1A => Some(MessageKind::HandoverRequiredReject),
-        0x1B => Some(MessageKind::HandoverDetect),
-        0x20 => Some(MessageKind::ClearCommand),
-        0x21 => Some(MessageKind::ClearComplete),
-        0x22 => Some(MessageKind::ClearRequest),
+        HANDOVER_REQUEST => Some(MessageKind::HandoverRequest),
+        HANDOVER_REQUIRED => Some(MessageKind::HandoverRequired),
+        HANDOVER_REQUEST_ACK => Some(MessageKind::HandoverRequestAck),
+        HANDOVER_COMMAND => Some(MessageKind::HandoverCommand),
+        HANDOVER_COMPLETE => Some(MessageKind::HandoverComplete),
+        HANDOVER_FAILURE => Some(MessageKind::HandoverFailure),
+        HANDOVER_PERFORMED => Some(MessageKind::HandoverPerformed),
+        HANDOVER_REQUIRED_REJECT => Some(MessageKind::HandoverRequiredReject),
+        HANDOVER_DETECT => Some(MessageKind::HandoverDetect),
+        CLEAR_COMMAND => Some(MessageKind::ClearCommand),
+        CLEAR_COMPLETE => Some(MessageKind::ClearComplete),
+        CLEAR_REQUEST => Some(MessageKind::ClearRequest),
         _ => None,
     }
 }

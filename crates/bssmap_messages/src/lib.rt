@@ -4,6 +4,7 @@
 //! [`encode`] and [`encode_into`] write one, and [`fits`] says whether a value can be written.
 #![tactic(auto)]
 
+pub mod causes;
 mod cells;
 mod elements;
 mod fault;

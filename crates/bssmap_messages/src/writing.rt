@@ -5,7 +5,11 @@ ghost use Rattle.bssmap_messages.specs.Messages.{kind_of, type_of};
 ghost use Rattle.bssmap_messages.specs.Texts.{HasCanonical, canonical_text};
 
 use crate::elements::{append_elements, append_required, can_be_said, elements_len};
-use crate::head::LIMIT;
+use crate::head::{
+    CLEAR_COMMAND, CLEAR_COMPLETE, CLEAR_REQUEST, HANDOVER_COMMAND, HANDOVER_COMPLETE,
+    HANDOVER_DETECT, HANDOVER_FAILURE, HANDOVER_PERFORMED, HANDOVER_REQUEST, HANDOVER_REQUEST_ACK,
+    HANDOVER_REQUIRED, HANDOVER_REQUIRED_REJECT, LIMIT,
+};
 use crate::message::{Bssmap, CellId};
 use crate::table::{InterfaceA, LAYER_3_INFORMATION, RESPONSE_REQUEST};
 use octet_elements::{append_element, append_octets, make_room, presence_len};
@@ -23,18 +27,18 @@ fn message_type<A: Allocator>(message: &Bssmap<A>) -> u8
     ensures { result ≡ type_of (kind_of message.now) }
 {
     match message {
-        Bssmap::HandoverRequest { .. } => 0x10,
-        Bssmap::HandoverRequired { .. } => 0x11,
-        Bssmap::HandoverRequestAck { .. } => 0x12,
-        Bssmap::HandoverCommand { .. } => 0x13,
-        Bssmap::HandoverComplete { .. } => 0x14,
-        Bssmap::HandoverFailure { .. } => 0x16,
-        Bssmap::HandoverPerformed { .. } => 0x17,
-        Bssmap::HandoverRequiredReject { .. } => 0x1A,
-        Bssmap::HandoverDetect => 0x1B,
-        Bssmap::ClearCommand { .. } => 0x20,
-        Bssmap::ClearComplete => 0x21,
-        Bssmap::ClearRequest { .. } => 0x22,
+        Bssmap::HandoverRequest { .. } => HANDOVER_REQUEST,
+        Bssmap::HandoverRequired { .. } => HANDOVER_REQUIRED,
+        Bssmap::HandoverRequestAck { .. } => HANDOVER_REQUEST_ACK,
+        Bssmap::HandoverCommand { .. } => HANDOVER_COMMAND,
+        Bssmap::HandoverComplete { .. } => HANDOVER_COMPLETE,
+        Bssmap::HandoverFailure { .. } => HANDOVER_FAILURE,
+        Bssmap::HandoverPerformed { .. } => HANDOVER_PERFORMED,
+        Bssmap::HandoverRequiredReject { .. } => HANDOVER_REQUIRED_REJECT,
+        Bssmap::HandoverDetect => HANDOVER_DETECT,
+        Bssmap::ClearCommand { .. } => CLEAR_COMMAND,
+        Bssmap::ClearComplete => CLEAR_COMPLETE,
+        Bssmap::ClearRequest { .. } => CLEAR_REQUEST,
     }
 }
 
@@ -68,7 +72,7 @@ pub fn encode_request_ack_into<A: Allocator + Copy>(
 {
     let body = 3 + layer3.len();
     make_room(out, 2 + body)?;
-    append_octets(out, &[0, body as u8, 0x12]);
+    append_octets(out, &[0, body as u8, HANDOVER_REQUEST_ACK]);
     append_element::<InterfaceA, A>(out, LAYER_3_INFORMATION, layer3);
     Ok(())
 }
@@ -89,7 +93,7 @@ pub fn encode_required_into<A: Allocator + Copy>(
 {
     let body = 11 + presence_len::<InterfaceA>(RESPONSE_REQUEST, response);
     make_room(out, 2 + body)?;
-    append_octets(out, &[0, body as u8, 0x11]);
+    append_octets(out, &[0, body as u8, HANDOVER_REQUIRED]);
     append_required(out, cause, response, &[cell]);
     Ok(())
 }

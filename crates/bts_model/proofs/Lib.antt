@@ -1,6 +1,5 @@
 mod KeyFacts
 mod MapFacts
-mod Numbered
 mod Results
 mod ReleaseFacts
 mod KeptFacts

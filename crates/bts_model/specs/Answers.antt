@@ -1,31 +1,21 @@
 -- The messages by which a station gives an answer (TS 48.058 clause 8).
 use Rattle.std.specs.Prelude.{ℕ, List, Some}
+use Rattle.rr_elements.specs.RrCause.{normal_event, abnormal_release}
 use Rattle.rr_messages.specs.declared.message.Rr.{Rr}
 use Rattle.rr_messages.specs.declared.message.Rr.TheVariants.{HandoverComplete, HandoverFailure}
 use Rattle.rr_messages.specs.Rr.{rr_text}
 use Rattle.rsl_messages.specs.declared.message.ChanBits.{ChanBits}
 use Rattle.rsl_messages.specs.declared.message.Rsl.TheVariants.{DataIndication, ChannelActivationAck, ChannelActivationNack, HandoverDetection, RfChannelReleaseAck}
 use Rattle.rsl_messages.specs.Texts.{canonical_text}
+use Rattle.rsl_messages.specs.Values.{main_channel, equipment_failure}
 use Rattle.bts_model.specs.declared.place.Place.{Place}
 use Rattle.bts_model.specs.declared.answer.Answer.{Answer}
 use Rattle.bts_model.specs.declared.answer.Answer.TheVariants.{ActivationAck, ActivationNack, ReleaseAck, Detection, Complete, Failure}
 use Rattle.bts_model.specs.declared.answer.StationOut.{StationOut}
 
--- the cause of a refused activation (clause 9.3.26)
-abbrev pub equipment_failure : ℕ
-equipment_failure = 0x20
-
--- the causes of a handover that is complete, normal event, and of one that failed, abnormal release, unspecified
--- (TS 44.018 clause 10.5.2.31)
-abbrev pub normal_event : ℕ
-normal_event = 0
-
-abbrev pub abnormal_release : ℕ
-abnormal_release = 1
-
 -- DATA INDICATION on the main channel, SAPI 0, with a message of the mobile (clauses 8.3.2 and 9.3.2)
 abbrev pub indication_octets : ChanBits → Rr → List ℕ
-indication_octets channel message = canonical_text {A = Unit} (DataIndication channel 0 (rr_text message))
+indication_octets channel message = canonical_text {A = Unit} (DataIndication channel main_channel (rr_text message))
 
 -- The octets of an answer: an activation is acknowledged with frame number 0 (clause 8.4.2), and refused with cause
 -- 'equipment failure' (clauses 8.4.3 and 9.3.26); a handover is detected with access delay 0 (clause 8.4.7), complete

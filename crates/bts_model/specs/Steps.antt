@@ -5,6 +5,7 @@ use Rattle.rsl_messages.specs.declared.message.ChanBits.{ChanBits}
 use Rattle.rsl_messages.specs.declared.message.Rsl.{Rsl}
 use Rattle.rsl_messages.specs.declared.message.Rsl.TheVariants.{DataRequest, DataIndication, ChannelActivation, ChannelActivationAck, ChannelActivationNack, ConnectionFailureIndication, HandoverDetection, MeasurementResult, RfChannelRelease, RfChannelReleaseAck}
 use Rattle.rsl_messages.specs.Texts.{IsTextOf}
+use Rattle.rsl_messages.specs.Values.{main_channel}
 use Rattle.rsl_messages.specs.Messages.{HasOctets}
 use Rattle.bts_model.specs.declared.place.Place.{Place}
 use Rattle.bts_model.specs.declared.answer.Answer.{Answer}
@@ -42,10 +43,10 @@ answered w x answer (Some n) = silent (record w { holds = slice_set w.holds n (r
 abbrev pub reacted : WorldState → Place → Reaction → Outcome
 reacted w x r = answered (with_slot w x r.slot) x r.answer (hold_of w.holds x r.answer)
 
--- what is heard of the mobile on a channel, to which a message comes on the main channel (link identifier 0)
+-- what is heard of the mobile on a channel, to which a message comes on the main channel
 abbrev pub passed_on : WorldState → Place → ℕ → Option Rr → Outcome
 passed_on w x link None = unmoved w
-passed_on w x link (Some message) = if link == 0 then record { world = w; answers = answers_to w.trxs w.slots x message } else unmoved w
+passed_on w x link (Some message) = if link == main_channel then record { world = w; answers = answers_to w.trxs w.slots x message } else unmoved w
 
 -- nothing comes of what is asked of a channel that the world lacks
 abbrev pub at_channel : WorldState → Place → Outcome → Outcome

@@ -5,19 +5,11 @@ ghost use Rattle.rr_messages.specs.Rr.{rr_text};
 ghost use Rattle.bts_model.specs.Answers.{octets_of, indication_octets, out_of};
 
 use crate::place::Place;
-use rr_elements::RrCause;
+use rr_elements::{ABNORMAL_RELEASE, NORMAL_EVENT, RrCause};
 use rr_messages::Rr;
+use rsl_messages::values::{EQUIPMENT_FAILURE, MAIN_CHANNEL};
 use rsl_messages::{ChanBits, Octets, Rsl, encode};
 use std::alloc::{AllocError, Allocator, Global};
-
-/// The cause of a refused activation (TS 48.058 clause 9.3.26).
-const EQUIPMENT_FAILURE: u8 = 0x20;
-
-/// The cause of a handover that is complete: normal event (TS 44.018 clause 10.5.2.31).
-const NORMAL_EVENT: RrCause = RrCause(0);
-
-/// The cause of one that failed: abnormal release, unspecified (the same clause).
-const ABNORMAL_RELEASE: RrCause = RrCause(1);
 
 /// What a station says of a channel, or passes on from the mobile on it.
 #[derive(Clone, Copy)]
@@ -99,8 +91,16 @@ fn message_of<A: Allocator + Copy>(
             channel,
             delay: Some(0),
         }),
-        Answer::Complete => from_mobile(alloc, channel, &Rr::HandoverComplete(NORMAL_EVENT)),
-        Answer::Failure => from_mobile(alloc, channel, &Rr::HandoverFailure(ABNORMAL_RELEASE)),
+        Answer::Complete => from_mobile(
+            alloc,
+            channel,
+            &Rr::HandoverComplete(RrCause(NORMAL_EVENT)),
+        ),
+        Answer::Failure => from_mobile(
+            alloc,
+            channel,
+            &Rr::HandoverFailure(RrCause(ABNORMAL_RELEASE)),
+        ),
     }
 }
 
@@ -119,7 +119,7 @@ fn from_mobile<A: Allocator + Copy>(
     let octets = rr_messages::encode(alloc, message)?;
     Ok(Rsl::DataIndication {
         channel,
-        link: 0,
+        link: MAIN_CHANNEL,
         layer3: Octets::new(alloc, octets.as_slice())?,
     })
 }

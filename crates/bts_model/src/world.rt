@@ -23,6 +23,7 @@ use crate::station::{Reaction, at_activation, at_release};
 use crate::trx::{Trx, has_trx, trxs_of};
 use cell_table::Site;
 use rr_messages::Rr;
+use rsl_messages::values::MAIN_CHANNEL;
 use rsl_messages::{ChanBits, Rsl, RslFault, decode};
 use std::alloc::{AllocError, Allocator, Global};
 use std::marker::Model;
@@ -227,7 +228,7 @@ impl<A: Allocator + Copy> World<A> {
         match heard {
             None => Ok(self.nothing()),
             Some(message) => {
-                if link == 0 {
+                if link == MAIN_CHANNEL {
                     self.answers_to(place, &message)
                 } else {
                     Ok(self.nothing())

@@ -7,6 +7,7 @@ use Rattle.rsl_messages.specs.declared.message.Rsl.{Rsl}
 use Rattle.rsl_messages.specs.declared.message.Rsl.TheVariants.{DataRequest, DataIndication, ChannelActivation, ChannelActivationAck, ChannelActivationNack, ConnectionFailureIndication, HandoverDetection, MeasurementResult, RfChannelRelease, RfChannelReleaseAck}
 use Rattle.rsl_messages.specs.declared.fault.RslFault.TheVariants as rsl_fault
 use Rattle.rsl_messages.specs.Texts as abis
+use Rattle.rsl_messages.specs.Values.{main_channel}
 use Rattle.bssmap_messages.specs.declared.fault.BssmapFault.TheVariants as bssmap_fault
 use Rattle.bssmap_messages.specs.Texts as interface_a
 use Rattle.ho_procedure.specs.declared.exchange.Link.{Link}
@@ -17,10 +18,10 @@ use Rattle.ho_procedure.specs.declared.decoding.Unread.{Unread}
 use Rattle.ho_procedure.specs.declared.decoding.Unread.TheVariants as unread
 
 -- Where a message on Abis has a radio resource message of the mobile inside: a DATA INDICATION (TS 48.058 clause 8.3.2) on
--- the main channel, SAPI 0, link 0 (clause 9.3.2), and a MEASUREMENT RESULT (clause 8.4.8) with L3 information. What
+-- the main channel, SAPI 0 (clause 9.3.2), and a MEASUREMENT RESULT (clause 8.4.8) with L3 information. What
 -- comes on another link isn't read.
 abbrev pub text_inside : {A : Type 0} → Rsl A → Option (List ℕ)
-text_inside (DataIndication channel link layer3) = if link == 0 then Some layer3 else None
+text_inside (DataIndication channel link layer3) = if link == main_channel then Some layer3 else None
 text_inside (MeasurementResult channel number uplink power layer3) = layer3
 text_inside (DataRequest channel link layer3) = None
 text_inside (ChannelActivation channel activation mode reference) = None

@@ -1,6 +1,5 @@
 pub mod Claims
 pub mod Sent
-pub mod Causes
 pub mod Messages
 pub mod Owed
 pub mod Decoding

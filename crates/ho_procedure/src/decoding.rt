@@ -14,11 +14,9 @@ ghost use Rattle.ho_procedure.specs.Decoding.{text_inside, IsInside, IsAbis, IsU
 use crate::exchange::{Bad, Link};
 use bssmap_messages::{Bssmap, BssmapFault};
 use rr_messages::{Rr, RrFault};
+use rsl_messages::values::MAIN_CHANNEL;
 use rsl_messages::{Rsl, RslFault};
 use std::alloc::Allocator;
-
-/// The main channel, SAPI 0 (TS 48.058 clause 9.3.2).
-const MAIN_CHANNEL: u8 = 0;
 
 /// Why octets weren't read.
 #[derive(Clone, Copy, PartialEq, Eq)]

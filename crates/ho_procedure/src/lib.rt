@@ -3,7 +3,6 @@
 #![tactic(auto)]
 
 mod buffers;
-mod causes;
 mod commands;
 pub mod controller;
 mod decoding;

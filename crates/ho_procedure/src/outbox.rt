@@ -4,12 +4,12 @@ ghost use Rattle.ho_procedure.specs.Sent.{all_sent};
 ghost use Rattle.ho_procedure.specs.Messages.{activation, target_activation, release, to_mobile, channel_release, data_request, clear_request, clear_complete, handover_performed, handover_required, handover_request_ack, handover_detect, handover_complete, handover_failure};
 
 use crate::buffers::Buffers;
-use crate::causes::BETTER_CELL;
 use crate::exchange::Outbound;
 use crate::texts::{
     put_a, put_abis, write_a, write_abis, write_data_request, write_request_ack, write_required,
     write_rr,
 };
+use bssmap_messages::causes::BETTER_CELL;
 use bssmap_messages::{Bssmap, CellId};
 use channel_fsm::ChanId;
 use rr_elements::RrCause;

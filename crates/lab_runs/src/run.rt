@@ -156,21 +156,6 @@ pub fn script_items<A: Allocator + Copy, L: Listener<A>>(
     }
 }
 
-/// Follows what the lines of a script give over empty books of the sites, and tells a listener what comes of them.
-fn play_items<A: Allocator + Copy, L: Listener<A>>(
-    alloc: A,
-    sites: Sites<A>,
-    items: Vec<Item<A>, A>,
-    listener: &mut L,
-) -> Result<Run<A>, LabFault>
-    requires there { AreThere (is_some sites.peer) items.items }
-    ensures ran { IfOk result (λ run. IsRunOf (views_of sites) (inputs_in items.items) run) }
-{
-    let mut course = fresh_course(alloc, sites)?;
-    course.run(items, listener)?;
-    Ok(course.into_run())
-}
-
 /// Runs a script over sites that were read, tells a listener what comes of it, and hands out what came of each input. Where a
 /// line of the script can't be read there is no run, and the listener is told that line's number (see [`lab_run`]).
 ///
@@ -195,10 +180,12 @@ pub fn play<A: Allocator + Copy, L: Listener<A>>(
         first_unread (is_some sites.peer) script.now ≡ None }
 {
     let has_peer = sites.peer.is_some();
-    match script_items(alloc, script, has_peer, listener)? {
-        Some(items) => Ok(Some(play_items(alloc, sites, items, listener)?)),
-        None => Ok(None),
-    }
+    let Some(items) = script_items(alloc, script, has_peer, listener)? else {
+        return Ok(None);
+    };
+    let mut course = fresh_course(alloc, sites)?;
+    course.run(items, listener)?;
+    Ok(Some(course.into_run()))
 }
 
 /// How a script ended: done where it was run.

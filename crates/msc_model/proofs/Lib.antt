@@ -1,3 +1,1 @@
-mod LayerThree
-mod Numbered
 mod Written

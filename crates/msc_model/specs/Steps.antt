@@ -2,6 +2,7 @@
 use Rattle.std.specs.Prelude.{◌≡◌, ℕ, if◌then◌else◌, List, [], ◌∷◌, map, Option, Some, None, IsSome, slice_get}
 use Rattle.bssmap_messages.specs.declared.message.Bssmap.{Bssmap}
 use Rattle.bssmap_messages.specs.declared.message.Bssmap.TheVariants.{HandoverRequest, HandoverRequired, HandoverRequestAck, HandoverCommand, HandoverComplete, HandoverFailure, HandoverPerformed, HandoverRequiredReject, HandoverDetect, ClearCommand, ClearComplete, ClearRequest}
+use Rattle.bssmap_messages.specs.Causes.{call_control, reversion_to_old_channel, handover_successful, no_radio_resource_available}
 use Rattle.bssmap_messages.specs.Messages.{KeepsList}
 use Rattle.bssmap_messages.specs.Texts.{IsTextOf, canonical_text}
 use Rattle.msc_model.specs.declared.connection.Connection.{Connection}
@@ -12,21 +13,6 @@ use Rattle.msc_model.specs.Centre.{CentreState, without, joining}
 use Rattle.msc_model.specs.Joins.{is_same, join_of, IsLowest}
 use Rattle.msc_model.specs.Messages.{request}
 use Rattle.msc_model.specs.Routes.{route_of}
-
--- The causes that the centre sends of its own (clause 3.2.2.5).
-
-abbrev pub call_control : ℕ
-call_control = 0x09
-
--- radio interface failure, reversion to old channel
-abbrev pub reversion_to_old_channel : ℕ
-reversion_to_old_channel = 0x0A
-
-abbrev pub handover_successful : ℕ
-handover_successful = 0x0B
-
-abbrev pub no_radio_resource_available : ℕ
-no_radio_resource_available = 0x21
 
 -- the centre after it, and the messages that it sends, each to a call
 pub record Outcome (A : Type 0) : Type 0 where

@@ -13,20 +13,14 @@ use crate::connection::{Connection, Join, is_same, join_of, lowest_number, part}
 use crate::message::{clear_command, command, request, required_reject};
 use crate::out::{CentreOut, Outs, for_both, one_message};
 use crate::route::{Route, route_of};
+use bssmap_messages::causes::{
+    CALL_CONTROL, HANDOVER_SUCCESSFUL, NO_RADIO_RESOURCE_AVAILABLE, REVERSION_TO_OLD_CHANNEL,
+};
 use bssmap_messages::{Bssmap, BssmapFault, CellId, Octets, decode};
 use cell_table::Site;
 use std::alloc::{AllocError, Allocator, Global};
 use std::marker::Model;
 use std::sync::Arc;
-
-// Causes of TS 48.008 clause 3.2.2.5.
-const CALL_CONTROL: u8 = 0x09;
-
-const REVERSION_TO_OLD_CHANNEL: u8 = 0x0A;
-
-const HANDOVER_SUCCESSFUL: u8 = 0x0B;
-
-const NO_RADIO_RESOURCE_AVAILABLE: u8 = 0x21;
 
 /// A switching centre between some controllers. It hands a call over from one to another: the call that asks is joined
 /// to a new call of the other controller, until the handover is complete or has failed, or the call is cleared.

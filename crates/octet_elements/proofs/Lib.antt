@@ -1,5 +1,10 @@
+pub mod BitLemmas
+pub mod CutLemmas
+pub mod FieldLemmas
+pub mod WordLemmas
 pub mod Spelling
 pub mod Splits
 pub mod Notes
+pub mod Numbered
 pub mod Texts
 pub mod Rows

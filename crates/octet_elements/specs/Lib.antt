@@ -1,4 +1,6 @@
+pub mod Bits
 pub mod Elements
+pub mod Fields
 pub mod Lookup
 pub mod Rows
 pub mod Texts

@@ -8,6 +8,7 @@ pub record Appends {A E : Type 0} (text : List ℕ) (old new : Vec ℕ A) (resul
   pub err : OnErr result (new.items ≡ old.items)
   pub room : vec_len old + length text ≤ vec_capacity old → IsOk result
   pub kept : vec_len old + length text ≤ vec_capacity old → vec_capacity new ≡ vec_capacity old
+  pub len : OnOk result (vec_len new ≡ vec_len old + length text)
   pub capacity : vec_capacity old ≤ vec_capacity new
 
 -- there is room for the text behind what the list has

@@ -4,9 +4,13 @@
 //! elements. How many octets an element's value has is fixed for its identifier, or stands in a
 //! length of one octet or of two before the value. A codec gives its table of elements
 //! ([`ElementTable`]); [`Found::read`] reads the octets once and keeps the values that its messages
-//! use, [`values`] says what a value holds, and [`append_element`] writes.
+//! use, [`values`] says what a value holds, and [`append_element`] writes. Where fields of a
+//! value aren't whole octets, [`BitReader`] and [`BitWriter`] read and write them bit by bit.
 #![tactic(auto)]
 
+mod bits;
+#[cfg(test)]
+mod bits_tests;
 mod element;
 mod form;
 mod found;
@@ -17,6 +21,7 @@ mod tests;
 pub mod values;
 mod write;
 
+pub use bits::{BitReader, BitWriter};
 pub use element::{Leading, leading_element};
 pub use form::{ElementTable, Form, PLACES};
 pub use found::Found;

@@ -1,5 +1,5 @@
--- Changes of different entries commute, and a later change of the same entries covers an earlier one.
-use Rattle.std.proofs.Common.{◌≡◌, ◌≢◌, ℕ, Option, Some, None, refl, ap, ◌∙◌}
+-- Changes of different entries commute.
+use Rattle.std.proofs.Common.{◌≡◌, ◌≢◌, ℕ, Option, Some, None, refl, ap}
 use Rattle.std.specs.declared.cmp.Ordering.{Ordering}
 use Rattle.std.specs.Option.{option_map}
 use Rattle.std.specs.Cmp.{IsTotalOrder, nat_cmp_total}
@@ -7,10 +7,10 @@ use Rattle.std.specs.FinMap.{FinMap, IsAntisymmetric, nat_cmp-IsAntisymmetric}
 use Rattle.std.specs.FinMap as map
 use Rattle.channel_fsm.specs.declared.ChanId.{ChanId}
 use Rattle.radio_book.specs.declared.event.Reference.{Reference}
-use Rattle.radio_book.specs.Maps.{Entry, put, with_change}
+use Rattle.radio_book.specs.Maps.{Entry, with_change}
 use Rattle.radio_book.specs.State.{State, Change, apply, or_free, state_of, record_of}
 use Rattle.radio_book.proofs.Frame.{Touches, get_untouched}
-use Rattle.radio_book.proofs.MapFacts.{put_put_other, put_put_same}
+use Rattle.radio_book.proofs.MapFacts.{put_put_other}
 use Rattle.radio_book.proofs.KeyFacts.{chan_total, chan_exact, reference_total, reference_exact}
 
 -- the change names another key, or none
@@ -21,12 +21,6 @@ Misses p k = Touches p k → ⊥
 abbrev pub AreApart : {K X : Type 0} → Option (Entry K X) → Option (Entry K X) → Type 0
 AreApart None q = Unit {0}
 AreApart (Some e) q = Misses q e.0
-
--- the second change names the key of the first, or the first names none
-abbrev pub IsCovered : {K X : Type 0} → Option (Entry K X) → Option (Entry K X) → Type 0
-IsCovered None q = Unit {0}
-IsCovered (Some e) None = ⊥
-IsCovered (Some e) (Some f) = e.0 ≡ f.0
 
 -- a change that depends on what may not be there
 pub option_missed : {A K X : Type 0} (f : A → Entry K X) (o : Option A) (k : K) → ((v : A) → o ≡ Some v → k ≢ (f v).0) → Misses (option_map f o) k
@@ -43,24 +37,12 @@ module _ {K X : Type 0} {R : K → K → Ordering} (o : IsTotalOrder R) (exact :
   with_change_swap m (Some e) None apart = refl
   with_change_swap m (Some e) (Some f) apart = put_put_other o exact m e.0 f.0 e.1 f.1 apart
 
-  with_change_cover : (m : FinMap R X) (p q : Option (Entry K X)) → IsCovered p q → with_change (with_change m p) q ≡ with_change m q
-  with_change_cover m None q covered = refl
-  with_change_cover m (Some e) None covered = absurd covered
-  with_change_cover m (Some e) (Some f) covered = ap (λ k. put (put m k e.1) f.0 f.1) covered ∙ put_put_same o exact m f.0 e.1 f.1
-
 -- two changes of a book, apart in each of its maps
 pub record ChangesApart (p q : Change) : Type 0 where
   pub channel : AreApart p.channel q.channel
   pub call : AreApart p.call q.call
   pub reference : AreApart p.reference q.reference
   pub timer : AreApart p.timer q.timer
-
--- in each map, the entry that the second names, or none
-pub record ChangesCovered (p q : Change) : Type 0 where
-  pub channel : IsCovered p.channel q.channel
-  pub call : IsCovered p.call q.call
-  pub reference : IsCovered p.reference q.reference
-  pub timer : IsCovered p.timer q.timer
 
 -- changes of different entries come to one book in either order
 pub apply_swap : (p q : Change) (b : State) → ChangesApart p q → apply q (apply p b) ≡ apply p (apply q b)
@@ -70,16 +52,6 @@ apply_swap p q b apart = λ i. record {
   calls = with_change_swap nat_cmp_total nat_cmp-IsAntisymmetric b.calls p.call q.call apart.call i;
   references = with_change_swap reference_total reference_exact b.references p.reference q.reference apart.reference i;
   timers = with_change_swap nat_cmp_total nat_cmp-IsAntisymmetric b.timers p.timer q.timer apart.timer i;
-}
-
--- of two changes of the same entries the later one counts
-pub apply_cover : (p q : Change) (b : State) → ChangesCovered p q → apply q (apply p b) ≡ apply q b
-apply_cover p q b covered = λ i. record {
-  site = b.site;
-  channels = with_change_cover chan_total chan_exact b.channels p.channel q.channel covered.channel i;
-  calls = with_change_cover nat_cmp_total nat_cmp-IsAntisymmetric b.calls p.call q.call covered.call i;
-  references = with_change_cover reference_total reference_exact b.references p.reference q.reference covered.reference i;
-  timers = with_change_cover nat_cmp_total nat_cmp-IsAntisymmetric b.timers p.timer q.timer covered.timer i;
 }
 
 -- what a change misses reads as before

@@ -27,9 +27,10 @@ use Rattle.radio_book.specs.declared.event.Refusal.{Refusal}
 use Rattle.radio_book.specs.declared.event.Refusal.TheVariants.{WrongPhase, NotArmed, Unexpected}
 use Rattle.cell_table.specs.Site.{is_traffic}
 use Rattle.radio_book.specs.State.{State, or_free, state_of, record_of}
-use Rattle.radio_book.specs.Table.{step, command_row, command_by, command_at, complete_row, complete_by, complete_at, require_row, require_at, require_from, order_row, order_by, order_at, left_row, left_by, left_at, detect_row, detect_by, detect_of, detect_at, owner_row, is_target, owner, Outcome, Refuses, Accepts, row, book_after, begin_row, clear_row, clear_at, look_row, taken_attempt, take_row, take_internal, take_from, reserve_row, reserve_by, reserve_at, reserve_number, activate_row, activate_by, activate_at, left_state, undo_row, undo_attempt, is_armed, confirm_row, refuse_row, released_row}
+use Rattle.radio_book.specs.Table.{step, command_row, complete_row, require_row, order_row, left_row, detect_row, detect_by, owner_row, is_target, owner, Outcome, Refuses, Accepts, row, book_after, begin_row, clear_row, look_row, taken_attempt, take_row, reserve_row, activate_row, left_state, undo_row, undo_attempt, is_armed, confirm_row, refuse_row, released_row, needs}
 use Rattle.radio_book.specs.Sound.{IsSound, target_in, HasTarget, HasServing}
 use Rattle.radio_book.specs.Channels.{IsStepOf, serving_of, target_of, changed_channel, TakesStep, ChannelsTakeSteps}
+use Rattle.radio_book.proofs.Rows.{command_by, command_at, complete_by, complete_at, require_at, require_from, order_by, order_at, left_by, left_at, detect_of, detect_at, clear_at, take_at, take_from, reserve_by, reserve_at, reserve_number, activate_by, activate_at}
 use Rattle.radio_book.proofs.KeyFacts.{chan_total, chan_exact}
 use Rattle.radio_book.proofs.Frame.{AtKey, get-with_change, serving_is_on, aimed_is_owned}
 
@@ -100,7 +101,7 @@ module _ (b : State) (sound : IsSound b) where
   from_steps c x r (On d) true false Off is = tt
 
   internal_steps : (c : ℕ) (x : ChanId) (r : CallRecord) (o : Option Attempt) (s : Option ChanId) (traffic : Bool) →
-      Steps b (event.Take c kind.Internal x) (take_internal c x r o s (state_of b) traffic)
+      Steps b (event.Take c kind.Internal x) (take_at c x r o s (state_of b) traffic)
   internal_steps c x r (Some a) s traffic = tt
   internal_steps c x r None None traffic = tt
   internal_steps c x r None (Some y) traffic = from_steps c x r (state_of b y) traffic (y.cell == x.cell) (state_of b x) refl
@@ -168,7 +169,7 @@ module _ (b : State) (sound : IsSound b) where
   undo_steps c why refusal r (Some a) armed known opened = undone_steps c why r a a.target known opened refl (aimed c r a known opened)
 
   expiry_steps : (c : ℕ) (m : Timer) (r : CallRecord) (armed : Option Timer) (is : Bool) → record_of b c ≡ Some r →
-      Steps b (event.Undo c (Expired m)) (if is then undo_attempt c NotArmed r r.attempt (state_of b) armed else Refuses NotArmed)
+      Steps b (event.Undo c (Expired m)) (needs is NotArmed (undo_attempt c NotArmed r r.attempt (state_of b) armed))
   expiry_steps c m r armed true known = undo_steps c (Expired m) NotArmed r r.attempt armed known refl
   expiry_steps c m r armed false known = tt
 
@@ -252,7 +253,7 @@ module _ (b : State) (sound : IsSound b) where
   detect_at_steps x c r a stage.Required = tt
   detect_at_steps x c r a stage.Ordered = tt
 
-  detect_if_steps : (x : ChanId) (c : ℕ) (r : CallRecord) (a : Attempt) (aimed : Bool) → Steps b (event.Detect x) (if aimed then detect_at x c r a a.stage else Refuses (Unexpected x))
+  detect_if_steps : (x : ChanId) (c : ℕ) (r : CallRecord) (a : Attempt) (aimed : Bool) → Steps b (event.Detect x) (needs aimed (Unexpected x) (detect_at x c r a a.stage))
   detect_if_steps x c r a true = detect_at_steps x c r a a.stage
   detect_if_steps x c r a false = tt
 

@@ -31,10 +31,11 @@ use Rattle.cell_table.specs.Site.{is_traffic}
 use Rattle.radio_book.specs.Maps.{Entry, put, with_change}
 use Rattle.radio_book.specs.State.{State, apply, state_of, record_of}
 use Rattle.radio_book.specs.Stages.{stage_row}
-use Rattle.radio_book.specs.Table.{owner, Outcome, Refuses, Accepts, row, step, reply_of, reply_to, book_after, with_state, with_record, with_timer, resting_record, reference_at, reference_held, open_row, clear_row, look_row, take_row, reserve_row, activate_row, command_row, complete_row, undo_row, undo_by, undo_attempt, is_armed, require_row, order_row, left_row, reserve_at, reserve_number, activate_at, command_at, complete_at, order_at, left_at, moved_entry, confirm_row, refuse_row, released_row, detect_row, detect_by, detect_at, owner_row}
+use Rattle.radio_book.specs.Table.{owner, Outcome, Refuses, Accepts, row, step, reply_of, reply_to, book_after, with_entry, resting_record, reference_at, reference_held, open_row, clear_row, look_row, take_row, reserve_row, activate_row, command_row, complete_row, undo_row, undo_by, undo_attempt, is_armed, require_row, order_row, left_row, moved_entry, confirm_row, refuse_row, released_row, detect_row, detect_by, owner_row, needs}
 use Rattle.radio_book.specs.Sound.{IsSound, HasReference}
-use Rattle.radio_book.specs.Kinds.{EndsIt, number_of, is_accepted, is_reserved}
-use Rattle.radio_book.specs.Others.{call_of, channel_of, without_attempt_of, without_attempt_in, IsOpen, number_after, OwnStepsChangeTheAttempt}
+use Rattle.radio_book.specs.Kinds.{call_of, channel_of, EndsIt, number_of, is_accepted, is_reserved}
+use Rattle.radio_book.specs.Others.{without_attempt_of, without_attempt_in, IsOpen, number_after, OwnStepsChangeTheAttempt}
+use Rattle.radio_book.proofs.Rows.{reserve_at, reserve_number, activate_at, command_at, complete_at, order_at, left_at, detect_at}
 use Rattle.radio_book.proofs.KeyFacts.{chan_total, chan_exact, reference_total, reference_exact, same_chan_itself}
 use Rattle.radio_book.proofs.MapFacts.{get_put_same, put_put_same, put_again, record_same}
 use Rattle.radio_book.proofs.Frame.{attempting, same_some, aimed_is_owned}
@@ -78,7 +79,7 @@ module _ (b : State) (sound : IsSound b) (c : ℕ) (s : Option ChanId) (k : Atte
       with_change (with_change b.channels channel) (option_map (λ (t : ChanId). (t, None)) o) ≡ with_change b.channels (option_map (λ (t : ChanId). (t, None)) o) →
       with_change (with_change b.references reference) (option_map (λ (j : Reference). (j, None)) (reference_held o m)) ≡ with_change b.references (option_map (λ (j : Reference). (j, None)) (reference_held o n)) →
       with_change (with_change b.timers timer) (option_map (λ (t : Timer). (c, None)) (map.get (with_change b.timers timer) c)) ≡ with_change b.timers (option_map (λ (t : Timer). (c, None)) (map.get b.timers c)) →
-      Goes b c s k o m (apply (record { channel = channel; call = with_record c (attempting s k h o m); reference = reference; timer = timer }) b)
+      Goes b c s k o m (apply (record { channel = channel; call = with_entry c (attempting s k h o m); reference = reference; timer = timer }) b)
   moved g h o n m channel reference timer known channels references timers =
       let calls = put_put_same nat_cmp_total nat_cmp-IsAntisymmetric b.calls c (Some (attempting s k h o m)) (resting_record k (attempting s k h o m))
       ∙ ap (put b.calls c) (rests_alike k s o h g m n) in
@@ -86,7 +87,7 @@ module _ (b : State) (sound : IsSound b) (c : ℕ) (s : Option ChanId) (k : Atte
       record {
         stage = h;
         still = still;
-        rest = ap (λ f. without_attempt_in c f (apply (record { channel = channel; call = with_record c (attempting s k h o m); reference = reference; timer = timer }) b)) still
+        rest = ap (λ f. without_attempt_in c f (apply (record { channel = channel; call = with_entry c (attempting s k h o m); reference = reference; timer = timer }) b)) still
             ∙ (λ i. record { site = b.site; channels = channels i; calls = calls i; references = references i; timers = timers i })
             ∙ sym (ap (λ f. without_attempt_in c f b) known);
       }
@@ -122,7 +123,7 @@ module _ (b : State) (sound : IsSound b) (c : ℕ) (s : Option ChanId) (k : Atte
   activate_kept : (g : Stage) (o : Option ChanId) (n : Option ℕ) → record_of b c ≡ Some (attempting s k g o n) →
       Keeps b c s k o n (activate_at c (attempting s k g o n) (record { kind = k; stage = g; target = o; reference = n }) g o)
   activate_kept Reserved None n known = tt
-  activate_kept Reserved (Some t) n known = moved Reserved Sent (Some t) n n (with_state t (Pending c)) None None known (covered t (Pending c)) refl refl
+  activate_kept Reserved (Some t) n known = moved Reserved Sent (Some t) n n (with_entry t (Pending c)) None None known (covered t (Pending c)) refl refl
   activate_kept Taken o n known = tt
   activate_kept Sent o n known = tt
   activate_kept Refused o n known = tt
@@ -134,7 +135,7 @@ module _ (b : State) (sound : IsSound b) (c : ℕ) (s : Option ChanId) (k : Atte
 
   command_kept : (g : Stage) (o : Option ChanId) (n : Option ℕ) → record_of b c ≡ Some (attempting s k g o n) →
       Keeps b c s k o n (command_at c (attempting s k g o n) (record { kind = k; stage = g; target = o; reference = n }) g)
-  command_kept Confirmed o n known = moved Confirmed Commanded o n n None None (with_timer c T3103) known refl refl (timer_covered b.timers c T3103)
+  command_kept Confirmed o n known = moved Confirmed Commanded o n n None None (with_entry c T3103) known refl refl (timer_covered b.timers c T3103)
   command_kept Taken o n known = tt
   command_kept Reserved o n known = tt
   command_kept Sent o n known = tt
@@ -146,7 +147,7 @@ module _ (b : State) (sound : IsSound b) (c : ℕ) (s : Option ChanId) (k : Atte
 
   order_kept : (g : Stage) (o : Option ChanId) (n : Option ℕ) → record_of b c ≡ Some (attempting s k g o n) →
       Keeps b c s k o n (order_at c (attempting s k g o n) (record { kind = k; stage = g; target = o; reference = n }) g)
-  order_kept Required o n known = moved Required Ordered o n n None None (with_timer c T8) known refl refl (timer_covered b.timers c T8)
+  order_kept Required o n known = moved Required Ordered o n n None None (with_entry c T8) known refl refl (timer_covered b.timers c T8)
   order_kept Taken o n known = tt
   order_kept Reserved o n known = tt
   order_kept Sent o n known = tt
@@ -158,12 +159,12 @@ module _ (b : State) (sound : IsSound b) (c : ℕ) (s : Option ChanId) (k : Atte
 
   -- a station's answer about the target
   answer_kept : (g h : Stage) (t : ChanId) (n : Option ℕ) (v : ChanState) → record_of b c ≡ Some (attempting s k g (Some t) n) →
-      Goes b c s k (Some t) n (apply (record { channel = with_state t v; call = moved_entry t h c (record_of b c); reference = None; timer = None }) b)
+      Goes b c s k (Some t) n (apply (record { channel = with_entry t v; call = moved_entry t h c (record_of b c); reference = None; timer = None }) b)
   answer_kept g h t n v known =
-      let entry : moved_entry t h c (record_of b c) ≡ with_record c (attempting s k h (Some t) n)
-      = ap (moved_entry t h c) known ∙ ap (λ q. if q then with_record c (attempting s k h (Some t) n) else None) (same_chan_itself t) in
-      subst (λ f. Goes b c s k (Some t) n (apply (record { channel = with_state t v; call = f; reference = None; timer = None }) b)) (sym entry)
-      (moved g h (Some t) n n (with_state t v) None None known (covered t v) refl refl)
+      let entry : moved_entry t h c (record_of b c) ≡ with_entry c (attempting s k h (Some t) n)
+      = ap (moved_entry t h c) known ∙ ap (λ q. if q then with_entry c (attempting s k h (Some t) n) else None) (same_chan_itself t) in
+      subst (λ f. Goes b c s k (Some t) n (apply (record { channel = with_entry t v; call = f; reference = None; timer = None }) b)) (sym entry)
+      (moved g h (Some t) n n (with_entry t v) None None known (covered t v) refl refl)
 
   detect_kept : (g : Stage) (t : ChanId) (n : Option ℕ) → record_of b c ≡ Some (attempting s k g (Some t) n) →
       Keeps b c s k (Some t) n (detect_at t c (attempting s k g (Some t) n) (record { kind = k; stage = g; target = Some t; reference = n }) g)
@@ -258,8 +259,8 @@ module _ (b : State) (sound : IsSound b) (c : ℕ) (s : Option ChanId) (k : Atte
   undo_goes : (why : Why) → (IsTrue (is_accepted (reply_to b (event.Undo c why))) → ⊥) → Keeps b c s k o n (row b (event.Undo c why))
   undo_goes why = subst (λ f. (IsTrue (is_accepted (reply_of (undo_row c why f (state_of b) (map.get b.timers c)))) → ⊥) → Keeps b c s k o n (undo_row c why f (state_of b) (map.get b.timers c))) (sym known) (by why)
     where
-      guarded : (armed : Bool) → (IsTrue (is_accepted (reply_of (if armed then undo_attempt c NotArmed (attempting s k g o n) (Some attempt) (state_of b) (map.get b.timers c) else Refuses NotArmed))) → ⊥) →
-          Keeps b c s k o n (if armed then undo_attempt c NotArmed (attempting s k g o n) (Some attempt) (state_of b) (map.get b.timers c) else Refuses NotArmed)
+      guarded : (armed : Bool) → (IsTrue (is_accepted (reply_of (needs armed NotArmed (undo_attempt c NotArmed (attempting s k g o n) (Some attempt) (state_of b) (map.get b.timers c))))) → ⊥) →
+          Keeps b c s k o n (needs armed NotArmed (undo_attempt c NotArmed (attempting s k g o n) (Some attempt) (state_of b) (map.get b.timers c)))
       guarded true refused = undone_kept b c s k o n (attempting s k g o n) attempt NotArmed (map.get b.timers c) refused
       guarded false refused = tt
 
@@ -315,7 +316,7 @@ module _ (b : State) (sound : IsSound b) (c : ℕ) (s : Option ChanId) (k : Atte
 
   detect_by_goes : Keeps b c s k (Some t) n (detect_by t c (record_of b c))
   detect_by_goes = subst (λ f. Keeps b c s k (Some t) n (detect_by t c f)) (sym known)
-      (subst (λ q. Keeps b c s k (Some t) n (if q then detect_at t c (attempting s k g (Some t) n) (record { kind = k; stage = g; target = Some t; reference = n }) g else Refuses (Unexpected t))) (sym (same_chan_itself t))
+      (subst (λ q. Keeps b c s k (Some t) n (needs q (Unexpected t) (detect_at t c (attempting s k g (Some t) n) (record { kind = k; stage = g; target = Some t; reference = n }) g))) (sym (same_chan_itself t))
       (detect_kept b sound c s k g t n known))
 
   detect_goes : (z : ChanState) → state_of b t ≡ z → Keeps b c s k (Some t) n (detect_row t z (record_of b))

@@ -5,6 +5,7 @@ pub mod CopyFacts
 pub mod JournalFacts
 pub mod EntryFacts
 pub mod SameFacts
+pub mod Rows
 pub mod Frame
 pub mod SoundParts
 pub mod SoundHandover

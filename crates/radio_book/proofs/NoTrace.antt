@@ -18,7 +18,7 @@ use Rattle.radio_book.specs.declared.event.Why.TheVariants.{Asked, Expired}
 use Rattle.radio_book.specs.declared.event.Reply.{Reply}
 use Rattle.radio_book.specs.declared.undone.StepAt.{StepAt}
 use Rattle.radio_book.specs.State.{State, apply, or_free, state_of, record_of}
-use Rattle.radio_book.specs.Table.{step, reply_of, reply_to, book_after, Refuses, undo_row, undo_by, undo_attempt, is_armed, undo_change, left_state}
+use Rattle.radio_book.specs.Table.{step, reply_of, reply_to, book_after, undo_row, undo_by, undo_attempt, is_armed, undo_change, left_state, needs}
 use Rattle.radio_book.specs.Sound.{IsSound}
 use Rattle.radio_book.specs.Run.{run_book, run_replies}
 use Rattle.radio_book.specs.Kinds.{Undoes, is_accepted}
@@ -43,8 +43,8 @@ module _ (c : ℕ) (r : CallRecord) (a : Attempt) (b : State) (is : record_of b 
   by_attempt : (refusal : Refusal) → book_after (undo_attempt c refusal r r.attempt (state_of b) (map.get b.timers c)) b ≡ undone
   by_attempt refusal = ap (λ o. book_after (undo_attempt c refusal r o (state_of b) (map.get b.timers c)) b) has
 
-  guarded : (armed : Bool) → IsTrue (is_accepted (reply_of (if armed then undo_attempt c NotArmed r r.attempt (state_of b) (map.get b.timers c) else Refuses NotArmed))) →
-      book_after (if armed then undo_attempt c NotArmed r r.attempt (state_of b) (map.get b.timers c) else Refuses NotArmed) b ≡ undone
+  guarded : (armed : Bool) → IsTrue (is_accepted (reply_of (needs armed NotArmed (undo_attempt c NotArmed r r.attempt (state_of b) (map.get b.timers c))))) →
+      book_after (needs armed NotArmed (undo_attempt c NotArmed r r.attempt (state_of b) (map.get b.timers c))) b ≡ undone
   guarded true accepted = by_attempt NotArmed
   guarded false accepted = cc
 

@@ -10,8 +10,8 @@ use Rattle.radio_book.specs.declared.undone.StepAt.{StepAt}
 use Rattle.radio_book.specs.State.{State, apply, state_of, record_of}
 use Rattle.radio_book.specs.Table.{owner, step, reply_to, book_after, confirm_row, refuse_row, detect_row, released_row, owner_row}
 use Rattle.radio_book.specs.Sound.{IsSound}
-use Rattle.radio_book.specs.Kinds.{released_by, refusal_of}
-use Rattle.radio_book.specs.Others.{channel_of, without_channel, LeavesAlone}
+use Rattle.radio_book.specs.Kinds.{channel_of, released_by, refusal_of}
+use Rattle.radio_book.specs.Others.{without_channel, LeavesAlone}
 use Rattle.radio_book.specs.Undone.{is_channel, is_on_target, releases, comes_from, refused_for, up_to_first, after_first}
 use Rattle.radio_book.proofs.OthersPhases.{commutes_with_undone, leaves_off_targets}
 use Rattle.radio_book.proofs.EachAgrees.{each_agrees}

@@ -13,8 +13,8 @@ use Rattle.radio_book.specs.declared.undone.StepAt.{StepAt}
 use Rattle.radio_book.specs.State.{State, apply, record_of}
 use Rattle.radio_book.specs.Table.{step, reply_to, reference_held}
 use Rattle.radio_book.specs.Sound.{IsSound}
-use Rattle.radio_book.specs.Kinds.{number_of, refusal_of, is_accepted, is_reserved}
-use Rattle.radio_book.specs.Others.{call_of, channel_of, IsHeldReference, without_attempt, without_attempt_of, without_attempt_in, without_open, LeavesAlone, IsOpen, IsOwn, GoesOn}
+use Rattle.radio_book.specs.Kinds.{call_of, channel_of, number_of, refusal_of, is_accepted, is_reserved}
+use Rattle.radio_book.specs.Others.{IsHeldReference, without_attempt, without_attempt_of, without_attempt_in, without_open, LeavesAlone, IsOpen, IsOwn, GoesOn}
 use Rattle.radio_book.specs.Undone.{Ends, is_by_call, is_on_target, reserves, comes_from, refused_for, up_to_first, after_first}
 use Rattle.radio_book.proofs.OthersPhases.{commutes_with_undone, leaves_open_attempts}
 use Rattle.radio_book.proofs.EachAgrees.{each_agrees}

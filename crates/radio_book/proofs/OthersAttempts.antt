@@ -1,5 +1,5 @@
 -- Take, Reserve, Activate and Undo by another call agree, whatever is gone.
-use Rattle.std.proofs.Common.{◌≡◌, ℕ, Bool, true, false, if◌then◌else◌, Option, Some, None, refl, ap, ◌∙◌, ◌==◌}
+use Rattle.std.proofs.Common.{◌≡◌, ℕ, Bool, true, false, Option, Some, None, refl, ap, ◌∙◌, ◌==◌}
 use Rattle.std.specs.Option.{option_map}
 use Rattle.std.specs.FinMap as map
 use Rattle.channel_fsm.specs.declared.ChanId.{ChanId}
@@ -22,8 +22,9 @@ use Rattle.radio_book.specs.declared.event.Refusal.TheVariants.{NoCall, WrongPha
 use Rattle.radio_book.specs.declared.event.Reply.TheVariants.{Record, Refused}
 use Rattle.cell_table.specs.Site.{is_traffic}
 use Rattle.radio_book.specs.State.{State, Change, apply, state_of, record_of}
-use Rattle.radio_book.specs.Table.{Accepts, Refuses, reply_of, undo_row, undo_attempt, is_armed, left_state, resting_record, reference_held, taken_attempt, take_row, take_internal, take_from, reserve_row, reserve_by, reserve_at, reserve_number, reference_at, activate_row, activate_by, activate_at}
+use Rattle.radio_book.specs.Table.{Accepts, reply_of, undo_row, undo_attempt, is_armed, left_state, resting_record, reference_held, taken_attempt, take_row, reserve_row, reference_at, activate_row, needs}
 use Rattle.radio_book.specs.Sound.{IsSound, reference_of}
+use Rattle.radio_book.proofs.Rows.{take_at, take_from, reserve_by, reserve_at, reserve_number, activate_by, activate_at}
 use Rattle.radio_book.proofs.Changes.{Misses, option_apart, record_kept, state_kept, user_kept, timer_kept}
 use Rattle.radio_book.proofs.Agreement.{Agrees, refused, as_read, Hides, AgreesWithOthers, requires_free, states_kept, serving_missed, target_missed}
 use Rattle.radio_book.proofs.OthersCalls.{begin_agrees}
@@ -44,8 +45,8 @@ module _ (removal : Change) (b : State) (hides : Hides removal b) (d : ℕ) (y :
       (λ missed. record { channel = missed; call = other; reference = tt; timer = tt }) h
 
   internal_agrees : (r : CallRecord) (o : Option Attempt) (serving : Option ChanId) (traffic : Bool) → ((s : ChanId) → serving ≡ Some s → Misses removal.channel s) →
-      (reply_of (take_internal d y r o serving (state_of b) traffic) ≡ Refused (ChannelBusy y) → Misses removal.channel y) →
-      Agrees removal (take_internal d y r o serving (state_of b) traffic) (take_internal d y r o serving (state_of (apply removal b)) traffic)
+      (reply_of (take_at d y r o serving (state_of b) traffic) ≡ Refused (ChannelBusy y) → Misses removal.channel y) →
+      Agrees removal (take_at d y r o serving (state_of b) traffic) (take_at d y r o serving (state_of (apply removal b)) traffic)
   internal_agrees r (Some a) serving traffic missed h = refused removal WrongPhase
   internal_agrees r None None traffic missed h = refused removal WrongPhase
   internal_agrees r None (Some s) traffic missed h =
@@ -159,8 +160,8 @@ module _ (removal : Change) (b : State) (sound : IsSound b) (hides : Hides remov
       }
 
   undo_expired_agrees : (armed : Option Timer) (expired : Bool) →
-      Agrees removal (if expired then undo_attempt d NotArmed r r.attempt (state_of b) armed else Refuses NotArmed)
-      (if expired then undo_attempt d NotArmed r r.attempt (state_of (apply removal b)) armed else Refuses NotArmed)
+      Agrees removal (needs expired NotArmed (undo_attempt d NotArmed r r.attempt (state_of b) armed))
+      (needs expired NotArmed (undo_attempt d NotArmed r r.attempt (state_of (apply removal b)) armed))
   undo_expired_agrees armed true = undo_attempt_agrees NotArmed armed r.attempt refl
   undo_expired_agrees armed false = refused removal NotArmed
 

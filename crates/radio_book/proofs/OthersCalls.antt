@@ -10,7 +10,8 @@ use Rattle.radio_book.specs.declared.event.Refusal.TheVariants.{NoCall, CallExis
 use Rattle.radio_book.specs.declared.event.Reply.TheVariants.{Done, Record, Refused}
 use Rattle.cell_table.specs.Site.{is_traffic}
 use Rattle.radio_book.specs.State.{State, Change, apply, state_of, record_of}
-use Rattle.radio_book.specs.Table.{Accepts, reply_of, no_change, begin_row, open_row, clear_row, clear_at, left_state, look_row}
+use Rattle.radio_book.specs.Table.{Accepts, reply_of, no_change, begin_row, open_row, clear_row, left_state, look_row}
+use Rattle.radio_book.proofs.Rows.{clear_at}
 use Rattle.radio_book.proofs.Changes.{Misses, option_apart, record_kept}
 use Rattle.radio_book.proofs.Agreement.{Agrees, refused, as_read, Hides, AgreesWithOthers, requires_free, states_kept, serving_missed}
 

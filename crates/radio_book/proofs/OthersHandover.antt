@@ -11,8 +11,9 @@ use Rattle.radio_book.specs.declared.event.Reference.{Reference}
 use Rattle.radio_book.specs.declared.event.Event.TheVariants as event
 use Rattle.radio_book.specs.declared.event.Refusal.TheVariants.{NoCall, WrongPhase}
 use Rattle.radio_book.specs.State.{State, Change, apply, state_of, record_of}
-use Rattle.radio_book.specs.Table.{reference_held, command_row, command_by, command_at, complete_change, complete_row, complete_by, complete_at, require_row, require_at, require_from, order_row, order_by, order_at, left_row, left_by, left_at}
+use Rattle.radio_book.specs.Table.{reference_held, command_row, complete_change, complete_row, require_row, order_row, left_row}
 use Rattle.radio_book.specs.Sound.{IsSound, reference_of}
+use Rattle.radio_book.proofs.Rows.{command_by, command_at, complete_by, complete_at, require_at, require_from, order_by, order_at, left_by, left_at}
 use Rattle.radio_book.proofs.Changes.{Misses, ChangesApart, option_apart, record_kept, state_kept}
 use Rattle.radio_book.proofs.Agreement.{Agrees, refused, as_read, Hides, AgreesWithOthers, serving_missed}
 

@@ -1,5 +1,5 @@
 -- What an open attempt hides, and what its target hides once it is off: in both phases the rows of others agree.
-use Rattle.std.proofs.Common.{◌≡◌, ◌≢◌, inl, inr, ℕ, false, if◌then◌else◌, Option, Some, None, refl, sym, ◌∙◌, ap, subst}
+use Rattle.std.proofs.Common.{◌≡◌, ◌≢◌, inl, inr, ℕ, false, Option, Some, None, refl, sym, ◌∙◌, ap, subst}
 use Rattle.std.specs.Option.{option_map, option_and_then}
 use Rattle.std.specs.FinMap as map
 use Rattle.std.proofs.lemmas.Option.{same_Some}
@@ -18,9 +18,11 @@ use Rattle.radio_book.specs.declared.event.Reply.{Reply}
 use Rattle.radio_book.specs.declared.event.Reply.TheVariants.{Refused}
 use Rattle.radio_book.specs.Maps.{Entry, with_change}
 use Rattle.radio_book.specs.State.{State, apply, state_of, record_of}
-use Rattle.radio_book.specs.Table.{owner, Refuses, is_target, detect_by, detect_of, detect_at, resting_record, reference_held, reply_to, left_state, Outcome, Accepts, row, book_after}
+use Rattle.radio_book.specs.Table.{owner, Refuses, is_target, detect_by, resting_record, reference_held, reply_to, left_state, Outcome, Accepts, row, book_after, needs}
 use Rattle.radio_book.specs.Sound.{IsSound, target_in, reference_of, armed_in}
-use Rattle.radio_book.specs.Others.{call_of, channel_of, IsHeldChannel, IsHeldReference, without_attempt, without_channel, CommutesWithUndone, UndoneIsRemoved, LeavesOpenAttempts, LeavesOffTargets}
+use Rattle.radio_book.specs.Others.{IsHeldChannel, IsHeldReference, without_attempt, without_channel, CommutesWithUndone, UndoneIsRemoved, LeavesOpenAttempts, LeavesOffTargets}
+use Rattle.radio_book.specs.Kinds.{call_of, channel_of}
+use Rattle.radio_book.proofs.Rows.{detect_of, detect_at}
 use Rattle.radio_book.proofs.KeyFacts.{chan_total, chan_exact, other_chan}
 use Rattle.radio_book.proofs.MapFacts.{put_put_same, call_cases, record_same}
 use Rattle.radio_book.proofs.Frame.{Touches, aimed_is_owned, serving_is_on}
@@ -57,7 +59,7 @@ module _ (c : ℕ) (r : CallRecord) (a : Attempt) (b : State) (sound : IsSound b
   not_aimed : (x : ChanId) (d : ℕ) → (a.target ≡ Some x → ⊥) → d ≡ c → detect_by x d (record_of b d) ≡ Refuses (Unexpected x)
   not_aimed x d other here =
       ap (detect_by x d) (ap (record_of b) here ∙ is) ∙ ap (detect_of x d r) has
-      ∙ ap (λ aimed. if aimed then detect_at x d r a a.stage else Refuses (Unexpected x)) (other_target x a.target other)
+      ∙ ap (λ aimed. needs aimed (Unexpected x) (detect_at x d r a a.stage)) (other_target x a.target other)
 
   left_alone : (x : ChanId) (d : ℕ) → d ≡ c → detect_by x d (record_of (apply (without_attempt c r a (map.get b.timers c)) b) d) ≡ Refuses (Unexpected x)
   left_alone x d here = ap (λ e. detect_by x d (record_of (apply (without_attempt c r a (map.get b.timers c)) b) e)) here ∙ ap (detect_by x d) (record_same b.calls c (resting_record a.kind r)) ∙ rests a.kind

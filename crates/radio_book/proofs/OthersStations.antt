@@ -11,12 +11,13 @@ use Rattle.radio_book.specs.declared.event.Event.TheVariants as event
 use Rattle.radio_book.specs.declared.event.Refusal.TheVariants.{Unexpected}
 use Rattle.radio_book.specs.declared.event.Reply.TheVariants.{Owned}
 use Rattle.radio_book.specs.State.{State, Change, apply, state_of, record_of}
-use Rattle.radio_book.specs.Table.{owner, Refuses, detect_row, detect_by, detect_of, detect_at, owner_row, Accepts, with_state, with_record, at_stage, is_target, attempt_entry, moved_entry, confirm_row, refuse_row, released_row}
+use Rattle.radio_book.specs.Table.{owner, detect_row, detect_by, owner_row, Accepts, with_entry, at_stage, is_target, attempt_entry, moved_entry, confirm_row, refuse_row, released_row, needs}
+use Rattle.radio_book.proofs.Rows.{detect_of, detect_at}
 use Rattle.radio_book.proofs.Changes.{Misses, AreApart, state_kept, record_kept}
 use Rattle.radio_book.proofs.Agreement.{Agrees, Avoids, refused, as_read, AgreesWithOthers}
 
 module _ (removal : Change) (c : ℕ) (other : Misses removal.call c) (x : ChanId) (s : Stage) where
-  with_record_apart : (aimed : Bool) (r : CallRecord) → AreApart (if aimed then with_record c r else None) removal.call
+  with_record_apart : (aimed : Bool) (r : CallRecord) → AreApart (if aimed then with_entry c r else None) removal.call
   with_record_apart true r = other
   with_record_apart false r = tt
 
@@ -30,10 +31,10 @@ module _ (removal : Change) (c : ℕ) (other : Misses removal.call c) (x : ChanI
 
   -- the station's answer on a channel of another call
   answer_agrees : (b : State) (state : ChanState) → Misses removal.channel x →
-      Agrees removal (Accepts (record { channel = with_state x state; call = moved_entry x s c (record_of b c); reference = None; timer = None }) (Owned c))
-      (Accepts (record { channel = with_state x state; call = moved_entry x s c (record_of (apply removal b) c); reference = None; timer = None }) (Owned c))
+      Agrees removal (Accepts (record { channel = with_entry x state; call = moved_entry x s c (record_of b c); reference = None; timer = None }) (Owned c))
+      (Accepts (record { channel = with_entry x state; call = moved_entry x s c (record_of (apply removal b) c); reference = None; timer = None }) (Owned c))
   answer_agrees b state missed = record {
-    same = ap (λ o. Accepts (record { channel = with_state x state; call = moved_entry x s c o; reference = None; timer = None }) (Owned c)) (record_kept removal b c other);
+    same = ap (λ o. Accepts (record { channel = with_entry x state; call = moved_entry x s c o; reference = None; timer = None }) (Owned c)) (record_kept removal b c other);
     away = record { channel = missed; call = moved_entry_apart (record_of b c); reference = tt; timer = tt };
   }
 
@@ -83,7 +84,7 @@ module _ (removal : Change) (x : ChanId) (c : ℕ) (other : Misses removal.call 
   detect_at_agrees r a stage.Ordered = refused removal (Unexpected x)
 
   detect_if_agrees : (r : CallRecord) (a : Attempt) (aimed : Bool) →
-      Agrees removal (if aimed then detect_at x c r a a.stage else Refuses (Unexpected x)) (if aimed then detect_at x c r a a.stage else Refuses (Unexpected x))
+      Agrees removal (needs aimed (Unexpected x) (detect_at x c r a a.stage)) (needs aimed (Unexpected x) (detect_at x c r a a.stage))
   detect_if_agrees r a true = detect_at_agrees r a a.stage
   detect_if_agrees r a false = refused removal (Unexpected x)
 

@@ -21,10 +21,11 @@ use Rattle.radio_book.specs.declared.event.Event.TheVariants as event
 use Rattle.cell_table.specs.Site.{is_traffic}
 use Rattle.radio_book.specs.Maps.{put, with_change}
 use Rattle.radio_book.specs.State.{State, apply, or_free, state_of, record_of}
-use Rattle.radio_book.specs.Table.{Outcome, Refuses, Accepts, row, reply_of, reply_to, step, book_after, with_record, with_timer, resting_record, taking_change, take_row, take_internal, take_from, take_incoming, require_row, require_at, require_from}
+use Rattle.radio_book.specs.Table.{Outcome, Refuses, Accepts, row, reply_of, reply_to, step, book_after, with_entry, resting_record, taking_change, take_row, begin_row, taken_attempt, require_row}
 use Rattle.radio_book.specs.Sound.{IsSound, armed_in}
 use Rattle.radio_book.specs.Kinds.{is_accepted}
 use Rattle.radio_book.specs.Others.{without_attempt_of, without_attempt_in, IsOpen, AddsTheAttempt, OpeningsAddTheAttempt}
+use Rattle.radio_book.proofs.Rows.{take_at, take_from, require_at, require_from}
 use Rattle.radio_book.proofs.KeyFacts.{chan_total, chan_exact}
 use Rattle.radio_book.proofs.MapFacts.{get_put_same, put_put_same, put_again, record_same}
 use Rattle.radio_book.proofs.Frame.{attempting}
@@ -68,7 +69,7 @@ module _ (b : State) (sound : IsSound b) (c : ℕ) where
         still = record { call_record = r; attempt = _; of_call = still; of_record = refl; aims = refl; has = refl };
       }
 
-  required : (y : ChanId) → record_of b c ≡ Some (rests y) → Opened b c None (apply (record { channel = None; call = with_record c (attempting (Some y) Outgoing Required None None); reference = None; timer = with_timer c T7 }) b)
+  required : (y : ChanId) → record_of b c ≡ Some (rests y) → Opened b c None (apply (record { channel = None; call = with_entry c (attempting (Some y) Outgoing Required None None); reference = None; timer = with_entry c T7 }) b)
   required y known =
       let r = attempting (Some y) Outgoing Required None None in
       let calls = put_put_same nat_cmp_total nat_cmp-IsAntisymmetric b.calls c (Some r) (Some (rests y)) ∙ put_again nat_cmp_total nat_cmp-IsAntisymmetric b.calls c (Some (rests y)) known in
@@ -77,7 +78,7 @@ module _ (b : State) (sound : IsSound b) (c : ℕ) where
       ∙ put_again nat_cmp_total nat_cmp-IsAntisymmetric b.timers c None (sound.timers c ∙ ap armed_in known) in
       let still = record_same b.calls c (Some r) in
       record {
-        rest = ap (λ o. without_attempt_in c o (apply (record { channel = None; call = with_record c r; reference = None; timer = with_timer c T7 }) b)) still
+        rest = ap (λ o. without_attempt_in c o (apply (record { channel = None; call = with_entry c r; reference = None; timer = with_entry c T7 }) b)) still
             ∙ (λ i. record { site = b.site; channels = b.channels; calls = calls i; references = b.references; timers = timers i });
         still = record { call_record = r; attempt = _; of_call = still; of_record = refl; aims = refl; has = refl };
       }
@@ -96,13 +97,13 @@ module _ (b : State) (sound : IsSound b) (c : ℕ) where
   from_adds x y (On d) true false (On e) known is = tt
   from_adds x y (On d) true false Off known is = tt
 
-  internal_adds : (x : ChanId) (s : Option ChanId) (o : Option Attempt) (traffic : Bool) → record_of b c ≡ Some (record { serving = s; attempt = o }) → Adds b c (Some x) (take_internal c x (record { serving = s; attempt = o }) o s (state_of b) traffic)
+  internal_adds : (x : ChanId) (s : Option ChanId) (o : Option Attempt) (traffic : Bool) → record_of b c ≡ Some (record { serving = s; attempt = o }) → Adds b c (Some x) (take_at c x (record { serving = s; attempt = o }) o s (state_of b) traffic)
   internal_adds x s (Some a) traffic known = tt
   internal_adds x None None traffic known = tt
   internal_adds x (Some y) None traffic known = from_adds x y (state_of b y) traffic (y.cell == x.cell) (state_of b x) known refl
 
   -- and of one of another
-  incoming_adds : (x : ChanId) (o : Option CallRecord) (traffic : Bool) (z : ChanState) → record_of b c ≡ o → state_of b x ≡ z → Adds b c (Some x) (take_incoming c x o traffic z)
+  incoming_adds : (x : ChanId) (o : Option CallRecord) (traffic : Bool) (z : ChanState) → record_of b c ≡ o → state_of b x ≡ z → Adds b c (Some x) (begin_row c x (record { serving = None; attempt = Some (taken_attempt Incoming x) }) (Held c) o traffic z)
   incoming_adds x (Some r) traffic z known is = tt
   incoming_adds x None false z known is = tt
   incoming_adds x None true Free known is = taken x None Incoming None known refl refl is

@@ -1,5 +1,5 @@
 -- What running a call's inverses leads to.
-use Rattle.std.proofs.Common.{◌≡◌, ℕ, Bool, true, false, if◌then◌else◌, List, [], ◌∷◌, ◌++◌, Option, Some, None, is_some, refl, sym, ap, ◌∙◌}
+use Rattle.std.proofs.Common.{◌≡◌, ℕ, Bool, true, false, List, [], ◌∷◌, ◌++◌, Option, Some, None, is_some, refl, sym, ap, ◌∙◌}
 use Rattle.std.specs.FinMap as map
 use Rattle.channel_fsm.specs.declared.ChanState.{ChanState}
 use Rattle.radio_book.specs.declared.event.Attempt.{Attempt}
@@ -13,7 +13,7 @@ use Rattle.radio_book.specs.declared.event.Why.TheVariants.{Asked, Expired}
 use Rattle.attempt_journal.specs.declared.Inverse.{Inverse}
 use Rattle.radio_book.specs.State.{State, state_of, record_of}
 use Rattle.radio_book.specs.Sound.{IsSound}
-use Rattle.radio_book.specs.Table.{Refuses, step, reply_to, reply_of, book_after, undo_attempt, undo_row, is_armed}
+use Rattle.radio_book.specs.Table.{step, reply_to, reply_of, book_after, undo_attempt, undo_row, is_armed, needs}
 use Rattle.radio_book.specs.Journal.{run_inverse, run_back, journal_of}
 use Rattle.radio_book.proofs.Inverses.{inverses_undo}
 
@@ -44,8 +44,8 @@ attempt_undone c r refusal (Some a) shown s b sound known is e =
 -- by the timer that expired,
 expiry_undone : (c : ℕ) (r : CallRecord) (armed : Bool) (shown : CallRecord) (s : Option ChanState) (b : State) →
     IsSound b → record_of b c ≡ Some r →
-    reply_of (if armed then undo_attempt c NotArmed r r.attempt (state_of b) (map.get b.timers c) else Refuses NotArmed) ≡ Record shown s →
-    book_after (if armed then undo_attempt c NotArmed r r.attempt (state_of b) (map.get b.timers c) else Refuses NotArmed) b ≡ run_back c (journal_of shown.attempt) b
+    reply_of (needs armed NotArmed (undo_attempt c NotArmed r r.attempt (state_of b) (map.get b.timers c))) ≡ Record shown s →
+    book_after (needs armed NotArmed (undo_attempt c NotArmed r r.attempt (state_of b) (map.get b.timers c))) b ≡ run_back c (journal_of shown.attempt) b
 expiry_undone c r true shown s b sound known e = attempt_undone c r NotArmed r.attempt shown s b sound known refl e
 expiry_undone c r false shown s b sound known e = cc
 

@@ -1,5 +1,5 @@
 -- The steps of a handover that follow the activation of its target, and those towards another controller, keep a book sound.
-use Rattle.std.proofs.Common.{◌≡◌, ◌≢◌, inl, inr, ℕ, Bool, true, false, Option, Some, None, if◌then◌else◌, refl, sym, ◌∙◌, ap}
+use Rattle.std.proofs.Common.{◌≡◌, ◌≢◌, inl, inr, ℕ, Bool, true, false, Option, Some, None, refl, sym, ◌∙◌, ap}
 use Rattle.std.specs.Option.{option_map}
 use Rattle.std.specs.FinMap as map
 use Rattle.std.specs.Cmp.{nat_cmp_total}
@@ -19,8 +19,9 @@ use Rattle.radio_book.specs.declared.event.Event.TheVariants as event
 use Rattle.radio_book.specs.declared.event.Refusal.TheVariants.{Unexpected}
 use Rattle.radio_book.specs.Maps.{Entry, with_change}
 use Rattle.radio_book.specs.State.{State, apply, or_free, state_of, record_of}
-use Rattle.radio_book.specs.Table.{owner, step, book_after, Refuses, with_record, with_timer, without_timer, reference_held, command_row, command_by, command_at, complete_change, complete_row, complete_by, complete_at, require_row, require_at, require_from, order_row, order_by, order_at, left_row, left_by, left_at, detect_row, detect_by, detect_of, detect_at, owner_row, is_target}
+use Rattle.radio_book.specs.Table.{owner, step, book_after, with_entry, without_entry, reference_held, command_row, complete_change, complete_row, require_row, order_row, left_row, detect_row, detect_by, owner_row, is_target, needs}
 use Rattle.radio_book.specs.Sound.{IsSound, HasTarget, armed_in}
+use Rattle.radio_book.proofs.Rows.{command_by, command_at, complete_by, complete_at, require_at, require_from, order_by, order_at, left_by, left_at, detect_of, detect_at}
 use Rattle.radio_book.proofs.KeyFacts.{chan_total, chan_exact}
 use Rattle.radio_book.proofs.MapFacts.{get_put_same, record_same}
 use Rattle.radio_book.proofs.Frame.{same_some, at_some, call_of, resting_call, attempting, attempt_of, attempting_call, aimed_is_owned, serving_is_on, get_untouched, concerned_sound}
@@ -28,14 +29,14 @@ use Rattle.radio_book.proofs.SoundParts.{one_owner, owned_traffic, rests, at_opt
 
 -- Command
 
-armed_timer : (b : State) (c : ℕ) (m : Timer) → map.get (with_change b.timers (with_timer c m)) c ≡ Some m
+armed_timer : (b : State) (c : ℕ) (m : Timer) → map.get (with_change b.timers (with_entry c m)) c ≡ Some m
 armed_timer b c m = get_put_same nat_cmp_total b.timers c (Some m)
 
 commanded : (b : State) → IsSound b → (c : ℕ) (s : Option ChanId) (k : AttemptKind) (o : Option ChanId) (n : Option ℕ) → record_of b c ≡ Some (attempting s k Confirmed o n) →
     IsSound (book_after (command_at c (attempting s k Confirmed o n) (record { kind = k; stage = Confirmed; target = o; reference = n }) Confirmed) b)
 commanded b sound c s k o n e =
     let has = attempt_of _ _ c s k Confirmed o n (call_of b sound c _ e) in
-    restaged b sound c s k Confirmed o n e Commanded has.state (with_timer c T3103) refl (armed_timer b c T3103)
+    restaged b sound c s k Confirmed o n e Commanded has.state (with_entry c T3103) refl (armed_timer b c T3103)
     (record { stage_of_kind = has.stage_of_kind; reference_by_stage = has.reference_by_stage })
 
 command_sound : (b : State) → IsSound b → (c : ℕ) (s : Option ChanId) (k : AttemptKind) (g : Stage) (o : Option ChanId) (n : Option ℕ) → record_of b c ≡ Some (attempting s k g o n) →
@@ -139,7 +140,7 @@ detect_sound b sound c x s k Required o n e = sound
 detect_sound b sound c x s k Ordered o n e = sound
 
 detect_if_aimed : (b : State) → IsSound b → (c : ℕ) (x : ChanId) (s : Option ChanId) (a : Attempt) (aimed : Bool) → record_of b c ≡ Some (record { serving = s; attempt = Some a }) →
-    IsSound (book_after (if aimed then detect_at x c (record { serving = s; attempt = Some a }) a a.stage else Refuses (Unexpected x)) b)
+    IsSound (book_after (needs aimed (Unexpected x) (detect_at x c (record { serving = s; attempt = Some a }) a a.stage)) b)
 detect_if_aimed b sound c x s a true e = detect_sound b sound c x s a.kind a.stage a.target a.reference e
 detect_if_aimed b sound c x s a false e = sound
 
@@ -173,9 +174,9 @@ sound_owner b sound x = owner_row_sound b sound x (owner (state_of b x))
 -- Require
 
 required : (b : State) → IsSound b → (c : ℕ) (x : ChanId) → record_of b c ≡ Some (rests x) → state_of b x ≡ On c →
-    IsSound (apply (record { channel = None; call = with_record c (attempting (Some x) Outgoing Required None None); reference = None; timer = with_timer c T7 }) b)
+    IsSound (apply (record { channel = None; call = with_entry c (attempting (Some x) Outgoing Required None None); reference = None; timer = with_entry c T7 }) b)
 required b sound c x e on =
-    concerned_sound b sound (record { channel = None; call = with_record c (attempting (Some x) Outgoing Required None None); reference = None; timer = with_timer c T7 }) c (Some (rests x)) (Some (attempting (Some x) Outgoing Required None None)) (record {
+    concerned_sound b sound (record { channel = None; call = with_entry c (attempting (Some x) Outgoing Required None None); reference = None; timer = with_entry c T7 }) c (Some (rests x)) (Some (attempting (Some x) Outgoing Required None None)) (record {
       before = e;
       after = record_same b.calls c (Some (attempting (Some x) Outgoing Required None None));
       call = refl;
@@ -225,7 +226,7 @@ ordered : (b : State) → IsSound b → (c : ℕ) (s : Option ChanId) (k : Attem
     IsSound (book_after (order_at c (attempting s k Required o n) (record { kind = k; stage = Required; target = o; reference = n }) Required) b)
 ordered b sound c s k o n e =
     let has = attempt_of _ _ c s k Required o n (call_of b sound c _ e) in
-    restaged b sound c s k Required o n e Ordered has.state (with_timer c T8) refl (armed_timer b c T8)
+    restaged b sound c s k Required o n e Ordered has.state (with_entry c T8) refl (armed_timer b c T8)
     (record { stage_of_kind = has.stage_of_kind; reference_by_stage = has.reference_by_stage })
 
 order_sound : (b : State) → IsSound b → (c : ℕ) (s : Option ChanId) (k : AttemptKind) (g : Stage) (o : Option ChanId) (n : Option ℕ) → record_of b c ≡ Some (attempting s k g o n) →
@@ -254,12 +255,12 @@ sound_order b sound c = order_row_sound b sound c (record_of b c) refl
 -- Left: nothing is left of the call but its channel, whose release is awaited
 
 departed : (b : State) → IsSound b → (c : ℕ) (s : Option ChanId) (k : AttemptKind) (n : Option ℕ) → record_of b c ≡ Some (attempting s k Ordered None n) →
-    IsSound (apply (record { channel = option_map (λ s. (s, Some Off)) s; call = Some (c, None); reference = None; timer = without_timer c }) b)
+    IsSound (apply (record { channel = option_map (λ s. (s, Some Off)) s; call = Some (c, None); reference = None; timer = without_entry c }) b)
 departed b sound c s k n e =
     let has = attempt_of _ _ c s k Ordered None n (call_of b sound c _ e) in
     let off : ChanId → Entry ChanId ChanState = λ s. (s, Some Off) in
     let owned : (x : ChanId) → s ≡ Some x → owner (state_of b x) ≡ Some c = λ x serves. ap owner (serving_is_on c (state_of b) k s x has.serving_while_open serves) in
-    concerned_sound b sound (record { channel = option_map off s; call = Some (c, None); reference = None; timer = without_timer c }) c (Some (attempting s k Ordered None n)) None (record {
+    concerned_sound b sound (record { channel = option_map off s; call = Some (c, None); reference = None; timer = without_entry c }) c (Some (attempting s k Ordered None n)) None (record {
       before = e;
       after = record_same b.calls c None;
       call = refl;

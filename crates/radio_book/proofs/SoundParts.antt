@@ -17,7 +17,7 @@ use Rattle.attempt_journal.specs.declared.Timer.{Timer}
 use Rattle.cell_table.specs.Site.{is_traffic}
 use Rattle.radio_book.specs.Maps.{Entry, put, with_change}
 use Rattle.radio_book.specs.State.{State, Change, apply, or_free, state_of, record_of}
-use Rattle.radio_book.specs.Table.{owner, with_state, with_record}
+use Rattle.radio_book.specs.Table.{owner, with_entry}
 use Rattle.radio_book.specs.Sound.{IsSound, IsStageOf, HasTarget, HasServing, HasReference, armed_in}
 use Rattle.radio_book.specs.Stages.{stage_row}
 use Rattle.radio_book.proofs.MapFacts.{get_put_same, state_same, state_other, record_same}
@@ -88,12 +88,12 @@ pub record IsAt (k : AttemptKind) (n : Option ℕ) (h : Stage) : Type 0 where
 
 -- and the target comes to another state
 pub staged : (b : State) → IsSound b → (c : ℕ) (s : Option ChanId) (k : AttemptKind) (g : Stage) (t : ChanId) (n : Option ℕ) → record_of b c ≡ Some (attempting s k g (Some t) n) → (h : Stage) (v : ChanState) → HasTarget c (stage_row h).target (Some t) (λ y. v) → (stage_row g).timer ≡ (stage_row h).timer → IsAt k n h →
-    IsSound (apply (changes (with_state t v) (with_record c (attempting s k h (Some t) n)) None) b)
+    IsSound (apply (changes (with_entry t v) (with_entry c (attempting s k h (Some t) n)) None) b)
 staged b sound c s k g t n e h v is timers at =
     let has = attempt_of _ _ c s k g (Some t) n (call_of b sound c _ e) in
     let owned : owner (state_of b t) ≡ Some c = target_owned c (state_of b) t g has.state in
     let owned_after : owner v ≡ Some c = target_owned c (λ y. v) t h is in
-    concerned_sound b sound (changes (with_state t v) (with_record c (attempting s k h (Some t) n)) None) c (Some (attempting s k g (Some t) n)) (Some (attempting s k h (Some t) n)) (record {
+    concerned_sound b sound (changes (with_entry t v) (with_entry c (attempting s k h (Some t) n)) None) c (Some (attempting s k g (Some t) n)) (Some (attempting s k h (Some t) n)) (record {
       before = e;
       after = record_same b.calls c (Some (attempting s k h (Some t) n));
       call = refl;
@@ -118,10 +118,10 @@ staged b sound c s k g t n e h v is timers at =
 
 -- and the timer is another
 pub restaged : (b : State) → IsSound b → (c : ℕ) (s : Option ChanId) (k : AttemptKind) (g : Stage) (o : Option ChanId) (n : Option ℕ) → record_of b c ≡ Some (attempting s k g o n) → (h : Stage) → HasTarget c (stage_row h).target o (state_of b) → (timer : Option (Entry ℕ Timer)) → AtKey timer (λ d v. d ≡ c) → map.get (with_change b.timers timer) c ≡ (stage_row h).timer → IsAt k n h →
-    IsSound (apply (record { channel = None; call = with_record c (attempting s k h o n); reference = None; timer = timer }) b)
+    IsSound (apply (record { channel = None; call = with_entry c (attempting s k h o n); reference = None; timer = timer }) b)
 restaged b sound c s k g o n e h is timer concerned armed at =
     let has = attempt_of _ _ c s k g o n (call_of b sound c _ e) in
-    concerned_sound b sound (record { channel = None; call = with_record c (attempting s k h o n); reference = None; timer = timer }) c (Some (attempting s k g o n)) (Some (attempting s k h o n)) (record {
+    concerned_sound b sound (record { channel = None; call = with_entry c (attempting s k h o n); reference = None; timer = timer }) c (Some (attempting s k g o n)) (Some (attempting s k h o n)) (record {
       before = e;
       after = record_same b.calls c (Some (attempting s k h o n));
       call = refl;

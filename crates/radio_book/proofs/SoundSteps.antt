@@ -28,10 +28,11 @@ use Rattle.cell_table.specs.Site.{SiteView, is_traffic}
 use Rattle.radio_book.specs.Keys.{chan_cmp, reference_cmp}
 use Rattle.radio_book.specs.Maps.{Entry, put}
 use Rattle.radio_book.specs.State.{State, Change, apply, or_free, state_of, record_of, empty_book}
-use Rattle.radio_book.specs.Table.{owner, step, book_after, with_state, without_state, with_record, begin_row, clear_row, clear_at, look_row, moved_entry, confirm_row, refuse_row, released_row, taking_change, take_from, take_internal, take_row, reference_at, reference_held, reserve_number, reserve_at, reserve_by, reserve_row, activate_at, activate_by, activate_row, left_state, resting_record, undo_change, undo_attempt, undo_row, is_armed, Refuses}
+use Rattle.radio_book.specs.Table.{owner, step, book_after, with_entry, without_entry, begin_row, clear_row, look_row, moved_entry, confirm_row, refuse_row, released_row, taking_change, take_row, reference_at, reference_held, reserve_row, activate_row, left_state, resting_record, undo_change, undo_attempt, undo_row, is_armed, needs}
 use Rattle.radio_book.specs.Sound.{IsSound, Uses, IsStageOf, HasTarget, HasServing, armed_in}
 use Rattle.radio_book.specs.Stages.{stage_row}
 use Rattle.radio_book.specs.Run.{run_book, RunsAreSound}
+use Rattle.radio_book.proofs.Rows.{clear_at, take_from, take_at, reserve_number, reserve_at, reserve_by, activate_at, activate_by}
 use Rattle.radio_book.proofs.KeyFacts.{chan_total, chan_exact, same_chan_itself}
 use Rattle.radio_book.proofs.MapFacts.{state_same, state_other, record_same, reference_same}
 use Rattle.radio_book.proofs.Frame.{same_some, at_some, UsedBy, ReferredBy, call_of, call_stays, resting_call, attempting, attempt_of, attempting_call, aimed_is_owned, serving_is_on, get_untouched, SoundIfAny, concerned_sound}
@@ -41,7 +42,7 @@ use Rattle.radio_book.proofs.SoundParts.{other_than, one_owner, owned_not_free, 
 -- a call begins: what it makes of a free traffic channel is sound
 
 begin_sound : (b : State) → IsSound b → (c : ℕ) (x : ChanId) (r : CallRecord) (v : ChanState) →
-    (record_of b c ≡ None → is_traffic b.site x ≡ true → state_of b x ≡ Free → IsSound (apply (changes (with_state x v) (with_record c r) None) b)) →
+    (record_of b c ≡ None → is_traffic b.site x ≡ true → state_of b x ≡ Free → IsSound (apply (changes (with_entry x v) (with_entry c r) None) b)) →
     (o : Option CallRecord) (t : Bool) (s : ChanState) → record_of b c ≡ o → is_traffic b.site x ≡ t → state_of b x ≡ s → IsSound (book_after (begin_row c x r v o t s) b)
 begin_sound b sound c x r v begun (Some old) t s e f g = sound
 begin_sound b sound c x r v begun None false s e f g = sound
@@ -53,8 +54,8 @@ begin_sound b sound c x r v begun None true Off e f g = sound
 
 -- Open
 
-opened : (b : State) → IsSound b → (c : ℕ) (x : ChanId) → record_of b c ≡ None → is_traffic b.site x ≡ true → state_of b x ≡ Free → IsSound (apply (changes (with_state x (Pending c)) (with_record c (rests x)) None) b)
-opened b sound c x new traffic free = concerned_sound b sound (changes (with_state x (Pending c)) (with_record c (rests x)) None) c None (Some (rests x)) (record {
+opened : (b : State) → IsSound b → (c : ℕ) (x : ChanId) → record_of b c ≡ None → is_traffic b.site x ≡ true → state_of b x ≡ Free → IsSound (apply (changes (with_entry x (Pending c)) (with_entry c (rests x)) None) b)
+opened b sound c x new traffic free = concerned_sound b sound (changes (with_entry x (Pending c)) (with_entry c (rests x)) None) c None (Some (rests x)) (record {
   before = new;
   after = record_same b.calls c (Some (rests x));
   call = refl;
@@ -131,7 +132,7 @@ sound_look b sound c = look_sound b sound (record_of b c)
 -- Confirm and Refuse: a station answers an activation, and the channel comes to this state
 
 abbrev answers : ChanId → Stage → ChanState → ℕ → Option CallRecord → Change
-answers x g v c o = changes (with_state x v) (moved_entry x g c o) None
+answers x g v c o = changes (with_entry x v) (moved_entry x g c o) None
 
 -- the stage is one of those that an answer leads to
 record IsAnswer (c : ℕ) (x : ChanId) (g : Stage) (v : ChanState) : Type 0 where
@@ -142,10 +143,10 @@ record IsAnswer (c : ℕ) (x : ChanId) (g : Stage) (v : ChanState) : Type 0 wher
 
 -- the channel is the serving one of a call without an attempt
 serving_answered : (b : State) → IsSound b → (c : ℕ) (x : ChanId) (v : ChanState) → owner v ≡ Some c → record_of b c ≡ Some (rests x) →
-    IsSound (apply (changes (with_state x v) None None) b)
+    IsSound (apply (changes (with_entry x v) None None) b)
 serving_answered b sound c x v names e =
     let owned : owner (state_of b x) ≡ Some c = sound.serving_is_owned c _ x e refl in
-    concerned_sound b sound (changes (with_state x v) None None) c (Some (rests x)) (Some (rests x)) (record {
+    concerned_sound b sound (changes (with_entry x v) None None) c (Some (rests x)) (Some (rests x)) (record {
       before = e;
       after = e;
       call = tt;
@@ -178,8 +179,8 @@ sent_answered : (b : State) → IsSound b → (c : ℕ) (x : ChanId) (g : Stage)
     (s : Option ChanId) (k : AttemptKind) (n : Option ℕ) → record_of b c ≡ Some (attempting s k Sent (Some x) n) → IsSound (apply (answers x g v c (Some (attempting s k Sent (Some x) n))) b)
 sent_answered b sound c x g v is s k n e =
     let has = attempt_of _ _ c s k Sent (Some x) n (call_of b sound c _ e) in
-    let change = λ (w : Option (Entry ℕ CallRecord)). changes (with_state x v) w None in
-    subst (λ q. IsSound (apply (change (if q then with_record c (attempting s k g (Some x) n) else None)) b)) (sym (same_chan_itself x))
+    let change = λ (w : Option (Entry ℕ CallRecord)). changes (with_entry x v) w None in
+    subst (λ q. IsSound (apply (change (if q then with_entry c (attempting s k g (Some x) n) else None)) b)) (sym (same_chan_itself x))
     (staged b sound c s k Sent x n e g v is.state is.timer (is.at k n has.stage_of_kind has.reference_by_stage))
 
 target_answered : (b : State) → IsSound b → (c : ℕ) (x : ChanId) (g : Stage) (v : ChanState) → IsAnswer c x g v → state_of b x ≡ Pending c →
@@ -229,8 +230,8 @@ sound_refuse b sound x = refuse_sound b sound x (state_of b x) refl
 
 -- Released: the channel is nobody's
 
-released : (b : State) → IsSound b → (x : ChanId) → state_of b x ≡ Off → IsSound (apply (changes (without_state x) None None) b)
-released b sound x off = concerned_sound b sound (changes (without_state x) None None) 0 (record_of b 0) (record_of b 0) (record {
+released : (b : State) → IsSound b → (x : ChanId) → state_of b x ≡ Off → IsSound (apply (changes (without_entry x) None None) b)
+released b sound x off = concerned_sound b sound (changes (without_entry x) None None) 0 (record_of b 0) (record_of b 0) (record {
   before = refl;
   after = refl;
   call = tt;
@@ -249,7 +250,7 @@ released b sound x off = concerned_sound b sound (changes (without_state x) None
     unowned : (d : ℕ) → owner (state_of b x) ≡ Some d → ⊥
     unowned d h = let bad : None ≡ Some d = sym (ap owner off) ∙ h in cc
 
-    stays : (o : Option CallRecord) → record_of b 0 ≡ o → SoundIfAny (state_of (apply (changes (without_state x) None None) b)) (map.get b.references) 0 o
+    stays : (o : Option CallRecord) → record_of b 0 ≡ o → SoundIfAny (state_of (apply (changes (without_entry x) None None) b)) (map.get b.references) 0 o
     stays None e = tt
     stays (Some r) e = call_stays (state_of b) _ (map.get b.references) _ 0 r (λ y owned. state_other b.channels x None y (λ same. unowned 0 (ap (λ z. owner (state_of b z)) (sym same) ∙ owned))) (λ k h. h) (call_of b sound 0 r e)
 
@@ -310,7 +311,7 @@ internal_sound b sound c x y (On d) true false Free e n f h g =
     taken b sound c x (Some (rests y)) (Some y) Internal e f g
     (λ z u. elim u [ inl i ↦ i | inr i ↦ cc ]) (λ j u. cc) (λ z i. at_some (λ z. z.cell ≢ x.cell) y z (eqb-false y.cell x.cell h) i) (n ∙ ap On own) tt refl
 
-take_internal_sound : (b : State) → IsSound b → (c : ℕ) (x : ChanId) (s : Option ChanId) (o : Option Attempt) → record_of b c ≡ Some (record { serving = s; attempt = o }) → IsSound (book_after (take_internal c x (record { serving = s; attempt = o }) o s (state_of b) (is_traffic b.site x)) b)
+take_internal_sound : (b : State) → IsSound b → (c : ℕ) (x : ChanId) (s : Option ChanId) (o : Option Attempt) → record_of b c ≡ Some (record { serving = s; attempt = o }) → IsSound (book_after (take_at c x (record { serving = s; attempt = o }) o s (state_of b) (is_traffic b.site x)) b)
 take_internal_sound b sound c x s (Some a) e = sound
 take_internal_sound b sound c x None None e = sound
 take_internal_sound b sound c x (Some y) None e = internal_sound b sound c x y (state_of b y) (is_traffic b.site x) (y.cell == x.cell) (state_of b x) e refl refl refl refl
@@ -329,10 +330,10 @@ sound_take b sound c k x = take_sound b sound c k x (record_of b c) refl
 -- Reserve: an attempt gets a reference that was nobody's
 
 reserved : (b : State) → IsSound b → (c : ℕ) (s : Option ChanId) (k : AttemptKind) (t : ChanId) (n : Option ℕ) (m : ℕ) → record_of b c ≡ Some (attempting s k Taken (Some t) n) → map.get b.references (reference_at t m) ≡ None →
-    IsSound (apply (changes None (with_record c (attempting s k Reserved (Some t) (Some m))) (Some (reference_at t m, Some c))) b)
+    IsSound (apply (changes None (with_entry c (attempting s k Reserved (Some t) (Some m))) (Some (reference_at t m, Some c))) b)
 reserved b sound c s k t n m e unused =
     let has = attempt_of _ _ c s k Taken (Some t) n (call_of b sound c _ e) in
-    concerned_sound b sound (changes None (with_record c (attempting s k Reserved (Some t) (Some m))) (Some (reference_at t m, Some c))) c (Some (attempting s k Taken (Some t) n)) (Some (attempting s k Reserved (Some t) (Some m))) (record {
+    concerned_sound b sound (changes None (with_entry c (attempting s k Reserved (Some t) (Some m))) (Some (reference_at t m, Some c))) c (Some (attempting s k Taken (Some t) n)) (Some (attempting s k Reserved (Some t) (Some m))) (record {
       before = e;
       after = record_same b.calls c (Some (attempting s k Reserved (Some t) (Some m)));
       call = refl;
@@ -387,7 +388,7 @@ sound_reserve b sound c n = reserve_row_sound b sound c n (record_of b c) refl
 -- Activate
 
 activated : (b : State) → IsSound b → (c : ℕ) (s : Option ChanId) (k : AttemptKind) (t : ChanId) (n : Option ℕ) → record_of b c ≡ Some (attempting s k Reserved (Some t) n) →
-    IsSound (apply (changes (with_state t (Pending c)) (with_record c (attempting s k Sent (Some t) n)) None) b)
+    IsSound (apply (changes (with_entry t (Pending c)) (with_entry c (attempting s k Sent (Some t) n)) None) b)
 activated b sound c s k t n e =
     let has = attempt_of _ _ c s k Reserved (Some t) n (call_of b sound c _ e) in
     staged b sound c s k Reserved t n e Sent (Pending c) refl refl (record { stage_of_kind = aims_always k Held Pending has.stage_of_kind; reference_by_stage = has.reference_by_stage })
@@ -461,7 +462,7 @@ undo_sound : (b : State) → IsSound b → (c : ℕ) (refusal : Refusal) (s : Op
 undo_sound b sound c refusal s None armed e is = sound
 undo_sound b sound c refusal s (Some a) armed e is = undo_change_sound b sound c s a.kind a.stage a.target a.reference armed e is
 
-expiry_sound : (b : State) → IsSound b → (c : ℕ) (r : CallRecord) (expired : Bool) (armed : Option Timer) → record_of b c ≡ Some r → map.get b.timers c ≡ armed → IsSound (book_after (if expired then undo_attempt c NotArmed r r.attempt (state_of b) armed else Refuses NotArmed) b)
+expiry_sound : (b : State) → IsSound b → (c : ℕ) (r : CallRecord) (expired : Bool) (armed : Option Timer) → record_of b c ≡ Some r → map.get b.timers c ≡ armed → IsSound (book_after (needs expired NotArmed (undo_attempt c NotArmed r r.attempt (state_of b) armed)) b)
 expiry_sound b sound c r true armed e is = undo_sound b sound c NotArmed r.serving r.attempt armed e is
 expiry_sound b sound c r false armed e is = sound
 

@@ -1,5 +1,5 @@
 -- Lists of steps that happen one after another, and what the tests of a step say.
-use Rattle.std.proofs.Common.{◌≡◌, ◌+◌, ℕ, Bool, true, false, cond, ◌||◌, List, [], ◌∷◌, ◌++◌, Option, Some, None, refl, sym, ◌∙◌, ap, subst}
+use Rattle.std.proofs.Common.{◌≡◌, ◌+◌, ℕ, Bool, true, false, cond, List, [], ◌∷◌, ◌++◌, Option, Some, None, refl, sym, ◌∙◌, ap, subst}
 use Rattle.std.proofs.lemmas.Bool.{eq-eqb, eqb-true, and_from}
 use Rattle.channel_fsm.specs.declared.ChanId.{ChanId}
 use Rattle.radio_book.specs.declared.event.Reference.{Reference}
@@ -11,8 +11,8 @@ use Rattle.radio_book.specs.State.{State}
 use Rattle.radio_book.specs.Table.{step, reply_to}
 use Rattle.radio_book.specs.Sound.{IsSound}
 use Rattle.radio_book.specs.Run.{run_book, run_replies}
-use Rattle.radio_book.specs.Kinds.{released_by, number_of, refusal_of}
-use Rattle.radio_book.specs.Others.{channel_of, IsHeldChannel, IsHeldReference}
+use Rattle.radio_book.specs.Kinds.{channel_of, released_by, number_of, refusal_of}
+use Rattle.radio_book.specs.Others.{IsHeldChannel, IsHeldReference}
 use Rattle.radio_book.specs.Undone.{steps_from, events_of, replies_of, is_call, is_channel, is_reference, comes_from}
 use Rattle.radio_book.proofs.KeyFacts.{same_chan_itself, one_chan}
 use Rattle.radio_book.proofs.SoundSteps.{sound_step}
@@ -115,25 +115,16 @@ release_of (event.Left d) x is = cc
 
 -- refusals
 
-first_true : (p q : Bool) → p ≡ true → p || q ≡ true
-first_true true q is = refl
-first_true false q is = cc
-
-second_true : (p q : Bool) → q ≡ true → p || q ≡ true
-second_true true q is = refl
-second_true false q is = is
-
 module _ (target : Option ChanId) (reference : Option Reference) (reply : Reply) (free : comes_from target reference (refusal_of reply) ≡ false) where
   pub for_no_channel : (t : ChanId) → target ≡ Some t → IsHeldChannel t reply → ⊥
   for_no_channel t aims held =
       let found = ap (λ answer. comes_from target reference (refusal_of answer)) held
-      ∙ first_true (is_channel target (Some t)) (is_reference reference None) (same_channel target (Some t) t aims refl) in
+      ∙ same_channel target (Some t) t aims refl in
       let bad : true ≡ false = sym found ∙ free in cc
 
   pub for_no_reference : (o : Option Reference) → reference ≡ o → IsHeldReference o reply → ⊥
   for_no_reference None has held = held
   for_no_reference (Some k) has held =
       let found = ap (λ answer. comes_from target reference (refusal_of answer)) held
-      ∙ ap (λ o. is_channel target None || is_reference o (Some (record { cell = k.cell; number = k.number }))) has
-      ∙ second_true (is_channel target None) (is_reference (Some k) (Some (record { cell = k.cell; number = k.number }))) (same_reference k) in
+      ∙ ap (λ o. is_reference o (Some (record { cell = k.cell; number = k.number }))) has ∙ same_reference k in
       let bad : true ≡ false = sym found ∙ free in cc

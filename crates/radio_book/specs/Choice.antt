@@ -1,20 +1,20 @@
 -- What a choice of a channel (TS 48.058 clause 4) or of a Handover Reference (TS 44.018 clause 10.5.2.15) allows.
-use Rattle.std.specs.Prelude.{◌≡◌, ℕ, ◌<◌, Bool, true, false, ◌&&◌, List, count_by, flat_map, map as map_list, Option, Some, None}
+use Rattle.std.specs.Prelude.{◌≡◌, ℕ, ◌<◌, Bool, true, ◌&&◌, if◌then◌else◌, List, count_by, flat_map, map as map_list, Option, Some, None}
 use Rattle.std.specs.List.{range_with_len}
 use Rattle.std.specs.FinMap as map
 use Rattle.channel_fsm.specs.declared.ChanId.{ChanId}
 use Rattle.channel_fsm.specs.declared.ChanState.{ChanState}
-use Rattle.channel_fsm.specs.declared.ChanState.TheVariants.{Free, Held, Pending, On, Off}
+use Rattle.channel_fsm.specs.declared.ChanState.TheVariants.{Free}
 use Rattle.radio_book.specs.declared.event.Kind.{Kind}
-use Rattle.radio_book.specs.declared.event.Stage.{Stage}
-use Rattle.radio_book.specs.declared.event.Stage.TheVariants.{Taken, Reserved, Sent, Refused, Confirmed, Commanded, Detected, Required, Ordered}
 use Rattle.radio_book.specs.declared.event.Attempt.{Attempt}
 use Rattle.radio_book.specs.declared.event.CallRecord.{CallRecord}
 use Rattle.radio_book.specs.declared.event.Event.{Event}
 use Rattle.radio_book.specs.declared.event.Event.TheVariants as event
 use Rattle.cell_table.specs.Limits.{most_trx, timeslots_of_trx}
 use Rattle.cell_table.specs.Site.{is_traffic}
+use Rattle.radio_book.specs.Stages.{stage_allows}
 use Rattle.radio_book.specs.State.{State, state_of, record_of}
+use Rattle.radio_book.specs.Table.{channel_row}
 
 -- how many numbers a cell has for Handover References: one octet's (TS 44.018 clause 10.5.2.15)
 abbrev pub reference_numbers : ℕ
@@ -38,21 +38,10 @@ pub record IsNumberFree (b : State) (cell number : ℕ) : Type 0 where
   pub range : number < reference_numbers
   pub not_in_use : map.get b.references (record { cell = cell; number = number }) ≡ None
 
--- the channel of an attempt that has taken it and reserved no reference
-abbrev pub taken_at : Stage → Option ChanId → Option ChanId
-taken_at Taken target = target
-taken_at Reserved target = None
-taken_at Sent target = None
-taken_at Refused target = None
-taken_at Confirmed target = None
-taken_at Commanded target = None
-taken_at Detected target = None
-taken_at Required target = None
-taken_at Ordered target = None
-
+-- the channel of an attempt that may reserve a reference
 abbrev pub taken_by : Option Attempt → Option ChanId
 taken_by None = None
-taken_by (Some a) = taken_at a.stage a.target
+taken_by (Some a) = if (stage_allows a.stage).reserve then a.target else None
 
 abbrev pub taken_channel : Option CallRecord → Option ChanId
 taken_channel None = None
@@ -68,11 +57,7 @@ abbrev pub ReservesFree : State → ℕ → Event → Type 0
 ReservesFree b c e = (number : ℕ) × MayReserve b (taken_channel (record_of b c)) number × (e ≡ event.Reserve c number)
 
 abbrev pub is_free : ChanState → Bool
-is_free Free = true
-is_free (Held c) = false
-is_free (Pending c) = false
-is_free (On c) = false
-is_free Off = false
+is_free s = (channel_row s).free
 
 abbrev pub is_free_traffic : State → ChanId → Bool
 is_free_traffic b x = is_traffic b.site x && is_free (state_of b x)

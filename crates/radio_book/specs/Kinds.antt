@@ -3,53 +3,61 @@ use Rattle.std.specs.Prelude.{◌≡◌, ◌⊎◌, ◌&&◌, ℕ, Bool, Option,
 use Rattle.channel_fsm.specs.declared.ChanId.{ChanId}
 use Rattle.radio_book.specs.declared.event.Kind.{Kind}
 use Rattle.radio_book.specs.declared.event.Why.{Why}
-use Rattle.radio_book.specs.declared.event.Reference.{Reference}
 use Rattle.radio_book.specs.declared.event.Event.{Event}
 use Rattle.radio_book.specs.declared.event.Event.TheVariants as event
 use Rattle.radio_book.specs.declared.event.Refusal.{Refusal}
-use Rattle.radio_book.specs.declared.event.Refusal.TheVariants.{NoCall, CallExists, WrongPhase, NoChannel, SameCell, ChannelBusy, RefBusy, Unexpected, NotArmed}
 use Rattle.radio_book.specs.declared.event.Reply.{Reply}
 use Rattle.radio_book.specs.declared.event.Reply.TheVariants.{Done, Record, Owned, Refused}
 
--- the channel whose release an event acknowledges
-abbrev pub released_by : Event → Option ChanId
-released_by (event.Open c x) = None
-released_by (event.Clear c) = None
-released_by (event.Look c) = None
-released_by (event.Take c k x) = None
-released_by (event.Reserve c n) = None
-released_by (event.Activate c) = None
-released_by (event.Command c) = None
-released_by (event.Complete c) = None
-released_by (event.Undo c why) = None
-released_by (event.Confirm x) = None
-released_by (event.Refuse x) = None
-released_by (event.Detect x) = None
-released_by (event.Released x) = Some x
-released_by (event.Owner x) = None
-released_by (event.Require c) = None
-released_by (event.Order c) = None
-released_by (event.Left c) = None
+pub record EventRow : Type 0 where
+  -- the call that the event is asked for; a station's event is asked for none
+  pub call : Option ℕ
+  -- the channel that a station's event is about; an event that is asked for a call is about none
+  pub channel : Option ChanId
+  -- the channel whose release it acknowledges
+  pub released : Option ChanId
+  -- the number of the reference that it reserves
+  pub number : Option ℕ
 
--- the number of the reference that an event reserves
+-- an event that is asked for a call
+abbrev pub by_call : ℕ → EventRow
+by_call c = record { call = Some c; channel = None; released = None; number = None }
+
+-- a station's event
+abbrev pub by_station : ChanId → EventRow
+by_station x = record { call = None; channel = Some x; released = None; number = None }
+
+-- the table of events: what each says
+abbrev pub event_row : Event → EventRow
+event_row (event.Open c x) = by_call c
+event_row (event.Clear c) = by_call c
+event_row (event.Look c) = by_call c
+event_row (event.Take c k x) = by_call c
+event_row (event.Reserve c n) = record (by_call c) { number = Some n }
+event_row (event.Activate c) = by_call c
+event_row (event.Command c) = by_call c
+event_row (event.Complete c) = by_call c
+event_row (event.Undo c why) = by_call c
+event_row (event.Confirm x) = by_station x
+event_row (event.Refuse x) = by_station x
+event_row (event.Detect x) = by_station x
+event_row (event.Released x) = record (by_station x) { released = Some x }
+event_row (event.Owner x) = by_station x
+event_row (event.Require c) = by_call c
+event_row (event.Order c) = by_call c
+event_row (event.Left c) = by_call c
+
+abbrev pub call_of : Event → Option ℕ
+call_of e = (event_row e).call
+
+abbrev pub channel_of : Event → Option ChanId
+channel_of e = (event_row e).channel
+
+abbrev pub released_by : Event → Option ChanId
+released_by e = (event_row e).released
+
 abbrev pub number_of : Event → Option ℕ
-number_of (event.Open c x) = None
-number_of (event.Clear c) = None
-number_of (event.Look c) = None
-number_of (event.Take c k x) = None
-number_of (event.Reserve c n) = Some n
-number_of (event.Activate c) = None
-number_of (event.Command c) = None
-number_of (event.Complete c) = None
-number_of (event.Undo c why) = None
-number_of (event.Confirm x) = None
-number_of (event.Refuse x) = None
-number_of (event.Detect x) = None
-number_of (event.Released x) = None
-number_of (event.Owner x) = None
-number_of (event.Require c) = None
-number_of (event.Order c) = None
-number_of (event.Left c) = None
+number_of e = (event_row e).number
 
 -- why an event was refused; an accepted one wasn't
 abbrev pub refusal_of : Reply → Option Refusal
@@ -60,30 +68,6 @@ refusal_of (Refused why) = Some why
 
 abbrev pub is_accepted : Reply → Bool
 is_accepted reply = is_none (refusal_of reply)
-
--- the channel that a refusal says is busy
-abbrev pub busy_channel : Refusal → Option ChanId
-busy_channel NoCall = None
-busy_channel CallExists = None
-busy_channel WrongPhase = None
-busy_channel NoChannel = None
-busy_channel SameCell = None
-busy_channel (ChannelBusy x) = Some x
-busy_channel (RefBusy k n) = None
-busy_channel (Unexpected x) = None
-busy_channel NotArmed = None
-
--- the reference that a refusal says is busy
-abbrev pub busy_reference : Refusal → Option Reference
-busy_reference NoCall = None
-busy_reference CallExists = None
-busy_reference WrongPhase = None
-busy_reference NoChannel = None
-busy_reference SameCell = None
-busy_reference (ChannelBusy x) = None
-busy_reference (RefBusy k n) = Some (record { cell = k; number = n })
-busy_reference (Unexpected x) = None
-busy_reference NotArmed = None
 
 -- an attempt of the call opens: a Take names its target, a Require has none
 abbrev pub Opens : ℕ → Option ChanId → Event → Type 0

@@ -8,55 +8,14 @@ use Rattle.radio_book.specs.declared.event.Reference.{Reference}
 use Rattle.radio_book.specs.declared.event.Attempt.{Attempt}
 use Rattle.radio_book.specs.declared.event.CallRecord.{CallRecord}
 use Rattle.radio_book.specs.declared.event.Event.{Event}
-use Rattle.radio_book.specs.declared.event.Event.TheVariants as event
 use Rattle.radio_book.specs.declared.event.Refusal.TheVariants.{ChannelBusy, RefBusy}
 use Rattle.radio_book.specs.declared.event.Reply.{Reply}
 use Rattle.radio_book.specs.declared.event.Reply.TheVariants.{Refused}
 use Rattle.attempt_journal.specs.declared.Timer.{Timer}
 use Rattle.radio_book.specs.State.{State, Change, apply, state_of, record_of}
 use Rattle.radio_book.specs.Sound.{IsSound}
-use Rattle.radio_book.specs.Kinds.{Opens, EndsIt, number_of, is_accepted, is_reserved}
+use Rattle.radio_book.specs.Kinds.{call_of, channel_of, Opens, EndsIt, number_of, is_accepted, is_reserved}
 use Rattle.radio_book.specs.Table.{step, reply_to, undo_change, reference_held, no_change}
-
--- the call that an event is asked for; a station's event is asked for none
-abbrev pub call_of : Event → Option ℕ
-call_of (event.Open c x) = Some c
-call_of (event.Clear c) = Some c
-call_of (event.Look c) = Some c
-call_of (event.Take c k x) = Some c
-call_of (event.Reserve c n) = Some c
-call_of (event.Activate c) = Some c
-call_of (event.Command c) = Some c
-call_of (event.Complete c) = Some c
-call_of (event.Undo c why) = Some c
-call_of (event.Confirm x) = None
-call_of (event.Refuse x) = None
-call_of (event.Detect x) = None
-call_of (event.Released x) = None
-call_of (event.Owner x) = None
-call_of (event.Require c) = Some c
-call_of (event.Order c) = Some c
-call_of (event.Left c) = Some c
-
--- the channel that a station's event is about; an event that is asked for a call is none
-abbrev pub channel_of : Event → Option ChanId
-channel_of (event.Open c x) = None
-channel_of (event.Clear c) = None
-channel_of (event.Look c) = None
-channel_of (event.Take c k x) = None
-channel_of (event.Reserve c n) = None
-channel_of (event.Activate c) = None
-channel_of (event.Command c) = None
-channel_of (event.Complete c) = None
-channel_of (event.Undo c why) = None
-channel_of (event.Confirm x) = Some x
-channel_of (event.Refuse x) = Some x
-channel_of (event.Detect x) = Some x
-channel_of (event.Released x) = Some x
-channel_of (event.Owner x) = Some x
-channel_of (event.Require c) = None
-channel_of (event.Order c) = None
-channel_of (event.Left c) = None
 
 -- a refusal that comes from a channel which an attempt holds, or from its reference
 abbrev pub IsHeldChannel : ChanId → Reply → Type 0

@@ -63,3 +63,25 @@ stage_row Commanded = record { target = Some On; has_reference = true; timer = S
 stage_row Detected = record { target = Some On; has_reference = true; timer = Some T3103; switched_on = true; inverses = detected_inverses }
 stage_row Required = record { target = None; has_reference = false; timer = Some T7; switched_on = false; inverses = required_inverses }
 stage_row Ordered = record { target = None; has_reference = false; timer = Some T8; switched_on = false; inverses = ordered_inverses }
+
+-- the steps of an attempt that a stage allows
+pub record Allows : Type 0 where
+  pub reserve : Bool
+  pub activate : Bool
+  pub command : Bool
+  pub detect : Bool
+  pub complete : Bool
+  pub order : Bool
+  pub left : Bool
+
+-- the mask of each stage
+abbrev pub stage_allows : Stage → Allows
+stage_allows Taken = record { reserve = true; activate = false; command = false; detect = false; complete = false; order = false; left = false }
+stage_allows Reserved = record { reserve = false; activate = true; command = false; detect = false; complete = false; order = false; left = false }
+stage_allows Sent = record { reserve = false; activate = false; command = false; detect = false; complete = false; order = false; left = false }
+stage_allows Refused = record { reserve = false; activate = false; command = false; detect = false; complete = false; order = false; left = false }
+stage_allows Confirmed = record { reserve = false; activate = false; command = true; detect = false; complete = false; order = false; left = false }
+stage_allows Commanded = record { reserve = false; activate = false; command = false; detect = true; complete = true; order = false; left = false }
+stage_allows Detected = record { reserve = false; activate = false; command = false; detect = false; complete = true; order = false; left = false }
+stage_allows Required = record { reserve = false; activate = false; command = false; detect = false; complete = false; order = true; left = false }
+stage_allows Ordered = record { reserve = false; activate = false; command = false; detect = false; complete = false; order = false; left = true }

@@ -1,22 +1,21 @@
 -- An attempt that is undone within a list of steps: what stays of the list without it, which of that was refused for what
 -- the attempt held, and whether its channel came back. Ours, of no standard.
-use Rattle.std.specs.Prelude.{◌≡◌, ◌+◌, ℕ, Bool, true, false, not, ◌&&◌, ◌||◌, ◌==◌, if◌then◌else◌, IsTrue, List, [], ◌∷◌, ◌++◌, map, filter, find, All, slice_get, Option, Some, None, is_some}
+use Rattle.std.specs.Prelude.{◌≡◌, ◌+◌, ℕ, Bool, false, not, ◌&&◌, ◌||◌, ◌==◌, if◌then◌else◌, IsTrue, List, [], ◌∷◌, ◌++◌, map, filter, find, All, slice_get, Option, Some, None, is_some}
 use Rattle.std.specs.Option.{option_map, option_and_then}
 use Rattle.std.specs.List.{list_any}
 use Rattle.channel_fsm.specs.declared.ChanId.{ChanId}
 use Rattle.channel_fsm.specs.declared.ChanState.{ChanState}
-use Rattle.channel_fsm.specs.declared.ChanState.TheVariants.{Free, Held, Pending, On, Off}
 use Rattle.radio_book.specs.declared.event.Reference.{Reference}
 use Rattle.radio_book.specs.declared.event.Event.{Event}
 use Rattle.radio_book.specs.declared.event.Refusal.{Refusal}
+use Rattle.radio_book.specs.declared.event.Refusal.TheVariants.{NoCall, CallExists, WrongPhase, NoChannel, SameCell, ChannelBusy, RefBusy, Unexpected, NotArmed}
 use Rattle.radio_book.specs.declared.event.Reply.{Reply}
 use Rattle.radio_book.specs.declared.undone.StepAt.{StepAt}
 use Rattle.radio_book.specs.State.{State, state_of}
-use Rattle.radio_book.specs.Table.{step, reply_to, same_chan, reference_held}
+use Rattle.radio_book.specs.Table.{channel_row, step, reply_to, same_chan, reference_held}
 use Rattle.radio_book.specs.Run.{run_book}
-use Rattle.radio_book.specs.Others.{call_of, channel_of}
 pub use Rattle.radio_book.specs.Kinds.{Opens, Undoes}
-use Rattle.radio_book.specs.Kinds.{EndsIt, released_by, number_of, refusal_of, is_accepted, busy_channel, busy_reference}
+use Rattle.radio_book.specs.Kinds.{call_of, channel_of, EndsIt, released_by, number_of, refusal_of, is_accepted}
 
 -- LISTS OF STEPS
 
@@ -74,11 +73,7 @@ pub record IsUndoneIn (steps : List StepAt) (u : Undone) : Type 0 where
   pub undo_accepted : IsTrue (is_accepted u.undo.reply)
 
 abbrev pub is_off : ChanState → Bool
-is_off Free = false
-is_off (Held c) = false
-is_off (Pending c) = false
-is_off (On c) = false
-is_off Off = true
+is_off s = (channel_row s).off
 
 -- a channel that is there is off
 abbrev pub is_target_off : State → Option ChanId → Bool
@@ -173,7 +168,15 @@ reference_reserved u = reference_held u.target (option_and_then (λ (s : StepAt)
 -- the refusal comes from this channel, or from this reference
 abbrev pub comes_from : Option ChanId → Option Reference → Option Refusal → Bool
 comes_from target reference None = false
-comes_from target reference (Some why) = is_channel target (busy_channel why) || is_reference reference (busy_reference why)
+comes_from target reference (Some NoCall) = false
+comes_from target reference (Some CallExists) = false
+comes_from target reference (Some WrongPhase) = false
+comes_from target reference (Some NoChannel) = false
+comes_from target reference (Some SameCell) = false
+comes_from target reference (Some (ChannelBusy x)) = is_channel target (Some x)
+comes_from target reference (Some (RefBusy k n)) = is_reference reference (Some (record { cell = k; number = n }))
+comes_from target reference (Some (Unexpected x)) = false
+comes_from target reference (Some NotArmed) = false
 
 abbrev pub refused_for : Option ChanId → Option Reference → List StepAt → List StepAt
 refused_for target reference steps = filter (λ s. comes_from target reference (refusal_of s.reply)) steps

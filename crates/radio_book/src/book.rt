@@ -14,8 +14,8 @@ ghost use Rattle.radio_book.specs.Table.{step, reply_to, row, NeedsRoom, MayNeed
 ghost use Rattle.radio_book.specs.Undone.{is_target_off};
 ghost use Rattle.radio_book.specs.Choice.{NoneFree, TakesFree, ReservesFree, free_count};
 
+use crate::book_tables::BookTables;
 use crate::event::{Event, Kind, Reply};
-use crate::records::Records;
 use cell_table::Site;
 use channel_fsm::ChanId;
 use std::alloc::{AllocError, Allocator, Global};
@@ -39,7 +39,7 @@ pub struct Usage {
 /// handover references and timers that attempts hold. It is sound at all times.
 #[derive(Drop)]
 pub struct Book<A: Allocator = Global> {
-    records: Records<A>,
+    tables: BookTables<A>,
 }
 
 impl<A: Allocator> Model for Book<A> {
@@ -50,9 +50,9 @@ impl<A: Allocator> Model for Book<A> {
 
     ghost coded = { state_code };
 
-    ghost view = { λ book. book.records };
+    ghost view = { λ book. book.tables };
 
-    ghost invariant = { λ book. IsSound book.records };
+    ghost invariant = { λ book. IsSound book.tables };
 }
 
 /// Two books are equal where their sites, the states of their channels, the records of their calls, their references in
@@ -66,7 +66,7 @@ impl<A: Allocator> PartialEq for Book<A> {
         ensures value { result ≡ is_same state_code self.now other.now }
         ensures same { IsTrue result ↔ (self.now ≡ other.now) }
     {
-        self.records == other.records
+        self.tables == other.tables
     }
 }
 
@@ -80,23 +80,23 @@ impl<A: Allocator + Copy> Book<A> {
         ensures empty { IfOk result (λ book. book ≡ empty_book site.value) }
         ensures memory { IsOk result }
     {
-        let records = Records::new(alloc, site);
-        Ok(Book { records })
+        let tables = BookTables::new(alloc, site);
+        Ok(Book { tables })
     }
 
     /// The site, which never changes.
     pub fn site(&self) -> &Arc<Site<A>, A>
         ensures site { result.now.value ≡ self.now.site }
     {
-        self.records.site()
+        self.tables.site()
     }
 
     /// The same book again. Memory is asked for.
     pub fn copy(&self) -> Result<Book<A>, AllocError>
         ensures copy { IfOk result (λ book. book ≡ self.now) }
     {
-        let records = self.records.copy()?;
-        Ok(Self { records })
+        let tables = self.tables.copy()?;
+        Ok(Self { tables })
     }
 
     /// How much the book holds. Its contract also hands out that every book is sound.
@@ -108,10 +108,10 @@ impl<A: Allocator + Copy> Book<A> {
         ensures sound { IsSound self.now }
     {
         Usage {
-            channels: self.records.channels(),
-            calls: self.records.calls(),
-            references: self.records.references(),
-            timers: self.records.timers(),
+            channels: self.tables.channels(),
+            calls: self.tables.calls(),
+            references: self.tables.references(),
+            timers: self.tables.timers(),
         }
     }
 
@@ -119,7 +119,7 @@ impl<A: Allocator + Copy> Book<A> {
     pub(crate) fn sound(&self)
         ensures { IsSound self.now }
     {
-        let _ = &self.records;
+        let _ = &self.tables;
     }
 
     /// The channel, if there is one, is off: its release is awaited.
@@ -127,7 +127,7 @@ impl<A: Allocator + Copy> Book<A> {
         ensures { result ≡ is_target_off self.now target }
     {
         match target {
-            Some(x) => self.records.is_off(x),
+            Some(x) => self.tables.is_off(x),
             None => false,
         }
     }
@@ -150,7 +150,7 @@ impl<A: Allocator + Copy> Book<A> {
             event ≡ Event.Undo c why → result ≡ Ok (Reply.Record shown state) →
             self.new ≡ run_back c (journal_of shown.attempt) self.old }
     {
-        self.records.step(event)
+        self.tables.step(event)
     }
 
     /// A `Take` of some free channel of the cell, judged as by [`Book::step`], with its answer. `None` says that there is
@@ -174,7 +174,7 @@ impl<A: Allocator + Copy> Book<A> {
         ensures memory { OnErr result ((e : Event) × TakesFree self.old call kind cell e ×
             NeedsRoom self.old (row self.old e)) }
     {
-        let Some(x) = self.records.choose_channel(cell) else {
+        let Some(x) = self.tables.choose_channel(cell) else {
             return Ok(None);
         };
         let event = Event::Take(call, kind, x);
@@ -194,7 +194,7 @@ impl<A: Allocator + Copy> Book<A> {
         ensures memory { OnErr result ((e : Event) × ReservesFree self.old call e ×
             NeedsRoom self.old (row self.old e)) }
     {
-        let number = self.records.choose_number(call);
+        let number = self.tables.choose_number(call);
         let event = Event::Reserve(call, number);
         let reply = self.step(event)?;
         Ok((event, reply))
@@ -206,6 +206,6 @@ impl<A: Allocator + Copy> Book<A> {
         ensures count { result ≡ free_count self.now cell }
         ensures none { (result ≡ 0) ↔ NoneFree self.now cell }
     {
-        self.records.free_in(cell)
+        self.tables.free_in(cell)
     }
 }

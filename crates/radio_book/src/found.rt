@@ -10,8 +10,7 @@ ghost use Rattle.radio_book.specs.declared.undone.StepAt.{StepAt};
 
 use crate::event::{Reference, Refusal};
 use crate::kinds::{
-    busy_channel, busy_reference, call_of, channel_of, ended_by, number_of, opened_by, refusal_of,
-    released_by, undone_by,
+    call_of, channel_of, ended_by, number_of, opened_by, refusal_of, released_by, undone_by,
 };
 use crate::undone::StepAt;
 use channel_fsm::ChanId;
@@ -95,6 +94,7 @@ fn releases(target: Option<ChanId>, step: &StepAt) -> bool
     is_channel(target, released_by(step.event))
 }
 
+/// The refusal comes from the target, or from the reference.
 fn comes_from(
     target: Option<ChanId>,
     reference: Option<Reference>,
@@ -103,11 +103,20 @@ fn comes_from(
     ensures { result ≡ comes_from target reference refusal }
 {
     match refusal {
-        Some(refusal) => {
-            is_channel(target, busy_channel(refusal))
-                || is_reference(reference, busy_reference(refusal))
+        Some(Refusal::ChannelBusy(x)) => is_channel(target, Some(x)),
+        Some(Refusal::RefBusy(cell, number)) => {
+            is_reference(reference, Some(Reference { cell, number }))
         }
-        None => false,
+        Some(
+            Refusal::NoCall
+            | Refusal::CallExists
+            | Refusal::WrongPhase
+            | Refusal::NoChannel
+            | Refusal::SameCell
+            | Refusal::Unexpected(_)
+            | Refusal::NotArmed,
+        )
+        | None => false,
     }
 }
 

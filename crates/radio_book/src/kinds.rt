@@ -1,10 +1,9 @@
 //! What single events and replies say of an attempt.
 ghost use Rattle.std.specs.Prelude.{◌≡◌};
-ghost use Rattle.radio_book.specs.Others.{call_of, channel_of};
-ghost use Rattle.radio_book.specs.Kinds.{released_by, number_of, refusal_of, busy_channel, busy_reference};
+ghost use Rattle.radio_book.specs.Kinds.{call_of, channel_of, released_by, number_of, refusal_of};
 ghost use Rattle.radio_book.specs.Found.{opened_by, ended_by, undone_by};
 
-use crate::event::{Event, Reference, Refusal, Reply};
+use crate::event::{Event, Refusal, Reply};
 use channel_fsm::ChanId;
 
 /// The call that an event is asked for.
@@ -187,39 +186,5 @@ pub fn refusal_of(reply: Reply) -> Option<Refusal>
     match reply {
         Reply::Refused(refusal) => Some(refusal),
         Reply::Done | Reply::Record(_, _) | Reply::Owned(_) => None,
-    }
-}
-
-/// The channel that a refusal says is busy.
-pub fn busy_channel(refusal: Refusal) -> Option<ChanId>
-    ensures { result ≡ busy_channel refusal }
-{
-    match refusal {
-        Refusal::ChannelBusy(x) => Some(x),
-        Refusal::NoCall
-        | Refusal::CallExists
-        | Refusal::WrongPhase
-        | Refusal::NoChannel
-        | Refusal::SameCell
-        | Refusal::RefBusy(_, _)
-        | Refusal::Unexpected(_)
-        | Refusal::NotArmed => None,
-    }
-}
-
-/// The reference that a refusal says is busy.
-pub fn busy_reference(refusal: Refusal) -> Option<Reference>
-    ensures { result ≡ busy_reference refusal }
-{
-    match refusal {
-        Refusal::RefBusy(cell, number) => Some(Reference { cell, number }),
-        Refusal::NoCall
-        | Refusal::CallExists
-        | Refusal::WrongPhase
-        | Refusal::NoChannel
-        | Refusal::SameCell
-        | Refusal::ChannelBusy(_)
-        | Refusal::Unexpected(_)
-        | Refusal::NotArmed => None,
     }
 }

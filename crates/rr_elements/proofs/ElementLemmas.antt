@@ -6,7 +6,7 @@ use Rattle.rr_elements.specs.Power.{PowerCommand, PowerFits, IsPowerText, power_
 use Rattle.rr_elements.specs.RrCause.{IsCauseText, cause_widths, cause_numbers, cause_text}
 use Rattle.rr_elements.specs.declared.cause.RrCause.{RrCause}
 use Rattle.rr_elements.proofs.Readers.{cell_of, cell_said, chan_of, chan_said, power_of, power_said, cause_of, cause_said}
-use Rattle.bit_fields.proofs.FieldLemmas.{flag-one, flag_below, AreFields-field_octets}
+use Rattle.octet_elements.proofs.FieldLemmas.{flag-one, flag_below, AreFields-field_octets}
 
 pub cell-said : (v : Cell) (octets : List ℕ) → IsCellText v octets → cell_said octets ≡ Ok v
 cell-said v octets text =

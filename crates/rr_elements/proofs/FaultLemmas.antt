@@ -1,9 +1,9 @@
 -- What is wrong with octets: a text has no fault, and no octets have two.
 use Rattle.std.proofs.Common.{◌≡◌, ◌≢◌, ◌∙◌, sym, ℕ, ◌*◌, ◌==◌, false, List, [], ◌∷◌, length, take, drop, refl, ap, arith, Err}
 use Rattle.std.proofs.lemmas.Bool.Decides.{nat_tests}
-use Rattle.bit_fields.specs.Bits.{bits_of, number_of, total}
+use Rattle.octet_elements.specs.Bits.{bits_of, number_of, total}
 use Rattle.rr_elements.specs.Faults.{HasOtherLength}
-use Rattle.bit_fields.specs.Fields.{AreFields}
+use Rattle.octet_elements.specs.Fields.{AreFields}
 use Rattle.rr_elements.specs.ChanDescription.{Chan, IsChanText, HasChanFault}
 use Rattle.rr_elements.specs.declared.fault.ElementFault.{ElementFault}
 use Rattle.rr_elements.specs.declared.fault.ElementFault.TheVariants.{Length, BadType, Hopping, BadRange}

@@ -5,7 +5,7 @@ use Rattle.rr_elements.specs.declared.fault.ElementFault.{ElementFault}
 use Rattle.rr_elements.specs.declared.fault.ElementFault.TheVariants.{Length, BadType, Hopping}
 use Rattle.rr_elements.specs.declared.measurement.MeasHead.{MeasHead}
 use Rattle.rr_elements.specs.declared.measurement.Ncell.{Ncell}
-use Rattle.bit_fields.specs.Bits.{bits_of, cut}
+use Rattle.octet_elements.specs.Bits.{bits_of, cut}
 use Rattle.rr_elements.specs.CellDescription.{Cell, cell_widths}
 use Rattle.rr_elements.specs.ChanDescription.{Chan, chan_widths}
 use Rattle.rr_elements.specs.Power.{PowerCommand, power_widths}

@@ -4,11 +4,11 @@ use Rattle.std.proofs.lemmas.Grind.{flat_map-append}
 use Rattle.std.proofs.lemmas.List.{take_at, length-take-le, length-append, length-replicate}
 use Rattle.rr_elements.specs.declared.measurement.MeasHead.{MeasHead}
 use Rattle.rr_elements.specs.declared.measurement.Ncell.{Ncell}
-use Rattle.bit_fields.specs.Bits.{bits, bits_of, cut, after, repeated_widths, bits_written}
+use Rattle.octet_elements.specs.Bits.{bits, bits_of, cut, after, repeated_widths, bits_written}
 use Rattle.rr_elements.specs.MeasResults.{Results, IsResultsText, used_count, head_widths, head_numbers, ncell_widths, ncell_numbers, results_widths, results_numbers, no_ncell}
-use Rattle.bit_fields.proofs.CutLemmas.{cut-append, repeated_widths-add, bits_written-append}
-use Rattle.bit_fields.proofs.BitLemmas.{no_bits, zeros-add}
-use Rattle.bit_fields.proofs.FieldLemmas.{flag-one, flag-none}
+use Rattle.octet_elements.proofs.CutLemmas.{cut-append, repeated_widths-add, bits_written-append}
+use Rattle.octet_elements.proofs.BitLemmas.{no_bits, zeros-add}
+use Rattle.octet_elements.proofs.FieldLemmas.{flag-one, flag-none}
 use Rattle.rr_elements.proofs.Readers.{ncells_of, results_of, results_said}
 
 ncells_of-numbers : (cells : List Ncell) → ncells_of (flat_map ncell_numbers cells) ≡ cells

@@ -3,9 +3,9 @@ use Rattle.std.proofs.Common.{◌≡◌, ◌∙◌, ◌+◌, ◌-◌, List, [], 
 use Rattle.std.proofs.lemmas.List.{length-replicate, length-append}
 use Rattle.std.proofs.lemmas.List.Elements.{All-append, All-replicate, All-head, All-tail}
 use Rattle.rr_elements.specs.declared.measurement.Ncell.{Ncell}
-use Rattle.bit_fields.specs.Bits.{repeated_widths}
+use Rattle.octet_elements.specs.Bits.{repeated_widths}
 use Rattle.rr_elements.specs.MeasResults.{Results, ResultsFit, NcellFits, IsResultsText, head_widths, head_numbers, ncell_widths, ncell_numbers, results_widths, results_numbers, results_text, no_ncell}
-use Rattle.bit_fields.proofs.FieldLemmas.{flag_below, FieldsFit, fit-append, AreFields-field_octets}
+use Rattle.octet_elements.proofs.FieldLemmas.{flag_below, FieldsFit, fit-append, AreFields-field_octets}
 use Rattle.rr_elements.proofs.KeptLemmas.{used_count_le, no_ncell_fits}
 
 cells_fit : (cells : List Ncell) → All NcellFits cells → FieldsFit (repeated_widths (length cells) ncell_widths) (flat_map ncell_numbers cells)

@@ -1,6 +1,6 @@
 -- Cell Description (TS 44.018 section 10.5.2.2), without an identifier.
 use Rattle.std.specs.Prelude.{ℕ, ◌/◌, ◌%◌, ◌^◌, ◌<◌, List, [], ◌∷◌}
-use Rattle.bit_fields.specs.Fields.{AreFields, field_octets}
+use Rattle.octet_elements.specs.Fields.{AreFields, field_octets}
 
 -- the carrier of the cell's BCCH, and the two halves of its colour
 pub record Cell : Type 0 where

@@ -1,9 +1,9 @@
 -- Channel Description 2 (TS 44.018 section 10.5.2.5a), without an identifier: a full rate traffic channel that does not hop.
 use Rattle.std.specs.Prelude.{◌≡◌, ℕ, ◌/◌, ◌%◌, ◌^◌, ◌<◌, List, [], ◌∷◌, length}
 use Rattle.rr_elements.specs.Faults.{HasOtherLength}
-use Rattle.bit_fields.specs.Fields.{AreFields, AreFirstFields, field_octets}
+use Rattle.octet_elements.specs.Fields.{AreFields, AreFirstFields, field_octets}
 use Rattle.rr_elements.specs.declared.fault.ElementFault.{ElementFault}
-use Rattle.rr_elements.specs.declared.fault.ElementFault.TheVariants.{Length, BadType, Hopping}
+use Rattle.rr_elements.specs.declared.fault.ElementFault.TheVariants.{Length, BadType, Hopping, BadRange}
 
 -- timeslot, training sequence code and carrier
 pub record Chan : Type 0 where
@@ -43,4 +43,4 @@ abbrev pub HasChanFault : List ℕ → ElementFault → Type 0
 HasChanFault octets Length = HasOtherLength 3 octets Length
 HasChanFault octets BadType = (length octets ≡ 3) × (AreFirstFields chan_widths (full_rate ∷ []) octets → ⊥)
 HasChanFault octets Hopping = (tn tsc : ℕ) × AreFirstFields chan_widths (full_rate ∷ tn ∷ tsc ∷ 1 ∷ []) octets
-HasChanFault octets _ = ⊥
+HasChanFault octets BadRange = ⊥

@@ -1,7 +1,7 @@
 -- Measurement Results (TS 44.018 section 10.5.2.20), without an identifier: 128 bits.
 use Rattle.std.specs.Prelude.{◌≡◌, ℕ, ◌+◌, ◌-◌, ◌^◌, ◌<◌, ◌==◌, if◌then◌else◌, not, List, [], ◌∷◌, ◌++◌, length, take, drop, replicate, flat_map, All}
-use Rattle.bit_fields.specs.Bits.{repeated_widths}
-use Rattle.bit_fields.specs.Fields.{AreFields, field_octets, flag}
+use Rattle.octet_elements.specs.Bits.{repeated_widths}
+use Rattle.octet_elements.specs.Fields.{AreFields, field_octets, flag}
 use Rattle.rr_elements.specs.declared.measurement.MeasHead.{MeasHead}
 use Rattle.rr_elements.specs.declared.measurement.Ncell.{Ncell}
 

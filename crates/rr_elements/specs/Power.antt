@@ -1,6 +1,6 @@
 -- Power Command and access type (TS 44.018 section 10.5.2.28a), without an identifier.
 use Rattle.std.specs.Prelude.{ℕ, ◌^◌, ◌<◌, Bool, List, [], ◌∷◌}
-use Rattle.bit_fields.specs.Fields.{AreFields, field_octets, flag}
+use Rattle.octet_elements.specs.Fields.{AreFields, field_octets, flag}
 
 -- whether the handover access may be left out, and the power level
 pub record PowerCommand : Type 0 where

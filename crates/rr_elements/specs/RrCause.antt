@@ -1,7 +1,15 @@
 -- RR Cause (TS 44.018 section 10.5.2.31), without an identifier: any octet.
 use Rattle.std.specs.Prelude.{ℕ, List, [], ◌∷◌}
-use Rattle.bit_fields.specs.Fields.{AreFields, field_octets}
+use Rattle.octet_elements.specs.Fields.{AreFields, field_octets}
 use Rattle.rr_elements.specs.declared.cause.RrCause.{RrCause}
+
+-- normal event
+abbrev pub normal_event : ℕ
+normal_event = 0
+
+-- abnormal release, unspecified
+abbrev pub abnormal_release : ℕ
+abnormal_release = 1
 
 abbrev pub cause_widths : List ℕ
 cause_widths = 8 ∷ []

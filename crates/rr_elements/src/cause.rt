@@ -1,9 +1,15 @@
 //! RR Cause.
-ghost use Rattle.std.specs.Prelude.{◌≡◌, IfOk, IfErr, Ok};
+ghost use Rattle.std.specs.Prelude.{◌≡◌, IfOk, IfErr, Ok, length};
 
 use crate::fault::ElementFault;
-use bit_fields::{BitReader, BitWriter};
+use octet_elements::{BitReader, BitWriter};
 use std::alloc::{AllocError, Allocator};
+
+/// The cause 'normal event'.
+pub const NORMAL_EVENT: u8 = 0;
+
+/// The cause 'abnormal release, unspecified'.
+pub const ABNORMAL_RELEASE: u8 = 1;
 
 /// Why a connection is released or a handover ended (TS 44.018 section 10.5.2.31): any octet.
 #[derive(Clone, Copy, Debug, PartialEq, Eq)]
@@ -12,7 +18,7 @@ pub struct RrCause(pub u8);
 impl RrCause {
     ghost use Rattle.rr_elements.specs.RrCause.{IsCauseText, cause_text};
     ghost use Rattle.rr_elements.specs.Faults.{HasOtherLength};
-    ghost use Rattle.bit_fields.specs.Appending.{IsAppended};
+    ghost use Rattle.octet_elements.specs.Writing.{Appends};
 
     /// The cause with this value; each octet is one, so no fault comes.
     pub fn new(value: u8) -> Result<Self, ElementFault>
@@ -30,7 +36,8 @@ impl RrCause {
 
     /// Appends the element's one octet.
     pub fn encode_into<A: Allocator + Copy>(&self, out: &mut Vec<u8, A>) -> Result<(), AllocError>
-        ensures written { IsAppended (cause_text self.now) 1 out.old out.new result }
+        ensures written { Appends (cause_text self.now) out.old out.new result }
+        ensures count { length (cause_text self.now) ≡ 1 }
         ensures text { IsCauseText self.now (cause_text self.now) }
     {
         let mut bits = BitWriter::new();

@@ -1,8 +1,8 @@
 //! Cell Description.
-ghost use Rattle.std.specs.Prelude.{◌≡◌, ◌<◌, IfOk, IfErr, Ok, Err};
+ghost use Rattle.std.specs.Prelude.{◌≡◌, ◌<◌, IfOk, IfErr, Ok, Err, length};
 
 use crate::fault::ElementFault;
-use bit_fields::{BitReader, BitWriter};
+use octet_elements::{BitReader, BitWriter};
 use std::alloc::{AllocError, Allocator};
 use std::marker::Model;
 
@@ -29,7 +29,7 @@ impl Model for CellDescription {
 impl CellDescription {
     ghost use Rattle.rr_elements.specs.CellDescription.{Cell, CellFits, IsCellText, cell_text};
     ghost use Rattle.rr_elements.specs.Faults.{HasOtherLength};
-    ghost use Rattle.bit_fields.specs.Appending.{IsAppended};
+    ghost use Rattle.octet_elements.specs.Writing.{Appends};
 
     /// A description of the cell with this carrier (0 to 1023), network colour code and base
     /// station colour code (0 to 7 each); `BadRange` where one of them is more.
@@ -72,7 +72,8 @@ impl CellDescription {
 
     /// Appends the element's two octets.
     pub fn encode_into<A: Allocator + Copy>(&self, out: &mut Vec<u8, A>) -> Result<(), AllocError>
-        ensures written { IsAppended (cell_text self.now) 2 out.old out.new result }
+        ensures written { Appends (cell_text self.now) out.old out.new result }
+        ensures count { length (cell_text self.now) ≡ 2 }
         ensures text { IsCellText self.now (cell_text self.now) }
     {
         let CellDescription { arfcn, ncc, bcc } = *self;

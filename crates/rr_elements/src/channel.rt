@@ -1,8 +1,8 @@
 //! Channel Description 2.
-ghost use Rattle.std.specs.Prelude.{◌≡◌, ◌<◌, IfOk, IfErr, Ok, Err};
+ghost use Rattle.std.specs.Prelude.{◌≡◌, ◌<◌, IfOk, IfErr, Ok, Err, length};
 
 use crate::fault::ElementFault;
-use bit_fields::{BitReader, BitWriter};
+use octet_elements::{BitReader, BitWriter};
 use std::alloc::{AllocError, Allocator};
 use std::marker::Model;
 
@@ -31,7 +31,7 @@ impl Model for ChanDescription {
 
 impl ChanDescription {
     ghost use Rattle.rr_elements.specs.ChanDescription.{Chan, ChanFits, IsChanText, chan_text, HasChanFault};
-    ghost use Rattle.bit_fields.specs.Appending.{IsAppended};
+    ghost use Rattle.octet_elements.specs.Writing.{Appends};
 
     /// The channel with this timeslot and training sequence code (0 to 7 each) and carrier (0 to
     /// 1023); `BadRange` where one of them is more.
@@ -74,7 +74,8 @@ impl ChanDescription {
 
     /// Appends the element's three octets.
     pub fn encode_into<A: Allocator + Copy>(&self, out: &mut Vec<u8, A>) -> Result<(), AllocError>
-        ensures written { IsAppended (chan_text self.now) 3 out.old out.new result }
+        ensures written { Appends (chan_text self.now) out.old out.new result }
+        ensures count { length (chan_text self.now) ≡ 3 }
         ensures text { IsChanText self.now (chan_text self.now) }
     {
         let ChanDescription { tn, tsc, carrier } = *self;

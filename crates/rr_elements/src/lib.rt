@@ -10,7 +10,7 @@ mod measurement;
 mod power;
 mod results;
 
-pub use cause::RrCause;
+pub use cause::{ABNORMAL_RELEASE, NORMAL_EVENT, RrCause};
 pub use cell::CellDescription;
 pub use channel::ChanDescription;
 pub use fault::ElementFault;

@@ -1,9 +1,9 @@
 //! The parts of Measurement Results: the head and the neighbours.
 ghost use Rattle.std.specs.Prelude.{◌≡◌, ◌↔◌, ◌+◌, ◌*◌, ◌-◌, ◌≤◌, ◌++◌, IsTrue, All, length, take, drop, replicate, flat_map};
-ghost use Rattle.bit_fields.specs.Bits.{cut, after, repeated_widths, bits_written};
+ghost use Rattle.octet_elements.specs.Bits.{cut, after, repeated_widths, bits_written};
 ghost use Rattle.rr_elements.specs.MeasResults.{HeadFits, NcellFits, used_count, head_widths, head_numbers, ncell_widths, ncell_numbers, no_ncell};
 
-use bit_fields::{BitReader, BitWriter};
+use octet_elements::{BitReader, BitWriter};
 
 /// What was measured of a neighbour cell.
 #[derive(Clone, Copy, Debug, PartialEq, Eq)]

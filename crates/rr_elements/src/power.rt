@@ -1,8 +1,8 @@
 //! Power Command and access type.
-ghost use Rattle.std.specs.Prelude.{◌≡◌, ◌<◌, IfOk, IfErr, Ok, Err};
+ghost use Rattle.std.specs.Prelude.{◌≡◌, ◌<◌, IfOk, IfErr, Ok, Err, length};
 
 use crate::fault::ElementFault;
-use bit_fields::{BitReader, BitWriter};
+use octet_elements::{BitReader, BitWriter};
 use std::alloc::{AllocError, Allocator};
 use std::marker::Model;
 
@@ -29,7 +29,7 @@ impl Model for Power {
 impl Power {
     ghost use Rattle.rr_elements.specs.Power.{PowerCommand, PowerFits, IsPowerText, power_text};
     ghost use Rattle.rr_elements.specs.Faults.{HasOtherLength};
-    ghost use Rattle.bit_fields.specs.Appending.{IsAppended};
+    ghost use Rattle.octet_elements.specs.Writing.{Appends};
 
     /// This access type (`true`: the handover access is optional) and power level (0 to 31);
     /// `BadRange` where the level is more.
@@ -63,7 +63,8 @@ impl Power {
 
     /// Appends the element's one octet.
     pub fn encode_into<A: Allocator + Copy>(&self, out: &mut Vec<u8, A>) -> Result<(), AllocError>
-        ensures written { IsAppended (power_text self.now) 1 out.old out.new result }
+        ensures written { Appends (power_text self.now) out.old out.new result }
+        ensures count { length (power_text self.now) ≡ 1 }
         ensures text { IsPowerText self.now (power_text self.now) }
     {
         let Power { atc, level } = *self;

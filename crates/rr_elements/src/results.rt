@@ -5,7 +5,7 @@ use crate::fault::ElementFault;
 use crate::measurement::{
     MeasHead, NO_NCELL, Ncell, all_fit, put_head, put_ncells, take_head, take_ncells,
 };
-use bit_fields::{BitReader, BitWriter};
+use octet_elements::{BitReader, BitWriter};
 use std::alloc::{AllocError, Allocator};
 use std::marker::Model;
 
@@ -41,7 +41,7 @@ impl Model for MeasResults {
 impl MeasResults {
     ghost use Rattle.rr_elements.specs.MeasResults.{Results, ResultsFit, HeadFits, NcellFits, used_count, IsResultsText, results_text};
     ghost use Rattle.rr_elements.specs.Faults.{HasOtherLength};
-    ghost use Rattle.bit_fields.specs.Appending.{IsAppended};
+    ghost use Rattle.octet_elements.specs.Writing.{Appends};
 
     /// Results with these fields and neighbours. `BadRange` where a field does not fit its bits,
     /// or there are not as many neighbours as the count says (none where it is 7).
@@ -80,7 +80,8 @@ impl MeasResults {
 
     /// Appends the element's sixteen octets.
     pub fn encode_into<A: Allocator + Copy>(&self, out: &mut Vec<u8, A>) -> Result<(), AllocError>
-        ensures written { IsAppended (results_text self.now) 16 out.old out.new result }
+        ensures written { Appends (results_text self.now) out.old out.new result }
+        ensures count { length (results_text self.now) ≡ 16 }
         ensures text { IsResultsText self.now (results_text self.now) }
     {
         let mut bits = BitWriter::new();

@@ -35,7 +35,11 @@ part-fault : (k : Kind) (part : List ℕ) (fault : ElementFault) → length part
 part-fault kind.HandoverCommand part fault long (first, second, rest, two, three, is, bad) =
     let seven : length (first ++ second ++ rest) ≡ 7 = sym (ap length is) ∙ long in
     ap command_said is ∙ command-fault first second rest fault two three (two_left first second rest two three seven) (chan-fault second fault bad)
-part-fault k part fault long h = absurd h
+part-fault kind.ChannelRelease part fault long h = absurd h
+part-fault kind.MeasurementReport part fault long h = absurd h
+part-fault kind.HandoverFailure part fault long h = absurd h
+part-fault kind.HandoverComplete part fault long h = absurd h
+part-fault kind.PhysicalInformation part fault long h = absurd h
 
 -- octets with a fault are read as it
 pub fault-said : (octets : List ℕ) (fault : RrFault) → HasRrFault octets fault → rr_said octets ≡ Err fault

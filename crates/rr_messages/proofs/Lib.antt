@@ -1,3 +1,4 @@
 pub mod Faults
+pub mod Lengths
 pub mod Readers
 pub mod Texts

@@ -78,7 +78,11 @@ Fits (MeasurementReport results) = ResultsFit results
 abbrev pub HasPartFault : Kind → List ℕ → ElementFault → Type 0
 HasPartFault kind.HandoverCommand part fault =
     (first second rest : List ℕ) × (length first ≡ 2) × (length second ≡ 3) × (part ≡ first ++ second ++ rest) × HasChanFault second fault
-HasPartFault _ part fault = ⊥
+HasPartFault kind.ChannelRelease part fault = ⊥
+HasPartFault kind.MeasurementReport part fault = ⊥
+HasPartFault kind.HandoverFailure part fault = ⊥
+HasPartFault kind.HandoverComplete part fault = ⊥
+HasPartFault kind.PhysicalInformation part fault = ⊥
 
 -- The octets have this fault: no octet, or another discriminator; no type, or a part that is cut; a type
 -- that no message has; a bad element in the part. Memory is never refused.

@@ -2,6 +2,19 @@
 ghost use Rattle.std.specs.Prelude.{◌≡◌, ◌≢◌, IfSome, IfNone};
 ghost use Rattle.rr_messages.specs.Kind.{type_of, part_len};
 
+// Types (TS 44.018 section 10.4): what is read and what is written name them.
+const CHANNEL_RELEASE: u8 = 0x0D;
+
+const MEASUREMENT_REPORT: u8 = 0x15;
+
+const HANDOVER_FAILURE: u8 = 0x28;
+
+const HANDOVER_COMMAND: u8 = 0x2B;
+
+const HANDOVER_COMPLETE: u8 = 0x2C;
+
+const PHYSICAL_INFORMATION: u8 = 0x2D;
+
 /// The type of a message.
 #[derive(Clone, Copy, Debug, PartialEq, Eq)]
 pub(crate) enum Kind {
@@ -20,12 +33,12 @@ impl Kind {
         ensures none { IfNone result ((kind : Kind) → octet ≢ type_of kind) }
     {
         match octet {
-            0x0D => Some(Kind::ChannelRelease),
-            0x15 => Some(Kind::MeasurementReport),
-            0x28 => Some(Kind::HandoverFailure),
-            0x2B => Some(Kind::HandoverCommand),
-            0x2C => Some(Kind::HandoverComplete),
-            0x2D => Some(Kind::PhysicalInformation),
+            CHANNEL_RELEASE => Some(Kind::ChannelRelease),
+            MEASUREMENT_REPORT => Some(Kind::MeasurementReport),
+            HANDOVER_FAILURE => Some(Kind::HandoverFailure),
+            HANDOVER_COMMAND => Some(Kind::HandoverCommand),
+            HANDOVER_COMPLETE => Some(Kind::HandoverComplete),
+            PHYSICAL_INFORMATION => Some(Kind::PhysicalInformation),
             _ => None,
         }
     }
@@ -35,12 +48,12 @@ impl Kind {
         ensures { result ≡ type_of self }
     {
         match self {
-            Kind::ChannelRelease => 0x0D,
-            Kind::MeasurementReport => 0x15,
-            Kind::HandoverFailure => 0x28,
-            Kind::HandoverCommand => 0x2B,
-            Kind::HandoverComplete => 0x2C,
-            Kind::PhysicalInformation => 0x2D,
+            Kind::ChannelRelease => CHANNEL_RELEASE,
+            Kind::MeasurementReport => MEASUREMENT_REPORT,
+            Kind::HandoverFailure => HANDOVER_FAILURE,
+            Kind::HandoverCommand => HANDOVER_COMMAND,
+            Kind::HandoverComplete => HANDOVER_COMPLETE,
+            Kind::PhysicalInformation => PHYSICAL_INFORMATION,
         }
     }
 
@@ -51,7 +64,10 @@ impl Kind {
         match self {
             Kind::MeasurementReport => 16,
             Kind::HandoverCommand => 7,
-            _ => 1,
+            Kind::ChannelRelease
+            | Kind::HandoverFailure
+            | Kind::HandoverComplete
+            | Kind::PhysicalInformation => 1,
         }
     }
 }

@@ -1,7 +1,7 @@
 //! Messages as octets.
-ghost use Rattle.std.specs.Prelude.{◌≡◌, ◌+◌, ◌≤◌, ◌++◌, OnOk, IsOk, IfOk, vec_len, vec_capacity};
+ghost use Rattle.std.specs.Prelude.{◌≡◌, ◌+◌, ◌≤◌, ◌++◌, length, OnOk, IsOk, IfOk, vec_len, vec_capacity};
 ghost use Rattle.rr_messages.specs.Kind.{part_len};
-ghost use Rattle.bit_fields.specs.Appending.{IsAppended};
+ghost use Rattle.octet_elements.specs.Writing.{Appends};
 ghost use Rattle.rr_messages.specs.Rr.{kind_of, IsPart, IsRrText, part_text, rr_text, text_len};
 
 use crate::message::Rr;
@@ -41,22 +41,30 @@ fn append_part<A: Allocator + Copy>(message: &Rr, out: &mut Vec<u8, A>) -> Resul
     }
 }
 
+/// How many octets a message is written as.
+#[inline]
+fn text_len(message: &Rr) -> usize
+    ensures len { result ≡ length (rr_text message.now) }
+    ensures count { length (rr_text message.now) ≡ text_len message.now }
+{
+    2 + message.kind().part_len()
+}
+
 /// Appends a message. A list with room for it is not moved: no memory is asked for. Where memory is
 /// refused the list is as it was.
 pub fn encode_into<A: Allocator + Copy>(
     message: &Rr,
     out: &mut Vec<u8, A>,
 ) -> Result<(), AllocError>
-    ensures written { IsAppended (rr_text message.now) (text_len message.now)
-        out.old out.new result }
+    ensures written { Appends (rr_text message.now) out.old out.new result }
+    ensures count { length (rr_text message.now) ≡ text_len message.now }
 
     // What is written is a text of the message, so `decode` reads it as the message.
     ensures text { OnOk result (IsRrText message.now (rr_text message.now)) }
 {
-    let kind = message.kind();
-    make_room(out, 2 + kind.part_len())?;
+    make_room(out, text_len(message))?;
     out.push_reserved(RADIO_RESOURCES);
-    out.push_reserved(kind.octet());
+    out.push_reserved(message.kind().octet());
     append_part(message, out)
 }
 

@@ -1,3 +1,4 @@
+pub mod ByKind
 pub mod Unique
 pub mod Noted
 pub mod Written

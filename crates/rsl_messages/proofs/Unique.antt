@@ -1,5 +1,5 @@
 -- Octets begin with one head, or have one fault before the body.
-use Rattle.std.proofs.Common.{◌≡◌, ◌⊎◌, ℕ, ◌+◌, ◌≤◌, ◌/◌, List, [], ◌∷◌, length, Option, Some, None, refl, sym, ◌∙◌, subst, ap, arith, cond, eqb, inl, inr}
+use Rattle.std.proofs.Common.{◌≡◌, ◌⊎◌, ℕ, ◌+◌, ◌≤◌, ◌/◌, List, [], ◌∷◌, length, Some, refl, sym, ◌∙◌, subst, ap, arith, inl, inr}
 use Rattle.octet_elements.specs.Texts.{HeadsAreUnique}
 use Rattle.octet_elements.specs.declared.values.ValueFault.{ValueFault}
 use Rattle.octet_elements.specs.declared.values.ValueFault.TheVariants.{Absent, Bad}
@@ -9,38 +9,9 @@ use Rattle.rsl_messages.specs.declared.message.Rsl.{Rsl}
 use Rattle.rsl_messages.specs.declared.fault.RslFault.{RslFault}
 use Rattle.rsl_messages.specs.declared.fault.RslFault.TheVariants as fault
 use Rattle.rsl_messages.specs.declared.head.MessageKind.{MessageKind}
-use Rattle.rsl_messages.specs.declared.head.MessageKind.TheVariants as kind
 use Rattle.rsl_messages.specs.Heads.{IsDiscriminator, IsHead, Begins, HasHeadFault}
 use Rattle.rsl_messages.specs.Texts.{codec, limit, HasEarlyFault, IsTextOf, HasFault}
-
--- which message has half of its discriminator and its type
-kind_at : ℕ → ℕ → Option MessageKind
-kind_at half t = cond (eqb half 4) (cond (eqb t 33) (Some kind.ChannelActivation) (cond (eqb t 34) (Some kind.ChannelActivationAck) (cond (eqb t 35) (Some kind.ChannelActivationNack) (cond (eqb t 36) (Some kind.ConnectionFailureIndication) (cond (eqb t 39) (Some kind.HandoverDetection) (cond (eqb t 40) (Some kind.MeasurementResult) (cond (eqb t 46) (Some kind.RfChannelRelease) (cond (eqb t 51) (Some kind.RfChannelReleaseAck) None)))))))) (cond (eqb half 1) (cond (eqb t 1) (Some kind.DataRequest) (cond (eqb t 2) (Some kind.DataIndication) None)) None)
-
-found_at : (k : MessageKind) (d t : ℕ) → IsHead k d t → kind_at (d / 2) t ≡ Some k
-unfolding kind_at
-found_at kind.DataRequest d t h = λ i. kind_at (h.0 i) (h.1 i)
-found_at kind.DataIndication d t h = λ i. kind_at (h.0 i) (h.1 i)
-found_at kind.ChannelActivation d t h = λ i. kind_at (h.0 i) (h.1 i)
-found_at kind.ChannelActivationAck d t h = λ i. kind_at (h.0 i) (h.1 i)
-found_at kind.ChannelActivationNack d t h = λ i. kind_at (h.0 i) (h.1 i)
-found_at kind.ConnectionFailureIndication d t h = λ i. kind_at (h.0 i) (h.1 i)
-found_at kind.HandoverDetection d t h = λ i. kind_at (h.0 i) (h.1 i)
-found_at kind.MeasurementResult d t h = λ i. kind_at (h.0 i) (h.1 i)
-found_at kind.RfChannelRelease d t h = λ i. kind_at (h.0 i) (h.1 i)
-found_at kind.RfChannelReleaseAck d t h = λ i. kind_at (h.0 i) (h.1 i)
-
-discriminates : (k : MessageKind) (d t : ℕ) → IsHead k d t → IsDiscriminator d
-discriminates kind.DataRequest d t h = inl h.0
-discriminates kind.DataIndication d t h = inl h.0
-discriminates kind.ChannelActivation d t h = inr h.0
-discriminates kind.ChannelActivationAck d t h = inr h.0
-discriminates kind.ChannelActivationNack d t h = inr h.0
-discriminates kind.ConnectionFailureIndication d t h = inr h.0
-discriminates kind.HandoverDetection d t h = inr h.0
-discriminates kind.MeasurementResult d t h = inr h.0
-discriminates kind.RfChannelRelease d t h = inr h.0
-discriminates kind.RfChannelReleaseAck d t h = inr h.0
+use Rattle.rsl_messages.proofs.ByKind.{kind_at, found_at, discriminates}
 
 -- octets begin with the head of one message
 pub one_head : (j k : MessageKind) (octets x y : List ℕ) → Begins j octets x → Begins k octets y → (j ≡ k) × (x ≡ y)

@@ -1,9 +1,9 @@
 -- A message has a canonical text exactly where its fields can be written.
-use Rattle.std.proofs.Common.{◌++◌, ◌≡◌, ℕ, ◌+◌, ◌*◌, ◌<◌, ◌≤◌, ◌/◌, ◌%◌, List, [], ◌∷◌, length, length-append, Option, Some, None, Ok, Err, refl, sym, ◌∙◌, ap, arith, subst, cond, eqb, Bool, true, false, IfSome}
+use Rattle.std.proofs.Common.{◌≡◌, ℕ, ◌+◌, ◌*◌, ◌<◌, ◌≤◌, ◌/◌, ◌%◌, List, [], ◌∷◌, length, length-append, Option, Some, None, Ok, Err, refl, sym, ◌∙◌, ap, arith, subst, cond, eqb, Bool, true, false, IfSome}
 use Rattle.std.proofs.lemmas.Bool.Decides.{nat_tests}
 use borrow.Author.Tests.{eq-eqb}
 use Rattle.std.specs.List.{AllByRecursion}
-use Rattle.octet_elements.specs.Elements.{Fits, FitsAs, first_of, all_octets, octets_by_form, nth}
+use Rattle.octet_elements.specs.Elements.{Fits, FitsAs, first_of, all_octets, nth}
 use Rattle.octet_elements.specs.Lookup.{values_in}
 use Rattle.octet_elements.specs.Rows.{◌>>=◌}
 use Rattle.octet_elements.specs.Rows.{octet, optional_octet, u16_be, octets, any_octets, optional_octets, ◌▸◌}
@@ -18,9 +18,9 @@ use Rattle.rsl_messages.specs.declared.message.ChanBits.{ChanBits}
 use Rattle.rsl_messages.specs.declared.message.Rsl.{Rsl}
 use Rattle.rsl_messages.specs.declared.message.Rsl.TheVariants.{DataRequest, DataIndication, ChannelActivation, ChannelActivationAck, ChannelActivationNack, ConnectionFailureIndication, HandoverDetection, MeasurementResult, RfChannelRelease, RfChannelReleaseAck}
 use Rattle.rsl_messages.specs.Forms.{abis, CHANNEL_NUMBER, LINK_IDENTIFIER, ACTIVATION_TYPE, POWER, CHANNEL_MODE, FRAME_NUMBER, HANDOVER_REFERENCE, LAYER3, ACCESS_DELAY, UPLINK_MEASUREMENTS, CAUSE, RESULT_NUMBER}
-use Rattle.rsl_messages.specs.Heads.{head_of, Begins}
+use Rattle.rsl_messages.specs.Heads.{Begins}
 use Rattle.rsl_messages.specs.Values.{channel_in, channel_octet}
-use Rattle.rsl_messages.specs.Messages.{Said, CanBeSaid, said, kind_of, elements_of, channel_number, data_rows, activation_rows, activation_ack_rows, cause_rows, detection_rows, measurement_rows}
+use Rattle.rsl_messages.specs.Messages.{head_of, Said, CanBeSaid, said, kind_of, elements_of, channel_number, data_rows, activation_rows, activation_ack_rows, cause_rows, detection_rows, measurement_rows}
 use Rattle.rsl_messages.specs.Texts.{codec, HasCanonical, canonical_text, limit}
 use Rattle.rsl_messages.proofs.Unique.{one_head}
 
@@ -184,22 +184,6 @@ canonical_of {A} (RfChannelRelease channel) h within = let v : Rsl A = RfChannel
     text_of v within (refl, tt) (λ i. channel_again channel h i >>= λ channel. Ok (RfChannelRelease channel))
 canonical_of {A} (RfChannelReleaseAck channel) h within = let v : Rsl A = RfChannelReleaseAck channel in
     text_of v within (refl, tt) (λ i. channel_again channel h i >>= λ channel. Ok (RfChannelReleaseAck channel))
-
--- A CHANNEL ACTIVATION and an RF CHANNEL RELEASE are never too long.
-some_length : (i : ℕ) (o : Option ℕ) → abis i ≡ Fixed 1 → length (all_octets abis (where_some i o)) ≤ 2
-some_length i None form = omega arith
-some_length i (Some n) form =
-    let long : length (all_octets abis (where_some i (Some n))) ≡ 2 = ap (λ f. length (octets_by_form f i (n ∷ []) ++ [])) form in omega arith
-
-pub activation_canonical : {A : Type 0} (channel : ChanBits) (activation : ℕ) (mode : List ℕ) (reference : Option ℕ) → (channel.tn < 8) × (0 < length mode) × (length mode < 256) → HasCanonical {A = A} (ChannelActivation channel activation mode reference)
-activation_canonical channel activation mode reference h =
-    let long = length-append mode (all_octets abis (where_some HANDOVER_REFERENCE reference)) in
-    let last = some_length HANDOVER_REFERENCE reference refl in
-    let short = h.2 in
-    canonical_of (ChannelActivation channel activation mode reference) h (omega arith)
-
-pub release_canonical : {A : Type 0} (channel : ChanBits) → channel.tn < 8 → HasCanonical {A = A} (RfChannelRelease channel)
-release_canonical channel h = canonical_of (RfChannelRelease channel) h (omega arith)
 
 -- What has a canonical text can be written.
 are_writable : {A : Type 0} (v : Rsl A) → AllByRecursion (Fits abis) (elements_of v) → said (kind_of v) (values_in (elements_of v)) ≡ Ok v → CanBeSaid v

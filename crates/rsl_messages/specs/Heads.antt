@@ -3,20 +3,7 @@ use Rattle.std.specs.Prelude.{◌≡◌, ◌⊎◌, ℕ, ◌/◌, List, [], ◌�
 use Rattle.rsl_messages.specs.declared.fault.RslFault.{RslFault}
 use Rattle.rsl_messages.specs.declared.fault.RslFault.TheVariants.{NotRsl, Torn, UnknownType, TooLong, Missing, BadElement, NoMemory}
 use Rattle.rsl_messages.specs.declared.head.MessageKind.{MessageKind}
-use Rattle.rsl_messages.specs.declared.head.MessageKind.TheVariants.{DataRequest, DataIndication, ChannelActivation, ChannelActivationAck, ChannelActivationNack, ConnectionFailureIndication, HandoverDetection, MeasurementResult, RfChannelRelease, RfChannelReleaseAck}
-
--- discriminator and type as they are written
-abbrev pub head_of : MessageKind → ℕ × ℕ
-head_of DataRequest = (0x03, 0x01)
-head_of DataIndication = (0x03, 0x02)
-head_of ChannelActivation = (0x08, 0x21)
-head_of ChannelActivationAck = (0x08, 0x22)
-head_of ChannelActivationNack = (0x08, 0x23)
-head_of ConnectionFailureIndication = (0x08, 0x24)
-head_of HandoverDetection = (0x08, 0x27)
-head_of MeasurementResult = (0x08, 0x28)
-head_of RfChannelRelease = (0x08, 0x2E)
-head_of RfChannelReleaseAck = (0x08, 0x33)
+use Rattle.rsl_messages.specs.Messages.{head_of}
 
 -- Bit 1 of a discriminator, which says that a message passes through the base station, is ignored. What
 -- is left is 1 for radio link layer management and 4 for dedicated channel management.

@@ -1,5 +1,5 @@
 pub mod Forms
-pub mod Heads
 pub mod Values
 pub mod Messages
+pub mod Heads
 pub mod Texts

@@ -1,4 +1,4 @@
--- The messages: the rows of their elements, in the order in which they are read and written.
+-- The messages: head, and the rows of their elements in the order in which they are read and written.
 use Rattle.std.specs.Prelude.{◌⊎◌, ℕ, ◌<◌, List, [], ◌∷◌, length, Result, Ok, IsSome, IfSome, Option}
 use Rattle.octet_elements.specs.Elements.{Element}
 use Rattle.octet_elements.specs.Lookup.{Lookup}
@@ -11,6 +11,19 @@ use Rattle.rsl_messages.specs.declared.message.Rsl.{Rsl}
 use Rattle.rsl_messages.specs.declared.message.Rsl.TheVariants.{DataRequest, DataIndication, ChannelActivation, ChannelActivationAck, ChannelActivationNack, ConnectionFailureIndication, HandoverDetection, MeasurementResult, RfChannelRelease, RfChannelReleaseAck}
 use Rattle.rsl_messages.specs.Forms.{CHANNEL_NUMBER, LINK_IDENTIFIER, ACTIVATION_TYPE, POWER, CHANNEL_MODE, FRAME_NUMBER, HANDOVER_REFERENCE, LAYER3, ACCESS_DELAY, UPLINK_MEASUREMENTS, CAUSE, RESULT_NUMBER}
 use Rattle.rsl_messages.specs.Values.{channel_in, channel_octet}
+
+-- discriminator and type as they are written (clauses 9.1 and 9.2)
+abbrev pub head_of : MessageKind → ℕ × ℕ
+head_of kind.DataRequest = (0x03, 0x01)
+head_of kind.DataIndication = (0x03, 0x02)
+head_of kind.ChannelActivation = (0x08, 0x21)
+head_of kind.ChannelActivationAck = (0x08, 0x22)
+head_of kind.ChannelActivationNack = (0x08, 0x23)
+head_of kind.ConnectionFailureIndication = (0x08, 0x24)
+head_of kind.HandoverDetection = (0x08, 0x27)
+head_of kind.MeasurementResult = (0x08, 0x28)
+head_of kind.RfChannelRelease = (0x08, 0x2E)
+head_of kind.RfChannelReleaseAck = (0x08, 0x33)
 
 -- Channel number (clause 9.3.1), the first element of each message, and the only one of RF CHANNEL RELEASE
 -- (clause 8.4.14) and RF CHANNEL RELEASE ACKNOWLEDGE (8.4.19).

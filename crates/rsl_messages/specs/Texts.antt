@@ -9,9 +9,9 @@ use Rattle.rsl_messages.specs.declared.fault.RslFault.TheVariants as fault
 use Rattle.rsl_messages.specs.declared.head.MessageKind.{MessageKind}
 use Rattle.rsl_messages.specs.declared.message.Rsl.{Rsl}
 use Rattle.rsl_messages.specs.Forms.{abis}
-use Rattle.rsl_messages.specs.Heads.{Begins, HasHeadFault, head_of}
+use Rattle.rsl_messages.specs.Heads.{Begins, HasHeadFault}
 use Rattle.rsl_messages.specs.Values.{fault_of}
-use Rattle.rsl_messages.specs.Messages.{said, kind_of, elements_of, HasOctets, CanBeSaid}
+use Rattle.rsl_messages.specs.Messages.{head_of, said, kind_of, elements_of, HasOctets, CanBeSaid}
 
 -- a message has at most so many octets
 abbrev pub limit : ℕ

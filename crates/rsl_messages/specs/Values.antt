@@ -21,3 +21,11 @@ channel_in (Some (octet ∷ v)) = if octet / 8 == 1 then Ok (record { tn = octet
 
 abbrev pub channel_octet : ChanBits → ℕ
 channel_octet channel = 8 + channel.tn
+
+-- The link identifier (clause 9.3.2) of the main channel, SAPI 0.
+abbrev pub main_channel : ℕ
+main_channel = 0
+
+-- A cause (clause 9.3.26).
+abbrev pub equipment_failure : ℕ
+equipment_failure = 0x20

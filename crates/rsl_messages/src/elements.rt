@@ -1,12 +1,12 @@
 //! The elements of each message: how they are read, and beside it how they are written.
-ghost use Rattle.std.specs.Prelude.{◌≡◌, ◌+◌, ◌-◌, ◌^◌, ◌<◌, ◌≤◌, min, length, Ok, Err, IfSome};
+ghost use Rattle.std.specs.Prelude.{◌≡◌, ◌+◌, ◌-◌, ◌^◌, ◌<◌, ◌≤◌, ◌↔◌, min, length, Ok, Err, IsTrue, IfSome};
 ghost use Rattle.std.specs.Option.{option_map};
 ghost use Rattle.octet_elements.specs.Elements.{all_octets};
 ghost use Rattle.octet_elements.specs.Lookup.{lookup};
 ghost use Rattle.octet_elements.specs.Texts.{Answers};
 ghost use Rattle.octet_elements.specs.Writing.{HasRoom, Adds};
 ghost use Rattle.rsl_messages.specs.Forms.{abis, known};
-ghost use Rattle.rsl_messages.specs.Messages.{said, elements_of, data_rows, activation_rows, activation_ack_rows, cause_rows, detection_rows, measurement_rows};
+ghost use Rattle.rsl_messages.specs.Messages.{CanBeSaid, said, elements_of, data_rows, activation_rows, activation_ack_rows, cause_rows, detection_rows, measurement_rows};
 ghost use Rattle.rsl_messages.specs.Texts.{codec, limit, HasCanonical};
 ghost use Rattle.rsl_messages.specs.Values.{channel_in, channel_octet};
 
@@ -276,6 +276,46 @@ fn append_measurement<A: Allocator>(
     append_octet::<Abis, A>(out, POWER, power);
     if let Some(layer3) = layer3 {
         append_element::<Abis, A>(out, LAYER3, layer3.as_slice());
+    }
+}
+
+/// Whether the fields of a message can be said by elements, how long they may be together aside.
+pub fn can_be_said<A: Allocator>(message: &Rsl<A>) -> bool
+    ensures { IsTrue result ↔ CanBeSaid message.now }
+{
+    match message {
+        Rsl::DataRequest {
+            channel,
+            layer3,
+            ..
+        }
+        | Rsl::DataIndication {
+            channel,
+            layer3,
+            ..
+        } => channel.tn < 8 && !layer3.as_slice().is_empty(),
+        Rsl::ChannelActivation { channel, mode, .. } => {
+            channel.tn < 8 && matches!(mode.as_slice().len(), 1..=255)
+        }
+        Rsl::MeasurementResult {
+            channel,
+            uplink,
+            layer3,
+            ..
+        } => {
+            channel.tn < 8
+                && uplink.as_slice().len() < 256
+                && match layer3 {
+                    None => true,
+                    Some(layer3) => !layer3.as_slice().is_empty(),
+                }
+        }
+        Rsl::ChannelActivationAck { channel, .. }
+        | Rsl::ChannelActivationNack { channel, .. }
+        | Rsl::ConnectionFailureIndication { channel, .. }
+        | Rsl::HandoverDetection { channel, .. }
+        | Rsl::RfChannelRelease { channel }
+        | Rsl::RfChannelReleaseAck { channel } => channel.tn < 8,
     }
 }
 

@@ -1,11 +1,37 @@
 //! Discriminator and type.
 ghost use Rattle.std.specs.Prelude.{◌≡◌, ◌∷◌, [], IfOk, IfErr, IfSome, IfNone};
-ghost use Rattle.rsl_messages.specs.Messages.{kind_of};
-ghost use Rattle.rsl_messages.specs.Heads.{head_of, IsHead, Begins, HasHeadFault};
+ghost use Rattle.rsl_messages.specs.Messages.{head_of, kind_of};
+ghost use Rattle.rsl_messages.specs.Heads.{IsHead, Begins, HasHeadFault};
 
 use crate::fault::RslFault;
 use crate::message::Rsl;
 use std::alloc::Allocator;
+
+// Discriminators as they are written (TS 48.058 clause 9.1). What the base station passes on has bit 1.
+pub const RADIO_LINK_LAYER: u8 = 0x03;
+
+pub const DEDICATED_CHANNEL: u8 = 0x08;
+
+// Types (clause 9.2): what is read and what is written name them.
+pub const DATA_REQUEST: u8 = 0x01;
+
+const DATA_INDICATION: u8 = 0x02;
+
+pub const CHANNEL_ACTIVATION: u8 = 0x21;
+
+const CHANNEL_ACTIVATION_ACK: u8 = 0x22;
+
+const CHANNEL_ACTIVATION_NACK: u8 = 0x23;
+
+const CONNECTION_FAILURE_INDICATION: u8 = 0x24;
+
+const HANDOVER_DETECTION: u8 = 0x27;
+
+const MEASUREMENT_RESULT: u8 = 0x28;
+
+const RF_CHANNEL_RELEASE: u8 = 0x2E;
+
+const RF_CHANNEL_RELEASE_ACK: u8 = 0x33;
 
 /// Which message it is.
 #[derive(Clone, Copy, Debug, PartialEq, Eq)]
@@ -29,16 +55,16 @@ fn kind_for(discriminator: u8, message_type: u8) -> Option<MessageKind>
         ⊥) }
 {
     match (discriminator / 2, message_type) {
-        (1, 0x01) => Some(MessageKind::DataRequest),
-        (1, 0x02) => Some(MessageKind::DataIndication),
-        (4, 0x21) => Some(MessageKind::ChannelActivation),
-        (4, 0x22) => Some(MessageKind::ChannelActivationAck),
-        (4, 0x23) => Some(MessageKind::ChannelActivationNack),
-        (4, 0x24) => Some(MessageKind::ConnectionFailureIndication),
-        (4, 0x27) => Some(MessageKind::HandoverDetection),
-        (4, 0x28) => Some(MessageKind::MeasurementResult),
-        (4, 0x2E) => Some(MessageKind::RfChannelRelease),
-        (4, 0x33) => Some(MessageKind::RfChannelReleaseAck),
+        (1, DATA_REQUEST) => Some(MessageKind::DataRequest),
+        (1, DATA_INDICATION) => Some(MessageKind::DataIndication),
+        (4, CHANNEL_ACTIVATION) => Some(MessageKind::ChannelActivation),
+        (4, CHANNEL_ACTIVATION_ACK) => Some(MessageKind::ChannelActivationAck),
+        (4, CHANNEL_ACTIVATION_NACK) => Some(MessageKind::ChannelActivationNack),
+        (4, CONNECTION_FAILURE_INDICATION) => Some(MessageKind::ConnectionFailureIndication),
+        (4, HANDOVER_DETECTION) => Some(MessageKind::HandoverDetection),
+        (4, MEASUREMENT_RESULT) => Some(MessageKind::MeasurementResult),
+        (4, RF_CHANNEL_RELEASE) => Some(MessageKind::RfChannelRelease),
+        (4, RF_CHANNEL_RELEASE_ACK) => Some(MessageKind::RfChannelReleaseAck),
         _ => None,
     }
 }
@@ -49,16 +75,19 @@ pub fn head_octets<A: Allocator>(message: &Rsl<A>) -> [u8; 2]
         (head_of (kind_of message.now)).1 ∷ [] }
 {
     match message {
-        Rsl::DataRequest { .. } => [3, 0x01],
-        Rsl::DataIndication { .. } => [3, 0x02],
-        Rsl::ChannelActivation { .. } => [8, 0x21],
-        Rsl::ChannelActivationAck { .. } => [8, 0x22],
-        Rsl::ChannelActivationNack { .. } => [8, 0x23],
-        Rsl::ConnectionFailureIndication { .. } => [8, 0x24],
-        Rsl::HandoverDetection { .. } => [8, 0x27],
-        Rsl::MeasurementResult { .. } => [8, 0x28],
-        Rsl::RfChannelRelease { .. } => [8, 0x2E],
-        Rsl::RfChannelReleaseAck { .. } => [8, 0x33],
+        Rsl::DataRequest { .. } => [RADIO_LINK_LAYER, DATA_REQUEST],
+        Rsl::DataIndication { .. } => [RADIO_LINK_LAYER, DATA_INDICATION],
+        Rsl::ChannelActivation { .. } => [DEDICATED_CHANNEL, CHANNEL_ACTIVATION],
+        Rsl::ChannelActivationAck { .. } => [DEDICATED_CHANNEL, CHANNEL_ACTIVATION_ACK],
+        Rsl::ChannelActivationNack { .. } => [DEDICATED_CHANNEL, CHANNEL_ACTIVATION_NACK],
+        Rsl::ConnectionFailureIndication { .. } => [
+            DEDICATED_CHANNEL,
+            CONNECTION_FAILURE_INDICATION,
+        ],
+        Rsl::HandoverDetection { .. } => [DEDICATED_CHANNEL, HANDOVER_DETECTION],
+        Rsl::MeasurementResult { .. } => [DEDICATED_CHANNEL, MEASUREMENT_RESULT],
+        Rsl::RfChannelRelease { .. } => [DEDICATED_CHANNEL, RF_CHANNEL_RELEASE],
+        Rsl::RfChannelReleaseAck { .. } => [DEDICATED_CHANNEL, RF_CHANNEL_RELEASE_ACK],
     }
 }
 

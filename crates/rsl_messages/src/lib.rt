@@ -11,6 +11,7 @@ mod laws;
 mod message;
 mod reading;
 mod table;
+pub mod values;
 mod writing;
 
 pub use fault::RslFault;

@@ -3,8 +3,10 @@ ghost use Rattle.std.specs.Prelude.{◌≡◌, ◌↔◌, ◌<◌, ◌≤◌, Is
 ghost use Rattle.octet_elements.specs.Writing.{Appends};
 ghost use Rattle.rsl_messages.specs.Texts.{HasCanonical, canonical_text};
 
-use crate::elements::{append_activation, append_data, append_elements, elements_len};
-use crate::head::head_octets;
+use crate::elements::{append_activation, append_data, append_elements, can_be_said, elements_len};
+use crate::head::{
+    CHANNEL_ACTIVATION, DATA_REQUEST, DEDICATED_CHANNEL, RADIO_LINK_LAYER, head_octets,
+};
 use crate::message::{ChanBits, Rsl};
 use crate::reading::LIMIT;
 use crate::table::{Abis, HANDOVER_REFERENCE};
@@ -16,42 +18,7 @@ use std::alloc::{AllocError, Allocator};
 pub fn fits<A: Allocator>(message: &Rsl<A>) -> bool
     ensures canonical { IsTrue result ↔ HasCanonical message.now }
 {
-    let within = elements_len(message) <= LIMIT - 2;
-    match message {
-        Rsl::DataRequest {
-            channel,
-            layer3,
-            ..
-        }
-        | Rsl::DataIndication {
-            channel,
-            layer3,
-            ..
-        } => channel.tn < 8 && !layer3.as_slice().is_empty() && within,
-        Rsl::ChannelActivation { channel, mode, .. } => {
-            channel.tn < 8 && matches!(mode.as_slice().len(), 1..=255) && within
-        }
-        Rsl::MeasurementResult {
-            channel,
-            uplink,
-            layer3,
-            ..
-        } => {
-            channel.tn < 8
-                && uplink.as_slice().len() < 256
-                && match layer3 {
-                    None => true,
-                    Some(layer3) => !layer3.as_slice().is_empty(),
-                }
-                && within
-        }
-        Rsl::ChannelActivationAck { channel, .. }
-        | Rsl::ChannelActivationNack { channel, .. }
-        | Rsl::ConnectionFailureIndication { channel, .. }
-        | Rsl::HandoverDetection { channel, .. }
-        | Rsl::RfChannelRelease { channel }
-        | Rsl::RfChannelReleaseAck { channel } => channel.tn < 8 && within,
-    }
+    can_be_said(message) && elements_len(message) <= LIMIT - 2
 }
 
 /// Appends the canonical text of a message. A list with room for it is not moved: no memory is asked for.
@@ -80,7 +47,7 @@ pub fn encode_data_request_into<A: Allocator>(
         out.old out.new result }
 {
     make_room(out, 9 + layer3.len())?;
-    append_octets(out, &[3, 0x01]);
+    append_octets(out, &[RADIO_LINK_LAYER, DATA_REQUEST]);
     append_data(out, channel, link, layer3);
     Ok(())
 }
@@ -105,7 +72,7 @@ pub fn encode_activation_into<A: Allocator>(
         out,
         8 + mode.len() + optional_octet_len::<Abis>(HANDOVER_REFERENCE, reference),
     )?;
-    append_octets(out, &[8, 0x21]);
+    append_octets(out, &[DEDICATED_CHANNEL, CHANNEL_ACTIVATION]);
     append_activation(out, channel, activation, mode, reference);
     Ok(())
 }

@@ -5,13 +5,14 @@ ghost use Rattle.ho_procedure.specs.Going.{Goes, Passes, then, stops_at};
 ghost use Rattle.ho_procedure.specs.Procedure.{opened_plan, open_plan, told_cause, told_first, release_serving, clear_all, clear_rest, clear_plan, left_plan, clear_command_rest, clear_command_plan, release_cause};
 
 use super::parts::{ask_done, ask_record, look, release_target};
-use crate::causes::{ABNORMAL_RELEASE, CALL_CONTROL, NORMAL_EVENT};
 use crate::records::{awaits_leaving, is_held, is_nameable, is_on, is_own, names_releases};
 use crate::view::DeskView;
 use crate::work::{Course, Shown, Work};
+use bssmap_messages::causes::CALL_CONTROL;
 use channel_fsm::{ChanId, ChanState};
 use radio_book::event::{Event, Refusal, Reply, Why};
 use radio_desk::desk::DeskFault;
+use rr_elements::{ABNORMAL_RELEASE, NORMAL_EVENT};
 use std::alloc::Allocator;
 
 /// The channel of a call that begins is activated.

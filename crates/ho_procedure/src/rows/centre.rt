@@ -6,14 +6,14 @@ ghost use Rattle.ho_procedure.specs.Procedure.{once_new, admit_plan, request_res
 
 use super::handovers::go_on_taken;
 use super::parts::{ask_done, look, turn_away};
-use crate::causes::{
-    CIPHERING_ALGORITHM_NOT_SUPPORTED, INVALID_MESSAGE_CONTENTS, NO_RADIO_RESOURCE_AVAILABLE,
-};
 use crate::records::{awaits_order, is_nameable};
 use crate::requests::{is_half_rate, is_speech, own_cell, permits_clear};
 use crate::view::DeskView;
 use crate::work::{Course, Work};
 use bssmap_messages::CellId;
+use bssmap_messages::causes::{
+    CIPHERING_ALGORITHM_NOT_SUPPORTED, INVALID_MESSAGE_CONTENTS, NO_RADIO_RESOURCE_AVAILABLE,
+};
 use cell_table::Site;
 use channel_fsm::ChanId;
 use radio_book::event::{Event, Kind, Refusal, Reply, Why};

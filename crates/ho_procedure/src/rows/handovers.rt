@@ -5,13 +5,13 @@ ghost use Rattle.ho_procedure.specs.Going.{Goes, Passes, then, stops_at};
 ghost use Rattle.ho_procedure.specs.Procedure.{activate_plan, reserved_plan, reserve_plan, start_plan, taken_plan, require_plan, handover_plan, take_back, undo_plan, expiry_plan};
 
 use super::parts::{ask_done, ask_record, release_target, tell_failure};
-use crate::causes::RADIO_INTERFACE_MESSAGE_FAILURE;
 use crate::commands::cell_id_at;
 use crate::records::is_nameable;
 use crate::view::DeskView;
 use crate::work::{Course, Work};
 use attempt_journal::Timer;
 use bssmap_messages::CellId;
+use bssmap_messages::causes::RADIO_INTERFACE_MESSAGE_FAILURE;
 use cell_table::Site;
 use channel_fsm::ChanId;
 use radio_book::event::{Event, Kind, Reply, Why};

@@ -7,12 +7,12 @@ ghost use Rattle.ho_procedure.specs.Procedure.{try_plan, rank_plan, report_plan,
 
 use super::handovers::start;
 use super::parts::{ask_done, ask_last, ask_record, look, owner, release_target};
-use crate::causes::REVERSION_TO_OLD_CHANNEL;
 use crate::records::{
     is_commanded, is_nameable, is_on, is_ordered, is_serving, is_target, names_target, traffic_cell,
 };
 use crate::view::DeskView;
 use crate::work::{Course, Work};
+use bssmap_messages::causes::REVERSION_TO_OLD_CHANNEL;
 use cell_table::Site;
 use channel_fsm::ChanId;
 use ho_candidates::Candidate;

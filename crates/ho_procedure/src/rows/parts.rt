@@ -6,10 +6,10 @@ ghost use Rattle.ho_procedure.specs.Plan.{Plan, Ends, Asks, At, call_dropped};
 ghost use Rattle.ho_procedure.specs.Going.{Goes, Passes, last_reports, then, then_of, then_shown, stops_at};
 ghost use Rattle.ho_procedure.specs.Procedure.{nothing_more, once_done, once_recorded, owned, looked, release_target, turn_away, failure_of};
 
-use crate::causes::EQUIPMENT_FAILURE;
 use crate::records::{is_nameable, is_switched_on};
 use crate::view::DeskView;
 use crate::work::{Course, Shown, Work};
+use bssmap_messages::causes::EQUIPMENT_FAILURE;
 use radio_book::event::{Attempt, AttemptKind, Event, Reply};
 use radio_desk::desk::DeskFault;
 use std::alloc::Allocator;

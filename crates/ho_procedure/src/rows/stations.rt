@@ -5,11 +5,11 @@ ghost use Rattle.ho_procedure.specs.Going.{Goes, Passes, stops_at};
 ghost use Rattle.ho_procedure.specs.Procedure.{send_command, internal_command, acknowledge, incoming_command, confirm_rest, confirm_plan, refused_target, refuse_plan, released_plan, connection_failure_plan, tell_detected, detect_rest, detect_plan};
 
 use super::parts::{ask_done, ask_last, ask_record, look, owner, tell_failure};
-use crate::causes::{EQUIPMENT_FAILURE, RADIO_INTERFACE_FAILURE};
 use crate::commands::command_to;
 use crate::records::{is_nameable, is_serving, is_target, is_target_in};
 use crate::view::DeskView;
 use crate::work::{Course, Work};
+use bssmap_messages::causes::{EQUIPMENT_FAILURE, RADIO_INTERFACE_FAILURE};
 use cell_table::Site;
 use channel_fsm::ChanId;
 use radio_book::event::{Attempt, AttemptKind, Event, Why};

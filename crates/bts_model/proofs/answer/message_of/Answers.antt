@@ -1,5 +1,5 @@
 use Rattle.std.proofs.Common.{◌≡◌, ℕ, length, arith, refl}
-use Rattle.bit_fields.specs.Bits.{bits}
+use Rattle.octet_elements.specs.Bits.{bits}
 use Rattle.rr_elements.specs.RrCause.{cause_text}
 use Rattle.rsl_messages.proofs.Written.{canonical_of}
 use Rattle.bts_model.proofs.answer.message_of.Goals as goal

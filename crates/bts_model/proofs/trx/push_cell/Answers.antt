@@ -1,6 +1,6 @@
 use Rattle.std.proofs.Common.{rules}
 use Rattle.bts_model.specs.Trxs.{trx_of}
-use Rattle.bts_model.proofs.Numbered.{filter_map_next}
+use Rattle.octet_elements.proofs.Numbered.{filter_map_next}
 use Rattle.bts_model.proofs.trx.push_cell.Goals as goal
 
 pub loop-trx-preserved : goal.loop-trx-preserved

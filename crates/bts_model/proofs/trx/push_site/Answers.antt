@@ -1,6 +1,6 @@
 use Rattle.std.proofs.Common.{rules}
 use Rattle.bts_model.specs.Trxs.{trxs_of_cell}
-use Rattle.bts_model.proofs.Numbered.{flat_map_next}
+use Rattle.octet_elements.proofs.Numbered.{flat_map_next}
 use Rattle.bts_model.proofs.trx.push_site.Goals as goal
 
 pub loop-cell-preserved : goal.loop-cell-preserved

@@ -1,6 +1,6 @@
 use Rattle.std.proofs.Common.{rules, arith}
 use Rattle.bts_model.specs.Trxs.{trxs_of_site}
-use Rattle.bts_model.proofs.Numbered.{enumerated_next}
+use Rattle.octet_elements.proofs.Numbered.{enumerated_next}
 use Rattle.bts_model.proofs.trx.trxs_of.Goals as goal
 
 pub loop-controller-preserved : goal.loop-controller-preserved

@@ -1,6 +1,6 @@
 use Rattle.std.proofs.Common.{rules, arith}
 use Rattle.msc_model.specs.Cells.{cells_of_site}
-use Rattle.msc_model.proofs.Numbered.{enumerated_next}
+use Rattle.octet_elements.proofs.Numbered.{enumerated_next}
 use Rattle.msc_model.proofs.cell.cells_of.Goals as goal
 
 pub loop-controller-preserved : goal.loop-controller-preserved

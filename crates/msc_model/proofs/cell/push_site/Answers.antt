@@ -1,6 +1,6 @@
 use Rattle.std.proofs.Common.{rules}
 use Rattle.msc_model.specs.Cells.{cell_of}
-use Rattle.msc_model.proofs.Numbered.{filter_map_next}
+use Rattle.octet_elements.proofs.Numbered.{filter_map_next}
 use Rattle.msc_model.proofs.cell.push_site.Goals as goal
 
 pub loop-cell-preserved : goal.loop-cell-preserved

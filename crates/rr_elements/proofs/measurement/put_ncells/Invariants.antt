@@ -1,5 +1,5 @@
 use Rattle.std.proofs.Common.{◌≡◌, ◌+◌, ◌*◌, ◌++◌, length, take, flat_map}
-use Rattle.bit_fields.specs.Bits.{bits_written}
+use Rattle.octet_elements.specs.Bits.{bits_written}
 use Rattle.rr_elements.specs.MeasResults.{ncell_widths, ncell_numbers}
 use Rattle.rr_elements.proofs.measurement.put_ncells.Given as goal
 

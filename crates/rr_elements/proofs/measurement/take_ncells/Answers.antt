@@ -2,9 +2,9 @@ use Rattle.std.proofs.Common.{◌≡◌, ◌∙◌, ◌+◌, ◌-◌, ◌++◌, 
 use Rattle.std.proofs.lemmas.Grind.{take-set_at, flat_map-append}
 use Rattle.std.proofs.lemmas.List.{drop-set-lt, drop-replicate, drop-drop}
 use Rattle.std.proofs.lemmas.List.Elements.{All-push, All-same}
-use Rattle.bit_fields.specs.Bits.{cut, after, repeated_widths}
+use Rattle.octet_elements.specs.Bits.{cut, after, repeated_widths}
 use Rattle.rr_elements.specs.MeasResults.{NcellFits, ncell_widths, ncell_numbers, no_ncell}
-use Rattle.bit_fields.proofs.CutLemmas.{cut-more, after-more}
+use Rattle.octet_elements.proofs.CutLemmas.{cut-more, after-more}
 use Rattle.rr_elements.proofs.measurement.take_ncells.Goals as goal
 
 pub loop-i-preserved : goal.loop-i-preserved

@@ -1,5 +1,5 @@
 use Rattle.std.proofs.Common.{◌≡◌, ◌+◌, ◌*◌, ◌-◌, All, length, take, drop, replicate, flat_map}
-use Rattle.bit_fields.specs.Bits.{cut, after, repeated_widths}
+use Rattle.octet_elements.specs.Bits.{cut, after, repeated_widths}
 use Rattle.rr_elements.specs.MeasResults.{NcellFits, ncell_widths, ncell_numbers, no_ncell}
 use Rattle.rr_elements.proofs.measurement.take_ncells.Given as goal
 

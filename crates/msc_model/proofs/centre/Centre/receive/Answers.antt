@@ -1,6 +1,6 @@
 use Rattle.std.proofs.Common.{subst}
 use Rattle.bssmap_messages.specs.Texts.{IsTextOf}
-use Rattle.msc_model.proofs.LayerThree.{short_layer_3}
+use Rattle.bssmap_messages.proofs.LayerThree.{short_layer_3}
 use Rattle.msc_model.proofs.centre.Centre.receive.Goals as goal
 
 pub acknowledge-requires-clause-some : goal.acknowledge-requires-clause-some

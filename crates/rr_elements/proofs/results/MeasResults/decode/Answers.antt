@@ -1,5 +1,5 @@
 use Rattle.std.proofs.Common.{◌≡◌, ◌∙◌, ap, length, flat_map, take, rules}
-use Rattle.bit_fields.specs.Bits.{bits_of, cut, after, repeated_widths}
+use Rattle.octet_elements.specs.Bits.{bits_of, cut, after, repeated_widths}
 use Rattle.rr_elements.specs.MeasResults.{used_count, head_numbers, head_widths, ncell_numbers, ncell_widths}
 use Rattle.rr_elements.proofs.ResultsLemmas.{read-text}
 use Rattle.rr_elements.proofs.KeptLemmas.{used_count_le}

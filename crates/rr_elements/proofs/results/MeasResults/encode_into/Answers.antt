@@ -1,6 +1,6 @@
-use Rattle.std.proofs.Common.{◌≡◌, ◌∙◌, ◌+◌, ◌-◌, ◌*◌, ◌/◌, ◌≤◌, ◌++◌, length, flat_map, ap, subst, refl, arith}
-use Rattle.bit_fields.specs.Bits.{bits, bits_written, octets_of}
-use Rattle.bit_fields.specs.Appending.{IsAppended}
+use Rattle.std.proofs.Common.{◌≡◌, ◌∙◌, ◌+◌, ◌-◌, ◌*◌, ◌≤◌, ◌++◌, length, flat_map, ap, subst, refl, arith}
+use Rattle.octet_elements.specs.Bits.{bits, bits_written, octets_of}
+use Rattle.octet_elements.specs.Writing.{Appends}
 use Rattle.rr_elements.specs.MeasResults.{head_widths, head_numbers, ncell_widths, ncell_numbers}
 use Rattle.rr_elements.proofs.KeptLemmas.{used_count_le}
 use Rattle.rr_elements.proofs.ResultsLemmas.{bits_written-results}
@@ -18,8 +18,10 @@ returns-clause-written g c =
     let put : c.put_ncells.new.bits ≡ bits_written head_widths (head_numbers v.head) ++ flat_map (λ n. bits_written ncell_widths (ncell_numbers n)) v.neighbours =
     rw (c.put_ncells.ensures.bits, c.put_head.ensures.bits, c.new-bits.ensures, c.neighbours.ensures.value, ← c.self.view_is) refl in
     let whole = c.pad_to.ensures.bits ∙ ap (λ bs. bs ++ bits (128 - n) 0) put ∙ bits_written-results v n few long in
-    let sixteen = subst (λ k. IsAppended (octets_of c.pad_to.new.self) k c.args.out.now c.append_to.new.out c.append_to.result) (ap (λ k. k / 8) c.pad_to.ensures.len) c.append_to.ensures.written in
-    subst (λ bs. IsAppended (octets_of bs) 16 c.args.out.now c.append_to.new.out c.append_to.result) whole sixteen
+    subst (λ bs. Appends (octets_of bs) c.args.out.now c.append_to.new.out c.append_to.result) whole c.append_to.ensures.written
 
 pub returns-clause-text : goal.returns-clause-text
 returns-clause-text g c = rw (← c.self.view_is) (results-text _ c.self.invariant.fits)
+
+pub returns-clause-count : goal.returns-clause-count
+returns-clause-count g c = rw (← c.self.view_is) (omega (arith, (results-text _ c.self.invariant.fits).fields.len))

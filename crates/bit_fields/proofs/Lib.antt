@@ -1,4 +1,0 @@
-pub mod BitLemmas
-pub mod CutLemmas
-pub mod FieldLemmas
-pub mod WordLemmas

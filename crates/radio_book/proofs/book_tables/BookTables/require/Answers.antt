@@ -1,0 +1,23 @@
+use Rattle.std.proofs.Common.{rules, refl}
+use Rattle.radio_book.proofs.EntryFacts.{changed, unchanged}
+use Rattle.radio_book.proofs.book_tables.BookTables.require.Goals as goal
+
+pub returns-then-is_some-clause-book : goal.returns-then-is_some-clause-book
+returns-then-is_some-clause-book g c =
+    let w = c.in-Some.entry.now in
+    rw (unchanged c.self.inside.calls (c.entry_mut.follows.lender w) c.args.call w c.entry_mut.result c.in-Some.entry c.in-Some.is (c.entry_mut.follows.holds w) c.entry_mut.ensures.call c.entry_mut.ensures.timer refl) (search rules)
+
+pub returns-in_default-serving-clause-book : goal.returns-in_default-serving-clause-book
+returns-in_default-serving-clause-book g c =
+    let w = c.in-Some.entry.now in
+    rw (unchanged c.self.inside.calls (c.entry_mut.follows.lender w) c.args.call w c.entry_mut.result c.in-Some.entry c.in-Some.is (c.entry_mut.follows.holds w) c.entry_mut.ensures.call c.entry_mut.ensures.timer refl) (search rules)
+
+pub returns-then-not-matches-clause-book : goal.returns-then-not-matches-clause-book
+returns-then-not-matches-clause-book g c =
+    let w = c.in-Some.entry.now in
+    rw (unchanged c.self.inside.calls (c.entry_mut.follows.lender w) c.args.call w c.entry_mut.result c.in-Some.entry c.in-Some.is (c.entry_mut.follows.holds w) c.entry_mut.ensures.call c.entry_mut.ensures.timer refl) (search rules)
+
+pub returns-clause-book : goal.returns-clause-book
+returns-clause-book g c =
+    let w = c.require.new.self in
+    rw (changed c.self.inside.calls (c.entry_mut.follows.lender w) c.args.call w c.entry_mut.result c.in-Some.entry c.in-Some.is (c.entry_mut.follows.holds w)) (search rules)

@@ -1,7 +1,0 @@
-use Rattle.radio_book.specs.declared.event.Event.TheVariants as event
-use Rattle.radio_book.proofs.OthersStations.{refuse_agrees}
-use Rattle.radio_book.proofs.OthersPhases.{commutes_with_undone}
-use Rattle.radio_book.proofs.others.refuse_commutes.Goals as goal
-
-pub returns : goal.returns
-returns c = record { commutes = λ y. commutes_with_undone (event.Refuse y) (refuse_agrees y) }
