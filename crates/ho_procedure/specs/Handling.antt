@@ -79,9 +79,9 @@ IsDeskFault (NoMemory out) place = ⊥
 IsDeskFault (Desk named out) place = named ≡ place
 
 -- The answer where the octets of the input, or the text inside, have this fault: the fault. Or memory was refused, for which
--- the message keeps octets, and nothing is owed.
-abbrev pub AnswersFault : {A X : Type 0} → Inbound A → Link → Bad → Result X (Fault A) → Type 0
-AnswersFault input link bad (Ok out) = ⊥
-AnswersFault input link bad (Err (Undecoded l b)) = (l ≡ link) × (b ≡ bad)
-AnswersFault input link bad (Err (NoMemory out)) = KeepsOctets input × (all_sent out.items ≡ [])
-AnswersFault input link bad (Err (Desk place out)) = ⊥
+-- the message keeps octets; then nothing was asked, the reports are as they were, and nothing is owed.
+abbrev pub AnswersFault : {A D X : Type 0} → D → Kept → Inbound A → Link → Bad → D → Kept → Result X (Fault A) → Type 0
+AnswersFault v windows input link bad v' windows' (Ok out) = ⊥
+AnswersFault v windows input link bad v' windows' (Err (Undecoded l b)) = (l ≡ link) × (b ≡ bad)
+AnswersFault v windows input link bad v' windows' (Err (NoMemory out)) = KeepsOctets input × (v' ≡ v) × (windows' ≡ windows) × (all_sent out.items ≡ [])
+AnswersFault v windows input link bad v' windows' (Err (Desk place out)) = ⊥

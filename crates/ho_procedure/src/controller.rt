@@ -85,7 +85,7 @@ impl<D: DeskView + Drop, A: Allocator + Copy> Controller<D, A> {
     ///
     /// - `Undecoded`: the octets, or those of the radio resource message inside, can't be read. Nothing was asked, and
     ///   view and reports are as they were. All octets that can't be read are answered so, unless memory is refused for
-    ///   the octets that their message keeps.
+    ///   the octets that their message keeps; then too nothing was asked.
     /// - `NoMemory`: memory was refused. The row was followed up to a step that takes memory; or nothing was asked, and
     ///   the input is a message that keeps its octets.
     /// - `Desk`: the view answered that its desk doesn't know the view's last receipt, of this place. The row was followed
@@ -102,7 +102,7 @@ impl<D: DeskView + Drop, A: Allocator + Copy> Controller<D, A> {
         ensures undecoded { (link : Link) → (bad : Bad) →
             result ≡ Err (Fault.Undecoded link bad) → IsUndecoded {A = A} input link bad }
         ensures exact { (link : Link) → (bad : Bad) → IsUndecoded {A = A} input link bad →
-            AnswersFault {A = A} input link bad result }
+            AnswersFault {A = A} self.old.0 self.old.1 input link bad self.new.0 self.new.1 result }
         ensures stops { IfErr result (StopsBy {A = A} D.log D.says self.old.2
             self.old.0 self.old.1 input self.new.0 self.new.1) }
         ensures site { self.new.2 ≡ self.old.2 }

@@ -1,11 +1,13 @@
 //! What goes into a controller, and what comes out of it.
+ghost use Rattle.std.specs.Prelude.{◌≡◌, IfOk};
+
 use attempt_journal::Timer;
 use bssmap_messages::BssmapFault;
 use channel_fsm::ChanId;
 use octet_elements::Octets;
 use rr_messages::RrFault;
 use rsl_messages::RslFault;
-use std::alloc::{Allocator, Global};
+use std::alloc::{AllocError, Allocator, Global};
 use std::fmt;
 use thiserror::Error;
 
@@ -35,6 +37,30 @@ pub enum Inbound<A: Allocator = Global> {
     Expiry { call: u16, timer: Timer },
     /// What an operator asks for.
     Operator(Line),
+}
+
+impl<A: Allocator + Copy> Inbound<A> {
+    /// The same input once more. Memory is asked for, for the octets of a message.
+    pub fn copy(&self, alloc: A) -> Result<Inbound<A>, AllocError>
+        ensures same { IfOk result (λ copy. copy ≡ self.now) }
+    {
+        match self {
+            Inbound::Abis { cell, trx, bytes } => Ok(Inbound::Abis {
+                cell: *cell,
+                trx: *trx,
+                bytes: Octets::new(alloc, bytes.as_slice())?,
+            }),
+            Inbound::A { call, bytes } => Ok(Inbound::A {
+                call: *call,
+                bytes: Octets::new(alloc, bytes.as_slice())?,
+            }),
+            Inbound::Expiry { call, timer } => Ok(Inbound::Expiry {
+                call: *call,
+                timer: *timer,
+            }),
+            Inbound::Operator(line) => Ok(Inbound::Operator(*line)),
+        }
+    }
 }
 
 /// What a controller sends: the octets are the canonical text of a message.
