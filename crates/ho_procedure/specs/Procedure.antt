@@ -96,10 +96,6 @@ if_named (Some x) next = if is_nameable x then next x else Ends
 abbrev pub is_serving : ChanId → CallRecord → Bool
 is_serving x r = is_target x r.serving
 
--- a target is switched on from its activation on, until the station refused it
-abbrev pub is_switched_on : Stage → Bool
-is_switched_on s = (stage_row s).switched_on
-
 -- this timer guards an attempt in the stage
 abbrev pub is_guarded_by : Timer → Stage → Bool
 is_guarded_by m s = is_armed m (stage_row s).timer
@@ -171,7 +167,7 @@ handover_plan site c cell = start_plan site c cell Ends
 -- RF CHANNEL RELEASE of an attempt's target (TS 48.058 clause 4.7), where it was switched on
 unfoldable pub release_target : Option Attempt → Plan → Plan
 release_target None tail = tail
-release_target (Some a) tail = if is_switched_on a.stage then if_named a.target (λ t. Sends (release t) tail) else tail
+release_target (Some a) tail = if (stage_row a.stage).switched_on then if_named a.target (λ t. Sends (release t) tail) else tail
 
 -- An attempt is taken back, and its target released.
 unfoldable pub take_back : ℕ → (Option Attempt → Plan) → Plan
@@ -232,7 +228,7 @@ is_on (Some Off) = false
 -- a message can name the target, where it was switched on
 abbrev pub names_target : Option Attempt → Bool
 names_target None = true
-names_target (Some a) = not (is_switched_on a.stage) || is_named a.target
+names_target (Some a) = not (stage_row a.stage).switched_on || is_named a.target
 
 -- the record names all that is released when its call is cleared: the target, and the serving channel unless it is held
 abbrev pub names_releases : CallRecord → Option ChanState → Bool

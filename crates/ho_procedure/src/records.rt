@@ -3,10 +3,11 @@ ghost use Rattle.std.specs.Prelude.{◌≡◌, IfSome, IsSome};
 ghost use Rattle.radio_book.specs.Sound.{target_in};
 ghost use Rattle.radio_book.specs.Table.{is_target};
 ghost use Rattle.ho_procedure.specs.Messages.{is_nameable};
-ghost use Rattle.ho_procedure.specs.Procedure.{is_named, is_serving, is_switched_on, is_commanded, is_required, is_ordered, awaits_order, awaits_leaving, is_own, names_target, names_releases, is_held, is_on, traffic_cell};
+ghost use Rattle.ho_procedure.specs.Procedure.{is_named, is_serving, is_guarded_by, is_commanded, is_required, is_ordered, awaits_order, awaits_leaving, is_own, names_target, names_releases, is_held, is_on, traffic_cell};
 
 use crate::commands::cell_id_at;
 use crate::work::Shown;
+use attempt_journal::Timer;
 use bssmap_messages::CellId;
 use cell_table::Site;
 use channel_fsm::{ChanId, ChanState};
@@ -57,64 +58,32 @@ pub(crate) fn is_serving(chan: ChanId, shown: CallRecord) -> bool
     is_target(chan, shown.serving)
 }
 
-/// The activation of the target was sent, and not refused.
-pub(crate) fn is_switched_on(stage: Stage) -> bool
-    ensures { result ≡ is_switched_on stage }
+/// This timer guards an attempt in the stage.
+fn is_guarded_by(timer: Timer, stage: Stage) -> bool
+    ensures { result ≡ is_guarded_by timer stage }
 {
-    match stage {
-        Stage::Sent | Stage::Confirmed | Stage::Commanded | Stage::Detected => true,
-        Stage::Taken | Stage::Reserved | Stage::Refused | Stage::Required | Stage::Ordered => false,
-    }
+    stage.timer() == Some(timer)
 }
 
 /// The mobile was sent to the target, and hasn't said what came of it.
 pub(crate) fn is_commanded(stage: Stage) -> bool
     ensures { result ≡ is_commanded stage }
 {
-    match stage {
-        Stage::Commanded | Stage::Detected => true,
-        Stage::Taken
-        | Stage::Reserved
-        | Stage::Sent
-        | Stage::Refused
-        | Stage::Confirmed
-        | Stage::Required
-        | Stage::Ordered => false,
-    }
+    is_guarded_by(Timer::T3103, stage)
 }
 
 /// HANDOVER REQUIRED was sent, and the switching centre hasn't answered.
 fn is_required(stage: Stage) -> bool
     ensures { result ≡ is_required stage }
 {
-    match stage {
-        Stage::Required => true,
-        Stage::Taken
-        | Stage::Reserved
-        | Stage::Sent
-        | Stage::Refused
-        | Stage::Confirmed
-        | Stage::Commanded
-        | Stage::Detected
-        | Stage::Ordered => false,
-    }
+    is_guarded_by(Timer::T7, stage)
 }
 
 /// The mobile was sent to another controller's cell, and hasn't come back.
 pub(crate) fn is_ordered(stage: Stage) -> bool
     ensures { result ≡ is_ordered stage }
 {
-    match stage {
-        Stage::Ordered => true,
-        Stage::Taken
-        | Stage::Reserved
-        | Stage::Sent
-        | Stage::Refused
-        | Stage::Confirmed
-        | Stage::Commanded
-        | Stage::Detected
-        | Stage::Required => false,
-    }
+    is_guarded_by(Timer::T8, stage)
 }
 
 /// The attempt waits for the switching centre to order the handover.
@@ -155,7 +124,7 @@ pub(crate) fn names_target(attempt: Option<Attempt>) -> bool
     ensures { result ≡ names_target attempt }
 {
     match attempt {
-        Some(attempt) => !is_switched_on(attempt.stage) || is_named(attempt.target),
+        Some(attempt) => !attempt.stage.is_switched_on() || is_named(attempt.target),
         None => true,
     }
 }

@@ -6,7 +6,7 @@ ghost use Rattle.ho_procedure.specs.Plan.{Plan, Ends, Asks, At, call_dropped};
 ghost use Rattle.ho_procedure.specs.Going.{Goes, Passes, last_reports, then, then_of, then_shown, stops_at};
 ghost use Rattle.ho_procedure.specs.Procedure.{nothing_more, once_done, once_recorded, owned, looked, release_target, turn_away, failure_of};
 
-use crate::records::{is_nameable, is_switched_on};
+use crate::records::is_nameable;
 use crate::view::DeskView;
 use crate::work::{Course, Shown, Work};
 use bssmap_messages::causes::EQUIPMENT_FAILURE;
@@ -124,7 +124,7 @@ pub(super) fn release_target<D: DeskView + Drop, A: Allocator + Copy>(
     let Some(attempt) = attempt else {
         return Course::On;
     };
-    if !is_switched_on(attempt.stage) {
+    if !attempt.stage.is_switched_on() {
         return Course::On;
     }
     let Some(target) = attempt.target else {
