@@ -10,7 +10,7 @@ use Rattle.decoded_lines.specs.declared.reader.Found.TheVariants as found
 use Rattle.decoded_lines.specs.Lines.{is_blank}
 use Rattle.decoded_lines.specs.Reading.{is_feed, longest_line, first_line, behind_line, Gives}
 use Rattle.decoded_lines.proofs.ReadingLemmas.{place_within, place_none, none_passes}
-use Rattle.explanations.specs.declared.link.Link.{Link}
+use Rattle.explanations.specs.declared.link.LinkName.{LinkName}
 use Rattle.decoded_lines.specs.declared.answers.Verdict.{Verdict}
 use Rattle.decoded_lines.specs.declared.answers.Verdict.TheVariants as verdict
 use Rattle.decoded_lines.specs.Answers.{IsGood, AreGood, Judges, IsAdded, IsCounted, CountsFirst}
@@ -27,7 +27,7 @@ split_none octets none =
 left_none : (octets : List ℕ) → list_any is_feed octets ≡ false → behind_line octets ≡ []
 left_none octets none = drop_all (position_or_len is_feed octets + 1) octets (omega (arith, place_none is_feed octets none))
 
-module _ (A : Type 0) (given : Option Link) where
+module _ (A : Type 0) (given : Option LinkName) where
   good_nothing : IsGood A given []
   good_nothing = (omega arith, λ blank. absurd (true≢false blank))
 
@@ -52,16 +52,16 @@ module _ (A : Type 0) (given : Option Link) where
   ]
 
 -- The lines that a reader had are good just where none was refused so far and those that it has left are.
-abbrev pub Follows : (A : Type 0) → Option Link → Option (List ℕ) → Option (List ℕ) → ℕ → Type 0
+abbrev pub Follows : (A : Type 0) → Option LinkName → Option (List ℕ) → Option (List ℕ) → ℕ → Type 0
 Follows A given old new refused =
     IfSome old (λ octets. (left : List ℕ) × (new ≡ Some left) × (refused ≡ 0 → AreGood A given left → AreGood A given octets)
     × (AreGood A given octets → (refused ≡ 0) × AreGood A given left))
 
-pub follows_none : (A : Type 0) (given : Option Link) (old : Option (List ℕ)) → Follows A given old old 0
+pub follows_none : (A : Type 0) (given : Option LinkName) (old : Option (List ℕ)) → Follows A given old old 0
 follows_none A given None = tt
 follows_none A given (Some octets) = (octets, refl, λ _ good. good, λ good. (refl, good))
 
-counted_on : (A : Type 0) (given : Option Link) (octets left : List ℕ) (before with_it : ℕ)
+counted_on : (A : Type 0) (given : Option LinkName) (octets left : List ℕ) (before with_it : ℕ)
     → (before ≡ 0 → AreGood A given left → AreGood A given octets) → (AreGood A given octets → (before ≡ 0) × AreGood A given left)
     → IsCounted A given (first_line left) before with_it
     → (with_it ≡ 0 → AreGood A given (behind_line left) → AreGood A given octets)
@@ -76,7 +76,7 @@ counted_on A given octets left before with_it to from (inr (bad, some)) = (
 )
 
 -- one line more was counted
-pub follows_next : (A : Type 0) (given : Option Link) (old new next : Option (List ℕ)) (before with_it : ℕ) → Follows A given old new before
+pub follows_next : (A : Type 0) (given : Option LinkName) (old new next : Option (List ℕ)) (before with_it : ℕ) → Follows A given old new before
     → CountsFirst A given new next before with_it → Follows A given old next with_it
 follows_next A given None new next before with_it follows counts = tt
 follows_next A given (Some octets) None next before with_it (left, is, to, from) counts = absurd cc
@@ -86,21 +86,21 @@ follows_next A given (Some octets) (Some ys) next before with_it (left, is, to, 
     (behind_line left, behind ∙ ap (λ l. Some (behind_line l)) same, on.0, on.1)
 
 -- a line that isn't too long, as it was judged and counted
-pub counted_of : (A : Type 0) (given : Option Link) (line : List ℕ) (v : Verdict) (before with_it : ℕ) → length line ≤ longest_line
+pub counted_of : (A : Type 0) (given : Option LinkName) (line : List ℕ) (v : Verdict) (before with_it : ℕ) → length line ≤ longest_line
     → Judges A given line v → IsAdded v before with_it → IsCounted A given line before with_it
 counted_of A given line verdict.Blank before with_it short blank same = inl ((short, λ some. absurd (true≢false (sym blank ∙ some))), same)
 counted_of A given line verdict.Message before with_it short (some, says) same = inl ((short, λ _. says), same)
 counted_of A given line verdict.Refused before with_it short (some, none) more = inr (λ good. none (good.1 some), more)
 
 -- the first line, as it was read
-pub counts_line : (A : Type 0) (given : Option Link) (old new : Option (List ℕ)) (line : List ℕ) (before with_it : ℕ)
+pub counts_line : (A : Type 0) (given : Option LinkName) (old new : Option (List ℕ)) (line : List ℕ) (before with_it : ℕ)
     → Gives found.Line old new line → IsCounted A given line before with_it → CountsFirst A given old new before with_it
 counts_line A given None new line before with_it gives counted = tt
 counts_line A given (Some octets) new line before with_it (some, short, is, left) counted =
     (some, subst (λ (l : List ℕ). IsCounted A given l before with_it) is counted, left)
 
 -- a line that is too long
-pub counts_long : (A : Type 0) (given : Option Link) (old new : Option (List ℕ)) (line : List ℕ) (before with_it : ℕ)
+pub counts_long : (A : Type 0) (given : Option LinkName) (old new : Option (List ℕ)) (line : List ℕ) (before with_it : ℕ)
     → Gives found.TooLong old new line → with_it ≢ 0 → CountsFirst A given old new before with_it
 counts_long A given None new line before with_it gives more = tt
 counts_long A given (Some octets) new line before with_it (long, is, left) more =
@@ -111,7 +111,7 @@ counts_long A given (Some octets) new line before with_it (long, is, left) more 
     some (x ∷ xs) long' none = absurd cc
 
 -- no line is left
-pub follows_end : (A : Type 0) (given : Option Link) (old new : Option (List ℕ)) (refused : ℕ) → Follows A given old new refused → IsAtEnd new
+pub follows_end : (A : Type 0) (given : Option LinkName) (old new : Option (List ℕ)) (refused : ℕ) → Follows A given old new refused → IsAtEnd new
     → (refused ≡ 0 → IfSome old (AreGood A given)) × (refused ≢ 0 → IfSome old (λ octets. AreGood A given octets → ⊥))
 follows_end A given None new refused follows end = (λ _. tt, λ _. tt)
 follows_end A given (Some octets) None refused (left, is, to, from) end = absurd cc

@@ -6,11 +6,11 @@ use Rattle.rsl_messages.specs.declared.message.Rsl.{Rsl}
 use Rattle.rsl_messages.specs.Texts.{IsTextOf}
 use Rattle.bssmap_messages.specs.declared.message.Bssmap.{Bssmap}
 use Rattle.bssmap_messages.specs.Texts as bssmap
-use Rattle.explanations.specs.declared.link.Link.{Link}
-use Rattle.explanations.specs.declared.link.Link.TheVariants as link
+use Rattle.explanations.specs.declared.link.LinkName.{LinkName}
+use Rattle.explanations.specs.declared.link.LinkName.TheVariants as link
 
 -- how a link is called
-abbrev pub link_name : Link → List ℕ
+abbrev pub link_name : LinkName → List ℕ
 link_name link.Rr = codes "rr"
 link_name link.A = codes "a"
 link_name link.Abis = codes "abis"
@@ -28,7 +28,7 @@ abbrev pub IsAbisMessage : (A : Type 0) → List ℕ → Type 0
 IsAbisMessage A octets = (v : Rsl A) × IsTextOf v octets
 
 -- the octets are a text of a message of the link
-abbrev pub IsMessage : (A : Type 0) → Link → List ℕ → Type 0
+abbrev pub IsMessage : (A : Type 0) → LinkName → List ℕ → Type 0
 IsMessage A link.Rr octets = IsRrMessage octets
 IsMessage A link.A octets = IsBssmapMessage A octets
 IsMessage A link.Abis octets = IsAbisMessage A octets

@@ -8,7 +8,7 @@ use crate::messages::{Detail, link_named, print_message};
 use crate::octets::read_octets;
 use crate::parts::{said_in, word_and_rest};
 use crate::reader::{Found, next_line};
-use explanations::Link;
+use explanations::LinkName;
 use screen_text::PrintFault;
 use std::alloc::{AllocError, Allocator};
 use std::io::{self, BufRead, Write};
@@ -17,7 +17,7 @@ use std::io::{self, BufRead, Write};
 #[derive(Clone, Copy, Debug, PartialEq, Eq)]
 pub struct Asked {
     /// The link of all lines; where there is none, each line begins with the name of its own.
-    pub link: Option<Link>,
+    pub link: Option<LinkName>,
     /// How much is said of each message.
     pub detail: Detail,
 }
@@ -110,7 +110,7 @@ fn refuse<W: Write>(out: &mut W, why: &str) -> Result<bool, LinesFault>
 /// Prints what the octets that a text writes say; whether they are a message.
 fn answer_octets<A: Allocator + Copy, W: Write>(
     alloc: A,
-    link: Link,
+    link: LinkName,
     detail: Detail,
     text: &[u8],
     out: &mut W,

@@ -16,7 +16,7 @@ mod spares;
 mod used;
 
 pub use answers::{Asked, Counts, LinesFault, answer_lines};
-pub use explanations::Link;
+pub use explanations::LinkName;
 pub use file::answer_file;
 pub use messages::{Detail, link_named, print_message, print_or_fault};
 pub use octets::read_octets;

@@ -5,7 +5,7 @@ ghost use Rattle.decoded_lines.specs.Messages.{link_name, IsRrMessage, IsBssmapM
 use crate::spares::{print_a_spares, print_abis_spares, print_rr_rest};
 use crate::used::{used_on_a, used_on_abis};
 use bssmap_messages::{Bssmap, BssmapFault};
-use explanations::Link;
+use explanations::LinkName;
 use ho_procedure::exchange::Bad;
 use rr_messages::Rr;
 use rsl_messages::{Rsl, RslFault};
@@ -28,18 +28,18 @@ pub enum Detail {
 }
 
 /// The link of this name.
-pub fn link_named(name: &[u8]) -> Option<Link>
+pub fn link_named(name: &[u8]) -> Option<LinkName>
     ensures named { IfSome result (λ link. link_name link ≡ name.now) }
-    ensures none { IsNone result → (link : Link) → link_name link ≢ name.now }
+    ensures none { IsNone result → (link : LinkName) → link_name link ≢ name.now }
 {
     if name == b"rr".as_slice() {
-        return Some(Link::Rr);
+        return Some(LinkName::Rr);
     }
     if name == b"a".as_slice() {
-        return Some(Link::A);
+        return Some(LinkName::A);
     }
     if name == b"abis".as_slice() {
-        return Some(Link::Abis);
+        return Some(LinkName::Abis);
     }
     None
 }
@@ -220,7 +220,7 @@ fn print_abis<A: Allocator + Copy, W: Write>(
 /// `NoMemory` is answered only to octets that are a message, and that are some.
 pub fn print_or_fault<A: Allocator + Copy, W: Write>(
     alloc: A,
-    link: Link,
+    link: LinkName,
     detail: Detail,
     octets: &[u8],
     out: &mut W,
@@ -231,16 +231,16 @@ pub fn print_or_fault<A: Allocator + Copy, W: Write>(
     ensures some { result ≡ Err PrintFault.NoMemory → octets.now ≢ [] }
 {
     match link {
-        Link::Rr => print_rr(detail, octets, out),
-        Link::A => print_bssmap(alloc, detail, octets, out),
-        Link::Abis => print_abis(alloc, detail, octets, out),
+        LinkName::Rr => print_rr(detail, octets, out),
+        LinkName::A => print_bssmap(alloc, detail, octets, out),
+        LinkName::Abis => print_abis(alloc, detail, octets, out),
     }
 }
 
 /// The same; whether the octets are a message of the link.
 pub fn print_message<A: Allocator + Copy, W: Write>(
     alloc: A,
-    link: Link,
+    link: LinkName,
     detail: Detail,
     octets: &[u8],
     out: &mut W,

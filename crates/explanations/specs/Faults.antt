@@ -2,12 +2,12 @@
 use Rattle.std.specs.Prelude.{ℕ, ◌==◌, Bool, true, false, if◌then◌else◌, List, [], ◌∷◌, Option, Some, None}
 use Rattle.explanations.specs.declared.fault.Argument.{Argument}
 use Rattle.explanations.specs.declared.fault.Argument.TheVariants.{Absent, MessageType, Identifier, OffsetOnA, OffsetOnAbis, ElementFault}
-use Rattle.explanations.specs.declared.link.Link.{Link}
-use Rattle.explanations.specs.declared.link.Link.TheVariants.{Rr, A, Abis}
+use Rattle.explanations.specs.declared.link.LinkName.{LinkName}
+use Rattle.explanations.specs.declared.link.LinkName.TheVariants.{Rr, A, Abis}
 use Rattle.explanations.specs.Arguments.{range_of, is_within}
 
 -- the faults of a link by their numbers, each with what its argument is
-abbrev pub faults_on : Link → List (ℕ × Argument)
+abbrev pub faults_on : LinkName → List (ℕ × Argument)
 faults_on Rr = (1, Absent) ∷ (2, MessageType) ∷ (3, Absent) ∷ (4, ElementFault) ∷ []
 faults_on A = (1, Absent) ∷ (2, Absent) ∷ (3, MessageType) ∷ (4, Identifier) ∷ (5, Identifier) ∷ (6, OffsetOnA) ∷ []
 faults_on Abis = (1, Absent) ∷ (2, MessageType) ∷ (3, Identifier) ∷ (4, Identifier) ∷ (5, OffsetOnAbis) ∷ (6, Absent) ∷ []
@@ -24,5 +24,5 @@ may_have (Some what) None = true
 may_have (Some what) (Some n) = is_within (range_of what) n
 
 -- a link has a fault of this number, which may have this argument
-abbrev pub is_fault : Link → ℕ → Option ℕ → Bool
+abbrev pub is_fault : LinkName → ℕ → Option ℕ → Bool
 is_fault link number argument = may_have (argument_at (faults_on link) number) argument

@@ -4,7 +4,7 @@ ghost use Rattle.explanations.specs.Arguments.{range_of, is_within};
 ghost use Rattle.explanations.specs.Kinds.{argument_of_kind};
 ghost use Rattle.explanations.specs.Faults.{faults_on, argument_at, is_fault};
 
-use crate::link::Link;
+use crate::link::LinkName;
 use std::fmt;
 
 /// What the argument of a fault is.
@@ -102,7 +102,7 @@ pub struct Fault {
 
 /// A fault on the radio path.
 fn rr_kind(number: u8) -> Option<Kind>
-    ensures { option_map argument_of_kind result ≡ argument_at (faults_on Link.Rr) number }
+    ensures { option_map argument_of_kind result ≡ argument_at (faults_on LinkName.Rr) number }
 {
     match number {
         1 => Some(Kind::OtherLink),
@@ -115,7 +115,7 @@ fn rr_kind(number: u8) -> Option<Kind>
 
 /// A fault on A.
 fn a_kind(number: u8) -> Option<Kind>
-    ensures { option_map argument_of_kind result ≡ argument_at (faults_on Link.A) number }
+    ensures { option_map argument_of_kind result ≡ argument_at (faults_on LinkName.A) number }
 {
     match number {
         1 => Some(Kind::OtherLink),
@@ -130,7 +130,7 @@ fn a_kind(number: u8) -> Option<Kind>
 
 /// A fault on Abis.
 fn abis_kind(number: u8) -> Option<Kind>
-    ensures { option_map argument_of_kind result ≡ argument_at (faults_on Link.Abis) number }
+    ensures { option_map argument_of_kind result ≡ argument_at (faults_on LinkName.Abis) number }
 {
     match number {
         1 => Some(Kind::OtherLink),
@@ -144,28 +144,28 @@ fn abis_kind(number: u8) -> Option<Kind>
 }
 
 /// What is wrong, by the number of a fault of a link.
-fn kind_of(link: Link, number: u8) -> Option<Kind>
+fn kind_of(link: LinkName, number: u8) -> Option<Kind>
     ensures { option_map argument_of_kind result ≡ argument_at (faults_on link) number }
 {
     match link {
-        Link::Rr => rr_kind(number),
-        Link::A => a_kind(number),
-        Link::Abis => abis_kind(number),
+        LinkName::Rr => rr_kind(number),
+        LinkName::A => a_kind(number),
+        LinkName::Abis => abis_kind(number),
     }
 }
 
 /// So many faults a link has: they are numbered from 1 to this.
-pub fn last_fault(link: Link) -> u8
+pub fn last_fault(link: LinkName) -> u8
     ensures last { result ≡ length (faults_on link) }
 {
     match link {
-        Link::Rr => 4,
-        Link::A | Link::Abis => 6,
+        LinkName::Rr => 4,
+        LinkName::A | LinkName::Abis => 6,
     }
 }
 
 /// What the argument of the fault of this number on a link is; `None` where there is no such fault.
-pub fn argument_of(link: Link, number: u8) -> Option<Argument>
+pub fn argument_of(link: LinkName, number: u8) -> Option<Argument>
     ensures argument { result ≡ argument_at (faults_on link) number }
 {
     match kind_of(link, number) {
@@ -177,7 +177,7 @@ pub fn argument_of(link: Link, number: u8) -> Option<Argument>
 /// The fault of this number on a link, with its argument where that is known; the numbers are those from 1 to
 /// [`last_fault`]. `None` where there is no such fault, or where it can't have this argument
 /// ([`argument_of`]).
-pub fn fault_of(link: Link, number: u8, argument: Option<usize>) -> Option<Fault>
+pub fn fault_of(link: LinkName, number: u8, argument: Option<usize>) -> Option<Fault>
     ensures some { IsSome result ↔ IsTrue (is_fault link number argument) }
 {
     let kind = kind_of(link, number)?;

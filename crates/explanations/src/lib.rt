@@ -10,7 +10,7 @@ mod link;
 
 pub use causes::{a_cause, abis_cause, refusal_name, refusal_words, rr_cause};
 pub use fault::{Argument, Fault, argument_of, fault_of, last_fault};
-pub use link::Link;
+pub use link::LinkName;
 use std::fmt;
 
 /// What is to be said in words.
@@ -19,10 +19,10 @@ pub enum Question {
     /// A refusal of the book, by its number from 1 to 9. Ours, of no standard.
     Refusal(u8),
     /// A cause on a link, any octet (TS 48.008 clause 3.2.2.5, TS 44.018 clause 10.5.2.31, TS 48.058 clause 9.3.26).
-    Cause(Link, u8),
+    Cause(LinkName, u8),
     /// A fault of octets that are no message of a link, by its number from 1 on, and the fault's argument, where it is
     /// known ([`Argument`]). Ours, of no standard.
-    Fault(Link, u8, Option<usize>),
+    Fault(LinkName, u8, Option<usize>),
 }
 
 /// What is said of it. Its `Display` is one line of text.
@@ -37,11 +37,11 @@ pub enum Answer {
 }
 
 /// The name of a cause on a link, `reserved` where a standard gives it none.
-pub fn cause_name(link: Link, cause: u8) -> &'static str {
+pub fn cause_name(link: LinkName, cause: u8) -> &'static str {
     match link {
-        Link::Rr => rr_cause(cause),
-        Link::A => a_cause(cause),
-        Link::Abis => abis_cause(cause),
+        LinkName::Rr => rr_cause(cause),
+        LinkName::A => a_cause(cause),
+        LinkName::Abis => abis_cause(cause),
     }
 }
 

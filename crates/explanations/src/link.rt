@@ -1,9 +1,9 @@
 //! Where a number comes from.
 use std::fmt;
 
-/// Where a cause or a fault comes from.
+/// The name of the link that a message, a cause or a fault is of.
 #[derive(Clone, Copy, Debug, PartialEq, Eq)]
-pub enum Link {
+pub enum LinkName {
     /// The radio path (TS 44.018).
     Rr,
     /// A, to the switching centre (TS 48.008).
@@ -12,24 +12,24 @@ pub enum Link {
     Abis,
 }
 
-impl Link {
+impl LinkName {
     /// The link of a name, as a trace writes it: `rr`, `a` or `abis`.
-    pub fn named(name: &str) -> Option<Link> {
+    pub fn named(name: &str) -> Option<LinkName> {
         match name {
-            "rr" => Some(Link::Rr),
-            "a" => Some(Link::A),
-            "abis" => Some(Link::Abis),
+            "rr" => Some(LinkName::Rr),
+            "a" => Some(LinkName::A),
+            "abis" => Some(LinkName::Abis),
             _ => None,
         }
     }
 }
 
-impl fmt::Display for Link {
+impl fmt::Display for LinkName {
     fn fmt<W: fmt::Write>(&self, f: &mut fmt::Formatter<W>) -> fmt::Result {
         f.write_str(match self {
-            Link::Rr => "rr",
-            Link::A => "a",
-            Link::Abis => "abis",
+            LinkName::Rr => "rr",
+            LinkName::A => "a",
+            LinkName::Abis => "abis",
         })
     }
 }

@@ -1,4 +1,4 @@
--- Traces that are put together, and the steps that they are made of.
+-- Steps that are put together, and what each comes to.
 use Rattle.std.proofs.Common.{◌≡◌, ℕ, List, [], ◌∷◌, ◌++◌, refl, sym, ◌∙◌, ap, subst, append_assoc, append-nil, inl, inr}
 use Rattle.channel_fsm.specs.declared.ChanId.{ChanId}
 use Rattle.cell_table.specs.Site.{SiteView}
@@ -65,12 +65,12 @@ choices-append says says' log log' (s ∷ t) u k l f g = (f.0, choices-append sa
 pub joined : {D A : Type 0} {log : D → List Entry} {says : D → List Entry → Claim → Type 0} {w w' w'' : Work D A} {p q : Plan} {u : Until}
     → Run log says w p w' (At q) → Run log says w' q w'' u → Run log says w p w'' u
 joined {D} {A} {log} {says} {w} {w'} {w''} {p} {q} {u} f g = record {
-  trace = f.trace ++ g.trace;
-  leads = leads-until p q f.trace g.trace u f.leads g.leads;
-  entries = g.entries ∙ ap (λ x. x ++ entries_of g.trace) f.entries ∙ append_assoc (log w.view) (entries_of f.trace) (entries_of g.trace) ∙ ap (λ x. log w.view ++ x) (sym (entries_of-append f.trace g.trace));
-  messages = g.messages ∙ ap (λ x. x ++ messages_of g.trace) f.messages ∙ append_assoc w.owed.items (messages_of f.trace) (messages_of g.trace) ∙ ap (λ x. w.owed.items ++ x) (sym (messages_of-append f.trace g.trace));
-  choices = choices-append (says w.view) (says w'.view) (log w.view) (log w'.view) f.trace g.trace f.said f.entries f.choices g.choices;
-  reports = λ call. g.reports call ∙ ap (λ x. reports_after call g.trace x) (f.reports call) ∙ sym (reports_after-append call f.trace g.trace (last_reports w.windows call));
+  steps = f.steps ++ g.steps;
+  leads = leads-until p q f.steps g.steps u f.leads g.leads;
+  entries = g.entries ∙ ap (λ x. x ++ entries_of g.steps) f.entries ∙ append_assoc (log w.view) (entries_of f.steps) (entries_of g.steps) ∙ ap (λ x. log w.view ++ x) (sym (entries_of-append f.steps g.steps));
+  messages = g.messages ∙ ap (λ x. x ++ messages_of g.steps) f.messages ∙ append_assoc w.owed.items (messages_of f.steps) (messages_of g.steps) ∙ ap (λ x. w.owed.items ++ x) (sym (messages_of-append f.steps g.steps));
+  choices = choices-append (says w.view) (says w'.view) (log w.view) (log w'.view) f.steps g.steps f.said f.entries f.choices g.choices;
+  reports = λ call. g.reports call ∙ ap (λ x. reports_after call g.steps x) (f.reports call) ∙ sym (reports_after-append call f.steps g.steps (last_reports w.windows call));
   width = g.width ∙ f.width;
   said = λ es claim h. f.said es claim (g.said es claim h);
   stop = stop-said (says w.view (log w''.view)) (says w'.view (log w''.view)) u (f.said (log w''.view)) g.stop;
@@ -79,7 +79,7 @@ joined {D} {A} {log} {says} {w} {w'} {w''} {p} {q} {u} f g = record {
 -- nothing is done
 pub stays : {D A : Type 0} (log : D → List Entry) (says : D → List Entry → Claim → Type 0) (w : Work D A) (p q : Plan) → p ≡ q → Goes log says w p w (At q)
 unfolding Goes
-stays log says w p q e = record { trace = []; leads = e; entries = sym (append-nil (log w.view)); messages = sym (append-nil w.owed.items); choices = tt; reports = λ call. refl; width = refl; said = λ es claim h. h; stop = tt }
+stays log says w p q e = record { steps = []; leads = e; entries = sym (append-nil (log w.view)); messages = sym (append-nil w.owed.items); choices = tt; reports = λ call. refl; width = refl; said = λ es claim h. h; stop = tt }
 
 -- a step that asks the desk takes memory too
 pub asking_takes : (p : Plan) → AsksDesk p → TakesMemory p
@@ -96,14 +96,14 @@ pub waits : {D A : Type 0} (log : D → List Entry) (says : D → List Entry →
     → log w'.view ≡ log w.view → w'.owed.items ≡ w.owed.items → ((call : ℕ) → last_reports w'.windows call ≡ last_reports w.windows call) → w'.windows.width ≡ w.windows.width
     → ((es : List Entry) → (claim : Claim) → says w'.view es claim → says w.view es claim) → ((place : ℕ) → IsForeign f place → says w.view (log w.view) (UnknownReceipt place)) → AsksDesk p → Goes log says w p w' (stops_at f)
 unfolding Goes stops_at
-waits log says w w' (Foreign place) p l o n i k h a = record { trace = []; leads = (p, refl, a); entries = l ∙ sym (append-nil (log w.view)); messages = o ∙ sym (append-nil w.owed.items); choices = tt; reports = n; width = i; said = k; stop = subst (λ es. says w.view es (UnknownReceipt place)) (sym l) (h place refl) }
-waits log says w w' NoMemory p l o n i k h a = record { trace = []; leads = (p, refl, asking_takes p a); entries = l ∙ sym (append-nil (log w.view)); messages = o ∙ sym (append-nil w.owed.items); choices = tt; reports = n; width = i; said = k; stop = tt }
+waits log says w w' (Foreign place) p l o n i k h a = record { steps = []; leads = (p, refl, a); entries = l ∙ sym (append-nil (log w.view)); messages = o ∙ sym (append-nil w.owed.items); choices = tt; reports = n; width = i; said = k; stop = subst (λ es. says w.view es (UnknownReceipt place)) (sym l) (h place refl) }
+waits log says w w' NoMemory p l o n i k h a = record { steps = []; leads = (p, refl, asking_takes p a); entries = l ∙ sym (append-nil (log w.view)); messages = o ∙ sym (append-nil w.owed.items); choices = tt; reports = n; width = i; said = k; stop = tt }
 
 -- nothing is done where the plan takes memory next, and it is refused
 pub lacks : {D A : Type 0} (log : D → List Entry) (says : D → List Entry → Claim → Type 0) (w : Work D A) (f : DeskFault) (p : Plan) → f ≡ NoMemory → TakesMemory p → Goes log says w p w (stops_at f)
 unfolding Goes stops_at
 lacks log says w f p is t =
-    let here : Goes log says w p w (stops_at NoMemory) = record { trace = []; leads = (p, refl, t); entries = sym (append-nil (log w.view)); messages = sym (append-nil w.owed.items); choices = tt; reports = λ call. refl; width = refl; said = λ es claim h. h; stop = tt } in
+    let here : Goes log says w p w (stops_at NoMemory) = record { steps = []; leads = (p, refl, t); entries = sym (append-nil (log w.view)); messages = sym (append-nil w.owed.items); choices = tt; reports = λ call. refl; width = refl; said = λ es claim h. h; stop = tt } in
     subst (λ x. Goes log says w p w (stops_at x)) (sym is) here
 
 -- nothing is done, and the plan goes on
@@ -112,7 +112,7 @@ pub idles : {D A : Type 0} (log : D → List Entry) (says : D → List Entry →
     → Passes log says w p w' p
 unfolding Goes
 idles {D} {A} log says w w' p v o n i w'' u g =
-    let f : Run log says w p w' (At p) = record { trace = []; leads = refl; entries = ap log v ∙ sym (append-nil (log w.view)); messages = o ∙ sym (append-nil w.owed.items); choices = tt; reports = n; width = i; said = λ es claim h. let P : D → Type 0 = λ x. says x es claim in subst P v h; stop = tt } in
+    let f : Run log says w p w' (At p) = record { steps = []; leads = refl; entries = ap log v ∙ sym (append-nil (log w.view)); messages = o ∙ sym (append-nil w.owed.items); choices = tt; reports = n; width = i; said = λ es claim h. let P : D → Type 0 = λ x. says x es claim in subst P v h; stop = tt } in
     joined f g
 
 -- what was followed to a plan goes on from there
@@ -127,7 +127,7 @@ pub moved : {D A : Type 0} (log : D → List Entry) (says : D → List Entry →
     → ((es : List Entry) → (claim : Claim) → says w'.view es claim → says w.view es claim) → Passes log says w p w' q
 unfolding Goes
 moved {D} {A} log says w w' p s q m l o c n i k w'' u g =
-    let f : Run log says w p w' (At q) = record { trace = s ∷ []; leads = (q, m, refl); entries = l ∙ ap (λ x. log w.view ++ x) (sym (append-nil (entries_in s))); messages = o ∙ ap (λ x. w.owed.items ++ x) (sym (append-nil (messages_in s))); choices = (c, tt); reports = n; width = i; said = k; stop = tt } in
+    let f : Run log says w p w' (At q) = record { steps = s ∷ []; leads = (q, m, refl); entries = l ∙ ap (λ x. log w.view ++ x) (sym (append-nil (entries_in s))); messages = o ∙ ap (λ x. w.owed.items ++ x) (sym (append-nil (messages_in s))); choices = (c, tt); reports = n; width = i; said = k; stop = tt } in
     joined f g
 
 pub asked : {D A : Type 0} (log : D → List Entry) (says : D → List Entry → Claim → Type 0) (w w' : Work D A) (e : Event) (r : Reply) (next : Reply → Plan)

@@ -27,10 +27,10 @@ pub handled : {D A : Type 0} (log : D → List Entry) (says : D → List Entry �
     → Goes log says w p w' u → w.owed.items ≡ [] → out ≡ w'.owed.items → Handles log says w.view w.windows p w'.view w'.windows out u
 unfolding Goes
 handled log says w w' p u out f none is = record {
-  trace = f.trace;
+  steps = f.steps;
   leads = f.leads;
   entries = f.entries;
-  messages = is ∙ f.messages ∙ ap (λ x. x ++ messages_of f.trace) none;
+  messages = is ∙ f.messages ∙ ap (λ x. x ++ messages_of f.steps) none;
   choices = f.choices;
   reports = f.reports;
 }

@@ -5,17 +5,17 @@ use Rattle.cell_table.specs.Site.{SiteView}
 use Rattle.ho_candidates.specs.declared.listed.Candidate.{Candidate}
 use Rattle.ho_procedure.specs.Claims.{Entry, Claim}
 use Rattle.ho_procedure.specs.declared.work.Work.{Work}
-use Rattle.ho_procedure.specs.declared.work.Course.{Course}
-use Rattle.ho_procedure.specs.declared.work.Course.TheVariants.{Over}
+use Rattle.ho_procedure.specs.declared.work.Flow.{Flow}
+use Rattle.ho_procedure.specs.declared.work.Flow.TheVariants.{Over}
 use Rattle.ho_procedure.specs.Plan.{Plan, Ends, At}
 use Rattle.ho_procedure.specs.Going.{Goes, Passes, then}
 use Rattle.ho_procedure.specs.Procedure.{start_plan, try_plan}
 use Rattle.ho_procedure.proofs.Going.{stays}
 
 -- a part that is over ends the row, whatever would come behind it
-pub ends_over : {D A : Type 0} (log : D → List Entry) (says : D → List Entry → Claim → Type 0) (w w' : Work D A) (part : Plan → Plan) (course : Course)
-    → course ≡ Over → ((tail : Plan) → Passes log says w (part tail) w' (then tail course)) → (tail : Plan) → Goes log says w (part tail) w' (At Ends)
-ends_over log says w w' part course is goes tail = goes tail w' (At Ends) (stays log says w' (then tail course) Ends (ap (λ c. then tail c) is))
+pub ends_over : {D A : Type 0} (log : D → List Entry) (says : D → List Entry → Claim → Type 0) (w w' : Work D A) (part : Plan → Plan) (flow : Flow)
+    → flow ≡ Over → ((tail : Plan) → Passes log says w (part tail) w' (then tail flow)) → (tail : Plan) → Goes log says w (part tail) w' (At Ends)
+ends_over log says w w' part flow is goes tail = goes tail w' (At Ends) (stays log says w' (then tail flow) Ends (ap (λ c. then tail c) is))
 
 -- the next candidate is the first of those that are left
 pub tries_next : {D A : Type 0} (log : D → List Entry) (says : D → List Entry → Claim → Type 0) (w w' : Work D A) (site : SiteView) (call : ℕ) (candidates : List Candidate) (i : ℕ) (d : Candidate) → i < length candidates

@@ -6,8 +6,8 @@ use Rattle.radio_book.specs.declared.event.CallRecord.{CallRecord}
 use Rattle.radio_desk.specs.declared.desk.DeskFault.{DeskFault}
 use Rattle.radio_desk.specs.declared.desk.DeskFault.TheVariants.{Foreign, NoMemory}
 use Rattle.ho_procedure.specs.declared.work.Work.{Work}
-use Rattle.ho_procedure.specs.declared.work.Course.{Course}
-use Rattle.ho_procedure.specs.declared.work.Course.TheVariants.{On, Over}
+use Rattle.ho_procedure.specs.declared.work.Flow.{Flow}
+use Rattle.ho_procedure.specs.declared.work.Flow.TheVariants.{On, Over}
 use Rattle.ho_procedure.specs.declared.work.Shown.{Shown}
 use Rattle.ho_procedure.specs.Claims.{Entry, Claim, UnknownReceipt}
 use Rattle.ho_procedure.specs.Windows.{Kept, reports_of}
@@ -17,23 +17,23 @@ use Rattle.ho_procedure.specs.Plan.{Plan, Ends, Step, Until, At, AtMemory, AtDes
 abbrev pub last_reports : Kept → ℕ → List Results
 last_reports windows call = (reports_of windows call).reports
 
--- What a view says where a trace leads so far. A row stops at a step that asks the desk only where the view says, after the
+-- What a view says where steps lead so far. A row stops at a step that asks the desk only where the view says, after the
 -- entries so far, that the desk doesn't know the view's last receipt, and of which place that is.
 abbrev pub MayStop : (Claim → Type 0) → Until → Type 0
 MayStop says (At p) = Unit {0}
 MayStop says AtMemory = Unit {0}
 MayStop says (AtDesk place) = says (UnknownReceipt place)
 
--- Some trace leads from the one plan to the other: its entries are what the view's log gained, its messages what is owed
--- since, and the reports of each call are those after it. Its choices are what the view says, and so is, where it stops for
--- that, that the desk doesn't know the view's last receipt.
+-- Some steps lead from the one plan to the other: their entries are what the view's log gained, their messages what is owed
+-- since, and the reports of each call are those after them. Their choices are what the view says, and so is, where they stop
+-- for that, that the desk doesn't know the view's last receipt.
 pub record Run {D A : Type 0} (log : D → List Entry) (says : D → List Entry → Claim → Type 0) (w : Work D A) (p : Plan) (w' : Work D A) (u : Until) : Type 0 where
-  pub trace : List Step
-  pub leads : LeadsUntil p trace u
-  pub entries : log w'.view ≡ log w.view ++ entries_of trace
-  pub messages : w'.owed.items ≡ w.owed.items ++ messages_of trace
-  pub choices : ChoicesAt (says w.view) (log w.view) trace
-  pub reports : (call : ℕ) → last_reports w'.windows call ≡ reports_after call trace (last_reports w.windows call)
+  pub steps : List Step
+  pub leads : LeadsUntil p steps u
+  pub entries : log w'.view ≡ log w.view ++ entries_of steps
+  pub messages : w'.owed.items ≡ w.owed.items ++ messages_of steps
+  pub choices : ChoicesAt (says w.view) (log w.view) steps
+  pub reports : (call : ℕ) → last_reports w'.windows call ≡ reports_after call steps (last_reports w.windows call)
   pub width : w'.windows.width ≡ w.windows.width
   pub said : (es : List Entry) → (claim : Claim) → says w'.view es claim → says w.view es claim
   pub stop : MayStop (says w.view (log w'.view)) u
@@ -56,7 +56,7 @@ then_shown next None = Ends
 then_shown next (Some x) = next x.record x.state
 
 -- where a row goes on it has this plan, and where it is over none
-abbrev pub then : Plan → Course → Plan
+abbrev pub then : Plan → Flow → Plan
 then tail On = tail
 then tail Over = Ends
 

@@ -46,15 +46,15 @@ KeepsOctets {A} (inbound.A call octets) = (message : Bssmap A) × interface_a.Is
 KeepsOctets (inbound.Expiry call timer) = ⊥
 KeepsOctets (inbound.Operator line) = ⊥
 
--- Some trace follows a plan so far: its entries are what the view's log gained, its messages these, its choices what the
--- view says, and the reports of each call are those after it.
+-- Some steps follow a plan so far: their entries are what the view's log gained, their messages these, their choices what the
+-- view says, and the reports of each call are those after them.
 pub record Handles {D : Type 0} (log : D → List Entry) (says : D → List Entry → Claim → Type 0) (v : D) (windows : Kept) (p : Plan) (v' : D) (windows' : Kept) (out : List Sent) (u : Until) : Type 0 where
-  pub trace : List Step
-  pub leads : LeadsUntil p trace u
-  pub entries : log v' ≡ log v ++ entries_of trace
-  pub messages : out ≡ messages_of trace
-  pub choices : ChoicesAt (says v) (log v) trace
-  pub reports : (call : ℕ) → last_reports windows' call ≡ reports_after call trace (last_reports windows call)
+  pub steps : List Step
+  pub leads : LeadsUntil p steps u
+  pub entries : log v' ≡ log v ++ entries_of steps
+  pub messages : out ≡ messages_of steps
+  pub choices : ChoicesAt (says v) (log v) steps
+  pub reports : (call : ℕ) → last_reports windows' call ≡ reports_after call steps (last_reports windows call)
 
 -- What the handling comes to where memory was refused: the row was followed up to a step that takes memory; or nothing was
 -- asked yet, and the message keeps octets, whose memory was refused.

@@ -51,12 +51,12 @@ Moves (Sends m next) s q = (s ≡ Posted m) × (q ≡ next)
 Moves (Notes c reports next) s q = (s ≡ Noted c reports) × (q ≡ next)
 Moves (Ranks site reports serving next) s q = (found : List Candidate) × AreCandidates site reports serving found × (s ≡ Ranked found) × (q ≡ next found)
 
--- The trace is a beginning of the first plan's, and the second plan is what is left.
+-- The steps are the first ones of a way through the first plan, and the second plan is what is left.
 abbrev pub Leads : Plan → List Step → Plan → Type 0
 Leads p [] q = p ≡ q
 Leads p (s ∷ t) q = (next : Plan) × Moves p s next × Leads next t q
 
--- the trace follows the plan to its end
+-- the steps follow the plan to its end
 abbrev pub Follows : Plan → List Step → Type 0
 Follows p t = Leads p t Ends
 
@@ -80,7 +80,7 @@ TakesMemory (Sends m next) = ⊥
 TakesMemory (Notes c reports next) = ⊥
 TakesMemory (Ranks site reports serving next) = Unit {0}
 
--- How far a trace leads: to a plan, to some plan whose next step takes memory, or to some whose next step asks a desk that
+-- How far steps lead: to a plan, to some plan whose next step takes memory, or to some whose next step asks a desk that
 -- doesn't know a receipt of this place.
 pub data Until : Type 0 where
   At : Plan → Until
@@ -92,7 +92,7 @@ LeadsUntil p t (At q) = Leads p t q
 LeadsUntil p t AtMemory = (q : Plan) × Leads p t q × TakesMemory q
 LeadsUntil p t (AtDesk place) = (q : Plan) × Leads p t q × AsksDesk q
 
--- the events of a trace with their replies
+-- the events of steps with their replies
 abbrev pub entries_in : Step → List Entry
 entries_in (Asked e r) = (e, r) ∷ []
 entries_in (Chose e r) = (e, r) ∷ []
@@ -105,7 +105,7 @@ abbrev pub entries_of : List Step → List Entry
 entries_of [] = []
 entries_of (s ∷ t) = entries_in s ++ entries_of t
 
--- its messages
+-- their messages
 abbrev pub messages_in : Step → List Sent
 messages_in (Asked e r) = []
 messages_in (Chose e r) = []
@@ -118,7 +118,7 @@ abbrev pub messages_of : List Step → List Sent
 messages_of [] = []
 messages_of (s ∷ t) = messages_in s ++ messages_of t
 
--- the choices of a trace, each made after the entries before it
+-- the choices of steps, each made after the entries before it
 abbrev pub ChoiceIn : (Claim → Type 0) → Step → Type 0
 ChoiceIn says (Asked e r) = Unit {0}
 ChoiceIn says (Chose e r) = says (Chosen e)
@@ -172,7 +172,7 @@ reports_by call (Posted m) reports = reports
 reports_by call (Noted c now) reports = if c == call then now else reports
 reports_by call (Ranked found) reports = reports
 
--- and after a trace
+-- and after steps
 abbrev pub reports_after : ℕ → List Step → List Results → List Results
 reports_after call [] reports = reports
 reports_after call (s ∷ t) reports = reports_after call t (reports_by call s reports)

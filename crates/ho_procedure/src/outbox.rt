@@ -104,13 +104,6 @@ impl<A: Allocator + Copy> Outbox<A> {
         mem::replace(&mut self.messages, Vec::new(self.alloc))
     }
 
-    /// The messages.
-    pub(crate) fn into_messages(self) -> Vec<Outbound<A>, A>
-        ensures { all_sent result.items ≡ self.items }
-    {
-        self.messages
-    }
-
     /// CHANNEL ACTIVATION for an immediate assignment.
     pub(crate) fn activation(&mut self, chan: ChanId)
         requires room { 1 ≤ self.old.room }

@@ -21,7 +21,7 @@ use std::alloc::{AllocError, Allocator};
 
 /// How a part of a row ended.
 #[derive(Clone, Copy)]
-pub(crate) enum Course {
+pub(crate) enum Flow {
     /// The row goes on.
     On,
     /// The row is over.

@@ -5,7 +5,7 @@ ghost use Rattle.lab_script.specs.Words.{octets_of};
 ghost use Rattle.lab.specs.Decoded.{IsMessageText};
 
 use crate::faults::lab_result;
-pub use decoded_lines::Link;
+pub use decoded_lines::LinkName;
 use decoded_lines::{Detail, PrintFault, print_or_fault};
 use ho_procedure::exchange::Bad;
 use lab_runs::run::{LabFault, Status};
@@ -72,7 +72,7 @@ pub(crate) enum Decoded {
 /// Prints the message that a hexadecimal text writes on one line, as [`decode_run`] says; answers what the text is.
 pub(crate) fn decode_text<A: Allocator + Copy, W: Write>(
     alloc: A,
-    link: Link,
+    link: LinkName,
     text: &str,
     out: &mut W,
 ) -> Result<Decoded, LabFault>
@@ -100,7 +100,7 @@ pub(crate) fn decode_text<A: Allocator + Copy, W: Write>(
 /// no octets. Once memory was refused (`NoMemory`) nothing is printed; `Write` where `out` can't be written to.
 pub fn decode_run<A: Allocator + Copy, W: Write>(
     alloc: A,
-    link: Link,
+    link: LinkName,
     text: &str,
     out: &mut W,
 ) -> Result<Status, LabFault>

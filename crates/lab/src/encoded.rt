@@ -4,7 +4,7 @@
 ghost use Rattle.std.specs.Prelude.{◌≡◌, ◌≢◌, Ok, OnOk, IfErr};
 ghost use Rattle.lab.specs.Encoded.{CanBeWritten};
 
-use crate::decoded::Link;
+use crate::decoded::LinkName;
 use encoded_messages::{FieldFault, MessageFault, encode_a, encode_abis, encode_rr};
 use lab_runs::run::{LabFault, Status};
 use std::alloc::Allocator;
@@ -14,7 +14,7 @@ use std::io::Write;
 /// The octets of the message that a text says.
 fn octets<A: Allocator + Copy>(
     alloc: A,
-    link: Link,
+    link: LinkName,
     text: &str,
 ) -> Result<Vec<u8, A>, MessageFault<'_>>
     ensures written { OnOk result (CanBeWritten A link text.now) }
@@ -22,9 +22,9 @@ fn octets<A: Allocator + Copy>(
         CanBeWritten A link text.now → ⊥) }
 {
     match link {
-        Link::Rr => encode_rr(alloc, text),
-        Link::A => encode_a(alloc, text),
-        Link::Abis => encode_abis(alloc, text),
+        LinkName::Rr => encode_rr(alloc, text),
+        LinkName::A => encode_a(alloc, text),
+        LinkName::Abis => encode_abis(alloc, text),
     }
 }
 
@@ -32,7 +32,7 @@ fn octets<A: Allocator + Copy>(
 /// a field that is missing it says where messages and fields are listed.
 #[derive(Clone, Copy)]
 struct EncodeReason<'a> {
-    link: Link,
+    link: LinkName,
     fault: MessageFault<'a>,
 }
 
@@ -67,7 +67,7 @@ impl fmt::Display for EncodeReason<'_> {
 /// written to.
 pub fn encode_run<A: Allocator + Copy, W: Write, E: Write>(
     alloc: A,
-    link: Link,
+    link: LinkName,
     text: &str,
     out: &mut W,
     errors: &mut E,

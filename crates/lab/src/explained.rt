@@ -2,12 +2,12 @@
 ghost use Rattle.std.specs.Prelude.{◌≡◌, ◌↔◌, true, IfOk};
 ghost use Rattle.explanations.specs.Questions.{IsKnown};
 
-use explanations::{Argument, Link, Question, answer_to, argument_of, last_fault};
+use explanations::{Argument, LinkName, Question, answer_to, argument_of, last_fault};
 use std::io::{self, Write};
 
 /// Says on `errors` which numbers the argument of a fault may be, where this isn't one of them.
 fn say_range<E: Write>(
-    fault: (Link, u8),
+    fault: (LinkName, u8),
     what: Argument,
     argument: usize,
     errors: &mut E,

@@ -1,6 +1,6 @@
 //! What the program does with the words of its command line.
 use crate::check::check_file;
-use crate::decoded::{Decoded, Link, decode_text, ended};
+use crate::decoded::{Decoded, LinkName, decode_text, ended};
 use crate::encoded::encode_run;
 use crate::explained::explain;
 use crate::files::{rewind_files, run_files};
@@ -36,7 +36,7 @@ fn refuse_words<E: Write>(reason: &str, errors: &mut E) -> Result<Status, LabFau
 /// Prints one message in words; where the text is refused, `errors` says why.
 fn decode<W: Write, E: Write>(
     alloc: Global,
-    link: Link,
+    link: LinkName,
     text: &str,
     out: &mut W,
     errors: &mut E,

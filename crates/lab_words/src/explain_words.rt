@@ -1,6 +1,6 @@
 //! The words of the command `explain`.
 use clap::{Arg, ArgAction, ArgMatches, Command, value_parser};
-use explanations::{Link, Question};
+use explanations::{LinkName, Question};
 use std::alloc::{AllocError, Global};
 
 /// The links by their names.
@@ -118,11 +118,11 @@ pub(crate) fn question_of(explain: &ArgMatches<'_>) -> Option<Question> {
     match explain.subcommand()? {
         ("refused", refused) => Some(Question::Refusal(refused.get_one::<u8>("N")?)),
         ("cause", cause) => Some(Question::Cause(
-            Link::named(cause.get_str("LINK")?)?,
+            LinkName::named(cause.get_str("LINK")?)?,
             cause.get_one::<u8>("N")?,
         )),
         ("fault", fault) => Some(Question::Fault(
-            Link::named(fault.get_str("LINK")?)?,
+            LinkName::named(fault.get_str("LINK")?)?,
             fault.get_one::<u8>("N")?,
             fault.get_one::<usize>("ARGUMENT"),
         )),

@@ -9,7 +9,7 @@ use crate::site_paths::SitePaths;
 use crate::view_words::{view_options, views_of};
 use clap::error::ErrorKind;
 use clap::{Arg, ArgAction, ArgMatches, Command, Error, value_parser};
-use decoded_lines::{Asked, Detail, Link, link_named};
+use decoded_lines::{Asked, Detail, LinkName, link_named};
 use explanations::Question;
 use run_views::Views;
 use std::alloc::{AllocError, Global};
@@ -47,7 +47,7 @@ pub enum Job<'a> {
     },
     /// A message, written in hexadecimal, is printed in words.
     Decode {
-        link: Link,
+        link: LinkName,
         text: &'a str,
     },
     /// The messages that lines write in hexadecimal are printed in words: what is asked of the lines, and the path of
@@ -58,7 +58,7 @@ pub enum Job<'a> {
     },
     /// A message, written in words, is printed in hexadecimal.
     Encode {
-        link: Link,
+        link: LinkName,
         text: &'a str,
     },
     /// A number of a trace or of a message is said in words.
@@ -91,7 +91,7 @@ impl From<AllocError> for WordsFault {
 const LINKS: &[&str] = &["rr", "a", "abis"];
 
 /// The link of this name.
-fn link(name: &str) -> Option<Link> {
+fn link(name: &str) -> Option<LinkName> {
     link_named(name.as_bytes())
 }
 

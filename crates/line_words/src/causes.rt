@@ -1,18 +1,18 @@
 //! The causes that messages carry.
 use bssmap_messages::Bssmap;
-use explanations::Link;
+use explanations::LinkName;
 use rr_messages::Rr;
 use rsl_messages::{Octets, Rsl};
 use std::alloc::Allocator;
 
 /// A cause, and the link whose table names it.
-pub(crate) type Cause = (Link, u8);
+pub(crate) type Cause = (LinkName, u8);
 
 /// The cause of a message on Abis (TS 48.058 clause 9.3.26).
 pub(crate) fn abis_cause<A: Allocator>(message: &Rsl<A>) -> Option<Cause> {
     match message {
         Rsl::ChannelActivationNack { cause, .. } | Rsl::ConnectionFailureIndication { cause, .. } =>
-            Some((Link::Abis, *cause)),
+            Some((LinkName::Abis, *cause)),
         Rsl::DataRequest { .. }
         | Rsl::DataIndication { .. }
         | Rsl::ChannelActivation { .. }
@@ -47,7 +47,7 @@ pub(crate) fn a_cause<A: Allocator>(message: &Bssmap<A>) -> Option<Cause> {
         | Bssmap::HandoverPerformed { cause, .. }
         | Bssmap::HandoverRequiredReject { cause }
         | Bssmap::ClearCommand { cause }
-        | Bssmap::ClearRequest { cause } => Some((Link::A, *cause)),
+        | Bssmap::ClearRequest { cause } => Some((LinkName::A, *cause)),
         Bssmap::HandoverRequest { .. }
         | Bssmap::HandoverRequestAck { .. }
         | Bssmap::HandoverCommand { .. }
@@ -61,7 +61,7 @@ pub(crate) fn a_cause<A: Allocator>(message: &Bssmap<A>) -> Option<Cause> {
 pub(crate) fn passed_cause<A: Allocator>(message: &Bssmap<A>) -> Option<Cause> {
     match message {
         Bssmap::HandoverComplete { rr } | Bssmap::HandoverFailure { rr, .. } => {
-            Some((Link::Rr, (*rr)?))
+            Some((LinkName::Rr, (*rr)?))
         }
         Bssmap::HandoverRequest { .. }
         | Bssmap::HandoverRequired { .. }
@@ -97,7 +97,7 @@ pub(crate) fn a_layer3<A: Allocator>(message: &Bssmap<A>) -> Option<&Octets<A>> 
 pub(crate) fn rr_cause(message: &Rr) -> Option<Cause> {
     match message {
         Rr::HandoverComplete(cause) | Rr::HandoverFailure(cause) | Rr::ChannelRelease(cause) => {
-            Some((Link::Rr, cause.value()))
+            Some((LinkName::Rr, cause.value()))
         }
         Rr::HandoverCommand { .. } | Rr::PhysicalInformation(_) | Rr::MeasurementReport(_) => None,
     }

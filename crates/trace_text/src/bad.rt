@@ -1,6 +1,6 @@
 //! Why octets are no message, as it is printed.
 use bssmap_messages::BssmapFault;
-use explanations::Link;
+use explanations::LinkName;
 use ho_procedure::exchange::Bad;
 use rr_elements::ElementFault;
 use rr_messages::RrFault;
@@ -17,7 +17,7 @@ pub struct BadText(pub Bad);
 #[derive(Clone, Copy, Debug, PartialEq, Eq)]
 pub struct NumberedFault {
     /// Where the octets come from.
-    pub link: Link,
+    pub link: LinkName,
     /// The number, from 1 on.
     pub number: u8,
     /// What the fault is of, where it is of something.
@@ -27,9 +27,9 @@ pub struct NumberedFault {
 /// The number of a fault, and its argument.
 pub fn numbered(bad: Bad) -> NumberedFault {
     let (link, (number, argument)) = match bad {
-        Bad::Rr(fault) => (Link::Rr, rr_fault(fault)),
-        Bad::Bssmap(fault) => (Link::A, bssmap_fault(fault)),
-        Bad::Rsl(fault) => (Link::Abis, rsl_fault(fault)),
+        Bad::Rr(fault) => (LinkName::Rr, rr_fault(fault)),
+        Bad::Bssmap(fault) => (LinkName::A, bssmap_fault(fault)),
+        Bad::Rsl(fault) => (LinkName::Abis, rsl_fault(fault)),
     };
     NumberedFault {
         link,

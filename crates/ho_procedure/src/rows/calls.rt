@@ -7,7 +7,7 @@ ghost use Rattle.ho_procedure.specs.Procedure.{opened_plan, open_plan, told_caus
 use super::parts::{ask_done, ask_record, look, release_target};
 use crate::records::{awaits_leaving, is_held, is_nameable, is_on, is_own, names_releases};
 use crate::view::DeskView;
-use crate::work::{Course, Shown, Work};
+use crate::work::{Flow, Shown, Work};
 use bssmap_messages::causes::CALL_CONTROL;
 use channel_fsm::{ChanId, ChanState};
 use radio_book::event::{Event, Refusal, Reply, Why};
@@ -39,7 +39,7 @@ pub(crate) fn open<D: DeskView + Drop, A: Allocator + Copy>(
         (open_plan call chan) work.new (stops_at f)) }
 {
     work.make_room(1)?;
-    let Course::On = ask_done(work, Event::Open(call, chan))? else {
+    let Flow::On = ask_done(work, Event::Open(call, chan))? else {
         return Ok(());
     };
     activate(work, chan);
@@ -78,24 +78,24 @@ fn release_serving<D: DeskView + Drop, A: Allocator + Copy>(
     work: &mut Work<D, A>,
     cause: Option<u8>,
     shown: Shown,
-) -> Course
+) -> Flow
     requires { 2 ≤ work.old.owed.room }
     ensures goes { (tail : Plan) → Passes D.log D.says work.old
         (release_serving cause shown.record shown.state tail) work.new (then tail result) }
     ensures room { work.old.owed.room ≤ work.new.owed.room + 2 }
 {
     if is_held(shown.state) {
-        return Course::On;
+        return Flow::On;
     }
     let Some(chan) = shown.record.serving else {
-        return Course::Over;
+        return Flow::Over;
     };
     if !is_nameable(chan) {
-        return Course::Over;
+        return Flow::Over;
     }
     tell_first(work, told_cause(cause, shown.state), chan);
     work.send_release(chan);
-    Course::On
+    Flow::On
 }
 
 /// The target is released, where it was switched on. Where a record remains, the call is cleared, and its serving channel
@@ -106,25 +106,25 @@ fn clear_all<D: DeskView + Drop, A: Allocator + Copy>(
     call: u16,
     cause: Option<u8>,
     shown: Shown,
-) -> Result<Course, DeskFault>
+) -> Result<Flow, DeskFault>
     requires { 3 ≤ work.old.owed.room }
-    ensures goes { IfOk result (λ course. (tail : Plan) → Passes D.log D.says work.old
-        (clear_all call cause tail shown.record shown.state) work.new (then tail course)) }
+    ensures goes { IfOk result (λ flow. (tail : Plan) → Passes D.log D.says work.old
+        (clear_all call cause tail shown.record shown.state) work.new (then tail flow)) }
     ensures stops { IfErr result (λ f. (tail : Plan) → Goes D.log D.says work.old
         (clear_all call cause tail shown.record shown.state) work.new (stops_at f)) }
-    ensures room { result ≡ Ok Course.On → work.old.owed.room ≤ work.new.owed.room + 3 }
+    ensures room { result ≡ Ok Flow.On → work.old.owed.room ≤ work.new.owed.room + 3 }
 {
     if !names_releases(shown) {
-        return Ok(Course::Over);
+        return Ok(Flow::Over);
     }
-    let Course::On = release_target(work, shown.record.attempt) else {
-        return Ok(Course::Over);
+    let Flow::On = release_target(work, shown.record.attempt) else {
+        return Ok(Flow::Over);
     };
     if !is_own(shown.record.attempt) {
-        return Ok(Course::On);
+        return Ok(Flow::On);
     }
-    let Course::On = ask_done(work, Event::Clear(call))? else {
-        return Ok(Course::Over);
+    let Flow::On = ask_done(work, Event::Clear(call))? else {
+        return Ok(Flow::Over);
     };
     Ok(release_serving(work, cause, shown))
 }
@@ -136,22 +136,22 @@ fn clear_rest<D: DeskView + Drop, A: Allocator + Copy>(
     call: u16,
     cause: Option<u8>,
     shown: Shown,
-) -> Result<Course, DeskFault>
+) -> Result<Flow, DeskFault>
     requires { 3 ≤ work.old.owed.room }
-    ensures goes { IfOk result (λ course. (tail : Plan) → Passes D.log D.says work.old
-        (clear_rest call cause tail shown.record shown.state) work.new (then tail course)) }
+    ensures goes { IfOk result (λ flow. (tail : Plan) → Passes D.log D.says work.old
+        (clear_rest call cause tail shown.record shown.state) work.new (then tail flow)) }
     ensures stops { IfErr result (λ f. (tail : Plan) → Goes D.log D.says work.old
         (clear_rest call cause tail shown.record shown.state) work.new (stops_at f)) }
-    ensures room { result ≡ Ok Course.On → work.old.owed.room ≤ work.new.owed.room + 3 }
+    ensures room { result ≡ Ok Flow.On → work.old.owed.room ≤ work.new.owed.room + 3 }
 {
     if !names_releases(shown) {
-        return Ok(Course::Over);
+        return Ok(Flow::Over);
     }
     if shown.record.attempt.is_none() {
         return clear_all(work, call, cause, shown);
     }
     let Some(before) = ask_record(work, Event::Undo(call, Why::Asked))? else {
-        return Ok(Course::Over);
+        return Ok(Flow::Over);
     };
     clear_all(work, call, cause, before)
 }
@@ -206,7 +206,7 @@ fn leave<D: DeskView + Drop, A: Allocator + Copy>(
     if !is_nameable(serving) {
         return Ok(());
     }
-    let Course::On = ask_done(work, Event::Left(call))? else {
+    let Flow::On = ask_done(work, Event::Left(call))? else {
         return Ok(());
     };
     work.send_release(serving);
@@ -234,7 +234,7 @@ fn clear_command_rest<D: DeskView + Drop, A: Allocator + Copy>(
                 return leave(work, call, record.serving);
             }
             let told = Some(release_cause(cause));
-            let Course::On = clear_rest(work, call, told, Shown { record, state })? else {
+            let Flow::On = clear_rest(work, call, told, Shown { record, state })? else {
                 return Ok(());
             };
             work.send_clear_complete(call);

@@ -9,7 +9,7 @@ use super::parts::{ask_done, look, turn_away};
 use crate::records::{awaits_order, is_nameable};
 use crate::requests::{is_half_rate, is_speech, own_cell, permits_clear};
 use crate::view::DeskView;
-use crate::work::{Course, Work};
+use crate::work::{Flow, Work};
 use bssmap_messages::CellId;
 use bssmap_messages::causes::{
     CIPHERING_ALGORITHM_NOT_SUPPORTED, INVALID_MESSAGE_CONTENTS, NO_RADIO_RESOURCE_AVAILABLE,
@@ -76,15 +76,15 @@ fn request_rest<D: DeskView + Drop, A: Allocator + Copy>(
 fn ask_new<D: DeskView + Drop, A: Allocator + Copy>(
     work: &mut Work<D, A>,
     call: u16,
-) -> Result<Course, DeskFault>
-    ensures goes { IfOk result (λ course. (next : Plan) → Passes D.log D.says work.old
-        (once_new call next) work.new (then next course)) }
+) -> Result<Flow, DeskFault>
+    ensures goes { IfOk result (λ flow. (next : Plan) → Passes D.log D.says work.old
+        (once_new call next) work.new (then next flow)) }
     ensures stops { IfErr result (λ f. (next : Plan) → Goes D.log D.says work.old
         (once_new call next) work.new (stops_at f)) }
     ensures owed { work.new.owed ≡ work.old.owed }
 {
     match work.ask(Event::Look(call))? {
-        Reply::Refused(Refusal::NoCall) => Ok(Course::On),
+        Reply::Refused(Refusal::NoCall) => Ok(Flow::On),
         Reply::Done
         | Reply::Record(..)
         | Reply::Owned(_)
@@ -97,7 +97,7 @@ fn ask_new<D: DeskView + Drop, A: Allocator + Copy>(
             | Refusal::RefBusy(..)
             | Refusal::Unexpected(_)
             | Refusal::NotArmed,
-        ) => Ok(Course::Over),
+        ) => Ok(Flow::Over),
     }
 }
 
@@ -118,7 +118,7 @@ pub(crate) fn request<D: DeskView + Drop, A: Allocator + Copy>(
         (request_plan site.now call channel.now encryption.now target) work.new (stops_at f)) }
 {
     work.make_room(1)?;
-    let Course::On = ask_new(work, call)? else {
+    let Flow::On = ask_new(work, call)? else {
         return Ok(());
     };
     request_rest(work, site, call, channel, encryption, target)
@@ -141,7 +141,7 @@ fn order_channel<D: DeskView + Drop, A: Allocator + Copy>(
         (order_channel call layer3.now serving) work.new (stops_at f)) }
 {
     work.make_unread_room(layer3.len())?;
-    let Course::On = ask_done(work, Event::Order(call))? else {
+    let Flow::On = ask_done(work, Event::Order(call))? else {
         return Ok(());
     };
     work.send_data_request(serving, layer3);

@@ -8,7 +8,7 @@ use super::parts::{ask_done, ask_record, release_target, tell_failure};
 use crate::commands::cell_id_at;
 use crate::records::is_nameable;
 use crate::view::DeskView;
-use crate::work::{Course, Work};
+use crate::work::{Flow, Work};
 use attempt_journal::Timer;
 use bssmap_messages::CellId;
 use bssmap_messages::causes::RADIO_INTERFACE_MESSAGE_FAILURE;
@@ -33,7 +33,7 @@ fn activate<D: DeskView + Drop, A: Allocator + Copy>(
     ensures stops { IfErr result (λ f. Goes D.log D.says work.old
         (activate_plan call target reference) work.new (stops_at f)) }
 {
-    let Course::On = ask_done(work, Event::Activate(call))? else {
+    let Flow::On = ask_done(work, Event::Activate(call))? else {
         return Ok(());
     };
     work.send_target_activation(target, reference);
@@ -116,7 +116,7 @@ fn require<D: DeskView + Drop, A: Allocator + Copy>(
         (require_plan call cell) work.new (stops_at f)) }
 {
     work.make_room(1)?;
-    let Course::On = ask_done(work, Event::Require(call))? else {
+    let Flow::On = ask_done(work, Event::Require(call))? else {
         return Ok(());
     };
     work.send_handover_required(call, cell);
@@ -130,9 +130,9 @@ pub(super) fn start<D: DeskView + Drop, A: Allocator + Copy>(
     site: &Site<A>,
     call: u16,
     cell: u8,
-) -> Result<Course, DeskFault>
-    ensures goes { IfOk result (λ course. (tail : Plan) → Passes D.log D.says work.old
-        (start_plan site.now call cell tail) work.new (then tail course)) }
+) -> Result<Flow, DeskFault>
+    ensures goes { IfOk result (λ flow. (tail : Plan) → Passes D.log D.says work.old
+        (start_plan site.now call cell tail) work.new (then tail flow)) }
     ensures stops { IfErr result (λ f. (tail : Plan) → Goes D.log D.says work.old
         (start_plan site.now call cell tail) work.new (stops_at f)) }
 {
@@ -140,14 +140,14 @@ pub(super) fn start<D: DeskView + Drop, A: Allocator + Copy>(
         if let Some(outside) = cell_id_at(site, cell) {
             require(work, call, outside)?;
         }
-        return Ok(Course::Over);
+        return Ok(Flow::Over);
     }
     work.make_room(1)?;
     let Some((target, reply)) = work.take(call, Kind::Internal, cell)? else {
-        return Ok(Course::On);
+        return Ok(Flow::On);
     };
     go_on_taken(work, call, target, reply)?;
-    Ok(Course::Over)
+    Ok(Flow::Over)
 }
 
 /// A call is to move to a cell.
@@ -182,7 +182,7 @@ pub(crate) fn undo<D: DeskView + Drop, A: Allocator + Copy>(
     let Some(shown) = ask_record(work, Event::Undo(call, Why::Asked))? else {
         return Ok(());
     };
-    let Course::On = release_target(work, shown.record.attempt) else {
+    let Flow::On = release_target(work, shown.record.attempt) else {
         return Ok(());
     };
     tell_failure(work, call, shown.record.attempt);
@@ -205,7 +205,7 @@ pub(crate) fn expire<D: DeskView + Drop, A: Allocator + Copy>(
     let Some(shown) = ask_record(work, Event::Undo(call, Why::Expired(timer)))? else {
         return Ok(());
     };
-    let Course::On = release_target(work, shown.record.attempt) else {
+    let Flow::On = release_target(work, shown.record.attempt) else {
         return Ok(());
     };
     match timer {

@@ -11,7 +11,7 @@ use crate::records::{
     is_commanded, is_nameable, is_on, is_ordered, is_serving, is_target, names_target, traffic_cell,
 };
 use crate::view::DeskView;
-use crate::work::{Course, Work};
+use crate::work::{Flow, Work};
 use bssmap_messages::causes::REVERSION_TO_OLD_CHANNEL;
 use cell_table::Site;
 use channel_fsm::ChanId;
@@ -35,7 +35,7 @@ fn try_cells<D: DeskView + Drop, A: Allocator + Copy>(
         (try_plan site.now call candidates.now) work.new (stops_at f)) }
 {
     for candidate in candidates {
-        let Course::On = start(work, site, call, candidate.cell)? else {
+        let Flow::On = start(work, site, call, candidate.cell)? else {
             return Ok(());
         };
     }
@@ -124,7 +124,7 @@ fn complete_internal<D: DeskView + Drop, A: Allocator + Copy>(
         return Ok(());
     };
     work.make_room(2)?;
-    let Course::On = ask_done(work, Event::Complete(call))? else {
+    let Flow::On = ask_done(work, Event::Complete(call))? else {
         return Ok(());
     };
     work.send_release(old);
@@ -145,7 +145,7 @@ fn complete_incoming<D: DeskView + Drop, A: Allocator + Copy>(
         (incoming_complete call cause) work.new (stops_at f)) }
 {
     work.make_room(1)?;
-    let Course::On = ask_done(work, Event::Complete(call))? else {
+    let Flow::On = ask_done(work, Event::Complete(call))? else {
         return Ok(());
     };
     work.send_handover_complete(call, cause);

@@ -8,7 +8,7 @@ ghost use Rattle.ho_procedure.specs.Procedure.{nothing_more, once_done, once_rec
 
 use crate::records::is_nameable;
 use crate::view::DeskView;
-use crate::work::{Course, Shown, Work};
+use crate::work::{Flow, Shown, Work};
 use bssmap_messages::causes::EQUIPMENT_FAILURE;
 use radio_book::event::{Attempt, AttemptKind, Event, Reply};
 use radio_desk::desk::DeskFault;
@@ -78,16 +78,16 @@ pub(super) fn ask_last<D: DeskView + Drop, A: Allocator + Copy>(
 pub(super) fn ask_done<D: DeskView + Drop, A: Allocator + Copy>(
     work: &mut Work<D, A>,
     event: Event,
-) -> Result<Course, DeskFault>
-    ensures goes { IfOk result (λ course. (next : Plan) → Passes D.log D.says work.old
-        (once_done event next) work.new (then next course)) }
+) -> Result<Flow, DeskFault>
+    ensures goes { IfOk result (λ flow. (next : Plan) → Passes D.log D.says work.old
+        (once_done event next) work.new (then next flow)) }
     ensures stops { IfErr result (λ f. (next : Plan) → Goes D.log D.says work.old
         (once_done event next) work.new (stops_at f)) }
     ensures owed { work.new.owed ≡ work.old.owed }
 {
     match work.ask(event)? {
-        Reply::Done => Ok(Course::On),
-        Reply::Record(..) | Reply::Owned(_) | Reply::Refused(_) => Ok(Course::Over),
+        Reply::Done => Ok(Flow::On),
+        Reply::Record(..) | Reply::Owned(_) | Reply::Refused(_) => Ok(Flow::Over),
     }
 }
 
@@ -115,26 +115,26 @@ pub(super) fn ask_record<D: DeskView + Drop, A: Allocator + Copy>(
 pub(super) fn release_target<D: DeskView + Drop, A: Allocator + Copy>(
     work: &mut Work<D, A>,
     attempt: Option<Attempt>,
-) -> Course
+) -> Flow
     requires { 1 ≤ work.old.owed.room }
     ensures goes { (tail : Plan) → Passes D.log D.says work.old
         (release_target attempt tail) work.new (then tail result) }
     ensures room { work.old.owed.room ≤ work.new.owed.room + 1 }
 {
     let Some(attempt) = attempt else {
-        return Course::On;
+        return Flow::On;
     };
     if !attempt.stage.is_switched_on() {
-        return Course::On;
+        return Flow::On;
     }
     let Some(target) = attempt.target else {
-        return Course::Over;
+        return Flow::Over;
     };
     if !is_nameable(target) {
-        return Course::Over;
+        return Flow::Over;
     }
     work.send_release(target);
-    Course::On
+    Flow::On
 }
 
 /// HANDOVER FAILURE with a cause of this controller: a call can't come from another one.

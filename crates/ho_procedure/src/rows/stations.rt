@@ -8,7 +8,7 @@ use super::parts::{ask_done, ask_last, ask_record, look, owner, tell_failure};
 use crate::commands::command_to;
 use crate::records::{is_nameable, is_serving, is_target, is_target_in};
 use crate::view::DeskView;
-use crate::work::{Course, Work};
+use crate::work::{Flow, Work};
 use bssmap_messages::causes::{EQUIPMENT_FAILURE, RADIO_INTERFACE_FAILURE};
 use cell_table::Site;
 use channel_fsm::ChanId;
@@ -32,7 +32,7 @@ fn send_command<D: DeskView + Drop, A: Allocator + Copy>(
     ensures stops { IfErr result (λ f. Goes D.log D.says work.old
         (send_command call serving command.now) work.new (stops_at f)) }
 {
-    let Course::On = ask_done(work, Event::Command(call))? else {
+    let Flow::On = ask_done(work, Event::Command(call))? else {
         return Ok(());
     };
     work.send_to_mobile(serving, command);
@@ -83,7 +83,7 @@ fn acknowledge<D: DeskView + Drop, A: Allocator + Copy>(
     ensures stops { IfErr result (λ f. Goes D.log D.says work.old
         (acknowledge call command.now) work.new (stops_at f)) }
 {
-    let Course::On = ask_done(work, Event::Command(call))? else {
+    let Flow::On = ask_done(work, Event::Command(call))? else {
         return Ok(());
     };
     work.send_handover_request_ack(call, command);

@@ -1,6 +1,6 @@
 use super::failing::Failing;
 use super::{equals_at, holds_at};
-use lab::decoded::{Link, decode_run};
+use lab::decoded::{LinkName, decode_run};
 use lab::run::{LabFault, Status};
 use refusing_heap::RefusingHeap;
 use std::alloc::{Allocator, Global};
@@ -20,37 +20,37 @@ const REQUIRED: (&str, &str) = (
 );
 
 /// Texts that take memory, and how many requests at least: the octets of the text, and what the message keeps.
-const REQUESTS: &[(Link, (&str, &str), u64)] = &[
-    (Link::Rr, ("062c00", "HANDOVER COMPLETE cause=0"), 1),
-    (Link::A, REQUIRED, 2),
-    (Link::Abis, ACTIVATION, 2),
+const REQUESTS: &[(LinkName, (&str, &str), u64)] = &[
+    (LinkName::Rr, ("062c00", "HANDOVER COMPLETE cause=0"), 1),
+    (LinkName::A, REQUIRED, 2),
+    (LinkName::Abis, ACTIVATION, 2),
 ];
 
 /// Texts that take no memory.
-const NO_REQUESTS: &[(Link, (&str, &str))] = &[
-    (Link::Rr, ("", "fault rr 1")),
-    (Link::A, ("", "fault a 1")),
-    (Link::Abis, ("", "fault abis 1")),
-    (Link::Rr, ("062c0g", "hex")),
-    (Link::Abis, ("082e010b0", "hex")),
+const NO_REQUESTS: &[(LinkName, (&str, &str))] = &[
+    (LinkName::Rr, ("", "fault rr 1")),
+    (LinkName::A, ("", "fault a 1")),
+    (LinkName::Abis, ("", "fault abis 1")),
+    (LinkName::Rr, ("062c0g", "hex")),
+    (LinkName::Abis, ("082e010b0", "hex")),
 ];
 
 /// Texts that are printed by different ways to a write.
-const WRITES: &[(Link, (&str, &str))] = &[
-    (Link::Abis, ACTIVATION),
-    (Link::Rr, ("062c00", "HANDOVER COMPLETE cause=0")),
-    (Link::A, REQUIRED),
-    (Link::A, ("0003160405", "fault a 6 3")),
-    (Link::Abis, ("082201", "fault abis 5 2")),
-    (Link::Rr, ("06ff", "fault rr 2 255")),
-    (Link::Rr, ("0g", "hex")),
+const WRITES: &[(LinkName, (&str, &str))] = &[
+    (LinkName::Abis, ACTIVATION),
+    (LinkName::Rr, ("062c00", "HANDOVER COMPLETE cause=0")),
+    (LinkName::A, REQUIRED),
+    (LinkName::A, ("0003160405", "fault a 6 3")),
+    (LinkName::Abis, ("082201", "fault abis 5 2")),
+    (LinkName::Rr, ("06ff", "fault rr 2 255")),
+    (LinkName::Rr, ("0g", "hex")),
 ];
 
 /// What a text printed, and how it ended.
 fn printed<A: Allocator + Copy>(
     alloc: A,
     scratch: Global,
-    link: Link,
+    link: LinkName,
     text: &str,
 ) -> Result<(Result<Status, LabFault>, String), Fail> {
     let mut out = Vec::new(scratch);
@@ -63,7 +63,7 @@ fn prints<A: Allocator + Copy>(
     rt: &impl Abort,
     alloc: A,
     scratch: Global,
-    link: Link,
+    link: LinkName,
     ended: Status,
     (hex, line): (&str, &str),
 ) -> Result<(), Fail> {
@@ -90,7 +90,7 @@ enum Failure {
 fn prints_without(
     rt: &impl Abort,
     alloc: Global,
-    link: Link,
+    link: LinkName,
     (hex, wanted): (&str, &str),
     n: u64,
 ) -> Result<bool, Fail> {
@@ -111,7 +111,7 @@ fn writes_all(
     rt: &impl Abort,
     alloc: Global,
     n: u64,
-    link: Link,
+    link: LinkName,
     (hex, wanted): (&str, &str),
 ) -> Result<bool, Fail> {
     let mut out = Failing::after(alloc, n.saturating_sub(1));
@@ -131,7 +131,7 @@ fn writes_all(
 fn failures_of(
     rt: &(impl AllocGlobal + Abort),
     failure: Failure,
-    link: Link,
+    link: LinkName,
     row: (&str, &str),
 ) -> Result<u64, Fail> {
     for n in 1..100 {

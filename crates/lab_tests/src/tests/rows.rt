@@ -2,7 +2,7 @@
 //! about. All other traces are scripts in `tests/`, at the top of the repository.
 use super::peer::{MOVES, PEER};
 use super::{ONE_CALL, SITE, ends_so, prints, prints_of};
-use lab::decoded::{Link, decode_run};
+use lab::decoded::{LinkName, decode_run};
 use lab::encoded::encode_run;
 use lab::run::Status;
 use std::alloc::{AllocError, Global};
@@ -283,21 +283,21 @@ fn a_call_moves_to_the_other_controller(rt: HostRuntime) -> Result<(), Fail> {
 }
 
 /// Messages in octets, in words, and in the octets that they are written in.
-const MESSAGES: &[(Link, &str, &str, &str)] = &[
+const MESSAGES: &[(LinkName, &str, &str, &str)] = &[
     (
-        Link::Abis,
+        LinkName::Abis,
         "0821010B0302060400010801092A",
         "CHANNEL ACTIVATION tn=3 activation=2 mode=00010801 reference=42\n",
         "0821010b0302060400010801092a\n",
     ),
     (
-        Link::Rr,
+        LinkName::Rr,
         "062BD5670BA36B2A05",
         "HANDOVER COMMAND arfcn=871 ncc=2 bcc=5 tn=3 tsc=5 carrier=875 reference=42 atc=0 power=5\n",
         "062bd5670ba36b2a05\n",
     ),
     (
-        Link::Rr,
+        LinkName::Rr,
         "06151E1E006812A000000000000000000000",
         "MEASUREMENT REPORT ba=0 dtx=0 full=30 ba3g=0 valid=1 sub=30 si23=0 qfull=0 qsub=0 count=1 n=40/2/21\n",
         "06151e1e006812a000000000000000000000\n",
@@ -305,24 +305,24 @@ const MESSAGES: &[(Link, &str, &str, &str)] = &[
 ];
 
 /// Octets of messages that aren't written so, and octets that are none.
-const READ: &[(Link, &str, Status, &str)] = &[
+const READ: &[(LinkName, &str, Status, &str)] = &[
     // a count of 7, and no neighbour
     (
-        Link::Rr,
+        LinkName::Rr,
         "06151E1E01E812A000000000000000000000",
         Status::Done,
         "MEASUREMENT REPORT ba=0 dtx=0 full=30 ba3g=0 valid=1 sub=30 si23=0 qfull=0 qsub=0 count=7\n",
     ),
     // fifteen octets of measurement results
     (
-        Link::Rr,
+        LinkName::Rr,
         "06151e1e006812a0000000000000000000",
         Status::Refused,
         "fault rr 3\n",
     ),
     // a channel that hops
     (
-        Link::Rr,
+        LinkName::Rr,
         "062BD5670BB36B2A05",
         Status::Refused,
         "fault rr 4 3\n",
@@ -333,7 +333,7 @@ const READ: &[(Link, &str, Status, &str)] = &[
 fn is_read(
     rt: &impl Abort,
     alloc: Global,
-    link: Link,
+    link: LinkName,
     hex: &str,
     wanted: (Status, &str),
 ) -> Result<(), Fail> {
@@ -347,7 +347,7 @@ fn is_read(
 fn is_written(
     rt: &impl Abort,
     alloc: Global,
-    link: Link,
+    link: LinkName,
     line: &str,
     wanted: &str,
 ) -> Result<(), Fail> {

@@ -1,7 +1,7 @@
 //! Causes, refusals and faults by their numbers. Which name each cause has, `tests/commands/causes.t` shows.
 use super::{Fail, equals, equals_at};
 use explanations::{
-    Link, Question, a_cause, abis_cause, answer_to, argument_of, last_fault, refusal_name,
+    LinkName, Question, a_cause, abis_cause, answer_to, argument_of, last_fault, refusal_name,
     refusal_words, rr_cause,
 };
 use std::alloc::Global;
@@ -36,10 +36,10 @@ fn questions_are_answered(rt: HostRuntime) -> Result<(), Fail> {
     let busy = "ChannelBusy: this channel isn't free";
     is_answered(&rt, rt.alloc(), Question::Refusal(6), busy)?;
     let none = "no radio resource available";
-    is_answered(&rt, rt.alloc(), Question::Cause(Link::A, 33), none)?;
-    let cut = Question::Fault(Link::Abis, 5, Some(1));
+    is_answered(&rt, rt.alloc(), Question::Cause(LinkName::A, 33), none)?;
+    let cut = Question::Fault(LinkName::Abis, 5, Some(1));
     is_answered(&rt, rt.alloc(), cut, "an element is cut at offset 1")?;
-    is_answered(&rt, rt.alloc(), Question::Fault(Link::Rr, 5, None), "")
+    is_answered(&rt, rt.alloc(), Question::Fault(LinkName::Rr, 5, None), "")
 }
 
 /// What the argument of each fault is, of a link after the other; then the least and the greatest.
@@ -62,7 +62,7 @@ abis 5 an offset, 1 to 1023
 abis 6 nothing
 ";
 
-fn write_arguments(link: Link, said: &mut String) -> Result<(), Fail> {
+fn write_arguments(link: LinkName, said: &mut String) -> Result<(), Fail> {
     for number in 1..=last_fault(link) {
         let what = argument_of(link, number).ok_or("no such fault")?;
         write!(said, "{link} {number} {what}")?;
@@ -78,7 +78,7 @@ fn write_arguments(link: Link, said: &mut String) -> Result<(), Fail> {
 fn faults_have_arguments(rt: HostRuntime) -> Result<(), Fail> {
     let mut said = String::new(rt.alloc());
     for name in &["rr", "a", "abis"] {
-        write_arguments(Link::named(*name).ok_or("a link")?, &mut said)?;
+        write_arguments(LinkName::named(*name).ok_or("a link")?, &mut said)?;
     }
     equals_at(&rt, said.as_str(), ARGUMENTS, "arguments");
     Ok(())

@@ -1,8 +1,8 @@
 //! Messages in the lines of a file. What is said of more of them, `tests/commands/octet_lines.t` shows.
 use super::{Fail, Global, RefusingHeap, equals_at, holds_at};
 use decoded_lines::{
-    Asked, Counts, Detail, LinesFault, Link, answer_file, answer_lines, link_named, print_a_spares,
-    print_abis_spares, print_rr_rest, used_on_a, used_on_abis,
+    Asked, Counts, Detail, LinesFault, LinkName, answer_file, answer_lines, link_named,
+    print_a_spares, print_abis_spares, print_rr_rest, used_on_a, used_on_abis,
 };
 use std::io::{self, Write};
 use std::process::Abort;
@@ -12,7 +12,7 @@ use std::{fs, str};
 /// Asserts what is answered to lines, and how many were messages and were refused.
 fn answers(
     rt: &(impl Abort + AllocGlobal),
-    link: Option<Link>,
+    link: Option<LinkName>,
     lines: &[u8],
     text: &str,
     counts: (u64, u64),
@@ -69,7 +69,7 @@ fn files_are_answered(rt: HostRuntime) -> Result<(), Fail> {
     );
     answers_file(&rt, "messages.txt", b"rr 0", true, said)?;
     fs::remove_file(&rt, "messages.txt")?;
-    equals_at(&rt, link_named(b"abis"), Some(Link::Abis), "abis");
+    equals_at(&rt, link_named(b"abis"), Some(LinkName::Abis), "abis");
     Ok(())
 }
 
@@ -92,7 +92,7 @@ fn long_lines_are_passed_over(rt: HostRuntime) -> Result<(), Fail> {
     for (count, answer) in LONG_LINES {
         let lines = after_long_line(rt.alloc(), *count)?;
         let text = format!(in rt.alloc(); "{answer}\n2 HANDOVER COMPLETE cause=0\n")?;
-        answers(&rt, Some(Link::Rr), lines.as_bytes(), &text, (1, 1))?;
+        answers(&rt, Some(LinkName::Rr), lines.as_bytes(), &text, (1, 1))?;
     }
     Ok(())
 }
