@@ -6,10 +6,6 @@ use Rattle.capture.specs.declared.path.Wire.{Wire}
 use Rattle.capture.specs.declared.path.Wire.TheVariants.{Abis, A}
 use Rattle.capture.specs.Ends.{Fits, far, FarIsUnique}
 
--- two numbers below a 256 each are told by their place
-two_places : (a b c d : ℕ) → b < 256 → d < 256 → a * 256 + b ≡ c * 256 + d → (a ≡ c) × (b ≡ d)
-two_places a b c d p q same = (omega arith, omega arith)
-
 -- a call's number is told by its last two digits, the two before them, and what is left
 digits : (m n : ℕ) → m / 100 / 100 ≡ n / 100 / 100 → m / 100 % 100 ≡ n / 100 % 100 → m % 100 ≡ n % 100 → m ≡ n
 digits m n high middle low = omega arith

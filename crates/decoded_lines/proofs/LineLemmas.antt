@@ -57,10 +57,6 @@ Follows A given old new refused =
     IfSome old (λ octets. (left : List ℕ) × (new ≡ Some left) × (refused ≡ 0 → AreGood A given left → AreGood A given octets)
     × (AreGood A given octets → (refused ≡ 0) × AreGood A given left))
 
-pub follows_none : (A : Type 0) (given : Option LinkName) (old : Option (List ℕ)) → Follows A given old old 0
-follows_none A given None = tt
-follows_none A given (Some octets) = (octets, refl, λ _ good. good, λ good. (refl, good))
-
 counted_on : (A : Type 0) (given : Option LinkName) (octets left : List ℕ) (before with_it : ℕ)
     → (before ≡ 0 → AreGood A given left → AreGood A given octets) → (AreGood A given octets → (before ≡ 0) × AreGood A given left)
     → IsCounted A given (first_line left) before with_it
@@ -98,17 +94,6 @@ pub counts_line : (A : Type 0) (given : Option LinkName) (old new : Option (List
 counts_line A given None new line before with_it gives counted = tt
 counts_line A given (Some octets) new line before with_it (some, short, is, left) counted =
     (some, subst (λ (l : List ℕ). IsCounted A given l before with_it) is counted, left)
-
--- a line that is too long
-pub counts_long : (A : Type 0) (given : Option LinkName) (old new : Option (List ℕ)) (line : List ℕ) (before with_it : ℕ)
-    → Gives found.TooLong old new line → with_it ≢ 0 → CountsFirst A given old new before with_it
-counts_long A given None new line before with_it gives more = tt
-counts_long A given (Some octets) new line before with_it (long, is, left) more =
-    (λ none. some octets long none, inr (λ good. absurd (omega (arith, good.0, long)), more), left)
-  where
-    some : (xs : List ℕ) → longest_line < length (first_line xs) → xs ≢ []
-    some [] long' none = absurd (omega (arith, long'))
-    some (x ∷ xs) long' none = absurd cc
 
 -- no line is left
 pub follows_end : (A : Type 0) (given : Option LinkName) (old new : Option (List ℕ)) (refused : ℕ) → Follows A given old new refused → IsAtEnd new

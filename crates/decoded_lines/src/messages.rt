@@ -12,7 +12,7 @@ use rsl_messages::{Rsl, RslFault};
 use screen_text::PrintFault;
 use std::alloc::Allocator;
 use std::io::{self, Write};
-use trace_text::abis::AbisText;
+use trace_text::abis::{AbisText, layer3_of};
 use trace_text::bad::BadText;
 use trace_text::bssmap::BssmapText;
 use trace_text::rr::RrText;
@@ -142,26 +142,6 @@ fn print_bssmap<A: Allocator + Copy, W: Write>(
             Ok(None)
         }
         Err(fault) => refuse(bssmap_fault(fault)?, out),
-    }
-}
-
-/// The layer 3 message in a message on Abis (TS 48.058 clause 9.3.11), where there is one.
-fn layer3_of<A: Allocator>(message: &Rsl<A>) -> Option<&[u8]> {
-    match message {
-        Rsl::DataRequest { layer3, .. } | Rsl::DataIndication { layer3, .. } => {
-            Some(layer3.as_slice())
-        }
-        Rsl::MeasurementResult { layer3, .. } => match layer3 {
-            Some(layer3) => Some(layer3.as_slice()),
-            None => None,
-        },
-        Rsl::ChannelActivation { .. }
-        | Rsl::ChannelActivationAck { .. }
-        | Rsl::ChannelActivationNack { .. }
-        | Rsl::ConnectionFailureIndication { .. }
-        | Rsl::HandoverDetection { .. }
-        | Rsl::RfChannelRelease { .. }
-        | Rsl::RfChannelReleaseAck { .. } => None,
     }
 }
 

@@ -1,3 +1,4 @@
 pub mod CourseFacts
+pub mod NoteFacts
 pub mod StepFacts
 pub mod TurnFacts

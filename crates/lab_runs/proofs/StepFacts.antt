@@ -1,14 +1,42 @@
 -- Facts of what was asked of a desk, from a place on.
-use Rattle.std.proofs.Common.{◌≡◌, ◌+◌, ◌++◌, ◌∷◌, ℕ, zero, suc, List, [], Some, None, drop, refl, ap, append_assoc, add-one, rules, slice_get}
-use Rattle.radio_book.specs.declared.event.Event.{Event}
-use Rattle.radio_book.specs.declared.event.Reply.{Reply}
+use Rattle.std.proofs.Common.{◌≡◌, ◌+◌, ◌++◌, ◌∷◌, ◌<◌, ◌==◌, ℕ, zero, suc, Bool, true, false, if◌then◌else◌, List, [], Some, None, drop, length, refl, sym, ap, subst, ◌∙◌, append_assoc, append-nil, add-one, rules, arith, slice_get}
+use Rattle.std.specs.List.{All}
+use Rattle.std.proofs.lemmas.Bool.{eqb-true}
+use Rattle.std.proofs.lemmas.List.{length_push}
+use Rattle.std.proofs.lemmas.List.Elements.{All-head, All-tail}
+use Rattle.radio_book.specs.State.{State}
+use Rattle.radio_desk.specs.Desk.{DeskState}
+use Rattle.ho_procedure.specs.Claims.{Entry, IsTrueAfter}
+use Rattle.ho_procedure.specs.Claims as claim
 use Rattle.trace_text.specs.declared.trace.Step.{Step}
 use Rattle.trace_text.specs.declared.trace.Step.TheVariants.{Asked, NoneFree}
+use Rattle.lab_runs.specs.declared.noting.Note.{Note}
+use Rattle.lab_runs.specs.Notes.{IsTrueNote, AreTrueSteps, noted_at, step_of, with_notes}
 use Rattle.lab_runs.specs.Turns.{asked_in}
 
-drop_nothing : {X : Type 0} (n : ℕ) → drop {A = X} n [] ≡ []
-drop_nothing zero = refl
-drop_nothing (suc n) = refl
+-- one more note
+one_noted : (b : Bool) (cell : ℕ) (steps more : List Step) → (if b then NoneFree cell ∷ steps else steps) ++ more ≡ (if b then NoneFree cell ∷ (steps ++ more) else steps ++ more)
+one_noted true cell steps more = refl
+one_noted false cell steps more = refl
+
+pub noted_more : (place : ℕ) (notes : List Note) (n : Note) → noted_at place (notes ++ n ∷ []) ≡ noted_at place notes ++ (if n.place == place then NoneFree n.cell ∷ [] else [])
+noted_more place [] n = refl
+noted_more place (m ∷ notes) n =
+    ap (λ rest. if m.place == place then NoneFree m.cell ∷ rest else rest) (noted_more place notes n) ∙ sym (one_noted (m.place == place) m.cell (noted_at place notes) _)
+
+-- notes are no events
+one_asks_nothing : (b : Bool) (cell : ℕ) (steps more : List Step) → asked_in ((if b then NoneFree cell ∷ steps else steps) ++ more) ≡ asked_in (steps ++ more)
+one_asks_nothing true cell steps more = refl
+one_asks_nothing false cell steps more = refl
+
+ask_nothing : (place : ℕ) (notes : List Note) (more : List Step) → asked_in (noted_at place notes ++ more) ≡ asked_in more
+ask_nothing place [] more = refl
+ask_nothing place (n ∷ notes) more = one_asks_nothing (n.place == place) n.cell (noted_at place notes) more ∙ ask_nothing place notes more
+
+pub asked_with_notes : (place : ℕ) (notes : List Note) (entries : List Entry) → asked_in (with_notes place notes entries) ≡ entries
+asked_with_notes place notes [] = ap asked_in (sym (append-nil (noted_at place notes))) ∙ ask_nothing place notes []
+asked_with_notes place notes ((event, reply) ∷ entries) =
+    ask_nothing place notes (Asked event reply ∷ with_notes (suc place) notes entries) ∙ ap (λ rest. (event, reply) ∷ rest) (asked_with_notes (suc place) notes entries)
 
 -- what stands at a place, and behind it
 drop_next : {X : Type 0} (xs : List X) (n : ℕ) (x : X) → slice_get xs n ≡ Some x → drop n xs ≡ x ∷ drop (suc n) xs
@@ -16,34 +44,55 @@ drop_next [] n x e = absurd (search (rules, e))
 drop_next (y ∷ xs) zero x e = search (rules, e)
 drop_next (y ∷ xs) (suc n) x e = drop_next xs n x e
 
--- nothing does
-drop_past : {X : Type 0} (xs : List X) (n : ℕ) → slice_get xs n ≡ None → drop n xs ≡ []
-drop_past [] n e = drop_nothing n
-drop_past (y ∷ xs) zero e = absurd (search (rules, e))
-drop_past (y ∷ xs) (suc n) e = drop_past xs n e
+there : {X : Type 0} (xs : List X) (n : ℕ) → n < length xs → (x : X) × (slice_get xs n ≡ Some x)
+there [] n l = absurd (omega arith)
+there (x ∷ xs) zero l = (x, refl)
+there (x ∷ xs) (suc n) l = there xs n (omega arith)
 
-drop_after_past : {X : Type 0} (xs : List X) (n : ℕ) → slice_get xs n ≡ None → drop (suc n) xs ≡ []
-drop_after_past [] n e = refl
-drop_after_past (y ∷ xs) zero e = absurd (search (rules, e))
-drop_after_past (y ∷ xs) (suc n) e = drop_after_past xs n e
+-- one more of a history was told, behind the notes of its place
+pub entry_told : (told noted more : List Step) (place : ℕ) (notes : List Note) (history : List Entry) → place < length history
+    → noted ≡ told ++ noted_at place notes → more ≡ noted ++ step_of (slice_get history place)
+    → more ++ with_notes (place + 1) notes (drop (place + 1) history) ≡ told ++ with_notes place notes (drop place history)
+entry_told told noted more place notes history l n m =
+    let at = there history place l in
+    rw (m, n, at.1, add-one place, drop_next history place at.0 at.1)
+    (append_assoc (told ++ noted_at place notes) _ _ ∙ append_assoc told (noted_at place notes) _)
 
--- one more of a history was noted
-pub entry_noted : {X : Type 0} (noted more history : List X) (place : ℕ) (x : X) → slice_get history place ≡ Some x → more ≡ noted ++ x ∷ [] → more ++ drop (place + 1) history ≡ noted ++ drop place history
-entry_noted noted more history place x there e =
-    rw (add-one place, e, drop_next history place x there) (append_assoc noted (x ∷ []) (drop (suc place) history))
+-- the first parts of one list that are equally long
+front_of : {X : Type 0} (xs ys us vs : List X) → length xs ≡ length us → xs ++ ys ≡ us ++ vs → xs ≡ us
+front_of [] ys [] vs l e = refl
+front_of [] ys (u ∷ us) vs l e = absurd (omega arith)
+front_of (x ∷ xs) ys [] vs l e = absurd (omega arith)
+front_of (x ∷ xs) ys (u ∷ us) vs l e =
+    let first : x ≡ u = cc in
+    let rest : xs ++ ys ≡ us ++ vs = cc in
+    let fronts : xs ≡ us = front_of xs ys us vs (omega arith) rest in
+    cc
 
--- there is no more
-pub past_noted : {X : Type 0} (noted history : List X) (place : ℕ) → slice_get history place ≡ None → noted ++ drop (place + 1) history ≡ noted ++ drop place history
-past_noted noted history place none = rw (add-one place, drop_after_past history place none, drop_past history place none) refl
+-- a true note is true of the log that is as long
+true_here : (d : DeskState) (log behind : List Entry) (n : Note) → d.history ≡ log ++ behind → n.place ≡ length log → IsTrueNote d n → IsTrueAfter d.opening log (claim.NoneFree n.cell)
+true_here d log behind n history place h =
+    subst (λ front. IsTrueAfter d.opening front (claim.NoneFree n.cell)) (front_of h.before h.behind log behind (h.place ∙ place) (sym h.history ∙ history)) h.none_free
 
--- an event was noted
-pub asked_more : (steps : List Step) (event : Event) (reply : Reply) → asked_in (steps ++ Asked event reply ∷ []) ≡ asked_in steps ++ (event, reply) ∷ []
-asked_more [] event reply = refl
-asked_more (Asked e r ∷ steps) event reply = ap (λ rest. (e, r) ∷ rest) (asked_more steps event reply)
-asked_more (NoneFree cell ∷ steps) event reply = asked_more steps event reply
+true_step : (opening : State) (log : List Entry) (b : Bool) (cell : ℕ) (steps more : List Step) → (b ≡ true → IsTrueAfter opening log (claim.NoneFree cell))
+    → AreTrueSteps opening log (steps ++ more) → AreTrueSteps opening log ((if b then NoneFree cell ∷ steps else steps) ++ more)
+true_step opening log true cell steps more here h = (here refl, h)
+true_step opening log false cell steps more here h = h
 
--- a cell without a free channel was
-pub none_more : (steps : List Step) (cell : ℕ) → asked_in (steps ++ NoneFree cell ∷ []) ≡ asked_in steps
-none_more [] cell = refl
-none_more (Asked e r ∷ steps) cell = ap (λ rest. (e, r) ∷ rest) (none_more steps cell)
-none_more (NoneFree c ∷ steps) cell = none_more steps cell
+true_at : (d : DeskState) (log behind : List Entry) (place : ℕ) (notes : List Note) (more : List Step) → d.history ≡ log ++ behind → place ≡ length log → All (IsTrueNote d) notes
+    → AreTrueSteps d.opening log more → AreTrueSteps d.opening log (noted_at place notes ++ more)
+true_at d log behind place [] more history p all h = h
+true_at d log behind place (n ∷ notes) more history p all h =
+    true_step d.opening log (n.place == place) n.cell (noted_at place notes) more
+    (λ e. true_here d log behind n history (eqb-true n.place place e ∙ p) (All-head (IsTrueNote d) n notes all))
+    (true_at d log behind place notes more history p (All-tail (IsTrueNote d) n notes all) h)
+
+-- where the notes are true, what is told with them is
+pub true_with_notes : (d : DeskState) (log entries : List Entry) (place : ℕ) (notes : List Note) → d.history ≡ log ++ entries → place ≡ length log → All (IsTrueNote d) notes
+    → AreTrueSteps d.opening log (with_notes place notes entries)
+true_with_notes d log [] place notes history p all =
+    subst (AreTrueSteps d.opening log) (append-nil (noted_at place notes)) (true_at d log [] place notes [] history p all tt)
+true_with_notes d log ((event, reply) ∷ entries) place notes history p all =
+    let longer : suc place ≡ length (log ++ (event, reply) ∷ []) = omega (arith, length_push log (event, reply)) in
+    true_at d log ((event, reply) ∷ entries) place notes _ history p all
+    (true_with_notes d (log ++ (event, reply) ∷ []) entries (suc place) notes (history ∙ sym (append_assoc log ((event, reply) ∷ []) entries)) longer all)

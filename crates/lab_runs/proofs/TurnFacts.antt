@@ -1,31 +1,51 @@
 -- Facts of one turn.
-use Rattle.std.proofs.Common.{◌≡◌, ◌++◌, ◌∷◌, ℕ, List, [], drop, length, refl, sym, ap, ◌∙◌, append-nil}
+use Rattle.std.proofs.Common.{◌≡◌, ◌≤◌, ◌+◌, ◌++◌, ◌∷◌, ℕ, List, [], drop, length, length-append, refl, sym, ap, subst, ◌∙◌, append-nil, arith}
+use Rattle.std.specs.List.{All}
+use Rattle.std.proofs.Math.Seq.{drop-append_seam}
+use Rattle.std.proofs.lemmas.List.{drop_all}
 use Rattle.ho_procedure.specs.declared.exchange.Inbound.{Inbound}
+use Rattle.ho_procedure.specs.Claims.{Entry}
 use Rattle.trace_text.specs.declared.trace.Step.{Step}
+use Rattle.lab_runs.specs.declared.noting.Note.{Note}
 use Rattle.lab_runs.specs.declared.turn.Answer.{Answer}
 use Rattle.lab_runs.specs.declared.turn.Answer.TheVariants.{Sent, Undecoded}
-use Rattle.ho_procedure.specs.Claims.{Entry, Claim, Opening}
-use Rattle.lab_runs.specs.Turns.{Position, Answers, asked_in, says}
+use Rattle.lab_runs.specs.Notes.{IsTrueNote, AreTrueSteps, with_notes}
+use Rattle.lab_runs.specs.Turns.{Position, Answers, asked_in}
+use Rattle.lab_runs.proofs.StepFacts.{asked_with_notes, true_with_notes}
 
-drop_front : {X : Type 0} (xs ys : List X) → drop (length xs) (xs ++ ys) ≡ ys
-drop_front [] ys = refl
-drop_front (x ∷ xs) ys = drop_front xs ys
+-- what stands behind the history as it was
+record Gained (s s' : Position) : Type 0 where
+  pub entries : List Entry
+  pub grown : s'.0.desk.history ≡ s.0.desk.history ++ entries
 
-drop_whole : {X : Type 0} (xs : List X) → drop (length xs) xs ≡ []
-drop_whole [] = refl
-drop_whole (x ∷ xs) = drop_whole xs
+gained : {A : Type 0} (s s' : Position) (input : Inbound A) (a : Answer A) → Answers s input a s' → Gained s s'
+gained s s' input (Sent out) h = record { entries = _; grown = h.2.entries }
+gained s s' input (Undecoded bad) h = record { entries = []; grown = ap (λ (v : _). v.desk.history) h.1 ∙ sym (append-nil s.0.desk.history) }
 
--- what stands behind the history as it was is what was asked
-behind : {X : Type 0} (old new more asked : List X) → new ≡ old ++ more → asked ≡ drop (length old) new → new ≡ old ++ asked
-behind old new more asked grown e = grown ∙ ap (λ rest. old ++ rest) (sym (e ∙ (ap (λ xs. drop (length old) xs) grown ∙ drop_front old more)))
+pub history_grows : {A : Type 0} (s s' : Position) (input : Inbound A) (a : Answer A) (first : ℕ) → Answers s input a s' → first ≡ length s.0.desk.history → first ≤ length s'.0.desk.history
+history_grows s s' input a first h e =
+    let more = gained s s' input a h in
+    let all : length s'.0.desk.history ≡ length s.0.desk.history + length more.entries = ap length more.grown ∙ length-append s.0.desk.history more.entries in
+    omega arith
 
-nothing_behind : {X : Type 0} (old new asked : List X) → new ≡ old → asked ≡ drop (length old) new → new ≡ old ++ asked
-nothing_behind old new asked same e = same ∙ (sym (append-nil old) ∙ ap (λ rest. old ++ rest) (sym (e ∙ (ap (λ xs. drop (length old) xs) same ∙ drop_whole old))))
+-- what a turn tells of the steps
+pub record Told (s s' : Position) (steps : List Step) : Type 0 where
+  pub asked : s'.0.desk.history ≡ s.0.desk.history ++ asked_in steps
+  pub none_free : AreTrueSteps s.0.desk.opening s.0.desk.history steps
+  pub noted : steps ≡ with_notes (length s.0.desk.history) (drop (length s.0.notes) s'.0.notes) (asked_in steps)
 
-pub asked_behind : {A : Type 0} (s s' : Position) (input : Inbound A) (a : Answer A) (steps : List Step) (first : ℕ) → Answers s input a s' → first ≡ length s.0.history → asked_in steps ≡ drop first s'.0.history → s'.0.history ≡ s.0.history ++ asked_in steps
-asked_behind s s' input (Sent out) steps first h e asked = behind s.0.history s'.0.history _ (asked_in steps) h.2.entries (asked ∙ ap (λ n. drop n s'.0.history) e)
-asked_behind s s' input (Undecoded bad) steps first h e asked = nothing_behind s.0.history s'.0.history (asked_in steps) (ap (λ (d : _). d.history) h.1) (asked ∙ ap (λ n. drop n s'.0.history) e)
-
--- what is true of the book that it opened with now was true before
-pub opens_as_before : (s s' : Position) → ((es : List Entry) → (claim : Claim) → says s'.0 es claim → says s.0 es claim) → s'.0.opening ≡ s.0.opening
-opens_as_before s s' said = said [] (Opening s'.0.opening) refl
+pub told : {A : Type 0} (s s' : Position) (input : Inbound A) (a : Answer A) (steps : List Step) (first place : ℕ) (notes : List Note)
+    → Answers s input a s' → s'.0.desk.opening ≡ s.0.desk.opening → first ≡ length s.0.desk.history → place ≡ length s.0.notes
+    → notes ≡ drop place s'.0.notes → All (IsTrueNote s'.0.desk) notes → steps ≡ with_notes first notes (drop first s'.0.desk.history) → Told s s' steps
+told s s' input a steps first place notes h opening from at those all e =
+    let more = gained s s' input a h in
+    let left : drop first s'.0.desk.history ≡ more.entries = ap (λ n. drop n s'.0.desk.history) from ∙ (ap (λ es. drop (length s.0.desk.history) es) more.grown ∙ drop-append_seam s.0.desk.history more.entries) in
+    let entries : asked_in steps ≡ more.entries = ap asked_in e ∙ (asked_with_notes first notes (drop first s'.0.desk.history) ∙ left) in
+    let grown : s'.0.desk.history ≡ s.0.desk.history ++ asked_in steps = more.grown ∙ ap (λ es. s.0.desk.history ++ es) (sym entries) in
+    let holds : AreTrueSteps s'.0.desk.opening s.0.desk.history (with_notes first notes (asked_in steps)) = true_with_notes s'.0.desk s.0.desk.history (asked_in steps) first notes grown from all in
+    let same : steps ≡ with_notes first notes (asked_in steps) = e ∙ ap (λ es. with_notes first notes es) (left ∙ sym entries) in
+    record {
+      asked = grown;
+      none_free = subst (λ book. AreTrueSteps book s.0.desk.history steps) opening (subst (AreTrueSteps s'.0.desk.opening s.0.desk.history) (sym same) holds);
+      noted = same ∙ (ap (λ n. with_notes n notes (asked_in steps)) from ∙ ap (λ ns. with_notes (length s.0.desk.history) ns (asked_in steps)) (those ∙ ap (λ n. drop n s'.0.notes) at));
+    }

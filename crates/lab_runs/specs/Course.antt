@@ -19,8 +19,8 @@ option_list (Some x) = x ∷ []
 
 -- a controller of the site over an empty book, which was given nothing yet
 pub record IsOpening (site : SiteView) (s : Position) : Type 0 where
-  pub opening : s.0.opening ≡ empty_book site
-  pub history : s.0.history ≡ []
+  pub opening : s.0.desk.opening ≡ empty_book site
+  pub history : s.0.desk.history ≡ []
   pub reports : (call : ℕ) → last_reports s.1 call ≡ []
   pub of_site : s.2 ≡ site
 

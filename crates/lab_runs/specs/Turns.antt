@@ -1,9 +1,8 @@
 -- Inputs, and what came of each. Ours, of no standard.
-use Rattle.std.specs.Prelude.{◌≡◌, ◌++◌, List, [], ◌∷◌, Option, Some, None, slice_get, slice_set}
+use Rattle.std.specs.Prelude.{◌≡◌, ◌++◌, List, [], ◌∷◌, Option, Some, None, drop, length, slice_get, slice_set}
 use Rattle.std.specs.List.{filter_map}
 use Rattle.cell_table.specs.Site.{SiteView}
 use Rattle.radio_book.specs.Run.{Leads}
-use Rattle.radio_desk.specs.Desk.{DeskState}
 use Rattle.trace_text.specs.declared.trace.Step.{Step}
 use Rattle.trace_text.specs.declared.trace.Step.TheVariants.{Asked, NoneFree}
 use Rattle.ho_procedure.specs.declared.exchange.Inbound.{Inbound}
@@ -24,10 +23,11 @@ use Rattle.lab_runs.specs.declared.turn.Source.TheVariants.{Script, Simulator}
 use Rattle.lab_runs.specs.declared.turn.Answer.{Answer}
 use Rattle.lab_runs.specs.declared.turn.Answer.TheVariants.{Sent, Undecoded}
 use Rattle.lab_runs.specs.declared.turn.Turn.{Turn}
+use Rattle.lab_runs.specs.Notes.{NotingState, with_notes, AreTrueSteps}
 
--- a controller between two inputs: its desk, the last reports of each call, and its site
+-- a controller between two inputs: its desk with notes, the last reports of each call, and its site
 abbrev pub Position : Type 0
-Position = DeskState × Kept × SiteView
+Position = NotingState × Kept × SiteView
 
 -- the events among what was asked, each with its reply
 abbrev pub entry_of : Step → Option Entry
@@ -37,11 +37,11 @@ entry_of (NoneFree cell) = None
 abbrev pub asked_in : List Step → List Entry
 asked_in steps = filter_map entry_of steps
 
-abbrev pub history_of : DeskState → List Entry
-history_of desk = desk.history
+abbrev pub history_of : NotingState → List Entry
+history_of view = view.desk.history
 
-abbrev pub says : DeskState → List Entry → Claim → Type 0
-says desk log claim = IsTrueAfter desk.opening log claim
+abbrev pub says : NotingState → List Entry → Claim → Type 0
+says view log claim = IsTrueAfter view.desk.opening log claim
 
 -- A controller answers an input so: it follows the input's row, and sends these messages; or the input has this fault, and
 -- nothing changes.
@@ -51,12 +51,15 @@ Answers s input (Sent out) s' =
 Answers s input (Undecoded bad) s' = ((link : Link) × IsUndecoded input link bad) × (s'.0 ≡ s.0) × (s'.1 ≡ s.1)
 
 -- It answers the turn's input so. Its desk was asked what the turn says, and what was asked in all leads, reply by reply, from
--- the book that it opened with to its book; that one and its site stay.
+-- the book that it opened with to its book; that one and its site stay. Where the turn says that no channel of a cell was free,
+-- none was; and it says so wherever that was noted.
 pub record IsTurn {A : Type 0} (s : Position) (t : Turn A) (s' : Position) : Type 0 where
   pub answers : Answers s t.input t.answer s'
-  pub asked : s'.0.history ≡ s.0.history ++ asked_in t.steps.items
-  pub legal : Leads s'.0.opening s'.0.history s'.0.book
-  pub opening : s'.0.opening ≡ s.0.opening
+  pub asked : s'.0.desk.history ≡ s.0.desk.history ++ asked_in t.steps.items
+  pub none_free : AreTrueSteps s.0.desk.opening s.0.desk.history t.steps.items
+  pub noted : t.steps.items ≡ with_notes (length s.0.desk.history) (drop (length s.0.notes) s'.0.notes) (asked_in t.steps.items)
+  pub legal : Leads s'.0.desk.opening s'.0.desk.history s'.0.desk.book
+  pub opening : s'.0.desk.opening ≡ s.0.desk.opening
   pub site : s'.2 ≡ s.2
 
 -- of some controllers, of which the first is the first, the one that the turn names answers so; every other stays as it is

@@ -1,5 +1,10 @@
 //! A view of a desk that notes where it found no free channel, for a trace.
-ghost use Rattle.std.specs.Prelude.{◌≡◌};
+ghost use Rattle.std.specs.Prelude.{◌≡◌, ◌∷◌, ◌++◌, [], ℕ, List, All, drop, length, IfOk, IfErr, OnErr, IfSome, MatchOption};
+ghost use Rattle.channel_fsm.specs.declared.ChanId.{ChanId};
+ghost use Rattle.radio_desk.specs.Desk.{IsJudged};
+ghost use Rattle.ho_procedure.specs.Claims.{Entry, Claim, IsForeign, NoneFree, Chosen, UnknownReceipt};
+ghost use Rattle.lab_runs.specs.Notes.{IsTrueNote, notes_after};
+ghost use Rattle.lab_runs.specs.Turns.{history_of, says};
 
 use ho_procedure::solo::Solo;
 use ho_procedure::view::DeskView;
@@ -11,79 +16,104 @@ use std::marker::Model;
 
 /// A channel of a cell was asked for, and none was free.
 #[derive(Clone, Copy, Debug, PartialEq, Eq)]
-pub struct NoneFree {
+pub struct Note {
     /// How many events had been asked before.
     pub place: usize,
     pub cell: u8,
 }
 
-/// A desk of one's own, and each cell that was found without a free channel, in their order. Contracts see it as the desk.
+/// A desk of one's own, and a note of each time that no channel of a cell was free, in their order. Contracts see the desk and
+/// the notes.
 #[derive(Drop)]
 pub struct Noting<A: Allocator = Global> {
     solo: Solo<A>,
-    none_free: Vec<NoneFree, A>,
+    notes: Vec<Note, A>,
 }
 
 impl<A: Allocator> Model for Noting<A> {
-    ghost use Rattle.radio_desk.specs.Desk.{DeskState, desk_code};
+    ghost use Rattle.std.specs.Prelude.{All};
+    ghost use Rattle.lab_runs.specs.Notes.{NotingState, noting_code, IsTrueNote};
 
-    ghost Value = { DeskState };
+    ghost Value = { NotingState };
 
-    ghost coded = { desk_code };
+    ghost coded = { noting_code };
 
-    ghost view = { λ noting. noting.solo };
+    ghost view = { λ noting. record { desk = noting.solo; notes = noting.notes.items } };
+
+    ghost invariant = { λ noting. All (IsTrueNote noting.solo) noting.notes.items };
 }
 
 impl<A: Allocator + Copy> Noting<A> {
     /// A desk; nothing is noted yet.
     pub fn new(alloc: A, desk: Desk<A>) -> Noting<A>
-        ensures desk { result ≡ desk }
+        ensures desk { result.desk ≡ desk }
+        ensures notes { result.notes ≡ [] }
     {
         Noting {
             solo: Solo::new(desk),
-            none_free: Vec::new(alloc),
+            notes: Vec::new(alloc),
         }
     }
 
     /// The desk.
     pub fn desk(&self) -> &Desk<A>
-        ensures desk { result.now ≡ self.now }
+        ensures desk { result.now ≡ self.now.desk }
     {
         self.solo.desk()
     }
 
-    /// The cells that were found without a free channel, in the order in which one was asked for.
-    pub fn none_free(&self) -> &[NoneFree] {
-        self.none_free.as_slice()
+    /// How many notes there are.
+    pub fn noted(&self) -> usize
+        ensures len { result ≡ length self.now.notes }
+    {
+        self.notes.len()
+    }
+
+    /// The notes from a place in their list on; none past the last. Its contract also hands out that each note is true.
+    pub fn notes_from(&self, place: usize) -> &[Note]
+        ensures notes { result.now ≡ drop place self.now.notes }
+        ensures each { All (IsTrueNote self.now.desk) result.now }
+    {
+        self.notes.as_slice().get(place..).unwrap_or(&[])
     }
 }
 
 impl<A: Allocator + Copy> DeskView for Noting<A> {
-    ghost use Rattle.ho_procedure.specs.Claims.{IsTrueAfter};
     ghost use Rattle.radio_desk.specs.Desk.{IsJudged};
+    ghost use Rattle.lab_runs.specs.Turns.{history_of, says};
 
-    ghost log = { λ noting. noting.history };
+    ghost log = { history_of };
 
-    ghost says = { λ noting log claim. IsTrueAfter noting.opening log claim };
+    ghost says = { says };
 
-    ghost judged = { λ noting receipt after. IsJudged noting receipt after };
+    ghost judged = { λ noting receipt after. IsJudged noting.desk receipt after.desk × (after.notes ≡ noting.notes) };
 
     fn judge(&mut self, event: Event) -> Result<Receipt, DeskFault> {
         self.solo.judge(event)
     }
 
-    fn judge_take(
-        &mut self,
-        call: u16,
-        kind: Kind,
-        cell: u8,
-    ) -> Result<Option<Receipt>, DeskFault> {
-        self.none_free.reserve(1)?;
+    // The trait's clauses once more, and that each time that no channel is free is noted.
+    fn judge_take(&mut self, call: u16, kind: Kind, cell: u8) -> Result<Option<Receipt>, DeskFault>
+        ensures ok { IfOk result (λ answer. MatchOption answer
+            ((history_of self.new ≡ history_of self.old) × says self.old (history_of self.old) (NoneFree cell))
+            (λ r. ((x : ChanId) × (x.cell ≡ cell) × (r.event ≡ Event.Take call kind x)) ×
+            says self.old (history_of self.old) (Chosen r.event) ×
+            (history_of self.new ≡ history_of self.old ++ (r.event, r.reply) ∷ []))) }
+        ensures noted { IfOk result (λ answer. self.new.notes ≡ notes_after self.old cell answer) }
+        ensures receipt { IfOk result (λ answer. IfSome answer
+            (λ r. IsJudged self.old.desk r self.new.desk × (self.new.notes ≡ self.old.notes))) }
+        ensures err { OnErr result (history_of self.new ≡ history_of self.old) }
+        ensures foreign { IfErr result (λ f. (place : ℕ) → IsForeign f place →
+            says self.old (history_of self.old) (UnknownReceipt place)) }
+        ensures said { (es : List Entry) → (claim : Claim) →
+            says self.new es claim → says self.old es claim }
+    {
+        self.notes.reserve(1)?;
         match self.solo.judge_take(call, kind, cell)? {
             Some(receipt) => Ok(Some(receipt)),
             None => {
                 let place = self.solo.desk().len();
-                self.none_free.push_reserved(NoneFree { place, cell });
+                self.notes.push_reserved(Note { place, cell });
                 Ok(None)
             }
         }

@@ -1,15 +1,15 @@
 //! One input, and what came of it.
-ghost use Rattle.std.specs.Prelude.{◌≡◌, ◌+◌, ◌++◌, ◌∷◌, [], List, drop, IfOk, OnOk, OnErr};
+ghost use Rattle.std.specs.Prelude.{◌≡◌, ◌≤◌, ◌++◌, List, drop, length, slice_get, IfOk, OnOk, OnErr};
 ghost use Rattle.ho_procedure.specs.Sent.{Sent};
 ghost use Rattle.radio_book.specs.Run.{Leads};
 ghost use Rattle.ho_procedure.specs.Handling.{StopsForMemory};
-ghost use Rattle.lab_runs.specs.Turns.{asked_in, history_of, says, Answers, IsTurn};
+ghost use Rattle.lab_runs.specs.Notes.{noted_at, step_of, with_notes};
+ghost use Rattle.lab_runs.specs.Turns.{history_of, says, Answers, IsTurn};
 
-use crate::noting::{NoneFree, Noting};
+use crate::noting::{Note, Noting};
 use ho_procedure::controller::Controller;
 use ho_procedure::exchange::{Bad, Fault, Inbound, Outbound};
 use lab_script::script::Side;
-use radio_book::event::{Event, Reply};
 use radio_desk::desk::Desk;
 use rsl_messages::Octets;
 use std::alloc::{AllocError, Allocator, Global};
@@ -71,68 +71,54 @@ fn copy_of<A: Allocator + Copy>(alloc: A, input: &Inbound<A>) -> Result<Inbound<
     }
 }
 
-/// Appends the cells without a free channel that were found when so many events had been asked.
-#[tactic(auto, using(crate::proofs::StepFacts::none_more))]
-fn push_none_free<A: Allocator + Copy>(
+/// Appends the notes of a place.
+#[tactic(auto, using(crate::proofs::StepFacts::noted_more))]
+fn push_notes<A: Allocator + Copy>(
     steps: &mut Vec<Step, A>,
-    found: &[NoneFree],
+    notes: &[Note],
     place: usize,
 ) -> Result<(), AllocError>
-    ensures { OnOk result (asked_in steps.new.items ≡ asked_in steps.old.items) }
+    ensures { OnOk result (steps.new.items ≡ steps.old.items ++ noted_at place notes.now) }
 {
-    for none in found {
-        if none.place == place {
-            steps.push(Step::NoneFree(none.cell))?;
+    for note in notes {
+        if note.place == place {
+            steps.push(Step::NoneFree(note.cell))?;
         }
     }
     Ok(())
 }
 
-/// Appends an event with its reply.
-#[tactic(auto, using(crate::proofs::StepFacts::asked_more))]
-fn push_asked<A: Allocator + Copy>(
-    steps: &mut Vec<Step, A>,
-    event: Event,
-    reply: Reply,
-) -> Result<(), AllocError>
-    ensures { OnOk result (asked_in steps.new.items ≡
-        asked_in steps.old.items ++ (event, reply) ∷ []) }
-{
-    Ok(steps.push(Step::Asked(event, reply))?)
-}
-
-/// Appends what stands in a desk's history at a place, if anything does: so much less of the history is left.
-#[tactic(auto, using(crate::proofs::StepFacts::entry_noted, crate::proofs::StepFacts::past_noted))]
+/// Appends what stands in a desk's history at a place, if anything does.
 fn push_entry<A: Allocator + Copy>(
     steps: &mut Vec<Step, A>,
     desk: &Desk<A>,
     place: usize,
 ) -> Result<(), AllocError>
-    ensures { OnOk result (asked_in steps.new.items ++ drop (place + 1) desk.now.history ≡
-        asked_in steps.old.items ++ drop place desk.now.history) }
+    ensures { OnOk result (steps.new.items ≡ steps.old.items ++ step_of (slice_get desk.now.history place)) }
 {
     match desk.entry(place) {
-        Some((event, reply)) => push_asked(steps, *event, *reply),
+        Some((event, reply)) => Ok(steps.push(Step::Asked(*event, *reply))?),
         None => Ok(()),
     }
 }
 
-/// What was asked of a desk from its `first` event on, with the cells without a free channel that were found there.
+/// What was asked of a desk from its `first` event on, each event behind the notes of its place.
 fn steps_from<A: Allocator + Copy>(
     alloc: A,
     desk: &Desk<A>,
-    found: &[NoneFree],
+    notes: &[Note],
     first: usize,
 ) -> Result<Vec<Step, A>, AllocError>
-    ensures asked { IfOk result (λ steps. asked_in steps.items ≡ drop first desk.now.history) }
+    requires first { first ≤ length desk.now.history }
+    ensures steps { IfOk result (λ steps. steps.items ≡ with_notes first notes.now (drop first desk.now.history)) }
     ensures legal { Leads desk.now.opening desk.now.history desk.now.book }
 {
     let mut steps = Vec::new(alloc);
     for place in first..desk.len() {
-        push_none_free(&mut steps, found, place)?;
+        push_notes(&mut steps, notes, place)?;
         push_entry(&mut steps, desk, place)?;
     }
-    push_none_free(&mut steps, found, desk.len())?;
+    push_notes(&mut steps, notes, desk.len())?;
     Ok(steps)
 }
 
@@ -145,7 +131,7 @@ fn handled<A: Allocator + Copy>(
     ensures stops { OnErr result ((owed : List Sent) × StopsForMemory {A = A} history_of says
         controller.old.2 controller.old.0 controller.old.1 input
         controller.new.0 controller.new.1 owed) }
-    ensures opening { controller.new.0.opening ≡ controller.old.0.opening }
+    ensures opening { controller.new.0.desk.opening ≡ controller.old.0.desk.opening }
     ensures site { controller.new.2 ≡ controller.old.2 }
 {
     match controller.handle(input) {
@@ -172,12 +158,11 @@ pub fn take_turn<A: Allocator + Copy>(
     ensures input { IfOk result (λ turn. turn.input ≡ input) }
 {
     let first = controller.view().desk().len();
-    let found = controller.view().none_free().len();
+    let noted = controller.view().noted();
     let given = copy_of(alloc, &input)?;
     let answer = handled(controller, given)?;
     let view = controller.view();
-    let found = view.none_free().get(found..).unwrap_or(&[]);
-    let steps = steps_from(alloc, view.desk(), found, first)?;
+    let steps = steps_from(alloc, view.desk(), view.notes_from(noted), first)?;
     Ok(Turn {
         side,
         source,

@@ -12,8 +12,7 @@ ghost use Rattle.lab_script.specs.Script as said;
 
 use crate::operator::{expiry_line, operator_line};
 use crate::received::{a_line, abis_line};
-pub use crate::side::Side;
-use crate::side::{cut_side, is_for_peer};
+pub use crate::side::{Side, cut_side, is_for_peer};
 use crate::stations::{hangup_line, is_sim, setting_line};
 pub use crate::words::is_octets;
 use crate::words::octets;

@@ -24,14 +24,14 @@ impl Side {
 }
 
 /// Whether a line is for the peer.
-pub(crate) fn is_for_peer(line: &str) -> bool
-    ensures { result ≡ said.is_for_peer line.now }
+pub fn is_for_peer(line: &str) -> bool
+    ensures peer { result ≡ said.is_for_peer line.now }
 {
     line.starts_with("2: ")
 }
 
 /// The controller that a line is for, and what the line says to it.
-pub(crate) fn cut_side(line: &str) -> (Side, &str)
+pub fn cut_side(line: &str) -> (Side, &str)
     ensures side { result.0 ≡ said.side_of line.now }
     ensures text { result.1.now ≡ said.text_of line.now }
 {

@@ -46,8 +46,8 @@ fn named_by(event: Event) -> Named {
     }
 }
 
-/// The channel that an event gives a call.
-fn taken_by(event: Event) -> Option<(u16, ChanId)> {
+/// The call for which an event takes a channel, if it is accepted, and the channel.
+pub(crate) fn taken_by(event: Event) -> Option<(u16, ChanId)> {
     match event {
         Event::Open(call, chan) | Event::Take(call, _, chan) => Some((call, chan)),
         Event::Clear(_)

@@ -2,7 +2,7 @@
 use bssmap_messages::Bssmap;
 use explanations::LinkName;
 use rr_messages::Rr;
-use rsl_messages::{Octets, Rsl};
+use rsl_messages::Rsl;
 use std::alloc::Allocator;
 
 /// A cause, and the link whose table names it.
@@ -19,21 +19,6 @@ pub(crate) fn abis_cause<A: Allocator>(message: &Rsl<A>) -> Option<Cause> {
         | Rsl::ChannelActivationAck { .. }
         | Rsl::HandoverDetection { .. }
         | Rsl::MeasurementResult { .. }
-        | Rsl::RfChannelRelease { .. }
-        | Rsl::RfChannelReleaseAck { .. } => None,
-    }
-}
-
-/// The octets of the radio resource message inside a message on Abis (TS 48.058 clause 9.3.11).
-pub(crate) fn abis_layer3<A: Allocator>(message: &Rsl<A>) -> Option<&Octets<A>> {
-    match message {
-        Rsl::DataRequest { layer3, .. } | Rsl::DataIndication { layer3, .. } => Some(layer3),
-        Rsl::MeasurementResult { layer3, .. } => layer3.as_ref(),
-        Rsl::ChannelActivation { .. }
-        | Rsl::ChannelActivationAck { .. }
-        | Rsl::ChannelActivationNack { .. }
-        | Rsl::ConnectionFailureIndication { .. }
-        | Rsl::HandoverDetection { .. }
         | Rsl::RfChannelRelease { .. }
         | Rsl::RfChannelReleaseAck { .. } => None,
     }
@@ -77,9 +62,11 @@ pub(crate) fn passed_cause<A: Allocator>(message: &Bssmap<A>) -> Option<Cause> {
 }
 
 /// The octets of the radio resource message inside a message on A (TS 48.008 clause 3.2.2.24).
-pub(crate) fn a_layer3<A: Allocator>(message: &Bssmap<A>) -> Option<&Octets<A>> {
+pub(crate) fn a_layer3<A: Allocator>(message: &Bssmap<A>) -> Option<&[u8]> {
     match message {
-        Bssmap::HandoverRequestAck { layer3 } | Bssmap::HandoverCommand { layer3 } => Some(layer3),
+        Bssmap::HandoverRequestAck { layer3 } | Bssmap::HandoverCommand { layer3 } => {
+            Some(layer3.as_slice())
+        }
         Bssmap::HandoverRequest { .. }
         | Bssmap::HandoverRequired { .. }
         | Bssmap::HandoverComplete { .. }

@@ -1,10 +1,10 @@
 //! The names of messages, without their fields.
-use crate::causes::{a_layer3, abis_layer3};
+use crate::causes::a_layer3;
 use crate::content::Content;
 use bssmap_messages::Bssmap;
-use rsl_messages::{Octets, Rsl};
+use rsl_messages::Rsl;
 use std::alloc::{AllocError, Allocator};
-use trace_text::abis::AbisText;
+use trace_text::abis::{AbisText, layer3_of};
 use trace_text::bssmap::BssmapText;
 use trace_text::rr::RrText;
 
@@ -23,12 +23,12 @@ fn name_in(words: &str) -> &str {
 fn push_layer3<A: Allocator + Copy>(
     alloc: A,
     text: &mut String<A>,
-    layer3: Option<&Octets<A>>,
+    layer3: Option<&[u8]>,
 ) -> Result<(), AllocError> {
     let Some(layer3) = layer3 else {
         return Ok(());
     };
-    match rr_messages::decode(layer3.as_slice()) {
+    match rr_messages::decode(layer3) {
         Ok(message) => {
             let words = format!(in alloc; "{}", RrText(message))?;
             text.push_str(": ")?;
@@ -42,7 +42,7 @@ fn push_layer3<A: Allocator + Copy>(
 fn abis_name<A: Allocator + Copy>(alloc: A, message: &Rsl<A>) -> Result<String<A>, AllocError> {
     let words = format!(in alloc; "{}", AbisText(message))?;
     let mut text = String::from_str(alloc, name_in(&words))?;
-    push_layer3(alloc, &mut text, abis_layer3(message))?;
+    push_layer3(alloc, &mut text, layer3_of(message))?;
     Ok(text)
 }
 

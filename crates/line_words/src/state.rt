@@ -1,6 +1,7 @@
 //! What the book of a controller holds, as lines.
 //!
 //! A book answers questions about a call and about a channel. Which there may be is kept from the events that were asked.
+use crate::calls::taken_by;
 use crate::held::{record_of, state_of, timer_of};
 use channel_fsm::{ChanId, ChanState};
 use lab_runs::run::LabFault;
@@ -24,28 +25,6 @@ struct Named<A: Allocator + Copy = Global> {
 pub struct Held<A: Allocator + Copy = Global> {
     first: Named<A>,
     peer: Named<A>,
-}
-
-/// The call that an event may begin, and the channel that it then takes.
-fn begun_by(event: Event) -> Option<(u16, ChanId)> {
-    match event {
-        Event::Open(call, chan) | Event::Take(call, _, chan) => Some((call, chan)),
-        Event::Clear(_)
-        | Event::Look(_)
-        | Event::Reserve(..)
-        | Event::Activate(_)
-        | Event::Undo(..)
-        | Event::Command(_)
-        | Event::Complete(_)
-        | Event::Require(_)
-        | Event::Order(_)
-        | Event::Left(_)
-        | Event::Confirm(_)
-        | Event::Refuse(_)
-        | Event::Released(_)
-        | Event::Detect(_)
-        | Event::Owner(_) => None,
-    }
 }
 
 /// The name of a timer.
@@ -133,7 +112,7 @@ impl<A: Allocator + Copy> Named<A> {
 
     /// An event was asked.
     fn note(&mut self, event: Event) -> Result<(), AllocError> {
-        if let Some((call, chan)) = begun_by(event) {
+        if let Some((call, chan)) = taken_by(event) {
             self.calls.insert(call)?;
             self.channels.insert(chan)?;
         }

@@ -1,5 +1,5 @@
 //! The words of a line.
-use crate::causes::{Cause, a_cause, a_layer3, abis_cause, abis_layer3, passed_cause, rr_cause};
+use crate::causes::{Cause, a_cause, a_layer3, abis_cause, passed_cause, rr_cause};
 use crate::content::Content;
 use bssmap_messages::Bssmap;
 use explanations::{Question, answer_to};
@@ -7,10 +7,10 @@ use ho_procedure::exchange::{Bad, Inbound};
 use radio_book::book::Usage;
 use radio_book::event::Reply;
 use rr_messages::Rr;
-use rsl_messages::{Octets, Rsl};
+use rsl_messages::Rsl;
 use std::alloc::Allocator;
 use std::io::{self, Write};
-use trace_text::abis::AbisText;
+use trace_text::abis::{AbisText, layer3_of};
 use trace_text::bad::{NumberedFault, numbered};
 use trace_text::bssmap::BssmapText;
 use trace_text::rr::RrText;
@@ -40,11 +40,11 @@ fn print_rr<W: Write>(out: &mut W, message: Rr) -> io::Result<()> {
 }
 
 /// The radio resource message inside a message, where there is one that can be read.
-fn print_layer3<A: Allocator, W: Write>(out: &mut W, layer3: Option<&Octets<A>>) -> io::Result<()> {
+fn print_layer3<W: Write>(out: &mut W, layer3: Option<&[u8]>) -> io::Result<()> {
     let Some(layer3) = layer3 else {
         return Ok(());
     };
-    match rr_messages::decode(layer3.as_slice()) {
+    match rr_messages::decode(layer3) {
         Ok(message) => print_rr(out, message),
         Err(_) => Ok(()),
     }
@@ -54,7 +54,7 @@ fn print_layer3<A: Allocator, W: Write>(out: &mut W, layer3: Option<&Octets<A>>)
 fn print_abis<A: Allocator + Copy, W: Write>(out: &mut W, message: &Rsl<A>) -> io::Result<()> {
     write!(out, "; {}", AbisText(message))?;
     print_cause(out, abis_cause(message))?;
-    print_layer3(out, abis_layer3(message))
+    print_layer3(out, layer3_of(message))
 }
 
 /// A message on A in words.

@@ -1,7 +1,9 @@
-//! Site files for tests and for the bench, with channels that they name: each stands here once, whoever reads it.
+//! Site files for tests and for the bench, with channels that they name, and what mobiles report there: each stands here once,
+//! whoever reads it.
 #![tactic(auto)]
 
 mod faulty;
+pub mod reports;
 
 use channel_fsm::ChanId;
 pub use faulty::{
@@ -42,7 +44,23 @@ ncc = 3
 bcc = 0
 ";
 
-/// The first channel of cell 0 in [`THREE_CHANNELS`], and in [`SEVENTEEN_CHANNELS`].
+/// Another controller: the one cell that [`THREE_CHANNELS`] has as its outside cell, with one channel.
+pub const PEER: &str = "[handover]
+window = 2
+margin = 3
+minimum = 10
+[[cell]]
+lac = 23
+ci = 102
+bcch = 62
+ncc = 3
+bcc = 0
+power = 7
+ba = []
+trx = [{ arfcn = 62, tch = [1] }]
+";
+
+/// The first channel of cell 0 in [`THREE_CHANNELS`].
 pub const OTHER: ChanId = ChanId {
     cell: 0,
     trx: 0,
@@ -63,32 +81,6 @@ pub const TARGET: ChanId = ChanId {
     tn: 3,
 };
 
-/// Two cells. In cell 0 timeslots 2 and 3 of TRX 0 and all but timeslot 0 of TRX 1 and TRX 2 carry traffic, in cell 1
-/// timeslot 3 of TRX 1.
-pub const SEVENTEEN_CHANNELS: &str = "[handover]
-window = 2
-margin = 3
-minimum = 10
-[[cell]]
-lac = 23
-ci = 100
-bcch = 60
-ncc = 1
-bcc = 1
-power = 5
-ba = [871]
-trx = [{ arfcn = 60, tch = [2, 3] }, { arfcn = 61, tch = [1, 2, 3, 4, 5, 6, 7] }, { arfcn = 62, tch = [1, 2, 3, 4, 5, 6, 7] }]
-[[cell]]
-lac = 23
-ci = 101
-bcch = 871
-ncc = 2
-bcc = 5
-power = 5
-ba = [60]
-trx = [{ arfcn = 871, tch = [] }, { arfcn = 875, tch = [3] }]
-";
-
 /// One cell, in which timeslots 5 and 3 of TRX 1 and 6 and 2 of TRX 2 carry traffic, named in this order.
 pub const SCATTERED: &str = "[handover]
 window = 1
@@ -103,65 +95,6 @@ bcc = 1
 power = 5
 ba = []
 trx = [{ arfcn = 60, tch = [] }, { arfcn = 61, tch = [5, 3] }, { arfcn = 62, tch = [6, 2] }]
-";
-
-/// Two cells of four TRX, in each of which all timeslots but timeslot 0 carry traffic.
-pub const MANY_CHANNELS: &str = "[handover]
-window = 1
-margin = 0
-minimum = 0
-[[cell]]
-lac = 1
-ci = 0
-bcch = 60
-ncc = 1
-bcc = 1
-power = 5
-ba = []
-trx = [{ arfcn = 60, tch = [1, 2, 3, 4, 5, 6, 7] }, { arfcn = 61, tch = [1, 2, 3, 4, 5, 6, 7] }, { arfcn = 62, tch = [1, 2, 3, 4, 5, 6, 7] }, { arfcn = 63, tch = [1, 2, 3, 4, 5, 6, 7] }]
-[[cell]]
-lac = 1
-ci = 1
-bcch = 70
-ncc = 1
-bcc = 1
-power = 5
-ba = []
-trx = [{ arfcn = 70, tch = [1, 2, 3, 4, 5, 6, 7] }, { arfcn = 71, tch = [1, 2, 3, 4, 5, 6, 7] }, { arfcn = 72, tch = [1, 2, 3, 4, 5, 6, 7] }, { arfcn = 73, tch = [1, 2, 3, 4, 5, 6, 7] }]
-";
-
-/// Three cells with two channels each.
-pub const SIX_CHANNELS: &str = "[handover]
-window = 1
-margin = 0
-minimum = 0
-[[cell]]
-lac = 1
-ci = 0
-bcch = 60
-ncc = 1
-bcc = 1
-power = 5
-ba = []
-trx = [{ arfcn = 60, tch = [1, 2] }]
-[[cell]]
-lac = 1
-ci = 1
-bcch = 70
-ncc = 1
-bcc = 1
-power = 5
-ba = []
-trx = [{ arfcn = 70, tch = [1, 2] }]
-[[cell]]
-lac = 1
-ci = 2
-bcch = 80
-ncc = 1
-bcc = 1
-power = 5
-ba = []
-trx = [{ arfcn = 80, tch = [1, 2] }]
 ";
 
 /// Three cells, two of them on one carrier, and three of others, one of them on carrier 0. The neighbour list of cell 0

@@ -1,3 +1,2 @@
 pub mod WordLemmas
-pub mod LineLemmas
 pub mod ReasonLemmas

@@ -1,9 +1,10 @@
 -- Why a line can't be read: the first thing that is wrong with it, and the word that is. Ours, of no standard.
-use Rattle.std.specs.Prelude.{ℕ, ◌-◌, ◌==◌, ◌||◌, ◌&&◌, Bool, not, nat_eq, if◌then◌else◌, List, [], ◌∷◌, map, drop, codes, Option, Some, None, option_map, option_and_then, slice_get}
+use Rattle.std.specs.Prelude.{ℕ, ◌-◌, ◌==◌, ◌||◌, ◌&&◌, Bool, not, nat_eq, if◌then◌else◌, List, [], ◌∷◌, map, Option, Some, None, option_map, option_and_then, slice_get}
 use Rattle.std.specs.List.{slice_split, filter_map, list_all, starts_with}
 use Rattle.std.specs.Option.{option_or}
 use Rattle.std.specs.Str.Lines.{strip_carriage_return}
 use Rattle.lab_script.specs.Script.{is_comment, is_blank}
+use Rattle.lab_script.specs.Sides.{is_for_peer, text_of}
 use Rattle.script_reasons.specs.declared.forms.Slot.{Slot}
 use Rattle.script_reasons.specs.declared.forms.Form.{Form}
 use Rattle.script_reasons.specs.declared.reasons.Fault.{Fault}
@@ -66,14 +67,6 @@ byte_order_mark = 239 ∷ 187 ∷ 191 ∷ []
 
 abbrev pub is_marked : List ℕ → Bool
 is_marked line = starts_with nat_eq line byte_order_mark
-
--- a line for the second controller begins so
-abbrev pub is_for_peer : List ℕ → Bool
-is_for_peer line = starts_with nat_eq line (codes "2: ")
-
--- what a line says to its controller
-abbrev pub text_of : List ℕ → List ℕ
-text_of line = if is_for_peer line then drop 3 line else line
 
 -- what is wrong with a line that isn't passed over
 unfoldable pub side_reason : Bool → List ℕ → Option Wrong

@@ -6,7 +6,7 @@ ghost use Rattle.script_reasons.specs.Reasons as said;
 
 use crate::forms::{Form, Slot, form_named};
 use crate::words::cut_word;
-use lab_script::script::{is_blank, is_comment, without_return};
+use lab_script::script::{cut_side, is_blank, is_comment, is_for_peer, without_return};
 
 /// What is wrong.
 #[derive(Clone, Copy, Debug, PartialEq, Eq)]
@@ -133,24 +133,14 @@ fn is_marked(line: &str) -> bool
     line.starts_with("\u{feff}")
 }
 
-/// Whether a line is for the second controller, and what it says to its controller.
-fn cut_side(line: &str) -> (bool, &str)
-    ensures peer { result.0 ≡ said.is_for_peer line.now }
-    ensures text { result.1.now ≡ said.text_of line.now }
-{
-    match line.strip_prefix("2: ") {
-        Some(text) => (true, text),
-        None => (false, line),
-    }
-}
-
 /// Why a line that isn't passed over can't be read.
 #[tactic(auto, unfolding(crate::specs::Reasons::side_reason))]
 fn side_reason(line: &str, has_peer: bool) -> Option<Reason<'_>>
     ensures { option_map (λ reason. (reason.fault, reason.found.now)) result ≡
         said.side_reason has_peer line.now }
 {
-    let (is_peer, text) = cut_side(line);
+    let is_peer = is_for_peer(line);
+    let (_, text) = cut_side(line);
     if is_peer && !has_peer {
         Some(without_word(Fault::NoPeer))
     } else {

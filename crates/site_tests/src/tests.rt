@@ -10,8 +10,8 @@ mod windows;
 
 use cell_table::{Site, SiteFault};
 use measurements::Window;
-use sample_reports::{Said, report};
 use sample_sites::THREE_CHANNELS as SITE;
+use sample_sites::reports::{Said, report};
 use std::alloc::{AllocError, Allocator, Global};
 use std::fmt::Debug;
 use std::process::Abort;

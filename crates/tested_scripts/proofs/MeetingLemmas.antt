@@ -177,22 +177,6 @@ any_next came text places found first is one least all to = (
     by_takes from low (inl (_, above, within)) = (omega (arith, low, above), within)
     by_takes from low (inr (any, _, _)) = absurd (search (rules, any, is))
 
--- none leads anywhere
-pub none_next : (came : List (List ℕ)) (expected : Option (List ℕ)) (places : List ℕ) → places ≡ [] → AreNext came expected places []
-none_next came expected places none to = (
-  λ (k, l, e). absurd (omega (arith, l)),
-  λ (from, one, takes). by_place from (subst (λ (xs : List ℕ). Contains xs from) none one),
-)
-  where
-    by_place : (from : ℕ) → Contains [] from → Contains [] to
-    by_place from (k, l, e) = absurd (omega (arith, l))
-
-pub same_next : (came : List (List ℕ)) (places : List ℕ) → AreNext came None places places
-same_next came places to = (
-  λ h. (to, h, refl),
-  λ (from, one, same). subst (Contains places) (sym same) one,
-)
-
 -- the places from a start on, and one more
 pub range_more : (xs : List ℕ) (start place : ℕ) → start ≤ place → ((p : ℕ) → Contains xs p ↔ ((start ≤ p) × (p < place)))
     → (p : ℕ) → Contains (xs ++ place ∷ []) p ↔ ((start ≤ p) × (p < place + 1))

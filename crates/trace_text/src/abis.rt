@@ -58,6 +58,26 @@ fn channel<A: Allocator>(message: &Rsl<A>) -> ChanBits {
     }
 }
 
+/// The octets of the radio resource message inside a message on Abis (TS 48.058 clause 9.3.11), where there is one.
+pub fn layer3_of<A: Allocator>(message: &Rsl<A>) -> Option<&[u8]> {
+    match message {
+        Rsl::DataRequest { layer3, .. } | Rsl::DataIndication { layer3, .. } => {
+            Some(layer3.as_slice())
+        }
+        Rsl::MeasurementResult { layer3, .. } => match layer3 {
+            Some(layer3) => Some(layer3.as_slice()),
+            None => None,
+        },
+        Rsl::ChannelActivation { .. }
+        | Rsl::ChannelActivationAck { .. }
+        | Rsl::ChannelActivationNack { .. }
+        | Rsl::ConnectionFailureIndication { .. }
+        | Rsl::HandoverDetection { .. }
+        | Rsl::RfChannelRelease { .. }
+        | Rsl::RfChannelReleaseAck { .. } => None,
+    }
+}
+
 /// The fields of a message after its channel, each with a blank before it.
 #[derive(Drop)]
 struct FieldsText<'a, A: Allocator>(&'a Rsl<A>);

@@ -3,7 +3,7 @@ use super::{Fail, Global, RefusingHeap, equals, holds_at, is_hex, is_printed, oc
 use rr_elements::{
     CellDescription, ChanDescription, ElementFault, MeasHead, MeasResults, Power, RrCause,
 };
-use sample_reports::{HEAD, NEIGHBOUR};
+use sample_sites::reports::{HEAD, NEIGHBOUR};
 use std::alloc::{AllocError, Allocator};
 use std::process::Abort;
 

@@ -1,25 +1,10 @@
 //! Two controllers, with simulated stations and a simulated switching centre, over a heap that refuses requests.
 use super::{SITE, holds_at, is_whole_or_cut, printed};
 use refusing_heap::RefusingHeap;
+use sample_sites::PEER;
 use std::alloc::Global;
 use std::process::Abort;
 use std::test::Fail;
-
-/// The site of the other controller: the one cell that [`SITE`] has as its outside cell, with one channel.
-pub(super) const PEER: &str = "[handover]
-window = 2
-margin = 3
-minimum = 10
-[[cell]]
-lac = 23
-ci = 102
-bcch = 62
-ncc = 3
-bcc = 0
-power = 7
-ba = []
-trx = [{ arfcn = 62, tch = [1] }]
-";
 
 /// A call moves to the other controller.
 pub(super) const MOVES: (&str, &str) = (

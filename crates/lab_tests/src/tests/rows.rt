@@ -1,10 +1,11 @@
 //! Worked out by hand before there was a program: calls, handovers and messages, each by the public function that it is
 //! about. All other traces are scripts in `tests/`, at the top of the repository.
-use super::peer::{MOVES, PEER};
+use super::peer::MOVES;
 use super::{ONE_CALL, SITE, ends_so, prints, prints_of};
 use lab::decoded::{LinkName, decode_run};
 use lab::encoded::encode_run;
 use lab::run::Status;
+use sample_sites::PEER;
 use std::alloc::{AllocError, Global};
 use std::process::Abort;
 use std::str;

@@ -4,7 +4,7 @@ use super::holds_at;
 use cell_table::Site;
 use msc_model::{Centre, CentreOut};
 use refusing_heap::RefusingHeap;
-use sample_sites::THREE_CHANNELS;
+use sample_sites::{PEER, THREE_CHANNELS};
 use std::alloc::{AllocError, Allocator, Global};
 use std::process::Abort;
 use std::sync::Arc;
@@ -24,22 +24,6 @@ pub(super) type Out = (usize, u16, &'static [u8]);
 
 /// What is done, and all that comes of it.
 pub(super) type Row = (Ask, &'static [Out]);
-
-/// The site of the second controller: one cell, 102 in location area 23. The first has cells 100 and 101 there.
-const PEER: &str = "[handover]
-window = 2
-margin = 3
-minimum = 10
-[[cell]]
-lac = 23
-ci = 102
-bcch = 62
-ncc = 3
-bcc = 0
-power = 7
-ba = []
-trx = [{ arfcn = 62, tch = [1] }]
-";
 
 /// The site of the third: cells 200 and 102 in location area 24.
 const FAR: &str = "[handover]
@@ -66,6 +50,8 @@ ba = []
 trx = [{ arfcn = 71, tch = [1] }]
 ";
 
+/// Of the first, the second and the third controller: the second has cell 102 in location area 23, the first cells 100 and 101
+/// there.
 const SITES: &[&str] = &[THREE_CHANNELS, PEER, FAR];
 
 // HANDOVER REQUIRED, cause 'better cell', for cell 102 and for cell 101, with a response asked for.

@@ -1,5 +1,4 @@
 //! Measurement reports for tests: how they are made of few fields stands here once, whoever reads them.
-#![tactic(auto)]
 
 use rr_elements::{ElementFault, MeasHead, MeasResults, Ncell};
 

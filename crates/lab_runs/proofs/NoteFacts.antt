@@ -1,0 +1,44 @@
+-- Facts of notes of where no channel was free.
+use Rattle.std.proofs.Common.{◌≡◌, ◌++◌, ◌∷◌, List, [], length, refl, sym, ap, subst, ◌∙◌, append_assoc, append-nil}
+use Rattle.std.specs.List.{All}
+use Rattle.std.proofs.lemmas.List.Elements.{All-weaker, All-push}
+use Rattle.radio_desk.specs.Desk.{DeskState}
+use Rattle.ho_procedure.specs.Claims.{Entry, Claim, Opening, NoneFree, IsTrueAfter}
+use Rattle.lab_runs.specs.declared.noting.Note.{Note}
+use Rattle.lab_runs.specs.Notes.{IsTrueNote}
+
+-- what is true of the book that it opened with now was true before
+pub opens_as_before : (d d' : DeskState) → ((es : List Entry) → (claim : Claim) → IsTrueAfter d'.opening es claim → IsTrueAfter d.opening es claim) → d'.opening ≡ d.opening
+opens_as_before d d' said = said [] (Opening d'.opening) refl
+
+stays_true : (d d' : DeskState) (more : List Entry) (n : Note) → d'.opening ≡ d.opening → d'.history ≡ d.history ++ more → IsTrueNote d n → IsTrueNote d' n
+stays_true d d' more n opening grown h = record {
+  before = h.before;
+  behind = h.behind ++ more;
+  history = grown ∙ (ap (λ front. front ++ more) h.history ∙ append_assoc h.before h.behind more);
+  place = h.place;
+  none_free = subst (λ book. IsTrueAfter book h.before (NoneFree n.cell)) (sym opening) h.none_free;
+}
+
+-- notes stay true where the history goes on
+pub stay_true : (d d' : DeskState) (more : List Entry) (notes : List Note) → ((es : List Entry) → (claim : Claim) → IsTrueAfter d'.opening es claim → IsTrueAfter d.opening es claim)
+    → d'.history ≡ d.history ++ more → All (IsTrueNote d) notes → All (IsTrueNote d') notes
+stay_true d d' more notes said grown = All-weaker (IsTrueNote d) (IsTrueNote d') (λ n. stays_true d d' more n (opens_as_before d d' said) grown) notes
+
+-- and where it is as it was
+pub still_true : (d d' : DeskState) (notes : List Note) → ((es : List Entry) → (claim : Claim) → IsTrueAfter d'.opening es claim → IsTrueAfter d.opening es claim)
+    → d'.history ≡ d.history → All (IsTrueNote d) notes → All (IsTrueNote d') notes
+still_true d d' notes said same = stay_true d d' [] notes said (same ∙ sym (append-nil d.history))
+
+-- one more is true where no channel of its cell is free
+pub one_more_true : (d d' : DeskState) (notes : List Note) (n : Note) → ((es : List Entry) → (claim : Claim) → IsTrueAfter d'.opening es claim → IsTrueAfter d.opening es claim)
+    → d'.history ≡ d.history → n.place ≡ length d'.history → IsTrueAfter d.opening d.history (NoneFree n.cell) → All (IsTrueNote d) notes → All (IsTrueNote d') (notes ++ n ∷ [])
+one_more_true d d' notes n said same place none_free all =
+    let here : IsTrueNote d n = record {
+      before = d.history;
+      behind = [];
+      history = sym (append-nil d.history);
+      place = ap length (sym same) ∙ sym place;
+      none_free = none_free;
+    } in
+    still_true d d' (notes ++ n ∷ []) said same (All-push (IsTrueNote d) notes n all here)
