@@ -169,7 +169,7 @@ before n m less = (grind (arith, nat_tests), grind (arith, nat_tests))
 not_before : (n m : ℕ) → m ≤ n → nat_lt n m ≡ false
 not_before n m least = grind (arith, nat_tests)
 
-range_order : (a n : ℕ) → IsInOrder nat_lt (range_with_len a n)
+pub range_order : (a n : ℕ) → IsInOrder nat_lt (range_with_len a n)
 range_order a zero = tt
 range_order a (suc n) = (all_range (λ y. (nat_lt a y ≡ true) × (nat_lt y a ≡ false)) (a + 1) n (λ y least most. before a y (omega arith)), range_order (a + 1) n)
 
@@ -185,9 +185,9 @@ in_range a (suc n) c least most = by (a == c) refl (λ further. in_range (a + 1)
     by false e rest = or_right (a == c) _ (rest (beyond e))
 
 -- timeslots that a TRX may name: each at most once
-record AreSlots (slots : List ℕ) : Type 0 where
-  range : AllByRecursion (λ n. is_in (range_with_len 0 timeslots_of_trx) n ≡ true) slots
-  once : has_twice (λ m n. n == m) slots ≡ false
+pub record AreSlots (slots : List ℕ) : Type 0 where
+  pub range : AllByRecursion (λ n. is_in (range_with_len 0 timeslots_of_trx) n ≡ true) slots
+  pub once : has_twice (λ m n. n == m) slots ≡ false
 
 are_in : (slots : List ℕ) → All (IsAllowed key.Tch) slots → AllByRecursion (λ n. is_in (range_with_len 0 timeslots_of_trx) n ≡ true) slots
 are_in [] all = tt
@@ -199,7 +199,7 @@ all_count : (slots : List ℕ) → count_by (λ n. true) slots ≡ length slots
 all_count [] = refl
 all_count (n ∷ slots) = sum_by-cons (λ m. 1) n slots ∙ ap (λ k. 1 + k) (all_count slots) ∙ one-add (length slots)
 
-slots_count : (slots : List ℕ) → AreSlots slots → count_by (is_in slots) (range_with_len 0 timeslots_of_trx) ≡ length slots
+pub slots_count : (slots : List ℕ) → AreSlots slots → count_by (is_in slots) (range_with_len 0 timeslots_of_trx) ≡ length slots
 slots_count slots are =
     sym (count_in_order nat_lt (λ n. true) (range_with_len 0 timeslots_of_trx) slots (range_order 0 timeslots_of_trx) are.range are.once) ∙ all_count slots
 
@@ -250,7 +250,7 @@ itself : (x : ChanId) → is_channel x (channel x.cell x.trx x.tn) ≡ true
 unfolding channel
 itself x = and_from (x.cell == x.cell) ((x.trx == x.trx) && (x.tn == x.tn)) (same x.cell) (and_from (x.trx == x.trx) (x.tn == x.tn) (same x.trx) (same x.tn))
 
-is_same : (x y : ChanId) → is_channel x y ≡ true → x ≡ y
+pub is_same : (x y : ChanId) → is_channel x y ≡ true → x ≡ y
 is_same x y e =
     let (cell, rest) = and_parts (x.cell == y.cell) ((x.trx == y.trx) && (x.tn == y.tn)) e in
     let (trx, tn) = and_parts (x.trx == y.trx) (x.tn == y.tn) rest in
@@ -274,7 +274,7 @@ traffic_of site cell trx tn = refl
 none_slots : AreSlots []
 none_slots = record { range = tt; once = refl }
 
-trx_slots : (site : SiteView) → IsSite site → (cell : ℕ) (c : CellView) → slice_get site.cells cell ≡ Some c → (trx : ℕ) (t : TrxView) → slice_get c.trx trx ≡ Some t → AreSlots t.tch
+pub trx_slots : (site : SiteView) → IsSite site → (cell : ℕ) (c : CellView) → slice_get site.cells cell ≡ Some c → (trx : ℕ) (t : TrxView) → slice_get c.trx trx ≡ Some t → AreSlots t.tch
 trx_slots site limits cell c at trx t at' =
     let is = got IsCell site.cells cell c limits.within.each_cell at in
     record {
@@ -335,6 +335,13 @@ cells_count site limits n =
     sum_range (λ cell. count_by (is_traffic site) (cell_channels cell)) cell_size site.cells 0 n
     (λ i c at. ap (λ k. count_by (is_traffic site) (cell_channels k)) (zero-add i) ∙ cell_count site limits i c at)
     (λ i at. ap (λ k. count_by (is_traffic site) (cell_channels k)) (zero-add i) ∙ no_cell_count site limits i at)
+
+-- as many traffic channels as the sizes of all cells
+pub channels_count : (site : SiteView) → IsSite site → length (channels site) ≡ sum_by cell_size site.cells
+channels_count site limits =
+    length-filter (is_traffic site) all_channels ∙ ap (count_by (is_traffic site)) site_channels
+    ∙ flat_count (is_traffic site) cell_channels (range_with_len 0 most_cells) ∙ cells_count site limits most_cells
+    ∙ ap (sum_by cell_size) (take_all most_cells site.cells limits.within.cell_count.1)
 
 -- the position of a traffic channel: in its TRX, in its cell, in the site
 

@@ -11,4 +11,6 @@ pub mod Lookups
 pub mod Ordered
 pub mod NeighbourFacts
 pub mod Counted
+pub mod Placed
+pub mod Masked
 pub mod NameFacts

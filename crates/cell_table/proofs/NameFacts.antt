@@ -1,5 +1,5 @@
 -- The place and the code by which a mobile names a neighbour.
-use Rattle.std.proofs.Common.{◌≡◌, ◌↔◌, ℕ, ◌+◌, ◌*◌, ◌/◌, ◌%◌, ◌≤◌, ◌==◌, ◌&&◌, Bool, true, false, IsTrue, if◌then◌else◌, List, Option, Some, None, option_map, option_and_then, slice_get, count_by, nat_lt, ◌-◌, All, refl, sym, ◌∙◌, ap, subst, arith}
+use Rattle.std.proofs.Common.{◌≡◌, ◌↔◌, ℕ, ◌/◌, ◌%◌, ◌≤◌, ◌==◌, ◌&&◌, Bool, true, false, IsTrue, if◌then◌else◌, List, Option, Some, None, option_map, option_and_then, slice_get, count_by, nat_lt, ◌-◌, All, refl, sym, ◌∙◌, ap, subst, arith}
 use Rattle.std.proofs.lemmas.Bool.{and_parts}
 use Rattle.std.proofs.lemmas.Bool.{eqb-true, eq-eqb}
 use Rattle.std.proofs.lemmas.Option.{none-some, same_Some, slice_get_within, get_or_from_slice_get}
@@ -10,7 +10,7 @@ use Rattle.cell_table.specs.Limits.{first_outside}
 use Rattle.cell_table.specs.Site.{IsSite, IsCell, IsIdentity, identity_at}
 use Rattle.cell_table.specs.Neighbours.{IsNamedCell}
 use Rattle.cell_table.specs.Searches.{stands_before, is_at, has_bsic, is_named}
-use Rattle.cell_table.specs.NeighbourNames.{place_of, bsic_of, name_of, neighbour_name}
+use Rattle.cell_table.specs.NeighbourNames.{bsic_of, name_of, neighbour_name}
 use Rattle.cell_table.proofs.Lookups.{Passes}
 use Rattle.cell_table.proofs.NeighbourFacts.{named_in, not_served}
 

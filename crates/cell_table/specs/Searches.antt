@@ -1,6 +1,6 @@
 -- What the searches of the code answer, step by step. Of public clauses only the law `positions_are_counted` cites it: what
 -- they find is said in `Site` and `Neighbours`.
-use Rattle.std.specs.Prelude.{ℕ, ◌==◌, ◌+◌, ◌/◌, ◌%◌, Bool, ◌&&◌, ◌||◌, not, nat_lt, List, take, sum_by, count_by, length, Option, Some, None, option_map, option_and_then, slice_get, unwrap_or}
+use Rattle.std.specs.Prelude.{ℕ, ◌==◌, ◌+◌, ◌-◌, ◌/◌, ◌%◌, Bool, ◌&&◌, ◌||◌, not, nat_lt, if◌then◌else◌, List, [], ◌∷◌, take, sum_by, count_by, length, Option, Some, None, option_map, option_and_then, slice_get, unwrap_or, find}
 use Rattle.std.specs.List.{list_any, position}
 use Rattle.channel_fsm.specs.declared.ChanId.{ChanId}
 use Rattle.cell_table.specs.declared.tables.CellIdentity.{CellIdentity}
@@ -58,3 +58,20 @@ before_in_cell chan c = sum_by trx_size (take chan.trx c.trx) + unwrap_or (optio
 -- how many traffic channels of the cells come before one
 abbrev pub channels_before : List CellView → ChanId → ℕ
 channels_before cells chan = sum_by cell_size (take chan.cell cells) + unwrap_or (option_map (before_in_cell chan) (slice_get cells chan.cell)) 0
+
+-- the traffic timeslot of a TRX before which so many of its others come
+abbrev pub slot_at : List ℕ → ℕ → Option ℕ
+slot_at slots place = find (λ tn. count_by (λ n. nat_lt n tn) slots == place) slots
+
+-- Elements numbered from n on, each with so many places, one behind another: what the element that has a place tells of it,
+-- by its number and by how many of its own places come before.
+abbrev pub at_place : {A B : Type 0} → (A → ℕ) → (ℕ → A → ℕ → Option B) → ℕ → List A → ℕ → Option B
+at_place size tell n [] place = None
+at_place size tell n (x ∷ xs) place = if nat_lt place (size x) then tell n x place else at_place size tell (n + 1) xs (place - size x)
+
+-- the traffic channel that has a place in a TRX of a cell, and in a cell
+abbrev pub trx_channel : ℕ → ℕ → TrxView → ℕ → Option ChanId
+trx_channel cell trx t place = option_map (λ tn. record { cell = cell; trx = trx; tn = tn }) (slot_at t.tch place)
+
+abbrev pub cell_channel : ℕ → CellView → ℕ → Option ChanId
+cell_channel cell c place = at_place trx_size (trx_channel cell) 0 c.trx place

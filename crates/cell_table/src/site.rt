@@ -1,9 +1,11 @@
 //! The site, and what is looked up in it.
-ghost use Rattle.std.specs.Prelude.{◌≡◌, ◌≢◌, ◌↔◌, ℕ, IsTrue, Some, Ok, Err, true, IfOk, IfErr, length, option_map, slice_get};
+ghost use Rattle.std.specs.Prelude.{◌≡◌, ◌≢◌, ◌↔◌, ℕ, IsTrue, Some, None, Ok, Err, true, IfOk, IfErr, length, option_map, slice_get};
 ghost use Rattle.std.specs.Result.{is_ok};
 ghost use Rattle.std.specs.List.{position};
 ghost use Rattle.toml.specs.View.{view};
-ghost use Rattle.cell_table.specs.Site.{IsSite, IsWithinLimits, TrafficLiesWithin, trx_at, identity_at, is_traffic, IsCellOf, index_of};
+ghost use Rattle.channel_fsm.specs.Masks.{has};
+ghost use Rattle.channel_fsm.specs.declared.ChanId.{ChanId};
+ghost use Rattle.cell_table.specs.Site.{IsSite, IsWithinLimits, TrafficLiesWithin, trx_at, identity_at, is_traffic, IsCellOf, channels, index_of};
 ghost use Rattle.cell_table.specs.Searches.{has_codes, first_cell};
 ghost use Rattle.cell_table.specs.SiteFile.{site_of, read_site, IsBlankFile};
 ghost use Rattle.std.proofs.Common.{rules};
@@ -17,7 +19,7 @@ use crate::checks::broken_rule;
 use crate::fault::{Key, SiteFault};
 use crate::limits::FIRST_OUTSIDE;
 use crate::neighbours::neighbour_named;
-use crate::places::channels_before;
+use crate::places::{cell_sizes, channel_of_cells, channels_before, mask_of};
 use crate::reading::{cells_of, handover_at, outside_of};
 use crate::tables::{Cell, CellIdentity, Tables, Trx};
 use channel_fsm::ChanId;
@@ -273,6 +275,36 @@ impl<A: Allocator + Copy> Site<A> {
             return None;
         }
         Some(channels_before(self.tables.cells.as_slice(), chan))
+    }
+
+    /// The channel that has a place in the list of the site's traffic channels by cell, TRX and timeslot, counted from 0:
+    /// the one whose place [`Site::index_of`] tells. `None` where the list has no such place.
+    pub fn chan_at(&self, index: usize) -> Option<ChanId>
+        ensures value { result ≡ slice_get (channels self.now) index }
+        ensures inverse { (chan : ChanId) →
+            (result ≡ Some chan) ↔ (index_of self.now chan ≡ Some index) }
+    {
+        channel_of_cells(self.tables.cells.as_slice(), 0, index)
+    }
+
+    /// How many traffic channels the site has.
+    pub fn channels(&self) -> usize
+        ensures count { result ≡ length (channels self.now) }
+    {
+        cell_sizes(self.tables.cells.as_slice())
+    }
+
+    /// The traffic timeslots of a TRX of an own cell as the bits of an octet: timeslot `n`, 0 to 7, is the bit of value 2 to
+    /// the power `n`. 0 where there is no such cell or TRX.
+    pub fn traffic_mask(&self, cell: u8, trx: u8) -> u8
+        ensures timeslots { (tn : ℕ) → has result tn ≡
+            is_traffic self.now (record { cell = cell; trx = trx; tn = tn }) }
+        ensures none { trx_at self.now cell trx ≡ None → result ≡ 0 }
+    {
+        match trx_in(&self.tables, cell, trx) {
+            Some(found) => mask_of(found.tch.as_slice()),
+            None => 0,
+        }
     }
 }
 

@@ -1,5 +1,5 @@
-//! Channels of a cell: their names, and the states that they take while a station is asked to activate and to
-//! release them, and answers (TS 48.058 clause 4).
+//! Channels of a cell: their names, the states that they take while a station is asked to activate and to release
+//! them, and answers (TS 48.058 clause 4), and sets of those of a TRX.
 #![tactic(auto)]
 
 ghost use Rattle.std.specs.Prelude.{◌≡◌};
@@ -10,8 +10,11 @@ use ChanState::{Free, Held, Off, On, Pending};
 use std::fmt;
 
 pub mod laws;
+mod mask;
 #[cfg(test)]
 mod tests;
+
+pub use mask::FreeMask;
 
 /// A channel: one timeslot of one TRX of one cell (TS 45.002 clause 5).
 #[derive(Clone, Copy, Debug, PartialEq, Eq, PartialOrd, Ord, Hash)]

@@ -1,4 +1,4 @@
-use Rattle.std.proofs.Common.{◌≡◌, ◌∙◌, sym}
+use Rattle.std.proofs.Common.{sym}
 use Rattle.cell_table.proofs.NameFacts.{identity_range}
 use Rattle.cell_table.proofs.site.naming.name_in.Goals as goal
 
