@@ -32,7 +32,7 @@ returns-clause-exact g c link bad u =
       | in-Err-NoMemory v ↦
           let stopped = subst (EndsFor c.args.input c.self.inside.work c.follow-done.new.work link bad) v.in-Err-NoMemory.is end in
           let refused = subst (StopsFor c.args.input c.self.inside.work c.follow-done.new.work link bad) (rw v.in-Err-NoMemory.is at v.in-Err-NoMemory.field-0-is) stopped in
-          rw v.result-is (refused.0, ap (λ w. w.view) refused.1, ap (λ w. w.windows) refused.1, c.take-owed.ensures.taken ∙ ap (λ w. w.owed.items) refused.1 ∙ c.self.invariant.0)
+          rw v.result-is (rw (← c.self.view_is) (refused.0, ap (λ w. w.view) refused.1, ap (λ w. w.windows) refused.1, c.take-owed.ensures.taken ∙ ap (λ w. w.owed.items) refused.1 ∙ c.self.invariant.0))
       | in-Err-Foreign v ↦
           let stopped = subst (EndsFor c.args.input c.self.inside.work c.follow-done.new.work link bad) v.in-Err-Foreign.is end in
           absurd (subst (StopsFor c.args.input c.self.inside.work c.follow-done.new.work link bad) (rw v.in-Err-Foreign.is at v.in-Err-Foreign.field-0-is) stopped)
