@@ -25,6 +25,8 @@ What commands are for, and what their words are. No line has more than 100 colum
   $ grep -qF -- 'The script file' help
   $ grep -qF -- '--peer <SITE>' help
   $ grep -q '^  mobile CELL TRX TN HABIT ' help
+  $ grep -q '^  double CELL TRX TN ' help
+  $ grep -q '^  cut CELL TRX TN N ' help
   $ grep -qF -- 'Statuses: 0 ' help
   $ grep -qF -- 'As in: bsc_lab run ' help
 

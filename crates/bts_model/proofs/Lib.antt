@@ -3,3 +3,6 @@ mod MapFacts
 mod Results
 mod ReleaseFacts
 mod KeptFacts
+mod SlotFacts
+mod DepartureFacts
+mod HoldFacts

@@ -28,6 +28,6 @@ octets_of channel Detection = canonical_text {A = Unit} (HandoverDetection chann
 octets_of channel Complete = indication_octets channel (HandoverComplete (record { 0 = normal_event }))
 octets_of channel Failure = indication_octets channel (HandoverFailure (record { 0 = abnormal_release }))
 
--- an answer about a channel comes from the channel's TRX
-abbrev pub out_of : {A : Type 0} → Place × Answer → StationOut A
-out_of p = record { controller = p.0.controller; cell = p.0.cell; trx = p.0.trx; bytes = octets_of (record { tn = p.0.tn }) p.1 }
+-- octets about a channel come from the channel's TRX
+abbrev pub out_of : {A : Type 0} → Place × List ℕ → StationOut A
+out_of p = record { controller = p.0.controller; cell = p.0.cell; trx = p.0.trx; bytes = p.1 }

@@ -1,6 +1,6 @@
 -- What stations keep back. Ours, of no standard.
-use Rattle.std.specs.Prelude.{ℕ, Bool, true, false, ◌&&◌, not, if◌then◌else◌, List, [], ◌∷◌, filter, flat_map, Option, Some, None, is_some}
-use Rattle.std.specs.List.{position}
+use Rattle.std.specs.Prelude.{ℕ, Bool, true, false, ◌&&◌, not, if◌then◌else◌, List, filter, Option, None, is_some}
+use Rattle.std.specs.List.{position, filter_map}
 use Rattle.bts_model.specs.declared.place.Place.{Place}
 use Rattle.bts_model.specs.declared.answer.Answer.{Answer}
 use Rattle.bts_model.specs.declared.answer.Answer.TheVariants.{ActivationAck, ActivationNack, ReleaseAck, Detection, Complete, Failure}
@@ -28,13 +28,9 @@ hold_of holds x answer = if is_acknowledgement answer then position (awaits x) h
 abbrev pub kept_by : Place → Hold → Option Answer
 kept_by x h = if is_same_place x h.place then h.kept else None
 
-abbrev pub listed : Place → Option Answer → List (Place × Answer)
-listed x None = []
-listed x (Some answer) = (x, answer) ∷ []
-
 -- what the holds of a channel have kept, in the order of the holds
-abbrev pub kept_of : Place → List Hold → List (Place × Answer)
-kept_of x holds = flat_map (λ h. listed x (kept_by x h)) holds
+abbrev pub kept_of : Place → List Hold → List Answer
+kept_of x holds = filter_map (kept_by x) holds
 
 -- the holds of other channels
 abbrev pub others : Place → List Hold → List Hold

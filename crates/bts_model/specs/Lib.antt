@@ -1,8 +1,10 @@
 pub mod Keys
 pub mod Trxs
+pub mod Impairments
 pub mod World
 pub mod Answers
 pub mod Holds
+pub mod Departures
 pub mod Stations
 pub mod Mobiles
 pub mod Steps

@@ -1,5 +1,5 @@
 -- What is heard of a mobile that gets a message (TS 44.018 clause 3.4.4).
-use Rattle.std.specs.Prelude.{ℕ, Bool, false, ◌==◌, ◌&&◌, List, [], ◌∷◌, Option, Some, None, option_map, find}
+use Rattle.std.specs.Prelude.{ℕ, ◌<◌, Bool, false, ◌==◌, ◌&&◌, List, Option, Some, None, option_map, find}
 use Rattle.std.specs.FinMap as map
 use Rattle.rr_elements.specs.CellDescription.{Cell}
 use Rattle.rr_elements.specs.ChanDescription.{Chan}
@@ -8,14 +8,14 @@ use Rattle.rr_messages.specs.declared.message.Rr.TheVariants.{HandoverCommand, H
 use Rattle.rr_messages.specs.Rr.{IsRrText}
 use Rattle.bts_model.specs.declared.place.Place.{Place}
 use Rattle.bts_model.specs.declared.trx.Trx.{Trx}
-use Rattle.bts_model.specs.declared.answer.Answer.{Answer}
-use Rattle.bts_model.specs.declared.answer.Answer.TheVariants.{Detection, Complete, Failure}
 use Rattle.bts_model.specs.declared.setting.Habit.{Habit}
 use Rattle.bts_model.specs.declared.setting.Habit.TheVariants.{Arrive, Return, Vanish}
 use Rattle.bts_model.specs.declared.slots.Activity.{Activity}
 use Rattle.bts_model.specs.declared.slots.Activity.TheVariants.{Inactive, Active}
 use Rattle.bts_model.specs.declared.slots.Slot.{Slot}
 use Rattle.bts_model.specs.declared.mobile.Destination.{Destination}
+use Rattle.bts_model.specs.declared.mobile.Response.{Response}
+use Rattle.bts_model.specs.declared.mobile.Response.TheVariants.{Unheard, Returned, Arrived}
 use Rattle.bts_model.specs.Keys.{place_cmp}
 use Rattle.bts_model.specs.World.{slot_in}
 
@@ -45,35 +45,40 @@ is_there slots d t =
 abbrev pub target_of : List Trx → map.FinMap place_cmp Slot → Destination → Option Place
 target_of trxs slots d = option_map (λ t. place_on t d.tn) (find (is_there slots d) trxs)
 
--- What is heard of a mobile on channel x that is to arrive: the station of the target detects it (clause 3.4.4.2.2), and it
--- says on the target that it came; where there is no target it comes back, and says on x that it failed (3.4.4.4).
-abbrev pub arriving : Place → Option Place → List (Place × Answer)
-arriving x None = (x, Failure) ∷ []
-arriving x (Some y) = (y, Detection) ∷ (y, Complete) ∷ []
+-- a mobile that is to arrive goes to the target; where there is none it comes back
+abbrev pub arriving : Option Place → Response
+arriving None = Returned
+arriving (Some y) = Arrived y
 
 -- the same by its habit
-abbrev pub by_habit : Habit → Place → Option Place → List (Place × Answer)
-by_habit Arrive x target = arriving x target
-by_habit Return x target = (x, Failure) ∷ []
-by_habit Vanish x target = []
+abbrev pub by_habit : Habit → Option Place → Response
+by_habit Arrive target = arriving target
+by_habit Return target = Returned
+by_habit Vanish target = Unheard
 
 -- there is a mobile on an active channel alone
-abbrev pub on_active : Activity → List (Place × Answer) → List (Place × Answer)
-on_active Inactive heard = []
-on_active (Active own) heard = heard
+abbrev pub on_active : Activity → Response → Response
+on_active Inactive response = Unheard
+on_active (Active own) response = response
 
--- what is heard after a HANDOVER COMMAND on a channel
-abbrev pub commanded : List Trx → map.FinMap place_cmp Slot → Place → Destination → List (Place × Answer)
-commanded trxs slots x d = on_active (slot_in slots x).activity (by_habit (slot_in slots x).habit x (target_of trxs slots d))
+-- what the mobile on a channel does with a HANDOVER COMMAND
+abbrev pub commanded : List Trx → map.FinMap place_cmp Slot → Place → Destination → Response
+commanded trxs slots x d = on_active (slot_in slots x).activity (by_habit (slot_in slots x).habit (target_of trxs slots d))
 
--- What is heard after any message. PHYSICAL INFORMATION is seen by the mobile alone (clause 3.4.4.2.2).
-abbrev pub answers_to : List Trx → map.FinMap place_cmp Slot → Place → Rr → List (Place × Answer)
-answers_to trxs slots x (HandoverCommand cell channel reference power) = commanded trxs slots x (destination_of cell channel reference)
-answers_to trxs slots x (HandoverComplete cause) = []
-answers_to trxs slots x (HandoverFailure cause) = []
-answers_to trxs slots x (ChannelRelease cause) = []
-answers_to trxs slots x (PhysicalInformation advance) = []
-answers_to trxs slots x (MeasurementReport results) = []
+-- and with any message: PHYSICAL INFORMATION is seen by the mobile alone (clause 3.4.4.2.2)
+abbrev pub response_to : List Trx → map.FinMap place_cmp Slot → Place → Rr → Response
+response_to trxs slots x (HandoverCommand cell channel reference power) = commanded trxs slots x (destination_of cell channel reference)
+response_to trxs slots x (HandoverComplete cause) = Unheard
+response_to trxs slots x (HandoverFailure cause) = Unheard
+response_to trxs slots x (ChannelRelease cause) = Unheard
+response_to trxs slots x (PhysicalInformation advance) = Unheard
+response_to trxs slots x (MeasurementReport results) = Unheard
+
+-- a channel that a mobile arrives on is one of the eight of its TRX
+abbrev pub IsOnTimeslot : Response → Type 0
+IsOnTimeslot Unheard = Unit {0}
+IsOnTimeslot Returned = Unit {0}
+IsOnTimeslot (Arrived y) = y.tn < 8
 
 -- what the layer 3 octets say to a mobile, if anything
 abbrev pub IsHeard : List ℕ → Option Rr → Type 0

@@ -1,5 +1,5 @@
 -- What comes of octets that a controller sends a TRX (TS 48.058 clause 8).
-use Rattle.std.specs.Prelude.{◌≡◌, ℕ, true, ◌==◌, if◌then◌else◌, List, [], ◌∷◌, map, Option, Some, None, slice_set}
+use Rattle.std.specs.Prelude.{◌≡◌, ℕ, true, ◌==◌, if◌then◌else◌, List, [], ◌∷◌, map, Option, Some, None}
 use Rattle.rr_messages.specs.declared.message.Rr.{Rr}
 use Rattle.rsl_messages.specs.declared.message.ChanBits.{ChanBits}
 use Rattle.rsl_messages.specs.declared.message.Rsl.{Rsl}
@@ -8,49 +8,41 @@ use Rattle.rsl_messages.specs.Texts.{IsTextOf}
 use Rattle.rsl_messages.specs.Values.{main_channel}
 use Rattle.rsl_messages.specs.Messages.{HasOctets}
 use Rattle.bts_model.specs.declared.place.Place.{Place}
-use Rattle.bts_model.specs.declared.answer.Answer.{Answer}
-use Rattle.bts_model.specs.declared.answer.Answer.TheVariants.{ReleaseAck}
+use Rattle.bts_model.specs.declared.answer.Answer.TheVariants.{ReleaseAck, Detection, Complete, Failure}
 use Rattle.bts_model.specs.declared.answer.StationOut.{StationOut}
 use Rattle.bts_model.specs.declared.station.Reaction.{Reaction}
+use Rattle.bts_model.specs.declared.mobile.Response.{Response}
+use Rattle.bts_model.specs.declared.mobile.Response.TheVariants.{Unheard, Returned, Arrived}
 use Rattle.bts_model.specs.World.{WorldState, slot_in, has_channel, with_slot}
 use Rattle.bts_model.specs.Answers.{out_of}
 use Rattle.bts_model.specs.Holds.{hold_of}
 use Rattle.bts_model.specs.Stations.{at_activation, at_release}
-use Rattle.bts_model.specs.Mobiles.{answers_to, IsHeard}
-
--- the world after it, and what stations send
-pub record Outcome : Type 0 where
-  pub world : WorldState
-  pub answers : List (Place × Answer)
-
-abbrev pub silent : WorldState → Outcome
-silent w = record { world = w; answers = [] }
-
--- nothing comes of it
-abbrev pub unmoved : WorldState → Outcome
-unmoved w = silent w
+use Rattle.bts_model.specs.Mobiles.{response_to, IsHeard}
+use Rattle.bts_model.specs.Departures.{Outcome, silent, all_leave}
 
 -- this is the world after it, and these are the messages
 abbrev pub Gives : {A : Type 0} → Outcome → WorldState → List (StationOut A) → Type 0
-Gives o w outs = (w ≡ o.world) × (outs ≡ map out_of o.answers)
+Gives o w outs = (w ≡ o.world) × (outs ≡ map out_of o.sent)
 
--- an answer is sent, or kept by this hold
-abbrev pub answered : WorldState → Place → Answer → Option ℕ → Outcome
-answered w x answer None = record { world = w; answers = (x, answer) ∷ [] }
-answered w x answer (Some n) = silent (record w { holds = slice_set w.holds n (record { place = x; kept = Some answer }) })
-
--- what comes of a station's reaction
+-- what comes of a station's reaction: the channel changes, and the answer leaves
 abbrev pub reacted : WorldState → Place → Reaction → Outcome
-reacted w x r = answered (with_slot w x r.slot) x r.answer (hold_of w.holds x r.answer)
+reacted w x r = all_leave (with_slot w x r.slot) x (r.answer ∷ [])
 
--- what is heard of the mobile on a channel, to which a message comes on the main channel
+-- What is heard of the mobile on channel x. Where it arrives, the station of the target detects it (TS 44.018 clause
+-- 3.4.4.2.2), and the mobile says there that it came; where it comes back, it says on x that it failed (3.4.4.4).
+abbrev pub responded : WorldState → Place → Response → Outcome
+responded w x Unheard = silent w
+responded w x Returned = all_leave w x (Failure ∷ [])
+responded w x (Arrived y) = all_leave w y (Detection ∷ Complete ∷ [])
+
+-- the same of the one to which a message comes on the main channel
 abbrev pub passed_on : WorldState → Place → ℕ → Option Rr → Outcome
-passed_on w x link None = unmoved w
-passed_on w x link (Some message) = if link == main_channel then record { world = w; answers = answers_to w.trxs w.slots x message } else unmoved w
+passed_on w x link None = silent w
+passed_on w x link (Some message) = if link == main_channel then responded w x (response_to w.trxs w.slots x message) else silent w
 
 -- nothing comes of what is asked of a channel that the world lacks
 abbrev pub at_channel : WorldState → Place → Outcome → Outcome
-at_channel w x o = if has_channel w x then o else unmoved w
+at_channel w x o = if has_channel w x then o else silent w
 
 -- the channel of a TRX of a cell of a controller that a message names
 abbrev pub place_in : ℕ → ℕ → ℕ → ChanBits → Place
@@ -61,17 +53,17 @@ place_in k cell trx channel = record { controller = k; cell = cell; trx = trx; t
 abbrev pub Comes : {A : Type 0} → WorldState → ℕ → ℕ → ℕ → Rsl A → WorldState → List (StationOut A) → Type 0
 Comes w k cell trx (DataRequest channel link layer3) w' outs =
     (heard : Option Rr) × IsHeard layer3 heard × Gives (at_channel w (place_in k cell trx channel) (passed_on w (place_in k cell trx channel) link heard)) w' outs
-Comes w k cell trx (DataIndication channel link layer3) w' outs = Gives (unmoved w) w' outs
+Comes w k cell trx (DataIndication channel link layer3) w' outs = Gives (silent w) w' outs
 Comes w k cell trx (ChannelActivation channel activation mode reference) w' outs =
     Gives (at_channel w (place_in k cell trx channel) (reacted w (place_in k cell trx channel) (at_activation (slot_in w.slots (place_in k cell trx channel)) reference))) w' outs
-Comes w k cell trx (ChannelActivationAck channel frame) w' outs = Gives (unmoved w) w' outs
-Comes w k cell trx (ChannelActivationNack channel cause) w' outs = Gives (unmoved w) w' outs
-Comes w k cell trx (ConnectionFailureIndication channel cause) w' outs = Gives (unmoved w) w' outs
-Comes w k cell trx (HandoverDetection channel delay) w' outs = Gives (unmoved w) w' outs
-Comes w k cell trx (MeasurementResult channel number uplink power layer3) w' outs = Gives (unmoved w) w' outs
+Comes w k cell trx (ChannelActivationAck channel frame) w' outs = Gives (silent w) w' outs
+Comes w k cell trx (ChannelActivationNack channel cause) w' outs = Gives (silent w) w' outs
+Comes w k cell trx (ConnectionFailureIndication channel cause) w' outs = Gives (silent w) w' outs
+Comes w k cell trx (HandoverDetection channel delay) w' outs = Gives (silent w) w' outs
+Comes w k cell trx (MeasurementResult channel number uplink power layer3) w' outs = Gives (silent w) w' outs
 Comes w k cell trx (RfChannelRelease channel) w' outs =
     Gives (at_channel w (place_in k cell trx channel) (reacted w (place_in k cell trx channel) (at_release (slot_in w.slots (place_in k cell trx channel))))) w' outs
-Comes w k cell trx (RfChannelReleaseAck channel) w' outs = Gives (unmoved w) w' outs
+Comes w k cell trx (RfChannelReleaseAck channel) w' outs = Gives (silent w) w' outs
 
 -- the message that octets say to a station, if any
 abbrev pub IsSaid : {A : Type 0} → List ℕ → Option (Rsl A) → Type 0
@@ -80,7 +72,7 @@ IsSaid {A} octets None = (message : Rsl A) → IsTextOf message octets → ⊥
 
 -- what comes of the message that octets say; nothing where they say none
 abbrev pub ComesIf : {A : Type 0} → WorldState → ℕ → ℕ → ℕ → Option (Rsl A) → WorldState → List (StationOut A) → Type 0
-ComesIf w k cell trx None w' outs = Gives (unmoved w) w' outs
+ComesIf w k cell trx None w' outs = Gives (silent w) w' outs
 ComesIf w k cell trx (Some message) w' outs = Comes w k cell trx message w' outs
 
 -- what comes of octets

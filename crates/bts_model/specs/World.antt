@@ -14,6 +14,7 @@ use Rattle.bts_model.specs.contracts.trx.Trx.{the_row as trx_row}
 use Rattle.bts_model.specs.contracts.slots.Slot.{the_row as slot_row}
 use Rattle.bts_model.specs.contracts.hold.Hold.{the_row as hold_row}
 use Rattle.bts_model.specs.Keys.{place_cmp, coded_place}
+use Rattle.bts_model.specs.Impairments.{unimpaired}
 use Rattle.bts_model.specs.Trxs.{trxs_of, is_on}
 
 abbrev pub slots_code : Coded (map.FinMap place_cmp Slot)
@@ -23,7 +24,7 @@ pub record WorldState : Type 0 where
   -- every TRX of the controllers, by controller, cell and TRX
   pub trxs : List Trx
   -- what is known of a channel: whether it is active, and with which reference, whether its next activation is refused,
-  -- and the habit of its mobile
+  -- the habit of its mobile, and what befalls its next answer
   pub slots : map.FinMap place_cmp Slot
   -- the holds in the order in which they were asked for, each with what it has kept
   pub holds : List Hold
@@ -38,9 +39,9 @@ world_code =
 abbrev pub fresh_world : List SiteView → WorldState
 fresh_world sites = record { trxs = trxs_of sites; slots = map.empty; holds = [] }
 
--- a channel of which nothing was said: inactive, no refusal, and a mobile that arrives
+-- a channel of which nothing was said: inactive, no refusal, a mobile that arrives, and answers that nothing befalls
 abbrev pub idle : Slot
-idle = record { activity = Inactive; refuses = false; habit = Arrive }
+idle = record { activity = Inactive; refuses = false; habit = Arrive; impairment = unimpaired }
 
 abbrev pub slot_in : map.FinMap place_cmp Slot → Place → Slot
 slot_in slots x = unwrap_or (map.get slots x) idle

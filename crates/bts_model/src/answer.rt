@@ -1,10 +1,9 @@
 //! What stations and mobiles answer, and its octets.
-ghost use Rattle.std.specs.Prelude.{◌≡◌, ◌<◌, ◌≤◌, ◌++◌, ◌∷◌, [], length, IfOk, OnOk};
+ghost use Rattle.std.specs.Prelude.{◌≡◌, ◌<◌, ◌≤◌, length, IfOk};
 ghost use Rattle.rsl_messages.specs.Texts.{HasCanonical, canonical_text};
 ghost use Rattle.rr_messages.specs.Rr.{rr_text};
-ghost use Rattle.bts_model.specs.Answers.{octets_of, indication_octets, out_of};
+ghost use Rattle.bts_model.specs.Answers.{octets_of, indication_octets};
 
-use crate::place::Place;
 use rr_elements::{ABNORMAL_RELEASE, NORMAL_EVENT, RrCause};
 use rr_messages::Rr;
 use rsl_messages::values::{EQUIPMENT_FAILURE, MAIN_CHANNEL};
@@ -39,35 +38,17 @@ pub struct StationOut<A: Allocator = Global> {
 /// What stations send, or an allocation failure.
 pub type Outs<A> = Result<Vec<StationOut<A>, A>, AllocError>;
 
-/// Appends an answer about a channel.
-pub fn send<A: Allocator + Copy>(
+/// The octets of the message by which a station gives an answer.
+pub fn octets_of<A: Allocator + Copy>(
     alloc: A,
-    outs: &mut Vec<StationOut<A>, A>,
-    place: Place,
+    channel: ChanBits,
     answer: Answer,
-) -> Result<(), AllocError>
-    requires { place.tn < 8 }
-    ensures { OnOk result (outs.new.items ≡ outs.old.items ++ out_of (place, answer) ∷ []) }
+) -> Result<Vec<u8, A>, AllocError>
+    requires { channel.tn < 8 }
+    ensures { IfOk result (λ octets. octets.items ≡ octets_of channel answer) }
 {
-    let message = message_of(alloc, ChanBits { tn: place.tn }, answer)?;
-    let octets = encode(alloc, &message)?;
-    outs.push(StationOut {
-        controller: place.controller,
-        cell: place.cell,
-        trx: place.trx,
-        bytes: Octets::new(alloc, octets.as_slice())?,
-    })?;
-    Ok(())
-}
-
-/// One answer.
-pub fn one_answer<A: Allocator + Copy>(alloc: A, place: Place, answer: Answer) -> Outs<A>
-    requires { place.tn < 8 }
-    ensures { IfOk result (λ outs. outs.items ≡ out_of (place, answer) ∷ []) }
-{
-    let mut outs = Vec::new(alloc);
-    send(alloc, &mut outs, place, answer)?;
-    Ok(outs)
+    let message = message_of(alloc, channel, answer)?;
+    encode(alloc, &message)
 }
 
 /// The message by which a station gives an answer: its own, or DATA INDICATION on the main channel for the mobile's.

@@ -1,11 +1,10 @@
 //! Answers that stations keep back.
-ghost use Rattle.std.specs.Prelude.{◌≡◌, ◌<◌, length, filter, not, map, IfOk, OnOk, IfSome, IsSome, OnErr, ◌≢◌, ◌++◌, []};
+ghost use Rattle.std.specs.Prelude.{◌≡◌, ◌<◌, length, filter, not, IfOk, IfSome, OnErr, ◌≢◌, []};
 ghost use Rattle.bts_model.specs.Keys.{is_same_place};
 ghost use Rattle.std.specs.List.{position};
-ghost use Rattle.bts_model.specs.Answers.{out_of};
-ghost use Rattle.bts_model.specs.Holds.{is_acknowledgement, awaits, hold_of, kept_by, listed, kept_of};
+ghost use Rattle.bts_model.specs.Holds.{is_acknowledgement, awaits, hold_of, kept_by, kept_of};
 
-use crate::answer::{Answer, Outs, StationOut, send};
+use crate::answer::Answer;
 use crate::place::{Place, is_same_place};
 use std::alloc::{AllocError, Allocator};
 
@@ -53,33 +52,21 @@ pub fn hold_of(holds: &[Hold], place: Place, answer: Answer) -> Option<usize>
 }
 
 /// What the holds of a channel have kept, in order.
-pub fn all_kept<A: Allocator + Copy>(alloc: A, holds: &[Hold], place: Place) -> Outs<A>
-    requires { place.tn < 8 }
-    ensures outs { IfOk result (λ outs. outs.items ≡ map out_of (kept_of place holds.now)) }
+pub fn all_kept<A: Allocator + Copy>(
+    alloc: A,
+    holds: &[Hold],
+    place: Place,
+) -> Result<Vec<Answer, A>, AllocError>
+    ensures kept { IfOk result (λ kept. kept.items ≡ kept_of place holds.now) }
     ensures memory { OnErr result (kept_of place holds.now ≢ []) }
 {
-    let mut outs = Vec::new(alloc);
+    let mut kept = Vec::new(alloc);
     for hold in holds {
-        send_any(alloc, &mut outs, place, kept_by(place, hold))?;
+        if let Some(answer) = kept_by(place, hold) {
+            kept.push(answer)?;
+        }
     }
-    Ok(outs)
-}
-
-/// Appends an answer about a channel, if there is one.
-fn send_any<A: Allocator + Copy>(
-    alloc: A,
-    outs: &mut Vec<StationOut<A>, A>,
-    place: Place,
-    answer: Option<Answer>,
-) -> Result<(), AllocError>
-    requires { place.tn < 8 }
-    ensures ok { OnOk result (outs.new.items ≡ outs.old.items ++ map out_of (listed place answer)) }
-    ensures memory { OnErr result (IsSome answer) }
-{
-    match answer {
-        Some(answer) => send(alloc, outs, place, answer),
-        None => Ok(()),
-    }
+    Ok(kept)
 }
 
 /// What a hold has kept, where it is one of the channel.

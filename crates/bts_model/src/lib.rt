@@ -3,6 +3,7 @@
 #![tactic(auto)]
 
 mod answer;
+mod departure;
 mod hold;
 mod mobile;
 mod place;

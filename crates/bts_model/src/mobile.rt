@@ -1,9 +1,7 @@
 //! What a mobile does with a message.
-ghost use Rattle.std.specs.Prelude.{◌≡◌, ◌<◌, ◌∷◌, [], map, find, IfOk};
-ghost use Rattle.bts_model.specs.Answers.{out_of};
-ghost use Rattle.bts_model.specs.Mobiles.{destination_of, is_active_with, is_there, target_of, commanded, answers_to, IsHeard};
+ghost use Rattle.std.specs.Prelude.{◌≡◌, ◌<◌, find, IfSome};
+ghost use Rattle.bts_model.specs.Mobiles.{destination_of, is_active_with, is_there, target_of, commanded, response_to, IsOnTimeslot, IsHeard};
 
-use crate::answer::{Answer, Outs, one_answer, send};
 use crate::place::Place;
 use crate::setting::Habit;
 use crate::slots::{Activity, Slots};
@@ -11,6 +9,17 @@ use crate::trx::Trx;
 use rr_elements::{CellDescription, ChanDescription};
 use rr_messages::{Rr, decode};
 use std::alloc::Allocator;
+
+/// What a mobile does with a message.
+#[derive(Clone, Copy)]
+pub enum Response {
+    /// Nothing is heard of it.
+    Unheard,
+    /// It stays on its channel, or comes back to it, and says that it failed.
+    Returned,
+    /// It goes to this channel, and says so there.
+    Arrived(Place),
+}
 
 /// Where a HANDOVER COMMAND sends a mobile: the cell by its colour, carrier and timeslot, and the handover reference.
 #[derive(Clone, Copy)]
@@ -80,47 +89,34 @@ fn target_of<A: Allocator + Copy>(
     slots: &Slots<A>,
     destination: Destination,
 ) -> Option<Place>
-    ensures { result ≡ target_of trxs.now slots.now destination }
+    ensures target { result ≡ target_of trxs.now slots.now destination }
+    ensures timeslot { IfSome result (λ place. place.tn ≡ destination.tn) }
 {
     trxs.iter()
         .find(|trx| is_there(slots, destination, trx))
         .map(|trx| place_on(trx, destination.tn))
 }
 
-/// A mobile that arrived: the station sees its access, and then hears from it.
-fn arrived<A: Allocator + Copy>(alloc: A, target: Place) -> Outs<A>
-    requires { target.tn < 8 }
-    ensures { IfOk result (λ outs. outs.items ≡
-        map out_of ((target, Answer.Detection) ∷ (target, Answer.Complete) ∷ [])) }
-{
-    let mut outs = Vec::new(alloc);
-    send(alloc, &mut outs, target, Answer::Detection)?;
-    send(alloc, &mut outs, target, Answer::Complete)?;
-    Ok(outs)
-}
-
-/// What is heard of a mobile on an active channel that is sent to a destination.
+/// What the mobile on a channel does that is sent to a destination.
 fn sent_to<A: Allocator + Copy>(
-    alloc: A,
     trxs: &[Trx],
     slots: &Slots<A>,
     place: Place,
     destination: Destination,
-) -> Outs<A>
-    requires place { place.tn < 8 }
-    requires destination { destination.tn < 8 }
-    ensures { IfOk result (λ outs. outs.items ≡
-        map out_of (commanded trxs.now slots.now place destination)) }
+) -> Response
+    requires { destination.tn < 8 }
+    ensures response { result ≡ commanded trxs.now slots.now place destination }
+    ensures timeslot { IsOnTimeslot result }
 {
     let slot = slots.get(place);
     match slot.activity {
-        Activity::Inactive => Ok(Vec::new(alloc)),
+        Activity::Inactive => Response::Unheard,
         Activity::Active(_) => match slot.habit {
-            Habit::Vanish => Ok(Vec::new(alloc)),
-            Habit::Return => one_answer(alloc, place, Answer::Failure),
+            Habit::Vanish => Response::Unheard,
+            Habit::Return => Response::Returned,
             Habit::Arrive => match target_of(trxs, slots, destination) {
-                Some(target) => arrived(alloc, target),
-                None => one_answer(alloc, place, Answer::Failure),
+                Some(target) => Response::Arrived(target),
+                None => Response::Returned,
             },
         },
     }
@@ -136,17 +132,15 @@ pub fn heard_in(octets: &[u8]) -> Option<Rr>
     }
 }
 
-/// What is heard of the mobile on a channel that gets a message.
-pub fn answers_to<A: Allocator + Copy>(
-    alloc: A,
+/// What the mobile on a channel does that gets a message.
+pub fn response_to<A: Allocator + Copy>(
     trxs: &[Trx],
     slots: &Slots<A>,
     place: Place,
     message: &Rr,
-) -> Outs<A>
-    requires { place.tn < 8 }
-    ensures { IfOk result (λ outs. outs.items ≡
-        map out_of (answers_to trxs.now slots.now place message.now)) }
+) -> Response
+    ensures response { result ≡ response_to trxs.now slots.now place message.now }
+    ensures timeslot { IsOnTimeslot result }
 {
     match message {
         Rr::HandoverCommand {
@@ -155,7 +149,6 @@ pub fn answers_to<A: Allocator + Copy>(
             reference,
             ..
         } => sent_to(
-            alloc,
             trxs,
             slots,
             place,
@@ -165,6 +158,6 @@ pub fn answers_to<A: Allocator + Copy>(
         | Rr::HandoverFailure(_)
         | Rr::ChannelRelease(_)
         | Rr::PhysicalInformation(_)
-        | Rr::MeasurementReport(_) => Ok(Vec::new(alloc)),
+        | Rr::MeasurementReport(_) => Response::Unheard,
     }
 }

@@ -25,6 +25,11 @@ pub enum Act {
     Release,
     /// The habit of mobiles on the channel.
     Mobile(Habit),
+    /// The next answer that leaves the station about the channel comes twice. Said twice it counts once.
+    Double,
+    /// The next answer that leaves the station about the channel is cut to its first octets, so many of them; one that has
+    /// no more is left whole. The last one said counts.
+    Cut(u8),
 }
 
 /// What a script asks, and of which channel. A channel that the world lacks is passed over.

@@ -2,6 +2,7 @@
 ghost use Rattle.std.specs.Prelude.{◌≡◌, OnOk, OnErr, IsSome, None};
 ghost use Rattle.std.specs.FinMap as map;
 ghost use Rattle.bts_model.specs.World.{slot_in, slots_code, changed};
+ghost use Rattle.bts_model.specs.Impairments.{unimpaired, is_impaired};
 
 use crate::place::Place;
 use crate::setting::Habit;
@@ -17,6 +18,34 @@ pub enum Activity {
     Active(Option<u8>),
 }
 
+/// What befalls the next answer that leaves a station about a channel, which uses it up.
+#[derive(Clone, Copy)]
+pub struct Impairment {
+    /// So many octets are left of it, where it has more.
+    pub cut: Option<u8>,
+    /// It comes twice.
+    pub doubles: bool,
+}
+
+impl Impairment {
+    /// Nothing befalls the next answer.
+    pub fn none() -> Impairment
+        ensures { result ≡ unimpaired }
+    {
+        Impairment {
+            cut: None,
+            doubles: false,
+        }
+    }
+
+    /// Whether anything does.
+    pub fn is_some(self) -> bool
+        ensures { result ≡ is_impaired self }
+    {
+        self.cut.is_some() || self.doubles
+    }
+}
+
 /// What is known of a channel.
 #[derive(Clone, Copy)]
 pub struct Slot {
@@ -25,9 +54,11 @@ pub struct Slot {
     pub refuses: bool,
     /// The habit of a mobile on it.
     pub habit: Habit,
+    pub impairment: Impairment,
 }
 
-/// What is known of each channel; one that has no entry is inactive, refuses nothing, and its mobile arrives.
+/// What is known of each channel; one that has no entry is inactive and refuses nothing, its mobile arrives, and nothing
+/// befalls its answers.
 #[derive(Drop)]
 pub struct Slots<A: Allocator = Global> {
     entries: BTreeMap<Place, Slot, A>,
@@ -64,6 +95,7 @@ impl<A: Allocator + Copy> Slots<A> {
                 activity: Activity::Inactive,
                 refuses: false,
                 habit: Habit::Arrive,
+                impairment: Impairment::none(),
             },
         }
     }

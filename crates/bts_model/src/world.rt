@@ -1,24 +1,25 @@
 //! The simulated world.
-ghost use Rattle.std.specs.Prelude.{◌≡◌, ◌≢◌, ◌↔◌, ◌<◌, ◌⊎◌, Option, [], true, map, IsTrue, IsSome, IfOk, OnErr, None};
+ghost use Rattle.std.specs.Prelude.{◌≡◌, ◌≢◌, ◌↔◌, ◌<◌, ◌⊎◌, Option, [], true, map, IsTrue, IsSome, IfOk, OnErr, None, Some};
 ghost use Rattle.std.specs.FinMap as finite;
 ghost use Rattle.rsl_messages.specs.Messages.{HasOctets};
 ghost use Rattle.rsl_messages.specs.Texts.{IsTextOf};
 ghost use Rattle.rsl_messages.specs.declared.message.Rsl.{Rsl};
-ghost use Rattle.bts_model.specs.World.{fresh_world, has_channel, slot_in, world_code};
+ghost use Rattle.bts_model.specs.World.{fresh_world, has_channel, slot_in, changed, with_slot, world_code};
 ghost use Rattle.rr_messages.specs.declared.message.Rr.{Rr};
-ghost use Rattle.bts_model.specs.Answers.{out_of};
-ghost use Rattle.bts_model.specs.Holds.{hold_of};
-ghost use Rattle.bts_model.specs.Mobiles.{answers_to, IsHeard};
+ghost use Rattle.bts_model.specs.Holds.{hold_of, kept_of};
+ghost use Rattle.bts_model.specs.Mobiles.{IsHeard, IsOnTimeslot};
+ghost use Rattle.bts_model.specs.Departures.{silent, all_sent};
 ghost use Rattle.bts_model.specs.Stations.{at_activation, at_release};
-ghost use Rattle.bts_model.specs.Settings.{set, SetNeedsMemory, acted, ActNeedsMemory};
-ghost use Rattle.bts_model.specs.Steps.{Gives, Comes, Steps, IsSaid, NeedsMemory, StepNeedsMemory, at_channel, reacted, passed_on, place_in};
+ghost use Rattle.bts_model.specs.Settings.{set, SetNeedsMemory, acted, ActNeedsMemory, doubled, cut};
+ghost use Rattle.bts_model.specs.Steps.{Gives, Comes, Steps, IsSaid, NeedsMemory, StepNeedsMemory, at_channel, reacted, responded, passed_on, place_in};
 
-use crate::answer::{Answer, Outs, StationOut, one_answer};
+use crate::answer::{Answer, Outs, StationOut};
+use crate::departure::{all_departed, changed_and_left};
 use crate::hold::{Hold, all_kept, end_holds, hold_of};
-use crate::mobile::{answers_to, heard_in};
+use crate::mobile::{Response, heard_in, response_to};
 use crate::place::Place;
 use crate::setting::{Act, Setting};
-use crate::slots::{Slot, Slots};
+use crate::slots::{Impairment, Slot, Slots};
 use crate::station::{Reaction, at_activation, at_release};
 use crate::trx::{Trx, has_trx, trxs_of};
 use cell_table::Site;
@@ -33,7 +34,8 @@ use std::sync::Arc;
 ///
 /// A station acknowledges each activation of an inactive channel, unless a refusal was asked for, and refuses each of an
 /// active one; it acknowledges each release. A mobile that gets a HANDOVER COMMAND on an active channel goes by its
-/// habit. Answers come at once, but an acknowledgement for which a hold waits is kept.
+/// habit. Answers leave at once, but an acknowledgement for which a hold waits is kept. As it leaves, an answer may be cut
+/// and doubled, where that was asked for.
 #[derive(Drop)]
 pub struct World<A: Allocator = Global> {
     trxs: Vec<Trx, A>,
@@ -192,11 +194,7 @@ impl<A: Allocator + Copy> World<A> {
             return Ok(self.nothing());
         }
         match hold_of(self.holds.as_slice(), place, reaction.answer) {
-            None => {
-                let outs = one_answer(*self.holds.allocator(), place, reaction.answer)?;
-                self.slots.change(place, reaction.slot)?;
-                Ok(outs)
-            }
+            None => self.leave(place, reaction.slot, &[reaction.answer]),
             Some(hold) => {
                 self.slots.change(place, reaction.slot)?;
                 self.holds[hold] = Hold {
@@ -208,19 +206,47 @@ impl<A: Allocator + Copy> World<A> {
         }
     }
 
+    /// What comes of it that answers about a channel leave, none of which a hold keeps, once the channel has changed, where
+    /// it does.
+    fn leave(&mut self, place: Place, change: Option<Slot>, answers: &[Answer]) -> Outs<A>
+        requires { place.tn < 8 }
+        ensures gives { IfOk result (λ outs. Gives
+            (all_sent (with_slot self.old place change) place answers.now) self.new outs.items) }
+        ensures unchanged { OnErr result (self.new ≡ self.old) }
+        ensures memory { change ≡ None → OnErr result (answers.now ≢ []) }
+    {
+        let known = self.slot_once(place, change);
+        let outs = all_departed(*self.holds.allocator(), place, known.impairment, answers)?;
+        self.slots
+            .change(place, changed_and_left(change, known, answers))?;
+        Ok(outs)
+    }
+
+    /// What is known of a channel once it has changed, where it does.
+    fn slot_once(&self, place: Place, change: Option<Slot>) -> Slot
+        ensures { result ≡ slot_in (changed self.now.slots place change) place }
+    {
+        match change {
+            Some(slot) => slot,
+            None => self.slot(place),
+        }
+    }
+
     /// What is heard of the mobile on a channel to which octets are passed on.
-    fn pass_on(&self, place: Place, link: u8, octets: &[u8]) -> Outs<A>
+    fn pass_on(&mut self, place: Place, link: u8, octets: &[u8]) -> Outs<A>
         ensures gives { IfOk result (λ outs. (heard : Option Rr) × IsHeard octets.now heard ×
-            Gives (at_channel self.now place (passed_on self.now place link heard)) self.now outs.items) }
+            Gives (at_channel self.old place (passed_on self.old place link heard)) self.new outs.items) }
+        ensures unchanged { OnErr result (self.new ≡ self.old) }
     {
         let heard = heard_in(octets);
         self.tell(place, link, heard)
     }
 
     /// The same of what the octets say.
-    fn tell(&self, place: Place, link: u8, heard: Option<Rr>) -> Outs<A>
-        ensures { IfOk result (λ outs. Gives
-            (at_channel self.now place (passed_on self.now place link heard)) self.now outs.items) }
+    fn tell(&mut self, place: Place, link: u8, heard: Option<Rr>) -> Outs<A>
+        ensures gives { IfOk result (λ outs. Gives
+            (at_channel self.old place (passed_on self.old place link heard)) self.new outs.items) }
+        ensures unchanged { OnErr result (self.new ≡ self.old) }
     {
         if !self.has_channel(place) {
             return Ok(self.nothing());
@@ -229,7 +255,8 @@ impl<A: Allocator + Copy> World<A> {
             None => Ok(self.nothing()),
             Some(message) => {
                 if link == MAIN_CHANNEL {
-                    self.answers_to(place, &message)
+                    let response = response_to(self.trxs.as_slice(), &self.slots, place, &message);
+                    self.respond(place, response)
                 } else {
                     Ok(self.nothing())
                 }
@@ -237,14 +264,46 @@ impl<A: Allocator + Copy> World<A> {
         }
     }
 
-    /// What is heard of the mobile on a channel that gets a message.
-    fn answers_to(&self, place: Place, message: &Rr) -> Outs<A>
-        requires { place.tn < 8 }
-        ensures { IfOk result (λ outs. outs.items ≡
-            map out_of (answers_to self.now.trxs self.now.slots place message.now)) }
+    /// What is heard of the mobile on a channel.
+    fn respond(&mut self, place: Place, response: Response) -> Outs<A>
+        requires place { place.tn < 8 }
+        requires target { IsOnTimeslot response }
+        ensures gives { IfOk result (λ outs. Gives (responded self.old place response)
+            self.new outs.items) }
+        ensures unchanged { OnErr result (self.new ≡ self.old) }
     {
-        let alloc = *self.holds.allocator();
-        answers_to(alloc, self.trxs.as_slice(), &self.slots, place, message)
+        match response {
+            Response::Unheard => Ok(self.nothing()),
+            Response::Returned => self.leave(place, None, &[Answer::Failure]),
+            Response::Arrived(target) => {
+                self.leave(target, None, &[Answer::Detection, Answer::Complete])
+            }
+        }
+    }
+
+    /// Notes what is known of a channel from here on.
+    fn note(&mut self, place: Place, slot: Slot) -> Outs<A>
+        ensures gives { IfOk result (λ outs. Gives (silent (with_slot self.old place (Some slot)))
+            self.new outs.items) }
+        ensures unchanged { OnErr result (self.new ≡ self.old) }
+        ensures memory { OnErr result (finite.get self.old.slots place ≡ None) }
+    {
+        self.slots.put(place, slot)?;
+        Ok(self.nothing())
+    }
+
+    /// What was kept about a channel leaves, and its holds end.
+    fn let_out(&mut self, place: Place) -> Outs<A>
+        requires { place.tn < 8 }
+        ensures gives { IfOk result (λ outs. Gives (acted self.old place Act.Release)
+            self.new outs.items) }
+        ensures unchanged { OnErr result (self.new ≡ self.old) }
+        ensures memory { OnErr result (kept_of place self.old.holds ≢ []) }
+    {
+        let kept = all_kept(*self.holds.allocator(), self.holds.as_slice(), place)?;
+        let outs = self.leave(place, None, kept.as_slice())?;
+        end_holds(&mut self.holds, place);
+        Ok(outs)
     }
 
     /// What comes of an act at a channel.
@@ -260,27 +319,55 @@ impl<A: Allocator + Copy> World<A> {
                     refuses: true,
                     ..self.slot(place)
                 };
-                self.slots.put(place, slot)?;
-                Ok(self.nothing())
+                self.note(place, slot)
             }
             Act::Hold => {
                 self.holds.push(Hold { place, kept: None })?;
                 Ok(self.nothing())
             }
-            Act::Release => {
-                let outs = all_kept(*self.holds.allocator(), self.holds.as_slice(), place)?;
-                end_holds(&mut self.holds, place);
-                Ok(outs)
-            }
+            Act::Release => self.let_out(place),
             Act::Mobile(habit) => {
                 let slot = Slot {
                     habit,
                     ..self.slot(place)
                 };
-                self.slots.put(place, slot)?;
-                Ok(self.nothing())
+                self.note(place, slot)
+            }
+            Act::Double => {
+                let slot = doubled(self.slot(place));
+                self.note(place, slot)
+            }
+            Act::Cut(octets) => {
+                let slot = cut(self.slot(place), octets);
+                self.note(place, slot)
             }
         }
+    }
+}
+
+/// A channel whose next answer comes twice.
+fn doubled(slot: Slot) -> Slot
+    ensures { result ≡ doubled slot }
+{
+    Slot {
+        impairment: Impairment {
+            doubles: true,
+            ..slot.impairment
+        },
+        ..slot
+    }
+}
+
+/// A channel whose next answer is cut to its first octets, so many.
+fn cut(slot: Slot, octets: u8) -> Slot
+    ensures { result ≡ cut slot octets }
+{
+    Slot {
+        impairment: Impairment {
+            cut: Some(octets),
+            ..slot.impairment
+        },
+        ..slot
     }
 }
 

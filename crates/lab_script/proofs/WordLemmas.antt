@@ -1,5 +1,5 @@
 -- Facts of the words and numbers of a line.
-use Rattle.std.proofs.Common.{◌≡◌, ◌≢◌, ℕ, ◌<◌, ◌^◌, ◌%◌, ◌∷◌, List, [], Bool, true, false, Option, Some, None, Result, Ok, Err, refl, sym, ap, ◌∙◌, arith, rules, length, is_some, option_map, ◌==◌, Bor, MatchOption, bytes_eq, codes}
+use Rattle.std.proofs.Common.{◌≡◌, ◌≢◌, ℕ, ◌<◌, ◌^◌, ◌%◌, ◌∷◌, List, [], Bool, true, false, Option, Some, None, Result, Ok, Err, refl, sym, ap, ◌∙◌, arith, rules, length, is_some, option_map, option_and_then, ◌==◌, Bor, MatchOption, bytes_eq, codes}
 use Rattle.std.specs.Char.{is_ascii_digit, is_ascii_hexdigit}
 use Rattle.std.specs.List.{list_all, join_with_byte, onto_first, position_or_len, before_first, after_first}
 use Rattle.std.specs.Result.{result_ok}
@@ -11,12 +11,12 @@ use Rattle.hex.proofs.HexLemmas.{decode_of-digits, decode_of-ok}
 use Rattle.hex.specs.declared.error.FromHexError.{FromHexError}
 use Rattle.hex.specs.Hex.{decode_of, is_hex_digit}
 use Rattle.channel_fsm.specs.declared.ChanId.{ChanId}
-use Rattle.bts_model.specs.declared.setting.Act.TheVariants.{Mobile}
+use Rattle.bts_model.specs.declared.setting.Act.TheVariants.{Mobile, Cut}
 use Rattle.lab_script.specs.declared.side.Side.{Side}
 use Rattle.lab_script.specs.Words.{words_of, number_below, octets_of, channel_at, channel_of}
 use Rattle.lab_script.specs.Operators.{handover_at, handover_of, call_of, timer_of, expiry_at, expiry_of}
 use Rattle.lab_script.specs.Received.{abis_at, abis_of, a_at, a_of}
-use Rattle.lab_script.specs.Stations.{habit_of, setting_at, mobile_of}
+use Rattle.lab_script.specs.Stations.{habit_of, setting_at, mobile_of, unless_none, count_of, cut_of}
 
 -- a text of digits alone is a numeral
 numerals : IsNumeralModel (λ ds. list_all is_ascii_digit ds ≡ true) (digits_value 10)
@@ -110,6 +110,14 @@ lone_number limit text = lone_word (number_below limit) text (λ more. by_digits
     by_digits : (digits : Bool) → list_all is_ascii_digit text ≡ digits → words_of text ≢ text ∷ [] → number_below limit text ≡ None
     by_digits true e more = absurd (more (one_word is_ascii_digit refl text e))
     by_digits false e more = rw e (search rules)
+
+pub lone_count : (text : List ℕ) → lone count_of (words_of text) ≡ count_of text
+lone_count text = by_words (words_of text) ∙ ap (option_and_then unless_none) (lone_number 256 text)
+  where
+    by_words : (words : List (List ℕ)) → lone count_of words ≡ option_and_then unless_none (lone (number_below 256) words)
+    by_words [] = refl
+    by_words (word ∷ []) = refl
+    by_words (word ∷ next ∷ rest) = refl
 
 -- octets in hexadecimal are one word
 pub lone_octets : (text : List ℕ) → lone octets_of (words_of text) ≡ octets_of text
@@ -219,6 +227,18 @@ mobile_words side cell trx tn habit = by_words (words_of habit) ∙ ap (λ h. se
     nothing None = refl
 
     by_words : (words : List (List ℕ)) → mobile_of side (cell ∷ trx ∷ tn ∷ words) ≡ setting_at side (channel_at (number_below 256 cell) (number_below 256 trx) (number_below 8 tn)) (option_map Mobile (lone habit_of words))
+    by_words [] = sym (nothing _)
+    by_words (word ∷ []) = refl
+    by_words (word ∷ next ∷ rest) = sym (nothing _)
+
+pub cut_words_of : (side : Side) (cell trx tn count : List ℕ) → cut_of side (cell ∷ trx ∷ tn ∷ words_of count) ≡ setting_at side (channel_at (number_below 256 cell) (number_below 256 trx) (number_below 8 tn)) (option_map Cut (count_of count))
+cut_words_of side cell trx tn count = by_words (words_of count) ∙ ap (λ n. setting_at side (channel_at (number_below 256 cell) (number_below 256 trx) (number_below 8 tn)) (option_map Cut n)) (lone_count count)
+  where
+    nothing : (x : Option ChanId) → setting_at side x None ≡ None
+    nothing (Some x) = refl
+    nothing None = refl
+
+    by_words : (words : List (List ℕ)) → cut_of side (cell ∷ trx ∷ tn ∷ words) ≡ setting_at side (channel_at (number_below 256 cell) (number_below 256 trx) (number_below 8 tn)) (option_map Cut (lone count_of words))
     by_words [] = sym (nothing _)
     by_words (word ∷ []) = refl
     by_words (word ∷ next ∷ rest) = sym (nothing _)

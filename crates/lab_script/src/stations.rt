@@ -5,7 +5,7 @@ ghost use Rattle.lab_script.specs.Operators.{call_of};
 ghost use Rattle.lab_script.specs.Stations as said;
 
 use crate::side::Side;
-use crate::words::{call_number, channel, channel_at, first_word};
+use crate::words::{call_number, channel, channel_at, count, first_word};
 use bts_model::{Act, Habit, Setting};
 use channel_fsm::ChanId;
 
@@ -51,6 +51,16 @@ fn mobile(side: Side, text: &str) -> Option<Setting>
     Some(setting(side, channel_at(cell, trx, tn)?, Act::Mobile(habit(name)?)))
 }
 
+/// `CELL TRX TN N`
+fn cut(side: Side, text: &str) -> Option<Setting>
+    ensures { result ≡ said.cut_of side (words_of text.now) }
+{
+    let (cell, text) = first_word(text)?;
+    let (trx, text) = first_word(text)?;
+    let (tn, octets) = first_word(text)?;
+    Some(setting(side, channel_at(cell, trx, tn)?, Act::Cut(count(octets)?)))
+}
+
 /// The act of this keyword, which a channel follows.
 fn act(keyword: &str) -> Option<Act>
     ensures { result ≡ said.act_of keyword.now }
@@ -59,6 +69,7 @@ fn act(keyword: &str) -> Option<Act>
         "refuse" => Some(Act::Refuse),
         "hold" => Some(Act::Hold),
         "let" => Some(Act::Release),
+        "double" => Some(Act::Double),
         _ => None,
     }
 }
@@ -67,11 +78,10 @@ fn act(keyword: &str) -> Option<Act>
 pub(crate) fn setting_line(side: Side, line: &str) -> Option<Setting>
     ensures { result ≡ said.setting_line side (words_of line.now) }
 {
-    let (keyword, text) = first_word(line)?;
-    if keyword == "mobile" {
-        mobile(side, text)
-    } else {
-        Some(setting(side, channel(text)?, act(keyword)?))
+    match first_word(line)? {
+        ("mobile", text) => mobile(side, text),
+        ("cut", text) => cut(side, text),
+        (keyword, text) => Some(setting(side, channel(text)?, act(keyword)?)),
     }
 }
 

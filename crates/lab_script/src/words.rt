@@ -3,6 +3,7 @@ ghost use Rattle.std.specs.Prelude.{◌≡◌, ◌∷◌, [], MatchOption, is_so
 ghost use Rattle.std.specs.Char.{is_ascii_digit, is_ascii_hexdigit};
 ghost use Rattle.std.specs.List.{list_all};
 ghost use Rattle.lab_script.specs.Words as said;
+ghost use Rattle.lab_script.specs.Stations.{count_of};
 
 use channel_fsm::ChanId;
 use rsl_messages::Octets;
@@ -42,6 +43,16 @@ pub(crate) fn octet(text: &str) -> Option<u8>
         text.parse().ok()
     } else {
         None
+    }
+}
+
+/// The number from 1 to 255 that the digits of a text write.
+pub(crate) fn count(text: &str) -> Option<u8>
+    ensures { result ≡ count_of text.now }
+{
+    match octet(text) {
+        Some(0) | None => None,
+        Some(count) => Some(count),
     }
 }
 

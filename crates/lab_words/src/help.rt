@@ -20,6 +20,8 @@ Lines of a script (one blank between two words, numbers in decimal, HEX in hexad
   hold CELL TRX TN            behind sim: the station keeps its next acknowledgement back
   let CELL TRX TN             behind sim: the station sends what it has kept back
   mobile CELL TRX TN HABIT    behind sim: arrive, return or vanish, when commanded to move
+  double CELL TRX TN          behind sim: the next answer about the channel comes twice
+  cut CELL TRX TN N           behind sim: the next answer is cut to N octets, 1 to 255
   hangup CALL                 behind sim: the switching centre hangs up
   2: LINE                     with --peer: each of these but sim, for the second controller
   # TEXT                      a comment",

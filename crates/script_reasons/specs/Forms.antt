@@ -5,7 +5,7 @@ use Rattle.script_reasons.specs.declared.forms.Slot.{Slot}
 use Rattle.script_reasons.specs.declared.forms.Slot.TheVariants as slot
 use Rattle.script_reasons.specs.declared.forms.Form.{Form}
 use Rattle.script_reasons.specs.declared.forms.Form.TheVariants as form
-use Rattle.script_reasons.specs.Words.{is_number_below, is_octets, is_timer, is_habit}
+use Rattle.script_reasons.specs.Words.{is_number_below, is_octets, is_timer, is_habit, is_count}
 
 -- a word may stand in a slot
 abbrev pub fits : Slot → List ℕ → Bool
@@ -16,6 +16,7 @@ fits slot.Timeslot word = is_number_below 8 word
 fits slot.Octets word = is_octets word
 fits slot.Timer word = is_timer word
 fits slot.Habit word = is_habit word
+fits slot.Count word = is_count word
 
 -- the first word of a line of this form
 abbrev pub keyword : Form → List ℕ
@@ -31,6 +32,8 @@ keyword form.Refuse = codes "refuse"
 keyword form.Hold = codes "hold"
 keyword form.Let = codes "let"
 keyword form.Mobile = codes "mobile"
+keyword form.Double = codes "double"
+keyword form.Cut = codes "cut"
 keyword form.HangUp = codes "hangup"
 
 -- the forms of lines of an operator, of a timer and of messages
@@ -39,7 +42,7 @@ input_forms = form.Open ∷ form.Handover ∷ form.Undo ∷ form.Clear ∷ form.
 
 -- and of what is simulated
 abbrev pub simulated_forms : List Form
-simulated_forms = form.Sim ∷ form.Refuse ∷ form.Hold ∷ form.Let ∷ form.Mobile ∷ form.HangUp ∷ []
+simulated_forms = form.Sim ∷ form.Refuse ∷ form.Hold ∷ form.Let ∷ form.Mobile ∷ form.Double ∷ form.Cut ∷ form.HangUp ∷ []
 
 -- the one of some forms that has this keyword
 abbrev pub form_among : List Form → List ℕ → Option Form
@@ -63,6 +66,8 @@ slots_of form.Refuse = slot.Cell ∷ slot.Trx ∷ slot.Timeslot ∷ []
 slots_of form.Hold = slot.Cell ∷ slot.Trx ∷ slot.Timeslot ∷ []
 slots_of form.Let = slot.Cell ∷ slot.Trx ∷ slot.Timeslot ∷ []
 slots_of form.Mobile = slot.Cell ∷ slot.Trx ∷ slot.Timeslot ∷ slot.Habit ∷ []
+slots_of form.Double = slot.Cell ∷ slot.Trx ∷ slot.Timeslot ∷ []
+slots_of form.Cut = slot.Cell ∷ slot.Trx ∷ slot.Timeslot ∷ slot.Count ∷ []
 slots_of form.HangUp = slot.Call ∷ []
 
 -- a line of this form asks something of what is simulated
@@ -79,6 +84,8 @@ needs_sim form.Refuse = true
 needs_sim form.Hold = true
 needs_sim form.Let = true
 needs_sim form.Mobile = true
+needs_sim form.Double = true
+needs_sim form.Cut = true
 needs_sim form.HangUp = true
 
 -- a line of this form attaches it
@@ -95,4 +102,6 @@ is_sim form.Refuse = false
 is_sim form.Hold = false
 is_sim form.Let = false
 is_sim form.Mobile = false
+is_sim form.Double = false
+is_sim form.Cut = false
 is_sim form.HangUp = false

@@ -24,6 +24,10 @@ number_below limit text = if is_number text && nat_lt (digits_value 10 text) lim
 abbrev pub is_number_below : ℕ → List ℕ → Bool
 is_number_below limit text = is_some (number_below limit text)
 
+-- a number from 1 to 255
+abbrev pub is_count : List ℕ → Bool
+is_count text = is_number_below 256 text && not (is_number_below 1 text)
+
 -- one octet or more, in two hexadecimal digits each
 abbrev pub is_octets : List ℕ → Bool
 is_octets text = not (length text == 0) && length text % 2 == 0 && list_all is_ascii_hexdigit text

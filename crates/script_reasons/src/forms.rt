@@ -2,7 +2,7 @@
 ghost use Rattle.std.specs.Prelude.{◌≡◌, Some};
 ghost use Rattle.script_reasons.specs.Forms as said;
 
-use crate::words::{is_habit, is_number_below, is_octets, is_timer};
+use crate::words::{is_count, is_habit, is_number_below, is_octets, is_timer};
 
 /// What a word of a line is.
 #[derive(Clone, Copy, Debug, PartialEq, Eq)]
@@ -21,6 +21,8 @@ pub enum Slot {
     Timer,
     /// What mobiles on a channel do.
     Habit,
+    /// A number of octets, 1 to 255.
+    Count,
 }
 
 impl Slot {
@@ -35,6 +37,7 @@ impl Slot {
             Slot::Octets => is_octets(word),
             Slot::Timer => is_timer(word),
             Slot::Habit => is_habit(word),
+            Slot::Count => is_count(word),
         }
     }
 }
@@ -54,6 +57,8 @@ pub enum Form {
     Hold,
     Let,
     Mobile,
+    Double,
+    Cut,
     HangUp,
 }
 
@@ -83,6 +88,8 @@ fn simulated_form(keyword: &str) -> Option<Form>
         "hold" => Some(Form::Hold),
         "let" => Some(Form::Let),
         "mobile" => Some(Form::Mobile),
+        "double" => Some(Form::Double),
+        "cut" => Some(Form::Cut),
         "hangup" => Some(Form::HangUp),
         _ => None,
     }
@@ -119,6 +126,8 @@ impl Form {
             Form::Hold => "hold",
             Form::Let => "let",
             Form::Mobile => "mobile",
+            Form::Double => "double",
+            Form::Cut => "cut",
             Form::HangUp => "hangup",
         }
     }
@@ -135,8 +144,11 @@ impl Form {
             Form::Abis => &[Slot::Cell, Slot::Trx, Slot::Octets],
             Form::A => &[Slot::Call, Slot::Octets],
             Form::Sim => &[],
-            Form::Refuse | Form::Hold | Form::Let => &[Slot::Cell, Slot::Trx, Slot::Timeslot],
+            Form::Refuse | Form::Hold | Form::Let | Form::Double => {
+                &[Slot::Cell, Slot::Trx, Slot::Timeslot]
+            }
             Form::Mobile => &[Slot::Cell, Slot::Trx, Slot::Timeslot, Slot::Habit],
+            Form::Cut => &[Slot::Cell, Slot::Trx, Slot::Timeslot, Slot::Count],
         }
     }
 
@@ -145,7 +157,13 @@ impl Form {
         ensures { result ≡ said.needs_sim self }
     {
         match self {
-            Form::Refuse | Form::Hold | Form::Let | Form::Mobile | Form::HangUp => true,
+            Form::Refuse
+            | Form::Hold
+            | Form::Let
+            | Form::Mobile
+            | Form::Double
+            | Form::Cut
+            | Form::HangUp => true,
             Form::Open
             | Form::Handover
             | Form::Undo
@@ -174,6 +192,8 @@ impl Form {
             | Form::Hold
             | Form::Let
             | Form::Mobile
+            | Form::Double
+            | Form::Cut
             | Form::HangUp => false,
         }
     }

@@ -42,6 +42,7 @@ impl Slot {
             Slot::Octets => "HEX",
             Slot::Timer => "TIMER",
             Slot::Habit => "HABIT",
+            Slot::Count => "N",
         }
     }
 
@@ -54,6 +55,7 @@ impl Slot {
             Slot::Octets => "one octet or more, each in two hexadecimal digits",
             Slot::Timer => "T3103, T7 or T8",
             Slot::Habit => "arrive, return or vanish",
+            Slot::Count => "1 to 255",
         }
     }
 }
@@ -68,12 +70,11 @@ impl fmt::Display for Form {
     }
 }
 
-/// What may begin a line, and what a line of the second controller behind `2: `.
-const KEYWORDS: &str =
-    "open, handover, undo, clear, expire, abis, a, sim, refuse, hold, let, mobile or hangup, with 2: and a blank, or with #";
+/// What may begin a line that gives a controller something.
+const INPUTS: &str = "open, handover, undo, clear, expire, abis, a";
 
-const PEER_KEYWORDS: &str =
-    "open, handover, undo, clear, expire, abis, a, refuse, hold, let, mobile or hangup";
+/// And one that asks something of what is simulated.
+const SETTINGS: &str = "refuse, hold, let, mobile, double, cut or hangup";
 
 impl fmt::Display for Reason<'_> {
     fn fmt<W: fmt::Write>(&self, f: &mut fmt::Formatter<W>) -> fmt::Result {
@@ -92,8 +93,13 @@ impl fmt::Display for Reason<'_> {
                 f,
                 "2: is for a second controller, and there is none (--peer SITE)"
             ),
-            Fault::Keyword => write!(f, "a line begins with {KEYWORDS}, found {more}"),
-            Fault::PeerKeyword => write!(f, "behind 2: stands {PEER_KEYWORDS}, found {found}"),
+            Fault::Keyword => write!(
+                f,
+                "a line begins with {INPUTS}, sim, {SETTINGS}, with 2: and a blank, or with #, found {more}"
+            ),
+            Fault::PeerKeyword => {
+                write!(f, "behind 2: stands {INPUTS}, {SETTINGS}, found {found}")
+            }
             Fault::PeerSim => write!(f, "sim is for both controllers, and stands without 2:"),
             Fault::Word(slot) => {
                 write!(f, "{} is {}, found {found}", slot.name(), slot.allowed())

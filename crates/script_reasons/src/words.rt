@@ -44,6 +44,13 @@ pub(crate) fn is_number_below(text: &str, limit: u32) -> bool
     }
 }
 
+/// Whether a text writes a number from 1 to 255.
+pub(crate) fn is_count(text: &str) -> bool
+    ensures { result ≡ said.is_count text.now }
+{
+    is_number_below(text, 256) && !is_number_below(text, 1)
+}
+
 /// Whether a text has hexadecimal digits alone.
 fn is_hex_digits(text: &str) -> bool
     ensures { result ≡ list_all is_ascii_hexdigit text.now }

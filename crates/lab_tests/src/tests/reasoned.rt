@@ -18,6 +18,8 @@ const FRONTS: &[&str] = &[
     "hold",
     "let",
     "mobile",
+    "double",
+    "cut",
     "hangup",
     "2: open",
     "2: handover",
@@ -31,6 +33,8 @@ const FRONTS: &[&str] = &[
     "2: hold",
     "2: let",
     "2: mobile",
+    "2: double",
+    "2: cut",
     "2: hangup",
     "",
     " ",
@@ -104,6 +108,12 @@ const RESTS: &[&str] = &[
     " 0 0 3 stay",
     " 0 0 8 arrive",
     " 0 0 3 arrive ",
+    " 0 0 3 0",
+    " 0 0 3 1",
+    " 0 0 3 255",
+    " 0 0 3 256",
+    " 0 0 8 1",
+    " 0 0 3 1 ",
 ];
 
 /// Asserts that a line has a reason exactly where it can't be read, with a second controller and without.

@@ -170,6 +170,19 @@ const COURSE: &[Row] = &[
     (Send(1, 0, 0, COMMAND), &[(1, 0, 0, FAILURE)]),
     (Send(0, 0, 0, RELEASE), &[(0, 0, 0, RELEASED)]),
     (Send(0, 0, 0, b"\x08\x2e\x01"), &[]),
+    (Set(0, HOME, Act::Cut(7)), &[]),
+    (Set(0, HOME, Act::Double), &[]),
+    (Send(0, 0, 0, ACTIVATE), &[(0, 0, 0, ACK), (0, 0, 0, ACK)]),
+    (Send(0, 1, 1, ACTIVATE_42), &[(0, 1, 1, ACK)]),
+    (Set(0, TARGET, Act::Double), &[]),
+    (
+        Send(0, 0, 0, COMMAND),
+        &[
+            (0, 1, 1, DETECTION),
+            (0, 1, 1, DETECTION),
+            (0, 1, 1, COMPLETE),
+        ],
+    ),
 ];
 
 // Asks one row: the answer is an allocation failure exactly where memory was refused. Asked again, the world, which is as

@@ -57,6 +57,22 @@ const VANISH: Setting = Setting {
     ..SETTING
 };
 
+const DOUBLE: Setting = Setting {
+    act: Act::Double,
+    ..SETTING
+};
+
+const CUT: Setting = Setting {
+    act: Act::Cut(255),
+    ..SETTING
+};
+
+/// A cut there, but of the second controller.
+const PEER_CUT: Setting = Setting {
+    act: Act::Cut(1),
+    ..PEER_HOLD
+};
+
 /// A script of each line that there is, for two controllers.
 const SCRIPT: &str = "# a comment\r\n \t\nopen 0001 255 254 07\r\nhandover 2 255
 undo 65535
@@ -73,6 +89,9 @@ let 255 254 7
 mobile 255 254 7 arrive
 mobile 255 254 7 return
 mobile 255 254 7 vanish
+double 255 254 7
+cut 255 254 7 255
+2: cut 255 254 7 001
 2: hangup 9";
 
 /// What they give, and for which controller.
@@ -106,6 +125,9 @@ const ITEMS: &[(Side, Gives<'static>)] = &[
     (Side::First, Set(ARRIVE)),
     (Side::First, Set(RETURN)),
     (Side::First, Set(VANISH)),
+    (Side::First, Set(DOUBLE)),
+    (Side::First, Set(CUT)),
+    (Side::Peer, Set(PEER_CUT)),
     (Side::Peer, HangUp(9)),
 ];
 

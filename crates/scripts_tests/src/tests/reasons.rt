@@ -7,7 +7,7 @@ use std::process::Abort;
 
 /// What a line begins with.
 const WORDS: &str =
-    "open, handover, undo, clear, expire, abis, a, sim, refuse, hold, let, mobile or hangup";
+    "open, handover, undo, clear, expire, abis, a, sim, refuse, hold, let, mobile, double, cut or hangup";
 
 /// Lines that can't be read, with a second controller, and why.
 const UNREAD: &[(&str, &str)] = &[
@@ -28,6 +28,10 @@ const UNREAD: &[(&str, &str)] = &[
         "2: mobile 0 0 3 stay",
         "HABIT is arrive, return or vanish, found stay",
     ),
+    ("double 0 0 8", "TN is 0 to 7, found 8"),
+    ("cut 0 0 3 0", "N is 1 to 255, found 0"),
+    ("2: cut 0 0 3 256", "N is 1 to 255, found 256"),
+    ("cut 0 0 3 +1", "N is 1 to 255, found +1"),
     (
         "open  1 0 0 3",
         "CALL is 0 to 65535, found two blanks, or one at the end",
@@ -40,7 +44,17 @@ const UNREAD: &[(&str, &str)] = &[
     ("undo", "CALL is missing in undo CALL"),
     ("open 1 0 0", "TN is missing in open CALL CELL TRX TN"),
     ("mobile 0", "TRX is missing in mobile CELL TRX TN HABIT"),
+    ("double 0 0", "TN is missing in double CELL TRX TN"),
+    ("cut 0 0 3", "N is missing in cut CELL TRX TN N"),
     ("clear 1 1 2", "nothing stands behind clear CALL, found 1"),
+    (
+        "double 0 0 3 2",
+        "nothing stands behind double CELL TRX TN, found 2",
+    ),
+    (
+        "cut 0 0 3 4 5",
+        "nothing stands behind cut CELL TRX TN N, found 5",
+    ),
     (
         "abis 0 0 08 33",
         "nothing stands behind abis CELL TRX HEX, found 33",
@@ -48,11 +62,11 @@ const UNREAD: &[(&str, &str)] = &[
     ("sim ", "nothing stands behind sim, found a blank"),
     (
         "2: # a comment",
-        "behind 2: stands open, handover, undo, clear, expire, abis, a, refuse, hold, let, mobile or hangup, found #",
+        "behind 2: stands open, handover, undo, clear, expire, abis, a, refuse, hold, let, mobile, double, cut or hangup, found #",
     ),
     (
         "2: ",
-        "behind 2: stands open, handover, undo, clear, expire, abis, a, refuse, hold, let, mobile or hangup, found two blanks, or one at the end",
+        "behind 2: stands open, handover, undo, clear, expire, abis, a, refuse, hold, let, mobile, double, cut or hangup, found two blanks, or one at the end",
     ),
     (
         "2: sim 1",

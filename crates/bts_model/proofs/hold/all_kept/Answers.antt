@@ -1,11 +1,11 @@
-use Rattle.std.proofs.Common.{None, subst, IsSome}
+use Rattle.std.proofs.Common.{None, IsSome, sym, ap, ◌∙◌, is_some}
 use Rattle.bts_model.specs.declared.hold.Hold.{Hold}
 use Rattle.bts_model.proofs.KeptFacts.{some_kept}
 use Rattle.bts_model.proofs.Results.{err_holds}
 use Rattle.bts_model.proofs.hold.all_kept.Goals as goal
 
-pub returns-in_err-send_any-clause-memory : goal.returns-in_err-send_any-clause-memory
-returns-in_err-send_any-clause-memory g c =
+pub returns-in_err-push-clause-memory : goal.returns-in_err-push-clause-memory
+returns-in_err-push-clause-memory g c =
     let none : Hold = record { place = record { controller = 0; cell = 0; trx = 0; tn = 0 }; kept = None } in
-    let some = subst IsSome c.kept_by.ensures c.in_err-send_any.ensures.memory in
+    let some = ap is_some (sym c.kept_by.ensures ∙ c.in-Some.is) in
     err_holds c.from_residual.result (some_kept c.args.place c.args.holds.now c.loop-hold.hold-index none c.loop-hold-test.true some)

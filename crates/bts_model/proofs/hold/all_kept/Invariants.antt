@@ -1,9 +1,7 @@
-use Rattle.std.proofs.Common.{◌≡◌, ◌++◌, map, drop}
-use Rattle.bts_model.specs.Answers.{out_of}
+use Rattle.std.proofs.Common.{◌≡◌, ◌++◌, drop}
 use Rattle.bts_model.specs.Holds.{kept_of}
 use Rattle.bts_model.proofs.hold.all_kept.Given as goal
 
--- what was sent so far, and what is kept by the holds that are left
+-- what was taken so far, and what is kept by the holds that are left
 abbrev pub invariant-loop-hold : goal.invariant-loop-hold
-invariant-loop-hold g l =
-    l.outs.items ++ map out_of (kept_of l.place (drop l.hold-index l.holds)) ≡ map out_of (kept_of l.place l.holds)
+invariant-loop-hold g l = l.kept.items ++ kept_of l.place (drop l.hold-index l.holds) ≡ kept_of l.place l.holds

@@ -14,4 +14,4 @@ returns-in-Some g c =
 pub returns-in-None : goal.returns-in-None
 returns-in-None g c =
     let absent = sym (ap (λ m. map.get m c.args.place) c.self.view_is) ∙ get_listed place_total c.self.inside.entries.entries c.args.place ∙ sym c.get.ensures.value ∙ ap option_copied c.in-None.is in
-    sym (ap (λ o. unwrap_or o idle) absent)
+    rw c.none.ensures (sym (ap (λ o. unwrap_or o idle) absent))
