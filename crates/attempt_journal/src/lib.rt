@@ -43,24 +43,35 @@ pub enum Inverse {
     Rearm(Timer),
 }
 
-/// A list of up to seven inverses, last in first out. It keeps them in itself, and takes no memory.
-#[derive(Drop)]
+/// A list of up to seven inverses, last in first out. It keeps them in itself: it is copied as plain data, and takes no
+/// memory.
+#[derive(Clone, Copy, Debug)]
 pub struct Journal {
+    // Behind those that were pushed stands `Settle`, so that equal lists are equal data.
     inverses: [Inverse; 7],
-    // How many of them were pushed; those behind say nothing.
-    pushed: usize,
+    // How many were pushed.
+    pushed: u8,
 }
 
 impl Model for Journal {
-    ghost use Rattle.std.specs.Prelude.{List, take, ◌≤◌, ◌≡◌, length};
+    ghost use Rattle.std.specs.Prelude.{List, take, drop, ◌≤◌, ◌≡◌, length};
     ghost use Rattle.attempt_journal.specs.declared.Inverse.{Inverse};
+    ghost use Rattle.attempt_journal.specs.Padding.{pad, padded, padded_again};
 
     ghost Value = { List Inverse };
 
     ghost view = { λ journal. take journal.pushed journal.inverses };
 
-    // no more is pushed than there is room for, and that is seven whatever was written
-    ghost invariant = { λ journal. (journal.pushed ≤ 7) × (length journal.inverses ≡ 7) };
+    ghost inverse = { λ items. record { inverses = padded items; pushed = length items } };
+
+    // no more is pushed than there is room for, which is seven whatever was written, and the rest is padding
+    ghost invariant = { λ journal. (journal.pushed ≤ 7) × (length journal.inverses ≡ 7) ×
+        (drop journal.pushed journal.inverses ≡ pad journal.pushed) };
+
+    ghost inverse_ok = { λ a h. λ i. record {
+      inverses = (padded_again a.inverses a.pushed h.0 h.1 h.2).0 i;
+      pushed = (padded_again a.inverses a.pushed h.0 h.1 h.2).1 i;
+    } };
 }
 
 impl Journal {
@@ -74,22 +85,12 @@ impl Journal {
         }
     }
 
-    /// The same inverses again.
-    pub fn copy(&self) -> Journal
-        ensures same { result ≡ self.now }
-    {
-        Journal {
-            inverses: self.inverses,
-            pushed: self.pushed,
-        }
-    }
-
     /// How many inverses it has, 0 to 7.
     pub fn len(&self) -> usize
         ensures count { result ≡ length self.now }
         ensures most { result ≤ 7 }
     {
-        self.pushed
+        usize::from(self.pushed)
     }
 
     /// Whether it has no inverse.
@@ -105,7 +106,7 @@ impl Journal {
         ensures pushed { self.new ≡ self.old ++ inverse ∷ [] }
     {
         let next = self.pushed;
-        self.inverses[next] = inverse;
+        self.inverses[usize::from(next)] = inverse;
         self.pushed = next + 1;
     }
 
@@ -118,7 +119,16 @@ impl Journal {
             return None;
         }
         let last = self.pushed - 1;
+        let inverse = self.inverses[usize::from(last)];
+        self.inverses[usize::from(last)] = Inverse::Settle;
         self.pushed = last;
-        Some(self.inverses[last])
+        Some(inverse)
+    }
+
+    /// Takes all inverses out.
+    pub fn clear(&mut self)
+        ensures empty { self.new ≡ [] }
+    {
+        *self = Journal::new();
     }
 }

@@ -50,7 +50,7 @@ fn seven_come_back_last_first(rt: HostRuntime) {
     let mut journal = Journal::new();
     assert!(rt; journal.is_empty());
     pushes(&rt, &mut journal);
-    let mut again = journal.copy();
+    let mut again = journal;
     pops(&rt, &mut journal);
     assert_eq!(rt; again.len(), 7);
     pops(&rt, &mut again);

@@ -95,7 +95,7 @@ impl CallEntry {
         CallEntry {
             record: self.record,
             timer: self.timer,
-            journal: self.journal.copy(),
+            journal: self.journal,
         }
     }
 
@@ -247,7 +247,7 @@ impl CallEntry {
             attempt: None,
         };
         self.timer = None;
-        self.journal = Journal::new();
+        self.journal.clear();
     }
 
     /// The attempt ends.
@@ -255,7 +255,7 @@ impl CallEntry {
         ensures { self.new ≡ record self.old { call = record self.old.call { attempt = None } } }
     {
         self.record.attempt = None;
-        self.journal = Journal::new();
+        self.journal.clear();
     }
 
     /// The attempt goes back one stage, from one that can.
