@@ -41,11 +41,12 @@ fn ask_in_turn(rt: &(impl Wait + Abort), alloc: Global) -> Result<(), Fail> {
     let mut other = Shared::new(rt, alloc, lock.clone()?);
     one.judge(Event::Open(1, HOME))?;
     other.judge(Event::Open(2, OTHER))?;
+    one.judge(Event::Confirm(HOME))?;
     let taken = one.judge_take(1, Kind::Internal, 1)?;
     let none = other.judge_take(2, Kind::Internal, 1)?;
     assert!(rt; taken.is_some() && none.is_none());
     one.judge_reserve(1)?;
-    have_places(rt, &one.into_receipts(), &[0, 2, 3]);
+    have_places(rt, &one.into_receipts(), &[0, 2, 3, 4]);
     have_places(rt, &other.into_receipts(), &[1]);
     Ok(())
 }
