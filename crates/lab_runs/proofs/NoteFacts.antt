@@ -1,5 +1,5 @@
 -- Facts of notes of where no channel was free.
-use Rattle.std.proofs.Common.{◌≡◌, ◌++◌, ◌∷◌, List, [], length, refl, sym, ap, subst, ◌∙◌, append_assoc, append-nil}
+use Rattle.std.proofs.Common.{◌≡◌, ◌++◌, ◌∷◌, List, [], Result, Ok, Err, OnErr, length, refl, sym, ap, subst, ◌∙◌, append_assoc, append-nil}
 use Rattle.std.specs.List.{All}
 use Rattle.std.proofs.lemmas.List.Elements.{All-weaker, All-push}
 use Rattle.radio_desk.specs.Desk.{DeskState}
@@ -29,6 +29,12 @@ stay_true d d' more notes said grown = All-weaker (IsTrueNote d) (IsTrueNote d')
 pub still_true : (d d' : DeskState) (notes : List Note) → ((es : List Entry) → (claim : Claim) → IsTrueAfter d'.opening es claim → IsTrueAfter d.opening es claim)
     → d'.history ≡ d.history → All (IsTrueNote d) notes → All (IsTrueNote d') notes
 still_true d d' notes said same = stay_true d d' [] notes said (same ∙ sym (append-nil d.history))
+
+-- and where a call may have failed, and left it so
+pub true_after : {X E : Type 0} (d d' : DeskState) (notes : List Note) (r : Result X E) (entries : X → List Entry) → ((es : List Entry) → (claim : Claim) → IsTrueAfter d'.opening es claim → IsTrueAfter d.opening es claim)
+    → ((x : X) → r ≡ Ok x → d'.history ≡ d.history ++ entries x) → OnErr r (d'.history ≡ d.history) → All (IsTrueNote d) notes → All (IsTrueNote d') notes
+true_after d d' notes (Ok x) entries said grown same = stay_true d d' (entries x) notes said (grown x refl)
+true_after d d' notes (Err e) entries said grown same = still_true d d' notes said same
 
 -- one more is true where no channel of its cell is free
 pub one_more_true : (d d' : DeskState) (notes : List Note) (n : Note) → ((es : List Entry) → (claim : Claim) → IsTrueAfter d'.opening es claim → IsTrueAfter d.opening es claim)

@@ -1,8 +1,8 @@
 -- Facts of what was asked of a desk, from a place on.
-use Rattle.std.proofs.Common.{◌≡◌, ◌+◌, ◌++◌, ◌∷◌, ◌<◌, ◌==◌, ℕ, zero, suc, Bool, true, false, if◌then◌else◌, List, [], Some, None, drop, length, refl, sym, ap, subst, ◌∙◌, append_assoc, append-nil, add-one, rules, arith, slice_get}
+use Rattle.std.proofs.Common.{◌≡◌, ◌+◌, ◌++◌, ◌∷◌, ◌<◌, ◌==◌, ℕ, zero, suc, Bool, true, false, if◌then◌else◌, List, [], Some, None, drop, take, get_or, length, refl, sym, ap, subst, ◌∙◌, append_assoc, append-nil, add-one, rules, arith, slice_get}
 use Rattle.std.specs.List.{All}
-use Rattle.std.proofs.lemmas.Bool.{eqb-true}
-use Rattle.std.proofs.lemmas.List.{length_push}
+use Rattle.std.proofs.lemmas.Bool.{eqb-true, eq-eqb, ne_eqb}
+use Rattle.std.proofs.lemmas.List.{length_push, take_more}
 use Rattle.std.proofs.lemmas.List.Elements.{All-head, All-tail}
 use Rattle.radio_book.specs.State.{State}
 use Rattle.radio_desk.specs.Desk.{DeskState}
@@ -19,10 +19,29 @@ one_noted : (b : Bool) (cell : ℕ) (steps more : List Step) → (if b then None
 one_noted true cell steps more = refl
 one_noted false cell steps more = refl
 
-pub noted_more : (place : ℕ) (notes : List Note) (n : Note) → noted_at place (notes ++ n ∷ []) ≡ noted_at place notes ++ (if n.place == place then NoneFree n.cell ∷ [] else [])
+noted_more : (place : ℕ) (notes : List Note) (n : Note) → noted_at place (notes ++ n ∷ []) ≡ noted_at place notes ++ (if n.place == place then NoneFree n.cell ∷ [] else [])
 noted_more place [] n = refl
 noted_more place (m ∷ notes) n =
     ap (λ rest. if m.place == place then NoneFree m.cell ∷ rest else rest) (noted_more place notes n) ∙ sym (one_noted (m.place == place) m.cell (noted_at place notes) _)
+
+-- what a place has of one note more
+noted_next : (place : ℕ) (notes : List Note) (i : ℕ) (d : Note) (b : Bool) → i < length notes → ((get_or notes i d).place == place) ≡ b
+    → noted_at place (take (i + 1) notes) ≡ noted_at place (take i notes) ++ (if b then NoneFree (get_or notes i d).cell ∷ [] else [])
+noted_next place notes i d b l test =
+    ap (noted_at place) (take_more notes i d l) ∙ (noted_more place (take i notes) (get_or notes i d)
+    ∙ ap (λ test. noted_at place (take i notes) ++ (if test then NoneFree (get_or notes i d).cell ∷ [] else [])) test)
+
+-- a note of the place was told
+pub noted_told : (told steps more : List Step) (place : ℕ) (notes : List Note) (i : ℕ) (d : Note) → i < length notes → steps ≡ told ++ noted_at place (take i notes)
+    → (get_or notes i d).place ≡ place → more ≡ steps ++ NoneFree (get_or notes i d).cell ∷ [] → more ≡ told ++ noted_at place (take (i + 1) notes)
+noted_told told steps more place notes i d l before is e =
+    rw (noted_next place notes i d true l (eq-eqb _ _ is)) (e ∙ (ap (λ front. front ++ NoneFree (get_or notes i d).cell ∷ []) before ∙ append_assoc told _ _))
+
+-- a note of another place wasn't
+pub noted_passed : (told steps : List Step) (place : ℕ) (notes : List Note) (i : ℕ) (d : Note) → i < length notes → steps ≡ told ++ noted_at place (take i notes)
+    → ((get_or notes i d).place ≡ place → ⊥) → steps ≡ told ++ noted_at place (take (i + 1) notes)
+noted_passed told steps place notes i d l before other =
+    rw (noted_next place notes i d false l (ne_eqb _ _ other)) (before ∙ ap (λ rest. told ++ rest) (sym (append-nil _)))
 
 -- notes are no events
 one_asks_nothing : (b : Bool) (cell : ℕ) (steps more : List Step) → asked_in ((if b then NoneFree cell ∷ steps else steps) ++ more) ≡ asked_in (steps ++ more)

@@ -72,7 +72,6 @@ fn copy_of<A: Allocator + Copy>(alloc: A, input: &Inbound<A>) -> Result<Inbound<
 }
 
 /// Appends the notes of a place.
-#[tactic(auto, using(crate::proofs::StepFacts::noted_more))]
 fn push_notes<A: Allocator + Copy>(
     steps: &mut Vec<Step, A>,
     notes: &[Note],
