@@ -16,5 +16,5 @@ returns-clause-gives g c =
     let left = c.changed_and_left.ensures ∙ ap (λ known. option_or (slot_after known answers) c.args.change) c.slot_once-known.ensures in
     let put = c.in_ok-change.ensures.ok ∙ ap (changed slots x) left ∙ sym (changed_twice slots x c.args.change after) in
     let world = ap (λ s. record { trxs = c.self.inside.trxs.items; slots = s; holds = c.self.inside.holds.items }) put
-        ∙ ap (λ (w : WorldState). with_slot (with_slot w x c.args.change) x after) c.self.view_is in
+    ∙ ap (λ (w : WorldState). with_slot (with_slot w x c.args.change) x after) c.self.view_is in
     (world, c.in_ok-outs.ensures.outs ∙ ap (λ known. map out_of (all_departed known.impairment x answers)) c.slot_once-known.ensures)

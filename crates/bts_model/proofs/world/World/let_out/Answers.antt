@@ -16,11 +16,12 @@ returns-clause-gives g c =
     let kept = kept_of x w.holds in
     let without : WorldState = record w { holds = others x w.holds } in
     let answers : c.as_slice-2.result.now ≡ kept = c.as_slice-2.ensures.value ∙ c.in_ok-kept.ensures.kept
-        ∙ ap (kept_of x) (c.as_slice.ensures.value ∙ ap (λ v. v.holds) c.self.view_is) in
+    ∙ ap (kept_of x) (c.as_slice.ensures.value ∙ ap (λ v. v.holds) c.self.view_is) in
     let gives = c.in_ok-outs.ensures.gives in
     let leave = all_unheld without x kept (ended x w.holds kept) in
     let world = ap (λ holds. record { trxs = c.self-2.inside.trxs.items; slots = c.self-2.inside.slots; holds = holds }) c.end_holds.ensures
-        ∙ ap (λ (v : WorldState). record v { holds = others x v.holds }) (c.self-2.view_is ∙ gives.0)
-        ∙ ap (λ a. with_slot without x (slot_after slot a)) answers in
-    (world ∙ sym (ap (λ o. o.world) leave),
-     gives.1 ∙ ap (λ a. map out_of (all_departed slot.impairment x a)) answers ∙ sym (ap (λ o. map out_of o.sent) leave))
+    ∙ ap (λ (v : WorldState). record v { holds = others x v.holds }) (c.self-2.view_is ∙ gives.0)
+    ∙ ap (λ a. with_slot without x (slot_after slot a)) answers in (
+      world ∙ sym (ap (λ o. o.world) leave),
+      gives.1 ∙ ap (λ a. map out_of (all_departed slot.impairment x a)) answers ∙ sym (ap (λ o. map out_of o.sent) leave),
+    )
