@@ -1,5 +1,5 @@
 -- What a script says, line by line.
-use Rattle.std.specs.Prelude.{◌≡◌, ℕ, ◌==◌, ◌||◌, ◌&&◌, Bool, true, nat_lt, nat_eq, not, if◌then◌else◌, List, map, codes, Option, Some, None, is_some, option_map, bytes_eq, min, [], ◌∷◌}
+use Rattle.std.specs.Prelude.{◌≡◌, ℕ, ◌==◌, ◌||◌, ◌&&◌, Bool, true, nat_lt, nat_eq, not, if◌then◌else◌, List, map, codes, Option, Some, None, is_some, option_map, bytes_eq, min}
 use Rattle.std.specs.List.{slice_split, filter_map, list_all, starts_with, position_from}
 use Rattle.std.specs.Option.{option_or}
 use Rattle.std.specs.Str.Lines.{strip_carriage_return}

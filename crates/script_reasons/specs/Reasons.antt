@@ -1,6 +1,6 @@
 -- Why a line can't be read: the first thing that is wrong with it, and the word that is. Ours, of no standard.
 use Rattle.std.specs.Prelude.{ℕ, ◌-◌, ◌==◌, ◌||◌, ◌&&◌, Bool, not, nat_eq, if◌then◌else◌, List, [], ◌∷◌, map, Option, Some, None, option_map, option_and_then, slice_get}
-use Rattle.std.specs.List.{slice_split, filter_map, list_all, starts_with}
+use Rattle.std.specs.List.{slice_split, filter_map, starts_with}
 use Rattle.std.specs.Option.{option_or}
 use Rattle.std.specs.Str.Lines.{strip_carriage_return}
 use Rattle.lab_script.specs.Script.{is_comment, is_blank}

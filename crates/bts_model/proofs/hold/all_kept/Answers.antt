@@ -1,4 +1,4 @@
-use Rattle.std.proofs.Common.{None, IsSome, sym, ap, ◌∙◌, is_some}
+use Rattle.std.proofs.Common.{None, sym, ap, ◌∙◌, is_some}
 use Rattle.bts_model.specs.declared.hold.Hold.{Hold}
 use Rattle.bts_model.proofs.KeptFacts.{some_kept}
 use Rattle.bts_model.proofs.Results.{err_holds}

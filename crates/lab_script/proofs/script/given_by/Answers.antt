@@ -1,4 +1,4 @@
-use Rattle.std.proofs.Common.{◌≡◌, true, is_some, ap, refl, sym, subst, ℕ, List}
+use Rattle.std.proofs.Common.{◌≡◌, true, is_some, refl, subst, ℕ, List}
 use Rattle.lab_script.specs.Script.{input_of}
 use Rattle.lab_script.proofs.ScriptLemmas.{some_given}
 use Rattle.lab_script.proofs.script.given_by.Goals as goal

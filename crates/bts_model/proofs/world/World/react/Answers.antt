@@ -1,7 +1,7 @@
 use Rattle.std.proofs.Common.{◌≡◌, true, [], ◌∷◌, None, sym, ap, subst, ◌∙◌, rules, IfOk}
 use Rattle.bts_model.specs.World.{has_channel, with_slot}
 use Rattle.bts_model.specs.Holds.{hold_of}
-use Rattle.bts_model.specs.Steps.{Gives, at_channel}
+use Rattle.bts_model.specs.Steps.{Gives}
 use Rattle.bts_model.proofs.DepartureFacts.{all_unheld}
 use Rattle.bts_model.proofs.world.World.react.Goals as goal
 
