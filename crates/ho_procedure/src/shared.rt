@@ -1,5 +1,6 @@
 //! A desk that threads share.
-ghost use Rattle.std.specs.Prelude.{◌≡◌, ◌∷◌, ◌++◌, [], length, IfOk, OnErr};
+ghost use Rattle.std.specs.Prelude.{◌≡◌, ◌∷◌, ◌++◌, [], ℕ, length, IfOk, IfSome, MatchOption, OnErr};
+ghost use Rattle.channel_fsm.specs.declared.ChanId.{ChanId};
 ghost use Rattle.radio_desk.specs.Receipts.{IsRising, Joined, receipted};
 
 use crate::view::DeskView;
@@ -81,7 +82,8 @@ impl<R: Wait + Drop, A: Allocator + Copy> DeskView for Shared<R, A> {
 
     ghost judged = { λ before receipt after. Joined before receipt after };
 
-    // Room for the receipt is made before the event is asked: what was judged is kept.
+    // Room for the receipt is made before the event is asked: what was judged is kept. Each clause says more than the
+    // trait's: where nothing was answered the receipts are the same, each at its place.
     #[tactic(auto, using(crate::proofs::Seats::receipted_more))]
     fn judge(&mut self, event: Event) -> Result<Receipt, DeskFault>
         ensures ok { IfOk result (λ r. (r.event ≡ event) ×
@@ -96,12 +98,13 @@ impl<R: Wait + Drop, A: Allocator + Copy> DeskView for Shared<R, A> {
     }
 
     #[tactic(auto, using(crate::proofs::Seats::receipted_more))]
-    fn judge_take(
-        &mut self,
-        call: u16,
-        kind: Kind,
-        cell: u8,
-    ) -> Result<Option<Receipt>, DeskFault> {
+    fn judge_take(&mut self, call: u16, kind: Kind, cell: u8) -> Result<Option<Receipt>, DeskFault>
+        ensures ok { IfOk result (λ answer. MatchOption answer (self.new ≡ self.old)
+            (λ r. ((x : ChanId) × (x.cell ≡ cell) × (r.event ≡ Event.Take call kind x)) ×
+            (receipted self.new ≡ receipted self.old ++ (r.event, r.reply) ∷ []))) }
+        ensures receipt { IfOk result (λ answer. IfSome answer (λ r. Joined self.old r self.new)) }
+        ensures err { OnErr result (self.new ≡ self.old) }
+    {
         self.receipts.reserve(1)?;
         let found = self
             .lock
@@ -114,7 +117,12 @@ impl<R: Wait + Drop, A: Allocator + Copy> DeskView for Shared<R, A> {
     }
 
     #[tactic(auto, using(crate::proofs::Seats::receipted_more))]
-    fn judge_reserve(&mut self, call: u16) -> Result<Receipt, DeskFault> {
+    fn judge_reserve(&mut self, call: u16) -> Result<Receipt, DeskFault>
+        ensures ok { IfOk result (λ r. ((n : ℕ) × (r.event ≡ Event.Reserve call n)) ×
+            (receipted self.new ≡ receipted self.old ++ (r.event, r.reply) ∷ [])) }
+        ensures receipt { IfOk result (λ r. Joined self.old r self.new) }
+        ensures err { OnErr result (self.new ≡ self.old) }
+    {
         self.receipts.reserve(1)?;
         let receipt = self
             .lock

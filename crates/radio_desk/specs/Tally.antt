@@ -21,7 +21,7 @@ a_completion = record { call = false; attempt = false; completed = true; undone 
 abbrev pub an_undo : Marks
 an_undo = record { call = false; attempt = false; completed = false; undone = true }
 
--- What an event begins or ends, once it is accepted: a call begins; so does an attempt at handover, where a channel is
+-- What an event begins or ends, once it is accepted: a call is opened; an attempt at handover begins, where a channel is
 -- taken or one is required of another controller; an attempt is completed, or taken back.
 abbrev pub marks_of : Event → Marks
 marks_of (Open c x) = a_call

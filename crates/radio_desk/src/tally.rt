@@ -8,7 +8,7 @@ use radio_book::event::{Event, Reply};
 /// How many events of each kind a history accepted.
 #[derive(Clone, Copy, Debug, PartialEq, Eq)]
 pub struct Tally {
-    /// Calls that began.
+    /// Calls that were opened.
     pub calls: usize,
     /// Attempts at handover that began: a channel was taken, or one was required of another controller.
     pub attempts: usize,
@@ -21,7 +21,7 @@ pub struct Tally {
 /// What an event begins or ends, once it is accepted.
 #[derive(Clone, Copy, Debug, PartialEq, Eq)]
 pub struct Marks {
-    /// A call begins.
+    /// A call is opened.
     pub call: bool,
     /// An attempt at handover begins.
     pub attempt: bool,
@@ -84,7 +84,7 @@ fn is_accepted(reply: Reply) -> bool
     }
 }
 
-/// How many calls a history began, how many attempts, and how many of these it completed or took back.
+/// How many calls a history opened, how many attempts it began, and how many of these it completed or took back.
 pub(crate) fn tally_of(history: &[(Event, Reply)]) -> Tally
     ensures calls { result.calls ≡ count_of (λ m. m.call) history.now }
     ensures attempts { result.attempts ≡ count_of (λ m. m.attempt) history.now }
@@ -99,7 +99,7 @@ pub(crate) fn tally_of(history: &[(Event, Reply)]) -> Tally
     }
 }
 
-/// A call began.
+/// A call was opened.
 fn began_call(event: Event, reply: Reply) -> bool
     ensures { result ≡ (is_accepted reply && (marks_of event).call) }
 {
