@@ -1,5 +1,5 @@
 -- Facts of what was asked of a desk, from a place on.
-use Rattle.std.proofs.Common.{◌≡◌, ◌+◌, ◌++◌, ◌∷◌, ◌<◌, ◌==◌, ℕ, zero, suc, Bool, true, false, if◌then◌else◌, List, [], Some, None, drop, take, get_or, length, refl, sym, ap, subst, ◌∙◌, append_assoc, append-nil, add-one, rules, arith, slice_get}
+use Rattle.std.proofs.Common.{◌≡◌, ◌+◌, ◌++◌, ◌∷◌, ◌<◌, ◌==◌, ℕ, zero, suc, Bool, true, false, if◌then◌else◌, List, [], Some, drop, take, get_or, length, refl, sym, ap, subst, ◌∙◌, append_assoc, append-nil, add-one, rules, arith, slice_get}
 use Rattle.std.specs.List.{All}
 use Rattle.std.proofs.lemmas.Bool.{eqb-true, eq-eqb, ne_eqb}
 use Rattle.std.proofs.lemmas.List.{length_push, take_more}

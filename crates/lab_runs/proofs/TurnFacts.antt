@@ -1,8 +1,7 @@
 -- Facts of one turn.
-use Rattle.std.proofs.Common.{◌≡◌, ◌≤◌, ◌+◌, ◌++◌, ◌∷◌, ℕ, List, [], drop, length, length-append, refl, sym, ap, subst, ◌∙◌, append-nil, arith}
+use Rattle.std.proofs.Common.{◌≡◌, ◌++◌, ℕ, List, [], drop, length, sym, ap, subst, ◌∙◌, append-nil}
 use Rattle.std.specs.List.{All}
 use Rattle.std.proofs.Math.Seq.{drop-append_seam}
-use Rattle.std.proofs.lemmas.List.{drop_all}
 use Rattle.ho_procedure.specs.declared.exchange.Inbound.{Inbound}
 use Rattle.ho_procedure.specs.Claims.{Entry}
 use Rattle.trace_text.specs.declared.trace.Step.{Step}
@@ -21,12 +20,6 @@ record Gained (s s' : Position) : Type 0 where
 gained : {A : Type 0} (s s' : Position) (input : Inbound A) (a : Answer A) → Answers s input a s' → Gained s s'
 gained s s' input (Sent out) h = record { entries = _; grown = h.2.entries }
 gained s s' input (Undecoded bad) h = record { entries = []; grown = ap (λ (v : _). v.desk.history) h.1 ∙ sym (append-nil s.0.desk.history) }
-
-pub history_grows : {A : Type 0} (s s' : Position) (input : Inbound A) (a : Answer A) (first : ℕ) → Answers s input a s' → first ≡ length s.0.desk.history → first ≤ length s'.0.desk.history
-history_grows s s' input a first h e =
-    let more = gained s s' input a h in
-    let all : length s'.0.desk.history ≡ length s.0.desk.history + length more.entries = ap length more.grown ∙ length-append s.0.desk.history more.entries in
-    omega arith
 
 -- what a turn tells of the steps
 pub record Told (s s' : Position) (steps : List Step) : Type 0 where

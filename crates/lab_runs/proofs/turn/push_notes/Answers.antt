@@ -1,4 +1,4 @@
-use Rattle.std.proofs.Common.{◌≡◌, ap, ◌∙◌}
+use Rattle.std.proofs.Common.{ap, ◌∙◌}
 use Rattle.lab_runs.specs.declared.noting.Note.{Note}
 use Rattle.lab_runs.proofs.StepFacts.{noted_told, noted_passed}
 use Rattle.lab_runs.proofs.turn.push_notes.Goals as goal

@@ -1,4 +1,4 @@
-use Rattle.std.proofs.Common.{◌≡◌, ◌<◌, ◌∙◌, length, arith}
+use Rattle.std.proofs.Common.{◌<◌, ◌∙◌, length, arith}
 use Rattle.lab_runs.proofs.StepFacts.{entry_told}
 use Rattle.lab_runs.proofs.turn.steps_from.Goals as goal
 

@@ -1,4 +1,5 @@
-use Rattle.std.proofs.Common.{◌≡◌, ◌++◌, ◌∷◌, [], All, length, sym, ap, subst, ◌∙◌}
+use Rattle.std.proofs.Common.{◌≡◌, ◌++◌, ◌∷◌, [], length, ap, ◌∙◌}
+use Rattle.std.proofs.lemmas.List.Elements.{All-same}
 use Rattle.radio_desk.specs.Desk.{DeskState}
 use Rattle.lab_runs.specs.Notes.{IsTrueNote}
 use Rattle.lab_runs.proofs.NoteFacts.{stay_true, still_true, one_more_true}
@@ -6,20 +7,20 @@ use Rattle.lab_runs.proofs.noting.NotingDeskView.judge_take.Goals as goal
 
 pub invariant_of-self-in_err-receipt : goal.invariant_of-self-in_err-receipt
 invariant_of-self-in_err-receipt g c =
-    subst (All (IsTrueNote c.judge_take.new.self)) (sym c.reserve.ensures.items)
+    All-same (IsTrueNote c.judge_take.new.self) _ _ c.reserve.ensures.items
     (still_true c.self.inside.solo c.judge_take.new.self _ c.judge_take.ensures.said c.in_err-receipt.ensures.err c.self.invariant)
 
 pub invariant_of-self-in-Some : goal.invariant_of-self-in-Some
 invariant_of-self-in-Some g c =
     let chosen = rw c.in-Some.is at c.in_ok-receipt.ensures.ok in
-    subst (All (IsTrueNote c.judge_take.new.self)) (sym c.reserve.ensures.items)
+    All-same (IsTrueNote c.judge_take.new.self) _ _ c.reserve.ensures.items
     (stay_true c.self.inside.solo c.judge_take.new.self _ _ c.judge_take.ensures.said chosen.2 c.self.invariant)
 
 pub invariant_of-self-in-None : goal.invariant_of-self-in-None
 invariant_of-self-in-None g c =
     let none = rw c.in-None.is at c.in_ok-receipt.ensures.ok in
     let place : c.len-place.result ≡ length c.judge_take.new.self.history = c.len-place.ensures.len ∙ ap (λ (d : DeskState). length d.history) c.desk.ensures.desk in
-    subst (All (IsTrueNote c.judge_take.new.self)) (sym (c.push_reserved.ensures.items ∙ ap (λ front. front ++ record { place = c.len-place.result; cell = c.args.cell } ∷ []) c.reserve.ensures.items))
+    All-same (IsTrueNote c.judge_take.new.self) _ _ (c.push_reserved.ensures.items ∙ ap (λ front. front ++ record { place = c.len-place.result; cell = c.args.cell } ∷ []) c.reserve.ensures.items)
     (one_more_true c.self.inside.solo c.judge_take.new.self c.self.inside.notes.items _ c.judge_take.ensures.said none.0 place none.1 c.self.invariant)
 
 pub returns-in_err-reserve-clause-said : goal.returns-in_err-reserve-clause-said
