@@ -1,0 +1,6 @@
+use Rattle.std.proofs.Common.{[], sym, ◌∙◌}
+use Rattle.std.proofs.lemmas.List.{append-nil}
+use Rattle.call_worker.proofs.finding.ask_owner.Goals as goal
+
+pub returns-in-Err-Foreign-clause-ok : goal.returns-in-Err-Foreign-clause-ok
+returns-in-Err-Foreign-clause-ok g c = ([], c.in-Err-Foreign.ensures.err ∙ sym (append-nil _), c.from.ensures)

@@ -1,0 +1,22 @@
+use Rattle.std.proofs.Common.{rules, ◌≡◌, ◌<◌, ◌++◌, refl, sym, ap, ◌∙◌, length, vec_len}
+use Rattle.call_worker.proofs.Closings.{on_ok, on_err, gives, keeps}
+use Rattle.call_worker.proofs.office.Office.give.Goals as goal
+
+pub returns-clause-ok : goal.returns-clause-ok
+returns-clause-ok g c =
+    let same = ap (λ y. y.workers) c.self.view_is in
+    let long : vec_len c.self.inside.posts ≡ length c.self.inside.posts.items = search rules in
+    let some : 0 < vec_len c.self.inside.posts = c.self.invariant.0 in
+    let n = c.in_ok-number.ensures.ok in
+    on_ok c.give.result (λ e. record {
+      asked = n.0;
+      number = c.in_ok-number.number;
+      front = n.1 ∙ ap (λ y. y.front ++ n.0) c.self.view_is;
+      is_number = n.2;
+      gives = gives _ _ _ _ _ _ c.index_mut-posted.result.now _ _ same refl (c.len.ensures ∙ long) (rw c.len.ensures some) c.index_mut-posted.ensures.value e;
+    }) c.give.ensures.ok
+
+pub returns-clause-err : goal.returns-clause-err
+returns-clause-err g c =
+    let same = ap (λ y. y.workers) c.self.view_is in
+    on_err c.give.result (λ e. keeps _ _ _ c.index_mut-posted.result.now _ _ same c.index_mut-posted.ensures.value e) c.give.ensures.err

@@ -1,0 +1,27 @@
+-- What a closed office leaves. Ours, of no standard.
+use Rattle.std.specs.Prelude.{◌≡◌, ◌≢◌, ℕ, List, [], ◌∷◌}
+use Rattle.radio_book.specs.State.{State}
+use Rattle.radio_desk.specs.declared.seat.Receipt.{Receipt}
+use Rattle.radio_desk.specs.Desk.{DeskState}
+use Rattle.ho_procedure.specs.Sent.{Sent}
+use Rattle.receipt_check.specs.declared.CloseFault.{CloseFault}
+use Rattle.receipt_check.specs.declared.CloseFault.TheVariants.{Missing, Twice, Count, Opening, NoMemory}
+use Rattle.receipt_check.specs.Gathering.{Gathers, IsGatherFault}
+use Rattle.call_worker.specs.declared.posted.WorkerEnd.{WorkerEnd}
+use Rattle.call_worker.specs.States.{WorkerState}
+use Rattle.call_worker.specs.Ending.{IsEnd}
+
+-- each worker of the office has its end, in their order
+abbrev pub AreEnds : {L A : Type 0} → (L → List Sent) → (L → ℕ) → List (WorkerState L A) → List (WorkerEnd L A) → Type 0
+AreEnds passed refused [] [] = Unit {0}
+AreEnds passed refused [] (e ∷ es) = ⊥
+AreEnds passed refused (w ∷ ws) [] = ⊥
+AreEnds passed refused (w ∷ ws) (e ∷ es) = IsEnd passed refused w e × AreEnds passed refused ws es
+
+-- why this desk, with these receipts, isn't that of an office which opened with the book
+abbrev pub IsCloseFault : State → DeskState → List Receipt → CloseFault → Type 0
+IsCloseFault opening d all (Missing r) = IsGatherFault d.history all (Missing r)
+IsCloseFault opening d all (Twice place) = IsGatherFault d.history all (Twice place)
+IsCloseFault opening d all Count = IsGatherFault d.history all Count
+IsCloseFault opening d all Opening = Gathers d.history all × (d.opening ≢ opening)
+IsCloseFault opening d all NoMemory = Unit {0}

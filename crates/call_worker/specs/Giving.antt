@@ -1,0 +1,78 @@
+-- Which worker an input is for. Ours, of no standard.
+use Rattle.std.specs.Prelude.{◌≡◌, ◌≢◌, ℕ, ◌<◌, ◌%◌, List, [], ◌∷◌, ◌++◌, length, slice_set, slice_index_or}
+use Rattle.channel_fsm.specs.declared.ChanId.{ChanId}
+use Rattle.radio_book.specs.declared.event.Event.TheVariants.{Owner}
+use Rattle.radio_book.specs.declared.event.Reply.{Reply}
+use Rattle.radio_book.specs.declared.event.Reply.TheVariants.{Done, Record, Owned, Refused}
+use Rattle.radio_desk.specs.declared.seat.Receipt.{Receipt}
+use Rattle.rsl_messages.specs.declared.message.Rsl.{Rsl}
+use Rattle.rsl_messages.specs.declared.fault.RslFault.{RslFault}
+use Rattle.rsl_messages.specs.declared.fault.RslFault.TheVariants.{NotRsl, UnknownType, Missing, BadElement, Torn, TooLong, NoMemory}
+use Rattle.rsl_messages.specs.Texts as abis
+use Rattle.ho_procedure.specs.declared.exchange.Inbound.{Inbound}
+use Rattle.ho_procedure.specs.declared.exchange.Inbound.TheVariants as inbound
+use Rattle.ho_procedure.specs.declared.exchange.Line.{Line}
+use Rattle.ho_procedure.specs.declared.exchange.Line.TheVariants as line
+use Rattle.ho_procedure.specs.Naming.{chan_of}
+use Rattle.call_worker.specs.declared.fault.GiveFault.{GiveFault}
+use Rattle.call_worker.specs.declared.fault.GiveFault.TheVariants as give
+use Rattle.call_worker.specs.States.{WorkerState, OfficeState, with_input}
+
+-- the call that an operator's line is about
+abbrev pub call_of : Line → ℕ
+call_of (line.Open c x) = c
+call_of (line.Handover c cell) = c
+call_of (line.Undo c) = c
+call_of (line.Clear c) = c
+
+-- the call that has a channel, by the desk's reply; where none has it, the cell's number
+abbrev pub owner_or : ℕ → Reply → ℕ
+owner_or cell Done = cell
+owner_or cell (Record r s) = cell
+owner_or cell (Owned c) = c
+owner_or cell (Refused refusal) = cell
+
+-- The office asked whose the channel is, and this is the number of that call, or of the cell where it is nobody's. Or the desk
+-- didn't know the office's last receipt, and this is the number of the cell.
+abbrev pub IsOwnerNumber : ℕ → ChanId → List Receipt → ℕ → Type 0
+IsOwnerNumber cell x [] number = number ≡ cell
+IsOwnerNumber cell x (r ∷ []) number = (r.event ≡ Owner x) × (number ≡ owner_or cell r.reply)
+IsOwnerNumber cell x (r ∷ s ∷ rs) number = ⊥
+
+-- The number by which an input finds its worker: its call; of a message on Abis the call that has the channel which it names.
+-- These receipts the office got for it.
+abbrev pub IsNumberOf : {A : Type 0} → Inbound A → List Receipt → ℕ → Type 0
+IsNumberOf {A} (inbound.Abis cell trx octets) asked number = (message : Rsl A) × abis.IsTextOf message octets × IsOwnerNumber cell (chan_of cell trx message) asked number
+IsNumberOf (inbound.A call octets) asked number = (asked ≡ []) × (number ≡ call)
+IsNumberOf (inbound.Expiry call timer) asked number = (asked ≡ []) × (number ≡ call)
+IsNumberOf (inbound.Operator line) asked number = (asked ≡ []) × (number ≡ call_of line)
+
+-- octets on Abis that can't be read have this fault, where memory isn't refused
+abbrev pub IsUnreadHere : {A : Type 0} → Inbound A → RslFault → Type 0
+IsUnreadHere {A} (inbound.Abis cell trx octets) f = (f ≢ NoMemory) × abis.HasFault A octets f
+IsUnreadHere (inbound.A call octets) f = ⊥
+IsUnreadHere (inbound.Expiry call timer) f = ⊥
+IsUnreadHere (inbound.Operator line) f = ⊥
+
+-- the worker of this place was given the input, last in its list, and no other worker anything
+abbrev pub GivesTo : {L A : Type 0} → ℕ → Inbound A → List (WorkerState L A) → List (WorkerState L A) → Type 0
+GivesTo {L} {A} i input old new = (i < length old) × ((d : WorkerState L A) → new ≡ slice_set old i (with_input input (slice_index_or old i d)))
+
+-- The input was given to the worker that it is for: that of its number, modulo how many there are. What the office asked for
+-- it comes last among its receipts.
+pub record IsGiven {L A : Type 0} (input : Inbound A) (old new : OfficeState L A) : Type 0 where
+  pub asked : List Receipt
+  pub number : ℕ
+  pub front : new.front ≡ old.front ++ asked
+  pub is_number : IsNumberOf input asked number
+  pub gives : GivesTo (number % length old.workers) input old.workers new.workers
+
+-- how a fault of octets on Abis is told
+abbrev pub Tells : RslFault → GiveFault → Type 0
+Tells NotRsl g = g ≡ give.Undecoded NotRsl
+Tells (UnknownType k) g = g ≡ give.Undecoded (UnknownType k)
+Tells (Missing k) g = g ≡ give.Undecoded (Missing k)
+Tells (BadElement k) g = g ≡ give.Undecoded (BadElement k)
+Tells (Torn k) g = g ≡ give.Undecoded (Torn k)
+Tells TooLong g = g ≡ give.Undecoded TooLong
+Tells NoMemory g = g ≡ give.NoMemory

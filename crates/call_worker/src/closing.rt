@@ -1,0 +1,76 @@
+//! What an office looks at when it closes.
+ghost use Rattle.std.specs.Prelude.{◌≡◌, ◌↔◌, ◌++◌, ◌≤◌, [], IfOk, IsTrue, MatchResult, vec_len, vec_capacity};
+ghost use Rattle.std.specs.List.{flat_map};
+ghost use Rattle.receipt_check.specs.Gathering.{Gathers};
+ghost use Rattle.call_worker.specs.Closing.{AreEnds, IsCloseFault};
+
+use crate::links::Links;
+use crate::posted::{Posted, WorkerEnd};
+use radio_book::book::Book;
+use radio_desk::desk::Desk;
+use radio_desk::seat::Receipt;
+use receipt_check::{CloseFault, check, push_all};
+use std::alloc::{AllocError, Allocator};
+use std::sync::Wait;
+use std::thread::Threads;
+
+/// Ends all workers, one after the other, and gathers what they leave.
+pub(crate) fn close_all<R: Threads + Wait, L: Links<A> + Drop, A: Allocator + Copy>(
+    rt: &R,
+    posts: Vec<Posted<L, A>, A>,
+    mut ends: Vec<WorkerEnd<L, A>, A>,
+) -> Vec<WorkerEnd<L, A>, A>
+    requires room { vec_len posts ≤ vec_capacity ends }
+    requires empty { ends.items ≡ [] }
+    ensures { AreEnds L.passed L.refused posts.items result.items }
+{
+    for posted in posts {
+        ends.push_reserved(posted.close(rt));
+    }
+    ends
+}
+
+/// The receipts of the office, and then those of its workers.
+pub(crate) fn receipts_of<L, A: Allocator + Copy>(
+    alloc: A,
+    front: &[Receipt],
+    workers: &[WorkerEnd<L, A>],
+) -> Result<Vec<Receipt, A>, AllocError>
+    ensures { IfOk result (λ all. all.items ≡
+        front.now ++ flat_map (λ worker. worker.receipts.items) workers.now) }
+{
+    let mut all = Vec::new(alloc);
+    push_all(&mut all, front)?;
+    for worker in workers {
+        push_all(&mut all, worker.receipts.as_slice())?;
+    }
+    Ok(all)
+}
+
+/// Whether the desk opens with this book.
+fn opens_with<A: Allocator + Copy>(desk: &Desk<A>, book: &Book<A>) -> bool
+    ensures { IsTrue result ↔ (desk.now.opening ≡ book.now) }
+{
+    *desk.opening() == *book
+}
+
+/// Looks whether receipts are the history of a desk that opens with this book.
+#[tactic(auto, using(crate::proofs::Closings::closing_fault))]
+pub(crate) fn is_whole<A: Allocator + Copy>(
+    alloc: A,
+    desk: &Desk<A>,
+    opening: &Book<A>,
+    all: &[Receipt],
+) -> Result<(), CloseFault>
+    ensures { MatchResult result
+        (λ _. Gathers desk.now.history all.now × (desk.now.opening ≡ opening.now))
+        (λ fault. IsCloseFault opening.now desk.now all.now fault) }
+{
+    if let Err(fault) = check(alloc, desk, all) {
+        return Err(fault);
+    }
+    if !opens_with(desk, opening) {
+        return Err(CloseFault::Opening);
+    }
+    Ok(())
+}

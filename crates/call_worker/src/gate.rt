@@ -1,0 +1,133 @@
+//! A seat at a shared desk that tells a gate how far calls have come.
+ghost use Rattle.std.specs.Prelude.{◌≡◌, length};
+
+use ho_procedure::shared::Shared;
+use ho_procedure::view::DeskView;
+use radio_book::event::{Event, Kind, Reply};
+use radio_desk::desk::DeskFault;
+use radio_desk::seat::Receipt;
+use std::alloc::{Allocator, Global};
+use std::marker::Model;
+use std::sync::{Arc, Wait};
+
+/// How far the handover of a call has come.
+#[derive(Clone, Copy, Debug, PartialEq, Eq)]
+pub enum Point {
+    /// The mobile is to be sent to the target: a Command was accepted.
+    Commanded,
+    /// The attempt has ended: a Complete or an Undo was accepted.
+    Answered,
+}
+
+/// What workers pass on their way, each on its own thread, with no lock held. So a gate may hold one back while others go
+/// on.
+pub trait Gate {
+    /// The call (0 to 65535) has come to this point.
+    fn pass(&self, call: u16, point: Point);
+}
+
+/// A seat at a shared desk, and the gate that it tells. Contracts see the receipts that it got.
+#[derive(Drop)]
+pub struct Gated<R: Wait + Drop, G: Gate + Drop, A: Allocator = Global> {
+    shared: Shared<R, A>,
+    gate: Arc<G, A>,
+}
+
+impl<R: Wait + Drop, G: Gate + Drop, A: Allocator> Model for Gated<R, G, A> {
+    ghost use Rattle.std.specs.Prelude.{List};
+    ghost use Rattle.radio_desk.specs.declared.seat.Receipt.{Receipt};
+
+    ghost Value = { List Receipt };
+
+    ghost view = { λ gated. gated.shared };
+}
+
+/// The call that comes to a point by the event, once it is accepted.
+fn point_of(event: Event) -> Option<(u16, Point)> {
+    match event {
+        Event::Command(call) => Some((call, Point::Commanded)),
+        Event::Complete(call) | Event::Undo(call, _) => Some((call, Point::Answered)),
+        Event::Open(..)
+        | Event::Clear(_)
+        | Event::Look(_)
+        | Event::Take(..)
+        | Event::Reserve(..)
+        | Event::Activate(_)
+        | Event::Confirm(_)
+        | Event::Refuse(_)
+        | Event::Detect(_)
+        | Event::Released(_)
+        | Event::Owner(_)
+        | Event::Require(_)
+        | Event::Order(_)
+        | Event::Left(_) => None,
+    }
+}
+
+fn is_accepted(reply: Reply) -> bool {
+    match reply {
+        Reply::Done | Reply::Record(..) | Reply::Owned(_) => true,
+        Reply::Refused(_) => false,
+    }
+}
+
+impl<R: Wait + Drop, G: Gate + Drop, A: Allocator + Copy> Gated<R, G, A> {
+    pub(crate) fn new(shared: Shared<R, A>, gate: Arc<G, A>) -> Gated<R, G, A>
+        ensures { result ≡ shared }
+    {
+        Gated { shared, gate }
+    }
+
+    /// How many receipts it has.
+    pub(crate) fn len(&self) -> usize
+        ensures { result ≡ length self.now }
+    {
+        self.shared.len()
+    }
+
+    pub(crate) fn into_shared(self) -> Shared<R, A>
+        ensures { result ≡ self }
+    {
+        let Gated { shared, gate: _ } = self;
+        shared
+    }
+
+    fn tell(&self, receipt: &Receipt) {
+        if !is_accepted(receipt.reply) {
+            return;
+        }
+        if let Some((call, point)) = point_of(receipt.event) {
+            self.gate.pass(call, point);
+        }
+    }
+}
+
+impl<R: Wait + Drop, G: Gate + Drop, A: Allocator + Copy> DeskView for Gated<R, G, A> {
+    ghost use Rattle.radio_desk.specs.Receipts.{Joined, receipted};
+
+    ghost log = { λ gated. receipted gated };
+
+    ghost says = { λ gated log claim. Unit {0} };
+
+    ghost judged = { λ before receipt after. Joined before receipt after };
+
+    // The desk's lock is given back before the gate is told. Only `judge` is asked a Command, a Complete or an Undo.
+    fn judge(&mut self, event: Event) -> Result<Receipt, DeskFault> {
+        let receipt = self.shared.judge(event)?;
+        self.tell(&receipt);
+        Ok(receipt)
+    }
+
+    fn judge_take(
+        &mut self,
+        call: u16,
+        kind: Kind,
+        cell: u8,
+    ) -> Result<Option<Receipt>, DeskFault> {
+        self.shared.judge_take(call, kind, cell)
+    }
+
+    fn judge_reserve(&mut self, call: u16) -> Result<Receipt, DeskFault> {
+        self.shared.judge_reserve(call)
+    }
+}

@@ -1,0 +1,213 @@
+//! The office: it starts the workers, gives them their inputs, and closes.
+ghost use Rattle.std.specs.Prelude.{◌≡◌, ◌↔◌, ◌++◌, ◌<◌, ◌≤◌, [], List, map, All, Err, IfOk, IfErr, OnOk, OnErr, vec_len, vec_capacity};
+ghost use Rattle.std.specs.List.{flat_map};
+ghost use Rattle.radio_book.specs.Run.{Leads};
+ghost use Rattle.radio_desk.specs.declared.seat.Receipt.{Receipt};
+ghost use Rattle.radio_desk.specs.Desk.{DeskState};
+ghost use Rattle.radio_desk.specs.Receipts.{IsRising};
+ghost use Rattle.rsl_messages.specs.declared.fault.RslFault.{RslFault};
+ghost use Rattle.receipt_check.specs.Gathering.{Gathers};
+ghost use Rattle.call_worker.specs.States.{new_worker};
+ghost use Rattle.call_worker.specs.Giving.{IsGiven, IsUnreadHere};
+ghost use Rattle.call_worker.specs.Closing.{AreEnds, IsCloseFault};
+
+use crate::closing::{close_all, is_whole, receipts_of};
+use crate::fault::{GiveFault, StartFault};
+use crate::finding::number_of;
+use crate::gate::Gate;
+use crate::links::Links;
+use crate::posted::{Posted, WorkerEnd};
+use crate::starting::{Ready, prepare, start_all};
+use ho_procedure::exchange::Inbound;
+use ho_procedure::shared::Shared;
+use radio_book::book::Book;
+use radio_desk::desk::Desk;
+use radio_desk::seat::Receipt;
+use receipt_check::CloseFault;
+use std::alloc::{Allocator, Global};
+use std::marker::Model;
+use std::mem;
+use std::sync::{Arc, Mutex, Wait};
+use std::thread::Threads;
+
+/// What a closed office leaves.
+#[derive(Drop)]
+pub struct Closed<L, A: Allocator = Global> {
+    /// The desk. Its history leads from the book that it opened with to its book.
+    pub desk: Desk<A>,
+    /// The receipts of the office's own seat, in their order: one `Owner` for each message on Abis that was asked about.
+    pub front: Vec<Receipt, A>,
+    /// What each worker did, in the order of the links that the office was started with.
+    pub workers: Vec<WorkerEnd<L, A>, A>,
+}
+
+/// Workers at one desk, each on a thread of its own, and the thread that owns the office: the only one that gives them
+/// inputs. Contracts see the book that the desk opened with, the receipts of the office's own seat, and of each worker its
+/// site, what it was given, and its links as they were at the start.
+#[derive(Drop)]
+pub struct Office<R: Threads + Wait + Drop, L: Links<A> + Drop, A: Allocator = Global> {
+    rt: R,
+    alloc: A,
+    opening: Book<A>,
+    lock: Arc<Mutex<Desk<A>>, A>,
+    spare: Desk<A>,
+    front: Shared<R, A>,
+    posts: Vec<Posted<L, A>, A>,
+    ends: Vec<WorkerEnd<L, A>, A>,
+}
+
+impl<R: Threads + Wait + Drop, L: Links<A> + Drop, A: Allocator> Model for Office<R, L, A> {
+    ghost use Rattle.std.specs.Prelude.{◌≡◌, ◌<◌, ◌≤◌, [], vec_len, vec_capacity};
+    ghost use Rattle.std.specs.Coded.{codes};
+    ghost use Rattle.radio_book.specs.State.{state_code};
+    ghost use Rattle.call_worker.specs.States.{OfficeState};
+
+    ghost Value = { OfficeState L A };
+
+    ghost coded = { Prim.hlevel (codes, state_code) };
+
+    ghost view = { λ office. record {
+      opening = office.opening;
+      front = office.front;
+      workers = office.posts.items;
+    } };
+
+    ghost invariant = { λ office. (0 < vec_len office.posts) × (office.ends.items ≡ []) ×
+        (vec_len office.posts ≤ vec_capacity office.ends) };
+}
+
+/// An office of workers that were started.
+fn opened<R: Threads + Wait + Drop, L: Links<A> + Drop, A: Allocator + Copy>(
+    rt: R,
+    alloc: A,
+    ready: Ready<R, L, A>,
+    posts: Vec<Posted<L, A>, A>,
+) -> Office<R, L, A>
+    requires some { 0 < vec_len posts }
+    requires empty { ready.ends.items ≡ [] }
+    requires room { vec_len posts ≤ vec_capacity ready.ends }
+    ensures opening { result.opening ≡ ready.opening }
+    ensures front { result.front ≡ ready.front }
+    ensures workers { result.workers ≡ posts.items }
+{
+    let Ready {
+        opening,
+        spare,
+        lock,
+        front,
+        ends,
+    } = ready;
+    Office {
+        rt,
+        alloc,
+        opening,
+        lock,
+        spare,
+        front,
+        posts,
+        ends,
+    }
+}
+
+impl<R: Threads + Wait + Drop, L: Links<A> + Drop, A: Allocator + Copy> Office<R, L, A> {
+    /// Starts an office at a desk: one worker, with a thread of its own, for each of the links, 1 to 16. The desk's history
+    /// is empty, and the links have refused no message. `gate` is told how far calls have come.
+    ///
+    /// Each worker is a controller of the site of the desk's book, with a seat of its own at the desk and no report of any
+    /// call. It waits only where it is refused: for the workers that were started, until they have ended.
+    pub fn start<G: Gate + Drop + Send + Sync + 'static>(
+        rt: R,
+        alloc: A,
+        desk: Desk<A>,
+        gate: Arc<G, A>,
+        links: Vec<L, A>,
+    ) -> Result<Office<R, L, A>, StartFault>
+    where
+        R: Clone + Send + 'static,
+        L: Send + 'static,
+        A: Send + Sync + 'static,
+        requires count { (0 < vec_len links) × (vec_len links ≤ 16) }
+        requires fresh { All (λ l. L.refused l ≡ 0) links.items }
+        requires empty { desk.history ≡ [] }
+        ensures opening { IfOk result (λ office. office.opening ≡ desk.opening) }
+        ensures front { IfOk result (λ office. office.front ≡ []) }
+        ensures workers { IfOk result (λ office. office.workers ≡
+            map (new_worker desk.opening.site) links.items) }
+    {
+        let Ok(ready) = prepare(&rt, alloc, desk, links.len()) else {
+            return Err(StartFault::NoMemory);
+        };
+        match start_all(&rt, alloc, &ready.opening, &ready.lock, &gate, links) {
+            Ok(posts) => Ok(opened(rt, alloc, ready, posts)),
+            Err(fault) => Err(fault),
+        }
+    }
+
+    /// Gives an input to the worker that has the number of its call, modulo the number of workers. For a message on Abis
+    /// the office asks the desk whose the channel is that the message names. Where it is nobody's, and where the desk
+    /// doesn't know the office's own last receipt, the worker is that of the cell's number.
+    ///
+    /// It waits while the worker's inbox is full. After a fault no worker was given anything.
+    pub fn give(&mut self, input: Inbound<A>) -> Result<(), GiveFault>
+        ensures opening { self.new.opening ≡ self.old.opening }
+        ensures ok { OnOk result (IsGiven input self.old self.new) }
+        ensures err { OnErr result (self.new.workers ≡ self.old.workers) }
+        ensures undecoded { (f : RslFault) → (result ≡ Err (GiveFault.Undecoded f)) ↔
+            IsUnreadHere input f }
+        ensures asked { (asked : List Receipt) × (self.new.front ≡ self.old.front ++ asked) }
+    {
+        let number = number_of(self.alloc, &mut self.front, &input)?;
+        let worker = number % self.posts.len();
+        let posted = &mut self.posts[worker];
+        posted.give(&self.rt, self.alloc, worker, input)
+    }
+
+    /// Ends the workers, each by a last letter behind what it was given, and waits for them. Then it looks whether their
+    /// receipts and its own are the desk's history, and whether the desk opens with the book that the office was started
+    /// with.
+    ///
+    /// Each worker took a beginning of what it was given, in that order: all of it, unless it had no room to keep an input.
+    /// What came of each input is as `Controller::handle` says, and its receipts are cut by the turns. Its links passed on
+    /// the messages of its turns, in their order; where they refused some, those that they passed on and those that they
+    /// refused are as many.
+    pub fn close(self) -> Result<Closed<L, A>, CloseFault>
+        ensures opening { IfOk result (λ closed. closed.desk.opening ≡ self.opening) }
+        ensures legal { IfOk result (λ closed.
+            Leads closed.desk.opening closed.desk.history closed.desk.book) }
+        ensures receipts { IfOk result (λ closed. Gathers closed.desk.history
+            (closed.front.items ++
+            flat_map (λ worker. worker.receipts.items) closed.workers.items)) }
+        ensures front { IfOk result (λ closed. closed.front.items ≡ self.front) }
+        ensures rising { IfOk result (λ closed. IsRising closed.front.items) }
+        ensures workers { IfOk result (λ closed.
+            AreEnds L.passed L.refused self.workers closed.workers.items) }
+        ensures fault { IfErr result (λ fault. (desk : DeskState) × (all : List Receipt) ×
+            IsCloseFault self.opening desk all fault) }
+    {
+        let Office {
+            rt,
+            alloc,
+            opening,
+            lock,
+            spare,
+            front,
+            posts,
+            ends,
+        } = self;
+        let workers = close_all(&rt, posts, ends);
+        let desk = mem::replace(&mut *lock.lock(&rt), spare);
+        let front = front.into_receipts();
+        let Ok(all) = receipts_of(alloc, front.as_slice(), workers.as_slice()) else {
+            return Err(CloseFault::NoMemory);
+        };
+        if let Err(fault) = is_whole(alloc, &desk, &opening, all.as_slice()) {
+            return Err(fault);
+        }
+        let _entries = desk.len();
+        Ok(Closed {
+            desk,
+            front,
+            workers,
+        })
+    }
+}

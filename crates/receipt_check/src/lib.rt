@@ -1,0 +1,136 @@
+//! Whether the receipts of several seats at one desk are, all together, the desk's history: each entry is the one call of
+//! one of them.
+#![tactic(auto)]
+
+ghost use Rattle.std.specs.Prelude.{◌≡◌, ◌++◌, length, IfOk, OnOk, MatchOption, MatchResult};
+ghost use Rattle.std.specs.List.{flat_map};
+ghost use Rattle.receipt_check.specs.Gathering.{Gathers, IsGatherFault, StandsAt, FirstWrong, FirstTwice, AreFresh};
+
+use radio_desk::desk::Desk;
+use radio_desk::seat::Receipt;
+use std::alloc::{AllocError, Allocator};
+use thiserror::Error;
+
+/// Why a desk and receipts are none that an office can close with. Where several hold, the first in this order is answered;
+/// `NoMemory` may come at any time.
+#[derive(Clone, Copy, Debug, Error)]
+pub enum CloseFault {
+    /// This receipt isn't the entry of the history at its place. It is the first such one, list by list.
+    #[error("the receipt of place {} isn't of the desk's history", .0.place)]
+    Missing(Receipt),
+    /// An earlier receipt has this place too (counted from 0). It is the place of the first such receipt, list by list.
+    #[error("two receipts are of place {0}")]
+    Twice(usize),
+    /// There are fewer receipts than entries.
+    #[error("the desk's history has entries of which there is no receipt")]
+    Count,
+    /// The desk opens with another book than the one that the office was started with. `gather` never answers it.
+    #[error("the desk opens with another book")]
+    Opening,
+    /// Memory was refused.
+    #[error("memory was refused")]
+    NoMemory,
+}
+
+/// Looks whether receipts, list by list, are the entries of a desk's history: each is the entry at its place, no two have
+/// one place, and there are as many as entries. `Missing`, `Twice` and `Count` say what isn't so, the first in this order.
+pub fn gather<A: Allocator + Copy>(
+    alloc: A,
+    desk: &Desk<A>,
+    lists: &[Vec<Receipt, A>],
+) -> Result<(), CloseFault>
+    ensures gathers { MatchResult result
+        (λ _. Gathers desk.now.history (flat_map (λ list. list.items) lists.now))
+        (λ fault. IsGatherFault desk.now.history
+            (flat_map (λ list. list.items) lists.now) fault) }
+{
+    let Ok(all) = flat(alloc, lists) else {
+        return Err(CloseFault::NoMemory);
+    };
+    check(alloc, desk, all.as_slice())
+}
+
+/// The same of the receipts of one list.
+pub fn check<A: Allocator + Copy>(
+    alloc: A,
+    desk: &Desk<A>,
+    all: &[Receipt],
+) -> Result<(), CloseFault>
+    ensures gathers { MatchResult result (λ _. Gathers desk.now.history all.now)
+        (λ fault. IsGatherFault desk.now.history all.now fault) }
+{
+    if let Some(receipt) = first_wrong(desk, all) {
+        return Err(CloseFault::Missing(receipt));
+    }
+    match first_twice(alloc, desk, all) {
+        Err(AllocError) => Err(CloseFault::NoMemory),
+        Ok(Some(place)) => Err(CloseFault::Twice(place)),
+        Ok(None) => {
+            if all.len() == desk.len() {
+                Ok(())
+            } else {
+                Err(CloseFault::Count)
+            }
+        }
+    }
+}
+
+/// Appends receipts. Where memory is refused a part of them may have been appended.
+pub fn push_all<A: Allocator>(
+    all: &mut Vec<Receipt, A>,
+    list: &[Receipt],
+) -> Result<(), AllocError>
+    ensures pushed { OnOk result (all.new.items ≡ all.old.items ++ list.now) }
+{
+    for receipt in list {
+        all.push(*receipt)?;
+    }
+    Ok(())
+}
+
+/// All receipts, list by list.
+fn flat<A: Allocator + Copy>(
+    alloc: A,
+    lists: &[Vec<Receipt, A>],
+) -> Result<Vec<Receipt, A>, AllocError>
+    ensures { IfOk result (λ all. all.items ≡ flat_map (λ list. list.items) lists.now) }
+{
+    let mut all = Vec::new(alloc);
+    for list in lists {
+        push_all(&mut all, list.as_slice())?;
+    }
+    Ok(all)
+}
+
+/// The first receipt that isn't the entry at its place.
+fn first_wrong<A: Allocator + Copy>(desk: &Desk<A>, all: &[Receipt]) -> Option<Receipt>
+    ensures { MatchOption result (StandsAt desk.now.history all.now (length all.now))
+        (λ receipt. FirstWrong desk.now.history all.now receipt) }
+{
+    for receipt in all {
+        if !desk.has(receipt) {
+            return Some(*receipt);
+        }
+    }
+    None
+}
+
+/// The place of the first receipt whose place an earlier one has. All are entries, so none is past the history's end.
+fn first_twice<A: Allocator + Copy>(
+    alloc: A,
+    desk: &Desk<A>,
+    all: &[Receipt],
+) -> Result<Option<usize>, AllocError>
+    requires { StandsAt desk.now.history all.now (length all.now) }
+    ensures { IfOk result (λ found. MatchOption found (AreFresh all.now (length all.now))
+        (λ place. FirstTwice all.now place)) }
+{
+    let mut seen = Vec::from_elem(alloc, false, desk.len())?;
+    for receipt in all {
+        if seen[receipt.place] {
+            return Ok(Some(receipt.place));
+        }
+        seen[receipt.place] = true;
+    }
+    Ok(None)
+}
