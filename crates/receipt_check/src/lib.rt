@@ -42,7 +42,7 @@ pub fn gather<A: Allocator + Copy>(
     ensures gathers { MatchResult result
         (λ _. Gathers desk.now.history (flat_map (λ list. list.items) lists.now))
         (λ fault. IsGatherFault desk.now.history
-            (flat_map (λ list. list.items) lists.now) fault) }
+        (flat_map (λ list. list.items) lists.now) fault) }
 {
     let Ok(all) = flat(alloc, lists) else {
         return Err(CloseFault::NoMemory);
@@ -76,10 +76,7 @@ pub fn check<A: Allocator + Copy>(
 }
 
 /// Appends receipts. Where memory is refused a part of them may have been appended.
-pub fn push_all<A: Allocator>(
-    all: &mut Vec<Receipt, A>,
-    list: &[Receipt],
-) -> Result<(), AllocError>
+pub fn push_all<A: Allocator>(all: &mut Vec<Receipt, A>, list: &[Receipt]) -> Result<(), AllocError>
     ensures pushed { OnOk result (all.new.items ≡ all.old.items ++ list.now) }
 {
     for receipt in list {
