@@ -1,36 +1,8 @@
 //! What a book holds, found by questions.
-ghost use Rattle.std.specs.Prelude.{◌≡◌};
-ghost use Rattle.std.specs.Option.{option_map};
-ghost use Rattle.radio_book.specs.Stages.{stage_row};
-
 use channel_fsm::{ChanId, ChanState};
 use radio_book::book::Book;
-use radio_book::event::{CallRecord, Event, Reply, Stage, Timer};
+use radio_book::event::{CallRecord, Event, Reply};
 use std::alloc::{AllocError, Allocator};
-
-/// The state of an attempt's target, for a call; `None` of an outgoing attempt, which has no target.
-fn target_state(stage: Stage, call: u16) -> Option<ChanState>
-    ensures { result ≡ option_map (λ state. state call) (stage_row stage).target }
-{
-    match stage {
-        Stage::Taken | Stage::Reserved | Stage::Refused => Some(ChanState::Held(call)),
-        Stage::Sent => Some(ChanState::Pending(call)),
-        Stage::Confirmed | Stage::Commanded | Stage::Detected => Some(ChanState::On(call)),
-        Stage::Required | Stage::Ordered => None,
-    }
-}
-
-/// The timer that runs in a stage (TS 44.018 clause 11.1.2, TS 48.008 clause 3.1.5).
-pub(crate) fn timer_of(stage: Stage) -> Option<Timer>
-    ensures { result ≡ (stage_row stage).timer }
-{
-    match stage {
-        Stage::Commanded | Stage::Detected => Some(Timer::T3103),
-        Stage::Required => Some(Timer::T7),
-        Stage::Ordered => Some(Timer::T8),
-        Stage::Taken | Stage::Reserved | Stage::Sent | Stage::Refused | Stage::Confirmed => None,
-    }
-}
 
 /// What a book has of a call, and the state of its serving channel; `None` where there is no such call.
 pub(crate) fn record_of<A: Allocator + Copy>(
@@ -64,7 +36,7 @@ fn state_in(
     if record.serving == Some(chan) {
         return serving;
     }
-    target_state(record.attempt?.stage, call)
+    record.attempt?.stage.target_state(call)
 }
 
 /// Whether a channel's release is awaited. If so, the book is told of it: the channel is free then, and nothing else changes.

@@ -2,7 +2,7 @@
 //!
 //! A book answers questions about a call and about a channel. Which there may be is kept from the events that were asked.
 use crate::calls::taken_by;
-use crate::held::{record_of, state_of, timer_of};
+use crate::held::{record_of, state_of};
 use channel_fsm::{ChanId, ChanState};
 use lab_runs::run::LabFault;
 use radio_book::book::Book;
@@ -59,7 +59,7 @@ fn print_attempt<W: Write>(out: &mut W, mark: Mark, call: u16, attempt: Attempt)
         let cell = target.cell;
         writeln!(out, "{mark}state reference {cell} {number} call {call}")?;
     }
-    match timer_of(attempt.stage) {
+    match attempt.stage.timer() {
         Some(timer) => writeln!(out, "{mark}state timer {} call {call}", timer_name(timer)),
         None => Ok(()),
     }
