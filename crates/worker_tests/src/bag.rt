@@ -1,5 +1,7 @@
 //! Links for tests: they keep what they pass on, and tell how many inputs were taken.
-ghost use Rattle.std.specs.Prelude.{◌≡◌, All, IfOk, vec_len};
+ghost use Rattle.std.specs.Prelude.{◌≡◌, ◌∷◌, ◌++◌, [], All, IfOk, OnOk, OnErr, vec_len};
+ghost use Rattle.ho_procedure.specs.Sent.{sent, all_sent};
+ghost use Rattle.call_worker.specs.Sending.{one_more};
 
 use call_worker::Links;
 use ho_procedure::exchange::Outbound;
@@ -69,7 +71,14 @@ impl<R: Wait + Drop, A: Allocator> Links<A> for Bag<R, A> {
     ghost refused = { λ bag. bag.refused };
 
     #[tactic(auto, using(crate::proofs::Passing::passed_more))]
-    fn send(&mut self, message: Outbound<A>) -> Result<(), AllocError> {
+    fn send(&mut self, message: Outbound<A>) -> Result<(), AllocError>
+        ensures ok { OnOk result (all_sent self.new.sent.items ≡
+            all_sent self.old.sent.items ++ sent message ∷ []) }
+        ensures kept { OnOk result (self.new.refused ≡ self.old.refused) }
+        ensures lost { OnErr result (all_sent self.new.sent.items ≡
+            all_sent self.old.sent.items) }
+        ensures counted { OnErr result (self.new.refused ≡ one_more self.old.refused) }
+    {
         match self.sent.push(message) {
             Ok(()) => Ok(()),
             Err(_) => {
@@ -79,7 +88,10 @@ impl<R: Wait + Drop, A: Allocator> Links<A> for Bag<R, A> {
         }
     }
 
-    fn done(&mut self) {
+    fn done(&mut self)
+        ensures passed { all_sent self.new.sent.items ≡ all_sent self.old.sent.items }
+        ensures refused { self.new.refused ≡ self.old.refused }
+    {
         self.taken.add(&self.rt);
     }
 }

@@ -1,4 +1,4 @@
-use Rattle.std.proofs.Common.{◌≡◌, ◌∙◌}
+use Rattle.std.proofs.Common.{◌∙◌}
 use Rattle.std.proofs.lemmas.List.{length-set}
 use Rattle.receipt_check.proofs.Gathered.{fresh_more, seen_more, place_within, fresh_here}
 use Rattle.receipt_check.proofs.first_twice.Goals as goal
