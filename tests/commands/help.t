@@ -72,6 +72,17 @@ What commands are for, and what their words are. No line has more than 100 colum
   $ grep -qF -- 'Statuses: 0 ' help
   $ grep -qF -- 'As in: bsc_lab check ' help
 
+  $ ./lab storm --help >help
+  $ awk 'length > 100' help
+  $ grep -qF -- '--workers <N>' help
+  $ grep -qF -- '--calls <M>' help
+  $ grep -qF -- 'each is a thread with an inbox' help
+
+  $ ./lab help storm >help
+  $ awk 'length > 100' help
+  $ grep -qF -- 'Statuses: 0 ' help
+  $ grep -qF -- 'As in: bsc_lab storm ' help
+
   $ ./lab rewind --help >help
   $ awk 'length > 100' help
   $ grep -qF -- 'The trace, as run prints it' help

@@ -16,6 +16,7 @@ mod radio;
 mod repeated;
 mod reports;
 mod site;
+pub mod storm;
 mod varying;
 pub mod words;
 

@@ -1,6 +1,7 @@
 //! The words of the command line.
 use crate::case::{CASES, Case, find};
 use crate::fault::Fault;
+use crate::storm::Crew;
 use hex::FromHexError;
 use std::alloc::Global;
 
@@ -12,6 +13,11 @@ pub enum Job {
         case: Case,
         count: u64,
         octets: Vec<u8>,
+    },
+    /// So many storms, handled by so many workers.
+    Storms {
+        crew: Crew,
+        count: u64,
     },
     /// Every case, so many times, on its own octets.
     All {
@@ -55,13 +61,22 @@ fn on_octets(alloc: Global, case: Case, count: u64, octets: &str) -> Result<Job,
     })
 }
 
-/// Reads the words after the program's name: `all N`, `NAME N` or `NAME N OCTETS`.
+/// A case on its own octets, or storms.
+fn of_name(alloc: Global, name: &str, count: u64) -> Result<Job, Fault> {
+    match Crew::named(name) {
+        Some(crew) => Ok(Job::Storms { crew, count }),
+        None => on_own_octets(alloc, read_case(name)?, count),
+    }
+}
+
+/// Reads the words after the program's name: `all N`, `NAME N` or `NAME N OCTETS`; storms have no octets, and aren't among
+/// all.
 pub fn read_words(alloc: Global, words: &[&str]) -> Result<Job, Fault> {
     match words {
         ["all", count] => Ok(Job::All {
             count: read_count(count)?,
         }),
-        [name, count] => on_own_octets(alloc, read_case(name)?, read_count(count)?),
+        [name, count] => of_name(alloc, name, read_count(count)?),
         [name, count, octets] => on_octets(alloc, read_case(name)?, read_count(count)?, octets),
         _ => Err(Fault::Words),
     }

@@ -1,6 +1,7 @@
 //! Each case once, and words that name none.
 use bench_cases::case::{CASES, Case, find};
 use bench_cases::fault::Fault;
+use bench_cases::storm::{Crew, storm_sum};
 use bench_cases::sum_of;
 use bench_cases::words::{Job, read_words};
 use std::fmt::Debug;
@@ -183,6 +184,7 @@ fn asked<R: Abort + AllocGlobal>(
             equals(rt, octets.as_slice(), want);
             (case.name, count)
         }
+        Job::Storms { crew: _, count } => ("storms", count),
         Job::All { count } => ("all", count),
     })
 }
@@ -190,6 +192,7 @@ fn asked<R: Abort + AllocGlobal>(
 #[test]
 fn words_that_ask_for_cases(rt: HostRuntime) {
     equals(&rt, asked(&rt, &["all", "7"], &[]), Ok(("all", 7)));
+    equals(&rt, asked(&rt, &["storm.4", "2"], &[]), Ok(("storms", 2)));
     equals(
         &rt,
         asked(&rt, &["ho_command.enc", "3", "062B"], &[6, 0x2B]),
@@ -204,4 +207,10 @@ fn words_that_ask_for_cases(rt: HostRuntime) {
         ),
         Ok(("ho_command.dec", 4)),
     );
+}
+
+#[test]
+fn storms_have_their_sum(rt: HostRuntime) {
+    // 64 calls and as many attempts, half of them completed and half undone, and no channel in use: 192
+    equals(&rt, storm_sum(&rt, rt.alloc(), Crew::Two, 2), Ok(384));
 }

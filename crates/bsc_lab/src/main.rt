@@ -5,6 +5,7 @@
 //! - `test` runs scripts whose comments say what comes of their lines, and says which of them are right; `record` prints a
 //!   script with such comments;
 //! - `rewind` takes an undone attempt out of a trace and says whether the rest comes to the same;
+//! - `storm` moves many calls of a site at once, handled by workers on threads of their own, and says what came of it;
 //! - `check` prints the cells of a site, and what is surely meant otherwise in its file;
 //! - `decode` prints a message in words, with `--from` those of a file or of standard input, line by line; `encode` prints
 //!   the octets of a message in words;
@@ -18,14 +19,20 @@
 ghost use Rattle.std.specs.Prelude.{◌≡◌, ◌<◌, None, IsSome, IsErr};
 ghost use Rattle.screen_text.specs.Keeping.{error_of};
 
+mod ticking;
+
+use crate::ticking::Ticking;
 use lab::program::perform;
 use lab::run::{LabFault, Status, exit_status};
+use lab::storm::{StormJob, Unwatched, storm_asked, storm_file};
 use screen_text::{Counted, Erasing, Keeping, Progress, Reason};
 use std::env::{self, FillError};
 use std::io::{self, BufWriter, IsTerminal, LineWriter, Read, Write};
 use std::process::ExitCode;
-use std::rt::{Env, Files};
+use std::rt::{Clock, Env, Files};
 use std::str;
+use std::sync::Wait;
+use std::thread::Threads;
 
 /// The octets of a word of the command line, of which the program's name is 0; nothing behind the last word.
 fn word_octets<R: Env + AllocGlobal>(rt: &R, number: usize) -> Result<Option<Vec<u8>>, LabFault> {
@@ -219,15 +226,33 @@ struct Terminals {
     errors: bool,
 }
 
+/// Runs a storm. Where a terminal shows standard error, it is told there how far the storm is.
+fn storm<
+    R: Files + Print + AllocGlobal + Threads + Wait + Clock + Clone + Drop + Send + 'static,
+    T: Write + Drop,
+    E: Write,
+>(rt: &R, job: StormJob<'_>, terminal: Option<T>, errors: &mut E) -> Result<Status, LabFault> {
+    // a buffer lacks nothing but memory
+    let buffer = BufWriter::new(rt.alloc(), io::writer(rt)).map_err(|_| LabFault::NoMemory)?;
+    let mut out = Keeping::new(buffer);
+    let ended = match terminal {
+        Some(terminal) => {
+            let mut ticking = Ticking::new(rt, terminal);
+            storm_file(rt, job, &mut ticking, &mut out, errors)
+        }
+        None => storm_file(rt, job, &mut Unwatched, &mut out, errors),
+    };
+    closed(ended, &mut out, errors)
+}
+
 /// Reads the words of the command line, and does what they ask for. `terminal` is standard error once more, for what is
 /// told there where it is a terminal.
-fn start<R: Files + Print + Env + AllocGlobal, I: Read + Drop, T: Write + Drop, E: Write>(
-    rt: &R,
-    input: I,
-    terminals: Terminals,
-    terminal: T,
-    errors: &mut E,
-) -> Result<Status, LabFault> {
+fn start<
+    R: Files + Print + Env + AllocGlobal + Threads + Wait + Clock + Clone + Drop + Send + 'static,
+    I: Read + Drop,
+    T: Write + Drop,
+    E: Write,
+>(rt: &R, input: I, terminals: Terminals, terminal: T, errors: &mut E) -> Result<Status, LabFault> {
     let Some(words) = words_of(rt, errors)? else {
         return Ok(Status::Refused);
     };
@@ -236,6 +261,10 @@ fn start<R: Files + Print + Env + AllocGlobal, I: Read + Drop, T: Write + Drop, 
         .skip(1)
         .map(|word| word.as_str())
         .collect(rt.alloc())?;
+    if let Some(job) = storm_asked(rt.alloc(), &words)? {
+        let terminal = terminals.errors.then_some(terminal);
+        return storm(rt, job, terminal, errors);
+    }
     let watch = if terminals.errors {
         watch_of(&words, terminals.input, terminal)
     } else {

@@ -15,7 +15,7 @@ use std::sync::Wait;
 use std::thread::Threads;
 
 /// Ends all workers, one after the other, and gathers what they leave.
-pub(crate) fn close_all<R: Threads + Wait, L: Links<A> + Drop, A: Allocator + Copy>(
+pub(crate) fn close_all<R: Threads + Wait, L: Links + Drop, A: Allocator + Copy>(
     rt: &R,
     posts: Vec<Posted<L, A>, A>,
     mut ends: Vec<WorkerEnd<L, A>, A>,

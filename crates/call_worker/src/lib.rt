@@ -17,7 +17,7 @@ mod worker;
 
 pub use fault::{GiveFault, StartFault};
 pub use gate::{Gate, Point};
-pub use links::Links;
+pub use links::{Links, copy_of};
 pub use office::{Closed, Office};
 pub use posted::WorkerEnd;
 pub use receipt_check::{CloseFault, gather};

@@ -1,20 +1,21 @@
 //! Where a worker's messages go.
-ghost use Rattle.std.specs.Prelude.{◌≡◌, ◌∷◌, ◌++◌, [], List, ℕ, OnOk, OnErr};
+ghost use Rattle.std.specs.Prelude.{◌≡◌, ◌∷◌, ◌++◌, [], List, ℕ, IfOk, OnOk, OnErr};
 ghost use Rattle.ho_procedure.specs.Sent.{Sent, sent, all_sent};
 ghost use Rattle.call_worker.specs.Sending.{one_more, Carries};
 
 use ho_procedure::exchange::Outbound;
+use octet_elements::Octets;
 use std::alloc::{AllocError, Allocator};
 
-/// What a worker sends its messages by. Contracts see those that it passed on, in their order, and how many it refused: a
+/// What a worker sends its messages by, whatever memory they are in. Contracts see those that it passed on, in their order, and how many it refused: a
 /// count of 64 bits, which stays at its last value.
-pub trait Links<A: Allocator> {
+pub trait Links {
     ghost passed: { Self → List Sent };
 
     ghost refused: { Self → ℕ };
 
     /// Passes a message on. `Err`: memory was refused, and the message is lost.
-    fn send(&mut self, message: Outbound<A>) -> Result<(), AllocError>
+    fn send<A: Allocator>(&mut self, message: Outbound<A>) -> Result<(), AllocError>
         ensures ok { OnOk result (passed self.new ≡ passed self.old ++ sent message ∷ []) }
         ensures kept { OnOk result (refused self.new ≡ refused self.old) }
         ensures lost { OnErr result (passed self.new ≡ passed self.old) }
@@ -26,8 +27,28 @@ pub trait Links<A: Allocator> {
         ensures refused { refused self.new ≡ refused self.old };
 }
 
+/// The same message once more, in memory of `alloc`: links that keep a message keep it in their own.
+pub fn copy_of<A: Allocator + Copy, B: Allocator>(
+    alloc: A,
+    message: &Outbound<B>,
+) -> Result<Outbound<A>, AllocError>
+    ensures same { IfOk result (λ copy. sent copy ≡ sent message.now) }
+{
+    match message {
+        Outbound::Abis { cell, trx, bytes } => Ok(Outbound::Abis {
+            cell: *cell,
+            trx: *trx,
+            bytes: Octets::new(alloc, bytes.as_slice())?,
+        }),
+        Outbound::A { call, bytes } => Ok(Outbound::A {
+            call: *call,
+            bytes: Octets::new(alloc, bytes.as_slice())?,
+        }),
+    }
+}
+
 /// Passes messages on, in their order. One that is refused is lost.
-pub(crate) fn send_all<L: Links<A>, A: Allocator>(links: &mut L, out: Vec<Outbound<A>, A>)
+pub(crate) fn send_all<L: Links, A: Allocator>(links: &mut L, out: Vec<Outbound<A>, A>)
     ensures { Carries (L.passed links.old) (L.refused links.old) (all_sent out.items)
         (L.passed links.new) (L.refused links.new) }
 {
@@ -37,7 +58,7 @@ pub(crate) fn send_all<L: Links<A>, A: Allocator>(links: &mut L, out: Vec<Outbou
 }
 
 #[tactic(auto, using(crate::proofs::Sends::carries_sent, crate::proofs::Sends::carries_refused))]
-fn send_one<L: Links<A>, A: Allocator>(links: &mut L, message: Outbound<A>)
+fn send_one<L: Links, A: Allocator>(links: &mut L, message: Outbound<A>)
     ensures { Carries (L.passed links.old) (L.refused links.old) (sent message ∷ [])
         (L.passed links.new) (L.refused links.new) }
 {

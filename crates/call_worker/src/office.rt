@@ -45,7 +45,7 @@ pub struct Closed<L, A: Allocator = Global> {
 /// inputs. Contracts see the book that the desk opened with, the receipts of the office's own seat, and of each worker its
 /// site, what it was given, and its links as they were at the start.
 #[derive(Drop)]
-pub struct Office<R: Threads + Wait + Drop, L: Links<A> + Drop, A: Allocator = Global> {
+pub struct Office<R: Threads + Wait + Drop, L: Links + Drop, A: Allocator = Global> {
     rt: R,
     alloc: A,
     opening: Book<A>,
@@ -56,7 +56,7 @@ pub struct Office<R: Threads + Wait + Drop, L: Links<A> + Drop, A: Allocator = G
     ends: Vec<WorkerEnd<L, A>, A>,
 }
 
-impl<R: Threads + Wait + Drop, L: Links<A> + Drop, A: Allocator> Model for Office<R, L, A> {
+impl<R: Threads + Wait + Drop, L: Links + Drop, A: Allocator> Model for Office<R, L, A> {
     ghost use Rattle.std.specs.Prelude.{◌≡◌, ◌<◌, ◌≤◌, [], vec_len, vec_capacity};
     ghost use Rattle.std.specs.Coded.{codes};
     ghost use Rattle.radio_book.specs.State.{state_code};
@@ -77,7 +77,7 @@ impl<R: Threads + Wait + Drop, L: Links<A> + Drop, A: Allocator> Model for Offic
 }
 
 /// An office of workers that were started.
-fn opened<R: Threads + Wait + Drop, L: Links<A> + Drop, A: Allocator + Copy>(
+fn opened<R: Threads + Wait + Drop, L: Links + Drop, A: Allocator + Copy>(
     rt: R,
     alloc: A,
     ready: Ready<R, L, A>,
@@ -109,7 +109,7 @@ fn opened<R: Threads + Wait + Drop, L: Links<A> + Drop, A: Allocator + Copy>(
     }
 }
 
-impl<R: Threads + Wait + Drop, L: Links<A> + Drop, A: Allocator + Copy> Office<R, L, A> {
+impl<R: Threads + Wait + Drop, L: Links + Drop, A: Allocator + Copy> Office<R, L, A> {
     /// Starts an office at a desk: one worker, with a thread of its own, for each of the links, 1 to 16. The desk's history
     /// is empty, and the links have refused no message. `gate` is told how far calls have come.
     ///

@@ -50,7 +50,7 @@ pub struct Pledge<L, A: Allocator> {
     links: Snapshot<L>,
 }
 
-impl<L: Links<A>, A: Allocator> Promise<Finished<L, A>> for Pledge<L, A> {
+impl<L: Links, A: Allocator> Promise<Finished<L, A>> for Pledge<L, A> {
     ghost use Rattle.crossbeam_channel.specs.Claims.{IsSeatAt};
     ghost use Rattle.crossbeam_channel.specs.Ends.{receives_on};
     ghost use Rattle.call_worker.specs.Finishing.{Finishes};
@@ -61,14 +61,14 @@ impl<L: Links<A>, A: Allocator> Promise<Finished<L, A>> for Pledge<L, A> {
 
 /// A worker's thread, and the end of its inbox that inputs are sent to. Contracts see what its office knows of it.
 #[derive(Drop)]
-pub struct Posted<L: Links<A> + Drop, A: Allocator = Global> {
+pub struct Posted<L: Links + Drop, A: Allocator = Global> {
     end: Post<Letter<A>, A>,
     pass: InboxPass<Letter<A>>,
     given: Vec<Inbound<A>, A>,
     child: PromisedHandle<Finished<L, A>, Pledge<L, A>>,
 }
 
-impl<L: Links<A> + Drop, A: Allocator> Model for Posted<L, A> {
+impl<L: Links + Drop, A: Allocator> Model for Posted<L, A> {
     ghost use Rattle.std.specs.Prelude.{◌≡◌, true};
     ghost use Rattle.crossbeam_channel.specs.Claims.{view as pass_view, IsSeatAt};
     ghost use Rattle.crossbeam_channel.specs.Ends.{sends_on, receives_on};
@@ -93,7 +93,7 @@ fn two<R: Clone + Drop>(rt: &R) -> Result<(R, R), AllocError> {
     Ok((rt.clone()?, rt.clone()?))
 }
 
-impl<L: Links<A> + Drop, A: Allocator + Copy> Posted<L, A> {
+impl<L: Links + Drop, A: Allocator + Copy> Posted<L, A> {
     /// Starts a worker, with an empty inbox and a new seat at the desk.
     pub(crate) fn start<
         R: Threads + Wait + Clone + Drop + Send + 'static,

@@ -63,7 +63,7 @@ pub(crate) fn prepare<R: Wait + Clone + Drop, L: Drop, A: Allocator + Copy>(
 fn start_one<
     R: Threads + Wait + Clone + Drop + Send + 'static,
     G: Gate + Drop + Send + Sync + 'static,
-    L: Links<A> + Drop + Send + 'static,
+    L: Links + Drop + Send + 'static,
     A: Allocator + Copy + Send + Sync + 'static,
 >(
     rt: &R,
@@ -87,7 +87,7 @@ fn start_one<
 }
 
 /// Ends workers.
-fn stop_all<R: Threads + Wait, L: Links<A> + Drop, A: Allocator + Copy>(
+fn stop_all<R: Threads + Wait, L: Links + Drop, A: Allocator + Copy>(
     rt: &R,
     posts: Vec<Posted<L, A>, A>,
 ) {
@@ -100,7 +100,7 @@ fn stop_all<R: Threads + Wait, L: Links<A> + Drop, A: Allocator + Copy>(
 pub(crate) fn start_all<
     R: Threads + Wait + Clone + Drop + Send + 'static,
     G: Gate + Drop + Send + Sync + 'static,
-    L: Links<A> + Drop + Send + 'static,
+    L: Links + Drop + Send + 'static,
     A: Allocator + Copy + Send + Sync + 'static,
 >(
     rt: &R,

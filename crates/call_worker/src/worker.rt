@@ -72,7 +72,7 @@ struct Worker<R: Wait + Drop, G: Gate + Drop, L: Drop, A: Allocator + Copy> {
 }
 
 /// Handles an input, and keeps it. Where there is no room to keep it nothing is asked, and no later input is kept.
-fn handle_one<R: Wait + Drop, G: Gate + Drop, L: Links<A> + Drop, A: Allocator + Copy>(
+fn handle_one<R: Wait + Drop, G: Gate + Drop, L: Links + Drop, A: Allocator + Copy>(
     worker: &mut Worker<R, G, L, A>,
     input: Inbound<A>,
 )
@@ -105,7 +105,7 @@ fn handle_one<R: Wait + Drop, G: Gate + Drop, L: Links<A> + Drop, A: Allocator +
 }
 
 /// What a worker does with an input: it handles and keeps it, or, once it has no room to keep one, drops it.
-fn receive<R: Wait + Drop, G: Gate + Drop, L: Links<A> + Drop, A: Allocator + Copy>(
+fn receive<R: Wait + Drop, G: Gate + Drop, L: Links + Drop, A: Allocator + Copy>(
     worker: &mut Worker<R, G, L, A>,
     input: Inbound<A>,
 )
@@ -128,7 +128,7 @@ fn receive<R: Wait + Drop, G: Gate + Drop, L: Links<A> + Drop, A: Allocator + Co
 }
 
 /// Takes inputs until the last letter comes.
-pub(crate) fn work<R: Wait + Drop, G: Gate + Drop, L: Links<A> + Drop, A: Allocator + Copy>(
+pub(crate) fn work<R: Wait + Drop, G: Gate + Drop, L: Links + Drop, A: Allocator + Copy>(
     rt: &R,
     alloc: A,
     site: Arc<Site<A>, A>,

@@ -27,6 +27,9 @@ fn explain_number<W: Write, E: Write>(
     }
 }
 
+/// Why a storm isn't run among the other jobs.
+const STORM_ALONE: &str = "error: a storm runs on threads, and isn't asked for here";
+
 /// Says why the words of a command line are refused.
 fn refuse_words<E: Write>(reason: &str, errors: &mut E) -> Result<Status, LabFault> {
     writeln!(errors, "{reason}")?;
@@ -56,6 +59,8 @@ fn decode<W: Write, E: Write>(
 /// octets ([`encode_run`]), says in words what a number stands for ([`explain`]), or shows help or the version. `input` is
 /// standard input. What it prints goes to `out`; why words, a site, a file or a message are refused goes to `errors`.
 /// It ends as the command does ([`Status`], [`LabFault`]); words that are refused are `Refused`, help and the version `Done`.
+/// It waits for no thread: a storm, which does, is refused here, and is run by
+/// [`storm_file`](crate::storm::storm_file) for who looks for it first ([`storm_asked`](crate::storm::storm_asked)).
 ///
 /// No clause says what is printed, nor which words end how: that is shown by tests.
 pub fn perform<R: Files + AllocGlobal, I: Read + Drop, W: Write, E: Write>(
@@ -76,6 +81,7 @@ pub fn perform<R: Files + AllocGlobal, I: Read + Drop, W: Write, E: Write>(
         Ok(Job::Test { sites, scripts }) => test_files(rt, sites, &scripts, out, errors),
         Ok(Job::Record { sites, script }) => record_file(rt, sites, script, out, errors),
         Ok(Job::Rewind { site, trace, line }) => rewind_files(rt, site, trace, line, out, errors),
+        Ok(Job::Storm { .. }) => refuse_words(STORM_ALONE, errors),
         Ok(Job::Check { site }) => check_file(rt, site, out, errors),
         Ok(Job::Decode { link, text }) => decode(rt.alloc(), link, text, out, errors),
         Ok(Job::DecodeLines { asked, path }) => {

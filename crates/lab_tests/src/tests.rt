@@ -14,6 +14,7 @@ mod refusals;
 mod rewound;
 mod rows;
 mod shown;
+mod storm_runs;
 mod tested;
 mod told;
 mod viewed;

@@ -114,6 +114,18 @@ Statuses: 0 recorded, 2 a file, the site or a script line is refused, 3 memory w
 As in: bsc_lab record site.toml script.txt > recorded.txt"
 );
 
+/// What stands behind the help of `storm`.
+pub(crate) const STORM_HELP: &str = "\
+Opens M calls, in turn in each cell, moves each to the next cell, and hangs it up; mobiles of even
+calls arrive there, those of odd ones return. Stations, mobiles and switching centre are simulated.
+Prints how many calls and attempts began, how many attempts were completed and undone, and how
+many channels are in use at the end.
+
+Statuses: 0 all calls were moved, 2 the file or the site is refused, a cell has too few traffic
+channels, or the workers failed, 3 memory was refused.
+
+As in: bsc_lab storm site.toml --workers 4 --calls 64";
+
 /// What stands behind the help of `check`.
 pub(crate) const CHECK_HELP: &str = "\
 Prints a line for each own cell, one for each cell of others, and a warning for each key that is

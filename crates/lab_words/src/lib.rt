@@ -6,8 +6,10 @@ mod help;
 mod refused_words;
 mod script_words;
 mod site_paths;
+mod storm_words;
 mod view_words;
 mod words;
 
 pub use site_paths::SitePaths;
+pub use storm_words::{MOST_CALLS, MOST_WORKERS, StormSize};
 pub use words::{Job, WordsFault, read_words};

@@ -6,6 +6,7 @@ use crate::help::{CHECK_HELP, DECODE_HELP, ENCODE_HELP, REWIND_HELP, RUN_HELP};
 use crate::refused_words::refused_line;
 use crate::script_words::{record_command, script_paths, site_paths, test_command};
 use crate::site_paths::SitePaths;
+use crate::storm_words::{StormSize, storm_command, storm_size};
 use crate::view_words::{view_options, views_of};
 use clap::error::ErrorKind;
 use clap::{Arg, ArgAction, ArgMatches, Command, Error, value_parser};
@@ -40,6 +41,11 @@ pub enum Job<'a> {
     Record {
         sites: SitePaths<'a>,
         script: &'a str,
+    },
+    /// Many calls of a site move at once, handled by workers on threads: the site's path, and how many there are of both.
+    Storm {
+        site: &'a str,
+        size: StormSize,
     },
     /// The cells of a site are printed, and what is surely meant otherwise in its file: the file's path.
     Check {
@@ -284,8 +290,9 @@ fn with_scripts<'a>(alloc: Global, command: Command<'a>) -> Result<Command<'a>, 
     with(command, rewind_command(alloc))
 }
 
-/// The commands of sites, messages and numbers.
+/// The commands of sites, storms, messages and numbers.
 fn with_texts<'a>(alloc: Global, command: Command<'a>) -> Result<Command<'a>, AllocError> {
+    let command = with(command, storm_command(alloc))?;
     let command = with(command, check_command(alloc))?;
     let command = with(command, decode_command(alloc))?;
     let command = with(command, encode_command(alloc))?;
@@ -337,6 +344,10 @@ fn job_of<'a>(matches: &ArgMatches<'a>) -> Option<Job<'a>> {
             site: rewind.get_str("SITE")?,
             trace: rewind.get_str("TRACE")?,
             line: rewind.get_one::<usize>("LINE")?,
+        }),
+        ("storm", storm) => Some(Job::Storm {
+            site: storm.get_str("SITE")?,
+            size: storm_size(storm)?,
         }),
         ("check", check) => Some(Job::Check {
             site: check.get_str("SITE")?,

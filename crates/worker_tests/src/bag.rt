@@ -3,7 +3,7 @@ ghost use Rattle.std.specs.Prelude.{◌≡◌, ◌∷◌, ◌++◌, [], All, IfO
 ghost use Rattle.ho_procedure.specs.Sent.{sent, all_sent};
 ghost use Rattle.call_worker.specs.Sending.{one_more};
 
-use call_worker::Links;
+use call_worker::{Links, copy_of};
 use ho_procedure::exchange::Outbound;
 use std::alloc::{AllocError, Allocator};
 use std::sync::{Arc, Condvar, Mutex, Wait};
@@ -42,6 +42,7 @@ impl Taken {
 #[derive(Drop)]
 pub struct Bag<R: Wait + Drop, A: Allocator> {
     rt: R,
+    alloc: A,
     taken: Arc<Taken, A>,
     /// What was passed on, in its order.
     pub sent: Vec<Outbound<A>, A>,
@@ -56,6 +57,7 @@ impl<R: Wait + Drop, A: Allocator + Copy> Bag<R, A> {
     {
         Bag {
             rt,
+            alloc,
             taken,
             sent: Vec::new(alloc),
             refused: 0,
@@ -63,15 +65,28 @@ impl<R: Wait + Drop, A: Allocator + Copy> Bag<R, A> {
     }
 }
 
-impl<R: Wait + Drop, A: Allocator> Links<A> for Bag<R, A> {
+impl<R: Wait + Drop, A: Allocator + Copy> Bag<R, A> {
+    /// Keeps a copy of a message.
+    #[tactic(auto, using(crate::proofs::Passing::passed_more))]
+    fn keep<B: Allocator>(&mut self, message: &Outbound<B>) -> Result<(), AllocError>
+        ensures kept { OnOk result (all_sent self.new.sent.items ≡
+            all_sent self.old.sent.items ++ sent message.now ∷ []) }
+        ensures refused { self.new.refused ≡ self.old.refused }
+        ensures lost { OnErr result (self.new.sent.items ≡ self.old.sent.items) }
+    {
+        let kept = copy_of(self.alloc, message)?;
+        self.sent.push(kept).map_err(AllocError::from)
+    }
+}
+
+impl<R: Wait + Drop, A: Allocator + Copy> Links for Bag<R, A> {
     ghost use Rattle.ho_procedure.specs.Sent.{all_sent};
 
     ghost passed = { λ bag. all_sent bag.sent.items };
 
     ghost refused = { λ bag. bag.refused };
 
-    #[tactic(auto, using(crate::proofs::Passing::passed_more))]
-    fn send(&mut self, message: Outbound<A>) -> Result<(), AllocError>
+    fn send<B: Allocator>(&mut self, message: Outbound<B>) -> Result<(), AllocError>
         ensures ok { OnOk result (all_sent self.new.sent.items ≡
             all_sent self.old.sent.items ++ sent message ∷ []) }
         ensures kept { OnOk result (self.new.refused ≡ self.old.refused) }
@@ -79,9 +94,9 @@ impl<R: Wait + Drop, A: Allocator> Links<A> for Bag<R, A> {
             all_sent self.old.sent.items) }
         ensures counted { OnErr result (self.new.refused ≡ one_more self.old.refused) }
     {
-        match self.sent.push(message) {
+        match self.keep(&message) {
             Ok(()) => Ok(()),
-            Err(_) => {
+            Err(AllocError) => {
                 self.refused = self.refused.saturating_add(1);
                 Err(AllocError)
             }

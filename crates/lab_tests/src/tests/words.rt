@@ -124,6 +124,10 @@ fn told(alloc: Global, job: &Job<'_>) -> Result<String, AllocError> {
             format!(in alloc; "record {} peer={peer} {script}", sites.first)
         }
         Job::Rewind { site, trace, line } => format!(in alloc; "rewind {site} {trace} {line}"),
+        Job::Storm { site, size } => format!(in alloc;
+            "storm {site} {} {}",
+            size.workers, size.calls
+        ),
         Job::Check { site } => format!(in alloc; "check {site}"),
         Job::Decode { link, text } => format!(in alloc; "decode {link:?} {text:?}"),
         Job::DecodeLines { asked, path } => {

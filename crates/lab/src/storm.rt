@@ -1,0 +1,135 @@
+//! Storms of calls over the site of a file.
+ghost use Rattle.std.specs.Prelude.{◌≡◌, ◌≢◌, ◌≤◌, Ok};
+
+use crate::files::text_of;
+use crate::site_files::say_site;
+use lab_runs::listener::print_no_site;
+use lab_runs::run::{LabFault, Status};
+use lab_words::{Job, StormSize, WordsFault, read_words};
+use screen_text::Escaped;
+use std::alloc::{Allocator, Global};
+use std::io::Write;
+use std::rt::Files;
+use std::sync::Wait;
+use std::thread::Threads;
+use storms::outcome::{OfficeFault, Outcome, print_figures};
+use storms::storm::run_storm;
+use storms::trip::Shortage;
+pub use storms::watch::{Reached, Unwatched, Watch};
+
+/// Prints what came of a storm.
+fn print_outcome<W: Write>(out: &mut W, outcome: Outcome) -> Result<Status, LabFault>
+    ensures differs { result ≢ Ok Status.Differs }
+{
+    match outcome {
+        Outcome::Done(figures) => {
+            print_figures(out, figures)?;
+            return Ok(Status::Done);
+        }
+        Outcome::NoSite(fault) => print_no_site(out, fault)?,
+        Outcome::TooSmall(_) => writeln!(out, "site too small")?,
+        Outcome::Office(_) => writeln!(out, "office")?,
+    }
+    Ok(Status::Refused)
+}
+
+/// Runs a storm over a site that is given as a text, with so many workers, each on a thread of its own, and so many calls, and
+/// prints what came of it to `out`: five lines, `calls`, `attempts`, `completed`, `undone` and `channels in use`, each with
+/// a number; the answer is `Done` then. What the calls do is said by [`run_storm`].
+///
+/// A text that describes no site prints what [`lab_run`](crate::run::lab_run) prints of it. Where the site has fewer than two
+/// cells, or a cell too few traffic channels, `site too small` is printed, and where the office of the workers fails,
+/// `office`; then nothing else is printed, and the answer is `Refused`. `scratch` serves while the site is read, `alloc` for
+/// all else. Once memory was refused (`NoMemory`), be it to a worker, or `out` can't be written to (`Write`), nothing more is
+/// printed. All threads that were started have ended when it returns.
+pub fn storm_run<
+    R: Threads + Wait + Clone + Drop + Send + 'static,
+    A: Allocator + Copy + Send + Sync + 'static,
+    W: Write,
+>(
+    rt: &R,
+    alloc: A,
+    scratch: Global,
+    site: &str,
+    workers: u8,
+    calls: u16,
+    out: &mut W,
+) -> Result<Status, LabFault>
+    requires workers { (1 ≤ workers) × (workers ≤ 16) }
+    requires calls { (1 ≤ calls) × (calls ≤ 1024) }
+    ensures differs { result ≢ Ok Status.Differs }
+{
+    let outcome = run_storm(rt, alloc, scratch, site, workers, calls, &mut Unwatched)?;
+    print_outcome(out, outcome)
+}
+
+/// A storm that words ask for.
+#[derive(Clone, Copy, Debug, PartialEq, Eq)]
+pub struct StormJob<'a> {
+    /// The path of the site's file.
+    pub site: &'a str,
+    pub size: StormSize,
+}
+
+/// The storm that the words of a command line ask for, those after the program's own name; nothing where they ask for
+/// anything else, or are refused.
+pub fn storm_asked<'a>(
+    alloc: Global,
+    words: &'a [&'a str],
+) -> Result<Option<StormJob<'a>>, LabFault> {
+    match words.first() {
+        Some(&"storm") => {}
+        Some(_) | None => return Ok(None),
+    }
+    match read_words(alloc, words) {
+        Ok(Job::Storm { site, size }) => Ok(Some(StormJob { site, size })),
+        Ok(_) => Ok(None),
+        Err(WordsFault::Refused(_)) => Ok(None),
+        Err(WordsFault::NoMemory) => Err(LabFault::NoMemory),
+    }
+}
+
+/// Says why a storm over a site that was read wasn't run.
+fn say_shortage<E: Write>(path: &str, shortage: Shortage, errors: &mut E) -> Result<(), LabFault> {
+    writeln!(errors, "{}: {shortage}", Escaped(path))?;
+    Ok(())
+}
+
+/// Says how the office failed.
+fn say_office<E: Write>(fault: OfficeFault, errors: &mut E) -> Result<(), LabFault> {
+    writeln!(errors, "the office of the workers failed: {fault}")?;
+    Ok(())
+}
+
+/// Runs a storm over the site of a file, prints what came of it, as [`storm_run`] does of a text, and tells `watch` how far
+/// it is. The file is refused as by [`run_files`](crate::files::run_files). One line on `errors` says why nothing was run, or
+/// how the office failed.
+pub fn storm_file<
+    R: Files + AllocGlobal + Threads + Wait + Clone + Drop + Send + 'static,
+    V: Watch,
+    W: Write,
+    E: Write,
+>(
+    rt: &R,
+    job: StormJob<'_>,
+    watch: &mut V,
+    out: &mut W,
+    errors: &mut E,
+) -> Result<Status, LabFault> {
+    let alloc = rt.alloc();
+    let StormJob { site, size } = job;
+    let Some(text) = text_of(rt, site, out, errors)? else {
+        return Ok(Status::Refused);
+    };
+    let outcome = run_storm(rt, alloc, alloc, &text, size.workers, size.calls, watch)?;
+    let status = print_outcome(out, outcome)?;
+    match outcome {
+        Outcome::Done(_) => {}
+        Outcome::NoSite(_) => {
+            let _ = say_site(alloc, site, &text, errors)?;
+        }
+        Outcome::TooSmall(shortage) => say_shortage(site, shortage, errors)?,
+        Outcome::Office(fault) => say_office(fault, errors)?,
+    }
+    Ok(status)
+}

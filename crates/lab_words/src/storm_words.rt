@@ -1,0 +1,81 @@
+//! The words of the command that runs a storm.
+ghost use Rattle.std.specs.Prelude.{◌≡◌, ◌≤◌, IfSome};
+
+use crate::help::STORM_HELP;
+use crate::words::argument;
+use clap::{Arg, ArgAction, ArgMatches, Command, value_parser};
+use std::alloc::{AllocError, Global};
+
+/// The most workers of a storm.
+pub const MOST_WORKERS: u8 = 16;
+
+/// The most calls of a storm.
+pub const MOST_CALLS: u16 = 1024;
+
+/// How great a storm is.
+#[derive(Clone, Copy, Debug, PartialEq, Eq)]
+pub struct StormSize {
+    /// How many workers handle the calls: 1 to 16.
+    pub workers: u8,
+    /// How many calls there are: 1 to 1,024.
+    pub calls: u16,
+    ghost some_workers: { 1 ≤ workers },
+    ghost most_workers: { workers ≤ 16 },
+    ghost some_calls: { 1 ≤ calls },
+    ghost most_calls: { calls ≤ 1024 },
+}
+
+impl StormSize {
+    /// A storm of so many workers and calls; nothing where there are too few or too many of either.
+    pub fn new(workers: u8, calls: u16) -> Option<StormSize>
+        ensures workers { IfSome result (λ size. size.workers ≡ workers) }
+        ensures calls { IfSome result (λ size. size.calls ≡ calls) }
+    {
+        if workers == 0 || workers > MOST_WORKERS || calls == 0 || calls > MOST_CALLS {
+            return None;
+        }
+        Some(StormSize { workers, calls })
+    }
+}
+
+/// `--workers N`
+fn workers_argument<'a>(alloc: Global) -> Arg<'a> {
+    Arg::new(alloc, "workers")
+        .long("workers")
+        .value_name("N")
+        .required(true)
+        .action(ArgAction::Set)
+        .help("How many workers handle the calls, 1 to 16: each is a thread with an inbox")
+        .value_parser(value_parser!(u8).range(1..=16))
+}
+
+/// `--calls M`
+fn calls_argument<'a>(alloc: Global) -> Arg<'a> {
+    Arg::new(alloc, "calls")
+        .long("calls")
+        .value_name("M")
+        .required(true)
+        .action(ArgAction::Set)
+        .help("How many calls there are, 1 to 1024")
+        .value_parser(value_parser!(u16).range(1..=1024))
+}
+
+/// `storm SITE --workers N --calls M`
+pub(crate) fn storm_command<'a>(alloc: Global) -> Result<Command<'a>, AllocError> {
+    Command::new(alloc, "storm")
+        .about(
+            "Moves many calls at once, handled by workers on threads, and prints what came of it",
+        )
+        .after_help(STORM_HELP)
+        .arg(argument(alloc, "SITE", "The site file"))?
+        .arg(workers_argument(alloc))?
+        .arg(calls_argument(alloc))
+}
+
+/// How great the storm is that was asked for.
+pub(crate) fn storm_size(storm: &ArgMatches<'_>) -> Option<StormSize> {
+    StormSize::new(
+        storm.get_one::<u8>("workers")?,
+        storm.get_one::<u16>("calls")?,
+    )
+}

@@ -1,0 +1,219 @@
+//! The front of a storm: the one thread that gives inputs to the office.
+ghost use Rattle.std.specs.Prelude.{◌≡◌, ◌≤◌, All, IfOk, [], vec_len};
+
+use crate::links::TrayLinks;
+use crate::outcome::{Figures, StormFault};
+use crate::simulated::Simulated;
+use crate::tray::Tray;
+use crate::trip::Trip;
+use crate::watch::{Reached, Watch};
+use call_worker::{Closed, Gate, Office, Point, WorkerEnd};
+use ho_procedure::exchange::{Inbound, Line, Outbound};
+use radio_desk::desk::Desk;
+use std::alloc::{AllocError, Allocator, Global};
+use std::sync::{Arc, Wait};
+use std::thread::Threads;
+
+/// A gate that holds nobody.
+#[derive(Drop)]
+struct OpenGate;
+
+impl Gate for OpenGate {
+    fn pass(&self, _call: u16, _point: Point) {}
+}
+
+/// What the calls of a storm are asked to do, one phase after the other.
+#[derive(Clone, Copy)]
+pub(crate) enum Phase {
+    /// They are opened.
+    Opening,
+    /// They try to move to the next cell.
+    Moving,
+    /// The switching centre hangs them up.
+    HangingUp,
+}
+
+/// The office with the simulators around it, and how many inputs it was given.
+#[derive(Drop)]
+pub(crate) struct Front<R: Threads + Wait + Drop, A: Allocator + Copy = Global> {
+    office: Office<R, TrayLinks<R, A>, A>,
+    tray: Arc<Tray<A>, A>,
+    simulated: Simulated<A>,
+    given: u64,
+    reached: Reached,
+}
+
+/// Links to one tray, for so many workers.
+fn links_to<R: Wait + Clone + Drop, A: Allocator + Copy>(
+    rt: &R,
+    alloc: A,
+    tray: &Arc<Tray<A>, A>,
+    workers: u8,
+) -> Result<Vec<TrayLinks<R, A>, A>, AllocError>
+    ensures count { IfOk result (λ links. vec_len links ≡ workers) }
+    ensures fresh { IfOk result (λ links. All (λ l. l.refused ≡ 0) links.items) }
+{
+    let mut links = Vec::with_capacity(alloc, usize::from(workers))?;
+    for _ in 0..workers {
+        links.push(TrayLinks::new(rt.clone()?, alloc, tray.clone()?))?;
+    }
+    Ok(links)
+}
+
+impl<R: Threads + Wait + Drop, A: Allocator + Copy> Front<R, A> {
+    /// Starts an office of so many workers, 1 to 16, at a desk at which nothing was asked yet.
+    pub(crate) fn start(
+        rt: &R,
+        alloc: A,
+        desk: Desk<A>,
+        simulated: Simulated<A>,
+        workers: u8,
+    ) -> Result<Front<R, A>, StormFault>
+    where
+        R: Clone + Send + 'static,
+        A: Send + Sync + 'static,
+        requires workers { (1 ≤ workers) × (workers ≤ 16) }
+        requires empty { desk.history ≡ [] }
+    {
+        let tray = Arc::new(alloc, Tray::new(alloc)).map_err(AllocError::from)?;
+        let links = links_to(rt, alloc, &tray, workers)?;
+        let gate = Arc::new(alloc, OpenGate).map_err(AllocError::from)?;
+        let office = Office::start(rt.clone()?, alloc, desk, gate, links)?;
+        Ok(Front {
+            office,
+            tray,
+            simulated,
+            given: 0,
+            reached: Reached::none(),
+        })
+    }
+
+    /// Gives an input to its worker, and waits for room in that worker's inbox.
+    fn give(&mut self, input: Inbound<A>) -> Result<(), StormFault> {
+        self.office.give(input)?;
+        self.given = self.given.saturating_add(1);
+        Ok(())
+    }
+
+    /// Gives inputs, in their order.
+    fn give_all(&mut self, inputs: Vec<Inbound<A>, A>) -> Result<(), StormFault> {
+        for input in inputs {
+            self.give(input)?;
+        }
+        Ok(())
+    }
+
+    /// Hands a message to the simulators, and gives what they answer.
+    fn answer(&mut self, message: &Outbound<A>) -> Result<(), StormFault> {
+        let answers = self.simulated.answers(message)?;
+        self.give_all(answers)
+    }
+
+    /// Answers what lies on the tray, and what comes of that, until all is quiet: the workers are done with all that they
+    /// were given, and nothing lies there.
+    fn settle<V: Watch>(&mut self, rt: &R, watch: &mut V) -> Result<(), StormFault> {
+        for _ in rt.forever() {
+            let Some(message) = self.tray.take_up(rt, self.given) else {
+                break;
+            };
+            self.answer(&message)?;
+            watch.see(self.reached);
+        }
+        Ok(())
+    }
+
+    /// Asks a call for what it does in a phase.
+    fn ask(&mut self, phase: Phase, trip: &Trip) -> Result<(), StormFault> {
+        let call = trip.call;
+        match phase {
+            Phase::Opening => self.give(Inbound::Operator(Line::Open {
+                call,
+                chan: trip.from,
+            })),
+            Phase::Moving => {
+                self.simulated.set_habit(trip.from, trip.habit)?;
+                self.give(Inbound::Operator(Line::Handover {
+                    call,
+                    cell: trip.to,
+                }))
+            }
+            Phase::HangingUp => {
+                let inputs = self.simulated.hang_up(call)?;
+                self.give_all(inputs)
+            }
+        }
+    }
+
+    /// One more call was asked for what it does in a phase.
+    fn count(&mut self, phase: Phase) {
+        let count = match phase {
+            Phase::Opening => &mut self.reached.opened,
+            Phase::Moving => &mut self.reached.moved,
+            Phase::HangingUp => &mut self.reached.hung_up,
+        };
+        *count = count.saturating_add(1);
+    }
+
+    /// Asks all calls for what they do in a phase, and waits until all is quiet.
+    fn pass<V: Watch>(
+        &mut self,
+        rt: &R,
+        phase: Phase,
+        trips: &[Trip],
+        watch: &mut V,
+    ) -> Result<(), StormFault> {
+        for trip in trips {
+            self.ask(phase, trip)?;
+            self.count(phase);
+            watch.see(self.reached);
+        }
+        self.settle(rt, watch)
+    }
+
+    /// Runs a storm: the calls are opened, try to move, and are hung up; each phase begins once all is quiet after the one
+    /// before.
+    pub(crate) fn run<V: Watch>(
+        &mut self,
+        rt: &R,
+        trips: &[Trip],
+        watch: &mut V,
+    ) -> Result<(), StormFault> {
+        self.pass(rt, Phase::Opening, trips, watch)?;
+        self.pass(rt, Phase::Moving, trips, watch)?;
+        self.pass(rt, Phase::HangingUp, trips, watch)
+    }
+
+    /// Ends the workers, waits for their threads, and says what the desk tells. Where a worker had no memory for a part of
+    /// its work, that is want of memory, too.
+    pub(crate) fn close(self) -> Result<Figures, StormFault> {
+        let Front {
+            office,
+            tray: _,
+            simulated: _,
+            given: _,
+            reached: _,
+        } = self;
+        let closed = office.close()?;
+        figures_of(&closed)
+    }
+}
+
+/// Whether a worker did all that it was given, and lost no message.
+fn did_all<R: Wait + Drop, A: Allocator + Copy>(end: &WorkerEnd<TrayLinks<R, A>, A>) -> bool {
+    end.links.passed_all()
+        && end.taken.len() == end.given.len()
+        && end.taken.iter().all(|turn| turn.ok)
+}
+
+/// What the desk of a closed office tells.
+fn figures_of<R: Wait + Drop, A: Allocator + Copy>(
+    closed: &Closed<TrayLinks<R, A>, A>,
+) -> Result<Figures, StormFault> {
+    if !closed.workers.iter().all(|end| did_all(end)) {
+        return Err(StormFault::NoMemory);
+    }
+    Ok(Figures {
+        tally: closed.desk.tally(),
+        channels: closed.desk.book().usage().channels,
+    })
+}

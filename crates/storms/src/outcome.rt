@@ -1,0 +1,133 @@
+//! What comes of a storm.
+use crate::trip::{Shortage, TripFault};
+use call_worker::{CloseFault, GiveFault, StartFault};
+use cell_table::SiteFault;
+use radio_desk::tally::Tally;
+use rsl_messages::RslFault;
+use std::alloc::AllocError;
+use std::io::{self, Write};
+use thiserror::Error;
+
+/// What a desk tells of a storm that came to its end.
+#[derive(Clone, Copy, Debug, PartialEq, Eq)]
+pub struct Figures {
+    /// How many calls and attempts began, and how many attempts were completed or taken back.
+    pub tally: Tally,
+    /// How many channels are in use at the end.
+    pub channels: usize,
+}
+
+/// What an office can't do, other than for want of memory.
+#[derive(Clone, Copy, Debug, Error)]
+pub enum OfficeFault {
+    /// The system has no thread for a worker.
+    #[error("no thread can be started")]
+    Thread,
+    /// A simulator sent octets that are no message on Abis.
+    #[error("{0}")]
+    Undecoded(RslFault),
+    /// A worker has ended before the storm did.
+    #[error("worker {0} has ended")]
+    Ended(usize),
+    /// The workers' receipts aren't the desk's history.
+    #[error("{0}")]
+    Closed(CloseFault),
+}
+
+/// How a storm ended.
+#[derive(Clone, Copy, Debug)]
+pub enum Outcome {
+    /// All calls were opened, tried to move and were hung up.
+    Done(Figures),
+    /// The text describes no site, and nothing was run.
+    NoSite(SiteFault),
+    /// The site is too small for so many calls, and nothing was run.
+    TooSmall(Shortage),
+    /// The office failed. Its workers have ended.
+    Office(OfficeFault),
+}
+
+/// Why a storm didn't come to its end.
+#[derive(Clone, Copy, Debug)]
+pub(crate) enum StormFault {
+    /// The office failed.
+    Office(OfficeFault),
+    /// Memory was refused.
+    NoMemory,
+}
+
+impl From<AllocError> for StormFault {
+    fn from(_: AllocError) -> StormFault {
+        StormFault::NoMemory
+    }
+}
+
+impl From<StartFault> for StormFault {
+    fn from(fault: StartFault) -> StormFault {
+        match fault {
+            StartFault::Thread => StormFault::Office(OfficeFault::Thread),
+            StartFault::NoMemory => StormFault::NoMemory,
+        }
+    }
+}
+
+impl From<GiveFault> for StormFault {
+    fn from(fault: GiveFault) -> StormFault {
+        match fault {
+            GiveFault::Undecoded(fault) => StormFault::Office(OfficeFault::Undecoded(fault)),
+            GiveFault::Ended(worker) => StormFault::Office(OfficeFault::Ended(worker)),
+            GiveFault::NoMemory => StormFault::NoMemory,
+        }
+    }
+}
+
+impl From<CloseFault> for StormFault {
+    fn from(fault: CloseFault) -> StormFault {
+        match fault {
+            CloseFault::Missing(_)
+            | CloseFault::Twice(_)
+            | CloseFault::Count
+            | CloseFault::Opening => StormFault::Office(OfficeFault::Closed(fault)),
+            CloseFault::NoMemory => StormFault::NoMemory,
+        }
+    }
+}
+
+/// Prints what a storm's desk tells: five lines.
+pub fn print_figures<W: Write>(out: &mut W, figures: Figures) -> io::Result<()> {
+    let Figures { tally, channels } = figures;
+    writeln!(out, "calls {}", tally.calls)?;
+    writeln!(out, "attempts {}", tally.attempts)?;
+    writeln!(out, "completed {}", tally.completed)?;
+    writeln!(out, "undone {}", tally.undone)?;
+    writeln!(out, "channels in use {channels}")
+}
+
+/// What comes of it that no trips are made.
+pub(crate) fn untravelled(fault: TripFault) -> Result<Outcome, AllocError> {
+    match fault {
+        TripFault::Short(shortage) => Ok(Outcome::TooSmall(shortage)),
+        TripFault::NoMemory => Err(AllocError),
+    }
+}
+
+/// What comes of a site's text that describes none.
+pub(crate) fn unread(fault: SiteFault) -> Result<Outcome, AllocError> {
+    match fault {
+        SiteFault::NoMemory => Err(AllocError),
+        SiteFault::Toml
+        | SiteFault::Missing(_)
+        | SiteFault::Range(_)
+        | SiteFault::Twice(_)
+        | SiteFault::NoTraffic(_) => Ok(Outcome::NoSite(fault)),
+    }
+}
+
+/// What comes of a storm that was run.
+pub(crate) fn outcome_of(ended: Result<Figures, StormFault>) -> Result<Outcome, AllocError> {
+    match ended {
+        Ok(figures) => Ok(Outcome::Done(figures)),
+        Err(StormFault::Office(fault)) => Ok(Outcome::Office(fault)),
+        Err(StormFault::NoMemory) => Err(AllocError),
+    }
+}

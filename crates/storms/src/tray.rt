@@ -1,0 +1,60 @@
+//! What lies between the workers of a storm and its front.
+use ho_procedure::exchange::Outbound;
+use std::alloc::{AllocError, Allocator, Global};
+use std::collections::VecDeque;
+use std::sync::{Condvar, Mutex, Wait};
+
+/// What lies on a tray.
+#[derive(Drop)]
+struct Load<A: Allocator = Global> {
+    /// The messages that nobody has taken up yet, the first in front.
+    waiting: VecDeque<Outbound<A>, A>,
+    /// How many inputs the workers are done with.
+    done: u64,
+}
+
+/// A tray on which workers lay what they send, and say that they are done with an input: all under one lock. It takes a
+/// message whether anybody takes it up or not, so no worker ever waits for the front.
+#[derive(Drop)]
+pub(crate) struct Tray<A: Allocator = Global> {
+    load: Mutex<Load<A>>,
+    changed: Condvar,
+}
+
+impl<A: Allocator + Copy> Tray<A> {
+    /// An empty tray.
+    pub(crate) fn new(alloc: A) -> Tray<A> {
+        Tray {
+            load: Mutex::new(Load {
+                waiting: VecDeque::new(alloc),
+                done: 0,
+            }),
+            changed: Condvar::new(),
+        }
+    }
+
+    /// Lays a message behind all others. `Err`: there was no memory for it, and the message is lost.
+    pub(crate) fn lay<R: Wait>(&self, rt: &R, message: Outbound<A>) -> Result<(), AllocError> {
+        self.load.lock(rt).waiting.push_back(message)?;
+        self.changed.notify_one();
+        Ok(())
+    }
+
+    /// A worker is done with one more input: all that it sends for it lies here.
+    pub(crate) fn count_done<R: Wait>(&self, rt: &R) {
+        let mut load = self.load.lock(rt);
+        load.done = load.done.saturating_add(1);
+        self.changed.notify_one();
+    }
+
+    /// Takes up the first message. It waits while none lies here and the workers are done with fewer inputs than were given;
+    /// nothing once no message is left and none can come, since they are done with all.
+    pub(crate) fn take_up<R: Wait>(&self, rt: &R, given: u64) -> Option<Outbound<A>> {
+        let mut load = self.changed.wait_while(
+            rt,
+            self.load.lock(rt),
+            |load| load.waiting.is_empty() && load.done < given,
+        );
+        load.waiting.pop_front()
+    }
+}

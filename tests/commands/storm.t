@@ -1,0 +1,125 @@
+Many calls at once, handled by workers on threads. Each call is opened, tries to move to the next cell, and is hung up. What
+comes of it doesn't depend on how many workers there are, nor on which of them gets on first.
+
+Eight cells with three TRX and 23 traffic channels each:
+
+  $ ./lab storm examples/eight_cells.toml --workers 4 --calls 64
+  calls 64
+  attempts 64
+  completed 32
+  undone 32
+  channels in use 0
+  $ ./lab storm examples/eight_cells.toml --workers 1 --calls 64 >one
+  $ ./lab storm examples/eight_cells.toml --workers 2 --calls 64 | cmp one -
+  $ ./lab storm examples/eight_cells.toml --workers 16 --calls 64 | cmp one -
+  $ ./lab storm --calls 88 examples/eight_cells.toml --workers=3
+  calls 88
+  attempts 88
+  completed 44
+  undone 44
+  channels in use 0
+  $ ./lab storm examples/eight_cells.toml --workers 4 --calls 5
+  calls 5
+  attempts 5
+  completed 3
+  undone 2
+  channels in use 0
+
+Two cells with two traffic channels each:
+
+  $ ./lab storm tests/storms/two_cells.toml --workers 1 --calls 1
+  calls 1
+  attempts 1
+  completed 1
+  undone 0
+  channels in use 0
+  $ ./lab storm tests/storms/two_cells.toml --workers 2 --calls 2
+  calls 2
+  attempts 2
+  completed 1
+  undone 1
+  channels in use 0
+
+A site is too small where it has one cell, or where a cell has fewer than twice as many traffic channels as calls begin in
+one; here a call that begins in cell 0 needs a channel of cell 1, and one of cell 1 a channel of cell 0.
+
+  $ ./lab storm tests/storms/one_cell.toml --workers 1 --calls 1 2>errors
+  site too small
+  [2]
+  $ cat errors
+  tests/storms/one_cell.toml: a storm needs two cells
+  $ ./lab storm examples/two_cells.toml --workers 1 --calls 1 2>errors
+  site too small
+  [2]
+  $ cat errors
+  examples/two_cells.toml: cell 1 has 1 traffic channels, and needs 2
+  $ ./lab storm tests/storms/two_cells.toml --workers 1 --calls 3 2>errors
+  site too small
+  [2]
+  $ cat errors
+  tests/storms/two_cells.toml: cell 0 has 2 traffic channels, and needs 4
+  $ ./lab storm examples/eight_cells.toml --workers 16 --calls 89 2>errors
+  site too small
+  [2]
+  $ cat errors
+  examples/eight_cells.toml: cell 0 has 23 traffic channels, and needs 24
+  $ ./lab storm examples/eight_cells.toml --workers 16 --calls 1024 2>/dev/null
+  site too small
+  [2]
+
+Files and sites are refused as by run.
+
+  $ ./lab storm 'no site' --workers 1 --calls 1 2>errors
+  file no site
+  [2]
+  $ cat errors
+  no site: no such file
+  $ ./lab storm / --workers 1 --calls 1 2>/dev/null
+  file /
+  [2]
+  $ ./lab storm /dev/null --workers 1 --calls 1 2>errors
+  site 2 handover
+  [2]
+  $ cat errors
+  /dev/null: handover is missing: it has to be a table
+  $ sed -z 's/tch = \[2, 3\]/tch = []/' tests/storms/two_cells.toml >refused.toml
+  $ ./lab storm refused.toml --workers 1 --calls 1 2>/dev/null
+  site 5 0
+  [2]
+
+Words that ask for none: there are 1 to 16 workers, and 1 to 1,024 calls.
+
+  $ ./lab storm examples/eight_cells.toml --workers 17 --calls 64 2>&1 >>printed
+  *'17'*1..=16*N is a number from 1 to 16* (glob)
+  [2]
+  $ ./lab storm examples/eight_cells.toml --workers 0 --calls 64 2>&1 >>printed
+  *'0'*1..=16*N is a number from 1 to 16* (glob)
+  [2]
+  $ ./lab storm examples/eight_cells.toml --workers 4 --calls 0 2>&1 >>printed
+  *'0'*1..=1024*M is a number from 1 to 1024* (glob)
+  [2]
+  $ ./lab storm examples/eight_cells.toml --workers 4 --calls 1025 2>&1 >>printed
+  *'1025'*1..=1024*M is a number from 1 to 1024* (glob)
+  [2]
+  $ ./lab storm examples/eight_cells.toml --workers four --calls 64 2>&1 >>printed
+  *'four'*'--workers <N>'*N is a number from 1 to 16* (glob)
+  [2]
+  $ ./lab storm examples/eight_cells.toml --calls 64 2>&1 >>printed
+  *not provided: --workers <N>*bsc_lab storm --workers <N> --calls <M> <SITE>* (glob)
+  [2]
+  $ ./lab storm examples/eight_cells.toml --workers 4 2>&1 >>printed
+  *not provided: --calls <M>*bsc_lab storm --workers <N> --calls <M> <SITE>* (glob)
+  [2]
+  $ ./lab storm --workers 4 --calls 64 2>&1 >>printed
+  *not provided: <SITE>*bsc_lab storm --workers <N> --calls <M> <SITE>* (glob)
+  [2]
+  $ ./lab storm examples/eight_cells.toml examples/one_call.txt --workers 4 --calls 64 2>&1 >>printed
+  *'examples/one_call.txt'*bsc_lab storm --workers <N> --calls <M> <SITE>* (glob)
+  [2]
+  $ cat printed
+
+Standard output that can't be written:
+
+  $ ./lab storm examples/eight_cells.toml --workers 4 --calls 64 2>&1 >/dev/full
+  standard output: no space left
+  [2]
