@@ -1,5 +1,5 @@
 //! Storms of calls over the site of a file.
-ghost use Rattle.std.specs.Prelude.{◌≡◌, ◌≢◌, ◌≤◌, Ok};
+ghost use Rattle.std.specs.Prelude.{◌≢◌, ◌≤◌, Ok};
 
 use crate::files::text_of;
 use crate::site_files::say_site;

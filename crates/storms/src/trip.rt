@@ -1,5 +1,5 @@
 //! Where the calls of a storm begin, and where they try to go.
-ghost use Rattle.std.specs.Prelude.{◌≡◌, ◌<◌, ◌≤◌, IfSome};
+ghost use Rattle.std.specs.Prelude.{◌<◌};
 
 use bts_model::Habit;
 use cell_table::Site;
