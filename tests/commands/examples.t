@@ -8,6 +8,7 @@ What scripts print stands beside them in a .trace, what they draw in an .svg.
   examples/handover_returns.svg
   examples/handover_returns.trace
   examples/handover_undone.trace
+  examples/station_stutters.svg
   examples/station_stutters.trace
   $ ./lab run examples/two_cells.toml examples/handover_arrives.txt >printed
   $ diff examples/handover_arrives.trace printed
@@ -21,5 +22,6 @@ What scripts print stands beside them in a .trace, what they draw in an .svg.
   $ ./lab run examples/two_cells.toml examples/handover_between.txt --peer examples/one_cell.toml --chart chart.svg >printed
   $ diff examples/handover_between.trace printed
   $ diff examples/handover_between.svg chart.svg
-  $ ./lab run examples/two_cells.toml examples/station_stutters.txt >printed
+  $ ./lab run examples/two_cells.toml examples/station_stutters.txt --chart chart.svg >printed
   $ diff examples/station_stutters.trace printed
+  $ diff examples/station_stutters.svg chart.svg
