@@ -37,7 +37,8 @@ fn is_cleared<R: Wait + Abort + Drop>(
     assert!(rt; left.desk.len() == 2 && left.front.is_empty());
     assert!(rt; matches!(entry_at(left, 0), Some((Event::Look(1), Reply::Record(..)))));
     assert!(rt; entry_at(left, 1) == Some((Event::Clear(1), Reply::Done)));
-    let sent = sent_lines(scratch, &left.workers[0].links.sent)?;
+    let worker = left.workers.first().ok_or("no worker")?;
+    let sent = sent_lines(scratch, &worker.links.sent)?;
     assert!(rt; sent.as_str() == "out abis 0 0 082e010b\n", "{sent}");
     Ok(())
 }
