@@ -7,6 +7,8 @@ pub struct Failing {
     /// How many writes come before that one.
     before: u64,
     pub failed: bool,
+    /// How many came behind it.
+    pub behind: u64,
     pub text: Vec<u8>,
 }
 
@@ -16,6 +18,7 @@ impl Failing {
         Failing {
             before,
             failed: false,
+            behind: 0,
             text: Vec::new(alloc),
         }
     }
@@ -26,6 +29,9 @@ impl Write for Failing {
         if self.before == 0 && !self.failed {
             self.failed = true;
             return Err(io::Error::from(io::ErrorKind::Other));
+        }
+        if self.failed {
+            self.behind = self.behind.saturating_add(1);
         }
         self.before = self.before.saturating_sub(1);
         self.text.extend_from_slice(octets)?;

@@ -1,4 +1,5 @@
 use super::failing::Failing;
+use super::rows::{HANDOVER, script_of};
 use super::{ONE_CALL, SITE, equals_at, holds_at, printed};
 use lab::run::{LabFault, Status, lab_run};
 use refusing_heap::RefusingHeap;
@@ -8,51 +9,55 @@ use std::process::Abort;
 use std::str;
 use std::test::Fail;
 
-/// A site, a script with what they print, and in how many writes at least.
-const WRITES: &[(&str, (&str, &str), u64)] = &[
-    (SITE, ONE_CALL, 13),
-    ("", ("", "site 2 handover\n"), 1),
-    ("[", ("", "site 1\n"), 1),
-    ("handover = 3", ("", "site 3 handover\n"), 1),
-    (SAME_IDENTITY, ("", "site 4 identity\n"), 1),
-    (NO_TRAFFIC, ("", "site 5 0\n"), 1),
-    (SITE, ("undo", "line 1\n"), 1),
+/// A site, a script with what they print, how that ends, and in how many writes at least.
+const WRITES: &[(&str, (&str, &str), Status, u64)] = &[
+    (SITE, ONE_CALL, Status::Done, 13),
+    ("", ("", "site 2 handover\n"), Status::Refused, 1),
+    ("[", ("", "site 1\n"), Status::Refused, 1),
+    (
+        "handover = 3",
+        ("", "site 3 handover\n"),
+        Status::Refused,
+        1,
+    ),
+    (SAME_IDENTITY, ("", "site 4 identity\n"), Status::Refused, 1),
+    (NO_TRAFFIC, ("", "site 5 0\n"), Status::Refused, 1),
+    (SITE, ("undo", "line 1\n"), Status::Refused, 1),
     (
         SITE,
         (
             "abis 0 0 04",
             "in abis 0 0 04\nfault abis 1\nend channels=0 calls=0 references=0 timers=0\n",
         ),
+        Status::Done,
         3,
     ),
 ];
 
-/// A run ended with this fault and printed a front of the wanted text, or with none and printed it all.
+/// A run has ended so; it printed a front of the wanted text where that is a fault, and else all of it.
 fn prints_unless(
     rt: &impl Abort,
-    fault: Option<LabFault>,
-    status: Result<Status, LabFault>,
-    text: &str,
+    (ended, text): (Result<Status, LabFault>, &str),
+    expected: Result<Status, LabFault>,
     wanted: &str,
 ) {
-    equals_at(rt, status.err(), fault, text);
-    match fault {
-        Some(_) => holds_at(rt, wanted.starts_with(text), text),
-        None => equals_at(rt, text, wanted, "a run without a refusal"),
+    equals_at(rt, ended, expected, text);
+    match expected {
+        Ok(_) => equals_at(rt, text, wanted, "a run without a fault"),
+        Err(_) => holds_at(rt, wanted.starts_with(text), text),
     }
 }
 
 /// Whether a run over a heap met no refusal.
 fn runs_over(rt: &impl Abort, alloc: Global, heap: &RefusingHeap) -> Result<bool, Fail> {
-    let (status, text) = printed(heap, alloc, SITE, None, ONE_CALL.0)?;
-    let fault = if heap.was_refused() {
-        Some(LabFault::NoMemory)
+    let (ended, text) = printed(heap, alloc, SITE, None, ONE_CALL.0)?;
+    let expected = if heap.was_refused() {
+        Err(LabFault::NoMemory)
     } else {
-        None
+        Ok(Status::Done)
     };
-    holds_at(rt, status != Ok(Status::Refused), text.as_str());
-    prints_unless(rt, fault, status, &text, ONE_CALL.1);
-    Ok(fault.is_none())
+    prints_unless(rt, (ended, text.as_str()), expected, ONE_CALL.1);
+    Ok(expected.is_ok())
 }
 
 /// Whether a run over a heap that refuses this request met no refusal.
@@ -74,48 +79,55 @@ fn each_request_for_memory_is_refused(rt: HostRuntime) -> Result<(), Fail> {
     Ok(())
 }
 
-/// Whether a run met no failing write, where so many come before it.
+/// Whether a run met no failing write, where so many come before it. Behind it nothing is written.
 fn writes_all(
     rt: &impl Abort,
     alloc: Global,
     site: &str,
-    script: &str,
-    wanted: &str,
+    (script, wanted): (&str, &str),
+    status: Status,
     before: u64,
 ) -> Result<bool, Fail> {
     let mut out = Failing::after(alloc, before);
-    let status = lab_run(alloc, alloc, site, None, script, &mut out);
-    let fault = if out.failed {
-        Some(LabFault::Write)
+    let ended = lab_run(alloc, alloc, site, None, script, &mut out);
+    let expected = if out.failed {
+        Err(LabFault::Write)
     } else {
-        None
+        Ok(status)
     };
-    prints_unless(rt, fault, status, str::from_utf8(&out.text)?, wanted);
-    Ok(fault.is_none())
+    equals_at(rt, out.behind, 0, (before, "a write behind it"));
+    prints_unless(rt, (ended, str::from_utf8(&out.text)?), expected, wanted);
+    Ok(expected.is_ok())
 }
 
-/// How many writes failed in turn before a run was printed.
+/// How many writes failed in turn, from the first on, before a run met none that fails.
 fn failures_of(
     rt: &(impl AllocGlobal + Abort),
     site: &str,
-    script: &str,
-    wanted: &str,
+    row: (&str, &str),
+    status: Status,
 ) -> Result<u64, Fail> {
-    let mut tried = 0u64;
     for before in 0..1000 {
-        if writes_all(rt, rt.alloc(), site, script, wanted, before)? {
-            break;
+        if writes_all(rt, rt.alloc(), site, row, status, before)? {
+            return Ok(before);
         }
-        tried = tried.saturating_add(1);
     }
-    Ok(tried)
+    Err(Fail::from("a thousand writes"))
 }
 
 #[test]
 fn each_write_fails(rt: HostRuntime) -> Result<(), Fail> {
-    for (site, (script, wanted), at_least) in WRITES {
-        let tried = failures_of(&rt, *site, *script, *wanted)?;
-        holds_at(&rt, *at_least <= tried && tried < 1000, (tried, "writes"));
+    for (site, row, status, at_least) in WRITES {
+        let tried = failures_of(&rt, *site, *row, *status)?;
+        holds_at(&rt, *at_least <= tried, (tried, "writes"));
     }
+    Ok(())
+}
+
+#[test]
+fn each_write_of_a_handover_fails(rt: HostRuntime) -> Result<(), Fail> {
+    let script = script_of(rt.alloc(), HANDOVER)?;
+    let tried = failures_of(&rt, SITE, (script.as_str(), HANDOVER), Status::Done)?;
+    holds_at(&rt, 28 <= tried, (tried, "writes"));
     Ok(())
 }

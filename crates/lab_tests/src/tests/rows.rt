@@ -11,10 +11,8 @@ use std::process::Abort;
 use std::str;
 use std::test::Fail;
 
-/// Whole traces, in which what stands behind `in` is the script.
-const TRACES: &[&str] = &[
-    // a handover to the end
-    "in open 1 0 0 3
+/// A handover to the end: a whole trace, in which what stands behind `in` is the script.
+pub(super) const HANDOVER: &str = "in open 1 0 0 3
 event open 1 0/0/3 -> done
 out abis 0 0 0821010b0300060400010801
 in abis 0 0 0822010b081234
@@ -42,7 +40,11 @@ out a 1 000b1704010c05050100170065
 in abis 0 0 0833010b
 event released 0/0/3 -> done
 end channels=1 calls=1 references=0 timers=0
-",
+";
+
+/// Such traces.
+const TRACES: &[&str] = &[
+    HANDOVER,
     // the mobile is late: its timer runs out, once
     "in open 1 0 0 3
 event open 1 0/0/3 -> done
