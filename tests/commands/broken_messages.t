@@ -1,7 +1,10 @@
 Messages of each link that are cut, changed and made longer, and what is read of them; scripts with a line that is said twice,
-too late, or by another cell's station. What is expected of them is worked out by the programs that run them.
+too late, or by another cell's station, and scripts of random lines. What is expected of them is worked out by the programs
+that run them.
 
   $ tests/broken_messages ./lab
-  1455 broken messages, 0 read otherwise than expected
+  1821 broken messages, 0 read otherwise than expected
   $ tests/changed_scripts ./lab
   90 changed scripts met, 0 not
+  $ tests/changed_scripts ./lab --random 1 4
+  4 changed scripts met, 0 not

@@ -123,7 +123,8 @@ Octets that are no radio resource message. The fifth are fifteen octets of measu
   fault rr 4 3
   [2]
 
-Octets that are no message on A. The eighth have one cell of two, the ninth no classmark.
+Octets that are no message on A. The eighth have one cell of two, the ninth no classmark; the last are one octet more than a
+message has.
 
   $ ./lab decode a '' 2>/dev/null
   fault a 1
@@ -157,6 +158,9 @@ Octets that are no message on A. The eighth have one cell of two, the ninth no c
   [2]
   $ ./lab decode a 0003160405 2>/dev/null
   fault a 6 3
+  [2]
+  $ ./lab decode a "00fe21$(printf '00%.0s' $(seq 253))" 2>/dev/null
+  fault a 2
   [2]
 
 Octets that are no message on Abis; the last are one octet more than a message has.
