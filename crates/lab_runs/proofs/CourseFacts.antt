@@ -14,11 +14,11 @@ use Rattle.lab_runs.specs.declared.course.Run.{Run}
 use Rattle.lab_runs.specs.Turns.{Position, AreTurns, IsTurn, IsTurnOf, listed, scripted, input_in, inputs_in}
 use Rattle.lab_runs.specs.Course.{Went, AreOpenings, IsRunOf, Played, positions_of, option_list, has_peer}
 
-turns_joined : {A : Type 0} (all : List Position) (ts : List (Turn A)) (m : List Position) (us : List (Turn A)) (all' : List Position) → AreTurns all ts m → AreTurns m us all' → AreTurns all (ts ++ us) all'
+pub turns_joined : {A : Type 0} (all : List Position) (ts : List (Turn A)) (m : List Position) (us : List (Turn A)) (all' : List Position) → AreTurns all ts m → AreTurns m us all' → AreTurns all (ts ++ us) all'
 turns_joined all [] m us all' h k = rw (sym h) k
 turns_joined all (t ∷ ts) m us all' h k = (h.0, h.1, turns_joined h.0 ts m us all' h.2 k)
 
-scripted_joined : {A : Type 0} (ts us : List (Turn A)) → scripted (ts ++ us) ≡ scripted ts ++ scripted us
+pub scripted_joined : {A : Type 0} (ts us : List (Turn A)) → scripted (ts ++ us) ≡ scripted ts ++ scripted us
 scripted_joined [] us = refl
 scripted_joined (t ∷ ts) us = ap (λ rest. listed t.source t.side t.input ++ rest) (scripted_joined ts us) ∙ sym (append_assoc (listed t.source t.side t.input) (scripted ts) (scripted us))
 

@@ -1,5 +1,6 @@
 pub mod Course
 pub mod Notes
+pub mod Owing
 pub mod Sites
 pub mod Statuses
 pub mod Turns

@@ -7,7 +7,7 @@ ghost use Rattle.lab_runs.specs.Course.{IsOpening, AreOpenings, positions_of, op
 use crate::listener::Listener;
 use crate::noting::Noting;
 use crate::run::LabFault;
-use crate::turn::{Source, Turn, take_turn};
+use crate::turn::{Source, Turn, TurnFault, take_turn};
 use cell_table::Site;
 use ho_procedure::controller::Controller;
 use ho_procedure::exchange::Inbound;
@@ -105,7 +105,7 @@ impl<A: Allocator + Copy> Controllers<A> {
         side: Side,
         source: Source,
         input: Inbound<A>,
-    ) -> Result<Turn<A>, AllocError>
+    ) -> Result<Turn<A>, TurnFault<A>>
         requires there { is_there (is_some self.old.peer) side ≡ true }
         ensures turn { IfOk result (λ turn. IsTurnOf (positions_of self.old) turn (positions_of self.new)) }
         ensures peer { is_some self.new.peer ≡ is_some self.old.peer }

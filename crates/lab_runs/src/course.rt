@@ -9,7 +9,7 @@ use crate::controllers::Controllers;
 use crate::listener::Listener;
 use crate::run::LabFault;
 use crate::simulators::{Arrival, Simulators, Waiting};
-use crate::turn::{Answer, Source, Turn};
+use crate::turn::{Answer, Source, Turn, TurnFault};
 use bts_model::Setting;
 use cell_table::Site;
 use ho_procedure::exchange::Inbound;
@@ -106,8 +106,8 @@ impl<A: Allocator + Copy> Course<A> {
         }
     }
 
-    /// A controller that is there handles an input, and a listener is told what came of it. What simulators answer waits
-    /// behind all else.
+    /// A controller that is there handles an input, and a listener is told what came of it, or what is owed where memory
+    /// is refused. What simulators answer waits behind all else.
     fn handle<L: Listener<A>>(
         &mut self,
         side: Side,
@@ -120,7 +120,10 @@ impl<A: Allocator + Copy> Course<A> {
         ensures { OnOk result (Went (listed source side input) self.old self.new) }
     {
         self.turns.reserve(1)?;
-        let turn = self.controllers.take_turn(self.alloc, side, source, input)?;
+        let turn = match self.controllers.take_turn(self.alloc, side, source, input) {
+            Ok(turn) => turn,
+            Err(fault) => return Err(tell_owed(&self.controllers, side, fault, listener)),
+        };
         let told = tell(
             &self.controllers,
             &mut self.simulators,
@@ -241,6 +244,23 @@ impl<A: Allocator + Copy> Course<A> {
         } = self;
         Run { turns, controllers }
     }
+}
+
+/// Tells a listener what a controller owes that was refused memory. That this couldn't be told doesn't hide that memory was
+/// refused.
+fn tell_owed<A: Allocator + Copy, L: Listener<A>>(
+    controllers: &Controllers<A>,
+    side: Side,
+    fault: TurnFault<A>,
+    listener: &mut L,
+) -> LabFault {
+    match fault {
+        TurnFault::NoMemory => {}
+        TurnFault::Owed(messages) => {
+            let _ = listener.hear_owed(controllers.mark(side), &messages);
+        }
+    }
+    LabFault::NoMemory
 }
 
 /// Tells a listener what came of an input, and lets what simulators answer to that wait.

@@ -2,6 +2,7 @@
 use crate::run::LabFault;
 use crate::turn::{Answer, Turn};
 use cell_table::SiteFault;
+use ho_procedure::exchange::Outbound;
 use radio_book::book::Book;
 use std::alloc::Allocator;
 use std::io::{self, Write};
@@ -14,6 +15,12 @@ use trace_text::trace::{
 pub trait Listener<A: Allocator + Copy> {
     /// What came of an input; the controller's mark, and its book as it is now.
     fn hear_turn(&mut self, mark: Mark, turn: &Turn<A>, book: &Book<A>) -> Result<(), LabFault>;
+
+    /// Memory was refused, so that it isn't told what came of an input; the controller with this mark still owes these
+    /// messages, in their order. Who sends nothing anywhere needn't hear it.
+    fn hear_owed(&mut self, _mark: Mark, _messages: &[Outbound<A>]) -> Result<(), LabFault> {
+        Ok(())
+    }
 
     /// So many answers of simulators were handled for one line of the script that the rest are dropped.
     fn hear_limit(&mut self) -> Result<(), LabFault>;

@@ -1,10 +1,9 @@
 //! One input, and what came of it.
-ghost use Rattle.std.specs.Prelude.{◌≡◌, ◌≤◌, ◌++◌, List, drop, length, slice_get, IfOk, OnOk, OnErr};
-ghost use Rattle.ho_procedure.specs.Sent.{Sent};
+ghost use Rattle.std.specs.Prelude.{◌≡◌, ◌≤◌, ◌++◌, drop, length, slice_get, IfOk, IfErr, OnOk};
 ghost use Rattle.radio_book.specs.Run.{Leads};
-ghost use Rattle.ho_procedure.specs.Handling.{StopsForMemory};
 ghost use Rattle.lab_runs.specs.Notes.{noted_at, step_of, with_notes};
-ghost use Rattle.lab_runs.specs.Turns.{history_of, says, Answers, IsTurn};
+ghost use Rattle.lab_runs.specs.Turns.{Answers, IsTurn};
+ghost use Rattle.lab_runs.specs.Owing.{owed_by, sent_by, Stops, Owes};
 
 use crate::noting::{Note, Noting};
 use ho_procedure::controller::Controller;
@@ -47,6 +46,35 @@ pub struct Turn<A: Allocator = Global> {
     pub steps: Vec<Step, A>,
     /// What it sent, or why its octets can't be read.
     pub answer: Answer<A>,
+}
+
+/// Why it isn't said what came of an input.
+#[derive(Drop)]
+pub enum TurnFault<A: Allocator = Global> {
+    /// Memory was refused, and nothing is to be sent.
+    NoMemory,
+    /// Memory was refused, and the controller still owes these messages, in their order.
+    Owed(Vec<Outbound<A>, A>),
+}
+
+impl<A: Allocator> From<AllocError> for TurnFault<A> {
+    ghost use Rattle.lab_runs.specs.declared.turn.TurnFault.TheVariants.{NoMemory};
+
+    ghost from_gives = { λ _ fault. fault ≡ NoMemory };
+
+    fn from(_: AllocError) -> Self {
+        TurnFault::NoMemory
+    }
+}
+
+/// What is owed of an answer that wasn't told.
+fn owed_of<A: Allocator>(answer: Answer<A>) -> TurnFault<A>
+    ensures { owed_by result ≡ sent_by answer }
+{
+    match answer {
+        Answer::Sent(messages) => TurnFault::Owed(messages),
+        Answer::Undecoded(_) => TurnFault::NoMemory,
+    }
 }
 
 /// The same input once more.
@@ -125,48 +153,49 @@ fn steps_from<A: Allocator + Copy>(
 fn handled<A: Allocator + Copy>(
     controller: &mut Controller<Noting<A>, A>,
     input: Inbound<A>,
-) -> Result<Answer<A>, AllocError>
+) -> Result<Answer<A>, TurnFault<A>>
     ensures answers { IfOk result (λ answer. Answers controller.old input answer controller.new) }
-    ensures stops { OnErr result ((owed : List Sent) × StopsForMemory {A = A} history_of says
-        controller.old.2 controller.old.0 controller.old.1 input
-        controller.new.0 controller.new.1 owed) }
+    ensures stops { IfErr result (λ fault. Stops controller.old input (owed_by fault) controller.new) }
     ensures opening { controller.new.0.desk.opening ≡ controller.old.0.desk.opening }
     ensures site { controller.new.2 ≡ controller.old.2 }
 {
     match controller.handle(input) {
         Ok(sent) => Ok(Answer::Sent(sent)),
         Err(Fault::Undecoded(_, bad)) => Ok(Answer::Undecoded(bad)),
-        Err(Fault::NoMemory(_)) => Err(AllocError),
+        Err(Fault::NoMemory(messages)) => Err(TurnFault::Owed(messages)),
         // the desk of a view of its own knows all of its receipts
         Err(Fault::Desk(..)) => unreachable!(),
     }
 }
 
 /// The controller of a side handles an input; says what came of it. Where memory is refused, what was asked so far
-/// stands, and what came of it isn't said.
+/// stands, and what came of it isn't said; but what it owes is.
 pub fn take_turn<A: Allocator + Copy>(
     alloc: A,
     controller: &mut Controller<Noting<A>, A>,
     side: Side,
     source: Source,
     input: Inbound<A>,
-) -> Result<Turn<A>, AllocError>
+) -> Result<Turn<A>, TurnFault<A>>
     ensures turn { IfOk result (λ turn. IsTurn controller.old turn controller.new) }
     ensures side { IfOk result (λ turn. turn.side ≡ side) }
     ensures source { IfOk result (λ turn. turn.source ≡ source) }
     ensures input { IfOk result (λ turn. turn.input ≡ input) }
+    ensures owed { IfErr result (λ fault. Owes controller.old input (owed_by fault) controller.new) }
 {
     let first = controller.view().desk().len();
     let noted = controller.view().noted();
     let given = copy_of(alloc, &input)?;
     let answer = handled(controller, given)?;
     let view = controller.view();
-    let steps = steps_from(alloc, view.desk(), view.notes_from(noted), first)?;
-    Ok(Turn {
-        side,
-        source,
-        input,
-        steps,
-        answer,
-    })
+    match steps_from(alloc, view.desk(), view.notes_from(noted), first) {
+        Ok(steps) => Ok(Turn {
+            side,
+            source,
+            input,
+            steps,
+            answer,
+        }),
+        Err(AllocError) => Err(owed_of(answer)),
+    }
 }
