@@ -1,0 +1,3 @@
+mod InputFacts
+mod LineFacts
+mod LiveFacts

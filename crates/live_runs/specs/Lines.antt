@@ -1,0 +1,106 @@
+-- Which lines of those that come in can be read, and what they give. A line is the list of its octets, without its line feed.
+-- Ours, of no standard.
+use Rattle.std.specs.Prelude.{◌≡◌, ◌&&◌, ◌||◌, ◌++◌, ℕ, Bool, true, false, not, nat_lt, if◌then◌else◌, List, [], ◌∷◌, codes, length}
+use Rattle.std.specs.List.{list_any, filter_map, flat_map, slice_split, before_first, after_first}
+use Rattle.std.specs.Str.{is_utf8}
+use Rattle.std.specs.Str.Lines.{strip_carriage_return}
+use Rattle.ho_procedure.specs.declared.exchange.Inbound.{Inbound}
+use Rattle.decoded_lines.specs.Reading.{is_feed, longest_line}
+use Rattle.lab_script.specs.declared.side.Side.{Side}
+use Rattle.lab_script.specs.declared.script.Given.{Given}
+use Rattle.lab_script.specs.declared.script.Given.TheVariants.{Input, Attach, Set, HangUp}
+use Rattle.lab_script.specs.declared.script.Item.{Item}
+use Rattle.lab_script.specs.Script.{is_line, is_sim, needs_sim, item_of, is_item_there}
+use Rattle.lab_runs.specs.Turns.{inputs_in}
+use Rattle.live_runs.specs.declared.line.Said.{Said}
+use Rattle.live_runs.specs.declared.line.Said.TheVariants as said
+
+-- a line as a script has it: without the one carriage return that may end it
+abbrev pub script_line : List ℕ → List ℕ
+script_line line = strip_carriage_return line
+
+-- a text that isn't too long, in one line
+unfoldable pub is_text : List ℕ → Bool
+is_text line = (not (nat_lt longest_line (length line)) && not (list_any is_feed line)) && is_utf8 line
+
+-- a text is a line of a script for one controller, and asks nothing of simulators that aren't there
+unfoldable pub is_readable : Bool → List ℕ → Bool
+is_readable has_sim line = is_line false (script_line line) && (has_sim || not (needs_sim (script_line line)))
+
+-- a line can be read, where simulators are attached or not
+abbrev pub can_be_read : Bool → List ℕ → Bool
+can_be_read has_sim line = is_text line && is_readable has_sim line
+
+-- what a line gives, as a line of a script
+unfoldable pub items_at : {A : Type 0} → List ℕ → List (Item A)
+items_at line = filter_map item_of (script_line line ∷ [])
+
+-- and as the last of a script: behind the line that attaches the simulators, or alone
+unfoldable pub items_behind : {A : Type 0} → Bool → List ℕ → List (Item A)
+items_behind true line = filter_map item_of (codes "sim" ∷ script_line line ∷ [])
+items_behind false line = filter_map item_of (script_line line ∷ [])
+
+-- the input of a line, if it can be read and gives one
+abbrev pub inputs_at : {A : Type 0} → Bool → List ℕ → List (Side × Inbound A)
+inputs_at has_sim line = if can_be_read has_sim line then inputs_in (items_at line) else []
+
+-- a line attaches the simulators
+unfoldable pub attaches : List ℕ → Bool
+attaches line = is_sim (script_line line) && can_be_read false line
+
+-- whether simulators are attached behind a line
+abbrev pub sim_behind : Bool → List ℕ → Bool
+sim_behind has_sim line = has_sim || attaches line
+
+-- The inputs of lines: of each that can be read. Those up to the first line that attaches the simulators are read as before it,
+-- all behind it with simulators.
+abbrev pub inputs_of : {A : Type 0} → Bool → List (List ℕ) → List (Side × Inbound A)
+inputs_of has_sim lines = flat_map (inputs_at has_sim) (before_first attaches lines) ++ flat_map (inputs_at true) (after_first attaches lines)
+
+-- those of the lines of some octets, where a line feed stands between any two
+abbrev pub inputs_from : {A : Type 0} → Bool → List ℕ → List (Side × Inbound A)
+inputs_from has_sim octets = inputs_of has_sim (slice_split is_feed octets)
+
+-- what is given attaches the simulators
+abbrev pub is_attach : {A : Type 0} → Given A → Bool
+is_attach (Input input) = false
+is_attach Attach = true
+is_attach (Set setting) = false
+is_attach (HangUp call) = false
+
+-- the last of some items
+abbrev pub IsLastOf : {A : Type 0} → List (Item A) → Said A → Type 0
+IsLastOf items said.Unread = ⊥
+IsLastOf items said.Nothing = items ≡ []
+IsLastOf {A} items (said.Gives item) = (front : List (Item A)) × (items ≡ front ++ item ∷ [])
+
+-- the line was read
+abbrev pub is_read : {A : Type 0} → Said A → Bool
+is_read said.Unread = false
+is_read said.Nothing = true
+is_read (said.Gives item) = true
+
+-- what it gives
+abbrev pub items_said : {A : Type 0} → Said A → List (Item A)
+items_said said.Unread = []
+items_said said.Nothing = []
+items_said (said.Gives item) = item ∷ []
+
+-- whether simulators are attached behind it
+abbrev pub sim_said : {A : Type 0} → Bool → Said A → Bool
+sim_said has_sim said.Unread = has_sim
+sim_said has_sim said.Nothing = has_sim
+sim_said has_sim (said.Gives item) = has_sim || is_attach item.given
+
+-- what it gives is for the one controller
+abbrev pub is_there_said : {A : Type 0} → Said A → Bool
+is_there_said said.Unread = true
+is_there_said said.Nothing = true
+is_there_said (said.Gives item) = is_item_there false item
+
+-- this is what a line says, where simulators are attached or not
+pub record Says {A : Type 0} (has_sim : Bool) (line : List ℕ) (s : Said A) : Type 0 where
+  pub read : is_read s ≡ can_be_read has_sim line
+  pub inputs : inputs_in (items_said s) ≡ inputs_at has_sim line
+  pub sim : sim_said has_sim s ≡ sim_behind has_sim line
+  pub there : is_there_said s ≡ true

@@ -1,0 +1,61 @@
+//! Who hears what comes of lines as they come.
+use cell_table::SiteFault;
+use ho_procedure::exchange::Outbound;
+use lab_runs::listener::{Listener, Printing};
+use lab_runs::run::LabFault;
+use lab_runs::turn::Turn;
+use radio_book::book::Book;
+use std::alloc::Allocator;
+use std::io::{self, Write};
+use trace_text::trace::{Mark, print_sent};
+
+/// Who hears what comes of lines as they come, and hands it on line by line.
+pub trait LiveListener<A: Allocator + Copy>: Listener<A> {
+    /// No more comes of this line: what was heard so far is handed on.
+    fn hear_line_end(&mut self) -> Result<(), LabFault>;
+}
+
+/// A listener that prints the trace, and what is owed where memory is refused; behind each line it is flushed.
+#[derive(Drop)]
+pub struct LivePrinting<'a, W: Write> {
+    out: &'a mut W,
+}
+
+impl<'a, W: Write> LivePrinting<'a, W> {
+    /// One that prints it to `out`.
+    pub fn new(out: &'a mut W) -> LivePrinting<'a, W> {
+        LivePrinting { out }
+    }
+}
+
+impl<W: Write, A: Allocator + Copy> Listener<A> for LivePrinting<'_, W> {
+    fn hear_turn(&mut self, mark: Mark, turn: &Turn<A>, book: &Book<A>) -> Result<(), LabFault> {
+        Printing::new(self.out).hear_turn(mark, turn, book)
+    }
+
+    fn hear_owed(&mut self, mark: Mark, messages: &[Outbound<A>]) -> Result<(), LabFault> {
+        Ok(print_sent(self.out, mark, messages)?)
+    }
+
+    fn hear_limit(&mut self) -> Result<(), LabFault> {
+        Listener::<A>::hear_limit(&mut Printing::new(self.out))
+    }
+
+    fn hear_end(&mut self, mark: Mark, book: &Book<A>) -> Result<(), LabFault> {
+        Printing::new(self.out).hear_end(mark, book)
+    }
+
+    fn hear_no_site(&mut self, fault: SiteFault) -> io::Result<()> {
+        Listener::<A>::hear_no_site(&mut Printing::new(self.out), fault)
+    }
+
+    fn hear_unread(&mut self, line: usize) -> io::Result<()> {
+        Listener::<A>::hear_unread(&mut Printing::new(self.out), line)
+    }
+}
+
+impl<W: Write, A: Allocator + Copy> LiveListener<A> for LivePrinting<'_, W> {
+    fn hear_line_end(&mut self) -> Result<(), LabFault> {
+        Ok(self.out.flush()?)
+    }
+}

@@ -1,0 +1,90 @@
+//! A live controller: it is given its lines one by one.
+ghost use Rattle.std.specs.Prelude.{◌≡◌, ◌∷◌, [], ◌||◌, true, false, IfOk, OnOk};
+ghost use Rattle.lab_script.specs.Script.{is_item_there};
+ghost use Rattle.lab_runs.specs.Turns.{inputs_in};
+ghost use Rattle.lab_runs.specs.Course.{AreOpenings, positions_of, has_peer};
+ghost use Rattle.live_runs.specs.Lines.{can_be_read, is_attach};
+ghost use Rattle.live_runs.specs.Live.{Goes, Takes};
+
+use crate::line::{Said, read_line};
+use cell_table::Site;
+use lab_runs::course::Course;
+use lab_runs::listener::Listener;
+use lab_runs::run::{LabFault, Sites, fresh_course};
+use lab_script::script::{Given, Item};
+use std::alloc::{AllocError, Allocator, Global};
+
+/// A controller that is given its lines one by one, and the simulators around it once a line attached them. What came of a
+/// line isn't kept, but for what the book's history keeps.
+#[derive(Drop)]
+pub struct Live<A: Allocator + Copy = Global> {
+    /// The controller, and the simulators around it.
+    pub course: Course<A>,
+    /// Whether a line attached the simulators.
+    pub has_sim: bool,
+    alloc: A,
+}
+
+/// Whether what a line gives attaches the simulators.
+fn is_attach<A: Allocator>(given: &Given<A>) -> bool
+    ensures { result ≡ is_attach given.now }
+{
+    match given {
+        Given::Attach => true,
+        Given::Input(_) | Given::Set(_) | Given::HangUp(_) => false,
+    }
+}
+
+impl<A: Allocator + Copy> Live<A> {
+    /// A controller of the site over an empty book, which was given nothing yet. No simulators are attached.
+    pub fn new(alloc: A, site: Site<A>) -> Result<Live<A>, AllocError>
+        ensures opening { IfOk result (λ live. AreOpenings (site ∷ []) (positions_of live.course.controllers)) }
+        ensures peer { IfOk result (λ live. has_peer live.course ≡ false) }
+        ensures sim { IfOk result (λ live. live.has_sim ≡ false) }
+    {
+        let sites = Sites {
+            first: site,
+            peer: None,
+        };
+        Ok(Live {
+            course: fresh_course(alloc, sites)?,
+            has_sim: false,
+            alloc,
+        })
+    }
+
+    /// Does what a line gives, and then what simulators answer to that, until nothing of it is left.
+    fn follow<L: Listener<A>>(&mut self, item: Item<A>, listener: &mut L) -> Result<(), LabFault>
+        requires there { is_item_there (has_peer self.old.course) item ≡ true }
+        ensures goes { OnOk result (Goes (inputs_in (item ∷ [])) self.old self.new) }
+        ensures sim { OnOk result (self.new.has_sim ≡ self.old.has_sim || is_attach item.given) }
+    {
+        let attaches = is_attach(&item.given);
+        self.course.follow(item, listener)?;
+        self.course.turns.clear();
+        self.has_sim = self.has_sim || attaches;
+        Ok(())
+    }
+
+    /// Takes a line, given without its line feed: does what it gives, and tells a listener what came of it. Where it can't
+    /// be read, nothing changes and nobody is told anything. The answer is whether it could be.
+    ///
+    /// Once memory was refused (`NoMemory`), or the listener couldn't write (`Write`), no more can be said of the controller
+    /// than that what it asked of its book stands. What it owes was told.
+    pub fn take<L: Listener<A>>(&mut self, line: &[u8], listener: &mut L) -> Result<bool, LabFault>
+        requires alone { has_peer self.old.course ≡ false }
+        ensures takes { OnOk result (Takes line.now self.old self.new) }
+        ensures read { IfOk result (λ read. read ≡ can_be_read self.old.has_sim line.now) }
+        ensures unread { result ≡ Ok false → self.new ≡ self.old }
+    {
+        let said = read_line(self.alloc, line, self.has_sim)?;
+        match said {
+            Said::Unread => Ok(false),
+            Said::Nothing => Ok(true),
+            Said::Gives(item) => {
+                self.follow(item, listener)?;
+                Ok(true)
+            }
+        }
+    }
+}

@@ -1,0 +1,48 @@
+//! Why a line can't be read, in words.
+//!
+//! No clause says what is said: that a line can't be read is said in `line`, by the rules of scripts.
+use decoded_lines::LONGEST_LINE;
+use lab_script::script::without_return;
+use script_reasons::{Reason, line_reason, script_reason};
+use std::{fmt, str};
+
+/// Why a line can't be read.
+#[derive(Clone, Copy, Debug, PartialEq, Eq)]
+pub enum Unread<'a> {
+    /// It has more octets than a line may have.
+    TooLong,
+    /// It isn't UTF-8: the place, counted from 1, of the first octet that is no part of a text.
+    NotText(usize),
+    /// It is no line of a script, or asks something of simulators that aren't there.
+    NotScript(Reason<'a>),
+}
+
+impl fmt::Display for Unread<'_> {
+    fn fmt<W: fmt::Write>(&self, f: &mut fmt::Formatter<W>) -> fmt::Result {
+        match self {
+            Unread::TooLong => write!(f, "a line has at most 65,536 octets"),
+            Unread::NotText(place) => write!(f, "isn't UTF-8 (octet {place})"),
+            Unread::NotScript(reason) => write!(f, "{reason}"),
+        }
+    }
+}
+
+/// Why a text can't be read, where simulators are attached or not.
+fn reason_of(text: &str, has_sim: bool) -> Option<Reason<'_>> {
+    if has_sim {
+        line_reason(without_return(text), false)
+    } else {
+        script_reason(text, 1, false)
+    }
+}
+
+/// Why a line can't be read, where simulators are attached or not; nothing where it can.
+pub fn unread_of(line: &[u8], has_sim: bool) -> Option<Unread<'_>> {
+    if line.len() > LONGEST_LINE {
+        return Some(Unread::TooLong);
+    }
+    match str::from_utf8(line) {
+        Ok(text) => Some(Unread::NotScript(reason_of(text, has_sim)?)),
+        Err(fault) => Some(Unread::NotText(fault.valid_up_to().saturating_add(1))),
+    }
+}
