@@ -1,5 +1,5 @@
 //! A capture file in the making.
-ghost use Rattle.std.specs.Prelude.{◌≡◌, ◌≤◌, ◌<◌, ◌↔◌, length, Err, IfOk, OnOk, OnErr};
+ghost use Rattle.std.specs.Prelude.{◌≡◌, ◌≤◌, ◌<◌, ◌↔◌, ℕ, [], length, Err, IfOk, OnOk, OnErr};
 ghost use Rattle.capture.specs.Ends.{begun};
 ghost use Rattle.capture.specs.Frames.{frame, limit};
 ghost use Rattle.capture.specs.Packet.{file_header};
@@ -62,6 +62,14 @@ impl<A: Allocator + Copy> Capture<A> {
         ensures octets { result.now ≡ octets_of self.now }
     {
         self.octets.as_slice()
+    }
+
+    /// Forgets the file's octets so far, once they stand in the file: what is added goes on behind them.
+    pub fn forget_octets(&mut self)
+        ensures octets { octets_of self.new ≡ [] }
+        ensures streams { (address : ℕ) → stream_of self.new address ≡ stream_of self.old address }
+    {
+        self.octets.clear();
     }
 
     /// How far the stream to this address has come.

@@ -102,9 +102,14 @@ impl<A: Allocator + Copy> RunCapture<A> {
         }
     }
 
-    /// The file's octets so far.
+    /// The file's octets so far, or since they were forgotten last.
     pub fn octets(&self) -> &[u8] {
         self.capture.octets()
+    }
+
+    /// Forgets the file's octets so far, once they stand in the file.
+    pub fn forget_octets(&mut self) {
+        self.capture.forget_octets();
     }
 
     /// How many messages were too long for a packet, and left out.
