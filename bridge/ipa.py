@@ -1,0 +1,61 @@
+"""IPA, by which base stations carry Abis over TCP: frames, and what a station says of itself.
+
+A frame is the length of its message in two octets, the number of its stream in one, and the message. On the link of a TRX
+the stream of RSL is the number of the TRX; stream FE is IPA's own.
+"""
+
+# IPA's own stream, and the types of its messages.
+OWN = 0xFE
+PING = b"\x00"
+PONG = b"\x01"
+IDENTITY_REQUEST = b"\x04"
+IDENTITY = b"\x05"
+ACKNOWLEDGEMENT = b"\x06"
+# The number of a unit, among what a station may be asked to say of itself.
+UNIT = 0x08
+ASKED = (UNIT, 0x07, 0x02, 0x03, 0x04, 0x05, 0x01, 0x00)
+
+
+def frame(stream, message):
+    """A message in its frame."""
+    return len(message).to_bytes(2, "big") + bytes([stream]) + message
+
+
+def identity_request():
+    """What asks a station who it is: each thing that is asked for has a length, 1, in front."""
+    return IDENTITY_REQUEST + b"".join(bytes([1, asked]) for asked in ASKED)
+
+
+def unit_in(identity):
+    """The number of the unit that an identity tells, as 6969/0/0; None where it tells none."""
+    rest = identity[1:]
+    while len(rest) >= 3:
+        length = int.from_bytes(rest[:2], "big")
+        if length >= 1 and rest[2] == UNIT:
+            return rest[3 : 2 + length].split(b"\0")[0].decode("ascii", "replace")
+        rest = rest[2 + length :]
+    return None
+
+
+class Frames:
+    """The frames of a stream of octets, in whatever pieces these come."""
+
+    def __init__(self):
+        self.octets = bytearray()
+
+    def add(self, octets):
+        """Adds octets; the frames that are whole now, each as its stream and its message."""
+        self.octets += octets
+        frames, at = [], 0
+        while len(self.octets) - at >= 3:
+            end = at + 3 + int.from_bytes(self.octets[at : at + 2], "big")
+            if len(self.octets) < end:
+                break
+            frames.append((self.octets[at + 2], bytes(self.octets[at + 3 : end])))
+            at = end
+        del self.octets[:at]
+        return frames
+
+    def is_torn(self):
+        """Whether the last frame isn't whole yet."""
+        return bool(self.octets)

@@ -1,0 +1,189 @@
+"""What the bridge waits for: octets that come or can be written, and times. Nothing of it blocks the bridge."""
+import heapq
+import itertools
+import os
+import queue
+import selectors
+import threading
+import time
+
+# How many octets are read at once.
+PIECE = 1 << 16
+# How many octets may wait to be written to one place.
+MOST_WAITING = 1 << 22
+
+
+class Times:
+    """Things to be done later, each under a name; what is set again under a name takes the place of the older."""
+
+    def __init__(self):
+        self.heap = []
+        self.current = {}
+        self.numbers = itertools.count()
+
+    def set(self, name, seconds, action):
+        """Does something in so many seconds."""
+        number = next(self.numbers)
+        self.current[name] = number
+        heapq.heappush(self.heap, (time.monotonic() + seconds, number, name, action))
+
+    def forget(self, name):
+        """Doesn't do it."""
+        self.current.pop(name, None)
+
+    def is_set(self, name):
+        """Whether something is to be done under this name."""
+        return name in self.current
+
+    def seconds_left(self):
+        """How long it is until the next thing is to be done; None where nothing is."""
+        while self.heap and self.current.get(self.heap[0][2]) != self.heap[0][1]:
+            heapq.heappop(self.heap)
+        return max(0.0, self.heap[0][0] - time.monotonic()) if self.heap else None
+
+    def run_due(self):
+        """Does all that is due."""
+        while self.seconds_left() == 0.0:
+            _, _, name, action = heapq.heappop(self.heap)
+            del self.current[name]
+            action()
+
+
+class Stream:
+    """A socket or a pipe, of which octets are read as they come, and to which octets are written as it takes them."""
+
+    def __init__(self, selector, reads=None, writes=None, heard=None, ended=None):
+        """`reads` and `writes` are file descriptors, the same one for a socket. `heard` is told octets that came, `ended`
+        that no more will, or that nothing can be written any more."""
+        self.selector = selector
+        self.reads, self.writes = reads, writes
+        self.heard, self.ended = heard, ended
+        self.waiting = bytearray()
+        self.is_paused = False
+        self.is_last = False
+        self.watch()
+
+    def watch(self):
+        """Waits for what is of use now."""
+        wanted = {}
+        if self.reads is not None and not self.is_paused:
+            wanted[self.reads] = selectors.EVENT_READ
+        if self.writes is not None and self.waiting:
+            wanted[self.writes] = wanted.get(self.writes, 0) | selectors.EVENT_WRITE
+        for it in {self.reads, self.writes} - {None}:
+            known = it in self.selector.get_map()
+            if it in wanted and known:
+                self.selector.modify(it, wanted[it], self)
+            elif it in wanted:
+                self.selector.register(it, wanted[it], self)
+            elif known:
+                self.selector.unregister(it)
+
+    def pause(self, is_paused):
+        """Reads nothing for a while, or goes on."""
+        if self.is_paused != is_paused:
+            self.is_paused = is_paused
+            self.watch()
+
+    def ready(self, mask):
+        """Reads or writes, where the selector says that this can be done."""
+        if mask & selectors.EVENT_WRITE and self.writes is not None:
+            self.flush()
+        if mask & selectors.EVENT_READ and self.reads is not None:
+            self.read()
+
+    def read(self):
+        """Takes what came."""
+        try:
+            octets = os.read(self.reads, PIECE)
+        except BlockingIOError:
+            return
+        except OSError:
+            octets = b""
+        if octets:
+            self.heard(octets)
+        else:
+            self.ended()
+
+    def send(self, octets):
+        """Writes octets, at once or later. Where too many wait already, nobody reads them: that is the end."""
+        if self.writes is None:
+            return
+        self.waiting += octets
+        if len(self.waiting) > MOST_WAITING:
+            self.ended()
+        else:
+            self.flush()
+
+    def flush(self):
+        """Writes what can be written now."""
+        try:
+            while self.waiting:
+                del self.waiting[: os.write(self.writes, memoryview(self.waiting)[:PIECE])]
+        except BlockingIOError:
+            pass
+        except OSError:
+            self.ended()
+            return
+        if not self.waiting and self.is_last:
+            self.shut()
+        else:
+            self.watch()
+
+    def finish(self):
+        """Writes what waits, and then closes the side that is written to."""
+        self.is_last = True
+        if self.writes is not None:
+            self.flush()
+
+    def shut(self):
+        """Closes the side that is written to."""
+        writes, self.writes = self.writes, None
+        if writes is not None and writes != self.reads:
+            if writes in self.selector.get_map():
+                self.selector.unregister(writes)
+            os.close(writes)
+
+    def leave(self):
+        """Waits for nothing any more. Who opened the files closes them."""
+        for it in {self.reads, self.writes} - {None}:
+            if it in self.selector.get_map():
+                self.selector.unregister(it)
+        self.reads = self.writes = None
+
+
+class Writer:
+    """A file that may take long to be written to, as a terminal that is stopped: a thread of its own writes to it. What too
+    much waits in front of is left out."""
+
+    def __init__(self, number):
+        self.number = number
+        self.texts = queue.SimpleQueue()
+        self.waiting = 0
+        self.left_out = 0
+        self.thread = threading.Thread(target=self.write_all, daemon=True)
+        self.thread.start()
+
+    def put(self, octets):
+        """Has octets written."""
+        if self.waiting > MOST_WAITING:
+            self.left_out += 1
+        else:
+            self.waiting += len(octets)
+            self.texts.put(octets)
+
+    def write_all(self):
+        """Writes all that is put there, until None is."""
+        while (octets := self.texts.get()) is not None:
+            rest = memoryview(octets)
+            try:
+                while rest:
+                    rest = rest[os.write(self.number, rest) :]
+            except OSError:
+                pass
+            self.waiting -= len(octets)
+
+    def finish(self, seconds):
+        """Waits until all is written, but no longer than that."""
+        self.texts.put(None)
+        self.thread.join(seconds)
