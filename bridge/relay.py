@@ -101,9 +101,9 @@ class Relay:
         """Whether the controller has more to read than it should."""
         return self.core is not None and len(self.core.waiting) > MOST_UNREAD
 
-    def give_message(self, station, message):
+    def give_message(self, cell, trx, message):
         """Gives the controller a message of a station."""
-        self.give(b"abis %d %d %s" % (station.cell, station.trx, message.hex().encode()))
+        self.give(b"abis %d %d %s" % (cell, trx, message.hex().encode()))
 
     def take_line(self, line, asker):
         """Takes a line of an operator: what he is told at once, if anything."""
@@ -159,13 +159,13 @@ class Relay:
     def send(self, cell, trx, message):
         """Sends a station a message of the controller; where it isn't there, it is answered in its place."""
         station = self.places.get((cell, trx))
-        if station is None:
-            say(f"no station for cell {cell}, TRX {trx}: not sent {message.hex()}")
-            return
         about = rsl.about_channel(message)
-        if station.link is None:
-            station.unsent += 1
-            self.answer_absent(station, about)
+        if station is None or station.link is None:
+            if station:
+                station.unsent += 1
+            else:
+                say(f"no unit is named for cell {cell}, TRX {trx}: not sent {message.hex()}")
+            self.answer_absent(cell, trx, about)
             return
         if about and about[0] == rsl.ACTIVATION:
             self.await_answer(station, about[1], "activating")
@@ -174,12 +174,12 @@ class Relay:
         station.sent += 1
         station.link.send(station.trx, message)
 
-    def answer_absent(self, station, about):
+    def answer_absent(self, cell, trx, about):
         """Answers the controller in the place of a station that isn't there."""
         if about and about[0] == rsl.ACTIVATION:
-            self.give_message(station, rsl.channel_message(rsl.ACTIVATION_NACK, about[1], rsl.FAILURE))
+            self.give_message(cell, trx, rsl.channel_message(rsl.ACTIVATION_NACK, about[1], rsl.FAILURE))
         elif about and about[0] == rsl.RELEASE:
-            self.give_message(station, rsl.channel_message(rsl.RELEASE_ACK, about[1]))
+            self.give_message(cell, trx, rsl.channel_message(rsl.RELEASE_ACK, about[1]))
 
     def await_answer(self, station, channel, state):
         """The station has to answer about a channel in time."""
@@ -192,12 +192,12 @@ class Relay:
         state = station.channels.pop(channel)
         say(f"{station}: no answer about channel {channel:02x}, which is {state}, in {self.seconds['answer']:g} seconds")
         if state == "activating":
-            self.give_message(station, rsl.channel_message(rsl.ACTIVATION_NACK, channel, rsl.FAILURE))
+            self.give_message(station.cell, station.trx, rsl.channel_message(rsl.ACTIVATION_NACK, channel, rsl.FAILURE))
             station.channels[channel] = "closing"
             station.sent += 1
             station.link.send(station.trx, rsl.channel_message(rsl.RELEASE, channel))
         else:
-            self.give_message(station, rsl.channel_message(rsl.RELEASE_ACK, channel))
+            self.give_message(station.cell, station.trx, rsl.channel_message(rsl.RELEASE_ACK, channel))
 
     # Messages of stations
 
@@ -210,15 +210,15 @@ class Relay:
         elif len(message) > rsl.LONGEST:
             say(f"{station}: a message of {len(message)} octets is passed over, it has no room in a line")
             station.passed["too long"] += 1
-        elif self.is_awaited(station, message):
+        elif self.is_handed_on(station, message):
             station.came += 1
-            self.give_message(station, message)
+            self.give_message(station.cell, station.trx, message)
         else:
             station.passed["late answer"] += 1
 
-    def is_awaited(self, station, message):
-        """Whether a message is for the controller, to which all are but answers that were given in the station's place. The
-        state of the channel that it is about goes on."""
+    def is_handed_on(self, station, message):
+        """Whether a message is handed on, as all are but answers that were given in the station's place. The state of the
+        channel that it is about goes on."""
         message_type, channel = rsl.about_channel(message) or (None, None)
         state = station.channels.get(channel)
         if message_type in (rsl.ACTIVATION_ACK, rsl.ACTIVATION_NACK, rsl.RELEASE_ACK) and state == "closing":
@@ -256,11 +256,11 @@ class Relay:
         for channel, state in channels.items():
             self.times.forget((station.unit, channel))
             if state == "activating":
-                self.give_message(station, rsl.channel_message(rsl.ACTIVATION_NACK, channel, rsl.FAILURE))
+                self.give_message(station.cell, station.trx, rsl.channel_message(rsl.ACTIVATION_NACK, channel, rsl.FAILURE))
             elif state == "releasing":
-                self.give_message(station, rsl.channel_message(rsl.RELEASE_ACK, channel))
+                self.give_message(station.cell, station.trx, rsl.channel_message(rsl.RELEASE_ACK, channel))
             elif state == "on":
-                self.give_message(station, rsl.channel_message(rsl.CONNECTION_FAILURE, channel, rsl.FAILURE))
+                self.give_message(station.cell, station.trx, rsl.channel_message(rsl.CONNECTION_FAILURE, channel, rsl.FAILURE))
 
     def tell_all(self):
         """Says what is known of each station, and what was passed over."""
