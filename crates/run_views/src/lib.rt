@@ -1,6 +1,7 @@
 //! Views of a run: its trace with words and with what the books hold, as a capture file, and as a sequence chart.
 //!
-//! A [`Viewer`] listens to a run, prints its trace, turn by turn, and gathers what else is asked for.
+//! A [`Viewer`] listens to a run, prints its trace, turn by turn, and gathers what else is asked for. A [`LiveViewer`] listens
+//! to lines as they come, and writes what it gathers at once.
 //!
 //! In a chart each input has its number at the left; messages are arrows between stations, controllers and the switching
 //! centre; what was asked of the book, with its reply, is a note at the controller. Beside an undone attempt stands a bar, from
@@ -12,10 +13,12 @@ mod attempts;
 mod bars;
 mod chart_rows;
 mod lanes;
+mod live_viewer;
 mod options;
 mod sheets;
 mod viewer;
 
+pub use live_viewer::LiveViewer;
 pub use options::Views;
 pub use sheets::{Sheets, open_sheets};
 pub use viewer::Viewer;

@@ -11,9 +11,9 @@ use std::rt::Files;
 
 /// A file that is open for writing, with its path.
 #[derive(Drop)]
-struct Sheet<'a, F: Write + Drop> {
-    path: &'a str,
-    out: BufWriter<F>,
+pub(crate) struct Sheet<'a, F: Write + Drop> {
+    pub(crate) path: &'a str,
+    pub(crate) out: BufWriter<F>,
 }
 
 /// The files that a run's views are written to once it ended.
@@ -137,14 +137,14 @@ pub fn open_sheets<'a, R: Files + AllocGlobal, W: Write, E: Write>(
 }
 
 /// Says on `errors` that a file can't be written.
-fn say_unwritten<E: Write>(path: &str, error: io::Error, errors: &mut E) -> LabFault {
+pub(crate) fn say_unwritten<E: Write>(path: &str, error: io::Error, errors: &mut E) -> LabFault {
     match writeln!(errors, "{}: {}", Escaped(path), Reason(&error)) {
         Ok(()) | Err(_) => LabFault::Write,
     }
 }
 
 /// Empties the file of a view, before that is written. Where it can't be emptied, `errors` says why.
-fn clear_sheet<F: Write + OpenFile + Drop, E: Write>(
+pub(crate) fn clear_sheet<F: Write + OpenFile + Drop, E: Write>(
     sheet: &Sheet<'_, F>,
     errors: &mut E,
 ) -> Result<(), LabFault> {
@@ -155,7 +155,11 @@ fn clear_sheet<F: Write + OpenFile + Drop, E: Write>(
 }
 
 /// Says on `errors` how many messages a capture hasn't, if any.
-fn say_left_out<E: Write>(path: &str, left_out: u64, errors: &mut E) -> Result<(), LabFault> {
+pub(crate) fn say_left_out<E: Write>(
+    path: &str,
+    left_out: u64,
+    errors: &mut E,
+) -> Result<(), LabFault> {
     if left_out == 0 {
         return Ok(());
     }
@@ -221,7 +225,19 @@ fn write_chart<F: Write + OpenFile + Drop, W: Write, A: Allocator + Copy, E: Wri
     }
 }
 
-impl<F: Write + OpenFile + Drop> Sheets<'_, F> {
+impl<'a, F: Write + OpenFile + Drop> Sheets<'a, F> {
+    /// The file of the capture, emptied, where there is one. Where it can't be emptied, `errors` says why.
+    pub(crate) fn into_pcap<E: Write>(
+        self,
+        errors: &mut E,
+    ) -> Result<Option<Sheet<'a, F>>, LabFault> {
+        let Sheets { pcap, chart: _ } = self;
+        if let Some(sheet) = &pcap {
+            clear_sheet(sheet, errors)?;
+        }
+        Ok(pcap)
+    }
+
     /// Empties the files and writes what a viewer has gathered, the capture first. Where one of the files can't be
     /// written, `errors` says why, and the other is written all the same.
     pub fn finish<W: Write, A: Allocator + Copy, E: Write>(

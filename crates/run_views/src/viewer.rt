@@ -3,6 +3,7 @@ use crate::chart_rows::RunChart;
 use crate::options::Views;
 use capture::RunCapture;
 use cell_table::SiteFault;
+use ho_procedure::exchange::Outbound;
 use lab_runs::listener::{Listener, print_no_site, print_unread};
 use lab_runs::run::LabFault;
 use lab_runs::turn::{Answer, Turn};
@@ -10,7 +11,7 @@ use line_words::{Calls, Content, Held, content_of, print_ignored, print_words};
 use radio_book::book::Book;
 use std::alloc::{AllocError, Allocator, Global};
 use std::io::{self, Write};
-use trace_text::trace::{Mark, TraceLine};
+use trace_text::trace::{Mark, TraceLine, print_sent};
 
 /// Prints the trace of a run, with words and with what the books hold where that is asked for, and gathers its capture and its
 /// chart.
@@ -25,6 +26,8 @@ pub struct Viewer<'a, W: Write, A: Allocator + Copy = Global> {
     chart: Option<RunChart<A>>,
     /// Whether something was run.
     has_begun: bool,
+    /// How many messages of the answer that is told now, or was told last, were shown.
+    shown: usize,
     alloc: A,
 }
 
@@ -60,6 +63,7 @@ impl<'a, W: Write, A: Allocator + Copy> Viewer<'a, W, A> {
             capture,
             chart: views.chart.map(|_| RunChart::new(alloc, has_peer)),
             has_begun: false,
+            shown: 0,
             alloc,
         })
     }
@@ -142,11 +146,39 @@ impl<'a, W: Write, A: Allocator + Copy> Viewer<'a, W, A> {
             Answer::Sent(sent) => {
                 for message in sent {
                     self.show(mark, &TraceLine::Sent(message))?;
+                    self.shown = self.shown.saturating_add(1);
                 }
                 Ok(())
             }
             Answer::Undecoded(bad) => self.show(mark, &TraceLine::Fault(*bad)),
         }
+    }
+
+    /// Prints messages as in a trace without views. That takes no memory.
+    pub(crate) fn print_plain(
+        &mut self,
+        mark: Mark,
+        messages: &[Outbound<A>],
+    ) -> Result<(), LabFault> {
+        Ok(print_sent(self.out, mark, messages)?)
+    }
+
+    /// Prints those messages of an answer that weren't shown yet, without views.
+    pub(crate) fn print_rest(&mut self, mark: Mark, answer: &Answer<A>) -> Result<(), LabFault> {
+        match answer {
+            Answer::Sent(sent) => self.print_plain(mark, sent.get(self.shown..).unwrap_or(&[])),
+            Answer::Undecoded(_) => Ok(()),
+        }
+    }
+
+    /// Has what was printed so far written.
+    pub(crate) fn flush(&mut self) -> io::Result<()> {
+        self.out.flush()
+    }
+
+    /// The capture, where one is asked for, to be written bit by bit.
+    pub(crate) fn capture_mut(&mut self) -> Option<&mut RunCapture<A>> {
+        self.capture.as_mut()
     }
 
     /// Prints what a controller's book holds, where that is asked for.
@@ -160,6 +192,7 @@ impl<'a, W: Write, A: Allocator + Copy> Viewer<'a, W, A> {
 
 impl<W: Write, A: Allocator + Copy> Listener<A> for Viewer<'_, W, A> {
     fn hear_turn(&mut self, mark: Mark, turn: &Turn<A>, book: &Book<A>) -> Result<(), LabFault> {
+        self.shown = 0;
         self.show_input(mark, turn)?;
         self.show_steps(mark, turn)?;
         self.show_answer(mark, &turn.answer)?;
