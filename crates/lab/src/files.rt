@@ -184,7 +184,7 @@ fn run_texts<R: Files + AllocGlobal, W: Write, E: Write>(
 }
 
 /// How a run that was viewed ended, and the writing of what was gathered of it: the run's fault comes first.
-fn ended_viewed(
+pub(crate) fn ended_viewed(
     ended: Result<Status, LabFault>,
     written: Result<(), LabFault>,
 ) -> Result<Status, LabFault> {

@@ -1,5 +1,5 @@
 //! The laboratory of the base station controller: what its commands do with files. `run` runs a script, with views of the run
-//! beside its trace; `rewind` takes an undone attempt out of a trace; `check` shows the cells of a site and what is surely
+//! beside its trace; `live` runs the lines of standard input as they come; `rewind` takes an undone attempt out of a trace; `check` shows the cells of a site and what is surely
 //! meant otherwise; `decode` shows one message in words or those of many lines, `encode` a message's octets, `explain` a
 //! number in words; `test` and `record` are for scripts that test themselves; `storm` moves many calls at once, handled by
 //! workers on threads.
@@ -15,6 +15,7 @@ pub mod entries;
 mod explained;
 mod faults;
 pub mod files;
+pub mod live;
 pub mod program;
 pub mod rewound;
 mod run_reason;

@@ -4,6 +4,7 @@ use crate::decoded::{Decoded, LinkName, decode_text, ended};
 use crate::encoded::encode_run;
 use crate::explained::explain;
 use crate::files::{rewind_files, run_files};
+use crate::live::live_file;
 use crate::script_files::{record_file, test_files};
 use crate::undecoded::say_undecoded;
 use decoded_lines::answer_file;
@@ -53,7 +54,7 @@ fn decode<W: Write, E: Write>(
 }
 
 /// Does what the words of a command line ask for, those after the program's own name: runs a script over a site
-/// ([`run_files`]), takes an undone attempt out of a trace and says whether the rest comes to the same
+/// ([`run_files`]), runs the lines of `input` as they come ([`live_file`]), takes an undone attempt out of a trace and says whether the rest comes to the same
 /// ([`rewind_files`]), tests scripts ([`test_files`]) or records one ([`record_file`]), prints the cells of a site
 /// ([`check_file`]), prints a message in words ([`decode_run`]) or those of many lines ([`answer_file`]), prints a message's
 /// octets ([`encode_run`]), says in words what a number stands for ([`explain`]), or shows help or the version. `input` is
@@ -78,6 +79,7 @@ pub fn perform<R: Files + AllocGlobal, I: Read + Drop, W: Write, E: Write>(
                 views,
             },
         ) => run_files(rt, sites, script, &views, out, errors),
+        Ok(Job::Live { site, views }) => live_file(rt, site, &views, input, out, errors),
         Ok(Job::Test { sites, scripts }) => test_files(rt, sites, &scripts, out, errors),
         Ok(Job::Record { sites, script }) => record_file(rt, sites, script, out, errors),
         Ok(Job::Rewind { site, trace, line }) => rewind_files(rt, site, trace, line, out, errors),

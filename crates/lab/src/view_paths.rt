@@ -73,6 +73,16 @@ pub(crate) fn named_twice<'a, R: Files>(
     }
 }
 
+/// The path of the capture of a live controller, where the site's file is the same: that would be lost.
+pub(crate) fn is_site<'a, R: Files>(rt: &R, site: &str, views: &Views<'a>) -> Option<&'a str> {
+    let pcap = views.pcap?;
+    if is_same(rt, site, pcap) {
+        Some(pcap)
+    } else {
+        None
+    }
+}
+
 /// Refuses a path that is named twice.
 pub(crate) fn refuse_twice<W: Write, E: Write>(
     path: &str,

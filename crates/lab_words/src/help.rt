@@ -85,6 +85,22 @@ printed can't be written, 3 memory was refused.
 As in: bsc_lab run site.toml script.txt --words"
 );
 
+/// What stands behind the help of `live`.
+pub(crate) const LIVE_HELP: &str = with_script_lines!(
+    "\
+Each line of standard input is handled as it comes, what comes of it is printed, and standard output
+is flushed behind it. A line that can't be read prints line N, and on standard error why, and changes
+nothing. Lines with 2: can't be read, nor lines of over 65,536 octets.
+
+",
+    "
+
+Statuses: 0 standard input has ended, 2 the file or the site is refused, or standard input can't be
+read or what is printed be written, 3 memory was refused.
+
+As in: bsc_lab live site.toml"
+);
+
 /// What stands behind the help of `test`.
 pub(crate) const TEST_HELP: &str = with_script_lines!(
     "\

@@ -49,6 +49,27 @@ pub(crate) fn view_options<'a>(
         .arg(chart_argument(alloc))
 }
 
+/// Adds to a command the options of views that are shown line by line: `--words`, `--state` and `--pcap FILE`.
+pub(crate) fn live_view_options<'a>(
+    alloc: Global,
+    command: Command<'a>,
+) -> Result<Command<'a>, AllocError> {
+    command
+        .arg(words_argument(alloc))?
+        .arg(state_argument(alloc))?
+        .arg(pcap_argument(alloc))
+}
+
+/// The views that the words of a command with these options ask for.
+pub(crate) fn live_views_of<'a>(matches: &ArgMatches<'a>) -> Views<'a> {
+    Views {
+        words: matches.get_flag("WORDS"),
+        state: matches.get_flag("STATE"),
+        pcap: matches.get_str("PCAP"),
+        chart: None,
+    }
+}
+
 /// The views that the words of a command with these options ask for.
 pub(crate) fn views_of<'a>(matches: &ArgMatches<'a>) -> Views<'a> {
     Views {

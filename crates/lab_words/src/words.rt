@@ -2,12 +2,12 @@
 ghost use Rattle.std.specs.Prelude.{◌≡◌};
 
 use crate::explain_words::{explain_command, question_of};
-use crate::help::{CHECK_HELP, DECODE_HELP, ENCODE_HELP, REWIND_HELP, RUN_HELP};
+use crate::help::{CHECK_HELP, DECODE_HELP, ENCODE_HELP, LIVE_HELP, REWIND_HELP, RUN_HELP};
 use crate::refused_words::refused_line;
 use crate::script_words::{record_command, script_paths, site_paths, test_command};
 use crate::site_paths::SitePaths;
 use crate::storm_words::{StormSize, storm_command, storm_size};
-use crate::view_words::{view_options, views_of};
+use crate::view_words::{live_view_options, live_views_of, view_options, views_of};
 use clap::error::ErrorKind;
 use clap::{Arg, ArgAction, ArgMatches, Command, Error, value_parser};
 use decoded_lines::{Asked, Detail, LinkName, link_named};
@@ -23,6 +23,12 @@ pub enum Job<'a> {
     Run {
         sites: SitePaths<'a>,
         script: &'a str,
+        views: Views<'a>,
+    },
+    /// A controller is given the lines of standard input as they come: the site's path, and what is to be seen beside the
+    /// trace, line by line.
+    Live {
+        site: &'a str,
         views: Views<'a>,
     },
     /// An undone attempt is taken out of a trace: the paths of the site and of the trace, and the line, counted from 1, in
@@ -135,6 +141,15 @@ fn run_command<'a>(alloc: Global) -> Result<Command<'a>, AllocError> {
         .about("Runs a script over a site and prints the trace")
         .after_help(RUN_HELP);
     view_options(alloc, with_script(alloc, command)?)
+}
+
+/// `live SITE`, and the views that are shown line by line
+fn live_command<'a>(alloc: Global) -> Result<Command<'a>, AllocError> {
+    let command = Command::new(alloc, "live")
+        .about("Runs the script lines of standard input as they come, and prints the trace")
+        .after_help(LIVE_HELP)
+        .arg(argument(alloc, "SITE", "The site file"))?;
+    live_view_options(alloc, command)
 }
 
 /// `check SITE`
@@ -285,6 +300,7 @@ fn bare_command<'a>(alloc: Global) -> Result<Command<'a>, AllocError> {
 /// The commands of scripts and of their traces.
 fn with_scripts<'a>(alloc: Global, command: Command<'a>) -> Result<Command<'a>, AllocError> {
     let command = with(command, run_command(alloc))?;
+    let command = with(command, live_command(alloc))?;
     let command = with(command, test_command(alloc))?;
     let command = with(command, record_command(alloc))?;
     with(command, rewind_command(alloc))
@@ -335,6 +351,10 @@ fn job_of<'a>(matches: &ArgMatches<'a>) -> Option<Job<'a>> {
             sites: site_paths(run)?,
             script: run.get_str("SCRIPT")?,
             views: views_of(run),
+        }),
+        ("live", live) => Some(Job::Live {
+            site: live.get_str("SITE")?,
+            views: live_views_of(live),
         }),
         ("record", record) => Some(Job::Record {
             sites: site_paths(record)?,

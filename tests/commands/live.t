@@ -1,0 +1,169 @@
+A controller is given the lines of standard input as they come, and prints what comes of each.
+
+  $ ./lab live examples/two_cells.toml <examples/one_call.txt >came
+  $ ./lab run examples/two_cells.toml examples/one_call.txt | cmp - came
+  $ for script in arrives reported returns undone; do
+  >   ./lab live examples/two_cells.toml <examples/handover_$script.txt | cmp - examples/handover_$script.trace
+  > done
+  $ ./lab live examples/two_cells.toml <examples/station_stutters.txt | cmp - examples/station_stutters.trace
+  $ ./lab live examples/two_cells.toml </dev/null
+  end channels=0 calls=0 references=0 timers=0
+
+It does so before the next line comes, and whatever the pieces are in which lines come.
+
+  $ mkfifo lines
+  $ ./lab live examples/two_cells.toml <lines >came &
+  $ exec 3>lines
+  $ printf 'open 1 0 0 3\nope' >&3
+  $ until grep -q '^out' came; do sleep 0.1; done; cat came
+  in open 1 0 0 3
+  event open 1 0/0/3 -> done
+  out abis 0 0 0821010b0300060400010801
+  $ printf 'n 2 0 0 2\nclear 9' >&3
+  $ until grep -q '^out abis 0 0 0821010a' came; do sleep 0.1; done; tail -n +4 came
+  in open 2 0 0 2
+  event open 2 0/0/2 -> done
+  out abis 0 0 0821010a0300060400010801
+  $ exec 3>&-; wait; tail -n +7 came
+  in clear 9
+  event look 9 -> refused 1
+  end channels=2 calls=2 references=0 timers=0
+
+Lines may end with a carriage return, the last one with nothing. Comments and blank lines give nothing, but count.
+
+  $ printf '# a call\r\n\r\nopen 1 0 0 3\r\nclear 1 2\r\nclear 1' | ./lab live examples/two_cells.toml 2>errors
+  in open 1 0 0 3
+  event open 1 0/0/3 -> done
+  out abis 0 0 0821010b0300060400010801
+  line 4
+  in clear 1
+  event look 1 -> record 0/0/3 pending
+  event clear 1 -> done
+  out abis 0 0 082e010b
+  end channels=1 calls=0 references=0 timers=0
+  $ cat errors
+  standard input:4: nothing stands behind clear CALL, found 2
+
+A line that can't be read changes nothing, and the next is read: one of the second controller, one that needs sim where that
+wasn't said, one that isn't UTF-8, one that is too long. One octet less is read.
+
+  $ python3 - >unread.txt <<'END'
+  > import sys
+  > long = b'#' * 65536
+  > lines = [b'2: open 1 0 0 3', b'mobile 0 0 3 vanish', b'open 1 0 0 8', b'op\xc3\x28en', long + b'#', long, b'\xef\xbb\xbfsim', b'sim ']
+  > sys.stdout.buffer.write(b'\n'.join(lines))
+  > END
+  $ ./lab live examples/two_cells.toml <unread.txt 2>errors
+  line 1
+  line 2
+  line 3
+  line 4
+  line 5
+  line 7
+  line 8
+  end channels=0 calls=0 references=0 timers=0
+  $ cat errors
+  standard input:1: 2: is for a second controller, and there is none (--peer SITE)
+  standard input:2: mobile CELL TRX TN HABIT needs a line sim before it
+  standard input:3: TN is 0 to 7, found 8
+  standard input:4: isn't UTF-8 (octet 3)
+  standard input:5: a line has at most 65,536 octets
+  standard input:7: a byte order mark stands before the first word
+  standard input:8: nothing stands behind sim, found a blank
+
+Behind sim the lines that need it are read, and the others are as before.
+
+  $ printf 'sim\nhold 0 0 3\nopen 1 0 0 3\nmobile 0 0 9 vanish\n2: sim\nsim\nlet 0 0 3\n# nothing\n' >lines.txt
+  $ ./lab live examples/two_cells.toml <lines.txt 2>errors
+  in open 1 0 0 3
+  event open 1 0/0/3 -> done
+  out abis 0 0 0821010b0300060400010801
+  line 4
+  line 5
+  in abis 0 0 0822010b080000
+  event confirm 0/0/3 -> owned 1
+  event look 1 -> record 0/0/3 on
+  end channels=1 calls=1 references=0 timers=0
+  $ cat errors
+  standard input:4: TN is 0 to 7, found 9
+  standard input:5: 2: is for a second controller, and there is none (--peer SITE)
+
+Octets that are no message are a fault, as in a run.
+
+  $ echo 'abis 0 0 04' | ./lab live examples/two_cells.toml
+  in abis 0 0 04
+  fault abis 1
+  end channels=0 calls=0 references=0 timers=0
+
+The site is read first, and refused as by run; of standard input nothing is read then.
+
+  $ echo 'open 1 0 0 3' | (./lab live 'no such file' 2>errors; cat)
+  file no such file
+  open 1 0 0 3
+  $ cat errors
+  no such file: no such file
+  $ ./lab live /dev/null 2>errors </dev/null
+  site 2 handover
+  [2]
+  $ cat errors
+  /dev/null: handover is missing: it has to be a table
+
+A read that fails and a write that does are told apart.
+
+  $ ./lab live examples/two_cells.toml 2>errors </
+  [2]
+  $ cat errors
+  standard input: is a folder
+  $ ./lab live examples/two_cells.toml <examples/one_call.txt 2>errors >/dev/full
+  [2]
+  $ cat errors
+  standard output: no space left
+
+Words and states stand with the lines, as in a run; the capture is the run's, too.
+
+  $ ./lab live examples/two_cells.toml --words --state <examples/handover_returns.txt >came
+  $ ./lab run examples/two_cells.toml examples/handover_returns.txt --words --state | cmp - came
+  $ ./lab live examples/two_cells.toml --pcap live.pcap <examples/handover_returns.txt | cmp - examples/handover_returns.trace
+  $ ./lab run examples/two_cells.toml examples/handover_returns.txt --pcap run.pcap >/dev/null
+  $ cmp live.pcap run.pcap
+  $ printf 'frob\nopen 1 0 0 3\n' | ./lab live examples/two_cells.toml --words 2>/dev/null
+  line 1
+  in open 1 0 0 3 # call 1
+  event open 1 0/0/3 -> done # call 1
+  out abis 0 0 0821010b0300060400010801 # call 1; CHANNEL ACTIVATION tn=3 activation=0 mode=00010801 reference=-
+  end channels=1 calls=1 references=0 timers=0 # this is left
+
+The capture grows line by line.
+
+  $ ./lab live examples/two_cells.toml --pcap live.pcap <lines >came &
+  $ exec 3>lines
+  $ printf 'open 1 0 0 3\n' >&3
+  $ until grep -q '^out' came; do sleep 0.1; done; wc -c <live.pcap
+  95
+  $ exec 3>&-; wait
+
+A capture that can't be opened or written, or that is the site, is named.
+
+  $ ./lab live examples/two_cells.toml --pcap / </dev/null 2>errors
+  file /
+  [2]
+  $ cat errors
+  /: is a folder
+  $ cp examples/two_cells.toml site.toml
+  $ ./lab live site.toml --pcap ./site.toml </dev/null 2>errors
+  file ./site.toml
+  [2]
+  $ cat errors
+  ./site.toml: named twice
+  $ cmp site.toml examples/two_cells.toml
+  $ ./lab live examples/two_cells.toml --pcap /dev/full </dev/null 2>errors
+  end channels=0 calls=0 references=0 timers=0
+  [2]
+  $ cat errors
+  /dev/full: no space left
+  $ ./lab live 2>&1 >/dev/null
+  error: the following required arguments were not provided:* (glob)
+  [2]
+  $ ./lab live examples/two_cells.toml --chart x.svg 2>&1 >/dev/null
+  *--chart* (glob)
+  [2]
