@@ -8,6 +8,8 @@ What scripts print stands beside them in a .trace, what they draw in an .svg.
   examples/handover_returns.svg
   examples/handover_returns.trace
   examples/handover_undone.trace
+  examples/real_stations.svg
+  examples/real_stations.trace
   examples/station_stutters.svg
   examples/station_stutters.trace
   $ ./lab run examples/two_cells.toml examples/handover_arrives.txt >printed
@@ -25,3 +27,6 @@ What scripts print stands beside them in a .trace, what they draw in an .svg.
   $ ./lab run examples/two_cells.toml examples/station_stutters.txt --chart chart.svg >printed
   $ diff examples/station_stutters.trace printed
   $ diff examples/station_stutters.svg chart.svg
+  $ ./lab run bridge/demo.toml examples/real_stations.txt --chart chart.svg >printed
+  $ diff examples/real_stations.trace printed
+  $ diff examples/real_stations.svg chart.svg
