@@ -17,9 +17,9 @@ use trace_text::trace::Mark;
 
 /// Prints the trace of lines as they come, as [`Viewer`] does that of a run, and writes the capture to its file as it grows.
 #[derive(Drop)]
-pub struct LiveViewer<'a, W: Write, F: Write + Drop, A: Allocator + Copy = Global> {
+pub struct LiveViewer<'a, 'p, W: Write, F: Write + Drop, A: Allocator + Copy = Global> {
     viewer: Viewer<'a, W, A>,
-    pcap: Option<Sheet<'a, F>>,
+    pcap: Option<Sheet<'p, F>>,
     /// Why the capture couldn't be written, where it couldn't be.
     unwritten: Option<io::Error>,
 }
@@ -35,16 +35,22 @@ fn write_on<F: Write + Drop, A: Allocator + Copy>(
     Ok(())
 }
 
-impl<'a, W: Write, F: Write + OpenFile + Drop, A: Allocator + Copy> LiveViewer<'a, W, F, A> {
+impl<'a, 'p, W: Write, F: Write + OpenFile + Drop, A: Allocator + Copy> LiveViewer<
+    'a,
+    'p,
+    W,
+    F,
+    A,
+> {
     /// A viewer that prints to `out`. The capture's file is emptied, and gets its header; where that can't be, `errors` says
     /// why. The chart's stays as it is: a chart is of a run that has ended.
     pub fn new<E: Write>(
         alloc: A,
-        views: &Views<'a>,
-        sheets: Sheets<'a, F>,
+        views: &Views<'_>,
+        sheets: Sheets<'p, F>,
         out: &'a mut W,
         errors: &mut E,
-    ) -> Result<LiveViewer<'a, W, F, A>, LabFault> {
+    ) -> Result<LiveViewer<'a, 'p, W, F, A>, LabFault> {
         let pcap = sheets.into_pcap(errors)?;
         let viewer = Viewer::new(alloc, views, false, out)?;
         Ok(LiveViewer {
@@ -66,7 +72,7 @@ impl<'a, W: Write, F: Write + OpenFile + Drop, A: Allocator + Copy> LiveViewer<'
     }
 }
 
-impl<W: Write, F: Write + Drop, A: Allocator + Copy> LiveViewer<'_, W, F, A> {
+impl<W: Write, F: Write + Drop, A: Allocator + Copy> LiveViewer<'_, '_, W, F, A> {
     /// Writes what the capture has gained.
     fn write_capture(&mut self) -> Result<(), LabFault> {
         let (Some(sheet), Some(capture)) = (&mut self.pcap, self.viewer.capture_mut()) else {
@@ -82,7 +88,7 @@ impl<W: Write, F: Write + Drop, A: Allocator + Copy> LiveViewer<'_, W, F, A> {
     }
 }
 
-impl<W: Write, F: Write + Drop, A: Allocator + Copy> Listener<A> for LiveViewer<'_, W, F, A> {
+impl<W: Write, F: Write + Drop, A: Allocator + Copy> Listener<A> for LiveViewer<'_, '_, W, F, A> {
     /// Where memory is refused, the messages that weren't shown yet are printed without views.
     fn hear_turn(&mut self, mark: Mark, turn: &Turn<A>, book: &Book<A>) -> Result<(), LabFault> {
         match self.viewer.hear_turn(mark, turn, book) {
@@ -116,7 +122,8 @@ impl<W: Write, F: Write + Drop, A: Allocator + Copy> Listener<A> for LiveViewer<
     }
 }
 
-impl<W: Write, F: Write + Drop, A: Allocator + Copy> LiveListener<A> for LiveViewer<'_, W, F, A> {
+impl<W: Write, F: Write + Drop, A: Allocator + Copy> LiveListener<A>
+    for LiveViewer<'_, '_, W, F, A> {
     fn hear_line_end(&mut self) -> Result<(), LabFault> {
         self.viewer.flush()?;
         self.write_capture()
