@@ -64,7 +64,7 @@ fn live_viewed<R: Files + AllocGlobal, I: BufRead, W: Write, E: Write>(
     };
     let mut viewer = LiveViewer::new(alloc, views, sheets, out, errors)?;
     let ended = live_run(alloc, site, reader, &mut viewer, errors);
-    let written = viewer.say_unwritten(errors);
+    let written = viewer.finish(errors);
     ended_viewed(ended_live(ended, errors), written)
 }
 

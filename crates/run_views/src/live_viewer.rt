@@ -35,6 +35,22 @@ fn write_on<F: Write + Drop, A: Allocator + Copy>(
     Ok(())
 }
 
+/// Says why a capture couldn't be written, where it couldn't be; else how many messages it hasn't.
+fn say_end<F: Write + Drop, E: Write>(
+    pcap: Option<Sheet<'_, F>>,
+    unwritten: Option<io::Error>,
+    left_out: u64,
+    errors: &mut E,
+) -> Result<(), LabFault> {
+    let Some(sheet) = pcap else {
+        return Ok(());
+    };
+    match unwritten {
+        Some(error) => Err(say_unwritten(sheet.path, error, errors)),
+        None => say_left_out(sheet.path, left_out, errors),
+    }
+}
+
 impl<'a, 'p, W: Write, F: Write + OpenFile + Drop, A: Allocator + Copy> LiveViewer<
     'a,
     'p,
@@ -60,15 +76,18 @@ impl<'a, 'p, W: Write, F: Write + OpenFile + Drop, A: Allocator + Copy> LiveView
         })
     }
 
-    /// Says on `errors` why the capture couldn't be written, where it couldn't be; else how many messages it hasn't.
-    pub fn say_unwritten<E: Write>(&self, errors: &mut E) -> Result<(), LabFault> {
-        let (Some(sheet), Some(capture)) = (&self.pcap, self.viewer.capture()) else {
-            return Ok(());
+    /// Ends it: says on `errors` why the capture couldn't be written, where it couldn't be; else how many messages it hasn't.
+    pub fn finish<E: Write>(self, errors: &mut E) -> Result<(), LabFault> {
+        let LiveViewer {
+            viewer,
+            pcap,
+            unwritten,
+        } = self;
+        let left_out = match viewer.capture() {
+            Some(capture) => capture.left_out(),
+            None => 0,
         };
-        match self.unwritten {
-            Some(error) => Err(say_unwritten(sheet.path, error, errors)),
-            None => say_left_out(sheet.path, capture.left_out(), errors),
-        }
+        say_end(pcap, unwritten, left_out, errors)
     }
 }
 
