@@ -47,6 +47,14 @@ const JOBS: &[(&[&str], &str)] = &[
         "run a.toml peer=e.toml b.txt words=true state=true pcap=c.pcap chart=d.svg",
     ),
     (
+        &["live", "a.toml"],
+        "live a.toml words=false state=false pcap=-",
+    ),
+    (
+        &["live", "--pcap", "c.pcap", "a.toml", "--state", "--words"],
+        "live a.toml words=true state=true pcap=c.pcap",
+    ),
+    (
         &["test", "a.toml", "b.txt"],
         "test a.toml peer=- [\"b.txt\"]",
     ),
@@ -113,6 +121,13 @@ fn told(alloc: Global, job: &Job<'_>) -> Result<String, AllocError> {
             format!(in alloc;
                 "run {} peer={peer} {script} words={} state={} pcap={pcap} chart={chart}",
                 sites.first, views.words, views.state
+            )
+        }
+        Job::Live { site, views } => {
+            let pcap = views.pcap.unwrap_or("-");
+            format!(in alloc;
+                "live {site} words={} state={} pcap={pcap}",
+                views.words, views.state
             )
         }
         Job::Test { sites, scripts } => {
