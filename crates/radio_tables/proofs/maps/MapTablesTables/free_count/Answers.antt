@@ -6,5 +6,5 @@ use Rattle.radio_tables.proofs.maps.MapTablesTables.free_count.Goals as goal
 pub returns-clause-none : goal.returns-clause-none
 returns-clause-none g c =
     let b = c.args.self.now in
-    let site = subst TrafficLiesWithin (c.deref.ensures ∙ ap (λ b. b.site) c.self.view_is) c.cells-_cells.ensures.traffic in
+    let site = subst TrafficLiesWithin (c.deref.ensures ∙ ap (λ b. b.site) c.self.view_is) c.cells-cells.ensures.traffic in
     (λ e. none_from_count b c.args.cell site (sym c.count_free.ensures ∙ e), λ none. c.count_free.ensures ∙ count_from_none b c.args.cell none)

@@ -8,5 +8,5 @@ returns-clause-found g c = if_found c.args.self.now c.args.cell c.first_free.res
 
 pub returns-clause-none : goal.returns-clause-none
 returns-clause-none g c =
-    let site = subst TrafficLiesWithin (c.deref.ensures ∙ ap (λ b. b.site) c.self.view_is) c.cells-_cells.ensures.traffic in
+    let site = subst TrafficLiesWithin (c.deref.ensures ∙ ap (λ b. b.site) c.self.view_is) c.cells-cells.ensures.traffic in
     if_none c.args.self.now c.args.cell site c.first_free.result c.first_free.ensures
