@@ -13,6 +13,8 @@ use Rattle.attempt_journal.specs.declared.Timer.{Timer}
 use Rattle.radio_tables.specs.declared.kinds.CallRecord.{CallRecord}
 use Rattle.radio_tables.specs.Maps.{put}
 use Rattle.radio_tables.specs.Entries.{Kept, CallTable, records_of, armed_of, with_kept}
+use Rattle.radio_tables.specs.State.{State, without_call}
+use Rattle.radio_tables.specs.State.{with_kept as with_kept_of}
 use Rattle.radio_tables.proofs.MapFacts.{get_put, get_listed, put_again}
 use Rattle.radio_tables.proofs.TableFacts.{absent_below}
 
@@ -104,3 +106,21 @@ armed_entries (e ∷ es) h =
 -- as many timers are armed as entries have one
 pub armed_len : (t : BTreeMap ℕ Kept) → IsOrdered nat_cmp t → map.len (armed_of t.entries) ≡ count_by (λ (k : Kept). is_some k.timer) (values t)
 armed_len t h = armed_entries t.entries h
+
+-- what is kept of a call, where its timer or its record is the one that was there
+
+pub with_record : (b : State) (c : ℕ) (k : Kept) → map.get b.timers c ≡ k.timer → with_kept_of b c k ≡ record b { calls = map.insert b.calls c k.call }
+with_record b c k same =
+    let timers = put_again nat_cmp_total nat_cmp-IsAntisymmetric b.timers c k.timer same in
+    λ i. record { site = b.site; channels = b.channels; calls = map.insert b.calls c k.call; references = b.references; timers = timers i }
+
+pub with_timer : (b : State) (c : ℕ) (k : Kept) → map.get b.calls c ≡ Some k.call → with_kept_of b c k ≡ record b { timers = put b.timers c k.timer }
+with_timer b c k same =
+    let calls = put_again nat_cmp_total nat_cmp-IsAntisymmetric b.calls c (Some k.call) same in
+    λ i. record { site = b.site; channels = b.channels; calls = calls i; references = b.references; timers = put b.timers c k.timer }
+
+-- a call that is gone, for which no timer was armed
+pub without_unarmed : (b : State) (c : ℕ) → map.get b.timers c ≡ None → without_call b c ≡ record b { calls = map.remove b.calls c }
+without_unarmed b c same =
+    let timers = put_again nat_cmp_total nat_cmp-IsAntisymmetric b.timers c None same in
+    λ i. record { site = b.site; channels = b.channels; calls = map.remove b.calls c; references = b.references; timers = timers i }
