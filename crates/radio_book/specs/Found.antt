@@ -2,7 +2,7 @@
 use Rattle.std.specs.Prelude.{◌+◌, ◌&&◌, ◌++◌, if◌then◌else◌, [], not, ℕ, Bool, true, false, List, take, drop, filter, find, slice_get, Option, Some, None}
 use Rattle.std.specs.Option.{option_map, option_and_then}
 use Rattle.channel_fsm.specs.declared.ChanId.{ChanId}
-use Rattle.radio_book.specs.declared.event.Reference.{Reference}
+use Rattle.radio_tables.specs.declared.kinds.Reference.{Reference}
 use Rattle.radio_book.specs.declared.event.Event.{Event}
 use Rattle.radio_book.specs.declared.event.Event.TheVariants as event
 use Rattle.radio_book.specs.declared.undone.StepAt.{StepAt}

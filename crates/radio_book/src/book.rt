@@ -2,11 +2,11 @@
 ghost use Rattle.std.specs.Prelude.{◌≡◌, ◌↔◌, ℕ, Option, Ok, None, OnOk, OnErr, IfOk, IfSome, IsOk, IsTrue};
 ghost use Rattle.std.specs.FinMap as map;
 ghost use Rattle.radio_book.specs.State.{empty_book, state_code};
-ghost use Rattle.radio_book.specs.Same.{is_same, is_same-IsEquivalence};
+ghost use Rattle.radio_tables.specs.Same.{is_same, is_same-IsEquivalence};
 ghost use Rattle.std.specs.Cmp.{partial_equiv_from_equiv};
 ghost use Rattle.radio_book.specs.Sound.{IsSound};
 ghost use Rattle.channel_fsm.specs.declared.ChanState.{ChanState};
-ghost use Rattle.radio_book.specs.declared.event.CallRecord.{CallRecord};
+ghost use Rattle.radio_tables.specs.declared.kinds.CallRecord.{CallRecord};
 ghost use Rattle.radio_book.specs.declared.event.Event.{Event};
 ghost use Rattle.radio_book.specs.declared.event.Why.{Why};
 ghost use Rattle.radio_book.specs.Journal.{journal_of, run_back};
@@ -14,10 +14,11 @@ ghost use Rattle.radio_book.specs.Table.{step, reply_to, row, NeedsRoom, MayNeed
 ghost use Rattle.radio_book.specs.Undone.{is_target_off};
 ghost use Rattle.radio_book.specs.Choice.{NoneFree, TakesFree, ReservesFree, free_count};
 
-use crate::book_tables::BookTables;
 use crate::event::{Event, Kind, Reply};
+use crate::records::Records;
 use cell_table::Site;
 use channel_fsm::ChanId;
+use radio_tables::maps::MapTables;
 use std::alloc::{AllocError, Allocator, Global};
 use std::marker::Model;
 use std::sync::Arc;
@@ -38,11 +39,11 @@ pub struct Usage {
 /// The book of a site: the state of each channel that isn't free, the record of each call, and the
 /// handover references and timers that attempts hold. It is sound at all times.
 #[derive(Drop)]
-pub struct Book<A: Allocator = Global> {
-    tables: BookTables<A>,
+pub struct Book<A: Allocator + Copy = Global> {
+    records: Records<MapTables<A>>,
 }
 
-impl<A: Allocator> Model for Book<A> {
+impl<A: Allocator + Copy> Model for Book<A> {
     ghost use Rattle.radio_book.specs.State.{State, state_code};
     ghost use Rattle.radio_book.specs.Sound.{IsSound};
 
@@ -50,14 +51,14 @@ impl<A: Allocator> Model for Book<A> {
 
     ghost coded = { state_code };
 
-    ghost view = { λ book. book.tables };
+    ghost view = { λ book. book.records };
 
-    ghost invariant = { λ book. IsSound book.tables };
+    ghost invariant = { λ book. IsSound book.records };
 }
 
 /// Two books are equal where their sites, the states of their channels, the records of their calls, their references in
 /// use and their armed timers are equal. Takes no memory.
-impl<A: Allocator> PartialEq for Book<A> {
+impl<A: Allocator + Copy> PartialEq for Book<A> {
     ghost eq = { is_same state_code };
 
     ghost laws = { partial_equiv_from_equiv (is_same-IsEquivalence state_code) };
@@ -66,11 +67,11 @@ impl<A: Allocator> PartialEq for Book<A> {
         ensures value { result ≡ is_same state_code self.now other.now }
         ensures same { IsTrue result ↔ (self.now ≡ other.now) }
     {
-        self.tables == other.tables
+        self.records.same(&other.records)
     }
 }
 
-impl<A: Allocator> Eq for Book<A> {
+impl<A: Allocator + Copy> Eq for Book<A> {
     ghost laws = { is_same-IsEquivalence state_code };
 }
 
@@ -80,23 +81,23 @@ impl<A: Allocator + Copy> Book<A> {
         ensures empty { IfOk result (λ book. book ≡ empty_book site.value) }
         ensures memory { IsOk result }
     {
-        let tables = BookTables::new(alloc, site);
-        Ok(Book { tables })
+        let records = Records::over(MapTables::new(alloc, site));
+        Ok(Book { records })
     }
 
     /// The site, which never changes.
     pub fn site(&self) -> &Arc<Site<A>, A>
         ensures site { result.now.value ≡ self.now.site }
     {
-        self.tables.site()
+        self.records.tables().site()
     }
 
     /// The same book again. Memory is asked for.
     pub fn copy(&self) -> Result<Book<A>, AllocError>
         ensures copy { IfOk result (λ book. book ≡ self.now) }
     {
-        let tables = self.tables.copy()?;
-        Ok(Self { tables })
+        let records = self.records.copy()?;
+        Ok(Self { records })
     }
 
     /// How much the book holds. Its contract also hands out that every book is sound.
@@ -108,10 +109,10 @@ impl<A: Allocator + Copy> Book<A> {
         ensures sound { IsSound self.now }
     {
         Usage {
-            channels: self.tables.channels(),
-            calls: self.tables.calls(),
-            references: self.tables.references(),
-            timers: self.tables.timers(),
+            channels: self.records.channels(),
+            calls: self.records.calls(),
+            references: self.records.references(),
+            timers: self.records.timers(),
         }
     }
 
@@ -119,7 +120,7 @@ impl<A: Allocator + Copy> Book<A> {
     pub(crate) fn sound(&self)
         ensures { IsSound self.now }
     {
-        let _ = &self.tables;
+        let _ = &self.records;
     }
 
     /// The channel, if there is one, is off: its release is awaited.
@@ -127,7 +128,7 @@ impl<A: Allocator + Copy> Book<A> {
         ensures { result ≡ is_target_off self.now target }
     {
         match target {
-            Some(x) => self.tables.is_off(x),
+            Some(x) => self.records.is_off(x),
             None => false,
         }
     }
@@ -150,7 +151,7 @@ impl<A: Allocator + Copy> Book<A> {
             event ≡ Event.Undo c why → result ≡ Ok (Reply.Record shown state) →
             self.new ≡ run_back c (journal_of shown.attempt) self.old }
     {
-        self.tables.step(event)
+        self.records.step(event)
     }
 
     /// A `Take` of some free channel of the cell, judged as by [`Book::step`], with its answer. `None` says that there is
@@ -174,7 +175,7 @@ impl<A: Allocator + Copy> Book<A> {
         ensures memory { OnErr result ((e : Event) × TakesFree self.old call kind cell e ×
             NeedsRoom self.old (row self.old e)) }
     {
-        let Some(x) = self.tables.choose_channel(cell) else {
+        let Some(x) = self.records.choose_channel(cell) else {
             return Ok(None);
         };
         let event = Event::Take(call, kind, x);
@@ -194,7 +195,7 @@ impl<A: Allocator + Copy> Book<A> {
         ensures memory { OnErr result ((e : Event) × ReservesFree self.old call e ×
             NeedsRoom self.old (row self.old e)) }
     {
-        let number = self.tables.choose_number(call);
+        let number = self.records.choose_number(call);
         let event = Event::Reserve(call, number);
         let reply = self.step(event)?;
         Ok((event, reply))
@@ -206,6 +207,6 @@ impl<A: Allocator + Copy> Book<A> {
         ensures count { result ≡ free_count self.now cell }
         ensures none { (result ≡ 0) ↔ NoneFree self.now cell }
     {
-        self.tables.free_in(cell)
+        self.records.free_in(cell)
     }
 }

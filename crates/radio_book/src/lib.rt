@@ -3,15 +3,12 @@
 #![tactic(auto)]
 
 pub mod book;
-mod book_tables;
-mod entry;
 pub mod event;
 mod found;
 mod kinds;
 pub mod laws;
 pub mod others;
+mod records;
 pub mod rewind;
 pub mod run;
-mod stage;
-mod tables;
 pub mod undone;
