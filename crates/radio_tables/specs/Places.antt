@@ -1,0 +1,24 @@
+-- What a search over the places of a cell goes through. No public clause cites it. Ours, of no standard.
+use Rattle.std.specs.Prelude.{ℕ, Bool, ◌&&◌, List, count_by, flat_map, map as map_list}
+use Rattle.std.specs.List.{range_with_len}
+use Rattle.channel_fsm.specs.declared.ChanId.{ChanId}
+use Rattle.channel_fsm.specs.declared.ChanState.{ChanState}
+use Rattle.cell_table.specs.Limits.{most_trx, timeslots_of_trx}
+use Rattle.cell_table.specs.Site.{is_traffic}
+use Rattle.radio_tables.specs.States.{channel_row}
+use Rattle.radio_tables.specs.State.{State, state_of}
+
+abbrev pub is_free : ChanState → Bool
+is_free s = (channel_row s).free
+
+abbrev pub is_free_traffic : State → ChanId → Bool
+is_free_traffic b x = is_traffic b.site x && is_free (state_of b x)
+
+-- every channel that a cell can have, by TRX, then timeslot
+unfoldable pub channels_of : ℕ → List ChanId
+channels_of cell =
+    flat_map (λ trx. map_list (λ tn. record { cell = cell; trx = trx; tn = tn }) (range_with_len 0 timeslots_of_trx)) (range_with_len 0 most_trx)
+
+-- how many of them are free traffic channels
+abbrev pub free_count : State → ℕ → ℕ
+free_count b cell = count_by (is_free_traffic b) (channels_of cell)
