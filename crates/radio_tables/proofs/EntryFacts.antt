@@ -18,11 +18,11 @@ use Rattle.radio_tables.specs.State.{with_kept as with_kept_of}
 use Rattle.radio_tables.proofs.MapFacts.{get_put, get_listed, put_again}
 use Rattle.radio_tables.proofs.TableFacts.{absent_below}
 
-mapped_choice : {A B : Type 0} (f : A → B) (p : Bool) (w z : Option A) → option_map f (cond p w z) ≡ cond p (option_map f w) (option_map f z)
+pub mapped_choice : {A B : Type 0} (f : A → B) (p : Bool) (w z : Option A) → option_map f (cond p w z) ≡ cond p (option_map f w) (option_map f z)
 mapped_choice f true w z = refl
 mapped_choice f false w z = refl
 
-chained_choice : {A B : Type 0} (f : A → Option B) (p : Bool) (w z : Option A) → option_and_then f (cond p w z) ≡ cond p (option_and_then f w) (option_and_then f z)
+pub chained_choice : {A B : Type 0} (f : A → Option B) (p : Bool) (w z : Option A) → option_and_then f (cond p w z) ≡ cond p (option_and_then f w) (option_and_then f z)
 chained_choice f true w z = refl
 chained_choice f false w z = refl
 

@@ -7,3 +7,4 @@ pub mod SameFacts
 pub mod JournalFacts
 pub mod Chosen
 pub mod FreeSet
+pub mod SplitFacts

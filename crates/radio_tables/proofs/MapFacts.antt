@@ -47,7 +47,7 @@ choices_same : {A : Type 0} (p : Bool) (x y z : A) → cond p x (cond p y z) ≡
 choices_same true x y z = refl
 choices_same false x y z = refl
 
-find_is_lookup : {K X : Type 0} (R : K → K → Ordering) (es : List (K × X)) (q : K) → find R q es ≡ lookup (is_at (R q)) es
+pub find_is_lookup : {K X : Type 0} (R : K → K → Ordering) (es : List (K × X)) (q : K) → find R q es ≡ lookup (is_at (R q)) es
 find_is_lookup R [] q = refl
 find_is_lookup R (e ∷ es) q = ap (cond (is_at (R q) e.0) (Some e.1)) (find_is_lookup R es q)
 

@@ -9,3 +9,4 @@ pub mod Entries
 pub mod State
 pub mod Choice
 pub mod Places
+pub mod Split
