@@ -4,6 +4,7 @@ pub mod Same
 pub mod SiteFacts
 pub mod Blank
 pub mod Refusals
+pub mod Twice
 pub mod Nine
 pub mod Positions
 pub mod Unique
