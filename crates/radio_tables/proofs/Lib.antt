@@ -6,3 +6,4 @@ pub mod CopyFacts
 pub mod SameFacts
 pub mod JournalFacts
 pub mod Chosen
+pub mod DenseFacts

@@ -10,7 +10,7 @@ use Rattle.std.specs.Map.{lookup}
 use Rattle.std.specs.BTreeMap.{is_at}
 use Rattle.channel_fsm.specs.declared.ChanId.{ChanId}
 use Rattle.channel_fsm.specs.declared.ChanState.{ChanState}
-use Rattle.radio_tables.specs.declared.kinds.Reference.{Reference}
+use Rattle.dense_tables.specs.declared.references.Reference.{Reference}
 use Rattle.radio_tables.specs.declared.kinds.CallRecord.{CallRecord}
 use Rattle.radio_tables.specs.Keys.{chan_cmp, reference_cmp}
 use Rattle.radio_tables.specs.Maps.{put}

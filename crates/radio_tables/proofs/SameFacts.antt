@@ -26,12 +26,12 @@ use Rattle.attempt_journal.specs.contracts.Timer.{the_type as timer_type}
 use Rattle.attempt_journal.specs.contracts.TimerPartialEq.TheImpl.{eq-value as timer_eq}
 use Rattle.radio_tables.specs.declared.kinds.Attempt.{Attempt}
 use Rattle.radio_tables.specs.declared.kinds.CallRecord.{CallRecord}
-use Rattle.radio_tables.specs.declared.kinds.Reference.{Reference}
+use Rattle.dense_tables.specs.declared.references.Reference.{Reference}
 use Rattle.radio_tables.specs.contracts.kinds.AttemptKind.{the_type as kind_type}
 use Rattle.radio_tables.specs.contracts.kinds.Stage.{the_type as stage_type}
 use Rattle.radio_tables.specs.contracts.kinds.AttemptPartialEq.TheImpl.{eq-value as attempt_eq}
 use Rattle.radio_tables.specs.contracts.kinds.CallRecordPartialEq.TheImpl.{eq-value as call_record_eq}
-use Rattle.radio_tables.specs.contracts.kinds.ReferencePartialEq.TheImpl.{eq-value as reference_eq}
+use Rattle.dense_tables.specs.contracts.references.ReferencePartialEq.TheImpl.{eq-value as reference_eq}
 use Rattle.cell_table.specs.Same.{same_site}
 use Rattle.cell_table.specs.Laws.{SameSitesAreEqual}
 use Rattle.radio_tables.specs.State.{State, state_code, channels_code, references_code}

@@ -8,3 +8,4 @@ pub mod Same
 pub mod Entries
 pub mod State
 pub mod Choice
+pub mod Dense

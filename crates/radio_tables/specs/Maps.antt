@@ -2,15 +2,11 @@
 use Rattle.std.specs.Prelude.{◌≡◌, Option, Some, None}
 use Rattle.std.specs.declared.cmp.Ordering.{Ordering}
 use Rattle.std.specs.FinMap as map
+pub use Rattle.dense_tables.specs.Maps.{put}
 
 -- a key, and what stands there from now on: a value, or nothing
 abbrev pub Entry : Type 0 → Type 0 → Type 0
 Entry K X = K × Option X
-
--- the map with this at the key
-abbrev pub put : {K X : Type 0} {R : K → K → Ordering} → map.FinMap R X → K → Option X → map.FinMap R X
-put m k None = map.remove m k
-put m k (Some v) = map.insert m k v
 
 -- the map after a change of at most one entry
 abbrev pub with_change : {K X : Type 0} {R : K → K → Ordering} → map.FinMap R X → Option (Entry K X) → map.FinMap R X

@@ -7,7 +7,7 @@ use Rattle.std.specs.FinMap as map
 use Rattle.channel_fsm.specs.declared.ChanId.{ChanId}
 use Rattle.channel_fsm.specs.declared.ChanState.{ChanState}
 use Rattle.channel_fsm.specs.declared.ChanState.TheVariants.{Free}
-use Rattle.radio_tables.specs.declared.kinds.Reference.{Reference}
+use Rattle.dense_tables.specs.declared.references.Reference.{Reference}
 use Rattle.radio_tables.specs.declared.kinds.CallRecord.{CallRecord}
 use Rattle.attempt_journal.specs.declared.Timer.{Timer}
 use Rattle.channel_fsm.specs.contracts.ChanState.{the_row as state_row}

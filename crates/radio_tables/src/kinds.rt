@@ -2,6 +2,7 @@
 //! clause 3.1.5).
 pub use attempt_journal::Timer;
 use channel_fsm::ChanId;
+pub use dense_tables::Reference;
 
 /// How far an attempt at handover has come.
 #[derive(Clone, Copy, Debug, PartialEq, Eq)]
@@ -60,13 +61,4 @@ pub struct CallRecord {
     pub serving: Option<ChanId>,
     /// The attempt that is open. `None` where the call rests on its serving channel.
     pub attempt: Option<Attempt>,
-}
-
-/// A handover reference of a cell (TS 44.018 clause 10.5.2.15).
-#[derive(Clone, Copy, Debug, PartialEq, Eq, PartialOrd, Ord)]
-pub struct Reference {
-    /// The cell that the call moves to.
-    pub cell: u8,
-    /// 0 to 255, of one attempt of the cell at a time.
-    pub number: u8,
 }
