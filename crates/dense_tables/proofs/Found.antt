@@ -1,5 +1,5 @@
 -- Which channels have a place at a site: its traffic channels, each another.
-use Rattle.std.proofs.Common.{◌≡◌, ◌+◌, ◌<◌, ◌≤◌, ℕ, true, false, length, get_or, Some, is_some, refl, sym, ap, ◌∙◌, arith}
+use Rattle.std.proofs.Common.{◌≡◌, ◌+◌, ◌<◌, ◌≤◌, ℕ, true, false, length, get_or, Option, Some, None, IfSome, is_some, refl, sym, ap, ◌∙◌, arith}
 use Rattle.std.proofs.lemmas.List.Elements.{All-get_or, filter_passes}
 use Rattle.std.proofs.lemmas.List.Quantifiers.{position-Some}
 use Rattle.std.proofs.lemmas.List.Sums.{length-filter, count_by-le-length}
@@ -21,6 +21,11 @@ placed site x place at =
     let found = position-Some (is_channel x) (channels site) place x at in
     let here : x ≡ get_or (channels site) place x = one_channel x _ found.1 in
     (found.0, ap (is_traffic site) here ∙ All-get_or (λ y. is_traffic site y ≡ true) (channels site) place x found.0 (filter_passes (is_traffic site) all_channels))
+
+-- a place fits two octets
+pub short_places : (site : SiteView) (o : Option ℕ) (x : ChanId) → o ≡ index_of site x → IfSome o (λ place. place ≤ 65535)
+short_places site None x e = tt
+short_places site (Some place) x e = omega (arith, (placed site x place (sym e)).0, few_channels site)
 
 -- a traffic channel has one
 pub has_place : (site : SiteView) → IsSite site → (x : ChanId) → is_traffic site x ≡ true → is_some (index_of site x) ≡ true

@@ -110,6 +110,10 @@ entry_absent keys slots c none = put_again nat_cmp_total nat_cmp-IsAntisymmetric
 pub kept_there : {E : Type 0} (keys : List ℕ) (slots : List (Option (Slot E))) (c key : ℕ) → slice_get keys c ≡ Some key → is_some (map.get (entries_of keys slots) c) ≡ true → is_some (kept_in c (get_or slots key None)) ≡ true
 kept_there keys slots c key at there = sym (ap is_some (get_entry keys slots c ∙ entry_is keys slots c key at)) ∙ there
 
+-- how many calls there are, where one begins, changes or ends
+pub count_put : {E : Type 0} (keys : List ℕ) (slots : List (Option (Slot E))) (c : ℕ) (w : Option E) → map.len (put (entries_of keys slots) c w) + one_if_some (map.get (entries_of keys slots) c) ≡ map.len (entries_of keys slots) + one_if_some w
+count_put keys slots c w = len_put nat_cmp_total (entries_of keys slots) c w
+
 -- what is read under a call's key
 module _ {E : Type 0} (keys : List ℕ) (slots : List (Option (Slot E))) (c key : ℕ) (at : slice_get keys c ≡ Some key) where
   pub read_none : get_or slots key None ≡ None → None ≡ entry_at keys slots c
@@ -124,7 +128,7 @@ module _ {E : Type 0} (keys : List ℕ) (slots : List (Option (Slot E))) (c key 
 
 nobody : {E : Type 0} (keys : List ℕ) (c : ℕ) → entry_at {E = E} keys [] c ≡ None
 unfolding entry_at
-nobody keys c = elim (slice_get keys c) as (λ o. option_and_then (λ key. kept_in c (get_or [] key None)) o ≡ None) [ None ↦ refl | Some key ↦ refl ]
+nobody {E = E} keys c = elim (slice_get keys c) as (λ o. option_and_then {U = E} (λ key. kept_in c (get_or [] key None)) o ≡ None) [ None ↦ refl | Some key ↦ refl ]
 
 -- no slot, no call
 pub no_entries : {E : Type 0} (keys : List ℕ) → entries_of {E = E} keys [] ≡ map.empty

@@ -11,7 +11,7 @@ use Rattle.dense_tables.specs.Maps.{put, listed, Covers}
 use Rattle.dense_tables.specs.Calls.{below}
 use Rattle.dense_tables.specs.References.{place_of, reference_at, user_at, users_of}
 use Rattle.dense_tables.proofs.KeyFacts.{reference_total, reference_exact}
-use Rattle.dense_tables.proofs.MapFacts.{put_again}
+use Rattle.dense_tables.proofs.MapFacts.{put_again, len_put, one_if_some}
 use Rattle.dense_tables.proofs.Listed.{get_listed, listed_put, listed_empty, len_listed, among_made, length_below}
 
 -- a number of a row leads to its place, and back
@@ -71,6 +71,12 @@ user_written users r w small within =
     (covers users) (covers (set users (place_of r) w)) r (λ q other. other_stays users r q w small other)
     ∙ ap (put (users_of users) r) (user_of_row (set users (place_of r) w) r small ∙ get_or-set_same users (place_of r) w None within)
 
+-- how many are in use, where a reference gets another user
+pub count_written : (users : List (Option ℕ)) (r : Reference) (w : Option ℕ) → r.number < 256 → place_of r < length users → map.len (users_of (set users (place_of r) w)) + one_if_some (get_or users (place_of r) None) ≡ map.len (users_of users) + one_if_some w
+count_written users r w small within =
+    (λ i. map.len (user_written users r w small within i) + one_if_some (sym (get_user users r ∙ user_of_row users r small) i))
+    ∙ len_put reference_total (users_of users) r w
+
 -- a reference of no cell has no user, and stays so
 pub user_absent : (users : List (Option ℕ)) (r : Reference) → length users ≤ place_of r → put (users_of users) r None ≡ users_of users
 user_absent users r past =
@@ -98,3 +104,8 @@ place_read users i =
 pub users_told : (one other : List (Option ℕ)) → length one ≡ length other → users_of one ≡ users_of other → one ≡ other
 users_told one other long same =
     ext_get_or None one other long (λ i within. sym (place_read one i) ∙ ap (λ m. map.get m (reference_at i)) same ∙ place_read other i)
+
+-- a user is given to references of the rows alone
+pub no_row : (o : Option ℕ) (cell cells number place : ℕ) → (o ≢ None → cell < cells) → place ≡ cell * 256 + number → cells * 256 ≤ place → number < 256 → o ≡ None
+no_row None cell cells number place rowed at past small = refl
+no_row (Some v) cell cells number place rowed at past small = let row = rowed (λ e. cc) in absurd (omega arith)

@@ -15,7 +15,7 @@ use Rattle.dense_tables.specs.Keys.{chan_cmp}
 use Rattle.dense_tables.specs.Maps.{put, listed, Covers}
 use Rattle.dense_tables.specs.Channels.{busy, state_at, states_of, number_of, channel_at, is_within, place_at, ArePlaces, mask_at, is_free_at, AreMasks}
 use Rattle.dense_tables.proofs.KeyFacts.{chan_total, chan_exact, one_channel}
-use Rattle.dense_tables.proofs.MapFacts.{ties_itself, key_cases, put_again}
+use Rattle.dense_tables.proofs.MapFacts.{ties_itself, key_cases, put_again, len_put, one_if_some}
 use Rattle.dense_tables.proofs.Listed.{get_listed, listed_put, listed_empty, len_listed}
 use Rattle.dense_tables.proofs.Found.{placed, one_place}
 
@@ -55,6 +55,12 @@ pub state_written : (site : SiteView) (states : List ChanState) (x : ChanId) (pl
 state_written site states x place s within at =
     listed_put chan_total chan_exact (channels site) (channels site) (state_at site states) (state_at site (set states place s)) (covers site states) (covers site (set states place s)) x (λ q other. state_other site states x q place s at other)
     ∙ ap (put (states_of site states) x) (state_same site states x place s within at)
+
+-- how many aren't free, where a channel gets another state
+pub count_written : (site : SiteView) (states : List ChanState) (x : ChanId) (place : ℕ) (s : ChanState) → place < length states → index_of site x ≡ Some place → map.len (states_of site (set states place s)) + one_if_some (busy (get_or states place Free)) ≡ map.len (states_of site states) + one_if_some (busy s)
+count_written site states x place s within at =
+    (λ i. map.len (state_written site states x place s within at i) + one_if_some (sym (get_state site states x ∙ ap (there states) at) i))
+    ∙ len_put chan_total (states_of site states) x (busy s)
 
 -- a channel without a place is free, and stays so
 pub state_absent : (site : SiteView) (states : List ChanState) (x : ChanId) → index_of site x ≡ None → put (states_of site states) x None ≡ states_of site states
@@ -136,6 +142,10 @@ states_told site lies one other each = same_map chan_total chan_exact _ _ (λ q.
     ])
 
 -- ---- masks
+
+pub flipped : (a r : Bool) → a ≡ not r → r ≡ not a
+flipped a true e = ap not (sym e)
+flipped a false e = ap not (sym e)
 
 -- what becomes of the masks where one channel gets another state
 pub masks_written : (site : SiteView) (states : List ChanState) (masks later : List ℕ) (x : ChanId) (place : ℕ) (s : ChanState) → AreMasks site states masks → place < length states → index_of site x ≡ Some place → mask_at later x ≡ not (is_some (busy s)) → ((y : ChanId) → IsWithinLimits y → y ≢ x → mask_at later y ≡ mask_at masks y) → AreMasks site (set states place s) later

@@ -14,7 +14,10 @@ use std::alloc::{AllocError, Allocator};
 const TRX_OF_SITE: usize = 256;
 
 /// The traffic timeslots of each TRX that a site can have.
-pub fn masks_of<A: Allocator>(alloc: A, site: &Site<A>) -> Result<Vec<FreeMask, A>, AllocError>
+pub fn masks_of<A: Allocator + Copy>(
+    alloc: A,
+    site: &Site<A>,
+) -> Result<Vec<FreeMask, A>, AllocError>
     ensures len { IfOk result (λ masks. length masks.items ≡ 256) }
     ensures masks { IfOk result (λ masks. (x : ChanId) → IsWithinLimits x →
         mask_at masks.items x ≡ is_traffic site.now x) }
@@ -27,7 +30,7 @@ pub fn masks_of<A: Allocator>(alloc: A, site: &Site<A>) -> Result<Vec<FreeMask, 
 }
 
 /// The traffic timeslots of a TRX by its number among all that a site can have.
-fn mask_of<A: Allocator>(site: &Site<A>, trx: usize) -> FreeMask
+fn mask_of<A: Allocator + Copy>(site: &Site<A>, trx: usize) -> FreeMask
     requires { trx < 256 }
     ensures { (tn : ℕ) → has result tn ≡
         is_traffic site.now (record { cell = trx / 4; trx = trx % 4; tn = tn }) }

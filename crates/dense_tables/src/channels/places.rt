@@ -47,7 +47,10 @@ pub fn place_in<A: Allocator>(places: &Vec<Option<u16>, A>, x: ChanId) -> Option
 }
 
 /// The place of each channel that a site can have.
-pub fn places_of<A: Allocator>(alloc: A, site: &Site<A>) -> Result<Vec<Option<u16>, A>, AllocError>
+pub fn places_of<A: Allocator + Copy>(
+    alloc: A,
+    site: &Site<A>,
+) -> Result<Vec<Option<u16>, A>, AllocError>
     ensures len { IfOk result (λ places. length places.items ≡ 2048) }
     ensures places { IfOk result (λ places. ArePlaces site.now places.items) }
 {
