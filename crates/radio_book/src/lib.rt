@@ -10,6 +10,7 @@ mod found;
 mod kinds;
 pub mod laws;
 pub mod others;
+pub mod owed;
 pub mod rewind;
 pub mod run;
 mod stage;
