@@ -1,1 +1,3 @@
 pub mod Leading
+pub mod Rooms
+pub mod Taking

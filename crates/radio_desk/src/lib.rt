@@ -5,5 +5,6 @@
 
 pub mod desk;
 pub mod entry;
+mod room;
 pub mod seat;
 pub mod tally;
