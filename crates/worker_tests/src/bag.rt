@@ -48,6 +48,8 @@ pub struct Bag<R: Wait + Drop, A: Allocator> {
     pub sent: Vec<Outbound<A>, A>,
     /// How many messages were refused.
     pub refused: u64,
+    /// How many it had passed on when it was told of the last input that was taken.
+    pub told: usize,
 }
 
 impl<R: Wait + Drop, A: Allocator + Copy> Bag<R, A> {
@@ -61,6 +63,7 @@ impl<R: Wait + Drop, A: Allocator + Copy> Bag<R, A> {
             taken,
             sent: Vec::new(alloc),
             refused: 0,
+            told: 0,
         }
     }
 }
@@ -107,6 +110,7 @@ impl<R: Wait + Drop, A: Allocator + Copy> Links for Bag<R, A> {
         ensures passed { all_sent self.new.sent.items ≡ all_sent self.old.sent.items }
         ensures refused { self.new.refused ≡ self.old.refused }
     {
+        self.told = self.sent.len();
         self.taken.add(&self.rt);
     }
 }

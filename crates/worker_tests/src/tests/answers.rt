@@ -1,12 +1,12 @@
 //! Octets that aren't read: on Abis the office says so, on A, or inside a message on Abis, the worker.
-use super::offices::{Ajar, Hall, Left, empty_desk, give_all, input_of, inputs_of, opened};
-use crate::bag::Taken;
-use call_worker::GiveFault;
+use super::offices::{Course, Hall, Left, at_an_office, give_all, input_of};
+use crate::bag::{Bag, Taken};
+use call_worker::{GiveFault, Turn, WorkerEnd};
 use rsl_messages::RslFault;
 use sample_sites::THREE_CHANNELS;
 use std::alloc::Global;
 use std::process::Abort;
-use std::sync::{Arc, Wait};
+use std::sync::Wait;
 use std::test::Fail;
 use std::thread::Threads;
 
@@ -14,43 +14,60 @@ use std::thread::Threads;
 const UNREAD: &str = "a 1 00051b
 abis 0 0 0302010b02000b00020615";
 
-/// The office doesn't take a message on Abis that ends too soon.
-fn is_undecoded<R: Threads + Wait + Abort + Drop>(
-    rt: &R,
-    alloc: Global,
-    hall: &mut Hall<R, Global>,
-) {
-    let answer = hall.give(input_of(rt, alloc, "abis 0 0 082201"));
+/// The office doesn't take a message on Abis that ends too soon; it takes the others.
+fn give_unread<R: Threads + Wait + Abort + AllocGlobal + Drop>(rt: &R, hall: &mut Hall<R, Global>) {
+    let answer = hall.give(input_of(rt, rt.alloc(), "abis 0 0 082201"));
     assert!(rt; answer == Err(GiveFault::Undecoded(RslFault::Torn(2))));
+    give_all(rt, hall, UNREAD);
 }
 
-/// The worker asked nothing for the others, and sent nothing. The office asked whose the channel is.
-fn asked_nothing<R: Wait + Abort + Drop>(rt: &R, left: &Left<R, Global>) {
-    assert!(rt; left.front.len() == 1 && left.workers.len() == 1);
-    for worker in &left.workers {
-        assert!(rt; worker.receipts.is_empty() && worker.links.sent.is_empty());
-        assert!(rt; worker.taken.len() == 2 && worker.links.refused == 0);
-        for turn in &worker.taken {
-            assert!(rt; !turn.ok && turn.upto == 0);
-        }
+/// Both inputs were passed over.
+fn are_passed_over(rt: &impl Abort, taken: &[Turn<Global>]) {
+    assert!(rt; taken.len() == 2);
+    for turn in taken {
+        assert!(rt; !turn.ok && turn.upto == 0);
     }
 }
 
-fn run_unread<R: Threads + Wait + Abort + Clone + Drop + Send + 'static>(
-    rt: &R,
-    alloc: Global,
-) -> Result<(), Fail> {
-    let taken = Arc::new(alloc, Taken::new())?;
-    let gate = Arc::new(alloc, Ajar)?;
-    let desk = empty_desk(alloc, alloc, THREE_CHANNELS)?;
-    let mut hall = opened(rt, alloc, desk, gate, &taken, 1)?;
-    is_undecoded(rt, alloc, &mut hall);
-    give_all(rt, &mut hall, inputs_of(rt, alloc, UNREAD)?);
-    asked_nothing(rt, &hall.close()?);
-    Ok(())
+/// The worker asked nothing, and sent nothing.
+fn did_nothing<R: Wait + Abort + Drop>(rt: &R, worker: &WorkerEnd<Bag<R, Global>>) {
+    assert!(rt; worker.receipts.is_empty() && worker.links.sent.is_empty());
+    assert!(rt; worker.links.refused == 0);
+    are_passed_over(rt, &worker.taken);
+}
+
+/// The worker passed over what it was given. The office asked whose the channel is.
+fn asked_nothing<R: Wait + Abort + Drop>(rt: &R, left: &Left<R, Global>) {
+    assert!(rt; left.front.len() == 1 && left.workers.len() == 1);
+    for worker in &left.workers {
+        did_nothing(rt, worker);
+    }
+}
+
+/// Octets that aren't read.
+struct Unread;
+
+impl Course for Unread {
+    fn give<R: Threads + Wait + Abort + AllocGlobal + Drop>(
+        &self,
+        rt: &R,
+        hall: &mut Hall<R, Global>,
+        _taken: &Taken,
+    ) {
+        give_unread(rt, hall);
+    }
+
+    fn see<R: Wait + Abort + AllocGlobal + Drop>(
+        &self,
+        rt: &R,
+        left: &Left<R, Global>,
+    ) -> Result<(), Fail> {
+        asked_nothing(rt, left);
+        Ok(())
+    }
 }
 
 #[test]
 fn what_is_not_read_asks_nothing(rt: HostRuntime) -> Result<(), Fail> {
-    run_unread(&rt, rt.alloc())
+    at_an_office(&rt, THREE_CHANNELS, 1, &Unread)
 }

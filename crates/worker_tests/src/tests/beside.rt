@@ -1,5 +1,5 @@
 //! Workers run beside each other: a gate holds one on its way until the other has come further.
-use super::offices::{Left, empty_desk, give_all, give_each, inputs_of, opened};
+use super::offices::{Course, Hall, Left, are_ok, at_a_desk, empty_desk, give_all, give_each};
 use crate::bag::Taken;
 use call_worker::{Gate, Point};
 use sample_sites::THREE_CHANNELS;
@@ -13,9 +13,11 @@ use std::time::{Clock, Duration};
 /// How many timed waits of a millisecond the gate holds a call at most.
 const TURNS: u32 = 10_000;
 
-/// What a gate saw: that call 1 came to be commanded, that call 2 had its answer, and that call 1 was let go without it.
+/// What a gate saw: how often a call came past, that call 1 came to be commanded, that call 2 had its answer, and that call 1
+/// was let go without it.
 #[derive(Drop)]
 struct Seen {
+    passes: u32,
     commanded: bool,
     answered: bool,
     gave_up: bool,
@@ -34,6 +36,7 @@ impl<R: Wait + Clock + Drop> Holding<R> {
         Holding {
             rt,
             seen: Mutex::new(Seen {
+                passes: 0,
                 commanded: false,
                 answered: false,
                 gave_up: false,
@@ -42,10 +45,16 @@ impl<R: Wait + Clock + Drop> Holding<R> {
         }
     }
 
-    /// Call 1 was held, and let go in time.
+    /// Call 1 was held, and let go in time; the gate was told of that command and of one answer, and of nothing that was
+    /// refused.
     fn is_good(&self) -> bool {
         let seen = self.seen.lock(&self.rt);
-        seen.commanded && seen.answered && !seen.gave_up
+        seen.passes == 2 && seen.commanded && seen.answered && !seen.gave_up
+    }
+
+    fn count(&self) {
+        let mut seen = self.seen.lock(&self.rt);
+        seen.passes = seen.passes.saturating_add(1);
     }
 
     fn hold(&self) {
@@ -71,6 +80,7 @@ impl<R: Wait + Clock + Drop> Holding<R> {
 
 impl<R: Wait + Clock + Drop> Gate for Holding<R> {
     fn pass(&self, call: u16, point: Point) {
+        self.count();
         match point {
             Point::Commanded => {
                 if call == 1 {
@@ -86,45 +96,87 @@ impl<R: Wait + Clock + Drop> Gate for Holding<R> {
     }
 }
 
-/// Two calls are opened and confirmed, and call 1 is to be handed over to the other cell.
+/// Two calls are opened and confirmed, and call 1 is to be handed over to the other cell. Call 2 has no attempt that could
+/// be taken back.
 const BEFORE: &str = "open 1 0 0 3
 abis 0 0 0822010b081234
 open 2 0 0 2
 abis 0 0 0822010a081234
+undo 2
 handover 1 1";
 
-/// The other cell has the channel of call 1 active; call 2 is to go to another controller, and stays.
-const BESIDE: &str = "abis 1 1 0822010b080000
-handover 2 64
+/// The other cell has the channel of call 1 active.
+const ACTIVE: &str = "abis 1 1 0822010b080000";
+
+/// What waits for the worker of call 1 meanwhile: as many inputs as its inbox has room for.
+const WAITING: usize = 64;
+
+/// Call 2 is to go to another controller, and stays.
+const BESIDE: &str = "handover 2 64
 undo 2";
 
-/// Every input was handled, and each worker had its calls.
-fn is_done<R: Wait + Abort + Drop>(rt: &R, left: &Left<R, Global>) {
-    assert!(rt; left.workers.len() == 2 && left.front.len() == 3);
-    for worker in &left.workers {
-        assert!(rt; worker.taken.len() == 4 && worker.given.len() == 4);
-        for turn in &worker.taken {
-            assert!(rt; turn.ok);
-        }
-    }
+/// Every input was handled: so many.
+fn is_done<R: Wait + Abort + Drop>(
+    rt: &R,
+    left: &Left<R, Global>,
+    worker: usize,
+    count: usize,
+) -> Result<(), Fail> {
+    let worker = left.workers.get(worker).ok_or("no worker")?;
+    assert!(rt; worker.taken.len() == count && worker.given.len() == count);
+    are_ok(rt, &worker.taken);
+    Ok(())
 }
 
-fn run_beside<R: Threads + Wait + Clock + Abort + Clone + Drop + Send + Sync + 'static>(
+/// Each worker had its call.
+fn are_done<R: Wait + Abort + Drop>(rt: &R, left: &Left<R, Global>) -> Result<(), Fail> {
+    assert!(rt; left.front.len() == 3);
+    is_done(rt, left, 0, 5)?;
+    is_done(rt, left, 1, WAITING.saturating_add(4))
+}
+
+/// Call 1 is held, and an inbox filled, before call 2 goes on.
+fn give_beside<R: Threads + Wait + Abort + AllocGlobal + Drop>(
     rt: &R,
-    alloc: Global,
-) -> Result<(), Fail> {
-    let taken = Arc::new(alloc, Taken::new())?;
-    let gate = Arc::new(alloc, Holding::new(rt.clone()?))?;
-    let desk = empty_desk(alloc, alloc, THREE_CHANNELS)?;
-    let mut hall = opened(rt, alloc, desk, Arc::try_clone(&gate)?, &taken, 2)?;
-    give_each(rt, &mut hall, &taken, inputs_of(rt, alloc, BEFORE)?);
-    give_all(rt, &mut hall, inputs_of(rt, alloc, BESIDE)?);
-    is_done(rt, &hall.close()?);
-    assert!(rt; gate.is_good());
-    Ok(())
+    hall: &mut Hall<R, Global>,
+    taken: &Taken,
+) {
+    give_each(rt, hall, taken, BEFORE);
+    give_all(rt, hall, ACTIVE);
+    for _ in 0..WAITING {
+        give_all(rt, hall, "expire 1 T8");
+    }
+    give_all(rt, hall, BESIDE);
+}
+
+/// Two calls, the first of which is held.
+struct Beside;
+
+impl Course for Beside {
+    fn give<R: Threads + Wait + Abort + AllocGlobal + Drop>(
+        &self,
+        rt: &R,
+        hall: &mut Hall<R, Global>,
+        taken: &Taken,
+    ) {
+        give_beside(rt, hall, taken);
+    }
+
+    fn see<R: Wait + Abort + AllocGlobal + Drop>(
+        &self,
+        rt: &R,
+        left: &Left<R, Global>,
+    ) -> Result<(), Fail> {
+        are_done(rt, left)
+    }
 }
 
 #[test]
 fn a_call_waits_for_another_workers_call(rt: HostRuntime) -> Result<(), Fail> {
-    run_beside(&rt, rt.alloc())
+    let gate = Arc::new(rt.alloc(), Holding::new(rt.clone()?))?;
+    let held = Arc::try_clone(&gate)?;
+    let desk = empty_desk(rt.alloc(), rt.alloc(), THREE_CHANNELS)?;
+    at_a_desk(&rt, desk, held, 2, &Beside)?;
+    assert!(rt; gate.is_good());
+    Ok(())
 }

@@ -5,7 +5,7 @@ use radio_book::event::{Event, Reply};
 use radio_desk::desk::Desk;
 use radio_desk::seat::{Receipt, Seat};
 use sample_sites::{HOME, OTHER, THREE_CHANNELS};
-use std::alloc::Global;
+use std::alloc::{AllocError, Global};
 use std::process::Abort;
 use std::test::Fail;
 
@@ -24,80 +24,99 @@ fn ask_all(alloc: Global, desk: &mut Desk<Global>, events: &[Event]) -> Result<V
     Ok(receipts)
 }
 
-/// The answer about two lists, in which the last receipt of the second is changed: to these.
-fn answer_with(
+/// Two lists.
+fn both(
+    alloc: Global,
+    first: &[Receipt],
+    second: &[Receipt],
+) -> Result<Vec<Vec<Receipt>>, AllocError> {
+    let mut lists = Vec::new(alloc);
+    lists.push(Vec::from_slice(alloc, first)?)?;
+    lists.push(Vec::from_slice(alloc, second)?)?;
+    Ok(lists)
+}
+
+/// The answer about the receipts of two callers.
+fn answer(
     alloc: Global,
     desk: &Desk<Global>,
     first: &[Receipt],
     second: &[Receipt],
-    last: &[Receipt],
-) -> Result<Result<(), CloseFault>, Fail> {
-    let mut lists = Vec::new(alloc);
-    lists.push(Vec::from_slice(alloc, first)?)?;
-    let mut changed = Vec::from_slice(alloc, second)?;
-    changed.pop();
-    changed.extend_from_slice(last)?;
-    lists.push(changed)?;
+) -> Result<Result<(), CloseFault>, AllocError> {
+    let lists = both(alloc, first, second)?;
     Ok(gather(alloc, desk, &lists))
 }
 
-/// The place of the receipt that isn't an entry.
-fn missing(answer: Result<(), CloseFault>) -> Option<usize> {
+/// What is said of receipts, without the receipt that isn't an entry.
+#[derive(Clone, Copy, Debug, PartialEq, Eq)]
+enum Said {
+    Whole,
+    Missing(usize),
+    Twice(usize),
+    Count,
+    Other,
+}
+
+fn said_by(answer: Result<(), CloseFault>) -> Said {
     match answer {
-        Err(CloseFault::Missing(receipt)) => Some(receipt.place),
-        Err(CloseFault::Twice(_) | CloseFault::Count | CloseFault::Opening | CloseFault::NoMemory)
-        | Ok(()) => None,
+        Ok(()) => Said::Whole,
+        Err(CloseFault::Missing(receipt)) => Said::Missing(receipt.place),
+        Err(CloseFault::Twice(place)) => Said::Twice(place),
+        Err(CloseFault::Count) => Said::Count,
+        Err(CloseFault::Opening | CloseFault::NoMemory) => Said::Other,
     }
 }
 
-/// The last receipt with another reply, and with another event.
-fn are_missing(
-    rt: &impl Abort,
-    alloc: Global,
+/// This is said of the receipts of two callers.
+fn is_said(
+    rt: &(impl AllocGlobal + Abort),
     desk: &Desk<Global>,
     first: &[Receipt],
     second: &[Receipt],
-    last: Receipt,
+    wanted: Said,
 ) -> Result<(), Fail> {
+    let said = said_by(answer(rt.alloc(), desk, first, second)?);
+    assert!(rt; said == wanted, "{said:?}");
+    Ok(())
+}
+
+/// The lists as they are; the last receipt repeated, and left out; and it with another reply, and with another event.
+fn are_compared(
+    rt: &(impl AllocGlobal + Abort),
+    desk: &Desk<Global>,
+    first: &[Receipt],
+    second: &[Receipt],
+) -> Result<(), Fail> {
+    let [one, last] = second else {
+        return Err(Fail::from("two receipts"));
+    };
+    let (one, last) = (*one, *last);
     let replied = Receipt {
         reply: Reply::Done,
         ..last
     };
-    let answer = answer_with(alloc, desk, first, second, &[replied])?;
-    assert!(rt; missing(answer) == Some(3));
     let asked = Receipt {
         event: Event::Look(1),
         ..last
     };
-    let answer = answer_with(alloc, desk, first, second, &[last, asked])?;
-    assert!(rt; missing(answer) == Some(3));
-    Ok(())
+    is_said(rt, desk, first, &[one, last], Said::Whole)?;
+    is_said(rt, desk, first, &[one, last, last], Said::Twice(3))?;
+    is_said(rt, desk, first, &[one], Said::Count)?;
+    is_said(rt, desk, first, &[one, replied], Said::Missing(3))?;
+    is_said(rt, desk, first, &[one, last, asked], Said::Missing(3))
 }
 
-/// The lists as they are; the last receipt repeated, and left out.
-fn are_counted(
-    rt: &impl Abort,
-    alloc: Global,
-    desk: &Desk<Global>,
-    first: &[Receipt],
-    second: &[Receipt],
-    last: Receipt,
-) -> Result<(), Fail> {
-    let answer = answer_with(alloc, desk, first, second, &[last])?;
-    assert!(rt; answer.is_ok());
-    let answer = answer_with(alloc, desk, first, second, &[last, last])?;
-    assert!(rt; matches!(answer, Err(CloseFault::Twice(3))));
-    let answer = answer_with(alloc, desk, first, second, &[])?;
-    assert!(rt; matches!(answer, Err(CloseFault::Count)));
-    Ok(())
+/// Two callers ask in turns, and their receipts are compared with the history.
+fn plays(rt: &(impl AllocGlobal + Abort), desk: &mut Desk<Global>) -> Result<(), Fail> {
+    let first = ask_all(rt.alloc(), desk, FIRST)?;
+    let second = ask_all(rt.alloc(), desk, SECOND)?;
+    are_compared(rt, desk, &first, &second)
 }
 
 #[test]
 fn receipts_are_compared_with_a_history(rt: HostRuntime) -> Result<(), Fail> {
-    let mut desk = empty_desk(rt.alloc(), rt.alloc(), THREE_CHANNELS)?;
-    let first = ask_all(rt.alloc(), &mut desk, FIRST)?;
-    let second = ask_all(rt.alloc(), &mut desk, SECOND)?;
-    let last = *second.last().ok_or("no receipt")?;
-    are_counted(&rt, rt.alloc(), &desk, &first, &second, last)?;
-    are_missing(&rt, rt.alloc(), &desk, &first, &second, last)
+    plays(
+        &rt,
+        &mut empty_desk(rt.alloc(), rt.alloc(), THREE_CHANNELS)?,
+    )
 }

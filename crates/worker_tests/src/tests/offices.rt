@@ -2,7 +2,7 @@
 ghost use Rattle.std.specs.Prelude.{◌≡◌, ◌<◌, ◌≤◌, [], All, IfOk, vec_len};
 
 use crate::bag::{Bag, Taken, bags};
-use call_worker::{Closed, Gate, Office, Point, StartFault};
+use call_worker::{Closed, Gate, Office, Point, StartFault, Turn};
 use cell_table::Site;
 use ho_procedure::exchange::{Inbound, Outbound};
 use lab_script::script::{Given, Item, read_script};
@@ -107,39 +107,123 @@ pub fn inputs_of<A: Allocator + Copy>(
     rt: &impl Abort,
     alloc: A,
     lines: &str,
-) -> Result<Vec<Inbound<A>, A>, Fail> {
+) -> Vec<Inbound<A>, A> {
     let mut inputs = Vec::new(alloc);
     for line in lines.lines() {
-        inputs.push(input_of(rt, alloc, line))?;
+        let is_kept = inputs.push(input_of(rt, alloc, line)).is_ok();
+        assert!(rt; is_kept);
     }
-    Ok(inputs)
+    inputs
 }
 
-/// Gives all inputs, none of which is refused, without waiting.
-pub fn give_all<R: Threads + Wait + Abort + Drop, A: Allocator + Copy>(
+/// Gives an input, which isn't refused.
+pub fn give_one<R: Threads + Wait + Abort + Drop, A: Allocator + Copy>(
     rt: &R,
     hall: &mut Hall<R, A>,
-    inputs: Vec<Inbound<A>, A>,
+    input: Inbound<A>,
 ) {
-    for input in inputs {
-        let is_given = hall.give(input).is_ok();
-        assert!(rt; is_given);
+    let is_given = hall.give(input).is_ok();
+    assert!(rt; is_given);
+}
+
+/// Gives the inputs of these lines, none of which is refused, without waiting.
+pub fn give_all<R: Threads + Wait + Abort + AllocGlobal + Drop>(
+    rt: &R,
+    hall: &mut Hall<R, Global>,
+    lines: &str,
+) {
+    for line in lines.lines() {
+        give_one(rt, hall, input_of(rt, rt.alloc(), line));
     }
 }
 
 /// The same, but each is taken before the next is given. Nothing was given before them.
-pub fn give_each<R: Threads + Wait + Abort + Drop, A: Allocator + Copy>(
+pub fn give_each<R: Threads + Wait + Abort + AllocGlobal + Drop>(
     rt: &R,
-    hall: &mut Hall<R, A>,
+    hall: &mut Hall<R, Global>,
     taken: &Taken,
-    inputs: Vec<Inbound<A>, A>,
+    lines: &str,
 ) {
     let mut count = 0u64;
-    for input in inputs {
-        let is_given = hall.give(input).is_ok();
-        assert!(rt; is_given);
+    for line in lines.lines() {
+        give_one(rt, hall, input_of(rt, rt.alloc(), line));
         count = count.saturating_add(1);
         taken.wait_for(rt, count);
+    }
+}
+
+/// What a test gives an office, and looks at once it has closed.
+pub trait Course {
+    /// Gives the office its inputs. Nothing was given before them.
+    fn give<R: Threads + Wait + Abort + AllocGlobal + Drop>(
+        &self,
+        rt: &R,
+        hall: &mut Hall<R, Global>,
+        taken: &Taken,
+    );
+
+    /// Looks at what it leaves.
+    fn see<R: Wait + Abort + AllocGlobal + Drop>(
+        &self,
+        rt: &R,
+        left: &Left<R, Global>,
+    ) -> Result<(), Fail>;
+}
+
+/// Closes an office, and looks at what it leaves.
+fn closes<R: Threads + Wait + Abort + AllocGlobal + Drop, C: Course>(
+    rt: &R,
+    hall: Hall<R, Global>,
+    course: &C,
+) -> Result<(), Fail> {
+    let left = hall.close()?;
+    course.see(rt, &left)
+}
+
+/// Gives an office its inputs, closes it, and looks at what it leaves.
+fn plays<R: Threads + Wait + Abort + AllocGlobal + Drop, C: Course>(
+    rt: &R,
+    mut hall: Hall<R, Global>,
+    taken: &Taken,
+    course: &C,
+) -> Result<(), Fail> {
+    course.give(rt, &mut hall, taken);
+    closes(rt, hall, course)
+}
+
+/// Starts an office of so many workers at a desk at which nothing was asked, gives it its inputs, closes it, and looks at what
+/// it leaves. It is owned here alone: each function that owns one is dear to prove.
+pub fn at_a_desk<
+    R: Threads + Wait + Abort + AllocGlobal + Clone + Drop + Send + 'static,
+    G: Gate + Drop + Send + Sync + 'static,
+    C: Course,
+>(rt: &R, desk: Desk<Global>, gate: Arc<G, Global>, workers: usize, course: &C) -> Result<(), Fail>
+    requires some { 0 < workers }
+    requires most { workers ≤ 16 }
+    requires empty { desk.history ≡ [] }
+{
+    let taken = Arc::new(rt.alloc(), Taken::new())?;
+    let hall = opened(rt, rt.alloc(), desk, gate, &taken, workers)?;
+    plays(rt, hall, &taken, course)
+}
+
+/// The same over the empty book of a site, with a gate that holds nothing.
+pub fn at_an_office<
+    R: Threads + Wait + Abort + AllocGlobal + Clone + Drop + Send + 'static,
+    C: Course,
+>(rt: &R, site: &str, workers: usize, course: &C) -> Result<(), Fail>
+    requires some { 0 < workers }
+    requires most { workers ≤ 16 }
+{
+    let gate = Arc::new(rt.alloc(), Ajar)?;
+    let desk = empty_desk(rt.alloc(), rt.alloc(), site)?;
+    at_a_desk(rt, desk, gate, workers, course)
+}
+
+/// Each input was handled to its end.
+pub fn are_ok(rt: &impl Abort, taken: &[Turn<Global>]) {
+    for turn in taken {
+        assert!(rt; turn.ok);
     }
 }
 

@@ -1,18 +1,18 @@
 //! One worker, and a controller that asks a desk of its own, handle the same inputs.
 use super::offices::{
-    Ajar, Left, empty_desk, give_all, inputs_of, opened, sent_lines, shared_site,
+    Course, Hall, Left, at_an_office, empty_desk, give_all, inputs_of, sent_lines, shared_site,
 };
 use crate::bag::Taken;
 use ho_procedure::controller::Controller;
 use ho_procedure::exchange::{Inbound, Outbound};
 use ho_procedure::solo::Solo;
-use radio_book::event::Event;
+use radio_book::event::{Event, Reply};
 use radio_desk::desk::Desk;
 use radio_desk::seat::Receipt;
 use sample_sites::THREE_CHANNELS;
 use std::alloc::{AllocError, Global};
 use std::process::Abort;
-use std::sync::{Arc, Wait};
+use std::sync::Wait;
 use std::test::Fail;
 use std::thread::Threads;
 
@@ -38,6 +38,13 @@ a 1 000420040109";
 /// A controller that asks a desk of its own.
 type Radio = Controller<Solo<Global>, Global>;
 
+/// What it leaves: its desk's history, and what it sent.
+#[derive(Drop)]
+struct Alone {
+    entries: Vec<(Event, Reply)>,
+    sent: String,
+}
+
 /// Appends messages.
 fn push_all(
     sent: &mut Vec<Outbound<Global>, Global>,
@@ -49,86 +56,124 @@ fn push_all(
     Ok(())
 }
 
-/// A controller handles the inputs: the messages that it sends.
-fn handle_all(
-    alloc: Global,
+/// A controller handles an input. What it can't read it passes over.
+fn handle_one(
     radio: &mut Radio,
-    inputs: Vec<Inbound<Global>, Global>,
-) -> Result<Vec<Outbound<Global>, Global>, AllocError> {
-    let mut sent = Vec::new(alloc);
-    for input in inputs {
-        if let Ok(out) = radio.handle(input) {
-            push_all(&mut sent, out)?;
-        }
+    input: Inbound<Global>,
+    sent: &mut Vec<Outbound<Global>, Global>,
+) -> Result<(), AllocError> {
+    match radio.handle(input) {
+        Ok(out) => push_all(sent, out),
+        Err(_) => Ok(()),
     }
-    Ok(sent)
 }
 
-/// The receipts are the history of a desk that nobody else asked.
-fn are_entries(rt: &impl Abort, receipts: &[Receipt], desk: &Desk<Global>) {
-    assert!(rt; receipts.len() == desk.len());
-    for (place, receipt) in receipts.iter().enumerate() {
-        let entry = desk.entry(place).copied();
-        assert!(rt; entry == Some((receipt.event, receipt.reply)), "{place}");
+/// It handles these inputs, and appends what it sends.
+fn handle_all(
+    radio: &mut Radio,
+    inputs: Vec<Inbound<Global>, Global>,
+    sent: &mut Vec<Outbound<Global>, Global>,
+) -> Result<(), AllocError> {
+    for input in inputs {
+        handle_one(radio, input, sent)?;
+    }
+    Ok(())
+}
+
+/// The entries of a desk's history.
+fn entries_of(alloc: Global, desk: &Desk<Global>) -> Result<Vec<(Event, Reply)>, AllocError> {
+    let mut entries = Vec::new(alloc);
+    for place in 0..desk.len() {
+        if let Some(entry) = desk.entry(place) {
+            entries.push(*entry)?;
+        }
+    }
+    Ok(entries)
+}
+
+/// A controller handles the inputs, and sends these lines.
+fn lines_by(rt: &impl Abort, alloc: Global, radio: &mut Radio) -> Result<String, Fail> {
+    let mut sent = Vec::new(alloc);
+    handle_all(radio, inputs_of(rt, alloc, INPUTS), &mut sent)?;
+    sent_lines(alloc, &sent)
+}
+
+fn left_by(rt: &impl Abort, alloc: Global, radio: &mut Radio) -> Result<Alone, Fail> {
+    let sent = lines_by(rt, alloc, radio)?;
+    Ok(Alone {
+        entries: entries_of(alloc, radio.view().desk())?,
+        sent,
+    })
+}
+
+/// What a controller leaves that handles the inputs alone.
+fn left_alone(rt: &impl Abort, alloc: Global) -> Result<Alone, Fail> {
+    let site = shared_site(alloc, alloc, THREE_CHANNELS)?;
+    let desk = empty_desk(alloc, alloc, THREE_CHANNELS)?;
+    left_by(
+        rt,
+        alloc,
+        &mut Controller::new(alloc, Solo::new(desk), site),
+    )
+}
+
+/// The receipts are these entries, one for each, in their order.
+fn are_entries(rt: &impl Abort, receipts: &[Receipt], entries: &[(Event, Reply)]) {
+    assert!(rt; receipts.len() == entries.len());
+    for (receipt, (event, reply)) in receipts.iter().zip(entries) {
+        assert!(rt; receipt.event == *event && receipt.reply == *reply);
     }
 }
 
 /// All that the office asked is whose a channel is.
 fn are_owners(rt: &impl Abort, front: &[Receipt]) {
+    assert!(rt; front.len() == 6);
     for receipt in front {
         assert!(rt; matches!(receipt.event, Event::Owner(_)));
     }
 }
 
 /// A worker got what the controller's desk says, and sent what the controller sent.
-fn is_same<R: Wait + Abort + Drop>(
+fn is_same<R: Wait + Abort + AllocGlobal + Drop>(
     rt: &R,
-    scratch: Global,
     left: &Left<R, Global>,
-    desk: &Desk<Global>,
-    sent: &str,
+    alone: &Alone,
 ) -> Result<(), Fail> {
     let worker = left.workers.first().ok_or("no worker")?;
-    are_entries(rt, &worker.receipts, desk);
+    are_entries(rt, &worker.receipts, &alone.entries);
     are_owners(rt, &left.front);
-    assert!(rt; left.front.len() == 6);
-    let passed = sent_lines(scratch, &worker.links.sent)?;
-    assert!(rt; passed.as_str() == sent, "{passed}");
+    let sent = sent_lines(rt.alloc(), &worker.links.sent)?;
+    assert!(rt; sent.as_str() == alone.sent.as_str(), "{sent}");
     Ok(())
 }
 
-/// What one worker leaves.
-fn left_by_one<R: Threads + Wait + Abort + Clone + Drop + Send + 'static>(
-    rt: &R,
-    alloc: Global,
-) -> Result<Left<R, Global>, Fail> {
-    let taken = Arc::new(alloc, Taken::new())?;
-    let gate = Arc::new(alloc, Ajar)?;
-    let desk = empty_desk(alloc, alloc, THREE_CHANNELS)?;
-    let mut hall = opened(rt, alloc, desk, gate, &taken, 1)?;
-    give_all(rt, &mut hall, inputs_of(rt, alloc, INPUTS)?);
-    Ok(hall.close()?)
+/// One worker handles the inputs, as a controller did.
+#[derive(Drop)]
+struct Together {
+    alone: Alone,
 }
 
-fn run_together<R: Threads + Wait + Abort + Clone + Drop + Send + 'static>(
-    rt: &R,
-    alloc: Global,
-) -> Result<(), Fail> {
-    let desk = empty_desk(alloc, alloc, THREE_CHANNELS)?;
-    let site = shared_site(alloc, alloc, THREE_CHANNELS)?;
-    let mut radio = Controller::new(alloc, Solo::new(desk), site);
-    let sent = handle_all(alloc, &mut radio, inputs_of(rt, alloc, INPUTS)?)?;
-    let lines = sent_lines(alloc, &sent)?;
-    is_same(
-        rt,
-        alloc,
-        &left_by_one(rt, alloc)?,
-        radio.view().desk(),
-        &lines,
-    )
+impl Course for Together {
+    fn give<R: Threads + Wait + Abort + AllocGlobal + Drop>(
+        &self,
+        rt: &R,
+        hall: &mut Hall<R, Global>,
+        _taken: &Taken,
+    ) {
+        give_all(rt, hall, INPUTS);
+    }
+
+    fn see<R: Wait + Abort + AllocGlobal + Drop>(
+        &self,
+        rt: &R,
+        left: &Left<R, Global>,
+    ) -> Result<(), Fail> {
+        is_same(rt, left, &self.alone)
+    }
 }
 
 #[test]
 fn one_worker_does_what_a_controller_does(rt: HostRuntime) -> Result<(), Fail> {
-    run_together(&rt, rt.alloc())
+    let alone = left_alone(&rt, rt.alloc())?;
+    at_an_office(&rt, THREE_CHANNELS, 1, &Together { alone })
 }
