@@ -32,7 +32,9 @@ def unit_in(identity):
     while len(rest) >= 3:
         length = int.from_bytes(rest[:2], "big")
         if length >= 1 and rest[2] == UNIT:
-            return rest[3 : 2 + length].split(b"\0")[0].decode("ascii", "replace")
+            text = rest[3 : 2 + length].split(b"\0")[0].decode("ascii", "replace")
+            # it is shown to operators, whose lines and terminals it isn't to change
+            return "".join(it if it.isprintable() else "?" for it in text)
         rest = rest[2 + length :]
     return None
 

@@ -138,11 +138,18 @@ class Relay:
         text, self.asker = self.given.popleft()
         if line.startswith(b"in "):
             if self.log:
-                self.log.write(text + b"\n")
-                self.log.flush()
+                self.write_log(text)
         else:
             self.unread += 1
             say(f"the controller can't read: {text[:100].decode(errors='replace')}")
+
+    def write_log(self, text):
+        """Writes a line to the log; none any more once that fails."""
+        try:
+            self.log.write(text + b"\n")
+        except OSError as error:
+            say(f"the log can't be written, and ends here: {error}")
+            self.log = None
 
     def arm(self, event, call, reply):
         """Arms or ends the timer of a call, by an event that wasn't refused."""
@@ -280,6 +287,7 @@ class Link:
         self.close_link = close
         self.frames = ipa.Frames()
         self.station = None
+        self.is_closed = False
         self.patience = relay.seconds["patience"]
 
     def begin(self):
@@ -288,7 +296,8 @@ class Link:
         self.send(ipa.OWN, ipa.identity_request())
 
     def close(self):
-        """Closes it."""
+        """Closes it. What it sent behind that isn't heard."""
+        self.is_closed = True
         self.close_link(self)
 
     def send(self, stream, message):
@@ -297,14 +306,19 @@ class Link:
 
     def heard(self, octets):
         """Takes octets that came."""
-        for stream, message in self.frames.add(octets):
+        frames = self.frames.add(octets)
+        if frames and self.station:
+            self.relay.times.forget(("link", id(self)))
+        for stream, message in frames:
+            if self.is_closed:
+                return
             if stream == ipa.OWN:
                 self.hear_own(message)
             elif self.station:
                 self.relay.receive(self.station, stream, message)
             else:
                 say(f"{self.peer}: a message before it said who it is: {message[:20].hex()}")
-        if self.station:
+        if self.station and not self.is_closed:
             self.watch_frame()
 
     def watch_frame(self):
@@ -338,7 +352,10 @@ class Link:
             self.send(ipa.OWN, ipa.ACKNOWLEDGEMENT)
 
     def lose_patience(self):
-        """The other side took too long."""
+        """The other side took too long; where nothing was read from it meanwhile, it has as long again."""
+        if self.stream.is_paused:
+            self.relay.times.set(("link", id(self)), self.patience, self.lose_patience)
+            return
         if self.station:
             say(f"{self.station}: a frame isn't whole after {self.patience:g} seconds, the link is closed")
         else:

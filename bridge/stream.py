@@ -52,12 +52,13 @@ class Times:
 class Stream:
     """A socket or a pipe, of which octets are read as they come, and to which octets are written as it takes them."""
 
-    def __init__(self, selector, reads=None, writes=None, heard=None, ended=None):
+    def __init__(self, selector, reads=None, writes=None, heard=None, ended=None, unread=None):
         """`reads` and `writes` are file descriptors, the same one for a socket. `heard` is told octets that came, `ended`
-        that no more will, or that nothing can be written any more."""
+        that no more will, or that nothing can be written any more. Where there is `unread`, it is told the latter in place
+        of `ended`, what comes is still read, and any number of octets may wait."""
         self.selector = selector
         self.reads, self.writes = reads, writes
-        self.heard, self.ended = heard, ended
+        self.heard, self.ended, self.unread = heard, ended, unread
         self.waiting = bytearray()
         self.is_paused = False
         self.is_last = False
@@ -89,7 +90,7 @@ class Stream:
         """Reads or writes, where the selector says that this can be done."""
         if mask & selectors.EVENT_WRITE and self.writes is not None:
             self.flush()
-        if mask & selectors.EVENT_READ and self.reads is not None:
+        if mask & selectors.EVENT_READ and self.reads is not None and not self.is_paused:
             self.read()
 
     def read(self):
@@ -110,7 +111,7 @@ class Stream:
         if self.writes is None:
             return
         self.waiting += octets
-        if len(self.waiting) > MOST_WAITING:
+        if len(self.waiting) > MOST_WAITING and not self.unread:
             self.ended()
         else:
             self.flush()
@@ -123,7 +124,12 @@ class Stream:
         except BlockingIOError:
             pass
         except OSError:
-            self.ended()
+            if self.unread:
+                self.waiting.clear()
+                self.shut()
+                self.unread()
+            else:
+                self.ended()
             return
         if not self.waiting and self.is_last:
             self.shut()
