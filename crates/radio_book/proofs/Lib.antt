@@ -32,6 +32,14 @@ pub mod OpenPhase
 pub mod OffPhase
 pub mod Answered
 pub mod NoTrace
+pub mod Refusing
+pub mod UndoShown
 pub mod UndoneFacts
-pub mod Stretches
 pub mod FoundFacts
+pub mod FollowFacts
+pub mod RemainderFacts
+pub mod Passing
+pub mod Standing
+pub mod Remaining
+pub mod Together
+pub mod AllSettled

@@ -64,14 +64,14 @@ left_cases (On c) = inr refl
 left_cases Off = inr refl
 
 -- after the undo nothing is left of the attempt, or its target alone, which is off
-abbrev IsOver : Option ChanId → State → State → Type 0
+abbrev pub IsOver : Option ChanId → State → State → Type 0
 IsOver target b without = (is_target_off b target ≡ false) × (without ≡ b)
 
-abbrev IsAwaited : Option ChanId → State → State → Type 0
+abbrev pub IsAwaited : Option ChanId → State → State → Type 0
 IsAwaited target b without = (t : ChanId) × (target ≡ Some t) × (state_of b t ≡ Off) × (without ≡ apply (without_channel (Some t)) b)
 
 module _ (c : ℕ) (target : Option ChanId) (number : Option ℕ) (b : State) (opened : IsOpen c target number b) (why : Why) (accepted : IsTrue (is_accepted (reply_to b (event.Undo c why)))) where
-  abbrev after : State
+  abbrev pub after : State
   after = step b (event.Undo c why)
 
   taken_back : after ≡ undone c opened.call_record opened.attempt b opened.of_call opened.of_record
@@ -84,7 +84,7 @@ module _ (c : ℕ) (target : Option ChanId) (number : Option ℕ) (b : State) (o
       ∙ (λ i. apply (without_channel (opened.aims i)) (sym taken_back i))
 
   -- the entry of the target
-  left : (t : ChanId) → target ≡ Some t → map.get after.channels t ≡ left_state (state_of b t)
+  pub left : (t : ChanId) → target ≡ Some t → map.get after.channels t ≡ left_state (state_of b t)
   left t aims =
       ap (λ v. map.get v.channels t) taken_back
       ∙ ap (λ o. map.get (apply (record (undo_change c opened.call_record opened.attempt (state_of b) (map.get b.timers c)) { channel = option_map (λ (x : ChanId). (x, left_state (state_of b x))) o }) b).channels t) (opened.aims ∙ aims)
@@ -101,7 +101,7 @@ module _ (c : ℕ) (target : Option ChanId) (number : Option ℕ) (b : State) (o
     | inr off ↦ inr (t, aims, ap or_free (left t aims ∙ off), but_target ∙ ap (λ o. apply (without_channel o) after) aims)
   ]
 
-after_undo : (c : ℕ) (target : Option ChanId) (number : Option ℕ) (b : State) → IsOpen c target number b → (e : Event) → Undoes c e → IsTrue (is_accepted (reply_to b e)) →
+pub after_undo : (c : ℕ) (target : Option ChanId) (number : Option ℕ) (b : State) → IsOpen c target number b → (e : Event) → Undoes c e → IsTrue (is_accepted (reply_to b e)) →
     IsOver target (step b e) (without_attempt_of c b) ⊎ IsAwaited target (step b e) (without_attempt_of c b)
 after_undo c target number b opened e (why, same) =
     subst (λ e. IsTrue (is_accepted (reply_to b e)) → IsOver target (step b e) (without_attempt_of c b) ⊎ IsAwaited target (step b e) (without_attempt_of c b)) (sym same)

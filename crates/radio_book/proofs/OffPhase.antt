@@ -20,12 +20,12 @@ use Rattle.radio_book.proofs.SoundSteps.{sound_step}
 use Rattle.radio_book.proofs.StepFacts.{Runs, none_found, tested_channel, same_channel, release_of, for_no_channel}
 
 module _ (t : ChanId) where
-  abbrev without : State → State
+  abbrev pub without : State → State
   without b = apply (without_channel (Some t)) b
 
   -- a station's event on the target is refused, or is the release
   module _ (b : State) (off : state_of b t ≡ Off) where
-    refused_or_released : (e : Event) → channel_of e ≡ Some t → (released_by e ≡ Some t → ⊥) → step b e ≡ b
+    pub refused_or_released : (e : Event) → channel_of e ≡ Some t → (released_by e ≡ Some t → ⊥) → step b e ≡ b
     refused_or_released (event.Open d x) on other = cc
     refused_or_released (event.Clear d) on other = cc
     refused_or_released (event.Look d) on other = cc
@@ -44,7 +44,7 @@ module _ (t : ChanId) where
     refused_or_released (event.Order d) on other = cc
     refused_or_released (event.Left d) on other = cc
 
-    freed : step b (event.Released t) ≡ without b
+    pub freed : step b (event.Released t) ≡ without b
     freed = ap (λ s. book_after (released_row t s) b) off
 
   abbrev is_release : StepAt → Bool

@@ -28,12 +28,12 @@ without_is c r a b is has = ap (λ f. without_attempt_in c f b) is ∙ ap (λ o.
 
 module _ (c : ℕ) (target : Option ChanId) where
   -- a step of others: it leads alike with the attempt and without it, is answered alike, and the attempt stays open
-  record Alike (number : Option ℕ) (b : State) (e : Event) : Type 0 where
-    book : without_attempt_of c (step b e) ≡ step (without_attempt_of c b) e
-    reply : reply_to b e ≡ reply_to (without_attempt_of c b) e
-    opened : IsOpen c target number (step b e)
+  pub record Alike (number : Option ℕ) (b : State) (e : Event) : Type 0 where
+    pub book : without_attempt_of c (step b e) ≡ step (without_attempt_of c b) e
+    pub reply : reply_to b e ≡ reply_to (without_attempt_of c b) e
+    pub opened : IsOpen c target number (step b e)
 
-  other_alike : (number : Option ℕ) (b : State) (e : Event) → IsSound b → IsOpen c target number b →
+  pub other_alike : (number : Option ℕ) (b : State) (e : Event) → IsSound b → IsOpen c target number b →
       (call_of e ≡ Some c → ⊥) → ((t : ChanId) → target ≡ Some t → LeavesAlone t b e) → (IsHeldReference (reference_held target number) (reply_to b e) → ⊥) → Alike number b e
   other_alike number b e sound opened by alone free =
       let r = opened.call_record in
@@ -56,14 +56,14 @@ module _ (c : ℕ) (target : Option ChanId) where
   abbrev pub is_kept : StepAt → Bool
   is_kept s = not (is_by_call c s) && not (is_on_target target s)
 
-  kept_is_other : (s : StepAt) → is_kept s ≡ true → (call_of s.event ≡ Some c → ⊥) × ((t : ChanId) → target ≡ Some t → channel_of s.event ≡ Some t → ⊥)
+  pub kept_is_other : (s : StepAt) → is_kept s ≡ true → (call_of s.event ≡ Some c → ⊥) × ((t : ChanId) → target ≡ Some t → channel_of s.event ≡ Some t → ⊥)
   kept_is_other s kept =
       let parts = and_parts (not (is_by_call c s)) (not (is_on_target target s)) kept in (
         λ by. let bad : false ≡ true = ap not (sym (same_call c (call_of s.event) by)) ∙ parts.0 in cc,
         λ t aims on. let bad : false ≡ true = ap not (sym (same_channel target (channel_of s.event) t aims on)) ∙ parts.1 in cc,
       )
 
-  left_is_own : (s : StepAt) → is_kept s ≡ false → IsOwn c target s.event
+  pub left_is_own : (s : StepAt) → is_kept s ≡ false → IsOwn c target s.event
   left_is_own s = by (is_by_call c s) (is_on_target target s) refl refl
     where
       by : (p q : Bool) → is_by_call c s ≡ p → is_on_target target s ≡ q → not p && not q ≡ false → IsOwn c target s.event
@@ -72,7 +72,7 @@ module _ (c : ℕ) (target : Option ChanId) where
       by false false test on left = cc
 
   -- an own step reserves the attempt's reference, or none
-  own_reserves : (s : StepAt) → IsOwn c target s.event → reserves c s ≡ false → is_reserved s.event s.reply ≡ false
+  pub own_reserves : (s : StepAt) → IsOwn c target s.event → reserves c s ≡ false → is_reserved s.event s.reply ≡ false
   own_reserves s (inl by) test = sym (ap (λ p. p && is_some (number_of s.event) && is_accepted s.reply) (same_call c (call_of s.event) by)) ∙ test
   own_reserves s (inr on) test = ap (λ o. is_some o && is_accepted s.reply) (station_reserves_none s.event on.0 on.2)
 
@@ -86,7 +86,7 @@ module _ (c : ℕ) (target : Option ChanId) where
   none_left number b b' opened same = record { number = number; opened = subst (IsOpen c target number) (sym same) opened; alike = ap (without_attempt_of c) same }
 
   module _ (number : Option ℕ) (b : State) (s : StepAt) (ss : List StepAt) (b' : State) (sound : IsSound b) (opened : IsOpen c target number b) (answered : s.reply ≡ reply_to b s.event) (goes_on : Ends c s → ⊥) where
-    own_goes : IsOwn c target s.event → GoesOn c target number b s.event
+    pub own_goes : IsOwn c target s.event → GoesOn c target number b s.event
     own_goes own = own_steps_change_the_attempt s.event c target number b sound opened own (λ accepted end. goes_on (subst (λ reply. IsTrue (is_accepted reply)) (sym answered) accepted, end))
 
     -- an own step is left out
@@ -99,7 +99,7 @@ module _ (c : ℕ) (target : Option ChanId) where
     }
 
     -- a step of others that wasn't refused for what the attempt holds
-    kept_alike : is_kept s ≡ true → comes_from target (reference_held target number) (refusal_of s.reply) ≡ false → Alike number b s.event
+    pub kept_alike : is_kept s ≡ true → comes_from target (reference_held target number) (refusal_of s.reply) ≡ false → Alike number b s.event
     kept_alike kept free =
         let other = kept_is_other s kept in
         let free_here : comes_from target (reference_held target number) (refusal_of (reply_to b s.event)) ≡ false
@@ -162,11 +162,11 @@ module _ (c : ℕ) (target : Option ChanId) where
             | false ↦ λ none. refl
           ] refl
 
-  no_reference : (o : Option ChanId) → reference_held o None ≡ None
+  pub no_reference : (o : Option ChanId) → reference_held o None ≡ None
   no_reference None = refl
   no_reference (Some t) = refl
 
-  number_there : (o : Option ℕ) → is_some o ≡ true → (m : ℕ) × (o ≡ Some m)
+  pub number_there : (o : Option ℕ) → is_some o ≡ true → (m : ℕ) × (o ≡ Some m)
   number_there None test = cc
   number_there (Some m) test = (m, refl)
 

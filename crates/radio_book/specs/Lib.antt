@@ -16,3 +16,5 @@ pub mod Kinds
 pub mod Undone
 pub mod NoTrace
 pub mod Found
+pub mod Following
+pub mod Together

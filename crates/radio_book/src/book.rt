@@ -11,13 +11,11 @@ ghost use Rattle.radio_book.specs.declared.event.Event.{Event};
 ghost use Rattle.radio_book.specs.declared.event.Why.{Why};
 ghost use Rattle.radio_book.specs.Journal.{journal_of, run_back};
 ghost use Rattle.radio_book.specs.Table.{step, reply_to, row, NeedsRoom, MayNeedRoom};
-ghost use Rattle.radio_book.specs.Undone.{is_target_off};
 ghost use Rattle.radio_book.specs.Choice.{NoneFree, TakesFree, ReservesFree, free_count};
 
 use crate::book_tables::BookTables;
 use crate::event::{Event, Kind, Reply};
 use cell_table::Site;
-use channel_fsm::ChanId;
 use std::alloc::{AllocError, Allocator, Global};
 use std::marker::Model;
 use std::sync::Arc;
@@ -120,16 +118,6 @@ impl<A: Allocator + Copy> Book<A> {
         ensures { IsSound self.now }
     {
         let _ = &self.tables;
-    }
-
-    /// The channel, if there is one, is off: its release is awaited.
-    pub(crate) fn is_off(&self, target: Option<ChanId>) -> bool
-        ensures { result ≡ is_target_off self.now target }
-    {
-        match target {
-            Some(x) => self.tables.is_off(x),
-            None => false,
-        }
     }
 
     /// Judges one event by the table: its refusal, or what it changes and its answer. A refused event

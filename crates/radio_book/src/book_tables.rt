@@ -6,7 +6,6 @@ ghost use Rattle.radio_book.specs.State.{empty_book, state_of, state_code};
 ghost use Rattle.radio_book.specs.Same.{is_same, is_same-IsEquivalence};
 ghost use Rattle.std.specs.Cmp.{partial_equiv_from_equiv};
 ghost use Rattle.radio_book.specs.Sound.{IsSound};
-ghost use Rattle.radio_book.specs.Undone.{is_off};
 ghost use Rattle.radio_book.specs.Table.{step, reply_to, row, NeedsRoom, MayNeedRoom, record_reply};
 
 mod attempt;
@@ -157,17 +156,6 @@ impl<A: Allocator + Copy> BookTables<A> {
         ensures { result ≡ is_traffic self.now.site x }
     {
         self.site.is_traffic(x)
-    }
-
-    /// The channel is off.
-    pub fn is_off(&self, x: ChanId) -> bool
-        ensures { result ≡ is_off (state_of self.now x) }
-    {
-        match self.state_of(x) {
-            ChanState::Off => true,
-            ChanState::Free | ChanState::Held(_) | ChanState::Pending(_) | ChanState::On(_) =>
-                false,
-        }
     }
 
     fn state_of(&self, x: ChanId) -> ChanState

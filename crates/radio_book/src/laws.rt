@@ -3,6 +3,8 @@ ghost use Rattle.radio_book.specs.Run.{StepsKeepSound, RunsAreSound, LeadsIsRun}
 ghost use Rattle.radio_book.specs.Channels.{ChannelsTakeSteps};
 ghost use Rattle.radio_book.specs.Journal.{InversesUndo};
 ghost use Rattle.radio_book.specs.NoTrace.{UndoneAttemptsLeaveNoTrace};
+ghost use Rattle.radio_book.specs.Following.{UndosShowTheirTargets};
+ghost use Rattle.radio_book.specs.Together.{SettledAttemptsLeaveNoTrace};
 
 /// Every event leads from a sound book to a sound one.
 pub fn steps_keep_sound()
@@ -35,4 +37,17 @@ pub fn channels_take_steps()
 /// reply.
 pub fn undone_attempts_leave_no_trace()
     ensures no_trace { UndoneAttemptsLeaveNoTrace }
+{}
+
+/// The record that an undo shows, as it was before, says whether the undo left the attempt's target off, so that a release is
+/// awaited: where the attempt's stage is switched on.
+pub fn undos_show_their_targets()
+    ensures shown { UndosShowTheirTargets }
+{}
+
+/// All settled attempts leave no trace together. From every sound book, by any events: where no step was refused for what one
+/// of the attempts held that were undone and are settled, the book is the one that the steps which remain without all of them
+/// alone lead to, and each of these got the same reply.
+pub fn settled_attempts_leave_no_trace()
+    ensures no_trace { SettledAttemptsLeaveNoTrace }
 {}

@@ -1,15 +1,13 @@
 //! An attempt that was undone, taken out of a list of events.
-ghost use Rattle.std.specs.Prelude.{◌≡◌, ℕ, true, List, map, zip, slice_get, Some, None, Err, IfOk, OnOk};
-ghost use Rattle.std.specs.List.{enumerate_from};
+ghost use Rattle.std.specs.Prelude.{◌≡◌, true, map, slice_get, Some, None, Err, IfOk, OnOk};
 ghost use Rattle.radio_book.specs.Run.{run_book, run_replies};
 ghost use Rattle.radio_book.specs.Undone.{Undone, IsUndoneAt, OpensUndone, others, places_of, events_of, is_settled, first_held};
-ghost use Rattle.radio_book.specs.declared.undone.StepAt.{StepAt};
 
 use crate::book::Book;
 use crate::event::{Event, Reply};
-use crate::found::{found_at, without_attempt};
+use crate::remainder::remainder_at;
 use crate::run::run;
-use crate::undone::StepAt;
+use crate::steps::{events_of, first_place, places_of, steps_of};
 use std::alloc::{AllocError, Allocator, Global};
 use thiserror::Error;
 
@@ -55,40 +53,6 @@ impl From<AllocError> for RewindFault {
     }
 }
 
-/// The events as steps, each with its place and its reply.
-fn steps_of<A: Allocator + Copy>(
-    alloc: A,
-    events: &[Event],
-    replies: &[Reply],
-) -> Result<Vec<StepAt, A>, AllocError>
-    ensures { IfOk result (λ steps. steps.items ≡ map
-        (λ (p : ℕ × (Event × Reply)). record { place = p.0; event = p.1.0; reply = p.1.1 })
-        (enumerate_from 0 (zip events.now replies.now))) }
-{
-    events
-        .iter()
-        .zip(replies.iter())
-        .enumerate()
-        .map(|(place, (event, reply))| StepAt {
-            place,
-            event: *event,
-            reply: *reply,
-        })
-        .collect(alloc)
-}
-
-fn places_of<A: Allocator + Copy>(alloc: A, steps: &[StepAt]) -> Result<Vec<usize, A>, AllocError>
-    ensures { IfOk result (λ places. places.items ≡ places_of steps.now) }
-{
-    steps.iter().map(|step| step.place).collect(alloc)
-}
-
-fn events_of<A: Allocator + Copy>(alloc: A, steps: &[StepAt]) -> Result<Vec<Event, A>, AllocError>
-    ensures { IfOk result (λ events. events.items ≡ events_of steps.now) }
-{
-    steps.iter().map(|step| step.event).collect(alloc)
-}
-
 /// Takes out of a list of events the attempt whose opening stands at a place, counted from 0, and that was undone. The
 /// events are asked of copies of the book, one after another: all of them, and those that stay without the attempt. Where
 /// the attempt is settled and no refusal is held, both come to one book, and the others got the same replies.
@@ -128,12 +92,9 @@ pub fn rewind<A: Allocator + Copy>(
     book.sound();
     let (whole, whole_replies) = run(alloc, book, events)?;
     let steps = steps_of(alloc, events, &whole_replies)?;
-    let Some(found) = found_at(&steps, at) else {
+    let Some(remainder) = remainder_at(alloc, &steps, at)? else {
         return Err(RewindFault::NoAttempt);
     };
-    let (undone, _) = run(alloc, book, &events[..found.head + found.between + 2])?;
-    let awaited = undone.is_off(found.target);
-    let remainder = without_attempt(alloc, &steps, &found, awaited)?;
     let kept = events_of(alloc, &remainder.kept)?;
     let others = places_of(alloc, &remainder.kept)?;
     let (without, without_replies) = run(alloc, book, &kept)?;
@@ -144,6 +105,6 @@ pub fn rewind<A: Allocator + Copy>(
         without_replies,
         others,
         settled: remainder.settled,
-        held: remainder.held,
+        held: first_place(&remainder.held),
     })
 }

@@ -4,7 +4,7 @@ use Rattle.std.proofs.lemmas.Iterator.{YieldsList-from_slice, YieldsList-from_ma
 use Rattle.std.proofs.lemmas.Iterator.Consumers.{YieldsList-from_enumerate, YieldsList-at}
 use Rattle.radio_book.specs.declared.event.Event.{Event}
 use Rattle.radio_book.specs.declared.event.Reply.{Reply}
-use Rattle.radio_book.proofs.rewind.steps_of.Goals as goal
+use Rattle.radio_book.proofs.steps.steps_of.Goals as goal
 
 pub returns : goal.returns
 returns g c =
