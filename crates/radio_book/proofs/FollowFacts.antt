@@ -56,11 +56,11 @@ module _ (c : ℕ) (target : Option ChanId) where
   settled_holds [] = refl
   settled_holds (s ∷ ss) = settled_holds ss
 
-  settled_last : (ss : List StepAt) → at_last (in_phase Settled) ss ≡ in_phase Settled
+  pub settled_last : (ss : List StepAt) → at_last (in_phase Settled) ss ≡ in_phase Settled
   settled_last [] = refl
   settled_last (s ∷ ss) = settled_last ss
 
-  completed_last : (ss : List StepAt) → at_last (in_phase Completed) ss ≡ in_phase Completed
+  pub completed_last : (ss : List StepAt) → at_last (in_phase Completed) ss ≡ in_phase Completed
   completed_last [] = refl
   completed_last (s ∷ ss) = completed_last ss
 

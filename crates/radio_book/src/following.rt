@@ -293,7 +293,7 @@ impl Followed {
         let mut followed = *self;
         for step in steps {
             if followed.is_over() {
-                break;
+                return followed.is_settled();
             }
             followed = followed.after(step);
         }

@@ -1,7 +1,8 @@
 //! Lists of events with their replies as steps, each with its place.
-ghost use Rattle.std.specs.Prelude.{◌≡◌, ℕ, List, map, zip, IfOk, IfSome, IfNone};
+ghost use Rattle.std.specs.Prelude.{◌≡◌, ℕ, map, zip, IfOk};
 ghost use Rattle.std.specs.List.{enumerate_from};
 ghost use Rattle.radio_book.specs.Undone.{places_of, events_of};
+ghost use Rattle.radio_book.specs.Found.{first_place};
 ghost use Rattle.radio_book.specs.declared.undone.StepAt.{StepAt};
 
 use crate::event::{Event, Reply};
