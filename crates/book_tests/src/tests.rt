@@ -1,3 +1,4 @@
+mod audits;
 mod choices;
 mod desk;
 mod desk_memory;

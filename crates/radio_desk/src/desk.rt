@@ -1,12 +1,17 @@
 //! The desk: an opening book, the history of what was asked since, and the book that it leads to.
-ghost use Rattle.std.specs.Prelude.{◌≡◌, ◌↔◌, ◌⊎◌, IsTrue, ◌+◌, ◌≤◌, ◌++◌, ◌∷◌, ℕ, [], length, vec_len, vec_capacity, Option, None, Some, Ok, Err, MatchOption, IfOk, IfSome, OnOk, OnErr, slice_get};
+ghost use Rattle.std.specs.Prelude.{◌≡◌, ◌↔◌, ◌⊎◌, IsTrue, true, List, ◌+◌, ◌≤◌, ◌++◌, ◌∷◌, ℕ, [], length, vec_len, vec_capacity, Option, None, Some, Ok, Err, MatchOption, IfOk, IfSome, OnOk, OnErr, slice_get};
 ghost use Rattle.radio_book.specs.declared.event.Event.{Event};
 ghost use Rattle.radio_book.specs.Run.{Leads};
 ghost use Rattle.radio_book.specs.Table.{row, NeedsRoom};
 ghost use Rattle.radio_book.specs.Choice.{NoneFree, TakesFree, ReservesFree};
 ghost use Rattle.radio_desk.specs.Desk.{IsEntryOf, HoldsLast, IsForeign, IsJudged, IsSameDesk};
 ghost use Rattle.radio_desk.specs.Tally.{count_of};
+ghost use Rattle.radio_book.specs.Undone.{Undone};
+ghost use Rattle.radio_book.specs.Found.{first_place};
+ghost use Rattle.radio_book.specs.Together.{remaining, held_steps};
+ghost use Rattle.radio_desk.specs.Audit.{steps_in, AreSettledIn, LeadsAlike};
 
+use crate::audit::{Audit, audit_of};
 use crate::entry::is_entry;
 use crate::seat::{Receipt, Seat};
 use crate::tally::{Tally, tally_of};
@@ -115,6 +120,30 @@ impl<A: Allocator + Copy> Desk<A> {
         ensures undone { result.undone ≡ count_of (λ m. m.undone) self.now.history }
     {
         tally_of(self.history.as_slice())
+    }
+
+    /// Takes out of the history all attempts at handover that were undone and are settled, together: how many they are, where
+    /// the first entry stands that was refused because one of them had the channel or the reference, and whether the entries
+    /// that remain, asked alone, lead to the same book and get the same replies. Where no entry was refused so, they do.
+    ///
+    /// Takes the time of one run of what remains, and of a look at each entry for each attempt that is open then. Memory is
+    /// asked for, for a copy of the book and lists as long as the history.
+    pub fn audit(&self) -> Result<Audit, AllocError>
+        ensures attempts { IfOk result (λ audit. (us : List Undone) ×
+            AreSettledIn self.now.opening self.now.history us × (audit.attempts ≡ length us)) }
+        ensures held { IfOk result (λ audit. (us : List Undone) →
+            AreSettledIn self.now.opening self.now.history us →
+            audit.held ≡ first_place (held_steps us (steps_in self.now.history))) }
+        ensures same { IfOk result (λ audit. (us : List Undone) →
+            AreSettledIn self.now.opening self.now.history us →
+            IsTrue audit.same ↔
+            LeadsAlike self.now.opening (remaining us (steps_in self.now.history)) self.now.book) }
+
+        // Settled attempts leave no trace together, where no entry was refused for what one of them held.
+        ensures no_trace { IfOk result (λ audit. audit.held ≡ None → audit.same ≡ true) }
+    {
+        let alloc = *self.history.allocator();
+        audit_of(alloc, self.opening(), self.history.as_slice(), self.book())
     }
 
     /// The book that it opened with.

@@ -3,6 +3,7 @@
 //! the same is told here too.
 #![tactic(auto)]
 
+pub mod audit;
 pub mod desk;
 pub mod entry;
 pub mod seat;

@@ -1,4 +1,4 @@
-//! Memory is refused in each call of a book, and in a rewind, which asks three runs.
+//! Memory is refused in each call of a book, in a rewind, which asks two runs, and in marks, which ask one.
 use super::Ask::{ReserveAny, Step, TakeAny};
 use super::{
     ACTIVATE, Ask, COMMAND, CONFIRM, RELEASED, RESERVE, STEADY, TAKE, UNDO, book_of, channel_at,
@@ -11,6 +11,7 @@ use radio_book::event::Event::{
 use radio_book::event::Kind::{Incoming, Internal};
 use radio_book::event::Reply::Done;
 use radio_book::event::{Event, Reply};
+use radio_book::marks::marks;
 use radio_book::rewind::{RewindFault, rewind};
 use refusing_heap::RefusingHeap;
 use sample_sites::{HOME, OTHER, TARGET, THREE_CHANNELS, site_of_cells};
@@ -27,6 +28,7 @@ enum Trial<'a> {
     // All this is asked when no memory is left, and the book holds so much then.
     WithoutMemory(&'a [Event], Usage),
     Rewound(&'a [Event], &'a [usize]),
+    Marked(&'a [Event], &'a [usize]),
     Compared,
 }
 
@@ -88,6 +90,24 @@ fn is_rewound<'a>(
     }
 }
 
+// The same of the marks of an attempt.
+fn is_marked<'a>(
+    rt: &impl Abort,
+    book: &Book<&'a RefusingHeap>,
+    heap: &'a RefusingHeap,
+    events: &[Event],
+    others: &[usize],
+) {
+    let at = heap.refusals();
+    match marks(heap, book, events, 0) {
+        Ok(found) => holds_at(rt, found.others.as_slice() == others, at),
+        Err(fault) => {
+            let tells_refusal = heap.was_refused() && fault == RewindFault::NoMemory;
+            holds_at(rt, tells_refusal, (at, fault));
+        }
+    }
+}
+
 fn is_compared(
     rt: &impl Abort,
     book: &Book<&RefusingHeap>,
@@ -112,6 +132,10 @@ fn is_tried<'a>(
         Trial::WithoutMemory(events, usage) => needs_no_memory(rt, book, heap, events, usage),
         Trial::Rewound(events, others) => {
             is_rewound(rt, book, heap, events, others);
+            Ok(())
+        }
+        Trial::Marked(events, others) => {
+            is_marked(rt, book, heap, events, others);
             Ok(())
         }
         Trial::Compared => is_compared(rt, book, heap),
@@ -272,6 +296,11 @@ const TAKEN_BACK: &[Event] = &[
 #[test]
 fn each_refusal_of_memory_in_a_rewind_is_answered(rt: HostRuntime) -> Result<(), Fail> {
     meets_each_refusal(&rt, 3, AT_REST, Trial::Rewound(TAKEN_BACK, &[4]))
+}
+
+#[test]
+fn each_refusal_of_memory_in_marks_is_answered(rt: HostRuntime) -> Result<(), Fail> {
+    meets_each_refusal(&rt, 2, AT_REST, Trial::Marked(TAKEN_BACK, &[4]))
 }
 
 // Call 1 has an attempt with a reference, and call 2 has begun.

@@ -1,0 +1,228 @@
+//! All attempts of a history that were undone and are settled, taken out together.
+ghost use Rattle.std.specs.Prelude.{◌≡◌, ◌↔◌, ◌++◌, ◌+◌, ◌-◌, ◌<◌, ◌^◌, ◌∷◌, ℕ, IsTrue, true, List, [], map, filter, length, not, Option, Some, None, is_some, if◌then◌else◌, IfOk};
+ghost use Rattle.std.specs.List.{list_all};
+ghost use Rattle.std.specs.Option.{option_to_list, option_or};
+ghost use Rattle.radio_book.specs.Undone.{Undone, events_of, replies_of};
+ghost use Rattle.radio_book.specs.Found.{first_place};
+ghost use Rattle.radio_book.specs.Following.{stays, is_over, after, settling, settling_count, followed_on, remains, is_held_by, remaining_from, all_held_from};
+ghost use Rattle.radio_book.specs.Run.{Leads};
+ghost use Rattle.radio_book.specs.Together.{remaining, held_steps};
+ghost use Rattle.radio_desk.specs.Audit.{steps_in, AreSettledIn, LeadsAlike};
+
+use crate::entry::is_same_reply;
+use radio_book::book::Book;
+use radio_book::event::{Event, Reply};
+use radio_book::following::{Followed, opening_of};
+use radio_book::run::run;
+use radio_book::undone::StepAt;
+use std::alloc::{AllocError, Allocator};
+
+/// What a history tells of the attempts that were undone and are settled: their channels came back, or nothing was sent.
+#[derive(Clone, Copy, Debug, PartialEq, Eq)]
+pub struct Audit {
+    /// How many they are.
+    pub attempts: usize,
+    /// Where the first entry stands, counted from 0, that was refused because one of them had the channel or the reference.
+    pub held: Option<usize>,
+    /// The entries that remain without all of them, asked alone, lead to the same book and get the same replies.
+    pub same: bool,
+}
+
+/// The entries of a history as steps, each at its place.
+pub(crate) fn steps_of<A: Allocator + Copy>(
+    alloc: A,
+    history: &[(Event, Reply)],
+) -> Result<Vec<StepAt, A>, AllocError>
+    ensures { IfOk result (λ steps. steps.items ≡ steps_in history.now) }
+{
+    history
+        .iter()
+        .enumerate()
+        .map(|(place, entry)| StepAt {
+            place,
+            event: entry.0,
+            reply: entry.1,
+        })
+        .collect(alloc)
+}
+
+/// The attempt that opens with a step, where the steps behind it settle it.
+fn settling(step: &StepAt, behind: &[StepAt]) -> Option<Followed>
+    ensures { result ≡ settling step.now behind.now }
+{
+    let opening = opening_of(step)?;
+    if opening.settles(behind) {
+        Some(opening)
+    } else {
+        None
+    }
+}
+
+/// The step stays without each of the attempts.
+fn all_stay(followed: &[Followed], step: &StepAt) -> bool
+    ensures { result ≡ list_all (λ p. stays p step.now) followed.now }
+{
+    followed.iter().all(|attempt| attempt.stays(step))
+}
+
+/// The step was refused for what one of the attempts holds.
+fn is_held_by(followed: &[Followed], step: &StepAt) -> bool
+    ensures { result ≡ is_held_by followed.now step.now }
+{
+    followed.iter().any(|attempt| attempt.holds(step))
+}
+
+/// Each attempt goes on by a step.
+fn go_on(followed: &mut [Followed], step: &StepAt)
+    ensures { followed.new ≡ map (λ p. after p step.now) followed.old }
+{
+    for attempt in followed.iter_mut() {
+        *attempt = attempt.after(step);
+    }
+}
+
+/// Drops the attempts that are over.
+fn drop_over<A: Allocator + Copy>(followed: &mut Vec<Followed, A>)
+    ensures { followed.new.items ≡ filter (λ p. not (is_over p)) followed.old.items }
+{
+    followed.retain(|attempt| !attempt.is_over());
+}
+
+/// The attempts that are followed after a step: those that aren't over, and the one that opens with it.
+fn follow_on<A: Allocator + Copy>(
+    followed: &mut Vec<Followed, A>,
+    step: &StepAt,
+    opening: Option<Followed>,
+) -> Result<(), AllocError>
+    ensures { IfOk result (λ _. followed.new.items ≡
+        filter (λ p. not (is_over p)) (map (λ p. after p step.now) followed.old.items) ++ option_to_list opening) }
+{
+    go_on(followed.as_mut_slice(), step);
+    drop_over(followed);
+    if let Some(opening) = opening {
+        followed.push(opening)?;
+    }
+    Ok(())
+}
+
+/// What was found of the steps up to one.
+#[derive(Drop)]
+pub(crate) struct Walk<A: Allocator> {
+    /// The settled attempts that are open, or whose release is awaited.
+    followed: Vec<Followed, A>,
+    /// How many settled attempts opened.
+    pub attempts: usize,
+    /// The steps that remain without them.
+    pub remaining: Vec<StepAt, A>,
+    /// Where the first step stands that is held.
+    pub held: Option<usize>,
+}
+
+impl<A: Allocator + Copy> Walk<A> {
+    /// Goes on by a step, with these behind it.
+    fn step(&mut self, step: &StepAt, behind: &[StepAt]) -> Result<(), AllocError>
+        requires room { self.old.attempts + length behind.now < 2 ^ 64 - 1 }
+        ensures followed { IfOk result (λ _. self.new.followed.items ≡
+            followed_on self.old.followed.items step.now behind.now) }
+        ensures attempts { IfOk result (λ _. self.new.attempts ≡
+            self.old.attempts + (if is_some (settling step.now behind.now) then 1 else 0)) }
+        ensures remaining { IfOk result (λ _. self.new.remaining.items ≡ self.old.remaining.items
+            ++ (if remains self.old.followed.items step.now behind.now then step.now ∷ [] else [])) }
+        ensures held { IfOk result (λ _. self.new.held ≡ option_or self.old.held
+            (if is_held_by self.old.followed.items step.now then Some step.now.place else None)) }
+    {
+        let opening = settling(step, behind);
+        if self.held.is_none() && is_held_by(&self.followed, step) {
+            self.held = Some(step.place);
+        }
+        if opening.is_some() {
+            self.attempts += 1;
+        } else if all_stay(&self.followed, step) {
+            self.remaining.push(*step)?;
+        }
+        follow_on(&mut self.followed, step, opening)
+    }
+}
+
+/// Walks along steps with the attempts among them that are undone and settled.
+fn walk_along<A: Allocator + Copy>(alloc: A, steps: &[StepAt]) -> Result<Walk<A>, AllocError>
+    ensures attempts { IfOk result (λ walk. walk.attempts ≡ settling_count steps.now) }
+    ensures remaining { IfOk result (λ walk. walk.remaining.items ≡ remaining_from [] steps.now) }
+    ensures held { IfOk result (λ walk. walk.held ≡ first_place (all_held_from [] steps.now)) }
+{
+    let mut walk = Walk {
+        followed: Vec::new(alloc),
+        attempts: 0,
+        remaining: Vec::new(alloc),
+        held: None,
+    };
+    let mut rest = steps;
+    while let [step, behind @ ..] = rest {
+        walk.step(step, behind)?;
+        rest = behind;
+    }
+    Ok(walk)
+}
+
+fn events_of<A: Allocator + Copy>(alloc: A, steps: &[StepAt]) -> Result<Vec<Event, A>, AllocError>
+    ensures { IfOk result (λ events. events.items ≡ events_of steps.now) }
+{
+    steps.iter().map(|step| step.event).collect(alloc)
+}
+
+/// These are the replies that the steps have.
+fn are_replies(steps: &[StepAt], replies: &[Reply]) -> bool
+    ensures { IsTrue result ↔ (replies.now ≡ replies_of steps.now) }
+{
+    let mut rest = steps;
+    let mut left = replies;
+    while let ([step, behind @ ..], [reply, more @ ..]) = (rest, left) {
+        if !is_same_reply(&step.reply, reply) {
+            return false;
+        }
+        rest = behind;
+        left = more;
+    }
+    rest.is_empty() && left.is_empty()
+}
+
+/// The steps, asked alone from one book, lead to the other, and get the replies that they have.
+fn leads_alike<A: Allocator + Copy>(
+    alloc: A,
+    opening: &Book<A>,
+    steps: &[StepAt],
+    book: &Book<A>,
+) -> Result<bool, AllocError>
+    ensures { IfOk result (λ same. IsTrue same ↔ LeadsAlike opening.now steps.now book.now) }
+{
+    let events = events_of(alloc, steps)?;
+    let (after, replies) = run(alloc, opening, &events)?;
+    Ok(after == *book && are_replies(steps, &replies))
+}
+
+/// Audits a history that leads from one book to another: walks along it once, and runs what remains once.
+pub(crate) fn audit_of<A: Allocator + Copy>(
+    alloc: A,
+    opening: &Book<A>,
+    history: &[(Event, Reply)],
+    book: &Book<A>,
+) -> Result<Audit, AllocError>
+    requires legal { Leads opening.now history.now book.now }
+    ensures attempts { IfOk result (λ audit. (us : List Undone) ×
+        AreSettledIn opening.now history.now us × (audit.attempts ≡ length us)) }
+    ensures held { IfOk result (λ audit. (us : List Undone) → AreSettledIn opening.now history.now us →
+        audit.held ≡ first_place (held_steps us (steps_in history.now))) }
+    ensures same { IfOk result (λ audit. (us : List Undone) → AreSettledIn opening.now history.now us →
+        IsTrue audit.same ↔ LeadsAlike opening.now (remaining us (steps_in history.now)) book.now) }
+    ensures no_trace { IfOk result (λ audit. audit.held ≡ None → audit.same ≡ true) }
+{
+    let _usage = opening.usage();
+    let steps = steps_of(alloc, history)?;
+    let walk = walk_along(alloc, &steps)?;
+    let same = leads_alike(alloc, opening, &walk.remaining, book)?;
+    Ok(Audit {
+        attempts: walk.attempts,
+        held: walk.held,
+        same,
+    })
+}
