@@ -1,5 +1,5 @@
 //! All attempts of a history that were undone and are settled, taken out together.
-ghost use Rattle.std.specs.Prelude.{◌≡◌, ◌↔◌, ◌++◌, ◌+◌, ◌-◌, ◌<◌, ◌^◌, ◌∷◌, ℕ, IsTrue, true, List, [], map, filter, length, not, Option, Some, None, is_some, if◌then◌else◌, IfOk};
+ghost use Rattle.std.specs.Prelude.{◌≡◌, ◌↔◌, ◌++◌, ◌+◌, ◌-◌, ◌<◌, ◌^◌, ◌∷◌, ℕ, IsTrue, true, List, [], map, filter, length, not, Option, Some, None, is_some, is_none, ◌&&◌, if◌then◌else◌, IfOk};
 ghost use Rattle.std.specs.List.{list_all};
 ghost use Rattle.std.specs.Option.{option_to_list, option_or};
 ghost use Rattle.radio_book.specs.Undone.{Undone, events_of, replies_of};
@@ -72,6 +72,43 @@ fn is_held_by(followed: &[Followed], step: &StepAt) -> bool
     followed.iter().any(|attempt| attempt.holds(step))
 }
 
+/// The step stays without each of the attempts, and without the one that opens with it, if one does.
+fn remains(followed: &[Followed], step: &StepAt, opening: Option<Followed>) -> bool
+    ensures { result ≡ (is_none opening && list_all (λ p. stays p step.now) followed.now) }
+{
+    opening.is_none() && all_stay(followed, step)
+}
+
+/// Where the first held step stands, once one more is told.
+fn held_with(held: Option<usize>, is_held: bool, place: usize) -> Option<usize>
+    ensures { result ≡ option_or held (if is_held then Some place else None) }
+{
+    match held {
+        Some(first) => Some(first),
+        None => { if is_held { Some(place) } else { None } }
+    }
+}
+
+/// Keeps the step, if it is to stay.
+fn keep_if<A: Allocator + Copy>(
+    stays: bool,
+    kept: &mut Vec<StepAt, A>,
+    step: &StepAt,
+) -> Result<(), AllocError>
+    ensures { IfOk result (λ _. kept.new.items ≡ kept.old.items ++ (if stays then step.now ∷ [] else [])) }
+{
+    if stays {
+        kept.push(*step)?;
+    }
+    Ok(())
+}
+
+fn one_if(is_one: bool) -> usize
+    ensures { result ≡ (if is_one then 1 else 0) }
+{
+    if is_one { 1 } else { 0 }
+}
+
 /// Each attempt goes on by a step.
 fn go_on(followed: &mut [Followed], step: &StepAt)
     ensures { followed.new ≡ map (λ p. after p step.now) followed.old }
@@ -132,14 +169,11 @@ impl<A: Allocator + Copy> Walk<A> {
             (if is_held_by self.old.followed.items step.now then Some step.now.place else None)) }
     {
         let opening = settling(step, behind);
-        if self.held.is_none() && is_held_by(&self.followed, step) {
-            self.held = Some(step.place);
-        }
-        if opening.is_some() {
-            self.attempts += 1;
-        } else if all_stay(&self.followed, step) {
-            self.remaining.push(*step)?;
-        }
+        let is_held = is_held_by(&self.followed, step);
+        self.held = held_with(self.held, is_held, step.place);
+        let stays = remains(&self.followed, step, opening);
+        keep_if(stays, &mut self.remaining, step)?;
+        self.attempts += one_if(opening.is_some());
         follow_on(&mut self.followed, step, opening)
     }
 }
