@@ -158,7 +158,7 @@ pub(crate) struct Walk<A: Allocator> {
 impl<A: Allocator + Copy> Walk<A> {
     /// Goes on by a step, with these behind it.
     fn step(&mut self, step: &StepAt, behind: &[StepAt]) -> Result<(), AllocError>
-        requires room { self.old.attempts + length behind.now < 2 ^ 64 - 1 }
+        requires room { self.old.attempts < 2 ^ 64 - 1 }
         ensures followed { IfOk result (λ _. self.new.followed.items ≡
             followed_on self.old.followed.items step.now behind.now) }
         ensures attempts { IfOk result (λ _. self.new.attempts ≡
@@ -220,6 +220,12 @@ fn are_replies(steps: &[StepAt], replies: &[Reply]) -> bool
     rest.is_empty() && left.is_empty()
 }
 
+fn both(one: bool, other: bool) -> bool
+    ensures { result ≡ (one && other) }
+{
+    one && other
+}
+
 /// The steps, asked alone from one book, lead to the other, and get the replies that they have.
 fn leads_alike<A: Allocator + Copy>(
     alloc: A,
@@ -231,7 +237,9 @@ fn leads_alike<A: Allocator + Copy>(
 {
     let events = events_of(alloc, steps)?;
     let (after, replies) = run(alloc, opening, &events)?;
-    Ok(after == *book && are_replies(steps, &replies))
+    let leads = after == *book;
+    let alike = are_replies(steps, &replies);
+    Ok(both(leads, alike))
 }
 
 /// Audits a history that leads from one book to another: walks along it once, and runs what remains once.

@@ -1,4 +1,4 @@
-use Rattle.std.proofs.Common.{◌≡◌, ◌+◌, ◌++◌, [], length}
+use Rattle.std.proofs.Common.{◌≡◌, ◌+◌, ◌≤◌, ◌++◌, [], length}
 use Rattle.std.specs.Option.{option_or}
 use Rattle.radio_book.specs.Found.{first_place}
 use Rattle.radio_book.specs.Following.{settling_count, remaining_from, all_held_from}
@@ -7,6 +7,7 @@ use Rattle.radio_desk.proofs.audit.walk_along.Given as goal
 -- what was found, and what will be of the steps that are left
 abbrev pub invariant-loop-walk : goal.invariant-loop-walk
 invariant-loop-walk g l = record {
+  within : l.walk.attempts + length l.rest ≤ length l.steps;
   attempts : l.walk.attempts + settling_count l.rest ≡ settling_count l.steps;
   remaining : l.walk.remaining.items ++ remaining_from l.walk.followed.items l.rest ≡ remaining_from [] l.steps;
   held : option_or l.walk.held (first_place (all_held_from l.walk.followed.items l.rest)) ≡ first_place (all_held_from [] l.steps);
