@@ -53,7 +53,7 @@ module _ (opening : State) (history : List (Event × Reply)) (book : State) (sou
   pub no_trace : first_place (all_held_from [] (steps_in history)) ≡ None → LeadsAlike opening (remaining_from [] (steps_in history)) book
   no_trace none =
       let found = attempts_are in
-      let held : held_steps found.0 (steps_from 0 opening events) ≡ [] = ap (held_steps found.0) (sym same_steps) ∙ none_first _ (ap first_place (sym (held_same found.0 found.1)) ∙ none) in
+      let held : held_steps found.0 (steps_from 0 opening events) ≡ [] = ap (held_steps found.0) (sym same_steps) ∙ none_first (held_steps found.0 (steps_in history)) (ap first_place (sym (held_same found.0 found.1)) ∙ none) in
       let law = settled_leave_no_trace opening sound events found.0 found.1 held in
       let here : remaining_from [] (steps_in history) ≡ remaining found.0 (steps_from 0 opening events) = remaining_same found.0 found.1 ∙ ap (remaining found.0) same_steps in
       record {

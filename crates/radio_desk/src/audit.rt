@@ -258,7 +258,8 @@ pub(crate) fn audit_of<A: Allocator + Copy>(
         IsTrue audit.same ↔ LeadsAlike opening.now (remaining us (steps_in history.now)) book.now) }
     ensures no_trace { IfOk result (λ audit. audit.held ≡ None → audit.same ≡ true) }
 {
-    let _usage = opening.usage();
+    // its contract hands out that the book is sound
+    let _ = opening.usage();
     let steps = steps_of(alloc, history)?;
     let walk = walk_along(alloc, &steps)?;
     let same = leads_alike(alloc, opening, &walk.remaining, book)?;

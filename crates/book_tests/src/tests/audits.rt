@@ -119,23 +119,24 @@ fn refusals_for_what_was_held_are_marked(rt: HostRuntime) -> Result<(), Fail> {
     )
 }
 
-// A desk on a heap that refuses requests is audited: where one was refused, that is answered.
+// A desk on a heap that refuses requests is audited: where memory was refused that is answered, or, where less did as well,
+// what is answered with ample memory.
 fn is_audited_or_refused(
     rt: &impl Abort,
     heap: &RefusingHeap,
     desk: &Desk<&RefusingHeap>,
     row: &Row,
 ) {
-    let (events, attempts, held, same) = *row;
+    let (_, attempts, held, same) = *row;
     let wanted = Audit {
         attempts,
         held,
         same,
     };
-    let found = desk.audit();
-    equals_at(rt, found.is_err(), heap.was_refused(), heap.refusals());
-    if let Ok(audit) = found {
-        equals_at(rt, audit, wanted, events);
+    let at = heap.refusals();
+    match desk.audit() {
+        Ok(audit) => equals_at(rt, audit, wanted, at),
+        Err(_) => holds_at(rt, heap.was_refused(), at),
     }
 }
 

@@ -12,8 +12,10 @@ both_say p q one other =
 
 pub returns : goal.returns
 returns g c =
-    let a = c.eq-leads.ensures in
-    let b = c.are_replies-alike.ensures in
-    let d = c.both.ensures in
-    let e = c.in_ok-after.ensures in
-    ?
+    let asked = c.deref.ensures.value ∙ c.in_ok-events.ensures in
+    let book = c.in_ok-after.ensures.book ∙ ap (run_book c.args.opening.now) asked in
+    let got = c.deref-2.ensures.value ∙ c.in_ok-after.ensures.replies ∙ ap (run_replies c.args.opening.now) asked in
+    let says = both_say c.eq-leads.result c.are_replies-alike.result c.eq-leads.ensures.same c.are_replies-alike.ensures in (
+      λ t. let parts = says.0 (sym c.both.ensures ∙ t) in record { leads = sym book ∙ parts.0; replies = sym got ∙ parts.1 },
+      λ same. c.both.ensures ∙ says.1 (book ∙ same.leads, got ∙ same.replies),
+    )

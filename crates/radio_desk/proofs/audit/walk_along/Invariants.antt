@@ -5,13 +5,13 @@ use Rattle.radio_book.specs.Following.{settling_count, remaining_from, all_held_
 use Rattle.radio_desk.proofs.audit.walk_along.Given as goal
 
 -- what was found, and what will be of the steps that are left
-abbrev pub invariant-loop-walk : goal.invariant-loop-walk
-invariant-loop-walk g l = record {
+abbrev pub invariant-loop-rest : goal.invariant-loop-rest
+invariant-loop-rest g l = record {
   within : l.walk.attempts + length l.rest ≤ length l.steps;
   attempts : l.walk.attempts + settling_count l.rest ≡ settling_count l.steps;
   remaining : l.walk.remaining.items ++ remaining_from l.walk.followed.items l.rest ≡ remaining_from [] l.steps;
   held : option_or l.walk.held (first_place (all_held_from l.walk.followed.items l.rest)) ≡ first_place (all_held_from [] l.steps);
 }
 
-abbrev pub decreases-loop-walk : goal.decreases-loop-walk
-decreases-loop-walk g l = length l.rest
+abbrev pub decreases-loop-rest : goal.decreases-loop-rest
+decreases-loop-rest g l = length l.rest
