@@ -14,6 +14,8 @@ pub mod Inverses
 pub mod ChannelSteps
 pub mod RecordFacts
 pub mod Runs
+pub mod Totals
+pub mod OwedRows
 pub mod RunBack
 pub mod Chosen
 pub mod Numbers

@@ -13,6 +13,7 @@ pub mod Run
 pub mod Choice
 pub mod Others
 pub mod Kinds
+pub mod Owed
 pub mod Undone
 pub mod NoTrace
 pub mod Found

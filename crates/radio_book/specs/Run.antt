@@ -1,11 +1,12 @@
 -- Runs: lists of events from a book. Ours, of no standard.
-use Rattle.std.specs.Prelude.{◌≡◌, ◌↔◌, List, [], ◌∷◌, map}
+use Rattle.std.specs.Prelude.{◌≡◌, ◌↔◌, false, List, [], ◌∷◌, map}
 use Rattle.radio_book.specs.declared.event.Event.{Event}
 use Rattle.radio_book.specs.declared.event.Reply.{Reply}
 use Rattle.cell_table.specs.Site.{SiteView}
 use Rattle.radio_book.specs.State.{State, empty_book}
 use Rattle.radio_book.specs.Table.{step, reply_to}
 use Rattle.radio_book.specs.Sound.{IsSound}
+use Rattle.radio_book.specs.Kinds.{is_accepted}
 
 -- the book after the events, one after another
 abbrev pub run_book : State → List Event → State
@@ -36,3 +37,7 @@ LeadsIsRun =
     (b : State) (steps : List (Event × Reply)) (b' : State) →
     Leads b steps b' ↔
     (b' ≡ run_book b (map (λ s. s.0) steps)) × (map (λ s. s.1) steps ≡ run_replies b (map (λ s. s.0) steps))
+
+-- a refused event changes nothing
+abbrev pub RefusedEventsChangeNothing : Type 0
+RefusedEventsChangeNothing = (b : State) (e : Event) → IsSound b → is_accepted (reply_to b e) ≡ false → step b e ≡ b

@@ -1,5 +1,5 @@
 //! The radio book.
-ghost use Rattle.std.specs.Prelude.{◌≡◌, ◌↔◌, ℕ, Option, Ok, None, OnOk, OnErr, IfOk, IfSome, IsOk, IsTrue};
+ghost use Rattle.std.specs.Prelude.{◌≡◌, ◌↔◌, ℕ, Option, Ok, None, OnOk, OnErr, IfOk, IfSome, MatchOption, IsOk, IsTrue};
 ghost use Rattle.std.specs.FinMap as map;
 ghost use Rattle.radio_book.specs.State.{empty_book, state_code};
 ghost use Rattle.radio_book.specs.Same.{is_same, is_same-IsEquivalence};
@@ -11,7 +11,7 @@ ghost use Rattle.radio_book.specs.declared.event.Event.{Event};
 ghost use Rattle.radio_book.specs.declared.event.Why.{Why};
 ghost use Rattle.radio_book.specs.Journal.{journal_of, run_back};
 ghost use Rattle.radio_book.specs.Table.{step, reply_to, row, NeedsRoom, MayNeedRoom};
-ghost use Rattle.radio_book.specs.Choice.{NoneFree, TakesFree, ReservesFree, free_count};
+ghost use Rattle.radio_book.specs.Choice.{IsFreeIn, NoneFree, TakesFree, ReservesFree, free_count};
 
 use crate::book_tables::BookTables;
 use crate::event::{Event, Kind, Reply};
@@ -113,6 +113,21 @@ impl<A: Allocator + Copy> Book<A> {
         }
     }
 
+    /// How many calls have a record. Its contract also hands out that every book is sound.
+    pub fn calls(&self) -> usize
+        ensures calls { result ≡ map.len self.now.calls }
+        ensures sound { IsSound self.now }
+    {
+        self.tables.calls()
+    }
+
+    /// How many channels aren't free.
+    pub fn channels(&self) -> usize
+        ensures channels { result ≡ map.len self.now.channels }
+    {
+        self.tables.channels()
+    }
+
     /// Does nothing; its contract hands out that every book is sound.
     pub(crate) fn sound(&self)
         ensures { IsSound self.now }
@@ -139,6 +154,14 @@ impl<A: Allocator + Copy> Book<A> {
             self.new ≡ run_back c (journal_of shown.attempt) self.old }
     {
         self.tables.step(event)
+    }
+
+    /// Some free traffic channel of the cell. `None` says that there is none, as in a cell that the site lacks. Any free
+    /// channel meets the contract; this body answers that of the lowest TRX, then timeslot.
+    pub fn free_channel(&self, cell: u8) -> Option<ChanId>
+        ensures free { MatchOption result (NoneFree self.now cell) (λ x. IsFreeIn self.now cell x) }
+    {
+        self.tables.choose_channel(cell)
     }
 
     /// A `Take` of some free channel of the cell, judged as by [`Book::step`], with its answer. `None` says that there is

@@ -1,5 +1,5 @@
 //! Laws of the table, of every book and every event. Ours, of no standard.
-ghost use Rattle.radio_book.specs.Run.{StepsKeepSound, RunsAreSound, LeadsIsRun};
+ghost use Rattle.radio_book.specs.Run.{StepsKeepSound, RefusedEventsChangeNothing, RunsAreSound, LeadsIsRun};
 ghost use Rattle.radio_book.specs.Channels.{ChannelsTakeSteps};
 ghost use Rattle.radio_book.specs.Journal.{InversesUndo};
 ghost use Rattle.radio_book.specs.NoTrace.{UndoneAttemptsLeaveNoTrace};
@@ -9,6 +9,11 @@ ghost use Rattle.radio_book.specs.Together.{SettledAttemptsLeaveNoTrace};
 /// Every event leads from a sound book to a sound one.
 pub fn steps_keep_sound()
     ensures sound { StepsKeepSound }
+{}
+
+/// A refused event leaves the book as it was.
+pub fn refused_events_change_nothing()
+    ensures nothing { RefusedEventsChangeNothing }
 {}
 
 /// The book of a site is sound after any events.

@@ -12,6 +12,7 @@ pub mod laws;
 pub mod marked;
 pub mod marks;
 pub mod others;
+pub mod owed;
 mod remainder;
 pub mod rewind;
 pub mod run;
