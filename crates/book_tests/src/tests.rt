@@ -7,6 +7,7 @@ mod hundred;
 mod largest;
 mod memory;
 mod openings;
+mod owed;
 mod stages;
 mod worked;
 

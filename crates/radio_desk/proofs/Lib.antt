@@ -1,2 +1,4 @@
 pub mod Leading
 mod AuditFacts
+pub mod Rooms
+pub mod Taking

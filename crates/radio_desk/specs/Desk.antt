@@ -1,6 +1,6 @@
 -- A desk: a book, the one that it opened with, and the history of events with their replies that leads from this to that.
 -- Ours, of no standard.
-use Rattle.std.specs.Prelude.{◌≡◌, ◌≤◌, ℕ, List, [], ◌∷◌, ◌++◌, length, Option, Some, None, slice_get, refl}
+use Rattle.std.specs.Prelude.{◌≡◌, ◌+◌, ◌<◌, ◌≤◌, ℕ, List, [], ◌∷◌, ◌++◌, length, Option, Some, None, slice_get, refl}
 use Rattle.std.specs.Coded.{Coded, code_by, coded×, coded_ℕ, coded_list}
 use Rattle.radio_book.specs.declared.event.Event.{Event}
 use Rattle.radio_book.specs.declared.event.Reply.{Reply}
@@ -8,6 +8,8 @@ use Rattle.radio_book.specs.contracts.event.Event.{the_row as event_row}
 use Rattle.radio_book.specs.contracts.event.Reply.{the_row as reply_row}
 use Rattle.radio_book.specs.State.{State, state_code}
 use Rattle.radio_book.specs.Table.{step, reply_to}
+use Rattle.radio_book.specs.Run.{Leads}
+use Rattle.radio_book.specs.Owed.{owed, calls_and_channels}
 use Rattle.radio_desk.specs.declared.seat.Receipt.{Receipt}
 
 pub record DeskState : Type 0 where
@@ -26,6 +28,16 @@ desk_code =
     (λ d. (d.opening, (d.book, (d.history, d.room))))
     (λ p. record { opening = p.0; book = p.1.0; history = p.1.1.0; room = p.1.1.1 })
     (λ _. refl)
+
+-- What is true of every desk: its history leads from the opening book to the book, and has room for all that is owed there.
+pub record IsInOrder (d : DeskState) : Type 0 where
+  pub legal : Leads d.opening d.history d.book
+  pub room : owed d.book ≤ d.room
+
+-- The history lacks room for an entry of each call and channel that is in use, and for three more: that of an event, and
+-- the two that are owed because of it.
+abbrev pub LacksRoom : DeskState → Type 0
+LacksRoom d = d.room < calls_and_channels d.book + 3
 
 -- at the receipt's place stands its event with its reply
 abbrev pub IsEntryOf : List (Event × Reply) → Receipt → Type 0
@@ -48,6 +60,9 @@ pub record IsJudged (d : DeskState) (r : Receipt) (d' : DeskState) : Type 0 wher
   pub opening : d'.opening ≡ d.opening
   pub history : d'.history ≡ d.history ++ (r.event, r.reply) ∷ []
   pub book : d'.book ≡ step d.book r.event
+  -- the entry took room for one and no more, and there is room left for all that is owed
+  pub room : d.room ≤ d'.room + 1
+  pub owed : owed d'.book ≤ d'.room
 
 -- all of a desk is as it was; its history may have got more room
 pub record IsSameDesk (d d' : DeskState) : Type 0 where

@@ -1,10 +1,12 @@
 //! The desk: an opening book, the history of what was asked since, and the book that it leads to.
-ghost use Rattle.std.specs.Prelude.{◌≡◌, ◌↔◌, ◌⊎◌, IsTrue, true, List, ◌+◌, ◌≤◌, ◌++◌, ◌∷◌, ℕ, [], length, vec_len, vec_capacity, Option, None, Some, Ok, Err, MatchOption, IfOk, IfSome, OnOk, OnErr, slice_get};
+ghost use Rattle.std.specs.Prelude.{◌≡◌, ◌≢◌, ◌↔◌, ◌⊎◌, IsTrue, ◌+◌, ◌≤◌, ◌++◌, ◌∷◌, ℕ, [], length, vec_len, vec_capacity, Option, None, Some, Ok, Err, MatchOption, IfOk, IfSome, OnOk, OnErr, slice_get};
 ghost use Rattle.radio_book.specs.declared.event.Event.{Event};
 ghost use Rattle.radio_book.specs.Run.{Leads};
-ghost use Rattle.radio_book.specs.Table.{row, NeedsRoom};
+ghost use Rattle.radio_book.specs.Table.{row, reply_to, NeedsRoom};
 ghost use Rattle.radio_book.specs.Choice.{NoneFree, TakesFree, ReservesFree};
-ghost use Rattle.radio_desk.specs.Desk.{IsEntryOf, HoldsLast, IsForeign, IsJudged, IsSameDesk};
+ghost use Rattle.radio_book.specs.Kinds.{is_accepted};
+ghost use Rattle.radio_book.specs.Owed.{owed, is_owed};
+ghost use Rattle.radio_desk.specs.Desk.{IsEntryOf, HoldsLast, IsForeign, IsJudged, IsSameDesk, LacksRoom};
 ghost use Rattle.radio_desk.specs.Tally.{count_of};
 ghost use Rattle.radio_book.specs.Undone.{Undone};
 ghost use Rattle.radio_book.specs.Found.{first_place};
@@ -13,6 +15,7 @@ ghost use Rattle.radio_desk.specs.Audit.{steps_in, AreSettledIn, LeadsAlike};
 
 use crate::audit::{Audit, audit_of};
 use crate::entry::is_entry;
+use crate::room::{answer, answer_reserve, make_room};
 use crate::seat::{Receipt, Seat};
 use crate::tally::{Tally, tally_of};
 use radio_book::book::Book;
@@ -44,7 +47,8 @@ impl From<AllocError> for DeskFault {
 }
 
 /// A book with its history: the book that it opened with, every event that was judged since with its reply, and the book
-/// that they lead to. Contracts see these three, and how many more entries the history takes without memory.
+/// that they lead to. Contracts see these three, and how many more entries the history takes without memory: at any time
+/// one for each open attempt and each channel in use, which are owed an `Undo` and a `Released`.
 #[derive(Drop)]
 pub struct Desk<A: Allocator = Global> {
     opening: Book<A>,
@@ -54,8 +58,7 @@ pub struct Desk<A: Allocator = Global> {
 
 impl<A: Allocator> Model for Desk<A> {
     ghost use Rattle.std.specs.Prelude.{◌-◌, vec_len, vec_capacity};
-    ghost use Rattle.radio_book.specs.Run.{Leads};
-    ghost use Rattle.radio_desk.specs.Desk.{DeskState, desk_code};
+    ghost use Rattle.radio_desk.specs.Desk.{DeskState, IsInOrder, desk_code};
 
     ghost Value = { DeskState };
 
@@ -68,19 +71,25 @@ impl<A: Allocator> Model for Desk<A> {
       room = vec_capacity desk.history - vec_len desk.history;
     } };
 
-    ghost invariant = { λ desk. Leads desk.opening desk.history.items desk.book };
+    ghost invariant = { λ desk. IsInOrder (record {
+      opening = desk.opening;
+      book = desk.book;
+      history = desk.history.items;
+      room = vec_capacity desk.history - vec_len desk.history;
+    }) };
 }
 
 impl<A: Allocator + Copy> Desk<A> {
     /// A desk that opens with this book, at which nothing was asked yet. Memory is asked for, for the copy that is kept of
-    /// the book.
+    /// the book, and for the room that is kept for what is owed in it.
     pub fn new(alloc: A, book: Book<A>) -> Result<Desk<A>, AllocError>
         ensures opening { IfOk result (λ desk. desk.opening ≡ book) }
         ensures book { IfOk result (λ desk. desk.book ≡ book) }
         ensures history { IfOk result (λ desk. desk.history ≡ []) }
     {
         let opening = book.copy()?;
-        let history = Vec::new(alloc);
+        let mut history = Vec::new(alloc);
+        make_room(&mut history, &book)?;
         Ok(Desk {
             opening,
             history,
@@ -88,10 +97,12 @@ impl<A: Allocator + Copy> Desk<A> {
         })
     }
 
-    /// How many events were judged. Its contract also hands out that the history leads from the opening book to the book.
+    /// How many events were judged. Its contract also hands out that the history leads from the opening book to the book,
+    /// and has room for all that is owed there.
     pub fn len(&self) -> usize
         ensures len { result ≡ length self.now.history }
         ensures legal { Leads self.now.opening self.now.history self.now.book }
+        ensures room { owed self.now.book ≤ self.now.room }
     {
         self.history.len()
     }
@@ -165,6 +176,9 @@ impl<A: Allocator + Copy> Desk<A> {
     ///
     /// `Foreign`, which is looked at first, exactly where the history doesn't hold the seat's last receipt. After either
     /// fault desk and seat are as they were; the history may have got room.
+    ///
+    /// An accepted `Undo` or `Released` is never refused memory: its entry has the room that was kept for it. Before any
+    /// other event changes the book, room is made for its entry and for what is owed because of it.
     #[tactic(auto, using(crate::proofs::Leading::leads_more))]
     pub fn judge(&mut self, seat: &mut Seat, event: Event) -> Result<Receipt, DeskFault>
         ensures foreign { (place : ℕ) → (result ≡ Err (DeskFault.Foreign place)) ↔
@@ -175,19 +189,21 @@ impl<A: Allocator + Copy> Desk<A> {
         ensures seat { IfOk result (λ receipt. seat.new ≡ Some receipt) }
         ensures unchanged { OnErr result (IsSameDesk self.old self.new × (seat.new ≡ seat.old)) }
         ensures memory { result ≡ Err DeskFault.NoMemory →
-            (self.old.room ≡ 0) ⊎ NeedsRoom self.old.book (row self.old.book event) }
+            LacksRoom self.old ⊎ NeedsRoom self.old.book (row self.old.book event) }
+        ensures owed { IsTrue (is_owed event) →
+            IsTrue (is_accepted (reply_to self.old.book event)) →
+            result ≢ Err DeskFault.NoMemory }
     {
         if let Some(place) = foreign_place(self.history.as_slice(), seat) {
             return Err(DeskFault::Foreign(place));
         }
-        self.history.reserve(1)?;
-        let reply = self.book.step(event)?;
+        let reply = answer(&mut self.history, &mut self.book, event)?;
         Ok(enter(&mut self.history, seat, event, reply))
     }
 
-    /// Judges a `Take` of some free channel of a cell, as [`Book::take_any`] chooses it. `None`, where the cell has none,
-    /// is no entry and changes nothing. Else as [`Desk::judge`].
-    #[tactic(auto, using(crate::proofs::Leading::leads_more))]
+    /// Judges a `Take` of some free channel of a cell, as [`Book::take_any`] chooses it. `None`, just where the cell has
+    /// none, is no entry, changes nothing and takes no memory. Else as [`Desk::judge`].
+    #[tactic(auto, using(crate::proofs::Taking::not_foreign, crate::proofs::Taking::take_memory))]
     pub fn judge_take(
         &mut self,
         seat: &mut Seat,
@@ -199,6 +215,8 @@ impl<A: Allocator + Copy> Desk<A> {
             IsForeign self.old.history seat.old place }
         ensures held { OnOk result (HoldsLast self.old.history seat.old) }
         ensures none { result ≡ Ok None → NoneFree self.old.book cell }
+        ensures looked { HoldsLast self.old.history seat.old → NoneFree self.old.book cell →
+            result ≡ Ok None }
         ensures kept { result ≡ Ok None → IsSameDesk self.old self.new × (seat.new ≡ seat.old) }
         ensures event { IfOk result (λ answer. IfSome answer
             (λ receipt. TakesFree self.old.book call kind cell receipt.event)) }
@@ -207,18 +225,18 @@ impl<A: Allocator + Copy> Desk<A> {
         ensures seat { IfOk result (λ answer. IfSome answer
             (λ receipt. seat.new ≡ Some receipt)) }
         ensures unchanged { OnErr result (IsSameDesk self.old self.new × (seat.new ≡ seat.old)) }
-        ensures memory { result ≡ Err DeskFault.NoMemory → (self.old.room ≡ 0) ⊎
+        ensures memory { result ≡ Err DeskFault.NoMemory → LacksRoom self.old ⊎
             ((e : Event) × TakesFree self.old.book call kind cell e ×
             NeedsRoom self.old.book (row self.old.book e)) }
     {
         if let Some(place) = foreign_place(self.history.as_slice(), seat) {
             return Err(DeskFault::Foreign(place));
         }
-        self.history.reserve(1)?;
-        let Some((event, reply)) = self.book.take_any(call, kind, cell)? else {
+        let Some(chan) = self.book.free_channel(cell) else {
             return Ok(None);
         };
-        Ok(Some(enter(&mut self.history, seat, event, reply)))
+        let receipt = self.judge(seat, Event::Take(call, kind, chan))?;
+        Ok(Some(receipt))
     }
 
     /// Judges a `Reserve` of some free reference, as [`Book::reserve_any`] chooses it. Else as [`Desk::judge`].
@@ -231,15 +249,14 @@ impl<A: Allocator + Copy> Desk<A> {
         ensures judged { IfOk result (λ receipt. IsJudged self.old receipt self.new) }
         ensures seat { IfOk result (λ receipt. seat.new ≡ Some receipt) }
         ensures unchanged { OnErr result (IsSameDesk self.old self.new × (seat.new ≡ seat.old)) }
-        ensures memory { result ≡ Err DeskFault.NoMemory → (self.old.room ≡ 0) ⊎
+        ensures memory { result ≡ Err DeskFault.NoMemory → LacksRoom self.old ⊎
             ((e : Event) × ReservesFree self.old.book call e ×
             NeedsRoom self.old.book (row self.old.book e)) }
     {
         if let Some(place) = foreign_place(self.history.as_slice(), seat) {
             return Err(DeskFault::Foreign(place));
         }
-        self.history.reserve(1)?;
-        let (event, reply) = self.book.reserve_any(call)?;
+        let (event, reply) = answer_reserve(&mut self.history, &mut self.book, call)?;
         Ok(enter(&mut self.history, seat, event, reply))
     }
 }
@@ -281,6 +298,8 @@ fn enter<A: Allocator + Copy>(
       reply = reply;
     } }
     ensures history { history.new.items ≡ history.old.items ++ (event, reply) ∷ [] }
+    ensures len { vec_len history.new ≡ vec_len history.old + 1 }
+    ensures capacity { vec_capacity history.new ≡ vec_capacity history.old }
     ensures seat { seat.new ≡ Some result }
 {
     let receipt = Receipt {

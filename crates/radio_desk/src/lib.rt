@@ -6,5 +6,6 @@
 pub mod audit;
 pub mod desk;
 pub mod entry;
+mod room;
 pub mod seat;
 pub mod tally;

@@ -75,7 +75,8 @@ fn marks_of(event: Event) -> Marks
     }
 }
 
-fn is_accepted(reply: Reply) -> bool
+/// The reply is no refusal.
+pub(crate) fn is_accepted(reply: Reply) -> bool
     ensures { result ≡ is_accepted reply }
 {
     match reply {

@@ -1,21 +1,22 @@
-use Rattle.std.proofs.Common.{length, [], ◌∷◌, ◌++◌, refl, ap, ◌∙◌}
-use Rattle.radio_book.specs.Run.{Leads}
-use Rattle.radio_desk.proofs.Leading.{leads_more}
+use Rattle.std.proofs.Common.{length, [], ◌∷◌, ◌++◌, refl, ap, ◌∙◌, arith}
+use Rattle.radio_desk.proofs.Rooms.{in_order_more}
 use Rattle.radio_desk.proofs.desk.Desk.judge_reserve.Goals as goal
 
 pub invariant_of-self-2 : goal.invariant_of-self-2
 invariant_of-self-2 g c =
-    let more = leads_more c.self.inside.opening c.self.inside.history.items c.self.inside.book c.in_ok-event.event c.in_ok-event.reply c.self.invariant c.in_ok-event.ensures.reply in
-    let leads : Leads c.self.inside.opening c.enter.new.history.items c.reserve_any.new.self =
-    rw (c.enter.ensures.history, c.reserve.ensures.items, c.in_ok-event.ensures.book) more in
-    leads
+    in_order_more c.self.inside.opening c.self.inside.book _ c.self.inside.history.items _ c.in_ok-event.event c.in_ok-event.reply _
+    c.self.invariant.legal c.in_ok-event.ensures.reply c.in_ok-event.ensures.book
+    (c.enter.ensures.history ∙ ap (λ entries. entries ++ (c.in_ok-event.event, c.in_ok-event.reply) ∷ []) c.answer_reserve.ensures.items)
+    (omega (arith, c.in_ok-event.ensures.room, c.enter.ensures.len, c.enter.ensures.capacity))
 
 pub returns-clause-judged : goal.returns-clause-judged
 returns-clause-judged g c =
     rw (← c.self.view_is) (rw c.enter.ensures.receipt record {
-      place = ap length c.reserve.ensures.items;
+      place = ap length c.answer_reserve.ensures.items;
       reply = c.in_ok-event.ensures.reply;
       opening = refl;
-      history = c.enter.ensures.history ∙ ap (λ entries. entries ++ (c.in_ok-event.event, c.in_ok-event.reply) ∷ []) c.reserve.ensures.items;
+      history = c.enter.ensures.history ∙ ap (λ entries. entries ++ (c.in_ok-event.event, c.in_ok-event.reply) ∷ []) c.answer_reserve.ensures.items;
       book = c.in_ok-event.ensures.book;
+      room = omega (arith, c.answer_reserve.ensures.len, c.answer_reserve.ensures.capacity, c.enter.ensures.len, c.enter.ensures.capacity);
+      owed = omega (arith, c.in_ok-event.ensures.room, c.enter.ensures.len, c.enter.ensures.capacity);
     })
