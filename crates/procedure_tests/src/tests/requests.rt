@@ -1,6 +1,6 @@
-//! How many requests for memory inputs make at least: one for each table of the book that gets its first entry, for the
-//! first entries of the history, for each list that a message keeps, for the list of messages and for a buffer of each;
-//! none where a buffer is left from before.
+//! How many requests for memory inputs make at least: one for each table of the book that gets its first entry, for each
+//! list that a message keeps, for the list of messages and for a buffer of each; none where a buffer is left from before,
+//! and none for a release that is acknowledged. A new desk has room for the first entries of its history.
 //!
 //! Between two empty lines stand the beginning that is gone on from, where one is; lines `in`, the last of which is the
 //! input that is counted; the trace lines that come of it, without `none free`; and how many requests it makes.
@@ -76,7 +76,7 @@ a 1 000c131709062bd5670ba36b2a05
 pub const BEGINNING: &str = "in open 1 0 0 3
 event open 1 0/0/3 -> done
 out abis 0 0 0821010b0300060400010801
-requests 5
+requests 4
 
 in open 1 0 0 3
 in abis 0 0 0822010b081234
@@ -112,7 +112,7 @@ event take 9 incoming 1/1/3 -> done
 event reserve 9 0 -> done
 event activate 9 -> done
 out abis 1 1 0821010b03020604000108010900
-requests 8
+requests 7
 
 from a call that is to come
 in abis 1 1 0822010b080000
@@ -173,7 +173,7 @@ in open 1 0 0 2
 in clear 1
 in abis 0 0 0833010b
 event released 0/0/3 -> done
-requests 1
+requests 0
 
 in open 2 0 0 2
 in abis 0 0 0823010a1a0120
@@ -368,7 +368,7 @@ requests 3
 in a 9 0019100b030208010a01011d330505010017006605050100170065
 event look 9 -> refused 1
 out a 9 000416040121
-requests 5
+requests 4
 
 in open 2 1 1 3
 in a 9 0019100b030108010a01011d330505010017006605050100170065
