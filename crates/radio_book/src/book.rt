@@ -16,6 +16,7 @@ ghost use Rattle.radio_book.specs.Choice.{IsFreeIn, NoneFree, TakesFree, Reserve
 use crate::book_tables::BookTables;
 use crate::event::{Event, Kind, Reply};
 use cell_table::Site;
+use channel_fsm::ChanId;
 use std::alloc::{AllocError, Allocator, Global};
 use std::marker::Model;
 use std::sync::Arc;
