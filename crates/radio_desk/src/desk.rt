@@ -1,5 +1,5 @@
 //! The desk: an opening book, the history of what was asked since, and the book that it leads to.
-ghost use Rattle.std.specs.Prelude.{◌≡◌, ◌≢◌, ◌↔◌, ◌⊎◌, IsTrue, ◌+◌, ◌≤◌, ◌++◌, ◌∷◌, ℕ, [], length, vec_len, vec_capacity, Option, None, Some, Ok, Err, MatchOption, IfOk, IfSome, OnOk, OnErr, slice_get};
+ghost use Rattle.std.specs.Prelude.{◌≡◌, ◌≢◌, ◌↔◌, ◌⊎◌, IsTrue, true, List, ◌+◌, ◌≤◌, ◌++◌, ◌∷◌, ℕ, [], length, vec_len, vec_capacity, Option, None, Some, Ok, Err, MatchOption, IfOk, IfSome, OnOk, OnErr, slice_get};
 ghost use Rattle.radio_book.specs.declared.event.Event.{Event};
 ghost use Rattle.radio_book.specs.Run.{Leads};
 ghost use Rattle.radio_book.specs.Table.{row, reply_to, NeedsRoom};
