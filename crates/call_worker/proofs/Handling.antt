@@ -9,13 +9,14 @@ use Rattle.ho_procedure.specs.Claims.{Entry, Claim}
 use Rattle.ho_procedure.specs.Sent.{Sent}
 use Rattle.ho_procedure.specs.Windows.{Kept}
 use Rattle.ho_procedure.specs.Going.{last_reports}
-use Rattle.ho_procedure.specs.Plan.{Plan, Ends, Asks, Takes, Reserves, Sends, Notes, Ranks, AsksDesk, TakesMemory}
+use Rattle.ho_procedure.specs.Plan.{Plan, Ends, Readies, Asks, Takes, Reserves, Sends, Notes, Ranks, AsksDesk, TakesMemory}
 use Rattle.ho_procedure.specs.Handling.{IsRow, IsUndecoded, KeepsOctets, Handles, StopsForMemory, StopsAtDesk}
 use Rattle.call_worker.specs.Turns.{end_of, Took}
 
 -- a step that asks the desk is one for which memory may be refused
 asks_takes : (p : Plan) → AsksDesk p → TakesMemory p
 asks_takes Ends a = a
+asks_takes (Readies room next) a = absurd a
 asks_takes (Asks e next) a = a
 asks_takes (Takes c k cell none next) a = a
 asks_takes (Reserves c next) a = a

@@ -4,15 +4,16 @@ use Rattle.channel_fsm.specs.declared.ChanId.{ChanId}
 use Rattle.cell_table.specs.Site.{SiteView}
 use Rattle.rr_elements.specs.MeasResults.{Results}
 use Rattle.ho_candidates.specs.declared.listed.Candidate.{Candidate}
+use Rattle.ho_candidates.specs.Candidates.{SomeCandidate}
 use Rattle.radio_book.specs.declared.event.Kind.{Kind}
 use Rattle.radio_book.specs.declared.event.Event.{Event}
 use Rattle.radio_book.specs.declared.event.Event.TheVariants.{Take, Reserve}
 use Rattle.radio_book.specs.declared.event.Reply.{Reply}
 use Rattle.radio_desk.specs.declared.desk.DeskFault.{DeskFault}
 use Rattle.radio_desk.specs.declared.desk.DeskFault.TheVariants.{Foreign, NoMemory}
-use Rattle.ho_procedure.specs.Claims.{Entry, Claim, NoneFree, Chosen, UnknownReceipt, IsForeign}
+use Rattle.ho_procedure.specs.Claims.{Entry, Claim, NoneFree, Chosen, UnknownReceipt, MayBeRefused, IsForeign, IsNoMemory}
 use Rattle.ho_procedure.specs.Sent.{Sent}
-use Rattle.ho_procedure.specs.Plan.{Plan, Ends, Asks, Takes, Reserves, Sends, Notes, Ranks, Step, Asked, Chose, FoundNone, Posted, Noted, Ranked, AreCandidates, Moves, Leads, AsksDesk, TakesMemory, Until, At, AtMemory, AtDesk, LeadsUntil, entries_in, entries_of, messages_in, messages_of, ChoiceIn, ChoicesAt, is_accepted, call_dropped, dropped_if, reports_by, reports_after}
+use Rattle.ho_procedure.specs.Plan.{Room, Plan, Ends, Readies, Asks, Takes, Reserves, Sends, Notes, Ranks, Step, Readied, Asked, Chose, FoundNone, Posted, Noted, Ranked, AreCandidates, Moves, Leads, AsksDesk, TakesMemory, MayLack, Until, At, AtMemory, AtDesk, LeadsUntil, entries_in, entries_of, messages_in, messages_of, ChoiceIn, ChoicesAt, is_accepted, call_dropped, dropped_if, reports_by, reports_after}
 use Rattle.ho_procedure.specs.declared.work.Work.{Work}
 use Rattle.ho_procedure.specs.Going.{Run, Goes, Passes, MayStop, last_reports, stops_at}
 
@@ -40,6 +41,7 @@ reports_after-append call (s ∷ t) u reports = reports_after-append call t u (r
 
 -- what a later view says its earlier one would have said too
 pub choice-said : (says says' : Claim → Type 0) (s : Step) → ((claim : Claim) → says' claim → says claim) → ChoiceIn says' s → ChoiceIn says s
+choice-said says says' (Readied room) k f = tt
 choice-said says says' (Asked e r) k f = tt
 choice-said says says' (Chose e r) k f = k (Chosen e) f
 choice-said says says' (FoundNone cell) k f = k (NoneFree cell) f
@@ -51,10 +53,20 @@ pub choices-said : (says says' : List Entry → Claim → Type 0) (log : List En
 choices-said says says' log [] k g = tt
 choices-said says says' log (s ∷ u) k g = (choice-said (says log) (says' log) s (k log) g.0, choices-said says says' (log ++ entries_in s) u k g.1)
 
-pub stop-said : (says says' : Claim → Type 0) (u : Until) → ((claim : Claim) → says' claim → says claim) → MayStop says' u → MayStop says u
-stop-said says says' (At p) k s = tt
-stop-said says says' AtMemory k s = tt
-stop-said says says' (AtDesk place) k s = k (UnknownReceipt place) s
+pub lack-said : (says says' : Claim → Type 0) (p : Plan) → ((claim : Claim) → says' claim → says claim) → MayLack says' p → MayLack says p
+lack-said says says' Ends k f = f
+lack-said says says' (Readies room next) k f = tt
+lack-said says says' (Asks e next) k f = k (MayBeRefused e) f
+lack-said says says' (Takes c kind cell none next) k f = tt
+lack-said says says' (Reserves c next) k f = tt
+lack-said says says' (Sends m next) k f = f
+lack-said says says' (Notes c reports next) k f = f
+lack-said says says' (Ranks site reports serving next) k f = f
+
+pub stop-append : (says says' : Claim → Type 0) (p q : Plan) (t v : List Step) (u : Until) → ((claim : Claim) → says' claim → says claim) → Leads p t q → MayStop says' q v u → MayStop says p (t ++ v) u
+stop-append says says' p q t v (At r) k f s = tt
+stop-append says says' p q t v AtMemory k f s = (s.0, leads-append p q s.0 t v f s.1, lack-said says says' s.0 k s.2)
+stop-append says says' p q t v (AtDesk place) k f s = k (UnknownReceipt place) s
 
 pub choices-append : (says says' : List Entry → Claim → Type 0) (log log' : List Entry) (t u : List Step) → ((es : List Entry) → (claim : Claim) → says' es claim → says es claim)
     → log' ≡ log ++ entries_of t → ChoicesAt says log t → ChoicesAt says' log' u → ChoicesAt says log (t ++ u)
@@ -73,7 +85,7 @@ joined {D} {A} {log} {says} {w} {w'} {w''} {p} {q} {u} f g = record {
   reports = λ call. g.reports call ∙ ap (λ x. reports_after call g.steps x) (f.reports call) ∙ sym (reports_after-append call f.steps g.steps (last_reports w.windows call));
   width = g.width ∙ f.width;
   said = λ es claim h. f.said es claim (g.said es claim h);
-  stop = stop-said (says w.view (log w''.view)) (says w'.view (log w''.view)) u (f.said (log w''.view)) g.stop;
+  stop = stop-append (says w.view (log w''.view)) (says w'.view (log w''.view)) p q f.steps g.steps u (f.said (log w''.view)) f.leads g.stop;
 }
 
 -- nothing is done
@@ -84,6 +96,7 @@ stays log says w p q e = record { steps = []; leads = e; entries = sym (append-n
 -- a step that asks the desk takes memory too
 pub asking_takes : (p : Plan) → AsksDesk p → TakesMemory p
 asking_takes Ends asks = asks
+asking_takes (Readies room next) asks = absurd asks
 asking_takes (Asks e next) asks = tt
 asking_takes (Takes c k cell none next) asks = tt
 asking_takes (Reserves c next) asks = tt
@@ -92,28 +105,54 @@ asking_takes (Notes c reports next) asks = asks
 asking_takes (Ranks site reports serving next) asks = absurd asks
 
 -- nothing is done where the plan asks the desk next, and this fault comes
-pub waits : {D A : Type 0} (log : D → List Entry) (says : D → List Entry → Claim → Type 0) (w w' : Work D A) (f : DeskFault) (p : Plan)
+waits : {D A : Type 0} (log : D → List Entry) (says : D → List Entry → Claim → Type 0) (w w' : Work D A) (f : DeskFault) (p : Plan)
     → log w'.view ≡ log w.view → w'.owed.items ≡ w.owed.items → ((call : ℕ) → last_reports w'.windows call ≡ last_reports w.windows call) → w'.windows.width ≡ w.windows.width
-    → ((es : List Entry) → (claim : Claim) → says w'.view es claim → says w.view es claim) → ((place : ℕ) → IsForeign f place → says w.view (log w.view) (UnknownReceipt place)) → AsksDesk p → Goes log says w p w' (stops_at f)
+    → ((es : List Entry) → (claim : Claim) → says w'.view es claim → says w.view es claim) → ((place : ℕ) → IsForeign f place → says w.view (log w.view) (UnknownReceipt place))
+    → (IsNoMemory f → MayLack (says w.view (log w.view)) p) → AsksDesk p → Goes log says w p w' (stops_at f)
 unfolding Goes stops_at
-waits log says w w' (Foreign place) p l o n i k h a = record { steps = []; leads = (p, refl, a); entries = l ∙ sym (append-nil (log w.view)); messages = o ∙ sym (append-nil w.owed.items); choices = tt; reports = n; width = i; said = k; stop = subst (λ es. says w.view es (UnknownReceipt place)) (sym l) (h place refl) }
-waits log says w w' NoMemory p l o n i k h a = record { steps = []; leads = (p, refl, asking_takes p a); entries = l ∙ sym (append-nil (log w.view)); messages = o ∙ sym (append-nil w.owed.items); choices = tt; reports = n; width = i; said = k; stop = tt }
+waits log says w w' (Foreign place) p l o n i k h m a = record { steps = []; leads = (p, refl, a); entries = l ∙ sym (append-nil (log w.view)); messages = o ∙ sym (append-nil w.owed.items); choices = tt; reports = n; width = i; said = k; stop = subst (λ es. says w.view es (UnknownReceipt place)) (sym l) (h place refl) }
+waits log says w w' NoMemory p l o n i k h m a = record { steps = []; leads = (p, refl, asking_takes p a); entries = l ∙ sym (append-nil (log w.view)); messages = o ∙ sym (append-nil w.owed.items); choices = tt; reports = n; width = i; said = k; stop = (p, refl, subst (λ es. MayLack (says w.view es) p) (sym l) (m tt)) }
 
--- nothing is done where the plan takes memory next, and it is refused
-pub lacks : {D A : Type 0} (log : D → List Entry) (says : D → List Entry → Claim → Type 0) (w : Work D A) (f : DeskFault) (p : Plan) → f ≡ NoMemory → TakesMemory p → Goes log says w p w (stops_at f)
+-- so where an event is asked
+pub unasked : {D A : Type 0} (log : D → List Entry) (says : D → List Entry → Claim → Type 0) (w w' : Work D A) (f : DeskFault) (e : Event) (next : Reply → Plan)
+    → log w'.view ≡ log w.view → w'.owed.items ≡ w.owed.items → ((call : ℕ) → last_reports w'.windows call ≡ last_reports w.windows call) → w'.windows.width ≡ w.windows.width
+    → ((es : List Entry) → (claim : Claim) → says w'.view es claim → says w.view es claim) → ((place : ℕ) → IsForeign f place → says w.view (log w.view) (UnknownReceipt place))
+    → (IsNoMemory f → says w.view (log w.view) (MayBeRefused e)) → Goes log says w (Asks e next) w' (stops_at f)
+unasked log says w w' f e next l o n i k h m = waits log says w w' f (Asks e next) l o n i k h m tt
+
+-- a channel taken
+pub untaken : {D A : Type 0} (log : D → List Entry) (says : D → List Entry → Claim → Type 0) (w w' : Work D A) (f : DeskFault) (c : ℕ) (kind : Kind) (cell : ℕ) (none : Plan) (next : ChanId → Reply → Plan)
+    → log w'.view ≡ log w.view → w'.owed.items ≡ w.owed.items → ((call : ℕ) → last_reports w'.windows call ≡ last_reports w.windows call) → w'.windows.width ≡ w.windows.width
+    → ((es : List Entry) → (claim : Claim) → says w'.view es claim → says w.view es claim) → ((place : ℕ) → IsForeign f place → says w.view (log w.view) (UnknownReceipt place))
+    → Goes log says w (Takes c kind cell none next) w' (stops_at f)
+untaken log says w w' f c kind cell none next l o n i k h = waits log says w w' f (Takes c kind cell none next) l o n i k h (λ is. tt) tt
+
+-- and a reference reserved
+pub unreserved : {D A : Type 0} (log : D → List Entry) (says : D → List Entry → Claim → Type 0) (w w' : Work D A) (f : DeskFault) (c : ℕ) (next : ℕ → Reply → Plan)
+    → log w'.view ≡ log w.view → w'.owed.items ≡ w.owed.items → ((call : ℕ) → last_reports w'.windows call ≡ last_reports w.windows call) → w'.windows.width ≡ w.windows.width
+    → ((es : List Entry) → (claim : Claim) → says w'.view es claim → says w.view es claim) → ((place : ℕ) → IsForeign f place → says w.view (log w.view) (UnknownReceipt place))
+    → Goes log says w (Reserves c next) w' (stops_at f)
+unreserved log says w w' f c next l o n i k h = waits log says w w' f (Reserves c next) l o n i k h (λ is. tt) tt
+
+-- nothing is done where memory is refused for a step that needs no desk
+lacks : {D A : Type 0} (log : D → List Entry) (says : D → List Entry → Claim → Type 0) (w w' : Work D A) (f : DeskFault) (p : Plan)
+    → f ≡ NoMemory → TakesMemory p → MayLack (says w.view (log w.view)) p → w'.view ≡ w.view → w'.owed.items ≡ w.owed.items
+    → ((call : ℕ) → last_reports w'.windows call ≡ last_reports w.windows call) → w'.windows.width ≡ w.windows.width → Goes log says w p w' (stops_at f)
 unfolding Goes stops_at
-lacks log says w f p is t =
-    let here : Goes log says w p w (stops_at NoMemory) = record { steps = []; leads = (p, refl, t); entries = sym (append-nil (log w.view)); messages = sym (append-nil w.owed.items); choices = tt; reports = λ call. refl; width = refl; said = λ es claim h. h; stop = tt } in
-    subst (λ x. Goes log says w p w (stops_at x)) (sym is) here
+lacks {D} log says w w' f p is t m v o n i =
+    let here : Goes log says w p w' (stops_at NoMemory) = record { steps = []; leads = (p, refl, t); entries = ap log v ∙ sym (append-nil (log w.view)); messages = o ∙ sym (append-nil w.owed.items); choices = tt; reports = n; width = i; said = λ es claim h. let P : D → Type 0 = λ x. says x es claim in subst P v h; stop = (p, refl, subst (λ x. MayLack (says w.view (log x)) p) (sym v) m) } in
+    subst (λ x. Goes log says w p w' (stops_at x)) (sym is) here
 
--- nothing is done, and the plan goes on
-pub idles : {D A : Type 0} (log : D → List Entry) (says : D → List Entry → Claim → Type 0) (w w' : Work D A) (p : Plan)
-    → w'.view ≡ w.view → w'.owed.items ≡ w.owed.items → ((call : ℕ) → last_reports w'.windows call ≡ last_reports w.windows call) → w'.windows.width ≡ w.windows.width
-    → Passes log says w p w' p
-unfolding Goes
-idles {D} {A} log says w w' p v o n i w'' u g =
-    let f : Run log says w p w' (At p) = record { steps = []; leads = refl; entries = ap log v ∙ sym (append-nil (log w.view)); messages = o ∙ sym (append-nil w.owed.items); choices = tt; reports = n; width = i; said = λ es claim h. let P : D → Type 0 = λ x. says x es claim in subst P v h; stop = tt } in
-    joined f g
+-- so where room is made
+pub unready : {D A : Type 0} (log : D → List Entry) (says : D → List Entry → Claim → Type 0) (w w' : Work D A) (f : DeskFault) (room : Room) (next : Plan)
+    → f ≡ NoMemory → w'.view ≡ w.view → w'.owed.items ≡ w.owed.items → ((call : ℕ) → last_reports w'.windows call ≡ last_reports w.windows call) → w'.windows.width ≡ w.windows.width
+    → Goes log says w (Readies room next) w' (stops_at f)
+unready log says w w' f room next is v o n i = lacks log says w w' f (Readies room next) is tt tt v o n i
+
+-- and where there is some candidate
+pub unranked : {D A : Type 0} (log : D → List Entry) (says : D → List Entry → Claim → Type 0) (w : Work D A) (f : DeskFault) (site : SiteView) (reports : List Results) (serving : ℕ) (next : List Candidate → Plan)
+    → f ≡ NoMemory → SomeCandidate (record { reports = reports; width = site.handover.window }) site serving → Goes log says w (Ranks site reports serving next) w (stops_at f)
+unranked log says w f site reports serving next is some = lacks log says w w f (Ranks site reports serving next) is some some refl refl (λ call. refl) refl
 
 -- what was followed to a plan goes on from there
 pub continues : {D A : Type 0} (log : D → List Entry) (says : D → List Entry → Claim → Type 0) (w w' : Work D A) (p q : Plan) → Goes log says w p w' (At q) → Passes log says w p w' q
@@ -129,6 +168,13 @@ unfolding Goes
 moved {D} {A} log says w w' p s q m l o c n i k w'' u g =
     let f : Run log says w p w' (At q) = record { steps = s ∷ []; leads = (q, m, refl); entries = l ∙ ap (λ x. log w.view ++ x) (sym (append-nil (entries_in s))); messages = o ∙ ap (λ x. w.owed.items ++ x) (sym (append-nil (messages_in s))); choices = (c, tt); reports = n; width = i; said = k; stop = tt } in
     joined f g
+
+-- room is made
+pub readied : {D A : Type 0} (log : D → List Entry) (says : D → List Entry → Claim → Type 0) (w w' : Work D A) (room : Room) (next : Plan)
+    → w'.view ≡ w.view → w'.owed.items ≡ w.owed.items → ((call : ℕ) → last_reports w'.windows call ≡ last_reports w.windows call) → w'.windows.width ≡ w.windows.width
+    → Passes log says w (Readies room next) w' next
+readied {D} log says w w' room next v o n i =
+    moved log says w w' (Readies room next) (Readied room) next (refl, refl) (ap log v ∙ sym (append-nil (log w.view))) (o ∙ sym (append-nil w.owed.items)) tt n i (λ es claim h. let P : D → Type 0 = λ x. says x es claim in subst P v h)
 
 pub asked : {D A : Type 0} (log : D → List Entry) (says : D → List Entry → Claim → Type 0) (w w' : Work D A) (e : Event) (r : Reply) (next : Reply → Plan)
     → log w'.view ≡ log w.view ++ (e, r) ∷ [] → w'.owed.items ≡ w.owed.items

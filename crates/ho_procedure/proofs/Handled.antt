@@ -33,6 +33,7 @@ handled log says w w' p u out f none is = record {
   messages = is ∙ f.messages ∙ ap (λ x. x ++ messages_of f.steps) none;
   choices = f.choices;
   reports = f.reports;
+  stop = f.stop;
 }
 
 pub kept : {D A : Type 0} (log : D → List Entry) (says : D → List Entry → Claim → Type 0) (w w' : Work D A) (p : Plan) (u : Until)

@@ -1,10 +1,10 @@
 -- The candidates that reports make of the cells.
-use Rattle.std.proofs.Common.{◌≡◌, ◌↔◌, ◌≤◌, ℕ, List, [], AllPairs, Contains, length, Result, Ok, Err, IfOk, refl, ◌∙◌, ap, subst, arith}
+use Rattle.std.proofs.Common.{◌≡◌, ◌↔◌, ◌≤◌, ℕ, List, [], AllPairs, Contains, length, Result, Ok, Err, IfOk, OnErr, refl, ◌∙◌, ap, subst, arith}
 use Rattle.cell_table.specs.Site.{SiteView}
 use Rattle.rr_elements.specs.MeasResults.{Results}
 use Rattle.measurements.specs.Reports.{Reports}
 use Rattle.ho_candidates.specs.declared.listed.Candidate.{Candidate}
-use Rattle.ho_candidates.specs.Candidates.{IsCandidate}
+use Rattle.ho_candidates.specs.Candidates.{IsCandidate, SomeCandidate}
 use Rattle.ho_candidates.specs.Order.{StandsBefore}
 use Rattle.ho_procedure.specs.Plan.{AreCandidates}
 
@@ -32,3 +32,9 @@ pub all_candidates : {V E : Type 0} (items : V → List Candidate) (site : SiteV
     → IfOk result (λ found. AreCandidates site w.reports serving (items found))
 all_candidates items site w serving (Ok found) wide members order = are_candidates site w w.reports serving (items found) wide refl members order
 all_candidates items site w serving (Err f) wide members order = tt
+
+-- where memory was refused there is some
+pub some_of : {V E : Type 0} (site : SiteView) (w : Reports) (serving : ℕ) (result : Result V E) → w.width ≡ site.handover.window → OnErr result (SomeCandidate w site serving)
+    → OnErr result (SomeCandidate (record { reports = w.reports; width = site.handover.window }) site serving)
+some_of site w serving (Ok found) wide some = tt
+some_of site w serving (Err f) wide some = subst (λ n. SomeCandidate (record { reports = w.reports; width = n }) site serving) wide some

@@ -1,9 +1,13 @@
 -- A desk with its only caller.
-use Rattle.std.proofs.Common.{◌≡◌, ◌↔◌, ℕ, List, [], ◌∷◌, ◌++◌, Option, Some, None, Result, Ok, Err, IfOk, IfErr, OnErr, IfSome, MatchOption, refl, sym, subst}
+use Rattle.std.proofs.Common.{◌≡◌, ◌≢◌, ◌↔◌, IsTrue, ℕ, List, [], ◌∷◌, ◌++◌, Option, Some, None, Result, Ok, Err, IfOk, IfErr, OnErr, IfSome, MatchOption, refl, sym, subst}
 use Rattle.channel_fsm.specs.declared.ChanId.{ChanId}
 use Rattle.radio_book.specs.declared.event.Kind.{Kind}
+use Rattle.radio_book.specs.declared.event.Event.{Event}
 use Rattle.radio_book.specs.declared.event.Event.TheVariants.{Take, Reserve}
 use Rattle.radio_book.specs.State.{State}
+use Rattle.radio_book.specs.Table.{reply_to}
+use Rattle.radio_book.specs.Kinds.{is_accepted}
+use Rattle.radio_book.specs.Owed.{is_owed}
 use Rattle.radio_book.specs.Run.{Leads}
 use Rattle.radio_book.specs.Choice.{IsFreeIn, TakesFree, ReservesFree}
 use Rattle.radio_book.specs.Choice as free
@@ -12,7 +16,7 @@ use Rattle.radio_desk.specs.declared.desk.DeskFault.{DeskFault}
 use Rattle.radio_desk.specs.declared.desk.DeskFault.TheVariants.{Foreign, NoMemory}
 use Rattle.radio_desk.specs.Desk.{DeskState, IsJudged, IsSameDesk}
 use Rattle.radio_desk.specs.Desk as desk
-use Rattle.ho_procedure.specs.Claims.{Entry, Claim, NoneFree, Chosen, IsThere, IsTrueAfter, IsForeign}
+use Rattle.ho_procedure.specs.Claims.{Entry, Claim, NoneFree, Chosen, MayBeRefused, IsThere, IsTrueAfter, IsForeign, IsNoMemory}
 
 -- a seat without a receipt isn't foreign
 pub not_foreign : {X : Type 0} (history : List Entry) (last : Option Receipt) (result : Result X DeskFault)
@@ -20,6 +24,13 @@ pub not_foreign : {X : Type 0} (history : List Entry) (last : Option Receipt) (r
 not_foreign history last (Ok x) new foreign = tt
 not_foreign history last (Err NoMemory) new foreign = λ place is. is
 not_foreign history last (Err (Foreign place)) new foreign = λ _ is. subst (λ s. desk.IsForeign history s place) new ((foreign place).0 refl)
+
+-- A desk refuses memory only for an event that isn't owed, or is refused.
+pub may_lack : {X : Type 0} (d : DeskState) (e : Event) (result : Result X DeskFault)
+    → Leads d.opening d.history d.book → (IsTrue (is_owed e) → IsTrue (is_accepted (reply_to d.book e)) → result ≢ Err NoMemory) → IfErr result (λ f. IsNoMemory f → IsTrueAfter d.opening d.history (MayBeRefused e))
+may_lack d e (Ok x) legal owes = tt
+may_lack d e (Err NoMemory) legal owes = λ is. (d.book, legal, λ is_one accepted. owes is_one accepted refl)
+may_lack d e (Err (Foreign place)) legal owes = λ is. absurd is
 
 -- what is true of a desk was true before, as long as it opens with the same book
 pub still_true : (opening opening' : State) → opening' ≡ opening → (log : List Entry) → (claim : Claim) → IsTrueAfter opening' log claim → IsTrueAfter opening log claim

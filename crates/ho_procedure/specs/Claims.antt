@@ -1,11 +1,14 @@
 -- What a view says of the book that it asks: what it may choose there, a free channel of a cell (TS 48.058 clause 4) or a
--- free Handover Reference (TS 44.018 clause 10.5.2.15), which book it began with, and that the desk doesn't know the view's
--- last receipt.
-use Rattle.std.specs.Prelude.{◌≡◌, ℕ, List}
+-- free Handover Reference (TS 44.018 clause 10.5.2.15), which book it began with, that the desk doesn't know the view's last
+-- receipt, and for which events it may be refused memory.
+use Rattle.std.specs.Prelude.{◌≡◌, ℕ, IsTrue, List}
 use Rattle.radio_book.specs.declared.event.Event.{Event}
 use Rattle.radio_book.specs.declared.event.Event.TheVariants.{Open, Clear, Look, Take, Reserve, Activate, Command, Complete, Undo, Confirm, Refuse, Detect, Released, Owner, Require, Order, Left}
 use Rattle.radio_book.specs.declared.event.Reply.{Reply}
 use Rattle.radio_book.specs.State.{State, record_of}
+use Rattle.radio_book.specs.Table.{reply_to}
+use Rattle.radio_book.specs.Kinds.{is_accepted}
+use Rattle.radio_book.specs.Owed.{is_owed}
 use Rattle.radio_book.specs.Run.{Leads}
 use Rattle.radio_book.specs.Choice.{IsFreeIn, MayReserve, taken_channel}
 use Rattle.radio_book.specs.Choice as free
@@ -16,13 +19,14 @@ use Rattle.radio_desk.specs.declared.desk.DeskFault.TheVariants.{Foreign, NoMemo
 abbrev pub Entry : Type 0
 Entry = Event × Reply
 
--- No channel of a cell is free; this Take or Reserve chooses what is; the book began as this one; or the desk doesn't know
--- the view's last receipt, which is of this place (counted from 0).
+-- No channel of a cell is free; this Take or Reserve chooses what is; the book began as this one; the desk doesn't know the
+-- view's last receipt, which is of this place (counted from 0); or memory may be refused where this event is asked.
 pub data Claim : Type 0 where
   NoneFree : ℕ → Claim
   Chosen : Event → Claim
   Opening : State → Claim
   UnknownReceipt : ℕ → Claim
+  MayBeRefused : Event → Claim
 
 -- the book has what is chosen: the channel is free, or the number is in the cell of the taken channel
 abbrev pub IsThere : State → Event → Type 0
@@ -44,6 +48,10 @@ IsThere b (Require c) = ⊥
 IsThere b (Order c) = ⊥
 IsThere b (Left c) = ⊥
 
+-- No room is kept for an entry of this event: the event is none that is owed, or it is refused.
+abbrev pub MayLackRoom : State → Event → Type 0
+MayLackRoom b e = IsTrue (is_owed e) → IsTrue (is_accepted (reply_to b e)) → ⊥
+
 -- A claim is true of the book that the entries lead to, or of the opening one, from which they lead. Where nobody else asks
 -- the desk, it knows each receipt.
 abbrev pub IsTrueAfter : State → List Entry → Claim → Type 0
@@ -51,6 +59,12 @@ IsTrueAfter opening log (NoneFree cell) = (b : State) × Leads opening log b × 
 IsTrueAfter opening log (Chosen e) = (b : State) × Leads opening log b × IsThere b e
 IsTrueAfter opening log (Opening book) = book ≡ opening
 IsTrueAfter opening log (UnknownReceipt place) = ⊥
+IsTrueAfter opening log (MayBeRefused e) = (b : State) × Leads opening log b × MayLackRoom b e
+
+-- the fault is refused memory
+abbrev pub IsNoMemory : DeskFault → Type 0
+IsNoMemory (Foreign named) = ⊥
+IsNoMemory NoMemory = Unit {0}
 
 -- the fault is that the desk doesn't know the view's last receipt, which is of this place
 abbrev pub IsForeign : DeskFault → ℕ → Type 0

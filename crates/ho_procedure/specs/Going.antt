@@ -11,22 +11,22 @@ use Rattle.ho_procedure.specs.declared.work.Flow.TheVariants.{On, Over}
 use Rattle.ho_procedure.specs.declared.work.Shown.{Shown}
 use Rattle.ho_procedure.specs.Claims.{Entry, Claim, UnknownReceipt}
 use Rattle.ho_procedure.specs.Windows.{Kept, reports_of}
-use Rattle.ho_procedure.specs.Plan.{Plan, Ends, Step, Until, At, AtMemory, AtDesk, LeadsUntil, ChoicesAt, entries_of, messages_of, reports_after}
+use Rattle.ho_procedure.specs.Plan.{Plan, Ends, Step, Until, At, AtMemory, AtDesk, Leads, LeadsUntil, MayLack, ChoicesAt, entries_of, messages_of, reports_after}
 
 -- the last reports of a call
 abbrev pub last_reports : Kept → ℕ → List Results
 last_reports windows call = (reports_of windows call).reports
 
--- What a view says where steps lead so far. A row stops at a step that asks the desk only where the view says, after the
--- entries so far, that the desk doesn't know the view's last receipt, and of which place that is.
-abbrev pub MayStop : (Claim → Type 0) → Until → Type 0
-MayStop says (At p) = Unit {0}
-MayStop says AtMemory = Unit {0}
-MayStop says (AtDesk place) = says (UnknownReceipt place)
+-- What a view says where steps lead so far, after the entries so far. A row stops at a step that takes memory only where it
+-- may be refused by what the view says; and at a step that asks the desk only where the view says that the desk doesn't know
+-- the view's last receipt, and of which place that is.
+abbrev pub MayStop : (Claim → Type 0) → Plan → List Step → Until → Type 0
+MayStop says p t (At q) = Unit {0}
+MayStop says p t AtMemory = (q : Plan) × Leads p t q × MayLack says q
+MayStop says p t (AtDesk place) = says (UnknownReceipt place)
 
 -- Some steps lead from the one plan to the other: their entries are what the view's log gained, their messages what is owed
--- since, and the reports of each call are those after them. Their choices are what the view says, and so is, where they stop
--- for that, that the desk doesn't know the view's last receipt.
+-- since, and the reports of each call are those after them. Their choices are what the view says, and so is why they stop.
 pub record Run {D A : Type 0} (log : D → List Entry) (says : D → List Entry → Claim → Type 0) (w : Work D A) (p : Plan) (w' : Work D A) (u : Until) : Type 0 where
   pub steps : List Step
   pub leads : LeadsUntil p steps u
@@ -36,7 +36,7 @@ pub record Run {D A : Type 0} (log : D → List Entry) (says : D → List Entry 
   pub reports : (call : ℕ) → last_reports w'.windows call ≡ reports_after call steps (last_reports w.windows call)
   pub width : w'.windows.width ≡ w.windows.width
   pub said : (es : List Entry) → (claim : Claim) → says w'.view es claim → says w.view es claim
-  pub stop : MayStop (says w.view (log w'.view)) u
+  pub stop : MayStop (says w.view (log w'.view)) p steps u
 
 -- the same, closed: a caller needs no more than that it may be put together
 unfoldable pub Goes : {D A : Type 0} → (D → List Entry) → (D → List Entry → Claim → Type 0) → Work D A → Plan → Work D A → Until → Type 0

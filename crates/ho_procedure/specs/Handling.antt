@@ -19,7 +19,7 @@ use Rattle.ho_procedure.specs.Claims.{Entry, Claim}
 use Rattle.ho_procedure.specs.Decoding.{IsAbis, IsUnreadAbis, IsUnreadA}
 use Rattle.ho_procedure.specs.Sent.{Sent, all_sent}
 use Rattle.ho_procedure.specs.Windows.{Kept}
-use Rattle.ho_procedure.specs.Going.{last_reports}
+use Rattle.ho_procedure.specs.Going.{last_reports, MayStop}
 use Rattle.ho_procedure.specs.Plan.{Plan, Step, Until, AtMemory, AtDesk, LeadsUntil, ChoicesAt, entries_of, messages_of, reports_after}
 use Rattle.ho_procedure.specs.Naming.{chan_of}
 use Rattle.ho_procedure.specs.Procedure.{line_plan, expiry_plan, abis_plan, a_plan}
@@ -46,8 +46,8 @@ KeepsOctets {A} (inbound.A call octets) = (message : Bssmap A) × interface_a.Is
 KeepsOctets (inbound.Expiry call timer) = ⊥
 KeepsOctets (inbound.Operator line) = ⊥
 
--- Some steps follow a plan so far: their entries are what the view's log gained, their messages these, their choices what the
--- view says, and the reports of each call are those after them.
+-- Some steps follow a plan so far: their entries are what the view's log gained, their messages these, and the reports of each
+-- call are those after them. Their choices are what the view says, and so is why they stop.
 pub record Handles {D : Type 0} (log : D → List Entry) (says : D → List Entry → Claim → Type 0) (v : D) (windows : Kept) (p : Plan) (v' : D) (windows' : Kept) (out : List Sent) (u : Until) : Type 0 where
   pub steps : List Step
   pub leads : LeadsUntil p steps u
@@ -55,6 +55,7 @@ pub record Handles {D : Type 0} (log : D → List Entry) (says : D → List Entr
   pub messages : out ≡ messages_of steps
   pub choices : ChoicesAt (says v) (log v) steps
   pub reports : (call : ℕ) → last_reports windows' call ≡ reports_after call steps (last_reports windows call)
+  pub stop : MayStop (says v (log v')) p steps u
 
 -- What the handling comes to where memory was refused: the row was followed up to a step that takes memory; or nothing was
 -- asked yet, and the message keeps octets, whose memory was refused.

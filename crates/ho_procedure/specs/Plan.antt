@@ -4,21 +4,29 @@ use Rattle.channel_fsm.specs.declared.ChanId.{ChanId}
 use Rattle.cell_table.specs.Site.{SiteView}
 use Rattle.rr_elements.specs.MeasResults.{Results}
 use Rattle.ho_candidates.specs.declared.listed.Candidate.{Candidate}
-use Rattle.ho_candidates.specs.Candidates.{IsCandidate}
+use Rattle.ho_candidates.specs.Candidates.{IsCandidate, SomeCandidate}
 use Rattle.ho_candidates.specs.Order.{StandsBefore}
 use Rattle.radio_book.specs.declared.event.Kind.{Kind}
 use Rattle.radio_book.specs.declared.event.Event.{Event}
 use Rattle.radio_book.specs.declared.event.Event.TheVariants.{Open, Clear, Look, Take, Reserve, Activate, Command, Complete, Undo, Confirm, Refuse, Detect, Released, Owner, Require, Order, Left}
 use Rattle.radio_book.specs.declared.event.Reply.{Reply}
 use Rattle.radio_book.specs.declared.event.Reply.TheVariants.{Done, Record, Owned, Refused}
-use Rattle.ho_procedure.specs.Claims.{Entry, Claim, NoneFree, Chosen}
+use Rattle.ho_procedure.specs.Claims.{Entry, Claim, NoneFree, Chosen, MayBeRefused}
 use Rattle.ho_procedure.specs.Sent.{Sent}
 
--- What is done with one input, step by step: an event is asked, and the reply decides the next step; some free channel of
--- a cell is taken, or none is free; some free reference is reserved; a message is sent; a call has these last reports
--- from now on; the candidates that such reports make of the cells are gone through in their order.
+-- What there is to be room for before a row goes on: for so many messages; for one in which so many octets are passed on
+-- unread; for the reports of one more call.
+pub data Room : Type 0 where
+  ForMessages : ℕ → Room
+  ForUnread : ℕ → Room
+  ForReports : Room
+
+-- What is done with one input, step by step: room is made; an event is asked, and the reply decides the next step; some free
+-- channel of a cell is taken, or none is free; some free reference is reserved; a message is sent; a call has these last
+-- reports from now on; the candidates that such reports make of the cells are gone through in their order.
 pub data Plan : Type 0 where
   Ends : Plan
+  Readies : Room → Plan → Plan
   Asks : Event → (Reply → Plan) → Plan
   Takes : ℕ → Kind → ℕ → Plan → (ChanId → Reply → Plan) → Plan
   Reserves : ℕ → (ℕ → Reply → Plan) → Plan
@@ -28,6 +36,7 @@ pub data Plan : Type 0 where
 
 -- what happened at a step
 pub data Step : Type 0 where
+  Readied : Room → Step
   Asked : Event → Reply → Step
   Chose : Event → Reply → Step
   FoundNone : ℕ → Step
@@ -43,6 +52,7 @@ pub record AreCandidates (site : SiteView) (reports : List Results) (serving : �
 -- a step leads from the one plan to the other
 abbrev pub Moves : Plan → Step → Plan → Type 0
 Moves Ends s q = ⊥
+Moves (Readies room next) s q = (s ≡ Readied room) × (q ≡ next)
 Moves (Asks e next) s q = (r : Reply) × (s ≡ Asked e r) × (q ≡ next r)
 Moves (Takes c k cell none next) s q =
     ((s ≡ FoundNone cell) × (q ≡ none)) ⊎ ((x : ChanId) × (r : Reply) × (x.cell ≡ cell) × (s ≡ Chose (Take c k x) r) × (q ≡ next x r))
@@ -63,6 +73,7 @@ Follows p t = Leads p t Ends
 -- the plan's next step asks a desk
 abbrev pub AsksDesk : Plan → Type 0
 AsksDesk Ends = ⊥
+AsksDesk (Readies room next) = ⊥
 AsksDesk (Asks e next) = Unit {0}
 AsksDesk (Takes c k cell none next) = Unit {0}
 AsksDesk (Reserves c next) = Unit {0}
@@ -70,15 +81,28 @@ AsksDesk (Sends m next) = ⊥
 AsksDesk (Notes c reports next) = ⊥
 AsksDesk (Ranks site reports serving next) = ⊥
 
--- The plan's next step is one for which memory may be refused: it is no message, and nothing that is noted.
+-- The plan's next step is one for which memory may be refused: it is no message, nothing that is noted, and no candidates
+-- where there is none.
 abbrev pub TakesMemory : Plan → Type 0
 TakesMemory Ends = ⊥
+TakesMemory (Readies room next) = Unit {0}
 TakesMemory (Asks e next) = Unit {0}
 TakesMemory (Takes c k cell none next) = Unit {0}
 TakesMemory (Reserves c next) = Unit {0}
 TakesMemory (Sends m next) = ⊥
 TakesMemory (Notes c reports next) = ⊥
-TakesMemory (Ranks site reports serving next) = Unit {0}
+TakesMemory (Ranks site reports serving next) = SomeCandidate (record { reports = reports; width = site.handover.window }) site serving
+
+-- The same by what a view says: of an event it says so itself.
+abbrev pub MayLack : (Claim → Type 0) → Plan → Type 0
+MayLack says Ends = ⊥
+MayLack says (Readies room next) = Unit {0}
+MayLack says (Asks e next) = says (MayBeRefused e)
+MayLack says (Takes c k cell none next) = Unit {0}
+MayLack says (Reserves c next) = Unit {0}
+MayLack says (Sends m next) = ⊥
+MayLack says (Notes c reports next) = ⊥
+MayLack says (Ranks site reports serving next) = SomeCandidate (record { reports = reports; width = site.handover.window }) site serving
 
 -- How far steps lead: to a plan, to some plan whose next step takes memory, or to some whose next step asks a desk that
 -- doesn't know a receipt of this place.
@@ -94,6 +118,7 @@ LeadsUntil p t (AtDesk place) = (q : Plan) × Leads p t q × AsksDesk q
 
 -- the events of steps with their replies
 abbrev pub entries_in : Step → List Entry
+entries_in (Readied room) = []
 entries_in (Asked e r) = (e, r) ∷ []
 entries_in (Chose e r) = (e, r) ∷ []
 entries_in (FoundNone cell) = []
@@ -107,6 +132,7 @@ entries_of (s ∷ t) = entries_in s ++ entries_of t
 
 -- their messages
 abbrev pub messages_in : Step → List Sent
+messages_in (Readied room) = []
 messages_in (Asked e r) = []
 messages_in (Chose e r) = []
 messages_in (FoundNone cell) = []
@@ -120,6 +146,7 @@ messages_of (s ∷ t) = messages_in s ++ messages_of t
 
 -- the choices of steps, each made after the entries before it
 abbrev pub ChoiceIn : (Claim → Type 0) → Step → Type 0
+ChoiceIn says (Readied room) = Unit {0}
 ChoiceIn says (Asked e r) = Unit {0}
 ChoiceIn says (Chose e r) = says (Chosen e)
 ChoiceIn says (FoundNone cell) = says (NoneFree cell)
@@ -165,6 +192,7 @@ dropped_if accepted (Some c) call reports = if accepted then (if c == call then 
 
 -- the last reports of a call after a step
 abbrev pub reports_by : ℕ → Step → List Results → List Results
+reports_by call (Readied room) reports = reports
 reports_by call (Asked e r) reports = dropped_if (is_accepted r) (call_dropped e) call reports
 reports_by call (Chose e r) reports = reports
 reports_by call (FoundNone cell) reports = reports

@@ -1,5 +1,6 @@
 -- The procedure: for each input, what the controller asks of the book and what it sends, by the replies. A row ends at a
--- reply that it doesn't name, and at a record that lacks what the rest of the row needs.
+-- reply that it doesn't name, and at a record that lacks what the rest of the row needs. Room for all that a row sends, or
+-- notes, is made before its first event that changes the book; a row that sends nothing makes none.
 use Rattle.std.specs.Prelude.{ℕ, ◌==◌, ◌%◌, Bool, true, false, if◌then◌else◌, not, ◌&&◌, ◌||◌, nat_lt, List, [], ◌∷◌, length, Option, Some, None, is_some}
 use Rattle.std.specs.List.{position}
 use Rattle.channel_fsm.specs.declared.ChanId.{ChanId}
@@ -41,7 +42,7 @@ use Rattle.ho_procedure.specs.Messages.{is_nameable, activation, target_activati
 use Rattle.rr_elements.specs.RrCause.{normal_event, abnormal_release}
 use Rattle.bssmap_messages.specs.Causes.{radio_interface_message_failure, radio_interface_failure, call_control, reversion_to_old_channel, equipment_failure, no_radio_resource_available, ciphering_algorithm_not_supported, invalid_message_contents}
 use Rattle.ho_procedure.specs.Windows.{with_report}
-use Rattle.ho_procedure.specs.Plan.{Plan, Ends, Asks, Takes, Reserves, Sends, Notes, Ranks}
+use Rattle.ho_procedure.specs.Plan.{Plan, Ends, Readies, ForMessages, ForUnread, ForReports, Asks, Takes, Reserves, Sends, Notes, Ranks}
 
 -- A plan goes on at one reply, and ends at any other.
 
@@ -130,7 +131,7 @@ unfoldable pub opened_plan : ChanId → Plan
 opened_plan x = if is_nameable x then Sends (activation x) Ends else Ends
 
 unfoldable pub open_plan : ℕ → ChanId → Plan
-open_plan c x = once_done (event.Open c x) (opened_plan x)
+open_plan c x = Readies (ForMessages 1) (once_done (event.Open c x) (opened_plan x))
 
 -- A handover to an own cell begins (TS 44.018 clause 3.4.4): a channel is taken, a reference reserved, CHANNEL ACTIVATION
 -- sent (TS 48.058 clause 4.1).
@@ -154,11 +155,12 @@ if_cell None next = Ends
 if_cell (Some cell) next = next cell
 
 unfoldable pub require_plan : ℕ → CellId → Plan
-require_plan c cell = once_done (event.Require c) (Sends (handover_required c cell) Ends)
+require_plan c cell = Readies (ForMessages 1) (once_done (event.Require c) (Sends (handover_required c cell) Ends))
 
 -- A handover begins to a cell of the site. Where an own cell has no free channel, this plan is next.
 unfoldable pub start_plan : SiteView → ℕ → ℕ → Plan → Plan
-start_plan site c cell none = if nat_lt cell (length site.cells) then Takes c kind.Internal cell none (taken_plan c) else if_cell (cell_id_at site cell) (require_plan c)
+start_plan site c cell none =
+    if nat_lt cell (length site.cells) then Readies (ForMessages 1) (Takes c kind.Internal cell none (taken_plan c)) else if_cell (cell_id_at site cell) (require_plan c)
 
 -- An operator asks for a handover.
 abbrev pub handover_plan : SiteView → ℕ → ℕ → Plan
@@ -185,7 +187,7 @@ failure_of c (Some a) = failure_by c a.kind
 
 -- An operator takes an attempt back.
 unfoldable pub undo_plan : ℕ → Plan
-undo_plan c = take_back c (failure_of c)
+undo_plan c = Readies (ForMessages 2) (take_back c (failure_of c))
 
 -- CLEAR REQUEST (TS 48.008 clause 3.1.9.1)
 abbrev pub expiry_rest : ℕ → Timer → Plan
@@ -195,7 +197,7 @@ expiry_rest c T8 = Sends (clear_request c radio_interface_message_failure) Ends
 
 -- A timer ran out (TS 44.018 clause 11.1.2, TS 48.008 clause 3.1.5): its attempt is taken back.
 unfoldable pub expiry_plan : ℕ → Timer → Plan
-expiry_plan c m = once_recorded (event.Undo c (Expired m)) (λ r s. release_target r.attempt (expiry_rest c m))
+expiry_plan c m = Readies (ForMessages 2) (once_recorded (event.Undo c (Expired m)) (λ r s. release_target r.attempt (expiry_rest c m)))
 
 -- A call of this controller keeps its record after an undo; one that comes from another controller has none then.
 abbrev pub is_own_kind : AttemptKind → Bool
@@ -261,7 +263,7 @@ clear_rest c cause tail r s =
 
 -- An operator clears a call.
 unfoldable pub clear_plan : ℕ → Plan
-clear_plan c = looked c (clear_rest c None Ends)
+clear_plan c = Readies (ForMessages 3) (looked c (clear_rest c None Ends))
 
 -- CHANNEL ACTIVATION ACKNOWLEDGE (TS 48.058 clause 8.4.2) of a target: HANDOVER COMMAND to the mobile on its old channel
 -- (TS 44.018 clause 3.4.4.1), or to the switching centre in a HANDOVER REQUEST ACKNOWLEDGE (TS 48.008 clause 3.1.5.2)
@@ -298,7 +300,7 @@ confirm_rest site c x serving None = Ends
 confirm_rest site c x serving (Some a) = if is_target x a.target then command_plan site c x serving a a.kind else Ends
 
 unfoldable pub confirm_plan : SiteView → ChanId → Plan
-confirm_plan site x = owned (event.Confirm x) (λ c. looked c (λ r s. confirm_rest site c x r.serving r.attempt))
+confirm_plan site x = Readies (ForMessages 1) (owned (event.Confirm x) (λ c. looked c (λ r s. confirm_rest site c x r.serving r.attempt)))
 
 -- CHANNEL ACTIVATION NEGATIVE ACKNOWLEDGE (TS 48.058 clause 8.4.3): an attempt to a refused target is taken back, and where
 -- the call was to come, HANDOVER FAILURE sent; for a refused serving channel CLEAR REQUEST, equipment failure
@@ -308,8 +310,9 @@ refused_target c = once_recorded (event.Undo c Asked) (λ r s. failure_of c r.at
 
 unfoldable pub refuse_plan : ChanId → Plan
 refuse_plan x =
-    owned (event.Refuse x)
-    (λ c. looked c (λ r s. if is_target x (target_in r) then refused_target c else (if is_serving x r then Sends (clear_request c equipment_failure) Ends else Ends)))
+    Readies (ForMessages 1)
+    (owned (event.Refuse x)
+    (λ c. looked c (λ r s. if is_target x (target_in r) then refused_target c else (if is_serving x r then Sends (clear_request c equipment_failure) Ends else Ends))))
 
 -- RF CHANNEL RELEASE ACKNOWLEDGE (TS 48.058 clause 8.4.19)
 unfoldable pub released_plan : ChanId → Plan
@@ -319,7 +322,8 @@ released_plan x = Asks (event.Released x) nothing_more
 -- REQUEST, radio interface failure
 unfoldable pub connection_failure_plan : ChanId → Plan
 connection_failure_plan x =
-    owned (event.Owner x) (λ c. looked c (λ r s. if is_serving x r && not (is_some r.attempt) then Sends (clear_request c radio_interface_failure) Ends else Ends))
+    owned (event.Owner x)
+    (λ c. Readies (ForMessages 1) (looked c (λ r s. if is_serving x r && not (is_some r.attempt) then Sends (clear_request c radio_interface_failure) Ends else Ends)))
 
 -- HANDOVER DETECTION (TS 48.058 clause 8.4.7): of a call that comes the switching centre is told by HANDOVER DETECT
 -- (TS 48.008 clause 3.1.5.3)
@@ -337,7 +341,7 @@ detect_rest c None = Ends
 detect_rest c (Some a) = detected_by c a.kind
 
 unfoldable pub detect_plan : ChanId → Plan
-detect_plan x = owned (event.Detect x) (λ c. looked c (λ r s. detect_rest c r.attempt))
+detect_plan x = Readies (ForMessages 1) (owned (event.Detect x) (λ c. looked c (λ r s. detect_rest c r.attempt)))
 
 -- MEASUREMENT REPORT (TS 44.018 clause 9.1.21) in a MEASUREMENT RESULT (TS 48.058 clause 8.4.8): where the call is served
 -- on the channel, the report counts; a valid one starts a handover to the first candidate that has a free channel
@@ -353,7 +357,9 @@ rank_plan site c cell reports m attempt =
 
 unfoldable pub report_plan : SiteView → (ℕ → List Results) → ChanId → Results → Plan
 report_plan site reports x m =
-    owned (event.Owner x) (λ c. looked c (λ r s. if is_serving x r && is_on s then rank_plan site c x.cell (with_report site.handover.window (reports c) m) m r.attempt else Ends))
+    Readies ForReports
+    (owned (event.Owner x)
+    (λ c. looked c (λ r s. if is_serving x r && is_on s then rank_plan site c x.cell (with_report site.handover.window (reports c) m) m r.attempt else Ends)))
 
 -- HANDOVER COMPLETE (TS 44.018 clause 3.4.4.3) on the target: the old channel is released, and HANDOVER PERFORMED sent
 -- (TS 48.008 clause 3.1.7); or HANDOVER COMPLETE with the mobile's RR cause, where the call comes from another controller
@@ -365,10 +371,11 @@ traffic_cell site x = if is_traffic site x then cell_id_at site x.cell else None
 
 abbrev pub internal_complete : SiteView → ℕ → ChanId → Option ChanId → Plan
 internal_complete site c x serving =
-    if_named serving (λ s. if_cell (traffic_cell site x) (λ cell. once_done (event.Complete c) (Sends (release s) (Sends (handover_performed c cell) Ends))))
+    if_named serving (λ s. if_cell (traffic_cell site x) (λ cell.
+    Readies (ForMessages 2) (once_done (event.Complete c) (Sends (release s) (Sends (handover_performed c cell) Ends)))))
 
 unfoldable pub incoming_complete : ℕ → ℕ → Plan
-incoming_complete c cause = once_done (event.Complete c) (Sends (handover_complete c cause) Ends)
+incoming_complete c cause = Readies (ForMessages 1) (once_done (event.Complete c) (Sends (handover_complete c cause) Ends))
 
 abbrev pub complete_by : SiteView → ℕ → ℕ → ChanId → Option ChanId → AttemptKind → Plan
 complete_by site c cause x serving Internal = internal_complete site c x serving
@@ -389,11 +396,14 @@ complete_plan site x cause = owned (event.Owner x) (λ c. looked c (λ r s. comp
 unfoldable pub tell_returned : ℕ → ℕ → Plan
 tell_returned c cause = Sends (handover_failure c reversion_to_old_channel (Some cause)) Ends
 
+unfoldable pub internal_return : ℕ → Plan
+internal_return c = Readies (ForMessages 1) (take_back c (λ attempt. Ends))
+
 unfoldable pub outgoing_return : ℕ → ℕ → Plan
-outgoing_return c cause = once_recorded (event.Undo c Asked) (λ r s. tell_returned c cause)
+outgoing_return c cause = Readies (ForMessages 1) (once_recorded (event.Undo c Asked) (λ r s. tell_returned c cause))
 
 abbrev pub return_by : ℕ → ℕ → Attempt → AttemptKind → Plan
-return_by c cause a Internal = if is_commanded a.stage && names_target (Some a) then take_back c (λ attempt. Ends) else Ends
+return_by c cause a Internal = if is_commanded a.stage && names_target (Some a) then internal_return c else Ends
 return_by c cause a Incoming = Ends
 return_by c cause a Outgoing = if is_ordered a.stage then outgoing_return c cause else Ends
 
@@ -434,7 +444,7 @@ clear_command_rest c cause (Owned d) = Ends
 clear_command_rest c cause (Refused refusal) = if_no_call (Sends (clear_complete c) Ends) refusal
 
 unfoldable pub clear_command_plan : ℕ → ℕ → Plan
-clear_command_plan c cause = Asks (event.Look c) (clear_command_rest c cause)
+clear_command_plan c cause = Readies (ForMessages 4) (Asks (event.Look c) (clear_command_rest c cause))
 
 -- HANDOVER REQUEST (TS 48.008 clause 3.1.5.2): a call is to come from another controller. It is turned away with no radio
 -- resource available where it wants another channel than a full-rate one for speech, or its cell has no free channel; with
@@ -488,11 +498,11 @@ unfoldable pub once_new : ℕ → Plan → Plan
 once_new c next = Asks (event.Look c) (if_new next)
 
 unfoldable pub request_plan : SiteView → ℕ → List ℕ → List ℕ → CellId → Plan
-request_plan site c channel encryption target = once_new c (request_rest site c channel encryption target)
+request_plan site c channel encryption target = Readies (ForMessages 1) (once_new c (request_rest site c channel encryption target))
 
 -- HANDOVER COMMAND (TS 48.008 clause 3.1.5.3) where HANDOVER REQUIRED was sent: the message inside goes to the mobile unread
 unfoldable pub order_channel : ℕ → List ℕ → ChanId → Plan
-order_channel c layer3 x = once_done (event.Order c) (Sends (data_request x layer3) Ends)
+order_channel c layer3 x = Readies (ForUnread (length layer3)) (once_done (event.Order c) (Sends (data_request x layer3) Ends))
 
 unfoldable pub order_plan : ℕ → List ℕ → Plan
 order_plan c layer3 = looked c (λ r s. if awaits_order r.attempt then if_named r.serving (order_channel c layer3) else Ends)

@@ -14,7 +14,7 @@ use std::marker::Model;
 ///
 /// It says that no channel of a cell is free only where the desk's book has none, chooses what is free there, and its
 /// desk never finds it foreign: it asks each time from a new seat, since a desk that nobody else asks has no receipt to
-/// compare.
+/// compare. Nor does it say that memory may be refused for an `Undo` or a `Released` that is accepted.
 #[derive(Drop)]
 pub struct Solo<A: Allocator = Global> {
     desk: Desk<A>,
@@ -57,6 +57,7 @@ impl<A: Allocator + Copy> DeskView for Solo<A> {
     ghost judged = { λ before receipt after. IsJudged before receipt after };
 
     fn judge(&mut self, event: Event) -> Result<Receipt, DeskFault> {
+        let _entries = self.desk.len();
         self.desk.judge(&mut Seat::new(), event)
     }
 

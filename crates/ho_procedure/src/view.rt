@@ -2,7 +2,7 @@
 ghost use Rattle.std.specs.Prelude.{◌≡◌, ◌∷◌, ◌++◌, [], ℕ, List, IfOk, IfErr, OnErr, IfSome, MatchOption};
 ghost use Rattle.channel_fsm.specs.declared.ChanId.{ChanId};
 ghost use Rattle.radio_desk.specs.declared.seat.Receipt.{Receipt};
-ghost use Rattle.ho_procedure.specs.Claims.{Entry, Claim, NoneFree, Chosen, UnknownReceipt, IsForeign};
+ghost use Rattle.ho_procedure.specs.Claims.{Entry, Claim, NoneFree, Chosen, UnknownReceipt, MayBeRefused, IsForeign, IsNoMemory};
 
 use radio_book::event::{Event, Kind};
 use radio_desk::desk::DeskFault;
@@ -14,7 +14,8 @@ use radio_desk::seat::Receipt;
 /// An answered event joins the log with its reply. After a fault, and where no channel is free, the log is as it was. What
 /// it says after a call it would have said before: so it says of one book that it began with. `Foreign` it answers only
 /// where it says that the desk doesn't know the view's last receipt, of the place that it answers; a view that never says
-/// so is never foreign.
+/// so is never foreign. An event that is asked as it stands is answered `NoMemory` only where the view says that memory may
+/// be refused for it.
 pub trait DeskView {
     ghost log: { Self → List Entry };
 
@@ -35,6 +36,8 @@ pub trait DeskView {
         ensures err { OnErr result (log self.new ≡ log self.old) }
         ensures foreign { IfErr result (λ f. (place : ℕ) → IsForeign f place →
             says self.old (log self.old) (UnknownReceipt place)) }
+        ensures memory { IfErr result (λ f. IsNoMemory f →
+            says self.old (log self.old) (MayBeRefused event)) }
         ensures said { (es : List Entry) → (claim : Claim) →
             says self.new es claim → says self.old es claim };
 

@@ -85,8 +85,9 @@ impl<A: Allocator> Windows<A> {
         }
     }
 
-    /// Forgets the reports of a call.
+    /// Forgets the reports of a call, and its entry.
     pub(crate) fn clear(&mut self, call: u16)
+        ensures entries { self.new.entries ≡ filter (λ e. not (is_of call e)) self.old.entries }
         ensures cleared { reports_of self.new call ≡ no_reports self.old.width }
         ensures others { SameReportsBut call self.old self.new }
         ensures width { self.new.width ≡ self.old.width }

@@ -4,7 +4,8 @@ ghost use Rattle.channel_fsm.specs.declared.ChanId.{ChanId};
 ghost use Rattle.ho_candidates.specs.declared.listed.Candidate.{Candidate};
 ghost use Rattle.radio_book.specs.declared.event.Reply.{Reply};
 ghost use Rattle.ho_procedure.specs.Windows.{with_report};
-ghost use Rattle.ho_procedure.specs.Plan.{Plan, AreCandidates, Asks, Takes, Reserves, Notes, Ranks, AsksDesk, TakesMemory, is_accepted, call_dropped, dropped_if};
+ghost use Rattle.ho_procedure.specs.Plan.{Plan, Readies, ForMessages, ForUnread, ForReports, AreCandidates, Asks, Takes, Reserves, Notes, Ranks, is_accepted, call_dropped, dropped_if};
+ghost use Rattle.ho_candidates.specs.Candidates.{SomeCandidate};
 ghost use Rattle.ho_procedure.specs.Going.{Goes, Passes, last_reports, stops_at};
 
 use crate::outbox::Outbox;
@@ -96,12 +97,13 @@ fn drop_reports<A: Allocator>(windows: &mut Windows<A>, event: Event, reply: Rep
 
 impl<D: DeskView + Drop, A: Allocator + Copy> Work<D, A> {
     /// Makes room for this many messages more.
-    #[tactic(auto, using(crate::proofs::Going::idles, crate::proofs::Going::waits))]
+    #[tactic(auto, using(crate::proofs::Going::readied, crate::proofs::Going::unready))]
     pub(crate) fn make_room(&mut self, messages: usize) -> Result<(), DeskFault>
-        ensures ok { OnOk result ((p : Plan) → Passes D.log D.says self.old p self.new p) }
+        ensures ok { OnOk result ((next : Plan) → Passes D.log D.says self.old
+            (Readies (ForMessages messages) next) self.new next) }
         ensures room { OnOk result (messages ≤ self.new.owed.room) }
-        ensures err { IfErr result (λ f. (p : Plan) → AsksDesk p →
-            Goes D.log D.says self.old p self.new (stops_at f)) }
+        ensures err { IfErr result (λ f. (next : Plan) → Goes D.log D.says self.old
+            (Readies (ForMessages messages) next) self.new (stops_at f)) }
         ensures no_memory { OnErr result (result ≡ Err DeskFault.NoMemory) }
         ensures windows { self.new.windows ≡ self.old.windows }
     {
@@ -109,26 +111,28 @@ impl<D: DeskView + Drop, A: Allocator + Copy> Work<D, A> {
     }
 
     /// Makes room for one message in which so many octets are passed on unread.
-    #[tactic(auto, using(crate::proofs::Going::idles, crate::proofs::Going::waits))]
+    #[tactic(auto, using(crate::proofs::Going::readied, crate::proofs::Going::unready))]
     pub(crate) fn make_unread_room(&mut self, octets: usize) -> Result<(), DeskFault>
         requires { octets ≤ 1015 }
-        ensures ok { OnOk result ((p : Plan) → Passes D.log D.says self.old p self.new p) }
+        ensures ok { OnOk result ((next : Plan) → Passes D.log D.says self.old
+            (Readies (ForUnread octets) next) self.new next) }
         ensures room { OnOk result (1 ≤ self.new.owed.room) }
         ensures unread_room { OnOk result (octets ≤ self.new.owed.unread_room) }
-        ensures err { IfErr result (λ f. (p : Plan) → AsksDesk p →
-            Goes D.log D.says self.old p self.new (stops_at f)) }
+        ensures err { IfErr result (λ f. (next : Plan) → Goes D.log D.says self.old
+            (Readies (ForUnread octets) next) self.new (stops_at f)) }
         ensures no_memory { OnErr result (result ≡ Err DeskFault.NoMemory) }
     {
         Ok(self.owed.make_unread_room(octets)?)
     }
 
     /// Makes room for the reports of one more call.
-    #[tactic(auto, using(crate::proofs::Going::idles, crate::proofs::Going::waits))]
+    #[tactic(auto, using(crate::proofs::Going::readied, crate::proofs::Going::unready))]
     pub(crate) fn make_window(&mut self) -> Result<(), DeskFault>
-        ensures ok { OnOk result ((p : Plan) → Passes D.log D.says self.old p self.new p) }
+        ensures ok { OnOk result ((next : Plan) → Passes D.log D.says self.old
+            (Readies ForReports next) self.new next) }
         ensures ready { OnOk result (IsTrue self.new.windows.is_ready) }
-        ensures err { IfErr result (λ f. (p : Plan) → AsksDesk p →
-            Goes D.log D.says self.old p self.new (stops_at f)) }
+        ensures err { IfErr result (λ f. (next : Plan) → Goes D.log D.says self.old
+            (Readies ForReports next) self.new (stops_at f)) }
         ensures no_memory { OnErr result (result ≡ Err DeskFault.NoMemory) }
         ensures reports { (call : ℕ) →
             last_reports self.new.windows call ≡ last_reports self.old.windows call }
@@ -139,12 +143,12 @@ impl<D: DeskView + Drop, A: Allocator + Copy> Work<D, A> {
     }
 
     /// Asks an event.
-    #[tactic(auto, using(crate::proofs::Going::asked, crate::proofs::Going::waits))]
+    #[tactic(auto, using(crate::proofs::Going::asked, crate::proofs::Going::unasked))]
     pub(crate) fn ask(&mut self, event: Event) -> Result<Reply, DeskFault>
         ensures ok { IfOk result (λ reply. (next : Reply → Plan) →
             Passes D.log D.says self.old (Asks event next) self.new (next reply)) }
-        ensures err { IfErr result (λ f. (p : Plan) → AsksDesk p →
-            Goes D.log D.says self.old p self.new (stops_at f)) }
+        ensures err { IfErr result (λ f. (next : Reply → Plan) → Goes D.log D.says self.old
+            (Asks event next) self.new (stops_at f)) }
         ensures owed { self.new.owed ≡ self.old.owed }
         ensures reports { IfOk result (λ reply. (call : ℕ) → last_reports self.new.windows call ≡
             dropped_if (is_accepted reply) (call_dropped event) call
@@ -159,7 +163,7 @@ impl<D: DeskView + Drop, A: Allocator + Copy> Work<D, A> {
     }
 
     /// Takes some free channel of a cell, or finds that none is free.
-    #[tactic(auto, using(crate::proofs::Going::took, crate::proofs::Going::found_none, crate::proofs::Going::waits))]
+    #[tactic(auto, using(crate::proofs::Going::took, crate::proofs::Going::found_none, crate::proofs::Going::untaken))]
     pub(crate) fn take(
         &mut self,
         call: u16,
@@ -172,8 +176,9 @@ impl<D: DeskView + Drop, A: Allocator + Copy> Work<D, A> {
             (λ taken. (none : Plan) → (next : ChanId → Reply → Plan) →
             Passes D.log D.says self.old (Takes call kind cell none next) self.new
             (next taken.0 taken.1))) }
-        ensures err { IfErr result (λ f. (p : Plan) → AsksDesk p →
-            Goes D.log D.says self.old p self.new (stops_at f)) }
+        ensures err { IfErr result (λ f. (none : Plan) → (next : ChanId → Reply → Plan) →
+            Goes D.log D.says self.old (Takes call kind cell none next)
+            self.new (stops_at f)) }
         ensures owed { self.new.owed ≡ self.old.owed }
     {
         let Some(receipt) = self.view.judge_take(call, kind, cell)? else {
@@ -186,12 +191,12 @@ impl<D: DeskView + Drop, A: Allocator + Copy> Work<D, A> {
     }
 
     /// Reserves some free handover reference.
-    #[tactic(auto, using(crate::proofs::Going::reserved, crate::proofs::Going::waits))]
+    #[tactic(auto, using(crate::proofs::Going::reserved, crate::proofs::Going::unreserved))]
     pub(crate) fn reserve(&mut self, call: u16) -> Result<(u8, Reply), DeskFault>
         ensures ok { IfOk result (λ answer. (next : ℕ → Reply → Plan) →
             Passes D.log D.says self.old (Reserves call next) self.new (next answer.0 answer.1)) }
-        ensures err { IfErr result (λ f. (p : Plan) → AsksDesk p →
-            Goes D.log D.says self.old p self.new (stops_at f)) }
+        ensures err { IfErr result (λ f. (next : ℕ → Reply → Plan) → Goes D.log D.says self.old
+            (Reserves call next) self.new (stops_at f)) }
         ensures owed { self.new.owed ≡ self.old.owed }
     {
         let receipt = self.view.judge_reserve(call)?;
@@ -219,7 +224,7 @@ impl<D: DeskView + Drop, A: Allocator + Copy> Work<D, A> {
 
 impl<D: DeskView + Drop, A: Allocator + Copy> Work<D, A> {
     /// The candidates that the last reports of a call make of the cells.
-    #[tactic(auto, using(crate::proofs::Going::ranked, crate::proofs::Going::lacks, crate::proofs::Ranking::no_candidates))]
+    #[tactic(auto, using(crate::proofs::Going::ranked, crate::proofs::Going::unranked, crate::proofs::Ranking::no_candidates))]
     pub(crate) fn rank(
         &self,
         site: &Site<A>,
@@ -231,8 +236,9 @@ impl<D: DeskView + Drop, A: Allocator + Copy> Work<D, A> {
             Passes D.log D.says self.now
             (Ranks site.now (last_reports self.now.windows call) serving next) self.now
             (next found.items)) }
-        ensures err { IfErr result (λ f. (p : Plan) → TakesMemory p →
-            Goes D.log D.says self.now p self.now (stops_at f)) }
+        ensures err { IfErr result (λ f. (next : List Candidate → Plan) → Goes D.log D.says self.now
+            (Ranks site.now (last_reports self.now.windows call) serving next)
+            self.now (stops_at f)) }
         ensures no_memory { OnErr result (result ≡ Err DeskFault.NoMemory) }
     {
         let _cells = site.cells();
@@ -252,8 +258,12 @@ fn candidates_by<A: Allocator + Copy>(
     serving: u8,
 ) -> Result<Vec<Candidate, A>, AllocError>
     requires { window.now.width ≡ site.now.handover.window }
-    ensures { IfOk result (λ found.
+    ensures found { IfOk result (λ found.
         AreCandidates site.now window.now.reports serving found.items) }
+    ensures some { OnErr result (SomeCandidate (record {
+      reports = window.now.reports;
+      width = site.now.handover.window;
+    }) site.now serving) }
 {
     candidates(alloc, window, site, serving)
 }

@@ -1,7 +1,7 @@
 -- What was said of a desk before a call.
 use Rattle.std.proofs.Common.{List}
 use Rattle.radio_book.specs.State.{State}
-use Rattle.ho_procedure.specs.Claims.{Entry, Claim, NoneFree, Chosen, Opening, UnknownReceipt, IsTrueAfter}
+use Rattle.ho_procedure.specs.Claims.{Entry, Claim, NoneFree, Chosen, Opening, UnknownReceipt, MayBeRefused, IsTrueAfter}
 use Rattle.procedure_tests.specs.Leaving.{IsSaidAfter}
 
 -- what isn't said of the receipt is said where it is true
@@ -11,3 +11,4 @@ still_said opening opening' said log (NoneFree cell) holds = said log (NoneFree 
 still_said opening opening' said log (Chosen e) holds = said log (Chosen e) holds
 still_said opening opening' said log (Opening book) holds = said log (Opening book) holds
 still_said opening opening' said log (UnknownReceipt place) holds = tt
+still_said opening opening' said log (MayBeRefused e) holds = said log (MayBeRefused e) holds

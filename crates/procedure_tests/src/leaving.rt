@@ -1,5 +1,5 @@
 //! A view of a desk that doesn't know its seat any more.
-ghost use Rattle.std.specs.Prelude.{◌≡◌};
+ghost use Rattle.std.specs.Prelude.{◌≡◌, IfErr};
 
 use ho_procedure::solo::Solo;
 use ho_procedure::view::DeskView;
@@ -39,7 +39,9 @@ impl<A: Allocator + Copy> Leaving<A> {
     }
 
     /// The receipt that isn't known is one of place 7.
-    fn sits(&self) -> Result<(), DeskFault> {
+    fn sits(&self) -> Result<(), DeskFault>
+        ensures place { IfErr result (λ f. f ≡ DeskFault.Foreign 7) }
+    {
         if self.solo.desk().len() < self.events {
             Ok(())
         } else {

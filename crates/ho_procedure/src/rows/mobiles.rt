@@ -3,7 +3,7 @@ ghost use Rattle.std.specs.Prelude.{◌≡◌, ◌≤◌, ◌<◌, ℕ, drop, Li
 ghost use Rattle.ho_procedure.specs.Windows.{with_report};
 ghost use Rattle.ho_procedure.specs.Plan.{Plan, Ends, At};
 ghost use Rattle.ho_procedure.specs.Going.{Goes, Passes, last_reports, stops_at};
-ghost use Rattle.ho_procedure.specs.Procedure.{try_plan, rank_plan, report_plan, internal_complete, incoming_complete, complete_rest, complete_plan, take_back, tell_returned, outgoing_return, return_rest, return_plan};
+ghost use Rattle.ho_procedure.specs.Procedure.{try_plan, rank_plan, report_plan, internal_complete, incoming_complete, complete_rest, complete_plan, internal_return, tell_returned, outgoing_return, return_rest, return_plan};
 
 use super::handovers::start;
 use super::parts::{ask_done, ask_last, ask_record, look, owner, release_target};
@@ -212,15 +212,15 @@ pub(crate) fn complete<D: DeskView + Drop, A: Allocator + Copy>(
 }
 
 /// The attempt of a call whose mobile is back is taken back, and its target released.
-#[tactic(auto, using(crate::proofs::Asking::row_steps), unfolding(crate::specs::Procedure::take_back))]
+#[tactic(auto, using(crate::proofs::Asking::row_steps), unfolding(crate::specs::Procedure::internal_return, crate::specs::Procedure::take_back))]
 fn return_internal<D: DeskView + Drop, A: Allocator + Copy>(
     work: &mut Work<D, A>,
     call: u16,
 ) -> Result<(), DeskFault>
     ensures row { OnOk result (Goes D.log D.says work.old
-        (take_back call (λ attempt. Ends)) work.new (At Ends)) }
+        (internal_return call) work.new (At Ends)) }
     ensures stops { IfErr result (λ f. Goes D.log D.says work.old
-        (take_back call (λ attempt. Ends)) work.new (stops_at f)) }
+        (internal_return call) work.new (stops_at f)) }
 {
     work.make_room(1)?;
     let Some(shown) = ask_record(work, Event::Undo(call, Why::Asked))? else {

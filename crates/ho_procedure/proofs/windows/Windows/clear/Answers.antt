@@ -1,4 +1,4 @@
-use Rattle.std.proofs.Common.{not, sym, ◌∙◌, ap, subst}
+use Rattle.std.proofs.Common.{not, filter, sym, ◌∙◌, ap, subst}
 use Rattle.measurements.specs.Reports.{no_reports}
 use Rattle.ho_procedure.specs.Windows.{AreKept, reports_of, reports_in, is_of}
 use Rattle.ho_procedure.proofs.WindowFacts.{kept_left, dropped_same, dropped_other}
@@ -8,6 +8,9 @@ pub invariant_of-self : goal.invariant_of-self
 invariant_of-self g c =
     let width = c.self.inside.width in
     (subst (λ ys. AreKept ys width) (sym c.drop_entries.ensures.others) (kept_left width c.self.inside.entries.items (λ e. not (is_of c.args.call e)) c.self.invariant.0), c.self.invariant.1)
+
+pub returns-clause-entries : goal.returns-clause-entries
+returns-clause-entries g c = c.drop_entries.ensures.others ∙ ap (λ w. filter (λ e. not (is_of c.args.call e)) w.entries) c.self.view_is
 
 pub returns-clause-cleared : goal.returns-clause-cleared
 returns-clause-cleared g c =
