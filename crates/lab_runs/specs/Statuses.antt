@@ -1,5 +1,6 @@
 -- The statuses that the program ends with.
-use Rattle.std.specs.Prelude.{ℕ, Result, Ok, Err}
+use Rattle.std.specs.Prelude.{ℕ, Result, Ok, Err, if◌then◌else◌}
+use Rattle.radio_desk.specs.declared.audit.Audit.{Audit}
 use Rattle.lab_runs.specs.declared.run.Status.{Status}
 use Rattle.lab_runs.specs.declared.run.Status.TheVariants as ended
 use Rattle.lab_runs.specs.declared.run.LabFault.{LabFault}
@@ -20,3 +21,7 @@ status_after stopped.NoMemory = 3
 abbrev pub exit_status_of : Result Status LabFault → ℕ
 exit_status_of (Ok status) = status_of status
 exit_status_of (Err fault) = status_after fault
+
+-- how the work ended that looked whether all settled attempts of a history left a trace together
+abbrev pub audit_status : Audit → Status
+audit_status audit = if audit.same then ended.Done else ended.Differs

@@ -22,8 +22,8 @@ use thiserror::Error;
 pub enum Status {
     /// A script was run to its end, an undone attempt left no trace, or the message, help or the version was printed.
     Done,
-    /// An undone attempt left a trace: without it the book is another, or a reply to an event that stays. Or something else
-    /// came of a script than its comments expect.
+    /// An undone attempt left a trace: without it the book is another, or a reply to an event that stays; or all settled
+    /// attempts of a history together left one. Or something else came of a script than its comments expect.
     Differs,
     /// Something was refused, and what was printed says what: the words, a file, the site, a line of the script or of the
     /// trace, what was to be decoded, or what was to be taken out.
@@ -82,7 +82,7 @@ fn status_after(fault: LabFault) -> u8
     }
 }
 
-/// The status that a program ends with: 0 where the work is done, 1 where an undone attempt left a trace or a script gave
+/// The status that a program ends with: 0 where the work is done, 1 where undone attempts left a trace or a script gave
 /// something else than it expects, 2 where something was refused or the output couldn't be written, 3 where memory was
 /// refused.
 pub fn exit_status(ended: Result<Status, LabFault>) -> u8
