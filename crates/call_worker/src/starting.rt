@@ -33,7 +33,19 @@ fn empty_desk<A: Allocator + Copy>(
     Desk::new(alloc, Book::new(alloc, Arc::try_clone(site)?)?)
 }
 
-/// Puts a desk under a lock.
+/// Puts a desk under a lock. Beside it stands a copy of the book that the desk opens with.
+fn locked<A: Allocator + Copy>(
+    alloc: A,
+    desk: Desk<A>,
+) -> Result<(Book<A>, Arc<Mutex<Desk<A>>, A>), AllocError>
+    ensures { IfOk result (λ r. r.0 ≡ desk.opening) }
+{
+    let opening = desk.opening().copy()?;
+    let lock = Arc::new(alloc, Mutex::new(desk))?;
+    Ok((opening, lock))
+}
+
+/// What an office of so many workers needs at a desk.
 pub(crate) fn prepare<R: Wait + Clone + Drop, L: Drop, A: Allocator + Copy>(
     rt: &R,
     alloc: A,
@@ -45,10 +57,9 @@ pub(crate) fn prepare<R: Wait + Clone + Drop, L: Drop, A: Allocator + Copy>(
     ensures ends { IfOk result (λ ready. (ready.ends.items ≡ []) ×
         (workers ≤ vec_capacity ready.ends)) }
 {
-    let opening = desk.opening().copy()?;
+    let (opening, lock) = locked(alloc, desk)?;
     let spare = empty_desk(alloc, opening.site())?;
     let ends = Vec::with_capacity(alloc, workers)?;
-    let lock = Arc::new(alloc, Mutex::new(desk))?;
     let front = Shared::new(rt.clone()?, alloc, Arc::try_clone(&lock)?);
     Ok(Ready {
         opening,
