@@ -75,7 +75,7 @@ impl<A: Allocator + Copy> Controllers<A> {
     }
 
     /// Whether the controller of this side is there.
-    pub(crate) fn has(&self, side: Side) -> bool
+    pub fn has(&self, side: Side) -> bool
         ensures there { result ≡ is_there (is_some self.now.peer) side }
     {
         match side {

@@ -8,8 +8,9 @@ ghost use Rattle.lab_runs.specs.Course.{Went, AreOpenings, positions_of, has_pee
 use crate::controllers::Controllers;
 use crate::listener::Listener;
 use crate::run::LabFault;
-use crate::simulators::{Arrival, Simulators, Waiting};
+use crate::simulators::Simulators;
 use crate::turn::{Answer, Source, Turn, TurnFault};
+use crate::waiting::{Arrival, Waiting};
 use bts_model::Setting;
 use cell_table::Site;
 use ho_procedure::exchange::Inbound;
@@ -19,7 +20,7 @@ use std::collections::VecDeque;
 use std::sync::Arc;
 
 /// How many answers of simulators are handled for one line of a script.
-const MOST_ANSWERS: u16 = 10_000;
+pub const MOST_ANSWERS: u16 = 10_000;
 
 /// Controllers, the simulators around them once a script attached them, and what came of each input.
 #[derive(Drop)]
@@ -137,13 +138,13 @@ impl<A: Allocator + Copy> Course<A> {
 
     /// Handles what a simulator sends. The simulators know the controllers that are there and no other: what was for
     /// another is passed over.
-    fn arrive<L: Listener<A>>(
+    pub fn arrive<L: Listener<A>>(
         &mut self,
         arrival: Arrival<A>,
         waiting: &mut Waiting<A>,
         listener: &mut L,
     ) -> Result<(), LabFault>
-        ensures { OnOk result (Went [] self.old self.new) }
+        ensures went { OnOk result (Went [] self.old self.new) }
     {
         if self.controllers.has(arrival.side) {
             self.handle(
@@ -176,14 +177,14 @@ impl<A: Allocator + Copy> Course<A> {
     }
 
     /// Does what a line of a script gives. What simulators answer waits.
-    fn begin<L: Listener<A>>(
+    pub fn begin<L: Listener<A>>(
         &mut self,
         item: Item<A>,
         waiting: &mut Waiting<A>,
         listener: &mut L,
     ) -> Result<(), LabFault>
         requires there { is_item_there (has_peer self.old) item ≡ true }
-        ensures { OnOk result (Went (inputs_in (item ∷ [])) self.old self.new) }
+        ensures went { OnOk result (Went (inputs_in (item ∷ [])) self.old self.new) }
     {
         let Item { side, given } = item;
         match given {
@@ -231,7 +232,7 @@ impl<A: Allocator + Copy> Course<A> {
     }
 
     /// What came of it so far.
-    pub(crate) fn into_run(self) -> Run<A>
+    pub fn into_run(self) -> Run<A>
         ensures turns { result.turns ≡ self.turns }
         ensures controllers { result.controllers ≡ self.controllers }
     {
@@ -275,8 +276,8 @@ fn tell<A: Allocator + Copy, L: Listener<A>>(
     Ok(pass_answer(simulators, turn, waiting)?)
 }
 
-/// Drops what still waits, and says so, where there is any.
-fn drop_rest<A: Allocator + Copy, L: Listener<A>>(
+/// Drops what still waits, and tells a listener so, where there is any.
+pub fn drop_rest<A: Allocator + Copy, L: Listener<A>>(
     waiting: &mut Waiting<A>,
     listener: &mut L,
 ) -> Result<(), LabFault> {

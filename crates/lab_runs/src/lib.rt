@@ -3,8 +3,8 @@
 //!
 //! A controller's view of its desk also notes where no channel was free (`noting`). A turn is one input and what came of it
 //! (`turn`). A course has the one controller or two of a run (`controllers`) and what is simulated around them
-//! (`simulators`), and plays the lines of a script with both (`course`, `run`). What the audit of a desk's history comes to is
-//! said in one line, and as a status (`verdict`).
+//! (`simulators`), whose messages wait (`waiting`), and plays the lines of a script with both (`course`, `run`). What the
+//! audit of a desk's history comes to is said in one line, and as a status (`verdict`).
 #![tactic(auto)]
 
 pub mod controllers;
@@ -15,3 +15,4 @@ pub mod run;
 mod simulators;
 pub mod turn;
 pub mod verdict;
+pub mod waiting;

@@ -1,4 +1,5 @@
 //! What is simulated around one controller or two: the stations and mobiles of each, and the switching centre.
+use crate::waiting::{Arrival, Waiting};
 use bts_model::{Setting, StationOut, World};
 use cell_table::Site;
 use ho_procedure::exchange::{Inbound, Outbound};
@@ -7,17 +8,6 @@ use msc_model::{Centre, CentreOut};
 use std::alloc::{AllocError, Allocator, Global};
 use std::collections::VecDeque;
 use std::sync::Arc;
-
-/// A message that a simulator sends a controller.
-#[derive(Drop)]
-pub struct Arrival<A: Allocator = Global> {
-    /// The controller.
-    pub side: Side,
-    pub input: Inbound<A>,
-}
-
-/// Messages of simulators that wait for their controllers, the first that came in front.
-pub type Waiting<A> = VecDeque<Arrival<A>, A>;
 
 /// The simulated stations and mobiles of all controllers, and the simulated switching centre.
 #[derive(Drop)]

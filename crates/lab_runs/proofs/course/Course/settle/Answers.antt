@@ -6,4 +6,4 @@ pub loop-init : goal.loop-init
 loop-init g c = stayed c.args.self.now
 
 pub loop-preserved : goal.loop-preserved
-loop-preserved g c = went_on [] [] _ _ _ c.loop.invariant c.in_ok-arrive.ensures
+loop-preserved g c = went_on [] [] _ _ _ c.loop.invariant c.in_ok-arrive.ensures.went

@@ -1,0 +1,16 @@
+//! Messages of simulators that wait for their controllers.
+use ho_procedure::exchange::Inbound;
+use lab_script::script::Side;
+use std::alloc::{Allocator, Global};
+use std::collections::VecDeque;
+
+/// A message that a simulator sends a controller.
+#[derive(Drop)]
+pub struct Arrival<A: Allocator = Global> {
+    /// The controller.
+    pub side: Side,
+    pub input: Inbound<A>,
+}
+
+/// Messages of simulators that wait for their controllers, the first that came in front.
+pub type Waiting<A> = VecDeque<Arrival<A>, A>;
