@@ -26,11 +26,11 @@ not_foreign history last (Err NoMemory) new foreign = λ place is. is
 not_foreign history last (Err (Foreign place)) new foreign = λ _ is. subst (λ s. desk.IsForeign history s place) new ((foreign place).0 refl)
 
 -- A desk refuses memory only for an event that isn't owed, or is refused.
-pub may_lack : {X : Type 0} (d : DeskState) (e : Event) (result : Result X DeskFault)
-    → Leads d.opening d.history d.book → (IsTrue (is_owed e) → IsTrue (is_accepted (reply_to d.book e)) → result ≢ Err NoMemory) → IfErr result (λ f. IsNoMemory f → IsTrueAfter d.opening d.history (MayBeRefused e))
-may_lack d e (Ok x) legal owes = tt
-may_lack d e (Err NoMemory) legal owes = λ is. (d.book, legal, λ is_one accepted. owes is_one accepted refl)
-may_lack d e (Err (Foreign place)) legal owes = λ is. absurd is
+pub may_lack : {X : Type 0} (opening : State) (history : List Entry) (book : State) (e : Event) (result : Result X DeskFault)
+    → Leads opening history book → (IsTrue (is_owed e) → IsTrue (is_accepted (reply_to book e)) → result ≢ Err NoMemory) → IfErr result (λ f. IsNoMemory f → IsTrueAfter opening history (MayBeRefused e))
+may_lack opening history book e (Ok x) legal owes = tt
+may_lack opening history book e (Err NoMemory) legal owes = λ is. (book, legal, λ is_one accepted. owes is_one accepted refl)
+may_lack opening history book e (Err (Foreign place)) legal owes = λ is. absurd is
 
 -- what is true of a desk was true before, as long as it opens with the same book
 pub still_true : (opening opening' : State) → opening' ≡ opening → (log : List Entry) → (claim : Claim) → IsTrueAfter opening' log claim → IsTrueAfter opening log claim

@@ -8,4 +8,4 @@ pub returns-clause-said : goal.returns-clause-said
 returns-clause-said g c = rw (← c.self.view_is) (still_true _ _ (judge_opens _ _ _ _ c.judge.ensures.judged c.judge.ensures.unchanged))
 
 pub returns-clause-memory : goal.returns-clause-memory
-returns-clause-memory g c = rw (← c.self.view_is) (may_lack _ _ _ c.len-entries.ensures.legal c.judge.ensures.owed)
+returns-clause-memory g c = rw (← c.self.view_is) (may_lack _ _ _ _ _ c.len-entries.ensures.legal c.judge.ensures.owed)
