@@ -11,4 +11,4 @@ pub mod tested;
 
 pub use compare::{Difference, find_difference, find_last_difference};
 pub use lines::{expected_in, is_any, is_script_line, lines_of, part_end};
-pub use printed::{Miss, ending_of, print_met, print_miss, print_plan, print_recorded};
+pub use printed::{Miss, TestName, ending_of, print_met, print_miss, print_plan, print_recorded};

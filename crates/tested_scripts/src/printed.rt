@@ -7,9 +7,9 @@ use std::io::{self, Write};
 
 /// The name of a test: as [`Escaped`], and each `\` and `#` with a `\` before it, so that none begins a directive.
 #[derive(Clone, Copy)]
-struct Name<'a>(&'a str);
+pub struct TestName<'a>(pub &'a str);
 
-impl fmt::Display for Name<'_> {
+impl fmt::Display for TestName<'_> {
     fn fmt<W: fmt::Write>(&self, f: &mut fmt::Formatter<W>) -> fmt::Result {
         for character in self.0.chars() {
             if character == '#' || character == '\\' {
@@ -44,7 +44,7 @@ pub fn print_plan<W: Write>(out: &mut W, count: usize) -> io::Result<()> {
 
 /// Prints that a test is met: its number, counted from 1, and its name.
 pub fn print_met<W: Write>(out: &mut W, number: usize, name: &str) -> io::Result<()> {
-    writeln!(out, "ok {number} - {}", Name(name))
+    writeln!(out, "ok {number} - {}", TestName(name))
 }
 
 /// Prints one side of a difference.
@@ -62,7 +62,7 @@ pub fn print_miss<W: Write>(
     name: &str,
     miss: Miss<'_>,
 ) -> io::Result<()> {
-    writeln!(out, "not ok {number} - {}", Name(name))?;
+    writeln!(out, "not ok {number} - {}", TestName(name))?;
     match miss {
         Miss::Differs {
             line,
