@@ -4,14 +4,14 @@
 //!   `--chart`) also what messages and causes say, what the book holds, a capture file and a sequence chart;
 //! - `test` runs scripts whose comments say what comes of their lines, and says which of them are right; `record` prints a
 //!   script with such comments;
-//! - `rewind` takes an undone attempt out of a trace and says whether the rest comes to the same;
+//! - `rewind` takes an undone attempt out of a trace and says whether the rest comes to the same, `audit` all of them;
 //! - `storm` moves many calls of a site at once, handled by workers on threads of their own, and says what came of it;
 //! - `check` prints the cells of a site, and what is surely meant otherwise in its file;
 //! - `decode` prints a message in words, with `--from` those of a file or of standard input, line by line; `encode` prints
 //!   the octets of a message in words;
 //! - `explain` says in words what a refusal, a cause or a fault is.
 //!
-//! Statuses: 0 done, 1 an undone attempt without which the rest differs, or a script of `test` of which something else came,
+//! Statuses: 0 done, 1 undone attempts without which the rest differs, or a script of `test` of which something else came,
 //! 2 the words, a file, the site, a line of the script or of the trace, an attempt, a message or a number of `explain`
 //! refused, or something not to be written, 3 memory refused.
 #![tactic(auto)]

@@ -1,6 +1,4 @@
 pub mod Decoded
 pub mod Encoded
-pub mod Entries
 pub mod Files
-pub mod Rewound
 pub use Rattle.lab_script.specs.Script
