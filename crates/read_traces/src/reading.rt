@@ -34,8 +34,10 @@ pub fn refuse_line<W: Write>(number: usize, out: &mut W) -> Result<Status, LabFa
 pub fn fresh_book<A: Allocator + Copy>(alloc: A, site: Site<A>) -> Result<Book<A>, AllocError>
     ensures book { IfOk result (λ book. book ≡ empty_book site) }
 {
-    let site = Arc::new(alloc, site).map_err(AllocError::from)?;
-    Book::new(alloc, site)
+    match Arc::new(alloc, site) {
+        Ok(site) => Book::new(alloc, site),
+        Err(error) => Err(AllocError::from(error)),
+    }
 }
 
 /// The events of entries, in their order.
