@@ -93,7 +93,7 @@ fn audit_played<A: Allocator + Copy, L: Listener<A>>(
 ) -> Result<Option<Audits>, LabFault>
     ensures read { IfOk result (λ found. IfSome found (λ _.
         first_unread (is_some sites.peer) script.now ≡ None)) }
-    ensures told { IfOk result (λ found. IfSome found (λ audits. 
+    ensures told { IfOk result (λ found. IfSome found (λ audits.
         IsAuditOf A (views_of sites) script.now audits)) }
 {
     match play(alloc, sites, script, noting)? {

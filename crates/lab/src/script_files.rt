@@ -142,10 +142,7 @@ pub fn try_undos_files<R: Files + AllocGlobal, W: Write, E: Write>(
     let mut tally = Tally::new();
     let mut ended = Status::Done;
     for name in scripts {
-        ended = worse(
-            ended,
-            try_file(rt, &sites, *name, &mut tally, out, errors)?,
-        );
+        ended = worse(ended, try_file(rt, &sites, *name, &mut tally, out, errors)?);
     }
     print_tally(out, &tally)?;
     Ok(ended)

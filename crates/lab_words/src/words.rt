@@ -6,9 +6,7 @@ use crate::help::{
     AUDIT_HELP, CHECK_HELP, DECODE_HELP, ENCODE_HELP, LIVE_HELP, REWIND_HELP, RUN_HELP,
 };
 use crate::refused_words::refused_line;
-use crate::script_words::{
-    is_everywhere, record_command, script_paths, site_paths, test_command,
-};
+use crate::script_words::{is_everywhere, record_command, script_paths, site_paths, test_command};
 use crate::site_paths::SitePaths;
 use crate::storm_words::{StormSize, storm_command, storm_size};
 use crate::view_words::{

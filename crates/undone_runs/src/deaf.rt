@@ -22,12 +22,7 @@ impl Deaf {
 }
 
 impl<A: Allocator + Copy> Listener<A> for Deaf {
-    fn hear_turn(
-        &mut self,
-        _mark: Mark,
-        _turn: &Turn<A>,
-        _book: &Book<A>,
-    ) -> Result<(), LabFault> {
+    fn hear_turn(&mut self, _mark: Mark, _turn: &Turn<A>, _book: &Book<A>) -> Result<(), LabFault> {
         Ok(())
     }
 

@@ -61,11 +61,11 @@ fn events_of<A: Allocator + Copy>(alloc: A, desk: &Desk<A>) -> Result<Vec<Event,
 /// The first of the others that gets another reply alone, if one does.
 fn first_other<A: Allocator>(rewound: &Rewound<A>, events: &[Event]) -> Option<Event> {
     let replies = rewound.without_replies.as_slice();
-    let index = rewound
-        .others
-        .iter()
-        .zip(replies.iter())
-        .position(|(place, reply)| !is_reply_at(&rewound.whole_replies, *place, reply))?;
+    let index = rewound.others.iter().zip(replies.iter()).position(|(place, reply)| !is_reply_at(
+        &rewound.whole_replies,
+        *place,
+        reply,
+    ))?;
     events.get(*rewound.others.get(index)?).copied()
 }
 
