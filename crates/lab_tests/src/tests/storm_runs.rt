@@ -13,30 +13,10 @@ use std::sync::Wait;
 use std::test::Fail;
 use std::thread::Threads;
 
-/// Two cells with four traffic channels each.
-const SITE: &str = "[handover]
-window = 2
-margin = 3
-minimum = 10
-[[cell]]
-lac = 23
-ci = 100
-bcch = 60
-ncc = 1
-bcc = 1
-power = 5
-ba = [871]
-trx = [{ arfcn = 60, tch = [1, 2, 3, 4] }]
-[[cell]]
-lac = 23
-ci = 101
-bcch = 871
-ncc = 2
-bcc = 5
-power = 5
-ba = [60]
-trx = [{ arfcn = 871, tch = [1, 2, 3, 4] }]
-";
+/// Two cells with seven traffic channels each.
+fn site(alloc: Global) -> Result<String, AllocError> {
+    sample_sites::site_of_cells(alloc, 2, 1, 0)
+}
 
 /// What four calls over it print.
 const FOUR_CALLS: &str = "calls 4
@@ -56,11 +36,12 @@ fn leaked(alloc: Global, refusals: Refusals) -> Result<&'static RefusingHeap, Al
 fn storms_over<R: Threads + Wait + Abort + Clone + Drop + Send + 'static>(
     rt: &R,
     alloc: Global,
+    site: &str,
     refusals: Refusals,
 ) -> Result<bool, Fail> {
     let heap = leaked(alloc, refusals)?;
     let mut out = Vec::new(alloc);
-    let ended = storm_run(rt, heap, alloc, SITE, 2, 4, &mut out);
+    let ended = storm_run(rt, heap, alloc, site, 2, 4, &mut out);
     let wanted = if ended == Err(LabFault::NoMemory) && heap.was_refused() {
         (Err(LabFault::NoMemory), "")
     } else {
@@ -76,6 +57,7 @@ fn refusals_of<R: Threads + Wait + Abort + Clone + Drop + Send + 'static>(
     alloc: Global,
     for_good: bool,
 ) -> Result<u64, Fail> {
+    let site = site(alloc)?;
     let mut tried = 0u64;
     for n in 1..4000 {
         let refusals = if for_good {
@@ -83,7 +65,7 @@ fn refusals_of<R: Threads + Wait + Abort + Clone + Drop + Send + 'static>(
         } else {
             Refusals::Nth(n)
         };
-        if storms_over(rt, alloc, refusals)? {
+        if storms_over(rt, alloc, &site, refusals)? {
             break;
         }
         tried = n;
@@ -131,7 +113,7 @@ fn failures_of<R: Threads + Wait + Abort + Clone + Drop + Send + 'static>(
 #[test]
 fn each_write_of_a_storm_fails(rt: HostRuntime) -> Result<(), Fail> {
     let alloc = rt.alloc();
-    let tried = failures_of(&rt, alloc, SITE, (Status::Done, FOUR_CALLS))?;
+    let tried = failures_of(&rt, alloc, &site(alloc)?, (Status::Done, FOUR_CALLS))?;
     holds_at(&rt, 5 <= tried && tried < 100, tried);
     let tried = failures_of(&rt, alloc, "", (Status::Refused, "site 2 handover\n"))?;
     holds_at(&rt, 1 <= tried && tried < 100, tried);
@@ -203,7 +185,8 @@ fn is_watched<R: Files + AllocGlobal + Threads + Wait + Abort + Clone + Drop + S
 
 #[test]
 fn a_storm_is_watched(rt: HostRuntime) -> Result<(), Fail> {
-    write_files(&rt, &[("storm.toml", SITE)])?;
+    let site = site(rt.alloc())?;
+    write_files(&rt, &[("storm.toml", site.as_str())])?;
     let Some(size) = StormSize::new(2, 4) else {
         holds_at(&rt, false, "size");
         return Ok(());
