@@ -1,2 +1,3 @@
 -- what links passed on, with one message more
 pub mod Passing
+pub mod Places

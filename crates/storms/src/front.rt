@@ -1,12 +1,13 @@
 //! The front of a storm: the one thread that gives inputs to the office.
-ghost use Rattle.std.specs.Prelude.{◌≡◌, ◌≤◌, All, IfOk, [], vec_len};
+ghost use Rattle.std.specs.Prelude.{◌≡◌, ◌≤◌, All, IfOk, OnOk, IsTrue, [], vec_len};
+ghost use Rattle.storms.specs.Outcomes.{AreOf, AreFigures, DidAll};
 
 use crate::links::TrayLinks;
 use crate::outcome::{Figures, StormFault};
 use crate::simulated::Simulated;
 use crate::tray::Tray;
 use crate::trip::Trip;
-use crate::watch::{Reached, Watch};
+use crate::watch::{Phase, Reached, Watch};
 use call_worker::{Closed, Gate, Office, Point, WorkerEnd};
 use ho_procedure::exchange::{Inbound, Line, Outbound};
 use radio_desk::desk::Desk;
@@ -20,17 +21,6 @@ struct OpenGate;
 
 impl Gate for OpenGate {
     fn pass(&self, _call: u16, _point: Point) {}
-}
-
-/// What the calls of a storm are asked to do, one phase after the other.
-#[derive(Clone, Copy)]
-pub(crate) enum Phase {
-    /// They are opened.
-    Opening,
-    /// They try to move to the next cell.
-    Moving,
-    /// The switching centre hangs them up.
-    HangingUp,
 }
 
 /// The office with the simulators around it, and how many inputs it was given.
@@ -74,6 +64,7 @@ impl<R: Threads + Wait + Drop, A: Allocator + Copy> Front<R, A> {
         A: Send + Sync + 'static,
         requires workers { (1 ≤ workers) × (workers ≤ 16) }
         requires empty { desk.history ≡ [] }
+        ensures opening { IfOk result (λ front. front.office.opening ≡ desk.opening) }
     {
         let tray = Arc::new(alloc, Tray::new(alloc)).map_err(AllocError::from)?;
         let links = links_to(rt, alloc, &tray, workers)?;
@@ -89,14 +80,18 @@ impl<R: Threads + Wait + Drop, A: Allocator + Copy> Front<R, A> {
     }
 
     /// Gives an input to its worker, and waits for room in that worker's inbox.
-    fn give(&mut self, input: Inbound<A>) -> Result<(), StormFault> {
+    fn give(&mut self, input: Inbound<A>) -> Result<(), StormFault>
+        ensures opening { self.new.office.opening ≡ self.old.office.opening }
+    {
         self.office.give(input)?;
         self.given = self.given.saturating_add(1);
         Ok(())
     }
 
     /// Gives inputs, in their order.
-    fn give_all(&mut self, inputs: Vec<Inbound<A>, A>) -> Result<(), StormFault> {
+    fn give_all(&mut self, inputs: Vec<Inbound<A>, A>) -> Result<(), StormFault>
+        ensures opening { self.new.office.opening ≡ self.old.office.opening }
+    {
         for input in inputs {
             self.give(input)?;
         }
@@ -104,14 +99,18 @@ impl<R: Threads + Wait + Drop, A: Allocator + Copy> Front<R, A> {
     }
 
     /// Hands a message to the simulators, and gives what they answer.
-    fn answer(&mut self, message: &Outbound<A>) -> Result<(), StormFault> {
+    fn answer(&mut self, message: &Outbound<A>) -> Result<(), StormFault>
+        ensures opening { self.new.office.opening ≡ self.old.office.opening }
+    {
         let answers = self.simulated.answers(message)?;
         self.give_all(answers)
     }
 
     /// Answers what lies on the tray, and what comes of that, until all is quiet: the workers are done with all that they
     /// were given, and nothing lies there.
-    fn settle<V: Watch>(&mut self, rt: &R, watch: &mut V) -> Result<(), StormFault> {
+    fn settle<V: Watch>(&mut self, rt: &R, watch: &mut V) -> Result<(), StormFault>
+        ensures opening { self.new.office.opening ≡ self.old.office.opening }
+    {
         for _ in rt.forever() {
             let Some(message) = self.tray.take_up(rt, self.given) else {
                 break;
@@ -123,7 +122,9 @@ impl<R: Threads + Wait + Drop, A: Allocator + Copy> Front<R, A> {
     }
 
     /// Asks a call for what it does in a phase.
-    fn ask(&mut self, phase: Phase, trip: &Trip) -> Result<(), StormFault> {
+    fn ask(&mut self, phase: Phase, trip: &Trip) -> Result<(), StormFault>
+        ensures opening { self.new.office.opening ≡ self.old.office.opening }
+    {
         let call = trip.call;
         match phase {
             Phase::Opening => self.give(Inbound::Operator(Line::Open {
@@ -144,16 +145,6 @@ impl<R: Threads + Wait + Drop, A: Allocator + Copy> Front<R, A> {
         }
     }
 
-    /// One more call was asked for what it does in a phase.
-    fn count(&mut self, phase: Phase) {
-        let count = match phase {
-            Phase::Opening => &mut self.reached.opened,
-            Phase::Moving => &mut self.reached.moved,
-            Phase::HangingUp => &mut self.reached.hung_up,
-        };
-        *count = count.saturating_add(1);
-    }
-
     /// Asks all calls for what they do in a phase, and waits until all is quiet.
     fn pass<V: Watch>(
         &mut self,
@@ -161,10 +152,12 @@ impl<R: Threads + Wait + Drop, A: Allocator + Copy> Front<R, A> {
         phase: Phase,
         trips: &[Trip],
         watch: &mut V,
-    ) -> Result<(), StormFault> {
+    ) -> Result<(), StormFault>
+        ensures opening { self.new.office.opening ≡ self.old.office.opening }
+    {
         for trip in trips {
             self.ask(phase, trip)?;
-            self.count(phase);
+            self.reached.count(phase);
             watch.see(self.reached);
         }
         self.settle(rt, watch)
@@ -177,7 +170,9 @@ impl<R: Threads + Wait + Drop, A: Allocator + Copy> Front<R, A> {
         rt: &R,
         trips: &[Trip],
         watch: &mut V,
-    ) -> Result<(), StormFault> {
+    ) -> Result<(), StormFault>
+        ensures opening { self.new.office.opening ≡ self.old.office.opening }
+    {
         self.pass(rt, Phase::Opening, trips, watch)?;
         self.pass(rt, Phase::Moving, trips, watch)?;
         self.pass(rt, Phase::HangingUp, trips, watch)
@@ -185,7 +180,9 @@ impl<R: Threads + Wait + Drop, A: Allocator + Copy> Front<R, A> {
 
     /// Ends the workers, waits for their threads, and says what the desk tells. Where a worker had no memory for a part of
     /// its work, that is want of memory, too.
-    pub(crate) fn close(self) -> Result<Figures, StormFault> {
+    pub(crate) fn close(self) -> Result<Figures, StormFault>
+        ensures figures { IfOk result (λ figures. AreFigures self.office.opening figures) }
+    {
         let Front {
             office,
             tray: _,
@@ -199,21 +196,33 @@ impl<R: Threads + Wait + Drop, A: Allocator + Copy> Front<R, A> {
 }
 
 /// Whether a worker did all that it was given, and lost no message.
-fn did_all<R: Wait + Drop, A: Allocator + Copy>(end: &WorkerEnd<TrayLinks<R, A>, A>) -> bool {
+fn did_all<R: Wait + Drop, A: Allocator + Copy>(end: &WorkerEnd<TrayLinks<R, A>, A>) -> bool
+    ensures { IsTrue result → DidAll (λ l. l.refused) end.now }
+{
     end.links.passed_all()
         && end.taken.len() == end.given.len()
         && end.taken.iter().all(|turn| turn.ok)
 }
 
+/// What a desk tells.
+fn told_by<A: Allocator + Copy>(desk: &Desk<A>) -> Figures
+    ensures { AreOf desk.now result }
+{
+    Figures {
+        tally: desk.tally(),
+        channels: desk.book().usage().channels,
+    }
+}
+
 /// What the desk of a closed office tells.
 fn figures_of<R: Wait + Drop, A: Allocator + Copy>(
     closed: &Closed<TrayLinks<R, A>, A>,
-) -> Result<Figures, StormFault> {
+) -> Result<Figures, StormFault>
+    ensures figures { IfOk result (λ figures. AreOf closed.now.desk figures) }
+    ensures done { OnOk result (All (DidAll (λ l. l.refused)) closed.now.workers.items) }
+{
     if !closed.workers.iter().all(|end| did_all(end)) {
         return Err(StormFault::NoMemory);
     }
-    Ok(Figures {
-        tally: closed.desk.tally(),
-        channels: closed.desk.book().usage().channels,
-    })
+    Ok(told_by(&closed.desk))
 }

@@ -1,5 +1,5 @@
 //! What the workers of a storm send by.
-ghost use Rattle.std.specs.Prelude.{◌≡◌, ◌+◌, ◌≤◌, vec_len, vec_capacity, IfOk, OnOk};
+ghost use Rattle.std.specs.Prelude.{◌≡◌, ◌↔◌, ◌+◌, ◌≤◌, vec_len, vec_capacity, IfOk, IsTrue, OnOk};
 ghost use Rattle.ho_procedure.specs.Sent.{sent};
 
 use crate::tray::Tray;
@@ -34,7 +34,9 @@ impl<R: Drop, A: Allocator + Copy> TrayLinks<R, A> {
     }
 
     /// Whether no message was lost.
-    pub(crate) fn passed_all(&self) -> bool {
+    pub(crate) fn passed_all(&self) -> bool
+        ensures { IsTrue result ↔ (self.now.refused ≡ 0) }
+    {
         self.refused == 0
     }
 }

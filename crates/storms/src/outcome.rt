@@ -1,11 +1,15 @@
 //! What comes of a storm.
+ghost use Rattle.std.specs.Prelude.{◌≡◌, Some};
+ghost use Rattle.storms.specs.Outcomes.{figures_text};
+ghost use Rattle.storms.specs.Endings.{EndsAs, EndsBefore, EndsUnread};
+
 use crate::trip::{Shortage, TripFault};
 use call_worker::{CloseFault, GiveFault, StartFault};
 use cell_table::SiteFault;
 use radio_desk::tally::Tally;
 use rsl_messages::RslFault;
 use std::alloc::AllocError;
-use std::io::{self, Write};
+use std::fmt;
 use thiserror::Error;
 
 /// What a desk tells of a storm that came to its end.
@@ -57,6 +61,10 @@ pub(crate) enum StormFault {
 }
 
 impl From<AllocError> for StormFault {
+    ghost use Rattle.storms.specs.declared.outcome.StormFault.TheVariants.{NoMemory};
+
+    ghost from_gives = { λ _ fault. fault ≡ NoMemory };
+
     fn from(_: AllocError) -> StormFault {
         StormFault::NoMemory
     }
@@ -93,18 +101,27 @@ impl From<CloseFault> for StormFault {
     }
 }
 
-/// Prints what a storm's desk tells: five lines.
-pub fn print_figures<W: Write>(out: &mut W, figures: Figures) -> io::Result<()> {
-    let Figures { tally, channels } = figures;
-    writeln!(out, "calls {}", tally.calls)?;
-    writeln!(out, "attempts {}", tally.attempts)?;
-    writeln!(out, "completed {}", tally.completed)?;
-    writeln!(out, "undone {}", tally.undone)?;
-    writeln!(out, "channels in use {channels}")
+/// Five lines: `calls`, `attempts`, `completed`, `undone` and `channels in use`, each with its number.
+impl fmt::Display for Figures {
+    ghost output = { λ figures. Some (figures_text figures) };
+
+    fn fmt<W: fmt::Write>(&self, f: &mut fmt::Formatter<W>) -> fmt::Result {
+        write!(
+            f,
+            "calls {}\nattempts {}\ncompleted {}\nundone {}\nchannels in use {}\n",
+            self.tally.calls,
+            self.tally.attempts,
+            self.tally.completed,
+            self.tally.undone,
+            self.channels
+        )
+    }
 }
 
 /// What comes of it that no trips are made.
-pub(crate) fn untravelled(fault: TripFault) -> Result<Outcome, AllocError> {
+pub(crate) fn untravelled(fault: TripFault) -> Result<Outcome, AllocError>
+    ensures { EndsBefore fault result }
+{
     match fault {
         TripFault::Short(shortage) => Ok(Outcome::TooSmall(shortage)),
         TripFault::NoMemory => Err(AllocError),
@@ -112,7 +129,9 @@ pub(crate) fn untravelled(fault: TripFault) -> Result<Outcome, AllocError> {
 }
 
 /// What comes of a site's text that describes none.
-pub(crate) fn unread(fault: SiteFault) -> Result<Outcome, AllocError> {
+pub(crate) fn unread(fault: SiteFault) -> Result<Outcome, AllocError>
+    ensures { EndsUnread fault result }
+{
     match fault {
         SiteFault::NoMemory => Err(AllocError),
         SiteFault::Toml
@@ -124,7 +143,9 @@ pub(crate) fn unread(fault: SiteFault) -> Result<Outcome, AllocError> {
 }
 
 /// What comes of a storm that was run.
-pub(crate) fn outcome_of(ended: Result<Figures, StormFault>) -> Result<Outcome, AllocError> {
+pub(crate) fn outcome_of(ended: Result<Figures, StormFault>) -> Result<Outcome, AllocError>
+    ensures { EndsAs ended result }
+{
     match ended {
         Ok(figures) => Ok(Outcome::Done(figures)),
         Err(StormFault::Office(fault)) => Ok(Outcome::Office(fault)),

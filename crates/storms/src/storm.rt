@@ -1,5 +1,10 @@
 //! A storm over a site.
-ghost use Rattle.std.specs.Prelude.{◌≡◌, ◌≤◌, IfOk, []};
+ghost use Rattle.std.specs.Prelude.{◌≡◌, ◌≤◌, IfOk, Ok, []};
+ghost use Rattle.cell_table.specs.SiteFile.{IsBlankFile};
+ghost use Rattle.cell_table.specs.declared.fault.SiteFault.TheVariants.{Missing};
+ghost use Rattle.cell_table.specs.declared.fault.Key.TheVariants.{Handover};
+ghost use Rattle.radio_book.specs.State.{empty_book};
+ghost use Rattle.storms.specs.Outcomes.{IsOutcome, AreFigures};
 
 use crate::front::Front;
 use crate::outcome::{Figures, Outcome, StormFault, outcome_of, unread, untravelled};
@@ -28,7 +33,10 @@ pub const MOST_CALLS: u16 = 1024;
 /// before. Where `n < 2`, or a cell has fewer than twice as many traffic channels as calls begin in one, the site is too
 /// small.
 ///
-/// `scratch` serves while the site is read, `alloc` for all else. The error: memory was refused, be it to a worker.
+/// Where nothing is run the answer says why: the text describes no site, or what the site lacks. Else the figures are those of
+/// a desk that was asked about the empty book of the site, and whose history leads from there to its book; or the office
+/// failed. `scratch` serves while the site is read, `alloc` for all else. The error: memory was refused, be it to a worker. A
+/// text of white space and comments alone takes none.
 pub fn run_storm<
     R: Threads + Wait + Clone + Drop + Send + 'static,
     A: Allocator + Copy + Send + Sync + 'static,
@@ -44,6 +52,8 @@ pub fn run_storm<
 ) -> Result<Outcome, AllocError>
     requires workers { (1 ≤ workers) × (workers ≤ 16) }
     requires calls { (1 ≤ calls) × (calls ≤ 1024) }
+    ensures outcome { IfOk result (λ outcome. IsOutcome site.now calls outcome) }
+    ensures blank { IsBlankFile site.now → result ≡ Ok (Outcome.NoSite (Missing Handover)) }
 {
     let site = match Site::read(alloc, scratch, site) {
         Ok(site) => site,
@@ -58,14 +68,25 @@ pub fn run_storm<
     outcome_of(ended)
 }
 
+/// A site that several share.
+fn shared<A: Allocator + Copy>(alloc: A, site: Site<A>) -> Result<Arc<Site<A>, A>, AllocError>
+    ensures { IfOk result (λ shared. shared.value ≡ site) }
+{
+    match Arc::new(alloc, site) {
+        Ok(shared) => Ok(shared),
+        Err(fault) => Err(AllocError::from(fault)),
+    }
+}
+
 /// A desk over the empty book of a site, and what is simulated around it.
 fn laid_out<A: Allocator + Copy>(
     alloc: A,
     site: Site<A>,
 ) -> Result<(Desk<A>, Simulated<A>), AllocError>
     ensures empty { IfOk result (λ laid. laid.0.history ≡ []) }
+    ensures opening { IfOk result (λ laid. laid.0.opening ≡ empty_book site) }
 {
-    let site = Arc::new(alloc, site).map_err(AllocError::from)?;
+    let site = shared(alloc, site)?;
     let simulated = Simulated::new(alloc, &site)?;
     let desk = Desk::new(alloc, Book::new(alloc, site)?)?;
     Ok((desk, simulated))
@@ -85,6 +106,7 @@ fn travel<
     watch: &mut V,
 ) -> Result<Figures, StormFault>
     requires workers { (1 ≤ workers) × (workers ≤ 16) }
+    ensures figures { IfOk result (λ figures. AreFigures (empty_book site) figures) }
 {
     let (desk, simulated) = laid_out(alloc, site)?;
     let mut front = Front::start(rt, alloc, desk, simulated, workers)?;

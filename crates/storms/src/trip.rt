@@ -1,5 +1,7 @@
 //! Where the calls of a storm begin, and where they try to go.
-ghost use Rattle.std.specs.Prelude.{◌<◌};
+ghost use Rattle.std.specs.Prelude.{◌≡◌, ◌<◌, ◌/◌, ◌%◌, ℕ, length, IfOk, IfErr, MatchOption, slice_get};
+ghost use Rattle.storms.specs.Trips.{habit_of, trip_of, trips_of};
+ghost use Rattle.storms.specs.Width.{place_in, traffic_of, needed, AllHave, IsWide, IsShortCell, IsShortage, IsTripFault};
 
 use bts_model::Habit;
 use cell_table::Site;
@@ -36,6 +38,10 @@ pub(crate) enum TripFault {
 }
 
 impl From<AllocError> for TripFault {
+    ghost use Rattle.storms.specs.declared.trip.TripFault.TheVariants.{NoMemory};
+
+    ghost from_gives = { λ _ fault. fault ≡ NoMemory };
+
     fn from(_: AllocError) -> TripFault {
         TripFault::NoMemory
     }
@@ -54,65 +60,83 @@ pub(crate) struct Trip {
     pub(crate) habit: Habit,
 }
 
-/// A timeslot of a cell, by its number over all TRX.
-fn slot(cell: u8, number: u8) -> ChanId {
+/// The channel at a place among those that a cell can have, by TRX and timeslot.
+fn place_in(cell: u8, place: u8) -> ChanId
+    ensures { result ≡ place_in cell place }
+{
     ChanId {
         cell,
-        trx: number / TIMESLOTS_OF_TRX as u8,
-        tn: number % TIMESLOTS_OF_TRX as u8,
+        trx: place / TIMESLOTS_OF_TRX as u8,
+        tn: place % TIMESLOTS_OF_TRX as u8,
     }
 }
 
 /// How many traffic channels a cell has.
-fn channels_in<A: Allocator + Copy>(site: &Site<A>, cell: u8) -> usize {
+fn channels_in<A: Allocator + Copy>(site: &Site<A>, cell: u8) -> usize
+    ensures { result ≡ length (traffic_of site.now cell) }
+{
     (0..SLOTS)
-        .filter(|number| site.is_traffic(slot(cell, *number)))
+        .map(|place| place_in(cell, place))
+        .filter(|chan| site.is_traffic(*chan))
         .count()
 }
 
 /// The traffic channel at a place among those of a cell, by TRX and timeslot.
-fn channel_at<A: Allocator + Copy>(site: &Site<A>, cell: u8, place: u16) -> Option<ChanId> {
-    let mut before = place;
-    for number in 0..SLOTS {
-        let chan = slot(cell, number);
-        if site.is_traffic(chan) {
-            if before == 0 {
-                return Some(chan);
-            }
-            before -= 1;
-        }
-    }
-    None
+fn channel_at<A: Allocator + Copy>(site: &Site<A>, cell: u8, place: u16) -> Option<ChanId>
+    ensures { result ≡ slice_get (traffic_of site.now cell) place }
+{
+    (0..SLOTS)
+        .map(|place| place_in(cell, place))
+        .filter(|chan| site.is_traffic(*chan))
+        .nth(usize::from(place))
 }
 
-/// What the first cell lacks that hasn't so many traffic channels.
-fn short_cell<A: Allocator + Copy>(site: &Site<A>, needed: usize) -> Option<Shortage> {
+/// The first cell that has fewer than so many traffic channels, and how many it has.
+fn short_cell<A: Allocator + Copy>(site: &Site<A>, many: usize) -> Option<(u8, usize)>
+    ensures { MatchOption result (AllHave site.now many (length site.now.cells))
+        (λ short. IsShortCell site.now many short.0 short.1) }
+{
     for cell in 0..site.cells() {
         let channels = channels_in(site, cell);
-        if channels < needed {
-            return Some(Shortage::Channels {
-                cell,
-                channels,
-                needed,
-            });
+        if channels < many {
+            return Some((cell, channels));
         }
     }
     None
 }
 
-/// What a site lacks for so many calls, if anything. The calls that begin in a cell stay there or go to the next, so it has
-/// to have twice as many traffic channels as the most that begin in one.
-fn shortage_of<A: Allocator + Copy>(site: &Site<A>, calls: u16) -> Option<Shortage> {
+/// How many traffic channels each of so many cells needs. The calls that begin in a cell stay there or go to the next, so it
+/// has to have twice as many as the most that begin in one.
+fn needed(cells: u8, calls: u16) -> usize
+    requires { 0 < cells }
+    ensures { result ≡ needed cells calls }
+{
+    2 * usize::from(calls).div_ceil(usize::from(cells))
+}
+
+/// What a site lacks for so many calls, if anything.
+fn shortage_of<A: Allocator + Copy>(site: &Site<A>, calls: u16) -> Option<Shortage>
+    ensures { MatchOption result (IsWide site.now calls) (λ shortage. IsShortage site.now calls shortage) }
+{
     let cells = site.cells();
     if cells < 2 {
         return Some(Shortage::OneCell);
     }
-    let begin = usize::from(calls).div_ceil(usize::from(cells));
-    short_cell(site, begin.saturating_mul(2))
+    let needed = needed(cells, calls);
+    match short_cell(site, needed) {
+        Some((cell, channels)) => Some(Shortage::Channels {
+            cell,
+            channels,
+            needed,
+        }),
+        None => None,
+    }
 }
 
 /// What mobiles of calls with this number do: those of even numbers arrive, those of odd numbers return.
-fn habit_of(call: u16) -> Habit {
+fn habit_of(call: u16) -> Habit
+    ensures { result ≡ habit_of call }
+{
     if call.is_multiple_of(2) {
         Habit::Arrive
     } else {
@@ -122,32 +146,35 @@ fn habit_of(call: u16) -> Habit {
 
 /// The trip of a call: calls are dealt out to the cells in turn, and each tries the next cell. Nothing where the call's cell
 /// has no channel left for it.
-fn trip_of<A: Allocator + Copy>(site: &Site<A>, cells: u8, call: u16) -> Option<Trip>
-    requires { 0 < cells }
+fn trip_of<A: Allocator + Copy>(site: &Site<A>, call: u16) -> Option<Trip>
+    ensures { result ≡ trip_of site.now call }
 {
-    let own = (call % u16::from(cells)) as u8;
-    let from = channel_at(site, own, call / u16::from(cells))?;
+    let cells = u16::from(site.cells());
+    let from = channel_at(site, (call % cells) as u8, call / cells)?;
     Some(Trip {
         call,
         from,
-        to: if own + 1 < cells { own + 1 } else { 0 },
+        to: ((u32::from(call) + 1) % u32::from(cells)) as u8,
         habit: habit_of(call),
     })
 }
 
-/// The trips of so many calls, by their numbers from 0 on.
+/// The trips of so many calls, by their numbers from 0 on. Memory is asked for only where the site is wide enough.
 pub(crate) fn trips_of<A: Allocator + Copy>(
     alloc: A,
     site: &Site<A>,
     calls: u16,
-) -> Result<Vec<Trip, A>, TripFault> {
+) -> Result<Vec<Trip, A>, TripFault>
+    ensures wide { IfOk result (λ _. IsWide site.now calls) }
+    ensures trips { IfOk result (λ trips. trips.items ≡ trips_of site.now calls) }
+    ensures short { IfErr result (λ fault. IsTripFault site.now calls fault) }
+{
     if let Some(shortage) = shortage_of(site, calls) {
         return Err(TripFault::Short(shortage));
     }
     let mut trips = Vec::with_capacity(alloc, usize::from(calls))?;
-    let cells = site.cells();
     for call in 0..calls {
-        if let Some(trip) = trip_of(site, cells, call) {
+        if let Some(trip) = trip_of(site, call) {
             trips.push(trip).map_err(AllocError::from)?;
         }
     }

@@ -1,5 +1,16 @@
 //! Who is told how far a storm is.
 
+/// What the calls of a storm are asked to do, one phase after the other.
+#[derive(Clone, Copy)]
+pub(crate) enum Phase {
+    /// They are opened.
+    Opening,
+    /// They try to move to the next cell.
+    Moving,
+    /// The switching centre hangs them up.
+    HangingUp,
+}
+
 /// How far a storm is: what its calls were asked to do so far.
 #[derive(Clone, Copy, Debug, PartialEq, Eq)]
 pub struct Reached {
@@ -19,6 +30,16 @@ impl Reached {
             moved: 0,
             hung_up: 0,
         }
+    }
+
+    /// One more call was asked for what it does in a phase.
+    pub(crate) fn count(&mut self, phase: Phase) {
+        let count = match phase {
+            Phase::Opening => &mut self.opened,
+            Phase::Moving => &mut self.moved,
+            Phase::HangingUp => &mut self.hung_up,
+        };
+        *count = count.saturating_add(1);
     }
 }
 

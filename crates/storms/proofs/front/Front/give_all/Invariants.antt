@@ -1,0 +1,9 @@
+use Rattle.std.proofs.Common.{◌≡◌}
+use Rattle.storms.proofs.front.Front.give_all.Given as goal
+
+-- the office opened with the same book
+abbrev pub invariant-loop-input : goal.invariant-loop-input
+invariant-loop-input g l = record {
+  iterator : (goal.iterator-loop-input g).can_next l.input-iterator × (goal.iterator-loop-input g).is_finite l.input-iterator;
+  opening : l.self.office.opening ≡ l.fn.self.office.opening;
+}

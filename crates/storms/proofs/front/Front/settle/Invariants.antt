@@ -1,0 +1,9 @@
+use Rattle.std.proofs.Common.{◌≡◌}
+use Rattle.storms.proofs.front.Front.settle.Given as goal
+
+-- the office opened with the same book
+abbrev pub invariant-loop : goal.invariant-loop
+invariant-loop g l = record {
+  iterator : (goal.iterator-loop g).can_next l.iterator' × (goal.iterator-loop g).is_finite l.iterator';
+  opening : l.self.office.opening ≡ l.fn.self.office.opening;
+}

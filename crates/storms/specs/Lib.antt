@@ -1,0 +1,4 @@
+pub mod Width
+pub mod Trips
+pub mod Endings
+pub mod Outcomes
