@@ -1,5 +1,9 @@
 //! Storms of calls over the site of a file.
-ghost use Rattle.std.specs.Prelude.{◌≢◌, ◌≤◌, Ok};
+ghost use Rattle.std.specs.Prelude.{◌≡◌, ◌≢◌, ◌≤◌, Ok, Err, IfOk, OnOk};
+ghost use Rattle.cell_table.specs.SiteFile.{IsBlankFile};
+ghost use Rattle.storms.specs.Outcomes.{IsOutcome};
+ghost use Rattle.storms.specs.declared.outcome.Outcome.{Outcome};
+ghost use Rattle.lab.specs.Storms.{status_of, Prints};
 
 use crate::files::text_of;
 use crate::site_files::say_site;
@@ -12,18 +16,20 @@ use std::io::Write;
 use std::rt::Files;
 use std::sync::Wait;
 use std::thread::Threads;
-use storms::outcome::{OfficeFault, Outcome, print_figures};
+use storms::outcome::{OfficeFault, Outcome};
 use storms::storm::run_storm;
 use storms::trip::Shortage;
 pub use storms::watch::{Reached, Unwatched, Watch};
 
-/// Prints what came of a storm.
+/// Prints what came of a storm, and says how the work ended.
 fn print_outcome<W: Write>(out: &mut W, outcome: Outcome) -> Result<Status, LabFault>
-    ensures differs { result ≢ Ok Status.Differs }
+    ensures status { IfOk result (λ status. status ≡ status_of outcome) }
+    ensures printed { OnOk result (Prints (W.contents out.old) (W.contents out.new) outcome) }
+    ensures memory { result ≢ Err LabFault.NoMemory }
 {
     match outcome {
         Outcome::Done(figures) => {
-            print_figures(out, figures)?;
+            write!(out, "{figures}")?;
             return Ok(Status::Done);
         }
         Outcome::NoSite(fault) => print_no_site(out, fault)?,
@@ -57,7 +63,11 @@ pub fn storm_run<
 ) -> Result<Status, LabFault>
     requires workers { (1 ≤ workers) × (workers ≤ 16) }
     requires calls { (1 ≤ calls) × (calls ≤ 1024) }
+    ensures ended { IfOk result (λ status. (outcome : Outcome) × IsOutcome site.now calls outcome ×
+        (status ≡ status_of outcome) × Prints (W.contents out.old) (W.contents out.new) outcome) }
     ensures differs { result ≢ Ok Status.Differs }
+    ensures memory { result ≡ Err LabFault.NoMemory → ¬ IsBlankFile site.now }
+    ensures unprinted { result ≡ Err LabFault.NoMemory → out.new ≡ out.old }
 {
     let outcome = run_storm(rt, alloc, scratch, site, workers, calls, &mut Unwatched)?;
     print_outcome(out, outcome)
