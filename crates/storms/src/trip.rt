@@ -75,20 +75,28 @@ fn place_in(cell: u8, place: u8) -> ChanId
 fn channels_in<A: Allocator + Copy>(site: &Site<A>, cell: u8) -> usize
     ensures { result ≡ length (traffic_of site.now cell) }
 {
-    (0..SLOTS)
-        .map(|place| place_in(cell, place))
-        .filter(|chan| site.is_traffic(*chan))
-        .count()
+    let mut count = 0usize;
+    for place in 0..SLOTS {
+        count += usize::from(site.is_traffic(place_in(cell, place)));
+    }
+    count
 }
 
 /// The traffic channel at a place among those of a cell, by TRX and timeslot.
 fn channel_at<A: Allocator + Copy>(site: &Site<A>, cell: u8, place: u16) -> Option<ChanId>
     ensures { result ≡ slice_get (traffic_of site.now cell) place }
 {
-    (0..SLOTS)
-        .map(|place| place_in(cell, place))
-        .filter(|chan| site.is_traffic(*chan))
-        .nth(usize::from(place))
+    let mut left = place;
+    for slot in 0..SLOTS {
+        let chan = place_in(cell, slot);
+        if site.is_traffic(chan) {
+            if left == 0 {
+                return Some(chan);
+            }
+            left -= 1;
+        }
+    }
+    None
 }
 
 /// The first cell that has fewer than so many traffic channels, and how many it has.

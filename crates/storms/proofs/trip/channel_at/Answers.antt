@@ -1,20 +1,35 @@
-use Rattle.std.proofs.Common.{◌≡◌, ◌∙◌, sym, ap, refl, rules, tests, length, filter, map, slice_get}
-use Rattle.std.proofs.lemmas.Iterator.{YieldsList-from_range, YieldsList-from_map}
-use Rattle.std.proofs.lemmas.Iterator.Consumers.{YieldsList-at, YieldsList-from_filter, nth_from_yields_List}
-use Rattle.std.proofs.lemmas.Iterator.Adapters.{option_map_id}
-use Rattle.std.specs.List.{range_with_len}
+use Rattle.std.proofs.Common.{◌∙◌, ◌+◌, Some, sym, ap, slice_get, arith}
 use Rattle.cell_table.specs.Site.{is_traffic}
-use Rattle.storms.specs.Width.{place_in}
-use Rattle.storms.proofs.Places.{by_places}
+use Rattle.storms.proofs.Places.{traffic_from, found_at, fewer_at, passed_at, none_behind}
 use Rattle.storms.proofs.trip.channel_at.Goals as goal
+use Rattle.storms.proofs.trip.channel_at.Goals.{then-is_traffic+else-left-eq0, else-is_traffic}
+
+pub returns-then-left-eq0 : goal.returns-then-left-eq0
+returns-then-left-eq0 g c =
+    let site = c.args.site.now in
+    let is = sym (c.is_traffic.ensures.value ∙ ap (is_traffic site) c.place_in-chan.ensures) ∙ c.if-is_traffic.true in
+    ap Some c.place_in-chan.ensures
+    ∙ sym (found_at site c.args.cell c.loop-slot.slot c.loop-slot.left c.loop-slot-test.true is c.if-left-eq0.true)
+    ∙ c.loop-slot.invariant
+
+pub loop-slot-preserved : goal.loop-slot-preserved
+loop-slot-preserved g c =
+    let site = c.args.site.now in
+    let slot = c.loop-slot.slot in
+    let left = c.loop-slot.left in
+    let told = sym (c.is_traffic.ensures.value ∙ ap (is_traffic site) c.place_in-chan.ensures) in
+    elim c.if-is_traffic.branch [
+      | then-is_traffic+else-left-eq0 w ↦
+        ap (slice_get (traffic_from site c.args.cell (slot + 1))) w.left-is
+        ∙ sym (fewer_at site c.args.cell slot left c.loop-slot-test.true (told ∙ w.if-is_traffic.true) (omega (arith, w.if-left-eq0.false)))
+        ∙ c.loop-slot.invariant
+      | else-is_traffic w ↦
+        ap (slice_get (traffic_from site c.args.cell (slot + 1))) w.left-is
+        ∙ ap (λ xs. slice_get xs left) (sym (passed_at site c.args.cell slot c.loop-slot-test.true (told ∙ w.if-is_traffic.false)))
+        ∙ c.loop-slot.invariant
+    ]
 
 pub returns : goal.returns
 returns g c =
-    let site = c.args.site.now in
-    let cell = c.args.cell in
-    let places = YieldsList-from_map _ (place_in cell) (YieldsList-from_range 0 32 32 c.map.ensures.source refl) c.map.ensures.closure (λ x r q k. search (rules, tests)) in
-    let traffic = YieldsList-from_filter _ (is_traffic site) (YieldsList-at c.filter.ensures.source places) c.filter.ensures.closure (λ x b q k. search (rules, tests)) in
-    sym (option_map_id c.nth.result)
-    ∙ nth_from_yields_List c.nth.result _ _ c.nth.ensures.ran traffic
-    ∙ ap (λ n. slice_get (filter (is_traffic site) (map (place_in cell) (range_with_len 0 32))) n) c.from.ensures
-    ∙ ap (λ xs. slice_get (filter (is_traffic site) xs) c.args.place) (by_places cell)
+    ap (λ xs. slice_get xs c.loop-slot.left) (sym (none_behind c.args.site.now c.args.cell c.loop-slot.slot c.loop-slot-test.false))
+    ∙ c.loop-slot.invariant

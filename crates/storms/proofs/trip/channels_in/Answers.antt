@@ -1,15 +1,18 @@
-use Rattle.std.proofs.Common.{◌≡◌, ◌∙◌, sym, ap, refl, rules, tests, length, filter}
-use Rattle.std.proofs.lemmas.Iterator.{YieldsList-from_range, YieldsList-from_map}
-use Rattle.std.proofs.lemmas.Iterator.Consumers.{YieldsList-at, YieldsList-from_filter, count_from_yields_List}
+use Rattle.std.proofs.Common.{◌∙◌, ap, length, arith}
+use Rattle.std.specs.Int.{from_bool}
 use Rattle.cell_table.specs.Site.{is_traffic}
-use Rattle.storms.specs.Width.{place_in}
-use Rattle.storms.proofs.Places.{by_places}
+use Rattle.storms.proofs.Places.{counted_at, none_behind, one_at_most}
 use Rattle.storms.proofs.trip.channels_in.Goals as goal
 
-pub returns : goal.returns
-returns g c =
+pub loop-place-preserved : goal.loop-place-preserved
+loop-place-preserved g c =
     let site = c.args.site.now in
-    let cell = c.args.cell in
-    let places = YieldsList-from_map _ (place_in cell) (YieldsList-from_range 0 32 32 c.map.ensures.source refl) c.map.ensures.closure (λ x r q k. search (rules, tests)) in
-    let traffic = YieldsList-from_filter _ (is_traffic site) (YieldsList-at c.filter.ensures.source places) c.filter.ensures.closure (λ x b q k. search (rules, tests)) in
-    count_from_yields_List _ _ c.count.ensures.ran traffic ∙ ap (λ xs. length (filter (is_traffic site) xs)) (by_places cell)
+    let place = c.loop-place.place in
+    let one = c.from-count.ensures ∙ ap from_bool (c.is_traffic.ensures.value ∙ ap (is_traffic site) c.place_in.ensures) in
+    record {
+      counted = omega (arith, c.loop-place.invariant.counted, one, counted_at site c.args.cell place c.loop-place-test.true);
+      bound = omega (arith, c.loop-place.invariant.bound, c.from-count.ensures, one_at_most c.is_traffic.result);
+    }
+
+pub returns : goal.returns
+returns g c = omega (arith, c.loop-place.invariant.counted, ap length (none_behind c.args.site.now c.args.cell c.loop-place.place c.loop-place-test.false))

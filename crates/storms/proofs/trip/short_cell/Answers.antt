@@ -1,4 +1,4 @@
-use Rattle.std.proofs.Common.{◌≤◌, ◌≡◌, length, below_more}
+use Rattle.std.proofs.Common.{◌≤◌, length, below_more}
 use Rattle.storms.specs.Width.{traffic_of}
 use Rattle.storms.proofs.trip.short_cell.Goals as goal
 
