@@ -9,6 +9,7 @@ Eight cells with three TRX and 23 traffic channels each:
   completed 32
   undone 32
   channels in use 0
+  audit same
   $ ./lab storm examples/eight_cells.toml --workers 1 --calls 64 >one
   $ ./lab storm examples/eight_cells.toml --workers 2 --calls 64 | cmp one -
   $ ./lab storm examples/eight_cells.toml --workers 16 --calls 64 | cmp one -
@@ -18,12 +19,14 @@ Eight cells with three TRX and 23 traffic channels each:
   completed 44
   undone 44
   channels in use 0
+  audit same
   $ ./lab storm examples/eight_cells.toml --workers 4 --calls 5
   calls 5
   attempts 5
   completed 3
   undone 2
   channels in use 0
+  audit same
 
 Two cells with two traffic channels each:
 
@@ -33,12 +36,14 @@ Two cells with two traffic channels each:
   completed 1
   undone 0
   channels in use 0
+  audit same
   $ ./lab storm tests/storms/two_cells.toml --workers 2 --calls 2
   calls 2
   attempts 2
   completed 1
   undone 1
   channels in use 0
+  audit same
 
 A site is too small where it has one cell, or where a cell has fewer than twice as many traffic channels as calls begin in
 one; here a call that begins in cell 0 needs a channel of cell 1, and one of cell 1 a channel of cell 0.

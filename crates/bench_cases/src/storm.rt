@@ -62,7 +62,11 @@ impl fmt::Display for Crew {
 
 /// What a storm tells, added up.
 fn figures_sum(figures: Figures) -> u64 {
-    let Figures { tally, channels } = figures;
+    let Figures {
+        tally,
+        channels,
+        audit: _,
+    } = figures;
     let counts = [
         tally.calls,
         tally.attempts,

@@ -1,14 +1,17 @@
 //! Storms of calls over the site of a file.
 ghost use Rattle.std.specs.Prelude.{◌≡◌, ◌≢◌, ◌≤◌, Ok, Err, IfOk, OnOk};
+ghost use Rattle.std.specs.Io.KnownBytes.{Appends};
 ghost use Rattle.cell_table.specs.SiteFile.{IsBlankFile};
 ghost use Rattle.storms.specs.Outcomes.{IsOutcome};
 ghost use Rattle.storms.specs.declared.outcome.Outcome.{Outcome};
-ghost use Rattle.lab.specs.Storms.{status_of, Prints};
+ghost use Rattle.lab_runs.specs.Statuses.{audit_status};
+ghost use Rattle.lab.specs.Storms.{status_of, storm_text, LeftTrace, Prints};
 
 use crate::files::text_of;
 use crate::site_files::say_site;
 use lab_runs::listener::print_no_site;
 use lab_runs::run::{LabFault, Status};
+use lab_runs::verdict::{audit_line, audit_status};
 use lab_words::{Job, StormSize, WordsFault, read_words};
 use screen_text::Escaped;
 use std::alloc::{Allocator, Global};
@@ -16,10 +19,21 @@ use std::io::Write;
 use std::rt::Files;
 use std::sync::Wait;
 use std::thread::Threads;
-use storms::outcome::{OfficeFault, Outcome};
+use storms::outcome::{Figures, OfficeFault, Outcome};
 use storms::storm::run_storm;
 use storms::trip::Shortage;
 pub use storms::watch::{Reached, Unwatched, Watch};
+
+/// Prints the lines of a storm that came to its end, and says how the work ended.
+fn print_figures<W: Write>(out: &mut W, figures: Figures) -> Result<Status, LabFault>
+    ensures status { IfOk result (λ status. status ≡ audit_status figures.audit) }
+    ensures printed { OnOk result (Appends (W.contents out.old) (W.contents out.new) (storm_text figures)) }
+    ensures memory { result ≢ Err LabFault.NoMemory }
+{
+    let (line, _) = audit_line(&figures.audit);
+    writeln!(out, "{figures}{line}")?;
+    Ok(audit_status(&figures.audit))
+}
 
 /// Prints what came of a storm, and says how the work ended.
 fn print_outcome<W: Write>(out: &mut W, outcome: Outcome) -> Result<Status, LabFault>
@@ -28,10 +42,7 @@ fn print_outcome<W: Write>(out: &mut W, outcome: Outcome) -> Result<Status, LabF
     ensures memory { result ≢ Err LabFault.NoMemory }
 {
     match outcome {
-        Outcome::Done(figures) => {
-            write!(out, "{figures}")?;
-            return Ok(Status::Done);
-        }
+        Outcome::Done(figures) => return print_figures(out, figures),
         Outcome::NoSite(fault) => print_no_site(out, fault)?,
         Outcome::TooSmall(_) => writeln!(out, "site too small")?,
         Outcome::Office(_) => writeln!(out, "office")?,
@@ -41,7 +52,9 @@ fn print_outcome<W: Write>(out: &mut W, outcome: Outcome) -> Result<Status, LabF
 
 /// Runs a storm over a site that is given as a text, with so many workers, each on a thread of its own, and so many calls, and
 /// prints what came of it to `out`: five lines, `calls`, `attempts`, `completed`, `undone` and `channels in use`, each with
-/// a number; the answer is `Done` then. What the calls do is said by [`run_storm`].
+/// a number, and `audit same`, where all attempts that were undone and are settled, taken out of the history of the desk
+/// together, leave the same book and the same replies; the answer is `Done` then. Where they don't, the last line is
+/// `audit differs`, and the answer `Differs`. What the calls do is said by [`run_storm`].
 ///
 /// A text that describes no site prints what [`lab_run`](crate::run::lab_run) prints of it. Where the site has fewer than two
 /// cells, or a cell too few traffic channels, `site too small` is printed, and where the office of the workers fails,
@@ -65,7 +78,7 @@ pub fn storm_run<
     requires calls { (1 ≤ calls) × (calls ≤ 1024) }
     ensures ended { IfOk result (λ status. (outcome : Outcome) × IsOutcome site.now calls outcome ×
         (status ≡ status_of outcome) × Prints (W.contents out.old) (W.contents out.new) outcome) }
-    ensures differs { result ≢ Ok Status.Differs }
+    ensures differs { result ≡ Ok Status.Differs → LeftTrace site.now calls }
     ensures memory { result ≡ Err LabFault.NoMemory → ¬ IsBlankFile site.now }
     ensures unprinted { result ≡ Err LabFault.NoMemory → out.new ≡ out.old }
 {

@@ -142,11 +142,12 @@ As in: bsc_lab record site.toml script.txt > recorded.txt"
 pub(crate) const STORM_HELP: &str = "\
 Opens M calls, in turn in each cell, moves each to the next cell, and hangs it up; mobiles of even
 calls arrive there, those of odd ones return. Stations, mobiles and switching centre are simulated.
-Prints how many calls and attempts began, how many attempts were completed and undone, and how
-many channels are in use at the end.
+Prints how many calls and attempts began, how many attempts were completed and undone, how many
+channels are in use at the end, and whether all undone and settled attempts, taken out together,
+leave the same book and replies (audit).
 
-Statuses: 0 all calls were moved, 2 the file or the site is refused, a cell has too few traffic
-channels, or the workers failed, 3 memory was refused.
+Statuses: 0 all calls were moved, 1 the audit differs, 2 the file or the site is refused, a cell has
+too few traffic channels, or the workers failed, 3 memory was refused.
 
 As in: bsc_lab storm site.toml --workers 4 --calls 64";
 

@@ -1,5 +1,5 @@
 -- What comes of a storm. Ours, of no standard.
-use Rattle.std.specs.Prelude.{◌≡◌, ℕ, true, List, ◌++◌, All, vec_len, codes, Ok, Err}
+use Rattle.std.specs.Prelude.{◌≡◌, ◌↔◌, ℕ, IsTrue, true, List, length, ◌++◌, All, vec_len, codes, None, Ok, Err}
 use Rattle.std.specs.Fmt.{decimal}
 use Rattle.std.specs.FinMap as map
 use Rattle.cell_table.specs.Site.{SiteView}
@@ -8,7 +8,12 @@ use Rattle.radio_book.specs.declared.event.Event.{Event}
 use Rattle.radio_book.specs.declared.event.Reply.{Reply}
 use Rattle.radio_book.specs.State.{State, empty_book}
 use Rattle.radio_book.specs.Run.{Leads}
+use Rattle.radio_book.specs.Undone.{Undone}
+use Rattle.radio_book.specs.Found.{first_place}
+use Rattle.radio_book.specs.Together.{remaining, held_steps}
 use Rattle.radio_desk.specs.Desk.{DeskState}
+use Rattle.radio_desk.specs.declared.audit.Audit.{Audit}
+use Rattle.radio_desk.specs.Audit.{steps_in, AreSettledIn, LeadsAlike}
 use Rattle.radio_desk.specs.Tally.{count_of}
 use Rattle.radio_desk.specs.declared.tally.Tally.{Tally}
 use Rattle.call_worker.specs.declared.posted.WorkerEnd.{WorkerEnd}
@@ -17,13 +22,22 @@ use Rattle.storms.specs.declared.outcome.Outcome.{Outcome}
 use Rattle.storms.specs.declared.outcome.Outcome.TheVariants.{Done, NoSite, TooSmall, Office}
 use Rattle.storms.specs.Width.{IsWide, IsShortage}
 
--- the figures are those of a desk: what its history tells, and how many channels its book has in use
+-- The audit is that of a desk: of all attempts of its history that were undone and are settled, taken out together. Where no
+-- entry was refused for what one of them held, they left no trace.
+pub record IsAuditOf (d : DeskState) (audit : Audit) : Type 0 where
+  pub attempts : (us : List Undone) × AreSettledIn d.opening d.history us × (audit.attempts ≡ length us)
+  pub held : (us : List Undone) → AreSettledIn d.opening d.history us → audit.held ≡ first_place (held_steps us (steps_in d.history))
+  pub same : (us : List Undone) → AreSettledIn d.opening d.history us → IsTrue audit.same ↔ LeadsAlike d.opening (remaining us (steps_in d.history)) d.book
+  pub no_trace : audit.held ≡ None → audit.same ≡ true
+
+-- the figures are those of a desk: what its history tells, how many channels its book has in use, and its audit
 pub record AreOf (d : DeskState) (figures : Figures) : Type 0 where
   pub calls : figures.tally.calls ≡ count_of (λ m. m.call) d.history
   pub attempts : figures.tally.attempts ≡ count_of (λ m. m.attempt) d.history
   pub completed : figures.tally.completed ≡ count_of (λ m. m.completed) d.history
   pub undone : figures.tally.undone ≡ count_of (λ m. m.undone) d.history
   pub channels : figures.channels ≡ map.len d.book.channels
+  pub audit : IsAuditOf d figures.audit
 
 -- they are of a desk that opened with this book, and whose history leads from there to its book
 pub record AreFigures (opening : State) (figures : Figures) : Type 0 where
@@ -46,7 +60,7 @@ IsOutcome text calls (NoSite fault) = read_site text ≡ Err fault
 IsOutcome text calls (TooSmall shortage) = (site : SiteView) × (read_site text ≡ Ok site) × IsShortage site calls shortage
 IsOutcome text calls (Office fault) = (site : SiteView) × (read_site text ≡ Ok site) × IsWide site calls
 
--- what figures are printed as: five lines
+-- what the counts of figures are printed as: five lines
 abbrev pub figures_text : Figures → List ℕ
 figures_text f =
     codes "calls " ++ (decimal f.tally.calls ++ (codes "\nattempts " ++ (decimal f.tally.attempts ++ (codes "\ncompleted " ++ (decimal f.tally.completed

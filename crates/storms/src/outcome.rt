@@ -6,6 +6,7 @@ ghost use Rattle.storms.specs.Endings.{EndsAs, EndsBefore, EndsUnread};
 use crate::trip::{Shortage, TripFault};
 use call_worker::{CloseFault, GiveFault, StartFault};
 use cell_table::SiteFault;
+use radio_desk::audit::Audit;
 use radio_desk::tally::Tally;
 use rsl_messages::RslFault;
 use std::alloc::AllocError;
@@ -19,6 +20,8 @@ pub struct Figures {
     pub tally: Tally,
     /// How many channels are in use at the end.
     pub channels: usize,
+    /// Whether the attempts that were taken back, and are settled, left a trace together.
+    pub audit: Audit,
 }
 
 /// What an office can't do, other than for want of memory.
@@ -101,7 +104,8 @@ impl From<CloseFault> for StormFault {
     }
 }
 
-/// Five lines: `calls`, `attempts`, `completed`, `undone` and `channels in use`, each with its number.
+/// Five lines: `calls`, `attempts`, `completed`, `undone` and `channels in use`, each with its number. What the audit comes to
+/// is left to others.
 impl fmt::Display for Figures {
     ghost output = { λ figures. Some (figures_text figures) };
 

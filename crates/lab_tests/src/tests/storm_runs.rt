@@ -24,6 +24,7 @@ attempts 4
 completed 2
 undone 2
 channels in use 0
+audit same
 ";
 
 /// A heap that threads may share. It is never freed.
