@@ -2,6 +2,7 @@
 use super::offices::{Course, Hall, Left, are_ok, at_a_desk, empty_desk, give_all, give_each};
 use crate::bag::Taken;
 use call_worker::{Gate, Point};
+use radio_desk::audit::Audit;
 use sample_sites::THREE_CHANNELS;
 use std::alloc::Global;
 use std::process::Abort;
@@ -135,6 +136,18 @@ fn are_done<R: Wait + Abort + Drop>(rt: &R, left: &Left<R, Global>) -> Result<()
     is_done(rt, left, 1, WAITING.saturating_add(4))
 }
 
+/// The attempt of call 2 was taken back, and nothing was refused for what it held. That of call 1 is open.
+fn is_audited<R: Wait + Abort + Drop>(rt: &R, left: &Left<R, Global>) -> Result<(), Fail> {
+    let wanted = Audit {
+        attempts: 1,
+        held: None,
+        same: true,
+    };
+    let audit = left.desk.audit()?;
+    assert!(rt; audit == wanted, "{audit:?}");
+    Ok(())
+}
+
 /// Call 1 is held, and an inbox filled, before call 2 goes on.
 fn give_beside<R: Threads + Wait + Abort + AllocGlobal + Drop>(
     rt: &R,
@@ -167,7 +180,8 @@ impl Course for Beside {
         rt: &R,
         left: &Left<R, Global>,
     ) -> Result<(), Fail> {
-        are_done(rt, left)
+        are_done(rt, left)?;
+        is_audited(rt, left)
     }
 }
 
