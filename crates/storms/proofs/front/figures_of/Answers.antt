@@ -1,6 +1,5 @@
 use Rattle.std.proofs.lemmas.Bool.{false≢true}
-use Rattle.std.proofs.Common.{◌≡◌, rules, true, false, Bool, MatchBool, List, length}
-use Rattle.std.specs.List.{HoldsAt, AllWithin}
+use Rattle.std.proofs.Common.{◌≡◌, rules, true, false, Bool, MatchBool}
 use Rattle.std.proofs.lemmas.Iterator.{cases_from_all, YieldsList-from_slice}
 use Rattle.std.proofs.lemmas.List.Elements.{All-from_all_within}
 use Rattle.storms.specs.Outcomes.{DidAll}
