@@ -25,6 +25,10 @@ pub enum Task {
     LiveByStep,
     /// Takes an undone attempt at handover out of a list of a hundred events.
     RewindList,
+    /// Runs ten thousand events with five hundred undone attempts.
+    RunHistory,
+    /// Audits a history of ten thousand events with five hundred undone attempts.
+    AuditHistory,
     /// Reads a MEASUREMENT RESULT (TS 48.058 clause 8.4.8) and the MEASUREMENT REPORT in it (TS 44.018 clause 9.1.21).
     DecodeMeasurement,
     /// Writes a MEASUREMENT REPORT and a MEASUREMENT RESULT.
@@ -63,7 +67,7 @@ pub struct Case {
 }
 
 /// Every case, in the order in which they are printed: name, task, octets, place.
-pub const CASES: [Case; 18] = [
+pub const CASES: [Case; 20] = [
     Case {
         name: "chan_act.dec",
         task: Task::DecodeActivation,
@@ -103,6 +107,18 @@ pub const CASES: [Case; 18] = [
     Case {
         name: "rewind.100",
         task: Task::RewindList,
+        octets: &[0],
+        place: 0,
+    },
+    Case {
+        name: "run.10000",
+        task: Task::RunHistory,
+        octets: &[0],
+        place: 0,
+    },
+    Case {
+        name: "audit.10000",
+        task: Task::AuditHistory,
         octets: &[0],
         place: 0,
     },

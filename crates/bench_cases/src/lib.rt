@@ -10,6 +10,7 @@ mod controlled;
 mod external;
 pub mod fault;
 mod handover;
+mod history;
 mod life;
 mod measured;
 mod radio;
@@ -42,6 +43,8 @@ pub fn sum_of(alloc: Global, case: Case, count: u64, octets: &[u8]) -> Result<u6
         Task::ExternalByOctets => external::external_by_octets(alloc, &mut varying, count),
         Task::LiveByStep => life::live_by_steps(alloc, &mut varying, count),
         Task::RewindList => life::rewind_lists(alloc, &mut varying, count),
+        Task::RunHistory => history::run_histories(alloc, &mut varying, count),
+        Task::AuditHistory => history::audit_histories(alloc, &mut varying, count),
         Task::DecodeMeasurement => read_each(&Measurements, alloc, &mut varying, count),
         Task::EncodeMeasurement => measured::encode_measurements(alloc, &mut varying, count),
         Task::DecodeCommand => read_each(&Commands, alloc, &mut varying, count),

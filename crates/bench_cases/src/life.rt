@@ -41,7 +41,7 @@ pub(crate) fn chan_at(cell: u8, place: u8) -> ChanId
 }
 
 /// The cell that the first octet names.
-fn cell_of(octets: &[u8]) -> u8
+pub(crate) fn cell_of(octets: &[u8]) -> u8
     ensures { result < 64 }
 {
     octets.first().copied().unwrap_or(0) % CELLS
@@ -87,7 +87,7 @@ pub(crate) fn site_text(alloc: Global, outside: u16) -> Result<String, AllocErro
 }
 
 /// The book of 64 cells with three TRX each in which nothing is in use.
-fn quiet_book(alloc: Global) -> Result<Book, Fault> {
+pub(crate) fn quiet_book(alloc: Global) -> Result<Book, Fault> {
     let text = site_text(alloc, 0)?;
     book_of(alloc, text.as_str())
 }
