@@ -1,7 +1,8 @@
 //! Allocation failures while an input is handled: each request for memory that it makes is refused in turn.
 use super::controllers::{Radio, are_handled, input_of, opened, sent_lines};
 use super::requests::{
-    BEGINNING, BEGINNINGS, CALLS, CANDIDATES, COMING, LEAVING, MOVES, TWO_NEIGHBOURS,
+    BEGINNING, BEGINNINGS, CALLS, CANDIDATES, COMING, LEAVING, MOVES, ROOM_COMES_FIRST,
+    TWO_NEIGHBOURS, TWO_PARTS,
 };
 use ho_procedure::exchange::{Fault, Outbound};
 use refusing_heap::RefusingHeap;
@@ -11,12 +12,14 @@ use std::process::Abort;
 use std::test::Fail;
 use trace_text::trace::{Mark, Step, print_steps};
 
-/// An input to a controller of a site, what came before, what comes of it, and how many requests it makes at least.
+/// An input to a controller of a site, what came before, what comes of it, and how many requests it makes at least. Behind
+/// what came before the history gets so many entries more.
 #[derive(Clone, Copy)]
 struct Case<'a> {
     site: &'a str,
     beginning: &'a str,
     before: &'a str,
+    more: u8,
     input: &'a str,
     comes: &'a str,
     requests: u64,
@@ -58,6 +61,7 @@ fn case_of<'a>(site: &'a str, lines: &'a str) -> Result<Case<'a>, Fail> {
         site,
         beginning,
         before,
+        more: 0,
         input,
         comes,
         requests: number.trim().parse()?,
@@ -80,19 +84,43 @@ fn asked_lines<'a>(
     Ok(String::from_utf8(out)?)
 }
 
-/// The events and messages of an input that came to its end are all that it leads to.
-fn comes_so(rt: &impl Abort, asked: &str, sent: &str, case: Case<'_>) {
-    let messages = case.comes.strip_prefix(asked);
-    assert!(rt; messages == Some(sent), "{}: {asked}{sent}", case.input);
+/// What an input leads to up to its event of this number, counted from 0: the events before that, and the messages that
+/// stand before it.
+fn cut_before(scratch: Global, comes: &str, number: usize) -> Result<(String, String), Fail> {
+    let mut asked = String::new(scratch);
+    let mut sent = String::new(scratch);
+    let mut events = 0usize;
+    for line in comes.lines() {
+        if line.starts_with("event ") {
+            if events == number {
+                break;
+            }
+            events = events.saturating_add(1);
+            push_line(&mut asked, line)?;
+        } else {
+            push_line(&mut sent, line)?;
+        }
+    }
+    Ok((asked, sent))
 }
 
-/// Those of one that was cut off are the first that it leads to, each.
-fn comes_first(rt: &impl Abort, asked: &str, sent: &str, case: Case<'_>) {
-    assert!(rt; case.comes.starts_with(asked), "{}: {asked}", case.input);
-    let mut messages = case.comes.lines().filter(|line| line.starts_with("out "));
-    for line in sent.lines() {
-        assert!(rt; messages.next() == Some(line), "{}: {sent}", case.input);
-    }
+fn push_line(text: &mut String, line: &str) -> Result<(), Fail> {
+    text.push_str(line)?;
+    Ok(text.push('\n')?)
+}
+
+/// So many first events of a case were asked, and the messages are those that stand before the next.
+fn comes_so(
+    rt: &impl Abort,
+    scratch: Global,
+    (asked, sent): (&str, &str),
+    number: usize,
+    case: Case<'_>,
+) -> Result<(), Fail> {
+    let (wanted, owed) = cut_before(scratch, case.comes, number)?;
+    assert!(rt; asked == wanted.as_str(), "{}: {asked}", case.input);
+    assert!(rt; sent == owed.as_str(), "{}: {asked}{sent}", case.input);
+    Ok(())
 }
 
 /// An input was handled, or memory was refused.
@@ -107,15 +135,42 @@ fn ends_so<'a>(
     match answer {
         Ok(sent) => {
             assert!(rt; !heap.was_refused(), "{}", case.input);
-            comes_so(rt, asked, &sent_lines(scratch, sent)?, case);
+            let sent = sent_lines(scratch, sent)?;
+            comes_so(rt, scratch, (asked, sent.as_str()), usize::MAX, case)
         }
         Err(Fault::NoMemory(sent)) => {
             assert!(rt; heap.was_refused(), "{}", case.input);
-            comes_first(rt, asked, &sent_lines(scratch, sent)?, case);
+            let sent = sent_lines(scratch, sent)?;
+            comes_so(
+                rt,
+                scratch,
+                (asked, sent.as_str()),
+                asked.lines().count(),
+                case,
+            )
         }
-        Err(Fault::Undecoded(..) | Fault::Desk(..)) => assert!(rt; false, "{}", case.input),
+        Err(Fault::Undecoded(..) | Fault::Desk(..)) => {
+            assert!(rt; false, "{}", case.input);
+            Ok(())
+        }
     }
-    Ok(())
+}
+
+/// An acknowledgement that is refused, since its channel isn't in use. It makes no room but for its entry.
+const REFUSED: &str = "abis 0 0 0833010a";
+
+/// A controller is given what comes before the input of a case.
+fn begins<'a>(
+    rt: &impl Abort,
+    heap: &'a RefusingHeap,
+    radio: &mut Radio<&'a RefusingHeap>,
+    case: Case<'_>,
+) {
+    are_handled(rt, heap, radio, case.beginning);
+    are_handled(rt, heap, radio, case.before);
+    for _ in 0..case.more {
+        are_handled(rt, heap, radio, REFUSED);
+    }
 }
 
 /// How many requests for memory a controller's heap had when the input of a case came, which ended so.
@@ -126,8 +181,7 @@ fn requests_before<'a>(
     radio: &mut Radio<&'a RefusingHeap>,
     case: Case<'_>,
 ) -> Result<u64, Fail> {
-    are_handled(rt, heap, radio, case.beginning);
-    are_handled(rt, heap, radio, case.before);
+    begins(rt, heap, radio, case);
     let input = input_of(rt, heap, case.input);
     let (requests, place) = (heap.requests(), radio.view().desk().len());
     let answer = radio.handle(input);
@@ -198,4 +252,84 @@ fn refused_memory_is_answered(rt: HostRuntime) -> Result<(), Fail> {
     are_answered(&rt, THREE_CHANNELS, COMING)?;
     are_answered(&rt, THREE_CHANNELS, LEAVING)?;
     are_answered(&rt, TWO_NEIGHBOURS, CANDIDATES)
+}
+
+/// How many entries more histories get, so that somewhere each event of a row finds its history full.
+const LENGTHS: u8 = 20;
+
+/// What a controller of a heap owes after the input of a case, where memory was refused.
+fn owed_lines(
+    rt: &impl Abort,
+    scratch: Global,
+    heap: &RefusingHeap,
+    case: Case<'_>,
+) -> Result<String, Fail> {
+    let mut radio = opened(heap, scratch, case.site)?;
+    begins(rt, heap, &mut radio, case);
+    match radio.handle(input_of(rt, heap, case.input)) {
+        Err(Fault::NoMemory(sent)) => sent_lines(scratch, &sent),
+        Ok(_) | Err(Fault::Undecoded(..) | Fault::Desk(..)) => Ok(String::new(scratch)),
+    }
+}
+
+/// Whether one of the first requests of a case, once it is refused, leaves this message owed.
+fn is_owed(rt: &(impl AllocGlobal + Abort), case: Case<'_>, message: &str) -> Result<bool, Fail> {
+    let first = requests_made(rt, case)?;
+    for n in 1..20 {
+        let heap = RefusingHeap::refusing_nth(rt.alloc(), first.saturating_add(n));
+        if owed_lines(rt, rt.alloc(), &heap, case)?.as_str() == message {
+            return Ok(true);
+        }
+    }
+    Ok(false)
+}
+
+/// Whether a case is answered at each length of the history, and leaves this message owed at one of them.
+fn is_owed_at_some_length(
+    rt: &(impl AllocGlobal + Abort),
+    case: Case<'_>,
+    message: &str,
+) -> Result<bool, Fail> {
+    let mut found = false;
+    for more in 0..LENGTHS {
+        let case = Case { more, ..case };
+        is_answered(rt, case)?;
+        found = found || is_owed(rt, case, message)?;
+    }
+    Ok(found)
+}
+
+#[test]
+fn a_message_between_two_events_is_owed(rt: HostRuntime) -> Result<(), Fail> {
+    for lines in TWO_PARTS.split("\n\n") {
+        let case = case_of(THREE_CHANNELS, lines)?;
+        let owed = is_owed_at_some_length(&rt, case, "out abis 1 1 082e010b\n")?;
+        assert!(&rt; owed, "{lines}");
+    }
+    Ok(())
+}
+
+/// Where the first request of a case is refused, nothing is asked, and nothing owed.
+fn asks_nothing(rt: &(impl AllocGlobal + Abort), case: Case<'_>) -> Result<(), Fail> {
+    let request = requests_made(rt, case)?.saturating_add(1);
+    let heap = RefusingHeap::refusing_nth(rt.alloc(), request);
+    let mut radio = opened(&heap, rt.alloc(), case.site)?;
+    begins(rt, &heap, &mut radio, case);
+    let place = radio.view().desk().len();
+    let answer = radio.handle(input_of(rt, &heap, case.input));
+    let stopped = matches!(answer, Err(Fault::NoMemory(owed)) if owed.is_empty());
+    let asked = radio.view().desk().len().saturating_sub(place);
+    assert!(rt; stopped && asked == 0, "{}: {asked}", case.input);
+    Ok(())
+}
+
+#[test]
+fn room_comes_before_the_first_event(rt: HostRuntime) -> Result<(), Fail> {
+    for lines in ROOM_COMES_FIRST.split("\n\n") {
+        for more in 0..LENGTHS {
+            let case = case_of(THREE_CHANNELS, lines)?;
+            asks_nothing(&rt, Case { more, ..case })?;
+        }
+    }
+    Ok(())
 }

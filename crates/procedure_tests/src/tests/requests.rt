@@ -3,7 +3,8 @@
 //! and none for a release that is acknowledged. A new desk has room for the first entries of its history.
 //!
 //! Between two empty lines stand the beginning that is gone on from, where one is; lines `in`, the last of which is the
-//! input that is counted; the trace lines that come of it, without `none free`; and how many requests it makes.
+//! input that is counted; what comes of it by its row, each message behind the event that it follows there, without `none
+//! free`; and how many requests it makes.
 
 /// Each: its name, and the lines of a script that lead to it over an empty book.
 pub const BEGINNINGS: &[(&str, &str)] = &[
@@ -201,8 +202,8 @@ from a call whose mobile was sent to its target
 in clear 1
 event look 1 -> record 0/0/3 on internal commanded 1/1/3 0
 event undo 1 asked -> record 0/0/3 on internal commanded 1/1/3 0
-event clear 1 -> done
 out abis 1 1 082e010b
+event clear 1 -> done
 out abis 0 0 082e010b
 requests 1
 
@@ -226,8 +227,8 @@ from a call whose mobile was sent to its target
 in a 1 000420040120
 event look 1 -> record 0/0/3 on internal commanded 1/1/3 0
 event undo 1 asked -> record 0/0/3 on internal commanded 1/1/3 0
-event clear 1 -> done
 out abis 1 1 082e010b
+event clear 1 -> done
 out abis 0 0 0301010b02000b0003060d01
 out abis 0 0 082e010b
 out a 1 000121
@@ -490,4 +491,69 @@ event reserve 1 0 -> done
 event activate 1 -> done
 out abis 2 0 0821010c03020604000108010900
 requests 4
+";
+
+/// Rows that send a message between two events: the target of an attempt is released before its call is cleared.
+pub const TWO_PARTS: &str = "from a call whose mobile was sent to its target
+in clear 1
+event look 1 -> record 0/0/3 on internal commanded 1/1/3 0
+event undo 1 asked -> record 0/0/3 on internal commanded 1/1/3 0
+out abis 1 1 082e010b
+event clear 1 -> done
+out abis 0 0 082e010b
+requests 1
+
+from a call whose mobile was sent to its target
+in a 1 000420040120
+event look 1 -> record 0/0/3 on internal commanded 1/1/3 0
+event undo 1 asked -> record 0/0/3 on internal commanded 1/1/3 0
+out abis 1 1 082e010b
+event clear 1 -> done
+out abis 0 0 0301010b02000b0003060d01
+out abis 0 0 082e010b
+out a 1 000121
+requests 1
+";
+
+/// Rows whose first event changes the book, and which send something. No buffer is left from before.
+pub const ROOM_COMES_FIRST: &str = "in open 1 0 0 3
+event open 1 0/0/3 -> done
+out abis 0 0 0821010b0300060400010801
+requests 1
+
+from a call that is to move
+in undo 1
+event undo 1 asked -> record 0/0/3 on internal sent 1/1/3 0
+out abis 1 1 082e010b
+requests 1
+
+from a call whose mobile was seen there
+in expire 1 T3103
+event undo 1 t3103 -> record 0/0/3 on internal detected 1/1/3 0
+out abis 1 1 082e010b
+out a 1 000422040100
+requests 1
+
+from a call that is to come
+in abis 1 1 0822010b080000
+event confirm 1/1/3 -> owned 9
+event look 9 -> record - - incoming confirmed 1/1/3 0
+event command 9 -> done
+out a 9 000c121709062bd5670ba36b0005
+requests 1
+
+from a call that is to come
+in abis 1 1 0823010b1a0120
+event refuse 1/1/3 -> owned 9
+event look 9 -> record - - incoming refused 1/1/3 0
+event undo 9 asked -> record - - incoming refused 1/1/3 0
+out a 9 000416040120
+requests 1
+
+from a call whose mobile was sent here
+in abis 1 1 0827010b1102
+event detect 1/1/3 -> owned 9
+event look 9 -> record - - incoming detected 1/1/3 0
+out a 9 00011b
+requests 1
 ";
