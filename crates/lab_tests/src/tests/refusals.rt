@@ -1,6 +1,6 @@
 use super::failing::Failing;
-use super::rows::{HANDOVER, script_of};
-use super::{ONE_CALL, SITE, equals_at, holds_at, printed};
+use super::rows::{HANDOVER, TRACES, script_of};
+use super::{ONE_CALL, SITE, equals_at, holds_at, is_whole_or_cut, printed};
 use lab::run::{LabFault, Status, lab_run};
 use refusing_heap::RefusingHeap;
 use sample_sites::{NO_TRAFFIC, SAME_IDENTITY};
@@ -76,6 +76,48 @@ fn each_request_for_memory_is_refused(rt: HostRuntime) -> Result<(), Fail> {
         tried = n;
     }
     holds_at(&rt, 10 < tried && tried < 999, (tried, "requests"));
+    Ok(())
+}
+
+/// Behind what was printed an input comes next, or the end: of a turn that was cut off nothing is printed.
+fn ends_at_a_turn(rt: &impl Abort, text: &str, trace: &str, n: u64) {
+    let rest = trace.strip_prefix(text).unwrap_or("");
+    let is_so = rest.is_empty() || rest.starts_with("in ") || rest.starts_with("end ");
+    holds_at(rt, is_so, (n, text));
+}
+
+/// Whether a run over a heap that refuses this request met no refusal. Once memory was refused nothing more is printed.
+fn traces_without(
+    rt: &impl Abort,
+    alloc: Global,
+    script: &str,
+    trace: &str,
+    n: u64,
+) -> Result<bool, Fail> {
+    let heap = RefusingHeap::refusing_nth(alloc, n);
+    let (ended, text) = printed(&heap, alloc, SITE, None, script)?;
+    is_whole_or_cut(rt, &heap, (ended, text.as_str()), trace, n);
+    ends_at_a_turn(rt, &text, trace, n);
+    Ok(!heap.was_refused())
+}
+
+/// Each request of a trace is refused in turn.
+fn is_traced_without(rt: &(impl AllocGlobal + Abort), trace: &str) -> Result<(), Fail> {
+    let script = script_of(rt.alloc(), trace)?;
+    for n in 1..2000 {
+        if traces_without(rt, rt.alloc(), &script, trace, n)? {
+            holds_at(rt, 10 < n, (n, "requests"));
+            return Ok(());
+        }
+    }
+    Err(Fail::from("two thousand requests"))
+}
+
+#[test]
+fn nothing_is_printed_once_memory_was_refused(rt: HostRuntime) -> Result<(), Fail> {
+    for trace in TRACES {
+        is_traced_without(&rt, *trace)?;
+    }
     Ok(())
 }
 

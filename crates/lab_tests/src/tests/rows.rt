@@ -43,7 +43,7 @@ end channels=1 calls=1 references=0 timers=0
 ";
 
 /// Such traces.
-const TRACES: &[&str] = &[
+pub(super) const TRACES: &[&str] = &[
     HANDOVER,
     // the mobile is late: its timer runs out, once
     "in open 1 0 0 3
