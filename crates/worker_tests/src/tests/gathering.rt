@@ -4,8 +4,9 @@ use call_worker::{CloseFault, gather};
 use radio_book::event::{Event, Reply};
 use radio_desk::desk::Desk;
 use radio_desk::seat::{Receipt, Seat};
+use refusing_heap::RefusingHeap;
 use sample_sites::{HOME, OTHER, THREE_CHANNELS};
-use std::alloc::{AllocError, Global};
+use std::alloc::{AllocError, Allocator, Global};
 use std::process::Abort;
 use std::test::Fail;
 
@@ -15,7 +16,11 @@ const FIRST: &[Event] = &[Event::Open(1, HOME), Event::Confirm(HOME)];
 const SECOND: &[Event] = &[Event::Open(2, OTHER), Event::Look(2)];
 
 /// The receipts of one caller.
-fn ask_all(alloc: Global, desk: &mut Desk<Global>, events: &[Event]) -> Result<Vec<Receipt>, Fail> {
+fn ask_all<A: Allocator + Copy>(
+    alloc: A,
+    desk: &mut Desk<A>,
+    events: &[Event],
+) -> Result<Vec<Receipt, A>, Fail> {
     let mut seat = Seat::new();
     let mut receipts = Vec::new(alloc);
     for event in events {
@@ -25,11 +30,11 @@ fn ask_all(alloc: Global, desk: &mut Desk<Global>, events: &[Event]) -> Result<V
 }
 
 /// Two lists.
-fn both(
-    alloc: Global,
+fn both<A: Allocator + Copy>(
+    alloc: A,
     first: &[Receipt],
     second: &[Receipt],
-) -> Result<Vec<Vec<Receipt>>, AllocError> {
+) -> Result<Vec<Vec<Receipt, A>, A>, AllocError> {
     let mut lists = Vec::new(alloc);
     lists.push(Vec::from_slice(alloc, first)?)?;
     lists.push(Vec::from_slice(alloc, second)?)?;
@@ -54,6 +59,7 @@ enum Said {
     Missing(usize),
     Twice(usize),
     Count,
+    NoMemory,
     Other,
 }
 
@@ -63,7 +69,8 @@ fn said_by(answer: Result<(), CloseFault>) -> Said {
         Err(CloseFault::Missing(receipt)) => Said::Missing(receipt.place),
         Err(CloseFault::Twice(place)) => Said::Twice(place),
         Err(CloseFault::Count) => Said::Count,
-        Err(CloseFault::Opening | CloseFault::NoMemory) => Said::Other,
+        Err(CloseFault::NoMemory) => Said::NoMemory,
+        Err(CloseFault::Opening) => Said::Other,
     }
 }
 
@@ -119,4 +126,37 @@ fn receipts_are_compared_with_a_history(rt: HostRuntime) -> Result<(), Fail> {
         &rt,
         &mut empty_desk(rt.alloc(), rt.alloc(), THREE_CHANNELS)?,
     )
+}
+
+/// How many requests a heap had before a look at the receipts of two callers, which are whole; one that is refused is told.
+fn requests_before(rt: &impl Abort, scratch: Global, heap: &RefusingHeap) -> Result<u64, Fail> {
+    let mut desk = empty_desk(heap, scratch, THREE_CHANNELS)?;
+    let first = ask_all(heap, &mut desk, FIRST)?;
+    let second = ask_all(heap, &mut desk, SECOND)?;
+    let lists = both(heap, &first, &second)?;
+    let before = heap.requests();
+    let said = said_by(gather(heap, &desk, &lists));
+    let wanted = if heap.was_refused() {
+        Said::NoMemory
+    } else {
+        Said::Whole
+    };
+    assert!(rt; said == wanted, "{said:?}");
+    Ok(before)
+}
+
+#[test]
+fn each_refusal_of_a_look_at_receipts_is_told(rt: HostRuntime) -> Result<(), Fail> {
+    let before = requests_before(&rt, rt.alloc(), &RefusingHeap::ample(rt.alloc()))?;
+    let mut refused = 0u64;
+    for n in 1..100 {
+        let heap = RefusingHeap::refusing_nth(rt.alloc(), before.saturating_add(n));
+        requests_before(&rt, rt.alloc(), &heap)?;
+        if !heap.was_refused() {
+            break;
+        }
+        refused = n;
+    }
+    assert!(&rt; 0 < refused && refused < 99, "{refused}");
+    Ok(())
 }
