@@ -1,11 +1,10 @@
 //! All settled attempts, taken out of a trace.
-ghost use Rattle.std.specs.Prelude.{◌≡◌, ◌≢◌, ◌++◌, ◌∷◌, [], ℕ, Ok, Err, Some, None, true, false, IfOk, IfErr, OnOk, IfSome, slice_get};
+ghost use Rattle.std.specs.Prelude.{◌≡◌, ◌≢◌, ◌++◌, ◌∷◌, [], Ok, Err, None, true, false, IfOk, OnOk};
 ghost use Rattle.cell_table.specs.SiteFile.{IsBlankFile};
 ghost use Rattle.radio_book.specs.State.{empty_book};
-ghost use Rattle.radio_book.specs.Run.{Leads};
 ghost use Rattle.radio_desk.specs.Audit.{events_in, LeadsAlike};
 ghost use Rattle.read_traces.specs.Entries as said;
-ghost use Rattle.audits.specs.Histories.{OfTheRemaining, OfTheHistory, LeadsApart};
+ghost use Rattle.audits.specs.Histories.{OfTheHistory, LeadsApart};
 ghost use Rattle.audits.specs.Traces.{InWholeTrace};
 
 use crate::shown::print_audit;
