@@ -97,9 +97,6 @@ settled.
   $ ./lab test tests/two_controllers_both_ways/site.toml $(find tests/two_controllers_both_ways -name '*.txt' | sort) --peer tests/two_controllers_both_ways/peer.toml --undo-everywhere | tail -2
   1..109
   # same 109, held 0, not settled 0, differ 0
-  $ ./lab test tests/four_cells/site.toml $(find tests/four_cells -name '*.txt' | sort) --undo-everywhere | tail -2
-  1..1
-  # same 0, held 0, not settled 1, differ 0
   $ ./lab test tests/one_cell/site.toml $(find tests/one_cell -name '*.txt' | sort) --undo-everywhere | tail -2
   1..3
   # same 0, held 0, not settled 3, differ 0
@@ -112,3 +109,14 @@ settled.
   $ ./lab test tests/book/site.toml tests/book/handover_undone.txt tests/book/none_free.txt --undo-everywhere | tail -2
   1..1
   # same 1, held 0, not settled 0, differ 0
+
+Of the 88 handovers in the two hundred lines 53 come to their end: they are open behind three inputs each (`handover`, the
+acknowledgement, the detection). 7 are refused by the station, and open behind one; 7 mobiles return and 7 vanish, which
+are two each; the acknowledgement of 14 is held, which is one each.
+
+  $ ./lab test tests/four_cells/site.toml tests/four_cells/calls/two_hundred_lines.txt --undo-everywhere | tail -2
+  1..208
+  # same 208, held 0, not settled 0, differ 0
+  $ ./lab test tests/four_cells/site.toml $(find tests/four_cells/reports -name '*.txt' | sort) --undo-everywhere | tail -2
+  1..1
+  # same 0, held 0, not settled 1, differ 0
