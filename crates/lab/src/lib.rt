@@ -27,7 +27,7 @@ mod view_paths;
 
 pub use audits::traced;
 pub use ho_procedure::exchange;
-pub use lab_runs::{controllers, course, listener, noting, run, turn};
+pub use lab_runs::{controllers, course, listener, noting, run, turn, verdict};
 pub use lab_script::script;
 pub use lab_words as words;
 pub use read_traces::{entries, rewound};
