@@ -20,13 +20,13 @@ loop-slot-preserved g c =
     let told = sym (c.is_traffic.ensures.value ∙ ap (is_traffic site) c.place_in-chan.ensures) in
     elim c.if-is_traffic.branch [
       | then-is_traffic+else-left-eq0 w ↦
-        ap (slice_get (traffic_from site c.args.cell (slot + 1))) w.left-is
-        ∙ sym (fewer_at site c.args.cell slot left c.loop-slot-test.true (told ∙ w.if-is_traffic.true) (omega (arith, w.if-left-eq0.false)))
-        ∙ c.loop-slot.invariant
+          ap (slice_get (traffic_from site c.args.cell (slot + 1))) w.left-is
+          ∙ sym (fewer_at site c.args.cell slot left c.loop-slot-test.true (told ∙ w.if-is_traffic.true) (omega (arith, w.if-left-eq0.false)))
+          ∙ c.loop-slot.invariant
       | else-is_traffic w ↦
-        ap (slice_get (traffic_from site c.args.cell (slot + 1))) w.left-is
-        ∙ ap (λ xs. slice_get xs left) (sym (passed_at site c.args.cell slot c.loop-slot-test.true (told ∙ w.if-is_traffic.false)))
-        ∙ c.loop-slot.invariant
+          ap (slice_get (traffic_from site c.args.cell (slot + 1))) w.left-is
+          ∙ ap (λ xs. slice_get xs left) (sym (passed_at site c.args.cell slot c.loop-slot-test.true (told ∙ w.if-is_traffic.false)))
+          ∙ c.loop-slot.invariant
     ]
 
 pub returns : goal.returns

@@ -9,3 +9,6 @@ invariant_of-self g c =
 
 pub returns-clause-said : goal.returns-clause-said
 returns-clause-said g c = rw (← c.self.view_is) c.judge.ensures.said
+
+pub returns-clause-memory : goal.returns-clause-memory
+returns-clause-memory g c = rw (← c.self.view_is) c.judge.ensures.memory

@@ -6,3 +6,6 @@ returns-in_err-sits-clause-said g c = rw (← c.self.view_is) (λ es claim allow
 
 pub returns-clause-said : goal.returns-clause-said
 returns-clause-said g c = rw (← c.self.view_is) (still_said _ _ c.judge.ensures.said)
+
+pub returns-clause-memory : goal.returns-clause-memory
+returns-clause-memory g c = rw (← c.self.view_is) c.judge.ensures.memory
