@@ -1,4 +1,5 @@
 //! Two controllers, with simulated stations and a simulated switching centre, over a heap that refuses requests.
+use super::refusals::ends_at_a_turn;
 use super::{SITE, holds_at, is_whole_or_cut, printed};
 use refusing_heap::RefusingHeap;
 use sample_sites::PEER;
@@ -55,12 +56,13 @@ pub(super) const MOVES: (&str, &str) = (
 );
 
 /// Whether a run over a heap that refuses this request met no refusal. What was printed where memory was refused is a front
-/// of the trace; a list is asked for in smaller pieces where a request for it is refused, so that a refused request may be
+/// of the trace, turn by turn; a list is asked for in smaller pieces where a request for it is refused, so that a refused request may be
 /// made up for.
 fn moves_without(rt: &impl Abort, alloc: Global, n: u64) -> Result<bool, Fail> {
     let heap = RefusingHeap::refusing_nth(alloc, n);
     let (status, text) = printed(&heap, alloc, SITE, Some(PEER), MOVES.0)?;
     is_whole_or_cut(rt, &heap, (status, text.as_str()), MOVES.1, n);
+    ends_at_a_turn(rt, &text, MOVES.1, n);
     Ok(!heap.was_refused())
 }
 

@@ -80,9 +80,13 @@ fn each_request_for_memory_is_refused(rt: HostRuntime) -> Result<(), Fail> {
 }
 
 /// Behind what was printed an input comes next, or the end: of a turn that was cut off nothing is printed.
-fn ends_at_a_turn(rt: &impl Abort, text: &str, trace: &str, n: u64) {
+pub(super) fn ends_at_a_turn(rt: &impl Abort, text: &str, trace: &str, n: u64) {
     let rest = trace.strip_prefix(text).unwrap_or("");
-    let is_so = rest.is_empty() || rest.starts_with("in ") || rest.starts_with("end ");
+    let line = match rest.split_once(": ") {
+        Some(("1" | "2", line)) => line,
+        Some(_) | None => rest,
+    };
+    let is_so = line.is_empty() || line.starts_with("in ") || line.starts_with("end ");
     holds_at(rt, is_so, (n, text));
 }
 
