@@ -18,32 +18,58 @@ pub struct AskedRun<'a> {
     pub views: &'a Views<'a>,
 }
 
-/// Runs a script, prints its trace as a viewer does whose lines are counted, and writes what that gathered to the files of its
-/// views, where something was run. Answers what the audits of the controllers come to, and whether the files were written.
-fn run_counted<F: Write + OpenFile + Drop, W: Write, E: Write>(
+/// What the audits of the controllers of a run come to, where anything was run, and whether the files of its views were
+/// written.
+type Ended = (Option<Audits>, Result<(), LabFault>);
+
+/// Runs a script, tells a viewer what comes of it, whose lines are counted, and takes all settled attempts out.
+fn audit_told<W: Write>(
     alloc: Global,
     asked: AskedRun<'_>,
-    sheets: Sheets<'_, F>,
-    out: &mut W,
-    errors: &mut E,
-) -> Result<(Option<Audits>, Result<(), LabFault>), LabFault> {
+    viewer: &mut Viewer<'_, W>,
+    printed: &Cell<usize>,
+) -> Result<Option<Audits>, LabFault> {
     let AskedRun {
         site,
         peer,
         script,
-        views,
+        views: _,
     } = asked;
-    let printed = Cell::new(0);
-    let mut counted = CountedLines::new(out, &printed);
-    let mut viewer = Viewer::new(alloc, views, peer.is_some(), &mut counted)?;
-    let mut noting = Noting::new(alloc, &mut viewer, &printed);
-    let ended = audited_run(alloc, alloc, site, peer, script, &mut noting);
+    let mut noting = Noting::new(alloc, viewer, printed);
+    audited_run(alloc, alloc, site, peer, script, &mut noting)
+}
+
+/// The same with a viewer that prints to a writer which counts lines, and writes what the viewer gathered to the files of its
+/// views, where something was run.
+fn run_counted<F: Write + OpenFile + Drop, W: Write, E: Write>(
+    alloc: Global,
+    asked: AskedRun<'_>,
+    sheets: Sheets<'_, F>,
+    printed: &Cell<usize>,
+    out: &mut W,
+    errors: &mut E,
+) -> Result<Ended, LabFault> {
+    let mut viewer = Viewer::new(alloc, asked.views, asked.peer.is_some(), out)?;
+    let ended = audit_told(alloc, asked, &mut viewer, printed);
     let written = if viewer.has_begun() {
         sheets.finish(&viewer, errors)
     } else {
         Ok(())
     };
     Ok((ended?, written))
+}
+
+/// The same with any writer.
+fn run_viewed<F: Write + OpenFile + Drop, W: Write, E: Write>(
+    alloc: Global,
+    asked: AskedRun<'_>,
+    sheets: Sheets<'_, F>,
+    out: &mut W,
+    errors: &mut E,
+) -> Result<Ended, LabFault> {
+    let printed = Cell::new(0);
+    let mut counted = CountedLines::new(out, &printed);
+    run_counted(alloc, asked, sheets, &printed, &mut counted, errors)
 }
 
 /// Runs a script with views, as [`run_for`](lab_runs::run::run_for) does, tells what comes of it, and prints behind the trace's
@@ -56,7 +82,7 @@ pub fn audit_viewed<F: Write + OpenFile + Drop, W: Write, E: Write>(
     out: &mut W,
     errors: &mut E,
 ) -> Result<Status, LabFault> {
-    let (audits, written) = run_counted(alloc, asked, sheets, out, errors)?;
+    let (audits, written) = run_viewed(alloc, asked, sheets, out, errors)?;
     let status = match audits {
         Some(audits) => print_audits(out, &audits)?,
         None => Status::Refused,
