@@ -81,23 +81,72 @@ fn held_entry<A: Allocator + Copy>(
     desk.entry(verdict?.held?).copied()
 }
 
-/// What came of an attempt that was taken back in a run.
+/// What is said where nothing was undone.
+const NOTHING: VerdictText = VerdictText {
+    verdict: None,
+    held: None,
+};
+
+/// What came of an attempt that was taken back, by the desk of its controller.
 fn judge<A: Allocator + Copy>(
     alloc: A,
-    run: &Run<A>,
-    point: Point,
+    desk: &Desk<A>,
+    opening: usize,
 ) -> Result<VerdictText, AllocError> {
-    let Some(desk) = desk_of(run, point.undo.side) else {
-        return Ok(VerdictText {
-            verdict: None,
-            held: None,
-        });
-    };
-    let verdict = verdict_of(alloc, desk, point.opening)?;
+    let verdict = verdict_of(alloc, desk, opening)?;
     Ok(VerdictText {
         verdict,
         held: held_entry(desk, verdict),
     })
+}
+
+/// The same by a run.
+fn judge_run<A: Allocator + Copy>(
+    alloc: A,
+    run: Option<Run<A>>,
+    point: Point,
+) -> Result<VerdictText, AllocError> {
+    let Some(run) = run else {
+        return Ok(NOTHING);
+    };
+    match desk_of(&run, point.undo.side) {
+        Some(desk) => judge(alloc, desk, point.opening),
+        None => Ok(NOTHING),
+    }
+}
+
+/// What comes of an attempt that is taken back at a point of a trial's script.
+fn text_at<A: Allocator + Copy>(
+    alloc: A,
+    scratch: Global,
+    trial: Trial<'_>,
+    point: Point,
+) -> Result<VerdictText, LabFault> {
+    let run = undone_run_of(alloc, scratch, trial, point.undo)?;
+    Ok(judge_run(alloc, run, point)?)
+}
+
+/// Whether that is as it is to be.
+fn status_of(text: VerdictText) -> Status {
+    match Sort::of(text.verdict) {
+        Sort::Same | Sort::Held | Sort::Unsettled => Status::Done,
+        Sort::Differs => Status::Differs,
+    }
+}
+
+/// Prints what comes of an attempt that is taken back at a point, and counts it.
+fn tell<W: Write>(
+    name: &str,
+    point: Point,
+    text: VerdictText,
+    tally: &mut Tally,
+    out: &mut W,
+) -> Result<Status, LabFault> {
+    tally.count(text.verdict);
+    print_verdict(out, tally.next(), name, point, text)?;
+    // whoever reads the tests sees each as soon as it ended
+    out.flush()?;
+    Ok(status_of(text))
 }
 
 /// Takes an attempt back at a point of a trial's script, and prints what comes of it.
@@ -109,21 +158,8 @@ fn try_point<A: Allocator + Copy, W: Write>(
     tally: &mut Tally,
     out: &mut W,
 ) -> Result<Status, LabFault> {
-    let text = match undone_run_of(alloc, scratch, trial, point.undo)? {
-        Some(run) => judge(alloc, &run, point)?,
-        None => VerdictText {
-            verdict: None,
-            held: None,
-        },
-    };
-    tally.count(text.verdict);
-    print_verdict(out, tally.next(), trial.name, point, text)?;
-    // whoever reads the tests sees each as soon as it ended
-    out.flush()?;
-    Ok(match Sort::of(text.verdict) {
-        Sort::Same | Sort::Held | Sort::Unsettled => Status::Done,
-        Sort::Differs => Status::Differs,
-    })
+    let text = text_at(alloc, scratch, trial, point)?;
+    tell(trial.name, point, text, tally, out)
 }
 
 /// Takes back each attempt at each point of what came of a trial's script.
@@ -145,6 +181,32 @@ fn try_points<A: Allocator + Copy, W: Write>(
     Ok(ended)
 }
 
+/// Takes back each attempt at each point of what came of a trial's script, a run.
+fn try_run<A: Allocator + Copy, W: Write>(
+    alloc: A,
+    scratch: Global,
+    trial: Trial<'_>,
+    run: Run<A>,
+    tally: &mut Tally,
+    out: &mut W,
+) -> Result<Status, LabFault> {
+    let points = points_of(alloc, &run.turns)?;
+    try_points(alloc, scratch, trial, &points, tally, out)
+}
+
+/// Refuses a trial whose script can't be read, in this line, where one is told.
+fn refuse<W: Write>(
+    name: &str,
+    unread: Option<usize>,
+    tally: &mut Tally,
+    out: &mut W,
+) -> Result<Status, LabFault> {
+    if let Some(line) = unread {
+        print_miss(out, tally.next(), name, Miss::Unread(line))?;
+    }
+    Ok(Status::Refused)
+}
+
 /// Plays a script once more for each attempt and each input behind which it is open, the simulators' answers too: there an
 /// operator takes it back, and it is taken out of what came of that run ([`verdict_of`]). Prints a test of TAP for each: the
 /// point, and whether nothing differs without the attempt, else what does; and beside it which event was refused for what it
@@ -162,16 +224,9 @@ pub fn try_undos<A: Allocator + Copy, W: Write>(
     out: &mut W,
 ) -> Result<Status, LabFault> {
     let mut deaf = Deaf::new();
-    match run_of(alloc, scratch, trial, &mut deaf)? {
-        Some(run) => {
-            let points = points_of(alloc, &run.turns)?;
-            try_points(alloc, scratch, trial, &points, tally, out)
-        }
-        None => {
-            if let Some(line) = deaf.unread {
-                print_miss(out, tally.next(), trial.name, Miss::Unread(line))?;
-            }
-            Ok(Status::Refused)
-        }
+    let run = run_of(alloc, scratch, trial, &mut deaf)?;
+    match run {
+        Some(run) => try_run(alloc, scratch, trial, run, tally, out),
+        None => refuse(trial.name, deaf.unread, tally, out),
     }
 }
