@@ -1,5 +1,8 @@
 -- Facts of what remains of a desk's history without all its settled attempts.
-use Rattle.std.proofs.Common.{◌≡◌, ◌↔◌, ◌∙◌, Bool, true, false, IsTrue, List, Result, Ok, Err, IfOk, length, refl, sym}
+use Rattle.std.proofs.Common.{◌≡◌, ◌↔◌, ◌∙◌, Bool, true, false, IsTrue, List, Result, Ok, Err, IfOk, length, refl, sym, subst}
+use Rattle.radio_book.specs.declared.event.Event.{Event}
+use Rattle.radio_book.specs.declared.undone.StepAt.{StepAt}
+use Rattle.radio_book.specs.State.{State}
 use Rattle.radio_book.specs.Run.{Leads}
 use Rattle.radio_book.specs.Undone.{Undone}
 use Rattle.radio_book.specs.Together.{remaining}
@@ -38,3 +41,16 @@ pub differs_in : {E : Type 0} (d : DeskState) (r : Result Audit E) → Leads d.o
     → IfOk r (λ (audit : Audit). audit.same ≡ false → OfTheHistory LeadsApart d.opening (events_in d.history))
 differs_in d (Ok audit) legal found says = λ is. (d.history, d.book, refl, legal, remains_apart d audit found says is)
 differs_in d (Err e) legal found says = tt
+
+-- the same of another name of the book, and of the events
+pub of_book : (P : State → List StepAt → State → Type 0) (b b' : State) (es : List Event) (T : Type 0) → b ≡ b' → (T → OfTheHistory P b es) → T → OfTheHistory P b' es
+of_book P b b' es T same h t = subst (λ x. OfTheHistory P x es) same (h t)
+
+pub of_events : (P : State → List StepAt → State → Type 0) (b : State) (es es' : List Event) (T : Type 0) → es ≡ es' → (T → OfTheHistory P b es) → T → OfTheHistory P b es'
+of_events P b es es' T same h t = subst (λ xs. OfTheHistory P b xs) same (h t)
+
+-- and where the audit may have failed
+pub asked_so : {E : Type 0} (P : State → List StepAt → State → Type 0) (is : Bool) (r : Result Audit E) (b b' : State) (es es' : List Event) → b ≡ b' → es ≡ es'
+    → IfOk r (λ (audit : Audit). audit.same ≡ is → OfTheHistory P b es) → IfOk r (λ (audit : Audit). audit.same ≡ is → OfTheHistory P b' es')
+asked_so P is (Ok audit) b b' es es' book events h = of_events P b' es es' (audit.same ≡ is) events (of_book P b b' es (audit.same ≡ is) book h)
+asked_so P is (Err e) b b' es es' book events h = tt

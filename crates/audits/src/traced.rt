@@ -11,14 +11,13 @@ use crate::shown::print_audit;
 use cell_table::Site;
 use lab_runs::listener::Printing;
 use lab_runs::run::{LabFault, Status, refuse_site};
-use lab_runs::verdict::audit_status;
 use radio_book::book::Book;
 use radio_book::event::Event;
 use radio_desk::audit::Audit;
 use radio_desk::desk::{Desk, DeskFault};
 use radio_desk::seat::Seat;
 use read_traces::entries::{Entry, first_unread};
-use read_traces::reading::{fresh_book, refuse_line, told_entries};
+use read_traces::reading::{Told, fresh_book, refuse_line, told_entries};
 use std::alloc::{AllocError, Allocator, Global};
 use std::io::Write;
 use trace_text::trace::Mark;
@@ -70,22 +69,38 @@ fn held_line(audit: &Audit, entries: &[Entry]) -> Option<usize> {
     Some(entry.line())
 }
 
-/// Takes all settled attempts out of what the events of entries come to from a book on, and prints what remains.
-fn audit_events<A: Allocator + Copy, W: Write>(
+/// What the audit comes to of a desk that opens with a book, and at which the events of a trace are asked.
+fn audited_after<A: Allocator + Copy>(
     alloc: A,
     book: Book<A>,
-    entries: &[Entry],
-    events: &[Event],
+    told: &Told<A>,
+) -> Result<Audit, AllocError>
+    ensures same { IfOk result (λ audit. audit.same ≡ true →
+        OfTheHistory LeadsAlike book told.now.events.items) }
+    ensures differs { IfOk result (λ audit. audit.same ≡ false →
+        OfTheHistory LeadsApart book told.now.events.items) }
+{
+    let desk = desk_after(alloc, book, &told.events)?;
+    audited(&desk)
+}
+
+/// Takes all settled attempts out of what the events of a trace come to from a book on, and prints what remains.
+fn audit_told<A: Allocator + Copy, W: Write>(
+    alloc: A,
+    book: Book<A>,
+    told: &Told<A>,
     out: &mut W,
 ) -> Result<Status, LabFault>
-    ensures done { result ≡ Ok Status.Done → OfTheHistory LeadsAlike book events.now }
-    ensures differs { result ≡ Ok Status.Differs → OfTheHistory LeadsApart book events.now }
-    ensures refused { result ≢ Ok Status.Refused }
+    ensures done { result ≡ Ok Status.Done → OfTheHistory LeadsAlike book told.now.events.items }
+    ensures differs { result ≡ Ok Status.Differs → OfTheHistory LeadsApart book told.now.events.items }
 {
-    let desk = desk_after(alloc, book, events)?;
-    let audit = audited(&desk)?;
-    print_audit(out, Mark::Alone, &audit, held_line(&audit, entries))?;
-    Ok(audit_status(&audit))
+    let audit = audited_after(alloc, book, told)?;
+    print_audit(out, Mark::Alone, &audit, held_line(&audit, &told.entries))?;
+    if audit.same {
+        Ok(Status::Done)
+    } else {
+        Ok(Status::Differs)
+    }
 }
 
 /// Takes all settled attempts out of a trace whose lines can be read.
@@ -101,7 +116,7 @@ fn audit_entries<A: Allocator + Copy, W: Write>(
         OfTheHistory LeadsApart book (said.events_of (said.entries_of trace.now)) }
 {
     match told_entries(alloc, &book, trace, out)? {
-        Some(told) => audit_events(alloc, book, &told.entries, &told.events, out),
+        Some(told) => audit_told(alloc, book, &told, out),
         None => Ok(Status::Refused),
     }
 }
