@@ -113,7 +113,8 @@ fn push_line(text: &mut String, line: &str) -> Result<(), Fail> {
 fn comes_so(
     rt: &impl Abort,
     scratch: Global,
-    (asked, sent): (&str, &str),
+    asked: &str,
+    sent: &str,
     number: usize,
     case: Case<'_>,
 ) -> Result<(), Fail> {
@@ -136,18 +137,12 @@ fn ends_so<'a>(
         Ok(sent) => {
             assert!(rt; !heap.was_refused(), "{}", case.input);
             let sent = sent_lines(scratch, sent)?;
-            comes_so(rt, scratch, (asked, sent.as_str()), usize::MAX, case)
+            comes_so(rt, scratch, asked, &sent, usize::MAX, case)
         }
         Err(Fault::NoMemory(sent)) => {
             assert!(rt; heap.was_refused(), "{}", case.input);
             let sent = sent_lines(scratch, sent)?;
-            comes_so(
-                rt,
-                scratch,
-                (asked, sent.as_str()),
-                asked.lines().count(),
-                case,
-            )
+            comes_so(rt, scratch, asked, &sent, asked.lines().count(), case)
         }
         Err(Fault::Undecoded(..) | Fault::Desk(..)) => {
             assert!(rt; false, "{}", case.input);
@@ -309,6 +304,16 @@ fn a_message_between_two_events_is_owed(rt: HostRuntime) -> Result<(), Fail> {
     Ok(())
 }
 
+/// Memory was refused, and nothing is owed.
+fn owes_nothing<'a>(
+    answer: &Result<Vec<Outbound<&'a RefusingHeap>, &'a RefusingHeap>, Fault<&'a RefusingHeap>>,
+) -> bool {
+    match answer {
+        Err(Fault::NoMemory(owed)) => owed.is_empty(),
+        Ok(_) | Err(Fault::Undecoded(..) | Fault::Desk(..)) => false,
+    }
+}
+
 /// Where the first request of a case is refused, nothing is asked, and nothing owed.
 fn asks_nothing(rt: &(impl AllocGlobal + Abort), case: Case<'_>) -> Result<(), Fail> {
     let request = requests_made(rt, case)?.saturating_add(1);
@@ -317,7 +322,7 @@ fn asks_nothing(rt: &(impl AllocGlobal + Abort), case: Case<'_>) -> Result<(), F
     begins(rt, &heap, &mut radio, case);
     let place = radio.view().desk().len();
     let answer = radio.handle(input_of(rt, &heap, case.input));
-    let stopped = matches!(answer, Err(Fault::NoMemory(owed)) if owed.is_empty());
+    let stopped = owes_nothing(&answer);
     let asked = radio.view().desk().len().saturating_sub(place);
     assert!(rt; stopped && asked == 0, "{}: {asked}", case.input);
     Ok(())
