@@ -19,6 +19,7 @@ What commands are for, and what their words are. No line has more than 100 colum
   $ grep -qF -- --state help
   $ grep -qF -- '--pcap <FILE>' help
   $ grep -qF -- '--chart <FILE>' help
+  $ grep -qF -- --audit help
 
   $ ./lab help run >help
   $ awk 'length > 100' help
@@ -93,6 +94,16 @@ What commands are for, and what their words are. No line has more than 100 colum
   $ grep -qF -- 'Statuses: 0 ' help
   $ grep -qF -- 'As in: bsc_lab rewind ' help
 
+  $ ./lab audit --help >help
+  $ awk 'length > 100' help
+  $ grep -qF -- 'The site file' help
+
+  $ ./lab help audit >help
+  $ awk 'length > 100' help
+  $ grep -qF -- 'The trace, as run prints it from the empty book on' help
+  $ grep -qF -- 'Statuses: 0 ' help
+  $ grep -qF -- 'As in: bsc_lab audit ' help
+
   $ ./lab explain --help >help
   $ awk 'length > 100' help
   $ grep -qF -- 'explain cause a 33' help
@@ -106,6 +117,7 @@ What commands are for, and what their words are. No line has more than 100 colum
   $ awk 'length > 100' help
   $ grep -qF -- 'Statuses: 0 ' help
   $ grep -qF -- 'As in: bsc_lab test ' help
+  $ grep -qF -- --undo-everywhere help
   $ grep -q '^  mobile CELL TRX TN HABIT ' help
 
   $ ./lab help record >help

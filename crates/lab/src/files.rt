@@ -4,13 +4,12 @@ ghost use Rattle.std.specs.Str.{IsUtf8};
 ghost use Rattle.std.specs.Str.Lossy.{utf8_valid_len};
 ghost use Rattle.lab.specs.Files.{longest_file};
 
-use crate::entries::{Foreign, first_unread, reply_text};
-use crate::rewound::{foreign_entry, rewind_run};
 use crate::run_reason::say_refusal;
-use crate::site_files::{SitePaths, SiteTexts, say_site, site_texts};
+use crate::site_files::{SitePaths, SiteTexts, site_texts};
 use crate::view_paths::{named_twice, refuse_twice};
-use encoded_messages::Shown;
+use audits::viewed::{AskedRun, audit_viewed};
 use lab_runs::run::{LabFault, Status, lab_run, run_for};
+use lab_words::Ending;
 use run_views::{Viewer, Views, open_sheets};
 use screen_text::{Escaped, Reason};
 use std::alloc::{Allocator, Global};
@@ -18,7 +17,6 @@ use std::fmt;
 use std::fs::File;
 use std::io::{self, Read, Write};
 use std::rt::Files;
-use trace_text::trace::ReplyText;
 
 /// The most octets that a file may have: 64 MiB.
 pub const LONGEST_FILE: u64 = 64 << 20;
@@ -140,24 +138,6 @@ pub(crate) fn text_of<R: Files + AllocGlobal, W: Write, E: Write>(
     Ok(None)
 }
 
-/// The texts of two files, the first of which is read first; nothing where one can't be read, and then the path of the
-/// first such was printed, and on `errors` why.
-fn texts_of<R: Files + AllocGlobal, W: Write, E: Write>(
-    rt: &R,
-    first: &str,
-    second: &str,
-    out: &mut W,
-    errors: &mut E,
-) -> Result<Option<(String, String)>, LabFault> {
-    let Some(first) = text_of(rt, first, out, errors)? else {
-        return Ok(None);
-    };
-    let Some(second) = text_of(rt, second, out, errors)? else {
-        return Ok(None);
-    };
-    Ok(Some((first, second)))
-}
-
 /// The texts of a run's files.
 #[derive(Drop)]
 struct RunTexts {
@@ -219,6 +199,32 @@ fn run_viewed<R: Files + AllocGlobal, W: Write, E: Write>(
     Ok(Some(ended_viewed(ended, written)?))
 }
 
+/// The same, with all settled attempts taken out of what was asked, at the end.
+fn run_audited<R: Files + AllocGlobal, W: Write, E: Write>(
+    rt: &R,
+    texts: &RunTexts,
+    views: &Views<'_>,
+    out: &mut W,
+    errors: &mut E,
+) -> Result<Option<Status>, LabFault> {
+    let Some(sheets) = open_sheets(rt, views, out, errors)? else {
+        return Ok(None);
+    };
+    let asked = AskedRun {
+        site: texts.sites.first(),
+        peer: texts.sites.peer(),
+        script: &texts.script,
+        views,
+    };
+    Ok(Some(audit_viewed(rt.alloc(), asked, sheets, out, errors)?))
+}
+
+/// Runs a script over sites, all given as texts, and prints the trace.
+fn run_plain<W: Write>(alloc: Global, texts: &RunTexts, out: &mut W) -> Result<Status, LabFault> {
+    let RunTexts { sites, script } = texts;
+    lab_run(alloc, alloc, sites.first(), sites.peer(), script, out)
+}
+
 /// Says why the script of files that were read was refused, where it was; nothing where it was run.
 fn say_ended<E: Write>(
     alloc: Global,
@@ -241,6 +247,9 @@ fn say_ended<E: Write>(
 /// but not where a site or the script is refused; one that can't be opened is refused as one that can't be read, and so
 /// is, before anything is read, one that is another file of the run. One file that is made for both is refused then.
 ///
+/// Where an audit is asked for, all settled attempts are taken out of what each controller was asked, at the end, and what
+/// that comes to is printed behind the trace's end ([`audit_viewed`]): the answer is `Differs` where something differs then.
+///
 /// The site's file is read first, then the peer's, then the script's. Where a file isn't there, can't be read, isn't
 /// UTF-8 or has more than [`LONGEST_FILE`] octets, `file` and its path are printed and nothing else, and the answer is
 /// `Refused`; one line on `errors` says why. Where a site is refused, one line on `errors` says where in its file, and
@@ -250,6 +259,7 @@ pub fn run_files<R: Files + AllocGlobal, W: Write, E: Write>(
     sites: SitePaths<'_>,
     script: &str,
     views: &Views<'_>,
+    ending: Ending,
     out: &mut W,
     errors: &mut E,
 ) -> Result<Status, LabFault> {
@@ -259,107 +269,13 @@ pub fn run_files<R: Files + AllocGlobal, W: Write, E: Write>(
     let Some(texts) = run_texts(rt, sites, script, out, errors)? else {
         return Ok(Status::Refused);
     };
-    let alloc = rt.alloc();
-    let status = if views.is_plain() {
-        let RunTexts { sites, script } = &texts;
-        lab_run(alloc, alloc, sites.first(), sites.peer(), script, out)?
-    } else {
-        match run_viewed(rt, &texts, views, out, errors)? {
-            Some(status) => status,
-            None => return Ok(Status::Refused),
-        }
+    let ended = match ending {
+        Ending::Audit => run_audited(rt, &texts, views, out, errors)?,
+        Ending::Plain if views.is_plain() => Some(run_plain(rt.alloc(), &texts, out)?),
+        Ending::Plain => run_viewed(rt, &texts, views, out, errors)?,
     };
-    say_ended(alloc, sites, script, &texts, status, errors)
-}
-
-/// A line of a trace, counted from 1.
-fn line_of(trace: &str, number: usize) -> &str {
-    trace
-        .split('\n')
-        .nth(number.saturating_sub(1))
-        .unwrap_or("")
-}
-
-/// Why a line of a trace can't be read: it is one of two controllers, or one that begins with `event `; all others are
-/// passed over.
-fn unread_reason(line: &str) -> &'static str {
-    if line.starts_with("1: ") || line.starts_with("2: ") {
-        "a line of the trace of two controllers, and rewind takes that of one"
-    } else {
-        "no event with its reply, as run prints it: event look 1 -> refused 1"
+    match ended {
+        Some(status) => say_ended(rt.alloc(), sites, script, &texts, status, errors),
+        None => Ok(Status::Refused),
     }
-}
-
-/// Says that an entry of a trace has another reply than the book gives. Words behind an entry, which are no part of a reply
-/// either, are named as such.
-fn say_foreign<E: Write>(
-    path: Escaped<'_>,
-    trace: &str,
-    foreign: Foreign,
-    errors: &mut E,
-) -> io::Result<()> {
-    let Foreign {
-        line: number,
-        reply,
-    } = foreign;
-    let line = line_of(trace, number);
-    if line.contains(" # ") {
-        return writeln!(
-            errors,
-            "{path}:{number}: words stand behind this event, as run prints it with --words"
-        );
-    }
-    let found = Shown(reply_text(line).unwrap_or(""));
-    writeln!(
-        errors,
-        "{path}:{number}: the book of this site replies \"{}\" here, and the trace says {found}",
-        ReplyText(reply)
-    )
-}
-
-/// Says why nothing is taken out of a trace over a site, both given as texts, of which the site's describes one: in the order
-/// in which [`rewind_run`] looks.
-fn say_unwound<E: Write>(
-    alloc: Global,
-    site: &str,
-    path: &str,
-    trace: &str,
-    line: usize,
-    errors: &mut E,
-) -> Result<(), LabFault> {
-    let path = Escaped(path);
-    if let Some(number) = first_unread(trace) {
-        let reason = unread_reason(line_of(trace, number));
-        writeln!(errors, "{path}:{number}: {reason}")?;
-        return Ok(());
-    }
-    match foreign_entry(alloc, site, trace)? {
-        Some(foreign) => say_foreign(path, trace, foreign, errors)?,
-        None => writeln!(
-            errors,
-            "{path}: no attempt that is undone later opens in line {line}"
-        )?,
-    }
-    Ok(())
-}
-
-/// Takes an undone attempt out of the trace of one file, over the site of another, and prints what stays, as
-/// [`rewind_run`] does of texts. Files and the site are refused as [`run_files`] refuses them.
-pub fn rewind_files<R: Files + AllocGlobal, W: Write, E: Write>(
-    rt: &R,
-    site: &str,
-    trace: &str,
-    line: usize,
-    out: &mut W,
-    errors: &mut E,
-) -> Result<Status, LabFault> {
-    let alloc = rt.alloc();
-    let Some((site_text, trace_text)) = texts_of(rt, site, trace, out, errors)? else {
-        return Ok(Status::Refused);
-    };
-    let status = rewind_run(alloc, alloc, &site_text, &trace_text, line, out)?;
-    if status == Status::Refused && !say_site(alloc, site, &site_text, errors)? {
-        say_unwound(alloc, &site_text, trace, &trace_text, line, errors)?;
-    }
-    Ok(status)
 }

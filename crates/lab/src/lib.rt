@@ -1,34 +1,37 @@
 //! The laboratory of the base station controller: what its commands do with files. `run` runs a script, with views of the run
-//! beside its trace; `live` runs the lines of standard input as they come; `rewind` takes an undone attempt out of a trace; `check` shows the cells of a site and what is surely
-//! meant otherwise; `decode` shows one message in words or those of many lines, `encode` a message's octets, `explain` a
-//! number in words; `test` and `record` are for scripts that test themselves; `storm` moves many calls at once, handled by
-//! workers on threads.
+//! beside its trace; `live` runs the lines of standard input as they come; `rewind` takes an undone attempt out of a trace,
+//! `audit` all of them; `check` shows the cells of a site and what is surely meant otherwise; `decode` shows one message in
+//! words or those of many lines, `encode` a message's octets, `explain` a number in words; `test` and `record` are for scripts
+//! that test themselves; `storm` moves many calls at once, handled by workers on threads.
 //!
-//! Runs, tests and records of scripts, and the words of the command line, are crates below, exported here too, as are the
-//! controller's inputs and outputs (`exchange`), the reader of scripts (`script`) and the trace (`trace`, `bad`).
+//! Runs, tests and records of scripts, traces that are read back, and the words of the command line, are crates below, exported
+//! here too, as are the controller's inputs and outputs (`exchange`), the reader of scripts (`script`) and the trace (`trace`,
+//! `bad`).
 #![tactic(auto)]
 
 pub mod check;
 pub mod decoded;
 pub mod encoded;
-pub mod entries;
 mod explained;
 mod faults;
 pub mod files;
 pub mod live;
 pub mod program;
-pub mod rewound;
 mod run_reason;
 pub mod script_files;
 pub mod site_files;
 pub mod storm;
+pub mod trace_files;
 mod undecoded;
 mod view_paths;
 
+pub use audits::traced;
 pub use ho_procedure::exchange;
 pub use lab_runs::{controllers, course, listener, noting, run, turn, verdict};
 pub use lab_script::script;
 pub use lab_words as words;
+pub use read_traces::{entries, rewound};
 pub use storm::storm_run;
 pub use tested_scripts::{recorded, tested};
 pub use trace_text::{bad, trace};
+pub use undone_runs::tried;

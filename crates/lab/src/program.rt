@@ -3,9 +3,10 @@ use crate::check::check_file;
 use crate::decoded::{Decoded, LinkName, decode_text, ended};
 use crate::encoded::encode_run;
 use crate::explained::explain;
-use crate::files::{rewind_files, run_files};
+use crate::files::run_files;
 use crate::live::live_file;
-use crate::script_files::{record_file, test_files};
+use crate::script_files::{record_file, test_files, try_undos_files};
+use crate::trace_files::{audit_files, rewind_files};
 use crate::undecoded::say_undecoded;
 use decoded_lines::answer_file;
 use explanations::Question;
@@ -54,8 +55,9 @@ fn decode<W: Write, E: Write>(
 }
 
 /// Does what the words of a command line ask for, those after the program's own name: runs a script over a site
-/// ([`run_files`]), runs the lines of `input` as they come ([`live_file`]), takes an undone attempt out of a trace and says whether the rest comes to the same
-/// ([`rewind_files`]), tests scripts ([`test_files`]) or records one ([`record_file`]), prints the cells of a site
+/// ([`run_files`]), runs the lines of `input` as they come ([`live_file`]), takes an undone attempt out of a trace and says
+/// whether the rest comes to the same ([`rewind_files`]), or all of them ([`audit_files`]), tests scripts ([`test_files`]), takes
+/// each attempt of theirs back at each point ([`try_undos_files`]) or records one ([`record_file`]), prints the cells of a site
 /// ([`check_file`]), prints a message in words ([`decode_run`]) or those of many lines ([`answer_file`]), prints a message's
 /// octets ([`encode_run`]), says in words what a number stands for ([`explain`]), or shows help or the version. `input` is
 /// standard input. What it prints goes to `out`; why words, a site, a file or a message are refused goes to `errors`.
@@ -77,12 +79,15 @@ pub fn perform<R: Files + AllocGlobal, I: Read + Drop, W: Write, E: Write>(
                 sites,
                 script,
                 views,
+                ending,
             },
-        ) => run_files(rt, sites, script, &views, out, errors),
+        ) => run_files(rt, sites, script, &views, ending, out, errors),
         Ok(Job::Live { site, views }) => live_file(rt, site, &views, input, out, errors),
         Ok(Job::Test { sites, scripts }) => test_files(rt, sites, &scripts, out, errors),
+        Ok(Job::TryUndos { sites, scripts }) => try_undos_files(rt, sites, &scripts, out, errors),
         Ok(Job::Record { sites, script }) => record_file(rt, sites, script, out, errors),
         Ok(Job::Rewind { site, trace, line }) => rewind_files(rt, site, trace, line, out, errors),
+        Ok(Job::Audit { site, trace }) => audit_files(rt, site, trace, out, errors),
         Ok(Job::Storm { .. }) => refuse_words(STORM_ALONE, errors),
         Ok(Job::Check { site }) => check_file(rt, site, out, errors),
         Ok(Job::Decode { link, text }) => decode(rt.alloc(), link, text, out, errors),

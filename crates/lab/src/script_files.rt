@@ -11,6 +11,8 @@ use std::rt::Files;
 use tested_scripts::recorded::record_run;
 use tested_scripts::tested::{Numbered, test_run};
 use tested_scripts::{Miss, print_miss, print_plan};
+use undone_runs::tried::{Trial, try_undos};
+use undone_runs::{Tally, print_tally};
 
 /// Why the sites can't be run over, if they can't.
 fn fault_of(alloc: Global, texts: &SiteTexts) -> Option<SiteFault> {
@@ -51,6 +53,24 @@ fn test_file<R: Files + AllocGlobal, W: Write, E: Write>(
     Ok(status)
 }
 
+/// The texts of sites that can be run over; nothing where a file or a site is refused, and then `out` and `errors` say so.
+fn readable_sites<R: Files + AllocGlobal, W: Write, E: Write>(
+    rt: &R,
+    paths: SitePaths<'_>,
+    out: &mut W,
+    errors: &mut E,
+) -> Result<Option<SiteTexts>, LabFault> {
+    let Some(sites) = site_texts(rt, paths, out, errors)? else {
+        return Ok(None);
+    };
+    if let Some(fault) = fault_of(rt.alloc(), &sites) {
+        refuse_site::<Global, _>(fault, &mut Printing::new(out))?;
+        say_reasons(rt.alloc(), paths, &sites, errors)?;
+        return Ok(None);
+    }
+    Ok(Some(sites))
+}
+
 /// Tests the scripts of some files over the site of another, or over two where a peer's is named, as [`test_run`] does of
 /// texts, and prints TAP: how many there are, and then each. A script that can't be read is refused, and those behind it
 /// are tested all the same: the answer is `Refused` where one was refused, else `Differs` where one differs. The files of
@@ -62,14 +82,9 @@ pub fn test_files<R: Files + AllocGlobal, W: Write, E: Write>(
     out: &mut W,
     errors: &mut E,
 ) -> Result<Status, LabFault> {
-    let Some(sites) = site_texts(rt, paths, out, errors)? else {
+    let Some(sites) = readable_sites(rt, paths, out, errors)? else {
         return Ok(Status::Refused);
     };
-    if let Some(fault) = fault_of(rt.alloc(), &sites) {
-        let status = refuse_site::<Global, _>(fault, &mut Printing::new(out))?;
-        say_reasons(rt.alloc(), paths, &sites, errors)?;
-        return Ok(status);
-    }
     print_plan(out, scripts.len())?;
     let mut ended = Status::Done;
     let mut number = 0_usize;
@@ -80,6 +95,56 @@ pub fn test_files<R: Files + AllocGlobal, W: Write, E: Write>(
         // whoever reads the tests sees each as soon as it ended
         out.flush()?;
     }
+    Ok(ended)
+}
+
+/// Takes each attempt of the script of a file back at each point.
+fn try_file<R: Files + AllocGlobal, W: Write, E: Write>(
+    rt: &R,
+    sites: &SiteTexts,
+    name: &str,
+    tally: &mut Tally,
+    out: &mut W,
+    errors: &mut E,
+) -> Result<Status, LabFault> {
+    let alloc = rt.alloc();
+    let Some(script) = text_of(rt, name, &mut io::sink(), errors)? else {
+        print_miss(out, tally.next(), name, Miss::NoFile)?;
+        return Ok(Status::Refused);
+    };
+    let trial = Trial {
+        site: sites.first(),
+        peer: sites.peer(),
+        script: &script,
+        name,
+    };
+    let status = try_undos(alloc, alloc, trial, tally, out)?;
+    if status == Status::Refused {
+        // the sites were read before
+        say_line(alloc, name, &script, trial.peer.is_some(), errors)?;
+    }
+    Ok(status)
+}
+
+/// Takes each attempt of the scripts of some files back at each point, over the site of another, or over two where a peer's is
+/// named, as [`try_undos`] does of texts, and prints TAP: each test, then how many there were and what came of them. Scripts
+/// and sites are refused as by [`test_files`].
+pub fn try_undos_files<R: Files + AllocGlobal, W: Write, E: Write>(
+    rt: &R,
+    paths: SitePaths<'_>,
+    scripts: &[&str],
+    out: &mut W,
+    errors: &mut E,
+) -> Result<Status, LabFault> {
+    let Some(sites) = readable_sites(rt, paths, out, errors)? else {
+        return Ok(Status::Refused);
+    };
+    let mut tally = Tally::new();
+    let mut ended = Status::Done;
+    for name in scripts {
+        ended = worse(ended, try_file(rt, &sites, *name, &mut tally, out, errors)?);
+    }
+    print_tally(out, &tally)?;
     Ok(ended)
 }
 

@@ -79,8 +79,10 @@ pub(crate) const RUN_HELP: &str = with_script_lines!(
     "",
     "
 
-Statuses: 0 the script was run, 2 a file, the site or a line of the script is refused, or what is
-printed can't be written, 3 memory was refused.
+With --audit three lines more stand at the end, which bsc_lab help audit explains.
+
+Statuses: 0 the script was run, 1 with --audit: something differs, 2 a file, the site or a line of
+the script is refused, or what is printed can't be written, 3 memory was refused.
 
 As in: bsc_lab run site.toml script.txt --words"
 );
@@ -107,6 +109,12 @@ pub(crate) const TEST_HELP: &str = with_script_lines!(
 Comments behind a script line, #> and a line of the trace, are in order the trace lines that it
 gives; #> .. stands for any lines, or none. A script line with no such comment isn't looked at.
 Those behind the last one may end with the trace's end.
+
+With --undo-everywhere these comments are passed over. Behind each input, answers of simulators too,
+each attempt at handover that is open there is undone by an operator, in a run of its own, and taken
+out of that run as bsc_lab rewind does it. Each gives one test, which says what differs without the
+attempt, what was refused for its sake (held), and whether the release of its channel is awaited
+(not settled); where neither is so, nothing differs.
 
 ",
     "
@@ -162,6 +170,17 @@ Statuses: 0 they are, 1 they differ, 2 a file, the site or a line of the trace i
 undone attempt opens in the line, 3 memory was refused.
 
 As in: bsc_lab rewind site.toml run.trace 8";
+
+/// What stands behind the help of `audit`.
+pub(crate) const AUDIT_HELP: &str = "\
+Prints how many attempts at handover were undone, and await no release (attempts), the line of the
+first event that was refused for the sake of one of them (held), and whether the book and the
+replies are the same without all of them.
+
+Statuses: 0 they are, 1 they differ, 2 a file, the site or a line of the trace is refused, 3 memory
+was refused.
+
+As in: bsc_lab audit site.toml run.trace";
 
 /// What stands behind the help of `decode`.
 pub(crate) const DECODE_HELP: &str = with_messages!(

@@ -12,4 +12,5 @@ mod words;
 
 pub use site_paths::SitePaths;
 pub use storm_words::{MOST_CALLS, MOST_WORKERS, StormSize};
+pub use view_words::Ending;
 pub use words::{Job, WordsFault, read_words};

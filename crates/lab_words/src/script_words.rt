@@ -2,17 +2,31 @@
 use crate::help::{RECORD_HELP, TEST_HELP};
 use crate::site_paths::SitePaths;
 use crate::words::{argument, peer_argument, with_script};
-use clap::{ArgMatches, Command};
+use clap::{Arg, ArgAction, ArgMatches, Command};
 use std::alloc::{AllocError, Global};
 
-/// `test SITE SCRIPT.. [--peer SITE]`
+/// `--undo-everywhere`
+fn everywhere_argument<'a>(alloc: Global) -> Arg<'a> {
+    Arg::new(alloc, "everywhere")
+        .long("undo-everywhere")
+        .action(ArgAction::SetTrue)
+        .help("Takes each open attempt back behind each input, in a run of its own")
+}
+
+/// Whether each attempt is to be taken back at each point.
+pub(crate) fn is_everywhere(test: &ArgMatches<'_>) -> bool {
+    test.get_flag("everywhere")
+}
+
+/// `test SITE SCRIPT.. [--peer SITE] [--undo-everywhere]`
 pub(crate) fn test_command<'a>(alloc: Global) -> Result<Command<'a>, AllocError> {
     Command::new(alloc, "test")
         .about("Runs scripts, and says which print what their comments expect (TAP)")
         .after_help(TEST_HELP)
         .arg(argument(alloc, "SITE", "The site file"))?
         .arg(argument(alloc, "SCRIPT", "The script files").num_args(1..))?
-        .arg(peer_argument(alloc))
+        .arg(peer_argument(alloc))?
+        .arg(everywhere_argument(alloc))
 }
 
 /// `record SITE SCRIPT [--peer SITE]`

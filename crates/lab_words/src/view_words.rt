@@ -3,6 +3,32 @@ use clap::{Arg, ArgAction, ArgMatches, Command};
 use run_views::Views;
 use std::alloc::{AllocError, Global};
 
+/// How a run ends.
+#[derive(Clone, Copy, Debug, PartialEq, Eq)]
+pub enum Ending {
+    /// With the trace's end.
+    Plain,
+    /// Behind that all settled attempts are taken out of what was asked, and what that comes to is printed.
+    Audit,
+}
+
+/// `--audit`
+pub(crate) fn audit_argument<'a>(alloc: Global) -> Arg<'a> {
+    Arg::new(alloc, "audit")
+        .long("audit")
+        .action(ArgAction::SetTrue)
+        .help("Takes all undone attempts out at the end, as audit does, and compares")
+}
+
+/// How the run ends that the words of a command with this option ask for.
+pub(crate) fn ending_of(matches: &ArgMatches<'_>) -> Ending {
+    if matches.get_flag("audit") {
+        Ending::Audit
+    } else {
+        Ending::Plain
+    }
+}
+
 /// `--words`
 fn words_argument<'a>(alloc: Global) -> Arg<'a> {
     Arg::new(alloc, "WORDS")

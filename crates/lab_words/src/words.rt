@@ -2,12 +2,16 @@
 ghost use Rattle.std.specs.Prelude.{◌≡◌};
 
 use crate::explain_words::{explain_command, question_of};
-use crate::help::{CHECK_HELP, DECODE_HELP, ENCODE_HELP, LIVE_HELP, REWIND_HELP, RUN_HELP};
+use crate::help::{
+    AUDIT_HELP, CHECK_HELP, DECODE_HELP, ENCODE_HELP, LIVE_HELP, REWIND_HELP, RUN_HELP,
+};
 use crate::refused_words::refused_line;
-use crate::script_words::{record_command, script_paths, site_paths, test_command};
+use crate::script_words::{is_everywhere, record_command, script_paths, site_paths, test_command};
 use crate::site_paths::SitePaths;
 use crate::storm_words::{StormSize, storm_command, storm_size};
-use crate::view_words::{live_view_options, live_views_of, view_options, views_of};
+use crate::view_words::{
+    Ending, audit_argument, ending_of, live_view_options, live_views_of, view_options, views_of,
+};
 use clap::error::ErrorKind;
 use clap::{Arg, ArgAction, ArgMatches, Command, Error, value_parser};
 use decoded_lines::{Asked, Detail, LinkName, link_named};
@@ -18,12 +22,13 @@ use std::alloc::{AllocError, Global};
 /// What the command line asks for.
 #[derive(Drop)]
 pub enum Job<'a> {
-    /// A script is run over a site, or over two where a peer's is named: the paths of the files, and what is to be seen of
-    /// the run beside its trace.
+    /// A script is run over a site, or over two where a peer's is named: the paths of the files, what is to be seen of the
+    /// run beside its trace, and how it ends.
     Run {
         sites: SitePaths<'a>,
         script: &'a str,
         views: Views<'a>,
+        ending: Ending,
     },
     /// A controller is given the lines of standard input as they come: the site's path, and what is to be seen beside the
     /// trace, line by line.
@@ -37,6 +42,16 @@ pub enum Job<'a> {
         site: &'a str,
         trace: &'a str,
         line: usize,
+    },
+    /// All settled attempts are taken out of a trace: the paths of the site and of the trace.
+    Audit {
+        site: &'a str,
+        trace: &'a str,
+    },
+    /// Each attempt of scripts is taken back at each point, over a site, or over two: the paths of the files.
+    TryUndos {
+        sites: SitePaths<'a>,
+        scripts: Vec<&'a str>,
     },
     /// Scripts are tested over a site, or over two: the paths of the files.
     Test {
@@ -140,7 +155,8 @@ fn run_command<'a>(alloc: Global) -> Result<Command<'a>, AllocError> {
     let command = Command::new(alloc, "run")
         .about("Runs a script over a site and prints the trace")
         .after_help(RUN_HELP);
-    view_options(alloc, with_script(alloc, command)?)
+    let command = view_options(alloc, with_script(alloc, command)?)?;
+    command.arg(audit_argument(alloc))
 }
 
 /// `live SITE`, and the views that are shown line by line
@@ -166,12 +182,26 @@ fn rewind_command<'a>(alloc: Global) -> Result<Command<'a>, AllocError> {
         .about("Takes an undone attempt at handover out of a trace, and compares what is left")
         .after_help(REWIND_HELP)
         .arg(argument(alloc, "SITE", "The site file"))?
-        .arg(argument(
-            alloc,
-            "TRACE",
-            "The trace, as run prints it from the empty book on",
-        ))?
+        .arg(trace_argument(alloc))?
         .arg(line_argument(alloc))
+}
+
+/// `audit SITE TRACE`
+fn audit_command<'a>(alloc: Global) -> Result<Command<'a>, AllocError> {
+    Command::new(alloc, "audit")
+        .about("Takes all undone attempts at handover out of a trace, and compares what is left")
+        .after_help(AUDIT_HELP)
+        .arg(argument(alloc, "SITE", "The site file"))?
+        .arg(trace_argument(alloc))
+}
+
+/// `TRACE`
+fn trace_argument<'a>(alloc: Global) -> Arg<'a> {
+    argument(
+        alloc,
+        "TRACE",
+        "The trace, as run prints it from the empty book on",
+    )
 }
 
 /// `LINE`
@@ -303,7 +333,8 @@ fn with_scripts<'a>(alloc: Global, command: Command<'a>) -> Result<Command<'a>, 
     let command = with(command, live_command(alloc))?;
     let command = with(command, test_command(alloc))?;
     let command = with(command, record_command(alloc))?;
-    with(command, rewind_command(alloc))
+    let command = with(command, rewind_command(alloc))?;
+    with(command, audit_command(alloc))
 }
 
 /// The commands of sites, storms, messages and numbers.
@@ -351,6 +382,7 @@ fn job_of<'a>(matches: &ArgMatches<'a>) -> Option<Job<'a>> {
             sites: site_paths(run)?,
             script: run.get_str("SCRIPT")?,
             views: views_of(run),
+            ending: ending_of(run),
         }),
         ("live", live) => Some(Job::Live {
             site: live.get_str("SITE")?,
@@ -364,6 +396,10 @@ fn job_of<'a>(matches: &ArgMatches<'a>) -> Option<Job<'a>> {
             site: rewind.get_str("SITE")?,
             trace: rewind.get_str("TRACE")?,
             line: rewind.get_one::<usize>("LINE")?,
+        }),
+        ("audit", audit) => Some(Job::Audit {
+            site: audit.get_str("SITE")?,
+            trace: audit.get_str("TRACE")?,
         }),
         ("storm", storm) => Some(Job::Storm {
             site: storm.get_str("SITE")?,
@@ -387,7 +423,11 @@ fn any_job_of<'a>(alloc: Global, matches: &ArgMatches<'a>) -> Result<Option<Job<
                 return Ok(None);
             };
             let scripts = script_paths(alloc, test)?;
-            Ok(Some(Job::Test { sites, scripts }))
+            Ok(Some(if is_everywhere(test) {
+                Job::TryUndos { sites, scripts }
+            } else {
+                Job::Test { sites, scripts }
+            }))
         }
         _ => Ok(job_of(matches)),
     }

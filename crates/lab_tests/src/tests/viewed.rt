@@ -4,6 +4,7 @@ use super::{ONE_CALL, SITE, equals_at, holds_at, remove_files, write_files};
 use lab::files::run_files;
 use lab::run::LabFault;
 use lab::site_files::SitePaths;
+use lab::words::Ending;
 use run_views::Views;
 use std::fs;
 use std::process::Abort;
@@ -50,7 +51,15 @@ fn fails_behind(
     )?;
     let mut out = Failing::after(rt.alloc(), writes);
     let mut errors = Vec::new(rt.alloc());
-    let ended = run_files(rt, PATHS, SCRIPT_FILE, &ALL, &mut out, &mut errors);
+    let ended = run_files(
+        rt,
+        PATHS,
+        SCRIPT_FILE,
+        &ALL,
+        Ending::Plain,
+        &mut out,
+        &mut errors,
+    );
     equals_at(rt, ended, Err(LabFault::Write), script);
     Ok(String::from_utf8(out.text)?)
 }

@@ -9,27 +9,27 @@ use std::test::Fail;
 const JOBS: &[(&[&str], &str)] = &[
     (
         &["run", "a.toml", "b.txt"],
-        "run a.toml peer=- b.txt words=false state=false pcap=- chart=-",
+        "run a.toml peer=- b.txt words=false state=false pcap=- chart=- Plain",
     ),
     (
         &["run", "a.toml", "b.txt", "--peer", "c.toml"],
-        "run a.toml peer=c.toml b.txt words=false state=false pcap=- chart=-",
+        "run a.toml peer=c.toml b.txt words=false state=false pcap=- chart=- Plain",
     ),
     (
         &["run", "--peer", "c.toml", "a.toml", "b.txt"],
-        "run a.toml peer=c.toml b.txt words=false state=false pcap=- chart=-",
+        "run a.toml peer=c.toml b.txt words=false state=false pcap=- chart=- Plain",
     ),
     (
         &["run", "a.toml", "--peer=c.toml", "b.txt"],
-        "run a.toml peer=c.toml b.txt words=false state=false pcap=- chart=-",
+        "run a.toml peer=c.toml b.txt words=false state=false pcap=- chart=- Plain",
     ),
     (
         &["run", "a.toml", "b.txt", "--words"],
-        "run a.toml peer=- b.txt words=true state=false pcap=- chart=-",
+        "run a.toml peer=- b.txt words=true state=false pcap=- chart=- Plain",
     ),
     (
         &["run", "--pcap", "c.pcap", "a.toml", "b.txt"],
-        "run a.toml peer=- b.txt words=false state=false pcap=c.pcap chart=-",
+        "run a.toml peer=- b.txt words=false state=false pcap=c.pcap chart=- Plain",
     ),
     (
         &[
@@ -44,7 +44,7 @@ const JOBS: &[(&[&str], &str)] = &[
             "--words",
             "--state",
         ],
-        "run a.toml peer=e.toml b.txt words=true state=true pcap=c.pcap chart=d.svg",
+        "run a.toml peer=e.toml b.txt words=true state=true pcap=c.pcap chart=d.svg Plain",
     ),
     (
         &["live", "a.toml"],
@@ -73,6 +73,15 @@ const JOBS: &[(&[&str], &str)] = &[
     (
         &["rewind", "a.toml", "b.trace", "8"],
         "rewind a.toml b.trace 8",
+    ),
+    (
+        &["run", "a.toml", "--audit", "b.txt"],
+        "run a.toml peer=- b.txt words=false state=false pcap=- chart=- Audit",
+    ),
+    (&["audit", "a.toml", "b.trace"], "audit a.toml b.trace"),
+    (
+        &["test", "a.toml", "--undo-everywhere", "b.txt", "c.txt"],
+        "undo a.toml peer=- [\"b.txt\", \"c.txt\"]",
     ),
     (&["check", "a.toml"], "check a.toml"),
     (&["decode", "rr", "062c00"], "decode Rr \"062c00\""),
@@ -115,11 +124,12 @@ fn told(alloc: Global, job: &Job<'_>) -> Result<String, AllocError> {
             sites,
             script,
             views,
+            ending,
         } => {
             let peer = sites.peer.unwrap_or("-");
             let (pcap, chart) = (views.pcap.unwrap_or("-"), views.chart.unwrap_or("-"));
             format!(in alloc;
-                "run {} peer={peer} {script} words={} state={} pcap={pcap} chart={chart}",
+                "run {} peer={peer} {script} words={} state={} pcap={pcap} chart={chart} {ending:?}",
                 sites.first, views.words, views.state
             )
         }
@@ -134,11 +144,16 @@ fn told(alloc: Global, job: &Job<'_>) -> Result<String, AllocError> {
             let peer = sites.peer.unwrap_or("-");
             format!(in alloc; "test {} peer={peer} {:?}", sites.first, scripts.as_slice())
         }
+        Job::TryUndos { sites, scripts } => {
+            let peer = sites.peer.unwrap_or("-");
+            format!(in alloc; "undo {} peer={peer} {:?}", sites.first, scripts.as_slice())
+        }
         Job::Record { sites, script } => {
             let peer = sites.peer.unwrap_or("-");
             format!(in alloc; "record {} peer={peer} {script}", sites.first)
         }
         Job::Rewind { site, trace, line } => format!(in alloc; "rewind {site} {trace} {line}"),
+        Job::Audit { site, trace } => format!(in alloc; "audit {site} {trace}"),
         Job::Storm { site, size } => format!(in alloc;
             "storm {site} {} {}",
             size.workers, size.calls

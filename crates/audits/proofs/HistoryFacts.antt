@@ -1,0 +1,56 @@
+-- Facts of what remains of a desk's history without all its settled attempts.
+use Rattle.std.proofs.Common.{◌≡◌, ◌↔◌, ◌∙◌, Bool, true, false, IsTrue, List, Result, Ok, Err, IfOk, length, refl, sym, subst}
+use Rattle.radio_book.specs.declared.event.Event.{Event}
+use Rattle.radio_book.specs.declared.undone.StepAt.{StepAt}
+use Rattle.radio_book.specs.State.{State}
+use Rattle.radio_book.specs.Run.{Leads}
+use Rattle.radio_book.specs.Undone.{Undone}
+use Rattle.radio_book.specs.Together.{remaining}
+use Rattle.radio_desk.specs.declared.audit.Audit.{Audit}
+use Rattle.radio_desk.specs.Desk.{DeskState}
+use Rattle.radio_desk.specs.Audit.{events_in, steps_in, AreSettledIn, LeadsAlike}
+use Rattle.audits.specs.Histories.{OfTheRemaining, OfTheHistory, LeadsApart}
+
+-- what an audit that is the same says
+pub remains_alike : (d : DeskState) (audit : Audit) → ((us : List Undone) × AreSettledIn d.opening d.history us × (audit.attempts ≡ length us))
+    → ((us : List Undone) → AreSettledIn d.opening d.history us → IsTrue audit.same ↔ LeadsAlike d.opening (remaining us (steps_in d.history)) d.book)
+    → audit.same ≡ true → OfTheRemaining LeadsAlike d.opening d.history d.book
+remains_alike d audit found says is = (found.0, found.1, (says found.0 found.1).0 is)
+
+-- and one that isn't
+pub remains_apart : (d : DeskState) (audit : Audit) → ((us : List Undone) × AreSettledIn d.opening d.history us × (audit.attempts ≡ length us))
+    → ((us : List Undone) → AreSettledIn d.opening d.history us → IsTrue audit.same ↔ LeadsAlike d.opening (remaining us (steps_in d.history)) d.book)
+    → audit.same ≡ false → OfTheRemaining LeadsApart d.opening d.history d.book
+remains_apart d audit found says is =
+    let apart : LeadsApart d.opening (remaining found.0 (steps_in d.history)) d.book = λ alike.
+    let bad : true ≡ false = sym ((says found.0 found.1).1 alike) ∙ is in
+    cc in
+    (found.0, found.1, apart)
+
+-- the same of a history that is legal, where the audit may have failed
+pub same_in : {E : Type 0} (d : DeskState) (r : Result Audit E) → Leads d.opening d.history d.book
+    → IfOk r (λ (audit : Audit). (us : List Undone) × AreSettledIn d.opening d.history us × (audit.attempts ≡ length us))
+    → IfOk r (λ (audit : Audit). (us : List Undone) → AreSettledIn d.opening d.history us → IsTrue audit.same ↔ LeadsAlike d.opening (remaining us (steps_in d.history)) d.book)
+    → IfOk r (λ (audit : Audit). audit.same ≡ true → OfTheHistory LeadsAlike d.opening (events_in d.history))
+same_in d (Ok audit) legal found says = λ is. (d.history, d.book, refl, legal, remains_alike d audit found says is)
+same_in d (Err e) legal found says = tt
+
+pub differs_in : {E : Type 0} (d : DeskState) (r : Result Audit E) → Leads d.opening d.history d.book
+    → IfOk r (λ (audit : Audit). (us : List Undone) × AreSettledIn d.opening d.history us × (audit.attempts ≡ length us))
+    → IfOk r (λ (audit : Audit). (us : List Undone) → AreSettledIn d.opening d.history us → IsTrue audit.same ↔ LeadsAlike d.opening (remaining us (steps_in d.history)) d.book)
+    → IfOk r (λ (audit : Audit). audit.same ≡ false → OfTheHistory LeadsApart d.opening (events_in d.history))
+differs_in d (Ok audit) legal found says = λ is. (d.history, d.book, refl, legal, remains_apart d audit found says is)
+differs_in d (Err e) legal found says = tt
+
+-- the same of another name of the book, and of the events
+pub of_book : (P : State → List StepAt → State → Type 0) (b b' : State) (es : List Event) (T : Type 0) → b ≡ b' → (T → OfTheHistory P b es) → T → OfTheHistory P b' es
+of_book P b b' es T same h t = subst (λ x. OfTheHistory P x es) same (h t)
+
+pub of_events : (P : State → List StepAt → State → Type 0) (b : State) (es es' : List Event) (T : Type 0) → es ≡ es' → (T → OfTheHistory P b es) → T → OfTheHistory P b es'
+of_events P b es es' T same h t = subst (λ xs. OfTheHistory P b xs) same (h t)
+
+-- and where the audit may have failed
+pub asked_so : {E : Type 0} (P : State → List StepAt → State → Type 0) (is : Bool) (r : Result Audit E) (b b' : State) (es es' : List Event) → b ≡ b' → es ≡ es'
+    → IfOk r (λ (audit : Audit). audit.same ≡ is → OfTheHistory P b es) → IfOk r (λ (audit : Audit). audit.same ≡ is → OfTheHistory P b' es')
+asked_so P is (Ok audit) b b' es es' book events h = of_events P b' es es' (audit.same ≡ is) events (of_book P b b' es (audit.same ≡ is) book h)
+asked_so P is (Err e) b b' es es' book events h = tt

@@ -1,0 +1,110 @@
+//! Where the events of a run stand in what is printed of it.
+use cell_table::SiteFault;
+use ho_procedure::exchange::Outbound;
+use lab_runs::listener::Listener;
+use lab_runs::run::LabFault;
+use lab_runs::turn::Turn;
+use lab_script::script::Side;
+use radio_book::book::Book;
+use std::alloc::{AllocError, Allocator, Global};
+use std::cell::Cell;
+use std::io;
+use trace_text::trace::{Mark, Step};
+
+/// In which lines the events of each controller stand, in their order: their numbers, counted from 1.
+#[derive(Drop)]
+pub struct EventLines<A: Allocator = Global> {
+    first: Vec<usize, A>,
+    peer: Vec<usize, A>,
+}
+
+impl<A: Allocator + Copy> EventLines<A> {
+    /// No event yet.
+    fn new(alloc: A) -> EventLines<A> {
+        EventLines {
+            first: Vec::new(alloc),
+            peer: Vec::new(alloc),
+        }
+    }
+
+    /// An event of a controller stands in a line.
+    fn note(&mut self, side: Side, line: usize) -> Result<(), AllocError> {
+        match side {
+            Side::First => Ok(self.first.push(line)?),
+            Side::Peer => Ok(self.peer.push(line)?),
+        }
+    }
+
+    /// What came of an input, behind so many lines: the line of the input is the next, and each step has one.
+    fn note_turn(&mut self, turn: &Turn<A>, before: usize) -> Result<(), AllocError> {
+        let mut line = before.saturating_add(1);
+        for step in &turn.steps {
+            line = line.saturating_add(1);
+            match step {
+                Step::Asked(..) => self.note(turn.side, line)?,
+                Step::NoneFree(_) => {}
+            }
+        }
+        Ok(())
+    }
+
+    /// The line in which the event of a controller stands at a place, counted from 0.
+    pub fn line_of(&self, side: Side, place: usize) -> Option<usize> {
+        match side {
+            Side::First => self.first.get(place).copied(),
+            Side::Peer => self.peer.get(place).copied(),
+        }
+    }
+}
+
+/// Hands what comes of a run on to a listener that prints it, and notes in which lines the events stand.
+#[derive(Drop)]
+pub struct Noting<'a, L, A: Allocator + Copy = Global> {
+    listener: &'a mut L,
+    /// How many lines were printed.
+    printed: &'a Cell<usize>,
+    lines: EventLines<A>,
+}
+
+impl<'a, L: Listener<A>, A: Allocator + Copy> Noting<'a, L, A> {
+    /// One that hands on to a listener, of which `printed` counts the lines.
+    pub fn new(alloc: A, listener: &'a mut L, printed: &'a Cell<usize>) -> Noting<'a, L, A> {
+        Noting {
+            listener,
+            printed,
+            lines: EventLines::new(alloc),
+        }
+    }
+
+    /// Where the events stand that were told so far.
+    pub fn lines(&self) -> &EventLines<A> {
+        &self.lines
+    }
+}
+
+impl<L: Listener<A>, A: Allocator + Copy> Listener<A> for Noting<'_, L, A> {
+    fn hear_turn(&mut self, mark: Mark, turn: &Turn<A>, book: &Book<A>) -> Result<(), LabFault> {
+        self.lines.note_turn(turn, self.printed.get())?;
+        self.listener.hear_turn(mark, turn, book)
+    }
+
+    fn hear_owed(&mut self, mark: Mark, messages: &[Outbound<A>]) -> Result<(), LabFault> {
+        self.listener.hear_owed(mark, messages)
+    }
+
+    fn hear_limit(&mut self) -> Result<(), LabFault> {
+        self.listener.hear_limit()
+    }
+
+    fn hear_end(&mut self, mark: Mark, book: &Book<A>) -> Result<(), LabFault> {
+        self.listener.hear_end(mark, book)
+    }
+
+    fn hear_no_site(&mut self, fault: SiteFault) -> io::Result<()> {
+        self.listener.hear_no_site(fault)
+    }
+
+    fn hear_unread(&mut self, line: usize) -> io::Result<()> {
+        self.listener.hear_unread(line)
+    }
+}

@@ -1,0 +1,166 @@
+//! All settled attempts, taken out of what the controllers of a run were asked.
+ghost use Rattle.std.specs.Prelude.{◌≡◌, ◌≢◌, ◌↔◌, Ok, None, IsTrue, IfOk, IfSome, is_some};
+ghost use Rattle.lab_script.specs.Script.{first_unread};
+ghost use Rattle.lab_runs.specs.Course.{option_list};
+ghost use Rattle.lab_runs.specs.Sites.{texts_of, views_of};
+ghost use Rattle.audits.specs.Runs.{Tells, AreTold, IsAuditOf, IsAuditedRun, AreSame};
+
+use crate::noting::{EventLines, Noting};
+use crate::shown::print_audit;
+use ho_procedure::controller::Controller;
+use lab_runs::controllers::Controllers;
+use lab_runs::listener::Listener;
+use lab_runs::noting as view;
+use lab_runs::run::{LabFault, Sites, Status, play, read_sites, refuse_site};
+use lab_script::script::Side;
+use radio_desk::audit::Audit;
+use radio_desk::desk::Desk;
+use std::alloc::{AllocError, Allocator, Global};
+use std::io::{self, Write};
+use trace_text::trace::Mark;
+
+/// What the audit of a controller's history comes to.
+#[derive(Clone, Copy, Debug, PartialEq, Eq)]
+pub struct Found {
+    pub audit: Audit,
+    /// The number of the line, counted from 1, in which the first held event stands.
+    pub held: Option<usize>,
+}
+
+/// The same of the controllers of a run: the first, and its peer where there is one.
+#[derive(Clone, Copy, Debug, PartialEq, Eq)]
+pub struct Audits {
+    pub first: Found,
+    pub peer: Option<Found>,
+}
+
+/// What the audit of a desk comes to.
+fn audited<A: Allocator + Copy>(desk: &Desk<A>) -> Result<Audit, AllocError>
+    ensures told { IfOk result (λ audit. Tells audit desk.now) }
+{
+    desk.audit()
+}
+
+/// What the audit of a controller's history comes to, whose events stand in these lines.
+fn found_of<A: Allocator + Copy>(
+    controller: &Controller<view::Noting<A>, A>,
+    lines: &EventLines<A>,
+    side: Side,
+) -> Result<Found, AllocError>
+    ensures told { IfOk result (λ found. Tells found.audit controller.now.0.desk) }
+{
+    let audit = audited(controller.view().desk())?;
+    let held = match audit.held {
+        Some(place) => lines.line_of(side, place),
+        None => None,
+    };
+    Ok(Found { audit, held })
+}
+
+/// The same of the peer, where there is one.
+fn peer_found<A: Allocator + Copy>(
+    peer: &Option<Controller<view::Noting<A>, A>>,
+    lines: &EventLines<A>,
+) -> Result<Option<Found>, AllocError>
+    ensures told { IfOk result (λ found. AreTold (option_list found) (option_list peer.now)) }
+{
+    match peer {
+        Some(peer) => Ok(Some(found_of(peer, lines, Side::Peer)?)),
+        None => Ok(None),
+    }
+}
+
+/// The audits of controllers.
+fn audits_of<A: Allocator + Copy>(
+    controllers: &Controllers<A>,
+    lines: &EventLines<A>,
+) -> Result<Audits, AllocError>
+    ensures first { IfOk result (λ audits. Tells audits.first.audit controllers.now.first.0.desk) }
+    ensures peer { IfOk result (λ audits.
+        AreTold (option_list audits.peer) (option_list controllers.now.peer)) }
+{
+    let first = found_of(&controllers.first, lines, Side::First)?;
+    let peer = peer_found(&controllers.peer, lines)?;
+    Ok(Audits { first, peer })
+}
+
+/// Runs a script over sites that were read, and audits its controllers at the end.
+fn audit_played<A: Allocator + Copy, L: Listener<A>>(
+    alloc: A,
+    sites: Sites<A>,
+    script: &str,
+    noting: &mut Noting<'_, L, A>,
+) -> Result<Option<Audits>, LabFault>
+    ensures read { IfOk result (λ found. IfSome found (λ _.
+        first_unread (is_some sites.peer) script.now ≡ None)) }
+    ensures told { IfOk result (λ found. IfSome found (λ audits.
+        IsAuditOf A (views_of sites) script.now audits)) }
+{
+    match play(alloc, sites, script, noting)? {
+        Some(run) => Ok(Some(audits_of(&run.controllers, noting.lines())?)),
+        None => Ok(None),
+    }
+}
+
+/// Runs a script over a site, or over two where a peer's is given, all given as texts, as
+/// [`run_for`](lab_runs::run::run_for) does, tells a listener what comes of it, and takes all settled attempts out of what
+/// each controller was asked. Nothing where nothing is run, and then the listener was told why.
+///
+/// `scratch` serves while the sites are read, `alloc` for all else. Once memory was refused (`NoMemory`), or the listener
+/// couldn't write (`Write`), it is told nothing more.
+pub fn audited_run<A: Allocator + Copy, L: Listener<A>>(
+    alloc: A,
+    scratch: Global,
+    site: &str,
+    peer: Option<&str>,
+    script: &str,
+    noting: &mut Noting<'_, L, A>,
+) -> Result<Option<Audits>, LabFault>
+    ensures told { IfOk result (λ found. IfSome found
+        (IsAuditedRun A site.now (texts_of peer.entry) script.now)) }
+{
+    match read_sites(alloc, scratch, site, peer) {
+        Ok(sites) => audit_played(alloc, sites, script, noting),
+        Err(fault) => {
+            refuse_site(fault, noting)?;
+            Ok(None)
+        }
+    }
+}
+
+/// Whether of each controller all that remains comes to the same.
+fn are_same(audits: &Audits) -> bool
+    ensures { IsTrue result ↔ AreSame audits.now }
+{
+    match audits.peer {
+        Some(peer) => audits.first.audit.same && peer.audit.same,
+        None => audits.first.audit.same,
+    }
+}
+
+/// Prints three lines for each controller, behind its mark where there are two.
+fn print_all<W: Write>(out: &mut W, audits: &Audits) -> io::Result<()> {
+    let first = audits.first;
+    match audits.peer {
+        None => print_audit(out, Mark::Alone, &first.audit, first.held),
+        Some(peer) => {
+            print_audit(out, Mark::First, &first.audit, first.held)?;
+            print_audit(out, Mark::Peer, &peer.audit, peer.held)
+        }
+    }
+}
+
+/// Prints what the audits of the controllers of a run came to: three lines for each, behind its mark where there are two. The
+/// answer is `Done` where of each all that remains comes to the same, else `Differs`.
+pub fn print_audits<W: Write>(out: &mut W, audits: &Audits) -> Result<Status, LabFault>
+    ensures done { result ≡ Ok Status.Done → AreSame audits.now }
+    ensures differs { result ≡ Ok Status.Differs → AreSame audits.now → ⊥ }
+    ensures refused { result ≢ Ok Status.Refused }
+{
+    print_all(out, audits)?;
+    if are_same(audits) {
+        Ok(Status::Done)
+    } else {
+        Ok(Status::Differs)
+    }
+}

@@ -1,0 +1,92 @@
+//! A run with views, and all settled attempts taken out at its end.
+use crate::lines::CountedLines;
+use crate::noting::Noting;
+use crate::runs::{Audits, audited_run, print_audits};
+use lab_runs::run::{LabFault, Status};
+use run_views::{Sheets, Viewer, Views};
+use std::alloc::Global;
+use std::cell::Cell;
+use std::fs::OpenFile;
+use std::io::Write;
+
+/// A script over a site, or over two where a peer's is given, all as texts, and what is to be seen of its run.
+#[derive(Clone, Copy, Debug, PartialEq, Eq)]
+pub struct AskedRun<'a> {
+    pub site: &'a str,
+    pub peer: Option<&'a str>,
+    pub script: &'a str,
+    pub views: &'a Views<'a>,
+}
+
+/// What the audits of the controllers of a run come to, where anything was run, and whether the files of its views were
+/// written.
+type Ended = (Option<Audits>, Result<(), LabFault>);
+
+/// Runs a script, tells a viewer what comes of it, whose lines are counted, and takes all settled attempts out.
+fn audit_told<W: Write>(
+    alloc: Global,
+    asked: AskedRun<'_>,
+    viewer: &mut Viewer<'_, W>,
+    printed: &Cell<usize>,
+) -> Result<Option<Audits>, LabFault> {
+    let AskedRun {
+        site,
+        peer,
+        script,
+        views: _,
+    } = asked;
+    let mut noting = Noting::new(alloc, viewer, printed);
+    audited_run(alloc, alloc, site, peer, script, &mut noting)
+}
+
+/// The same with a viewer that prints to a writer which counts lines, and writes what the viewer gathered to the files of its
+/// views, where something was run.
+fn run_counted<F: Write + OpenFile + Drop, W: Write, E: Write>(
+    alloc: Global,
+    asked: AskedRun<'_>,
+    sheets: Sheets<'_, F>,
+    printed: &Cell<usize>,
+    out: &mut W,
+    errors: &mut E,
+) -> Result<Ended, LabFault> {
+    let mut viewer = Viewer::new(alloc, asked.views, asked.peer.is_some(), out)?;
+    let ended = audit_told(alloc, asked, &mut viewer, printed);
+    let written = if viewer.has_begun() {
+        sheets.finish(&viewer, errors)
+    } else {
+        Ok(())
+    };
+    Ok((ended?, written))
+}
+
+/// The same with any writer.
+fn run_viewed<F: Write + OpenFile + Drop, W: Write, E: Write>(
+    alloc: Global,
+    asked: AskedRun<'_>,
+    sheets: Sheets<'_, F>,
+    out: &mut W,
+    errors: &mut E,
+) -> Result<Ended, LabFault> {
+    let printed = Cell::new(0);
+    let mut counted = CountedLines::new(out, &printed);
+    run_counted(alloc, asked, sheets, &printed, &mut counted, errors)
+}
+
+/// Runs a script with views, as [`run_for`](lab_runs::run::run_for) does, tells what comes of it, and prints behind the trace's
+/// end what the audits of its controllers come to ([`print_audits`]). The files of the views are written once the run ended,
+/// but not where nothing is run. The answer is `Refused` then, else `Done` or `Differs` by the audits.
+pub fn audit_viewed<F: Write + OpenFile + Drop, W: Write, E: Write>(
+    alloc: Global,
+    asked: AskedRun<'_>,
+    sheets: Sheets<'_, F>,
+    out: &mut W,
+    errors: &mut E,
+) -> Result<Status, LabFault> {
+    let (audits, written) = run_viewed(alloc, asked, sheets, out, errors)?;
+    let status = match audits {
+        Some(audits) => print_audits(out, &audits)?,
+        None => Status::Refused,
+    };
+    written?;
+    Ok(status)
+}

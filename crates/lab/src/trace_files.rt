@@ -1,0 +1,101 @@
+//! Attempts that are taken out of the traces in files.
+use crate::files::text_of;
+use crate::site_files::say_site;
+use audits::traced::audit_run;
+use lab_runs::run::{LabFault, Status};
+use read_traces::reasons::say_untold;
+use read_traces::rewound::rewind_run;
+use screen_text::Escaped;
+use std::alloc::Global;
+use std::io::{self, Write};
+use std::rt::Files;
+
+/// The texts of a site and of a trace.
+#[derive(Drop)]
+struct Texts {
+    site: String,
+    trace: String,
+}
+
+/// The texts of a site's file and of a trace's, of which the site's is read first; nothing where one can't be read, and then
+/// the path of the first such was printed, and on `errors` why.
+fn texts_of<R: Files + AllocGlobal, W: Write, E: Write>(
+    rt: &R,
+    site: &str,
+    trace: &str,
+    out: &mut W,
+    errors: &mut E,
+) -> Result<Option<Texts>, LabFault> {
+    let Some(site) = text_of(rt, site, out, errors)? else {
+        return Ok(None);
+    };
+    let Some(trace) = text_of(rt, trace, out, errors)? else {
+        return Ok(None);
+    };
+    Ok(Some(Texts { site, trace }))
+}
+
+/// Says why a site or a trace is refused by a command; answers whether one is.
+fn say_refused<E: Write>(
+    alloc: Global,
+    site: &str,
+    trace: &str,
+    texts: &Texts,
+    command: &str,
+    errors: &mut E,
+) -> Result<bool, LabFault> {
+    if say_site(alloc, site, &texts.site, errors)? {
+        return Ok(true);
+    }
+    say_untold(alloc, &texts.site, trace, &texts.trace, command, errors)
+}
+
+/// Says that no attempt opens in a line of a trace that is undone later.
+fn say_no_attempt<E: Write>(path: &str, line: usize, errors: &mut E) -> io::Result<()> {
+    writeln!(
+        errors,
+        "{}: no attempt that is undone later opens in line {line}",
+        Escaped(path)
+    )
+}
+
+/// Takes an undone attempt out of the trace of one file, over the site of another, and prints what stays, as
+/// [`rewind_run`] does of texts. Files and the site are refused as [`run_files`](crate::files::run_files) refuses them.
+pub fn rewind_files<R: Files + AllocGlobal, W: Write, E: Write>(
+    rt: &R,
+    site: &str,
+    trace: &str,
+    line: usize,
+    out: &mut W,
+    errors: &mut E,
+) -> Result<Status, LabFault> {
+    let alloc = rt.alloc();
+    let Some(texts) = texts_of(rt, site, trace, out, errors)? else {
+        return Ok(Status::Refused);
+    };
+    let status = rewind_run(alloc, alloc, &texts.site, &texts.trace, line, out)?;
+    if status == Status::Refused && !say_refused(alloc, site, trace, &texts, "rewind", errors)? {
+        say_no_attempt(trace, line, errors)?;
+    }
+    Ok(status)
+}
+
+/// Takes all settled attempts out of the trace of one file, over the site of another, and prints what that comes to, as
+/// [`audit_run`] does of texts. Files and the site are refused as [`run_files`](crate::files::run_files) refuses them.
+pub fn audit_files<R: Files + AllocGlobal, W: Write, E: Write>(
+    rt: &R,
+    site: &str,
+    trace: &str,
+    out: &mut W,
+    errors: &mut E,
+) -> Result<Status, LabFault> {
+    let alloc = rt.alloc();
+    let Some(texts) = texts_of(rt, site, trace, out, errors)? else {
+        return Ok(Status::Refused);
+    };
+    let status = audit_run(alloc, alloc, &texts.site, &texts.trace, out)?;
+    if status == Status::Refused {
+        let _ = say_refused(alloc, site, trace, &texts, "audit", errors)?;
+    }
+    Ok(status)
+}

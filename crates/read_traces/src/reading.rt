@@ -1,0 +1,112 @@
+//! A trace that is read back over the empty book of a site, from which all its replies come.
+ghost use Rattle.std.specs.Prelude.{◌≡◌, IfOk, IfErr, IfSome};
+ghost use Rattle.radio_book.specs.State.{empty_book};
+ghost use Rattle.read_traces.specs.Entries as said;
+
+use crate::entries::{Entry, Foreign, entries_of, first_other};
+use cell_table::{Site, SiteFault};
+use lab_runs::run::{LabFault, Status};
+use radio_book::book::Book;
+use radio_book::event::Event;
+use radio_book::run::run;
+use std::alloc::{AllocError, Allocator, Global};
+use std::io::Write;
+use std::sync::Arc;
+
+/// What a trace tells.
+#[derive(Drop)]
+pub struct Told<A: Allocator = Global> {
+    pub entries: Vec<Entry, A>,
+    /// Their events, in the same order.
+    pub events: Vec<Event, A>,
+}
+
+/// Refuses a line of the trace, and prints its number.
+pub fn refuse_line<W: Write>(number: usize, out: &mut W) -> Result<Status, LabFault>
+    ensures refused { IfOk result (λ status. status ≡ Status.Refused) }
+    ensures write { IfErr result (λ fault. fault ≡ LabFault.Write) }
+{
+    writeln!(out, "line {number}")?;
+    Ok(Status::Refused)
+}
+
+/// The empty book of a site.
+pub fn fresh_book<A: Allocator + Copy>(alloc: A, site: Site<A>) -> Result<Book<A>, AllocError>
+    ensures book { IfOk result (λ book. book ≡ empty_book site) }
+{
+    match Arc::new(alloc, site) {
+        Ok(site) => Book::new(alloc, site),
+        Err(error) => Err(AllocError::from(error)),
+    }
+}
+
+/// The events of entries, in their order.
+fn events_of<A: Allocator + Copy>(alloc: A, entries: &[Entry]) -> Result<Vec<Event, A>, AllocError>
+    ensures { IfOk result (λ events. events.items ≡ said.events_of entries.now) }
+{
+    entries.iter().map(|entry| entry.event).collect(alloc)
+}
+
+/// What a trace tells whose lines can be read.
+fn told_in<A: Allocator + Copy>(alloc: A, trace: &str) -> Result<Told<A>, AllocError>
+    ensures entries { IfOk result (λ told. told.entries.items ≡ said.entries_of trace.now) }
+    ensures events { IfOk result (λ told. told.events.items ≡ said.events_of (said.entries_of trace.now)) }
+{
+    let entries = entries_of(alloc, trace)?;
+    let events = events_of(alloc, &entries)?;
+    Ok(Told { entries, events })
+}
+
+/// The first entry that has another reply than the book gives.
+fn first_foreign<A: Allocator + Copy>(
+    alloc: A,
+    book: &Book<A>,
+    trace: &str,
+    told: &Told<A>,
+) -> Result<Option<Foreign>, AllocError> {
+    let (_, replies) = run(alloc, book, &told.events)?;
+    first_other(alloc, trace, &told.entries, &replies)
+}
+
+/// What a trace tells whose lines can be read; nothing where an entry has another reply than the book gives, and then the
+/// number of the first such line was printed.
+pub fn told_entries<A: Allocator + Copy, W: Write>(
+    alloc: A,
+    book: &Book<A>,
+    trace: &str,
+    out: &mut W,
+) -> Result<Option<Told<A>>, LabFault>
+    ensures entries { IfOk result (λ found. IfSome found (λ told.
+        told.entries.items ≡ said.entries_of trace.now)) }
+    ensures events { IfOk result (λ found. IfSome found (λ told.
+        told.events.items ≡ said.events_of (said.entries_of trace.now))) }
+{
+    let told = told_in(alloc, trace)?;
+    if let Some(foreign) = first_foreign(alloc, book, trace, &told)? {
+        refuse_line(foreign.line, out)?;
+        return Ok(None);
+    }
+    Ok(Some(told))
+}
+
+/// The first entry of a trace whose lines can be read, that has another reply than the book gives.
+fn foreign_in<A: Allocator + Copy>(
+    alloc: A,
+    book: &Book<A>,
+    trace: &str,
+) -> Result<Option<Foreign>, AllocError> {
+    let told = told_in(alloc, trace)?;
+    first_foreign(alloc, book, trace, &told)
+}
+
+/// The first entry of a trace that has another reply than the empty book of a site gives; nothing where each has the
+/// book's. The lines of the trace can be read, and the text describes a site.
+pub fn foreign_entry(alloc: Global, site: &str, trace: &str) -> Result<Option<Foreign>, LabFault> {
+    let site = match Site::read(alloc, alloc, site) {
+        Ok(site) => site,
+        Err(SiteFault::NoMemory) => return Err(LabFault::NoMemory),
+        Err(_) => return Ok(None),
+    };
+    let book = fresh_book(alloc, site)?;
+    Ok(foreign_in(alloc, &book, trace)?)
+}

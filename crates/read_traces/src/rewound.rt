@@ -1,0 +1,208 @@
+//! An undone attempt, taken out of a trace.
+ghost use Rattle.std.specs.Prelude.{◌≡◌, ◌≢◌, ◌↔◌, ◌+◌, ◌<◌, ◌^◌, ℕ, Ok, Err, Some, None, IsTrue, IfOk, IfErr, OnOk, IfSome, IfNone, slice_get};
+ghost use Rattle.cell_table.specs.SiteFile.{IsBlankFile};
+ghost use Rattle.radio_book.specs.State.{empty_book};
+ghost use Rattle.radio_book.specs.NoTrace.{LeavesNoTrace};
+ghost use Rattle.read_traces.specs.Entries as said;
+ghost use Rattle.read_traces.specs.Rewound.{AreSameReplies, IsSame, StandsIn, LeavesATrace, NoneOpens, InEntries, InTrace};
+
+use crate::entries::{Entry, first_unread};
+use crate::reading::{fresh_book, refuse_line, told_entries};
+use cell_table::Site;
+use lab_runs::listener::Printing;
+use lab_runs::run::{LabFault, Status, refuse_site};
+use radio_book::book::Book;
+use radio_book::event::{Event, Reply};
+use radio_book::rewind::{RewindFault, Rewound, rewind};
+use radio_desk::entry::is_same_reply;
+use std::alloc::{Allocator, Global};
+use std::io::Write;
+
+/// Refuses a line in which no undone attempt opens, and prints so.
+fn refuse_attempt<W: Write>(out: &mut W) -> Result<Status, LabFault>
+    ensures refused { IfOk result (λ status. status ≡ Status.Refused) }
+    ensures write { IfErr result (λ fault. fault ≡ LabFault.Write) }
+{
+    writeln!(out, "no attempt")?;
+    Ok(Status::Refused)
+}
+
+/// Whether this reply stands at a place.
+pub fn is_reply_at(replies: &[Reply], place: usize, reply: &Reply) -> bool
+    ensures same { IsTrue result ↔ (slice_get replies.now place ≡ Some reply.now) }
+{
+    match replies.get(place) {
+        Some(found) => is_same_reply(found, reply),
+        None => false,
+    }
+}
+
+/// Whether the others got the same replies alone as among all events.
+fn are_same_replies(whole: &[Reply], others: &[usize], without: &[Reply]) -> bool
+    ensures same { IsTrue result ↔ AreSameReplies whole.now others.now without.now }
+{
+    let mut others = others;
+    let mut without = without;
+    while let ([place, places @ ..], [reply, replies @ ..]) = (others, without) {
+        if !is_reply_at(whole, *place, reply) {
+            return false;
+        }
+        others = places;
+        without = replies;
+    }
+    others.is_empty() && without.is_empty()
+}
+
+/// Whether the attempt left no trace: both books are the same, and the others got the same replies.
+pub fn is_same<A: Allocator>(rewound: &Rewound<A>) -> bool
+    ensures same { IsTrue result ↔ IsSame rewound.now }
+{
+    rewound.whole == rewound.without
+        && are_same_replies(
+            &rewound.whole_replies,
+            &rewound.others,
+            &rewound.without_replies,
+        )
+}
+
+/// The number of the line of the first held refusal, counted from 1.
+fn held_line<A: Allocator>(rewound: &Rewound<A>, entries: &[Entry]) -> Option<usize>
+    ensures held { (at : ℕ) → rewound.now.held ≡ Some at → IfSome (slice_get entries.now at)
+        (λ entry. entry.index + 1 < 2 ^ 64 → result ≡ Some (entry.index + 1)) }
+    ensures none { rewound.now.held ≡ None → result ≡ None }
+{
+    let entry = entries.get(rewound.held?)?;
+    Some(entry.line())
+}
+
+/// Prints what stays without the attempt, and whether it left a trace.
+fn print_rewound<A: Allocator, W: Write>(
+    rewound: &Rewound<A>,
+    entries: &[Entry],
+    out: &mut W,
+) -> Result<Status, LabFault>
+    ensures done { result ≡ Ok Status.Done → IsSame rewound.now }
+    ensures differs { result ≡ Ok Status.Differs → IsSame rewound.now → ⊥ }
+    ensures refused { result ≢ Ok Status.Refused }
+    ensures memory { result ≢ Err LabFault.NoMemory }
+{
+    writeln!(out, "others {}", rewound.others.len())?;
+    let settled = if rewound.settled { "yes" } else { "no" };
+    writeln!(out, "settled {settled}")?;
+    match held_line(rewound, entries) {
+        Some(line) => writeln!(out, "held {line}")?,
+        None => writeln!(out, "held -")?,
+    }
+    if is_same(rewound) {
+        writeln!(out, "same")?;
+        Ok(Status::Done)
+    } else {
+        writeln!(out, "differs")?;
+        Ok(Status::Differs)
+    }
+}
+
+/// The place of the entry in a line, counted from 1.
+fn place_of(entries: &[Entry], line: usize) -> Option<usize>
+    ensures place { IfSome result (λ at. StandsIn entries.now line at) }
+    ensures none { IfNone result ((at : ℕ) → StandsIn entries.now line at → ⊥) }
+{
+    let index = line.checked_sub(1)?;
+    entries.iter().position(|entry| entry.index == index)
+}
+
+/// Takes out the attempt that opens in a line, and prints what stays.
+fn rewind_line<A: Allocator + Copy, W: Write>(
+    alloc: A,
+    book: &Book<A>,
+    entries: &[Entry],
+    events: &[Event],
+    line: usize,
+    out: &mut W,
+) -> Result<Status, LabFault>
+    requires events { events.now ≡ said.events_of entries.now }
+    ensures done { result ≡ Ok Status.Done → InEntries LeavesNoTrace book.now entries.now line }
+    ensures differs { result ≡ Ok Status.Differs → InEntries LeavesATrace book.now entries.now line }
+    ensures refused { result ≡ Ok Status.Refused → NoneOpens book.now entries.now line }
+{
+    let Some(at) = place_of(entries, line) else {
+        return refuse_attempt(out);
+    };
+    match rewind(alloc, book, events, at) {
+        Ok(rewound) => print_rewound(&rewound, entries, out),
+        Err(RewindFault::NoAttempt) => refuse_attempt(out),
+        Err(RewindFault::NoMemory) => Err(LabFault::NoMemory),
+    }
+}
+
+/// Takes an attempt out of a trace whose lines can be read.
+fn rewind_entries<A: Allocator + Copy, W: Write>(
+    alloc: A,
+    book: &Book<A>,
+    trace: &str,
+    line: usize,
+    out: &mut W,
+) -> Result<Status, LabFault>
+    ensures done { result ≡ Ok Status.Done →
+        InEntries LeavesNoTrace book.now (said.entries_of trace.now) line }
+    ensures differs { result ≡ Ok Status.Differs →
+        InEntries LeavesATrace book.now (said.entries_of trace.now) line }
+{
+    match told_entries(alloc, book, trace, out)? {
+        Some(told) => rewind_line(alloc, book, &told.entries, &told.events, line, out),
+        None => Ok(Status::Refused),
+    }
+}
+
+/// Takes an attempt out of a trace over a site that was read.
+fn rewind_trace<A: Allocator + Copy, W: Write>(
+    alloc: A,
+    site: Site<A>,
+    trace: &str,
+    line: usize,
+    out: &mut W,
+) -> Result<Status, LabFault>
+    ensures readable { (result ≢ Ok Status.Refused) → OnOk result (said.first_unread trace.now ≡ None) }
+    ensures done { result ≡ Ok Status.Done →
+        InEntries LeavesNoTrace (empty_book site) (said.entries_of trace.now) line }
+    ensures differs { result ≡ Ok Status.Differs →
+        InEntries LeavesATrace (empty_book site) (said.entries_of trace.now) line }
+    ensures memory { result ≡ Err LabFault.NoMemory → said.first_unread trace.now ≡ None }
+{
+    if let Some(number) = first_unread(trace) {
+        return refuse_line(number, out);
+    }
+    let book = fresh_book(alloc, site)?;
+    rewind_entries(alloc, &book, trace, line, out)
+}
+
+/// Takes an undone attempt out of a trace, as [`lab_run`](lab_runs::run::lab_run) prints it from the empty book on, and
+/// prints what stays to `out`.
+///
+/// The trace's lines that begin with `event ` are its events, of which the one in `line`, counted from 1, opened the
+/// attempt. Four lines are printed: `others` and how many events stay, `settled` and `yes` or `no`, `held` and the number
+/// of the line of the first held refusal or `-`, and `same` where the book after all events is the one after the others
+/// alone, and the others got the same replies, else `differs`. Then the answer is `Done` or `Differs`.
+///
+/// One line is printed, and the answer is `Refused`, where the site is refused as by `lab_run`; where a line can't be
+/// read (`line` and the number of the first such, of an event that isn't written as a trace has it, or of a trace of two
+/// controllers); where a reply isn't the one that the book gives (`line` and the number of the first such); where no
+/// undone attempt opens in the line (`no attempt`). `scratch` serves while the site is read, `alloc` for all else. Once
+/// memory was refused (`NoMemory`), or `out` can't be written to (`Write`), nothing more is printed.
+pub fn rewind_run<A: Allocator + Copy, W: Write>(
+    alloc: A,
+    scratch: Global,
+    site: &str,
+    trace: &str,
+    line: usize,
+    out: &mut W,
+) -> Result<Status, LabFault>
+    ensures done { result ≡ Ok Status.Done → InTrace LeavesNoTrace site.now trace.now line }
+    ensures differs { result ≡ Ok Status.Differs → InTrace LeavesATrace site.now trace.now line }
+    ensures memory { result ≡ Err LabFault.NoMemory → ¬ IsBlankFile site.now }
+{
+    match Site::read(alloc, scratch, site) {
+        Ok(site) => rewind_trace(alloc, site, trace, line, out),
+        Err(fault) => refuse_site::<A, _>(fault, &mut Printing::new(out)),
+    }
+}
