@@ -6,6 +6,6 @@ returns-in_ok-audits_of-in-Some-clause-told g c =
     record {
       run = c.in-Some.run';
       ran = ran;
-      first = c.in_ok-audits_of.ensures.first;
-      peer_found = c.in_ok-audits_of.ensures.peer;
+      first = c.in_ok-audits_of-in-Some.ensures.first;
+      peer_found = c.in_ok-audits_of-in-Some.ensures.peer;
     }
