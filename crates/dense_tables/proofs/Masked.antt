@@ -1,8 +1,9 @@
 -- What the masks say of a cell's channels: which are free, and how many.
-use Rattle.std.proofs.Common.{◌≡◌, ◌&&◌, ◌++◌, not, ◌⊎◌, inl, inr, ◌+◌, ◌*◌, ◌<◌, ◌≤◌, ℕ, zero, suc, Bool, true, false, cond, List, [], ◌∷◌, get_or, map as map_list, count_by, Option, Some, None, is_some, refl, sym, ap, ◌∙◌, subst, add-zero, lit<, arith}
+use Rattle.std.proofs.Common.{◌≡◌, ◌&&◌, ◌++◌, not, ◌⊎◌, inl, inr, ◌+◌, ◌*◌, ◌<◌, ◌≤◌, ℕ, zero, suc, Bool, true, false, cond, List, [], ◌∷◌, length, get_or, map as map_list, count_by, Option, Some, None, is_some, refl, sym, ap, ◌∙◌, subst, add-zero, lit<, arith}
 use Rattle.std.specs.List.{range_with_len}
 use Rattle.std.specs.FinMap as map
 use Rattle.std.proofs.lemmas.Bool.{and_parts, and_from, and_left, cases_Bool, false_from_ne_true}
+use Rattle.std.proofs.lemmas.List.{get_or_read}
 use Rattle.std.proofs.lemmas.List.Sums.{sum_by-cons, sum_by-append}
 use Rattle.channel_fsm.specs.declared.ChanId.{ChanId}
 use Rattle.channel_fsm.specs.declared.ChanState.{ChanState}
@@ -99,6 +100,11 @@ pub by_trx : (p : ChanId → Bool) (cell : ℕ) → count_by p (channels_of cell
     + count_by (λ tn. p (record { cell = cell; trx = 2; tn = tn })) (range_with_len 0 8) + count_by (λ tn. p (record { cell = cell; trx = 3; tn = tn })) (range_with_len 0 8)
 unfolding channels_of
 by_trx p cell = four_counts p (λ trx tn. record { cell = cell; trx = trx; tn = tn }) (range_with_len 0 8)
+
+-- a TRX's mask counts its timeslots
+pub trx_count : (masks : List ℕ) (cell trx place mask count : ℕ) → place ≡ cell * 4 + trx → place < 256 → length masks ≡ 256 → mask ≡ get_or masks place mask → count ≡ count_by (has mask) (range_with_len 0 8) → count ≡ count_by (λ tn. mask_at masks (record { cell = cell; trx = trx; tn = tn })) (range_with_len 0 8)
+trx_count masks cell trx place mask count at within long read counted =
+    counted ∙ ap (λ m. count_by (has m) (range_with_len 0 8)) (get_or_read masks place mask (omega (arith, within, long)) read 0 ∙ ap (λ k. get_or masks k 0) at)
 
 -- tests that answer alike count alike
 count_alike : (p q : ℕ → Bool) (a n : ℕ) → ((j : ℕ) → j < a + n → p j ≡ q j) → count_by p (range_with_len a n) ≡ count_by q (range_with_len a n)

@@ -1,4 +1,4 @@
-use Rattle.std.proofs.Common.{◌≡◌, ◌≤◌, cond, sym, ap, ◌∙◌, refl, is_some, Some, None, get_or, length, set, arith}
+use Rattle.std.proofs.Common.{◌≡◌, ℕ, ◌≤◌, cond, sym, ap, ◌∙◌, refl, is_some, Some, None, get_or, length, set, arith}
 use Rattle.std.specs.FinMap as map
 use Rattle.std.proofs.lemmas.List.{length-set}
 use Rattle.dense_tables.specs.Calls.{entries_of}
@@ -24,7 +24,7 @@ invariant_of-self-2 g c =
     (ap (λ k. get_or new k None) (sym key) ∙ c.insert_reserved.ensures.updates.changed)
     (λ j other. c.insert_reserved.ensures.updates.others j (λ same. other (same ∙ key)) ∙ ap (λ s. get_or s.slots j None) room) in
     let counts = count_put t.keys.items old call (Some c.args.entry) in
-    let none = ap (λ o. cond (is_some o) 1 0) (ap (λ m. map.get m call) c.self.view_is ∙ c.requires.new) in
+    let none = ap {B = ℕ} (λ o. cond (is_some o) 1 0) (ap (λ m. map.get m call) c.self.view_is ∙ c.requires.new) in
     let same = ap map.len added in
     record { keys_long = length-set t.keys.items call c.in_ok-key.key ∙ c.self.invariant.keys_long; counted = omega (arith, counts, none, same, c.self.invariant.counted) }
 

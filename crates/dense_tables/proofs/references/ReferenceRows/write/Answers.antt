@@ -30,7 +30,7 @@ overflow_add-self g c =
     let counts = count_written users r c.args.user small within in
     let most = few_users (set users (place_of r) c.args.user) in
     let long = length-set users (place_of r) c.args.user in
-    omega (arith, one, c.count_of-2.ensures, counts, most, long, c.self.invariant.counted)
+    omega (arith, one, c.count_of-then-place-len.ensures, counts, most, long, c.self.invariant.counted)
 
 pub invariant_of-self : goal.invariant_of-self
 invariant_of-self g c =
@@ -45,7 +45,7 @@ invariant_of-self g c =
     let same = ap (λ k. map.len (users_of (set users k c.args.user))) at in
     record {
       users_long = length-set users c.place_of-place.result c.args.user ∙ c.self.invariant.users_long;
-      counted = omega (arith, one, c.count_of-2.ensures, counts, same, c.self.invariant.counted);
+      counted = omega (arith, one, c.count_of-then-place-len.ensures, counts, same, c.self.invariant.counted);
     }
 
 pub returns-then-place-len : goal.returns-then-place-len
