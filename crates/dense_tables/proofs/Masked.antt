@@ -1,5 +1,5 @@
 -- What the masks say of a cell's channels: which are free, and how many.
-use Rattle.std.proofs.Common.{◌≡◌, ◌&&◌, ◌++◌, not, ◌⊎◌, inl, inr, ◌+◌, ◌*◌, ◌<◌, ◌≤◌, ℕ, zero, suc, Bool, true, false, cond, List, [], ◌∷◌, length, get_or, map as map_list, count_by, Option, Some, None, is_some, refl, sym, ap, ◌∙◌, subst, add-zero, lit<, arith}
+use Rattle.std.proofs.Common.{◌≡◌, ◌&&◌, ◌++◌, not, ◌⊎◌, inl, inr, ◌+◌, ◌*◌, ◌<◌, ◌≤◌, ℕ, zero, suc, Bool, true, false, cond, List, [], ◌∷◌, length, get_or, map as map_list, count_by, Option, Some, None, IfSome, IfNone, is_some, refl, sym, ap, ◌∙◌, subst, add-zero, lit<, arith}
 use Rattle.std.specs.List.{range_with_len}
 use Rattle.std.specs.FinMap as map
 use Rattle.std.proofs.lemmas.Bool.{and_parts, and_from, and_left, cases_Bool, false_from_ne_true}
@@ -10,7 +10,7 @@ use Rattle.channel_fsm.specs.declared.ChanState.{ChanState}
 use Rattle.channel_fsm.specs.declared.ChanState.TheVariants.{Free, Held, Pending, On, Off}
 use Rattle.channel_fsm.specs.Masks.{has}
 use Rattle.cell_table.specs.Site.{SiteView, IsWithinLimits, TrafficLiesWithin, is_traffic, index_of}
-use Rattle.dense_tables.specs.Channels.{Channels, or_free, state_of, is_free, busy, IsFreeIn, NoneFree, is_free_traffic, channels_of, free_count, state_at, states_of, mask_at, is_free_at, AreMasks, IsMasked}
+use Rattle.dense_tables.specs.Channels.{Channels, or_free, state_of, is_free, busy, IsFreeIn, NoneFree, is_free_traffic, channels_of, free_count, state_at, states_of, mask_at, is_free_at, AreMasks, IsMasked, IsNoLater}
 use Rattle.dense_tables.proofs.Stated.{there, get_state}
 
 no_state : {X : Type 0} (o : Option X) → not (is_some o) ≡ true → o ≡ None
@@ -58,6 +58,19 @@ module _ (site : SiteView) (states : List ChanState) (masks : List ℕ) (are : A
       let limits = lies x free.traffic in
       let none = free_state site states x (ap or_free (sym (get_state site states x)) ∙ free.is_free) in
       record { in_cell = free.in_cell; limits = limits; there = are x limits ∙ and_from _ _ free.traffic (ap (λ o. not (is_some o)) none) }
+
+  -- the same, where one was found or none
+  pub found_free : (o : Option ChanId) → IfSome o (λ x. IsMasked masks cell x) → IfSome o (λ x. IsFreeIn (record { site = site; states = states_of site states }) cell x)
+  found_free None masked = tt
+  found_free (Some x) masked = masked_free x masked
+
+  pub first_free : TrafficLiesWithin site → (o : Option ChanId) → IfSome o (λ x. (y : ChanId) → IsMasked masks cell y → IsNoLater x y) → IfSome o (λ x. (y : ChanId) → IsFreeIn (record { site = site; states = states_of site states }) cell y → IsNoLater x y)
+  first_free lies None first = tt
+  first_free lies (Some x) first = λ y free. first y (free_masked lies y free)
+
+  pub none_free : TrafficLiesWithin site → (o : Option ChanId) → IfNone o ((y : ChanId) → IsMasked masks cell y → ⊥) → IfNone o (NoneFree (record { site = site; states = states_of site states }) cell)
+  none_free lies None none = λ y free. none y (free_masked lies y free)
+  none_free lies (Some x) none = tt
 
 -- a cell that no site can have has no channel to be chosen
 pub none_beyond : (c : Channels) (cell : ℕ) → TrafficLiesWithin c.site → 64 ≤ cell → NoneFree c cell

@@ -37,7 +37,7 @@ overflow_add-self g c =
     let counts = count_written site states x place c.args.state within at in
     let most = few_used site (set states place c.args.state) in
     let few = few_channels site in
-    omega (arith, one, c.count_of-2.ensures, counts, most, few, c.self.invariant.counted)
+    omega (arith, one, c.count_of-in-Some.ensures, counts, most, few, c.self.invariant.counted)
 
 pub invariant_of-self : goal.invariant_of-self
 invariant_of-self g c =
@@ -51,6 +51,7 @@ invariant_of-self g c =
     let read = get_or_read states place _ within c.index-old.ensures Free in
     let one = c.count_of.ensures ∙ ap (λ s. cond (is_some (busy s)) 1 0) read in
     let counts = count_written site states x place c.args.state within at in
+    let least = count_written site states x place Free within at in
     record {
       is_site = c.self.invariant.is_site;
       lies = c.self.invariant.lies;
@@ -60,7 +61,7 @@ invariant_of-self g c =
       are_places = c.self.invariant.are_places;
       are_masks = masks_written site states table.masks.items c.set_mask.new.masks.items x place c.args.state c.self.invariant.are_masks within at
           (c.set_mask.ensures.set ∙ flipped _ c.is_none.result c.is_none.ensures ∙ ap (λ o. not (is_some o)) c.busy.ensures) c.set_mask.ensures.others;
-      counted = omega (arith, one, c.count_of-2.ensures, counts, c.self.invariant.counted);
+      counted = omega (arith, one, c.count_of-in-Some.ensures, counts, least, c.self.invariant.counted);
     }
 
 pub returns-in-Some : goal.returns-in-Some

@@ -42,10 +42,11 @@ invariant_of-self g c =
     let read = get_or_read users c.place_of-place.result _ (omega arith) c.index-old.ensures None ∙ ap (λ k. get_or users k None) at in
     let one = c.count_of.ensures ∙ ap (λ o. cond (is_some o) 1 0) read in
     let counts = count_written users r c.args.user small within in
+    let least = count_written users r None small within in
     let same = ap (λ k. map.len (users_of (set users k c.args.user))) at in
     record {
       users_long = length-set users c.place_of-place.result c.args.user ∙ c.self.invariant.users_long;
-      counted = omega (arith, one, c.count_of-then-place-len.ensures, counts, same, c.self.invariant.counted);
+      counted = omega (arith, one, c.count_of-then-place-len.ensures, counts, least, same, c.self.invariant.counted);
     }
 
 pub returns-then-place-len : goal.returns-then-place-len
