@@ -8,7 +8,7 @@ use Rattle.std.proofs.lemmas.Bool.{ne_eqb, eq-eqb, eqb-true, cases_eq, cases_lt}
 use Rattle.std.proofs.lemmas.List.{get_or-set_same, get_or-set_other, length-set}
 use Rattle.std.proofs.lemmas.Option.{slice_get_past, slice_get-get_or}
 use Rattle.dense_tables.specs.declared.calls.Slot.{Slot}
-use Rattle.dense_tables.specs.Maps.{put, listed, Covers}
+use Rattle.dense_tables.specs.Maps.{put, Covers}
 use Rattle.dense_tables.specs.Calls.{below, kept_in, entry_at, entries_of}
 use Rattle.dense_tables.proofs.MapFacts.{put_again, len_put, one_if_some}
 use Rattle.dense_tables.proofs.Listed.{get_listed, listed_put, listed_empty, listed_same, len_listed, past_below, length_below}

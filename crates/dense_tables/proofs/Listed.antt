@@ -1,14 +1,13 @@
 -- The map that a function makes over some keys: what it answers, what becomes of it where the function says something else at
 -- one key, and how many entries it has.
-use Rattle.std.proofs.Common.{◌≡◌, ◌≢◌, inl, inr, ◌||◌, ◌+◌, ◌<◌, ◌≤◌, ℕ, zero, suc, Bool, true, false, cond, List, [], ◌∷◌, length, get_or, map as map_list, Option, Some, None, refl, sym, ap, ◌∙◌, arith}
+use Rattle.std.proofs.Common.{◌≡◌, ◌≢◌, inl, inr, ◌||◌, ◌<◌, ◌≤◌, ℕ, zero, suc, true, false, cond, List, [], ◌∷◌, length, map as map_list, Option, Some, None, refl, sym, ap, ◌∙◌, arith}
 use Rattle.std.proofs.lemmas.Bool.{or_parts, or_left, or_right, cases_eq}
-use Rattle.std.proofs.lemmas.List.Folds.{list_any_at}
 use Rattle.std.specs.List.{list_any}
 use Rattle.std.specs.declared.cmp.Ordering.{Ordering}
 use Rattle.std.specs.Ordering.{eq_by_cmp, nat_cmp}
 use Rattle.std.specs.Cmp.{IsTotalOrder, nat_cmp_total}
 use Rattle.std.specs.FinMap as map
-use Rattle.std.specs.FinMap.{FinMap, IsAntisymmetric, same_map, get-empty, len-empty}
+use Rattle.std.specs.FinMap.{IsAntisymmetric, same_map, get-empty, len-empty}
 use Rattle.dense_tables.specs.Maps.{put, listed, Covers}
 use Rattle.dense_tables.specs.Calls.{below}
 use Rattle.dense_tables.proofs.MapFacts.{tied_keys, ties_itself, get_put, len_put, one_if_some}

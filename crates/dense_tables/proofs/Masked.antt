@@ -1,16 +1,15 @@
 -- What the masks say of a cell's channels: which are free, and how many.
-use Rattle.std.proofs.Common.{◌≡◌, ◌&&◌, ◌++◌, not, ◌⊎◌, inl, inr, ◌+◌, ◌*◌, ◌<◌, ◌≤◌, ℕ, zero, suc, Bool, true, false, cond, List, [], ◌∷◌, length, get_or, map as map_list, count_by, Option, Some, None, IfSome, IfNone, is_some, refl, sym, ap, ◌∙◌, subst, add-zero, lit<, arith}
+use Rattle.std.proofs.Common.{◌≡◌, ◌&&◌, ◌++◌, not, ◌+◌, ◌*◌, ◌<◌, ◌≤◌, ℕ, zero, suc, Bool, true, false, cond, List, [], ◌∷◌, length, get_or, map as map_list, count_by, Option, Some, None, IfSome, IfNone, is_some, refl, sym, ap, ◌∙◌, lit<, arith}
 use Rattle.std.specs.List.{range_with_len}
-use Rattle.std.specs.FinMap as map
-use Rattle.std.proofs.lemmas.Bool.{and_parts, and_from, and_left, cases_Bool, false_from_ne_true}
+use Rattle.std.proofs.lemmas.Bool.{and_parts, and_from, and_left, false_from_ne_true}
 use Rattle.std.proofs.lemmas.List.{get_or_read}
 use Rattle.std.proofs.lemmas.List.Sums.{sum_by-cons, sum_by-append}
 use Rattle.channel_fsm.specs.declared.ChanId.{ChanId}
 use Rattle.channel_fsm.specs.declared.ChanState.{ChanState}
 use Rattle.channel_fsm.specs.declared.ChanState.TheVariants.{Free, Held, Pending, On, Off}
 use Rattle.channel_fsm.specs.Masks.{has}
-use Rattle.cell_table.specs.Site.{SiteView, IsWithinLimits, TrafficLiesWithin, is_traffic, index_of}
-use Rattle.dense_tables.specs.Channels.{Channels, or_free, state_of, is_free, busy, IsFreeIn, NoneFree, is_free_traffic, channels_of, free_count, state_at, states_of, mask_at, is_free_at, AreMasks, IsMasked, IsNoLater}
+use Rattle.cell_table.specs.Site.{SiteView, TrafficLiesWithin, is_traffic, index_of}
+use Rattle.dense_tables.specs.Channels.{Channels, or_free, state_of, is_free, busy, IsFreeIn, NoneFree, is_free_traffic, channels_of, free_count, state_at, states_of, mask_at, AreMasks, IsMasked, IsNoLater}
 use Rattle.dense_tables.proofs.Stated.{there, get_state}
 
 no_state : {X : Type 0} (o : Option X) → not (is_some o) ≡ true → o ≡ None

@@ -1,13 +1,13 @@
 -- The calls of references, by their places in the rows.
-use Rattle.std.proofs.Common.{◌≡◌, ◌≢◌, inl, inr, ◌+◌, ◌*◌, ◌/◌, ◌%◌, ◌<◌, ◌≤◌, nat_lt, ℕ, true, false, cond, List, length, get_or, set, map as map_list, Option, Some, None, refl, sym, ap, ◌∙◌, arith}
+use Rattle.std.proofs.Common.{◌≡◌, ◌≢◌, inl, inr, ◌+◌, ◌*◌, ◌/◌, ◌%◌, ◌<◌, ◌≤◌, ℕ, true, cond, List, length, get_or, set, map as map_list, Option, Some, None, refl, sym, ap, ◌∙◌, arith}
 use Rattle.std.specs.List.{list_any}
 use Rattle.std.specs.Ordering.{eq_by_cmp}
 use Rattle.std.specs.FinMap as map
 use Rattle.std.proofs.lemmas.Bool.{lt-ltb, le-ltb, cases_lt}
-use Rattle.std.proofs.lemmas.List.{get_or-set_same, get_or-set_other, length-set, length-map, get_or_past, ext_get_or}
+use Rattle.std.proofs.lemmas.List.{get_or-set_same, get_or-set_other, length-map, get_or_past, ext_get_or}
 use Rattle.dense_tables.specs.declared.references.Reference.{Reference}
 use Rattle.dense_tables.specs.Keys.{reference_cmp}
-use Rattle.dense_tables.specs.Maps.{put, listed, Covers}
+use Rattle.dense_tables.specs.Maps.{put, Covers}
 use Rattle.dense_tables.specs.Calls.{below}
 use Rattle.dense_tables.specs.References.{place_of, reference_at, user_at, users_of}
 use Rattle.dense_tables.proofs.KeyFacts.{reference_total, reference_exact}

@@ -1,5 +1,5 @@
 -- The states of channels, by their places at the site.
-use Rattle.std.proofs.Common.{◌≡◌, ◌≢◌, inl, inr, ◌==◌, ◌&&◌, not, ◌+◌, ◌*◌, ◌/◌, ◌%◌, ◌<◌, ◌≤◌, nat_lt, ℕ, Bool, true, false, cond, List, length, get_or, set, Option, Some, None, is_some, option_and_then, refl, sym, ap, ◌∙◌, arith}
+use Rattle.std.proofs.Common.{◌≡◌, ◌≢◌, inl, inr, ◌&&◌, not, ◌+◌, ◌*◌, ◌/◌, ◌%◌, ◌<◌, ◌≤◌, nat_lt, ℕ, Bool, true, false, cond, List, length, get_or, set, Option, Some, None, is_some, option_and_then, refl, sym, ap, ◌∙◌, arith}
 use Rattle.std.specs.Ordering.{eq_by_cmp}
 use Rattle.std.specs.FinMap as map
 use Rattle.std.specs.FinMap.{same_map}
@@ -12,8 +12,8 @@ use Rattle.channel_fsm.specs.declared.ChanState.{ChanState}
 use Rattle.channel_fsm.specs.declared.ChanState.TheVariants.{Free, Held, Pending, On, Off}
 use Rattle.cell_table.specs.Site.{SiteView, IsWithinLimits, TrafficLiesWithin, is_traffic, is_channel, channels, index_of}
 use Rattle.dense_tables.specs.Keys.{chan_cmp}
-use Rattle.dense_tables.specs.Maps.{put, listed, Covers}
-use Rattle.dense_tables.specs.Channels.{busy, state_at, states_of, number_of, channel_at, is_within, place_at, ArePlaces, mask_at, is_free_at, AreMasks}
+use Rattle.dense_tables.specs.Maps.{put, Covers}
+use Rattle.dense_tables.specs.Channels.{busy, state_at, states_of, number_of, channel_at, is_within, ArePlaces, mask_at, is_free_at, AreMasks}
 use Rattle.dense_tables.proofs.KeyFacts.{chan_total, chan_exact, one_channel}
 use Rattle.dense_tables.proofs.MapFacts.{ties_itself, key_cases, put_again, len_put, one_if_some}
 use Rattle.dense_tables.proofs.Listed.{get_listed, listed_put, listed_empty, len_listed}

@@ -1,20 +1,32 @@
--- The records and the timers of calls, where one map has what is kept of each: what becomes of them where something else is
--- kept of a call, and that they tell it.
-use Rattle.std.proofs.Common.{◌≡◌, ◌≢◌, inl, inr, ◌&&◌, ◌+◌, ◌≤◌, ℕ, Bool, true, false, cond, List, Option, Some, None, is_some, option_map, option_and_then, refl, sym, ap, ◌∙◌, arith}
-use Rattle.std.specs.List.{list_any}
-use Rattle.std.specs.Ordering.{nat_cmp, eq_by_cmp}
+-- Tables in which one map has what is kept of each call: what becomes of the records and the timers that it makes where
+-- something else is kept of a call, that they tell it, and how many there are; and what such tables say of free channels.
+use Rattle.std.proofs.Common.{◌≡◌, ◌&&◌, ◌+◌, ◌≤◌, ℕ, Bool, false, length, count_by, Option, Some, None, IfSome, IfNone, is_some, option_map, option_and_then, refl, sym, ap, ◌∙◌, arith}
+use Rattle.std.specs.Ordering.{nat_cmp}
 use Rattle.std.specs.Cmp.{nat_cmp_total}
 use Rattle.std.specs.FinMap as map
-use Rattle.std.specs.FinMap.{FinMap, nat_cmp-IsAntisymmetric, same_map, get-empty, contains_key-keys}
+use Rattle.std.specs.FinMap.{FinMap, nat_cmp-IsAntisymmetric, same_map, get-empty, contains_key-keys, get-entries, get-from_entries, len-entries}
+use Rattle.std.proofs.lemmas.List.{length-map}
 use Rattle.std.proofs.lemmas.Option.{same_Some}
+use Rattle.channel_fsm.specs.declared.ChanId.{ChanId}
+use Rattle.channel_fsm.specs.declared.ChanState.{ChanState}
+use Rattle.channel_fsm.specs.declared.ChanState.TheVariants.{Free, Held, Pending, On, Off}
 use Rattle.attempt_journal.specs.declared.Timer.{Timer}
 use Rattle.radio_tables.specs.declared.kinds.CallRecord.{CallRecord}
+use Rattle.cell_table.specs.Site.{is_traffic}
 use Rattle.radio_tables.specs.Entries.{Kept}
+use Rattle.radio_tables.specs.Entries.{records_of as records_in}
+use Rattle.radio_tables.specs.Keys.{reference_cmp}
 use Rattle.radio_tables.specs.Maps.{put}
+use Rattle.radio_tables.specs.State.{State, state_of, with_kept, without_call}
+use Rattle.radio_tables.specs.Choice.{IsFreeIn, NoneFree, is_free, is_free_traffic, channels_of, free_count}
 use Rattle.radio_tables.specs.Dense.{record_at, timer_at, records_of, armed_of}
-use Rattle.dense_tables.specs.Maps.{listed, Covers}
+use Rattle.dense_tables.specs.Maps.{Covers}
+use Rattle.dense_tables.specs.Channels as dense
+use Rattle.dense_tables.proofs.MapFacts.{len_put, one_if_some}
 use Rattle.dense_tables.proofs.Listed.{get_listed, listed_put, listed_empty, len_listed}
 use Rattle.radio_tables.proofs.MapFacts.{get_put_same, get_put_other}
+use Rattle.radio_tables.proofs.MapFacts.{get_listed as get_entries}
+use Rattle.radio_tables.proofs.EntryFacts.{call_kept, get_records, records_len}
 
 -- what is told by what is kept is said of the map's keys alone
 covered : {X : Type 0} (f : Option Kept → Option X) → f None ≡ None → (m : FinMap nat_cmp Kept) → Covers nat_cmp (map.keys m) (λ c. f (map.get m c))
@@ -75,3 +87,76 @@ kept_told m n records timers =
     same_map nat_cmp_total nat_cmp-IsAntisymmetric m n (λ q. kept_both (map.get m q) (map.get n q)
     (sym (get_record m q) ∙ ap (λ l. map.get l q) records ∙ get_record n q)
     (sym (get_timer m q) ∙ ap (λ l. map.get l q) timers ∙ get_timer n q))
+
+-- how many timers are armed, where something else is kept of a call
+pub armed_count : (m : FinMap nat_cmp Kept) (c : ℕ) (w : Option Kept) → map.len (armed_of (put m c w)) + one_if_some (timer_at m c) ≡ map.len (armed_of m) + one_if_some (option_and_then (λ (k : Kept). k.timer) w)
+armed_count m c w =
+    (λ i. map.len (armed_put m c w i) + one_if_some (sym (get_timer m c) i))
+    ∙ len_put nat_cmp_total (armed_of m) c (option_and_then (λ (k : Kept). k.timer) w)
+
+-- no more timers than calls
+pub few_armed : (m : FinMap nat_cmp Kept) → map.len (armed_of m) ≤ map.len m
+few_armed m =
+    let most = len_listed nat_cmp_total (map.keys m) (timer_at m) in
+    omega (arith, most, length-map (map.entries m) (λ (e : ℕ × Kept). e.0), len-entries m)
+
+-- as many records as calls
+again : (m : FinMap nat_cmp Kept) → map.from_entries (map.entries m) ≡ m
+again m = same_map nat_cmp_total nat_cmp-IsAntisymmetric _ _ (λ q. get-from_entries nat_cmp_total (map.entries m) q ∙ sym (get-entries m q))
+
+records_again : (m : FinMap nat_cmp Kept) → records_of m ≡ records_in (map.entries m)
+records_again m = same_map nat_cmp_total nat_cmp-IsAntisymmetric _ _ (λ q.
+    get_record m q
+    ∙ sym (get_records (map.entries m) q ∙ ap call_kept (sym (get_entries nat_cmp_total (map.entries m) q) ∙ ap (λ n. map.get n q) (again m))))
+
+pub record_count : (m : FinMap nat_cmp Kept) → map.len (records_of m) ≡ map.len m
+record_count m = ap map.len (records_again m) ∙ records_len (map.entries m) ∙ ap map.len (again m)
+
+-- what the tables say
+abbrev pub state_in : dense.Channels → FinMap nat_cmp Kept → FinMap reference_cmp ℕ → State
+state_in ch m users = record { site = ch.site; channels = ch.states; calls = records_of m; references = users; timers = armed_of m }
+
+pub kept_put : (ch : dense.Channels) (m : FinMap nat_cmp Kept) (users : FinMap reference_cmp ℕ) (c : ℕ) (k : Kept) → state_in ch (map.insert m c k) users ≡ with_kept (state_in ch m users) c k
+kept_put ch m users c k =
+    let records = records_put m c (Some k) in
+    let armed = armed_put m c (Some k) in
+    λ i. record { site = ch.site; channels = ch.states; calls = records i; references = users; timers = armed i }
+
+pub kept_removed : (ch : dense.Channels) (m : FinMap nat_cmp Kept) (users : FinMap reference_cmp ℕ) (c : ℕ) → state_in ch (map.remove m c) users ≡ without_call (state_in ch m users) c
+kept_removed ch m users c =
+    let records = records_put m c None in
+    let armed = armed_put m c None in
+    λ i. record { site = ch.site; channels = ch.states; calls = records i; references = users; timers = armed i }
+
+-- and that it tells them
+pub told : (ch dh : dense.Channels) (m n : FinMap nat_cmp Kept) (users others : FinMap reference_cmp ℕ) → state_in ch m users ≡ state_in dh n others → (ch ≡ dh) × (m ≡ n) × (users ≡ others)
+told ch dh m n users others e =
+    ((λ i. record { site = (e i).site; states = (e i).channels }), kept_told m n (ap (λ b. b.calls) e) (ap (λ b. b.timers) e), ap (λ b. b.references) e)
+
+-- ---- free channels
+
+free_alike : (s : ChanState) → dense.is_free s ≡ is_free s
+free_alike Free = refl
+free_alike (Held c) = refl
+free_alike (Pending c) = refl
+free_alike (On c) = refl
+free_alike Off = refl
+
+same_channels : (cell : ℕ) → dense.channels_of cell ≡ channels_of cell
+unfolding dense.channels_of channels_of
+same_channels cell = refl
+
+module _ (ch : dense.Channels) (m : FinMap nat_cmp Kept) (users : FinMap reference_cmp ℕ) (cell : ℕ) where
+  pub found_free : (o : Option ChanId) → IfSome o (λ x. dense.IsFreeIn ch cell x) → IfSome o (λ x. IsFreeIn (state_in ch m users) cell x)
+  found_free None free = tt
+  found_free (Some x) free = record { in_cell = free.in_cell; is_traffic = free.traffic; is_free = free.is_free }
+
+  pub none_free : (o : Option ChanId) → IfNone o (dense.NoneFree ch cell) → IfNone o (NoneFree (state_in ch m users) cell)
+  none_free None none = λ x free. none x (record { in_cell = free.in_cell; traffic = free.is_traffic; is_free = free.is_free })
+  none_free (Some x) none = tt
+
+  pub same_count : dense.free_count ch cell ≡ free_count (state_in ch m users) cell
+  same_count =
+      let b = state_in ch m users in
+      let alike : (x : ChanId) → dense.is_free_traffic ch x ≡ is_free_traffic b x = λ x. ap (λ f. is_traffic ch.site x && f) (free_alike (state_of b x)) in
+      (λ i. count_by (λ x. alike x i) (dense.channels_of cell)) ∙ ap (count_by (is_free_traffic b)) (same_channels cell)

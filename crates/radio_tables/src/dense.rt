@@ -1,6 +1,5 @@
 //! Tables in which everything is found by its place.
 ghost use Rattle.std.specs.Prelude.{◌≡◌, ◌↔◌, IfOk, IsTrue, is_some, cond};
-ghost use Rattle.std.specs.FinMap as map;
 ghost use Rattle.radio_tables.specs.State.{empty_book};
 ghost use Rattle.radio_tables.specs.Dense.{timer_at};
 
@@ -27,11 +26,8 @@ pub struct DenseTables<A: Allocator = Global> {
 }
 
 impl<A: Allocator> Model for DenseTables<A> {
-    ghost use Rattle.std.specs.Prelude.{◌≡◌, length};
-    ghost use Rattle.std.specs.FinMap as map;
-    ghost use Rattle.cell_table.specs.Site.{TrafficLiesWithin};
     ghost use Rattle.radio_tables.specs.State.{State, state_code};
-    ghost use Rattle.radio_tables.specs.Dense.{records_of, armed_of};
+    ghost use Rattle.radio_tables.specs.Dense.{IsTable, records_of, armed_of};
 
     ghost Value = { State };
 
@@ -45,8 +41,7 @@ impl<A: Allocator> Model for DenseTables<A> {
       timers = armed_of tables.calls;
     } };
 
-    ghost invariant = { λ tables. (tables.references.cells ≡ length tables.channels.site.cells) ×
-        TrafficLiesWithin tables.channels.site × (tables.armed ≡ map.len (armed_of tables.calls)) };
+    ghost invariant = { λ tables. IsTable tables.channels.site tables.calls tables.references.cells tables.armed };
 }
 
 impl Entry for CallEntry {
@@ -139,6 +134,8 @@ impl<A: Allocator + Copy> Tables for DenseTables<A> {
     fn add_call(&mut self, call: u16, entry: CallEntry) -> Result<(), AllocError> {
         let armed = count_of(entry.is_armed());
         self.calls.add(call, entry)?;
+        // Called for its clause alone: no more timers are armed than there are calls.
+        let _calls = self.calls.len();
         self.armed += armed;
         Ok(())
     }
@@ -147,6 +144,8 @@ impl<A: Allocator + Copy> Tables for DenseTables<A> {
         let before = count_armed(&self.calls, call);
         let armed = count_of(entry.is_armed());
         self.calls.set(call, entry);
+        // Called for its clause alone, as above.
+        let _calls = self.calls.len();
         self.armed = self.armed - before + armed;
     }
 

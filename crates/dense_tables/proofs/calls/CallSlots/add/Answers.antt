@@ -1,7 +1,6 @@
-use Rattle.std.proofs.Common.{◌≡◌, ℕ, ◌≤◌, cond, sym, ap, ◌∙◌, refl, is_some, Some, None, get_or, length, set, arith}
+use Rattle.std.proofs.Common.{◌≡◌, ℕ, cond, sym, ap, ◌∙◌, refl, is_some, Some, None, get_or, arith}
 use Rattle.std.specs.FinMap as map
 use Rattle.std.proofs.lemmas.List.{length-set}
-use Rattle.dense_tables.specs.Calls.{entries_of}
 use Rattle.dense_tables.proofs.Kept.{entry_added, count_put, few_entries}
 use Rattle.dense_tables.proofs.calls.CallSlots.add.Goals as goal
 

@@ -1,7 +1,6 @@
-use Rattle.std.proofs.Common.{◌≡◌, ℕ, ◌+◌, true, cond, sym, ap, ◌∙◌, is_some, None, arith}
+use Rattle.std.proofs.Common.{ℕ, cond, sym, ap, ◌∙◌, is_some, None, arith}
 use Rattle.std.specs.FinMap as map
 use Rattle.std.proofs.lemmas.Option.{slice_get_read}
-use Rattle.dense_tables.specs.Calls.{entries_of}
 use Rattle.dense_tables.proofs.Kept.{keeps_own, keeps_none, entry_is, get_entry, entry_changed, entry_absent, count_put}
 use Rattle.dense_tables.proofs.calls.CallSlots.remove.Goals as goal
 

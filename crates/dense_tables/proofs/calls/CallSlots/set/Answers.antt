@@ -1,10 +1,8 @@
-use Rattle.std.proofs.Common.{◌≡◌, ℕ, true, cond, sym, ap, ◌∙◌, refl, is_some, Some, arith}
+use Rattle.std.proofs.Common.{ℕ, cond, sym, ap, ◌∙◌, refl, is_some, Some, arith}
 use Rattle.std.specs.FinMap as map
-use Rattle.std.specs.Ordering.{nat_cmp}
 use Rattle.std.proofs.lemmas.Option.{slice_get_read}
 use Rattle.dense_tables.specs.Calls.{entries_of}
 use Rattle.dense_tables.specs.Maps.{put}
-use Rattle.dense_tables.proofs.MapFacts.{one_if_some}
 use Rattle.dense_tables.proofs.Kept.{kept_there, keeps_some, keeps_own, entry_changed, own_keeps, count_put}
 use Rattle.dense_tables.proofs.calls.CallSlots.set.Goals as goal
 

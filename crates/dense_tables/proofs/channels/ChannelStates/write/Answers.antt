@@ -1,5 +1,4 @@
-use Rattle.std.proofs.Common.{◌≡◌, ◌≢◌, ◌+◌, ◌*◌, ◌<◌, ◌≤◌, ℕ, not, cond, is_some, Option, Some, None, get_or, set, length, sym, ap, ◌∙◌, arith}
-use Rattle.std.specs.FinMap as map
+use Rattle.std.proofs.Common.{◌<◌, not, cond, is_some, set, length, sym, ap, ◌∙◌, arith}
 use Rattle.std.proofs.lemmas.List.{length-set, get_or_read}
 use Rattle.channel_fsm.specs.declared.ChanState.TheVariants.{Free}
 use Rattle.cell_table.specs.Site.{is_traffic}

@@ -1,4 +1,4 @@
-use Rattle.std.proofs.Common.{◌≡◌, ◌+◌, ◌*◌, sym, ap, ◌∙◌, arith}
+use Rattle.std.proofs.Common.{◌+◌, ◌*◌, sym, ◌∙◌, arith}
 use Rattle.dense_tables.specs.Channels.{mask_at}
 use Rattle.dense_tables.proofs.Masked.{by_trx, trx_count}
 use Rattle.dense_tables.proofs.channels.masks.count_in.Goals as goal

@@ -1,10 +1,6 @@
 use Rattle.std.proofs.Common.{sym, ap, ◌∙◌}
 use Rattle.std.specs.FinMap as map
 use Rattle.dense_tables.proofs.Rowed.{get_user}
-use Rattle.dense_tables.proofs.Kept.{get_entry}
-use Rattle.dense_tables.proofs.Stated.{get_state}
-use Rattle.dense_tables.proofs.Masked.{masked_free}
-use Rattle.dense_tables.proofs.Copied.{same_items}
 use Rattle.dense_tables.proofs.references.ReferenceRows.get.Goals as goal
 
 pub returns : goal.returns
