@@ -11,7 +11,8 @@ use Rattle.channel_fsm.specs.declared.ChanState.{ChanState}
 use Rattle.channel_fsm.specs.declared.ChanState.TheVariants.{Free, Held, Pending, On, Off}
 use Rattle.cell_table.specs.Site.{TrafficLiesWithin, is_traffic}
 use Rattle.radio_tables.specs.State.{State, state_of}
-use Rattle.radio_tables.specs.Choice.{IsFreeIn, NoneFree, channels_of, is_free, is_free_traffic, free_count}
+use Rattle.dense_tables.specs.Channels.{channels_of}
+use Rattle.radio_tables.specs.Choice.{IsFreeIn, NoneFree, is_free, is_free_traffic, free_count}
 use Rattle.std.proofs.lemmas.Option.{same_Some, slice_get_past}
 use Rattle.std.specs.List.{AllByRecursion}
 use Rattle.std.proofs.lemmas.List.Elements.{All-get_or, All-from_recursion}

@@ -1,11 +1,10 @@
 -- Which channels of a cell can be chosen: those that are free (TS 48.058 clause 4).
-use Rattle.std.specs.Prelude.{◌≡◌, ℕ, Bool, true, ◌&&◌, List, count_by, flat_map, map as map_list}
-use Rattle.std.specs.List.{range_with_len}
+use Rattle.std.specs.Prelude.{◌≡◌, ℕ, Bool, true, ◌&&◌, count_by}
 use Rattle.channel_fsm.specs.declared.ChanId.{ChanId}
 use Rattle.channel_fsm.specs.declared.ChanState.{ChanState}
 use Rattle.channel_fsm.specs.declared.ChanState.TheVariants.{Free}
-use Rattle.cell_table.specs.Limits.{most_trx, timeslots_of_trx}
 use Rattle.cell_table.specs.Site.{is_traffic}
+pub use Rattle.dense_tables.specs.Channels.{channels_of}
 use Rattle.radio_tables.specs.States.{channel_row}
 use Rattle.radio_tables.specs.State.{State, state_of}
 
@@ -23,11 +22,6 @@ is_free s = (channel_row s).free
 
 abbrev pub is_free_traffic : State → ChanId → Bool
 is_free_traffic b x = is_traffic b.site x && is_free (state_of b x)
-
--- every channel that a cell can have, by TRX, then timeslot
-unfoldable pub channels_of : ℕ → List ChanId
-channels_of cell =
-    flat_map (λ trx. map_list (λ tn. record { cell = cell; trx = trx; tn = tn }) (range_with_len 0 timeslots_of_trx)) (range_with_len 0 most_trx)
 
 -- how many channels can be chosen in a cell
 abbrev pub free_count : State → ℕ → ℕ

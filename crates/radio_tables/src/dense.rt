@@ -1,5 +1,5 @@
 //! Tables in which everything is found by its place.
-ghost use Rattle.std.specs.Prelude.{◌≡◌, ◌↔◌, IfOk, IsTrue, is_some, cond};
+ghost use Rattle.std.specs.Prelude.{◌≡◌, ◌↔◌, IfOk, IsTrue, is_some, cond, false};
 ghost use Rattle.radio_tables.specs.State.{empty_book};
 ghost use Rattle.radio_tables.specs.Dense.{timer_at};
 
