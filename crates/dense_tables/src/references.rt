@@ -67,6 +67,13 @@ impl<A: Allocator + Copy> ReferenceRows<A> {
 }
 
 impl<A: Allocator> ReferenceRows<A> {
+    /// How many cells have a row.
+    pub fn cells(&self) -> u8
+        ensures value { result ≡ self.now.cells }
+    {
+        self.cells
+    }
+
     /// How many references are in use.
     pub fn len(&self) -> usize
         ensures count { result ≡ map.len self.now.users }

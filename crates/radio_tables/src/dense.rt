@@ -93,14 +93,14 @@ impl<A: Allocator + Copy> CopyTables for DenseTables<A> {
     }
 }
 
-impl<A: Allocator + Copy> Tables for DenseTables<A> {
+impl<A: Allocator> Tables for DenseTables<A> {
     ghost state = { λ t. t };
 
     ghost may_refuse_in_place = { false };
 
     fn cells(&self) -> u8 {
         let _ = &self.armed;
-        self.channels.site().cells()
+        self.references.cells()
     }
 
     fn is_traffic(&self, x: ChanId) -> bool {

@@ -4,6 +4,6 @@ use Rattle.radio_tables.proofs.dense.DenseTablesTables.cells.Goals as goal
 
 pub returns : goal.returns
 returns g c = record {
-  value = c.cells.ensures.value ∙ ap (λ s. length s.cells) (c.deref.ensures ∙ c.site.ensures.site) ∙ ap (λ b. length b.site.cells) c.self.view_is;
+  value = c.cells.ensures.value ∙ c.self.invariant.rows ∙ ap (λ b. length b.site.cells) c.self.view_is;
   traffic = subst TrafficLiesWithin (ap (λ b. b.site) c.self.view_is) c.self.invariant.lies;
 }
