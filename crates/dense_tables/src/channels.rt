@@ -1,5 +1,5 @@
 //! The states of a site's channels, each at its channel's place.
-ghost use Rattle.std.specs.Prelude.{◌≡◌, ◌≢◌, ◌↔◌, ◌<◌, ℕ, IsTrue, Some, None, IfOk, IfSome, IfNone, is_some, length, true, cond, slice_index_or};
+ghost use Rattle.std.specs.Prelude.{◌≡◌, ◌≢◌, ◌↔◌, ◌<◌, ℕ, IsTrue, Some, None, IfOk, IfSome, IfNone, IsSome, is_some, length, true, cond, slice_index_or};
 ghost use Rattle.std.specs.FinMap as map;
 ghost use Rattle.channel_fsm.specs.declared.ChanId.{ChanId};
 ghost use Rattle.channel_fsm.specs.declared.ChanState.TheVariants as chan;
@@ -119,6 +119,17 @@ impl<A: Allocator> ChannelStates<A> {
         requires busy { state ≢ chan.Free }
         ensures set { self.new ≡ with_state self.old x (Some state) }
     {
+        self.write(x, state);
+    }
+
+    /// A channel that isn't free has another such state from now on.
+    pub fn replace(&mut self, x: ChanId, state: ChanState)
+        requires used { IsSome (map.get self.old.states x) }
+        requires busy { state ≢ chan.Free }
+        ensures replaced { self.new ≡ with_state self.old x (Some state) }
+    {
+        // Opens the table: a channel that isn't free is a traffic channel.
+        let _ = &self.states;
         self.write(x, state);
     }
 

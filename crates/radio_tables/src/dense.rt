@@ -117,7 +117,7 @@ impl<A: Allocator> Tables for DenseTables<A> {
     }
 
     fn move_channel(&mut self, x: ChanId, busy: ChanState) {
-        self.channels.set(x, busy);
+        self.channels.replace(x, busy);
     }
 
     fn free_channel(&mut self, x: ChanId) {

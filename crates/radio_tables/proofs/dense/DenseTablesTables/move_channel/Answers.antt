@@ -5,4 +5,4 @@ use Rattle.radio_tables.proofs.dense.DenseTablesTables.move_channel.Goals as goa
 pub invariant_of-self : goal.invariant_of-self
 invariant_of-self g c =
     let t = c.self.inside in
-    same_site t.channels.site c.set.new.self.site t.calls t.references.cells t.armed c.self.invariant (ap (λ ch. ch.site) c.set.ensures.set)
+    same_site t.channels.site c.replace.new.self.site t.calls t.references.cells t.armed c.self.invariant (ap (λ ch. ch.site) c.replace.ensures.replaced)
