@@ -18,15 +18,15 @@ returns-then-self-other g c =
     record {
       same = (
         λ same.
-        sym c.self.view_is
-        ∙ ap (λ m. record { site = one.site.value; states = m })
-        (states_told one.site.value c.self.invariant.lies one.states.items other.states.items (λ k less.
-        ap (λ t. map.get t.states (channel_at k)) c.self.view_is ∙ c.same_states.ensures.0 same k less
-        ∙ sym (ap (λ t. map.get t.states (channel_at k)) c.other.view_is)
-        ∙ ap (λ s. map.get (states_of s other.states.items) (channel_at k)) (sym site)))
-        ∙ ap (λ s. record { site = s; states = states_of s other.states.items }) site
-        ∙ c.other.view_is,
-        λ same. c.same_states.ensures.1 (λ k less. ap (λ t. map.get t.states (channel_at k)) same)
+            sym c.self.view_is
+            ∙ ap (λ m. record { site = one.site.value; states = m })
+            (states_told one.site.value c.self.invariant.lies one.states.items other.states.items (λ k less.
+            ap (λ t. map.get t.states (channel_at k)) c.self.view_is ∙ c.same_states.ensures.0 same k less
+            ∙ sym (ap (λ t. map.get t.states (channel_at k)) c.other.view_is)
+            ∙ ap (λ s. map.get (states_of s other.states.items) (channel_at k)) (sym site)))
+            ∙ ap (λ s. record { site = s; states = states_of s other.states.items }) site
+            ∙ c.other.view_is,
+        λ same. c.same_states.ensures.1 (λ k less. ap (λ t. map.get t.states (channel_at k)) same),
       );
     }
 
@@ -38,10 +38,10 @@ returns-else-self-other g c =
       same = (
         λ yes. absurd (false≢true (sym c.if-self-other.false ∙ yes)),
         λ same.
-        let equal = c.self.view_is ∙ same ∙ sym c.other.view_is in
-        elim c.if-eq.branch [
-          | then-eq w ↦ w.value-is ∙ eq-eqb one.used other.used (c.self.invariant.counted ∙ ap (λ t. map.len t.states) equal ∙ sym c.other.invariant.counted)
-          | else-eq w ↦ w.value-is ∙ c.eq.ensures ∙ (same_site-Decides one.site.value other.site.value).1 (ap (λ t. t.site) equal)
-        ]
+            let equal = c.self.view_is ∙ same ∙ sym c.other.view_is in
+            elim c.if-eq.branch [
+              | then-eq w ↦ w.value-is ∙ eq-eqb one.used other.used (c.self.invariant.counted ∙ ap (λ t. map.len t.states) equal ∙ sym c.other.invariant.counted)
+              | else-eq w ↦ w.value-is ∙ c.eq.ensures ∙ (same_site-Decides one.site.value other.site.value).1 (ap (λ t. t.site) equal)
+            ],
       );
     }

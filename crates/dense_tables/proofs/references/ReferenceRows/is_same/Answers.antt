@@ -14,8 +14,8 @@ returns-then-self-other g c =
     record {
       same = (
         λ same.
-        let items : one ≡ other = sym left ∙ c.same_users.ensures.0 same ∙ right in
-        sym c.self.view_is ∙ (λ i. record { cells = cells i; users = users_of (items i) }) ∙ c.other.view_is,
-        λ same. c.same_users.ensures.1 (left ∙ users_told one other long (ap (λ rows. rows.users) (c.self.view_is ∙ same ∙ sym c.other.view_is)) ∙ sym right)
+            let items : one ≡ other = sym left ∙ c.same_users.ensures.0 same ∙ right in
+            sym c.self.view_is ∙ (λ i. record { cells = cells i; users = users_of (items i) }) ∙ c.other.view_is,
+        λ same. c.same_users.ensures.1 (left ∙ users_told one other long (ap (λ rows. rows.users) (c.self.view_is ∙ same ∙ sym c.other.view_is)) ∙ sym right),
       );
     }
