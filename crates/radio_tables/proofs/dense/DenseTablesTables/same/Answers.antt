@@ -16,13 +16,13 @@ returns-then-is_same-2 g c =
     record {
       same = (
         λ yes.
-        let parts = two.0 c.if-is_same-2.true in
-        let references = c.is_same-then-is_same-2.ensures.same.0 yes in
-        sym c.self.view_is ∙ (λ i. state_in (parts.0 i) (parts.1 i) ((references i).users)) ∙ c.other.view_is,
+            let parts = two.0 c.if-is_same-2.true in
+            let references = c.is_same-then-is_same-2.ensures.same.0 yes in
+            sym c.self.view_is ∙ (λ i. state_in (parts.0 i) (parts.1 i) ((references i).users)) ∙ c.other.view_is,
         λ e.
-        let parts = told one.channels other.channels one.calls other.calls one.references.users other.references.users (c.self.view_is ∙ e ∙ sym c.other.view_is) in
-        let cells : one.references.cells ≡ other.references.cells = c.self.invariant.rows ∙ ap (λ t. length t.site.cells) parts.0 ∙ sym c.other.invariant.rows in
-        c.is_same-then-is_same-2.ensures.same.1 (λ i. record { cells = cells i; users = parts.2 i })
+            let parts = told one.channels other.channels one.calls other.calls one.references.users other.references.users (c.self.view_is ∙ e ∙ sym c.other.view_is) in
+            let cells : one.references.cells ≡ other.references.cells = c.self.invariant.rows ∙ ap (λ t. length t.site.cells) parts.0 ∙ sym c.other.invariant.rows in
+            c.is_same-then-is_same-2.ensures.same.1 (λ i. record { cells = cells i; users = parts.2 i }),
       );
     }
 
@@ -38,7 +38,7 @@ returns-else-is_same-2 g c =
       same = (
         λ yes. absurd (false≢true (sym c.if-is_same-2.false ∙ yes)),
         λ e.
-        let parts = told one.channels other.channels one.calls other.calls one.references.users other.references.users (c.self.view_is ∙ e ∙ sym c.other.view_is) in
-        two (parts.0, parts.1)
+            let parts = told one.channels other.channels one.calls other.calls one.references.users other.references.users (c.self.view_is ∙ e ∙ sym c.other.view_is) in
+            two (parts.0, parts.1),
       );
     }
