@@ -2,7 +2,7 @@
 use Rattle.std.proofs.Common.{ℕ, Option}
 use Rattle.channel_fsm.specs.declared.ChanState.{ChanState}
 use Rattle.radio_book.specs.declared.event.Event.{Event}
-use Rattle.radio_book.specs.declared.event.CallRecord.{CallRecord}
+use Rattle.radio_tables.specs.declared.kinds.CallRecord.{CallRecord}
 use Rattle.ho_procedure.specs.Plan.{Plan, AsksDesk}
 use Rattle.ho_procedure.specs.Procedure.{once_done, once_recorded, once_new, owned, looked}
 use Rattle.ho_procedure.proofs.Going.{stays}

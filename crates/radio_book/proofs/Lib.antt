@@ -1,10 +1,3 @@
-pub mod KeyFacts
-pub mod MapFacts
-pub mod TableFacts
-pub mod CopyFacts
-pub mod JournalFacts
-pub mod EntryFacts
-pub mod SameFacts
 pub mod Rows
 pub mod Frame
 pub mod SoundParts
@@ -17,7 +10,6 @@ pub mod Runs
 pub mod Totals
 pub mod OwedRows
 pub mod RunBack
-pub mod Chosen
 pub mod Numbers
 pub mod Changes
 pub mod Agreement
