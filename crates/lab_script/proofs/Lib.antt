@@ -1,3 +1,6 @@
+-- facts of the words and numbers of a line
 pub mod WordLemmas
+-- facts of the lines of a script
 pub mod ScriptLemmas
+-- facts of the controllers that the lines of a script are for
 pub mod SideLemmas
