@@ -1,1 +1,2 @@
+-- what links passed on, with one message more
 pub mod Passing
