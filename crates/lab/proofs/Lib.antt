@@ -1,1 +1,2 @@
+-- facts of the lines of a trace
 pub mod EntryLemmas
