@@ -1,1 +1,2 @@
+-- what links pass on, with one message more
 pub mod Passing
