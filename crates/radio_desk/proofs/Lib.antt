@@ -1,4 +1,7 @@
+-- a history with one more entry at its end
 pub mod Leading
 mod AuditFacts
+-- room for what is owed, and an event whose entry has it
 pub mod Rooms
+-- a channel that is taken at a desk
 pub mod Taking
