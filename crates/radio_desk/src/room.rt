@@ -90,6 +90,8 @@ fn answer_owed<A: Allocator + Copy>(
     ensures room { OnOk result (vec_len history.new + (owed book.new + 1)
         ≤ vec_capacity history.new) }
     ensures accepted { IsTrue (is_accepted (reply_to book.old event)) → IsOk result }
+    ensures takes_none { IsTrue (is_accepted (reply_to book.old event)) →
+        vec_capacity history.new ≡ vec_capacity history.old }
     ensures unchanged { OnErr result (book.new ≡ book.old) }
     ensures memory { OnErr result (vec_capacity history.old
         < vec_len history.old + (calls_and_channels book.old + 3)) }
@@ -121,6 +123,9 @@ pub(crate) fn answer<A: Allocator + Copy>(
         ≤ vec_capacity history.new) }
     ensures accepted { IsTrue (is_owed event) →
         IsTrue (is_accepted (reply_to book.old event)) → IsOk result }
+    ensures takes_none { IsTrue (is_owed event) →
+        IsTrue (is_accepted (reply_to book.old event)) →
+        vec_capacity history.new ≡ vec_capacity history.old }
     ensures unchanged { OnErr result (book.new ≡ book.old) }
     ensures memory { OnErr result ((vec_capacity history.old
         < vec_len history.old + (calls_and_channels book.old + 3))
