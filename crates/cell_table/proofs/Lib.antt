@@ -10,6 +10,8 @@ pub mod SiteFacts
 pub mod Blank
 -- what a document says is a site, or the first check that it fails
 pub mod Refusals
+-- two of a list are alike, by count, just where one is like a later one
+pub mod Twice
 -- of nine timeslots two are the same
 pub mod Nine
 -- the first place at which a test passes, element by element

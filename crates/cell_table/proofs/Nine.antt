@@ -6,8 +6,9 @@ use Rattle.std.proofs.lemmas.List.{take_all, length-take-le}
 use Rattle.std.proofs.lemmas.List.Elements.{All-take, All-head, All-tail}
 use Rattle.std.proofs.lemmas.Map.Steps.{length-le_from_distinct_below}
 use Rattle.std.specs.List.{list_any, IsDistinct, AllByRecursion}
-use Rattle.cell_table.specs.Rules.{has_twice}
+use Rattle.cell_table.specs.Searches.{has_pair}
 use Rattle.cell_table.specs.Laws.{NineNameOneTwice}
+use Rattle.cell_table.proofs.Twice.{number_twice}
 
 none_same : (m : ℕ) (xs : List ℕ) → list_any (λ n. n == m) xs ≡ false → AllByRecursion (λ y. (m == y) ≡ false) xs
 none_same m [] none = tt
@@ -17,7 +18,7 @@ none_same m (x ∷ xs) none =
       | inr other ↦ (grind (arith, nat_tests), none_same m xs (rw other at none))
     ]
 
-distinct : (xs : List ℕ) → has_twice (λ m n. n == m) xs ≡ false → IsDistinct ◌==◌ xs
+distinct : (xs : List ℕ) → has_pair (λ m n. n == m) xs ≡ false → IsDistinct ◌==◌ xs
 unfolding IsDistinct
 distinct [] once = tt
 distinct (x ∷ xs) once =
@@ -37,7 +38,7 @@ member_below (x ∷ xs) all q member =
 
 pub nine_name_one_twice : NineNameOneTwice
 nine_name_one_twice slots all once =
-    let few = length-le_from_distinct_below (take 9 slots) 8 (distinct (take 9 slots) once) (member_below (take 9 slots) (All-take (λ n. n < 8) 9 slots all)) in
+    let few = length-le_from_distinct_below (take 9 slots) 8 (distinct (take 9 slots) (sym (number_twice (take 9 slots)) ∙ once)) (member_below (take 9 slots) (All-take (λ n. n < 8) 9 slots all)) in
     take_all 9 slots (short (length slots) (λ long. length-take-le 9 slots long) few)
   where
     short : (n : ℕ) → (9 ≤ n → length (take 9 slots) ≡ 9) → length (take 9 slots) ≤ 8 → n ≤ 9
