@@ -14,6 +14,8 @@ pub mod Refusals
 pub mod Twice
 -- of nine timeslots two are the same
 pub mod Nine
+-- what is kept of a site file says what the file says, the first check that fails too
+pub mod Kept
 -- the first place at which a test passes, element by element
 pub mod Positions
 -- at most one cell passes a test, where no two are alike and the test makes alike what passes it
