@@ -1,0 +1,9 @@
+pub mod KeyFacts
+pub mod MapFacts
+pub mod Listed
+pub mod Kept
+pub mod Rowed
+pub mod Found
+pub mod Stated
+pub mod Masked
+pub mod Copied
