@@ -9,12 +9,12 @@ use Rattle.channel_fsm.specs.declared.ChanState.TheVariants.{Free, Held, Pending
 use Rattle.attempt_journal.specs.declared.Timer.{Timer}
 use Rattle.attempt_journal.specs.declared.Timer.TheVariants.{T3103, T7, T8}
 use Rattle.radio_book.specs.declared.event.Kind.TheVariants as kind
-use Rattle.radio_book.specs.declared.event.AttemptKind.{AttemptKind}
-use Rattle.radio_book.specs.declared.event.AttemptKind.TheVariants.{Internal, Incoming, Outgoing}
-use Rattle.radio_book.specs.declared.event.Stage.{Stage}
+use Rattle.radio_tables.specs.declared.kinds.AttemptKind.{AttemptKind}
+use Rattle.radio_tables.specs.declared.kinds.AttemptKind.TheVariants.{Internal, Incoming, Outgoing}
+use Rattle.radio_tables.specs.declared.kinds.Stage.{Stage}
 use Rattle.radio_book.specs.declared.event.Why.TheVariants.{Asked, Expired}
-use Rattle.radio_book.specs.declared.event.Attempt.{Attempt}
-use Rattle.radio_book.specs.declared.event.CallRecord.{CallRecord}
+use Rattle.radio_tables.specs.declared.kinds.Attempt.{Attempt}
+use Rattle.radio_tables.specs.declared.kinds.CallRecord.{CallRecord}
 use Rattle.radio_book.specs.declared.event.Event.{Event}
 use Rattle.radio_book.specs.declared.event.Event.TheVariants as event
 use Rattle.radio_book.specs.declared.event.Refusal.{Refusal}
@@ -23,7 +23,7 @@ use Rattle.radio_book.specs.declared.event.Reply.{Reply}
 use Rattle.radio_book.specs.declared.event.Reply.TheVariants.{Done, Record, Owned, Refused}
 use Rattle.radio_book.specs.Sound.{target_in}
 use Rattle.radio_book.specs.Table.{is_target, is_armed}
-use Rattle.radio_book.specs.Stages.{stage_row}
+use Rattle.radio_tables.specs.Stages.{stage_row}
 use Rattle.cell_table.specs.declared.tables.CellIdentity.{CellIdentity}
 use Rattle.cell_table.specs.Site.{SiteView, is_traffic}
 use Rattle.rr_elements.specs.MeasResults.{Results}

@@ -1,18 +1,3 @@
--- the orders of the keys are total, and keys that tie are one
-pub mod KeyFacts
--- what a change of one entry leaves of a finite map, and changes one after another
-pub mod MapFacts
--- what a tree map's entries say of the finite map that they make
-pub mod TableFacts
--- a tree map whose keys and values are clones has the same entries
-pub mod CopyFacts
--- what is left of a journal whose last inverse was taken out
-pub mod JournalFacts
--- the maps that the entries of calls make: records, and armed timers
-pub mod EntryFacts
--- what `==` of the types of a book says
-pub mod SameFacts
--- the rows of the table, each from one of its guards on
 pub mod Rows
 -- what has to be known of a change of one call, channel and reference, so that the book stays sound
 pub mod Frame
@@ -36,9 +21,6 @@ pub mod Totals
 pub mod OwedRows
 -- what running a call's inverses leads to
 pub mod RunBack
--- which channels a choice finds, and how many it counts
-pub mod Chosen
--- in a sound book one of the first 33 handover references of a cell is free
 pub mod Numbers
 -- changes of different entries commute
 pub mod Changes

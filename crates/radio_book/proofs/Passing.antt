@@ -6,10 +6,10 @@ use Rattle.std.specs.FinMap as map
 use Rattle.std.proofs.lemmas.Bool.{and_parts, and_from, not-true}
 use Rattle.channel_fsm.specs.declared.ChanId.{ChanId}
 use Rattle.channel_fsm.specs.declared.ChanState.TheVariants.{Free, Off}
-use Rattle.radio_book.specs.declared.event.Attempt.{Attempt}
-use Rattle.radio_book.specs.declared.event.AttemptKind.{AttemptKind}
-use Rattle.radio_book.specs.declared.event.AttemptKind.TheVariants.{Internal, Incoming, Outgoing}
-use Rattle.radio_book.specs.declared.event.CallRecord.{CallRecord}
+use Rattle.radio_tables.specs.declared.kinds.Attempt.{Attempt}
+use Rattle.radio_tables.specs.declared.kinds.AttemptKind.{AttemptKind}
+use Rattle.radio_tables.specs.declared.kinds.AttemptKind.TheVariants.{Internal, Incoming, Outgoing}
+use Rattle.radio_tables.specs.declared.kinds.CallRecord.{CallRecord}
 use Rattle.radio_book.specs.declared.event.Event.{Event}
 use Rattle.radio_book.specs.declared.event.Event.TheVariants as event
 use Rattle.radio_book.specs.declared.event.Kind.{Kind}
@@ -29,8 +29,8 @@ use Rattle.radio_book.specs.Others.{without_channel, without_attempt, without_at
 use Rattle.radio_book.specs.Undone.{Ends, is_call, is_channel, is_by_call, is_on_target, is_off, is_target_off, reserves, releases, comes_from}
 use Rattle.radio_book.specs.Found.{opened_by, ended_by, ends}
 use Rattle.radio_book.specs.Following.{stays, stays_in, holds, refused_in, number_with, ended_with, phase_after, after, leaves_off}
-use Rattle.radio_book.proofs.KeyFacts.{chan_total, chan_exact}
-use Rattle.radio_book.proofs.MapFacts.{key_cases, call_cases, record_same, state_same, state_other}
+use Rattle.radio_tables.proofs.KeyFacts.{chan_total, chan_exact}
+use Rattle.radio_tables.proofs.MapFacts.{key_cases, call_cases, record_same, state_same, state_other}
 use Rattle.radio_book.proofs.Rows.{take_at, require_at}
 use Rattle.radio_book.proofs.Changes.{record_kept, state_kept, option_missed}
 use Rattle.radio_book.proofs.Frame.{same_some}
