@@ -13,7 +13,7 @@ use thiserror::Error;
 
 /// A list of events with an attempt that was undone, and without it.
 #[derive(Drop)]
-pub struct Rewound<A: Allocator + Copy = Global> {
+pub struct Rewound<A: Allocator = Global> {
     /// The book after all events.
     pub whole: Book<A>,
     /// The replies to all events.
