@@ -5,9 +5,7 @@ use super::{
     equals_at, holds, holds_at, put_to_book, step_all,
 };
 use radio_book::book::{Book, Usage};
-use radio_book::event::Event::{
-    Clear, Confirm, Detect, Left, Open, Order, Refuse, Require, Take,
-};
+use radio_book::event::Event::{Clear, Confirm, Detect, Left, Open, Order, Refuse, Require, Take};
 use radio_book::event::Kind::Incoming;
 use radio_book::event::Reply::Done;
 use radio_book::event::{Event, Reply};
