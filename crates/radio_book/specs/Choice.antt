@@ -9,7 +9,7 @@ use Rattle.radio_book.specs.declared.event.Event.{Event}
 use Rattle.radio_book.specs.declared.event.Event.TheVariants as event
 use Rattle.radio_tables.specs.Stages.{stage_allows}
 use Rattle.radio_book.specs.State.{State, record_of}
-pub use Rattle.radio_tables.specs.Choice.{IsFreeIn, NoneFree, is_free, is_free_traffic, channels_of, free_count}
+pub use Rattle.radio_tables.specs.Choice.{IsFreeIn, NoneFree, IsFreeCount}
 
 -- how many numbers a cell has for Handover References: one octet's (TS 44.018 clause 10.5.2.15)
 abbrev pub reference_numbers : ℕ

@@ -11,7 +11,7 @@ ghost use Rattle.radio_book.specs.declared.event.Event.{Event};
 ghost use Rattle.radio_book.specs.declared.event.Why.{Why};
 ghost use Rattle.radio_book.specs.Journal.{journal_of, run_back};
 ghost use Rattle.radio_book.specs.Table.{step, reply_to, row, NeedsRoom, MayNeedRoom, MayBeRefused};
-ghost use Rattle.radio_book.specs.Choice.{IsFreeIn, NoneFree, TakesFree, ReservesFree, free_count};
+ghost use Rattle.radio_book.specs.Choice.{IsFreeIn, NoneFree, TakesFree, ReservesFree, IsFreeCount};
 
 use crate::event::{Event, Kind, Reply};
 use crate::records::Records;
@@ -217,7 +217,7 @@ impl<A: Allocator + Copy> Book<A> {
     /// How many traffic channels of the cell are free: 0 for a cell that the site lacks, and exactly where
     /// [`Book::take_any`] finds none.
     pub fn free_in(&self, cell: u8) -> u32
-        ensures count { result ≡ free_count self.now cell }
+        ensures count { IsFreeCount self.now cell result }
         ensures none { (result ≡ 0) ↔ NoneFree self.now cell }
     {
         self.records.free_in(cell)

@@ -3,7 +3,7 @@ ghost use Rattle.std.specs.Prelude.{◌≡◌, ◌↔◌, OnOk, OnErr, IfOk, IfS
 ghost use Rattle.std.specs.FinMap as map;
 ghost use Rattle.radio_book.specs.State.{state_of};
 ghost use Rattle.radio_book.specs.Sound.{IsSound};
-ghost use Rattle.radio_book.specs.Choice.{IsFreeIn, NoneFree, free_count};
+ghost use Rattle.radio_book.specs.Choice.{IsFreeIn, NoneFree, IsFreeCount};
 ghost use Rattle.radio_book.specs.Table.{step, reply_to, row, NeedsRoom, MayNeedRoom, MayBeRefused, record_reply};
 
 mod attempt;
@@ -92,7 +92,7 @@ impl<T: Tables> Records<T> {
 
     /// How many traffic channels of the cell are free.
     pub fn free_in(&self, cell: u8) -> u32
-        ensures count { result ≡ free_count self.now cell }
+        ensures count { IsFreeCount self.now cell result }
         ensures none { (result ≡ 0) ↔ NoneFree self.now cell }
     {
         self.tables.free_count(cell)

@@ -11,8 +11,8 @@ use Rattle.channel_fsm.specs.declared.ChanState.{ChanState}
 use Rattle.channel_fsm.specs.declared.ChanState.TheVariants.{Free, Held, Pending, On, Off}
 use Rattle.cell_table.specs.Site.{TrafficLiesWithin, is_traffic}
 use Rattle.radio_tables.specs.State.{State, state_of}
-use Rattle.dense_tables.specs.Channels.{channels_of}
-use Rattle.radio_tables.specs.Choice.{IsFreeIn, NoneFree, is_free, is_free_traffic, free_count}
+use Rattle.radio_tables.specs.Choice.{IsFreeIn, NoneFree}
+use Rattle.radio_tables.specs.Places.{channels_of, is_free, is_free_traffic, free_count}
 use Rattle.std.proofs.lemmas.Option.{same_Some, slice_get_past}
 use Rattle.std.specs.List.{AllByRecursion}
 use Rattle.std.proofs.lemmas.List.Elements.{All-get_or, All-from_recursion}
@@ -22,7 +22,7 @@ abbrev pub channel_at : ℕ → ℕ → ChanId
 channel_at cell place = record { cell = cell; trx = place / 8; tn = place % 8 }
 
 -- the channels of a cell are those at its 32 places
-by_places : (cell : ℕ) → channels_of cell ≡ map_list (channel_at cell) (range_with_len 0 32)
+pub by_places : (cell : ℕ) → channels_of cell ≡ map_list (channel_at cell) (range_with_len 0 32)
 unfolding channels_of
 by_places cell = refl
 
@@ -30,10 +30,10 @@ channels_length : (cell : ℕ) → length (channels_of cell) ≡ 32
 unfolding channels_of
 channels_length cell = refl
 
-within : (cell place : ℕ) → place < 32 → place < length (channels_of cell)
+pub within : (cell place : ℕ) → place < 32 → place < length (channels_of cell)
 within cell place h = omega (arith, channels_length cell)
 
-place_at : (cell place : ℕ) (d : ChanId) → place < 32 → get_or (channels_of cell) place d ≡ channel_at cell place
+pub place_at : (cell place : ℕ) (d : ChanId) → place < 32 → get_or (channels_of cell) place d ≡ channel_at cell place
 place_at cell place d h =
     ap (λ xs. get_or xs place d) (by_places cell) ∙ get_or-map-range_with_len (channel_at cell) 0 32 place place d h (zero-add place)
 
@@ -85,7 +85,7 @@ mapped p cell (n ∷ ns) x e =
       | false ↦ λ is h. mapped p cell ns x h
     ] refl e
 
-free_from : (s : ChanState) → is_free s ≡ true → s ≡ Free
+pub free_from : (s : ChanState) → is_free s ≡ true → s ≡ Free
 free_from Free e = refl
 free_from (Held c) e = cc
 free_from (Pending c) e = cc

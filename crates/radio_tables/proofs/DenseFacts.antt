@@ -18,7 +18,8 @@ use Rattle.radio_tables.specs.Entries.{records_of as records_in}
 use Rattle.radio_tables.specs.Keys.{reference_cmp}
 use Rattle.radio_tables.specs.Maps.{put}
 use Rattle.radio_tables.specs.State.{State, or_free, with_kept, without_call}
-use Rattle.radio_tables.specs.Choice.{IsFreeIn, NoneFree, is_free, is_free_traffic, free_count}
+use Rattle.radio_tables.specs.Choice.{IsFreeIn, NoneFree}
+use Rattle.radio_tables.specs.Places.{is_free, is_free_traffic, free_count}
 use Rattle.radio_tables.specs.Dense.{IsTable, record_at, timer_at, records_of, armed_of}
 use Rattle.dense_tables.specs.Maps.{Covers}
 use Rattle.dense_tables.specs.Channels as dense

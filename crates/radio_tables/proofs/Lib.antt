@@ -6,4 +6,5 @@ pub mod CopyFacts
 pub mod SameFacts
 pub mod JournalFacts
 pub mod Chosen
+pub mod FreeSet
 pub mod DenseFacts

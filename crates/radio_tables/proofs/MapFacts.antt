@@ -18,11 +18,11 @@ use Rattle.radio_tables.specs.State.{or_free}
 use Rattle.radio_tables.proofs.KeyFacts.{chan_total, chan_exact, reference_total}
 
 -- keys that tie are one
-tied_keys : {K : Type 0} (R : K → K → Ordering) → IsAntisymmetric R → (q k : K) → eq_by_cmp R q k ≡ true → q ≡ k
+pub tied_keys : {K : Type 0} (R : K → K → Ordering) → IsAntisymmetric R → (q k : K) → eq_by_cmp R q k ≡ true → q ≡ k
 tied_keys R exact q k e =
     exact q k (elim (R q k) as (λ r. is_eq r ≡ true → r ≡ Equal) [ Less ↦ λ h. cc | Equal ↦ λ h. refl | Greater ↦ λ h. cc ] e)
 
-different_keys : {K : Type 0} (R : K → K → Ordering) → IsAntisymmetric R → (q k : K) → q ≢ k → eq_by_cmp R q k ≡ false
+pub different_keys : {K : Type 0} (R : K → K → Ordering) → IsAntisymmetric R → (q k : K) → q ≢ k → eq_by_cmp R q k ≡ false
 different_keys R exact q k apart =
     elim (eq_by_cmp R q k) as (λ b. eq_by_cmp R q k ≡ b → b ≡ false) [
       | true ↦ λ e. absurd (apart (tied_keys R exact q k e))

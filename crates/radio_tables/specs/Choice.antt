@@ -1,11 +1,10 @@
--- Which channels of a cell can be chosen: those that are free (TS 48.058 clause 4).
-use Rattle.std.specs.Prelude.{◌≡◌, ℕ, Bool, true, ◌&&◌, count_by}
+-- Which channels of a cell can be chosen: those that are free (TS 48.058 clause 4), and how many.
+use Rattle.std.specs.Prelude.{◌≡◌, ◌↔◌, ℕ, true}
+use Rattle.std.specs.FinSet.{FinSet, contains, len}
 use Rattle.channel_fsm.specs.declared.ChanId.{ChanId}
-use Rattle.channel_fsm.specs.declared.ChanState.{ChanState}
 use Rattle.channel_fsm.specs.declared.ChanState.TheVariants.{Free}
 use Rattle.cell_table.specs.Site.{is_traffic}
-pub use Rattle.dense_tables.specs.Channels.{channels_of}
-use Rattle.radio_tables.specs.States.{channel_row}
+use Rattle.radio_tables.specs.Keys.{chan_cmp}
 use Rattle.radio_tables.specs.State.{State, state_of}
 
 -- what can be chosen in a cell: a channel in the state Free which the site names for traffic there
@@ -17,12 +16,8 @@ pub record IsFreeIn (b : State) (cell : ℕ) (x : ChanId) : Type 0 where
 abbrev pub NoneFree : State → ℕ → Type 0
 NoneFree b cell = (x : ChanId) → IsFreeIn b cell x → ⊥
 
-abbrev pub is_free : ChanState → Bool
-is_free s = (channel_row s).free
-
-abbrev pub is_free_traffic : State → ChanId → Bool
-is_free_traffic b x = is_traffic b.site x && is_free (state_of b x)
-
--- how many channels can be chosen in a cell
-abbrev pub free_count : State → ℕ → ℕ
-free_count b cell = count_by (is_free_traffic b) (channels_of cell)
+-- how many can be chosen in a cell: as many as the set of those has
+pub record IsFreeCount (b : State) (cell n : ℕ) : Type 0 where
+  pub free : FinSet chan_cmp
+  pub members : (x : ChanId) → (contains free x ≡ true) ↔ IsFreeIn b cell x
+  pub size : n ≡ len free

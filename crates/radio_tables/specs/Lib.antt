@@ -8,4 +8,5 @@ pub mod Same
 pub mod Entries
 pub mod State
 pub mod Choice
+pub mod Places
 pub mod Dense

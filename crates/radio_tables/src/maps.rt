@@ -4,7 +4,7 @@ ghost use Rattle.cell_table.specs.Limits.{timeslots_of_trx};
 ghost use Rattle.std.specs.Cmp.{partial_equiv_from_equiv};
 ghost use Rattle.radio_tables.specs.Same.{is_same, is_same-IsEquivalence};
 ghost use Rattle.radio_tables.specs.State.{empty_book, state_of, state_code};
-ghost use Rattle.radio_tables.specs.Choice.{is_free_traffic, channels_of, free_count};
+ghost use Rattle.radio_tables.specs.Places.{is_free_traffic, channels_of, free_count};
 
 use crate::entry::CallEntry;
 use crate::kinds::Reference;

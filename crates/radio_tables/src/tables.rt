@@ -5,7 +5,7 @@ ghost use Rattle.std.specs.Option.{option_map};
 ghost use Rattle.channel_fsm.specs.declared.ChanState.TheVariants as chan;
 ghost use Rattle.cell_table.specs.Site.{TrafficLiesWithin, is_traffic};
 ghost use Rattle.radio_tables.specs.State.{State, with_channel, with_kept, without_call, with_reference};
-ghost use Rattle.radio_tables.specs.Choice.{IsFreeIn, NoneFree, free_count};
+ghost use Rattle.radio_tables.specs.Choice.{IsFreeIn, NoneFree, IsFreeCount};
 
 use crate::entry::CallEntry;
 use crate::kinds::Reference;
@@ -114,7 +114,7 @@ pub trait Tables: Drop {
 
     /// How many traffic channels of a cell are free.
     fn free_count(&self, cell: u8) -> u32
-        ensures count { result ≡ free_count (state self.now) cell }
+        ensures count { IsFreeCount (state self.now) cell result }
         ensures none { (result ≡ 0) ↔ NoneFree (state self.now) cell };
 
     /// Whether two tables say the same.

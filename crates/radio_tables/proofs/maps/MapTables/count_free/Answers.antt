@@ -1,6 +1,6 @@
 use Rattle.std.proofs.Common.{◌∙◌, ap, arith}
 use Rattle.std.specs.Int.{from_bool}
-use Rattle.radio_tables.specs.Choice.{is_free_traffic}
+use Rattle.radio_tables.specs.Places.{is_free_traffic}
 use Rattle.radio_tables.proofs.Chosen.{counted_at, counted_all, one_at_most}
 use Rattle.radio_tables.proofs.maps.MapTables.count_free.Goals as goal
 

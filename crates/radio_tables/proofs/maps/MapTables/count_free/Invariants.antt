@@ -1,5 +1,5 @@
 use Rattle.std.proofs.Common.{◌≡◌, ◌≤◌, take, count_by}
-use Rattle.radio_tables.specs.Choice.{is_free_traffic, channels_of}
+use Rattle.radio_tables.specs.Places.{is_free_traffic, channels_of}
 use Rattle.radio_tables.proofs.maps.MapTables.count_free.Given as goal
 
 -- the count is of the places so far

@@ -1,5 +1,5 @@
 use Rattle.std.proofs.Common.{Some, sym, ◌∙◌, ap}
-use Rattle.radio_tables.specs.Choice.{is_free_traffic}
+use Rattle.radio_tables.specs.Places.{is_free_traffic}
 use Rattle.radio_tables.proofs.Chosen.{found_at, passed_at, passed_all}
 use Rattle.radio_tables.proofs.maps.MapTables.first_free.Goals as goal
 

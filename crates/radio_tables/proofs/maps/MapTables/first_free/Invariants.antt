@@ -1,6 +1,6 @@
 use Rattle.std.proofs.Common.{◌≡◌, drop}
 use Rattle.std.specs.List.{find}
-use Rattle.radio_tables.specs.Choice.{is_free_traffic, channels_of}
+use Rattle.radio_tables.specs.Places.{is_free_traffic, channels_of}
 use Rattle.radio_tables.proofs.maps.MapTables.first_free.Given as goal
 
 -- the places so far have no free traffic channel
