@@ -107,7 +107,7 @@ failed p (x ∷ xs) e =
       | false ↦ λ is h. (is, failed p xs h)
     ] refl e
 
-by_place : (x : ChanId) → x.tn < 8 → channel_at x.cell (8 * x.trx + x.tn) ≡ x
+pub by_place : (x : ChanId) → x.tn < 8 → channel_at x.cell (8 * x.trx + x.tn) ≡ x
 by_place x h =
     let trx : (8 * x.trx + x.tn) / 8 ≡ x.trx = omega arith in
     let tn : (8 * x.trx + x.tn) % 8 ≡ x.tn = omega arith in

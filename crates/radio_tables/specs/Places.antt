@@ -3,7 +3,7 @@ use Rattle.std.specs.Prelude.{ℕ, Bool, ◌&&◌, count_by}
 use Rattle.channel_fsm.specs.declared.ChanId.{ChanId}
 use Rattle.channel_fsm.specs.declared.ChanState.{ChanState}
 use Rattle.cell_table.specs.Site.{is_traffic}
-pub use Rattle.dense_tables.specs.Channels.{channels_of}
+unfoldable pub use Rattle.dense_tables.specs.Channels.{channels_of}
 use Rattle.radio_tables.specs.States.{channel_row}
 use Rattle.radio_tables.specs.State.{State, state_of}
 
