@@ -11,7 +11,7 @@ pub mod marked;
 pub mod marks;
 pub mod others;
 pub mod owed;
-mod records;
+pub mod records;
 mod remainder;
 pub mod rewind;
 pub mod run;

@@ -1,4 +1,5 @@
-//! The tables of a book, and what each event does to them: written once, for all kinds of tables.
+//! The tables of a book, and what each event does to them: written once, for all kinds of tables. [`Book`](crate::book::Book)
+//! has these over dense tables, and keeps them sound.
 ghost use Rattle.std.specs.Prelude.{◌≡◌, ◌↔◌, OnOk, OnErr, IfOk, IfSome, IfNone, IsTrue};
 ghost use Rattle.std.specs.FinMap as map;
 ghost use Rattle.radio_book.specs.State.{state_of};
@@ -38,6 +39,7 @@ impl<T: Tables> Model for Records<T> {
 }
 
 impl<T: Tables> Records<T> {
+    /// What these tables say.
     pub fn over(tables: T) -> Records<T>
         ensures { result ≡ T.state tables }
     {
@@ -51,31 +53,35 @@ impl<T: Tables> Records<T> {
         &self.tables
     }
 
-    /// Whether two books have the same records.
+    /// Whether two of them say the same. Takes no memory.
     pub fn same(&self, other: &Records<T>) -> bool
         ensures { IsTrue result ↔ (self.now ≡ other.now) }
     {
         self.tables.same(&other.tables)
     }
 
+    /// How many channels aren't free.
     pub fn channels(&self) -> usize
         ensures { result ≡ map.len self.now.channels }
     {
         self.tables.channels()
     }
 
+    /// How many calls have a record.
     pub fn calls(&self) -> usize
         ensures { result ≡ map.len self.now.calls }
     {
         self.tables.calls()
     }
 
+    /// How many handover references are in use.
     pub fn references(&self) -> usize
         ensures { result ≡ map.len self.now.references }
     {
         self.tables.references()
     }
 
+    /// How many timers are armed.
     pub fn timers(&self) -> usize
         ensures { result ≡ map.len self.now.timers }
     {
