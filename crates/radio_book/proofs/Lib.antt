@@ -1,3 +1,4 @@
+-- the rows of the table, each from one of its guards on
 pub mod Rows
 -- what has to be known of a change of one call, channel and reference, so that the book stays sound
 pub mod Frame
@@ -21,6 +22,7 @@ pub mod Totals
 pub mod OwedRows
 -- what running a call's inverses leads to
 pub mod RunBack
+-- in a sound book one of the first 33 handover references of a cell is free
 pub mod Numbers
 -- changes of different entries commute
 pub mod Changes

@@ -1,5 +1,6 @@
 -- a history with one more entry at its end
 pub mod Leading
+-- what a walk along a history finds is what its settled attempts say
 mod AuditFacts
 -- room for what is owed, and an event whose entry has it
 pub mod Rooms
