@@ -1,6 +1,6 @@
 -- Tables in which one map has what is kept of each call: what becomes of the records and the timers that it makes where
 -- something else is kept of a call, that they tell it, and how many there are; and what such tables say of free channels.
-use Rattle.std.proofs.Common.{◌≡◌, ◌&&◌, ◌+◌, ◌-◌, ◌≤◌, ℕ, true, false, length, count_by, Option, Some, None, IfSome, IfNone, is_some, option_map, option_and_then, refl, sym, ap, ◌∙◌, subst, arith}
+use Rattle.std.proofs.Common.{◌≡◌, ◌&&◌, ◌+◌, ◌-◌, ◌≤◌, ℕ, true, false, count_by, Option, Some, None, IfSome, IfNone, is_some, option_map, option_and_then, refl, sym, ap, ◌∙◌, subst, arith}
 use Rattle.std.specs.Ordering.{nat_cmp}
 use Rattle.std.specs.Cmp.{nat_cmp_total}
 use Rattle.std.specs.FinMap as map
@@ -10,8 +10,6 @@ use Rattle.std.proofs.lemmas.Option.{same_Some}
 use Rattle.channel_fsm.specs.declared.ChanId.{ChanId}
 use Rattle.channel_fsm.specs.declared.ChanState.{ChanState}
 use Rattle.channel_fsm.specs.declared.ChanState.TheVariants.{Free, Held, Pending, On, Off}
-use Rattle.attempt_journal.specs.declared.Timer.{Timer}
-use Rattle.radio_tables.specs.declared.kinds.CallRecord.{CallRecord}
 use Rattle.cell_table.specs.Site.{SiteView, is_traffic}
 use Rattle.radio_tables.specs.Entries.{Kept}
 use Rattle.radio_tables.specs.Entries.{records_of as records_in}

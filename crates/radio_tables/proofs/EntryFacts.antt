@@ -1,6 +1,6 @@
 -- The maps that the entries of calls make: their records, and the timers of those that have one.
-use Rattle.std.proofs.Common.{◌≡◌, ◌+◌, ◌-◌, ℕ, arith, count_by, map as map_list, Bool, true, false, cond, List, [], ◌∷◌, Option, Some, None, is_some, OnSome, IfSome, option_and_then, refl, sym, ap, ◌∙◌, subst, MutBor}
-use Rattle.std.specs.Option.{option_map, option_copied_mut}
+use Rattle.std.proofs.Common.{◌≡◌, ◌+◌, ◌-◌, ℕ, arith, count_by, map as map_list, Bool, true, false, cond, List, [], ◌∷◌, Option, Some, None, is_some, option_and_then, refl, sym, ap, ◌∙◌}
+use Rattle.std.specs.Option.{option_map}
 use Rattle.std.specs.Ordering.{nat_cmp, eq_by_cmp}
 use Rattle.std.specs.Cmp.{nat_cmp_total, eq_by_cmp_equiv}
 use Rattle.std.specs.Map.{lookup, keys_of}

@@ -1,5 +1,5 @@
 -- By what order the tables keep channels and references, and how each is written as numbers. Ours, of no standard.
-use Rattle.std.specs.Prelude.{◌≡◌, ◌==◌, ◌&&◌, ◌+◌, ◌*◌, ◌<◌, Bool, ℕ, refl}
+use Rattle.std.specs.Prelude.{◌≡◌, ◌==◌, ◌&&◌, ◌+◌, ◌*◌, ◌<◌, Bool, ℕ}
 use Rattle.channel_fsm.specs.declared.ChanId.{ChanId}
 pub use Rattle.dense_tables.specs.Keys.{chan_cmp, coded_chan, reference_cmp, coded_reference}
 

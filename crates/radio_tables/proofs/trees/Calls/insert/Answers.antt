@@ -1,4 +1,4 @@
-use Rattle.std.proofs.Common.{Some, sym, ◌∙◌, ap}
+use Rattle.std.proofs.Common.{sym, ◌∙◌, ap}
 use Rattle.std.specs.FinMap as map
 use Rattle.radio_tables.specs.Entries.{with_kept}
 use Rattle.radio_tables.proofs.TableFacts.{err_holds}

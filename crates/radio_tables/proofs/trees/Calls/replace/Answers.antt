@@ -1,4 +1,4 @@
-use Rattle.std.proofs.Common.{Some, is_some, sym, ◌∙◌, ap}
+use Rattle.std.proofs.Common.{is_some, sym, ◌∙◌, ap}
 use Rattle.std.specs.FinMap as map
 use Rattle.std.specs.Option.{option_copied_mut}
 use Rattle.radio_tables.specs.Entries.{with_kept}
