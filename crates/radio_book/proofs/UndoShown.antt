@@ -25,8 +25,8 @@ use Rattle.radio_book.specs.Table.{step, reply_of, reply_to, reference_held, lef
 use Rattle.radio_book.specs.Sound.{IsSound, HasTarget}
 use Rattle.radio_book.specs.Run.{run_book}
 use Rattle.radio_book.specs.Kinds.{Undoes, is_accepted}
-use Rattle.radio_book.specs.Others.{IsHeldReference, LeavesAlone, IsOpen, number_after}
-use Rattle.radio_book.specs.Undone.{Undone, IsUndoneAttempt, Ends, steps_from, is_off, is_target_off}
+use Rattle.radio_book.specs.Others.{IsHeldReference, IsOpen, number_after}
+use Rattle.radio_book.specs.Undone.{Undone, IsUndoneAttempt, Ends, is_off, is_target_off}
 use Rattle.radio_book.specs.Following.{is_switched_on, leaves_off}
 use Rattle.radio_book.proofs.SoundSteps.{sound_step}
 use Rattle.radio_book.proofs.OwnSteps.{openings_add_the_attempt}
