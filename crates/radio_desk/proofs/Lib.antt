@@ -2,7 +2,7 @@
 pub mod Leading
 -- what a walk along a history finds is what its settled attempts say
 mod AuditFacts
--- room for what is owed, and an event whose entry has it
+-- a desk with one more entry
 pub mod Rooms
 -- a channel that is taken at a desk
 pub mod Taking
