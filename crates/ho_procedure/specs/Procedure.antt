@@ -245,6 +245,11 @@ abbrev pub told_first : Option ℕ → ChanId → Plan → Plan
 told_first None x tail = tail
 told_first (Some cause) x tail = Sends (channel_release x cause) tail
 
+-- how many messages that is
+abbrev pub told_count : Option ℕ → ℕ
+told_count None = 0
+told_count (Some cause) = 1
+
 -- RF CHANNEL RELEASE of the serving channel (TS 48.058 clause 4.7), unless it is held; a mobile that is on is told why
 unfoldable pub release_serving : Option ℕ → CallRecord → Option ChanState → Plan → Plan
 release_serving cause r s tail =
@@ -263,7 +268,7 @@ clear_rest c cause tail r s =
 
 -- An operator clears a call.
 unfoldable pub clear_plan : ℕ → Plan
-clear_plan c = Readies (ForMessages 3) (looked c (clear_rest c None Ends))
+clear_plan c = Readies (ForMessages 2) (looked c (clear_rest c None Ends))
 
 -- CHANNEL ACTIVATION ACKNOWLEDGE (TS 48.058 clause 8.4.2) of a target: HANDOVER COMMAND to the mobile on its old channel
 -- (TS 44.018 clause 3.4.4.1), or to the switching centre in a HANDOVER REQUEST ACKNOWLEDGE (TS 48.008 clause 3.1.5.2)
