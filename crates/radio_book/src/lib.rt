@@ -7,7 +7,7 @@ mod book_tables;
 mod entry;
 pub mod event;
 pub mod following;
-mod kinds;
+pub mod kinds;
 pub mod laws;
 pub mod marked;
 pub mod marks;

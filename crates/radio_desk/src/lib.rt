@@ -6,6 +6,7 @@
 pub mod audit;
 pub mod desk;
 pub mod entry;
+mod followers;
 mod room;
 pub mod seat;
 pub mod tally;
