@@ -1,4 +1,5 @@
 mod audits;
+mod both_tables;
 mod choices;
 mod desk;
 mod desk_memory;

@@ -1,8 +1,16 @@
+-- the order of channels is total, and channels that tie are one
 mod KeyFacts
+-- what a tree's entries, seen as a finite map, have at a key, and what one more entry makes of the map
 mod MapFacts
+-- what is known of a value, or of an error, gives more
 mod Results
+-- what is acknowledged where memory is refused at a release
 mod ReleaseFacts
+-- a hold that has kept something is seen in what all have kept
 mod KeptFacts
+-- what is known of a channel after one change or two
 mod SlotFacts
+-- what leaves a channel whose answers no hold keeps
 mod DepartureFacts
+-- once the holds of a channel have ended, none keeps an answer about it
 mod HoldFacts

@@ -1,5 +1,5 @@
 -- Which worker an input is for. Ours, of no standard.
-use Rattle.std.specs.Prelude.{◌≡◌, ◌≢◌, ℕ, ◌<◌, ◌%◌, List, [], ◌∷◌, ◌++◌, length, slice_set, slice_index_or}
+use Rattle.std.specs.Prelude.{◌≡◌, ◌≢◌, ◌⊎◌, ℕ, ◌<◌, ◌%◌, List, [], ◌∷◌, ◌++◌, length, slice_set, slice_index_or}
 use Rattle.channel_fsm.specs.declared.ChanId.{ChanId}
 use Rattle.radio_book.specs.declared.event.Event.TheVariants.{Owner}
 use Rattle.radio_book.specs.declared.event.Reply.{Reply}
@@ -46,6 +46,10 @@ IsNumberOf {A} (inbound.Abis cell trx octets) asked number = (message : Rsl A) �
 IsNumberOf (inbound.A call octets) asked number = (asked ≡ []) × (number ≡ call)
 IsNumberOf (inbound.Expiry call timer) asked number = (asked ≡ []) × (number ≡ call)
 IsNumberOf (inbound.Operator line) asked number = (asked ≡ []) × (number ≡ call_of line)
+
+-- for the input nothing was asked, or just what finds its worker
+abbrev pub MayBeAsked : {A : Type 0} → Inbound A → List Receipt → Type 0
+MayBeAsked input asked = (asked ≡ []) ⊎ ((number : ℕ) × IsNumberOf input asked number)
 
 -- octets on Abis that can't be read have this fault, where memory isn't refused
 abbrev pub IsUnreadHere : {A : Type 0} → Inbound A → RslFault → Type 0

@@ -8,7 +8,7 @@ ghost use Rattle.radio_desk.specs.Receipts.{IsRising};
 ghost use Rattle.rsl_messages.specs.declared.fault.RslFault.{RslFault};
 ghost use Rattle.receipt_check.specs.Gathering.{Gathers};
 ghost use Rattle.call_worker.specs.States.{new_worker};
-ghost use Rattle.call_worker.specs.Giving.{IsGiven, IsUnreadHere};
+ghost use Rattle.call_worker.specs.Giving.{IsGiven, IsUnreadHere, MayBeAsked};
 ghost use Rattle.call_worker.specs.Closing.{AreEnds, IsCloseFault};
 
 use crate::closing::{close_all, is_whole, receipts_of};
@@ -154,7 +154,8 @@ impl<R: Threads + Wait + Drop, L: Links + Drop, A: Allocator + Copy> Office<R, L
         ensures err { OnErr result (self.new.workers ≡ self.old.workers) }
         ensures undecoded { (f : RslFault) → (result ≡ Err (GiveFault.Undecoded f)) ↔
             IsUnreadHere input f }
-        ensures asked { (asked : List Receipt) × (self.new.front ≡ self.old.front ++ asked) }
+        ensures asked { (asked : List Receipt) × (self.new.front ≡ self.old.front ++ asked) ×
+            MayBeAsked input asked }
     {
         let number = number_of(self.alloc, &mut self.front, &input)?;
         let worker = number % self.posts.len();

@@ -15,8 +15,7 @@ use Rattle.cell_table.specs.declared.fault.Key.TheVariants as key
 use Rattle.cell_table.specs.Ranges.{IsAllowed}
 use Rattle.cell_table.specs.Limits.{most_cells, most_trx, timeslots_of_trx}
 use Rattle.cell_table.specs.Site.{TrxView, CellView, SiteView, IsSite, IsCell, IsWithinLimits, timeslots, is_traffic, is_channel, all_channels, channels, index_of}
-use Rattle.cell_table.specs.Rules.{has_twice, has_slot_twice}
-use Rattle.cell_table.specs.Searches.{trx_size, cell_size, slots_before, before_in_cell, channels_before}
+use Rattle.cell_table.specs.Searches.{trx_size, cell_size, slots_before, before_in_cell, channels_before, has_pair, has_slot_pair}
 use Rattle.cell_table.proofs.Ordered.{is_in, IsInOrder, count_in_order, count_by_same, count_by_none}
 use Rattle.cell_table.proofs.Positions.{position-cons}
 use Rattle.cell_table.proofs.Unique.{none_at}
@@ -187,7 +186,7 @@ in_range a (suc n) c least most = by (a == c) refl (λ further. in_range (a + 1)
 -- timeslots that a TRX may name: each at most once
 pub record AreSlots (slots : List ℕ) : Type 0 where
   pub range : AllByRecursion (λ n. is_in (range_with_len 0 timeslots_of_trx) n ≡ true) slots
-  pub once : has_twice (λ m n. n == m) slots ≡ false
+  pub once : has_pair (λ m n. n == m) slots ≡ false
 
 are_in : (slots : List ℕ) → All (IsAllowed key.Tch) slots → AllByRecursion (λ n. is_in (range_with_len 0 timeslots_of_trx) n ≡ true) slots
 are_in [] all = tt
@@ -279,7 +278,7 @@ trx_slots site limits cell c at trx t at' =
     let is = got IsCell site.cells cell c limits.within.each_cell at in
     record {
       range = are_in t.tch (got (λ (u : TrxView). All (IsAllowed key.Tch) u.tch) c.trx trx t is.slots at');
-      once = none_at (λ (u : TrxView). has_twice (λ m n. n == m) u.tch) c.trx trx t (none_at has_slot_twice site.cells cell c (unbroken_parts site limits).3 at) at';
+      once = none_at (λ (u : TrxView). has_pair (λ m n. n == m) u.tch) c.trx trx t (none_at has_slot_pair site.cells cell c (unbroken_parts site limits).3 at) at';
     }
 
 are_slots : (site : SiteView) → IsSite site → (cell trx : ℕ) → AreSlots (timeslots site cell trx)

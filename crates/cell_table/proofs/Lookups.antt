@@ -6,10 +6,11 @@ use Rattle.std.proofs.lemmas.Option.{same_Some, none-some, slice_get_within}
 use Rattle.std.specs.List.{position, list_any}
 use Rattle.cell_table.specs.declared.tables.CellIdentity.{CellIdentity}
 use Rattle.cell_table.specs.Site.{CellView, SiteView, identity_at, IsSite, IsCellOf}
-use Rattle.cell_table.specs.Rules.{has_twice, identities, same_codes, same_colour, has_carrier_twice, has_slot_twice, has_neighbour_twice, has_no_traffic, first_broken, broken_rule}
-use Rattle.cell_table.specs.Searches.{first_cell, own_or_outside, has_codes}
+use Rattle.cell_table.specs.Rules.{identities, same_codes, same_colour, has_no_traffic, first_broken}
+use Rattle.cell_table.specs.Searches.{first_cell, own_or_outside, has_codes, has_pair, has_carrier_pair, has_slot_pair, has_neighbour_pair, broken_by_pairs}
 use Rattle.cell_table.proofs.Positions.{position_is, position_none}
 use Rattle.cell_table.proofs.Unique.{one_cell}
+use Rattle.cell_table.proofs.Twice.{found_by_pairs}
 
 -- a cell of the site that passes a test
 pub record Passes (test : CellIdentity → Bool) (site : SiteView) (cell : ℕ) : Type 0 where
@@ -61,7 +62,7 @@ not_missed test site cell is no_own no_outside = by (nat_lt cell 64) is.there
     by false e = false≢true (sym (position_none test site.outside (cell - 64) is.identity no_outside e) ∙ is.passes)
 
 -- the search answers the cell that passes, where no two of them that pass can be different cells
-pub first_cell_is : (test : CellIdentity → Bool) (alike : CellIdentity → CellIdentity → Bool) (site : SiteView) → length site.cells ≤ 64 → has_twice alike (identities site) ≡ false
+pub first_cell_is : (test : CellIdentity → Bool) (alike : CellIdentity → CellIdentity → Bool) (site : SiteView) → length site.cells ≤ 64 → has_pair alike (identities site) ≡ false
     → ((x y : CellIdentity) → test x ≡ true → test y ≡ true → alike x y ≡ true) → (cell : ℕ) → (first_cell test site ≡ Some cell) ↔ Passes test site cell
 first_cell_is test alike site few once likes cell = (found test site few cell, back)
   where
@@ -132,10 +133,10 @@ broken_parts false false false true e silent none = absurd (none-some _ (sym non
 broken_parts false false false false true silent none = absurd (none-some _ (sym none))
 broken_parts false false false false false silent none = (refl, refl, refl, refl, refl)
 
-pub unbroken_parts : (site : SiteView) → IsSite site → (has_twice same_codes (identities site) ≡ false) × (has_twice same_colour (identities site) ≡ false)
-    × (list_any has_carrier_twice site.cells ≡ false) × (list_any has_slot_twice site.cells ≡ false) × (list_any has_neighbour_twice site.cells ≡ false)
-unfolding broken_rule
-unbroken_parts site limits = broken_parts _ _ _ _ _ (position has_no_traffic site.cells) limits.rules
+pub unbroken_parts : (site : SiteView) → IsSite site → (has_pair same_codes (identities site) ≡ false) × (has_pair same_colour (identities site) ≡ false)
+    × (list_any has_carrier_pair site.cells ≡ false) × (list_any has_slot_pair site.cells ≡ false) × (list_any has_neighbour_pair site.cells ≡ false)
+unfolding broken_by_pairs
+unbroken_parts site limits = broken_parts _ _ _ _ _ (position has_no_traffic site.cells) (sym (found_by_pairs site) ∙ limits.rules)
 
 -- the cell of a location area code and a cell identity
 pub cell_of_is : (site : SiteView) → IsSite site → (lac ci cell : ℕ) → (first_cell (has_codes lac ci) site ≡ Some cell) ↔ IsCellOf site lac ci cell

@@ -8,9 +8,9 @@ use Rattle.std.specs.List.{list_any, range_with_len, AllByRecursion}
 use Rattle.cell_table.specs.declared.tables.CellIdentity.{CellIdentity}
 use Rattle.cell_table.specs.Limits.{most_carrier}
 use Rattle.cell_table.specs.Site.{CellView, SiteView, identity_at, IsSite, IsCell}
-use Rattle.cell_table.specs.Rules.{has_twice, same_colour, has_neighbour_twice}
+use Rattle.cell_table.specs.Rules.{same_colour}
 use Rattle.cell_table.specs.Neighbours.{all_carriers, neighbour_list, neighbour_at, IsNamedCell}
-use Rattle.cell_table.specs.Searches.{stands_before, is_at, has_bsic, is_named, first_cell, first_named}
+use Rattle.cell_table.specs.Searches.{stands_before, is_at, has_bsic, is_named, first_cell, first_named, has_pair, has_neighbour_pair}
 use Rattle.cell_table.proofs.Ordered.{is_in, IsInOrder, count_in_order, stands_at, comes_after}
 use Rattle.cell_table.proofs.SiteFacts.{got}
 use Rattle.cell_table.proofs.Unique.{none_at}
@@ -94,7 +94,7 @@ one_there (x ∷ ba) c small there = by (x == c) refl (λ further. one_there ba 
     by true e rest = ap (is_in all_carriers) (sym (equal x c e)) ∙ carrier_there x (All-head (λ n. n ≤ most_carrier) x ba small)
     by false e rest = rest (sym (ap (λ b. b || is_in ba c) e) ∙ there)
 
-pub is_at_is : (ba : List ℕ) (place carrier : ℕ) → All (λ c. c ≤ most_carrier) ba → has_twice (λ m n. n == m) ba ≡ false
+pub is_at_is : (ba : List ℕ) (place carrier : ℕ) → All (λ c. c ≤ most_carrier) ba → has_pair (λ m n. n == m) ba ≡ false
     → (is_at ba place carrier ≡ true) ↔ (slice_get (neighbour_list ba) place ≡ Some carrier)
 is_at_is ba place carrier small once = (there, back)
   where
@@ -114,7 +114,7 @@ is_at_is ba place carrier small once = (there, back)
 
 -- what a position and a code name is one cell
 
-named_alike : (ba : List ℕ) (place bsic : ℕ) → All (λ c. c ≤ most_carrier) ba → has_twice (λ m n. n == m) ba ≡ false → (x y : CellIdentity)
+named_alike : (ba : List ℕ) (place bsic : ℕ) → All (λ c. c ≤ most_carrier) ba → has_pair (λ m n. n == m) ba ≡ false → (x y : CellIdentity)
     → is_named ba place bsic x ≡ true → is_named ba place bsic y ≡ true → same_colour x y ≡ true
 named_alike ba place bsic small once x y e e' =
     let (code, at) = and_parts (has_bsic bsic x) (is_at ba place x.bcch) e in
@@ -134,7 +134,7 @@ pub record IsNamedIn (site : SiteView) (ba : List ℕ) (place bsic cell : ℕ) :
   pub network : option_map (λ c. c.ncc) (identity_at site cell) ≡ Some (bsic / 8)
   pub station : option_map (λ c. c.bcc) (identity_at site cell) ≡ Some (bsic % 8)
 
-named_parts : (site : SiteView) (ba : List ℕ) (place bsic cell : ℕ) → All (λ c. c ≤ most_carrier) ba → has_twice (λ m n. n == m) ba ≡ false
+named_parts : (site : SiteView) (ba : List ℕ) (place bsic cell : ℕ) → All (λ c. c ≤ most_carrier) ba → has_pair (λ m n. n == m) ba ≡ false
     → Passes (is_named ba place bsic) site cell ↔ IsNamedIn site ba place bsic cell
 named_parts site ba place bsic cell small once = (there, back)
   where
@@ -162,8 +162,8 @@ named_parts site ba place bsic cell small once = (there, back)
         }
 
 -- what a site says of the neighbours of its own cells
-cell_once : (cells : List CellView) (i : ℕ) (c : CellView) → list_any has_neighbour_twice cells ≡ false → slice_get cells i ≡ Some c → has_neighbour_twice c ≡ false
-cell_once cells i c once at = none_at has_neighbour_twice cells i c once at
+cell_once : (cells : List CellView) (i : ℕ) (c : CellView) → list_any has_neighbour_pair cells ≡ false → slice_get cells i ≡ Some c → has_neighbour_pair c ≡ false
+cell_once cells i c once at = none_at has_neighbour_pair cells i c once at
 
 -- a cell that isn't an own one has no neighbour list
 pub not_served : (site : SiteView) (serving place bsic cell : ℕ) → slice_get site.cells serving ≡ None → IsNamedCell site serving place bsic cell → ⊥
@@ -175,7 +175,7 @@ not_served site serving place bsic cell at is =
 ba_small : (site : SiteView) → IsSite site → (serving : ℕ) (own : CellView) → slice_get site.cells serving ≡ Some own → All (λ c. c ≤ most_carrier) own.ba
 ba_small site limits serving own at = λ k d within. ((got IsCell site.cells serving own limits.within.each_cell at).neighbours k d within).1
 
-ba_once : (site : SiteView) → IsSite site → (serving : ℕ) (own : CellView) → slice_get site.cells serving ≡ Some own → has_neighbour_twice own ≡ false
+ba_once : (site : SiteView) → IsSite site → (serving : ℕ) (own : CellView) → slice_get site.cells serving ≡ Some own → has_neighbour_pair own ≡ false
 ba_once site limits serving own at = cell_once site.cells serving own (unbroken_parts site limits).4 at
 
 -- a cell of the site passes the test of the serving cell's BA list exactly where a mobile names it so

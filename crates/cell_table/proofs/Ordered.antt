@@ -5,7 +5,7 @@ use Rattle.std.proofs.lemmas.Bool.Decides.{nat_tests}
 use Rattle.std.proofs.lemmas.Option.{same_Some, none-some}
 use Rattle.std.proofs.lemmas.List.Sums.{sum_by-cons}
 use Rattle.std.specs.List.{list_any, AllByRecursion}
-use Rattle.cell_table.specs.Rules.{has_twice}
+use Rattle.cell_table.specs.Searches.{has_pair}
 
 -- the number is one of the list
 abbrev pub is_in : List ℕ → ℕ → Bool
@@ -100,16 +100,16 @@ one_more before f g x (o ∷ os) sorted there new = by (o == x) refl (λ rest. o
     by false other rest = more_later f g x o os other (rest (sym (ap (λ b. b || is_in os x) other) ∙ there))
 
 counted : (before : ℕ → ℕ → Bool) (f : ℕ → Bool) (order some : List ℕ) → IsInOrder before order → AllByRecursion (λ n. is_in order n ≡ true) some
-    → has_twice (λ m n. n == m) some ≡ false → count f some ≡ count (λ n. f n && is_in some n) order
+    → has_pair (λ m n. n == m) some ≡ false → count f some ≡ count (λ n. f n && is_in some n) order
 counted before f order [] sorted all once = sym (count_none (λ n. f n && false) order (all_by (λ n. (f n && false) ≡ false) (λ n. and_right (f n) false refl) order))
 counted before f order (x ∷ some) sorted all once =
-    let (new, rest) = or_parts (list_any (λ n. n == x) some) (has_twice (λ m n. n == m) some) once in
+    let (new, rest) = or_parts (list_any (λ n. n == x) some) (has_pair (λ m n. n == m) some) once in
     ap (λ n. cond (f x) 1 0 + n) (counted before f order some sorted all.1 rest)
     ∙ sym (one_more before f (is_in some) x order sorted all.0 new)
 
 -- as many of some distinct numbers pass as pass in a list that has them all in order
 pub count_in_order : (before : ℕ → ℕ → Bool) (f : ℕ → Bool) (order some : List ℕ) → IsInOrder before order → AllByRecursion (λ n. is_in order n ≡ true) some
-    → has_twice (λ m n. n == m) some ≡ false → count_by f some ≡ count_by (λ n. f n && is_in some n) order
+    → has_pair (λ m n. n == m) some ≡ false → count_by f some ≡ count_by (λ n. f n && is_in some n) order
 count_in_order before f order some sorted all once =
     count-is f some ∙ counted before f order some sorted all once ∙ sym (count-is (λ n. f n && is_in some n) order)
 

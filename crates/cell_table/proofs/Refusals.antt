@@ -10,7 +10,7 @@ use Rattle.cell_table.specs.Limits.{most_neighbours}
 use Rattle.cell_table.specs.Ranges.{up_to, allowed, arfcn_range, tch_range}
 use Rattle.cell_table.specs.Site.{SiteView}
 use Rattle.cell_table.specs.Rules.{broken_rule, first_broken, unbroken, checked}
-use Rattle.cell_table.specs.SiteFile.{Read, ◌>>=◌, is_allowed, allowed_number, number_of, number_within, number_at, value_at, array_of, entries_of, counted, all_tables, tables_of, is_table, key_name, handover_of, handover_at, identity_of, ba_of, first_nine, tch_of, trx_of, all_trx_of, cell_of, cells_of, outside_of, site_of}
+use Rattle.cell_table.specs.SiteFile.{◌>>=◌, is_allowed, allowed_number, number_of, number_within, number_at, value_at, array_of, entries_of, counted, all_tables, tables_of, is_table, key_name, handover_of, handover_at, identity_of, ba_of, tch_of, trx_of, all_trx_of, cell_of, cells_of, outside_of, site_of}
 use Rattle.cell_table.proofs.Chains.{IsJudged, judged-ok, judged-bind, judged-ok_or, judged-if, judged-each}
 
 judged_value_at : (k : Key) (d : Data) → IsJudged (value_at k d)
@@ -67,15 +67,11 @@ judged_ba_of d =
     judged-bind _ _ (judged_value_at key.Ba d) (λ v. judged-bind _ _ (judged_array_of key.Ba v) (λ ds. judged-bind _ _ (judged_counted key.Ba (up_to most_neighbours) ds)
     (λ carriers. judged-each (λ place. number_of key.Ba (allowed key.Ba)) (λ n d'. judged_number_of key.Ba (allowed key.Ba) d') 0 carriers)))
 
-judged_nine : (r : Read (List ℕ)) → IsJudged r → IsJudged (first_nine r)
-judged_nine (Ok xs) judged = judged-ok _
-judged_nine (Err fault) judged = record { never = λ e. judged.never cc }
-
 judged_tch_of : (first : Bool) (d : Data) → IsJudged (tch_of first d)
 unfolding tch_of
 judged_tch_of first d =
     judged-bind _ _ (judged_value_at key.Tch d) (λ v. judged-bind _ _ (judged_array_of key.Tch v)
-    (λ ds. judged_nine _ (judged-each (λ place. number_of key.Tch (tch_range first)) (λ n d'. judged_number_of key.Tch (tch_range first) d') 0 ds)))
+    (λ ds. judged-each (λ place. number_of key.Tch (tch_range first)) (λ n d'. judged_number_of key.Tch (tch_range first) d') 0 ds))
 
 judged_trx_of : (bcch : ℕ) (first : Bool) (d : Data) → IsJudged (trx_of bcch first d)
 unfolding trx_of

@@ -1,6 +1,6 @@
 -- What holds of every site: what a document says keeps the limits, and a traffic channel lies within them.
-use Rattle.std.proofs.Common.{◌≡◌, ap, is_some, if◌then◌else◌, ℕ, Bool, true, false, ◌==◌, ◌<◌, ◌≤◌, nat_le, List, [], ◌∷◌, length, Option, Some, None, option_map, option_and_then, IfSome, All, Ok, Err, take, get_or, slice_get, unwrap_or, refl, sym, ◌∙◌, subst, inl, inr, rules, arith}
-use Rattle.std.proofs.lemmas.List.Elements.{All-nil, All-head, All-tail, All-take}
+use Rattle.std.proofs.Common.{◌≡◌, ap, is_some, if◌then◌else◌, ℕ, Bool, true, false, ◌==◌, ◌<◌, ◌≤◌, nat_le, List, [], ◌∷◌, length, Option, Some, None, option_map, option_and_then, IfSome, All, Ok, Err, get_or, slice_get, unwrap_or, refl, sym, ◌∙◌, subst, inl, inr, rules, arith}
+use Rattle.std.proofs.lemmas.List.Elements.{All-nil, All-head, All-tail}
 use Rattle.std.proofs.lemmas.Bool.{false≢true, and_parts, cases_Bool}
 use Rattle.std.proofs.lemmas.Bool.Decides.{nat_tests}
 use Rattle.std.proofs.lemmas.Option.{same_Some, slice_get_within, slice_get-get_or}
@@ -18,7 +18,7 @@ use Rattle.cell_table.specs.declared.tables.CellIdentity.{CellIdentity}
 use Rattle.cell_table.specs.declared.tables.HandoverRule.{HandoverRule}
 use Rattle.cell_table.specs.Site.{TrxView, CellView, SiteView, IsCell, IsSite, IsHandoverRule, IsIdentity, IsWithinLimits, is_traffic}
 use Rattle.cell_table.specs.Rules.{broken_rule, unbroken, checked}
-use Rattle.cell_table.specs.SiteFile.{Read, ◌>>=◌, handover_of, is_table, each, is_allowed, natural_number, number_of, number_within, number_at, value_at, array_of, counted, all_tables, tables_of, key_name, handover_at, identity_of, ba_of, first_nine, tch_of, trx_of, all_trx_of, cell_of, cells_of, outside_of, site_of}
+use Rattle.cell_table.specs.SiteFile.{Read, ◌>>=◌, handover_of, is_table, each, is_allowed, natural_number, number_of, number_within, number_at, value_at, array_of, counted, all_tables, tables_of, key_name, handover_at, identity_of, ba_of, tch_of, trx_of, all_trx_of, cell_of, cells_of, outside_of, site_of}
 use Rattle.cell_table.proofs.Chains.{bind_parts, ok_or_parts, where_passes_parts, passed, All-each, first-each, length-each}
 
 -- what was read within a range is a number of that range
@@ -87,19 +87,14 @@ ba_limits d ba e =
     let few = counted_parts key.Ba (up_to most_neighbours) entries carriers r3 in
     (omega arith, All-each (λ place. number_of key.Ba (allowed key.Ba)) (IsAllowed key.Ba) (λ n d' c read. number_range key.Ba (allowed key.Ba) d' c read) 0 carriers ba e3))))
 
-nine_parts : (P : ℕ → Type 0) (r : Read (List ℕ)) (slots : List ℕ) → first_nine r ≡ Ok slots → ((xs : List ℕ) → r ≡ Ok xs → All P xs) → All P slots
-nine_parts P (Ok xs) slots e all = let same : take 9 xs ≡ slots = cc in rw (← same) (All-take P 9 xs (all xs refl))
-nine_parts P (Err fault) slots e all = absurd cc
-
 -- the timeslots of a TRX are in their range
 tch_within : (first : Bool) (d : Data) (slots : List ℕ) → tch_of first d ≡ Ok slots → All (λ tn. ((tch_range first).least ≤ tn) × (tn ≤ (tch_range first).most)) slots
 unfolding tch_of
 tch_within first d slots e =
     let Within : ℕ → Type 0 = λ tn. ((tch_range first).least ≤ tn) × (tn ≤ (tch_range first).most) in
-    bind_parts (All Within slots) (value_at key.Tch d) (λ value. array_of key.Tch value >>= (λ entries. first_nine (each (λ place. number_of key.Tch (tch_range first)) 0 entries))) slots e
-    (λ value there rest. bind_parts (All Within slots) (array_of key.Tch value) (λ entries. first_nine (each (λ place. number_of key.Tch (tch_range first)) 0 entries)) slots rest
-    (λ entries array nine. nine_parts Within (each (λ place. number_of key.Tch (tch_range first)) 0 entries) slots nine
-    (λ xs told. All-each (λ place. number_of key.Tch (tch_range first)) Within (λ n d' tn read. number_range key.Tch (tch_range first) d' tn read) 0 entries xs told)))
+    bind_parts (All Within slots) (value_at key.Tch d) (λ value. array_of key.Tch value >>= (λ entries. each (λ place. number_of key.Tch (tch_range first)) 0 entries)) slots e
+    (λ value there rest. bind_parts (All Within slots) (array_of key.Tch value) (λ entries. each (λ place. number_of key.Tch (tch_range first)) 0 entries) slots rest
+    (λ entries array told. All-each (λ place. number_of key.Tch (tch_range first)) Within (λ n d' tn read. number_range key.Tch (tch_range first) d' tn read) 0 entries slots told))
 
 -- the timeslots of a TRX
 trx_slots : (bcch : ℕ) (first : Bool) (d : Data) (t : TrxView) → trx_of bcch first d ≡ Ok t
@@ -216,11 +211,11 @@ cell_limits d c e =
     let list = ba_limits d ba r3 in
     rw (← is) (record { identity = named; power = number_allowed key.Power d power r2; few_neighbours = list.0; neighbours = list.1; carriers = facts.carriers; first_carrier = facts.first_carrier; trx_count = facts.trx_count; slots = facts.slots; broadcast = quiet (slice_get trx 0) facts.broadcast })))))
 
-record IsCellList (cells : List CellView) : Type 0 where
-  cell_count : IsAllowed key.Cell (length cells)
-  each_cell : All IsCell cells
+pub record IsCellList (cells : List CellView) : Type 0 where
+  pub cell_count : IsAllowed key.Cell (length cells)
+  pub each_cell : All IsCell cells
 
-cell_list : (d : Data) (cells : List CellView) → cells_of d ≡ Ok cells → IsCellList cells
+pub cell_list : (d : Data) (cells : List CellView) → cells_of d ≡ Ok cells → IsCellList cells
 unfolding cells_of
 cell_list d cells e =
     bind_parts (IsCellList cells) (value_at key.Cell d) (λ value. tables_of key.Cell value >>= (λ entries. each (λ place. cell_of) 0 entries)) cells e

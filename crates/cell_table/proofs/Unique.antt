@@ -7,7 +7,8 @@ use Rattle.std.proofs.lemmas.List.{length-map}
 use Rattle.std.specs.List.{list_any}
 use Rattle.cell_table.specs.declared.tables.CellIdentity.{CellIdentity}
 use Rattle.cell_table.specs.Site.{CellView, SiteView, identity_at}
-use Rattle.cell_table.specs.Rules.{has_twice, identities}
+use Rattle.cell_table.specs.Rules.{identities}
+use Rattle.cell_table.specs.Searches.{has_pair}
 
 -- where no element passes, none at a place does
 pub none_at : {A : Type 0} (p : A → Bool) (xs : List A) (i : ℕ) (x : A) → list_any p xs ≡ false → slice_get xs i ≡ Some x → p x ≡ false
@@ -17,17 +18,17 @@ none_at p (y ∷ xs) (suc i) x none there = none_at p xs i x (or_parts (p y) (li
 
 -- where none is like a later one, two places of alike elements are no two places
 later : {A : Type 0} (alike : A → A → Bool) (xs : List A) (i j : ℕ) (x y : A)
-    → has_twice alike xs ≡ false → slice_get xs i ≡ Some x → slice_get xs j ≡ Some y → i < j → alike x y ≡ false
+    → has_pair alike xs ≡ false → slice_get xs i ≡ Some x → slice_get xs j ≡ Some y → i < j → alike x y ≡ false
 later alike [] i j x y once at_i at_j before = absurd (none-some x at_i)
 later alike (z ∷ xs) zero zero x y once at_i at_j before = absurd (omega arith)
 later alike (z ∷ xs) zero (suc j) x y once at_i at_j before =
-    ap (λ w. alike w y) (sym (same_Some z x at_i)) ∙ none_at (alike z) xs j y (or_parts (list_any (alike z) xs) (has_twice alike xs) once).0 at_j
+    ap (λ w. alike w y) (sym (same_Some z x at_i)) ∙ none_at (alike z) xs j y (or_parts (list_any (alike z) xs) (has_pair alike xs) once).0 at_j
 later alike (z ∷ xs) (suc i) zero x y once at_i at_j before = absurd (omega arith)
 later alike (z ∷ xs) (suc i) (suc j) x y once at_i at_j before =
-    later alike xs i j x y (or_parts (list_any (alike z) xs) (has_twice alike xs) once).1 at_i at_j (omega arith)
+    later alike xs i j x y (or_parts (list_any (alike z) xs) (has_pair alike xs) once).1 at_i at_j (omega arith)
 
 pub one_place : {A : Type 0} (alike : A → A → Bool) (xs : List A) (i j : ℕ) (x y : A)
-    → has_twice alike xs ≡ false → slice_get xs i ≡ Some x → slice_get xs j ≡ Some y → alike x y ≡ true → alike y x ≡ true → i ≡ j
+    → has_pair alike xs ≡ false → slice_get xs i ≡ Some x → slice_get xs j ≡ Some y → alike x y ≡ true → alike y x ≡ true → i ≡ j
 one_place alike xs i j x y once at_i at_j there back =
     elim (order i j) [
       | inl (inl before) ↦ absurd (false≢true (sym (later alike xs i j x y once at_i at_j before) ∙ there))
@@ -79,7 +80,7 @@ same_cell site one other false false c c' is is' there there' same = after one o
     after : (n m k : ℕ) → nat_lt n 64 ≡ false → nat_lt m 64 ≡ false → k + (n - 64) ≡ k + (m - 64) → n ≡ m
     after n m k a b e = grind (arith, nat_tests)
 
-pub one_cell : (alike : CellIdentity → CellIdentity → Bool) (site : SiteView) (one other : ℕ) (c c' : CellIdentity) → has_twice alike (identities site) ≡ false
+pub one_cell : (alike : CellIdentity → CellIdentity → Bool) (site : SiteView) (one other : ℕ) (c c' : CellIdentity) → has_pair alike (identities site) ≡ false
     → identity_at site one ≡ Some c → identity_at site other ≡ Some c' → alike c c' ≡ true → alike c' c ≡ true → one ≡ other
 one_cell alike site one other c c' once there there' like back =
     same_cell site one other (nat_lt one 64) (nat_lt other 64) c c' refl refl there there'

@@ -1,5 +1,5 @@
 -- Laws of site files.
-use Rattle.std.specs.Prelude.{◌≡◌, ◌==◌, ◌<◌, ◌≤◌, ℕ, true, false, List, All, take, slice_get, Some, ◌↔◌, IsTrue}
+use Rattle.std.specs.Prelude.{◌≡◌, ◌==◌, ◌<◌, ◌≤◌, ℕ, true, false, List, All, length, slice_get, Some, ◌↔◌, IsTrue}
 use Rattle.cell_table.specs.Views.{SiteView}
 use Rattle.cell_table.specs.Site.{IsSite, IsCellOf}
 use Rattle.cell_table.specs.Neighbours.{neighbour_list, IsNamedCell}
@@ -8,9 +8,9 @@ use Rattle.cell_table.specs.Same.{same_site}
 use Rattle.cell_table.specs.Limits.{timeslots_of_trx, most_carrier}
 use Rattle.cell_table.specs.Rules.{has_twice}
 
--- Of nine timeslots two are the same: where none stands twice among the first nine, they are all that there are.
+-- A TRX has eight timeslots: where nine are named, or more, one stands twice.
 abbrev pub NineNameOneTwice : Type 0
-NineNameOneTwice = (slots : List ℕ) → All (λ tn. tn < timeslots_of_trx) slots → has_twice (λ m n. n == m) (take 9 slots) ≡ false → take 9 slots ≡ slots
+NineNameOneTwice = (slots : List ℕ) → All (λ tn. tn < timeslots_of_trx) slots → timeslots_of_trx < length slots → has_twice (λ m n. n == m) slots ≡ true
 
 -- Where every key says the same, the sites are equal, and only there.
 abbrev pub SameSitesAreEqual : Type 0

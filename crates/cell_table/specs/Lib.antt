@@ -8,5 +8,6 @@ pub mod Neighbours
 pub mod Searches
 pub mod NeighbourNames
 pub mod SiteFile
+pub mod Kept
 pub mod Reading
 pub mod Laws

@@ -1,5 +1,5 @@
 -- What has to hold of the cells of a site together, each rule looked at over the whole file before the next.
-use Rattle.std.specs.Prelude.{ℕ, ◌==◌, Bool, true, false, ◌&&◌, ◌||◌, Option, Some, None, Result, Ok, Err, List, [], ◌∷◌, ◌++◌, map}
+use Rattle.std.specs.Prelude.{ℕ, ◌==◌, Bool, true, false, ◌&&◌, nat_lt, count_by, Option, Some, None, Result, Ok, Err, List, [], ◌∷◌, ◌++◌, map}
 use Rattle.std.specs.List.{list_any, list_all, position}
 use Rattle.cell_table.specs.declared.fault.SiteFault.{SiteFault}
 use Rattle.cell_table.specs.declared.fault.SiteFault.TheVariants.{Twice, NoTraffic}
@@ -7,10 +7,9 @@ use Rattle.cell_table.specs.declared.fault.What.TheVariants as what
 use Rattle.cell_table.specs.declared.tables.CellIdentity.{CellIdentity}
 use Rattle.cell_table.specs.Views.{CellView, SiteView}
 
--- two of them are alike: one is like one that comes after it
+-- two of them are alike: one of them is like more than one, itself counted
 abbrev pub has_twice : {A : Type 0} → (A → A → Bool) → List A → Bool
-has_twice alike [] = false
-has_twice alike (x ∷ xs) = list_any (alike x) xs || has_twice alike xs
+has_twice alike xs = list_any (λ x. nat_lt 1 (count_by (alike x) xs)) xs
 
 -- one location area code and cell identity (TS 23.003 clause 4.3)
 abbrev pub same_codes : CellIdentity → CellIdentity → Bool

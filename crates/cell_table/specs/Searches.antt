@@ -1,11 +1,13 @@
 -- What the searches of the code answer, step by step. Of public clauses only the law `positions_are_counted` cites it: what
 -- they find is said in `Site` and `Neighbours`.
-use Rattle.std.specs.Prelude.{ℕ, ◌==◌, ◌+◌, ◌-◌, ◌/◌, ◌%◌, Bool, ◌&&◌, ◌||◌, not, nat_lt, if◌then◌else◌, List, [], ◌∷◌, take, sum_by, count_by, length, Option, Some, None, option_map, option_and_then, slice_get, unwrap_or, find}
+use Rattle.std.specs.Prelude.{ℕ, ◌==◌, ◌+◌, ◌-◌, ◌/◌, ◌%◌, Bool, false, ◌&&◌, ◌||◌, not, nat_lt, if◌then◌else◌, List, [], ◌∷◌, take, sum_by, count_by, length, Option, Some, None, option_map, option_and_then, slice_get, unwrap_or, find}
 use Rattle.std.specs.List.{list_any, position}
 use Rattle.channel_fsm.specs.declared.ChanId.{ChanId}
 use Rattle.cell_table.specs.declared.tables.CellIdentity.{CellIdentity}
 use Rattle.cell_table.specs.Views.{TrxView, CellView, SiteView}
 use Rattle.cell_table.specs.Limits.{first_outside}
+use Rattle.cell_table.specs.declared.fault.SiteFault.{SiteFault}
+use Rattle.cell_table.specs.Rules.{same_codes, same_colour, identities, has_no_traffic, first_broken}
 
 -- an own cell before an outside one
 abbrev pub own_or_outside : Option ℕ → Option ℕ → Option ℕ
@@ -75,3 +77,23 @@ trx_channel cell trx t place = option_map (λ tn. record { cell = cell; trx = tr
 
 abbrev pub cell_channel : ℕ → CellView → ℕ → Option ChanId
 cell_channel cell c place = at_place trx_size (trx_channel cell) 0 c.trx place
+
+-- an element is like one that comes after it
+abbrev pub has_pair : {A : Type 0} → (A → A → Bool) → List A → Bool
+has_pair alike [] = false
+has_pair alike (x ∷ xs) = list_any (alike x) xs || has_pair alike xs
+
+abbrev pub has_carrier_pair : CellView → Bool
+has_carrier_pair c = has_pair (λ s t. t.arfcn == s.arfcn) c.trx
+
+abbrev pub has_slot_pair : CellView → Bool
+has_slot_pair c = list_any (λ t. has_pair (λ m n. n == m) t.tch) c.trx
+
+abbrev pub has_neighbour_pair : CellView → Bool
+has_neighbour_pair c = has_pair (λ m n. n == m) c.ba
+
+-- the first rule that a site breaks, found by pairs
+unfoldable pub broken_by_pairs : SiteView → Option SiteFault
+broken_by_pairs site =
+    first_broken (has_pair same_codes (identities site)) (has_pair same_colour (identities site)) (list_any has_carrier_pair site.cells)
+    (list_any has_slot_pair site.cells) (list_any has_neighbour_pair site.cells) (position has_no_traffic site.cells)

@@ -1,7 +1,6 @@
 -- What a site file says, read off the TOML document that it is: each check in its order, and the first that fails.
-use Rattle.std.specs.Prelude.{ℕ, suc, ◌==◌, ℤ, pos, negsuc, nat_le, Bool, ◌&&◌, if◌then◌else◌, Option, Some, None, option_map, option_and_then, ok_or, is_some, Result, Ok, Err, List, [], ◌∷◌, length, take, codes}
+use Rattle.std.specs.Prelude.{ℕ, suc, ◌==◌, ℤ, pos, negsuc, nat_le, Bool, ◌&&◌, if◌then◌else◌, Option, Some, None, option_map, option_and_then, ok_or, is_some, Result, Ok, Err, List, [], ◌∷◌, length, codes}
 use Rattle.std.specs.List.{list_all}
-use Rattle.std.specs.Result.{result_map_both}
 use Rattle.toml.specs.Data.{Data, Items, no_items, item, table, get, as_array, as_integer, as_table}
 use Rattle.toml.specs.Errors.{IsBlank}
 use Rattle.toml.specs.Parse.{parse_document}
@@ -144,17 +143,12 @@ ba_of d = do
   carriers ← counted key.Ba (up_to most_neighbours) entries
   each (λ place. number_of key.Ba (allowed key.Ba)) 0 carriers
 
--- the first nine of what is read
-abbrev pub first_nine : Read (List ℕ) → Read (List ℕ)
-first_nine slots = result_map_both (λ found. take 9 found) (λ fault. fault) slots
-
--- The traffic timeslots of a TRX. Of nine there are always two that are the same, so what comes after the ninth has to
--- be a timeslot and is not kept.
+-- the traffic timeslots of a TRX
 unfoldable pub tch_of : Bool → Data → Read (List ℕ)
 tch_of first d = do
   value ← value_at key.Tch d
   entries ← array_of key.Tch value
-  first_nine (each (λ place. number_of key.Tch (tch_range first)) 0 entries)
+  each (λ place. number_of key.Tch (tch_range first)) 0 entries
 
 -- a TRX of a cell, the first or another
 unfoldable pub trx_of : ℕ → Bool → Data → Read TrxView

@@ -2,7 +2,8 @@
 ghost use Rattle.std.specs.Prelude.{◌≡◌, ◌==◌, ◌≤◌, ◌++◌, length, map};
 ghost use Rattle.std.specs.List.{list_any, list_all, position};
 ghost use Rattle.cell_table.specs.Limits.{most_cells, most_outside};
-ghost use Rattle.cell_table.specs.Rules.{has_twice, same_codes, same_colour, identities, has_carrier_twice, has_slot_twice, has_neighbour_twice, has_no_traffic, broken_rule};
+ghost use Rattle.cell_table.specs.Rules.{same_codes, same_colour, identities, has_no_traffic, broken_rule};
+ghost use Rattle.cell_table.specs.Searches.{has_pair, has_carrier_pair, has_slot_pair, has_neighbour_pair, broken_by_pairs};
 
 use crate::fault::{SiteFault, What};
 use crate::limits::{MOST_CELLS, MOST_OUTSIDE};
@@ -23,7 +24,7 @@ fn have_codes(cells: &[CellIdentity], of: CellIdentity) -> bool
 
 /// Whether two cells have one location area code and cell identity.
 fn have_codes_twice(cells: &[CellIdentity]) -> bool
-    ensures value { result ≡ has_twice same_codes cells.now }
+    ensures value { result ≡ has_pair same_codes cells.now }
 {
     match cells {
         [first, rest @ ..] => have_codes(rest, *first) || have_codes_twice(rest),
@@ -40,7 +41,7 @@ fn have_colour(cells: &[CellIdentity], of: CellIdentity) -> bool
 
 /// Whether two cells have one BCCH carrier, network colour code and base station colour code.
 fn have_colour_twice(cells: &[CellIdentity]) -> bool
-    ensures value { result ≡ has_twice same_colour cells.now }
+    ensures value { result ≡ has_pair same_colour cells.now }
 {
     match cells {
         [first, rest @ ..] => have_colour(rest, *first) || have_colour_twice(rest),
@@ -57,7 +58,7 @@ fn have_carrier(trx: &[Trx], arfcn: u16) -> bool
 
 /// Whether two TRX have one carrier.
 fn have_carrier_twice(trx: &[Trx]) -> bool
-    ensures value { result ≡ has_twice (λ s t. t.arfcn == s.arfcn) trx.now }
+    ensures value { result ≡ has_pair (λ s t. t.arfcn == s.arfcn) trx.now }
 {
     match trx {
         [first, rest @ ..] => have_carrier(rest, first.arfcn) || have_carrier_twice(rest),
@@ -67,7 +68,7 @@ fn have_carrier_twice(trx: &[Trx]) -> bool
 
 /// Whether a timeslot stands twice.
 fn have_slot_twice(slots: &[u8]) -> bool
-    ensures value { result ≡ has_twice (λ m n. n == m) slots.now }
+    ensures value { result ≡ has_pair (λ m n. n == m) slots.now }
 {
     match slots {
         [first, rest @ ..] => rest.contains(first) || have_slot_twice(rest),
@@ -77,7 +78,7 @@ fn have_slot_twice(slots: &[u8]) -> bool
 
 /// Whether a carrier stands twice.
 fn have_neighbour_twice(carriers: &[u16]) -> bool
-    ensures value { result ≡ has_twice (λ m n. n == m) carriers.now }
+    ensures value { result ≡ has_pair (λ m n. n == m) carriers.now }
 {
     match carriers {
         [first, rest @ ..] => rest.contains(first) || have_neighbour_twice(rest),
@@ -87,7 +88,7 @@ fn have_neighbour_twice(carriers: &[u16]) -> bool
 
 /// Whether a TRX of the cell names a timeslot twice.
 fn cell_has_slot_twice(cell: &Cell) -> bool
-    ensures value { result ≡ has_slot_twice cell.now }
+    ensures value { result ≡ has_slot_pair cell.now }
 {
     cell.trx
         .iter()
@@ -103,7 +104,7 @@ fn has_no_traffic(cell: &Cell) -> bool
 
 /// Whether one of the cells has one carrier on two TRX.
 fn any_carrier_twice(cells: &[Cell]) -> bool
-    ensures value { result ≡ list_any has_carrier_twice cells.now }
+    ensures value { result ≡ list_any has_carrier_pair cells.now }
 {
     cells
         .iter()
@@ -112,14 +113,14 @@ fn any_carrier_twice(cells: &[Cell]) -> bool
 
 /// Whether a TRX of one of the cells names a timeslot twice.
 fn any_slot_twice(cells: &[Cell]) -> bool
-    ensures value { result ≡ list_any has_slot_twice cells.now }
+    ensures value { result ≡ list_any has_slot_pair cells.now }
 {
     cells.iter().any(|cell| cell_has_slot_twice(cell))
 }
 
 /// Whether the BA list of one of the cells has a carrier twice.
 fn any_neighbour_twice(cells: &[Cell]) -> bool
-    ensures value { result ≡ list_any has_neighbour_twice cells.now }
+    ensures value { result ≡ list_any has_neighbour_pair cells.now }
 {
     cells
         .iter()
@@ -162,9 +163,16 @@ fn all_identities(
 }
 
 /// The first rule that the cells break together.
-#[tactic(auto, unfolding(crate::specs::Rules::broken_rule))]
 pub fn broken_rule(site: &Tables) -> Option<SiteFault>
     ensures value { result ≡ broken_rule site.now }
+{
+    broken_by_pairs(site)
+}
+
+/// The same, as two cells, TRX, timeslots or carriers show it of which one is like the other.
+#[tactic(auto, unfolding(crate::specs::Searches::broken_by_pairs))]
+fn broken_by_pairs(site: &Tables) -> Option<SiteFault>
+    ensures value { result ≡ broken_by_pairs site.now }
 {
     let cells = site.cells.as_slice();
     let all = all_identities(cells, site.outside.as_slice());

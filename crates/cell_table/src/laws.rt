@@ -24,8 +24,7 @@ pub fn limits_are_those_defined()
     ensures power { MOST_POWER ≡ most_power }
 {}
 
-/// Reading keeps the first nine timeslots of a TRX alone, and a site loses none by that: where no timeslot stands
-/// twice among the first nine, there are no more.
+/// Of nine timeslots that are named one stands twice, so that no site has more than eight on a TRX.
 pub fn nine_timeslots_name_one_twice()
     ensures law { NineNameOneTwice }
 {}

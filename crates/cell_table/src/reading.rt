@@ -3,7 +3,8 @@ ghost use Rattle.std.specs.Prelude.{◌≡◌, ◌==◌, ◌<◌, ◌≤◌, Ok,
 ghost use Rattle.std.specs.List.{list_all};
 ghost use Rattle.toml.specs.View.{view};
 ghost use Rattle.toml.specs.Data.{get, as_array};
-ghost use Rattle.cell_table.specs.SiteFile.{Read, value_at, is_allowed, allowed_number, number_of, number_within, number_at, array_of, entries_of, counted, all_tables, tables_of, each, handover_of, handover_at, identity_of, ba_of, first_nine, tch_of, trx_of, all_trx_of, cell_of, cells_of, outside_of, site_of, key_name, is_table};
+ghost use Rattle.cell_table.specs.SiteFile.{Read, value_at, is_allowed, allowed_number, number_of, number_within, number_at, array_of, entries_of, counted, all_tables, tables_of, each, handover_of, handover_at, identity_of, ba_of, tch_of, outside_of, key_name, is_table};
+ghost use Rattle.cell_table.specs.Kept.{first_nine, kept_trx, kept_trx_list, kept_cell, kept_cells};
 ghost use Rattle.cell_table.specs.Ranges.{allowed, arfcn_range, tch_range, up_to};
 ghost use Rattle.cell_table.specs.Limits.{most_cells, most_outside, most_trx, timeslots_of_trx, most_neighbours};
 ghost use Rattle.cell_table.specs.Reading.{value_read, values_read, items_read};
@@ -155,19 +156,19 @@ fn tables_of(key: Key, value: &Value) -> Result<&[Value], SiteFault>
 }
 
 /// The TRX of a cell, the first or another, at an entry of `trx`.
-#[tactic(auto, unfolding(crate::specs::SiteFile::trx_of))]
+#[tactic(auto, unfolding(crate::specs::Kept::kept_trx))]
 fn trx_of(bcch: u16, first: bool, entry: &Value) -> Result<Trx, SiteFault>
-    ensures read { result ≡ trx_of bcch first (view entry.now) }
+    ensures read { result ≡ kept_trx bcch first (view entry.now) }
 {
     let arfcn = number_within(entry, Key::Arfcn, arfcn_range(bcch, first))?;
     let tch = tch_of(first, entry)?;
     Ok(Trx { arfcn, tch })
 }
 
-/// The traffic timeslots of a TRX.
+/// The traffic timeslots of a TRX, of which the first nine are kept.
 #[tactic(auto, unfolding(crate::specs::SiteFile::tch_of))]
 fn tch_of(first: bool, trx: &Value) -> Result<ArrayVec<u8, 9>, SiteFault>
-    ensures read { items_read result ≡ tch_of first (view trx.now) }
+    ensures read { items_read result ≡ first_nine (tch_of first (view trx.now)) }
 {
     let entries = array_of(Key::Tch, value_at(trx, Key::Tch)?)?;
     slots_of(tch_range(first), entries)
@@ -216,7 +217,7 @@ fn carriers_of(entries: &[Value]) -> Result<ArrayVec<u16, MOST_NEIGHBOURS>, Site
 fn each_trx(bcch: u16, entries: &[Value]) -> Result<ArrayVec<Trx, MOST_TRX>, SiteFault>
     requires { length entries.now ≤ most_trx }
     ensures read { items_read result ≡
-        each (λ place. trx_of bcch (place == 0)) 0 (map view entries.now) }
+        each (λ place. kept_trx bcch (place == 0)) 0 (map view entries.now) }
 {
     let mut trx = ArrayVec::new();
     for entry in entries {
@@ -226,18 +227,18 @@ fn each_trx(bcch: u16, entries: &[Value]) -> Result<ArrayVec<Trx, MOST_TRX>, Sit
 }
 
 /// The TRX of a cell.
-#[tactic(auto, unfolding(crate::specs::SiteFile::all_trx_of))]
+#[tactic(auto, unfolding(crate::specs::Kept::kept_trx_list))]
 fn all_trx_of(bcch: u16, cell: &Value) -> Result<ArrayVec<Trx, MOST_TRX>, SiteFault>
-    ensures read { items_read result ≡ all_trx_of bcch (view cell.now) }
+    ensures read { items_read result ≡ kept_trx_list bcch (view cell.now) }
 {
     let entries = tables_of(Key::Trx, value_at(cell, Key::Trx)?)?;
     each_trx(bcch, entries)
 }
 
 /// An own cell, at an entry of `cell`.
-#[tactic(auto, unfolding(crate::specs::SiteFile::cell_of))]
+#[tactic(auto, unfolding(crate::specs::Kept::kept_cell))]
 fn cell_of(entry: &Value) -> Result<Cell, SiteFault>
-    ensures read { result ≡ cell_of (view entry.now) }
+    ensures read { result ≡ kept_cell (view entry.now) }
 {
     let identity = identity_of(entry)?;
     Ok(Cell {
@@ -251,7 +252,7 @@ fn cell_of(entry: &Value) -> Result<Cell, SiteFault>
 /// The own cells at the entries of `cell`.
 fn each_cell(entries: &[Value]) -> Result<ArrayVec<Cell, MOST_CELLS>, SiteFault>
     requires { length entries.now ≤ most_cells }
-    ensures read { items_read result ≡ each (λ place. cell_of) 0 (map view entries.now) }
+    ensures read { items_read result ≡ each (λ place. kept_cell) 0 (map view entries.now) }
 {
     let mut cells = ArrayVec::new();
     for entry in entries {
@@ -261,9 +262,9 @@ fn each_cell(entries: &[Value]) -> Result<ArrayVec<Cell, MOST_CELLS>, SiteFault>
 }
 
 /// The own cells.
-#[tactic(auto, unfolding(crate::specs::SiteFile::cells_of))]
+#[tactic(auto, unfolding(crate::specs::Kept::kept_cells))]
 pub fn cells_of(document: &Value) -> Result<ArrayVec<Cell, MOST_CELLS>, SiteFault>
-    ensures read { items_read result ≡ cells_of (view document.now) }
+    ensures read { items_read result ≡ kept_cells (view document.now) }
 {
     let entries = tables_of(Key::Cell, value_at(document, Key::Cell)?)?;
     each_cell(entries)

@@ -8,6 +8,7 @@ ghost use Rattle.channel_fsm.specs.declared.ChanId.{ChanId};
 ghost use Rattle.cell_table.specs.Site.{IsSite, IsWithinLimits, TrafficLiesWithin, trx_at, identity_at, is_traffic, IsCellOf, channels, index_of};
 ghost use Rattle.cell_table.specs.Searches.{has_codes, first_cell};
 ghost use Rattle.cell_table.specs.SiteFile.{site_of, read_site, IsBlankFile};
+ghost use Rattle.cell_table.specs.Kept.{kept_site};
 ghost use Rattle.std.proofs.Common.{rules};
 ghost use Rattle.std.specs.Cmp.Rules.{comparing};
 ghost use Rattle.cell_table.specs.Same.{same_site};
@@ -309,9 +310,16 @@ impl<A: Allocator + Copy> Site<A> {
 }
 
 /// What a document says.
-#[tactic(auto, unfolding(crate::specs::SiteFile::site_of))]
 fn tables_of(document: &Value) -> Result<Tables, SiteFault>
     ensures read { result ≡ site_of (view document.now) }
+{
+    kept_tables(document)
+}
+
+/// The same, by what is kept: of nine timeslots of a TRX two are the same, so that those after them tell nothing new.
+#[tactic(auto, unfolding(crate::specs::Kept::kept_site))]
+fn kept_tables(document: &Value) -> Result<Tables, SiteFault>
+    ensures read { result ≡ kept_site (view document.now) }
 {
     let tables = Tables {
         handover: handover_at(document)?,

@@ -1,4 +1,6 @@
+-- what the entries of windows answer
 mod WindowFacts
+-- how long the messages on A are
 mod MessageFacts
 -- steps that are put together, and what each comes to
 pub mod Going

@@ -2,7 +2,7 @@
 use Rattle.std.specs.Prelude.{◌≡◌, ℕ, List, ◌++◌, Option, Some, None}
 use Rattle.channel_fsm.specs.declared.ChanState.{ChanState}
 use Rattle.rr_elements.specs.MeasResults.{Results}
-use Rattle.radio_book.specs.declared.event.CallRecord.{CallRecord}
+use Rattle.radio_tables.specs.declared.kinds.CallRecord.{CallRecord}
 use Rattle.radio_desk.specs.declared.desk.DeskFault.{DeskFault}
 use Rattle.radio_desk.specs.declared.desk.DeskFault.TheVariants.{Foreign, NoMemory}
 use Rattle.ho_procedure.specs.declared.work.Work.{Work}

@@ -9,12 +9,12 @@ use Rattle.channel_fsm.specs.declared.ChanState.TheVariants.{Free, Held, Pending
 use Rattle.attempt_journal.specs.declared.Timer.{Timer}
 use Rattle.attempt_journal.specs.declared.Timer.TheVariants.{T3103, T7, T8}
 use Rattle.radio_book.specs.declared.event.Kind.TheVariants as kind
-use Rattle.radio_book.specs.declared.event.AttemptKind.{AttemptKind}
-use Rattle.radio_book.specs.declared.event.AttemptKind.TheVariants.{Internal, Incoming, Outgoing}
-use Rattle.radio_book.specs.declared.event.Stage.{Stage}
+use Rattle.radio_tables.specs.declared.kinds.AttemptKind.{AttemptKind}
+use Rattle.radio_tables.specs.declared.kinds.AttemptKind.TheVariants.{Internal, Incoming, Outgoing}
+use Rattle.radio_tables.specs.declared.kinds.Stage.{Stage}
 use Rattle.radio_book.specs.declared.event.Why.TheVariants.{Asked, Expired}
-use Rattle.radio_book.specs.declared.event.Attempt.{Attempt}
-use Rattle.radio_book.specs.declared.event.CallRecord.{CallRecord}
+use Rattle.radio_tables.specs.declared.kinds.Attempt.{Attempt}
+use Rattle.radio_tables.specs.declared.kinds.CallRecord.{CallRecord}
 use Rattle.radio_book.specs.declared.event.Event.{Event}
 use Rattle.radio_book.specs.declared.event.Event.TheVariants as event
 use Rattle.radio_book.specs.declared.event.Refusal.{Refusal}
@@ -23,7 +23,7 @@ use Rattle.radio_book.specs.declared.event.Reply.{Reply}
 use Rattle.radio_book.specs.declared.event.Reply.TheVariants.{Done, Record, Owned, Refused}
 use Rattle.radio_book.specs.Sound.{target_in}
 use Rattle.radio_book.specs.Table.{is_target, is_armed}
-use Rattle.radio_book.specs.Stages.{stage_row}
+use Rattle.radio_tables.specs.Stages.{stage_row}
 use Rattle.cell_table.specs.declared.tables.CellIdentity.{CellIdentity}
 use Rattle.cell_table.specs.Site.{SiteView, is_traffic}
 use Rattle.rr_elements.specs.MeasResults.{Results}
@@ -245,6 +245,11 @@ abbrev pub told_first : Option ℕ → ChanId → Plan → Plan
 told_first None x tail = tail
 told_first (Some cause) x tail = Sends (channel_release x cause) tail
 
+-- how many messages that is
+abbrev pub told_count : Option ℕ → ℕ
+told_count None = 0
+told_count (Some cause) = 1
+
 -- RF CHANNEL RELEASE of the serving channel (TS 48.058 clause 4.7), unless it is held; a mobile that is on is told why
 unfoldable pub release_serving : Option ℕ → CallRecord → Option ChanState → Plan → Plan
 release_serving cause r s tail =
@@ -263,7 +268,7 @@ clear_rest c cause tail r s =
 
 -- An operator clears a call.
 unfoldable pub clear_plan : ℕ → Plan
-clear_plan c = Readies (ForMessages 3) (looked c (clear_rest c None Ends))
+clear_plan c = Readies (ForMessages 2) (looked c (clear_rest c None Ends))
 
 -- CHANNEL ACTIVATION ACKNOWLEDGE (TS 48.058 clause 8.4.2) of a target: HANDOVER COMMAND to the mobile on its old channel
 -- (TS 44.018 clause 3.4.4.1), or to the switching centre in a HANDOVER REQUEST ACKNOWLEDGE (TS 48.008 clause 3.1.5.2)

@@ -1,7 +1,12 @@
 //! A desk of one's own.
-ghost use Rattle.std.specs.Prelude.{◌≡◌, ◌∷◌, ◌++◌, [], ℕ, List, Err, IfOk, OnErr, MatchOption};
+ghost use Rattle.std.specs.Prelude.{◌≡◌, ◌⊎◌, ◌∷◌, ◌++◌, [], ℕ, List, Ok, Err, None, IfOk, IfErr, OnErr, IfSome, MatchOption};
 ghost use Rattle.channel_fsm.specs.declared.ChanId.{ChanId};
-ghost use Rattle.ho_procedure.specs.Claims.{Entry, Claim, NoneFree, Chosen};
+ghost use Rattle.radio_book.specs.declared.event.Event.{Event};
+ghost use Rattle.radio_book.specs.Choice.{TakesFree, ReservesFree};
+ghost use Rattle.radio_book.specs.Choice as free;
+ghost use Rattle.radio_book.specs.Table.{row, NeedsRoom};
+ghost use Rattle.radio_desk.specs.Desk.{IsJudged, LacksRoom};
+ghost use Rattle.ho_procedure.specs.Claims.{Entry, Claim, NoneFree, Chosen, UnknownReceipt, MayBeRefused, IsForeign, IsNoMemory, IsTrueAfter};
 
 use crate::view::DeskView;
 use radio_book::event::{Event, Kind};
@@ -56,22 +61,62 @@ impl<A: Allocator + Copy> DeskView for Solo<A> {
 
     ghost judged = { λ before receipt after. IsJudged before receipt after };
 
-    fn judge(&mut self, event: Event) -> Result<Receipt, DeskFault> {
+    // The trait's clauses once more, and that memory is refused only where the desk may be refused it.
+    fn judge(&mut self, event: Event) -> Result<Receipt, DeskFault>
+        ensures ok { IfOk result (λ r. (r.event ≡ event) ×
+            (self.new.history ≡ self.old.history ++ (r.event, r.reply) ∷ [])) }
+        ensures receipt { IfOk result (λ r. IsJudged self.old r self.new) }
+        ensures err { OnErr result (self.new.history ≡ self.old.history) }
+        ensures foreign { IfErr result (λ f. (place : ℕ) → IsForeign f place →
+            IsTrueAfter self.old.opening self.old.history (UnknownReceipt place)) }
+        ensures memory { IfErr result (λ f. IsNoMemory f →
+            IsTrueAfter self.old.opening self.old.history (MayBeRefused event)) }
+        ensures refused { result ≡ Err DeskFault.NoMemory →
+            LacksRoom self.old ⊎ NeedsRoom self.old.book (row self.old.book event) }
+        ensures said { (es : List Entry) → (claim : Claim) →
+            IsTrueAfter self.new.opening es claim → IsTrueAfter self.old.opening es claim }
+    {
         let _entries = self.desk.len();
         self.desk.judge(&mut Seat::new(), event)
     }
 
-    fn judge_take(
-        &mut self,
-        call: u16,
-        kind: Kind,
-        cell: u8,
-    ) -> Result<Option<Receipt>, DeskFault> {
+    fn judge_take(&mut self, call: u16, kind: Kind, cell: u8) -> Result<Option<Receipt>, DeskFault>
+        ensures ok { IfOk result (λ answer. MatchOption answer
+            ((self.new.history ≡ self.old.history) ×
+            IsTrueAfter self.old.opening self.old.history (NoneFree cell))
+            (λ r. ((x : ChanId) × (x.cell ≡ cell) × (r.event ≡ Event.Take call kind x)) ×
+            IsTrueAfter self.old.opening self.old.history (Chosen r.event) ×
+            (self.new.history ≡ self.old.history ++ (r.event, r.reply) ∷ []))) }
+        ensures receipt { IfOk result (λ answer. IfSome answer
+            (λ r. IsJudged self.old r self.new)) }
+        ensures err { OnErr result (self.new.history ≡ self.old.history) }
+        ensures foreign { IfErr result (λ f. (place : ℕ) → IsForeign f place →
+            IsTrueAfter self.old.opening self.old.history (UnknownReceipt place)) }
+        ensures looked { free.NoneFree self.old.book cell → result ≡ Ok None }
+        ensures refused { result ≡ Err DeskFault.NoMemory → LacksRoom self.old ⊎
+            ((e : Event) × TakesFree self.old.book call kind cell e ×
+            NeedsRoom self.old.book (row self.old.book e)) }
+        ensures said { (es : List Entry) → (claim : Claim) →
+            IsTrueAfter self.new.opening es claim → IsTrueAfter self.old.opening es claim }
+    {
         let _entries = self.desk.len();
         self.desk.judge_take(&mut Seat::new(), call, kind, cell)
     }
 
-    fn judge_reserve(&mut self, call: u16) -> Result<Receipt, DeskFault> {
+    fn judge_reserve(&mut self, call: u16) -> Result<Receipt, DeskFault>
+        ensures ok { IfOk result (λ r. ((n : ℕ) × (r.event ≡ Event.Reserve call n)) ×
+            IsTrueAfter self.old.opening self.old.history (Chosen r.event) ×
+            (self.new.history ≡ self.old.history ++ (r.event, r.reply) ∷ [])) }
+        ensures receipt { IfOk result (λ r. IsJudged self.old r self.new) }
+        ensures err { OnErr result (self.new.history ≡ self.old.history) }
+        ensures foreign { IfErr result (λ f. (place : ℕ) → IsForeign f place →
+            IsTrueAfter self.old.opening self.old.history (UnknownReceipt place)) }
+        ensures refused { result ≡ Err DeskFault.NoMemory → LacksRoom self.old ⊎
+            ((e : Event) × ReservesFree self.old.book call e ×
+            NeedsRoom self.old.book (row self.old.book e)) }
+        ensures said { (es : List Entry) → (claim : Claim) →
+            IsTrueAfter self.new.opening es claim → IsTrueAfter self.old.opening es claim }
+    {
         let _entries = self.desk.len();
         self.desk.judge_reserve(&mut Seat::new(), call)
     }

@@ -24,8 +24,8 @@ use storms::storm::run_storm;
 use storms::trip::Shortage;
 pub use storms::watch::{Reached, Unwatched, Watch};
 
-/// Prints the lines of a storm that came to its end, and says how the work ended.
-fn print_figures<W: Write>(out: &mut W, figures: Figures) -> Result<Status, LabFault>
+/// Prints the six lines of a storm that came to its end, as [`storm_run`] does, and says how the work ended.
+pub fn print_figures<W: Write>(out: &mut W, figures: Figures) -> Result<Status, LabFault>
     ensures status { IfOk result (λ status. status ≡ audit_status figures.audit) }
     ensures printed { OnOk result (Appends (W.contents out.old) (W.contents out.new) (storm_text figures)) }
     ensures memory { result ≢ Err LabFault.NoMemory }

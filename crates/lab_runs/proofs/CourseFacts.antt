@@ -1,5 +1,5 @@
 -- Facts of turns, and of the course of a script.
-use Rattle.std.proofs.Common.{◌≡◌, ◌++◌, ◌∷◌, ◌<◌, ◌&&◌, ℕ, zero, suc, Bool, true, false, List, [], Option, Some, None, IsSome, IfSome, length, get_or, is_some, refl, sym, ap, ◌∙◌, append_assoc, append-nil, subst, rules, arith, Result, Ok, Err, OnOk, IfOk}
+use Rattle.std.proofs.Common.{◌≡◌, ◌++◌, ◌∷◌, ◌<◌, ◌&&◌, ℕ, zero, suc, Bool, true, false, List, [], Option, Some, None, IsSome, IfSome, length, get_or, is_some, option_map, refl, sym, ap, ◌∙◌, append_assoc, append-nil, subst, rules, arith, Result, Ok, Err, OnOk, IfOk}
 use Rattle.cell_table.specs.Site.{SiteView}
 use Rattle.ho_procedure.specs.declared.exchange.Inbound.{Inbound}
 use Rattle.lab_script.specs.declared.side.Side.{Side}
@@ -148,3 +148,8 @@ some_played sites inputs None h is = absurd (search (rules, is))
 pub heard_played : {A E : Type 0} (sites : List SiteView) (inputs : List (Side × Inbound A)) (c c' : Course A) (r : Result Bool E) → AreOpenings sites (positions_of c.controllers) → IfOk r (λ well. well ≡ true → Went inputs c c') → IfOk r (λ well. well ≡ true → Played A sites inputs)
 heard_played sites inputs c c' (Ok well) openings h = λ on. all_played sites inputs c c' openings (h on)
 heard_played sites inputs c c' (Err fault) openings h = tt
+
+-- what is made of a value is there just where the value is
+pub is_there_still : {A B : Type 0} (f : A → B) (o : Option A) → is_some (option_map f o) ≡ is_some o
+is_there_still f None = refl
+is_there_still f (Some x) = refl

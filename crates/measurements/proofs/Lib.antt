@@ -1,1 +1,2 @@
+-- the last valid reports of those that are kept and one more
 mod KeptLemmas

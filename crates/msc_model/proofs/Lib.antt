@@ -1,1 +1,2 @@
+-- each message that the centre sends has a canonical text
 mod Written

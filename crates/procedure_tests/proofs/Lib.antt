@@ -1,1 +1,2 @@
+-- what was said of a desk before a call
 mod StillSaid

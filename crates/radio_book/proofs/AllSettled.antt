@@ -1,9 +1,9 @@
 -- All settled attempts of a list: there is a list of them, and they leave no trace together.
-use Rattle.std.proofs.Common.{◌≡◌, ◌⊎◌, inl, inr, ℕ, zero, suc, ◌+◌, ◌<◌, ◌≤◌, Bool, true, false, if◌then◌else◌, IsTrue, is_some, List, [], ◌∷◌, ◌++◌, length, get_or, Option, Some, None, refl, sym, ◌∙◌, ap, subst, append_assoc, arith}
+use Rattle.std.proofs.Common.{◌≡◌, inl, inr, ℕ, suc, ◌+◌, ◌<◌, ◌≤◌, Bool, true, false, if◌then◌else◌, IsTrue, is_some, List, [], ◌∷◌, ◌++◌, length, get_or, Option, Some, None, refl, sym, ◌∙◌, ap, subst, append_assoc, arith}
 use Rattle.std.specs.Prelude.{All, AllPairs, Contains}
 use Rattle.std.proofs.lemmas.Bool.{cases_eq}
 use Rattle.std.proofs.lemmas.List.{length-append}
-use Rattle.std.proofs.lemmas.List.Elements.{All-nil, All-cons, All-weaker, All-head, All-tail}
+use Rattle.std.proofs.lemmas.List.Elements.{All-nil, All-cons, All-weaker}
 use Rattle.std.proofs.lemmas.List.Kept.{AllPairs-cons}
 use Rattle.radio_book.specs.declared.event.Event.{Event}
 use Rattle.radio_book.specs.declared.undone.StepAt.{StepAt}
@@ -13,8 +13,8 @@ use Rattle.radio_book.specs.declared.following.Followed.{Followed}
 use Rattle.radio_book.specs.State.{State}
 use Rattle.radio_book.specs.Table.{step, reply_to}
 use Rattle.radio_book.specs.Sound.{IsSound}
-use Rattle.radio_book.specs.Run.{run_book, run_replies}
-use Rattle.radio_book.specs.Undone.{Undone, IsUndoneIn, IsUndoneAttempt, steps_from, events_of, replies_of, is_target_off, book_after_undo, is_settled}
+use Rattle.radio_book.specs.Run.{run_book}
+use Rattle.radio_book.specs.Undone.{Undone, IsUndoneIn, IsUndoneAttempt, steps_from, is_target_off, book_after_undo, is_settled}
 use Rattle.radio_book.specs.Following.{begun, at_last, is_settled_in, is_undone_in, settles, opening_of, settling, settling_in, settling_count, remaining_from, all_held_from, leaves_off}
 use Rattle.radio_book.specs.Together.{AreSettled, remaining, held_steps, SettledAttemptsLeaveNoTrace}
 use Rattle.radio_book.proofs.Frame.{same_some}
@@ -23,7 +23,7 @@ use Rattle.radio_book.proofs.UndoneFacts.{same_front, place_of, undone_is_unique
 use Rattle.radio_book.proofs.FollowFacts.{UndoneBehind, undone_behind, settles_are}
 use Rattle.radio_book.proofs.UndoShown.{awaited_shown}
 use Rattle.radio_book.proofs.Standing.{Rises, Follows, Waits, waits}
-use Rattle.radio_book.proofs.Remaining.{IsPlaced, Stands, AreAll, remaining_same, all_held_same}
+use Rattle.radio_book.proofs.Remaining.{Stands, AreAll, remaining_same, all_held_same}
 use Rattle.radio_book.proofs.RemainderFacts.{IsOpening, is_opening}
 use Rattle.radio_book.proofs.Together.{opens_with, lead_on}
 

@@ -6,12 +6,12 @@ use Rattle.std.specs.Cmp.{IsTotalOrder, nat_cmp_total}
 use Rattle.std.specs.FinMap.{FinMap, IsAntisymmetric, nat_cmp-IsAntisymmetric}
 use Rattle.std.specs.FinMap as map
 use Rattle.channel_fsm.specs.declared.ChanId.{ChanId}
-use Rattle.radio_book.specs.declared.event.Reference.{Reference}
-use Rattle.radio_book.specs.Maps.{Entry, with_change}
+use Rattle.dense_tables.specs.declared.references.Reference.{Reference}
+use Rattle.radio_tables.specs.Maps.{Entry, with_change}
 use Rattle.radio_book.specs.State.{State, Change, apply, or_free, state_of, record_of}
 use Rattle.radio_book.proofs.Frame.{Touches, get_untouched}
-use Rattle.radio_book.proofs.MapFacts.{put_put_other}
-use Rattle.radio_book.proofs.KeyFacts.{chan_total, chan_exact, reference_total, reference_exact}
+use Rattle.radio_tables.proofs.MapFacts.{put_put_other}
+use Rattle.radio_tables.proofs.KeyFacts.{chan_total, chan_exact, reference_total, reference_exact}
 
 -- the change names another key, or none
 abbrev pub Misses : {K X : Type 0} → Option (Entry K X) → K → Type 0

@@ -9,18 +9,18 @@ use Rattle.channel_fsm.specs.declared.ChanState.TheVariants.{Free, Held, Pending
 use Rattle.channel_fsm.specs.declared.ChanEvent.{ChanEvent}
 use Rattle.channel_fsm.specs.declared.ChanEvent.TheVariants as chan
 use Rattle.channel_fsm.specs.Table.{next_state}
-use Rattle.radio_book.specs.declared.event.AttemptKind.{AttemptKind}
-use Rattle.radio_book.specs.declared.event.AttemptKind.TheVariants.{Incoming}
-use Rattle.radio_book.specs.Stages.{stage_row}
+use Rattle.radio_tables.specs.declared.kinds.AttemptKind.{AttemptKind}
+use Rattle.radio_tables.specs.declared.kinds.AttemptKind.TheVariants.{Incoming}
+use Rattle.radio_tables.specs.Stages.{stage_row}
 use Rattle.radio_book.specs.declared.event.Kind.{Kind}
 use Rattle.radio_book.specs.declared.event.Kind.TheVariants as kind
 use Rattle.attempt_journal.specs.declared.Timer.{Timer}
 use Rattle.radio_book.specs.declared.event.Why.{Why}
 use Rattle.radio_book.specs.declared.event.Why.TheVariants.{Asked, Expired}
-use Rattle.radio_book.specs.declared.event.Stage.{Stage}
-use Rattle.radio_book.specs.declared.event.Stage.TheVariants as stage
-use Rattle.radio_book.specs.declared.event.Attempt.{Attempt}
-use Rattle.radio_book.specs.declared.event.CallRecord.{CallRecord}
+use Rattle.radio_tables.specs.declared.kinds.Stage.{Stage}
+use Rattle.radio_tables.specs.declared.kinds.Stage.TheVariants as stage
+use Rattle.radio_tables.specs.declared.kinds.Attempt.{Attempt}
+use Rattle.radio_tables.specs.declared.kinds.CallRecord.{CallRecord}
 use Rattle.radio_book.specs.declared.event.Event.{Event}
 use Rattle.radio_book.specs.declared.event.Event.TheVariants as event
 use Rattle.radio_book.specs.declared.event.Refusal.{Refusal}
@@ -31,7 +31,7 @@ use Rattle.radio_book.specs.Table.{step, command_row, complete_row, require_row,
 use Rattle.radio_book.specs.Sound.{IsSound, target_in, HasTarget, HasServing}
 use Rattle.radio_book.specs.Channels.{IsStepOf, serving_of, target_of, changed_channel, TakesStep, ChannelsTakeSteps}
 use Rattle.radio_book.proofs.Rows.{command_by, command_at, complete_by, complete_at, require_at, require_from, order_by, order_at, left_by, left_at, detect_of, detect_at, clear_at, take_at, take_from, reserve_by, reserve_at, reserve_number, activate_by, activate_at}
-use Rattle.radio_book.proofs.KeyFacts.{chan_total, chan_exact}
+use Rattle.radio_tables.proofs.KeyFacts.{chan_total, chan_exact}
 use Rattle.radio_book.proofs.Frame.{AtKey, get-with_change, serving_is_on, aimed_is_owned}
 
 -- a step that the event may make a channel take leads from the one state to the other

@@ -1,6 +1,6 @@
 -- An undone attempt, followed from its opening on: the steps that stay, those of them that were refused for what it holds, and
 -- whether it settles are those that its parts say.
-use Rattle.std.proofs.Common.{◌≡◌, ℕ, Bool, true, false, not, cond, ◌&&◌, ◌||◌, if◌then◌else◌, IsTrue, is_some, List, [], ◌∷◌, ◌++◌, Option, Some, None, refl, sym, ◌∙◌, ap, subst, append_assoc}
+use Rattle.std.proofs.Common.{◌≡◌, ℕ, Bool, true, false, not, cond, ◌&&◌, ◌||◌, if◌then◌else◌, IsTrue, is_some, List, [], ◌∷◌, ◌++◌, Option, Some, None, refl, sym, ◌∙◌, ap}
 use Rattle.std.specs.Prelude.{All, filter, find}
 use Rattle.std.specs.List.{list_any}
 use Rattle.std.specs.Option.{option_and_then}
@@ -17,10 +17,10 @@ use Rattle.radio_book.specs.Table.{reference_held}
 use Rattle.radio_book.specs.Kinds.{Undoes, is_accepted, number_of, refusal_of}
 use Rattle.radio_book.specs.Undone.{Undone, IsUndoneIn, Ends, is_call, is_by_call, is_on_target, is_settled, reserves, releases, comes_from, refused_for, up_to_first, after_first, others, others_between, held_refusals, reference_reserved}
 use Rattle.radio_book.specs.Found.{undone_by, ended_by, ends}
-use Rattle.radio_book.specs.Following.{stays, holds, refused_in, number_with, ended_with, phase_after, after, begun, others_from, held_from, at_last, is_settled_in, is_undone_in, leaves_off, settles}
+use Rattle.radio_book.specs.Following.{holds, refused_in, number_with, ended_with, after, begun, others_from, held_from, at_last, is_settled_in, is_undone_in, leaves_off, settles}
 use Rattle.radio_book.proofs.UndoneFacts.{called, ends_by, ends_shown, ends_from, undoes_shown, undoes_ends, parts}
 use Rattle.radio_book.proofs.FoundFacts.{undoes_from}
-use Rattle.radio_book.proofs.StepFacts.{same_call, tested_call}
+use Rattle.radio_book.proofs.StepFacts.{same_call}
 use Rattle.radio_book.proofs.OpenPhase.{is_kept, no_reference, number_there}
 
 -- ONE STEP MORE

@@ -10,17 +10,17 @@ use Rattle.channel_fsm.specs.declared.ChanState.{ChanState}
 use Rattle.channel_fsm.specs.declared.ChanState.TheVariants.{Free, Held, Pending, On, Off}
 use Rattle.attempt_journal.specs.declared.Timer.{Timer}
 use Rattle.attempt_journal.specs.declared.Timer.TheVariants.{T3103, T8}
-use Rattle.radio_book.specs.declared.event.AttemptKind.{AttemptKind}
-use Rattle.radio_book.specs.declared.event.AttemptKind.TheVariants.{Internal, Incoming, Outgoing}
-use Rattle.radio_book.specs.declared.event.Attempt.{Attempt}
-use Rattle.radio_book.specs.declared.event.CallRecord.{CallRecord}
+use Rattle.radio_tables.specs.declared.kinds.AttemptKind.{AttemptKind}
+use Rattle.radio_tables.specs.declared.kinds.AttemptKind.TheVariants.{Internal, Incoming, Outgoing}
+use Rattle.radio_tables.specs.declared.kinds.Attempt.{Attempt}
+use Rattle.radio_tables.specs.declared.kinds.CallRecord.{CallRecord}
 use Rattle.radio_book.specs.declared.event.Kind.{Kind}
 use Rattle.radio_book.specs.declared.event.Kind.TheVariants as kind
 use Rattle.radio_book.specs.declared.event.Why.{Why}
 use Rattle.radio_book.specs.declared.event.Why.TheVariants.{Asked, Expired}
-use Rattle.radio_book.specs.declared.event.Stage.{Stage}
-use Rattle.radio_book.specs.declared.event.Stage.TheVariants.{Taken, Reserved, Sent, Refused, Confirmed, Commanded, Detected, Required, Ordered}
-use Rattle.radio_book.specs.declared.event.Reference.{Reference}
+use Rattle.radio_tables.specs.declared.kinds.Stage.{Stage}
+use Rattle.radio_tables.specs.declared.kinds.Stage.TheVariants.{Taken, Reserved, Sent, Refused, Confirmed, Commanded, Detected, Required, Ordered}
+use Rattle.dense_tables.specs.declared.references.Reference.{Reference}
 use Rattle.radio_book.specs.declared.event.Event.{Event}
 use Rattle.radio_book.specs.declared.event.Event.TheVariants as event
 use Rattle.radio_book.specs.declared.event.Refusal.{Refusal}
@@ -28,16 +28,16 @@ use Rattle.radio_book.specs.declared.event.Refusal.TheVariants.{Unexpected, Wron
 use Rattle.radio_book.specs.declared.event.Reply.{Reply}
 use Rattle.radio_book.specs.declared.event.Reply.TheVariants.{Done}
 use Rattle.cell_table.specs.Site.{is_traffic}
-use Rattle.radio_book.specs.Maps.{Entry, put, with_change}
+use Rattle.radio_tables.specs.Maps.{Entry, put, with_change}
 use Rattle.radio_book.specs.State.{State, apply, state_of, record_of}
-use Rattle.radio_book.specs.Stages.{stage_row}
+use Rattle.radio_tables.specs.Stages.{stage_row}
 use Rattle.radio_book.specs.Table.{owner, Outcome, Refuses, Accepts, row, step, reply_of, reply_to, book_after, with_entry, resting_record, reference_at, reference_held, open_row, clear_row, look_row, take_row, reserve_row, activate_row, command_row, complete_row, undo_row, undo_by, undo_attempt, is_armed, require_row, order_row, left_row, moved_entry, confirm_row, refuse_row, released_row, detect_row, detect_by, owner_row, needs}
 use Rattle.radio_book.specs.Sound.{IsSound, HasReference}
 use Rattle.radio_book.specs.Kinds.{call_of, channel_of, EndsIt, number_of, is_accepted, is_reserved}
 use Rattle.radio_book.specs.Others.{without_attempt_of, without_attempt_in, IsOpen, number_after, OwnStepsChangeTheAttempt}
 use Rattle.radio_book.proofs.Rows.{reserve_at, reserve_number, activate_at, command_at, complete_at, order_at, left_at, detect_at}
-use Rattle.radio_book.proofs.KeyFacts.{chan_total, chan_exact, reference_total, reference_exact, same_chan_itself}
-use Rattle.radio_book.proofs.MapFacts.{get_put_same, put_put_same, put_again, record_same}
+use Rattle.radio_tables.proofs.KeyFacts.{chan_total, chan_exact, reference_total, reference_exact, same_chan_itself}
+use Rattle.radio_tables.proofs.MapFacts.{get_put_same, put_put_same, put_again, record_same}
 use Rattle.radio_book.proofs.Frame.{attempting, same_some, aimed_is_owned}
 use Rattle.radio_book.proofs.SoundParts.{one_owner}
 

@@ -6,28 +6,28 @@ use Rattle.std.specs.FinMap.{FinMap}
 use Rattle.channel_fsm.specs.declared.ChanId.{ChanId}
 use Rattle.channel_fsm.specs.declared.ChanState.{ChanState}
 use Rattle.channel_fsm.specs.declared.ChanState.TheVariants.{Held, Pending, On, Off}
-use Rattle.radio_book.specs.declared.event.CallRecord.{CallRecord}
-use Rattle.radio_book.specs.declared.event.Reference.{Reference}
-use Rattle.radio_book.specs.declared.event.AttemptKind.{AttemptKind}
-use Rattle.radio_book.specs.declared.event.AttemptKind.TheVariants.{Internal, Incoming, Outgoing}
-use Rattle.radio_book.specs.declared.event.Stage.{Stage}
-use Rattle.radio_book.specs.declared.event.Stage.TheVariants.{Taken, Reserved, Sent, Refused, Confirmed, Commanded, Detected, Required, Ordered}
+use Rattle.radio_tables.specs.declared.kinds.CallRecord.{CallRecord}
+use Rattle.dense_tables.specs.declared.references.Reference.{Reference}
+use Rattle.radio_tables.specs.declared.kinds.AttemptKind.{AttemptKind}
+use Rattle.radio_tables.specs.declared.kinds.AttemptKind.TheVariants.{Internal, Incoming, Outgoing}
+use Rattle.radio_tables.specs.declared.kinds.Stage.{Stage}
+use Rattle.radio_tables.specs.declared.kinds.Stage.TheVariants.{Taken, Reserved, Sent, Refused, Confirmed, Commanded, Detected, Required, Ordered}
 use Rattle.attempt_journal.specs.declared.Inverse.TheVariants.{FreeChannel, DropReference, Uncommand, Undetect, Disarm}
 use Rattle.attempt_journal.specs.declared.Timer.{Timer}
 use Rattle.attempt_journal.specs.declared.Timer.TheVariants.{T3103, T7, T8}
-use Rattle.radio_book.specs.Keys.{chan_cmp, reference_cmp}
-use Rattle.radio_book.specs.Maps.{put, with_change}
+use Rattle.radio_tables.specs.Keys.{chan_cmp, reference_cmp}
+use Rattle.radio_tables.specs.Maps.{put, with_change}
 use Rattle.channel_fsm.specs.declared.ChanEvent.TheVariants.{Drop, SwitchOff}
 use Rattle.radio_book.specs.Channels.{channel_step}
 use Rattle.radio_book.specs.State.{State, apply, or_free, state_of, record_of}
 use Rattle.radio_book.specs.Table.{left_state, resting_record, reference_at, reference_held, undo_change}
 use Rattle.radio_book.specs.Sound.{IsSound, IsStageOf, HasTarget, HasReference, armed_in}
-use Rattle.radio_book.specs.Stages.{stage_row, opening_inverse}
+use Rattle.radio_tables.specs.Stages.{stage_row, opening_inverse}
 use Rattle.radio_book.specs.Journal.{InversesUndo, journal_of, reference_removal_of_call, record_change, timer_change, disarming, back_one_stage, run_inverse, run_back}
 use Rattle.std.specs.Ordering.{nat_cmp}
 use Rattle.std.specs.Cmp.{nat_cmp_total}
 use Rattle.std.specs.FinMap.{nat_cmp-IsAntisymmetric}
-use Rattle.radio_book.proofs.MapFacts.{get_put_same, state_same, record_same, put_put_same, put_again}
+use Rattle.radio_tables.proofs.MapFacts.{get_put_same, state_same, record_same, put_put_same, put_again}
 use Rattle.radio_book.proofs.Frame.{attempting, attempt_of, call_of}
 
 -- the channels after the first inverse and the one that frees the target

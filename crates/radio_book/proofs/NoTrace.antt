@@ -7,8 +7,8 @@ use Rattle.std.specs.FinMap as map
 use Rattle.channel_fsm.specs.declared.ChanId.{ChanId}
 use Rattle.channel_fsm.specs.declared.ChanState.{ChanState}
 use Rattle.channel_fsm.specs.declared.ChanState.TheVariants.{Free, Held, Pending, On, Off}
-use Rattle.radio_book.specs.declared.event.Attempt.{Attempt}
-use Rattle.radio_book.specs.declared.event.CallRecord.{CallRecord}
+use Rattle.radio_tables.specs.declared.kinds.Attempt.{Attempt}
+use Rattle.radio_tables.specs.declared.kinds.CallRecord.{CallRecord}
 use Rattle.radio_book.specs.declared.event.Event.{Event}
 use Rattle.radio_book.specs.declared.event.Event.TheVariants as event
 use Rattle.radio_book.specs.declared.event.Refusal.{Refusal}
@@ -25,8 +25,8 @@ use Rattle.radio_book.specs.Kinds.{Undoes, is_accepted}
 use Rattle.radio_book.specs.Others.{without_channel, without_attempt_of, IsOpen}
 use Rattle.radio_book.specs.Undone.{Undone, IsUndoneAttempt, first_held, held_refusals, places_of, events_of, is_settled, steps_from, is_off, is_target_off, is_on_target, releases, refused_for, up_to_first, after_first, awaiting, settled_tail, others, others_between, others_awaiting, reference_reserved, reserves}
 use Rattle.radio_book.specs.NoTrace.{UndoneAttemptsLeaveNoTrace}
-use Rattle.radio_book.proofs.KeyFacts.{chan_total, chan_exact}
-use Rattle.radio_book.proofs.MapFacts.{put_again, channel_same}
+use Rattle.radio_tables.proofs.KeyFacts.{chan_total, chan_exact}
+use Rattle.radio_tables.proofs.MapFacts.{put_again, channel_same}
 use Rattle.radio_book.proofs.SoundSteps.{sound_step}
 use Rattle.radio_book.proofs.OthersPhases.{undone_is_removed}
 use Rattle.radio_book.proofs.OwnSteps.{openings_add_the_attempt}

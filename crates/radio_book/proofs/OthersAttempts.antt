@@ -5,17 +5,17 @@ use Rattle.std.specs.FinMap as map
 use Rattle.channel_fsm.specs.declared.ChanId.{ChanId}
 use Rattle.channel_fsm.specs.declared.ChanState.{ChanState}
 use Rattle.channel_fsm.specs.declared.ChanState.TheVariants.{Free, Held, Pending, On, Off}
-use Rattle.radio_book.specs.declared.event.AttemptKind.TheVariants.{Incoming}
+use Rattle.radio_tables.specs.declared.kinds.AttemptKind.TheVariants.{Incoming}
 use Rattle.radio_book.specs.declared.event.Kind.{Kind}
 use Rattle.radio_book.specs.declared.event.Kind.TheVariants as kind
 use Rattle.attempt_journal.specs.declared.Timer.{Timer}
 use Rattle.radio_book.specs.declared.event.Why.{Why}
 use Rattle.radio_book.specs.declared.event.Why.TheVariants.{Asked, Expired}
-use Rattle.radio_book.specs.declared.event.Stage.{Stage}
-use Rattle.radio_book.specs.declared.event.Stage.TheVariants as stage
-use Rattle.radio_book.specs.declared.event.Attempt.{Attempt}
-use Rattle.radio_book.specs.declared.event.CallRecord.{CallRecord}
-use Rattle.radio_book.specs.declared.event.Reference.{Reference}
+use Rattle.radio_tables.specs.declared.kinds.Stage.{Stage}
+use Rattle.radio_tables.specs.declared.kinds.Stage.TheVariants as stage
+use Rattle.radio_tables.specs.declared.kinds.Attempt.{Attempt}
+use Rattle.radio_tables.specs.declared.kinds.CallRecord.{CallRecord}
+use Rattle.dense_tables.specs.declared.references.Reference.{Reference}
 use Rattle.radio_book.specs.declared.event.Event.TheVariants as event
 use Rattle.radio_book.specs.declared.event.Refusal.{Refusal}
 use Rattle.radio_book.specs.declared.event.Refusal.TheVariants.{NoCall, WrongPhase, NoChannel, SameCell, ChannelBusy, RefBusy, NotArmed}

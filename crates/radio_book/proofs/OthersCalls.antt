@@ -3,8 +3,8 @@ use Rattle.std.proofs.Common.{◌≡◌, ℕ, Bool, true, false, Option, Some, N
 use Rattle.channel_fsm.specs.declared.ChanId.{ChanId}
 use Rattle.channel_fsm.specs.declared.ChanState.{ChanState}
 use Rattle.channel_fsm.specs.declared.ChanState.TheVariants.{Pending}
-use Rattle.radio_book.specs.declared.event.Attempt.{Attempt}
-use Rattle.radio_book.specs.declared.event.CallRecord.{CallRecord}
+use Rattle.radio_tables.specs.declared.kinds.Attempt.{Attempt}
+use Rattle.radio_tables.specs.declared.kinds.CallRecord.{CallRecord}
 use Rattle.radio_book.specs.declared.event.Event.TheVariants as event
 use Rattle.radio_book.specs.declared.event.Refusal.TheVariants.{NoCall, CallExists, WrongPhase, NoChannel, ChannelBusy}
 use Rattle.radio_book.specs.declared.event.Reply.TheVariants.{Done, Record, Refused}

@@ -6,25 +6,25 @@ use Rattle.std.proofs.lemmas.Option.{same_Some}
 use Rattle.channel_fsm.specs.declared.ChanId.{ChanId}
 use Rattle.channel_fsm.specs.declared.ChanState.{ChanState}
 use Rattle.channel_fsm.specs.declared.ChanState.TheVariants.{Free, Pending, On, Off}
-use Rattle.radio_book.specs.declared.event.AttemptKind.{AttemptKind}
-use Rattle.radio_book.specs.declared.event.AttemptKind.TheVariants.{Internal, Incoming, Outgoing}
-use Rattle.radio_book.specs.declared.event.Attempt.{Attempt}
-use Rattle.radio_book.specs.declared.event.CallRecord.{CallRecord}
-use Rattle.radio_book.specs.declared.event.Reference.{Reference}
+use Rattle.radio_tables.specs.declared.kinds.AttemptKind.{AttemptKind}
+use Rattle.radio_tables.specs.declared.kinds.AttemptKind.TheVariants.{Internal, Incoming, Outgoing}
+use Rattle.radio_tables.specs.declared.kinds.Attempt.{Attempt}
+use Rattle.radio_tables.specs.declared.kinds.CallRecord.{CallRecord}
+use Rattle.dense_tables.specs.declared.references.Reference.{Reference}
 use Rattle.radio_book.specs.declared.event.Event.{Event}
 use Rattle.radio_book.specs.declared.event.Event.TheVariants as event
 use Rattle.radio_book.specs.declared.event.Refusal.TheVariants.{ChannelBusy, RefBusy, Unexpected}
 use Rattle.radio_book.specs.declared.event.Reply.{Reply}
 use Rattle.radio_book.specs.declared.event.Reply.TheVariants.{Refused}
-use Rattle.radio_book.specs.Maps.{Entry, with_change}
+use Rattle.radio_tables.specs.Maps.{Entry, with_change}
 use Rattle.radio_book.specs.State.{State, apply, state_of, record_of}
 use Rattle.radio_book.specs.Table.{owner, Refuses, is_target, detect_by, resting_record, reference_held, reply_to, left_state, Outcome, Accepts, row, book_after, needs}
 use Rattle.radio_book.specs.Sound.{IsSound, target_in, reference_of, armed_in}
 use Rattle.radio_book.specs.Others.{IsHeldChannel, IsHeldReference, without_attempt, without_channel, CommutesWithUndone, UndoneIsRemoved, LeavesOpenAttempts, LeavesOffTargets}
 use Rattle.radio_book.specs.Kinds.{call_of, channel_of}
 use Rattle.radio_book.proofs.Rows.{detect_of, detect_at}
-use Rattle.radio_book.proofs.KeyFacts.{chan_total, chan_exact, other_chan}
-use Rattle.radio_book.proofs.MapFacts.{put_put_same, call_cases, record_same}
+use Rattle.radio_tables.proofs.KeyFacts.{chan_total, chan_exact, other_chan}
+use Rattle.radio_tables.proofs.MapFacts.{put_put_same, call_cases, record_same}
 use Rattle.radio_book.proofs.Frame.{Touches, aimed_is_owned, serving_is_on}
 use Rattle.radio_book.proofs.Changes.{Misses, AreApart, option_missed, record_kept, state_kept}
 use Rattle.radio_book.proofs.SoundSteps.{sound_step}

@@ -8,14 +8,14 @@ use Rattle.channel_fsm.specs.declared.ChanId.{ChanId}
 use Rattle.channel_fsm.specs.declared.ChanState.{ChanState}
 use Rattle.channel_fsm.specs.declared.ChanState.TheVariants.{Free, Held, Pending, On, Off}
 use Rattle.attempt_journal.specs.declared.Timer.{Timer}
-use Rattle.radio_book.specs.declared.event.AttemptKind.{AttemptKind}
-use Rattle.radio_book.specs.declared.event.AttemptKind.TheVariants.{Internal, Incoming, Outgoing}
+use Rattle.radio_tables.specs.declared.kinds.AttemptKind.{AttemptKind}
+use Rattle.radio_tables.specs.declared.kinds.AttemptKind.TheVariants.{Internal, Incoming, Outgoing}
 use Rattle.radio_book.specs.declared.event.Kind.{Kind}
 use Rattle.radio_book.specs.declared.event.Kind.TheVariants as kind
-use Rattle.radio_book.specs.declared.event.Stage.{Stage}
-use Rattle.radio_book.specs.declared.event.Stage.TheVariants as stage
-use Rattle.radio_book.specs.declared.event.Attempt.{Attempt}
-use Rattle.radio_book.specs.declared.event.CallRecord.{CallRecord}
+use Rattle.radio_tables.specs.declared.kinds.Stage.{Stage}
+use Rattle.radio_tables.specs.declared.kinds.Stage.TheVariants as stage
+use Rattle.radio_tables.specs.declared.kinds.Attempt.{Attempt}
+use Rattle.radio_tables.specs.declared.kinds.CallRecord.{CallRecord}
 use Rattle.radio_book.specs.declared.event.Refusal.{Refusal}
 use Rattle.radio_book.specs.declared.event.Refusal.TheVariants.{WrongPhase, Unexpected, NotArmed}
 use Rattle.radio_book.specs.declared.event.Why.{Why}
@@ -24,14 +24,14 @@ use Rattle.radio_book.specs.declared.event.Event.{Event}
 use Rattle.radio_book.specs.declared.event.Event.TheVariants as event
 use Rattle.cell_table.specs.Site.{is_traffic}
 use Rattle.radio_book.specs.State.{State, Change, apply, or_free, state_of, record_of}
-use Rattle.radio_book.specs.Stages.{Allows, stage_allows}
+use Rattle.radio_tables.specs.Stages.{Allows, stage_allows}
 use Rattle.radio_book.specs.Table.{Outcome, Refuses, Accepts, needs, given, owner, left_state, row, reply_of, book_after, with_entry, at_stage, begin_row, clear_row, look_row, take_row, taken_attempt, require_row, in_stage, reference_at, reserve_row, activate_row, command_row, order_row, complete_row, left_row, resting_record, undo_attempt, undo_row, is_armed, is_target, moved_entry, attempt_entry, confirm_row, refuse_row, detect_by, detect_row, released_row, owner_row}
 use Rattle.radio_book.specs.Sound.{IsSound}
 use Rattle.radio_book.specs.Kinds.{is_accepted}
 use Rattle.radio_book.specs.Run.{RefusedEventsChangeNothing}
 use Rattle.radio_book.specs.Owed.{owed, IsOwedWithin, most_raised, StepsRaise, is_owed, OwedEventsLower}
 use Rattle.radio_book.proofs.Rows.{clear_at, take_from, take_at, require_from, require_at, reserve_number, detect_of}
-use Rattle.radio_book.proofs.KeyFacts.{chan_total, chan_exact}
+use Rattle.radio_tables.proofs.KeyFacts.{chan_total, chan_exact}
 use Rattle.radio_book.proofs.Frame.{aimed_is_owned}
 use Rattle.radio_book.proofs.SoundParts.{owned_not_free}
 use Rattle.radio_book.proofs.Totals.{counts, counts_before, counts_after, len_total, total-le-len, total_after}

@@ -9,25 +9,25 @@ use Rattle.channel_fsm.specs.declared.ChanState.{ChanState}
 use Rattle.channel_fsm.specs.declared.ChanState.TheVariants.{Free, Held, Pending, On, Off}
 use Rattle.attempt_journal.specs.declared.Timer.{Timer}
 use Rattle.attempt_journal.specs.declared.Timer.TheVariants.{T7}
-use Rattle.radio_book.specs.declared.event.AttemptKind.{AttemptKind}
-use Rattle.radio_book.specs.declared.event.AttemptKind.TheVariants.{Internal, Incoming, Outgoing}
+use Rattle.radio_tables.specs.declared.kinds.AttemptKind.{AttemptKind}
+use Rattle.radio_tables.specs.declared.kinds.AttemptKind.TheVariants.{Internal, Incoming, Outgoing}
 use Rattle.radio_book.specs.declared.event.Kind.{Kind}
 use Rattle.radio_book.specs.declared.event.Kind.TheVariants as kind
-use Rattle.radio_book.specs.declared.event.Stage.TheVariants.{Taken, Required}
-use Rattle.radio_book.specs.declared.event.Attempt.{Attempt}
-use Rattle.radio_book.specs.declared.event.CallRecord.{CallRecord}
+use Rattle.radio_tables.specs.declared.kinds.Stage.TheVariants.{Taken, Required}
+use Rattle.radio_tables.specs.declared.kinds.Attempt.{Attempt}
+use Rattle.radio_tables.specs.declared.kinds.CallRecord.{CallRecord}
 use Rattle.radio_book.specs.declared.event.Event.{Event}
 use Rattle.radio_book.specs.declared.event.Event.TheVariants as event
 use Rattle.cell_table.specs.Site.{is_traffic}
-use Rattle.radio_book.specs.Maps.{put, with_change}
+use Rattle.radio_tables.specs.Maps.{put, with_change}
 use Rattle.radio_book.specs.State.{State, apply, or_free, state_of, record_of}
 use Rattle.radio_book.specs.Table.{Outcome, Refuses, Accepts, row, reply_of, reply_to, step, book_after, with_entry, resting_record, taking_change, take_row, begin_row, taken_attempt, require_row}
 use Rattle.radio_book.specs.Sound.{IsSound, armed_in}
 use Rattle.radio_book.specs.Kinds.{is_accepted}
 use Rattle.radio_book.specs.Others.{without_attempt_of, without_attempt_in, IsOpen, AddsTheAttempt, OpeningsAddTheAttempt}
 use Rattle.radio_book.proofs.Rows.{take_at, take_from, require_at, require_from}
-use Rattle.radio_book.proofs.KeyFacts.{chan_total, chan_exact}
-use Rattle.radio_book.proofs.MapFacts.{get_put_same, put_put_same, put_again, record_same}
+use Rattle.radio_tables.proofs.KeyFacts.{chan_total, chan_exact}
+use Rattle.radio_tables.proofs.MapFacts.{get_put_same, put_put_same, put_again, record_same}
 use Rattle.radio_book.proofs.Frame.{attempting}
 use Rattle.radio_book.proofs.SoundParts.{rests}
 

@@ -1,15 +1,14 @@
 -- One step of a list that is walked along with an undone attempt: without the attempt it leads alike, or it is the attempt's own and
 -- leads nowhere.
-use Rattle.std.proofs.Common.{◌≡◌, ◌⊎◌, inl, inr, ℕ, Bool, true, false, not, cond, ◌&&◌, if◌then◌else◌, IsTrue, is_some, Option, Some, None, refl, sym, ◌∙◌, ap, subst, List, [], ◌∷◌}
-use Rattle.std.specs.Option.{option_map, option_and_then}
+use Rattle.std.proofs.Common.{◌≡◌, ◌⊎◌, inl, inr, ℕ, Bool, true, false, not, ◌&&◌, if◌then◌else◌, IsTrue, is_some, Option, Some, None, refl, sym, ◌∙◌, ap, subst, []}
+use Rattle.std.specs.Option.{option_map}
 use Rattle.std.specs.FinMap as map
 use Rattle.std.proofs.lemmas.Bool.{and_parts, and_from, not-true}
 use Rattle.channel_fsm.specs.declared.ChanId.{ChanId}
 use Rattle.channel_fsm.specs.declared.ChanState.TheVariants.{Free, Off}
-use Rattle.radio_book.specs.declared.event.Attempt.{Attempt}
-use Rattle.radio_book.specs.declared.event.AttemptKind.{AttemptKind}
-use Rattle.radio_book.specs.declared.event.AttemptKind.TheVariants.{Internal, Incoming, Outgoing}
-use Rattle.radio_book.specs.declared.event.CallRecord.{CallRecord}
+use Rattle.radio_tables.specs.declared.kinds.AttemptKind.{AttemptKind}
+use Rattle.radio_tables.specs.declared.kinds.AttemptKind.TheVariants.{Internal, Incoming, Outgoing}
+use Rattle.radio_tables.specs.declared.kinds.CallRecord.{CallRecord}
 use Rattle.radio_book.specs.declared.event.Event.{Event}
 use Rattle.radio_book.specs.declared.event.Event.TheVariants as event
 use Rattle.radio_book.specs.declared.event.Kind.{Kind}
@@ -25,12 +24,12 @@ use Rattle.radio_book.specs.Table.{Outcome, row, step, reply_of, reply_to, resti
 use Rattle.cell_table.specs.Site.{is_traffic}
 use Rattle.radio_book.specs.Sound.{IsSound}
 use Rattle.radio_book.specs.Kinds.{call_of, channel_of, released_by, number_of, refusal_of, Opens, Undoes, is_accepted, is_reserved}
-use Rattle.radio_book.specs.Others.{without_channel, without_attempt, without_attempt_of, LeavesAlone, IsOpen, IsOwn, GoesOn, number_after}
+use Rattle.radio_book.specs.Others.{without_channel, without_attempt, without_attempt_of, LeavesAlone, IsOpen, IsOwn, number_after}
 use Rattle.radio_book.specs.Undone.{Ends, is_call, is_channel, is_by_call, is_on_target, is_off, is_target_off, reserves, releases, comes_from}
 use Rattle.radio_book.specs.Found.{opened_by, ended_by, ends}
-use Rattle.radio_book.specs.Following.{stays, stays_in, holds, refused_in, number_with, ended_with, phase_after, after, leaves_off}
-use Rattle.radio_book.proofs.KeyFacts.{chan_total, chan_exact}
-use Rattle.radio_book.proofs.MapFacts.{key_cases, call_cases, record_same, state_same, state_other}
+use Rattle.radio_book.specs.Following.{stays, stays_in, holds, refused_in, number_with, phase_after, after, leaves_off}
+use Rattle.radio_tables.proofs.KeyFacts.{chan_total, chan_exact}
+use Rattle.radio_tables.proofs.MapFacts.{key_cases, call_cases, record_same, state_same, state_other}
 use Rattle.radio_book.proofs.Rows.{take_at, require_at}
 use Rattle.radio_book.proofs.Changes.{record_kept, state_kept, option_missed}
 use Rattle.radio_book.proofs.Frame.{same_some}
@@ -39,9 +38,9 @@ use Rattle.radio_book.proofs.OthersPhases.{commutes_with_undone, leaves_off_targ
 use Rattle.radio_book.proofs.EachAgrees.{each_agrees}
 use Rattle.radio_book.proofs.StepFacts.{tested_call, same_call, tested_channel, same_channel, release_of, for_no_channel}
 use Rattle.radio_book.proofs.UndoneFacts.{called, opens_shown, ends_from, ends_shown}
-use Rattle.radio_book.proofs.OpenPhase.{is_kept, kept_is_other, left_is_own, own_goes, own_reserves, kept_alike, without_is, number_there}
+use Rattle.radio_book.proofs.OpenPhase.{is_kept, left_is_own, own_goes, own_reserves, kept_alike, without_is}
 use Rattle.radio_book.proofs.OffPhase.{refused_or_released, freed}
-use Rattle.radio_book.proofs.NoTrace.{after_undo, IsOver, IsAwaited}
+use Rattle.radio_book.proofs.NoTrace.{after_undo}
 use Rattle.radio_book.proofs.UndoShown.{undo_shows}
 use Rattle.radio_book.proofs.FollowFacts.{in_phase, left_in, at_undo, after_goes, is_own}
 

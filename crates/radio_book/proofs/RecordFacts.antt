@@ -1,34 +1,49 @@
 -- What a sound book says of the channels that an event reads.
-use Rattle.std.proofs.Common.{◌≡◌, ◌≢◌, ℕ, true, false, if◌then◌else◌, Option, Some, None, is_some, Result, Ok, Err, OnOk, OnErr, refl, sym, ap, ◌∙◌, subst}
+use Rattle.std.proofs.Common.{◌≡◌, ◌≢◌, ◌==◌, ◌<◌, ℕ, true, false, if◌then◌else◌, [], length, slice_get, unwrap_or, option_and_then, Option, Some, None, is_some, Result, Ok, Err, OnOk, OnErr, refl, sym, ap, ◌∙◌, subst}
 use Rattle.std.proofs.lemmas.Bool.{eq-eqb}
 use Rattle.std.specs.Option.{option_map}
-use Rattle.std.specs.FinMap.{FinMap}
+use Rattle.std.specs.List.{list_any}
+use Rattle.std.proofs.lemmas.Option.{slice_get_within}
 use Rattle.std.specs.FinMap as map
 use Rattle.channel_fsm.specs.declared.ChanId.{ChanId}
 use Rattle.channel_fsm.specs.declared.ChanState.{ChanState}
 use Rattle.channel_fsm.specs.declared.ChanState.TheVariants.{Free, Held, Pending, On, Off}
-use Rattle.radio_book.specs.declared.event.Stage.{Stage}
-use Rattle.radio_book.specs.declared.event.Attempt.{Attempt}
-use Rattle.radio_book.specs.declared.event.CallRecord.{CallRecord}
+use Rattle.radio_tables.specs.declared.kinds.Stage.{Stage}
+use Rattle.radio_tables.specs.declared.kinds.Attempt.{Attempt}
+use Rattle.radio_tables.specs.declared.kinds.CallRecord.{CallRecord}
 use Rattle.radio_book.specs.declared.event.Event.{Event}
 use Rattle.radio_book.specs.declared.event.Refusal.TheVariants.{ChannelBusy}
-use Rattle.cell_table.specs.Site.{is_traffic}
+use Rattle.cell_table.specs.Site.{SiteView, is_traffic}
 use Rattle.channel_fsm.specs.declared.ChanEvent.TheVariants.{Send}
-use Rattle.radio_book.specs.Keys.{chan_cmp}
-use Rattle.radio_book.specs.Maps.{with_change}
 use Rattle.radio_book.specs.Channels.{entry_of, channel_step}
 use Rattle.radio_book.specs.State.{State, or_free, state_of, record_of}
 use Rattle.radio_book.specs.Sound.{IsSound, HasTarget}
-use Rattle.radio_book.specs.Table.{Refuses, step, begin_row}
-use Rattle.radio_book.specs.Stages.{stage_row, sent_inverses, opening_inverse}
+use Rattle.radio_book.specs.Table.{Refuses, step, begin_row, with_entry}
+use Rattle.radio_tables.specs.Stages.{stage_row, sent_inverses, opening_inverse}
 use Rattle.radio_book.specs.Journal.{journal_of, or_zero, or_origin}
+use Rattle.radio_book.proofs.Frame.{aimed_is_owned}
+use Rattle.radio_book.proofs.SoundParts.{owned_traffic}
 use Rattle.radio_book.proofs.SoundSteps.{sent_stage, sound_step}
 
 -- a held channel of a call that asks for it
-pub sent : (m : FinMap chan_cmp ChanState) (x : ChanId) (c : ℕ) → or_free (map.get m x) ≡ Held c → with_change m (channel_step x (Send c) (or_free (map.get m x))) ≡ map.insert m x (Pending c)
-sent m x c held =
-    ap (λ s. with_change m (channel_step x (Send c) s)) held
-    ∙ ap (λ same. with_change m (option_map (λ after. (x, entry_of after)) (if same then Some (Pending c) else None))) (eq-eqb c c refl)
+pub sent : (x : ChanId) (c : ℕ) → channel_step x (Send c) (Held c) ≡ with_entry x (Pending c)
+sent x c = ap (λ same. option_map (λ after. (x, entry_of after)) (if same then Some (Pending c) else None)) (eq-eqb c c refl)
+
+-- a traffic channel lies in an own cell
+traffic_cell : (site : SiteView) (x : ChanId) → is_traffic site x ≡ true → x.cell < length site.cells
+traffic_cell site x traffic =
+    elim (slice_get site.cells x.cell) as (λ o. slice_get site.cells x.cell ≡ o → x.cell < length site.cells) [
+      | None ↦ λ is.
+          let none : is_traffic site x ≡ false = ap (λ o. list_any (λ tn. tn == x.tn) (unwrap_or (option_map (λ t. t.tch) (option_and_then (λ found. slice_get found.trx x.trx) o)) [])) is in
+          cc
+      | Some found ↦ λ is. slice_get_within site.cells x.cell found is
+    ] refl
+
+-- and so does the target of an attempt
+pub target_cell : (b : State) → IsSound b → (c : ℕ) (r : CallRecord) (a : Attempt) (t : ChanId) →
+    record_of b c ≡ Some r → r.attempt ≡ Some a → a.target ≡ Some t → t.cell < length b.site.cells
+target_cell b sound c r a t known opened aims =
+    traffic_cell b.site t (owned_traffic b sound t c (aimed_is_owned b sound c r a t known opened aims))
 
 -- an entry is of a channel that isn't free
 not_free : (b : State) (x : ChanId) → IsSound b → is_some (map.get b.channels x) ≡ true → state_of b x ≢ Free

@@ -5,20 +5,19 @@ use Rattle.channel_fsm.specs.declared.ChanId.{ChanId}
 use Rattle.channel_fsm.specs.declared.ChanState.{ChanState}
 use Rattle.attempt_journal.specs.declared.Timer.{Timer}
 use Rattle.cell_table.specs.Site.{is_traffic}
-use Rattle.radio_book.specs.declared.event.Kind.{Kind}
 use Rattle.radio_book.specs.declared.event.Kind.TheVariants as kind
 use Rattle.radio_book.specs.declared.event.Why.{Why}
 use Rattle.radio_book.specs.declared.event.Why.TheVariants.{Asked, Expired}
-use Rattle.radio_book.specs.declared.event.Attempt.{Attempt}
-use Rattle.radio_book.specs.declared.event.CallRecord.{CallRecord}
+use Rattle.radio_tables.specs.declared.kinds.Attempt.{Attempt}
+use Rattle.radio_tables.specs.declared.kinds.CallRecord.{CallRecord}
 use Rattle.radio_book.specs.declared.event.Event.{Event}
 use Rattle.radio_book.specs.declared.event.Event.TheVariants as event
 use Rattle.radio_book.specs.declared.event.Refusal.{Refusal}
 use Rattle.radio_book.specs.declared.event.Refusal.TheVariants.{NoCall, CallExists, WrongPhase, NoChannel, SameCell, ChannelBusy, RefBusy, Unexpected, NotArmed}
 use Rattle.radio_book.specs.State.{State, state_of, record_of}
-use Rattle.radio_book.specs.Table.{Outcome, Refuses, Accepts, needs, given, channel_row, owner, is_target, reference_at, row, step, reply_to, reply_of, book_after, begin_row, at_rest, in_stage, undo_attempt, undo_by, is_armed}
+use Rattle.radio_book.specs.Table.{Outcome, Refuses, Accepts, needs, given, channel_row, owner, is_target, reference_at, row, step, reply_to, reply_of, book_after, begin_row, at_rest, in_stage, undo_by, is_armed}
 use Rattle.radio_book.specs.Kinds.{is_accepted}
-use Rattle.radio_book.specs.Stages.{Allows, stage_allows}
+use Rattle.radio_tables.specs.Stages.{Allows, stage_allows}
 
 -- what a row accepts is answered as accepted
 abbrev IsFair : Outcome → Type 0

@@ -1,19 +1,15 @@
 -- What stays of a list without the undone attempt that opens at a place is what following it from there finds.
-use Rattle.std.proofs.Common.{◌≡◌, ◌+◌, ◌-◌, ◌<◌, ◌≤◌, ℕ, suc, Bool, true, false, if◌then◌else◌, IsTrue, List, [], ◌∷◌, ◌++◌, length, take, drop, get_or, Option, Some, None, refl, sym, ◌∙◌, ap, subst, arith, add-one, drop-cons}
-use Rattle.std.specs.List.{slice_get}
+use Rattle.std.proofs.Common.{◌≡◌, ◌+◌, ◌-◌, ◌<◌, ℕ, suc, Bool, true, false, if◌then◌else◌, IsTrue, List, ◌∷◌, ◌++◌, length, take, drop, get_or, Option, Some, None, refl, sym, ◌∙◌, ap, subst, arith, add-one, drop-cons}
 use Rattle.std.proofs.lemmas.List.{take-append-drop, length-append, length-drop, length-take-le}
 use Rattle.std.proofs.Math.Seq.{get_or-append_seam, drop-append-add, take-append_seam, take-length}
 use Rattle.channel_fsm.specs.declared.ChanId.{ChanId}
 use Rattle.radio_book.specs.declared.event.Event.{Event}
-use Rattle.radio_book.specs.declared.event.Event.TheVariants.{Owner}
-use Rattle.radio_book.specs.declared.event.Reply.TheVariants.{Done}
 use Rattle.radio_book.specs.declared.undone.StepAt.{StepAt}
-use Rattle.radio_book.specs.declared.following.Phase.TheVariants.{Open}
 use Rattle.radio_book.specs.declared.following.Followed.{Followed}
 use Rattle.radio_book.specs.State.{State}
 use Rattle.radio_book.specs.Sound.{IsSound}
 use Rattle.radio_book.specs.Kinds.{Opens, is_accepted}
-use Rattle.radio_book.specs.Undone.{Undone, IsUndoneIn, IsUndoneAttempt, IsUndoneAt, OpensUndone, steps_from, others, held_refusals, is_settled, is_target_off, book_after_undo}
+use Rattle.radio_book.specs.Undone.{Undone, IsUndoneIn, IsUndoneAt, OpensUndone, steps_from, others, held_refusals, is_settled, is_target_off, book_after_undo}
 use Rattle.radio_book.specs.Found.{opened_by}
 use Rattle.radio_book.specs.Following.{IsShownAt, begun, opened_in, opening_of, others_from, held_from, at_last, is_settled_in, is_undone_in, leaves_off}
 use Rattle.radio_book.proofs.Frame.{same_some}

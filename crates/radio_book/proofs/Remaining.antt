@@ -1,21 +1,20 @@
 -- The steps that remain without all settled attempts, and those that are held, are those that a walk finds which follows the attempts.
-use Rattle.std.proofs.Common.{◌≡◌, ◌⊎◌, inl, inr, ℕ, Bool, true, false, not, cond, ◌&&◌, ◌||◌, ◌==◌, if◌then◌else◌, is_none, List, [], ◌∷◌, ◌++◌, map, Option, Some, None, refl, sym, ◌∙◌, ap, subst}
+use Rattle.std.proofs.Common.{◌≡◌, ◌⊎◌, inl, inr, Bool, true, false, not, cond, ◌&&◌, ◌==◌, if◌then◌else◌, is_none, List, [], ◌∷◌, ◌++◌, map, Option, Some, None, refl, sym, ◌∙◌, ap, subst}
 use Rattle.std.specs.Prelude.{All, Contains, filter}
 use Rattle.std.specs.List.{list_any, list_all}
 use Rattle.std.specs.Option.{option_to_list}
-use Rattle.std.proofs.lemmas.Bool.{and_parts, and_from, or_cases, or_left, or_right, eq-eqb, cases_Bool, not-true}
+use Rattle.std.proofs.lemmas.Bool.{and_parts, and_from, or_left, or_right, eq-eqb}
 use Rattle.std.proofs.lemmas.List.Elements.{All-head, All-tail, All-nil, All-cons, All-append, All-filter, All-map, All-contains, All-weaker}
 use Rattle.std.proofs.lemmas.List.Folds.{list_any_at, Any-from_list_any}
-use Rattle.channel_fsm.specs.declared.ChanId.{ChanId}
 use Rattle.radio_book.specs.declared.undone.StepAt.{StepAt}
 use Rattle.radio_book.specs.declared.following.Phase.{Phase}
 use Rattle.radio_book.specs.declared.following.Phase.TheVariants.{Open, Awaiting, Settled, Completed}
 use Rattle.radio_book.specs.declared.following.Followed.{Followed}
 use Rattle.radio_book.specs.Undone.{Undone, others, held_refusals}
-use Rattle.radio_book.specs.Following.{stays, stays_in, holds, refused_in, after, phase_after, begun, is_over, is_over_in, settles, opening_of, settling, settling_in, followed_on, remains, is_held_by, remaining_from, all_held_from}
+use Rattle.radio_book.specs.Following.{stays, stays_in, holds, refused_in, after, phase_after, begun, is_over, is_over_in, settling, settling_in, followed_on, remains, is_held_by, remaining_from, all_held_from}
 use Rattle.radio_book.specs.Together.{stands_in}
 use Rattle.radio_book.proofs.Frame.{same_some}
-use Rattle.radio_book.proofs.Standing.{Reads, Follows, OpensNow, OpensLater, Waits, follows_settles}
+use Rattle.radio_book.proofs.Standing.{Follows, OpensNow, Waits, follows_settles}
 
 -- TESTS
 

@@ -5,15 +5,15 @@ use Rattle.channel_fsm.specs.declared.ChanId.{ChanId}
 use Rattle.channel_fsm.specs.declared.ChanState.{ChanState}
 use Rattle.channel_fsm.specs.declared.ChanState.TheVariants.{Pending, Off}
 use Rattle.attempt_journal.specs.declared.Timer.TheVariants.{T3103, T7, T8}
-use Rattle.radio_book.specs.declared.event.AttemptKind.TheVariants.{Internal}
-use Rattle.radio_book.specs.declared.event.Stage.{Stage}
-use Rattle.radio_book.specs.declared.event.Stage.TheVariants as stage
-use Rattle.radio_book.specs.declared.event.Attempt.{Attempt}
-use Rattle.radio_book.specs.declared.event.CallRecord.{CallRecord}
-use Rattle.radio_book.specs.declared.event.Reference.{Reference}
+use Rattle.radio_tables.specs.declared.kinds.AttemptKind.TheVariants.{Internal}
+use Rattle.radio_tables.specs.declared.kinds.Stage.{Stage}
+use Rattle.radio_tables.specs.declared.kinds.Stage.TheVariants as stage
+use Rattle.radio_tables.specs.declared.kinds.Attempt.{Attempt}
+use Rattle.radio_tables.specs.declared.kinds.CallRecord.{CallRecord}
+use Rattle.dense_tables.specs.declared.references.Reference.{Reference}
 use Rattle.radio_book.specs.declared.event.Refusal.TheVariants.{WrongPhase, NoChannel, SameCell, ChannelBusy, RefBusy, Unexpected}
 use Rattle.radio_book.specs.declared.event.Reply.TheVariants.{Done, Owned}
-use Rattle.radio_book.specs.Stages.{stage_allows}
+use Rattle.radio_tables.specs.Stages.{stage_allows}
 use Rattle.radio_book.specs.Table.{Outcome, Accepts, needs, given, channel_row, left_state, no_change, with_entry, without_entry, with_attempt, at_stage, taken_attempt, taking_change, required_attempt, reference_at, reserved_record, complete_change, is_target}
 
 abbrev pub clear_at : ℕ → CallRecord → Option Attempt → (ChanId → ChanState) → Outcome

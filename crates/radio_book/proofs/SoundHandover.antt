@@ -8,22 +8,22 @@ use Rattle.channel_fsm.specs.declared.ChanState.{ChanState}
 use Rattle.channel_fsm.specs.declared.ChanState.TheVariants.{Free, Held, Pending, On, Off}
 use Rattle.attempt_journal.specs.declared.Timer.{Timer}
 use Rattle.attempt_journal.specs.declared.Timer.TheVariants.{T3103, T7, T8}
-use Rattle.radio_book.specs.declared.event.AttemptKind.{AttemptKind}
-use Rattle.radio_book.specs.declared.event.AttemptKind.TheVariants.{Outgoing}
-use Rattle.radio_book.specs.declared.event.Stage.{Stage}
-use Rattle.radio_book.specs.declared.event.Stage.TheVariants.{Taken, Reserved, Sent, Refused, Confirmed, Commanded, Detected, Required, Ordered}
-use Rattle.radio_book.specs.declared.event.Attempt.{Attempt}
-use Rattle.radio_book.specs.declared.event.CallRecord.{CallRecord}
-use Rattle.radio_book.specs.declared.event.Reference.{Reference}
+use Rattle.radio_tables.specs.declared.kinds.AttemptKind.{AttemptKind}
+use Rattle.radio_tables.specs.declared.kinds.AttemptKind.TheVariants.{Outgoing}
+use Rattle.radio_tables.specs.declared.kinds.Stage.{Stage}
+use Rattle.radio_tables.specs.declared.kinds.Stage.TheVariants.{Taken, Reserved, Sent, Refused, Confirmed, Commanded, Detected, Required, Ordered}
+use Rattle.radio_tables.specs.declared.kinds.Attempt.{Attempt}
+use Rattle.radio_tables.specs.declared.kinds.CallRecord.{CallRecord}
+use Rattle.dense_tables.specs.declared.references.Reference.{Reference}
 use Rattle.radio_book.specs.declared.event.Event.TheVariants as event
 use Rattle.radio_book.specs.declared.event.Refusal.TheVariants.{Unexpected}
-use Rattle.radio_book.specs.Maps.{Entry, with_change}
+use Rattle.radio_tables.specs.Maps.{Entry, with_change}
 use Rattle.radio_book.specs.State.{State, apply, or_free, state_of, record_of}
 use Rattle.radio_book.specs.Table.{owner, step, book_after, with_entry, without_entry, reference_held, command_row, complete_change, complete_row, require_row, order_row, left_row, detect_row, detect_by, owner_row, is_target, needs}
 use Rattle.radio_book.specs.Sound.{IsSound, HasTarget, armed_in}
 use Rattle.radio_book.proofs.Rows.{command_by, command_at, complete_by, complete_at, require_at, require_from, order_by, order_at, left_by, left_at, detect_of, detect_at}
-use Rattle.radio_book.proofs.KeyFacts.{chan_total, chan_exact}
-use Rattle.radio_book.proofs.MapFacts.{get_put_same, record_same}
+use Rattle.radio_tables.proofs.KeyFacts.{chan_total, chan_exact}
+use Rattle.radio_tables.proofs.MapFacts.{get_put_same, record_same}
 use Rattle.radio_book.proofs.Frame.{same_some, at_some, call_of, resting_call, attempting, attempt_of, attempting_call, aimed_is_owned, serving_is_on, get_untouched, concerned_sound}
 use Rattle.radio_book.proofs.SoundParts.{one_owner, owned_traffic, rests, at_option, touched_at, other_than, restaged}
 

@@ -8,19 +8,19 @@ use Rattle.std.specs.Cmp.{nat_cmp_total}
 use Rattle.channel_fsm.specs.declared.ChanId.{ChanId}
 use Rattle.channel_fsm.specs.declared.ChanState.{ChanState}
 use Rattle.channel_fsm.specs.declared.ChanState.TheVariants.{Free}
-use Rattle.radio_book.specs.declared.event.AttemptKind.{AttemptKind}
-use Rattle.radio_book.specs.declared.event.AttemptKind.TheVariants.{Internal, Incoming, Outgoing}
-use Rattle.radio_book.specs.declared.event.Stage.{Stage}
-use Rattle.radio_book.specs.declared.event.CallRecord.{CallRecord}
-use Rattle.radio_book.specs.declared.event.Reference.{Reference}
+use Rattle.radio_tables.specs.declared.kinds.AttemptKind.{AttemptKind}
+use Rattle.radio_tables.specs.declared.kinds.AttemptKind.TheVariants.{Internal, Incoming, Outgoing}
+use Rattle.radio_tables.specs.declared.kinds.Stage.{Stage}
+use Rattle.radio_tables.specs.declared.kinds.CallRecord.{CallRecord}
+use Rattle.dense_tables.specs.declared.references.Reference.{Reference}
 use Rattle.attempt_journal.specs.declared.Timer.{Timer}
 use Rattle.cell_table.specs.Site.{is_traffic}
-use Rattle.radio_book.specs.Maps.{Entry, put, with_change}
+use Rattle.radio_tables.specs.Maps.{Entry, put, with_change}
 use Rattle.radio_book.specs.State.{State, Change, apply, or_free, state_of, record_of}
 use Rattle.radio_book.specs.Table.{owner, with_entry}
 use Rattle.radio_book.specs.Sound.{IsSound, IsStageOf, HasTarget, HasServing, HasReference, armed_in}
-use Rattle.radio_book.specs.Stages.{stage_row}
-use Rattle.radio_book.proofs.MapFacts.{get_put_same, state_same, state_other, record_same}
+use Rattle.radio_tables.specs.Stages.{stage_row}
+use Rattle.radio_tables.proofs.MapFacts.{get_put_same, state_same, state_other, record_same}
 use Rattle.radio_book.proofs.Frame.{same_some, at_some, Touches, AtKey, call_of, attempting, attempt_of, attempting_call, target_owned, target_stays, concerned_sound}
 
 -- facts of states

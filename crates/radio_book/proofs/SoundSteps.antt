@@ -8,13 +8,13 @@ use Rattle.std.specs.FinMap as map
 use Rattle.channel_fsm.specs.declared.ChanId.{ChanId}
 use Rattle.channel_fsm.specs.declared.ChanState.{ChanState}
 use Rattle.channel_fsm.specs.declared.ChanState.TheVariants.{Free, Held, Pending, On, Off}
-use Rattle.radio_book.specs.declared.event.AttemptKind.{AttemptKind}
-use Rattle.radio_book.specs.declared.event.AttemptKind.TheVariants.{Internal, Incoming, Outgoing}
-use Rattle.radio_book.specs.declared.event.Stage.{Stage}
-use Rattle.radio_book.specs.declared.event.Stage.TheVariants.{Taken, Reserved, Sent, Refused, Confirmed, Commanded, Detected, Required, Ordered}
-use Rattle.radio_book.specs.declared.event.Attempt.{Attempt}
-use Rattle.radio_book.specs.declared.event.CallRecord.{CallRecord}
-use Rattle.radio_book.specs.declared.event.Reference.{Reference}
+use Rattle.radio_tables.specs.declared.kinds.AttemptKind.{AttemptKind}
+use Rattle.radio_tables.specs.declared.kinds.AttemptKind.TheVariants.{Internal, Incoming, Outgoing}
+use Rattle.radio_tables.specs.declared.kinds.Stage.{Stage}
+use Rattle.radio_tables.specs.declared.kinds.Stage.TheVariants.{Taken, Reserved, Sent, Refused, Confirmed, Commanded, Detected, Required, Ordered}
+use Rattle.radio_tables.specs.declared.kinds.Attempt.{Attempt}
+use Rattle.radio_tables.specs.declared.kinds.CallRecord.{CallRecord}
+use Rattle.dense_tables.specs.declared.references.Reference.{Reference}
 use Rattle.radio_book.specs.declared.event.Kind.{Kind}
 use Rattle.radio_book.specs.declared.event.Kind.TheVariants as kind
 use Rattle.attempt_journal.specs.declared.Timer.{Timer}
@@ -25,16 +25,16 @@ use Rattle.radio_book.specs.declared.event.Refusal.TheVariants.{WrongPhase, NotA
 use Rattle.radio_book.specs.declared.event.Event.{Event}
 use Rattle.radio_book.specs.declared.event.Event.TheVariants as event
 use Rattle.cell_table.specs.Site.{SiteView, is_traffic}
-use Rattle.radio_book.specs.Keys.{chan_cmp, reference_cmp}
-use Rattle.radio_book.specs.Maps.{Entry, put}
+use Rattle.radio_tables.specs.Keys.{chan_cmp, reference_cmp}
+use Rattle.radio_tables.specs.Maps.{Entry, put}
 use Rattle.radio_book.specs.State.{State, Change, apply, or_free, state_of, record_of, empty_book}
 use Rattle.radio_book.specs.Table.{owner, step, book_after, with_entry, without_entry, begin_row, clear_row, look_row, moved_entry, confirm_row, refuse_row, released_row, taking_change, take_row, reference_at, reference_held, reserve_row, activate_row, left_state, resting_record, undo_change, undo_attempt, undo_row, is_armed, needs}
 use Rattle.radio_book.specs.Sound.{IsSound, Uses, IsStageOf, HasTarget, HasServing, armed_in}
-use Rattle.radio_book.specs.Stages.{stage_row}
+use Rattle.radio_tables.specs.Stages.{stage_row}
 use Rattle.radio_book.specs.Run.{run_book, RunsAreSound}
 use Rattle.radio_book.proofs.Rows.{clear_at, take_from, take_at, reserve_number, reserve_at, reserve_by, activate_at, activate_by}
-use Rattle.radio_book.proofs.KeyFacts.{chan_total, chan_exact, same_chan_itself}
-use Rattle.radio_book.proofs.MapFacts.{state_same, state_other, record_same, reference_same}
+use Rattle.radio_tables.proofs.KeyFacts.{chan_total, chan_exact, same_chan_itself}
+use Rattle.radio_tables.proofs.MapFacts.{state_same, state_other, record_same, reference_same}
 use Rattle.radio_book.proofs.Frame.{same_some, at_some, UsedBy, ReferredBy, call_of, call_stays, resting_call, attempting, attempt_of, attempting_call, aimed_is_owned, serving_is_on, get_untouched, SoundIfAny, concerned_sound}
 use Rattle.radio_book.proofs.SoundHandover.{sound_command, sound_complete, sound_detect, sound_owner, sound_require, sound_order, sound_left}
 use Rattle.radio_book.proofs.SoundParts.{other_than, one_owner, owned_not_free, owned_traffic, state_fits, changes, rests, at_option, touched_at, disarmed, serving_apart, IsAt, staged, aims_always}

@@ -1,24 +1,20 @@
 -- Where the settled attempts of a list stand at each of its steps, and that the steps which remain, and those which are held, are
 -- those that a walk with the attempts that are followed finds.
-use Rattle.std.proofs.Common.{◌≡◌, ◌⊎◌, inl, inr, ℕ, ◌+◌, ◌<◌, Bool, true, false, not, cond, ◌&&◌, ◌||◌, ◌==◌, if◌then◌else◌, IsTrue, is_some, is_none, List, [], ◌∷◌, ◌++◌, map, length, get_or, Option, Some, None, refl, sym, ◌∙◌, ap, subst, append_assoc, arith}
-use Rattle.std.specs.Prelude.{All, Contains, filter}
-use Rattle.std.specs.List.{list_any, list_all}
-use Rattle.std.specs.Option.{option_to_list}
-use Rattle.std.proofs.lemmas.Bool.{and_parts, and_from, or_cases, or_left, or_right, eq-eqb, eqb-true, ne_eqb, cases_Bool}
-use Rattle.std.proofs.lemmas.List.Elements.{All-head, All-tail, All-nil, All-cons, All-append, All-contains, All-contains_itself, All-weaker, Contains-append_left, Contains-append_right, Contains-push}
+use Rattle.std.proofs.Common.{◌≡◌, ◌⊎◌, inl, inr, ℕ, ◌<◌, Bool, true, false, cond, ◌||◌, ◌==◌, if◌then◌else◌, IsTrue, List, [], ◌∷◌, ◌++◌, length, get_or, Option, Some, None, refl, sym, ◌∙◌, ap, subst, append_assoc, arith}
+use Rattle.std.specs.Prelude.{All}
+use Rattle.std.proofs.lemmas.Bool.{or_right, eq-eqb, ne_eqb}
+use Rattle.std.proofs.lemmas.List.Elements.{All-head, All-tail, All-nil, All-cons, All-append}
 use Rattle.std.proofs.lemmas.List.Folds.{list_any-append}
 use Rattle.channel_fsm.specs.declared.ChanId.{ChanId}
-use Rattle.radio_book.specs.declared.event.Event.{Event}
 use Rattle.radio_book.specs.declared.undone.StepAt.{StepAt}
-use Rattle.radio_book.specs.declared.following.Phase.{Phase}
-use Rattle.radio_book.specs.declared.following.Phase.TheVariants.{Open, Awaiting, Settled, Completed}
+use Rattle.radio_book.specs.declared.following.Phase.TheVariants.{Open, Awaiting, Settled}
 use Rattle.radio_book.specs.declared.following.Followed.{Followed}
 use Rattle.radio_book.specs.Kinds.{Undoes, is_accepted}
 use Rattle.radio_book.specs.Undone.{Undone, IsUndoneIn, Ends, others, held_refusals, is_settled, releases}
-use Rattle.radio_book.specs.Found.{opened_by, ends}
-use Rattle.radio_book.specs.Following.{stays, holds, after, begun, ended_with, number_with, others_from, held_from, at_last, is_settled_in, is_over, is_over_in, leaves_off, settles, opened_in, opening_of, settling, settling_in, followed_on, remains, is_held_by, remaining_from, all_held_from}
+use Rattle.radio_book.specs.Found.{ends}
+use Rattle.radio_book.specs.Following.{stays, holds, after, begun, number_with, others_from, held_from, is_settled_in, leaves_off, settles, opening_of}
 use Rattle.radio_book.specs.Together.{stands_in}
-use Rattle.radio_book.proofs.UndoneFacts.{opens_shown, ends_from, ends_by, undoes_ends}
+use Rattle.radio_book.proofs.UndoneFacts.{ends_from}
 use Rattle.radio_book.proofs.FollowFacts.{in_phase, left_in, at_undo, after_goes, not_ending, behind, others_are, held_are, settles_are}
 use Rattle.radio_book.proofs.RemainderFacts.{is_opening}
 use Rattle.radio_book.proofs.Passing.{EndsProperly}

@@ -2,7 +2,7 @@
 use Rattle.std.proofs.Common.{◌≡◌, ◌+◌, ℕ, Bool, true, false, cond, List, [], ◌∷◌, ◌++◌, Option, Some, None, refl, sym, ◌∙◌, ap, subst}
 use Rattle.std.proofs.lemmas.Bool.{eq-eqb, eqb-true, and_from}
 use Rattle.channel_fsm.specs.declared.ChanId.{ChanId}
-use Rattle.radio_book.specs.declared.event.Reference.{Reference}
+use Rattle.dense_tables.specs.declared.references.Reference.{Reference}
 use Rattle.radio_book.specs.declared.event.Event.{Event}
 use Rattle.radio_book.specs.declared.undone.StepAt.{StepAt}
 use Rattle.radio_book.specs.declared.event.Event.TheVariants as event
@@ -14,7 +14,7 @@ use Rattle.radio_book.specs.Run.{run_book, run_replies}
 use Rattle.radio_book.specs.Kinds.{channel_of, released_by, number_of, refusal_of}
 use Rattle.radio_book.specs.Others.{IsHeldChannel, IsHeldReference}
 use Rattle.radio_book.specs.Undone.{steps_from, events_of, replies_of, is_call, is_channel, is_reference, comes_from}
-use Rattle.radio_book.proofs.KeyFacts.{same_chan_itself, one_chan}
+use Rattle.radio_tables.proofs.KeyFacts.{same_chan_itself, one_chan}
 use Rattle.radio_book.proofs.SoundSteps.{sound_step}
 
 -- runs

@@ -1,5 +1,5 @@
 -- The settled attempts of a list, taken out together, leave no trace.
-use Rattle.std.proofs.Common.{◌≡◌, ◌⊎◌, inl, inr, ℕ, Bool, true, false, not, cond, ◌&&◌, ◌||◌, if◌then◌else◌, IsTrue, is_none, List, [], ◌∷◌, ◌++◌, map, Option, Some, None, refl, sym, ◌∙◌, ap, subst}
+use Rattle.std.proofs.Common.{◌≡◌, ◌⊎◌, inl, inr, ℕ, Bool, true, false, not, cond, ◌&&◌, if◌then◌else◌, IsTrue, is_none, List, [], ◌∷◌, ◌++◌, map, Option, Some, None, refl, sym, ◌∙◌, ap, subst}
 use Rattle.std.specs.Prelude.{All, Contains, filter}
 use Rattle.std.specs.List.{list_any, list_all}
 use Rattle.std.specs.Option.{option_to_list}
@@ -7,7 +7,6 @@ use Rattle.std.proofs.lemmas.Bool.{and_from, and_right, or_parts}
 use Rattle.std.proofs.lemmas.List.{append-nil}
 use Rattle.std.proofs.lemmas.List.Elements.{All-head, All-tail, All-weaker}
 use Rattle.channel_fsm.specs.declared.ChanId.{ChanId}
-use Rattle.radio_book.specs.declared.event.Event.{Event}
 use Rattle.radio_book.specs.declared.undone.StepAt.{StepAt}
 use Rattle.radio_book.specs.declared.following.Phase.{Phase}
 use Rattle.radio_book.specs.declared.following.Phase.TheVariants.{Open, Awaiting, Settled, Completed}
@@ -15,18 +14,15 @@ use Rattle.radio_book.specs.declared.following.Followed.{Followed}
 use Rattle.radio_book.specs.State.{State}
 use Rattle.radio_book.specs.Table.{step, reply_to}
 use Rattle.radio_book.specs.Sound.{IsSound}
-use Rattle.radio_book.specs.Run.{run_book, run_replies}
 use Rattle.radio_book.specs.Kinds.{Opens, is_accepted}
-use Rattle.radio_book.specs.Others.{without_attempt_of, IsOpen}
-use Rattle.radio_book.specs.Undone.{Undone, steps_from, events_of, replies_of, others, held_refusals}
-use Rattle.radio_book.specs.Following.{stays, holds, after, begun, is_settled_in, is_over, is_over_in, settles, opened_in, opening_of, settling, settling_in, followed_on, remains, is_held_by, remaining_from}
+use Rattle.radio_book.specs.Undone.{Undone, held_refusals}
+use Rattle.radio_book.specs.Following.{stays, holds, after, is_settled_in, is_over, is_over_in, settles, opening_of, settling, settling_in, followed_on, remains, remaining_from}
 use Rattle.radio_book.specs.Together.{stands_in}
-use Rattle.radio_book.proofs.Frame.{same_some}
 use Rattle.radio_book.proofs.SoundSteps.{sound_step}
 use Rattle.radio_book.proofs.OwnSteps.{openings_add_the_attempt}
 use Rattle.radio_book.proofs.RemainderFacts.{IsOpening, opening_is}
 use Rattle.radio_book.proofs.StepFacts.{Runs, none_found}
-use Rattle.radio_book.proofs.Passing.{without, without_in, IsIn, IsInPhase, IsGone, EndsProperly, passes, sound_without, still_gone, untouched}
+use Rattle.radio_book.proofs.Passing.{without, without_in, IsIn, IsGone, EndsProperly, passes, sound_without, still_gone, untouched}
 use Rattle.radio_book.proofs.Standing.{Follows}
 use Rattle.radio_book.proofs.Remaining.{Stands, AreAll, held_same, stands_next}
 

@@ -10,8 +10,8 @@ use Rattle.std.specs.FinMap as map
 use Rattle.std.specs.FinMap.{FinMap, IsAntisymmetric, find, get-entries, entries-insert, len-entries}
 use Rattle.std.specs.FinMap.Entries as listed
 use Rattle.std.proofs.lemmas.List.Sums.{sum_by-cons, sum_by-le-sum_by}
-use Rattle.radio_book.specs.Maps.{Entry, put, with_change}
-use Rattle.radio_book.proofs.MapFacts.{get_put_same, put_put_same, put_again}
+use Rattle.radio_tables.specs.Maps.{Entry, put, with_change}
+use Rattle.radio_tables.proofs.MapFacts.{get_put_same, put_put_same, put_again}
 
 abbrev total_in : {K X : Type 0} → (X → ℕ) → List (K × X) → ℕ
 total_in f es = sum_by f (map_list (λ e. e.1) es)

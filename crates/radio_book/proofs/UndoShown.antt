@@ -6,27 +6,27 @@ use Rattle.std.proofs.lemmas.List.Elements.{All-head, All-tail}
 use Rattle.channel_fsm.specs.declared.ChanId.{ChanId}
 use Rattle.channel_fsm.specs.declared.ChanState.{ChanState}
 use Rattle.channel_fsm.specs.declared.ChanState.TheVariants.{Held, Pending, On}
-use Rattle.radio_book.specs.declared.event.Attempt.{Attempt}
-use Rattle.radio_book.specs.declared.event.CallRecord.{CallRecord}
+use Rattle.radio_tables.specs.declared.kinds.Attempt.{Attempt}
+use Rattle.radio_tables.specs.declared.kinds.CallRecord.{CallRecord}
 use Rattle.radio_book.specs.declared.event.Event.{Event}
 use Rattle.radio_book.specs.declared.event.Event.TheVariants as event
-use Rattle.radio_book.specs.declared.event.Reference.{Reference}
+use Rattle.dense_tables.specs.declared.references.Reference.{Reference}
 use Rattle.radio_book.specs.declared.event.Refusal.{Refusal}
 use Rattle.radio_book.specs.declared.event.Refusal.TheVariants.{WrongPhase, NotArmed}
 use Rattle.radio_book.specs.declared.event.Reply.{Reply}
-use Rattle.radio_book.specs.declared.event.Stage.{Stage}
-use Rattle.radio_book.specs.declared.event.Stage.TheVariants.{Taken, Reserved, Sent, Refused, Confirmed, Commanded, Detected, Required, Ordered}
+use Rattle.radio_tables.specs.declared.kinds.Stage.{Stage}
+use Rattle.radio_tables.specs.declared.kinds.Stage.TheVariants.{Taken, Reserved, Sent, Refused, Confirmed, Commanded, Detected, Required, Ordered}
 use Rattle.radio_book.specs.declared.event.Why.{Why}
 use Rattle.radio_book.specs.declared.event.Why.TheVariants.{Asked, Expired}
 use Rattle.radio_book.specs.declared.undone.StepAt.{StepAt}
 use Rattle.radio_book.specs.State.{State, or_free, state_of}
-use Rattle.radio_book.specs.Stages.{stage_row}
+use Rattle.radio_tables.specs.Stages.{stage_row}
 use Rattle.radio_book.specs.Table.{step, reply_of, reply_to, reference_held, left_state, needs, is_armed, undo_row, undo_by, undo_attempt}
 use Rattle.radio_book.specs.Sound.{IsSound, HasTarget}
 use Rattle.radio_book.specs.Run.{run_book}
 use Rattle.radio_book.specs.Kinds.{Undoes, is_accepted}
-use Rattle.radio_book.specs.Others.{IsHeldReference, LeavesAlone, IsOpen, number_after}
-use Rattle.radio_book.specs.Undone.{Undone, IsUndoneAttempt, Ends, steps_from, is_off, is_target_off}
+use Rattle.radio_book.specs.Others.{IsHeldReference, IsOpen, number_after}
+use Rattle.radio_book.specs.Undone.{Undone, IsUndoneAttempt, Ends, is_off, is_target_off}
 use Rattle.radio_book.specs.Following.{is_switched_on, leaves_off}
 use Rattle.radio_book.proofs.SoundSteps.{sound_step}
 use Rattle.radio_book.proofs.OwnSteps.{openings_add_the_attempt}

@@ -1,20 +1,17 @@
 -- An undone attempt is found by the place of its opening, and there is no other that opens there.
-use Rattle.std.proofs.Common.{◌≡◌, ◌⊎◌, inl, inr, ◌+◌, ◌<◌, ℕ, suc, Bool, true, false, not, ◌&&◌, cond, List, [], ◌∷◌, ◌++◌, length, Option, Some, None, refl, sym, ◌∙◌, ap, subst, arith}
-use Rattle.std.specs.List.{All, position, position_or_len}
-use Rattle.std.proofs.lemmas.List.Elements.{All-head, All-tail, All-cons, All-nil}
-use Rattle.std.proofs.lemmas.List.{append_cancel_left}
+use Rattle.std.proofs.Common.{◌≡◌, ◌⊎◌, inl, inr, ◌+◌, ℕ, suc, Bool, true, false, not, ◌&&◌, cond, List, [], ◌∷◌, ◌++◌, length, Option, Some, None, refl, sym, ◌∙◌, ap, subst, arith}
+use Rattle.std.specs.List.{All, position_or_len}
+use Rattle.std.proofs.lemmas.List.Elements.{All-head, All-tail}
 use Rattle.std.proofs.lemmas.Bool.{eqb-true}
 use Rattle.std.proofs.lemmas.Bool.Decides.{nat_tests}
 use Rattle.channel_fsm.specs.declared.ChanId.{ChanId}
 use Rattle.radio_book.specs.declared.event.Event.{Event}
 use Rattle.radio_book.specs.declared.event.Event.TheVariants as event
-use Rattle.radio_book.specs.declared.event.Why.{Why}
-use Rattle.radio_book.specs.declared.event.Reply.{Reply}
 use Rattle.radio_book.specs.declared.undone.StepAt.{StepAt}
 use Rattle.radio_book.specs.State.{State}
 use Rattle.radio_book.specs.Table.{step, reply_to}
 use Rattle.radio_book.specs.Kinds.{is_accepted}
-use Rattle.radio_book.specs.Undone.{Undone, IsUndoneIn, IsUndoneAttempt, IsUndoneAt, Opens, Undoes, Ends, steps_from, is_call, is_target_off, book_after_undo, UndoneIsUnique}
+use Rattle.radio_book.specs.Undone.{Undone, IsUndoneIn, Opens, Undoes, Ends, steps_from, is_call, is_target_off, book_after_undo, UndoneIsUnique}
 use Rattle.radio_book.proofs.Frame.{same_some}
 use Rattle.radio_book.specs.Found.{opened_by, ended_by, undone_by, ends}
 

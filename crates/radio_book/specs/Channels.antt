@@ -9,7 +9,7 @@ use Rattle.channel_fsm.specs.declared.ChanEvent.TheVariants as chan
 use Rattle.channel_fsm.specs.Table.{next_state}
 use Rattle.radio_book.specs.declared.event.Event.{Event}
 use Rattle.radio_book.specs.declared.event.Event.TheVariants as event
-use Rattle.radio_book.specs.Maps.{Entry}
+use Rattle.radio_tables.specs.Maps.{Entry}
 use Rattle.radio_book.specs.State.{State, state_of, record_of}
 use Rattle.radio_book.specs.Sound.{IsSound, target_in}
 use Rattle.radio_book.specs.Table.{step}

@@ -4,7 +4,7 @@ use Rattle.std.specs.Prelude.{◌≡◌, ℕ, Bool, true, false, not, ◌&&◌, 
 use Rattle.std.specs.List.{list_any, list_all}
 use Rattle.std.specs.Option.{option_to_list}
 use Rattle.channel_fsm.specs.declared.ChanId.{ChanId}
-use Rattle.radio_book.specs.declared.event.Attempt.{Attempt}
+use Rattle.radio_tables.specs.declared.kinds.Attempt.{Attempt}
 use Rattle.radio_book.specs.declared.event.Event.{Event}
 use Rattle.radio_book.specs.declared.event.Reply.{Reply}
 use Rattle.radio_book.specs.declared.event.Reply.TheVariants.{Done, Record, Owned, Refused}
@@ -15,7 +15,7 @@ use Rattle.radio_book.specs.declared.following.Followed.{Followed}
 use Rattle.radio_book.specs.State.{State}
 use Rattle.radio_book.specs.Table.{reference_held}
 use Rattle.radio_book.specs.Sound.{IsSound}
-use Rattle.radio_book.specs.Stages.{stage_row}
+use Rattle.radio_tables.specs.Stages.{stage_row}
 use Rattle.radio_book.specs.Kinds.{is_accepted, number_of, refusal_of}
 use Rattle.radio_book.specs.Undone.{Undone, IsUndoneIn, IsUndoneAttempt, is_by_call, is_on_target, reserves, releases, comes_from}
 use Rattle.radio_book.specs.Found.{opened_by, undone_by, ends}

@@ -2,37 +2,19 @@
 use Rattle.std.specs.Prelude.{◌≡◌, ℕ, if◌then◌else◌, List, [], ◌∷◌, Option, Some, None}
 use Rattle.std.specs.Option.{option_map}
 use Rattle.std.specs.FinMap as map
-use Rattle.channel_fsm.specs.declared.ChanId.{ChanId}
 use Rattle.channel_fsm.specs.declared.ChanEvent.TheVariants as chan
-use Rattle.radio_book.specs.declared.event.Stage.{Stage}
-use Rattle.radio_book.specs.declared.event.Stage.TheVariants.{Taken, Reserved, Sent, Refused, Confirmed, Commanded, Detected, Required, Ordered}
-use Rattle.radio_book.specs.declared.event.Attempt.{Attempt}
-use Rattle.radio_book.specs.declared.event.CallRecord.{CallRecord}
-use Rattle.radio_book.specs.declared.event.Reference.{Reference}
+use Rattle.radio_tables.specs.declared.kinds.Attempt.{Attempt}
+use Rattle.radio_tables.specs.declared.kinds.CallRecord.{CallRecord}
+use Rattle.dense_tables.specs.declared.references.Reference.{Reference}
 use Rattle.attempt_journal.specs.declared.Inverse.{Inverse}
 use Rattle.attempt_journal.specs.declared.Inverse.TheVariants.{FreeChannel, Settle, Forget, DropReference, SwitchOff, Uncommand, Undetect, Disarm, Rearm}
-use Rattle.radio_book.specs.Maps.{Entry}
+use Rattle.radio_tables.specs.Maps.{Entry}
 use Rattle.attempt_journal.specs.declared.Timer.{Timer}
-use Rattle.radio_book.specs.Stages.{stage_row, opening_inverse}
 use Rattle.radio_book.specs.Channels.{channel_step}
 use Rattle.radio_book.specs.State.{State, Change, apply, state_of, record_of}
 use Rattle.radio_book.specs.Table.{no_change, undo_change, reference_held, is_armed}
 use Rattle.radio_book.specs.Sound.{IsSound}
-
--- Only a stage that has a reference reads this, and has one in a sound book; so the 0 never counts.
-abbrev pub or_zero : Option ℕ → ℕ
-or_zero None = 0
-or_zero (Some n) = n
-
--- And only a stage that has a target reads this.
-abbrev pub or_origin : Option ChanId → ChanId
-or_origin None = record { cell = 0; trx = 0; tn = 0 }
-or_origin (Some t) = t
-
--- what a call's journal holds follows from its attempt alone
-abbrev pub journal_of : Option Attempt → List Inverse
-journal_of None = []
-journal_of (Some a) = (stage_row a.stage).inverses (opening_inverse a.kind) (or_origin a.target) (or_zero a.reference)
+pub use Rattle.radio_tables.specs.Journal.{or_zero, or_origin, journal_of, stage_before, back_one_stage}
 
 -- the reference with this number in the cell of the attempt's target is in use no more
 abbrev pub reference_removal_of_attempt : ℕ → Option Attempt → Option (Entry Reference ℕ)
@@ -43,21 +25,6 @@ reference_removal_of_attempt n (Some a) = option_map (λ k. (k, None)) (referenc
 abbrev pub reference_removal_of_call : ℕ → Option CallRecord → Option (Entry Reference ℕ)
 reference_removal_of_call n None = None
 reference_removal_of_call n (Some r) = reference_removal_of_attempt n r.attempt
-
--- the stage before; of these two alone, since no other step is taken back by going back one stage
-abbrev pub stage_before : Stage → Stage
-stage_before Commanded = Confirmed
-stage_before Detected = Commanded
-stage_before Taken = Taken
-stage_before Reserved = Reserved
-stage_before Sent = Sent
-stage_before Refused = Refused
-stage_before Confirmed = Confirmed
-stage_before Required = Required
-stage_before Ordered = Ordered
-
-abbrev pub back_one_stage : CallRecord → CallRecord
-back_one_stage r = record r { attempt = option_map (λ (a : Attempt). record a { stage = stage_before a.stage }) r.attempt }
 
 -- a change of the record of a call that the book has; of the timer that stands with it
 abbrev pub record_change : ℕ → (CallRecord → CallRecord) → Option CallRecord → Option (Entry ℕ CallRecord)

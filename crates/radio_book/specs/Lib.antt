@@ -1,11 +1,5 @@
-pub mod Keys
-pub mod Maps
-pub mod Same
 pub mod State
 pub mod Channels
-pub mod Stages
-pub mod Entries
-pub mod Lending
 pub mod Table
 pub mod Sound
 pub mod Journal

@@ -5,15 +5,15 @@ use Rattle.std.specs.FinMap as map
 use Rattle.channel_fsm.specs.declared.ChanId.{ChanId}
 use Rattle.channel_fsm.specs.declared.ChanState.{ChanState}
 use Rattle.channel_fsm.specs.declared.ChanState.TheVariants.{Free, On}
-use Rattle.radio_book.specs.declared.event.AttemptKind.{AttemptKind}
-use Rattle.radio_book.specs.declared.event.AttemptKind.TheVariants.{Internal, Incoming, Outgoing}
+use Rattle.radio_tables.specs.declared.kinds.AttemptKind.{AttemptKind}
+use Rattle.radio_tables.specs.declared.kinds.AttemptKind.TheVariants.{Internal, Incoming, Outgoing}
 use Rattle.attempt_journal.specs.declared.Timer.{Timer}
-use Rattle.radio_book.specs.declared.event.Attempt.{Attempt}
-use Rattle.radio_book.specs.declared.event.CallRecord.{CallRecord}
-use Rattle.radio_book.specs.declared.event.Reference.{Reference}
+use Rattle.radio_tables.specs.declared.kinds.Attempt.{Attempt}
+use Rattle.radio_tables.specs.declared.kinds.CallRecord.{CallRecord}
+use Rattle.dense_tables.specs.declared.references.Reference.{Reference}
 use Rattle.cell_table.specs.Site.{is_traffic}
 use Rattle.radio_book.specs.State.{State, state_of, record_of}
-use Rattle.radio_book.specs.Stages.{stage_row}
+use Rattle.radio_tables.specs.Stages.{stage_row}
 use Rattle.radio_book.specs.Table.{owner, reference_held}
 
 abbrev pub target_in : CallRecord → Option ChanId

@@ -1,65 +1,13 @@
--- What a radio book is: four finite maps over a site. They serve handover (TS 44.018 clause 3.4.4, TS 48.008 clause
--- 3.1.5) and the activation and release of channels (TS 48.058 clause 4).
-use Rattle.std.specs.Prelude.{ℕ, Option, Some, None, refl}
-use Rattle.std.specs.Ordering.{nat_cmp}
-use Rattle.std.specs.Coded.{Coded, code_by, coded×, coded_ℕ}
-use Rattle.std.specs.FinMap as map
+-- What an event changes in a radio book, which is four finite maps over a site. They serve handover (TS 44.018 clause 3.4.4,
+-- TS 48.008 clause 3.1.5) and the activation and release of channels (TS 48.058 clause 4).
+use Rattle.std.specs.Prelude.{ℕ, Option}
 use Rattle.channel_fsm.specs.declared.ChanId.{ChanId}
 use Rattle.channel_fsm.specs.declared.ChanState.{ChanState}
-use Rattle.channel_fsm.specs.declared.ChanState.TheVariants.{Free}
-use Rattle.radio_book.specs.declared.event.Reference.{Reference}
-use Rattle.radio_book.specs.declared.event.CallRecord.{CallRecord}
+use Rattle.dense_tables.specs.declared.references.Reference.{Reference}
+use Rattle.radio_tables.specs.declared.kinds.CallRecord.{CallRecord}
 use Rattle.attempt_journal.specs.declared.Timer.{Timer}
-use Rattle.channel_fsm.specs.contracts.ChanState.{the_row as state_row}
-use Rattle.radio_book.specs.contracts.event.CallRecord.{the_row as record_row}
-use Rattle.attempt_journal.specs.contracts.Timer.{the_row as timer_row}
-use Rattle.cell_table.specs.Site.{SiteView, site_code}
-use Rattle.radio_book.specs.Keys.{chan_cmp, reference_cmp, coded_chan, coded_reference}
-use Rattle.radio_book.specs.Maps.{Entry, with_change}
-
-pub record State : Type 0 where
-  pub site : SiteView
-  -- channels with their states; a free one has no entry
-  pub channels : map.FinMap chan_cmp ChanState
-  -- the record of each call
-  pub calls : map.FinMap nat_cmp CallRecord
-  -- the call of each handover reference in use (TS 44.018 clause 10.5.2.15)
-  pub references : map.FinMap reference_cmp ℕ
-  -- the armed timers (TS 44.018 clause 11.1.2, TS 48.008 clause 3.1.5): a call has at most one, so they stand by their calls
-  pub timers : map.FinMap nat_cmp Timer
-
-abbrev pub channels_code : Coded (map.FinMap chan_cmp ChanState)
-channels_code = map.code coded_chan state_row.coded
-
-abbrev pub references_code : Coded (map.FinMap reference_cmp ℕ)
-references_code = map.code coded_reference coded_ℕ
-
-abbrev pub state_code : Coded State
-state_code =
-    code_by
-    (SiteView ×
-    (map.FinMap chan_cmp ChanState × (map.FinMap nat_cmp CallRecord × (map.FinMap reference_cmp ℕ × map.FinMap nat_cmp Timer))))
-    (coded× site_code
-    (coded× channels_code
-    (coded× (map.code coded_ℕ record_row.coded) (coded× references_code (map.code coded_ℕ timer_row.coded)))))
-    (λ b. (b.site, (b.channels, (b.calls, (b.references, b.timers)))))
-    (λ p. record { site = p.0; channels = p.1.0; calls = p.1.1.0; references = p.1.1.1.0; timers = p.1.1.1.1 })
-    (λ _. refl)
-
--- the book of a site in which nothing is in use
-abbrev pub empty_book : SiteView → State
-empty_book site = record { site = site; channels = map.empty; calls = map.empty; references = map.empty; timers = map.empty }
-
--- a channel that has no entry is free
-abbrev pub or_free : Option ChanState → ChanState
-or_free None = Free
-or_free (Some s) = s
-
-abbrev pub state_of : State → ChanId → ChanState
-state_of b x = or_free (map.get b.channels x)
-
-abbrev pub record_of : State → ℕ → Option CallRecord
-record_of b c = map.get b.calls c
+use Rattle.radio_tables.specs.Maps.{Entry, with_change}
+pub use Rattle.radio_tables.specs.State.{State, state_code, empty_book, or_free, state_of, record_of}
 
 -- what an event changes: in each map one entry, or none
 pub record Change : Type 0 where

@@ -2,25 +2,25 @@
 -- where several would do, or it is accepted with a change and an answer.
 -- Its rows are the steps of calls and handovers (TS 44.018 clause 3.4.4, TS 48.008 clause 3.1.5), and of the activation and
 -- release of channels (TS 48.058 clause 4).
-use Rattle.std.specs.Prelude.{ℕ, Bool, true, false, not, ◌&&◌, if◌then◌else◌, ◌==◌, ◌⊎◌, Option, Some, None, is_none}
+use Rattle.std.specs.Prelude.{◌≡◌, ℕ, Bool, true, false, not, if◌then◌else◌, ◌==◌, ◌⊎◌, Option, Some, None, is_none}
 use Rattle.std.specs.Option.{option_map}
 use Rattle.std.specs.FinMap as map
 use Rattle.channel_fsm.specs.declared.ChanId.{ChanId}
 use Rattle.channel_fsm.specs.declared.ChanState.{ChanState}
-use Rattle.channel_fsm.specs.declared.ChanState.TheVariants.{Free, Held, Pending, On, Off}
+use Rattle.channel_fsm.specs.declared.ChanState.TheVariants.{Held, Pending, On, Off}
 use Rattle.radio_book.specs.declared.event.Kind.{Kind}
 use Rattle.radio_book.specs.declared.event.Kind.TheVariants as kind
-use Rattle.radio_book.specs.declared.event.AttemptKind.{AttemptKind}
-use Rattle.radio_book.specs.declared.event.AttemptKind.TheVariants.{Internal, Incoming, Outgoing}
+use Rattle.radio_tables.specs.declared.kinds.AttemptKind.{AttemptKind}
+use Rattle.radio_tables.specs.declared.kinds.AttemptKind.TheVariants.{Internal, Incoming, Outgoing}
 use Rattle.attempt_journal.specs.declared.Timer.{Timer}
 use Rattle.attempt_journal.specs.declared.Timer.TheVariants.{T3103, T7, T8}
 use Rattle.radio_book.specs.declared.event.Why.{Why}
 use Rattle.radio_book.specs.declared.event.Why.TheVariants.{Asked, Expired}
-use Rattle.radio_book.specs.declared.event.Stage.{Stage}
-use Rattle.radio_book.specs.declared.event.Stage.TheVariants as stage
-use Rattle.radio_book.specs.declared.event.Attempt.{Attempt}
-use Rattle.radio_book.specs.declared.event.CallRecord.{CallRecord}
-use Rattle.radio_book.specs.declared.event.Reference.{Reference}
+use Rattle.radio_tables.specs.declared.kinds.Stage.{Stage}
+use Rattle.radio_tables.specs.declared.kinds.Stage.TheVariants as stage
+use Rattle.radio_tables.specs.declared.kinds.Attempt.{Attempt}
+use Rattle.radio_tables.specs.declared.kinds.CallRecord.{CallRecord}
+use Rattle.dense_tables.specs.declared.references.Reference.{Reference}
 use Rattle.radio_book.specs.declared.event.Event.{Event}
 use Rattle.radio_book.specs.declared.event.Event.TheVariants as event
 use Rattle.radio_book.specs.declared.event.Refusal.{Refusal}
@@ -28,9 +28,12 @@ use Rattle.radio_book.specs.declared.event.Refusal.TheVariants.{NoCall, CallExis
 use Rattle.radio_book.specs.declared.event.Reply.{Reply}
 use Rattle.radio_book.specs.declared.event.Reply.TheVariants.{Done, Record, Owned, Refused}
 use Rattle.cell_table.specs.Site.{is_traffic}
-use Rattle.radio_book.specs.Maps.{Entry, AddsKey}
-use Rattle.radio_book.specs.Stages.{Allows, stage_allows}
+use Rattle.radio_tables.specs.Maps.{Entry, AddsKey}
+use Rattle.radio_tables.specs.Stages.{Allows, stage_allows}
 use Rattle.radio_book.specs.State.{State, Change, apply, state_of, record_of}
+pub use Rattle.radio_tables.specs.Keys.{same_chan}
+pub use Rattle.radio_tables.specs.States.{ChannelRow, channel_row, owner, left_state}
+pub use Rattle.radio_tables.specs.Records.{with_attempt, at_stage, taken_attempt, required_attempt, reserved_record}
 
 -- an event is refused, or it is accepted with what it changes and what it is answered
 pub data Outcome : Type 0 where
@@ -49,41 +52,6 @@ abbrev pub given : {X : Type 0} → Option X → Refusal → (X → Outcome) →
 given None refusal rest = Refuses refusal
 given (Some x) refusal rest = rest x
 
--- CHANNELS
-
-pub record ChannelRow : Type 0 where
-  -- the call whose the channel is
-  pub owner : Option ℕ
-  -- the call for which a station is to activate it
-  pub activating : Option ℕ
-  -- the call for which it is active
-  pub active : Option ℕ
-  -- it can be taken
-  pub free : Bool
-  -- its release is awaited
-  pub off : Bool
-  -- What is left of it where it is used no more: a held one is free, to one that may be active RF CHANNEL RELEASE is sent
-  -- (TS 48.058 clause 8.4.14). A free channel stays free, and one that is off stays off.
-  pub left : Option ChanState
-
--- the table of states: what each says of a channel
-abbrev pub channel_row : ChanState → ChannelRow
-channel_row Free = record { owner = None; activating = None; active = None; free = true; off = false; left = None }
-channel_row (Held c) = record { owner = Some c; activating = None; active = None; free = false; off = false; left = None }
-channel_row (Pending c) = record { owner = Some c; activating = Some c; active = None; free = false; off = false; left = Some Off }
-channel_row (On c) = record { owner = Some c; activating = None; active = Some c; free = false; off = false; left = Some Off }
-channel_row Off = record { owner = None; activating = None; active = None; free = false; off = true; left = Some Off }
-
--- a state of use says whose the channel is
-abbrev pub owner : ChanState → Option ℕ
-owner s = (channel_row s).owner
-
-abbrev pub left_state : ChanState → Option ChanState
-left_state s = (channel_row s).left
-
-abbrev pub same_chan : ChanId → ChanId → Bool
-same_chan a b = a.cell == b.cell && (a.trx == b.trx && a.tn == b.tn)
-
 -- PARTS OF CHANGES
 
 abbrev pub no_change : Change
@@ -94,13 +62,6 @@ with_entry k v = Some (k, Some v)
 
 abbrev pub without_entry : {K X : Type 0} → K → Option (Entry K X)
 without_entry k = Some (k, None)
-
-abbrev pub with_attempt : CallRecord → Attempt → CallRecord
-with_attempt r a = record r { attempt = Some a }
-
--- the record, its attempt at another stage
-abbrev pub at_stage : CallRecord → Attempt → Stage → CallRecord
-at_stage r a s = with_attempt r (record a { stage = s })
 
 -- the record, and the state of its serving channel
 abbrev pub record_reply : CallRecord → (ChanId → ChanState) → Reply
@@ -135,9 +96,6 @@ abbrev pub at_rest : CallRecord → (ChanId → ChanState) → (ChanId → Outco
 at_rest r states rest =
     needs (is_none r.attempt) WrongPhase (given r.serving WrongPhase (λ s. given (channel_row (states s)).active WrongPhase (λ d. rest s)))
 
-abbrev pub taken_attempt : AttemptKind → ChanId → Attempt
-taken_attempt k x = record { kind = k; stage = stage.Taken; target = Some x; reference = None }
-
 -- the channel is held by the call, whose record is this from now on
 abbrev pub taking_change : ℕ → ChanId → CallRecord → Change
 taking_change c x r = record no_change { channel = with_entry x (Held c); call = with_entry c r }
@@ -155,10 +113,6 @@ abbrev pub take_row : ℕ → Kind → ChanId → Option CallRecord → (ChanId 
 take_row c kind.Internal x found states traffic = take_internal c x found states traffic
 take_row c kind.Incoming x found states traffic =
     begin_row c x (record { serving = None; attempt = Some (taken_attempt Incoming x) }) (Held c) found traffic (states x)
-
--- an attempt towards another controller, which has the target (TS 48.008 clause 3.1.5)
-abbrev pub required_attempt : Attempt
-required_attempt = record { kind = Outgoing; stage = stage.Required; target = None; reference = None }
 
 -- Require: the switching centre is asked for a handover (HANDOVER REQUIRED), and T7 is armed
 abbrev pub require_row : ℕ → Option CallRecord → (ChanId → ChanState) → Outcome
@@ -181,10 +135,6 @@ abbrev pub reference_held : Option ChanId → Option ℕ → Option Reference
 reference_held None number = None
 reference_held (Some t) None = None
 reference_held (Some t) (Some n) = Some (reference_at t n)
-
--- the record, its attempt with a reference
-abbrev pub reserved_record : CallRecord → Attempt → ℕ → CallRecord
-reserved_record r a n = with_attempt r (record a { stage = stage.Reserved; reference = Some n })
 
 -- Reserve: an attempt that has its channel reserves a reference of the channel's cell
 abbrev pub reserve_row : ℕ → ℕ → Option CallRecord → (Reference → Option ℕ) → Outcome
@@ -381,3 +331,25 @@ MayNeedRoom (event.Owner x) = ⊥
 MayNeedRoom (event.Require c) = ⊥
 MayNeedRoom (event.Order c) = ⊥
 MayNeedRoom (event.Left c) = ⊥
+
+-- Memory may be refused to an event: to one that begins a call, and where a change in place may be refused it, to one that
+-- takes a channel or a reference for a call that is there.
+abbrev pub MayBeRefused : Bool → Event → Type 0
+MayBeRefused in_place (event.Open c x) = Unit {0}
+MayBeRefused in_place (event.Take c kind.Internal x) = in_place ≡ true
+MayBeRefused in_place (event.Take c kind.Incoming x) = Unit {0}
+MayBeRefused in_place (event.Reserve c n) = in_place ≡ true
+MayBeRefused in_place (event.Clear c) = ⊥
+MayBeRefused in_place (event.Look c) = ⊥
+MayBeRefused in_place (event.Activate c) = ⊥
+MayBeRefused in_place (event.Command c) = ⊥
+MayBeRefused in_place (event.Complete c) = ⊥
+MayBeRefused in_place (event.Undo c why) = ⊥
+MayBeRefused in_place (event.Confirm x) = ⊥
+MayBeRefused in_place (event.Refuse x) = ⊥
+MayBeRefused in_place (event.Detect x) = ⊥
+MayBeRefused in_place (event.Released x) = ⊥
+MayBeRefused in_place (event.Owner x) = ⊥
+MayBeRefused in_place (event.Require c) = ⊥
+MayBeRefused in_place (event.Order c) = ⊥
+MayBeRefused in_place (event.Left c) = ⊥

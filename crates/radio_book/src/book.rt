@@ -1,22 +1,23 @@
 //! The radio book.
-ghost use Rattle.std.specs.Prelude.{◌≡◌, ◌↔◌, ℕ, Option, Ok, None, OnOk, OnErr, IfOk, IfSome, MatchOption, IsOk, IsTrue};
+ghost use Rattle.std.specs.Prelude.{◌≡◌, ◌↔◌, ℕ, Option, Ok, None, OnOk, OnErr, IfOk, IfSome, MatchOption, IsTrue, false};
 ghost use Rattle.std.specs.FinMap as map;
 ghost use Rattle.radio_book.specs.State.{empty_book, state_code};
-ghost use Rattle.radio_book.specs.Same.{is_same, is_same-IsEquivalence};
+ghost use Rattle.radio_tables.specs.Same.{is_same, is_same-IsEquivalence};
 ghost use Rattle.std.specs.Cmp.{partial_equiv_from_equiv};
 ghost use Rattle.radio_book.specs.Sound.{IsSound};
 ghost use Rattle.channel_fsm.specs.declared.ChanState.{ChanState};
-ghost use Rattle.radio_book.specs.declared.event.CallRecord.{CallRecord};
+ghost use Rattle.radio_tables.specs.declared.kinds.CallRecord.{CallRecord};
 ghost use Rattle.radio_book.specs.declared.event.Event.{Event};
 ghost use Rattle.radio_book.specs.declared.event.Why.{Why};
 ghost use Rattle.radio_book.specs.Journal.{journal_of, run_back};
-ghost use Rattle.radio_book.specs.Table.{step, reply_to, row, NeedsRoom, MayNeedRoom};
-ghost use Rattle.radio_book.specs.Choice.{IsFreeIn, NoneFree, TakesFree, ReservesFree, free_count};
+ghost use Rattle.radio_book.specs.Table.{step, reply_to, row, NeedsRoom, MayNeedRoom, MayBeRefused};
+ghost use Rattle.radio_book.specs.Choice.{IsFreeIn, NoneFree, TakesFree, ReservesFree, IsFreeCount};
 
-use crate::book_tables::BookTables;
 use crate::event::{Event, Kind, Reply};
+use crate::records::Records;
 use cell_table::Site;
 use channel_fsm::ChanId;
+use radio_tables::DenseTables;
 use std::alloc::{AllocError, Allocator, Global};
 use std::marker::Model;
 use std::sync::Arc;
@@ -38,7 +39,7 @@ pub struct Usage {
 /// handover references and timers that attempts hold. It is sound at all times.
 #[derive(Drop)]
 pub struct Book<A: Allocator = Global> {
-    tables: BookTables<A>,
+    records: Records<DenseTables<A>>,
 }
 
 impl<A: Allocator> Model for Book<A> {
@@ -49,9 +50,9 @@ impl<A: Allocator> Model for Book<A> {
 
     ghost coded = { state_code };
 
-    ghost view = { λ book. book.tables };
+    ghost view = { λ book. book.records };
 
-    ghost invariant = { λ book. IsSound book.tables };
+    ghost invariant = { λ book. IsSound book.records };
 }
 
 /// Two books are equal where their sites, the states of their channels, the records of their calls, their references in
@@ -65,7 +66,7 @@ impl<A: Allocator> PartialEq for Book<A> {
         ensures value { result ≡ is_same state_code self.now other.now }
         ensures same { IsTrue result ↔ (self.now ≡ other.now) }
     {
-        self.tables == other.tables
+        self.records.same(&other.records)
     }
 }
 
@@ -74,28 +75,29 @@ impl<A: Allocator> Eq for Book<A> {
 }
 
 impl<A: Allocator + Copy> Book<A> {
-    /// The book of a site in which nothing is in use.
+    /// The book of a site in which nothing is in use. Memory is asked for.
     pub fn new(alloc: A, site: Arc<Site<A>, A>) -> Result<Book<A>, AllocError>
         ensures empty { IfOk result (λ book. book ≡ empty_book site.value) }
-        ensures memory { IsOk result }
     {
-        let tables = BookTables::new(alloc, site);
-        Ok(Book { tables })
+        let tables = DenseTables::new(alloc, site)?;
+        Ok(Book {
+            records: Records::over(tables),
+        })
     }
 
     /// The site, which never changes.
     pub fn site(&self) -> &Arc<Site<A>, A>
         ensures site { result.now.value ≡ self.now.site }
     {
-        self.tables.site()
+        self.records.tables().site()
     }
 
     /// The same book again. Memory is asked for.
     pub fn copy(&self) -> Result<Book<A>, AllocError>
         ensures copy { IfOk result (λ book. book ≡ self.now) }
     {
-        let tables = self.tables.copy()?;
-        Ok(Self { tables })
+        let records = self.records.copy()?;
+        Ok(Self { records })
     }
 
     /// How much the book holds. Its contract also hands out that every book is sound.
@@ -107,10 +109,10 @@ impl<A: Allocator + Copy> Book<A> {
         ensures sound { IsSound self.now }
     {
         Usage {
-            channels: self.tables.channels(),
-            calls: self.tables.calls(),
-            references: self.tables.references(),
-            timers: self.tables.timers(),
+            channels: self.records.channels(),
+            calls: self.records.calls(),
+            references: self.records.references(),
+            timers: self.records.timers(),
         }
     }
 
@@ -119,42 +121,42 @@ impl<A: Allocator + Copy> Book<A> {
         ensures calls { result ≡ map.len self.now.calls }
         ensures sound { IsSound self.now }
     {
-        self.tables.calls()
+        self.records.calls()
     }
 
     /// How many channels aren't free.
     pub fn channels(&self) -> usize
         ensures channels { result ≡ map.len self.now.channels }
     {
-        self.tables.channels()
+        self.records.channels()
     }
 
     /// Does nothing; its contract hands out that every book is sound.
     pub(crate) fn sound(&self)
         ensures { IsSound self.now }
     {
-        let _ = &self.tables;
+        let _ = &self.records;
     }
 
     /// Judges one event by the table: its refusal, or what it changes and its answer. A refused event
     /// changes nothing.
     ///
-    /// Memory is asked for only by an event that is accepted and brings a channel, a call or a reference
-    /// that the book doesn't have, so by none but `Open`, `Take` and `Reserve`. Where it is refused, the
-    /// book is as it was.
+    /// Memory is asked for only by an event that is accepted and begins a call: by `Open`, and by a `Take` of kind
+    /// `Incoming`. Where it is refused, the book is as it was.
     pub fn step(&mut self, event: Event) -> Result<Reply, AllocError>
         ensures reply { IfOk result (λ reply. reply ≡ reply_to self.old event) }
         ensures book { OnOk result (self.new ≡ step self.old event) }
         ensures unchanged { OnErr result (self.new ≡ self.old) }
         ensures memory { OnErr result (NeedsRoom self.old (row self.old event)) }
         ensures kinds { OnErr result (MayNeedRoom event) }
+        ensures begins { OnErr result (MayBeRefused false event) }
 
         // An undo leads where the inverses of the attempt that is shown lead, run last first.
         ensures inverses { (c : ℕ) (why : Why) (shown : CallRecord) (state : Option ChanState) →
             event ≡ Event.Undo c why → result ≡ Ok (Reply.Record shown state) →
             self.new ≡ run_back c (journal_of shown.attempt) self.old }
     {
-        self.tables.step(event)
+        self.records.step(event)
     }
 
     /// Some free traffic channel of the cell. `None` says that there is none, as in a cell that the site lacks. Any free
@@ -162,7 +164,7 @@ impl<A: Allocator + Copy> Book<A> {
     pub fn free_channel(&self, cell: u8) -> Option<ChanId>
         ensures free { MatchOption result (NoneFree self.now cell) (λ x. IsFreeIn self.now cell x) }
     {
-        self.tables.choose_channel(cell)
+        self.records.choose_channel(cell)
     }
 
     /// A `Take` of some free channel of the cell, judged as by [`Book::step`], with its answer. `None` says that there is
@@ -186,7 +188,7 @@ impl<A: Allocator + Copy> Book<A> {
         ensures memory { OnErr result ((e : Event) × TakesFree self.old call kind cell e ×
             NeedsRoom self.old (row self.old e)) }
     {
-        let Some(x) = self.tables.choose_channel(cell) else {
+        let Some(x) = self.records.choose_channel(cell) else {
             return Ok(None);
         };
         let event = Event::Take(call, kind, x);
@@ -206,7 +208,7 @@ impl<A: Allocator + Copy> Book<A> {
         ensures memory { OnErr result ((e : Event) × ReservesFree self.old call e ×
             NeedsRoom self.old (row self.old e)) }
     {
-        let number = self.tables.choose_number(call);
+        let number = self.records.choose_number(call);
         let event = Event::Reserve(call, number);
         let reply = self.step(event)?;
         Ok((event, reply))
@@ -215,9 +217,9 @@ impl<A: Allocator + Copy> Book<A> {
     /// How many traffic channels of the cell are free: 0 for a cell that the site lacks, and exactly where
     /// [`Book::take_any`] finds none.
     pub fn free_in(&self, cell: u8) -> u32
-        ensures count { result ≡ free_count self.now cell }
+        ensures count { IsFreeCount self.now cell result }
         ensures none { (result ≡ 0) ↔ NoneFree self.now cell }
     {
-        self.tables.free_in(cell)
+        self.records.free_in(cell)
     }
 }

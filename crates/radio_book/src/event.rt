@@ -1,7 +1,7 @@
 //! What may happen to a radio book, and what it answers: the steps of calls and of handovers (TS 44.018 clause
 //! 3.4.4, TS 48.008 clause 3.1.5), and the answers of stations about channels (TS 48.058 clause 4).
-pub use attempt_journal::Timer;
 use channel_fsm::{ChanId, ChanState};
+pub use radio_tables::kinds::{Attempt, AttemptKind, CallRecord, Reference, Stage, Timer};
 
 /// Where the call of an attempt comes from.
 #[derive(Clone, Copy, Debug, PartialEq, Eq)]
@@ -19,74 +19,6 @@ pub enum Why {
     Asked,
     /// A timer that guards it ran out.
     Expired(Timer),
-}
-
-/// How far an attempt at handover has come.
-#[derive(Clone, Copy, Debug, PartialEq, Eq)]
-pub enum Stage {
-    /// It has a channel.
-    Taken,
-    /// It has a channel and a handover reference.
-    Reserved,
-    /// The activation of the channel was sent.
-    Sent,
-    /// The station refused the activation.
-    Refused,
-    /// The station activated the channel.
-    Confirmed,
-    /// The mobile was sent to the channel (HANDOVER COMMAND, TS 44.018 clause 3.4.4).
-    Commanded,
-    /// The station sees the mobile on the channel (HANDOVER DETECTION, TS 48.058 clause 8.4.7).
-    Detected,
-    /// The switching centre was asked for a handover to another controller (HANDOVER REQUIRED, TS 48.008 clause
-    /// 3.1.5).
-    Required,
-    /// The mobile was sent to the other controller (HANDOVER COMMAND, TS 48.008 clause 3.1.5).
-    Ordered,
-}
-
-/// What kind of handover is attempted: within this controller (TS 44.018 clause 3.4.4), towards it from another, or
-/// away from it to another (TS 48.008 clause 3.1.5).
-#[derive(Clone, Copy, Debug, PartialEq, Eq)]
-pub enum AttemptKind {
-    /// As [`Kind::Internal`].
-    Internal,
-    /// As [`Kind::Incoming`].
-    Incoming,
-    /// A call of this controller moves to a cell of another.
-    Outgoing,
-}
-
-/// An attempt at handover that is open.
-#[derive(Clone, Copy, Debug, PartialEq, Eq)]
-pub struct Attempt {
-    /// Where the call comes from.
-    pub kind: AttemptKind,
-    /// How far it has come.
-    pub stage: Stage,
-    /// The channel that the call is to move to. `None` where it is another controller's.
-    pub target: Option<ChanId>,
-    /// The handover reference in the target's cell, 0 to 255. `None` in [`Stage::Taken`], and where there is no
-    /// target.
-    pub reference: Option<u8>,
-}
-
-/// What the book has of a call.
-#[derive(Clone, Copy, Debug, PartialEq, Eq)]
-pub struct CallRecord {
-    /// The channel that the call is on. `None` for a call that comes from another controller.
-    pub serving: Option<ChanId>,
-    /// The attempt that is open. `None` where the call rests on its serving channel.
-    pub attempt: Option<Attempt>,
-}
-
-/// A handover reference of a cell (TS 44.018 clause 10.5.2.15).
-#[derive(Clone, Copy, Debug, PartialEq, Eq, PartialOrd, Ord)]
-pub struct Reference {
-    /// The cell that the call moves to.
-    pub cell: u8,
-    /// 0 to 255, of one attempt of the cell at a time.
-    pub number: u8,
 }
 
 /// What may happen, and why it may be refused. A call is named by its number, 0 to 65535.

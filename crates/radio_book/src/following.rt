@@ -1,7 +1,7 @@
 //! An attempt that is followed along a list of steps, one step after another: how far it has come, which steps stay
 //! without it, and which of these were refused for what it holds.
 ghost use Rattle.std.specs.Prelude.{◌≡◌, ◌&&◌, not};
-ghost use Rattle.radio_book.specs.Stages.{stage_row};
+ghost use Rattle.radio_tables.specs.Stages.{stage_row};
 ghost use Rattle.radio_book.specs.Table.{reference_held};
 ghost use Rattle.radio_book.specs.Undone.{is_call, is_channel, is_reference, is_on_target, reserves, releases, comes_from};
 ghost use Rattle.radio_book.specs.Found.{ends};

@@ -3,8 +3,6 @@
 #![tactic(auto)]
 
 pub mod book;
-mod book_tables;
-mod entry;
 pub mod event;
 pub mod following;
 mod kinds;
@@ -13,10 +11,9 @@ pub mod marked;
 pub mod marks;
 pub mod others;
 pub mod owed;
+pub mod records;
 mod remainder;
 pub mod rewind;
 pub mod run;
-mod stage;
 mod steps;
-mod tables;
 pub mod undone;

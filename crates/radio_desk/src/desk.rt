@@ -177,8 +177,9 @@ impl<A: Allocator + Copy> Desk<A> {
     /// `Foreign`, which is looked at first, exactly where the history doesn't hold the seat's last receipt. After either
     /// fault desk and seat are as they were; the history may have got room.
     ///
-    /// An accepted `Undo` or `Released` is never refused memory: its entry has the room that was kept for it. Before any
-    /// other event changes the book, room is made for its entry and for what is owed because of it.
+    /// An accepted `Undo` or `Released` takes no memory and is never refused any: its entry has the room that was kept for
+    /// it, and the history gets no other. Before any other event changes the book, room is made for its entry and for what is
+    /// owed because of it.
     #[tactic(auto, using(crate::proofs::Leading::leads_more))]
     pub fn judge(&mut self, seat: &mut Seat, event: Event) -> Result<Receipt, DeskFault>
         ensures foreign { (place : ℕ) → (result ≡ Err (DeskFault.Foreign place)) ↔
@@ -193,6 +194,9 @@ impl<A: Allocator + Copy> Desk<A> {
         ensures owed { IsTrue (is_owed event) →
             IsTrue (is_accepted (reply_to self.old.book event)) →
             result ≢ Err DeskFault.NoMemory }
+        ensures takes_none { IsTrue (is_owed event) →
+            IsTrue (is_accepted (reply_to self.old.book event)) →
+            OnOk result (self.new.room + 1 ≡ self.old.room) }
     {
         if let Some(place) = foreign_place(self.history.as_slice(), seat) {
             return Err(DeskFault::Foreign(place));
@@ -218,6 +222,7 @@ impl<A: Allocator + Copy> Desk<A> {
         ensures looked { HoldsLast self.old.history seat.old → NoneFree self.old.book cell →
             result ≡ Ok None }
         ensures kept { result ≡ Ok None → IsSameDesk self.old self.new × (seat.new ≡ seat.old) }
+        ensures takes_none { result ≡ Ok None → self.new.room ≡ self.old.room }
         ensures event { IfOk result (λ answer. IfSome answer
             (λ receipt. TakesFree self.old.book call kind cell receipt.event)) }
         ensures judged { IfOk result (λ answer. IfSome answer

@@ -3,7 +3,8 @@
 //! A history always has room for all that is owed in its book: an entry for each open attempt, which takes it back, and
 //! one for each channel in use, which acknowledges its release. Such an event takes no memory, and its entry has the room
 //! that was kept for it. Every other event makes room before the book is asked, for its own entry and for those that are
-//! owed from then on, so that it never uses the room that is kept.
+//! owed from then on, and one of these kinds that is refused makes it once the book has answered. So neither uses the room
+//! that is kept.
 ghost use Rattle.std.specs.Prelude.{◌≡◌, ◌⊎◌, ◌+◌, ◌-◌, ◌^◌, ◌<◌, ◌≤◌, IsTrue, IfOk, OnOk, OnErr, IsOk, MatchOption, vec_len, vec_capacity};
 ghost use Rattle.radio_book.specs.declared.event.Event.{Event};
 ghost use Rattle.radio_book.specs.Choice.{ReservesFree};
@@ -90,6 +91,8 @@ fn answer_owed<A: Allocator + Copy>(
     ensures room { OnOk result (vec_len history.new + (owed book.new + 1)
         ≤ vec_capacity history.new) }
     ensures accepted { IsTrue (is_accepted (reply_to book.old event)) → IsOk result }
+    ensures takes_none { IsTrue (is_accepted (reply_to book.old event)) →
+        vec_capacity history.new ≡ vec_capacity history.old }
     ensures unchanged { OnErr result (book.new ≡ book.old) }
     ensures memory { OnErr result (vec_capacity history.old
         < vec_len history.old + (calls_and_channels book.old + 3)) }
@@ -121,6 +124,9 @@ pub(crate) fn answer<A: Allocator + Copy>(
         ≤ vec_capacity history.new) }
     ensures accepted { IsTrue (is_owed event) →
         IsTrue (is_accepted (reply_to book.old event)) → IsOk result }
+    ensures takes_none { IsTrue (is_owed event) →
+        IsTrue (is_accepted (reply_to book.old event)) →
+        vec_capacity history.new ≡ vec_capacity history.old }
     ensures unchanged { OnErr result (book.new ≡ book.old) }
     ensures memory { OnErr result ((vec_capacity history.old
         < vec_len history.old + (calls_and_channels book.old + 3))

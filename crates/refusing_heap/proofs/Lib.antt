@@ -1,1 +1,2 @@
+-- which request of a walk is refused next
 mod NextRequest

@@ -4,8 +4,6 @@ use Rattle.std.specs.Fmt.{decimal}
 use Rattle.std.specs.FinMap as map
 use Rattle.cell_table.specs.Site.{SiteView}
 use Rattle.cell_table.specs.SiteFile.{read_site}
-use Rattle.radio_book.specs.declared.event.Event.{Event}
-use Rattle.radio_book.specs.declared.event.Reply.{Reply}
 use Rattle.radio_book.specs.State.{State, empty_book}
 use Rattle.radio_book.specs.Run.{Leads}
 use Rattle.radio_book.specs.Undone.{Undone}
@@ -15,7 +13,6 @@ use Rattle.radio_desk.specs.Desk.{DeskState}
 use Rattle.radio_desk.specs.declared.audit.Audit.{Audit}
 use Rattle.radio_desk.specs.Audit.{steps_in, AreSettledIn, LeadsAlike}
 use Rattle.radio_desk.specs.Tally.{count_of}
-use Rattle.radio_desk.specs.declared.tally.Tally.{Tally}
 use Rattle.call_worker.specs.declared.posted.WorkerEnd.{WorkerEnd}
 use Rattle.storms.specs.declared.outcome.Figures.{Figures}
 use Rattle.storms.specs.declared.outcome.Outcome.{Outcome}

@@ -12,10 +12,10 @@
 #![tactic(auto)]
 
 mod front;
-mod links;
+pub mod links;
 pub mod outcome;
 mod simulated;
 pub mod storm;
-mod tray;
+pub mod tray;
 pub mod trip;
 pub mod watch;

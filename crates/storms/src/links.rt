@@ -11,7 +11,7 @@ use std::sync::{Arc, Wait};
 /// A worker's way to the tray. It keeps a copy of each message that it passed on, since what lies on a tray that several
 /// threads share can't be named in a contract.
 #[derive(Drop)]
-pub(crate) struct TrayLinks<R: Drop, A: Allocator = Global> {
+pub struct TrayLinks<R: Drop, A: Allocator = Global> {
     rt: R,
     alloc: A,
     tray: Arc<Tray<A>, A>,
@@ -21,7 +21,7 @@ pub(crate) struct TrayLinks<R: Drop, A: Allocator = Global> {
 
 impl<R: Drop, A: Allocator + Copy> TrayLinks<R, A> {
     /// Links to this tray, which have passed nothing on yet.
-    pub(crate) fn new(rt: R, alloc: A, tray: Arc<Tray<A>, A>) -> TrayLinks<R, A>
+    pub fn new(rt: R, alloc: A, tray: Arc<Tray<A>, A>) -> TrayLinks<R, A>
         ensures refused { result.refused ≡ 0 }
     {
         TrayLinks {
@@ -34,7 +34,7 @@ impl<R: Drop, A: Allocator + Copy> TrayLinks<R, A> {
     }
 
     /// Whether no message was lost.
-    pub(crate) fn passed_all(&self) -> bool
+    pub fn passed_all(&self) -> bool
         ensures { IsTrue result ↔ (self.now.refused ≡ 0) }
     {
         self.refused == 0

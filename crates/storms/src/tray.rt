@@ -57,14 +57,14 @@ impl<A: Allocator + Copy> Load<A> {
 /// A tray on which workers lay what they send, and say that they are done with an input: all under one lock. It takes a
 /// message whether anybody takes it up or not, so no worker ever waits for the front.
 #[derive(Drop)]
-pub(crate) struct Tray<A: Allocator = Global> {
+pub struct Tray<A: Allocator = Global> {
     load: Mutex<Load<A>>,
     changed: Condvar,
 }
 
 impl<A: Allocator + Copy> Tray<A> {
     /// An empty tray.
-    pub(crate) fn new(alloc: A) -> Tray<A> {
+    pub fn new(alloc: A) -> Tray<A> {
         Tray {
             load: Mutex::new(Load {
                 waiting: VecDeque::new(alloc),
@@ -75,21 +75,21 @@ impl<A: Allocator + Copy> Tray<A> {
     }
 
     /// Lays a message behind all others. `Err`: there was no memory for it, and the message is lost.
-    pub(crate) fn lay<R: Wait>(&self, rt: &R, message: Outbound<A>) -> Result<(), AllocError> {
+    pub fn lay<R: Wait>(&self, rt: &R, message: Outbound<A>) -> Result<(), AllocError> {
         self.load.lock(rt).lay(message)?;
         self.changed.notify_one();
         Ok(())
     }
 
     /// A worker is done with one more input: all that it sends for it lies here.
-    pub(crate) fn count_done<R: Wait>(&self, rt: &R) {
+    pub fn count_done<R: Wait>(&self, rt: &R) {
         self.load.lock(rt).count_done();
         self.changed.notify_one();
     }
 
     /// Takes up the first message. It waits while none lies here and the workers are done with fewer inputs than were given;
     /// nothing once no message is left and none can come, since they are done with all.
-    pub(crate) fn take_up<R: Wait>(&self, rt: &R, given: u64) -> Option<Outbound<A>> {
+    pub fn take_up<R: Wait>(&self, rt: &R, given: u64) -> Option<Outbound<A>> {
         let mut load = self
             .changed
             .wait_while(rt, self.load.lock(rt), |load| load.is_awaited(given));

@@ -1,1 +1,2 @@
+-- facts of what was asked of a desk, from a place on
 pub mod EventFacts

@@ -30,6 +30,11 @@ impl Taken {
         self.moved.notify_all();
     }
 
+    /// How many were taken so far.
+    pub fn so_far<R: Wait>(&self, rt: &R) -> u64 {
+        *self.count.lock(rt)
+    }
+
     /// Waits until so many inputs were taken.
     pub fn wait_for<R: Wait>(&self, rt: &R, wanted: u64) {
         let _count = self

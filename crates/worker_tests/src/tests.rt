@@ -6,3 +6,4 @@ mod memory;
 mod offices;
 mod steady;
 mod together;
+mod tray;

@@ -103,7 +103,7 @@ fn a_refused_request_changes_nothing(rt: HostRuntime) -> Result<(), Fail> {
         }
         refused = n;
     }
-    // Channels and calls are copied; the history and references each ask once at least.
+    // Channels, calls and references are copied, each by one request at least; the history asks once.
     holds_at(&rt, 4 <= refused && refused < 99, refused);
     Ok(())
 }

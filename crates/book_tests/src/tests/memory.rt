@@ -1,14 +1,12 @@
 //! Memory is refused in each call of a book, in a rewind, which asks two runs, and in marks, which ask one.
-use super::Ask::{ReserveAny, Step, TakeAny};
+use super::Ask::{Step, TakeAny};
 use super::{
     ACTIVATE, Ask, COMMAND, CONFIRM, RELEASED, RESERVE, STEADY, TAKE, UNDO, book_of, channel_at,
     equals_at, holds, holds_at, put_to_book, step_all,
 };
 use radio_book::book::{Book, Usage};
-use radio_book::event::Event::{
-    Clear, Confirm, Detect, Left, Open, Order, Refuse, Require, Reserve, Take,
-};
-use radio_book::event::Kind::{Incoming, Internal};
+use radio_book::event::Event::{Clear, Confirm, Detect, Left, Open, Order, Refuse, Require, Take};
+use radio_book::event::Kind::Incoming;
 use radio_book::event::Reply::Done;
 use radio_book::event::{Event, Reply};
 use radio_book::marks::marks;
@@ -213,15 +211,13 @@ fn meets_each_refusal(
     Ok(())
 }
 
-// What takes memory, behind so many calls and these events, on a site of two cells with 31 channels each. Call 3 is on
-// the channel 0/0/3. A table asks for memory with its first entry, and where the 15
-// entries of a node are full.
-type Takes = (u16, &'static [Event], &'static [Ask]);
+// What takes memory, behind so many calls, on a site of two cells with 31 channels each: the first call, and one where the
+// slots of 16 are full.
+type Takes = (u16, &'static [Ask]);
 
 const TAKES: &[Takes] = &[
     (
         0,
-        &[],
         &[
             Step(Open(1, HOME)),
             Step(Take(1, Incoming, TARGET)),
@@ -229,23 +225,12 @@ const TAKES: &[Takes] = &[
         ],
     ),
     (
-        15,
-        &[],
+        16,
         &[
-            Step(Open(16, TARGET)),
-            Step(Take(16, Incoming, TARGET)),
-            TakeAny(16, Incoming, 1),
+            Step(Open(17, TARGET)),
+            Step(Take(17, Incoming, TARGET)),
+            TakeAny(17, Incoming, 1),
         ],
-    ),
-    (
-        15,
-        &[Confirm(HOME)],
-        &[Step(Take(3, Internal, TARGET)), TakeAny(3, Internal, 1)],
-    ),
-    (
-        3,
-        &[Confirm(HOME), Take(3, Internal, TARGET)],
-        &[Step(Reserve(3, 7)), ReserveAny(3)],
     ),
 ];
 
@@ -263,11 +248,11 @@ fn each_meets_each_refusal(
 #[test]
 fn each_refusal_of_memory_is_answered(rt: HostRuntime) -> Result<(), Fail> {
     let site = site_of_cells(rt.alloc(), 2, 4, 0)?;
-    for (calls, events, asks) in TAKES {
+    for (calls, asks) in TAKES {
         let before = Before {
             site: &site,
             calls: *calls,
-            events: *events,
+            events: &[],
         };
         each_meets_each_refusal(&rt, before, *asks)?;
     }
@@ -310,8 +295,17 @@ const TWO_CALLS: Before<'static> = Before {
     events: &[Open(1, HOME), Open(2, OTHER), Confirm(HOME), TAKE, RESERVE],
 };
 
-// That no other event than Open, Take and Reserve may be refused memory is in the contract.
+// Two calls rest.
+const TWO_AT_REST: Before<'static> = Before {
+    site: THREE_CHANNELS,
+    calls: 0,
+    events: &[Open(1, HOME), Open(2, OTHER), Confirm(HOME)],
+};
+
+// That no other event than Open and an incoming Take may be refused memory is in the contract.
 const TAKES_NONE: &[Event] = &[
+    TAKE,
+    RESERVE,
     ACTIVATE,
     CONFIRM,
     Refuse(OTHER),
@@ -330,7 +324,7 @@ const TAKES_NONE: &[Event] = &[
 fn what_takes_no_memory_succeeds_without(rt: HostRuntime) -> Result<(), Fail> {
     // the channel of call 1 is off, so call 3 is refused
     let trial = Trial::WithoutMemory(TAKES_NONE, holds(1, 0, 0, 0));
-    tried_refusing(&rt, u64::MAX, TWO_CALLS, trial)?;
+    tried_refusing(&rt, u64::MAX, TWO_AT_REST, trial)?;
     Ok(())
 }
 

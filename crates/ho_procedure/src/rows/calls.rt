@@ -2,7 +2,7 @@
 ghost use Rattle.std.specs.Prelude.{◌≡◌, ◌≤◌, ◌<◌, ◌+◌, ℕ, Ok, IfOk, OnOk, IfErr, Option, Some, None};
 ghost use Rattle.ho_procedure.specs.Plan.{Plan, Ends, At};
 ghost use Rattle.ho_procedure.specs.Going.{Goes, Passes, then, stops_at};
-ghost use Rattle.ho_procedure.specs.Procedure.{opened_plan, open_plan, told_cause, told_first, release_serving, clear_all, clear_rest, clear_plan, left_plan, clear_command_rest, clear_command_plan, release_cause};
+ghost use Rattle.ho_procedure.specs.Procedure.{opened_plan, open_plan, told_cause, told_first, told_count, release_serving, clear_all, clear_rest, clear_plan, left_plan, clear_command_rest, clear_command_plan, release_cause};
 
 use super::parts::{ask_done, ask_record, look, release_target};
 use crate::records::{awaits_leaving, is_held, is_nameable, is_on, is_own, names_releases};
@@ -53,11 +53,11 @@ fn tell_first<D: DeskView + Drop, A: Allocator + Copy>(
     cause: Option<u8>,
     chan: ChanId,
 )
-    requires room { 1 ≤ work.old.owed.room }
+    requires room { told_count cause ≤ work.old.owed.room }
     requires timeslot { chan.tn < 8 }
     ensures goes { (tail : Plan) → Passes D.log D.says work.old
         (told_first cause chan tail) work.new tail }
-    ensures room { work.old.owed.room ≤ work.new.owed.room + 1 }
+    ensures room { work.old.owed.room ≤ work.new.owed.room + told_count cause }
 {
     let Some(cause) = cause else {
         return;
@@ -67,7 +67,8 @@ fn tell_first<D: DeskView + Drop, A: Allocator + Copy>(
 
 /// The cause that a mobile is told, where it is on.
 fn told_cause(cause: Option<u8>, state: Option<ChanState>) -> Option<u8>
-    ensures { result ≡ told_cause cause state }
+    ensures cause { result ≡ told_cause cause state }
+    ensures count { told_count result ≤ told_count cause }
 {
     if is_on(state) { cause } else { None }
 }
@@ -79,10 +80,10 @@ fn release_serving<D: DeskView + Drop, A: Allocator + Copy>(
     cause: Option<u8>,
     shown: Shown,
 ) -> Flow
-    requires { 2 ≤ work.old.owed.room }
+    requires { told_count cause + 1 ≤ work.old.owed.room }
     ensures goes { (tail : Plan) → Passes D.log D.says work.old
         (release_serving cause shown.record shown.state tail) work.new (then tail result) }
-    ensures room { work.old.owed.room ≤ work.new.owed.room + 2 }
+    ensures room { work.old.owed.room ≤ work.new.owed.room + (told_count cause + 1) }
 {
     if is_held(shown.state) {
         return Flow::On;
@@ -107,12 +108,13 @@ fn clear_all<D: DeskView + Drop, A: Allocator + Copy>(
     cause: Option<u8>,
     shown: Shown,
 ) -> Result<Flow, DeskFault>
-    requires { 3 ≤ work.old.owed.room }
+    requires { told_count cause + 2 ≤ work.old.owed.room }
     ensures goes { IfOk result (λ flow. (tail : Plan) → Passes D.log D.says work.old
         (clear_all call cause tail shown.record shown.state) work.new (then tail flow)) }
     ensures stops { IfErr result (λ f. (tail : Plan) → Goes D.log D.says work.old
         (clear_all call cause tail shown.record shown.state) work.new (stops_at f)) }
-    ensures room { result ≡ Ok Flow.On → work.old.owed.room ≤ work.new.owed.room + 3 }
+    ensures room { result ≡ Ok Flow.On →
+        work.old.owed.room ≤ work.new.owed.room + (told_count cause + 2) }
 {
     if !names_releases(shown) {
         return Ok(Flow::Over);
@@ -137,12 +139,13 @@ fn clear_rest<D: DeskView + Drop, A: Allocator + Copy>(
     cause: Option<u8>,
     shown: Shown,
 ) -> Result<Flow, DeskFault>
-    requires { 3 ≤ work.old.owed.room }
+    requires { told_count cause + 2 ≤ work.old.owed.room }
     ensures goes { IfOk result (λ flow. (tail : Plan) → Passes D.log D.says work.old
         (clear_rest call cause tail shown.record shown.state) work.new (then tail flow)) }
     ensures stops { IfErr result (λ f. (tail : Plan) → Goes D.log D.says work.old
         (clear_rest call cause tail shown.record shown.state) work.new (stops_at f)) }
-    ensures room { result ≡ Ok Flow.On → work.old.owed.room ≤ work.new.owed.room + 3 }
+    ensures room { result ≡ Ok Flow.On →
+        work.old.owed.room ≤ work.new.owed.room + (told_count cause + 2) }
 {
     if !names_releases(shown) {
         return Ok(Flow::Over);
@@ -167,7 +170,7 @@ pub(crate) fn clear<D: DeskView + Drop, A: Allocator + Copy>(
     ensures stops { IfErr result (λ f. Goes D.log D.says work.old
         (clear_plan call) work.new (stops_at f)) }
 {
-    work.make_room(3)?;
+    work.make_room(2)?;
     let Some(shown) = look(work, call)? else {
         return Ok(());
     };

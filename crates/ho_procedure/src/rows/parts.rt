@@ -1,7 +1,7 @@
 //! Parts that several rows have.
 ghost use Rattle.std.specs.Prelude.{◌≡◌, ◌≤◌, ◌+◌, ℕ, List, Option, None, true, Ok, OnOk, IfOk, IfErr};
 ghost use Rattle.channel_fsm.specs.declared.ChanState.{ChanState};
-ghost use Rattle.radio_book.specs.declared.event.CallRecord.{CallRecord};
+ghost use Rattle.radio_tables.specs.declared.kinds.CallRecord.{CallRecord};
 ghost use Rattle.ho_procedure.specs.Plan.{Plan, Ends, Asks, At, call_dropped};
 ghost use Rattle.ho_procedure.specs.Going.{Goes, Passes, last_reports, then, then_of, then_shown, stops_at};
 ghost use Rattle.ho_procedure.specs.Procedure.{nothing_more, once_done, once_recorded, owned, looked, release_target, turn_away, failure_of};

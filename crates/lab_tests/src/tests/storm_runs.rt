@@ -1,9 +1,11 @@
 use super::failing::Failing;
 use super::{equals_at, holds_at, remove_files, write_files};
 use lab::run::{LabFault, Status};
-use lab::storm::{Reached, StormJob, Watch, storm_file};
+use lab::storm::{Reached, StormJob, Watch, print_figures, storm_file};
 use lab::storm_run;
 use lab::words::{Job, StormSize, WordsFault, read_words};
+use radio_desk::audit::Audit;
+use radio_desk::tally::Tally;
 use refusing_heap::{Refusals, RefusingHeap};
 use std::alloc::{AllocError, Global};
 use std::process::Abort;
@@ -12,6 +14,7 @@ use std::str;
 use std::sync::Wait;
 use std::test::Fail;
 use std::thread::Threads;
+use storms::outcome::Figures;
 
 /// Two cells with seven traffic channels each.
 fn site(alloc: Global) -> Result<String, AllocError> {
@@ -121,6 +124,38 @@ fn each_write_of_a_storm_fails(rt: HostRuntime) -> Result<(), Fail> {
     let one = sample_sites::THREE_CHANNELS;
     let tried = failures_of(&rt, alloc, one, (Status::Refused, "site too small\n"))?;
     holds_at(&rt, 1 <= tried && tried < 100, tried);
+    Ok(())
+}
+
+/// What four calls print whose audit differs: by figures made up here, since no storm is known that tells so.
+const DIFFERS: &str = "calls 4
+attempts 3
+completed 1
+undone 2
+channels in use 5
+audit differs
+";
+
+#[test]
+fn a_storm_whose_audit_differs_says_so(rt: HostRuntime) -> Result<(), Fail> {
+    let figures = Figures {
+        tally: Tally {
+            calls: 4,
+            attempts: 3,
+            completed: 1,
+            undone: 2,
+        },
+        channels: 5,
+        audit: Audit {
+            attempts: 2,
+            held: Some(7),
+            same: false,
+        },
+    };
+    let mut out = Vec::new(rt.alloc());
+    let ended = print_figures(&mut out, figures);
+    let wanted = (Ok(Status::Differs), DIFFERS);
+    equals_at(&rt, (ended, str::from_utf8(&out)?), wanted, "differs");
     Ok(())
 }
 

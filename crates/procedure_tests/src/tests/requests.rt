@@ -1,5 +1,4 @@
-//! How many requests for memory inputs make at least: one for each table of the book that gets its first entry, for each
-//! list that a message keeps, for the list of messages and for a buffer of each; none where a buffer is left from before,
+//! How many requests for memory inputs make at least: one for the first call of a book, for each list that a message keeps, for the list of messages and for a buffer of each; none where a buffer is left from before,
 //! and none for a release that is acknowledged. A new desk has room for the first entries of its history.
 //!
 //! Between two empty lines stand the beginning that is gone on from, where one is; lines `in`, the last of which is the
@@ -77,7 +76,7 @@ a 1 000c131709062bd5670ba36b2a05
 pub const BEGINNING: &str = "in open 1 0 0 3
 event open 1 0/0/3 -> done
 out abis 0 0 0821010b0300060400010801
-requests 4
+requests 3
 
 in open 1 0 0 3
 in abis 0 0 0822010b081234
@@ -91,7 +90,7 @@ event take 1 internal 1/1/3 -> done
 event reserve 1 0 -> done
 event activate 1 -> done
 out abis 1 1 0821010b03020604000108010900
-requests 2
+requests 1
 
 from a call that is to move
 in abis 1 1 0822010b080000
@@ -113,7 +112,7 @@ event take 9 incoming 1/1/3 -> done
 event reserve 9 0 -> done
 event activate 9 -> done
 out abis 1 1 0821010b03020604000108010900
-requests 7
+requests 5
 
 from a call that is to come
 in abis 1 1 0822010b080000
@@ -249,7 +248,7 @@ event take 1 internal 1/1/3 -> done
 event reserve 1 0 -> done
 event activate 1 -> done
 out abis 1 1 0821010b03020604000108010900
-requests 3
+requests 2
 ";
 
 /// Handovers come to their end, or are undone.
@@ -490,7 +489,7 @@ event take 1 internal 2/0/4 -> done
 event reserve 1 0 -> done
 event activate 1 -> done
 out abis 2 0 0821010c03020604000108010900
-requests 4
+requests 3
 ";
 
 /// Rows that send a message between two events: the target of an attempt is released before its call is cleared.

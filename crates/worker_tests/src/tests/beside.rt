@@ -14,14 +14,15 @@ use std::time::{Clock, Duration};
 /// How many timed waits of a millisecond the gate holds a call at most.
 const TURNS: u32 = 10_000;
 
-/// What a gate saw: how often a call came past, that call 1 came to be commanded, that call 2 had its answer, and that call 1
-/// was let go without it.
+/// What a gate saw: how often a call came past, that call 1 came to be commanded, that call 2 had its answer, that call 1 was
+/// let go without it, and that call 1 had its own answer after its command.
 #[derive(Drop)]
 struct Seen {
     passes: u32,
     commanded: bool,
     answered: bool,
     gave_up: bool,
+    arrived: bool,
 }
 
 /// Holds call 1 where its mobile is to be sent to the target, until an attempt of call 2 has ended.
@@ -41,16 +42,17 @@ impl<R: Wait + Clock + Drop> Holding<R> {
                 commanded: false,
                 answered: false,
                 gave_up: false,
+                arrived: false,
             }),
             moved: Condvar::new(),
         }
     }
 
-    /// Call 1 was held, and let go in time; the gate was told of that command and of one answer, and of nothing that was
-    /// refused.
+    /// Call 1 was held, and let go in time; the gate was told of that command and of one answer to each call, and of nothing
+    /// that was refused.
     fn is_good(&self) -> bool {
         let seen = self.seen.lock(&self.rt);
-        seen.passes == 2 && seen.commanded && seen.answered && !seen.gave_up
+        seen.passes == 3 && seen.commanded && seen.answered && seen.arrived && !seen.gave_up
     }
 
     fn count(&self) {
@@ -77,6 +79,11 @@ impl<R: Wait + Clock + Drop> Holding<R> {
         self.seen.lock(&self.rt).answered = true;
         self.moved.notify_all();
     }
+
+    fn arrive(&self) {
+        let mut seen = self.seen.lock(&self.rt);
+        seen.arrived = seen.commanded;
+    }
 }
 
 impl<R: Wait + Clock + Drop> Gate for Holding<R> {
@@ -91,6 +98,9 @@ impl<R: Wait + Clock + Drop> Gate for Holding<R> {
             Point::Answered => {
                 if call == 2 {
                     self.let_go();
+                }
+                if call == 1 {
+                    self.arrive();
                 }
             }
         }
@@ -116,6 +126,10 @@ const WAITING: usize = 64;
 const BESIDE: &str = "handover 2 64
 undo 2";
 
+/// The mobile of call 1 arrives in the other cell.
+const AFTER: &str = "abis 1 1 0827010b1102
+abis 1 1 0302010b02000b0003062c00";
+
 /// Every input was handled: so many.
 fn is_done<R: Wait + Abort + Drop>(
     rt: &R,
@@ -131,12 +145,12 @@ fn is_done<R: Wait + Abort + Drop>(
 
 /// Each worker had its call.
 fn are_done<R: Wait + Abort + Drop>(rt: &R, left: &Left<R, Global>) -> Result<(), Fail> {
-    assert!(rt; left.front.len() == 3);
+    assert!(rt; left.front.len() == 5);
     is_done(rt, left, 0, 5)?;
-    is_done(rt, left, 1, WAITING.saturating_add(4))
+    is_done(rt, left, 1, WAITING.saturating_add(6))
 }
 
-/// The attempt of call 2 was taken back, and nothing was refused for what it held. That of call 1 is open.
+/// The attempt of call 2 was taken back, and nothing was refused for what it held. That of call 1 was completed.
 fn is_audited<R: Wait + Abort + Drop>(rt: &R, left: &Left<R, Global>) -> Result<(), Fail> {
     let wanted = Audit {
         attempts: 1,
@@ -148,7 +162,7 @@ fn is_audited<R: Wait + Abort + Drop>(rt: &R, left: &Left<R, Global>) -> Result<
     Ok(())
 }
 
-/// Call 1 is held, and an inbox filled, before call 2 goes on.
+/// Call 1 is held, and an inbox filled, before call 2 goes on. Then call 1 goes on, too.
 fn give_beside<R: Threads + Wait + Abort + AllocGlobal + Drop>(
     rt: &R,
     hall: &mut Hall<R, Global>,
@@ -160,6 +174,7 @@ fn give_beside<R: Threads + Wait + Abort + AllocGlobal + Drop>(
         give_all(rt, hall, "expire 1 T8");
     }
     give_all(rt, hall, BESIDE);
+    give_all(rt, hall, AFTER);
 }
 
 /// Two calls, the first of which is held.

@@ -1,7 +1,7 @@
 //! Allocation failures in an office: each request for memory is refused in turn, of whichever thread it is.
 ghost use Rattle.std.specs.Prelude.{◌≡◌, []};
 
-use super::offices::{Ajar, Hall, Left, empty_desk, inputs_of, opened};
+use super::offices::{Ajar, Hall, Left, are_told_once, empty_desk, inputs_of, opened};
 use crate::bag::{Bag, Taken};
 use call_worker::{CloseFault, GiveFault, StartFault, Turn, WorkerEnd};
 use ho_procedure::exchange::Inbound;
@@ -128,9 +128,18 @@ fn is_unclosed(rt: &impl Abort, heap: Heap, fault: CloseFault, told: u64) {
 }
 
 /// Closes: each refusal has one answer that names it.
-fn is_told<R: Threads + Wait + Abort + Drop>(rt: &R, heap: Heap, hall: Hall<R, Heap>, told: u64) {
+fn is_told<R: Threads + Wait + Abort + Drop>(
+    rt: &R,
+    heap: Heap,
+    hall: Hall<R, Heap>,
+    taken: &Taken,
+    told: u64,
+) {
     match hall.close() {
-        Ok(left) => are_told(rt, heap, &left, told),
+        Ok(left) => {
+            are_told_once(rt, &left, taken);
+            are_told(rt, heap, &left, told);
+        }
         Err(fault) => is_unclosed(rt, heap, fault, told),
     }
 }
@@ -145,12 +154,13 @@ fn plays<R: Threads + Wait + Abort + Drop>(
     inputs: Vec<Inbound<Heap>, Heap>,
 ) {
     let told = told_by_give(rt, &mut hall, taken, pace, inputs);
-    is_told(rt, heap, hall, told);
+    is_told(rt, heap, hall, taken, told);
 }
 
-/// An office that wasn't started was refused memory, once.
-fn is_not_started(rt: &impl Abort, heap: Heap, fault: StartFault) {
+/// An office that wasn't started was refused memory, once. The workers that were have ended: nothing is left of their links.
+fn is_not_started(rt: &impl Abort, heap: Heap, fault: StartFault, taken: &Arc<Taken, Heap>) {
     assert!(rt; fault == StartFault::NoMemory && heap.refused() == 1);
+    assert!(rt; Arc::strong_count(taken) == 1);
 }
 
 /// Starts an office, gives it all and closes it. How many requests its heap had before?
@@ -168,7 +178,7 @@ fn starts<R: Threads + Wait + Abort + Clone + Drop + Send + 'static>(
     let before = heap.requests();
     match opened(rt, heap, desk, gate, taken, 2) {
         Ok(hall) => plays(rt, heap, hall, taken, pace, inputs),
-        Err(fault) => is_not_started(rt, heap, fault),
+        Err(fault) => is_not_started(rt, heap, fault, taken),
     }
     before
 }

@@ -170,13 +170,28 @@ pub trait Course {
     ) -> Result<(), Fail>;
 }
 
+/// The links were told once of each input that was given, also of one that its worker dropped.
+pub fn are_told_once<R: Wait + Abort + Drop, A: Allocator>(
+    rt: &R,
+    left: &Left<R, A>,
+    taken: &Taken,
+) {
+    let mut given = 0u64;
+    for worker in &left.workers {
+        given = given.saturating_add(worker.given.len() as u64);
+    }
+    assert!(rt; taken.so_far(rt) == given);
+}
+
 /// Closes an office, and looks at what it leaves.
 fn closes<R: Threads + Wait + Abort + AllocGlobal + Drop, C: Course>(
     rt: &R,
     hall: Hall<R, Global>,
+    taken: &Taken,
     course: &C,
 ) -> Result<(), Fail> {
     let left = hall.close()?;
+    are_told_once(rt, &left, taken);
     course.see(rt, &left)
 }
 
@@ -188,7 +203,7 @@ fn plays<R: Threads + Wait + Abort + AllocGlobal + Drop, C: Course>(
     course: &C,
 ) -> Result<(), Fail> {
     course.give(rt, &mut hall, taken);
-    closes(rt, hall, course)
+    closes(rt, hall, taken, course)
 }
 
 /// Starts an office of so many workers at a desk at which nothing was asked, gives it its inputs, closes it, and looks at what

@@ -1,6 +1,5 @@
-use Rattle.std.proofs.Common.{◌≡◌, ◌+◌, ◌++◌, true, false, length, take, drop, get_or, Some, sym, ◌∙◌, ap}
+use Rattle.std.proofs.Common.{◌≡◌, ◌+◌, ◌++◌, true, false, take, drop, get_or, Some, sym, ◌∙◌, ap}
 use Rattle.radio_book.specs.declared.following.Followed.{Followed}
-use Rattle.radio_book.specs.Undone.{Undone}
 use Rattle.radio_book.specs.Following.{others_from, held_from, at_last, is_settled_in, is_undone_in, opening_of}
 use Rattle.radio_book.proofs.RemainderFacts.{rest_all, undone_there, others_there, held_there, settled_there, attempt_there}
 use Rattle.radio_book.proofs.remainder.remainder_at.Given.{Over}

@@ -4,7 +4,7 @@ use Rattle.radio_book.specs.declared.event.Event.{Event}
 use Rattle.radio_book.specs.declared.event.Reply.{Reply}
 use Rattle.radio_book.specs.declared.undone.StepAt.{StepAt}
 use Rattle.radio_book.specs.Run.{run_book, run_replies}
-use Rattle.radio_book.specs.Undone.{Undone, IsUndoneAt, OpensUndone, steps_from, places_of, events_of, others}
+use Rattle.radio_book.specs.Undone.{Undone, IsUndoneAt, steps_from, places_of, events_of, others}
 use Rattle.radio_book.specs.Found.{first_place}
 use Rattle.radio_book.specs.Following.{IsShownAt}
 use Rattle.radio_book.proofs.NoTrace.{same_without}

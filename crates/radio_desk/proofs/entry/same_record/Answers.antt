@@ -1,5 +1,5 @@
 use Rattle.std.proofs.Common.{sym, ◌∙◌}
-use Rattle.radio_book.proofs.SameFacts.{call_record_eq-Decides}
+use Rattle.radio_tables.proofs.SameFacts.{call_record_eq-Decides}
 use Rattle.radio_desk.proofs.entry.same_record.Goals as goal
 
 pub returns : goal.returns

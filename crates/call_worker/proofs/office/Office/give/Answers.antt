@@ -1,4 +1,5 @@
-use Rattle.std.proofs.Common.{rules, ◌≡◌, ◌<◌, ◌++◌, refl, sym, ap, ◌∙◌, length, vec_len}
+use Rattle.std.proofs.Common.{rules, ◌≡◌, ◌<◌, ◌++◌, [], refl, sym, ap, ◌∙◌, length, vec_len, inl, inr}
+use Rattle.std.proofs.lemmas.List.{append-nil}
 use Rattle.call_worker.proofs.Closings.{on_ok, on_err, gives, keeps}
 use Rattle.call_worker.proofs.office.Office.give.Goals as goal
 
@@ -20,3 +21,9 @@ pub returns-clause-err : goal.returns-clause-err
 returns-clause-err g c =
     let same = ap (λ y. y.workers) c.self.view_is in
     on_err c.give.result (λ e. keeps _ _ _ c.index_mut-posted.result.now _ _ same c.index_mut-posted.ensures.value e) c.give.ensures.err
+
+pub returns-in_err-number-clause-asked : goal.returns-in_err-number-clause-asked
+returns-in_err-number-clause-asked g c = ([], c.in_err-number.ensures.kept ∙ (ap (λ y. y.front) c.self.view_is ∙ sym (append-nil _)), inl refl)
+
+pub returns-clause-asked : goal.returns-clause-asked
+returns-clause-asked g c = let n = c.in_ok-number.ensures.ok in (n.0, n.1 ∙ ap (λ y. y.front ++ n.0) c.self.view_is, inr (c.in_ok-number.number, n.2))

@@ -1,7 +1,7 @@
 use Rattle.std.proofs.Common.{refl, subst}
 use Rattle.radio_book.specs.State.{record_of}
 use Rattle.radio_book.specs.Choice.{MayReserve, taken_channel}
-use Rattle.radio_book.proofs.TableFacts.{err_holds}
+use Rattle.radio_tables.proofs.TableFacts.{err_holds}
 use Rattle.radio_book.proofs.book.Book.reserve_any.Goals as goal
 
 pub returns-in_err-reply-clause-memory : goal.returns-in_err-reply-clause-memory

@@ -1,6 +1,6 @@
 use Rattle.std.proofs.Common.{refl, subst}
 use Rattle.radio_book.specs.Choice.{IsFreeIn}
-use Rattle.radio_book.proofs.TableFacts.{err_holds}
+use Rattle.radio_tables.proofs.TableFacts.{err_holds}
 use Rattle.radio_book.proofs.book.Book.take_any.Goals as goal
 
 pub returns-in_err-reply-clause-memory : goal.returns-in_err-reply-clause-memory

@@ -1,10 +1,9 @@
-use Rattle.std.proofs.Common.{◌≡◌, List, drop, true, sym, ◌∙◌, ap, refl}
-use Rattle.channel_fsm.specs.declared.ChanId.{ChanId}
+use Rattle.std.proofs.Common.{◌≡◌, List, drop, true, sym, ◌∙◌, ap}
 use Rattle.radio_book.specs.declared.undone.StepAt.{StepAt}
 use Rattle.radio_book.specs.declared.following.Phase.{Phase}
 use Rattle.radio_book.specs.declared.following.Phase.TheVariants.{Open, Awaiting, Settled, Completed}
 use Rattle.radio_book.specs.declared.following.Followed.{Followed}
-use Rattle.radio_book.specs.Following.{at_last, is_over, is_over_in, is_settled_in, settles}
+use Rattle.radio_book.specs.Following.{is_over, is_over_in, is_settled_in, settles}
 use Rattle.radio_book.proofs.FollowFacts.{in_phase, settled_last, completed_last}
 use Rattle.radio_book.proofs.following.Followed.settles.Goals as goal
 

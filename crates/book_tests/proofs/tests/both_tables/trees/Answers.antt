@@ -1,0 +1,7 @@
+use Rattle.std.proofs.Common.{sym, subst, ◌∙◌}
+use Rattle.radio_book.specs.Sound.{IsSound}
+use Rattle.radio_book.proofs.SoundSteps.{sound_empty}
+use Rattle.book_tests.proofs.tests.both_tables.trees.Goals as goal
+
+pub invariant_of-result : goal.invariant_of-result
+invariant_of-result g c = subst IsSound (sym (c.over.ensures ∙ c.new-tables.ensures.empty)) (sound_empty c.args.site.value)

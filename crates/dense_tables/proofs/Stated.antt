@@ -1,0 +1,181 @@
+-- The states of channels, by their places at the site.
+use Rattle.std.proofs.Common.{◌≡◌, ◌≢◌, inl, inr, ◌&&◌, not, ◌+◌, ◌*◌, ◌/◌, ◌%◌, ◌<◌, ◌≤◌, nat_lt, ℕ, Bool, true, false, cond, List, length, get_or, set, Option, Some, None, is_some, option_and_then, refl, sym, ap, ◌∙◌, arith}
+use Rattle.std.specs.Ordering.{eq_by_cmp}
+use Rattle.std.specs.FinMap as map
+use Rattle.std.specs.FinMap.{same_map}
+use Rattle.std.proofs.lemmas.Bool.{and_parts, and_from, cases_Bool, lt-ltb, ltb-true}
+use Rattle.std.proofs.lemmas.List.{get_or-set_same, get_or-set_other}
+use Rattle.std.proofs.lemmas.List.Folds.{list_any_at}
+use Rattle.std.proofs.lemmas.List.Quantifiers.{position-Some}
+use Rattle.channel_fsm.specs.declared.ChanId.{ChanId}
+use Rattle.channel_fsm.specs.declared.ChanState.{ChanState}
+use Rattle.channel_fsm.specs.declared.ChanState.TheVariants.{Free, Held, Pending, On, Off}
+use Rattle.cell_table.specs.Site.{SiteView, IsWithinLimits, TrafficLiesWithin, is_traffic, is_channel, channels, index_of}
+use Rattle.dense_tables.specs.Keys.{chan_cmp}
+use Rattle.dense_tables.specs.Maps.{put, Covers}
+use Rattle.dense_tables.specs.Channels.{busy, state_at, states_of, number_of, channel_at, is_within, ArePlaces, mask_at, is_free_at, AreMasks}
+use Rattle.dense_tables.proofs.KeyFacts.{chan_total, chan_exact, one_channel}
+use Rattle.dense_tables.proofs.MapFacts.{ties_itself, key_cases, put_again, len_put, one_if_some}
+use Rattle.dense_tables.proofs.Listed.{get_listed, listed_put, listed_empty, len_listed}
+use Rattle.dense_tables.proofs.Found.{placed, one_place}
+
+-- what stands at a place
+abbrev pub there : List ChanState → Option ℕ → Option ChanState
+there states o = option_and_then (λ place. busy (get_or states place Free)) o
+
+pub covers : (site : SiteView) (states : List ChanState) → Covers chan_cmp (channels site) (state_at site states)
+covers site states q none =
+    elim (index_of site q) as (λ o. index_of site q ≡ o → there states o ≡ None) [
+      | None ↦ λ is. refl
+      | Some place ↦ λ is.
+          let found = position-Some (is_channel q) (channels site) place q is in
+          let tied : eq_by_cmp chan_cmp q (get_or (channels site) place q) ≡ true = ap (eq_by_cmp chan_cmp q) (sym (one_channel q _ found.1)) ∙ ties_itself chan_total q in
+          let any = list_any_at (eq_by_cmp chan_cmp q) (channels site) place q found.0 tied in
+          cc
+    ] refl
+
+pub get_state : (site : SiteView) (states : List ChanState) (x : ChanId) → map.get (states_of site states) x ≡ state_at site states x
+get_state site states = get_listed chan_total chan_exact (channels site) (state_at site states) (covers site states)
+
+pub few_used : (site : SiteView) (states : List ChanState) → map.len (states_of site states) ≤ length (channels site)
+few_used site states = len_listed chan_total (channels site) (state_at site states)
+
+pub state_same : (site : SiteView) (states : List ChanState) (x : ChanId) (place : ℕ) (s : ChanState) → place < length states → index_of site x ≡ Some place → state_at site (set states place s) x ≡ busy s
+state_same site states x place s within at = ap (there (set states place s)) at ∙ ap busy (get_or-set_same states place s Free within)
+
+pub state_other : (site : SiteView) (states : List ChanState) (x q : ChanId) (place : ℕ) (s : ChanState) → index_of site x ≡ Some place → q ≢ x → state_at site (set states place s) q ≡ state_at site states q
+state_other site states x q place s at other =
+    elim (index_of site q) as (λ o. index_of site q ≡ o → there (set states place s) o ≡ there states o) [
+      | None ↦ λ is. refl
+      | Some j ↦ λ is. ap busy (get_or-set_other states place j s Free (λ same. other (one_place site q x place (is ∙ ap Some same) at)))
+    ] refl
+
+-- another state at a channel's place
+pub state_written : (site : SiteView) (states : List ChanState) (x : ChanId) (place : ℕ) (s : ChanState) → place < length states → index_of site x ≡ Some place → states_of site (set states place s) ≡ put (states_of site states) x (busy s)
+state_written site states x place s within at =
+    listed_put chan_total chan_exact (channels site) (channels site) (state_at site states) (state_at site (set states place s)) (covers site states) (covers site (set states place s)) x (λ q other. state_other site states x q place s at other)
+    ∙ ap (put (states_of site states) x) (state_same site states x place s within at)
+
+-- how many aren't free, where a channel gets another state
+pub count_written : (site : SiteView) (states : List ChanState) (x : ChanId) (place : ℕ) (s : ChanState) → place < length states → index_of site x ≡ Some place → map.len (states_of site (set states place s)) + one_if_some (busy (get_or states place Free)) ≡ map.len (states_of site states) + one_if_some (busy s)
+count_written site states x place s within at =
+    (λ i. map.len (state_written site states x place s within at i) + one_if_some (sym (get_state site states x ∙ ap (there states) at) i))
+    ∙ len_put chan_total (states_of site states) x (busy s)
+
+-- one that isn't free is a traffic channel
+pub used_traffic : (site : SiteView) (states : List ChanState) (x : ChanId) → is_some (map.get (states_of site states) x) ≡ true → is_traffic site x ≡ true
+used_traffic site states x used =
+    elim (index_of site x) as (λ o. index_of site x ≡ o → is_some (there states o) ≡ true → is_traffic site x ≡ true) [
+      | None ↦ λ is some. cc
+      | Some place ↦ λ is some. (placed site x place is).1
+    ] refl (sym (ap is_some (get_state site states x)) ∙ used)
+
+-- a channel without a place is free, and stays so
+pub state_absent : (site : SiteView) (states : List ChanState) (x : ChanId) → index_of site x ≡ None → put (states_of site states) x None ≡ states_of site states
+state_absent site states x none = put_again chan_total chan_exact (states_of site states) x None (get_state site states x ∙ ap (there states) none)
+
+pub none_used : (site : SiteView) (states : List ChanState) → ((place : ℕ) → get_or states place Free ≡ Free) → states_of site states ≡ map.empty
+none_used site states free =
+    listed_empty chan_total chan_exact (channels site) (state_at site states) (λ q.
+    elim (index_of site q) as (λ o. there states o ≡ None) [ None ↦ refl | Some place ↦ ap busy (free place) ])
+
+-- a state that isn't that of a free channel is given to a traffic channel alone
+pub only_free : (s : ChanState) → (busy s ≢ None → false ≡ true) → busy s ≡ None
+only_free Free h = refl
+only_free (Held c) h = let wrong = h (λ e. cc) in cc
+only_free (Pending c) h = let wrong = h (λ e. cc) in cc
+only_free (On c) h = let wrong = h (λ e. cc) in cc
+only_free Off h = let wrong = h (λ e. cc) in cc
+
+-- what isn't that of a free channel is the state
+pub busy_itself : (s : ChanState) → s ≢ Free → busy s ≡ Some s
+busy_itself Free h = absurd (h refl)
+busy_itself (Held c) h = refl
+busy_itself (Pending c) h = refl
+busy_itself (On c) h = refl
+busy_itself Off h = refl
+
+-- ---- places
+
+pub within_told : (x : ChanId) → is_within x ≡ true → IsWithinLimits x
+within_told x e =
+    let (cell, rest) = and_parts (nat_lt x.cell 64) (nat_lt x.trx 4 && nat_lt x.tn 8) e in
+    let (trx, tn) = and_parts (nat_lt x.trx 4) (nat_lt x.tn 8) rest in
+    record { cell = ltb-true x.cell 64 cell; trx = ltb-true x.trx 4 trx; timeslot = ltb-true x.tn 8 tn }
+
+pub within_from : (x : ChanId) → IsWithinLimits x → is_within x ≡ true
+within_from x limits = and_from _ _ (lt-ltb x.cell 64 limits.cell) (and_from _ _ (lt-ltb x.trx 4 limits.trx) (lt-ltb x.tn 8 limits.timeslot))
+
+pub number_small : (x : ChanId) → IsWithinLimits x → number_of x < 2048
+number_small x limits = omega (arith, limits.cell, limits.trx, limits.timeslot)
+
+pub numbered_again : (x : ChanId) → IsWithinLimits x → channel_at (number_of x) ≡ x
+numbered_again x limits =
+    let small = limits.timeslot in
+    let few = limits.trx in
+    let cell : ((x.cell * 4 + x.trx) * 8 + x.tn) / 32 ≡ x.cell = omega arith in
+    let trx : ((x.cell * 4 + x.trx) * 8 + x.tn) / 8 % 4 ≡ x.trx = omega arith in
+    let tn : ((x.cell * 4 + x.trx) * 8 + x.tn) % 8 ≡ x.tn = omega arith in
+    λ i. record { cell = cell i; trx = trx i; tn = tn i }
+
+-- a channel that no site can have has no place
+no_place : (site : SiteView) → TrafficLiesWithin site → (x : ChanId) → is_within x ≡ false → index_of site x ≡ None
+no_place site lies x beyond =
+    elim (index_of site x) as (λ o. index_of site x ≡ o → o ≡ None) [
+      | None ↦ λ is. refl
+      | Some place ↦ λ is. let inside = within_from x (lies x (placed site x place is).1) in cc
+    ] refl
+
+-- places that were noted number by number
+pub places_are : (site : SiteView) → TrafficLiesWithin site → (places : List (Option ℕ)) → ((k : ℕ) → k < 2048 → get_or places k None ≡ index_of site (channel_at k)) → ArePlaces site places
+places_are site lies places each x =
+    elim (cases_Bool (is_within x)) [
+      | inl inside ↦
+          let limits = within_told x inside in
+          ap (λ b. cond b (get_or places (number_of x) None) None) inside ∙ each (number_of x) (number_small x limits) ∙ ap (index_of site) (numbered_again x limits)
+      | inr beyond ↦ ap (λ b. cond b (get_or places (number_of x) None) None) beyond ∙ sym (no_place site lies x beyond)
+    ]
+
+-- states that are the same of each channel that a site can have
+pub states_told : (site : SiteView) → TrafficLiesWithin site → (one other : List ChanState) → ((k : ℕ) → k < 2048 → map.get (states_of site one) (channel_at k) ≡ map.get (states_of site other) (channel_at k)) → states_of site one ≡ states_of site other
+states_told site lies one other each = same_map chan_total chan_exact _ _ (λ q.
+    elim (cases_Bool (is_within q)) [
+      | inl inside ↦
+          let limits = within_told q inside in
+          let again = numbered_again q limits in
+          ap (map.get (states_of site one)) (sym again) ∙ each (number_of q) (number_small q limits) ∙ ap (map.get (states_of site other)) again
+      | inr beyond ↦
+          let none = no_place site lies q beyond in
+          get_state site one q ∙ ap (there one) none ∙ sym (get_state site other q ∙ ap (there other) none)
+    ])
+
+-- ---- masks
+
+pub flipped : (a r : Bool) → a ≡ not r → r ≡ not a
+flipped a true e = ap not (sym e)
+flipped a false e = ap not (sym e)
+
+-- what becomes of the masks where one channel gets another state
+pub masks_written : (site : SiteView) (states : List ChanState) (masks later : List ℕ) (x : ChanId) (place : ℕ) (s : ChanState) → AreMasks site states masks → place < length states → index_of site x ≡ Some place → mask_at later x ≡ not (is_some (busy s)) → ((y : ChanId) → IsWithinLimits y → y ≢ x → mask_at later y ≡ mask_at masks y) → AreMasks site (set states place s) later
+masks_written site states masks later x place s are within at written others y inside =
+    elim (key_cases chan_total chan_exact y x) [
+      | inl same ↦
+          ap (mask_at later) same ∙ written
+          ∙ sym (ap (is_free_at site (set states place s)) same
+          ∙ ap (λ b. b && not (is_some (state_at site (set states place s) x))) (placed site x place at).1 ∙ ap (λ o. not (is_some o)) (state_same site states x place s within at))
+      | inr apart ↦
+          others y inside apart ∙ are y inside ∙ sym (ap (λ o. is_traffic site y && not (is_some o)) (state_other site states x y place s at apart))
+    ]
+
+-- masks of all traffic channels, where each is free
+pub masks_begun : (site : SiteView) (states : List ChanState) (masks : List ℕ) → ((place : ℕ) → get_or states place Free ≡ Free) → ((x : ChanId) → IsWithinLimits x → mask_at masks x ≡ is_traffic site x) → AreMasks site states masks
+masks_begun site states masks free named x inside =
+    named x inside
+    ∙ elim (index_of site x) as (λ o. is_traffic site x ≡ (is_traffic site x && not (is_some (there states o)))) [
+      | None ↦ sym (and_true (is_traffic site x))
+      | Some place ↦ sym (ap (λ s. is_traffic site x && not (is_some (busy s))) (free place) ∙ and_true (is_traffic site x))
+    ]
+  where
+    and_true : (b : Bool) → (b && true) ≡ b
+    and_true true = refl
+    and_true false = refl

@@ -1,9 +1,0 @@
-use Rattle.std.proofs.Common.{◌≡◌, drop}
-use Rattle.std.specs.List.{find}
-use Rattle.radio_book.specs.Choice.{is_free_traffic, channels_of}
-use Rattle.radio_book.proofs.book_tables.BookTables.lowest_free.Given as goal
-
--- the places so far have no free traffic channel
-abbrev pub invariant-loop-place : goal.invariant-loop-place
-invariant-loop-place g l =
-    find (is_free_traffic l.self) (drop l.place (channels_of l.cell)) ≡ find (is_free_traffic l.self) (channels_of l.cell)

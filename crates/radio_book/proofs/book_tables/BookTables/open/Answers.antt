@@ -1,4 +1,0 @@
-use Rattle.radio_book.proofs.book_tables.BookTables.«open».Goals as goal
-
-pub returns-clause-reply : goal.returns-clause-reply
-returns-clause-reply g c = rw c.on.ensures at c.begin.ensures.reply

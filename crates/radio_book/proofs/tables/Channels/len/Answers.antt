@@ -1,8 +1,0 @@
-use Rattle.std.proofs.Common.{sym, ◌∙◌, ap}
-use Rattle.std.specs.FinMap as map
-use Rattle.radio_book.proofs.TableFacts.{len_listed}
-use Rattle.radio_book.proofs.KeyFacts.{chan_total}
-use Rattle.radio_book.proofs.tables.Channels.len.Goals as goal
-
-pub returns : goal.returns
-returns g c = c.len.ensures.len ∙ sym (len_listed chan_total c.self.inside.states c.len.ensures.ordered) ∙ ap map.len c.self.view_is

@@ -1,8 +1,0 @@
-use Rattle.std.proofs.Common.{◌∙◌, ap}
-use Rattle.std.specs.FinMap as map
-use Rattle.radio_book.proofs.CopyFacts.{cloned}
-use Rattle.radio_book.proofs.tables.References.copy.Goals as goal
-
-pub returns : goal.returns
-returns g c =
-    ap map.from_entries (cloned _ _ (λ k j h. h) (λ x y h. h) c.self.inside.users.entries c.in_ok-users.users.entries c.in_ok-users.ensures.cases) ∙ c.self.view_is

@@ -1,0 +1,12 @@
+pub mod Stages
+pub mod States
+pub mod Records
+pub mod Journal
+pub mod Maps
+pub mod Keys
+pub mod Same
+pub mod Entries
+pub mod State
+pub mod Choice
+pub mod Places
+pub mod Dense

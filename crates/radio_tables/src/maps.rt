@@ -1,0 +1,235 @@
+//! Tables as trees.
+ghost use Rattle.std.specs.Prelude.{◌≡◌, ◌/◌, ◌%◌, true, find};
+ghost use Rattle.cell_table.specs.Limits.{timeslots_of_trx};
+ghost use Rattle.std.specs.Cmp.{partial_equiv_from_equiv};
+ghost use Rattle.radio_tables.specs.Same.{is_same, is_same-IsEquivalence};
+ghost use Rattle.radio_tables.specs.State.{empty_book, state_of, state_code};
+ghost use Rattle.radio_tables.specs.Places.{is_free_traffic, channels_of, free_count};
+
+use crate::entry::CallEntry;
+use crate::kinds::Reference;
+use crate::tables::{CopyTables, Tables};
+use crate::trees::{Calls, Channels, References};
+use cell_table::Site;
+use cell_table::laws::same_sites_are_equal;
+use cell_table::limits::{MOST_TRX, TIMESLOTS_OF_TRX};
+use channel_fsm::{ChanId, ChanState};
+use std::alloc::{AllocError, Allocator, Global};
+use std::marker::Model;
+use std::sync::Arc;
+
+/// The timeslots of a TRX.
+const TIMESLOTS: u8 = TIMESLOTS_OF_TRX as u8;
+
+/// How many channels a cell can have.
+const PLACES: u8 = MOST_TRX as u8 * TIMESLOTS;
+
+/// Tables that keep in trees what is in use. Each key that comes into use asks for memory.
+#[derive(Drop)]
+pub struct MapTables<A: Allocator = Global> {
+    site: Arc<Site<A>, A>,
+    channels: Channels<A>,
+    calls: Calls<A>,
+    references: References<A>,
+}
+
+impl<A: Allocator> Model for MapTables<A> {
+    ghost use Rattle.radio_tables.specs.State.{State, state_code};
+
+    ghost Value = { State };
+
+    ghost coded = { state_code };
+
+    ghost view = { λ tables. record {
+      site = tables.site.value;
+      channels = tables.channels;
+      calls = tables.calls.records;
+      references = tables.references;
+      timers = tables.calls.armed;
+    } };
+}
+
+impl<A: Allocator> PartialEq for MapTables<A> {
+    ghost eq = { is_same state_code };
+
+    ghost laws = { partial_equiv_from_equiv (is_same-IsEquivalence state_code) };
+
+    fn eq(&self, other: &MapTables<A>) -> bool {
+        same_sites_are_equal();
+        self.site == other.site
+            && self.channels == other.channels
+            && self.calls == other.calls
+            && self.references == other.references
+    }
+}
+
+impl<A: Allocator + Copy> MapTables<A> {
+    /// Tables over a site in which nothing is in use. No memory is asked for.
+    pub fn new(alloc: A, site: Arc<Site<A>, A>) -> MapTables<A>
+        ensures empty { result ≡ empty_book site.value }
+    {
+        MapTables {
+            site,
+            channels: Channels::new(alloc),
+            calls: Calls::new(alloc),
+            references: References::new(alloc),
+        }
+    }
+
+    /// The site, which never changes.
+    pub fn site(&self) -> &Arc<Site<A>, A>
+        ensures site { result.now.value ≡ self.now.site }
+    {
+        &self.site
+    }
+
+    fn state_of(&self, x: ChanId) -> ChanState
+        ensures { result ≡ state_of self.now x }
+    {
+        self.channels.get(x).unwrap_or(ChanState::Free)
+    }
+
+    fn is_free_traffic(&self, x: ChanId) -> bool
+        ensures { result ≡ is_free_traffic self.now x }
+    {
+        self.site.is_traffic(x) && matches!(self.state_of(x), ChanState::Free)
+    }
+
+    fn first_free(&self, cell: u8) -> Option<ChanId>
+        ensures { result ≡ find (is_free_traffic self.now) (channels_of cell) }
+    {
+        for place in 0..PLACES {
+            let x = channel_at(cell, place);
+            if self.is_free_traffic(x) {
+                return Some(x);
+            }
+        }
+        None
+    }
+
+    fn count_free(&self, cell: u8) -> u32
+        ensures { result ≡ free_count self.now cell }
+    {
+        let mut count: u32 = 0;
+        for place in 0..PLACES {
+            count += u32::from(self.is_free_traffic(channel_at(cell, place)));
+        }
+        count
+    }
+}
+
+impl<A: Allocator + Copy> CopyTables for MapTables<A> {
+    fn copy(&self) -> Result<MapTables<A>, AllocError> {
+        let site = self.site.clone()?;
+        let channels = self.channels.copy()?;
+        let calls = self.calls.copy()?;
+        let references = self.references.copy()?;
+        Ok(MapTables {
+            site,
+            channels,
+            calls,
+            references,
+        })
+    }
+}
+
+impl<A: Allocator + Copy> Tables for MapTables<A> {
+    ghost state = { λ t. t };
+
+    ghost may_refuse_in_place = { true };
+
+    fn cells(&self) -> u8 {
+        self.site.cells()
+    }
+
+    fn is_traffic(&self, x: ChanId) -> bool {
+        self.site.is_traffic(x)
+    }
+
+    fn channel(&self, x: ChanId) -> Option<ChanState> {
+        self.channels.get(x)
+    }
+
+    fn occupy(&mut self, x: ChanId, busy: ChanState) -> Result<(), AllocError> {
+        self.channels.insert(x, busy)
+    }
+
+    fn move_channel(&mut self, x: ChanId, busy: ChanState) {
+        self.channels.replace(x, busy);
+    }
+
+    fn free_channel(&mut self, x: ChanId) {
+        self.channels.remove(x);
+    }
+
+    fn entry(&self, call: u16) -> Option<CallEntry> {
+        self.calls.entry(call)
+    }
+
+    fn add_call(&mut self, call: u16, entry: CallEntry) -> Result<(), AllocError> {
+        self.calls.insert(call, entry)
+    }
+
+    fn set_entry(&mut self, call: u16, entry: CallEntry) {
+        self.calls.replace(call, entry);
+    }
+
+    fn remove_call(&mut self, call: u16) {
+        self.calls.remove(call);
+    }
+
+    fn reference(&self, reference: Reference) -> Option<u16> {
+        self.references.get(reference)
+    }
+
+    fn add_reference(&mut self, reference: Reference, call: u16) -> Result<(), AllocError> {
+        self.references.insert(reference, call)
+    }
+
+    fn drop_reference(&mut self, reference: Reference) {
+        self.references.remove(reference);
+    }
+
+    fn channels(&self) -> usize {
+        self.channels.len()
+    }
+
+    fn calls(&self) -> usize {
+        self.calls.len()
+    }
+
+    fn references(&self) -> usize {
+        self.references.len()
+    }
+
+    fn timers(&self) -> usize {
+        self.calls.armed()
+    }
+
+    fn lowest_free(&self, cell: u8) -> Option<ChanId> {
+        // Called for its clause alone: no channel of the cell lies beyond those that are looked at.
+        let _cells = self.site.cells();
+        self.first_free(cell)
+    }
+
+    fn free_count(&self, cell: u8) -> u32 {
+        // Called for its clause alone, as above.
+        let _cells = self.site.cells();
+        self.count_free(cell)
+    }
+
+    fn same(&self, other: &MapTables<A>) -> bool {
+        *self == *other
+    }
+}
+
+/// The channel at a place among those that a cell can have.
+fn channel_at(cell: u8, place: u8) -> ChanId
+    ensures { result ≡ record { cell = cell; trx = place / timeslots_of_trx; tn = place % timeslots_of_trx } }
+{
+    ChanId {
+        cell,
+        trx: place / TIMESLOTS,
+        tn: place % TIMESLOTS,
+    }
+}
