@@ -5,7 +5,7 @@
 mod faulty;
 pub mod reports;
 
-use channel_fsm::ChanId;
+use channel_fsm::{ChanId, Sub};
 pub use faulty::{
     FAULTY_CELLS, FAULTY_HANDOVER, FAULTY_OUTSIDE, FAULTY_TOGETHER, FAULTY_TRX, Faulty,
 };
@@ -65,6 +65,7 @@ pub const OTHER: ChanId = ChanId {
     cell: 0,
     trx: 0,
     tn: 2,
+    sub: Sub::Full,
 };
 
 /// The channel beside it.
@@ -72,6 +73,7 @@ pub const HOME: ChanId = ChanId {
     cell: 0,
     trx: 0,
     tn: 3,
+    sub: Sub::Full,
 };
 
 /// The one channel of cell 1 there.
@@ -79,6 +81,29 @@ pub const TARGET: ChanId = ChanId {
     cell: 1,
     trx: 1,
     tn: 3,
+    sub: Sub::Full,
+};
+
+/// What [`THREE_CHANNELS`] says of its last TRX, and the same where its timeslot also carries halves.
+pub const HALVED: (&str, &str) = (
+    "{ arfcn = 875, tch = [3] }",
+    "{ arfcn = 875, tch = [3], half = [3] }",
+);
+
+/// The lower half of [`TARGET`] there.
+pub const LOWER: ChanId = ChanId {
+    cell: 1,
+    trx: 1,
+    tn: 3,
+    sub: Sub::Half0,
+};
+
+/// The upper half of it.
+pub const UPPER: ChanId = ChanId {
+    cell: 1,
+    trx: 1,
+    tn: 3,
+    sub: Sub::Half1,
 };
 
 /// One cell, in which timeslots 5 and 3 of TRX 1 and 6 and 2 of TRX 2 carry traffic, named in this order.
