@@ -211,6 +211,7 @@ Links: rr is the radio path (TS 44.018), a the switching centre (TS 48.008), abi
 Fields are KEY=VALUE, each once (n once for each neighbour, or not at all), in any order. Numbers
 are in decimal, yes is 1 and no 0, octets are in hexadecimal, and - is what is absent. A cell is as
 in 23/102, cells as in 23/102,23/103, and n, a neighbour's level, position and code, as in 40/2/21.
+A timeslot tn is as in 3 for a full-rate channel, and as in 3/0 or 3/1 for a half-rate one.
 
 ",
     "
