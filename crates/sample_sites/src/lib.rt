@@ -5,7 +5,7 @@
 mod faulty;
 pub mod reports;
 
-use channel_fsm::ChanId;
+use channel_fsm::{ChanId, Sub};
 pub use faulty::{
     FAULTY_CELLS, FAULTY_HANDOVER, FAULTY_OUTSIDE, FAULTY_TOGETHER, FAULTY_TRX, Faulty,
 };
@@ -65,6 +65,7 @@ pub const OTHER: ChanId = ChanId {
     cell: 0,
     trx: 0,
     tn: 2,
+    sub: Sub::Full,
 };
 
 /// The channel beside it.
@@ -72,6 +73,7 @@ pub const HOME: ChanId = ChanId {
     cell: 0,
     trx: 0,
     tn: 3,
+    sub: Sub::Full,
 };
 
 /// The one channel of cell 1 there.
@@ -79,6 +81,7 @@ pub const TARGET: ChanId = ChanId {
     cell: 1,
     trx: 1,
     tn: 3,
+    sub: Sub::Full,
 };
 
 /// One cell, in which timeslots 5 and 3 of TRX 1 and 6 and 2 of TRX 2 carry traffic, named in this order.
