@@ -23,7 +23,7 @@ use crate::slots::{Activity, Impairment, Slot, Slots};
 use crate::station::{Reaction, at_activation, at_release};
 use crate::trx::{Trx, has_trx, trxs_of};
 use cell_table::Site;
-use channel_fsm::{ChanId, Sub, conflicts};
+use channel_fsm::{Sub, conflicts};
 use rr_messages::Rr;
 use rsl_messages::values::MAIN_CHANNEL;
 use rsl_messages::{Rsl, RslFault, decode};
@@ -164,10 +164,7 @@ impl<A: Allocator + Copy> World<A> {
     fn is_in_use_by(&self, place: Place, sub: Sub) -> bool
         ensures { result ≡ in_use_by self.now.slots place sub }
     {
-        let channel = ChanId {
-            sub,
-            ..place.channel
-        };
+        let channel = place.channel.part(sub);
         conflicts(place.channel, channel)
             && is_active(self.slot(Place { channel, ..place }).activity)
     }
