@@ -13,7 +13,7 @@ mod stages;
 mod worked;
 
 use cell_table::Site;
-use channel_fsm::ChanId;
+use channel_fsm::{ChanId, Rate};
 use radio_book::book::{Book, Usage};
 use radio_book::event::Event::{
     Activate, Command, Complete, Confirm, Open, Released, Reserve, Take, Undo,
@@ -83,7 +83,7 @@ fn put_to_book<A: Allocator + Copy>(book: &mut Book<A>, ask: Ask) -> Result<Entr
             let reply = book.step(event)?;
             Ok(Some((event, reply)))
         }
-        Ask::TakeAny(call, kind, cell) => book.take_any(call, kind, cell),
+        Ask::TakeAny(call, kind, cell) => book.take_any(call, kind, cell, Rate::Full),
         Ask::ReserveAny(call) => {
             let chosen = book.reserve_any(call)?;
             Ok(Some(chosen))

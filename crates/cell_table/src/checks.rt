@@ -92,7 +92,7 @@ fn cell_has_slot_twice(cell: &Cell) -> bool
 {
     cell.trx
         .iter()
-        .any(|trx| have_slot_twice(trx.tch.as_slice()))
+        .any(|trx| have_slot_twice(trx.tch.as_slice()) || have_slot_twice(trx.half.as_slice()))
 }
 
 /// Whether a cell has no traffic channel.

@@ -139,6 +139,12 @@ way_same f g x same = λ i.
     cond (needs x.sub Full && is_used (same Full i)) (Some (record x { sub = Full }))
     (cond (needs x.sub Half0 && is_used (same Half0 i)) (Some (record x { sub = Half0 })) (cond (needs x.sub Half1 && is_used (same Half1 i)) (Some (record x { sub = Half1 })) None))
 
+-- or which of its channels are in use is
+pub way_used : (f g : ChanId → ChanState) (x : ChanId) → ((s : Sub) → is_used (f (record x { sub = s })) ≡ is_used (g (record x { sub = s }))) → first_in_way f x ≡ first_in_way g x
+way_used f g x same = λ i.
+    cond (needs x.sub Full && same Full i) (Some (record x { sub = Full }))
+    (cond (needs x.sub Half0 && same Half0 i) (Some (record x { sub = Half0 })) (cond (needs x.sub Half1 && same Half1 i) (Some (record x { sub = Half1 })) None))
+
 -- where no channel is in use, nothing is in the way
 pub none_used_in_way : (states : ChanId → ChanState) (x : ChanId) → ((y : ChanId) → states y ≡ Free) → first_in_way states x ≡ None
 none_used_in_way states x free = none_there states x (λ y is. free y)

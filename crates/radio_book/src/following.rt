@@ -52,7 +52,7 @@ fn is_channel(target: Option<ChanId>, named: Option<ChanId>) -> bool
 {
     match (target, named) {
         (Some(target), Some(named)) => {
-            named.cell == target.cell && named.trx == target.trx && named.tn == target.tn
+            named == target
         }
         (Some(_), None) | (None, _) => false,
     }

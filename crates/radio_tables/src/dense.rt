@@ -6,7 +6,7 @@ ghost use Rattle.radio_tables.specs.Dense.{timer_at};
 use crate::entry::CallEntry;
 use crate::tables::{CopyTables, Tables};
 use cell_table::Site;
-use channel_fsm::{ChanId, ChanState};
+use channel_fsm::{ChanId, ChanState, Rate};
 use dense_tables::calls::{CallSlots, Entry};
 use dense_tables::channels::ChannelStates;
 use dense_tables::{Reference, ReferenceRows};
@@ -184,8 +184,8 @@ impl<A: Allocator> Tables for DenseTables<A> {
         self.armed
     }
 
-    fn lowest_free(&self, cell: u8) -> Option<ChanId> {
-        self.channels.lowest_free(cell)
+    fn lowest_free(&self, cell: u8, rate: Rate) -> Option<ChanId> {
+        self.channels.lowest_free(cell, rate)
     }
 
     fn free_count(&self, cell: u8) -> u32 {

@@ -5,11 +5,11 @@ ghost use Rattle.std.specs.Option.{option_map};
 ghost use Rattle.channel_fsm.specs.declared.ChanState.TheVariants as chan;
 ghost use Rattle.cell_table.specs.Site.{TrafficLiesWithin, is_traffic};
 ghost use Rattle.radio_tables.specs.State.{State, with_channel, with_kept, without_call, with_reference};
-ghost use Rattle.radio_tables.specs.Choice.{IsFreeIn, NoneFree, IsFreeCount};
+ghost use Rattle.radio_tables.specs.Choice.{IsFreeAt, NoneFree, NoneFreeAt, IsFreeCount};
 
 use crate::entry::CallEntry;
 use crate::kinds::Reference;
-use channel_fsm::{ChanId, ChanState};
+use channel_fsm::{ChanId, ChanState, Rate};
 use std::alloc::AllocError;
 
 /// Tables of channels, calls and references over a site. Contracts see them as finite maps: a free channel has no entry, nor
@@ -107,12 +107,13 @@ pub trait Tables: Drop {
     fn timers(&self) -> usize
         ensures count { result ≡ map.len (state self.now).timers };
 
-    /// The free traffic channel of a cell with the lowest TRX, then timeslot. Any free one meets the contract.
-    fn lowest_free(&self, cell: u8) -> Option<ChanId>
-        ensures found { IfSome result (λ x. IsFreeIn (state self.now) cell x) }
-        ensures none { IfNone result (NoneFree (state self.now) cell) };
+    /// The free traffic channel of a cell at a rate with the lowest TRX, then timeslot, then half. Any free one meets the
+    /// contract.
+    fn lowest_free(&self, cell: u8, rate: Rate) -> Option<ChanId>
+        ensures found { IfSome result (λ x. IsFreeAt (state self.now) cell rate x) }
+        ensures none { IfNone result (NoneFreeAt (state self.now) cell rate) };
 
-    /// How many traffic channels of a cell are free.
+    /// How many traffic channels of a cell are free, each of both rates.
     fn free_count(&self, cell: u8) -> u32
         ensures count { IsFreeCount (state self.now) cell result }
         ensures none { (result ≡ 0) ↔ NoneFree (state self.now) cell };

@@ -84,6 +84,28 @@ pub const TARGET: ChanId = ChanId {
     sub: Sub::Full,
 };
 
+/// What [`THREE_CHANNELS`] says of its last TRX, and the same where its timeslot also carries halves.
+pub const HALVED: (&str, &str) = (
+    "{ arfcn = 875, tch = [3] }",
+    "{ arfcn = 875, tch = [3], half = [3] }",
+);
+
+/// The lower half of [`TARGET`] there.
+pub const LOWER: ChanId = ChanId {
+    cell: 1,
+    trx: 1,
+    tn: 3,
+    sub: Sub::Half0,
+};
+
+/// The upper half of it.
+pub const UPPER: ChanId = ChanId {
+    cell: 1,
+    trx: 1,
+    tn: 3,
+    sub: Sub::Half1,
+};
+
 /// One cell, in which timeslots 5 and 3 of TRX 1 and 6 and 2 of TRX 2 carry traffic, named in this order.
 pub const SCATTERED: &str = "[handover]
 window = 1

@@ -1,16 +1,17 @@
 //! What stands in the tables at one place, read and changed.
-ghost use Rattle.std.specs.Prelude.{◌≡◌, ◌≢◌, ◌<◌, true, length, Some, None, OnOk, OnErr, IfSome, IsSome};
+ghost use Rattle.std.specs.Prelude.{◌≡◌, ◌≢◌, ◌<◌, ◌&&◌, true, length, Some, None, OnOk, OnErr, IfSome, IsSome};
 ghost use Rattle.std.specs.FinMap as map;
 ghost use Rattle.std.specs.Option.{option_map};
 ghost use Rattle.cell_table.specs.Site.{TrafficLiesWithin, is_traffic};
 ghost use Rattle.channel_fsm.specs.declared.ChanState.TheVariants as chan;
 ghost use Rattle.radio_tables.specs.State.{with_kept};
 ghost use Rattle.radio_book.specs.State.{apply, state_of, record_of};
-ghost use Rattle.radio_book.specs.Table.{no_change, with_entry, without_entry};
+ghost use Rattle.channel_fsm.specs.Slots.{needs, is_used};
+ghost use Rattle.radio_book.specs.Table.{in_way, no_change, with_entry, without_entry};
 
 use crate::event::{CallRecord, Reference};
 use crate::records::Records;
-use channel_fsm::{ChanId, ChanState};
+use channel_fsm::{ChanId, ChanState, Sub};
 use radio_tables::CallEntry;
 use radio_tables::tables::Tables;
 use std::alloc::AllocError;
@@ -42,6 +43,29 @@ impl<T: Tables> Records<T> {
         ensures { result ≡ state_of self.now x }
     {
         self.channel(x).unwrap_or(ChanState::Free)
+    }
+
+    /// Whether a part of a channel's timeslot is in its way.
+    fn is_in_way(&self, x: ChanId, sub: Sub) -> bool
+        ensures { result ≡ (needs x.sub sub && is_used (state_of self.now (record x { sub = sub }))) }
+    {
+        x.sub.needs(sub) && !matches!(self.state_of(x.part(sub)), ChanState::Free)
+    }
+
+    /// The first channel in the way of one, the whole timeslot before its halves: that one, or what conflicts with it.
+    pub(super) fn in_way(&self, x: ChanId) -> Option<ChanId>
+        ensures { result ≡ in_way self.now x }
+    {
+        if self.is_in_way(x, Sub::Full) {
+            return Some(x.part(Sub::Full));
+        }
+        if self.is_in_way(x, Sub::Half0) {
+            return Some(x.part(Sub::Half0));
+        }
+        if self.is_in_way(x, Sub::Half1) {
+            return Some(x.part(Sub::Half1));
+        }
+        None
     }
 
     /// A free traffic channel comes into use.
