@@ -8,18 +8,13 @@ use super::stations::{
 };
 use bts_model::{Act, Habit};
 use channel_fsm::{ChanId, Sub};
-use sample_sites::{HOME, TARGET};
+use sample_sites::{HOME, UPPER};
 use std::test::Fail;
 
-// The halves of timeslot 3.
+// The lower half of the first cell's channel.
 const HALF_0: ChanId = ChanId {
     sub: Sub::Half0,
     ..HOME
-};
-
-const TARGET_1: ChanId = ChanId {
-    sub: Sub::Half1,
-    ..TARGET
 };
 
 const ACTIVATE_HALF_0: &[u8] = b"\x08\x21\x01\x13\x03\x00\x06\x04\x00\x01\x09\x01";
@@ -122,7 +117,7 @@ const MOVES: &[Row] = &[
     (Send(0, 0, 0, ACTIVATE_HALF_0), &[(0, 0, 0, ACK_HALF_0)]),
     (Send(0, 0, 0, COMMAND_ON_HALF_0), ARRIVAL_ON_HALF_1),
     // a habit is of one half
-    (Set(0, TARGET_1, Act::Mobile(Habit::Return)), &[]),
+    (Set(0, UPPER, Act::Mobile(Habit::Return)), &[]),
     (Set(0, HOME, Act::Mobile(Habit::Return)), &[]),
     (Send(0, 0, 0, COMMAND_ON_HALF_0), ARRIVAL_ON_HALF_1),
     (Set(0, HALF_0, Act::Mobile(Habit::Return)), &[]),
