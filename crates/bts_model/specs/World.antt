@@ -1,13 +1,17 @@
 -- What a simulated world is: TRX, what is known of their channels, and what stations keep back. Ours, of no standard.
-use Rattle.std.specs.Prelude.{Bool, false, nat_lt, ◌&&◌, List, [], Option, Some, None, unwrap_or, refl}
+use Rattle.std.specs.Prelude.{Bool, true, false, nat_lt, ◌&&◌, ◌||◌, List, [], Option, Some, None, unwrap_or, refl}
 use Rattle.std.specs.List.{list_any}
 use Rattle.std.specs.Coded.{Coded, code_by, coded×, coded_list}
 use Rattle.std.specs.FinMap as map
 use Rattle.cell_table.specs.Views.{SiteView}
+use Rattle.channel_fsm.specs.declared.Sub.{Sub}
+use Rattle.channel_fsm.specs.declared.Sub.TheVariants.{Full, Half0, Half1}
+use Rattle.channel_fsm.specs.Slots.{conflict}
 use Rattle.bts_model.specs.declared.place.Place.{Place}
 use Rattle.bts_model.specs.declared.trx.Trx.{Trx}
 use Rattle.bts_model.specs.declared.slots.Slot.{Slot}
-use Rattle.bts_model.specs.declared.slots.Activity.TheVariants.{Inactive}
+use Rattle.bts_model.specs.declared.slots.Activity.{Activity}
+use Rattle.bts_model.specs.declared.slots.Activity.TheVariants.{Inactive, Active}
 use Rattle.bts_model.specs.declared.setting.Habit.TheVariants.{Arrive}
 use Rattle.bts_model.specs.declared.hold.Hold.{Hold}
 use Rattle.bts_model.specs.contracts.trx.Trx.{the_row as trx_row}
@@ -46,9 +50,9 @@ idle = record { activity = Inactive; refuses = false; habit = Arrive; impairment
 abbrev pub slot_in : map.FinMap place_cmp Slot → Place → Slot
 slot_in slots x = unwrap_or (map.get slots x) idle
 
--- the world has the channel: a timeslot from 0 to 7 of one of its TRX (TS 45.002 clause 4.3.2)
+-- the world has the channel: it is on a timeslot from 0 to 7 of one of its TRX (TS 45.002 clause 4.3.2)
 abbrev pub has_channel : WorldState → Place → Bool
-has_channel w x = nat_lt x.tn 8 && list_any (is_on x) w.trxs
+has_channel w x = nat_lt x.channel.tn 8 && list_any (is_on x) w.trxs
 
 -- what is known of the channels once one of them has changed, where it does
 abbrev pub changed : map.FinMap place_cmp Slot → Place → Option Slot → map.FinMap place_cmp Slot
@@ -58,3 +62,17 @@ changed slots x (Some slot) = map.insert slots x slot
 -- the world with this known of a channel
 abbrev pub with_slot : WorldState → Place → Option Slot → WorldState
 with_slot w x slot = record w { slots = changed w.slots x slot }
+
+abbrev pub is_active : Activity → Bool
+is_active Inactive = false
+is_active (Active reference) = true
+
+-- a channel of the same timeslot conflicts with this one, and is active
+abbrev pub in_use_by : map.FinMap place_cmp Slot → Place → Sub → Bool
+in_use_by slots x sub =
+    conflict x.channel (record x.channel { sub = sub })
+    && is_active (slot_in slots (record x { channel = record x.channel { sub = sub } })).activity
+
+-- any channel that conflicts with it is active
+abbrev pub is_in_use : map.FinMap place_cmp Slot → Place → Bool
+is_in_use slots x = in_use_by slots x Full || (in_use_by slots x Half0 || in_use_by slots x Half1)

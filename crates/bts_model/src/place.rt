@@ -1,23 +1,70 @@
 //! Channels of all controllers.
-ghost use Rattle.std.specs.Prelude.{◌≡◌};
+ghost use Rattle.std.specs.Prelude.{◌≡◌, ◌<◌};
 ghost use Rattle.bts_model.specs.Keys.{is_same_place};
+ghost use Rattle.bts_model.specs.Names.{read_sub, said_sub, bits_of, place_in};
 
-/// A channel of the world: a timeslot of a TRX of a cell of a controller. Controllers are counted from 0 in the order in
-/// which the world was given their sites.
+use channel_fsm::{ChanId, Sub};
+use rsl_messages::ChanBits;
+
+/// A channel of the world: one of a controller. Controllers are counted from 0 in the order in which the world was given
+/// their sites.
 #[derive(Clone, Copy, Debug, PartialEq, Eq, PartialOrd, Ord)]
 pub struct Place {
     pub controller: usize,
-    pub cell: u8,
-    pub trx: u8,
-    pub tn: u8,
+    pub channel: ChanId,
 }
 
 /// Whether two channels are the same.
 pub fn is_same_place(one: Place, other: Place) -> bool
     ensures { result ≡ is_same_place one other }
 {
-    one.controller == other.controller
-        && one.cell == other.cell
-        && one.trx == other.trx
-        && one.tn == other.tn
+    one.controller == other.controller && one.channel == other.channel
+}
+
+/// Which channel of its timeslot a message names.
+pub fn read_sub(sub: rsl_messages::Sub) -> Sub
+    ensures { result ≡ read_sub sub }
+{
+    match sub {
+        rsl_messages::Sub::Full => Sub::Full,
+        rsl_messages::Sub::Half0 => Sub::Half0,
+        rsl_messages::Sub::Half1 => Sub::Half1,
+    }
+}
+
+/// How a message names a channel of a timeslot.
+pub fn said_sub(sub: Sub) -> rsl_messages::Sub
+    ensures said { result ≡ said_sub sub }
+    ensures again { read_sub result ≡ sub }
+{
+    match sub {
+        Sub::Full => rsl_messages::Sub::Full,
+        Sub::Half0 => rsl_messages::Sub::Half0,
+        Sub::Half1 => rsl_messages::Sub::Half1,
+    }
+}
+
+/// How a message names a channel.
+pub fn bits_of(channel: ChanId) -> ChanBits
+    ensures { result ≡ bits_of channel }
+{
+    ChanBits {
+        tn: channel.tn,
+        sub: said_sub(channel.sub),
+    }
+}
+
+/// The channel of a TRX that a message names.
+pub fn place_in(controller: usize, cell: u8, trx: u8, channel: ChanBits) -> Place
+    ensures { result ≡ place_in controller cell trx channel }
+{
+    Place {
+        controller,
+        channel: ChanId {
+            cell,
+            trx,
+            tn: channel.tn,
+            sub: read_sub(channel.sub),
+        },
+    }
 }

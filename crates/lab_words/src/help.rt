@@ -7,7 +7,8 @@ macro_rules! with_script_lines {
         concat!(
             $front,
             "\
-Lines of a script (one blank between two words, numbers in decimal, HEX in hexadecimal):
+Lines of a script (one blank between two words, numbers in decimal, HEX in hexadecimal; TN is 0
+to 7, with /0 or /1 behind it for half rate):
   open CALL CELL TRX TN       an operator opens a call on a channel
   handover CALL CELL          an operator asks for the handover of a call to a cell
   undo CALL                   an operator takes the handover of a call back

@@ -3,7 +3,7 @@
 //! `docs/PROGRAM.md` lists the lines and their words.
 use crate::bad::BadText;
 use crate::text::{HexText, OrDash};
-use channel_fsm::ChanState;
+use channel_fsm::{ChanId, ChanState, Sub};
 use event_text::writing::EventText;
 use ho_procedure::exchange::{Bad, Inbound, Line, Outbound};
 use radio_book::book::Usage;
@@ -53,6 +53,21 @@ impl fmt::Display for Step {
     }
 }
 
+/// A channel in a line of a script: its cell, its TRX and its timeslot, and behind that `/0` or `/1` for a half.
+#[derive(Clone, Copy)]
+struct ChannelWords(ChanId);
+
+impl fmt::Display for ChannelWords {
+    fn fmt<W: fmt::Write>(&self, f: &mut fmt::Formatter<W>) -> fmt::Result {
+        let ChanId { cell, trx, tn, sub } = self.0;
+        match sub {
+            Sub::Full => write!(f, "{cell} {trx} {tn}"),
+            Sub::Half0 => write!(f, "{cell} {trx} {tn}/0"),
+            Sub::Half1 => write!(f, "{cell} {trx} {tn}/1"),
+        }
+    }
+}
+
 /// The line of a script that asks for something.
 #[derive(Clone, Copy)]
 struct LineText(Line);
@@ -60,9 +75,7 @@ struct LineText(Line);
 impl fmt::Display for LineText {
     fn fmt<W: fmt::Write>(&self, f: &mut fmt::Formatter<W>) -> fmt::Result {
         match self.0 {
-            Line::Open { call, chan } => {
-                write!(f, "open {call} {} {} {}", chan.cell, chan.trx, chan.tn)
-            }
+            Line::Open { call, chan } => write!(f, "open {call} {}", ChannelWords(chan)),
             Line::Handover { call, cell } => write!(f, "handover {call} {cell}"),
             Line::Undo { call } => write!(f, "undo {call}"),
             Line::Clear { call } => write!(f, "clear {call}"),
