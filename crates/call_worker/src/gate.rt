@@ -1,6 +1,7 @@
 //! A seat at a shared desk that tells a gate how far calls have come.
 ghost use Rattle.std.specs.Prelude.{◌≡◌, length};
 
+use channel_fsm::Rate;
 use ho_procedure::shared::Shared;
 use ho_procedure::view::DeskView;
 use radio_book::event::{Event, Kind, Reply};
@@ -123,8 +124,9 @@ impl<R: Wait + Drop, G: Gate + Drop, A: Allocator + Copy> DeskView for Gated<R, 
         call: u16,
         kind: Kind,
         cell: u8,
+        rate: Rate,
     ) -> Result<Option<Receipt>, DeskFault> {
-        self.shared.judge_take(call, kind, cell)
+        self.shared.judge_take(call, kind, cell, rate)
     }
 
     fn judge_reserve(&mut self, call: u16) -> Result<Receipt, DeskFault> {

@@ -12,7 +12,7 @@ use crate::outbox::Outbox;
 use crate::view::DeskView;
 use crate::windows::Windows;
 use cell_table::Site;
-use channel_fsm::{ChanId, ChanState};
+use channel_fsm::{ChanId, ChanState, Rate};
 use ho_candidates::{Candidate, candidates};
 use measurements::Window;
 use radio_book::event::{CallRecord, Event, Kind, Reply};
@@ -162,26 +162,27 @@ impl<D: DeskView + Drop, A: Allocator + Copy> Work<D, A> {
         Ok(receipt.reply)
     }
 
-    /// Takes some free channel of a cell, or finds that none is free.
+    /// Takes some channel of a cell that is free at a rate, or finds that none is free.
     #[tactic(auto, using(crate::proofs::Going::took, crate::proofs::Going::found_none, crate::proofs::Going::untaken))]
     pub(crate) fn take(
         &mut self,
         call: u16,
         kind: Kind,
         cell: u8,
+        rate: Rate,
     ) -> Result<Option<(ChanId, Reply)>, DeskFault>
         ensures ok { IfOk result (λ answer. MatchOption answer
             ((none : Plan) → (next : ChanId → Reply → Plan) →
-            Passes D.log D.says self.old (Takes call kind cell none next) self.new none)
+            Passes D.log D.says self.old (Takes call kind cell rate none next) self.new none)
             (λ taken. (none : Plan) → (next : ChanId → Reply → Plan) →
-            Passes D.log D.says self.old (Takes call kind cell none next) self.new
+            Passes D.log D.says self.old (Takes call kind cell rate none next) self.new
             (next taken.0 taken.1))) }
         ensures err { IfErr result (λ f. (none : Plan) → (next : ChanId → Reply → Plan) →
-            Goes D.log D.says self.old (Takes call kind cell none next)
+            Goes D.log D.says self.old (Takes call kind cell rate none next)
             self.new (stops_at f)) }
         ensures owed { self.new.owed ≡ self.old.owed }
     {
-        let Some(receipt) = self.view.judge_take(call, kind, cell)? else {
+        let Some(receipt) = self.view.judge_take(call, kind, cell, rate)? else {
             return Ok(None);
         };
         let Event::Take(_, _, chan) = receipt.event else {

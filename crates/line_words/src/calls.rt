@@ -147,7 +147,7 @@ impl<A: Allocator + Copy> Known<A> {
             }
             TraceLine::Sent(_) => Ok(self.of_content(content)),
             TraceLine::Step(Step::Asked(event, reply)) => self.of_event(*event, *reply),
-            TraceLine::Step(Step::NoneFree(_)) | TraceLine::Fault(_) => Ok(self.current),
+            TraceLine::Step(Step::NoneFree(..)) | TraceLine::Fault(_) => Ok(self.current),
             TraceLine::Limit | TraceLine::End(_) => Ok(None),
         }
     }

@@ -3,7 +3,7 @@
 //! `docs/PROGRAM.md` lists the lines and their words.
 use crate::bad::BadText;
 use crate::text::{HexText, OrDash};
-use channel_fsm::{ChanId, ChanState, Sub};
+use channel_fsm::{ChanId, ChanState, Rate, Sub};
 use event_text::writing::EventText;
 use ho_procedure::exchange::{Bad, Inbound, Line, Outbound};
 use radio_book::book::Usage;
@@ -38,8 +38,8 @@ impl fmt::Display for Mark {
 pub enum Step {
     /// An event, and its reply.
     Asked(Event, Reply),
-    /// A free channel of this cell, and there was none.
-    NoneFree(u8),
+    /// A channel of this cell that is free at this rate, and there was none. (The line has the cell alone.)
+    NoneFree(u8, Rate),
 }
 
 impl fmt::Display for Step {
@@ -48,7 +48,7 @@ impl fmt::Display for Step {
             Step::Asked(event, reply) => {
                 write!(f, "event {} -> {}", EventText(event), ReplyText(reply))
             }
-            Step::NoneFree(cell) => write!(f, "none free {cell}"),
+            Step::NoneFree(cell, _) => write!(f, "none free {cell}"),
         }
     }
 }

@@ -107,7 +107,7 @@ impl<A: Allocator + Copy> OpenAttempts<A> {
         for step in &turn.steps {
             match step {
                 Step::Asked(event, reply) => self.ask(turn.side, *event, *reply)?,
-                Step::NoneFree(_) => {}
+                Step::NoneFree(..) => {}
             }
         }
         Ok(())

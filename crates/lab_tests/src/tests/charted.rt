@@ -2,7 +2,7 @@
 use super::drawn::{Line, Place, rows_of};
 use super::told::{Given, Message, Told, tell_all};
 use super::{equals_at, holds_at};
-use channel_fsm::{ChanId, ChanState, Sub};
+use channel_fsm::{ChanId, ChanState, Rate, Sub};
 use chart::{Bar, Chart, Lane, Side};
 use lab::exchange::{Bad, Line as Operator};
 use lab::trace::{Mark, Step};
@@ -118,7 +118,7 @@ const ONE: &[Told] = &[
     Told::Turn(
         Mark::Alone,
         Given::Asks(Operator::Handover { call: 2, cell: 1 }),
-        &[Step::NoneFree(1)],
+        &[Step::NoneFree(1, Rate::Full)],
         &[],
     ),
     Told::Undecoded(

@@ -233,7 +233,7 @@ fn ask(rt: &impl Abort, book: &mut Book<Global>, told: Told) -> Result<(), Fail>
     for step in steps {
         match *step {
             Step::Asked(event, reply) => equals_at(rt, book.step(event)?, reply, event),
-            Step::NoneFree(_) => {}
+            Step::NoneFree(..) => {}
         }
     }
     Ok(())

@@ -1,6 +1,7 @@
 //! A view whose desk doesn't know the view's last receipt.
 ghost use Rattle.std.specs.Prelude.{[]};
 
+use channel_fsm::Rate;
 use super::controllers::{are_handled, empty_desk, input_of, sent_lines, shared_site};
 use crate::leaving::Leaving;
 use ho_procedure::controller::Controller;
@@ -34,6 +35,7 @@ impl DeskView for Elsewhere {
         _call: u16,
         _kind: Kind,
         _cell: u8,
+        _rate: Rate,
     ) -> Result<Option<Receipt>, DeskFault> {
         Err(DeskFault::Foreign(7))
     }

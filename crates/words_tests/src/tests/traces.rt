@@ -1,7 +1,7 @@
 //! Lines of a trace, and the words behind them.
 use super::{Fail, equals, equals_at};
 use bssmap_messages::BssmapFault;
-use channel_fsm::{ChanId, ChanState, Sub};
+use channel_fsm::{ChanId, ChanState, Rate, Sub};
 use ho_procedure::exchange::{Bad, Inbound, Line, Outbound};
 use line_words::{Calls, content_of, print_ignored, print_words};
 use radio_book::book::Usage;
@@ -85,7 +85,7 @@ fn replies() -> [Step; 12] {
         refused(Refusal::RefBusy(63, 255)),
         refused(Refusal::Unexpected(FIRST)),
         refused(Refusal::NotArmed),
-        Step::NoneFree(63),
+        Step::NoneFree(63, Rate::Full),
     ]
 }
 
@@ -258,7 +258,7 @@ fn faults_limits_and_ends_are_printed(rt: HostRuntime) -> Result<(), Fail> {
     for fault in FAULTS {
         print_fault(&mut out, Mark::First, *fault)?;
     }
-    print_steps(&mut out, Mark::Peer, &[Step::NoneFree(1)])?;
+    print_steps(&mut out, Mark::Peer, &[Step::NoneFree(1, Rate::Full)])?;
     print_limit(&mut out)?;
     let usage = Usage {
         channels: 1,
@@ -500,7 +500,7 @@ fn sent_of(alloc: Global, said: Said) -> Result<Option<Outbound<Global>>, Fail> 
 fn rest_of(said: Said) -> Option<TraceLine<'static, Global>> {
     match said {
         Book(event, reply) => Some(TraceLine::Step(Step::Asked(event, reply))),
-        NoneFree(cell) => Some(TraceLine::Step(Step::NoneFree(cell))),
+        NoneFree(cell) => Some(TraceLine::Step(Step::NoneFree(cell, Rate::Full))),
         Said::Fault(bad) => Some(TraceLine::Fault(bad)),
         Limit => Some(TraceLine::Limit),
         End(usage) => Some(TraceLine::End(usage)),
