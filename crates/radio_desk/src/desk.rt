@@ -180,6 +180,8 @@ impl<A: Allocator + Copy> Desk<A> {
     /// An accepted `Undo` or `Released` takes no memory and is never refused any: its entry has the room that was kept for
     /// it, and the history gets no other. Before any other event changes the book, room is made for its entry and for what is
     /// owed because of it.
+    // Compiled into its callers, so that a receipt that neither seat nor caller keeps is never written.
+    #[inline(always)]
     #[tactic(auto, using(crate::proofs::Leading::leads_more))]
     pub fn judge(&mut self, seat: &mut Seat, event: Event) -> Result<Receipt, DeskFault>
         ensures foreign { (place : ℕ) → (result ≡ Err (DeskFault.Foreign place)) ↔
@@ -267,6 +269,7 @@ impl<A: Allocator + Copy> Desk<A> {
 }
 
 /// The place of the seat's last receipt, where the history doesn't hold it.
+#[inline(always)]
 fn foreign_place(history: &[(Event, Reply)], seat: &Seat) -> Option<usize>
     ensures { MatchOption result (HoldsLast history.now seat.now)
         (λ place. IsForeign history.now seat.now place) }
