@@ -1,0 +1,5 @@
+Random events, with what is left of them without the attempts that were undone: what the program says, and what a plain book
+says that the test has of its own.
+
+  $ tests/random_events ./lab
+  12 lists of random events met, 0 not
