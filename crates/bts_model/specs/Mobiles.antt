@@ -17,12 +17,11 @@ use Rattle.bts_model.specs.declared.mobile.Destination.{Destination}
 use Rattle.bts_model.specs.declared.mobile.Response.{Response}
 use Rattle.bts_model.specs.declared.mobile.Response.TheVariants.{Unheard, Returned, Arrived}
 use Rattle.bts_model.specs.Keys.{place_cmp}
-use Rattle.bts_model.specs.Names.{read_sub}
 use Rattle.bts_model.specs.World.{slot_in}
 
 -- where a HANDOVER COMMAND sends a mobile (TS 44.018 clause 9.1.15)
 abbrev pub destination_of : Cell → Chan → ℕ → Destination
-destination_of cell channel reference = record { bcch = cell.arfcn; ncc = cell.ncc; bcc = cell.bcc; carrier = channel.carrier; tn = channel.tn; sub = read_sub channel.sub; reference = reference }
+destination_of cell channel reference = record { bcch = cell.arfcn; ncc = cell.ncc; bcc = cell.bcc; carrier = channel.carrier; tn = channel.tn; sub = channel.sub; reference = reference }
 
 -- the channel is active with this handover reference
 abbrev pub is_active_with : Activity → ℕ → Bool

@@ -7,18 +7,17 @@ use Rattle.bts_model.specs.declared.setting.Act.{Act}
 use Rattle.bts_model.specs.declared.setting.Act.TheVariants.{Refuse, Hold, Release, Mobile, Double, Cut}
 use Rattle.bts_model.specs.declared.setting.Setting.{Setting}
 use Rattle.bts_model.specs.declared.slots.Slot.{Slot}
-use Rattle.bts_model.specs.Names.{read_sub, said_sub}
 use Rattle.bts_model.specs.World.{WorldState, slot_in, has_channel, with_slot}
 use Rattle.bts_model.specs.Holds.{kept_of, others}
 use Rattle.bts_model.specs.Departures.{Outcome, silent, all_leave}
 
 -- the channel that a setting names
 abbrev pub place_of : Setting → Place
-place_of setting = record { controller = setting.controller; channel = record { cell = setting.cell; trx = setting.trx; tn = setting.tn; sub = read_sub setting.sub } }
+place_of setting = record { controller = setting.controller; channel = record { cell = setting.cell; trx = setting.trx; tn = setting.tn; sub = setting.sub } }
 
 -- what is asked of a channel of a controller
 abbrev pub setting_of : ℕ → ChanId → Act → Setting
-setting_of k x act = record { controller = k; cell = x.cell; trx = x.trx; tn = x.tn; sub = said_sub x.sub; act = act }
+setting_of k x act = record { controller = k; cell = x.cell; trx = x.trx; tn = x.tn; sub = x.sub; act = act }
 
 -- a channel whose next answer comes twice, or is cut
 abbrev pub doubled : Slot → Slot

@@ -2,7 +2,7 @@
 ghost use Rattle.std.specs.Prelude.{◌≡◌, ◌<◌, find, IfSome};
 ghost use Rattle.bts_model.specs.Mobiles.{place_on, destination_of, is_active_with, is_there, target_of, commanded, response_to, IsOnTimeslot, IsHeard};
 
-use crate::place::{Place, read_sub};
+use crate::place::Place;
 use crate::setting::Habit;
 use crate::slots::{Activity, Slots};
 use crate::trx::Trx;
@@ -45,7 +45,7 @@ fn destination_of(cell: &CellDescription, channel: &ChanDescription, reference: 
         bcc: cell.bcc(),
         carrier: channel.carrier(),
         tn: channel.tn(),
-        sub: read_sub(channel.sub()),
+        sub: channel.sub(),
         reference,
     }
 }

@@ -1,7 +1,7 @@
 //! Channels of all controllers.
 ghost use Rattle.std.specs.Prelude.{◌≡◌, ◌<◌};
 ghost use Rattle.bts_model.specs.Keys.{is_same_place};
-ghost use Rattle.bts_model.specs.Names.{read_sub, said_sub, bits_of, place_in};
+ghost use Rattle.bts_model.specs.Names.{bits_of, place_in};
 
 use channel_fsm::{ChanId, Sub};
 use rsl_messages::ChanBits;
@@ -21,36 +21,13 @@ pub fn is_same_place(one: Place, other: Place) -> bool
     one.controller == other.controller && one.channel == other.channel
 }
 
-/// Which channel of its timeslot a message names.
-pub fn read_sub(sub: rsl_messages::Sub) -> Sub
-    ensures { result ≡ read_sub sub }
-{
-    match sub {
-        rsl_messages::Sub::Full => Sub::Full,
-        rsl_messages::Sub::Half0 => Sub::Half0,
-        rsl_messages::Sub::Half1 => Sub::Half1,
-    }
-}
-
-/// How a message names a channel of a timeslot.
-pub fn said_sub(sub: Sub) -> rsl_messages::Sub
-    ensures said { result ≡ said_sub sub }
-    ensures again { read_sub result ≡ sub }
-{
-    match sub {
-        Sub::Full => rsl_messages::Sub::Full,
-        Sub::Half0 => rsl_messages::Sub::Half0,
-        Sub::Half1 => rsl_messages::Sub::Half1,
-    }
-}
-
 /// How a message names a channel.
 pub fn bits_of(channel: ChanId) -> ChanBits
     ensures { result ≡ bits_of channel }
 {
     ChanBits {
         tn: channel.tn,
-        sub: said_sub(channel.sub),
+        sub: channel.sub,
     }
 }
 
@@ -64,7 +41,7 @@ pub fn place_in(controller: usize, cell: u8, trx: u8, channel: ChanBits) -> Plac
             cell,
             trx,
             tn: channel.tn,
-            sub: read_sub(channel.sub),
+            sub: channel.sub,
         },
     }
 }

@@ -1,7 +1,7 @@
 //! What a script says of a channel.
 ghost use Rattle.std.specs.Prelude.{◌≡◌};
 
-use crate::place::{Place, read_sub, said_sub};
+use crate::place::Place;
 use channel_fsm::ChanId;
 use rsl_messages::Sub;
 
@@ -62,7 +62,7 @@ impl Setting {
             cell: channel.cell,
             trx: channel.trx,
             tn: channel.tn,
-            sub: said_sub(channel.sub),
+            sub: channel.sub,
             act,
         }
     }
@@ -77,7 +77,7 @@ impl Setting {
                 cell: self.cell,
                 trx: self.trx,
                 tn: self.tn,
-                sub: read_sub(self.sub),
+                sub: self.sub,
             },
         }
     }

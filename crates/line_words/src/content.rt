@@ -3,7 +3,8 @@ use bssmap_messages::{Bssmap, BssmapFault};
 use channel_fsm::ChanId;
 use ho_procedure::exchange::{Inbound, Outbound};
 use ho_procedure::naming::chan_of;
-use rsl_messages::{ChanBits, Rsl, RslFault, Sub};
+use octet_elements::sub_of_type;
+use rsl_messages::{ChanBits, Rsl, RslFault};
 use std::alloc::{AllocError, Allocator, Global};
 use trace_text::trace::TraceLine;
 
@@ -36,7 +37,7 @@ fn channel_named(cell: u8, trx: u8, octets: &[u8]) -> Option<ChanId> {
     if identifier != 0x01 {
         return None;
     }
-    let sub = Sub::with_type(number / 8)?;
+    let sub = sub_of_type(number / 8)?;
     let tn = number % 8;
     let message: Rsl = Rsl::RfChannelRelease {
         channel: ChanBits { tn, sub },

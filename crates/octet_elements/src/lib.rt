@@ -24,7 +24,8 @@ pub mod values;
 mod write;
 
 pub use bits::{BitReader, BitWriter};
-pub use channel_types::Sub;
+pub use channel_fsm::Sub;
+pub use channel_types::{channel_type, sub_of_type};
 pub use element::{Leading, leading_element};
 pub use form::{ElementTable, Form, PLACES};
 pub use found::Found;

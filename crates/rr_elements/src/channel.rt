@@ -2,7 +2,7 @@
 ghost use Rattle.std.specs.Prelude.{◌≡◌, ◌<◌, IfOk, IfErr, Ok, Err, length};
 
 use crate::fault::ElementFault;
-use octet_elements::{BitReader, BitWriter, Sub};
+use octet_elements::{BitReader, BitWriter, Sub, channel_type, sub_of_type};
 use std::alloc::{AllocError, Allocator};
 use std::marker::Model;
 
@@ -95,7 +95,7 @@ impl ChanDescription {
             carrier,
         } = *self;
         let mut bits = BitWriter::new();
-        bits.put(5, sub.channel_type());
+        bits.put(5, channel_type(sub));
         bits.put(3, tn);
         bits.put(3, tsc);
         bits.put(1, 0);
@@ -120,7 +120,7 @@ impl ChanDescription {
         let high = bits.take(2);
         let low = bits.take(8);
         let carrier = 256 * u16::from(high) + u16::from(low);
-        let Some(sub) = Sub::with_type(kind) else {
+        let Some(sub) = sub_of_type(kind) else {
             return Err(ElementFault::BadType);
         };
         if hopping == 1 {

@@ -20,8 +20,7 @@ use crate::table::{
 };
 use octet_elements::values::u16_octets;
 use octet_elements::{
-    Found, Octets, Sub, ValueFault, append_element, append_octet, append_optional_octet,
-    element_len, octet_len, optional_octet_len,
+    Found, Octets, ValueFault, append_element, append_octet, append_optional_octet, channel_type, element_len, octet_len, optional_octet_len, sub_of_type,
 };
 use std::alloc::Allocator;
 
@@ -43,7 +42,7 @@ fn channel(found: &Found<'_, Abis>) -> Result<ChanBits, ValueFault>
 fn channel_of(octet: u8) -> Result<ChanBits, ValueFault>
     ensures { result ≡ channel_with (sub_of (octet / 8)) (octet % 8) }
 {
-    match Sub::with_type(octet / 8) {
+    match sub_of_type(octet / 8) {
         Some(sub) => Ok(ChanBits { tn: octet % 8, sub }),
         None => Err(ValueFault::Bad(CHANNEL_NUMBER)),
     }
@@ -54,7 +53,7 @@ fn channel_octet(channel: ChanBits) -> u8
     requires { channel.tn < 8 }
     ensures { result ≡ channel_octet channel }
 {
-    8 * channel.sub.channel_type() + channel.tn
+    8 * channel_type(channel.sub) + channel.tn
 }
 
 /// The message that elements say.
