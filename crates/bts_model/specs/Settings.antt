@@ -7,6 +7,7 @@ use Rattle.bts_model.specs.declared.setting.Act.{Act}
 use Rattle.bts_model.specs.declared.setting.Act.TheVariants.{Refuse, Hold, Release, Mobile, Double, Cut}
 use Rattle.bts_model.specs.declared.setting.Setting.{Setting}
 use Rattle.bts_model.specs.declared.slots.Slot.{Slot}
+use Rattle.bts_model.specs.Keys.{key_of}
 use Rattle.bts_model.specs.World.{WorldState, slot_in, has_channel, with_slot}
 use Rattle.bts_model.specs.Holds.{kept_of, others}
 use Rattle.bts_model.specs.Departures.{Outcome, silent, all_leave}
@@ -41,12 +42,12 @@ set w setting = if has_channel w (place_of setting) then acted w (place_of setti
 
 -- An act may need memory: for what is known of a channel of which nothing was, for a hold, for what is sent.
 abbrev pub ActNeedsMemory : WorldState → Place → Act → Type 0
-ActNeedsMemory w x Refuse = map.get w.slots x ≡ None
+ActNeedsMemory w x Refuse = map.get w.slots (key_of x) ≡ None
 ActNeedsMemory w x Hold = Unit {0}
 ActNeedsMemory w x Release = kept_of x w.holds ≢ []
-ActNeedsMemory w x (Mobile habit) = map.get w.slots x ≡ None
-ActNeedsMemory w x Double = map.get w.slots x ≡ None
-ActNeedsMemory w x (Cut n) = map.get w.slots x ≡ None
+ActNeedsMemory w x (Mobile habit) = map.get w.slots (key_of x) ≡ None
+ActNeedsMemory w x Double = map.get w.slots (key_of x) ≡ None
+ActNeedsMemory w x (Cut n) = map.get w.slots (key_of x) ≡ None
 
 abbrev pub SetNeedsMemory : WorldState → Setting → Type 0
 SetNeedsMemory w setting = (has_channel w (place_of setting) ≡ true) × ActNeedsMemory w (place_of setting) setting.act

@@ -4,6 +4,7 @@ ghost use Rattle.std.specs.FinMap as finite;
 ghost use Rattle.rsl_messages.specs.Messages.{HasOctets};
 ghost use Rattle.rsl_messages.specs.Texts.{IsTextOf};
 ghost use Rattle.rsl_messages.specs.declared.message.Rsl.{Rsl};
+ghost use Rattle.bts_model.specs.Keys.{key_of};
 ghost use Rattle.bts_model.specs.World.{fresh_world, has_channel, slot_in, is_in_use, in_use_by, is_active, changed, with_slot, world_code};
 ghost use Rattle.rr_messages.specs.declared.message.Rr.{Rr};
 ghost use Rattle.bts_model.specs.Holds.{hold_of, kept_of};
@@ -207,7 +208,7 @@ impl<A: Allocator + Copy> World<A> {
         ensures unchanged { OnErr result (self.new ≡ self.old) }
         ensures channel { OnErr result (has_channel self.old place ≡ true) }
         ensures memory { OnErr result ((hold_of self.old.holds place reaction.answer ≡ None) ⊎
-            (IsSome reaction.slot × (finite.get self.old.slots place ≡ None))) }
+            (IsSome reaction.slot × (finite.get self.old.slots (key_of place) ≡ None))) }
     {
         if !self.has_channel(place) {
             return Ok(self.nothing());
@@ -305,7 +306,7 @@ impl<A: Allocator + Copy> World<A> {
         ensures gives { IfOk result (λ outs. Gives (silent (with_slot self.old place (Some slot)))
             self.new outs.items) }
         ensures unchanged { OnErr result (self.new ≡ self.old) }
-        ensures memory { OnErr result (finite.get self.old.slots place ≡ None) }
+        ensures memory { OnErr result (finite.get self.old.slots (key_of place) ≡ None) }
     {
         self.slots.put(place, slot)?;
         Ok(self.nothing())
