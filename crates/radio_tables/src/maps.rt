@@ -7,7 +7,7 @@ ghost use Rattle.radio_tables.specs.State.{empty_book, state_of, state_code};
 ghost use Rattle.radio_tables.specs.Places.{is_free_traffic, channels_of, free_count};
 
 use crate::entry::CallEntry;
-use crate::kinds::Reference;
+use crate::kinds::{CallRecord, Reference};
 use crate::tables::{CopyTables, Tables};
 use crate::trees::{Calls, Channels, References};
 use cell_table::Site;
@@ -166,11 +166,22 @@ impl<A: Allocator + Copy> Tables for MapTables<A> {
         self.calls.entry(call)
     }
 
+    fn record_of(&self, call: u16) -> Option<CallRecord> {
+        match self.calls.entry(call) {
+            Some(entry) => Some(entry.record()),
+            None => None,
+        }
+    }
+
     fn add_call(&mut self, call: u16, entry: CallEntry) -> Result<(), AllocError> {
         self.calls.insert(call, entry)
     }
 
     fn set_entry(&mut self, call: u16, entry: CallEntry) {
+        self.calls.replace(call, entry);
+    }
+
+    fn set_record(&mut self, call: u16, entry: CallEntry) {
         self.calls.replace(call, entry);
     }
 
