@@ -68,7 +68,7 @@ impl<T: Tables> Records<T> {
             return Reply::Refused(refusal);
         }
         let reply = self.record_reply(found);
-        self.run_back(call, entry.into_journal());
+        self.run_back(call, entry.journal());
         reply
     }
 
