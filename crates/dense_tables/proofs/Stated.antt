@@ -67,14 +67,6 @@ count_written site states x place s within at =
     (λ i. map.len (state_written site states x place s within at i) + one_if_some (sym (get_state site states x ∙ ap (there states) at) i))
     ∙ len_put chan_total (states_of site states) x (busy s)
 
--- one that isn't free is a traffic channel
-pub used_traffic : (site : SiteView) (states : List ChanState) (x : ChanId) → is_some (map.get (states_of site states) x) ≡ true → is_traffic site x ≡ true
-used_traffic site states x used =
-    elim (index_of site x) as (λ o. index_of site x ≡ o → is_some (there states o) ≡ true → is_traffic site x ≡ true) [
-      | None ↦ λ is some. cc
-      | Some place ↦ λ is some. (placed site x place is).1
-    ] refl (sym (ap is_some (get_state site states x)) ∙ used)
-
 -- a channel without a place is free, and stays so
 pub state_absent : (site : SiteView) (states : List ChanState) (x : ChanId) → index_of site x ≡ None → put (states_of site states) x None ≡ states_of site states
 state_absent site states x none = put_again chan_total chan_exact (states_of site states) x None (get_state site states x ∙ ap (there states) none)

@@ -1,7 +1,7 @@
 //! What is kept of calls, each in a slot of its own.
 ghost use Rattle.std.specs.Prelude.{◌≡◌, ◌↔◌, ◌<◌, ◌≤◌, ℕ, IsTrue, Some, None, IfOk, OnOk, OnErr, IsSome, is_some, length, true, false, option_copied, IsOk};
 ghost use Rattle.std.specs.FinMap as map;
-ghost use Rattle.dense_tables.specs.Calls.{kept_in, entry_at};
+ghost use Rattle.dense_tables.specs.Calls.{kept_in, entry_at, AgreesAt};
 ghost use Rattle.slab.specs.Slab.{get as slot_at, ContainsKey, Updates};
 
 use slab::Slab;
@@ -160,7 +160,7 @@ impl<E: Entry, A: Allocator> CallSlots<E, A> {
     pub fn is_same(&self, other: &CallSlots<E, A>) -> bool
         ensures same { IsTrue result ↔ (self.now ≡ other.now) }
     {
-        self.count == other.count && same_entries(self, other, self.keys.len())
+        self.count == other.count && same_slots(&self.slots, self, other)
     }
 }
 
@@ -226,32 +226,44 @@ fn first_keys<A: Allocator>(alloc: A, count: usize) -> Result<Vec<u16, A>, Alloc
     Vec::from_elem(alloc, 0, count)
 }
 
-/// Whether the same is kept of each of the first calls.
-fn same_entries<E: Entry, A: Allocator>(
+/// Whether the same is kept of each call that has one of these slots.
+fn same_slots<E: Entry, A: Allocator>(
+    slots: &Slab<Slot<E>, A>,
     one: &CallSlots<E, A>,
     other: &CallSlots<E, A>,
-    numbers: usize,
 ) -> bool
-    requires { numbers ≤ 65536 }
-    ensures { IsTrue result ↔
-        ((call : ℕ) → call < numbers → map.get one.now call ≡ map.get other.now call) }
+    ensures { IsTrue result ↔ ((key : ℕ) → AgreesAt one.now other.now (slot_at slots.now key)) }
 {
-    for number in 0..numbers {
-        let call = number as u16;
-        if !same_entry(one.get(call), other.get(call)) {
+    for key in 0..slots.capacity() {
+        if !same_slot(slots.get(key), one, other) {
             return false;
         }
     }
     true
 }
 
-/// Whether the same is kept of two calls.
+/// Whether the same is kept of a slot's call, where anything is.
+fn same_slot<E: Entry, A: Allocator>(
+    slot: Option<&Slot<E>>,
+    one: &CallSlots<E, A>,
+    other: &CallSlots<E, A>,
+) -> bool
+    ensures { IsTrue result ↔ AgreesAt one.now other.now (option_copied slot.entry) }
+{
+    match slot {
+        Some(slot) => same_entry(one.get(slot.number), other.get(slot.number)),
+        None => true,
+    }
+}
+
+/// Whether the same is kept of two calls, where anything is kept of the first.
 fn same_entry<E: Entry>(one: Option<&E>, other: Option<&E>) -> bool
-    ensures { IsTrue result ↔ (option_copied one.entry ≡ option_copied other.entry) }
+    ensures { IsTrue result ↔
+        (IsSome (option_copied one.entry) → option_copied one.entry ≡ option_copied other.entry) }
 {
     match (one, other) {
         (Some(one), Some(other)) => one.is_same(other),
-        (None, None) => true,
-        (Some(_), None) | (None, Some(_)) => false,
+        (Some(_), None) => false,
+        (None, Some(_)) | (None, None) => true,
     }
 }

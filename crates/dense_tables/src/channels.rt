@@ -129,9 +129,10 @@ impl<A: Allocator> ChannelStates<A> {
         requires busy { state ≢ chan.Free }
         ensures replaced { self.new ≡ with_state self.old x (Some state) }
     {
-        // Opens the table: a channel that isn't free is a traffic channel.
-        let _ = &self.states;
-        self.write(x, state);
+        // It stays out of its mask, and counted.
+        if let Some(place) = place_in(&self.places, x) {
+            self.states[place] = state;
+        }
     }
 
     /// A channel is free from now on.

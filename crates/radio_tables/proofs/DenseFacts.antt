@@ -197,6 +197,13 @@ module _ (m n : FinMap nat_cmp Kept) (c armed : ℕ) (counted : armed ≡ map.le
       let same : map.len (armed_of n) ≡ map.len (armed_of (map.insert m c k)) = ap (λ l. map.len (armed_of l)) changed in
       omega (arith, counts, least, same, counted, was, one)
 
+  pub armed_same : (k : Kept) → n ≡ map.insert m c k → k.timer ≡ timer_at m c → armed ≡ map.len (armed_of n)
+  armed_same k changed stays =
+      let counts = armed_count m c (Some k) in
+      let one : one_if_some k.timer ≡ one_if_some (timer_at m c) = ap {B = ℕ} (λ o. one_if_some o) stays in
+      let same : map.len (armed_of n) ≡ map.len (armed_of (map.insert m c k)) = ap (λ l. map.len (armed_of l)) changed in
+      omega (arith, counts, one, same, counted)
+
   pub armed_removed : (before : ℕ) → n ≡ map.remove m c → before ≡ one_if_some (timer_at m c) → armed - before ≡ map.len (armed_of n)
   armed_removed before changed was =
       let least = armed_count m c None in

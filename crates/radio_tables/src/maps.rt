@@ -8,7 +8,7 @@ ghost use Rattle.radio_tables.specs.Places.{sub_at, is_free_traffic, has_rate, i
 ghost use Rattle.channel_fsm.specs.Slots.{needs, is_used};
 
 use crate::entry::CallEntry;
-use crate::kinds::Reference;
+use crate::kinds::{CallRecord, Reference};
 use crate::tables::{CopyTables, Tables};
 use crate::trees::{Calls, Channels, References};
 use cell_table::Site;
@@ -186,11 +186,22 @@ impl<A: Allocator + Copy> Tables for MapTables<A> {
         self.calls.entry(call)
     }
 
+    fn record_of(&self, call: u16) -> Option<CallRecord> {
+        match self.calls.entry(call) {
+            Some(entry) => Some(entry.record()),
+            None => None,
+        }
+    }
+
     fn add_call(&mut self, call: u16, entry: CallEntry) -> Result<(), AllocError> {
         self.calls.insert(call, entry)
     }
 
     fn set_entry(&mut self, call: u16, entry: CallEntry) {
+        self.calls.replace(call, entry);
+    }
+
+    fn set_record(&mut self, call: u16, entry: CallEntry) {
         self.calls.replace(call, entry);
     }
 

@@ -8,7 +8,7 @@ ghost use Rattle.radio_tables.specs.State.{State, with_channel, with_kept, witho
 ghost use Rattle.radio_tables.specs.Choice.{IsFreeAt, NoneFree, NoneFreeAt, IsFreeCount};
 
 use crate::entry::CallEntry;
-use crate::kinds::Reference;
+use crate::kinds::{CallRecord, Reference};
 use channel_fsm::{ChanId, ChanState, Rate};
 use std::alloc::AllocError;
 
@@ -60,6 +60,10 @@ pub trait Tables: Drop {
         ensures call { option_map (λ kept. kept.call) result ≡ map.get (state self.now).calls call }
         ensures timer { IfSome result (λ kept. kept.timer ≡ map.get (state self.now).timers call) };
 
+    /// The record of a call; `None` where it isn't there.
+    fn record_of(&self, call: u16) -> Option<CallRecord>
+        ensures value { result ≡ map.get (state self.now).calls call };
+
     /// A call begins. Memory is asked for.
     fn add_call(&mut self, call: u16, entry: CallEntry) -> Result<(), AllocError>
         requires new { map.get (state self.old).calls call ≡ None }
@@ -69,6 +73,12 @@ pub trait Tables: Drop {
     /// Something else is kept of a call that is there.
     fn set_entry(&mut self, call: u16, entry: CallEntry)
         requires there { IsSome (map.get (state self.old).calls call) }
+        ensures kept { state self.new ≡ with_kept (state self.old) call entry };
+
+    /// Something else is kept of a call that is there, with the timer that was kept of it.
+    fn set_record(&mut self, call: u16, entry: CallEntry)
+        requires there { IsSome (map.get (state self.old).calls call) }
+        requires timer { entry.timer ≡ map.get (state self.old).timers call }
         ensures kept { state self.new ≡ with_kept (state self.old) call entry };
 
     /// A call ends.

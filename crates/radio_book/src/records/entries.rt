@@ -107,10 +107,7 @@ impl<T: Tables> Records<T> {
     pub(super) fn record(&self, call: u16) -> Option<CallRecord>
         ensures { result ≡ record_of self.now call }
     {
-        match self.entry(call) {
-            Some(entry) => Some(entry.record()),
-            None => None,
-        }
+        self.tables.record_of(call)
     }
 
     /// A call begins.
@@ -144,13 +141,22 @@ impl<T: Tables> Records<T> {
         self.tables.set_entry(call, entry);
     }
 
+    /// Something else is kept of a call, with the timer that was kept of it.
+    fn keep_timer(&mut self, call: u16, entry: CallEntry)
+        requires call { IsSome (record_of self.old call) }
+        requires timer { entry.timer ≡ map.get self.old.timers call }
+        ensures { self.new ≡ with_kept self.old call entry }
+    {
+        self.tables.set_record(call, entry);
+    }
+
     /// A call has this record from now on, and the timer that it had.
     pub(super) fn set_record(&mut self, call: u16, entry: CallEntry)
         requires call { IsSome (record_of self.old call) }
         requires timer { entry.timer ≡ map.get self.old.timers call }
         ensures { self.new ≡ apply (record no_change { call = with_entry call entry.call }) self.old }
     {
-        self.set_entry(call, entry);
+        self.keep_timer(call, entry);
     }
 
     /// A call has this timer from now on, and the record that it had.
