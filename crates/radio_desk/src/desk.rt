@@ -137,8 +137,8 @@ impl<A: Allocator + Copy> Desk<A> {
     /// the first entry stands that was refused because one of them had the channel or the reference, and whether the entries
     /// that remain, asked alone, lead to the same book and get the same replies. Where no entry was refused so, they do.
     ///
-    /// Takes the time of one run of what remains, and of a look at each entry for each attempt that is open then. Memory is
-    /// asked for, for a copy of the book and lists as long as the history.
+    /// Takes the time of one run of what remains, and of two looks at each entry for the open attempts that it can concern,
+    /// by its call or its cell. Memory is asked for, for a copy of the book and lists as long as the history.
     pub fn audit(&self) -> Result<Audit, AllocError>
         ensures attempts { IfOk result (λ audit. (us : List Undone) ×
             AreSettledIn self.now.opening self.now.history us × (audit.attempts ≡ length us)) }
