@@ -65,13 +65,6 @@ fn point_of(event: Event) -> Option<(u16, Point)> {
     }
 }
 
-fn is_accepted(reply: Reply) -> bool {
-    match reply {
-        Reply::Done | Reply::Record(..) | Reply::Owned(_) => true,
-        Reply::Refused(_) => false,
-    }
-}
-
 impl<R: Wait + Drop, G: Gate + Drop, A: Allocator + Copy> Gated<R, G, A> {
     pub(crate) fn new(shared: Shared<R, A>, gate: Arc<G, A>) -> Gated<R, G, A>
         ensures { result ≡ shared }
@@ -94,7 +87,7 @@ impl<R: Wait + Drop, G: Gate + Drop, A: Allocator + Copy> Gated<R, G, A> {
     }
 
     fn tell(&self, receipt: &Receipt) {
-        if !is_accepted(receipt.reply) {
+        if !receipt.reply.is_accepted() {
             return;
         }
         if let Some((call, point)) = point_of(receipt.event) {

@@ -11,11 +11,12 @@ use Rattle.radio_book.specs.declared.event.Kind.{Kind}
 use Rattle.radio_book.specs.declared.event.Event.{Event}
 use Rattle.radio_book.specs.declared.event.Event.TheVariants.{Take, Reserve}
 use Rattle.radio_book.specs.declared.event.Reply.{Reply}
+use Rattle.radio_book.specs.Kinds.{is_accepted}
 use Rattle.radio_desk.specs.declared.desk.DeskFault.{DeskFault}
 use Rattle.radio_desk.specs.declared.desk.DeskFault.TheVariants.{Foreign, NoMemory}
 use Rattle.ho_procedure.specs.Claims.{Entry, Claim, NoneFree, Chosen, UnknownReceipt, MayBeRefused, IsForeign, IsNoMemory}
 use Rattle.ho_procedure.specs.Sent.{Sent}
-use Rattle.ho_procedure.specs.Plan.{Room, Plan, Ends, Readies, Asks, Takes, Reserves, Sends, Notes, Ranks, Step, Readied, Asked, Chose, FoundNone, Posted, Noted, Ranked, AreCandidates, Moves, Leads, AsksDesk, TakesMemory, MayLack, Until, At, AtMemory, AtDesk, LeadsUntil, entries_in, entries_of, messages_in, messages_of, ChoiceIn, ChoicesAt, is_accepted, call_dropped, dropped_if, reports_by, reports_after}
+use Rattle.ho_procedure.specs.Plan.{Room, Plan, Ends, Readies, Asks, Takes, Reserves, Sends, Notes, Ranks, Step, Readied, Asked, Chose, FoundNone, Posted, Noted, Ranked, AreCandidates, Moves, Leads, AsksDesk, TakesMemory, MayLack, Until, At, AtMemory, AtDesk, LeadsUntil, entries_in, entries_of, messages_in, messages_of, ChoiceIn, ChoicesAt, call_dropped, dropped_if, reports_by, reports_after}
 use Rattle.ho_procedure.specs.declared.work.Work.{Work}
 use Rattle.ho_procedure.specs.Going.{Run, Goes, Passes, MayStop, last_reports, stops_at}
 

@@ -12,7 +12,7 @@ use Rattle.radio_book.specs.declared.event.Kind.{Kind}
 use Rattle.radio_book.specs.declared.event.Event.{Event}
 use Rattle.radio_book.specs.declared.event.Event.TheVariants.{Open, Clear, Look, Take, Reserve, Activate, Command, Complete, Undo, Confirm, Refuse, Detect, Released, Owner, Require, Order, Left}
 use Rattle.radio_book.specs.declared.event.Reply.{Reply}
-use Rattle.radio_book.specs.declared.event.Reply.TheVariants.{Done, Record, Owned, Refused}
+use Rattle.radio_book.specs.Kinds.{is_accepted}
 use Rattle.ho_procedure.specs.Claims.{Entry, Claim, NoneFree, Chosen, MayBeRefused}
 use Rattle.ho_procedure.specs.Sent.{Sent}
 
@@ -160,13 +160,6 @@ ChoiceIn says (Ranked found) = Unit {0}
 abbrev pub ChoicesAt : (List Entry → Claim → Type 0) → List Entry → List Step → Type 0
 ChoicesAt says log [] = Unit {0}
 ChoicesAt says log (s ∷ t) = ChoiceIn (says log) s × ChoicesAt says (log ++ entries_in s) t
-
--- an event is accepted where its reply isn't a refusal
-abbrev pub is_accepted : Reply → Bool
-is_accepted Done = true
-is_accepted (Record r s) = true
-is_accepted (Owned c) = true
-is_accepted (Refused refusal) = false
 
 -- The call whose reports are dropped once the event is accepted: one that begins, that is served on another channel from
 -- now on or none, or whose attempt is taken back.

@@ -3,8 +3,9 @@ ghost use Rattle.std.specs.Prelude.{◌≡◌, ◌≤◌, ℕ, List, true, IsTru
 ghost use Rattle.channel_fsm.specs.declared.ChanId.{ChanId};
 ghost use Rattle.ho_candidates.specs.declared.listed.Candidate.{Candidate};
 ghost use Rattle.radio_book.specs.declared.event.Reply.{Reply};
+ghost use Rattle.radio_book.specs.Kinds.{is_accepted};
 ghost use Rattle.ho_procedure.specs.Windows.{with_report};
-ghost use Rattle.ho_procedure.specs.Plan.{Plan, Readies, ForMessages, ForUnread, ForReports, AreCandidates, Asks, Takes, Reserves, Notes, Ranks, is_accepted, call_dropped, dropped_if};
+ghost use Rattle.ho_procedure.specs.Plan.{Plan, Readies, ForMessages, ForUnread, ForReports, AreCandidates, Asks, Takes, Reserves, Notes, Ranks, call_dropped, dropped_if};
 ghost use Rattle.ho_candidates.specs.Candidates.{SomeCandidate};
 ghost use Rattle.ho_procedure.specs.Going.{Goes, Passes, last_reports, stops_at};
 
@@ -71,15 +72,6 @@ fn call_dropped(event: Event) -> Option<u16>
     }
 }
 
-fn is_accepted(reply: Reply) -> bool
-    ensures { result ≡ is_accepted reply }
-{
-    match reply {
-        Reply::Done | Reply::Record(..) | Reply::Owned(_) => true,
-        Reply::Refused(_) => false,
-    }
-}
-
 /// Drops the reports of a call, once an event says so.
 #[tactic(auto, using(crate::proofs::Reporting::but_one))]
 fn drop_reports<A: Allocator>(windows: &mut Windows<A>, event: Event, reply: Reply)
@@ -89,7 +81,7 @@ fn drop_reports<A: Allocator>(windows: &mut Windows<A>, event: Event, reply: Rep
     ensures ready { windows.old.is_ready ≡ true → windows.new.is_ready ≡ true }
 {
     if let Some(call) = call_dropped(event) {
-        if is_accepted(reply) {
+        if reply.is_accepted() {
             windows.clear(call);
         }
     }
