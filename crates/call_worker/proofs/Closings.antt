@@ -1,5 +1,5 @@
 -- The lists of an office, with one more.
-use Rattle.std.proofs.Common.{◌≡◌, ℕ, ◌+◌, ◌<◌, ◌≤◌, ◌%◌, List, [], ◌∷◌, ◌++◌, length, get_or, set, map, refl, ap, sym, ◌∙◌, arith, Result, Ok, Err, OnOk, OnErr, All, append_assoc, suc}
+use Rattle.std.proofs.Common.{◌≡◌, ℕ, ◌+◌, ◌<◌, ◌%◌, List, [], ◌∷◌, ◌++◌, length, get_or, set, map, ap, sym, ◌∙◌, arith, Result, Ok, Err, OnOk, OnErr, All, append_assoc, suc}
 use Rattle.std.proofs.lemmas.List.{get_or_default, set-get_or, map-append, append-nil, length-map}
 use Rattle.cell_table.specs.Site.{SiteView}
 use Rattle.radio_book.specs.State.{State}

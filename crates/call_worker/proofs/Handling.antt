@@ -1,5 +1,5 @@
 -- What a controller's answer says of a turn.
-use Rattle.std.proofs.Common.{◌≡◌, ◌⊎◌, ℕ, inl, inr, List, [], ◌++◌, Bool, true, false, refl, ap, sym, ◌∙◌}
+use Rattle.std.proofs.Common.{◌≡◌, ◌⊎◌, ℕ, inl, inr, List, [], Bool, false, refl, ap, sym, ◌∙◌}
 use Rattle.std.proofs.lemmas.List.{append-nil}
 use Rattle.cell_table.specs.Site.{SiteView}
 use Rattle.ho_procedure.specs.declared.exchange.Inbound.{Inbound}
