@@ -84,14 +84,6 @@ only_free (Pending c) h = let wrong = h (λ e. cc) in cc
 only_free (On c) h = let wrong = h (λ e. cc) in cc
 only_free Off h = let wrong = h (λ e. cc) in cc
 
--- what isn't that of a free channel is the state
-pub busy_itself : (s : ChanState) → s ≢ Free → busy s ≡ Some s
-busy_itself Free h = absurd (h refl)
-busy_itself (Held c) h = refl
-busy_itself (Pending c) h = refl
-busy_itself (On c) h = refl
-busy_itself Off h = refl
-
 -- ---- places
 
 pub within_told : (x : ChanId) → is_within x ≡ true → IsWithinLimits x
