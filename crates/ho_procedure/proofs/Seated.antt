@@ -49,17 +49,16 @@ take_opens d d' X Y (Ok None) judged none same = (none refl).0.opening
 take_opens d d' X Y (Err f) judged none same = same.0.opening
 
 pub take_chooses : (d d' : DeskState) (c : ℕ) (kind : Kind) (cell : ℕ) (rate : Rate) (X : Type 0) (result : Result (Option Receipt) DeskFault)
-    → Leads d.opening d.history d.book → (result ≡ Ok None → free.NoneFree d.book cell rate) → (result ≡ Ok None → IsSameDesk d d' × X)
+    → Leads d.opening d.history d.book → (result ≡ Ok None → free.NoneFreeAt d.book cell rate) → (result ≡ Ok None → IsSameDesk d d' × X)
     → IfOk result (λ answer. IfSome answer (λ r. TakesFree d.book c kind cell rate r.event)) → IfOk result (λ answer. IfSome answer (λ r. IsJudged d r d'))
     → IfOk result (λ answer. MatchOption answer ((d'.history ≡ d.history) × IsTrueAfter d.opening d.history (NoneFree cell rate)) (λ r. ((x : ChanId) × (x.cell ≡ cell) × (rate_of x.sub ≡ rate) × (r.event ≡ Take c kind x)) × IsTrueAfter d.opening d.history (Chosen r.event) × (d'.history ≡ d.history ++ (r.event, r.reply) ∷ [])))
 take_chooses d d' c kind cell rate X (Err f) legal none same takes judged = tt
 take_chooses d d' c kind cell rate X (Ok None) legal none same takes judged = ((same refl).0.history, (d.book, legal, none refl))
 take_chooses d d' c kind cell rate X (Ok (Some r)) legal none same takes judged =
     let x = takes.0 in
-    let here : IsFreeIn d.book x.cell rate x = subst (λ k. IsFreeIn d.book k rate x) (sym takes.1.in_cell) takes.1 in
-    let rated : IsFreeIn d.book x.cell (rate_of x.sub) x = subst (λ k. IsFreeIn d.book x.cell k x) (sym takes.1.at_rate) here in
-    let there : IsThere d.book r.event = subst (λ e. IsThere d.book e) (sym takes.2) rated in
-    ((x, takes.1.in_cell, takes.1.at_rate, takes.2), (d.book, legal, there), judged.history)
+    let here : IsFreeIn d.book x.cell x = subst (λ k. IsFreeIn d.book k x) (sym takes.1.free.in_cell) takes.1.free in
+    let there : IsThere d.book r.event = subst (λ e. IsThere d.book e) (sym takes.2) here in
+    ((x, takes.1.free.in_cell, takes.1.rate, takes.2), (d.book, legal, there), judged.history)
 
 pub reserve_chooses : (d d' : DeskState) (c : ℕ) (result : Result Receipt DeskFault)
     → Leads d.opening d.history d.book → IfOk result (λ r. ReservesFree d.book c r.event) → IfOk result (λ r. IsJudged d r d')

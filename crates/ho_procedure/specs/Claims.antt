@@ -3,7 +3,6 @@
 -- receipt, and for which events it may be refused memory.
 use Rattle.std.specs.Prelude.{◌≡◌, ℕ, IsTrue, List}
 use Rattle.channel_fsm.specs.declared.Rate.{Rate}
-use Rattle.channel_fsm.specs.Slots.{rate_of}
 use Rattle.radio_book.specs.declared.event.Event.{Event}
 use Rattle.radio_book.specs.declared.event.Event.TheVariants.{Open, Clear, Look, Take, Reserve, Activate, Command, Complete, Undo, Confirm, Refuse, Detect, Released, Owner, Require, Order, Left}
 use Rattle.radio_book.specs.declared.event.Reply.{Reply}
@@ -32,7 +31,7 @@ pub data Claim : Type 0 where
 
 -- the book has what is chosen: the channel is free, or the number is in the cell of the taken channel
 abbrev pub IsThere : State → Event → Type 0
-IsThere b (Take c k x) = IsFreeIn b x.cell (rate_of x.sub) x
+IsThere b (Take c k x) = IsFreeIn b x.cell x
 IsThere b (Reserve c n) = MayReserve b (taken_channel (record_of b c)) n
 IsThere b (Open c x) = ⊥
 IsThere b (Clear c) = ⊥
@@ -57,7 +56,7 @@ MayLackRoom b e = IsTrue (is_owed e) → IsTrue (is_accepted (reply_to b e)) →
 -- A claim is true of the book that the entries lead to, or of the opening one, from which they lead. Where nobody else asks
 -- the desk, it knows each receipt.
 abbrev pub IsTrueAfter : State → List Entry → Claim → Type 0
-IsTrueAfter opening log (NoneFree cell rate) = (b : State) × Leads opening log b × free.NoneFree b cell rate
+IsTrueAfter opening log (NoneFree cell rate) = (b : State) × Leads opening log b × free.NoneFreeAt b cell rate
 IsTrueAfter opening log (Chosen e) = (b : State) × Leads opening log b × IsThere b e
 IsTrueAfter opening log (Opening book) = book ≡ opening
 IsTrueAfter opening log (UnknownReceipt place) = ⊥

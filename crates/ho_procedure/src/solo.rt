@@ -100,7 +100,7 @@ impl<A: Allocator + Copy> DeskView for Solo<A> {
         ensures err { OnErr result (self.new.history ≡ self.old.history) }
         ensures foreign { IfErr result (λ f. (place : ℕ) → IsForeign f place →
             IsTrueAfter self.old.opening self.old.history (UnknownReceipt place)) }
-        ensures looked { free.NoneFree self.old.book cell rate → result ≡ Ok None }
+        ensures looked { free.NoneFreeAt self.old.book cell rate → result ≡ Ok None }
         ensures refused { result ≡ Err DeskFault.NoMemory → LacksRoom self.old ⊎
             ((e : Event) × TakesFree self.old.book call kind cell rate e ×
             NeedsRoom self.old.book (row self.old.book e)) }
