@@ -306,17 +306,17 @@ cell_count site limits cell c at =
     let few = (got IsCell site.cells cell c limits.within.each_cell at).trx_count.1 in
     flat_count (is_traffic site) (numbered_channels cell) (range_with_len 0 most_trx) ∙ sizes site limits cell c at most_trx ∙ ap (sum_by trx_size) (take_all most_trx c.trx few)
 
+no_numbers : (site : SiteView) (cell trx : ℕ) → slice_get site.cells cell ≡ None → numbers site cell trx ≡ []
+unfolding numbers
+no_numbers site cell trx at = ap (λ o. unwrap_or (option_map numbers_of (option_and_then (λ (d : CellView). slice_get d.trx trx) o)) []) at
+
 no_cell_count : (site : SiteView) → IsSite site → (cell : ℕ) → slice_get site.cells cell ≡ None → count_by (is_traffic site) (cell_channels cell) ≡ 0
 unfolding cell_channels
 no_cell_count site limits cell at =
     flat_count (is_traffic site) (numbered_channels cell) (range_with_len 0 most_trx) ∙ rw (empty 0, empty 1, empty 2, empty 3) refl
   where
-    no_numbers : (trx : ℕ) → numbers site cell trx ≡ []
-    unfolding numbers
-    no_numbers trx = ap (λ o. unwrap_or (option_map numbers_of (option_and_then (λ (d : CellView). slice_get d.trx trx) o)) []) at
-
     empty : (trx : ℕ) → count_by (is_traffic site) (numbered_channels cell trx) ≡ 0
-    empty trx = trx_count site limits cell trx ∙ ap length (no_numbers trx)
+    empty trx = trx_count site limits cell trx ∙ ap length (no_numbers site cell trx at)
 
 cells_count : (site : SiteView) → IsSite site → (n : ℕ) → sum_by (λ cell. count_by (is_traffic site) (cell_channels cell)) (range_with_len 0 n) ≡ sum_by cell_size (take n site.cells)
 cells_count site limits n =

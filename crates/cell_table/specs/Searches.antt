@@ -108,8 +108,12 @@ has_pair alike (x ∷ xs) = list_any (alike x) xs || has_pair alike xs
 abbrev pub has_carrier_pair : CellView → Bool
 has_carrier_pair c = has_pair (λ s t. t.arfcn == s.arfcn) c.trx
 
+-- a TRX has one timeslot twice, among those for traffic or among those that also carry halves
+abbrev pub slot_pair : TrxView → Bool
+slot_pair t = has_pair (λ m n. n == m) t.tch || has_pair (λ m n. n == m) t.half
+
 abbrev pub has_slot_pair : CellView → Bool
-has_slot_pair c = list_any (λ t. has_pair (λ m n. n == m) t.tch || has_pair (λ m n. n == m) t.half) c.trx
+has_slot_pair c = list_any slot_pair c.trx
 
 abbrev pub has_neighbour_pair : CellView → Bool
 has_neighbour_pair c = has_pair (λ m n. n == m) c.ba

@@ -105,8 +105,15 @@ fn part_at(sub: Sub, trx: &Trx, slots: &[u8], place: usize) -> Option<u8>
 {
     slots
         .iter()
-        .find(|tn| slots_before(number_of(**tn, sub), trx) == place)
+        .find(|tn| has_place(sub, trx, **tn, place))
         .copied()
+}
+
+/// Whether the channel with this part of a timeslot has a place among the traffic channels of a TRX.
+fn has_place(sub: Sub, trx: &Trx, tn: u8, place: usize) -> bool
+    ensures value { result ≡ (slots_before (number_of tn sub) trx.now == place) }
+{
+    slots_before(number_of(tn, sub), trx) == place
 }
 
 /// The channel that has a place among the traffic channels of a TRX of a cell.

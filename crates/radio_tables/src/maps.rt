@@ -97,7 +97,7 @@ impl<A: Allocator + Copy> MapTables<A> {
     fn is_in_way(&self, x: ChanId, sub: Sub) -> bool
         ensures { result ≡ (needs x.sub sub && is_used (state_of self.now (record x { sub = sub }))) }
     {
-        x.sub.needs(sub) && !matches!(self.state_of(x.part(sub)), ChanState::Free)
+        x.sub.needs(sub) && self.state_of(x.part(sub)).is_used()
     }
 
     fn is_free_traffic(&self, x: ChanId) -> bool

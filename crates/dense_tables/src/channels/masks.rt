@@ -80,7 +80,7 @@ fn is_used<A: Allocator>(places: &Vec<Option<u16>, A>, states: &Vec<ChanState, A
     ensures { result ≡ is_used (state_by places.now.items states.now.items x) }
 {
     match place_in(places, x) {
-        Some(place) => !matches!(states[place], ChanState::Free),
+        Some(place) => states[place].is_used(),
         None => false,
     }
 }

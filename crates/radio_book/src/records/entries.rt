@@ -49,7 +49,7 @@ impl<T: Tables> Records<T> {
     fn is_in_way(&self, x: ChanId, sub: Sub) -> bool
         ensures { result ≡ (needs x.sub sub && is_used (state_of self.now (record x { sub = sub }))) }
     {
-        x.sub.needs(sub) && !matches!(self.state_of(x.part(sub)), ChanState::Free)
+        x.sub.needs(sub) && self.state_of(x.part(sub)).is_used()
     }
 
     /// The first channel in the way of one, the whole timeslot before its halves: that one, or what conflicts with it.
