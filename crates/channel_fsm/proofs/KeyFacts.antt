@@ -1,14 +1,19 @@
 -- The test of channels tells one; their order is total, and channels that tie are one.
 use Rattle.std.proofs.Common.{◌≡◌, ◌≢◌, ◌==◌, ◌&&◌, ℕ, zero, suc, true, false, refl, sym, ap, ◌∙◌}
 use Rattle.std.proofs.lemmas.Bool.{eq-eqb, eqb-true, and_from, and_parts}
+use Rattle.std.specs.Bool.{Decides}
+use Rattle.std.proofs.lemmas.Bool.Decides.{Decides-and, Decides-like, same_from_decides}
+use denote.Enum.Bare.{same_true, true_same}
 use Rattle.std.specs.Ordering.{nat_cmp}
-use Rattle.std.specs.Cmp.{IsTotalOrder, nat_cmp_total}
+use Rattle.std.specs.Cmp.{IsTotalOrder, nat_cmp_total, unsigned_Decides}
 use Rattle.std.specs.FinMap.{IsAntisymmetric}
 use Rattle.std.proofs.lemmas.Cmp.{on_total, then_total}
 use Rattle.std.proofs.lemmas.Map.Lookups.{exact_pairs, exact_unsigned}
 use Rattle.channel_fsm.specs.declared.Sub.{Sub}
 use Rattle.channel_fsm.specs.declared.Sub.TheVariants.{Full, Half0, Half1}
 use Rattle.channel_fsm.specs.declared.ChanId.{ChanId}
+use Rattle.channel_fsm.specs.contracts.Sub.{the_type as sub_type}
+use Rattle.channel_fsm.specs.contracts.ChanIdPartialEq.TheImpl.{eq-value as chan_eq}
 use Rattle.channel_fsm.specs.Keys.{sub_number, chan_cmp, same_chan}
 
 -- the part of a timeslot that has a number
@@ -59,3 +64,17 @@ other_chan x y apart =
       | true ↦ λ e. absurd (apart (one_chan x y e))
       | false ↦ λ e. refl
     ] refl
+
+pub same_chan-Decides : (x y : ChanId) → Decides (same_chan x y) (x ≡ y)
+same_chan-Decides x y = (one_chan x y, λ e. ap (same_chan x) (sym e) ∙ same_chan_itself x)
+
+-- so does `==` of the code
+pub chan_eq-Decides : (x y : ChanId) → Decides (chan_eq.it x y) (x ≡ y)
+chan_eq-Decides x y =
+    Decides-like (chan_eq.it x y) (λ p i. record { cell = p.0 i; trx = p.1.0 i; tn = p.1.1.0 i; sub = p.1.1.1 i })
+    (λ e. (ap (λ z. z.cell) e, (ap (λ z. z.trx) e, (ap (λ z. z.tn) e, ap (λ z. z.sub) e))))
+    (Decides-and _ _ (unsigned_Decides x.cell y.cell) (Decides-and _ _ (unsigned_Decides x.trx y.trx)
+    (Decides-and _ _ (unsigned_Decides x.tn y.tn) (same_true sub_type tt x.sub y.sub, true_same sub_type x.sub y.sub))))
+
+pub chan_eq_same : (x y : ChanId) → chan_eq.it x y ≡ same_chan x y
+chan_eq_same x y = same_from_decides (chan_eq.it x y) (same_chan x y) (chan_eq-Decides x y) (same_chan-Decides x y)

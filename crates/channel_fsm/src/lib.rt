@@ -160,6 +160,20 @@ pub enum ChanState {
     Off,
 }
 
+impl ChanState {
+    ghost use Rattle.channel_fsm.specs.Slots.{is_used};
+
+    /// Whether a channel in this state is in use: it isn't free.
+    pub fn is_used(self) -> bool
+        ensures value { result ≡ is_used self }
+    {
+        match self {
+            Free => false,
+            Held(_) | Pending(_) | On(_) | Off => true,
+        }
+    }
+}
+
 /// What happens to a channel.
 #[derive(Clone, Copy, Debug, PartialEq, Eq)]
 pub enum ChanEvent {
