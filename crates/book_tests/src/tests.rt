@@ -1,6 +1,7 @@
 mod audits;
 mod both_tables;
 mod choices;
+mod courses;
 mod desk;
 mod desk_memory;
 mod foreign;
