@@ -16,7 +16,7 @@ returns-in_err-tch c =
 
 pub returns-in_err-half : goal.returns-in_err-half
 returns-in_err-half c =
-    let p = err_from_is_err_and c.from_residual.result c.from_residual.ensures.1 in
+    let p = err_from_is_err_and c.from_residual-in_err-half.result c.from_residual-in_err-half.ensures.1 in
     let told : first_nine (each (λ place. number_of key.Tch c.args.range) 0 (map view c.args.slots.now)) ≡ Ok c.in_ok-tch.tch.items = search rules in
     record { read = rw p.1 (sym (halves_refused c.args.arfcn c.args.range (map view c.args.slots.now) (view c.args.trx.now) c.in_ok-tch.tch.items _ told (search rules))) }
 
