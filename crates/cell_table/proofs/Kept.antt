@@ -14,7 +14,7 @@ use Rattle.cell_table.specs.Site.{TrxView, CellView, SiteView, IsCell}
 use Rattle.cell_table.specs.Rules.{same_codes, same_colour, identities, has_no_traffic, first_broken, unbroken, checked}
 use Rattle.cell_table.specs.Searches.{has_pair, has_carrier_pair, slot_pair, has_slot_pair, has_neighbour_pair, broken_by_pairs}
 use Rattle.cell_table.specs.SiteFile.{Read, ◌>>=◌, value_at, number_of, number_within, number_at, array_of, tables_of, each, key_name, handover_at, identity_of, ba_of, tch_of, half_of, trx_of, all_trx_of, cell_of, cells_of, outside_of, site_of}
-use Rattle.cell_table.specs.Kept.{kept_slots, kept_trx, kept_trx_list, kept_cell, kept_cells, kept_site}
+use Rattle.cell_table.specs.Kept.{trx_by, kept_slots, kept_trx, kept_trx_list, kept_cell, kept_cells, kept_site}
 use Rattle.cell_table.proofs.Each.{finished}
 use Rattle.cell_table.proofs.Twice.{found_by_pairs}
 use Rattle.cell_table.proofs.Nine.{few_once}

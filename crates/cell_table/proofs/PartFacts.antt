@@ -71,7 +71,7 @@ whole n = omega arith
 below_three : (n : ℕ) → n % 3 < 3
 below_three n = omega arith
 
-number_channel : (cell trx n : ℕ) → number (channel cell trx n) ≡ n
+pub number_channel : (cell trx n : ℕ) → number (channel cell trx n) ≡ n
 number_channel cell trx n = ap (λ r. n / 3 * 3 + r) (number_part (n % 3) (below_three n)) ∙ whole n
 
 -- the number of a channel within the limits is one of a TRX's

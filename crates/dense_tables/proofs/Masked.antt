@@ -1,5 +1,5 @@
 -- What the masks say of a cell's channels: which can be chosen, and how many.
-use Rattle.std.proofs.Common.{◌≡◌, ◌≢◌, ◌&&◌, ◌++◌, ◌⊎◌, ◌+◌, ◌*◌, ◌<◌, ◌≤◌, nat_lt, ℕ, zero, suc, Bool, true, false, cond, List, [], ◌∷◌, length, get_or, flat_map, count_by, Option, Some, None, IfSome, IfNone, is_some, is_none, refl, sym, ap, ◌∙◌, subst, inl, inr, not, arith}
+use Rattle.std.proofs.Common.{◌≡◌, ◌≢◌, ◌&&◌, ◌++◌, ◌⊎◌, ◌+◌, ◌*◌, ◌<◌, ◌≤◌, nat_lt, ℕ, zero, suc, Bool, true, false, cond, List, [], ◌∷◌, length, get_or, flat_map, count_by, Option, Some, None, IfSome, IfNone, is_some, is_none, refl, sym, ap, ◌∙◌, subst, zero-add, inl, inr, not, arith}
 use Rattle.std.specs.List.{range_with_len, AllByRecursion}
 use Rattle.std.proofs.lemmas.Bool.{and_parts, and_from, and_left, cases_Bool, false≢true, false_from_ne_true}
 use Rattle.std.proofs.lemmas.Bool.Decides.{nat_tests}
@@ -323,7 +323,7 @@ masks_count site states masks are cell small =
 
 no_count : (xs : List ChanId) → count_by (λ x. false) xs ≡ 0
 no_count [] = refl
-no_count (x ∷ xs) = sum_by-cons (λ y. 0) x xs ∙ no_count xs
+no_count (x ∷ xs) = sum_by-cons (λ y. 0) x xs ∙ zero-add (count_by (λ y. false) xs) ∙ no_count xs
 
 pub count_beyond : (c : Channels) (cell : ℕ) → TrafficLiesWithin c.site → 64 ≤ cell → 0 ≡ free_count c cell
 count_beyond c cell lies beyond =

@@ -1,6 +1,6 @@
 -- What is kept of calls: a slot for each, which is found by a key under the call's number. A key counts where the slot under
 -- it has that number, so keys of calls that are gone may stand. Ours, of no standard.
-use Rattle.std.specs.Prelude.{◌≡◌, ◌==◌, ℕ, zero, suc, true, is_some, cond, List, [], ◌∷◌, length, Option, Some, None, slice_get, slice_index_or, option_and_then}
+use Rattle.std.specs.Prelude.{⊤, ◌≡◌, ◌==◌, ℕ, zero, suc, true, is_some, cond, List, [], ◌∷◌, length, Option, Some, None, slice_get, slice_index_or, option_and_then}
 use Rattle.std.specs.Ordering.{nat_cmp}
 use Rattle.std.specs.FinMap as map
 use Rattle.dense_tables.specs.declared.calls.Slot.{Slot}

@@ -50,9 +50,9 @@ pub record IsFreeIn (c : Channels) (cell : ℕ) (x : ChanId) : Type 0 where
   pub is_free : first_in_way (state_of c) x ≡ None
 
 -- the same at a rate (TS 45.002 clause 3.2)
-pub record IsFreeAt (c : Channels) (cell : ℕ) (rate : Rate) (x : ChanId) : Type 0 where
+pub record IsFreeAt (c : Channels) (cell : ℕ) (asked : Rate) (x : ChanId) : Type 0 where
   pub free : IsFreeIn c cell x
-  pub rate : rate_of x.sub ≡ rate
+  pub rate : rate_of x.sub ≡ asked
 
 abbrev pub NoneFreeAt : Channels → ℕ → Rate → Type 0
 NoneFreeAt c cell rate = (x : ChanId) → IsFreeAt c cell rate x → ⊥
@@ -146,15 +146,15 @@ pub record IsMasked (masks : List ℕ) (cell : ℕ) (x : ChanId) : Type 0 where
   pub there : mask_at masks x ≡ true
 
 -- the same at a rate
-pub record IsMaskedAt (masks : List ℕ) (cell : ℕ) (rate : Rate) (x : ChanId) : Type 0 where
+pub record IsMaskedAt (masks : List ℕ) (cell : ℕ) (asked : Rate) (x : ChanId) : Type 0 where
   pub masked : IsMasked masks cell x
-  pub rate : rate_of x.sub ≡ rate
+  pub rate : rate_of x.sub ≡ asked
 
 -- the same of a TRX, with this part of a timeslot
-pub record IsMaskedWith (masks : List ℕ) (cell trx : ℕ) (sub : Sub) (x : ChanId) : Type 0 where
+pub record IsMaskedWith (masks : List ℕ) (cell of_trx : ℕ) (part : Sub) (x : ChanId) : Type 0 where
   pub masked : IsMasked masks cell x
-  pub trx : x.trx ≡ trx
-  pub sub : x.sub ≡ sub
+  pub trx : x.trx ≡ of_trx
+  pub sub : x.sub ≡ part
 
 -- and none of those has a lower timeslot
 pub record IsFirstWith (masks : List ℕ) (cell trx : ℕ) (sub : Sub) (x : ChanId) : Type 0 where
@@ -162,10 +162,10 @@ pub record IsFirstWith (masks : List ℕ) (cell trx : ℕ) (sub : Sub) (x : Chan
   pub first : (y : ChanId) → IsMaskedWith masks cell trx sub y → x.tn ≤ y.tn
 
 -- the same at a rate: none stands before it by timeslot, then half
-pub record IsFirstAt (masks : List ℕ) (cell trx : ℕ) (rate : Rate) (x : ChanId) : Type 0 where
-  pub there : IsMaskedAt masks cell rate x
-  pub trx : x.trx ≡ trx
-  pub first : (y : ChanId) → IsMaskedAt masks cell rate y → y.trx ≡ trx → number_in x ≤ number_in y
+pub record IsFirstAt (masks : List ℕ) (cell of_trx : ℕ) (asked : Rate) (x : ChanId) : Type 0 where
+  pub there : IsMaskedAt masks cell asked x
+  pub trx : x.trx ≡ of_trx
+  pub first : (y : ChanId) → IsMaskedAt masks cell asked y → y.trx ≡ of_trx → number_in x ≤ number_in y
 
 -- of two channels the one with the lower timeslot; of one timeslot, the first
 abbrev pub lower_of : Option ChanId → Option ChanId → Option ChanId

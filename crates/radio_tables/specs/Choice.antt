@@ -20,9 +20,9 @@ pub record IsFreeIn (b : State) (cell : ℕ) (x : ChanId) : Type 0 where
   pub is_free : in_way b x ≡ None
 
 -- the same at a rate (TS 45.002 clause 3.2)
-pub record IsFreeAt (b : State) (cell : ℕ) (rate : Rate) (x : ChanId) : Type 0 where
+pub record IsFreeAt (b : State) (cell : ℕ) (asked : Rate) (x : ChanId) : Type 0 where
   pub free : IsFreeIn b cell x
-  pub rate : rate_of x.sub ≡ rate
+  pub rate : rate_of x.sub ≡ asked
 
 abbrev pub NoneFree : State → ℕ → Type 0
 NoneFree b cell = (x : ChanId) → IsFreeIn b cell x → ⊥
