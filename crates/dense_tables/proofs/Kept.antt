@@ -11,7 +11,7 @@ use Rattle.dense_tables.specs.declared.calls.Slot.{Slot}
 use Rattle.dense_tables.specs.Maps.{put, Covers}
 use Rattle.dense_tables.specs.Calls.{below, kept_in, entry_at, entries_of, AgreesAt}
 use Rattle.dense_tables.proofs.MapFacts.{put_again, len_put, one_if_some, same_by_part}
-use Rattle.dense_tables.proofs.Listed.{get_listed, listed_put, listed_empty, listed_same, len_listed, past_below, length_below}
+use Rattle.dense_tables.proofs.Listed.{get_listed, listed_put, listed_empty, len_listed, past_below, length_below}
 
 pub covers : {E : Type 0} (keys : List ℕ) (slots : List (Option (Slot E))) → Covers nat_cmp (below (length keys)) (entry_at keys slots)
 unfolding entry_at
@@ -137,7 +137,7 @@ no_entries keys = listed_empty nat_cmp_total nat_cmp-IsAntisymmetric (below (len
 -- a table agrees with itself
 pub alike : {E : Type 0} (m : map.FinMap nat_cmp E) (o : Option (Slot E)) → AgreesAt m m o
 alike m None = tt
-alike m (Some s) some = refl
+alike m (Some s) = λ some. refl
 
 -- tables that keep something of as many calls are the same, where they agree at each slot of the one
 module _ {E : Type 0} (keys later : List ℕ) (old new : List (Option (Slot E))) (each : (j : ℕ) → AgreesAt (entries_of keys old) (entries_of later new) (get_or old j None)) where

@@ -1,9 +1,8 @@
 -- What the masks say of a cell's channels: which can be chosen, and how many.
 use Rattle.std.proofs.Common.{◌≡◌, ◌≢◌, ◌&&◌, ◌++◌, ◌⊎◌, ◌+◌, ◌*◌, ◌<◌, ◌≤◌, nat_lt, ℕ, zero, suc, Bool, true, false, cond, List, [], ◌∷◌, length, get_or, flat_map, count_by, Option, Some, None, IfSome, IfNone, is_some, is_none, refl, sym, ap, ◌∙◌, subst, zero-add, inl, inr, not, arith}
 use Rattle.std.specs.List.{range_with_len, AllByRecursion}
-use Rattle.std.proofs.lemmas.Bool.{and_parts, and_from, and_left, cases_Bool, false≢true, false_from_ne_true}
+use Rattle.std.proofs.lemmas.Bool.{and_parts, and_from, and_left, false≢true, false_from_ne_true}
 use Rattle.std.proofs.lemmas.Bool.Decides.{nat_tests}
-use Rattle.std.proofs.lemmas.List.{get_or_read}
 use Rattle.std.proofs.lemmas.List.Concat.{flat_map-cons}
 use Rattle.std.proofs.lemmas.List.Sums.{sum_by-cons, sum_by-append}
 use Rattle.channel_fsm.specs.declared.Rate.{Rate}
@@ -15,9 +14,9 @@ use Rattle.channel_fsm.specs.declared.ChanState.{ChanState}
 use Rattle.channel_fsm.specs.Keys.{sub_number}
 use Rattle.channel_fsm.specs.Slots.{rate_of, is_used, first_in_way}
 use Rattle.channel_fsm.specs.Masks.{has, timeslots}
-use Rattle.cell_table.specs.Site.{SiteView, TrafficLiesWithin, IsWithinLimits, is_traffic, parts_of, trx_channels}
-use Rattle.dense_tables.specs.Channels.{Channels, or_free, state_of, IsFreeIn, IsFreeAt, NoneFreeAt, number_in, is_free_traffic, channels_of, free_count, state_at, states_of, place_at, state_by, is_free_by, is_part_free, mask_at, AreMasks, IsMasked, IsMaskedAt, IsMaskedWith, IsFirstWith, IsFirstAt, lower_of, IsNoLater}
-use Rattle.dense_tables.proofs.Stated.{get_state, sub_small}
+use Rattle.cell_table.specs.Site.{SiteView, TrafficLiesWithin, is_traffic, parts_of, trx_channels}
+use Rattle.dense_tables.specs.Channels.{Channels, or_free, state_of, IsFreeIn, IsFreeAt, NoneFreeAt, is_free_traffic, channels_of, free_count, state_at, states_of, place_at, state_by, is_free_by, is_part_free, mask_at, AreMasks, IsMasked, IsMaskedAt, IsMaskedWith, IsFirstWith, IsFirstAt, lower_of, IsNoLater}
+use Rattle.dense_tables.proofs.Stated.{get_state}
 
 none_there : {X : Type 0} (o : Option X) → is_none o ≡ true → o ≡ None
 none_there None e = refl
@@ -162,9 +161,10 @@ module _ (masks : List ℕ) (cell trx : ℕ) where
             omega (arith, no_later, numbers)
         | inr half ↦
             let no_later = upper.first y (record { masked = at.masked; trx = there; sub = half }) in
-            let mine : sub_number x.sub ≡ 0 = ap sub_number lower.there.sub in
+            let mine : sub_number x.sub ≡ 1 = ap sub_number lower.there.sub in
+            let other : sub_number y.sub ≡ 2 = ap sub_number half in
             let order : x.tn ≤ z.tn = least z.tn x.tn test in
-            omega (arith, no_later, mine, order)
+            omega (arith, no_later, mine, other, order)
       ];
     }
       where
@@ -178,7 +178,7 @@ module _ (masks : List ℕ) (cell trx : ℕ) where
       first = λ y at there. elim (half_at y.sub at.rate) [
         | inl half ↦
             let no_later = lower.first y (record { masked = at.masked; trx = there; sub = half }) in
-            let mine : sub_number z.sub ≡ 1 + 1 = ap sub_number upper.there.sub in
+            let mine : sub_number z.sub ≡ 2 = ap sub_number upper.there.sub in
             let order : z.tn < x.tn = less z.tn x.tn test in
             omega (arith, no_later, mine, order)
         | inr half ↦

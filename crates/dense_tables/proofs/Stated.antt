@@ -1,5 +1,5 @@
 -- The states of channels, by their places at the site.
-use Rattle.std.proofs.Common.{◌≡◌, ◌≢◌, inl, inr, ◌&&◌, not, ◌+◌, ◌*◌, ◌/◌, ◌%◌, ◌<◌, ◌≤◌, nat_lt, ℕ, Bool, true, false, cond, List, length, get_or, set, Option, Some, None, is_some, is_none, option_and_then, refl, sym, ap, ◌∙◌, subst, arith}
+use Rattle.std.proofs.Common.{◌≡◌, ◌≢◌, inl, inr, ◌&&◌, ◌+◌, ◌*◌, ◌/◌, ◌%◌, ◌<◌, ◌≤◌, nat_lt, ℕ, Bool, true, false, cond, List, length, get_or, set, Option, Some, None, is_some, is_none, option_and_then, refl, sym, ap, ◌∙◌, subst, arith}
 use Rattle.std.specs.Ordering.{eq_by_cmp}
 use Rattle.std.specs.FinMap as map
 use Rattle.std.specs.FinMap.{same_map}
@@ -13,12 +13,12 @@ use Rattle.channel_fsm.specs.declared.ChanState.TheVariants.{Free, Held, Pending
 use Rattle.channel_fsm.specs.declared.Sub.{Sub}
 use Rattle.channel_fsm.specs.declared.Sub.TheVariants.{Full, Half0, Half1}
 use Rattle.channel_fsm.specs.Keys.{sub_number, same_chan}
-use Rattle.channel_fsm.specs.Slots.{first_in_way}
-use Rattle.channel_fsm.proofs.WayFacts.{way_same, none_used_in_way}
+use Rattle.channel_fsm.specs.Slots.{is_used, first_in_way}
+use Rattle.channel_fsm.proofs.WayFacts.{way_same, way_used, none_used_in_way}
 use Rattle.cell_table.specs.Site.{SiteView, IsSite, IsWithinLimits, TrafficLiesWithin, is_traffic, channels, index_of}
 use Rattle.dense_tables.specs.Keys.{chan_cmp}
 use Rattle.dense_tables.specs.Maps.{put, Covers}
-use Rattle.dense_tables.specs.Channels.{busy, state_at, states_of, or_free, number_of, sub_at, channel_at, is_within, place_at, ArePlaces, mask_at, is_free_at, state_by, is_free_by, AreMasks}
+use Rattle.dense_tables.specs.Channels.{busy, state_at, states_of, or_free, number_of, sub_at, channel_at, is_within, ArePlaces, mask_at, is_free_at, is_free_by, AreMasks}
 use Rattle.dense_tables.proofs.KeyFacts.{chan_total, chan_exact, one_chan}
 use Rattle.dense_tables.proofs.MapFacts.{ties_itself, key_cases, put_again, len_put, one_if_some}
 use Rattle.dense_tables.proofs.Listed.{get_listed, listed_put, listed_empty, len_listed}
@@ -66,6 +66,21 @@ pub count_written : (site : SiteView) (states : List ChanState) (x : ChanId) (pl
 count_written site states x place s within at =
     (λ i. map.len (state_written site states x place s within at i) + one_if_some (sym (get_state site states x ∙ ap (there states) at) i))
     ∙ len_put chan_total (states_of site states) x (busy s)
+
+-- a state that isn't that of a free channel
+pub busy_itself : (s : ChanState) → s ≢ Free → busy s ≡ Some s
+busy_itself Free used = absurd (used refl)
+busy_itself (Held c) used = refl
+busy_itself (Pending c) used = refl
+busy_itself (On c) used = refl
+busy_itself Off used = refl
+
+used_told : (s : ChanState) → is_used (or_free (busy s)) ≡ is_some (busy s)
+used_told Free = refl
+used_told (Held c) = refl
+used_told (Pending c) = refl
+used_told (On c) = refl
+used_told Off = refl
 
 -- a channel without a place is free, and stays so
 pub state_absent : (site : SiteView) (states : List ChanState) (x : ChanId) → index_of site x ≡ None → put (states_of site states) x None ≡ states_of site states
@@ -179,6 +194,23 @@ masks_written site is states places masks later x place s noted are at written o
           let other : (t : Sub) → record y { sub = t } ≢ x = λ t e. apart (λ i. record { cell = (sym e i).cell; trx = (sym e i).trx; tn = (sym e i).tn; sub = y.sub }) in
           others y inside away ∙ are y inside
           ∙ sym (way_alike site states (set states place s) y (λ t. state_other site states x (record y { sub = t }) place s at (other t)))
+    ]
+
+-- they stay where a channel that isn't free gets another state that isn't that of a free one
+pub masks_kept : (site : SiteView) (states : List ChanState) (masks : List ℕ) (x : ChanId) (place : ℕ) (s : ChanState) → place < length states → index_of site x ≡ Some place
+    → is_some (state_at site states x) ≡ true → is_some (busy s) ≡ true → AreMasks site states masks → AreMasks site (set states place s) masks
+masks_kept site states masks x place s within at was is are y inside =
+    are y inside
+    ∙ sym (ap (λ o. is_traffic site y && is_none o)
+    (way_used (λ z. or_free (state_at site (set states place s) z)) (λ z. or_free (state_at site states z)) y (λ t. in_use (record y { sub = t }))))
+  where
+    in_use : (z : ChanId) → is_used (or_free (state_at site (set states place s) z)) ≡ is_used (or_free (state_at site states z))
+    in_use z = elim (key_cases chan_total chan_exact z x) [
+      | inl same ↦
+          ap (λ q. is_used (or_free (state_at site (set states place s) q))) same ∙ ap (λ o. is_used (or_free o)) (state_same site states x place s within at) ∙ used_told s ∙ is
+          ∙ sym (ap (λ q. is_used (or_free (state_at site states q))) same ∙ ap (λ o. is_used (or_free (there states o))) at ∙ used_told (get_or states place Free)
+          ∙ sym (ap (λ o. is_some (there states o)) at) ∙ was)
+      | inr other ↦ ap (λ o. is_used (or_free o)) (state_other site states x z place s at other)
     ]
 
 -- masks of all traffic channels, where each is free

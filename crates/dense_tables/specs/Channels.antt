@@ -1,5 +1,5 @@
 -- The states of a site's channels (TS 48.058 clause 4), and what the places of their tables say.
-use Rattle.std.specs.Prelude.{◌≡◌, ◌==◌, ◌<◌, ◌≤◌, ◌+◌, ◌*◌, ◌/◌, ◌%◌, ◌&&◌, ◌⊎◌, ℕ, Bool, true, false, not, nat_lt, if◌then◌else◌, List, length, flat_map, count_by, Option, Some, None, is_some, is_none, option_and_then, slice_index_or, refl}
+use Rattle.std.specs.Prelude.{◌≡◌, ◌==◌, ◌<◌, ◌≤◌, ◌+◌, ◌*◌, ◌/◌, ◌%◌, ◌&&◌, ◌⊎◌, ℕ, Bool, true, not, nat_lt, if◌then◌else◌, List, length, flat_map, count_by, Option, Some, None, is_some, is_none, option_and_then, slice_index_or, refl}
 use Rattle.std.specs.List.{range_with_len}
 use Rattle.std.specs.Coded.{Coded, code_by, coded×}
 use Rattle.std.specs.FinMap as map

@@ -74,7 +74,11 @@ fn set_mask<A: Allocator>(masks: &mut Vec<FreeMask, A>, x: ChanId, free: bool)
 }
 
 /// Whether a channel is in use.
-fn is_used<A: Allocator>(places: &Vec<Option<u16>, A>, states: &Vec<ChanState, A>, x: ChanId) -> bool
+fn is_used<A: Allocator>(
+    places: &Vec<Option<u16>, A>,
+    states: &Vec<ChanState, A>,
+    x: ChanId,
+) -> bool
     requires places { length places.now.items ≡ 6144 }
     requires states { IfSome (place_at places.now.items x) (λ place. place < length states.now.items) }
     ensures { result ≡ is_used (state_by places.now.items states.now.items x) }

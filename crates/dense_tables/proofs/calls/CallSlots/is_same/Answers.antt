@@ -1,5 +1,4 @@
-use Rattle.std.proofs.Common.{get_or, None, sym, ap, ◌∙◌, subst}
-use Rattle.std.specs.FinMap as map
+use Rattle.std.proofs.Common.{get_or, None, sym, ◌∙◌, subst}
 use Rattle.dense_tables.specs.Calls.{entries_of, AgreesAt}
 use Rattle.dense_tables.proofs.Kept.{alike, slots_same}
 use Rattle.dense_tables.proofs.calls.CallSlots.is_same.Goals as goal

@@ -1,12 +1,10 @@
-use Rattle.std.proofs.Common.{◌≡◌, ◌<◌, ◌&&◌, not, cond, true, ℕ, is_some, set, length, Some, refl, sym, ap, ◌∙◌, arith}
+use Rattle.std.proofs.Common.{◌≡◌, ◌<◌, cond, true, ℕ, is_some, length, Some, sym, ap, ◌∙◌, arith}
 use Rattle.std.specs.FinMap as map
 use Rattle.std.proofs.lemmas.List.{length-set}
-use Rattle.channel_fsm.specs.declared.ChanState.TheVariants.{Free}
-use Rattle.cell_table.specs.Site.{is_traffic}
 use Rattle.dense_tables.specs.Maps.{put}
 use Rattle.dense_tables.specs.Channels.{state_at, states_of, with_state}
 use Rattle.dense_tables.proofs.Found.{placed}
-use Rattle.dense_tables.proofs.Stated.{there, get_state, state_written, count_written, masks_written, busy_itself}
+use Rattle.dense_tables.proofs.Stated.{there, get_state, state_written, count_written, masks_kept, busy_itself}
 use Rattle.dense_tables.proofs.channels.ChannelStates.replace.Goals as goal
 
 pub invariant_of-self : goal.invariant_of-self
@@ -25,7 +23,6 @@ invariant_of-self g c =
     let itself = busy_itself c.args.state c.requires.busy in
     let more = ap {B = ℕ} (λ o. cond (is_some o) 1 0) itself in
     let counts = count_written site states x place c.args.state within at in
-    let free = c.self.invariant.are_masks x (c.self.invariant.lies x found.1) ∙ ap (λ b. is_traffic site x && not b) used ∙ ap (λ b. b && not true) found.1 in
     record {
       is_site = c.self.invariant.is_site;
       lies = c.self.invariant.lies;
@@ -33,8 +30,7 @@ invariant_of-self g c =
       places_long = c.self.invariant.places_long;
       masks_long = c.self.invariant.masks_long;
       are_places = c.self.invariant.are_places;
-      are_masks = masks_written site states table.masks.items table.masks.items x place c.args.state c.self.invariant.are_masks within at
-          (free ∙ sym (ap (λ o. not (is_some o)) itself)) (λ y limits apart. refl);
+      are_masks = masks_kept site states table.masks.items x place c.args.state within at used (ap is_some itself) c.self.invariant.are_masks;
       counted = omega (arith, one, more, counts, c.self.invariant.counted);
     }
 

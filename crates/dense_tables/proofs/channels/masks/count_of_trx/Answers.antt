@@ -1,4 +1,4 @@
-use Rattle.std.proofs.Common.{◌+◌, sym, ◌∙◌, arith}
+use Rattle.std.proofs.Common.{◌+◌, sym, ◌∙◌}
 use Rattle.dense_tables.specs.Channels.{mask_at}
 use Rattle.dense_tables.proofs.Masked.{by_parts}
 use Rattle.dense_tables.proofs.channels.masks.count_of_trx.Goals as goal

@@ -1,4 +1,4 @@
-use Rattle.std.proofs.Common.{◌≡◌, ◌<◌, ◌⊎◌, ℕ, inl, inr, sym, arith}
+use Rattle.std.proofs.Common.{inl, inr, sym, arith}
 use Rattle.std.proofs.lemmas.Bool.{cases_order, cases_eq}
 use Rattle.dense_tables.proofs.channels.masks.lowest_in.Goals as goal
 

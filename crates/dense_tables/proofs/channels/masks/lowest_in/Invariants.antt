@@ -1,4 +1,4 @@
-use Rattle.std.proofs.Common.{◌≡◌, ◌<◌, ℕ}
+use Rattle.std.proofs.Common.{◌<◌}
 use Rattle.channel_fsm.specs.declared.ChanId.{ChanId}
 use Rattle.dense_tables.specs.Channels.{IsMaskedAt}
 use Rattle.dense_tables.proofs.channels.masks.lowest_in.Given as goal

@@ -1,7 +1,6 @@
-use Rattle.std.proofs.Common.{◌≡◌, ◌+◌, ◌*◌, ◌<◌, get_or, sym, ap, ◌∙◌, arith}
+use Rattle.std.proofs.Common.{get_or, sym, ap, ◌∙◌, arith}
 use Rattle.std.proofs.lemmas.List.{get_or_read}
 use Rattle.channel_fsm.specs.Masks.{has}
-use Rattle.channel_fsm.specs.Keys.{sub_number}
 use Rattle.dense_tables.proofs.Masked.{first_with, none_with}
 use Rattle.dense_tables.proofs.channels.masks.lowest_with.Goals as goal
 

@@ -1,4 +1,4 @@
-use Rattle.std.proofs.Common.{◌≡◌, ◌≢◌, sym, ◌∙◌, arith}
+use Rattle.std.proofs.Common.{◌≡◌, ◌∙◌, arith}
 use Rattle.channel_fsm.specs.declared.Sub.{Sub}
 use Rattle.channel_fsm.specs.declared.Sub.TheVariants.{Full, Half0, Half1}
 use Rattle.channel_fsm.specs.declared.ChanId.{ChanId}
@@ -9,6 +9,15 @@ use Rattle.dense_tables.proofs.channels.masks.set_timeslot.Goals as goal
 
 of_part : (x : ChanId) (s : Sub) → IsWithinLimits x → IsWithinLimits (record x { sub = s })
 of_part x s limits = record { cell = limits.cell; trx = limits.trx; timeslot = limits.timeslot }
+
+pub is_used-whole-requires-clause-states : goal.is_used-whole-requires-clause-states
+is_used-whole-requires-clause-states g c = c.requires.states (record c.args.x { sub = Full })
+
+pub is_used-lower-requires-clause-states : goal.is_used-lower-requires-clause-states
+is_used-lower-requires-clause-states g c = c.requires.states (record c.args.x { sub = Half0 })
+
+pub is_used-upper-requires-clause-states : goal.is_used-upper-requires-clause-states
+is_used-upper-requires-clause-states g c = c.requires.states (record c.args.x { sub = Half1 })
 
 pub set_mask-requires : goal.set_mask-requires
 set_mask-requires g c = record { within = of_part c.args.x Full c.requires.within; len = c.requires.len }
