@@ -1,0 +1,4 @@
+use Rattle.radio_desk.proofs.audit.settled_flags.Goals as goal
+
+pub loop-rest-preserved : goal.loop-rest-preserved
+loop-rest-preserved g c = ?
