@@ -157,7 +157,11 @@ no_release c t s ends_it = by (told s.event)
     by (inl it) = ap (is_channel t) it.1.released ∙ no_channel t
     by (inr it) = absurd (both_ways (is_call c (ended_by s.event)) (ap (is_call c) it.1.ended) (and_parts (is_call c (ended_by s.event)) (is_accepted s.reply) ends_it).0)
 
-none_both : (q : Bool) → (if q then None {A = ℕ} else None) ≡ None
+-- no number
+abbrev no_number_yet : Option ℕ
+no_number_yet = None
+
+none_both : (q : Bool) → (if q then no_number_yet else no_number_yet) ≡ no_number_yet
 none_both true = refl
 none_both false = refl
 
