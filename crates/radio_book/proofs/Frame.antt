@@ -323,13 +323,12 @@ module _ (b : State) (sound : IsSound b) (change : Change) (c : ℕ) (was is : O
 
   apart : (x y : ChanId) (s t : ChanState) → map.get b'.channels x ≡ Some s → map.get b'.channels y ≡ Some t → Conflicts x y → ⊥
   apart x y s t e f clash =
-      let at = λ z. get-with_change chan_total chan_exact b.channels change.channel (λ x v. (s : ChanState) → v ≡ Some s → (is_traffic b.site x ≡ true) × (s ≢ Free) × Stands b x) z concerns.entry in
-      elim (at x) [
-        | inl (now, touched) ↦ elim (at y) [
+      elim (get-with_change chan_total chan_exact b.channels change.channel (λ x v. (s : ChanState) → v ≡ Some s → (is_traffic b.site x ≡ true) × (s ≢ Free) × Stands b x) x concerns.entry) [
+        | inl (now, touched) ↦ elim (get-with_change chan_total chan_exact b.channels change.channel (λ x v. (s : ChanState) → v ≡ Some s → (is_traffic b.site x ≡ true) × (s ≢ Free) × Stands b x) y concerns.entry) [
           | inl (there, too) ↦ clash.differ (same_touch change.channel x y touched too)
           | inr (t', same) ↦ let n = now s e in stands_alone x y t n.2 (sym same ∙ f) clash
         ]
-        | inr (s', same) ↦ elim (at y) [
+        | inr (s', same) ↦ elim (get-with_change chan_total chan_exact b.channels change.channel (λ x v. (s : ChanState) → v ≡ Some s → (is_traffic b.site x ≡ true) × (s ≢ Free) × Stands b x) y concerns.entry) [
           | inl (there, too) ↦ let n = there t f in stands_alone y x s n.2 (sym same ∙ e) (turned clash)
           | inr (t', as_before) ↦ sound.apart x y s t (sym same ∙ e) (sym as_before ∙ f) clash
         ]
