@@ -28,7 +28,7 @@ const DATA_REQUEST_HEAD: usize = 9;
 /// The mode of a speech channel of this rate: no discontinuous transmission, speech, Bm or Lm, version 1
 /// (TS 48.058 clause 9.3.6).
 fn speech(rate: Rate) -> [u8; 4]
-    ensures { result.items ≡ speech rate }
+    ensures { result ≡ speech rate }
 {
     match rate {
         Rate::Full => [0, 1, 8, 1],
