@@ -1,5 +1,5 @@
 -- The timeslots of a TRX as they are read: the entries of `tch` name those that are read from them, and the first nine are kept.
-use Rattle.std.proofs.Common.{◌≡◌, ◌==◌, ◌||◌, ℕ, suc, Bool, List, [], ◌∷◌, map, take, Ok, Err, Some, refl, sym, ap, ◌∙◌}
+use Rattle.std.proofs.Common.{◌≡◌, ◌==◌, ◌||◌, ℕ, suc, Bool, List, [], ◌∷◌, map, take, Ok, Err, refl, sym, ap, ◌∙◌}
 use Rattle.std.specs.List.{list_any}
 use Rattle.toml.specs.Data.{Data, get}
 use Rattle.cell_table.specs.declared.fault.Key.{Key}
@@ -7,7 +7,6 @@ use Rattle.cell_table.specs.declared.fault.Key.TheVariants as key
 use Rattle.cell_table.specs.declared.fault.SiteFault.{SiteFault}
 use Rattle.cell_table.specs.declared.fault.SiteFault.TheVariants.{Range}
 use Rattle.cell_table.specs.declared.ranges.Allowed.{Allowed}
-use Rattle.cell_table.specs.Views.{TrxView}
 use Rattle.cell_table.specs.SiteFile.{Read, ◌>>=◌, each, number_of, allowed_number, half_of, halves_by, key_name}
 use Rattle.cell_table.specs.Kept.{first_nine, is_number, is_that, names, trx_by}
 use Rattle.cell_table.proofs.Chains.{bind_parts, ok_or_parts}

@@ -103,10 +103,15 @@ pub fn channels_before(cells: &[Cell], chan: ChanId) -> usize
 fn part_at(sub: Sub, trx: &Trx, slots: &[u8], place: usize) -> Option<u8>
     ensures value { result ≡ part_at sub trx.now slots.now place }
 {
-    slots
-        .iter()
-        .find(|tn| has_place(sub, trx, **tn, place))
-        .copied()
+    match slots {
+        [first, rest @ ..] => {
+            if has_place(sub, trx, *first, place) {
+                return Some(*first);
+            }
+            part_at(sub, trx, rest, place)
+        }
+        [] => None,
+    }
 }
 
 /// Whether the channel with this part of a timeslot has a place among the traffic channels of a TRX.

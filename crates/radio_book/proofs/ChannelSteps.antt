@@ -331,7 +331,7 @@ module _ (b : State) (sound : IsSound b) where
   left_row_steps c (Some r) known = left_by_steps c r r.attempt known refl
 
   row_steps : (e : Event) → Steps b e (row b e)
-  row_steps (event.Open c x) = begin_steps (event.Open c x) c x (record { serving = Some x; attempt = None }) (Pending c) (chan.Begin c) refl refl refl (record_of b c) (is_traffic b.site x) (state_of b x) refl
+  row_steps (event.Open c x) = begin_steps (event.Open c x) c x (record { serving = Some x; attempt = None }) (Pending c) (chan.Begin c) refl refl refl (record_of b c) (is_traffic b.site x) (in_way b x) refl
   row_steps (event.Clear c) = clear_row_steps c (record_of b c) refl
   row_steps (event.Look c) = look_steps c (record_of b c)
   row_steps (event.Take c k x) = take_steps c k x (record_of b c)

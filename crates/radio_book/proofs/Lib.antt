@@ -24,7 +24,7 @@ pub mod OwedRows
 pub mod PutBack
 -- what running a call's inverses leads to
 pub mod RunBack
--- in a sound book one of the first 33 handover references of a cell is free
+-- in a sound book one of the first 97 handover references of a cell is free
 pub mod Numbers
 -- changes of different entries commute
 pub mod Changes

@@ -323,7 +323,7 @@ undo_event_lowers : (b : State) (c : ℕ) (why : Why) → Lowers b (row b (event
 undo_event_lowers b c why = undo_row_lowers b c why (record_of b c) (map.get b.timers c) refl
 
 row_raises : (b : State) (e : Event) → IsSound b → Raises b (most_raised e) (row b e)
-row_raises b (event.Open c x) sound = begin_raises b 1 c x (record { serving = Some x; attempt = None }) (Pending c) (omega arith) (record_of b c) (is_traffic b.site x) (state_of b x)
+row_raises b (event.Open c x) sound = begin_raises b 1 c x (record { serving = Some x; attempt = None }) (Pending c) (omega arith) (record_of b c) (is_traffic b.site x) (in_way b x)
 row_raises b (event.Clear c) sound = clear_row_raises b c (record_of b c)
 row_raises b (event.Look c) sound = look_raises b (record_of b c)
 row_raises b (event.Take c k x) sound = take_raises b c k x (record_of b c) (is_traffic b.site x)

@@ -1,5 +1,5 @@
 -- Which channels a choice finds, and how many it counts.
-use Rattle.std.proofs.Common.{◌≡◌, ◌==◌, ◌&&◌, IfSome, IfNone, ℕ, ◌+◌, ◌*◌, lit≤, ◌<◌, ◌≤◌, ◌/◌, ◌%◌, Bool, true, false, cond, List, [], ◌∷◌, length, get_or, take, drop, map as map_list, count_by, Option, Some, None, is_none, refl, sym, ap, ◌∙◌, subst, zero-add, arith}
+use Rattle.std.proofs.Common.{◌≡◌, IfSome, IfNone, ℕ, ◌+◌, ◌*◌, lit≤, ◌<◌, ◌≤◌, ◌/◌, ◌%◌, Bool, true, false, cond, List, [], ◌∷◌, length, get_or, take, drop, map as map_list, count_by, Option, Some, None, is_none, refl, sym, ap, ◌∙◌, subst, zero-add, arith}
 use Rattle.std.specs.List.{find, range_with_len}
 use Rattle.std.specs.Int.{from_bool}
 use Rattle.std.proofs.lemmas.List.{at_drop_more, drop_all, take_all}

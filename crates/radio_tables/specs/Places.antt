@@ -6,8 +6,8 @@ use Rattle.channel_fsm.specs.declared.Sub.{Sub}
 use Rattle.channel_fsm.specs.declared.Sub.TheVariants.{Full, Half0, Half1}
 use Rattle.channel_fsm.specs.declared.ChanId.{ChanId}
 use Rattle.cell_table.specs.Site.{is_traffic}
-pub use Rattle.dense_tables.specs.Channels.{sub_at}
 unfoldable pub use Rattle.dense_tables.specs.Channels.{channels_of}
+pub use Rattle.dense_tables.specs.Channels.{sub_at}
 use Rattle.radio_tables.specs.State.{State}
 use Rattle.radio_tables.specs.Choice.{in_way}
 

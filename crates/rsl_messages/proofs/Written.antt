@@ -19,7 +19,7 @@ use Rattle.octet_elements.proofs.Texts.{written_says}
 use Rattle.rsl_messages.specs.declared.message.ChanBits.{ChanBits}
 use Rattle.rsl_messages.specs.declared.message.Rsl.{Rsl}
 use Rattle.rsl_messages.specs.declared.message.Rsl.TheVariants.{DataRequest, DataIndication, ChannelActivation, ChannelActivationAck, ChannelActivationNack, ConnectionFailureIndication, HandoverDetection, MeasurementResult, RfChannelRelease, RfChannelReleaseAck}
-use Rattle.rsl_messages.specs.Forms.{abis, CHANNEL_NUMBER, LINK_IDENTIFIER, ACTIVATION_TYPE, POWER, CHANNEL_MODE, FRAME_NUMBER, HANDOVER_REFERENCE, LAYER3, ACCESS_DELAY, UPLINK_MEASUREMENTS, CAUSE, RESULT_NUMBER}
+use Rattle.rsl_messages.specs.Forms.{abis, LINK_IDENTIFIER, ACTIVATION_TYPE, POWER, CHANNEL_MODE, FRAME_NUMBER, HANDOVER_REFERENCE, LAYER3, ACCESS_DELAY, UPLINK_MEASUREMENTS, CAUSE, RESULT_NUMBER}
 use Rattle.rsl_messages.specs.Heads.{Begins}
 use Rattle.rsl_messages.specs.Values.{channel_with, channel_in, channel_octet}
 use Rattle.rsl_messages.specs.Messages.{head_of, Said, CanBeSaid, said, kind_of, elements_of, channel_number, data_rows, activation_rows, activation_ack_rows, cause_rows, detection_rows, measurement_rows}

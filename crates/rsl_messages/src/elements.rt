@@ -20,7 +20,8 @@ use crate::table::{
 };
 use octet_elements::values::u16_octets;
 use octet_elements::{
-    Found, Octets, ValueFault, append_element, append_octet, append_optional_octet, channel_type, element_len, octet_len, optional_octet_len, sub_of_type,
+    Found, Octets, ValueFault, append_element, append_octet, append_optional_octet, channel_type,
+    element_len, octet_len, optional_octet_len, sub_of_type,
 };
 use std::alloc::Allocator;
 

@@ -120,7 +120,7 @@ impl PartialEq for ChanKey {
     ghost eq = { eq_of_both (on (λ x. x.cell) ◌==◌) (eq_of_both (on (λ x. x.trx) ◌==◌)
         (eq_of_both (on (λ x. x.tn) ◌==◌) (on (λ x. sub_number x.sub) ◌==◌))) };
 
-    ghost laws = { Prim.search (comparing, rules) depth 9 };
+    ghost laws = { Prim.search (comparing, rules) depth 8 };
 
     fn eq(&self, other: &ChanKey) -> bool {
         self.chan == other.chan
@@ -128,7 +128,7 @@ impl PartialEq for ChanKey {
 }
 
 impl Eq for ChanKey {
-    ghost laws = { Prim.search (comparing, rules) depth 9 };
+    ghost laws = { Prim.search (comparing, rules) };
 }
 
 impl PartialOrd for ChanKey {
@@ -136,7 +136,8 @@ impl PartialOrd for ChanKey {
         (then_cmp (on (λ x. x.cell) nat_cmp) (then_cmp (on (λ x. x.trx) nat_cmp)
         (then_cmp (on (λ x. x.tn) nat_cmp) (on (λ x. sub_number x.sub) nat_cmp)))) };
 
-    ghost laws = { partial_order_from_own_ties (Prim.search (comparing, rules) depth 9) (Prim.search (comparing, rules) depth 9) };
+    ghost laws = { partial_order_from_own_ties (Prim.search (comparing, rules) depth 8)
+        (Prim.search (comparing, rules) depth 8) };
 
     fn partial_cmp(&self, other: &ChanKey) -> Option<Ordering> {
         Some(self.cmp(other))
@@ -147,11 +148,11 @@ impl Ord for ChanKey {
     ghost cmp = { then_cmp (on (λ x. x.cell) nat_cmp) (then_cmp (on (λ x. x.trx) nat_cmp)
         (then_cmp (on (λ x. x.tn) nat_cmp) (on (λ x. sub_number x.sub) nat_cmp))) };
 
-    ghost total = { Prim.search (comparing, rules) depth 9 };
+    ghost total = { Prim.search (comparing, rules) };
 
-    ghost matches_partial_cmp = { Prim.search (comparing, rules) depth 9 };
+    ghost matches_partial_cmp = { Prim.search (comparing, rules) };
 
-    ghost matches_eq = { Prim.search (comparing, rules) depth 9 };
+    ghost matches_eq = { Prim.search (comparing, rules) };
 
     fn cmp(&self, other: &ChanKey) -> Ordering {
         if self.number > other.number {

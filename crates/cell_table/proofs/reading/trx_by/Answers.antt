@@ -1,6 +1,5 @@
 use Rattle.std.proofs.Common.{◌≡◌, Ok, map, sym, rules}
 use Rattle.std.proofs.lemmas.Result.{err_from_is_err_and}
-
 use Rattle.toml.specs.View.{view}
 use Rattle.toml.specs.Data.{get}
 use Rattle.cell_table.specs.declared.fault.Key.TheVariants as key

@@ -17,11 +17,11 @@ pub loop-inverse-preserved : goal.loop-inverse-preserved
 loop-inverse-preserved g c =
     let before = put_back c.args.call c.loop-inverse.kept c.loop-inverse.self in
     record {
-      leads = ap (run_back c.args.call c.pop.new.self) (c.run_inverse.ensures.run c.args.call)
+      leads = ap (run_back c.args.call c.pop.new.self) (c.run_inverse-kept.ensures.run c.args.call)
           ∙ sym (runs_last_first c.args.call c.pop.new.self c.in-Some.inverse before)
           ∙ ap (λ js. run_back c.args.call js before) (sym c.in-Some.ensures.items)
           ∙ c.loop-inverse.invariant.leads;
-      calls = c.run_inverse.ensures.calls ∙ c.loop-inverse.invariant.calls;
+      calls = c.run_inverse-kept.ensures.calls ∙ c.loop-inverse.invariant.calls;
     }
 
 pub put_back-requires : goal.put_back-requires
