@@ -143,6 +143,7 @@ fn go_on_at(attempts: &mut [Followed], row: &[usize], step: &StepAt)
     }
 }
 
+/// The same of a list that grows.
 fn go_on_all<A: Allocator>(attempts: &mut Vec<Followed, A>, row: &[usize], step: &StepAt)
     requires { IsEnough attempts.old.items row.now step.now }
     ensures { attempts.new.items ≡ map (λ p. after p step.now) attempts.old.items }
