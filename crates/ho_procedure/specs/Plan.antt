@@ -1,5 +1,5 @@
 -- Plans: what a controller asks of the book and what it sends, each step by the replies before it.
-use Rattle.std.specs.Prelude.{◌≡◌, ◌⊎◌, ◌↔◌, ℕ, ◌==◌, if◌then◌else◌, Bool, true, false, List, [], ◌∷◌, ◌++◌, AllPairs, Contains, Option, Some, None}
+use Rattle.std.specs.Prelude.{◌≡◌, ◌⊎◌, ◌↔◌, ℕ, ◌==◌, if◌then◌else◌, Bool, List, [], ◌∷◌, ◌++◌, AllPairs, Contains, Option, Some, None}
 use Rattle.channel_fsm.specs.declared.ChanId.{ChanId}
 use Rattle.channel_fsm.specs.declared.Rate.{Rate}
 use Rattle.channel_fsm.specs.Slots.{rate_of}
