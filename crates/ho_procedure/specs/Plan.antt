@@ -23,9 +23,9 @@ pub data Room : Type 0 where
   ForUnread : ℕ → Room
   ForReports : Room
 
--- What is done with one input, step by step: room is made; an event is asked, and the reply decides the next step; some free
--- channel of a cell at a rate is taken, or none is free; some free reference is reserved; a message is sent; a call has these last
--- reports from now on; the candidates that such reports make of the cells are gone through in their order.
+-- What is done with one input, step by step: room is made; an event is asked, and the reply decides the next step; some
+-- channel of a cell that is free at a rate is taken, or none is; some free reference is reserved; a message is sent; a call
+-- has these last reports from now on; the candidates that such reports make of the cells are gone through in their order.
 pub data Plan : Type 0 where
   Ends : Plan
   Readies : Room → Plan → Plan
