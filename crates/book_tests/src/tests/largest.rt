@@ -1,7 +1,7 @@
 //! The largest site, 64 cells with four TRX each: a call on each of its traffic channels, 31 in each cell; and calls,
 //! references and channels with the first and the last number.
 use super::{at_a_new_book, channel_at, equals_at, holds};
-use channel_fsm::ChanId;
+use channel_fsm::{ChanId, Sub};
 use radio_book::book::Book;
 use radio_book::event::Event::{
     Activate, Clear, Command, Complete, Confirm, Open, Owner, Released, Reserve, Take, Undo,
@@ -61,24 +61,28 @@ const FIRST: ChanId = ChanId {
     cell: 0,
     trx: 0,
     tn: 1,
+    sub: Sub::Full,
 };
 
 const SECOND: ChanId = ChanId {
     cell: 0,
     trx: 0,
     tn: 2,
+    sub: Sub::Full,
 };
 
 const LAST: ChanId = ChanId {
     cell: 63,
     trx: 3,
     tn: 7,
+    sub: Sub::Full,
 };
 
 const BESIDE: ChanId = ChanId {
     cell: 63,
     trx: 3,
     tn: 6,
+    sub: Sub::Full,
 };
 
 // The first channel of the second cell.
@@ -86,6 +90,7 @@ const NEXT: ChanId = ChanId {
     cell: 1,
     trx: 0,
     tn: 1,
+    sub: Sub::Full,
 };
 
 // None for traffic: that of a cell's broadcast, and one with a number behind the last timeslot, TRX and cell.
@@ -93,24 +98,28 @@ const BROADCAST: ChanId = ChanId {
     cell: 0,
     trx: 0,
     tn: 0,
+    sub: Sub::Full,
 };
 
 const NO_TIMESLOT: ChanId = ChanId {
     cell: 62,
     trx: 3,
     tn: 8,
+    sub: Sub::Full,
 };
 
 const NO_TRX: ChanId = ChanId {
     cell: 62,
     trx: 4,
     tn: 1,
+    sub: Sub::Full,
 };
 
 const NO_CELL: ChanId = ChanId {
     cell: 64,
     trx: 0,
     tn: 1,
+    sub: Sub::Full,
 };
 
 // Call 0 goes from the last channel to the first by reference 255. Calls 65535 and 2 come to the last cell and the second by
