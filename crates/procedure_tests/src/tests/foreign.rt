@@ -1,9 +1,9 @@
 //! A view whose desk doesn't know the view's last receipt.
 ghost use Rattle.std.specs.Prelude.{[]};
 
-use channel_fsm::Rate;
 use super::controllers::{are_handled, empty_desk, input_of, sent_lines, shared_site};
 use crate::leaving::Leaving;
+use channel_fsm::Rate;
 use ho_procedure::controller::Controller;
 use ho_procedure::exchange::Fault;
 use ho_procedure::view::DeskView;

@@ -400,7 +400,7 @@ from a call that is to leave
 in a 1 00041a040121
 event look 1 -> record 0/0/3 on outgoing required - -
 event undo 1 asked -> record 0/0/3 on outgoing required - -
-requests 1
+requests 0
 
 from a call that is to leave
 in expire 1 T7

@@ -1,6 +1,6 @@
 //! Seats at a desk under a lock.
-use channel_fsm::Rate;
 use super::controllers::{empty_desk, shared_site};
+use channel_fsm::Rate;
 use ho_procedure::shared::Shared;
 use ho_procedure::view::DeskView;
 use radio_book::event::{Event, Kind};

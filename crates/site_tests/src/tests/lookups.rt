@@ -56,12 +56,7 @@ fn a_site_says_what_its_file_does(rt: HostRuntime) -> Result<(), Fail> {
     for ((cell, trx, tn), place) in CHANNELS {
         let (cell, trx, tn) = (*cell, *trx, *tn);
         let sub = Sub::Full;
-        has_place(
-            &rt,
-            &site,
-            ChanId { cell, trx, tn, sub },
-            *place,
-        );
+        has_place(&rt, &site, ChanId { cell, trx, tn, sub }, *place);
     }
     has_place(&rt, &site, LOWER, None);
     equals(&rt, site.half(1, 1), Some([].as_slice()));
