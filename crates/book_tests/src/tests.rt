@@ -14,7 +14,7 @@ mod stages;
 mod worked;
 
 use cell_table::Site;
-use channel_fsm::{ChanId, Rate};
+use channel_fsm::{ChanId, Rate, Sub};
 use radio_book::book::{Book, Usage};
 use radio_book::event::Event::{
     Activate, Command, Complete, Confirm, Open, Released, Reserve, Take, Undo,
@@ -148,7 +148,18 @@ fn channel_at(place: u16) -> ChanId {
         cell: (place / 32 % 64) as u8,
         trx: (place / 8 % 4) as u8,
         tn: (place % 8) as u8,
+        sub: Sub::Full,
     }
+}
+
+// The same by a timeslot's parts too: the whole of it, then its halves.
+fn part_at(place: u16) -> ChanId {
+    let sub = match place % 3 {
+        0 => Sub::Full,
+        1 => Sub::Half0,
+        _ => Sub::Half1,
+    };
+    channel_at(place / 3).part(sub)
 }
 
 // The places below a count but for some.

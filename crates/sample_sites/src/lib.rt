@@ -216,25 +216,26 @@ trx = [{ arfcn = 60, tch = [] }]
 /// No cell, which is refused.
 pub const NO_CELL: &str = "[handover]\nwindow = 2\nmargin = 3\nminimum = 10\n";
 
-/// Appends a TRX on this carrier: `first` is that of the broadcast channel, whose timeslot 0 carries no traffic.
-fn push_trx(text: &mut String, carrier: u32, first: bool) -> Result<(), AllocError> {
+/// Appends a TRX on this carrier, with what else is said of it: `first` is that of the broadcast channel, whose timeslot 0
+/// carries no traffic.
+fn push_trx(text: &mut String, carrier: u32, first: bool, more: &str) -> Result<(), AllocError> {
     text.push_str(if first { "trx = [" } else { ", " })?;
     let zero = if first { "" } else { "0, " };
     write!(
         text,
-        "{{ arfcn = {carrier}, tch = [{zero}1, 2, 3, 4, 5, 6, 7] }}"
+        "{{ arfcn = {carrier}, tch = [{zero}1, 2, 3, 4, 5, 6, 7]{more} }}"
     )
 }
 
-/// Appends cell `ci` with so many TRX.
-fn push_cell(text: &mut String, ci: u16, trx: u16) -> Result<(), AllocError> {
+/// Appends cell `ci` with so many TRX, of each of which more is said.
+fn push_cell(text: &mut String, ci: u16, trx: u16, more: &str) -> Result<(), AllocError> {
     let bcch = u32::from(ci) * u32::from(trx);
     writeln!(
         text,
         "[[cell]]\nlac = 1\nci = {ci}\nbcch = {bcch}\nncc = 0\nbcc = 0\npower = 0\nba = []"
     )?;
     for place in 0..trx {
-        push_trx(text, bcch + u32::from(place), place == 0)?;
+        push_trx(text, bcch + u32::from(place), place == 0, more)?;
     }
     text.push_str("]\n")
 }
@@ -253,13 +254,22 @@ pub fn site_of_cells(
 ) -> Result<String, AllocError> {
     let mut text = String::from_str(alloc, NO_CELL)?;
     for ci in 0..cells {
-        push_cell(&mut text, ci, trx)?;
+        push_cell(&mut text, ci, trx, "")?;
     }
     for ci in 0..outside {
         writeln!(
             text,
             "[[outside]]\nlac = 2\nci = {ci}\nbcch = {ci}\nncc = 1\nbcc = 0"
         )?;
+    }
+    Ok(text)
+}
+
+/// So many cells with so many TRX each, as those of [`site_of_cells`], whose timeslots 1, 3, 5 and 7 also carry halves.
+pub fn site_of_halves(alloc: Global, cells: u16, trx: u16) -> Result<String, AllocError> {
+    let mut text = String::from_str(alloc, NO_CELL)?;
+    for ci in 0..cells {
+        push_cell(&mut text, ci, trx, ", half = [1, 3, 5, 7]")?;
     }
     Ok(text)
 }

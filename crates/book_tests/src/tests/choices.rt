@@ -110,7 +110,12 @@ fn each_gets_the_lowest(rt: &impl Abort, book: &mut Book<Global>) -> Result<(), 
         let wanted = Take(*call, Incoming, scattered(*trx, *tn));
         equals_at(rt, taken, Some((wanted, Done)), call);
     }
-    equals_at(rt, book.take_any(5, Incoming, 0, Rate::Full)?, None, "none is left");
+    equals_at(
+        rt,
+        book.take_any(5, Incoming, 0, Rate::Full)?,
+        None,
+        "none is left",
+    );
     Ok(())
 }
 

@@ -1,10 +1,10 @@
-//! A long course of events at the largest site, 64 cells with four TRX each, asked of both kinds of tables. What comes next
-//! follows from one number, so the course is the same each time.
+//! A long course of events at the largest site, 64 cells with four TRX each, half of whose timeslots carry halves too, asked
+//! of both kinds of tables. What comes next follows from one number, so the course is the same each time.
 use super::both_tables::{Sound, dense, trees};
-use super::{channel_at, equals_at, holds_at};
+use super::{equals_at, holds_at, part_at};
 use cell_table::Site;
-use channel_fsm::ChanId;
 use channel_fsm::ChanState::{On, Pending};
+use channel_fsm::{ChanId, Rate};
 use radio_book::event::Event::{
     Activate, Clear, Command, Complete, Confirm, Detect, Left, Look, Open, Order, Owner, Refuse,
     Released, Require, Reserve, Take, Undo,
@@ -14,7 +14,7 @@ use radio_book::event::Why::{Asked, Expired};
 use radio_book::event::{Attempt, CallRecord, Event, Stage, Timer};
 use radio_tables::kinds::Reference;
 use radio_tables::tables::Tables;
-use sample_sites::site_of_cells;
+use sample_sites::site_of_halves;
 use std::alloc::{AllocError, Global};
 use std::process::Abort;
 use std::sync::Arc;
@@ -48,10 +48,10 @@ struct Rolled {
     which: u16,
 }
 
-fn rolled(dice: &mut Dice) -> Rolled {
+fn roll_all(dice: &mut Dice) -> Rolled {
     Rolled {
         call: (dice.roll() % 256).wrapping_mul(257),
-        chan: channel_at(dice.roll()),
+        chan: part_at(dice.roll()),
         number: (dice.roll() % 256) as u8,
         which: dice.roll(),
     }
@@ -146,7 +146,7 @@ fn next_of<T: Tables>(tables: &T, rolled: Rolled) -> Event {
 
 // Of eight events five go on with a call, two say that a channel was released, and one is any.
 fn event_of<T: Tables>(tables: &T, dice: &mut Dice) -> Event {
-    let rolled = rolled(dice);
+    let rolled = roll_all(dice);
     match dice.roll() % 8 {
         0 => any_event(rolled),
         1 | 2 => Released(rolled.chan),
@@ -171,15 +171,27 @@ fn answer_alike<S: Tables, T: Tables>(
 }
 
 fn channels_are_alike<S: Tables, T: Tables>(rt: &impl Abort, one: &S, other: &T) {
-    for place in 0..2048u16 {
-        let x = channel_at(place);
+    for place in 0..6144u16 {
+        let x = part_at(place);
         equals_at(rt, other.channel(x), one.channel(x), x);
     }
 }
 
+fn choice_is_alike<S: Tables, T: Tables>(
+    rt: &impl Abort,
+    one: &S,
+    other: &T,
+    cell: u8,
+    rate: Rate,
+) {
+    let found = other.lowest_free(cell, rate);
+    equals_at(rt, found, one.lowest_free(cell, rate), (cell, rate));
+}
+
 fn choices_are_alike<S: Tables, T: Tables>(rt: &impl Abort, one: &S, other: &T) {
     for cell in 0..65u8 {
-        equals_at(rt, other.lowest_free(cell), one.lowest_free(cell), cell);
+        choice_is_alike(rt, one, other, cell, Rate::Full);
+        choice_is_alike(rt, one, other, cell, Rate::Half);
         equals_at(rt, other.free_count(cell), one.free_count(cell), cell);
     }
 }
@@ -237,7 +249,7 @@ fn go_alike<S: Tables, T: Tables>(
 }
 
 fn largest_site(alloc: Global) -> Result<Arc<Site<Global>>, Fail> {
-    let text = site_of_cells(alloc, 64, 4, 0)?;
+    let text = site_of_halves(alloc, 64, 4)?;
     let site = Site::read(alloc, alloc, &text)?;
     Ok(Arc::new(alloc, site)?)
 }

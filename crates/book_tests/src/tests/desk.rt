@@ -1,7 +1,7 @@
 //! A desk goes on: each answer is an entry of its history, and the last receipt of its seat.
-use channel_fsm::Rate;
 use super::Ask::{ReserveAny, Step, TakeAny};
 use super::{Ask, Entry, at_a_new_desk, equals_at, holds};
+use channel_fsm::Rate;
 use radio_book::event::Event::{Activate, Command, Confirm, Look, Open, Reserve, Take};
 use radio_book::event::Kind;
 use radio_book::event::Refusal::{ChannelBusy, NoCall, WrongPhase};

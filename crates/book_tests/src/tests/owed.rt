@@ -1,7 +1,7 @@
 //! What is owed at a desk goes through where every request for memory is refused, and asks for none.
-use channel_fsm::Rate;
 use super::{ACTIVATE, RELEASED, RESERVE, STEADY, TAKE, UNDO, desk_of, equals_at, holds_at};
 use channel_fsm::ChanState::On;
+use channel_fsm::Rate;
 use radio_book::event::Event::{Look, Released, Undo};
 use radio_book::event::Kind::Incoming;
 use radio_book::event::Reply::{Done, Record};
