@@ -1,7 +1,6 @@
 -- Events: what is written is read, and what is read was written so.
-use Rattle.std.proofs.Common.{◌≡◌, ◌≢◌, ◌↔◌, ℕ, ◌<◌, ◌≤◌, ◌^◌, List, [], ◌∷◌, ◌++◌, Bool, true, false, if◌then◌else◌, Option, Some, None, option_map, refl, sym, ap, ◌∙◌, arith, rules, bytes_eq, length, get_or, codes}
+use Rattle.std.proofs.Common.{◌≡◌, ◌↔◌, ℕ, ◌<◌, ◌^◌, List, [], ◌∷◌, ◌++◌, Bool, true, false, if◌then◌else◌, Option, Some, None, option_map, refl, sym, ap, ◌∙◌, arith, bytes_eq, codes}
 use Rattle.std.specs.Fmt.{decimal}
-use Rattle.std.specs.Int.{IsInRange}
 use Rattle.std.proofs.lemmas.Option.{none-some, same_Some}
 use Rattle.std.proofs.lemmas.Fmt.{digits_decimal}
 use Rattle.std.proofs.lemmas.Slice.Eq.{bytes_eq-Decides}
@@ -18,8 +17,8 @@ use Rattle.radio_book.specs.declared.event.Why.TheVariants as why
 use Rattle.radio_book.specs.declared.event.Event.{Event}
 use Rattle.radio_book.specs.declared.event.Event.TheVariants as event
 use Rattle.event_text.specs.Text.{kind_word, why_word, event_text, FitsCall, FitsOctet, FitsChan, Fits, TextIsUnique}
-use Rattle.event_text.specs.Reading.{◌>>=◌, cut_at, number_of, half_of, timeslot_at, timeslot_of, channel_of, kind_of, why_of, open_of, take_of, reserve_of, undo_of, by_call, on_channel, kinds, event_among, event_at, event_of}
-use Rattle.event_text.proofs.Numbers.{Lacks, cut_at-none, cut_at-first, joined, numerals, number_of-decimal, number_of-parts, IsNumber}
+use Rattle.event_text.specs.Reading.{◌>>=◌, cut_at, number_of, half_of, timeslot_at, timeslot_of, channel_of, kind_of, why_of, open_of, take_of, reserve_of, undo_of, by_call, on_channel, kinds, event_among, event_of}
+use Rattle.event_text.proofs.Numbers.{Lacks, cut_at-none, cut_at-first, joined, numerals, number_of-decimal, number_of-parts}
 
 -- what a chain of steps gave, each of them gave
 bind_parts : {A B : Type 0} (P : Type 0) (o : Option A) (f : A → Option B) (y : B) → (o >>= f) ≡ Some y → ((x : A) → o ≡ Some x → f x ≡ Some y → P) → P
