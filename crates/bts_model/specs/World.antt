@@ -27,8 +27,8 @@ slots_code = map.code coded_key slot_row.coded
 pub record WorldState : Type 0 where
   -- every TRX of the controllers, by controller, cell and TRX
   pub trxs : List Trx
-  -- what is known of a channel, by its key: whether it is active, and with which reference, whether its next activation is refused,
-  -- the habit of its mobile, and what befalls its next answer
+  -- what is known of a channel, by its key: whether it is active, and with which reference, whether its next activation is
+  -- refused, the habit of its mobile, and what befalls its next answer
   pub slots : map.FinMap key_cmp Slot
   -- the holds in the order in which they were asked for, each with what it has kept
   pub holds : List Hold

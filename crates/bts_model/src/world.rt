@@ -35,9 +35,9 @@ use std::sync::Arc;
 /// The base stations of some controllers, and the mobiles on their channels.
 ///
 /// A station acknowledges each activation of an inactive channel, unless a refusal was asked for, and refuses each of an
-/// active one, and of one that conflicts with an active one; it acknowledges each release. A mobile that gets a HANDOVER COMMAND on an active channel goes by its
-/// habit. Answers leave at once, but an acknowledgement for which a hold waits is kept. As it leaves, an answer may be cut
-/// and doubled, where that was asked for.
+/// active one, and of one that conflicts with an active one; it acknowledges each release. A mobile that gets a HANDOVER
+/// COMMAND on an active channel goes by its habit. Answers leave at once, but an acknowledgement for which a hold waits is
+/// kept. As it leaves, an answer may be cut and doubled, where that was asked for.
 #[derive(Drop)]
 pub struct World<A: Allocator = Global> {
     trxs: Vec<Trx, A>,

@@ -1,4 +1,5 @@
--- The timeslots of a TRX as they are read: the entries of `tch` name those that are read from them, and the first nine are kept.
+-- The timeslots of a TRX as they are read: the entries of `tch` name those that are read from them, and the first nine are
+-- kept.
 use Rattle.std.proofs.Common.{◌≡◌, ◌==◌, ◌||◌, ℕ, suc, Bool, List, [], ◌∷◌, map, take, Ok, Err, refl, sym, ap, ◌∙◌}
 use Rattle.std.specs.List.{list_any}
 use Rattle.toml.specs.Data.{Data, get}

@@ -289,7 +289,8 @@ impl<A: Allocator + Copy> Site<A> {
         Some(channels_before(self.tables.cells.as_slice(), chan))
     }
 
-    /// The channel that has a place in that list: the one whose place [`Site::index_of`] tells. `None` where the list has no such place.
+    /// The channel that has a place in that list: the one whose place [`Site::index_of`] tells. `None` where the list has no
+    /// such place.
     pub fn chan_at(&self, index: usize) -> Option<ChanId>
         ensures value { result ≡ slice_get (channels self.now) index }
         ensures inverse { (chan : ChanId) →

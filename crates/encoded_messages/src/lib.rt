@@ -2,8 +2,8 @@
 //!
 //! A text has words with one blank between any two: those of the message's name, and behind it its fields, `key=value`
 //! each, in any order. Numbers are in decimal, flags 0 or 1, octets two hexadecimal digits each, in either case, and `-`
-//! stands for what is absent. A timeslot's number is its full-rate channel; with `/0` or `/1` behind it, one of its half-rate
-//! channels. Fields are handed on as the text behind the name. Ours, of no standard.
+//! stands for what is absent. A timeslot's number is its full-rate channel; with `/0` or `/1` behind it, one of its
+//! half-rate channels. Fields are handed on as the text behind the name. Ours, of no standard.
 //!
 //! | Link | Message | Fields |
 //! |---|---|---|

@@ -1,6 +1,6 @@
--- What a view says of the book that it asks: what it may choose there, a free channel of a cell at a rate (TS 48.058 clause 4) or a
--- free Handover Reference (TS 44.018 clause 10.5.2.15), which book it began with, that the desk doesn't know the view's last
--- receipt, and for which events it may be refused memory.
+-- What a view says of the book that it asks: what it may choose there, a channel of a cell that is free at a rate
+-- (TS 48.058 clause 4) or a free Handover Reference (TS 44.018 clause 10.5.2.15), which book it began with, that the desk
+-- doesn't know the view's last receipt, and for which events it may be refused memory.
 use Rattle.std.specs.Prelude.{◌≡◌, ℕ, IsTrue, List}
 use Rattle.channel_fsm.specs.declared.Rate.{Rate}
 use Rattle.radio_book.specs.declared.event.Event.{Event}
@@ -20,8 +20,9 @@ use Rattle.radio_desk.specs.declared.desk.DeskFault.TheVariants.{Foreign, NoMemo
 abbrev pub Entry : Type 0
 Entry = Event × Reply
 
--- No channel of a cell at this rate is free; this Take or Reserve chooses what is; the book began as this one; the desk doesn't know the
--- view's last receipt, which is of this place (counted from 0); or memory may be refused where this event is asked.
+-- No channel of a cell is free at this rate; this Take or Reserve chooses what is; the book began as this one; the desk
+-- doesn't know the view's last receipt, which is of this place (counted from 0); or memory may be refused where this event
+-- is asked.
 pub data Claim : Type 0 where
   NoneFree : ℕ → Rate → Claim
   Chosen : Event → Claim

@@ -1,5 +1,5 @@
 -- Plans: what a controller asks of the book and what it sends, each step by the replies before it.
-use Rattle.std.specs.Prelude.{◌≡◌, ◌⊎◌, ◌↔◌, ℕ, ◌==◌, if◌then◌else◌, Bool, true, false, List, [], ◌∷◌, ◌++◌, AllPairs, Contains, Option, Some, None}
+use Rattle.std.specs.Prelude.{◌≡◌, ◌⊎◌, ◌↔◌, ℕ, ◌==◌, if◌then◌else◌, Bool, List, [], ◌∷◌, ◌++◌, AllPairs, Contains, Option, Some, None}
 use Rattle.channel_fsm.specs.declared.ChanId.{ChanId}
 use Rattle.channel_fsm.specs.declared.Rate.{Rate}
 use Rattle.channel_fsm.specs.Slots.{rate_of}
@@ -23,9 +23,9 @@ pub data Room : Type 0 where
   ForUnread : ℕ → Room
   ForReports : Room
 
--- What is done with one input, step by step: room is made; an event is asked, and the reply decides the next step; some free
--- channel of a cell at a rate is taken, or none is free; some free reference is reserved; a message is sent; a call has these last
--- reports from now on; the candidates that such reports make of the cells are gone through in their order.
+-- What is done with one input, step by step: room is made; an event is asked, and the reply decides the next step; some
+-- channel of a cell that is free at a rate is taken, or none is; some free reference is reserved; a message is sent; a call
+-- has these last reports from now on; the candidates that such reports make of the cells are gone through in their order.
 pub data Plan : Type 0 where
   Ends : Plan
   Readies : Room → Plan → Plan

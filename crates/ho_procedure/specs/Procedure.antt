@@ -470,9 +470,9 @@ unfoldable pub clear_command_plan : ℕ → ℕ → Plan
 clear_command_plan c cause = Readies (ForMessages 4) (Asks (event.Look c) (clear_command_rest c cause))
 
 -- HANDOVER REQUEST (TS 48.008 clause 3.1.5.2): a call is to come from another controller. It is turned away with no radio
--- resource available where it wants another channel than one for speech, or its cell has none free of a rate that it
--- permits; with ciphering algorithm not supported where it must be ciphered; with invalid message contents where the cell isn't an own
--- one.
+-- resource available where it wants another channel than one for speech, or its cell has none that is free at a rate that
+-- it permits; with ciphering algorithm not supported where it must be ciphered; with invalid message contents where the cell
+-- isn't an own one.
 
 -- the channel type asks for speech (clause 3.2.2.11: the low four bits of its first octet)
 abbrev pub is_speech : List ℕ → Bool
@@ -485,8 +485,8 @@ only rate = record { preferred = rate; other = None }
 abbrev pub preferring : Rate → Rate → PermittedRates
 preferring rate other = record { preferred = rate; other = Some other }
 
--- the rates that it permits (its second octet): 09 the half rate alone, 0A and 0F the full rate
--- preferred, 0B the half rate preferred; all others ask for the full rate
+-- the rates that it permits (its second octet): 09 the half rate alone, 0A and 0F the full rate preferred, 0B the half rate
+-- preferred; all others ask for the full rate
 abbrev pub rates_by : ℕ → PermittedRates
 rates_by octet =
     if octet == 9 then only Half else (if octet == 10 || octet == 15 then preferring Full Half else (if octet == 11 then preferring Half Full else only Full))

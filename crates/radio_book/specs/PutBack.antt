@@ -1,5 +1,5 @@
 -- What is kept of a call, out of the tables while the inverses of its attempt run. Ours, of no standard.
-use Rattle.std.specs.Prelude.{ℕ, if◌then◌else◌, Option, Some, None, option_and_then}
+use Rattle.std.specs.Prelude.{ℕ, if◌then◌else◌, Option, None, option_and_then}
 use Rattle.std.specs.Option.{option_map}
 use Rattle.attempt_journal.specs.declared.Timer.{Timer}
 use Rattle.radio_tables.specs.declared.kinds.CallRecord.{CallRecord}

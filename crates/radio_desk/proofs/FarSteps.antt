@@ -3,6 +3,7 @@
 use Rattle.std.proofs.Common.{◌≡◌, ◌⊎◌, inl, inr, ℕ, Bool, true, false, not, ◌&&◌, ◌==◌, if◌then◌else◌, is_some, Option, Some, None, refl, sym, ◌∙◌, ap}
 use Rattle.std.proofs.lemmas.Bool.{and_parts, and_left, and_right, ne_eqb, both_ways}
 use Rattle.channel_fsm.specs.declared.ChanId.{ChanId}
+use Rattle.channel_fsm.specs.Keys.{sub_number}
 use Rattle.radio_book.specs.declared.event.Event.{Event}
 use Rattle.radio_book.specs.declared.event.Event.TheVariants as event
 use Rattle.radio_book.specs.declared.event.Refusal.{Refusal}
@@ -73,7 +74,7 @@ other_call c d apart = ne_eqb d c (λ same. apart (ap call_row (sym same)))
 
 other_channel : (t : Option ChanId) (y : ChanId) → ((x : ChanId) → t ≡ Some x → x.cell ≡ y.cell → ⊥) → is_channel t (Some y) ≡ false
 other_channel None y apart = refl
-other_channel (Some x) y apart = and_left (y.cell == x.cell) (y.trx == x.trx && y.tn == x.tn) (ne_eqb y.cell x.cell (λ same. apart x refl (sym same)))
+other_channel (Some x) y apart = and_left (y.cell == x.cell) (y.trx == x.trx && (y.tn == x.tn && sub_number y.sub == sub_number x.sub)) (ne_eqb y.cell x.cell (λ same. apart x refl (sym same)))
 
 ended_no : (c d : ℕ) (o : Option ℕ) → is_call c (Some d) ≡ false → (o ≡ None) ⊎ (o ≡ Some d) → is_call c o ≡ false
 ended_no c d o other (inl none) = ap (is_call c) none
@@ -156,7 +157,11 @@ no_release c t s ends_it = by (told s.event)
     by (inl it) = ap (is_channel t) it.1.released ∙ no_channel t
     by (inr it) = absurd (both_ways (is_call c (ended_by s.event)) (ap (is_call c) it.1.ended) (and_parts (is_call c (ended_by s.event)) (is_accepted s.reply) ends_it).0)
 
-none_both : (q : Bool) → (if q then None {ℕ} else None) ≡ None
+-- no number
+abbrev no_number_yet : Option ℕ
+no_number_yet = None
+
+none_both : (q : Bool) → (if q then no_number_yet else no_number_yet) ≡ no_number_yet
 none_both true = refl
 none_both false = refl
 

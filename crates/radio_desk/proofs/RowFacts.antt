@@ -1,18 +1,22 @@
 -- Each attempt that a step concerns stands in the step's row: so it is enough to look at those that do.
-use Rattle.std.proofs.Common.{◌≡◌, ◌⊎◌, inl, inr, ℕ, zero, suc, ◌+◌, ◌<◌, arith, Bool, true, false, not, cond, ◌&&◌, ◌||◌, ◌==◌, is_some, List, [], ◌∷◌, ◌++◌, map, get_or, set, Option, Some, None, refl, sym, ◌∙◌, ap, subst}
+use Rattle.std.proofs.Common.{◌≡◌, ◌⊎◌, inl, inr, ℕ, zero, suc, ◌-◌, ◌<◌, ◌≤◌, arith, take, drop, Bool, true, false, not, cond, ◌&&◌, ◌||◌, ◌==◌, List, [], ◌∷◌, ◌++◌, map, get_or, set, Option, Some, None, refl, sym, ◌∙◌, ap, subst}
 use Rattle.std.specs.Prelude.{length, filter, slice_get}
 use Rattle.std.specs.List.{list_any, list_all}
-use Rattle.std.proofs.lemmas.Bool.{and_parts, and_from, and_left, and_right, or_cases, or_left, or_right, eqb-true, eq-eqb, both_ways, cases_Bool, cases_eq, not_from_false, false_from_ne_true, cond-true}
-use Rattle.std.proofs.lemmas.List.{length-set, get_or-set_other, map-set, get_or-map}
+use Rattle.std.proofs.lemmas.Bool.{and_parts, and_from, and_left, and_right, or_cases, or_left, or_right, eqb-true, eq-eqb, both_ways, cases_Bool, cases_eq, false_from_ne_true}
+use Rattle.std.proofs.lemmas.List.{length-drop, length-set, get_or-set_other, map-set, get_or-map}
 use Rattle.std.proofs.lemmas.List.Folds.{list_any-append}
 use Rattle.std.proofs.lemmas.Grind.{get_or-set_at}
-use Rattle.channel_fsm.specs.declared.ChanId.{ChanId}
+use Rattle.std.proofs.Math.Seq.{take-length}
 use Rattle.radio_book.specs.declared.undone.StepAt.{StepAt}
 use Rattle.radio_book.specs.declared.following.Followed.{Followed}
 use Rattle.radio_book.specs.Following.{stays, holds, after, is_over}
 use Rattle.radio_book.proofs.Frame.{same_some}
 use Rattle.radio_desk.specs.Followers.{call_row, cell_row, target_row, step_row, refused_row, row_of, with_place, stands, StandsIn, AreRows, IsEnough, passes, passes_at, open_places, cleaned, gone_on, gone_on_with}
 use Rattle.radio_desk.proofs.FarSteps.{IsFar, is_far, far_stays, far_after, far_frees, over_stays, over_frees, over_after, after_again}
+
+-- what follows the first of a list
+pub behind_first : {X : Type 0} → (x : X) (xs : List X) → take (length (x ∷ xs) - 1) xs ≡ xs
+behind_first x xs = ap (λ n. take n xs) (sym (length-drop 1 (x ∷ xs))) ∙ take-length xs
 
 -- ONE ROW IN A LIST OF ROWS
 
@@ -153,6 +157,17 @@ module _ (s : StepAt) where
       by : (on p ≡ p) ⊎ (false ≡ true) → map on ps ≡ ps → (on p ∷ map on ps) ≡ (p ∷ ps)
       by (inl still) rest = λ i. still i ∷ rest i
       by (inr never) rest = cc
+
+  -- once the first of a row has gone on, the others are enough
+  pub enough_more : (ps qs : List Followed) (row : List ℕ) (d : ℕ) → 1 ≤ length row → IsEnough ps row s → qs ≡ gone_on ps (get_or row 0 d) s → IsEnough qs (take (length row - 1) (drop 1 row)) s
+  enough_more ps qs [] d some enough is = absurd (omega arith)
+  enough_more ps qs (i ∷ row) d some enough is =
+      subst (λ row. IsEnough qs row s) (sym (behind_first i row)) (subst (λ qs. IsEnough qs row s) (sym is) (enough_left ps i row enough))
+
+  -- once all of a row have, all attempts have
+  pub all_have : (ps all : List Followed) (row : List ℕ) → length row < 1 → IsEnough ps row s → map on ps ≡ map on all → ps ≡ map on all
+  all_have ps all [] none enough same = sym (none_left ps enough) ∙ same
+  all_have ps all (i ∷ row) none enough same = absurd (omega arith)
 
 -- ROWS
 

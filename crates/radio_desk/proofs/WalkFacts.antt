@@ -1,6 +1,5 @@
 -- Along a walk it is enough to keep attempts that are over among the others; and one pass finds which attempts settle.
-use Rattle.std.proofs.Common.{◌≡◌, ◌⊎◌, inl, inr, ℕ, ◌+◌, Bool, true, false, not, cond, ◌&&◌, ◌||◌, if◌then◌else◌, is_some, is_none, List, [], ◌∷◌, ◌++◌, map, Option, Some, None, refl, sym, ◌∙◌, ap, append_assoc}
-use Rattle.std.specs.Prelude.{filter}
+use Rattle.std.proofs.Common.{◌≡◌, ◌⊎◌, inl, inr, ℕ, suc, ◌+◌, ◌-◌, ◌≤◌, length, take, drop, get_or, Bool, true, false, not, cond, ◌&&◌, ◌||◌, if◌then◌else◌, is_some, is_none, List, [], ◌∷◌, ◌++◌, map, Option, Some, None, refl, sym, ◌∙◌, ap, append_assoc, arith}
 use Rattle.std.specs.List.{list_any, list_all}
 use Rattle.std.specs.Option.{option_to_list, option_or}
 use Rattle.std.proofs.lemmas.Bool.{cases_Bool, cond-true, cond-false}
@@ -14,6 +13,7 @@ use Rattle.radio_book.specs.Found.{opened_by, first_place}
 use Rattle.radio_book.specs.Following.{stays, holds, after, begun, is_over, settles, opened_in, opening_of, settling_in, settling, settling_count, followed_on, remains, is_held_by, remaining_from, all_held_from}
 use Rattle.radio_desk.specs.Followers.{open_among, settled_flags, flagged, flags_behind}
 use Rattle.radio_desk.proofs.FarSteps.{over_stays, over_frees, over_after}
+use Rattle.radio_desk.proofs.RowFacts.{behind_first}
 
 -- ATTEMPTS THAT ARE OVER
 
@@ -138,3 +138,62 @@ flags_same s ss ps =
     ap (λ flags. flags ++ settled_flags ss) (map-append (λ p. settles p ss) (map (λ p. after p s) ps) (option_to_list (opening_of s)))
     ∙ append_assoc (map (λ p. settles p ss) (map (λ p. after p s) ps)) (map (λ p. settles p ss) (option_to_list (opening_of s))) (settled_flags ss)
     ∙ ap (λ flags. flags ++ settled_flags (s ∷ ss)) (sym (flags_on s ss ps))
+
+-- ONE STEP FURTHER IN A LIST
+
+-- what follows the first
+abbrev left : List StepAt → List StepAt
+left steps = take (length steps - 1) (drop 1 steps)
+
+first_left : (steps : List StepAt) (d : StepAt) → 1 ≤ length steps → steps ≡ get_or steps 0 d ∷ left steps
+first_left [] d some = absurd (omega arith)
+first_left (s ∷ ss) d some = ap (λ ss. s ∷ ss) (sym (behind_first s ss))
+
+one_at_most : (q : Bool) → (if q then 1 else 0) ≤ 1
+one_at_most true = omega arith
+one_at_most false = omega arith
+
+module _ (rest : List StepAt) (d : StepAt) (some : 1 ≤ length rest) where
+  abbrev s : StepAt
+  s = get_or rest 0 d
+
+  abbrev ss : List StepAt
+  ss = left rest
+
+  split : rest ≡ s ∷ ss
+  split = first_left rest d some
+
+  pub flags_more : (ps qs : List Followed) (o : Option Followed) (all : List Bool) → map (λ p. settles p rest) ps ++ settled_flags rest ≡ all → qs ≡ map (λ p. after p s) ps ++ option_to_list o → o ≡ opening_of s → map (λ p. settles p ss) qs ++ settled_flags ss ≡ all
+  flags_more ps qs o all were next opens =
+      ap (λ qs. map (λ p. settles p ss) qs ++ settled_flags ss) (next ∙ ap (λ o. map (λ p. after p s) ps ++ option_to_list o) opens)
+      ∙ flags_same s ss ps
+      ∙ ap (λ r. map (λ p. settles p r) ps ++ settled_flags r) (sym split) ∙ were
+
+  module _ (flags : List Bool) (are : flags ≡ settled_flags rest) where
+    flags_here : flags ≡ map (λ p. settles p ss) (option_to_list (opening_of s)) ++ settled_flags ss
+    flags_here = are ∙ ap settled_flags split
+
+    pub flags_left : (new : List Bool) → new ≡ flags_behind (opening_of s) flags → new ≡ settled_flags ss
+    flags_left new gives = gives ∙ ap (flags_behind (opening_of s)) flags_here ∙ other_flags (opening_of s) ss (settled_flags ss)
+
+    module _ (ps qs : List Followed) (o : Option Followed) (opens : o ≡ flagged (opening_of s) flags) (next : qs ≡ map (λ p. after p s) ps ++ option_to_list o) where
+      settles_it : o ≡ settling s ss
+      settles_it = opens ∙ ap (flagged (opening_of s)) flags_here ∙ first_flag (opening_of s) ss (settled_flags ss)
+
+      pub within_more : (n m bound : ℕ) → m ≡ n + (if is_some o then 1 else 0) → n + length rest ≤ bound → m + length ss ≤ bound
+      within_more n m bound gives within =
+          let one = one_at_most (is_some o) in
+          let long : length rest ≡ suc (length ss) = ap length split in
+          omega (arith, one, long)
+
+      pub count_more : (n m all : ℕ) → m ≡ n + (if is_some o then 1 else 0) → n + settling_count rest ≡ all → m + settling_count ss ≡ all
+      count_more n m all gives were =
+          ap (λ m. m + settling_count ss) gives ∙ count_on s ss ps qs o settles_it next n ∙ ap (λ r. n + settling_count r) (sym split) ∙ were
+
+      pub remaining_more : (xs ys all : List StepAt) → ys ≡ xs ++ (if is_none o && list_all (λ p. stays p s) ps then s ∷ [] else []) → xs ++ remaining_from (open_among ps) rest ≡ all → ys ++ remaining_from (open_among qs) ss ≡ all
+      remaining_more xs ys all gives were =
+          remaining_on s ss ps qs o settles_it next xs ys gives ∙ ap (λ r. xs ++ remaining_from (open_among ps) r) (sym split) ∙ were
+
+      pub held_more : (old new all : Option ℕ) → new ≡ option_or old (if is_held_by ps s then Some s.place else None) → option_or old (first_place (all_held_from (open_among ps) rest)) ≡ all → option_or new (first_place (all_held_from (open_among qs) ss)) ≡ all
+      held_more old new all gives were =
+          held_on s ss ps qs o settles_it next old new gives ∙ ap (λ r. option_or old (first_place (all_held_from (open_among ps) r))) (sym split) ∙ were

@@ -220,7 +220,7 @@ fn leads_alike<A: Allocator + Copy>(
     Ok(both(leads, alike))
 }
 
-/// Audits a history that leads from one book to another: walks along it once, and runs what remains once.
+/// Audits a history that leads from one book to another: walks along it twice, and runs what remains once.
 pub(crate) fn audit_of<A: Allocator + Copy>(
     alloc: A,
     opening: &Book<A>,

@@ -183,7 +183,6 @@ impl<A: Allocator + Copy> Desk<A> {
     /// owed because of it.
     // Compiled into its callers, so that a receipt that neither seat nor caller keeps is never written.
     #[inline(always)]
-    #[tactic(auto, using(crate::proofs::Leading::leads_more))]
     pub fn judge(&mut self, seat: &mut Seat, event: Event) -> Result<Receipt, DeskFault>
         ensures foreign { (place : ℕ) → (result ≡ Err (DeskFault.Foreign place)) ↔
             IsForeign self.old.history seat.old place }
@@ -249,7 +248,6 @@ impl<A: Allocator + Copy> Desk<A> {
     }
 
     /// Judges a `Reserve` of some free reference, as [`Book::reserve_any`] chooses it. Else as [`Desk::judge`].
-    #[tactic(auto, using(crate::proofs::Leading::leads_more))]
     pub fn judge_reserve(&mut self, seat: &mut Seat, call: u16) -> Result<Receipt, DeskFault>
         ensures foreign { (place : ℕ) → (result ≡ Err (DeskFault.Foreign place)) ↔
             IsForeign self.old.history seat.old place }

@@ -143,6 +143,14 @@ fn go_on_at(attempts: &mut [Followed], row: &[usize], step: &StepAt)
     }
 }
 
+/// The same of a list that grows.
+fn go_on_all<A: Allocator>(attempts: &mut Vec<Followed, A>, row: &[usize], step: &StepAt)
+    requires { IsEnough attempts.old.items row.now step.now }
+    ensures { attempts.new.items ≡ map (λ p. after p step.now) attempts.old.items }
+{
+    go_on_at(attempts.as_mut_slice(), row, step);
+}
+
 /// Attempts that are followed, with the rows in which they stand.
 #[derive(Drop)]
 pub(crate) struct Followers<A: Allocator> {
@@ -201,7 +209,7 @@ impl<A: Allocator + Copy> Followers<A> {
         ensures rows { AreRows self.new.rows self.new.attempts.items }
     {
         let row = step_row(step);
-        go_on_at(self.attempts.as_mut_slice(), self.rows.row(row), step);
+        go_on_all(&mut self.attempts, self.rows.row(row), step);
         self.clean(row);
         if let Some(row) = refused_row(step) {
             self.clean(row);

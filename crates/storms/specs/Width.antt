@@ -23,7 +23,8 @@ places_of cell = map (place_in cell) (range_with_len 0 (most_trx * timeslots_of_
 abbrev pub traffic_of : SiteView → ℕ → List ChanId
 traffic_of site cell = filter (is_traffic site) (places_of cell)
 
--- How many full-rate traffic channels each cell needs. Calls are dealt out to the cells in turn, and as many as begin in one may come.
+-- How many full-rate traffic channels each cell needs. Calls are dealt out to the cells in turn, and as many as begin in
+-- one may come.
 abbrev pub needed : ℕ → ℕ → ℕ
 needed cells calls = 2 * div_ceil calls cells
 

@@ -114,8 +114,8 @@ fn short_cell<A: Allocator + Copy>(site: &Site<A>, many: usize) -> Option<(u8, u
     None
 }
 
-/// How many full-rate traffic channels each of so many cells needs. The calls that begin in a cell stay there or go to the next, so it
-/// has to have twice as many as the most that begin in one.
+/// How many full-rate traffic channels each of so many cells needs. The calls that begin in a cell stay there or go to the
+/// next, so it has to have twice as many as the most that begin in one.
 fn needed(cells: u8, calls: u16) -> usize
     requires { 0 < cells }
     ensures { result ≡ needed cells calls }

@@ -48,7 +48,7 @@ struct Rolled {
     which: u16,
 }
 
-fn rolled(dice: &mut Dice) -> Rolled {
+fn roll_all(dice: &mut Dice) -> Rolled {
     Rolled {
         call: (dice.roll() % 256).wrapping_mul(257),
         chan: channel_at(dice.roll()),
@@ -146,7 +146,7 @@ fn next_of<T: Tables>(tables: &T, rolled: Rolled) -> Event {
 
 // Of eight events five go on with a call, two say that a channel was released, and one is any.
 fn event_of<T: Tables>(tables: &T, dice: &mut Dice) -> Event {
-    let rolled = rolled(dice);
+    let rolled = roll_all(dice);
     match dice.roll() % 8 {
         0 => any_event(rolled),
         1 | 2 => Released(rolled.chan),

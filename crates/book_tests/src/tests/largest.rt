@@ -81,6 +81,13 @@ const BESIDE: ChanId = ChanId {
     tn: 6,
 };
 
+// The first channel of the second cell.
+const NEXT: ChanId = ChanId {
+    cell: 1,
+    trx: 0,
+    tn: 1,
+};
+
 // None for traffic: that of a cell's broadcast, and one with a number behind the last timeslot, TRX and cell.
 const BROADCAST: ChanId = ChanId {
     cell: 0,
@@ -106,8 +113,8 @@ const NO_CELL: ChanId = ChanId {
     tn: 1,
 };
 
-// Call 0 goes from the last channel to the first by reference 255. Call 65535 comes to the last cell by reference 0, and
-// call 1 to the first cell, where number 0 is another reference.
+// Call 0 goes from the last channel to the first by reference 255. Calls 65535 and 2 come to the last cell and the second by
+// the last reference of all, and by the one behind call 0's. Call 1 comes to the first cell, where number 0 is another one.
 const ALL_COME: &[(Event, Reply)] = &[
     (Open(0, LAST), Done),
     (Open(65535, LAST), Refused(ChannelBusy(LAST))),
@@ -119,7 +126,9 @@ const ALL_COME: &[(Event, Reply)] = &[
     (Take(0, Internal, FIRST), Done),
     (Reserve(0, 255), Done),
     (Take(65535, Incoming, BESIDE), Done),
-    (Reserve(65535, 0), Done),
+    (Reserve(65535, 255), Done),
+    (Take(2, Incoming, NEXT), Done),
+    (Reserve(2, 0), Done),
     (Take(1, Incoming, SECOND), Done),
     (Reserve(1, 255), Refused(RefBusy(0, 255))),
     (Reserve(1, 0), Done),
@@ -138,7 +147,7 @@ const HAS_COME: Reply = Record(
             kind: AttemptKind::Incoming,
             stage: Stage::Reserved,
             target: Some(BESIDE),
-            reference: Some(0),
+            reference: Some(255),
         }),
     },
     None,
@@ -166,10 +175,10 @@ fn are_answered(
 
 fn keeps_apart(rt: &impl Abort, book: &mut Book<Global>) -> Result<(), Fail> {
     are_answered(rt, book, ALL_COME)?;
-    equals_at(rt, book.usage(), holds(4, 3, 3, 1), "come");
+    equals_at(rt, book.usage(), holds(5, 4, 4, 1), "come");
     equals_at(rt, (book.free_in(0), book.free_in(63)), (29, 29), "come");
     are_answered(rt, book, ALL_GO)?;
-    equals_at(rt, book.usage(), holds(3, 3, 1, 0), "gone");
+    equals_at(rt, book.usage(), holds(4, 4, 2, 0), "gone");
     equals_at(rt, (book.free_in(0), book.free_in(63)), (29, 30), "gone");
     Ok(())
 }

@@ -82,17 +82,17 @@ fn a_foreign_seat_is_told(rt: HostRuntime) -> Result<(), Fail> {
     are_foreign(&rt, rt.alloc(), &mut controller)
 }
 
-/// A call whose mobile is sent to its target: nine events.
+/// A call whose mobile is sent to its target: ten events.
 const BEFORE: &str = "open 1 0 0 3
 abis 0 0 0822010b081234
 handover 1 1
 abis 1 1 0822010b080000";
 
-/// A controller whose desk doesn't know its seat any more once it has judged eleven events.
+/// A controller whose desk doesn't know its seat any more once it has judged twelve events.
 fn leaving(alloc: Global) -> Result<Controller<Leaving, Global>, Fail> {
     let site = shared_site(alloc, alloc, THREE_CHANNELS)?;
     let desk = empty_desk(alloc, &site)?;
-    Ok(Controller::new(alloc, Leaving::new(desk, 11), site))
+    Ok(Controller::new(alloc, Leaving::new(desk, 12), site))
 }
 
 /// The call is looked at, its attempt taken back, and its target released; it isn't ended any more.

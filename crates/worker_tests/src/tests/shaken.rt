@@ -171,7 +171,7 @@ fn give_phases<R: Threads + Wait + Abort + AllocGlobal + Drop>(rt: &R, hall: &mu
 
 /// Each worker handled its four calls, with seven inputs each.
 fn are_done<R: Wait + Abort + Drop>(rt: &R, left: &Left<R, Global>) {
-    assert!(rt; left.workers.len() == 16 && left.front.len() == 320);
+    assert!(rt; left.workers.len() == 16 && left.front.len() == 288);
     for worker in &left.workers {
         assert!(rt; worker.given.len() == 28 && worker.taken.len() == 28);
         are_ok(rt, &worker.taken);

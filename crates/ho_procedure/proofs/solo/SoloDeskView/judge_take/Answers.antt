@@ -9,3 +9,6 @@ returns-clause-foreign g c = not_foreign _ _ _ c.new.ensures.none c.judge_take.e
 
 pub returns-clause-said : goal.returns-clause-said
 returns-clause-said g c = rw (← c.self.view_is) (still_true _ _ (take_opens _ _ _ _ _ c.judge_take.ensures.judged c.judge_take.ensures.kept c.judge_take.ensures.unchanged))
+
+pub returns-clause-refused : goal.returns-clause-refused
+returns-clause-refused g c = rw (← c.self.view_is) c.judge_take.ensures.memory
