@@ -146,3 +146,253 @@ What a line may not say:
   [2]
   $ cat errors
   bad.txt:1: TN is 0 to 7, with /0 or /1 behind it for half rate, found 3/00
+
+Each type of a channel on each timeslot, in a channel number and in a channel description; the other types are bad:
+
+  $ cat >types.txt <<'END'
+  > abis 082e0100
+  > abis 082e0108
+  > abis 082e0110
+  > abis 082e0118
+  > abis 082e0120
+  > abis 082e0140
+  > abis 082e0180
+  > abis 082e01f8
+  > abis 082e0103
+  > abis 082e010b
+  > abis 082e0113
+  > abis 082e011b
+  > abis 082e0123
+  > abis 082e0143
+  > abis 082e0183
+  > abis 082e01fb
+  > abis 082e0107
+  > abis 082e010f
+  > abis 082e0117
+  > abis 082e011f
+  > abis 082e0127
+  > abis 082e0147
+  > abis 082e0187
+  > abis 082e01ff
+  > rr 062bd56700a36b2a05
+  > rr 062bd56708a36b2a05
+  > rr 062bd56710a36b2a05
+  > rr 062bd56718a36b2a05
+  > rr 062bd56720a36b2a05
+  > rr 062bd56740a36b2a05
+  > rr 062bd56780a36b2a05
+  > rr 062bd567f8a36b2a05
+  > rr 062bd56703a36b2a05
+  > rr 062bd5670ba36b2a05
+  > rr 062bd56713a36b2a05
+  > rr 062bd5671ba36b2a05
+  > rr 062bd56723a36b2a05
+  > rr 062bd56743a36b2a05
+  > rr 062bd56783a36b2a05
+  > rr 062bd567fba36b2a05
+  > rr 062bd56707a36b2a05
+  > rr 062bd5670fa36b2a05
+  > rr 062bd56717a36b2a05
+  > rr 062bd5671fa36b2a05
+  > rr 062bd56727a36b2a05
+  > rr 062bd56747a36b2a05
+  > rr 062bd56787a36b2a05
+  > rr 062bd567ffa36b2a05
+  > END
+  $ ./lab decode --from types.txt 2>/dev/null
+  1 fault abis 4 1
+  2 RF CHANNEL RELEASE tn=0
+  3 RF CHANNEL RELEASE tn=0/0
+  4 RF CHANNEL RELEASE tn=0/1
+  5 fault abis 4 1
+  6 fault abis 4 1
+  7 fault abis 4 1
+  8 fault abis 4 1
+  9 fault abis 4 1
+  10 RF CHANNEL RELEASE tn=3
+  11 RF CHANNEL RELEASE tn=3/0
+  12 RF CHANNEL RELEASE tn=3/1
+  13 fault abis 4 1
+  14 fault abis 4 1
+  15 fault abis 4 1
+  16 fault abis 4 1
+  17 fault abis 4 1
+  18 RF CHANNEL RELEASE tn=7
+  19 RF CHANNEL RELEASE tn=7/0
+  20 RF CHANNEL RELEASE tn=7/1
+  21 fault abis 4 1
+  22 fault abis 4 1
+  23 fault abis 4 1
+  24 fault abis 4 1
+  25 fault rr 4 2
+  26 HANDOVER COMMAND arfcn=871 ncc=2 bcc=5 tn=0 tsc=5 carrier=875 reference=42 atc=0 power=5
+  27 HANDOVER COMMAND arfcn=871 ncc=2 bcc=5 tn=0/0 tsc=5 carrier=875 reference=42 atc=0 power=5
+  28 HANDOVER COMMAND arfcn=871 ncc=2 bcc=5 tn=0/1 tsc=5 carrier=875 reference=42 atc=0 power=5
+  29 fault rr 4 2
+  30 fault rr 4 2
+  31 fault rr 4 2
+  32 fault rr 4 2
+  33 fault rr 4 2
+  34 HANDOVER COMMAND arfcn=871 ncc=2 bcc=5 tn=3 tsc=5 carrier=875 reference=42 atc=0 power=5
+  35 HANDOVER COMMAND arfcn=871 ncc=2 bcc=5 tn=3/0 tsc=5 carrier=875 reference=42 atc=0 power=5
+  36 HANDOVER COMMAND arfcn=871 ncc=2 bcc=5 tn=3/1 tsc=5 carrier=875 reference=42 atc=0 power=5
+  37 fault rr 4 2
+  38 fault rr 4 2
+  39 fault rr 4 2
+  40 fault rr 4 2
+  41 fault rr 4 2
+  42 HANDOVER COMMAND arfcn=871 ncc=2 bcc=5 tn=7 tsc=5 carrier=875 reference=42 atc=0 power=5
+  43 HANDOVER COMMAND arfcn=871 ncc=2 bcc=5 tn=7/0 tsc=5 carrier=875 reference=42 atc=0 power=5
+  44 HANDOVER COMMAND arfcn=871 ncc=2 bcc=5 tn=7/1 tsc=5 carrier=875 reference=42 atc=0 power=5
+  45 fault rr 4 2
+  46 fault rr 4 2
+  47 fault rr 4 2
+  48 fault rr 4 2
+  [2]
+
+Each half is written as it is read:
+
+  $ ./lab encode abis "CHANNEL ACTIVATION tn=7 activation=0 mode=00010801 reference=-"
+  0821010f0300060400010801
+  $ ./lab encode rr "HANDOVER COMMAND arfcn=871 ncc=2 bcc=5 tn=0 tsc=5 carrier=875 reference=42 atc=0 power=5"
+  062bd56708a36b2a05
+  $ ./lab encode abis "CHANNEL ACTIVATION tn=7/0 activation=0 mode=00010901 reference=-"
+  082101170300060400010901
+  $ ./lab encode rr "HANDOVER COMMAND arfcn=871 ncc=2 bcc=5 tn=0/0 tsc=5 carrier=875 reference=42 atc=0 power=5"
+  062bd56710a36b2a05
+  $ ./lab encode abis "CHANNEL ACTIVATION tn=7/1 activation=0 mode=00010901 reference=-"
+  0821011f0300060400010901
+  $ ./lab encode rr "HANDOVER COMMAND arfcn=871 ncc=2 bcc=5 tn=0/1 tsc=5 carrier=875 reference=42 atc=0 power=5"
+  062bd56718a36b2a05
+
+What a site file may not say of halves, and what is passed over:
+
+  $ sed 's/tch = .3., half = .3./tch = [3], half = [4]/' examples/half_rate.toml >bad.toml
+  $ ./lab check bad.toml 2>errors
+  site 3 half
+  [2]
+  $ cat errors
+  bad.toml: cell 1, trx 1: half: 4 isn't one of the timeslots at tch
+  $ sed 's/tch = .3., half = .3./tch = [3], half = [8]/' examples/half_rate.toml >bad.toml
+  $ ./lab check bad.toml 2>errors
+  site 3 half
+  [2]
+  $ cat errors
+  bad.toml: cell 1, trx 1: half: 8 isn't a timeslot from 0 to 7
+  $ sed 's/tch = .3., half = .3./tch = [3], half = [3, 3]/' examples/half_rate.toml >bad.toml
+  $ ./lab check bad.toml 2>errors
+  site 4 slot
+  [2]
+  $ cat errors
+  bad.toml: cell 1, trx 1: half: 3 stands twice, where it may stand once
+  $ sed 's/tch = .3., half = .3./tch = [3], half = [3, 3, 9]/' examples/half_rate.toml >bad.toml
+  $ ./lab check bad.toml 2>errors
+  site 3 half
+  [2]
+  $ cat errors
+  bad.toml: cell 1, trx 1: half: 9 isn't a timeslot from 0 to 7
+  $ sed 's/tch = .3., half = .3./tch = [3, 3], half = [4]/' examples/half_rate.toml >bad.toml
+  $ ./lab check bad.toml 2>errors
+  site 3 half
+  [2]
+  $ cat errors
+  bad.toml: cell 1, trx 1: half: 4 isn't one of the timeslots at tch
+  $ sed 's/tch = .3., half = .3./tch = [9], half = [9]/' examples/half_rate.toml >bad.toml
+  $ ./lab check bad.toml 2>errors
+  site 3 tch
+  [2]
+  $ cat errors
+  bad.toml: cell 1, trx 1: tch: 9 isn't a timeslot from 0 to 7
+  $ sed 's/tch = .3., half = .3./tch = [3], half = 3/' examples/half_rate.toml >bad.toml
+  $ ./lab check bad.toml 2>errors
+  site 3 half
+  [2]
+  $ cat errors
+  bad.toml: cell 1, trx 1: half: 3 isn't an array of timeslots that stand in tch
+  $ sed 's/tch = .3., half = .3./tch = [3], half = ["3"]/' examples/half_rate.toml >bad.toml
+  $ ./lab check bad.toml 2>errors
+  site 3 half
+  [2]
+  $ cat errors
+  bad.toml: cell 1, trx 1: half: a value of the kind string isn't a timeslot from 0 to 7
+  $ sed 's/tch = .3., half = .3./half = [3]/' examples/half_rate.toml >bad.toml
+  $ ./lab check bad.toml 2>errors
+  site 2 tch
+  [2]
+  $ cat errors
+  bad.toml: cell 1, trx 1: tch is missing: it has to be an array of timeslots from 0 to 7
+  $ sed 's/tch = .3., half = .3./tch = [3], half = [3], half = [3]/' examples/half_rate.toml >bad.toml
+  $ ./lab check bad.toml 2>errors
+  site 1
+  [2]
+  $ cat errors
+  bad.toml:29:73: duplicate key
+  $ sed 's/tch = .3., half = .3./tch = [3], half = []/' examples/half_rate.toml >bad.toml
+  $ ./lab check bad.toml 2>errors
+  cell 0 lac=23 ci=100 bcch=60 bsic=1/1 power=5 channels 0/0/2 0/0/3 0/0/3/0 0/0/3/1 neighbours 1
+  cell 1 lac=23 ci=101 bcch=871 bsic=2/5 power=5 channels 1/1/3 neighbours 0
+  $ cat errors
+  $ sed 's/tch = .3., half = .3./tch = [3], halves = [3]/' examples/half_rate.toml >bad.toml
+  $ ./lab check bad.toml 2>errors
+  cell 0 lac=23 ci=100 bcch=60 bsic=1/1 power=5 channels 0/0/2 0/0/3 0/0/3/0 0/0/3/1 neighbours 1
+  cell 1 lac=23 ci=101 bcch=871 bsic=2/5 power=5 channels 1/1/3 neighbours 0
+  warning: cell 1, trx 1: unknown key "halves" is ignored
+  $ cat errors
+
+Octets about a half that is no channel of the site, or that are cut:
+
+  $ printf 'abis 0 0 08220112080000\nabis 9 9 0822011b080000\nabis 0 0 0822011b0800\nabis 0 0 08220123080000\n' >octets.txt
+  $ ./lab run examples/half_rate.toml octets.txt
+  in abis 0 0 08220112080000
+  event confirm 0/0/2/0 -> refused 8 0/0/2/0
+  in abis 9 9 0822011b080000
+  event confirm 9/9/3/1 -> refused 8 9/9/3/1
+  in abis 0 0 0822011b0800
+  fault abis 5 4
+  in abis 0 0 08220123080000
+  fault abis 4 1
+  end channels=0 calls=0 references=0 timers=0
+
+A timeslot that isn't in half has no halves, nor has a line with what is no half:
+
+  $ printf 'open 1 0 0 2/0\n' >two.txt
+  $ ./lab run examples/half_rate.toml two.txt
+  in open 1 0 0 2/0
+  event open 1 0/0/2/0 -> refused 4
+  end channels=0 calls=0 references=0 timers=0
+  $ printf 'sim\nhold 0 0 3/2\n' >bad.txt
+  $ ./lab run examples/half_rate.toml bad.txt 2>&1 >/dev/null
+  bad.txt:2: TN is 0 to 7, with /0 or /1 behind it for half rate, found 3/2
+  [2]
+  $ printf 'sim\nhold 0 0 3/\n' >bad.txt
+  $ ./lab run examples/half_rate.toml bad.txt 2>&1 >/dev/null
+  bad.txt:2: TN is 0 to 7, with /0 or /1 behind it for half rate, found 3/
+  [2]
+  $ printf 'sim\nhold 0 0 /0\n' >bad.txt
+  $ ./lab run examples/half_rate.toml bad.txt 2>&1 >/dev/null
+  bad.txt:2: TN is 0 to 7, with /0 or /1 behind it for half rate, found /0
+  [2]
+  $ printf 'sim\nhold 0 0 3/0/\n' >bad.txt
+  $ ./lab run examples/half_rate.toml bad.txt 2>&1 >/dev/null
+  bad.txt:2: TN is 0 to 7, with /0 or /1 behind it for half rate, found 3/0/
+  [2]
+  $ printf 'sim\nhold 0 0 8/1\n' >bad.txt
+  $ ./lab run examples/half_rate.toml bad.txt 2>&1 >/dev/null
+  bad.txt:2: TN is 0 to 7, with /0 or /1 behind it for half rate, found 8/1
+  [2]
+  $ printf 'sim\nhold 0 0 3/-0\n' >bad.txt
+  $ ./lab run examples/half_rate.toml bad.txt 2>&1 >/dev/null
+  bad.txt:2: TN is 0 to 7, with /0 or /1 behind it for half rate, found 3/-0
+  [2]
+  $ printf 'event open 1 0/0/3/2 -> done\n' >bad.trace
+  $ ./lab audit examples/half_rate.toml bad.trace 2>&1 >/dev/null
+  bad.trace:1: no event with its reply, as run prints it: event look 1 -> refused 1
+  [2]
+  $ printf 'event open 1 0/0/3/ -> done\n' >bad.trace
+  $ ./lab audit examples/half_rate.toml bad.trace 2>&1 >/dev/null
+  bad.trace:1: no event with its reply, as run prints it: event look 1 -> refused 1
+  [2]
+  $ printf 'event open 1 0/0/3/01 -> done\n' >bad.trace
+  $ ./lab audit examples/half_rate.toml bad.trace 2>&1 >/dev/null
+  bad.trace:1: no event with its reply, as run prints it: event look 1 -> refused 1
+  [2]
