@@ -6,7 +6,7 @@
 use super::offices::{Course, Hall, Left, are_ok, at_a_desk, empty_desk, give_one};
 use crate::bag::Taken;
 use call_worker::{Gate, Point};
-use channel_fsm::ChanId;
+use channel_fsm::{ChanId, Sub};
 use ho_procedure::exchange::{Inbound, Line};
 use octet_elements::Octets;
 use radio_book::book::Usage;
@@ -47,6 +47,7 @@ fn home_of(call: u16) -> ChanId {
         cell: (call % CELLS) as u8,
         trx: 0,
         tn: 7,
+        sub: Sub::Full,
     }
 }
 
@@ -56,6 +57,7 @@ fn target_of(call: u16) -> ChanId {
         cell: ((call % CELLS + 16) % CELLS) as u8,
         trx: 0,
         tn: 1,
+        sub: Sub::Full,
     }
 }
 
