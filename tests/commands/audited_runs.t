@@ -9,7 +9,7 @@ An attempt is undone, and its release acknowledged.
   attempts 1
   held -
   same
-  $ head -17 printed | cmp - examples/handover_undone.trace
+  $ head -18 printed | cmp - examples/handover_undone.trace
 
 The mobile comes back; it arrives, so nothing was undone.
 
@@ -22,7 +22,7 @@ The mobile comes back; it arrives, so nothing was undone.
   held -
   same
 
-Call 2 is refused the target of call 1, in line 13 of the trace. With states that is line 21.
+Call 2 is refused the target of call 1, in line 14 of the trace. With states that is line 22.
 
   $ cat >held.txt <<'END'
   > open 1 0 0 3
@@ -34,30 +34,30 @@ Call 2 is refused the target of call 1, in line 13 of the trace. With states tha
   > END
   $ ./lab run examples/two_cells.toml held.txt --audit >printed
   [1]
-  $ sed -n 13p printed
+  $ sed -n 14p printed
   event open 2 1/1/3 -> refused 6 1/1/3
   $ tail -3 printed
   attempts 1
-  held 13
+  held 14
   differs
   $ ./lab run examples/two_cells.toml held.txt --audit --words >printed
   [1]
   $ tail -3 printed
   attempts 1
-  held 13
+  held 14
   differs
   $ ./lab run examples/two_cells.toml held.txt --state --audit >printed
   [1]
-  $ sed -n 21p printed
+  $ sed -n 22p printed
   event open 2 1/1/3 -> refused 6 1/1/3
   $ tail -3 printed
   attempts 1
-  held 21
+  held 22
   differs
   $ ./lab run examples/two_cells.toml held.txt >printed
   $ ./lab audit examples/two_cells.toml printed
   attempts 1
-  held 13
+  held 14
   differs
   [1]
 
@@ -76,14 +76,15 @@ A call for which no channel is free is no event; the next one is.
   > END
   $ ./lab run examples/two_cells.toml full.txt --audit >printed
   [1]
-  $ sed -n '18,21p' printed
+  $ sed -n '19,23p' printed
   in handover 3 1
+  event look 3 -> record 0/0/2 on
   none free 1
   in open 2 1 1 3
   event open 2 1/1/3 -> refused 6 1/1/3
   $ tail -3 printed
   attempts 1
-  held 21
+  held 23
   differs
 
 The release is awaited at the end, so the attempt stays.
@@ -118,7 +119,7 @@ it, in whose way a call is.
   > END
   $ ./lab run examples/two_cells.toml both.txt --peer examples/one_cell.toml --audit >printed
   [1]
-  $ sed -n '18,19p' printed
+  $ sed -n '19,20p' printed
   2: in open 2 0 0 1
   2: event open 2 0/0/1 -> refused 6 0/0/1
   $ tail -6 printed
@@ -126,7 +127,7 @@ it, in whose way a call is.
   1: held -
   1: same
   2: attempts 1
-  2: held 19
+  2: held 20
   2: differs
 
 Where nothing is run, nothing is taken out.
@@ -136,7 +137,7 @@ Where nothing is run, nothing is taken out.
   line 2
   [2]
   $ cat errors
-  bad.txt:2: TN is 0 to 7, found 8
+  bad.txt:2: TN is 0 to 7, with /0 or /1 behind it for half rate, found 8
   $ printf '' >empty.toml
   $ ./lab run empty.toml bad.txt --audit 2>/dev/null
   site 2 handover

@@ -3,7 +3,7 @@ too late, or by another cell's station, and scripts of random lines. What is exp
 that run them.
 
   $ tests/broken_messages ./lab
-  1821 broken messages, 0 read otherwise than expected
+  2006 broken messages, 0 read otherwise than expected
   $ tests/changed_scripts ./lab
   90 changed scripts met, 0 not
   $ tests/changed_scripts ./lab --random 1 4

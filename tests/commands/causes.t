@@ -464,6 +464,6 @@ Faults of messages.
   $ ./lab explain fault rr 3
   the message is cut
   $ ./lab explain fault rr 4 2
-  an element is bad: no full rate channel
+  an element is bad: no traffic channel
   $ ./lab explain fault rr 4 3
   an element is bad: the channel hops

@@ -116,7 +116,7 @@ Octets that are no radio resource message. The fifth are fifteen octets of measu
   $ ./lab decode rr 06151e1e006812a0000000000000000000 2>/dev/null
   fault rr 3
   [2]
-  $ ./lab decode rr 062BD56713A36B2A05 2>/dev/null
+  $ ./lab decode rr 062BD56723A36B2A05 2>/dev/null
   fault rr 4 2
   [2]
   $ ./lab decode rr 062BD5670BB36B2A05 2>/dev/null

@@ -131,7 +131,7 @@ A text that is no message, or can't be written, is refused with a reason on stan
   count is 1 (7 says that there are none), and n stands 0 times
   [2]
   $ ./lab encode abis 'RF CHANNEL RELEASE tn=8' 2>&1 >>printed
-  tn is 0 to 7, found "8"
+  tn is 0 to 7, with /0 or /1 behind it for half rate, found "8"
   [2]
   $ ./lab encode a CLEAR 2>&1 >>printed
   "CLEAR" is no message of the link a: a name stands before fields as KEY=VALUE, and bsc_lab help encode lists both

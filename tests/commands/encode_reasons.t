@@ -58,7 +58,22 @@ Messages in words that say none, and why: the first thing that is wrong with eac
   cause is 0 to 255, found "=1"
   [2]
   $ ./lab encode abis "RF CHANNEL RELEASE tn=8" 2>&1 >/dev/null
-  tn is 0 to 7, found "8"
+  tn is 0 to 7, with /0 or /1 behind it for half rate, found "8"
+  [2]
+  $ ./lab encode abis "RF CHANNEL RELEASE tn=3/2" 2>&1 >/dev/null
+  tn is 0 to 7, with /0 or /1 behind it for half rate, found "3/2"
+  [2]
+  $ ./lab encode abis "RF CHANNEL RELEASE tn=8/0" 2>&1 >/dev/null
+  tn is 0 to 7, with /0 or /1 behind it for half rate, found "8/0"
+  [2]
+  $ ./lab encode abis "RF CHANNEL RELEASE tn=3/" 2>&1 >/dev/null
+  tn is 0 to 7, with /0 or /1 behind it for half rate, found "3/"
+  [2]
+  $ ./lab encode abis "RF CHANNEL RELEASE tn=3/0/1" 2>&1 >/dev/null
+  tn is 0 to 7, with /0 or /1 behind it for half rate, found "3/0/1"
+  [2]
+  $ ./lab encode rr "HANDOVER COMMAND arfcn=871 ncc=2 bcc=5 tn=3/00 tsc=5 carrier=875 reference=42 atc=0 power=5" 2>&1 >/dev/null
+  tn is 0 to 7, with /0 or /1 behind it for half rate, found "3/00"
   [2]
   $ ./lab encode abis "CHANNEL ACTIVATION ACK tn=3 frame=65536" 2>&1 >/dev/null
   frame is 0 to 65535, found "65536"

@@ -1,6 +1,7 @@
 What scripts print stands beside them in a .trace, what they draw in an .svg.
 
   $ ls examples/*.trace examples/*.svg
+  examples/half_rate.trace
   examples/handover_arrives.trace
   examples/handover_between.svg
   examples/handover_between.trace
@@ -12,6 +13,8 @@ What scripts print stands beside them in a .trace, what they draw in an .svg.
   examples/real_stations.trace
   examples/station_stutters.svg
   examples/station_stutters.trace
+  $ ./lab run examples/half_rate.toml examples/half_rate.txt >printed
+  $ diff examples/half_rate.trace printed
   $ ./lab run examples/two_cells.toml examples/handover_arrives.txt >printed
   $ diff examples/handover_arrives.trace printed
   $ ./lab run examples/two_cells.toml examples/handover_reported.txt >printed

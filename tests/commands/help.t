@@ -62,6 +62,7 @@ What commands are for, and what their words are. No line has more than 100 colum
   $ grep -qF -- 'Statuses: 0 ' help
   $ grep -qF -- 'As in: bsc_lab encode ' help
   $ grep -qF -- 'Fields are KEY=VALUE' help
+  $ grep -qF -- 'as in 3/0 or 3/1 for a half-rate one' help
 
   $ ./lab check --help >help
   $ awk 'length > 100' help

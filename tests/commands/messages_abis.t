@@ -40,6 +40,22 @@ Messages on Abis (TS 48.058 clauses 8 and 9): what is read of the octets of each
   RF CHANNEL RELEASE ACK tn=3
   $ ./lab encode abis "RF CHANNEL RELEASE ACK tn=3"
   0833010b
+  $ ./lab decode abis 08210113030206040001090109ff
+  CHANNEL ACTIVATION tn=3/0 activation=2 mode=00010901 reference=255
+  $ ./lab encode abis "CHANNEL ACTIVATION tn=3/0 activation=2 mode=00010901 reference=255"
+  08210113030206040001090109ff
+  $ ./lab decode abis 0822011f081234
+  CHANNEL ACTIVATION ACK tn=7/1 frame=4660
+  $ ./lab encode abis "CHANNEL ACTIVATION ACK tn=7/1 frame=4660"
+  0822011f081234
+  $ ./lab decode abis 082e0110
+  RF CHANNEL RELEASE tn=0/0
+  $ ./lab encode abis "RF CHANNEL RELEASE tn=0/0"
+  082e0110
+  $ ./lab decode abis 08330118
+  RF CHANNEL RELEASE ACK tn=0/1
+  $ ./lab encode abis "RF CHANNEL RELEASE ACK tn=0/1"
+  08330118
   $ ./lab decode abis 0828010b1b0019000400
   MEASUREMENT RESULT tn=3 number=0 uplink= power=0 layer3=-
   $ ./lab encode abis "MEASUREMENT RESULT tn=3 number=0 uplink= power=0 layer3=-"
@@ -198,10 +214,16 @@ Octets that are no message, and the first thing that is wrong with them.
   $ ./lab decode abis 0828010b1b001900 2>/dev/null
   fault abis 3 4
   [2]
-  $ ./lab decode abis 082e0113 2>/dev/null
+  $ ./lab decode abis 082e0123 2>/dev/null
   fault abis 4 1
   [2]
-  $ ./lab decode abis 082e011b010b 2>/dev/null
+  $ ./lab decode abis 082e012b010b 2>/dev/null
+  fault abis 4 1
+  [2]
+  $ ./lab decode abis 082e0107 2>/dev/null
+  fault abis 4 1
+  [2]
+  $ ./lab decode abis 082e0120 2>/dev/null
   fault abis 4 1
   [2]
   $ ./lab decode abis 08210103 2>/dev/null

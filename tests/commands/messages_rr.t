@@ -12,6 +12,14 @@ Messages of the radio path (TS 44.018 clauses 9.1 and 10.5.2): what is read of t
   HANDOVER COMMAND arfcn=62 ncc=3 bcc=0 tn=1 tsc=0 carrier=62 reference=0 atc=0 power=7
   $ ./lab encode rr "HANDOVER COMMAND arfcn=62 ncc=3 bcc=0 tn=1 tsc=0 carrier=62 reference=0 atc=0 power=7"
   062b183e09003e0007
+  $ ./lab decode rr 062bd56713a36b2a05
+  HANDOVER COMMAND arfcn=871 ncc=2 bcc=5 tn=3/0 tsc=5 carrier=875 reference=42 atc=0 power=5
+  $ ./lab encode rr "HANDOVER COMMAND arfcn=871 ncc=2 bcc=5 tn=3/0 tsc=5 carrier=875 reference=42 atc=0 power=5"
+  062bd56713a36b2a05
+  $ ./lab decode rr 062bd5671fa36b2a05
+  HANDOVER COMMAND arfcn=871 ncc=2 bcc=5 tn=7/1 tsc=5 carrier=875 reference=42 atc=0 power=5
+  $ ./lab encode rr "HANDOVER COMMAND arfcn=871 ncc=2 bcc=5 tn=7/1 tsc=5 carrier=875 reference=42 atc=0 power=5"
+  062bd5671fa36b2a05
   $ ./lab decode rr 062c00
   HANDOVER COMPLETE cause=0
   $ ./lab encode rr "HANDOVER COMPLETE cause=0"
@@ -154,10 +162,16 @@ Octets that are no message, and the first thing that is wrong with them.
   $ ./lab decode rr 062bd5670bb36b2a05 2>/dev/null
   fault rr 4 3
   [2]
-  $ ./lab decode rr 062bd56713a36b2a05 2>/dev/null
+  $ ./lab decode rr 062bd56713b36b2a05 2>/dev/null
+  fault rr 4 3
+  [2]
+  $ ./lab decode rr 062bd56703a36b2a05 2>/dev/null
   fault rr 4 2
   [2]
-  $ ./lab decode rr 062bd56713b36b2a05 2>/dev/null
+  $ ./lab decode rr 062bd56723a36b2a05 2>/dev/null
+  fault rr 4 2
+  [2]
+  $ ./lab decode rr 062bd56723b36b2a05 2>/dev/null
   fault rr 4 2
   [2]
   $ ./lab decode rr 062bd56743a36b2a05 2>/dev/null

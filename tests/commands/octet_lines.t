@@ -54,6 +54,9 @@ clause 3.2.1, TS 44.018 clause 9.1).
   $ printf '08 28 01 0b 1b 00 19 03 00 1e 00 04 00 0b 00 12 06 15 1e 1e 00 68 12 a0 00 00 00 00 00 00 00 00 00 00\n08 28 01 0b 1b 00 19 03 00 1e 00 04 00' | ./lab decode abis --from - --all 2>/dev/null
   1 MEASUREMENT RESULT tn=3 number=0 uplink=001e00 power=0 layer3=06151e1e006812a000000000000000000000 | MEASUREMENT REPORT ba=0 dtx=0 full=30 ba3g=0 valid=1 sub=30 si23=0 qfull=0 qsub=0 count=1 n=40/2/21
   2 MEASUREMENT RESULT tn=3 number=0 uplink=001e00 power=0 layer3=-
+  $ printf '03 01 01 18 02 00 0b 00 09 06 2b d5 67 13 a3 6b 2a 05 # half rate\n03 01 01 18 02 00 0b 00 09 06 2b d5 67 23 a3 6b 2a 05' | ./lab decode abis --from - --all 2>/dev/null
+  1 DATA REQUEST tn=0/1 link=0 layer3=062bd56713a36b2a05 | HANDOVER COMMAND arfcn=871 ncc=2 bcc=5 tn=3/0 tsc=5 carrier=875 reference=42 atc=0 power=5 # half rate
+  2 DATA REQUEST tn=0/1 link=0 layer3=062bd56723a36b2a05 | fault rr 4 2
   $ printf 'a 00 08 20 07 02 06 03 04 01 09\nrr 06 0d 00 01\nrr 06' | ./lab decode --from - --all 2>/dev/null
   1 CLEAR COMMAND cause=9 unused=07/0603
   2 CHANNEL RELEASE cause=0 rest=01

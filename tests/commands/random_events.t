@@ -3,3 +3,8 @@ says that the test has of its own.
 
   $ tests/random_events ./lab
   12 lists of random events met, 0 not
+
+Ten thousand lists, with halves of timeslots among their channels, of which the replies alone are compared.
+
+  $ tests/random_events ./lab --replies 0 10000
+  10000 lists of random events met, 0 not

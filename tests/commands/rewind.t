@@ -177,7 +177,7 @@ A control character in the trace's name is escaped.
   $ cat errors
   unwound\t.trace: no attempt that is undone later opens in line 1
 
-Attempts are taken out of traces that were printed. Call 1 is on, and an attempt to move it opens in line 8: the station
+Attempts are taken out of traces that were printed. Call 1 is on, and an attempt to move it opens in line 9: the station
 is asked to activate the target.
 
 
@@ -191,8 +191,8 @@ It is taken back, and the release acknowledged.
   > abis 1 1 0833010b
   > END
   $ ./lab run examples/two_cells.toml script.txt >run.trace
-  $ ./lab rewind examples/two_cells.toml run.trace 8
-  others 3
+  $ ./lab rewind examples/two_cells.toml run.trace 9
+  others 4
   settled yes
   held -
   same
@@ -207,8 +207,8 @@ The station refuses the target, which another call has then: no release is await
   > open 2 1 1 3
   > END
   $ ./lab run examples/two_cells.toml script.txt >run.trace
-  $ ./lab rewind examples/two_cells.toml run.trace 8
-  others 4
+  $ ./lab rewind examples/two_cells.toml run.trace 9
+  others 5
   settled yes
   held -
   same
@@ -225,13 +225,13 @@ The station confirms a target that was given up; the second acknowledgement of i
   > abis 1 1 0833010b
   > END
   $ ./lab run examples/two_cells.toml script.txt >run.trace
-  $ ./lab rewind examples/two_cells.toml run.trace 8
-  others 4
+  $ ./lab rewind examples/two_cells.toml run.trace 9
+  others 5
   settled yes
   held -
   same
 
-Call 2 is refused the target, in line 13, and would have got it.
+Call 2 is refused the target, in line 14, and would have got it.
 
   $ cat >script.txt <<'END'
   > open 1 0 0 3
@@ -242,10 +242,10 @@ Call 2 is refused the target, in line 13, and would have got it.
   > abis 1 1 0833010b
   > END
   $ ./lab run examples/two_cells.toml script.txt >run.trace
-  $ ./lab rewind examples/two_cells.toml run.trace 8
-  others 4
+  $ ./lab rewind examples/two_cells.toml run.trace 9
+  others 5
   settled yes
-  held 13
+  held 14
   differs
   [1]
 
@@ -258,8 +258,8 @@ The station's acknowledgement is still to come.
   > undo 1
   > END
   $ ./lab run examples/two_cells.toml script.txt >run.trace
-  $ ./lab rewind examples/two_cells.toml run.trace 8
-  others 3
+  $ ./lab rewind examples/two_cells.toml run.trace 9
+  others 4
   settled no
   held -
   differs
@@ -276,8 +276,8 @@ The call ends, and the attempt is undone with it.
   > abis 0 0 0833010b
   > END
   $ ./lab run examples/two_cells.toml script.txt >run.trace
-  $ ./lab rewind examples/two_cells.toml run.trace 8
-  others 5
+  $ ./lab rewind examples/two_cells.toml run.trace 9
+  others 6
   settled yes
   held -
   same
@@ -291,11 +291,11 @@ It is never undone.
   > clear 2
   > END
   $ ./lab run examples/two_cells.toml script.txt >run.trace
-  $ ./lab rewind examples/two_cells.toml run.trace 8 2>errors
+  $ ./lab rewind examples/two_cells.toml run.trace 9 2>errors
   no attempt
   [2]
   $ cat errors
-  run.trace: no attempt that is undone later opens in line 8
+  run.trace: no attempt that is undone later opens in line 9
 
 An attempt to move call 1 to another controller is taken back.
 
@@ -306,8 +306,8 @@ An attempt to move call 1 to another controller is taken back.
   > undo 1
   > END
   $ ./lab run examples/two_cells.toml script.txt >run.trace
-  $ ./lab rewind examples/two_cells.toml run.trace 8
-  others 3
+  $ ./lab rewind examples/two_cells.toml run.trace 9
+  others 4
   settled yes
   held -
   same

@@ -57,17 +57,17 @@ one; here a call that begins in cell 0 needs a channel of cell 1, and one of cel
   site too small
   [2]
   $ cat errors
-  examples/two_cells.toml: cell 1 has 1 traffic channels, and needs 2
+  examples/two_cells.toml: cell 1 has 1 full rate channels, and needs 2
   $ ./lab storm tests/storms/two_cells.toml --workers 1 --calls 3 2>errors
   site too small
   [2]
   $ cat errors
-  tests/storms/two_cells.toml: cell 0 has 2 traffic channels, and needs 4
+  tests/storms/two_cells.toml: cell 0 has 2 full rate channels, and needs 4
   $ ./lab storm examples/eight_cells.toml --workers 16 --calls 89 2>errors
   site too small
   [2]
   $ cat errors
-  examples/eight_cells.toml: cell 0 has 23 traffic channels, and needs 24
+  examples/eight_cells.toml: cell 0 has 23 full rate channels, and needs 24
   $ ./lab storm examples/eight_cells.toml --workers 16 --calls 1024 2>/dev/null
   site too small
   [2]

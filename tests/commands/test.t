@@ -104,7 +104,7 @@ Scripts are tested one by one. One that is refused doesn't keep the others from 
   ok 4 - met.txt
   [2]
   $ cat errors
-  unread.txt:1: TN is 0 to 7, found 8
+  unread.txt:1: TN is 0 to 7, with /0 or /1 behind it for half rate, found 8
   no file: no such file
 
 With a peer each line of the trace has its mark. A peer's file that is no site is refused, and so is a site's that isn't

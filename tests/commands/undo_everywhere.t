@@ -78,7 +78,7 @@ Comments of what is expected are passed over, and a script that can't be read is
   # same 1, held 0, not settled 0, differ 0
   [2]
   $ cat errors
-  bad.txt:1: TN is 0 to 7, found 8
+  bad.txt:1: TN is 0 to 7, with /0 or /1 behind it for half rate, found 8
   nothing.txt: no such file
   $ printf '' >empty.toml
   $ ./lab test empty.toml held.txt --undo-everywhere 2>/dev/null

@@ -107,6 +107,7 @@ A mobile comes back.
   event confirm 0/0/3 -> owned 1 # call 1
   event look 1 -> record 0/0/3 on # call 1
   in handover 1 1 # call 1
+  event look 1 -> record 0/0/3 on # call 1
   event take 1 internal 1/1/3 -> done # call 1
   event reserve 1 0 -> done # call 1
   event activate 1 -> done # call 1

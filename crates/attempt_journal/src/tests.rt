@@ -2,13 +2,14 @@ use super::Inverse::{
     Disarm, DropReference, Forget, FreeChannel, Rearm, Settle, SwitchOff, Undetect,
 };
 use super::{Inverse, Journal, Timer};
-use channel_fsm::ChanId;
+use channel_fsm::{ChanId, Sub};
 use std::process::Abort;
 
 const TARGET: ChanId = ChanId {
     cell: 1,
     trx: 1,
     tn: 3,
+    sub: Sub::Full,
 };
 
 const PUSHED: [Inverse; 7] = [

@@ -42,7 +42,7 @@ impl<A: Allocator + Copy> EventLines<A> {
             line = line.saturating_add(1);
             match step {
                 Step::Asked(..) => self.note(turn.side, line)?,
-                Step::NoneFree(_) => {}
+                Step::NoneFree(..) => {}
             }
         }
         Ok(())

@@ -4,7 +4,7 @@ ghost use Rattle.std.specs.Prelude.{◌<◌};
 use crate::fault::Fault;
 use crate::varying::Varying;
 use cell_table::Site;
-use channel_fsm::ChanId;
+use channel_fsm::{ChanId, Sub};
 use radio_book::book::Book;
 use radio_book::event::{Event, Kind, Reply, Why};
 use radio_book::rewind::{RewindFault, rewind};
@@ -37,6 +37,7 @@ pub(crate) fn chan_at(cell: u8, place: u8) -> ChanId
         cell,
         trx: slot / 8,
         tn: slot % 8,
+        sub: Sub::Full,
     }
 }
 

@@ -1,6 +1,7 @@
 mod audits;
 mod both_tables;
 mod choices;
+mod courses;
 mod desk;
 mod desk_memory;
 mod foreign;
@@ -13,7 +14,7 @@ mod stages;
 mod worked;
 
 use cell_table::Site;
-use channel_fsm::ChanId;
+use channel_fsm::{ChanId, Rate, Sub};
 use radio_book::book::{Book, Usage};
 use radio_book::event::Event::{
     Activate, Command, Complete, Confirm, Open, Released, Reserve, Take, Undo,
@@ -83,7 +84,7 @@ fn put_to_book<A: Allocator + Copy>(book: &mut Book<A>, ask: Ask) -> Result<Entr
             let reply = book.step(event)?;
             Ok(Some((event, reply)))
         }
-        Ask::TakeAny(call, kind, cell) => book.take_any(call, kind, cell),
+        Ask::TakeAny(call, kind, cell) => book.take_any(call, kind, cell, Rate::Full),
         Ask::ReserveAny(call) => {
             let chosen = book.reserve_any(call)?;
             Ok(Some(chosen))
@@ -147,7 +148,18 @@ fn channel_at(place: u16) -> ChanId {
         cell: (place / 32 % 64) as u8,
         trx: (place / 8 % 4) as u8,
         tn: (place % 8) as u8,
+        sub: Sub::Full,
     }
+}
+
+// The same by a timeslot's parts too: the whole of it, then its halves.
+fn part_at(place: u16) -> ChanId {
+    let sub = match place % 3 {
+        0 => Sub::Full,
+        1 => Sub::Half0,
+        _ => Sub::Half1,
+    };
+    channel_at(place / 3).part(sub)
 }
 
 // The places below a count but for some.

@@ -6,7 +6,7 @@ use Rattle.bts_model.specs.declared.answer.Answer.{Answer}
 use Rattle.bts_model.specs.declared.hold.Hold.{Hold}
 use Rattle.bts_model.specs.declared.slots.Impairment.{Impairment}
 use Rattle.bts_model.specs.declared.slots.Slot.{Slot}
-use Rattle.bts_model.specs.Keys.{place_cmp}
+use Rattle.bts_model.specs.Keys.{key_cmp}
 use Rattle.bts_model.specs.Impairments.{unimpaired, is_impaired}
 use Rattle.bts_model.specs.World.{WorldState, slot_in, changed, with_slot}
 use Rattle.bts_model.specs.Holds.{hold_of}
@@ -22,7 +22,7 @@ plain : (i : Impairment) → is_impaired i ≡ false → i ≡ unimpaired
 plain i e = plain_parts i.cut i.doubles e
 
 -- once an answer has left, nothing befalls the next
-cleared : (slots : map.FinMap place_cmp Slot) (x : Place) → (slot_in (changed slots x (used_up (slot_in slots x))) x).impairment ≡ unimpaired
+cleared : (slots : map.FinMap key_cmp Slot) (x : Place) → (slot_in (changed slots x (used_up (slot_in slots x))) x).impairment ≡ unimpaired
 cleared slots x = by_test (is_impaired (slot_in slots x).impairment) refl
   where
     by_test : (b : Bool) → is_impaired (slot_in slots x).impairment ≡ b

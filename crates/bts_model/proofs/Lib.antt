@@ -1,4 +1,4 @@
--- the order of channels is total, and channels that tie are one
+-- the order of keys is total, and keys that tie are one
 mod KeyFacts
 -- what a tree's entries, seen as a finite map, have at a key, and what one more entry makes of the map
 mod MapFacts

@@ -30,4 +30,4 @@ octets_of channel Failure = indication_octets channel (HandoverFailure (record {
 
 -- octets about a channel come from the channel's TRX
 abbrev pub out_of : {A : Type 0} → Place × List ℕ → StationOut A
-out_of p = record { controller = p.0.controller; cell = p.0.cell; trx = p.0.trx; bytes = p.1 }
+out_of p = record { controller = p.0.controller; cell = p.0.channel.cell; trx = p.0.channel.trx; bytes = p.1 }

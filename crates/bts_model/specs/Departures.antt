@@ -4,6 +4,7 @@ use Rattle.bts_model.specs.declared.place.Place.{Place}
 use Rattle.bts_model.specs.declared.answer.Answer.{Answer}
 use Rattle.bts_model.specs.declared.slots.Impairment.{Impairment}
 use Rattle.bts_model.specs.declared.slots.Slot.{Slot}
+use Rattle.bts_model.specs.Names.{bits_of}
 use Rattle.bts_model.specs.World.{WorldState, slot_in, with_slot}
 use Rattle.bts_model.specs.Answers.{octets_of}
 use Rattle.bts_model.specs.Holds.{hold_of}
@@ -19,7 +20,7 @@ silent w = record { world = w; sent = [] }
 
 -- what is sent about a channel that gives an answer: it is cut first, and doubled then
 abbrev pub departed : Impairment → Place → Answer → List (Place × List ℕ)
-departed i x answer = once_or_twice i.doubles (x, cut_to i.cut (octets_of (record { tn = x.tn }) answer))
+departed i x answer = once_or_twice i.doubles (x, cut_to i.cut (octets_of (bits_of x.channel) answer))
 
 -- what becomes of a channel then, where it changes: what befell the answer is used up
 abbrev pub used_up : Slot → Option Slot

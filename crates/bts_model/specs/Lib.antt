@@ -1,4 +1,5 @@
 pub mod Keys
+pub mod Names
 pub mod Trxs
 pub mod Impairments
 pub mod World

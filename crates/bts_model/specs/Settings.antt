@@ -1,18 +1,24 @@
 -- What a script asks of a channel, and what comes of it. Ours, of no standard.
 use Rattle.std.specs.Prelude.{ℕ, ◌≡◌, ◌≢◌, true, if◌then◌else◌, [], ◌∷◌, ◌++◌, Some, None}
 use Rattle.std.specs.FinMap as map
+use Rattle.channel_fsm.specs.declared.ChanId.{ChanId}
 use Rattle.bts_model.specs.declared.place.Place.{Place}
 use Rattle.bts_model.specs.declared.setting.Act.{Act}
 use Rattle.bts_model.specs.declared.setting.Act.TheVariants.{Refuse, Hold, Release, Mobile, Double, Cut}
 use Rattle.bts_model.specs.declared.setting.Setting.{Setting}
 use Rattle.bts_model.specs.declared.slots.Slot.{Slot}
+use Rattle.bts_model.specs.Keys.{key_of}
 use Rattle.bts_model.specs.World.{WorldState, slot_in, has_channel, with_slot}
 use Rattle.bts_model.specs.Holds.{kept_of, others}
 use Rattle.bts_model.specs.Departures.{Outcome, silent, all_leave}
 
 -- the channel that a setting names
 abbrev pub place_of : Setting → Place
-place_of setting = record { controller = setting.controller; cell = setting.cell; trx = setting.trx; tn = setting.tn }
+place_of setting = record { controller = setting.controller; channel = record { cell = setting.cell; trx = setting.trx; tn = setting.tn; sub = setting.sub } }
+
+-- what is asked of a channel of a controller
+abbrev pub setting_of : ℕ → ChanId → Act → Setting
+setting_of k x act = record { controller = k; cell = x.cell; trx = x.trx; tn = x.tn; sub = x.sub; act = act }
 
 -- a channel whose next answer comes twice, or is cut
 abbrev pub doubled : Slot → Slot
@@ -36,12 +42,12 @@ set w setting = if has_channel w (place_of setting) then acted w (place_of setti
 
 -- An act may need memory: for what is known of a channel of which nothing was, for a hold, for what is sent.
 abbrev pub ActNeedsMemory : WorldState → Place → Act → Type 0
-ActNeedsMemory w x Refuse = map.get w.slots x ≡ None
+ActNeedsMemory w x Refuse = map.get w.slots (key_of x) ≡ None
 ActNeedsMemory w x Hold = Unit {0}
 ActNeedsMemory w x Release = kept_of x w.holds ≢ []
-ActNeedsMemory w x (Mobile habit) = map.get w.slots x ≡ None
-ActNeedsMemory w x Double = map.get w.slots x ≡ None
-ActNeedsMemory w x (Cut n) = map.get w.slots x ≡ None
+ActNeedsMemory w x (Mobile habit) = map.get w.slots (key_of x) ≡ None
+ActNeedsMemory w x Double = map.get w.slots (key_of x) ≡ None
+ActNeedsMemory w x (Cut n) = map.get w.slots (key_of x) ≡ None
 
 abbrev pub SetNeedsMemory : WorldState → Setting → Type 0
 SetNeedsMemory w setting = (has_channel w (place_of setting) ≡ true) × ActNeedsMemory w (place_of setting) setting.act

@@ -1,7 +1,6 @@
 -- What comes of octets that a controller sends a TRX (TS 48.058 clause 8).
 use Rattle.std.specs.Prelude.{◌≡◌, ℕ, true, ◌==◌, if◌then◌else◌, List, [], ◌∷◌, map, Option, Some, None}
 use Rattle.rr_messages.specs.declared.message.Rr.{Rr}
-use Rattle.rsl_messages.specs.declared.message.ChanBits.{ChanBits}
 use Rattle.rsl_messages.specs.declared.message.Rsl.{Rsl}
 use Rattle.rsl_messages.specs.declared.message.Rsl.TheVariants.{DataRequest, DataIndication, ChannelActivation, ChannelActivationAck, ChannelActivationNack, ConnectionFailureIndication, HandoverDetection, MeasurementResult, RfChannelRelease, RfChannelReleaseAck}
 use Rattle.rsl_messages.specs.Texts.{IsTextOf}
@@ -13,7 +12,8 @@ use Rattle.bts_model.specs.declared.answer.StationOut.{StationOut}
 use Rattle.bts_model.specs.declared.station.Reaction.{Reaction}
 use Rattle.bts_model.specs.declared.mobile.Response.{Response}
 use Rattle.bts_model.specs.declared.mobile.Response.TheVariants.{Unheard, Returned, Arrived}
-use Rattle.bts_model.specs.World.{WorldState, slot_in, has_channel, with_slot}
+use Rattle.bts_model.specs.Names.{place_in}
+use Rattle.bts_model.specs.World.{WorldState, slot_in, has_channel, is_in_use, with_slot}
 use Rattle.bts_model.specs.Answers.{out_of}
 use Rattle.bts_model.specs.Holds.{hold_of}
 use Rattle.bts_model.specs.Stations.{at_activation, at_release}
@@ -40,13 +40,13 @@ abbrev pub passed_on : WorldState → Place → ℕ → Option Rr → Outcome
 passed_on w x link None = silent w
 passed_on w x link (Some message) = if link == main_channel then responded w x (response_to w.trxs w.slots x message) else silent w
 
+-- what comes of CHANNEL ACTIVATION of channel x
+abbrev pub activated : WorldState → Place → Option ℕ → Outcome
+activated w x reference = reacted w x (at_activation (slot_in w.slots x) (is_in_use w.slots x) reference)
+
 -- nothing comes of what is asked of a channel that the world lacks
 abbrev pub at_channel : WorldState → Place → Outcome → Outcome
 at_channel w x o = if has_channel w x then o else silent w
-
--- the channel of a TRX of a cell of a controller that a message names
-abbrev pub place_in : ℕ → ℕ → ℕ → ChanBits → Place
-place_in k cell trx channel = record { controller = k; cell = cell; trx = trx; tn = channel.tn }
 
 -- What comes of a message. A station is asked to activate or to release a channel, or to pass a message on to the mobile
 -- there; what else may stand on Abis isn't for it.
@@ -55,7 +55,7 @@ Comes w k cell trx (DataRequest channel link layer3) w' outs =
     (heard : Option Rr) × IsHeard layer3 heard × Gives (at_channel w (place_in k cell trx channel) (passed_on w (place_in k cell trx channel) link heard)) w' outs
 Comes w k cell trx (DataIndication channel link layer3) w' outs = Gives (silent w) w' outs
 Comes w k cell trx (ChannelActivation channel activation mode reference) w' outs =
-    Gives (at_channel w (place_in k cell trx channel) (reacted w (place_in k cell trx channel) (at_activation (slot_in w.slots (place_in k cell trx channel)) reference))) w' outs
+    Gives (at_channel w (place_in k cell trx channel) (activated w (place_in k cell trx channel) reference)) w' outs
 Comes w k cell trx (ChannelActivationAck channel frame) w' outs = Gives (silent w) w' outs
 Comes w k cell trx (ChannelActivationNack channel cause) w' outs = Gives (silent w) w' outs
 Comes w k cell trx (ConnectionFailureIndication channel cause) w' outs = Gives (silent w) w' outs

@@ -34,4 +34,4 @@ trxs_of sites = flat_map (λ (k, site). trxs_of_site k site) (enumerate_from 0 s
 
 -- the channel is one of the TRX
 abbrev pub is_on : Place → Trx → Bool
-is_on x t = (t.controller == x.controller) && ((t.cell == x.cell) && (t.trx == x.trx))
+is_on x t = (t.controller == x.controller) && ((t.cell == x.channel.cell) && (t.trx == x.channel.trx))

@@ -6,9 +6,9 @@ ghost use Rattle.bts_model.specs.Impairments.{cut_to, once_or_twice};
 ghost use Rattle.bts_model.specs.Departures.{departed, all_departed, used_up, slot_after};
 
 use crate::answer::{Answer, Outs, StationOut, octets_of};
-use crate::place::Place;
+use crate::place::{Place, bits_of};
 use crate::slots::{Impairment, Slot};
-use rsl_messages::{ChanBits, Octets};
+use rsl_messages::Octets;
 use std::alloc::{AllocError, Allocator};
 
 /// Cuts octets to the first, so many, where that was asked for.
@@ -31,8 +31,8 @@ fn send<A: Allocator + Copy>(
 {
     outs.push(StationOut {
         controller: place.controller,
-        cell: place.cell,
-        trx: place.trx,
+        cell: place.channel.cell,
+        trx: place.channel.trx,
         bytes: Octets::new(alloc, octets)?,
     })?;
     Ok(())
@@ -65,11 +65,11 @@ fn depart<A: Allocator + Copy>(
     impairment: Impairment,
     answer: Answer,
 ) -> Result<(), AllocError>
-    requires { place.tn < 8 }
+    requires { place.channel.tn < 8 }
     ensures { OnOk result (outs.new.items ≡
         outs.old.items ++ map out_of (departed impairment place answer)) }
 {
-    let mut octets = octets_of(alloc, ChanBits { tn: place.tn }, answer)?;
+    let mut octets = octets_of(alloc, bits_of(place.channel), answer)?;
     cut(&mut octets, impairment.cut);
     send_copies(alloc, outs, place, octets.as_slice(), impairment.doubles)
 }
@@ -82,7 +82,7 @@ pub fn all_departed<A: Allocator + Copy>(
     impairment: Impairment,
     answers: &[Answer],
 ) -> Outs<A>
-    requires { place.tn < 8 }
+    requires { place.channel.tn < 8 }
     ensures outs { IfOk result (λ outs. outs.items ≡
         map out_of (all_departed impairment place answers.now)) }
     ensures memory { OnErr result (answers.now ≢ []) }

@@ -14,5 +14,6 @@ mod trx;
 mod world;
 
 pub use answer::StationOut;
+pub use rsl_messages::Sub;
 pub use setting::{Act, Habit, Setting};
 pub use world::World;

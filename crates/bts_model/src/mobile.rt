@@ -1,11 +1,12 @@
 //! What a mobile does with a message.
 ghost use Rattle.std.specs.Prelude.{◌≡◌, ◌<◌, find, IfSome};
-ghost use Rattle.bts_model.specs.Mobiles.{destination_of, is_active_with, is_there, target_of, commanded, response_to, IsOnTimeslot, IsHeard};
+ghost use Rattle.bts_model.specs.Mobiles.{place_on, destination_of, is_active_with, is_there, target_of, commanded, response_to, IsOnTimeslot, IsHeard};
 
 use crate::place::Place;
 use crate::setting::Habit;
 use crate::slots::{Activity, Slots};
 use crate::trx::Trx;
+use channel_fsm::{ChanId, Sub};
 use rr_elements::{CellDescription, ChanDescription};
 use rr_messages::{Rr, decode};
 use std::alloc::Allocator;
@@ -21,7 +22,8 @@ pub enum Response {
     Arrived(Place),
 }
 
-/// Where a HANDOVER COMMAND sends a mobile: the cell by its colour, carrier and timeslot, and the handover reference.
+/// Where a HANDOVER COMMAND sends a mobile: the cell by its colour, the carrier, the timeslot and which of its channels, and
+/// the handover reference.
 #[derive(Clone, Copy)]
 pub struct Destination {
     pub bcch: u16,
@@ -29,6 +31,7 @@ pub struct Destination {
     pub bcc: u8,
     pub carrier: u16,
     pub tn: u8,
+    pub sub: Sub,
     pub reference: u8,
 }
 
@@ -42,6 +45,7 @@ fn destination_of(cell: &CellDescription, channel: &ChanDescription, reference: 
         bcc: cell.bcc(),
         carrier: channel.carrier(),
         tn: channel.tn(),
+        sub: channel.sub(),
         reference,
     }
 }
@@ -57,19 +61,22 @@ fn is_active_with(activity: Activity, reference: u8) -> bool
     }
 }
 
-/// The timeslot of a TRX that the destination names.
-fn place_on(trx: &Trx, tn: u8) -> Place
-    ensures { result ≡ record { controller = trx.now.controller; cell = trx.now.cell; trx = trx.now.trx; tn = tn } }
+/// The channel of a TRX that the destination names.
+fn place_on(trx: &Trx, destination: Destination) -> Place
+    ensures { result ≡ place_on trx.now destination }
 {
     Place {
         controller: trx.controller,
-        cell: trx.cell,
-        trx: trx.trx,
-        tn,
+        channel: ChanId {
+            cell: trx.cell,
+            trx: trx.trx,
+            tn: destination.tn,
+            sub: destination.sub,
+        },
     }
 }
 
-/// The destination is on this TRX: colour and carrier are its own, and the timeslot is active with the reference.
+/// The destination is on this TRX: colour and carrier are its own, and the channel is active with the reference.
 fn is_there<A: Allocator + Copy>(slots: &Slots<A>, destination: Destination, trx: &Trx) -> bool
     ensures { result ≡ is_there slots.now destination trx.now }
 {
@@ -78,7 +85,7 @@ fn is_there<A: Allocator + Copy>(slots: &Slots<A>, destination: Destination, trx
         && trx.bcc == destination.bcc
         && trx.carrier == destination.carrier
         && is_active_with(
-            slots.get(place_on(trx, destination.tn)).activity,
+            slots.get(place_on(trx, destination)).activity,
             destination.reference,
         )
 }
@@ -90,11 +97,11 @@ fn target_of<A: Allocator + Copy>(
     destination: Destination,
 ) -> Option<Place>
     ensures target { result ≡ target_of trxs.now slots.now destination }
-    ensures timeslot { IfSome result (λ place. place.tn ≡ destination.tn) }
+    ensures timeslot { IfSome result (λ place. place.channel.tn ≡ destination.tn) }
 {
     trxs.iter()
         .find(|trx| is_there(slots, destination, trx))
-        .map(|trx| place_on(trx, destination.tn))
+        .map(|trx| place_on(trx, destination))
 }
 
 /// What the mobile on a channel does that is sent to a destination.

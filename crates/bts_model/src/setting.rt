@@ -2,6 +2,8 @@
 ghost use Rattle.std.specs.Prelude.{◌≡◌};
 
 use crate::place::Place;
+use channel_fsm::ChanId;
+use rsl_messages::Sub;
 
 /// What a mobile does with a HANDOVER COMMAND (TS 44.018 clause 3.4.4).
 #[derive(Clone, Copy, Debug, PartialEq, Eq)]
@@ -17,7 +19,8 @@ pub enum Habit {
 /// What a script asks of a channel.
 #[derive(Clone, Copy, Debug, PartialEq, Eq)]
 pub enum Act {
-    /// The station refuses the next activation of the channel while that is inactive. Said twice it counts once.
+    /// The station refuses the next activation of the channel while that is inactive and none that it conflicts with is
+    /// active. Said twice it counts once.
     Refuse,
     /// The station keeps the next acknowledgement of an activation or a release of the channel; said again, one more.
     Hold,
@@ -41,11 +44,28 @@ pub struct Setting {
     pub trx: u8,
     /// The timeslot, 0 to 7.
     pub tn: u8,
+    /// Which of the timeslot's channels.
+    pub sub: Sub,
     pub act: Act,
 }
 
 impl Setting {
-    ghost use Rattle.bts_model.specs.Settings.{place_of};
+    ghost use Rattle.bts_model.specs.Settings.{place_of, setting_of};
+
+    /// What is asked of a channel of a controller.
+    pub fn of(controller: usize, channel: ChanId, act: Act) -> Setting
+        ensures setting { result ≡ setting_of controller channel act }
+        ensures channel { place_of result ≡ record { controller = controller; channel = channel } }
+    {
+        Setting {
+            controller,
+            cell: channel.cell,
+            trx: channel.trx,
+            tn: channel.tn,
+            sub: channel.sub,
+            act,
+        }
+    }
 
     /// The channel that it names.
     pub(crate) fn place(self) -> Place
@@ -53,9 +73,12 @@ impl Setting {
     {
         Place {
             controller: self.controller,
-            cell: self.cell,
-            trx: self.trx,
-            tn: self.tn,
+            channel: ChanId {
+                cell: self.cell,
+                trx: self.trx,
+                tn: self.tn,
+                sub: self.sub,
+            },
         }
     }
 }

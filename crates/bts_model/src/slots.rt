@@ -1,10 +1,11 @@
 //! What is known of each channel.
-ghost use Rattle.std.specs.Prelude.{◌≡◌, OnOk, OnErr, IsSome, None};
+ghost use Rattle.std.specs.Prelude.{◌≡◌, OnOk, OnErr, IsSome, None, unwrap_or};
 ghost use Rattle.std.specs.FinMap as map;
-ghost use Rattle.bts_model.specs.World.{slot_in, slots_code, changed};
+ghost use Rattle.bts_model.specs.Keys.{key_of};
+ghost use Rattle.bts_model.specs.World.{idle, slot_in, slots_code, changed};
 ghost use Rattle.bts_model.specs.Impairments.{unimpaired, is_impaired};
 
-use crate::place::Place;
+use crate::place::{Key, Place, key_of};
 use crate::setting::Habit;
 use std::alloc::{AllocError, Allocator, Global};
 use std::collections::BTreeMap;
@@ -61,16 +62,16 @@ pub struct Slot {
 /// befalls its answers.
 #[derive(Drop)]
 pub struct Slots<A: Allocator = Global> {
-    entries: BTreeMap<Place, Slot, A>,
+    entries: BTreeMap<Key, Slot, A>,
 }
 
 impl<A: Allocator> Model for Slots<A> {
     ghost use Rattle.std.specs.FinMap as map;
-    ghost use Rattle.bts_model.specs.Keys.{place_cmp};
+    ghost use Rattle.bts_model.specs.Keys.{key_cmp};
     ghost use Rattle.bts_model.specs.World.{slots_code};
     ghost use Rattle.bts_model.specs.declared.slots.Slot.{Slot};
 
-    ghost Value = { map.FinMap place_cmp Slot };
+    ghost Value = { map.FinMap key_cmp Slot };
 
     ghost coded = { slots_code };
 
@@ -89,7 +90,14 @@ impl<A: Allocator + Copy> Slots<A> {
     pub fn get(&self, place: Place) -> Slot
         ensures { result ≡ slot_in self.now place }
     {
-        match self.entries.get(&place) {
+        self.at(key_of(place))
+    }
+
+    /// What is known of the channel with a key.
+    fn at(&self, key: Key) -> Slot
+        ensures { result ≡ unwrap_or (map.get self.now key) idle }
+    {
+        match self.entries.get(&key) {
             Some(slot) => *slot,
             None => Slot {
                 activity: Activity::Inactive,
@@ -102,11 +110,20 @@ impl<A: Allocator + Copy> Slots<A> {
 
     /// Memory is asked for where the channel has no entry yet, and only there.
     pub fn put(&mut self, place: Place, slot: Slot) -> Result<(), AllocError>
-        ensures ok { OnOk result (self.new ≡ map.insert self.old place slot) }
+        ensures ok { OnOk result (self.new ≡ map.insert self.old (key_of place) slot) }
         ensures err { OnErr result (self.new ≡ self.old) }
-        ensures new_key { OnErr result (map.get self.old place ≡ None) }
+        ensures new_key { OnErr result (map.get self.old (key_of place) ≡ None) }
     {
-        self.entries.insert(place, slot)?;
+        self.put_at(key_of(place), slot)
+    }
+
+    /// The same of the channel with a key.
+    fn put_at(&mut self, key: Key, slot: Slot) -> Result<(), AllocError>
+        ensures ok { OnOk result (self.new ≡ map.insert self.old key slot) }
+        ensures err { OnErr result (self.new ≡ self.old) }
+        ensures new_key { OnErr result (map.get self.old key ≡ None) }
+    {
+        self.entries.insert(key, slot)?;
         Ok(())
     }
 
@@ -114,7 +131,7 @@ impl<A: Allocator + Copy> Slots<A> {
     pub fn change(&mut self, place: Place, slot: Option<Slot>) -> Result<(), AllocError>
         ensures ok { OnOk result (self.new ≡ changed self.old place slot) }
         ensures err { OnErr result (self.new ≡ self.old) }
-        ensures new_key { OnErr result (IsSome slot × (map.get self.old place ≡ None)) }
+        ensures new_key { OnErr result (IsSome slot × (map.get self.old (key_of place) ≡ None)) }
     {
         match slot {
             Some(slot) => self.put(place, slot),

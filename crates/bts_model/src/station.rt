@@ -30,14 +30,17 @@ fn becomes(slot: Slot, answer: Answer) -> Reaction
 }
 
 /// CHANNEL ACTIVATION (TS 48.058 clause 4.1): an inactive channel becomes active, unless a refusal was asked for, which is
-/// used up. An active channel stays as it is.
-pub fn at_activation(slot: Slot, reference: Option<u8>) -> Reaction
-    ensures { result ≡ at_activation slot reference }
+/// used up. A channel that is active stays as it is, and so does one of which a part is in use: a channel that it conflicts
+/// with is active.
+pub fn at_activation(slot: Slot, is_in_use: bool, reference: Option<u8>) -> Reaction
+    ensures { result ≡ at_activation slot is_in_use reference }
 {
     match slot.activity {
         Activity::Active(_) => stays(Answer::ActivationNack),
         Activity::Inactive => {
-            if slot.refuses {
+            if is_in_use {
+                stays(Answer::ActivationNack)
+            } else if slot.refuses {
                 let refused = Slot {
                     refuses: false,
                     ..slot

@@ -24,7 +24,9 @@ pub struct Trx {
 fn is_on(place: Place, trx: &Trx) -> bool
     ensures { result ≡ is_on place trx.now }
 {
-    trx.controller == place.controller && trx.cell == place.cell && trx.trx == place.trx
+    trx.controller == place.controller
+        && trx.cell == place.channel.cell
+        && trx.trx == place.channel.trx
 }
 
 /// The channel is one of one of the TRX.

@@ -4,28 +4,30 @@ ghost use Rattle.std.specs.FinMap as finite;
 ghost use Rattle.rsl_messages.specs.Messages.{HasOctets};
 ghost use Rattle.rsl_messages.specs.Texts.{IsTextOf};
 ghost use Rattle.rsl_messages.specs.declared.message.Rsl.{Rsl};
-ghost use Rattle.bts_model.specs.World.{fresh_world, has_channel, slot_in, changed, with_slot, world_code};
+ghost use Rattle.bts_model.specs.Keys.{key_of};
+ghost use Rattle.bts_model.specs.World.{fresh_world, has_channel, slot_in, is_in_use, in_use_by, is_active, changed, with_slot, world_code};
 ghost use Rattle.rr_messages.specs.declared.message.Rr.{Rr};
 ghost use Rattle.bts_model.specs.Holds.{hold_of, kept_of};
 ghost use Rattle.bts_model.specs.Mobiles.{IsHeard, IsOnTimeslot};
 ghost use Rattle.bts_model.specs.Departures.{silent, all_sent};
-ghost use Rattle.bts_model.specs.Stations.{at_activation, at_release};
+ghost use Rattle.bts_model.specs.Stations.{at_release};
 ghost use Rattle.bts_model.specs.Settings.{set, SetNeedsMemory, acted, ActNeedsMemory, doubled, cut};
-ghost use Rattle.bts_model.specs.Steps.{Gives, Comes, Steps, IsSaid, NeedsMemory, StepNeedsMemory, at_channel, reacted, responded, passed_on, place_in};
+ghost use Rattle.bts_model.specs.Steps.{Gives, Comes, Steps, IsSaid, NeedsMemory, StepNeedsMemory, at_channel, reacted, activated, responded, passed_on};
 
 use crate::answer::{Answer, Outs, StationOut};
 use crate::departure::{all_departed, changed_and_left};
 use crate::hold::{Hold, all_kept, end_holds, hold_of};
 use crate::mobile::{Response, heard_in, response_to};
-use crate::place::Place;
+use crate::place::{Place, place_in};
 use crate::setting::{Act, Setting};
-use crate::slots::{Impairment, Slot, Slots};
+use crate::slots::{Activity, Impairment, Slot, Slots};
 use crate::station::{Reaction, at_activation, at_release};
 use crate::trx::{Trx, has_trx, trxs_of};
 use cell_table::Site;
+use channel_fsm::{Sub, conflicts};
 use rr_messages::Rr;
 use rsl_messages::values::MAIN_CHANNEL;
-use rsl_messages::{ChanBits, Rsl, RslFault, decode};
+use rsl_messages::{Rsl, RslFault, decode};
 use std::alloc::{AllocError, Allocator, Global};
 use std::marker::Model;
 use std::sync::Arc;
@@ -33,9 +35,9 @@ use std::sync::Arc;
 /// The base stations of some controllers, and the mobiles on their channels.
 ///
 /// A station acknowledges each activation of an inactive channel, unless a refusal was asked for, and refuses each of an
-/// active one; it acknowledges each release. A mobile that gets a HANDOVER COMMAND on an active channel goes by its
-/// habit. Answers leave at once, but an acknowledgement for which a hold waits is kept. As it leaves, an answer may be cut
-/// and doubled, where that was asked for.
+/// active one, and of one that conflicts with an active one; it acknowledges each release. A mobile that gets a HANDOVER
+/// COMMAND on an active channel goes by its habit. Answers leave at once, but an acknowledgement for which a hold waits is
+/// kept. As it leaves, an answer may be cut and doubled, where that was asked for.
 #[derive(Drop)]
 pub struct World<A: Allocator = Global> {
     trxs: Vec<Trx, A>,
@@ -115,7 +117,7 @@ impl<A: Allocator + Copy> World<A> {
     fn has_channel(&self, place: Place) -> bool
         ensures { result ≡ has_channel self.now place }
     {
-        place.tn < 8 && has_trx(self.trxs.as_slice(), place)
+        place.channel.tn < 8 && has_trx(self.trxs.as_slice(), place)
     }
 
     /// What comes of a message to a TRX.
@@ -159,13 +161,31 @@ impl<A: Allocator + Copy> World<A> {
         self.slots.get(place)
     }
 
+    /// Whether this channel of the same timeslot conflicts with one, and is active.
+    fn is_in_use_by(&self, place: Place, sub: Sub) -> bool
+        ensures { result ≡ in_use_by self.now.slots place sub }
+    {
+        let channel = place.channel.part(sub);
+        conflicts(place.channel, channel)
+            && is_active(self.slot(Place { channel, ..place }).activity)
+    }
+
+    /// Whether a channel is active that conflicts with one.
+    fn is_in_use(&self, place: Place) -> bool
+        ensures { result ≡ is_in_use self.now.slots place }
+    {
+        self.is_in_use_by(place, Sub::Full)
+            || self.is_in_use_by(place, Sub::Half0)
+            || self.is_in_use_by(place, Sub::Half1)
+    }
+
     /// CHANNEL ACTIVATION.
     fn activate(&mut self, place: Place, reference: Option<u8>) -> Outs<A>
-        ensures gives { IfOk result (λ outs. Gives (at_channel self.old place (reacted self.old place
-            (at_activation (slot_in self.old.slots place) reference))) self.new outs.items) }
+        ensures gives { IfOk result (λ outs. Gives
+            (at_channel self.old place (activated self.old place reference)) self.new outs.items) }
         ensures unchanged { OnErr result (self.new ≡ self.old) }
     {
-        let reaction = at_activation(self.slot(place), reference);
+        let reaction = at_activation(self.slot(place), self.is_in_use(place), reference);
         self.react(place, reaction)
     }
 
@@ -188,7 +208,7 @@ impl<A: Allocator + Copy> World<A> {
         ensures unchanged { OnErr result (self.new ≡ self.old) }
         ensures channel { OnErr result (has_channel self.old place ≡ true) }
         ensures memory { OnErr result ((hold_of self.old.holds place reaction.answer ≡ None) ⊎
-            (IsSome reaction.slot × (finite.get self.old.slots place ≡ None))) }
+            (IsSome reaction.slot × (finite.get self.old.slots (key_of place) ≡ None))) }
     {
         if !self.has_channel(place) {
             return Ok(self.nothing());
@@ -209,7 +229,7 @@ impl<A: Allocator + Copy> World<A> {
     /// What comes of it that answers about a channel leave, none of which a hold keeps, once the channel has changed, where
     /// it does.
     fn leave(&mut self, place: Place, change: Option<Slot>, answers: &[Answer]) -> Outs<A>
-        requires { place.tn < 8 }
+        requires { place.channel.tn < 8 }
         ensures gives { IfOk result (λ outs. Gives
             (all_sent (with_slot self.old place change) place answers.now) self.new outs.items) }
         ensures unchanged { OnErr result (self.new ≡ self.old) }
@@ -266,7 +286,7 @@ impl<A: Allocator + Copy> World<A> {
 
     /// What is heard of the mobile on a channel.
     fn respond(&mut self, place: Place, response: Response) -> Outs<A>
-        requires place { place.tn < 8 }
+        requires place { place.channel.tn < 8 }
         requires target { IsOnTimeslot response }
         ensures gives { IfOk result (λ outs. Gives (responded self.old place response)
             self.new outs.items) }
@@ -286,7 +306,7 @@ impl<A: Allocator + Copy> World<A> {
         ensures gives { IfOk result (λ outs. Gives (silent (with_slot self.old place (Some slot)))
             self.new outs.items) }
         ensures unchanged { OnErr result (self.new ≡ self.old) }
-        ensures memory { OnErr result (finite.get self.old.slots place ≡ None) }
+        ensures memory { OnErr result (finite.get self.old.slots (key_of place) ≡ None) }
     {
         self.slots.put(place, slot)?;
         Ok(self.nothing())
@@ -294,7 +314,7 @@ impl<A: Allocator + Copy> World<A> {
 
     /// What was kept about a channel leaves, and its holds end.
     fn let_out(&mut self, place: Place) -> Outs<A>
-        requires { place.tn < 8 }
+        requires { place.channel.tn < 8 }
         ensures gives { IfOk result (λ outs. Gives (acted self.old place Act.Release)
             self.new outs.items) }
         ensures unchanged { OnErr result (self.new ≡ self.old) }
@@ -308,7 +328,7 @@ impl<A: Allocator + Copy> World<A> {
 
     /// What comes of an act at a channel.
     fn act(&mut self, place: Place, act: Act) -> Outs<A>
-        requires { place.tn < 8 }
+        requires { place.channel.tn < 8 }
         ensures gives { IfOk result (λ outs. Gives (acted self.old place act) self.new outs.items) }
         ensures unchanged { OnErr result (self.new ≡ self.old) }
         ensures memory { OnErr result (ActNeedsMemory self.old place act) }
@@ -371,15 +391,13 @@ fn cut(slot: Slot, octets: u8) -> Slot
     }
 }
 
-/// The channel of a TRX that a message names.
-fn place_in(controller: usize, cell: u8, trx: u8, channel: ChanBits) -> Place
-    ensures { result ≡ place_in controller cell trx channel }
+/// Whether a channel is active.
+fn is_active(activity: Activity) -> bool
+    ensures { result ≡ is_active activity }
 {
-    Place {
-        controller,
-        cell,
-        trx,
-        tn: channel.tn,
+    match activity {
+        Activity::Inactive => false,
+        Activity::Active(_) => true,
     }
 }
 

@@ -1,15 +1,18 @@
 -- The lists of an office, with one more.
-use Rattle.std.proofs.Common.{◌≡◌, ℕ, ◌+◌, ◌<◌, ◌≤◌, ◌%◌, List, [], ◌∷◌, ◌++◌, length, get_or, set, map, refl, ap, sym, ◌∙◌, arith, Result, Ok, Err, OnOk, OnErr, All, append_assoc, suc}
+use Rattle.std.proofs.Common.{◌≡◌, ℕ, ◌<◌, ◌%◌, List, [], ◌∷◌, ◌++◌, length, get_or, set, map, ap, sym, ◌∙◌, arith, Option, Some, None, MatchOption, Result, Ok, Err, OnOk, OnErr, All, append_assoc, suc}
 use Rattle.std.proofs.lemmas.List.{get_or_default, set-get_or, map-append, append-nil, length-map}
 use Rattle.cell_table.specs.Site.{SiteView}
 use Rattle.radio_book.specs.State.{State}
+use Rattle.radio_book.specs.declared.event.Event.{Event}
+use Rattle.radio_book.specs.declared.event.Reply.{Reply}
 use Rattle.radio_desk.specs.declared.seat.Receipt.{Receipt}
 use Rattle.radio_desk.specs.Desk.{DeskState}
 use Rattle.ho_procedure.specs.declared.exchange.Inbound.{Inbound}
 use Rattle.ho_procedure.specs.Sent.{Sent}
 use Rattle.receipt_check.specs.declared.CloseFault.{CloseFault}
 use Rattle.receipt_check.specs.declared.CloseFault.TheVariants.{Missing, Twice, Count, Opening, NoMemory}
-use Rattle.receipt_check.specs.Gathering.{IsGatherFault}
+use Rattle.receipt_check.specs.Gathering.{FirstWrong, IsGatherFault, StandsAt}
+use Rattle.receipt_check.proofs.Gathered.{stands_both, wrong_behind}
 use Rattle.call_worker.specs.declared.posted.WorkerEnd.{WorkerEnd}
 use Rattle.call_worker.specs.States.{WorkerState, new_worker, with_input}
 use Rattle.call_worker.specs.Ending.{IsEnd}
@@ -71,6 +74,12 @@ module _ {L A : Type 0} where
 
   pub start_site : (opening book : State) (links : List L) (workers workers' : List (WorkerState L A)) → workers ≡ workers' → workers' ≡ map (new_worker opening.site) links → opening ≡ book → workers ≡ map (new_worker book.site) links
   start_site opening book links workers workers' a b e = a ∙ (b ∙ ap (λ (o : State). map (new_worker o.site) links) e)
+
+-- what is found in the second part of receipts, where the first has nothing wrong
+pub found_behind : (history : List (Event × Reply)) (a b : List Receipt) (found : Option Receipt) → StandsAt history a (length a)
+    → MatchOption found (StandsAt history b (length b)) (λ r. FirstWrong history b r) → MatchOption found (StandsAt history (a ++ b) (length (a ++ b))) (λ r. FirstWrong history (a ++ b) r)
+found_behind history a b None first f = stands_both history a b first f
+found_behind history a b (Some r) first f = wrong_behind history a b r first f
 
 -- what the check of the receipts finds is a fault of a closing
 pub closing_fault : (opening : State) (d : DeskState) (all : List Receipt) (e : CloseFault) → IsGatherFault d.history all e → IsCloseFault opening d all e

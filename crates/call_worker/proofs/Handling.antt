@@ -1,5 +1,5 @@
 -- What a controller's answer says of a turn.
-use Rattle.std.proofs.Common.{◌≡◌, ◌⊎◌, ℕ, inl, inr, List, [], ◌++◌, Bool, true, false, refl, ap, sym, ◌∙◌}
+use Rattle.std.proofs.Common.{◌≡◌, ◌⊎◌, ℕ, inl, inr, List, [], Bool, false, refl, ap, sym, ◌∙◌}
 use Rattle.std.proofs.lemmas.List.{append-nil}
 use Rattle.cell_table.specs.Site.{SiteView}
 use Rattle.ho_procedure.specs.declared.exchange.Inbound.{Inbound}
@@ -18,7 +18,7 @@ asks_takes : (p : Plan) → AsksDesk p → TakesMemory p
 asks_takes Ends a = a
 asks_takes (Readies room next) a = absurd a
 asks_takes (Asks e next) a = a
-asks_takes (Takes c k cell none next) a = a
+asks_takes (Takes c k cell rate none next) a = a
 asks_takes (Reserves c next) a = a
 asks_takes (Sends m next) a = absurd a
 asks_takes (Notes c reports next) a = absurd a

@@ -6,7 +6,7 @@ use Rattle.radio_desk.specs.declared.seat.Receipt.{Receipt}
 use Rattle.ho_procedure.specs.declared.exchange.Inbound.{Inbound}
 use Rattle.ho_procedure.specs.Claims.{Entry}
 use Rattle.ho_procedure.specs.Sent.{Sent}
-use Rattle.ho_procedure.specs.Plan.{Step, entries_of, messages_of, reports_after}
+use Rattle.ho_procedure.specs.Plan.{Step, entries_of, messages_of}
 use Rattle.ho_procedure.proofs.Going.{entries_of-append, messages_of-append, reports_after-append}
 use Rattle.radio_desk.specs.Receipts.{receipted}
 use Rattle.call_worker.specs.declared.worker.Turn.{Turn}

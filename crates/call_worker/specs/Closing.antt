@@ -1,6 +1,8 @@
 -- What a closed office leaves. Ours, of no standard.
-use Rattle.std.specs.Prelude.{◌≡◌, ◌≢◌, ℕ, List, [], ◌∷◌}
+use Rattle.std.specs.Prelude.{◌≢◌, ℕ, List, [], ◌∷◌, ◌++◌}
+use Rattle.std.specs.List.{flat_map}
 use Rattle.radio_book.specs.State.{State}
+use Rattle.radio_book.specs.Run.{Leads}
 use Rattle.radio_desk.specs.declared.seat.Receipt.{Receipt}
 use Rattle.radio_desk.specs.Desk.{DeskState}
 use Rattle.ho_procedure.specs.Sent.{Sent}
@@ -8,7 +10,7 @@ use Rattle.receipt_check.specs.declared.CloseFault.{CloseFault}
 use Rattle.receipt_check.specs.declared.CloseFault.TheVariants.{Missing, Twice, Count, Opening, NoMemory}
 use Rattle.receipt_check.specs.Gathering.{Gathers, IsGatherFault}
 use Rattle.call_worker.specs.declared.posted.WorkerEnd.{WorkerEnd}
-use Rattle.call_worker.specs.States.{WorkerState}
+use Rattle.call_worker.specs.States.{WorkerState, OfficeState}
 use Rattle.call_worker.specs.Ending.{IsEnd}
 
 -- each worker of the office has its end, in their order
@@ -24,4 +26,12 @@ IsCloseFault opening d all (Missing r) = IsGatherFault d.history all (Missing r)
 IsCloseFault opening d all (Twice place) = IsGatherFault d.history all (Twice place)
 IsCloseFault opening d all Count = IsGatherFault d.history all Count
 IsCloseFault opening d all Opening = Gathers d.history all × (d.opening ≢ opening)
-IsCloseFault opening d all NoMemory = Unit {0}
+IsCloseFault opening d all NoMemory = IsGatherFault d.history all NoMemory
+
+-- Why an office doesn't close: of the desk that was found, of the ends of its workers, and of all receipts something isn't so.
+pub record ClosesNot {L A : Type 0} (passed : L → List Sent) (refused : L → ℕ) (office : OfficeState L A) (fault : CloseFault) : Type 0 where
+  pub desk : DeskState
+  pub ends : List (WorkerEnd L A)
+  pub legal : Leads desk.opening desk.history desk.book
+  pub are_ends : AreEnds passed refused office.workers ends
+  pub why : IsCloseFault office.opening desk (office.front ++ flat_map (λ worker. worker.receipts.items) ends) fault

@@ -62,14 +62,20 @@ IsUnreadHere (inbound.Operator line) f = ⊥
 abbrev pub GivesTo : {L A : Type 0} → ℕ → Inbound A → List (WorkerState L A) → List (WorkerState L A) → Type 0
 GivesTo {L} {A} i input old new = (i < length old) × ((d : WorkerState L A) → new ≡ slice_set old i (with_input input (slice_index_or old i d)))
 
--- The input was given to the worker that it is for: that of its number, modulo how many there are. What the office asked for
--- it comes last among its receipts.
-pub record IsGiven {L A : Type 0} (input : Inbound A) (old new : OfficeState L A) : Type 0 where
+-- The input is for the worker of this place: that of its number, modulo how many there are. What the office asked for it comes
+-- last among its receipts.
+pub record IsFor {L A : Type 0} (input : Inbound A) (old new : OfficeState L A) (worker : ℕ) : Type 0 where
   pub asked : List Receipt
   pub number : ℕ
   pub front : new.front ≡ old.front ++ asked
   pub is_number : IsNumberOf input asked number
-  pub gives : GivesTo (number % length old.workers) input old.workers new.workers
+  pub place : worker ≡ number % length old.workers
+
+-- the input was given to the worker that it is for
+pub record IsGiven {L A : Type 0} (input : Inbound A) (old new : OfficeState L A) : Type 0 where
+  pub worker : ℕ
+  pub is_for : IsFor input old new worker
+  pub gives : GivesTo worker input old.workers new.workers
 
 -- how a fault of octets on Abis is told
 abbrev pub Tells : RslFault → GiveFault → Type 0

@@ -1,7 +1,7 @@
 //! What an office looks at when it closes.
-ghost use Rattle.std.specs.Prelude.{◌≡◌, ◌↔◌, ◌++◌, ◌≤◌, [], IfOk, IsTrue, MatchResult, vec_len, vec_capacity};
+ghost use Rattle.std.specs.Prelude.{◌≡◌, ◌↔◌, ◌++◌, ◌≤◌, [], length, IfOk, IsTrue, MatchOption, MatchResult, vec_len, vec_capacity};
 ghost use Rattle.std.specs.List.{flat_map};
-ghost use Rattle.receipt_check.specs.Gathering.{Gathers};
+ghost use Rattle.receipt_check.specs.Gathering.{Gathers, FirstWrong, StandsAt};
 ghost use Rattle.call_worker.specs.Closing.{AreEnds, IsCloseFault};
 
 use crate::links::Links;
@@ -9,7 +9,7 @@ use crate::posted::{Posted, WorkerEnd};
 use radio_book::book::Book;
 use radio_desk::desk::Desk;
 use radio_desk::seat::Receipt;
-use receipt_check::{CloseFault, check, push_all};
+use receipt_check::{CloseFault, check, first_wrong, push_all};
 use std::alloc::{AllocError, Allocator};
 use std::sync::Wait;
 use std::thread::Threads;
@@ -31,7 +31,7 @@ pub(crate) fn close_all<R: Threads + Wait, L: Links + Drop, A: Allocator + Copy>
 }
 
 /// The receipts of the office, and then those of its workers.
-pub(crate) fn receipts_of<L, A: Allocator + Copy>(
+fn receipts_of<L, A: Allocator + Copy>(
     alloc: A,
     front: &[Receipt],
     workers: &[WorkerEnd<L, A>],
@@ -54,19 +54,67 @@ fn opens_with<A: Allocator + Copy>(desk: &Desk<A>, book: &Book<A>) -> bool
     *desk.opening() == *book
 }
 
-/// Looks whether receipts are the history of a desk that opens with this book.
+/// The first receipt of a worker, one worker after the other, that isn't the entry at its place.
+fn first_wrong_of<L, A: Allocator + Copy>(
+    desk: &Desk<A>,
+    workers: &[WorkerEnd<L, A>],
+) -> Option<Receipt>
+    ensures { MatchOption result
+        (StandsAt desk.now.history (flat_map (λ worker. worker.receipts.items) workers.now)
+        (length (flat_map (λ worker. worker.receipts.items) workers.now)))
+        (λ receipt. FirstWrong desk.now.history
+        (flat_map (λ worker. worker.receipts.items) workers.now) receipt) }
+{
+    for worker in workers {
+        if let Some(receipt) = first_wrong(desk, worker.receipts.as_slice()) {
+            return Some(receipt);
+        }
+    }
+    None
+}
+
+/// The same of the receipts of the office, and then of its workers.
+fn first_wrong_of_all<L, A: Allocator + Copy>(
+    desk: &Desk<A>,
+    front: &[Receipt],
+    workers: &[WorkerEnd<L, A>],
+) -> Option<Receipt>
+    ensures { MatchOption result
+        (StandsAt desk.now.history
+        (front.now ++ flat_map (λ worker. worker.receipts.items) workers.now)
+        (length (front.now ++ flat_map (λ worker. worker.receipts.items) workers.now)))
+        (λ receipt. FirstWrong desk.now.history
+        (front.now ++ flat_map (λ worker. worker.receipts.items) workers.now) receipt) }
+{
+    if let Some(receipt) = first_wrong(desk, front) {
+        return Some(receipt);
+    }
+    first_wrong_of(desk, workers)
+}
+
+/// Looks whether the receipts of an office, and then of its workers, are the history of a desk that opens with this book.
 #[tactic(auto, using(crate::proofs::Closings::closing_fault))]
-pub(crate) fn is_whole<A: Allocator + Copy>(
+pub(crate) fn is_whole<L, A: Allocator + Copy>(
     alloc: A,
     desk: &Desk<A>,
     opening: &Book<A>,
-    all: &[Receipt],
+    front: &[Receipt],
+    workers: &[WorkerEnd<L, A>],
 ) -> Result<(), CloseFault>
     ensures { MatchResult result
-        (λ _. Gathers desk.now.history all.now × (desk.now.opening ≡ opening.now))
-        (λ fault. IsCloseFault opening.now desk.now all.now fault) }
+        (λ _. Gathers desk.now.history
+        (front.now ++ flat_map (λ worker. worker.receipts.items) workers.now) ×
+        (desk.now.opening ≡ opening.now))
+        (λ fault. IsCloseFault opening.now desk.now
+        (front.now ++ flat_map (λ worker. worker.receipts.items) workers.now) fault) }
 {
-    if let Err(fault) = check(alloc, desk, all) {
+    if let Some(receipt) = first_wrong_of_all(desk, front, workers) {
+        return Err(CloseFault::Missing(receipt));
+    }
+    let Ok(all) = receipts_of(alloc, front, workers) else {
+        return Err(CloseFault::NoMemory);
+    };
+    if let Err(fault) = check(alloc, desk, all.as_slice()) {
         return Err(fault);
     }
     if !opens_with(desk, opening) {

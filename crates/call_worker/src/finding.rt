@@ -1,5 +1,5 @@
 //! Which worker an input is for.
-ghost use Rattle.std.specs.Prelude.{◌≡◌, ◌≢◌, ◌↔◌, ◌++◌, List, Err, IfOk, OnErr};
+ghost use Rattle.std.specs.Prelude.{◌≡◌, ◌≢◌, ◌↔◌, ◌++◌, ℕ, List, Err, IfOk, OnErr};
 ghost use Rattle.radio_desk.specs.declared.seat.Receipt.{Receipt};
 ghost use Rattle.rsl_messages.specs.declared.fault.RslFault.{RslFault};
 ghost use Rattle.rsl_messages.specs.declared.fault.RslFault.TheVariants.{NoMemory};
@@ -22,7 +22,8 @@ use std::sync::Wait;
 
 /// How a fault of octets is told.
 fn told(fault: RslFault) -> GiveFault
-    ensures { Tells fault result }
+    ensures tells { Tells fault result }
+    ensures alive { (n : ℕ) → result ≢ GiveFault.Ended n }
 {
     match fault {
         RslFault::NoMemory => GiveFault::NoMemory,
@@ -40,6 +41,7 @@ fn read_abis<A: Allocator + Copy>(alloc: A, octets: &[u8]) -> Result<Rsl<A>, Giv
     ensures text { IfOk result (λ message. IsTextOf message octets.now) }
     ensures undecoded { (f : RslFault) → (result ≡ Err (GiveFault.Undecoded f)) ↔
         ((f ≢ NoMemory) × HasFault A octets.now f) }
+    ensures alive { (n : ℕ) → result ≢ Err (GiveFault.Ended n) }
 {
     rsl_messages::reading_is_unique::<A>();
     match decode(alloc, octets) {
@@ -91,6 +93,7 @@ fn owner_number<R: Wait + Drop, A: Allocator + Copy>(
     ensures undecoded { (f : RslFault) → (result ≡ Err (GiveFault.Undecoded f)) ↔
         ((f ≢ NoMemory) × HasFault A octets.now f) }
     ensures kept { OnErr result (front.new ≡ front.old) }
+    ensures alive { (n : ℕ) → result ≢ Err (GiveFault.Ended n) }
 {
     let message = match read_abis(alloc, octets) {
         Ok(message) => message,
@@ -127,6 +130,7 @@ pub(crate) fn number_of<R: Wait + Drop, A: Allocator + Copy>(
     ensures undecoded { (f : RslFault) → (result ≡ Err (GiveFault.Undecoded f)) ↔
         IsUnreadHere input.now f }
     ensures kept { OnErr result (front.new ≡ front.old) }
+    ensures alive { (n : ℕ) → result ≢ Err (GiveFault.Ended n) }
 {
     match input {
         Inbound::Abis { cell, trx, bytes } => {

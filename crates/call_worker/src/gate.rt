@@ -1,6 +1,7 @@
 //! A seat at a shared desk that tells a gate how far calls have come.
 ghost use Rattle.std.specs.Prelude.{◌≡◌, length};
 
+use channel_fsm::Rate;
 use ho_procedure::shared::Shared;
 use ho_procedure::view::DeskView;
 use radio_book::event::{Event, Kind, Reply};
@@ -64,13 +65,6 @@ fn point_of(event: Event) -> Option<(u16, Point)> {
     }
 }
 
-fn is_accepted(reply: Reply) -> bool {
-    match reply {
-        Reply::Done | Reply::Record(..) | Reply::Owned(_) => true,
-        Reply::Refused(_) => false,
-    }
-}
-
 impl<R: Wait + Drop, G: Gate + Drop, A: Allocator + Copy> Gated<R, G, A> {
     pub(crate) fn new(shared: Shared<R, A>, gate: Arc<G, A>) -> Gated<R, G, A>
         ensures { result ≡ shared }
@@ -93,7 +87,7 @@ impl<R: Wait + Drop, G: Gate + Drop, A: Allocator + Copy> Gated<R, G, A> {
     }
 
     fn tell(&self, receipt: &Receipt) {
-        if !is_accepted(receipt.reply) {
+        if !receipt.reply.is_accepted() {
             return;
         }
         if let Some((call, point)) = point_of(receipt.event) {
@@ -123,8 +117,9 @@ impl<R: Wait + Drop, G: Gate + Drop, A: Allocator + Copy> DeskView for Gated<R, 
         call: u16,
         kind: Kind,
         cell: u8,
+        rate: Rate,
     ) -> Result<Option<Receipt>, DeskFault> {
-        self.shared.judge_take(call, kind, cell)
+        self.shared.judge_take(call, kind, cell, rate)
     }
 
     fn judge_reserve(&mut self, call: u16) -> Result<Receipt, DeskFault> {

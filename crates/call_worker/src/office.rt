@@ -1,17 +1,16 @@
 //! The office: it starts the workers, gives them their inputs, and closes.
-ghost use Rattle.std.specs.Prelude.{◌≡◌, ◌↔◌, ◌++◌, ◌<◌, ◌≤◌, [], List, map, All, Err, IfOk, IfErr, OnOk, OnErr, vec_len, vec_capacity};
+ghost use Rattle.std.specs.Prelude.{◌≡◌, ◌↔◌, ◌++◌, ◌<◌, ◌≤◌, [], ℕ, List, map, All, Err, IfOk, IfErr, OnOk, OnErr, vec_len, vec_capacity};
 ghost use Rattle.std.specs.List.{flat_map};
 ghost use Rattle.radio_book.specs.Run.{Leads};
 ghost use Rattle.radio_desk.specs.declared.seat.Receipt.{Receipt};
-ghost use Rattle.radio_desk.specs.Desk.{DeskState};
 ghost use Rattle.radio_desk.specs.Receipts.{IsRising};
 ghost use Rattle.rsl_messages.specs.declared.fault.RslFault.{RslFault};
 ghost use Rattle.receipt_check.specs.Gathering.{Gathers};
 ghost use Rattle.call_worker.specs.States.{new_worker};
-ghost use Rattle.call_worker.specs.Giving.{IsGiven, IsUnreadHere, MayBeAsked};
-ghost use Rattle.call_worker.specs.Closing.{AreEnds, IsCloseFault};
+ghost use Rattle.call_worker.specs.Giving.{IsFor, IsGiven, IsUnreadHere, MayBeAsked};
+ghost use Rattle.call_worker.specs.Closing.{AreEnds, ClosesNot};
 
-use crate::closing::{close_all, is_whole, receipts_of};
+use crate::closing::{close_all, is_whole};
 use crate::fault::{GiveFault, StartFault};
 use crate::finding::number_of;
 use crate::gate::Gate;
@@ -154,6 +153,8 @@ impl<R: Threads + Wait + Drop, L: Links + Drop, A: Allocator + Copy> Office<R, L
         ensures err { OnErr result (self.new.workers ≡ self.old.workers) }
         ensures undecoded { (f : RslFault) → (result ≡ Err (GiveFault.Undecoded f)) ↔
             IsUnreadHere input f }
+        ensures ended { (worker : ℕ) → result ≡ Err (GiveFault.Ended worker) →
+            IsFor input self.old self.new worker }
         ensures asked { (asked : List Receipt) × (self.new.front ≡ self.old.front ++ asked) ×
             MayBeAsked input asked }
     {
@@ -182,8 +183,7 @@ impl<R: Threads + Wait + Drop, L: Links + Drop, A: Allocator + Copy> Office<R, L
         ensures rising { IfOk result (λ closed. IsRising closed.front.items) }
         ensures workers { IfOk result (λ closed.
             AreEnds L.passed L.refused self.workers closed.workers.items) }
-        ensures fault { IfErr result (λ fault. (desk : DeskState) × (all : List Receipt) ×
-            IsCloseFault self.opening desk all fault) }
+        ensures fault { IfErr result (λ fault. ClosesNot L.passed L.refused self fault) }
     {
         let Office {
             rt,
@@ -198,13 +198,10 @@ impl<R: Threads + Wait + Drop, L: Links + Drop, A: Allocator + Copy> Office<R, L
         let workers = close_all(&rt, posts, ends);
         let desk = mem::replace(&mut *lock.lock(&rt), spare);
         let front = front.into_receipts();
-        let Ok(all) = receipts_of(alloc, front.as_slice(), workers.as_slice()) else {
-            return Err(CloseFault::NoMemory);
-        };
-        if let Err(fault) = is_whole(alloc, &desk, &opening, all.as_slice()) {
+        let _entries = desk.len();
+        if let Err(fault) = is_whole(alloc, &desk, &opening, front.as_slice(), workers.as_slice()) {
             return Err(fault);
         }
-        let _entries = desk.len();
         Ok(Closed {
             desk,
             front,

@@ -1,5 +1,5 @@
 //! A worker as its office holds it.
-ghost use Rattle.std.specs.Prelude.{◌≡◌, ◌≢◌, ◌∷◌, ◌++◌, [], true, false, IfOk, OnOk, OnErr, Err};
+ghost use Rattle.std.specs.Prelude.{◌≡◌, ◌≢◌, ◌∷◌, ◌++◌, [], ℕ, true, false, IfOk, OnOk, OnErr, Err};
 ghost use Rattle.crossbeam_channel.specs.Claims.{view, IsSeatAt};
 ghost use Rattle.crossbeam_channel.specs.Ends.{receives_on};
 ghost use Rattle.rsl_messages.specs.declared.fault.RslFault.{RslFault};
@@ -146,7 +146,8 @@ impl<L: Links + Drop, A: Allocator + Copy> Posted<L, A> {
         }
     }
 
-    /// Sends it an input, and waits while its inbox is full. At `Err` nothing was sent.
+    /// Sends it an input, and waits while its inbox is full. At `Err` nothing was sent. Where it has ended, its number among
+    /// the workers is told.
     pub(crate) fn give<R: Wait>(
         &mut self,
         rt: &R,
@@ -157,6 +158,7 @@ impl<L: Links + Drop, A: Allocator + Copy> Posted<L, A> {
         ensures ok { OnOk result (self.new ≡ with_input input self.old) }
         ensures err { OnErr result (self.new ≡ self.old) }
         ensures read { (f : RslFault) → result ≢ Err (GiveFault.Undecoded f) }
+        ensures ended { (n : ℕ) → result ≡ Err (GiveFault.Ended n) → n ≡ number }
     {
         if self.given.reserve(1).is_err() {
             return Err(GiveFault::NoMemory);

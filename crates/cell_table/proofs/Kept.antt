@@ -9,12 +9,12 @@ use Rattle.toml.specs.Data.{Data, get}
 use Rattle.cell_table.specs.declared.fault.Key.TheVariants as key
 use Rattle.cell_table.specs.declared.tables.CellIdentity.{CellIdentity}
 use Rattle.cell_table.specs.declared.tables.HandoverRule.{HandoverRule}
-use Rattle.cell_table.specs.Ranges.{arfcn_range, IsAllowed}
+use Rattle.cell_table.specs.Ranges.{arfcn_range, tch_range, IsAllowed}
 use Rattle.cell_table.specs.Site.{TrxView, CellView, SiteView, IsCell}
 use Rattle.cell_table.specs.Rules.{same_codes, same_colour, identities, has_no_traffic, first_broken, unbroken, checked}
-use Rattle.cell_table.specs.Searches.{has_pair, has_carrier_pair, has_slot_pair, has_neighbour_pair, broken_by_pairs}
-use Rattle.cell_table.specs.SiteFile.{Read, ◌>>=◌, value_at, number_within, number_at, tables_of, each, key_name, handover_at, identity_of, ba_of, tch_of, trx_of, all_trx_of, cell_of, cells_of, outside_of, site_of}
-use Rattle.cell_table.specs.Kept.{kept_trx, kept_trx_list, kept_cell, kept_cells, kept_site}
+use Rattle.cell_table.specs.Searches.{has_pair, has_carrier_pair, slot_pair, has_slot_pair, has_neighbour_pair, broken_by_pairs}
+use Rattle.cell_table.specs.SiteFile.{Read, ◌>>=◌, value_at, number_of, number_within, number_at, array_of, tables_of, each, key_name, handover_at, identity_of, ba_of, tch_of, half_of, trx_of, all_trx_of, cell_of, cells_of, outside_of, site_of}
+use Rattle.cell_table.specs.Kept.{trx_by, kept_slots, kept_trx, kept_trx_list, kept_cell, kept_cells, kept_site}
 use Rattle.cell_table.proofs.Each.{finished}
 use Rattle.cell_table.proofs.Twice.{found_by_pairs}
 use Rattle.cell_table.proofs.Nine.{few_once}
@@ -22,7 +22,7 @@ use Rattle.cell_table.proofs.SiteFacts.{cell_list}
 
 -- what is kept of a TRX, and of a cell
 abbrev cut_trx : TrxView → TrxView
-cut_trx t = record { arfcn = t.arfcn; tch = take 9 t.tch }
+cut_trx t = record { arfcn = t.arfcn; tch = take 9 t.tch; half = take 9 t.half }
 
 abbrev cut_cell : CellView → CellView
 cut_cell c = record { identity = c.identity; power = c.power; ba = c.ba; trx = map cut_trx c.trx }
@@ -32,6 +32,10 @@ bind_same : {A B C : Type 0} (cut : B → C) (r : Read A) (f : A → Read B) (f'
     → (r >>= f') ≡ finished cut (r >>= f)
 bind_same cut (Ok x) f f' same = same x
 bind_same cut (Err fault) f f' same = refl
+
+same_after : {A B : Type 0} (r : Read A) (f g : A → Read B) → ((x : A) → f x ≡ g x) → (r >>= f) ≡ (r >>= g)
+same_after (Ok x) f g same = same x
+same_after (Err fault) f g same = refl
 
 bind_cut : {A A' B B' : Type 0} (part : A → A') (cut : B → B') (r : Read A) (f : A → Read B) (f' : A' → Read B') → ((x : A) → f' (part x) ≡ finished cut (f x))
     → (finished part r >>= f') ≡ finished cut (r >>= f)
@@ -47,11 +51,26 @@ each_cut cut read read' same n (d ∷ ds) =
     (λ x. ap (λ r. r >>= (λ ys. Ok (cut x ∷ ys))) (each_cut cut read read' same (suc n) ds)
     ∙ bind_cut (map cut) (map cut) (each read (suc n) ds) (λ xs. Ok (x ∷ xs)) (λ ys. Ok (cut x ∷ ys)) (λ xs. refl))
 
+bind_assoc : {A B C : Type 0} (r : Read A) (f : A → Read B) (g : B → Read C) → ((r >>= f) >>= g) ≡ (r >>= (λ x. f x >>= g))
+bind_assoc (Ok x) f g = refl
+bind_assoc (Err fault) f g = refl
+
+-- the entries of `tch` are looked at once more for the timeslots that also carry halves
+slots_same : (arfcn : ℕ) (first : Bool) (d : Data)
+    → kept_slots arfcn first d ≡ (tch_of first d >>= (λ tch. finished (λ slots. take 9 slots) (half_of tch d) >>= (λ half. Ok (record { arfcn = arfcn; tch = take 9 tch; half = half }))))
+unfolding kept_slots trx_by tch_of
+slots_same arfcn first d =
+    let rest : List ℕ → Read TrxView = λ tch. finished (λ slots. take 9 slots) (half_of tch d) >>= (λ half. Ok (record { arfcn = arfcn; tch = take 9 tch; half = half })) in
+    let entries : Data → Read (List ℕ) = λ value. array_of key.Tch value >>= (λ ds. each (λ place. number_of key.Tch (tch_range first)) 0 ds) in
+    sym (bind_assoc (value_at key.Tch d) entries rest
+    ∙ same_after (value_at key.Tch d) (λ value. entries value >>= rest) _ (λ value. bind_assoc (array_of key.Tch value) (λ ds. each (λ place. number_of key.Tch (tch_range first)) 0 ds) rest))
+
 trx_cut : (bcch : ℕ) (first : Bool) (d : Data) → kept_trx bcch first d ≡ finished cut_trx (trx_of bcch first d)
 unfolding kept_trx trx_of
 trx_cut bcch first d =
     bind_same cut_trx (number_within key.Arfcn (arfcn_range bcch first) d) _ _
-    (λ arfcn. bind_cut (λ slots. take 9 slots) cut_trx (tch_of first d) _ _ (λ tch. refl))
+    (λ arfcn. slots_same arfcn first d ∙ bind_same cut_trx (tch_of first d) _ _
+    (λ tch. bind_cut (λ slots. take 9 slots) cut_trx (half_of tch d) _ _ (λ half. refl)))
 
 trx_list_cut : (bcch : ℕ) (d : Data) → kept_trx_list bcch d ≡ finished (map cut_trx) (all_trx_of bcch d)
 unfolding kept_trx_list all_trx_of
@@ -134,18 +153,32 @@ any_cut p cut same (x ∷ xs) = (λ i. same x i || any_cut p cut same xs i)
 -- what the rules find of a site of which the first nine timeslots of each TRX are kept
 
 abbrev HasSlots : TrxView → Type 0
-HasSlots t = All (IsAllowed key.Tch) t.tch
+HasSlots t = All (IsAllowed key.Tch) t.tch × All (IsAllowed key.Tch) t.half
 
-abbrev slot_pair : TrxView → Bool
-slot_pair t = has_pair (λ m n. n == m) t.tch
+slots_kept : (t : TrxView) → HasSlots t → slot_pair t ≡ false → cut_trx t ≡ t
+slots_kept t slots none =
+    let (once, once') = or_parts (has_pair (λ m n. n == m) t.tch) (has_pair (λ m n. n == m) t.half) none in
+    λ i. record { arfcn = t.arfcn; tch = all_kept t.tch slots.0 once i; half = all_kept t.half slots.1 once' i }
+
+slots_twice : (t : TrxView) → HasSlots t → slot_pair t ≡ true → slot_pair (cut_trx t) ≡ true
+slots_twice t slots twice =
+    elim (cases_Bool (has_pair (λ m n. n == m) t.tch)) [
+      | inl found ↦ ap (λ b. b || has_pair (λ m n. n == m) (take 9 t.half)) (still_twice t.tch slots.0 found)
+      | inr none ↦
+          let rest = still_twice t.half slots.1 (sym (ap (λ b. b || has_pair (λ m n. n == m) t.half) none) ∙ twice) in
+          ap (λ b. has_pair (λ m n. n == m) (take 9 t.tch) || b) rest ∙ or_true (has_pair (λ m n. n == m) (take 9 t.tch))
+    ]
+
+has_slots : (c : CellView) → IsCell c → All HasSlots c.trx
+has_slots c is = λ i x within. (is.slots i x within, λ j n inside. (is.halves i x within j n inside).range)
 
 cell_kept : (c : CellView) → IsCell c → has_slot_pair c ≡ false → cut_cell c ≡ c
 cell_kept c is once =
-    let same = map_kept HasSlots slot_pair cut_trx (λ t slots none. λ i. record { arfcn = t.arfcn; tch = all_kept t.tch slots none i }) c.trx is.slots once in
+    let same = map_kept HasSlots slot_pair cut_trx slots_kept c.trx (has_slots c is) once in
     (λ i. record { identity = c.identity; power = c.power; ba = c.ba; trx = same i })
 
 cell_twice : (c : CellView) → IsCell c → has_slot_pair c ≡ true → has_slot_pair (cut_cell c) ≡ true
-cell_twice c is twice = any_still HasSlots slot_pair cut_trx (λ t slots found. still_twice t.tch slots found) c.trx is.slots twice
+cell_twice c is twice = any_still HasSlots slot_pair cut_trx slots_twice c.trx (has_slots c is) twice
 
 carriers_cut : (trx : List TrxView) → has_pair (λ s t. t.arfcn == s.arfcn) (map cut_trx trx) ≡ has_pair (λ s t. t.arfcn == s.arfcn) trx
 carriers_cut [] = refl
@@ -188,10 +221,6 @@ checked_cut handover cells outside all =
           ∙ ap (λ broken. unbroken site broken) (sym (found_by_pairs site))
       | inr once ↦ ap (λ own. checked (having own)) (map_kept IsCell has_slot_pair cut_cell cell_kept cells all once)
     ]
-
-same_after : {A B : Type 0} (r : Read A) (f g : A → Read B) → ((x : A) → f x ≡ g x) → (r >>= f) ≡ (r >>= g)
-same_after (Ok x) f g same = same x
-same_after (Err fault) f g same = refl
 
 cut_after : {A B : Type 0} (cut : A → A) (r : Read A) (f : A → Read B) → ((x : A) → r ≡ Ok x → f (cut x) ≡ f x) → (finished cut r >>= f) ≡ (r >>= f)
 cut_after cut (Ok x) f same = same x refl

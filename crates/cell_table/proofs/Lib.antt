@@ -14,6 +14,8 @@ pub mod Refusals
 pub mod Twice
 -- of nine timeslots two are the same
 pub mod Nine
+-- the timeslots of a TRX as they are read
+pub mod SlotFacts
 -- what is kept of a site file says what the file says, the first check that fails too
 pub mod Kept
 -- the first place at which a test passes, element by element
@@ -26,6 +28,8 @@ pub mod Lookups
 pub mod Ordered
 -- where a carrier stands in a neighbour list; a report names one cell
 pub mod NeighbourFacts
+-- the channels of a TRX by their numbers, three for each timeslot
+pub mod PartFacts
 -- the place of a traffic channel is as many as stand before it
 pub mod Counted
 -- the traffic channel that has a place

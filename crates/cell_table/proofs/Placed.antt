@@ -1,15 +1,18 @@
 -- The traffic channel that has a place: it is the one whose place that is.
-use Rattle.std.proofs.Common.{◌≡◌, ◌↔◌, ◌==◌, ℕ, suc, ◌+◌, ◌-◌, ◌<◌, ◌≤◌, nat_lt, Bool, true, false, cond, if◌then◌else◌, ◌||◌, List, [], ◌∷◌, length, take, filter, sum_by, count_by, Option, Some, None, is_some, option_map, option_and_then, unwrap_or, slice_get, get_or, refl, sym, ◌∙◌, ap, subst, zero-add, arith}
+use Rattle.std.proofs.Common.{◌≡◌, ◌↔◌, ◌==◌, ℕ, suc, ◌+◌, ◌-◌, ◌/◌, ◌%◌, ◌<◌, ◌≤◌, nat_lt, Bool, true, false, cond, if◌then◌else◌, ◌||◌, List, [], ◌∷◌, length, take, filter, sum_by, Option, Some, None, is_some, option_map, option_and_then, unwrap_or, slice_get, get_or, refl, sym, ◌∙◌, ap, subst, zero-add, arith}
 use Rattle.std.proofs.lemmas.Bool.{false≢true, or_left, or_right}
 use Rattle.std.proofs.lemmas.Bool.Decides.{nat_tests}
 use Rattle.std.proofs.lemmas.Option.{same_Some, none-some, slice_get_within, slice_get-get_or}
 use Rattle.std.proofs.lemmas.List.Sums.{sum_by-cons, length-filter}
 use Rattle.std.specs.List.{find, range_with_len}
+use Rattle.channel_fsm.specs.declared.Sub.{Sub}
+use Rattle.channel_fsm.specs.declared.Sub.TheVariants.{Full, Half0, Half1}
 use Rattle.channel_fsm.specs.declared.ChanId.{ChanId}
-use Rattle.cell_table.specs.Limits.{timeslots_of_trx}
-use Rattle.cell_table.specs.Site.{TrxView, CellView, SiteView, IsSite, is_traffic, is_channel, channels, index_of}
-use Rattle.cell_table.specs.Searches.{trx_size, cell_size, slots_before, before_in_cell, channels_before, slot_at, at_place, trx_channel, cell_channel}
+use Rattle.channel_fsm.specs.Keys.{same_chan}
+use Rattle.cell_table.specs.Site.{TrxView, CellView, SiteView, IsSite, slots_with, is_traffic, channels, index_of}
+use Rattle.cell_table.specs.Searches.{trx_size, cell_size, number_of, slots_before, before_in_cell, channels_before, part_at, first_of, chan_with, at_place, trx_channel, cell_channel}
 use Rattle.cell_table.proofs.Ordered.{is_in, count_in_order, comes_after}
+use Rattle.cell_table.proofs.PartFacts.{places_of_trx, part, number_channel, numbers_of, number_in, before_numbers, size_numbers}
 use Rattle.cell_table.proofs.Positions.{position_is}
 use Rattle.cell_table.proofs.Counted.{AreSlots, slots_count, range_order, trx_slots, is_same, channels_count, index_is}
 
@@ -111,101 +114,142 @@ some_found test (x ∷ xs) y there passes = by (test x) refl (x == y) refl (λ l
     by false is true at later = absurd (false≢true (sym is ∙ ap test (equal x y at) ∙ passes))
     by false is false at later = later (sym (ap (λ b. b || is_in xs y) at) ∙ there)
 
--- the timeslot that has a place in a TRX
+-- the channel that has a place in a TRX
 
-slot_found : (slots : List ℕ) (place tn : ℕ) → slot_at slots place ≡ Some tn → (is_in slots tn ≡ true) × (count_by (λ n. nat_lt n tn) slots ≡ place)
-slot_found slots place tn e =
-    let (there, passes) = found (λ m. count_by (λ n. nat_lt n m) slots == place) slots tn e in
-    (there, equal (count_by (λ n. nat_lt n tn) slots) place passes)
+chan : ℕ → ℕ → ℕ → Sub → ChanId
+chan cell trx tn sub = record { cell = cell; trx = trx; tn = tn; sub = sub }
 
-slot_there : (slots : List ℕ) → AreSlots slots → (place : ℕ) → place < length slots → is_some (slot_at slots place) ≡ true
-slot_there slots are place within =
-    let order = range_with_len 0 timeslots_of_trx in
+record IsOfTrx (cell trx : ℕ) (t : TrxView) (place : ℕ) (x : ChanId) : Type 0 where
+  tn : ℕ
+  sub : Sub
+  there : is_in (slots_with sub t) tn ≡ true
+  count : slots_before (number_of tn sub) t ≡ place
+  is : chan cell trx tn sub ≡ x
+
+part_found : (sub : Sub) (t : TrxView) (slots : List ℕ) (place tn : ℕ) → part_at sub t slots place ≡ Some tn → (is_in slots tn ≡ true) × (slots_before (number_of tn sub) t ≡ place)
+part_found sub t slots place tn e =
+    let (there, passes) = found (λ m. slots_before (number_of m sub) t == place) slots tn e in
+    (there, equal (slots_before (number_of tn sub) t) place passes)
+
+of_trx : (cell trx : ℕ) (t : TrxView) (place : ℕ) (x : ChanId) → trx_channel cell trx t place ≡ Some x → IsOfTrx cell trx t place x
+unfolding chan
+of_trx cell trx t place x = by (part_at Full t t.tch place) refl (part_at Half0 t t.half place) refl (part_at Half1 t t.half place) refl
+  where
+    made : (sub : Sub) (tn : ℕ) → part_at sub t (slots_with sub t) place ≡ Some tn → Some (chan cell trx tn sub) ≡ Some x → IsOfTrx cell trx t place x
+    made sub tn at e =
+        let (there, count) = part_found sub t (slots_with sub t) place tn at in
+        record { tn = tn; sub = sub; there = there; count = count; is = same_Some (chan cell trx tn sub) x e }
+
+    by : (o0 : Option ℕ) → part_at Full t t.tch place ≡ o0 → (o1 : Option ℕ) → part_at Half0 t t.half place ≡ o1 → (o2 : Option ℕ) → part_at Half1 t t.half place ≡ o2
+        → first_of (chan_with cell trx Full o0) (first_of (chan_with cell trx Half0 o1) (chan_with cell trx Half1 o2)) ≡ Some x → IsOfTrx cell trx t place x
+    by (Some tn) e0 o1 e1 o2 e2 e = made Full tn e0 e
+    by None e0 (Some tn) e1 o2 e2 e = made Half0 tn e1 e
+    by None e0 None e1 (Some tn) e2 e = made Half1 tn e2 e
+    by None e0 None e1 None e2 e = absurd (none-some x e)
+
+mapped_some : {A B : Type 0} (f : A → B) (o : Option A) → is_some o ≡ true → is_some (option_map f o) ≡ true
+mapped_some f None e = e
+mapped_some f (Some a) e = refl
+
+first_left : (o p : Option ChanId) → is_some o ≡ true → is_some (first_of o p) ≡ true
+first_left None p e = absurd (false≢true e)
+first_left (Some x) p e = refl
+
+first_right : (o p : Option ChanId) → is_some p ≡ true → is_some (first_of o p) ≡ true
+first_right None p e = e
+first_right (Some x) p e = refl
+
+one_there : (cell trx : ℕ) (t : TrxView) (place : ℕ) (sub : Sub) → is_some (part_at sub t (slots_with sub t) place) ≡ true → is_some (trx_channel cell trx t place) ≡ true
+unfolding chan
+one_there cell trx t place Full e = first_left (chan_with cell trx Full (part_at Full t t.tch place)) _ (mapped_some (λ tn. chan cell trx tn Full) (part_at Full t t.tch place) e)
+one_there cell trx t place Half0 e =
+    first_right (chan_with cell trx Full (part_at Full t t.tch place)) _
+    (first_left (chan_with cell trx Half0 (part_at Half0 t t.half place)) _ (mapped_some (λ tn. chan cell trx tn Half0) (part_at Half0 t t.half place) e))
+one_there cell trx t place Half1 e =
+    first_right (chan_with cell trx Full (part_at Full t t.tch place)) _
+    (first_right (chan_with cell trx Half0 (part_at Half0 t t.half place)) _ (mapped_some (λ tn. chan cell trx tn Half1) (part_at Half1 t t.half place) e))
+
+slot_there : (cell trx : ℕ) (t : TrxView) → AreSlots (numbers_of t) → (place : ℕ) → place < trx_size t → is_some (trx_channel cell trx t place) ≡ true
+slot_there cell trx t are place within =
+    let slots = numbers_of t in
+    let order = range_with_len 0 places_of_trx in
     let sorted = filter (is_in slots) order in
-    let long : length sorted ≡ length slots = length-filter (is_in slots) order ∙ slots_count slots are in
-    let tn = get_or sorted place 0 in
-    let at : slice_get sorted place ≡ Some tn = slice_get-get_or sorted place 0 (subst (λ n. place < n) (sym long) within) in
-    let comes = comes_after nat_lt not_itself (is_in slots) tn place order (range_order 0 timeslots_of_trx) at in
-    let counted = count_in_order nat_lt (λ n. nat_lt n tn) order slots (range_order 0 timeslots_of_trx) are.range are.once ∙ comes.count in
-    some_found (λ m. count_by (λ n. nat_lt n m) slots == place) slots tn comes.passes (same (count_by (λ n. nat_lt n tn) slots) place counted)
+    let long : length sorted ≡ trx_size t = length-filter (is_in slots) order ∙ slots_count slots are ∙ size_numbers t in
+    let n = get_or sorted place 0 in
+    let at : slice_get sorted place ≡ Some n = slice_get-get_or sorted place 0 (subst (λ m. place < m) (sym long) within) in
+    let comes = comes_after nat_lt not_itself (is_in slots) n place order (range_order 0 places_of_trx) at in
+    let sub = part (n % 3) in
+    let counted = count_in_order nat_lt (λ m. nat_lt m n) order slots (range_order 0 places_of_trx) are.range are.once ∙ comes.count in
+    let before : slots_before (number_of (n / 3) sub) t ≡ place = ap (λ m. slots_before m t) (number_channel cell trx n) ∙ before_numbers t n ∙ counted in
+    one_there cell trx t place sub
+    (some_found (λ m. slots_before (number_of m sub) t == place) (slots_with sub t) (n / 3) (number_in t n ∙ comes.passes)
+    (same (slots_before (number_of (n / 3) sub) t) place before))
 
 -- the channel that has a place in a cell
-
-chan : ℕ → ℕ → ℕ → ChanId
-chan cell trx tn = record { cell = cell; trx = trx; tn = tn }
 
 record IsOfCell (cell : ℕ) (c : CellView) (place : ℕ) (x : ChanId) : Type 0 where
   number : ℕ
   tn : ℕ
+  sub : Sub
   trx : TrxView
   at : slice_get c.trx number ≡ Some trx
-  there : is_in trx.tch tn ≡ true
-  before : place ≡ sum_by trx_size (take number c.trx) + count_by (λ n. nat_lt n tn) trx.tch
-  is : chan cell number tn ≡ x
+  there : is_in (slots_with sub trx) tn ≡ true
+  before : place ≡ sum_by trx_size (take number c.trx) + slots_before (number_of tn sub) trx
+  is : chan cell number tn sub ≡ x
 
 of_cell : (cell : ℕ) (c : CellView) (place : ℕ) (x : ChanId) → cell_channel cell c place ≡ Some x → IsOfCell cell c place x
-unfolding chan
 of_cell cell c place x e =
-    let told_of = told trx_size (trx_channel cell) 0 c.trx place x e in
-    by told_of (slot_at told_of.element.tch told_of.left) refl told_of.says
-  where
-    by : (t : IsTold trx_size (trx_channel cell) 0 c.trx place x) (o : Option ℕ) → slot_at t.element.tch t.left ≡ o → option_map (λ tn. record { cell = cell; trx = 0 + t.number; tn = tn }) o ≡ Some x
-        → IsOfCell cell c place x
-    by t None at e' = absurd (none-some x e')
-    by t (Some tn) at e' =
-        let (there, count) = slot_found t.element.tch t.left tn at in
-        record {
-          number = t.number;
-          tn = tn;
-          trx = t.element;
-          at = t.at;
-          there = there;
-          before = t.before ∙ ap (λ k. sum_by trx_size (take t.number c.trx) + k) (sym count);
-          is = ap (λ k. chan cell k tn) (sym (zero-add t.number)) ∙ same_Some (chan cell (0 + t.number) tn) x e';
-        }
+    let t = told trx_size (trx_channel cell) 0 c.trx place x e in
+    let of = of_trx cell (0 + t.number) t.element t.left x t.says in
+    record {
+      number = t.number;
+      tn = of.tn;
+      sub = of.sub;
+      trx = t.element;
+      at = t.at;
+      there = of.there;
+      before = t.before ∙ ap (λ k. sum_by trx_size (take t.number c.trx) + k) (sym of.count);
+      is = ap (λ k. chan cell k of.tn of.sub) (sym (zero-add t.number)) ∙ of.is;
+    }
 
 -- a traffic channel stands behind as many as come before it
-index_of_named : (site : SiteView) → IsSite site → (index cell number tn : ℕ) (c : CellView) (t : TrxView) → slice_get site.cells cell ≡ Some c → slice_get c.trx number ≡ Some t
-    → is_in t.tch tn ≡ true → index ≡ sum_by cell_size (take cell site.cells) + (sum_by trx_size (take number c.trx) + count_by (λ n. nat_lt n tn) t.tch)
-    → index_of site (chan cell number tn) ≡ Some index
+index_of_named : (site : SiteView) → IsSite site → (index cell number tn : ℕ) (sub : Sub) (c : CellView) (t : TrxView) → slice_get site.cells cell ≡ Some c → slice_get c.trx number ≡ Some t
+    → is_in (slots_with sub t) tn ≡ true → index ≡ sum_by cell_size (take cell site.cells) + (sum_by trx_size (take number c.trx) + slots_before (number_of tn sub) t)
+    → index_of site (chan cell number tn sub) ≡ Some index
 unfolding chan
-index_of_named site limits index cell number tn c t at at' there before =
-    index_is site limits (chan cell number tn) traffic ∙ ap (λ n. Some n) (counted ∙ sym before)
+index_of_named site limits index cell number tn sub c t at at' there before =
+    index_is site limits (chan cell number tn sub) traffic ∙ ap (λ n. Some n) (counted ∙ sym before)
   where
-    traffic : is_traffic site (chan cell number tn) ≡ true
+    traffic : is_traffic site (chan cell number tn sub) ≡ true
     traffic =
-        ap (λ o. is_in (unwrap_or (option_map (λ (u : TrxView). u.tch) (option_and_then (λ (d : CellView). slice_get d.trx number) o)) []) tn) at
-        ∙ ap (λ o. is_in (unwrap_or (option_map (λ (u : TrxView). u.tch) o) []) tn) at' ∙ there
+        ap (λ o. is_in (unwrap_or (option_map (slots_with sub) (option_and_then (λ (d : CellView). slice_get d.trx number) o)) []) tn) at
+        ∙ ap (λ o. is_in (unwrap_or (option_map (slots_with sub) o) []) tn) at' ∙ there
 
-    counted : channels_before site.cells (chan cell number tn) ≡ sum_by cell_size (take cell site.cells) + (sum_by trx_size (take number c.trx) + count_by (λ n. nat_lt n tn) t.tch)
+    counted : channels_before site.cells (chan cell number tn sub) ≡ sum_by cell_size (take cell site.cells) + (sum_by trx_size (take number c.trx) + slots_before (number_of tn sub) t)
     counted =
-        ap (λ o. sum_by cell_size (take cell site.cells) + unwrap_or (option_map (before_in_cell (chan cell number tn)) o) 0) at
-        ∙ ap (λ o. sum_by cell_size (take cell site.cells) + (sum_by trx_size (take number c.trx) + unwrap_or (option_map (slots_before tn) o) 0)) at'
+        ap (λ o. sum_by cell_size (take cell site.cells) + unwrap_or (option_map (before_in_cell (chan cell number tn sub)) o) 0) at
+        ∙ ap (λ o. sum_by cell_size (take cell site.cells) + (sum_by trx_size (take number c.trx) + unwrap_or (option_map (slots_before (number_of tn sub)) o) 0)) at'
 
 indexed : (site : SiteView) → IsSite site → (index : ℕ) (x : ChanId) → at_place cell_size cell_channel 0 site.cells index ≡ Some x → index_of site x ≡ Some index
 indexed site limits index x e =
     let told_of = told cell_size cell_channel 0 site.cells index x e in
     let of = of_cell (0 + told_of.number) told_of.element told_of.left x told_of.says in
     let before = told_of.before ∙ ap (λ k. sum_by cell_size (take told_of.number site.cells) + k) of.before in
-    let is : chan told_of.number of.number of.tn ≡ x = ap (λ k. chan k of.number of.tn) (sym (zero-add told_of.number)) ∙ of.is in
-    subst (λ y. index_of site y ≡ Some index) is (index_of_named site limits index told_of.number of.number of.tn told_of.element of.trx told_of.at of.at of.there before)
-
-mapped_some : {A B : Type 0} (f : A → B) (o : Option A) → is_some o ≡ true → is_some (option_map f o) ≡ true
-mapped_some f None e = e
-mapped_some f (Some a) e = refl
+    let is : chan told_of.number of.number of.tn of.sub ≡ x = ap (λ k. chan k of.number of.tn of.sub) (sym (zero-add told_of.number)) ∙ of.is in
+    subst (λ y. index_of site y ≡ Some index) is (index_of_named site limits index told_of.number of.number of.tn of.sub told_of.element of.trx told_of.at of.at of.there before)
 
 -- each place below the number of channels has one
 some_there : (site : SiteView) → IsSite site → (index : ℕ) → index < sum_by cell_size site.cells → is_some (at_place cell_size cell_channel 0 site.cells index) ≡ true
 some_there site limits index within =
     some_told cell_size cell_channel 0 site.cells
     (λ cell c left at few. some_told trx_size (trx_channel (0 + cell)) 0 c.trx
-    (λ number t left' at' few'. mapped_some (λ tn. record { cell = 0 + cell; trx = 0 + number; tn = tn }) (slot_at t.tch left') (slot_there t.tch (trx_slots site limits cell c at number t at') left' few'))
+    (λ number t left' at' few'. slot_there (0 + cell) (0 + number) t (trx_slots site limits cell c at number t at') left' few')
     left few)
     index within
 
 index_at : (site : SiteView) (x : ChanId) (index : ℕ) → index_of site x ≡ Some index → slice_get (channels site) index ≡ Some x
 index_at site x index e =
-    let at = position_is (is_channel x) (channels site) index e in
+    let at = position_is (same_chan x) (channels site) index e in
     at.there ∙ ap (λ y. Some y) (sym (is_same x at.element at.passes))
 
 listed_there : (site : SiteView) → IsSite site → (index : ℕ) (x : ChanId) → slice_get (channels site) index ≡ Some x → is_some (at_place cell_size cell_channel 0 site.cells index) ≡ true

@@ -1,6 +1,6 @@
 -- What a document says is a site or the first check that it fails: no check answers that memory was refused.
 use Rattle.std.proofs.Common.{ℕ, Bool, true, false, ◌==◌, List, Option, Some, None, option_map, Ok, Err, length}
-use Rattle.std.specs.List.{list_all}
+use Rattle.std.specs.List.{list_any, list_all}
 use Rattle.toml.specs.Data.{Data, get, as_array}
 use Rattle.cell_table.specs.declared.fault.Key.{Key}
 use Rattle.cell_table.specs.declared.fault.Key.TheVariants as key
@@ -10,7 +10,7 @@ use Rattle.cell_table.specs.Limits.{most_neighbours}
 use Rattle.cell_table.specs.Ranges.{up_to, allowed, arfcn_range, tch_range}
 use Rattle.cell_table.specs.Site.{SiteView}
 use Rattle.cell_table.specs.Rules.{broken_rule, first_broken, unbroken, checked}
-use Rattle.cell_table.specs.SiteFile.{◌>>=◌, is_allowed, allowed_number, number_of, number_within, number_at, value_at, array_of, entries_of, counted, all_tables, tables_of, is_table, key_name, handover_of, handover_at, identity_of, ba_of, tch_of, trx_of, all_trx_of, cell_of, cells_of, outside_of, site_of}
+use Rattle.cell_table.specs.SiteFile.{◌>>=◌, is_allowed, allowed_number, number_of, number_within, number_at, value_at, array_of, entries_of, counted, all_tables, tables_of, is_table, key_name, handover_of, handover_at, identity_of, ba_of, tch_of, half_slot, halves_by, trx_of, all_trx_of, cell_of, cells_of, outside_of, site_of}
 use Rattle.cell_table.proofs.Chains.{IsJudged, judged-ok, judged-bind, judged-ok_or, judged-if, judged-each}
 
 judged_value_at : (k : Key) (d : Data) → IsJudged (value_at k d)
@@ -73,10 +73,22 @@ judged_tch_of first d =
     judged-bind _ _ (judged_value_at key.Tch d) (λ v. judged-bind _ _ (judged_array_of key.Tch v)
     (λ ds. judged-each (λ place. number_of key.Tch (tch_range first)) (λ n d'. judged_number_of key.Tch (tch_range first) d') 0 ds))
 
+judged_half_slot : (test : ℕ → Bool) (d : Data) → IsJudged (half_slot test d)
+unfolding half_slot
+judged_half_slot test d =
+    judged-bind _ _ (judged_number_of key.Half (allowed key.Half) d) (λ tn. judged-if (test tn) _ _ (judged-ok _) (judged_range key.Half))
+
+judged_halves : (test : ℕ → Bool) (o : Option Data) → IsJudged (halves_by test o)
+unfolding halves_by
+judged_halves test None = judged-ok _
+judged_halves test (Some v) =
+    judged-bind _ _ (judged_array_of key.Half v) (λ ds. judged-each (λ place. half_slot test) (λ n d'. judged_half_slot test d') 0 ds)
+
 judged_trx_of : (bcch : ℕ) (first : Bool) (d : Data) → IsJudged (trx_of bcch first d)
 unfolding trx_of
 judged_trx_of bcch first d =
-    judged-bind _ _ (judged_number_within key.Arfcn (arfcn_range bcch first) d) (λ arfcn. judged-bind _ _ (judged_tch_of first d) (λ tch. judged-ok _))
+    judged-bind _ _ (judged_number_within key.Arfcn (arfcn_range bcch first) d) (λ arfcn. judged-bind _ _ (judged_tch_of first d)
+    (λ tch. judged-bind _ _ (judged_halves (λ tn. list_any (λ n. n == tn) tch) (get (key_name key.Half) d)) (λ half. judged-ok _)))
 
 judged_all_trx_of : (bcch : ℕ) (d : Data) → IsJudged (all_trx_of bcch d)
 unfolding all_trx_of

@@ -33,8 +33,8 @@ same_identity-Decides x y =
 
 pub same_trx-Decides : (x y : TrxView) → Decides (same_trx x y) (x ≡ y)
 same_trx-Decides x y =
-    same_of (same_trx x y) (Decides-and _ _ (unsigned_Decides x.arfcn y.arfcn) (numbers x.tch y.tch))
-    (λ h i. record { arfcn = h.0 i; tch = h.1 i }) (λ e. (ap (λ t. t.arfcn) e, ap (λ t. t.tch) e))
+    same_of (same_trx x y) (Decides-and _ _ (unsigned_Decides x.arfcn y.arfcn) (Decides-and _ _ (numbers x.tch y.tch) (numbers x.half y.half)))
+    (λ h i. record { arfcn = h.0 i; tch = h.1.0 i; half = h.1.1 i }) (λ e. (ap (λ t. t.arfcn) e, (ap (λ t. t.tch) e, ap (λ t. t.half) e)))
 
 pub same_cell-Decides : (x y : CellView) → Decides (same_cell x y) (x ≡ y)
 same_cell-Decides x y =

@@ -5,6 +5,8 @@ use Rattle.std.proofs.lemmas.Bool.{false≢true, and_parts, cases_Bool}
 use Rattle.std.proofs.lemmas.Bool.Decides.{nat_tests}
 use Rattle.std.proofs.lemmas.Option.{same_Some, slice_get_within, slice_get-get_or}
 use Rattle.std.specs.List.{list_any, list_all}
+use Rattle.channel_fsm.specs.declared.Sub.{Sub}
+use Rattle.channel_fsm.specs.declared.Sub.TheVariants.{Full, Half0, Half1}
 use Rattle.channel_fsm.specs.declared.ChanId.{ChanId}
 use Rattle.toml.specs.Data.{Data, get, as_integer}
 use Rattle.cell_table.specs.declared.fault.Key.{Key}
@@ -16,9 +18,9 @@ use Rattle.cell_table.specs.Limits.{most_carrier, most_neighbours, timeslots_of_
 use Rattle.cell_table.specs.Ranges.{up_to, allowed, arfcn_range, tch_range, IsAllowed}
 use Rattle.cell_table.specs.declared.tables.CellIdentity.{CellIdentity}
 use Rattle.cell_table.specs.declared.tables.HandoverRule.{HandoverRule}
-use Rattle.cell_table.specs.Site.{TrxView, CellView, SiteView, IsCell, IsSite, IsHandoverRule, IsIdentity, IsWithinLimits, is_traffic}
+use Rattle.cell_table.specs.Site.{TrxView, CellView, SiteView, IsCell, IsHalf, IsSite, IsHandoverRule, IsIdentity, IsWithinLimits, slots_with, is_traffic}
 use Rattle.cell_table.specs.Rules.{broken_rule, unbroken, checked}
-use Rattle.cell_table.specs.SiteFile.{Read, ◌>>=◌, handover_of, is_table, each, is_allowed, natural_number, number_of, number_within, number_at, value_at, array_of, counted, all_tables, tables_of, key_name, handover_at, identity_of, ba_of, tch_of, trx_of, all_trx_of, cell_of, cells_of, outside_of, site_of}
+use Rattle.cell_table.specs.SiteFile.{Read, ◌>>=◌, handover_of, is_table, each, is_allowed, natural_number, number_of, number_within, number_at, value_at, array_of, counted, all_tables, tables_of, key_name, handover_at, identity_of, ba_of, tch_of, half_slot, halves_by, half_of, trx_of, all_trx_of, cell_of, cells_of, outside_of, site_of}
 use Rattle.cell_table.proofs.Chains.{bind_parts, ok_or_parts, where_passes_parts, passed, All-each, first-each, length-each}
 
 -- what was read within a range is a number of that range
@@ -102,9 +104,37 @@ trx_slots : (bcch : ℕ) (first : Bool) (d : Data) (t : TrxView) → trx_of bcch
 unfolding trx_of
 trx_slots bcch first d t e =
     let Within : ℕ → Type 0 = λ tn. ((tch_range first).least ≤ tn) × (tn ≤ (tch_range first).most) in
-    bind_parts (All Within t.tch) (number_within key.Arfcn (arfcn_range bcch first) d) (λ arfcn. tch_of first d >>= (λ tch. Ok (record { arfcn = arfcn; tch = tch }))) t e
-    (λ arfcn read rest. bind_parts (All Within t.tch) (tch_of first d) (λ tch. Ok (record { arfcn = arfcn; tch = tch })) t rest
-    (λ tch told same. let is : record { arfcn = arfcn; tch = tch } ≡ t = cc in rw (← is) (tch_within first d tch told)))
+    bind_parts (All Within t.tch) (number_within key.Arfcn (arfcn_range bcch first) d) (λ arfcn. tch_of first d >>= (λ tch. half_of tch d >>= (λ half. Ok (record { arfcn = arfcn; tch = tch; half = half })))) t e
+    (λ arfcn read rest. bind_parts (All Within t.tch) (tch_of first d) (λ tch. half_of tch d >>= (λ half. Ok (record { arfcn = arfcn; tch = tch; half = half }))) t rest
+    (λ tch told more. bind_parts (All Within t.tch) (half_of tch d) (λ half. Ok (record { arfcn = arfcn; tch = tch; half = half })) t more
+    (λ half said same. let is : record { arfcn = arfcn; tch = tch; half = half } ≡ t = cc in rw (← is) (tch_within first d tch told))))
+
+-- the timeslots that also carry halves are among them
+half_slot_is : (slots : List ℕ) (d : Data) (n : ℕ) → half_slot (λ tn. list_any (λ m. m == tn) slots) d ≡ Ok n → IsHalf slots n
+unfolding half_slot
+half_slot_is slots d n e =
+    let test : ℕ → Bool = λ tn. list_any (λ m. m == tn) slots in
+    bind_parts (IsHalf slots n) (number_of key.Half (allowed key.Half) d) (λ tn. if test tn then Ok tn else Err (Range key.Half)) n e
+    (λ tn read rest.
+    let (same, passes) = passed (test tn) tn n (Range key.Half) rest in
+    rw (← same) (record { range = number_range key.Half (allowed key.Half) d tn read; traffic = passes }))
+
+halves_within : (slots : List ℕ) (o : Option Data) (halves : List ℕ) → halves_by (λ tn. list_any (λ m. m == tn) slots) o ≡ Ok halves → All (IsHalf slots) halves
+unfolding halves_by
+halves_within slots None halves e = let is : [] ≡ halves = cc in rw (← is) (All-nil (IsHalf slots))
+halves_within slots (Some value) halves e =
+    let test : ℕ → Bool = λ tn. list_any (λ m. m == tn) slots in
+    bind_parts (All (IsHalf slots) halves) (array_of key.Half value) (λ entries. each (λ place. half_slot test) 0 entries) halves e
+    (λ entries array told. All-each (λ place. half_slot test) (IsHalf slots) (λ n d' tn read. half_slot_is slots d' tn read) 0 entries halves told)
+
+trx_halves : (bcch : ℕ) (first : Bool) (d : Data) (t : TrxView) → trx_of bcch first d ≡ Ok t → All (IsHalf t.tch) t.half
+unfolding trx_of
+trx_halves bcch first d t e =
+    let Among : Type 0 = All (IsHalf t.tch) t.half in
+    bind_parts Among (number_within key.Arfcn (arfcn_range bcch first) d) (λ arfcn. tch_of first d >>= (λ tch. half_of tch d >>= (λ half. Ok (record { arfcn = arfcn; tch = tch; half = half })))) t e
+    (λ arfcn read rest. bind_parts Among (tch_of first d) (λ tch. half_of tch d >>= (λ half. Ok (record { arfcn = arfcn; tch = tch; half = half }))) t rest
+    (λ tch told more. bind_parts Among (half_of tch d) (λ half. Ok (record { arfcn = arfcn; tch = tch; half = half })) t more
+    (λ half said same. let is : record { arfcn = arfcn; tch = tch; half = half } ≡ t = cc in rw (← is) (halves_within tch (get (key_name key.Half) d) half said))))
 
 -- the carrier of a TRX
 trx_carrier : (bcch : ℕ) (first : Bool) (d : Data) (t : TrxView) → trx_of bcch first d ≡ Ok t
@@ -112,9 +142,10 @@ trx_carrier : (bcch : ℕ) (first : Bool) (d : Data) (t : TrxView) → trx_of bc
 unfolding trx_of
 trx_carrier bcch first d t e =
     let Within : ℕ → Type 0 = λ n. ((arfcn_range bcch first).least ≤ n) × (n ≤ (arfcn_range bcch first).most) in
-    bind_parts (Within t.arfcn) (number_within key.Arfcn (arfcn_range bcch first) d) (λ arfcn. tch_of first d >>= (λ tch. Ok (record { arfcn = arfcn; tch = tch }))) t e
-    (λ arfcn read rest. bind_parts (Within t.arfcn) (tch_of first d) (λ tch. Ok (record { arfcn = arfcn; tch = tch })) t rest
-    (λ tch told same. let is : record { arfcn = arfcn; tch = tch } ≡ t = cc in rw (← is) (number_within_range key.Arfcn (arfcn_range bcch first) d arfcn read)))
+    bind_parts (Within t.arfcn) (number_within key.Arfcn (arfcn_range bcch first) d) (λ arfcn. tch_of first d >>= (λ tch. half_of tch d >>= (λ half. Ok (record { arfcn = arfcn; tch = tch; half = half })))) t e
+    (λ arfcn read rest. bind_parts (Within t.arfcn) (tch_of first d) (λ tch. half_of tch d >>= (λ half. Ok (record { arfcn = arfcn; tch = tch; half = half }))) t rest
+    (λ tch told more. bind_parts (Within t.arfcn) (half_of tch d) (λ half. Ok (record { arfcn = arfcn; tch = tch; half = half })) t more
+    (λ half said same. let is : record { arfcn = arfcn; tch = tch; half = half } ≡ t = cc in rw (← is) (number_within_range key.Arfcn (arfcn_range bcch first) d arfcn read))))
 
 carrier_allowed : (bcch : ℕ) (first : Bool) (n : ℕ) → bcch ≤ most_carrier → ((arfcn_range bcch first).least ≤ n) × (n ≤ (arfcn_range bcch first).most) → IsAllowed key.Arfcn n
 carrier_allowed bcch true n small within = (omega arith, omega (arith, within.1, small))
@@ -177,6 +208,7 @@ record IsTrxList (bcch : ℕ) (trx : List TrxView) : Type 0 where
   first_carrier : option_map (λ t. t.arfcn) (slice_get trx 0) ≡ Some bcch
   trx_count : IsAllowed key.Trx (length trx)
   slots : All (λ t. All (IsAllowed key.Tch) t.tch) trx
+  halves : All (λ t. All (IsHalf t.tch) t.half) trx
   broadcast : IfSome (slice_get trx 0) (λ t. list_any (λ tn. tn == 0) t.tch ≡ false)
 
 trx_list : (bcch : ℕ) (d : Data) (trx : List TrxView) → bcch ≤ most_carrier → all_trx_of bcch d ≡ Ok trx → IsTrxList bcch trx
@@ -193,6 +225,7 @@ trx_list bcch d trx small e =
           (first-each (λ place. trx_of bcch (place == 0)) (λ t. t.arfcn ≡ bcch) 0 (λ d' t read. equal t.arfcn bcch (trx_carrier bcch true d' t read)) entries trx told);
       trx_count = (omega (arith, least, as_many), omega (arith, most, as_many));
       slots = All-each (λ place. trx_of bcch (place == 0)) (λ t. All (IsAllowed key.Tch) t.tch) (λ n d' t read. trx_range bcch (n == 0) d' t read) 0 entries trx told;
+      halves = All-each (λ place. trx_of bcch (place == 0)) (λ t. All (IsHalf t.tch) t.half) (λ n d' t read. trx_halves bcch (n == 0) d' t read) 0 entries trx told;
       broadcast = first-each (λ place. trx_of bcch (place == 0)) (λ t. list_any (λ tn. tn == 0) t.tch ≡ false) 0 (λ d' t read. no_zero t.tch (trx_slots bcch true d' t read)) entries trx told;
     }))
 
@@ -209,7 +242,7 @@ cell_limits d c e =
     let named = identity_limits d identity r1 in
     let facts = trx_list identity.bcch d trx named.bcch.1 r4 in
     let list = ba_limits d ba r3 in
-    rw (← is) (record { identity = named; power = number_allowed key.Power d power r2; few_neighbours = list.0; neighbours = list.1; carriers = facts.carriers; first_carrier = facts.first_carrier; trx_count = facts.trx_count; slots = facts.slots; broadcast = quiet (slice_get trx 0) facts.broadcast })))))
+    rw (← is) (record { identity = named; power = number_allowed key.Power d power r2; few_neighbours = list.0; neighbours = list.1; carriers = facts.carriers; first_carrier = facts.first_carrier; trx_count = facts.trx_count; slots = facts.slots; halves = facts.halves; broadcast = quiet (slice_get trx 0) facts.broadcast })))))
 
 pub record IsCellList (cells : List CellView) : Type 0 where
   pub cell_count : IsAllowed key.Cell (length cells)
@@ -259,14 +292,20 @@ site_limits d site e =
       rules = rules;
     }))))
 
-within_any : (slots : List ℕ) (tn : ℕ) → All (IsAllowed key.Tch) slots → list_any (λ n. n == tn) slots ≡ true → tn < timeslots_of_trx
+within_any : (slots : List ℕ) (tn : ℕ) → All (λ n. n ≤ 7) slots → list_any (λ n. n == tn) slots ≡ true → tn < timeslots_of_trx
 within_any [] tn limits named = absurd (false≢true named)
 within_any (n ∷ slots) tn limits named =
-    let here : n ≤ 7 = (All-head (IsAllowed key.Tch) n slots limits).1 in
+    let here : n ≤ 7 = All-head (λ n. n ≤ 7) n slots limits in
     elim (cases_Bool (n == tn)) [
       | inl same ↦ grind (arith, nat_tests)
-      | inr other ↦ within_any slots tn (All-tail (IsAllowed key.Tch) n slots limits) (rw other at named)
+      | inr other ↦ within_any slots tn (All-tail (λ n. n ≤ 7) n slots limits) (rw other at named)
     ]
+
+-- timeslots that carry traffic, as a whole or as halves, are a TRX's
+pub small_slots : (sub : Sub) (t : TrxView) → All (IsAllowed key.Tch) t.tch → All (IsHalf t.tch) t.half → All (λ n. n ≤ 7) (slots_with sub t)
+small_slots Full t slots halves = λ i x within. (slots i x within).1
+small_slots Half0 t slots halves = λ i x within. (halves i x within).range.1
+small_slots Half1 t slots halves = λ i x within. (halves i x within).range.1
 
 pub got : {A : Type 0} (P : A → Type 0) (xs : List A) (i : ℕ) (x : A) → All P xs → slice_get xs i ≡ Some x → P x
 got P xs i x all at =
@@ -274,21 +313,23 @@ got P xs i x all at =
     let same : get_or xs i x ≡ x = same_Some (get_or xs i x) x (sym (slice_get-get_or xs i x within) ∙ at) in
     subst P same (all i x within)
 
-trx_traffic : (cell : CellView) (trx tn : ℕ) (found : Option TrxView) → slice_get cell.trx trx ≡ found → IsCell cell
-    → list_any (λ n. n == tn) (unwrap_or (option_map (λ t. t.tch) found) []) ≡ true → (trx < 4) × (tn < 8)
-trx_traffic cell trx tn None at limits named = absurd (false≢true named)
-trx_traffic cell trx tn (Some t) at limits named =
+trx_traffic : (cell : CellView) (trx tn : ℕ) (sub : Sub) (found : Option TrxView) → slice_get cell.trx trx ≡ found → IsCell cell
+    → list_any (λ n. n == tn) (unwrap_or (option_map (slots_with sub) found) []) ≡ true → (trx < 4) × (tn < 8)
+trx_traffic cell trx tn sub None at limits named = absurd (false≢true named)
+trx_traffic cell trx tn sub (Some t) at limits named =
     let within = slice_get_within cell.trx trx t at in
     let few = limits.trx_count.1 in
-    (omega (arith, within, few), within_any t.tch tn (got (λ t. All (IsAllowed key.Tch) t.tch) cell.trx trx t limits.slots at) named)
+    let slots = got (λ (t : TrxView). All (IsAllowed key.Tch) t.tch) cell.trx trx t limits.slots at in
+    let halves = got (λ (t : TrxView). All (IsHalf t.tch) t.half) cell.trx trx t limits.halves at in
+    (omega (arith, within, few), within_any (slots_with sub t) tn (small_slots sub t slots halves) named)
 
 cell_traffic : (site : SiteView) (chan : ChanId) (cell : Option CellView) → slice_get site.cells chan.cell ≡ cell → IsSite site
-    → list_any (λ n. n == chan.tn) (unwrap_or (option_map (λ t. t.tch) (option_and_then (λ c. slice_get c.trx chan.trx) cell)) []) ≡ true → IsWithinLimits chan
+    → list_any (λ n. n == chan.tn) (unwrap_or (option_map (slots_with chan.sub) (option_and_then (λ c. slice_get c.trx chan.trx) cell)) []) ≡ true → IsWithinLimits chan
 cell_traffic site chan None at limits named = absurd (false≢true named)
 cell_traffic site chan (Some cell) at limits named =
     let within = slice_get_within site.cells chan.cell cell at in
     let few = limits.within.cell_count.1 in
-    let (trx, timeslot) = trx_traffic cell chan.trx chan.tn (slice_get cell.trx chan.trx) refl (got IsCell site.cells chan.cell cell limits.within.each_cell at) named in
+    let (trx, timeslot) = trx_traffic cell chan.trx chan.tn chan.sub (slice_get cell.trx chan.trx) refl (got IsCell site.cells chan.cell cell limits.within.each_cell at) named in
     record { cell = omega (arith, within, few); trx = trx; timeslot = timeslot }
 
 -- a traffic channel of a site lies within the limits

@@ -95,5 +95,5 @@ pub found_by_pairs : (site : SiteView) → broken_rule site ≡ broken_by_pairs 
 unfolding broken_rule broken_by_pairs
 found_by_pairs site = λ i.
     first_broken (codes_twice (identities site) i) (colour_twice (identities site) i) (list_any (λ c. carrier_twice c.trx i) site.cells)
-    (list_any (λ c. list_any (λ t. number_twice t.tch i) c.trx) site.cells) (list_any (λ c. number_twice c.ba i) site.cells)
+    (list_any (λ c. list_any (λ t. number_twice t.tch i || number_twice t.half i) c.trx) site.cells) (list_any (λ c. number_twice c.ba i) site.cells)
     (position has_no_traffic site.cells)

@@ -31,6 +31,7 @@ allowed key.Ba = up_to most_carrier
 allowed key.Trx = from_one most_trx
 allowed key.Arfcn = up_to most_carrier
 allowed key.Tch = up_to (timeslots_of_trx - 1)
+allowed key.Half = up_to (timeslots_of_trx - 1)
 allowed key.Outside = up_to most_outside
 
 -- A TRX, the first of its cell or another: the carrier of the first is the cell's BCCH carrier.

@@ -1,5 +1,5 @@
 -- What has to hold of the cells of a site together, each rule looked at over the whole file before the next.
-use Rattle.std.specs.Prelude.{ℕ, ◌==◌, Bool, true, false, ◌&&◌, nat_lt, count_by, Option, Some, None, Result, Ok, Err, List, [], ◌∷◌, ◌++◌, map}
+use Rattle.std.specs.Prelude.{ℕ, ◌==◌, Bool, true, false, ◌&&◌, ◌||◌, nat_lt, count_by, Option, Some, None, Result, Ok, Err, List, [], ◌∷◌, ◌++◌, map}
 use Rattle.std.specs.List.{list_any, list_all, position}
 use Rattle.cell_table.specs.declared.fault.SiteFault.{SiteFault}
 use Rattle.cell_table.specs.declared.fault.SiteFault.TheVariants.{Twice, NoTraffic}
@@ -27,9 +27,9 @@ identities site = map (λ c. c.identity) site.cells ++ site.outside
 abbrev pub has_carrier_twice : CellView → Bool
 has_carrier_twice c = has_twice (λ s t. t.arfcn == s.arfcn) c.trx
 
--- a cell has one timeslot twice in a TRX
+-- a cell has one timeslot twice in a TRX, among those for traffic or among those that also carry halves
 abbrev pub has_slot_twice : CellView → Bool
-has_slot_twice c = list_any (λ t. has_twice (λ m n. n == m) t.tch) c.trx
+has_slot_twice c = list_any (λ t. has_twice (λ m n. n == m) t.tch || has_twice (λ m n. n == m) t.half) c.trx
 
 -- a cell has one carrier twice in its BA list
 abbrev pub has_neighbour_twice : CellView → Bool

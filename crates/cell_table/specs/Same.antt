@@ -15,7 +15,8 @@ same_identity =
     (eq_of_both (on (λ c. c.bcch) ◌==◌) (eq_of_both (on (λ c. c.ncc) ◌==◌) (on (λ c. c.bcc) ◌==◌))))
 
 abbrev pub same_trx : TrxView → TrxView → Bool
-same_trx = eq_of_both (on (λ t. t.arfcn) ◌==◌) (on (λ t. t.tch) (pointwise ◌==◌))
+same_trx =
+    eq_of_both (on (λ t. t.arfcn) ◌==◌) (eq_of_both (on (λ t. t.tch) (pointwise ◌==◌)) (on (λ t. t.half) (pointwise ◌==◌)))
 
 abbrev pub same_cell : CellView → CellView → Bool
 same_cell =

@@ -1,8 +1,11 @@
 -- What the searches of the code answer, step by step. Of public clauses only the law `positions_are_counted` cites it: what
 -- they find is said in `Site` and `Neighbours`.
-use Rattle.std.specs.Prelude.{ℕ, ◌==◌, ◌+◌, ◌-◌, ◌/◌, ◌%◌, Bool, false, ◌&&◌, ◌||◌, not, nat_lt, if◌then◌else◌, List, [], ◌∷◌, take, sum_by, count_by, length, Option, Some, None, option_map, option_and_then, slice_get, unwrap_or, find}
+use Rattle.std.specs.Prelude.{ℕ, ◌==◌, ◌+◌, ◌*◌, ◌-◌, ◌/◌, ◌%◌, Bool, false, ◌&&◌, ◌||◌, not, nat_lt, if◌then◌else◌, List, [], ◌∷◌, take, sum_by, count_by, length, Option, Some, None, option_map, option_and_then, slice_get, unwrap_or, find}
 use Rattle.std.specs.List.{list_any, position}
+use Rattle.channel_fsm.specs.declared.Sub.{Sub}
+use Rattle.channel_fsm.specs.declared.Sub.TheVariants.{Full, Half0, Half1}
 use Rattle.channel_fsm.specs.declared.ChanId.{ChanId}
+use Rattle.channel_fsm.specs.Keys.{sub_number}
 use Rattle.cell_table.specs.declared.tables.CellIdentity.{CellIdentity}
 use Rattle.cell_table.specs.Views.{TrxView, CellView, SiteView}
 use Rattle.cell_table.specs.Limits.{first_outside}
@@ -44,26 +47,43 @@ first_named site serving place bsic = option_and_then (λ ba. first_cell (is_nam
 
 -- how many traffic channels a TRX and a cell have
 abbrev pub trx_size : TrxView → ℕ
-trx_size t = length t.tch
+trx_size t = length t.tch + (length t.half + length t.half)
 
 abbrev pub cell_size : CellView → ℕ
 cell_size c = sum_by trx_size c.trx
 
--- how many traffic timeslots of a TRX come before one
+-- the number of a channel among all that a TRX can have, by timeslot and part of it
+abbrev pub number_of : ℕ → Sub → ℕ
+number_of tn sub = tn * 3 + sub_number sub
+
+-- how many of a TRX's channels with this part of a timeslot have a number below one
+abbrev pub parts_before : Sub → ℕ → List ℕ → ℕ
+parts_before sub number slots = count_by (λ tn. nat_lt (number_of tn sub) number) slots
+
+-- how many traffic channels of a TRX have a number below one
 abbrev pub slots_before : ℕ → TrxView → ℕ
-slots_before tn t = count_by (λ n. nat_lt n tn) t.tch
+slots_before number t = parts_before Full number t.tch + (parts_before Half0 number t.half + parts_before Half1 number t.half)
 
 -- how many traffic channels of a cell come before one
 abbrev pub before_in_cell : ChanId → CellView → ℕ
-before_in_cell chan c = sum_by trx_size (take chan.trx c.trx) + unwrap_or (option_map (slots_before chan.tn) (slice_get c.trx chan.trx)) 0
+before_in_cell chan c = sum_by trx_size (take chan.trx c.trx) + unwrap_or (option_map (slots_before (number_of chan.tn chan.sub)) (slice_get c.trx chan.trx)) 0
 
 -- how many traffic channels of the cells come before one
 abbrev pub channels_before : List CellView → ChanId → ℕ
 channels_before cells chan = sum_by cell_size (take chan.cell cells) + unwrap_or (option_map (before_in_cell chan) (slice_get cells chan.cell)) 0
 
--- the traffic timeslot of a TRX before which so many of its others come
-abbrev pub slot_at : List ℕ → ℕ → Option ℕ
-slot_at slots place = find (λ tn. count_by (λ n. nat_lt n tn) slots == place) slots
+-- the timeslot whose channel with this part of it has a place among the traffic channels of a TRX
+abbrev pub part_at : Sub → TrxView → List ℕ → ℕ → Option ℕ
+part_at sub t slots place = find (λ tn. slots_before (number_of tn sub) t == place) slots
+
+-- the first of two that is there
+abbrev pub first_of : {A : Type 0} → Option A → Option A → Option A
+first_of None other = other
+first_of (Some x) other = Some x
+
+-- what a traffic channel of a TRX is, with a part of a timeslot
+abbrev pub chan_with : ℕ → ℕ → Sub → Option ℕ → Option ChanId
+chan_with cell trx sub slot = option_map (λ tn. record { cell = cell; trx = trx; tn = tn; sub = sub }) slot
 
 -- Elements numbered from n on, each with so many places, one behind another: what the element that has a place tells of it,
 -- by its number and by how many of its own places come before.
@@ -73,7 +93,9 @@ at_place size tell n (x ∷ xs) place = if nat_lt place (size x) then tell n x p
 
 -- the traffic channel that has a place in a TRX of a cell, and in a cell
 abbrev pub trx_channel : ℕ → ℕ → TrxView → ℕ → Option ChanId
-trx_channel cell trx t place = option_map (λ tn. record { cell = cell; trx = trx; tn = tn }) (slot_at t.tch place)
+trx_channel cell trx t place =
+    first_of (chan_with cell trx Full (part_at Full t t.tch place))
+    (first_of (chan_with cell trx Half0 (part_at Half0 t t.half place)) (chan_with cell trx Half1 (part_at Half1 t t.half place)))
 
 abbrev pub cell_channel : ℕ → CellView → ℕ → Option ChanId
 cell_channel cell c place = at_place trx_size (trx_channel cell) 0 c.trx place
@@ -86,8 +108,12 @@ has_pair alike (x ∷ xs) = list_any (alike x) xs || has_pair alike xs
 abbrev pub has_carrier_pair : CellView → Bool
 has_carrier_pair c = has_pair (λ s t. t.arfcn == s.arfcn) c.trx
 
+-- a TRX has one timeslot twice, among those for traffic or among those that also carry halves
+abbrev pub slot_pair : TrxView → Bool
+slot_pair t = has_pair (λ m n. n == m) t.tch || has_pair (λ m n. n == m) t.half
+
 abbrev pub has_slot_pair : CellView → Bool
-has_slot_pair c = list_any (λ t. has_pair (λ m n. n == m) t.tch) c.trx
+has_slot_pair c = list_any slot_pair c.trx
 
 abbrev pub has_neighbour_pair : CellView → Bool
 has_neighbour_pair c = has_pair (λ m n. n == m) c.ba

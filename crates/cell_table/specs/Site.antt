@@ -1,7 +1,10 @@
 -- What a site is, and what is looked up in it.
-use Rattle.std.specs.Prelude.{ℕ, ◌==◌, ◌<◌, ◌≤◌, ◌≡◌, ◌-◌, ◌&&◌, Bool, true, false, nat_lt, if◌then◌else◌, List, [], length, map, filter, flat_map, All, Option, Some, None, slice_get, option_map, option_and_then, unwrap_or}
+use Rattle.std.specs.Prelude.{ℕ, ◌==◌, ◌<◌, ◌≤◌, ◌≡◌, ◌-◌, Bool, true, false, nat_lt, if◌then◌else◌, List, [], ◌∷◌, length, map, filter, flat_map, All, Option, Some, None, slice_get, option_map, option_and_then, unwrap_or}
 use Rattle.std.specs.List.{list_any, position, range_with_len}
+use Rattle.channel_fsm.specs.declared.Sub.{Sub}
+use Rattle.channel_fsm.specs.declared.Sub.TheVariants.{Full, Half0, Half1}
 use Rattle.channel_fsm.specs.declared.ChanId.{ChanId}
+use Rattle.channel_fsm.specs.Keys.{same_chan}
 use Rattle.cell_table.specs.declared.tables.CellIdentity.{CellIdentity}
 use Rattle.cell_table.specs.declared.tables.HandoverRule.{HandoverRule}
 pub use Rattle.cell_table.specs.Views.{TrxView, CellView, SiteView, site_code}
@@ -19,35 +22,43 @@ abbrev pub identity_at : SiteView → ℕ → Option CellIdentity
 identity_at site cell =
     if nat_lt cell first_outside then option_map (λ c. c.identity) (slice_get site.cells cell) else slice_get site.outside (cell - first_outside)
 
--- the traffic timeslots of a TRX of a cell; one that the site doesn't have has none
-abbrev pub timeslots : SiteView → ℕ → ℕ → List ℕ
-timeslots site cell trx = unwrap_or (option_map (λ t. t.tch) (trx_at site cell trx)) []
+-- the timeslots of a TRX that carry traffic as a whole, and those that carry it as halves
+abbrev pub slots_with : Sub → TrxView → List ℕ
+slots_with Full t = t.tch
+slots_with Half0 t = t.half
+slots_with Half1 t = t.half
+
+-- the timeslots of a TRX of a cell that carry traffic with this part of them; a TRX that the site doesn't have has none
+abbrev pub timeslots : SiteView → ℕ → ℕ → Sub → List ℕ
+timeslots site cell trx sub = unwrap_or (option_map (slots_with sub) (trx_at site cell trx)) []
 
 -- the site names the channel as a traffic channel
 abbrev pub is_traffic : SiteView → ChanId → Bool
-is_traffic site chan = list_any (λ tn. tn == chan.tn) (timeslots site chan.cell chan.trx)
+is_traffic site chan = list_any (λ tn. tn == chan.tn) (timeslots site chan.cell chan.trx chan.sub)
 
 -- the cell, own or outside, has this location area code and cell identity (TS 23.003 clause 4.3)
 pub record IsCellOf (site : SiteView) (area identity cell : ℕ) : Type 0 where
   pub lac : option_map (λ c. c.lac) (identity_at site cell) ≡ Some area
   pub ci : option_map (λ c. c.ci) (identity_at site cell) ≡ Some identity
 
--- every channel that a site can have, by cell, TRX and timeslot
-unfoldable pub all_channels : List ChanId
-all_channels =
-    flat_map (λ cell. flat_map (λ trx. map (λ tn. record { cell = cell; trx = trx; tn = tn }) (range_with_len 0 timeslots_of_trx)) (range_with_len 0 most_trx))
-    (range_with_len 0 most_cells)
+-- every channel that a TRX can have, by timeslot, and a whole timeslot before its halves (TS 45.002 clauses 4.3.2 and 6.4.1)
+abbrev pub parts_of : ℕ → ℕ → ℕ → List ChanId
+parts_of cell trx tn = map (λ sub. record { cell = cell; trx = trx; tn = tn; sub = sub }) (Full ∷ Half0 ∷ Half1 ∷ [])
 
--- the traffic channels of the site, by cell, TRX and timeslot
+abbrev pub trx_channels : ℕ → ℕ → List ChanId
+trx_channels cell trx = flat_map (parts_of cell trx) (range_with_len 0 timeslots_of_trx)
+
+-- every channel that a site can have, by cell, TRX, timeslot and part of it
+unfoldable pub all_channels : List ChanId
+all_channels = flat_map (λ cell. flat_map (trx_channels cell) (range_with_len 0 most_trx)) (range_with_len 0 most_cells)
+
+-- the traffic channels of the site, in that order
 abbrev pub channels : SiteView → List ChanId
 channels site = filter (is_traffic site) all_channels
 
-abbrev pub is_channel : ChanId → ChanId → Bool
-is_channel x y = (x.cell == y.cell) && ((x.trx == y.trx) && (x.tn == y.tn))
-
 -- the place of a channel among the traffic channels of the site
 abbrev pub index_of : SiteView → ChanId → Option ℕ
-index_of site chan = position (is_channel chan) (channels site)
+index_of site chan = position (same_chan chan) (channels site)
 
 -- the first TRX names timeslot 0, which carries the cell's broadcast channels (TS 45.002 clause 7) and never traffic
 abbrev pub names_broadcast : CellView → Bool
@@ -67,6 +78,11 @@ pub record IsIdentity (identity : CellIdentity) : Type 0 where
   pub ncc : IsAllowed key.Ncc identity.ncc
   pub bcc : IsAllowed key.Bcc identity.bcc
 
+-- So has a timeslot that also carries halves: it is one of the traffic timeslots.
+pub record IsHalf (slots : List ℕ) (tn : ℕ) : Type 0 where
+  pub range : IsAllowed key.Half tn
+  pub traffic : list_any (λ n. n == tn) slots ≡ true
+
 -- So has a cell. Its first TRX has its BCCH carrier, and leaves the broadcast channel alone.
 pub record IsCell (cell : CellView) : Type 0 where
   pub identity : IsIdentity cell.identity
@@ -76,6 +92,7 @@ pub record IsCell (cell : CellView) : Type 0 where
   pub trx_count : IsAllowed key.Trx (length cell.trx)
   pub carriers : All (λ t. IsAllowed key.Arfcn t.arfcn) cell.trx
   pub slots : All (λ t. All (IsAllowed key.Tch) t.tch) cell.trx
+  pub halves : All (λ t. All (IsHalf t.tch) t.half) cell.trx
   pub first_carrier : option_map (λ t. t.arfcn) (slice_get cell.trx 0) ≡ Some cell.identity.bcch
   pub broadcast : names_broadcast cell ≡ false
 

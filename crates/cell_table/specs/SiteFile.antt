@@ -1,6 +1,6 @@
 -- What a site file says, read off the TOML document that it is: each check in its order, and the first that fails.
 use Rattle.std.specs.Prelude.{ℕ, suc, ◌==◌, ℤ, pos, negsuc, nat_le, Bool, ◌&&◌, if◌then◌else◌, Option, Some, None, option_map, option_and_then, ok_or, is_some, Result, Ok, Err, List, [], ◌∷◌, length, codes}
-use Rattle.std.specs.List.{list_all}
+use Rattle.std.specs.List.{list_any, list_all}
 use Rattle.toml.specs.Data.{Data, Items, no_items, item, table, get, as_array, as_integer, as_table}
 use Rattle.toml.specs.Errors.{IsBlank}
 use Rattle.toml.specs.Parse.{parse_document}
@@ -43,6 +43,7 @@ key_name key.Ba = codes "ba"
 key_name key.Trx = codes "trx"
 key_name key.Arfcn = codes "arfcn"
 key_name key.Tch = codes "tch"
+key_name key.Half = codes "half"
 key_name key.Outside = codes "outside"
 
 -- the value at a key, which has to be there
@@ -150,12 +151,30 @@ tch_of first d = do
   entries ← array_of key.Tch value
   each (λ place. number_of key.Tch (tch_range first)) 0 entries
 
+-- a timeslot that also carries halves: one that passes the test
+unfoldable pub half_slot : (ℕ → Bool) → Data → Read ℕ
+half_slot test d = do
+  tn ← number_of key.Half (allowed key.Half) d
+  if test tn then Ok tn else Err (Range key.Half)
+
+-- those of a TRX; the key may be absent
+unfoldable pub halves_by : (ℕ → Bool) → Option Data → Read (List ℕ)
+halves_by test None = Ok []
+halves_by test (Some value) = do
+  entries ← array_of key.Half value
+  each (λ place. half_slot test) 0 entries
+
+-- the timeslots that also carry halves: each is one of the traffic timeslots
+abbrev pub half_of : List ℕ → Data → Read (List ℕ)
+half_of slots d = halves_by (λ tn. list_any (λ n. n == tn) slots) (get (key_name key.Half) d)
+
 -- a TRX of a cell, the first or another
 unfoldable pub trx_of : ℕ → Bool → Data → Read TrxView
 trx_of bcch first d = do
   arfcn ← number_within key.Arfcn (arfcn_range bcch first) d
   tch ← tch_of first d
-  Ok (record { arfcn = arfcn; tch = tch })
+  half ← half_of tch d
+  Ok (record { arfcn = arfcn; tch = tch; half = half })
 
 -- the TRX of a cell: one, or more
 unfoldable pub all_trx_of : ℕ → Data → Read (List TrxView)

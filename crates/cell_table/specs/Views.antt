@@ -6,10 +6,12 @@ use Rattle.cell_table.specs.declared.tables.HandoverRule.{HandoverRule}
 use Rattle.cell_table.specs.contracts.tables.CellIdentity.{the_row as identity_row}
 use Rattle.cell_table.specs.contracts.tables.HandoverRule.{the_row as handover_row}
 
--- one TRX: its carrier (an ARFCN, TS 45.005 clause 2), and its traffic timeslots in the site file's order
+-- one TRX: its carrier (an ARFCN, TS 45.005 clause 2), its traffic timeslots, and those of them that also carry half-rate
+-- channels (TS 45.002 clause 6.4.1), in the site file's order
 pub record TrxView : Type 0 where
   pub arfcn : ℕ
   pub tch : List ℕ
+  pub half : List ℕ
 
 -- an own cell: what every cell has, the power level that mobiles begin with (TS 45.005 clause 4.1.1), its BA list
 -- (TS 44.018 clause 10.5.2.22) and its TRX, in the site file's order
@@ -27,7 +29,9 @@ pub record SiteView : Type 0 where
 
 -- Each of them is stored as the tuple of its parts.
 abbrev pub trx_code : Coded TrxView
-trx_code = code_by (ℕ × List ℕ) (coded× coded_ℕ (coded_list coded_ℕ)) (λ t. (t.arfcn, t.tch)) (λ p. record { arfcn = p.0; tch = p.1 }) (λ _. refl)
+trx_code =
+    code_by (ℕ × (List ℕ × List ℕ)) (coded× coded_ℕ (coded× (coded_list coded_ℕ) (coded_list coded_ℕ)))
+    (λ t. (t.arfcn, (t.tch, t.half))) (λ p. record { arfcn = p.0; tch = p.1.0; half = p.1.1 }) (λ _. refl)
 
 abbrev pub cell_code : Coded CellView
 cell_code =

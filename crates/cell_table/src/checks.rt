@@ -3,7 +3,7 @@ ghost use Rattle.std.specs.Prelude.{◌≡◌, ◌==◌, ◌≤◌, ◌++◌, le
 ghost use Rattle.std.specs.List.{list_any, list_all, position};
 ghost use Rattle.cell_table.specs.Limits.{most_cells, most_outside};
 ghost use Rattle.cell_table.specs.Rules.{same_codes, same_colour, identities, has_no_traffic, broken_rule};
-ghost use Rattle.cell_table.specs.Searches.{has_pair, has_carrier_pair, has_slot_pair, has_neighbour_pair, broken_by_pairs};
+ghost use Rattle.cell_table.specs.Searches.{has_pair, has_carrier_pair, slot_pair, has_slot_pair, has_neighbour_pair, broken_by_pairs};
 
 use crate::fault::{SiteFault, What};
 use crate::limits::{MOST_CELLS, MOST_OUTSIDE};
@@ -86,13 +86,18 @@ fn have_neighbour_twice(carriers: &[u16]) -> bool
     }
 }
 
+/// Whether a TRX names a timeslot twice, in `tch` or in `half`.
+fn trx_has_slot_twice(trx: &Trx) -> bool
+    ensures value { result ≡ slot_pair trx.now }
+{
+    have_slot_twice(trx.tch.as_slice()) || have_slot_twice(trx.half.as_slice())
+}
+
 /// Whether a TRX of the cell names a timeslot twice.
 fn cell_has_slot_twice(cell: &Cell) -> bool
     ensures value { result ≡ has_slot_pair cell.now }
 {
-    cell.trx
-        .iter()
-        .any(|trx| have_slot_twice(trx.tch.as_slice()))
+    cell.trx.iter().any(|trx| trx_has_slot_twice(trx))
 }
 
 /// Whether a cell has no traffic channel.

@@ -23,6 +23,7 @@ pub enum Key {
     Trx,
     Arfcn,
     Tch,
+    Half,
     Outside,
 }
 
@@ -49,6 +50,7 @@ impl Key {
             Key::Trx => "trx",
             Key::Arfcn => "arfcn",
             Key::Tch => "tch",
+            Key::Half => "half",
             Key::Outside => "outside",
         }
     }
@@ -70,7 +72,7 @@ pub enum What {
     Colour,
     /// A cell has one carrier on two TRX.
     Carrier,
-    /// A TRX has one traffic timeslot twice.
+    /// A TRX has one timeslot twice, in `tch` or in `half`.
     Slot,
     /// A cell has one carrier twice in its BA list.
     Neighbour,
@@ -83,7 +85,7 @@ impl What {
             What::Identity => "two cells have the same lac and ci",
             What::Colour => "two cells have the same bcch, ncc and bcc",
             What::Carrier => "two trx of a cell have the same arfcn",
-            What::Slot => "a trx names a timeslot twice in tch",
+            What::Slot => "a trx names a timeslot twice in tch or in half",
             What::Neighbour => "a cell names a carrier twice in ba",
         }
     }

@@ -1,22 +1,31 @@
 //! Places of traffic channels: how many come before one, and which has a place.
-ghost use Rattle.std.specs.Prelude.{◌≡◌, ◌==◌, ◌+◌, ◌<◌, ◌≤◌, ℕ, All, length, sum_by, count_by, nat_lt};
+ghost use Rattle.std.specs.Prelude.{◌≡◌, ◌==◌, ◌+◌, ◌<◌, ◌≤◌, ℕ, All, length, sum_by};
 ghost use Rattle.std.specs.List.{list_any};
 ghost use Rattle.channel_fsm.specs.Masks.{has};
 ghost use Rattle.cell_table.specs.Limits.{most_cells, most_trx, timeslots_of_trx};
-ghost use Rattle.cell_table.specs.Searches.{trx_size, cell_size, before_in_cell, channels_before, slot_at, trx_channel, cell_channel, at_place};
+ghost use Rattle.cell_table.specs.Searches.{trx_size, cell_size, number_of, parts_before, slots_before, before_in_cell, channels_before, part_at, trx_channel, cell_channel, at_place};
 
 use crate::tables::{Cell, Trx};
-use channel_fsm::ChanId;
+use channel_fsm::{ChanId, Sub};
+
+/// How many traffic channels a TRX has.
+fn trx_size(trx: &Trx) -> usize
+    ensures value { result ≡ trx_size trx.now }
+    ensures most { result ≤ 27 }
+{
+    let halves = trx.half.len();
+    trx.tch.len() + (halves + halves)
+}
 
 /// How many traffic channels some TRX have.
 fn trx_sizes(trx: &[Trx]) -> usize
     requires { length trx.now ≤ most_trx }
     ensures value { result ≡ sum_by trx_size trx.now }
-    ensures most { result ≤ 36 }
+    ensures most { result ≤ 108 }
 {
     let mut sum = 0;
     for each in trx {
-        sum += each.tch.len();
+        sum += trx_size(each);
     }
     sum
 }
@@ -25,7 +34,7 @@ fn trx_sizes(trx: &[Trx]) -> usize
 pub fn cell_sizes(cells: &[Cell]) -> usize
     requires { length cells.now ≤ most_cells }
     ensures value { result ≡ sum_by cell_size cells.now }
-    ensures most { result ≤ 2304 }
+    ensures most { result ≤ 6912 }
 {
     let mut sum = 0;
     for each in cells {
@@ -34,29 +43,46 @@ pub fn cell_sizes(cells: &[Cell]) -> usize
     sum
 }
 
-/// How many traffic timeslots of a TRX come before one.
-fn slots_before(slots: &[u8], tn: u8) -> usize
-    ensures value { result ≡ count_by (λ n. nat_lt n tn) slots.now }
+/// The number of a channel among all that a TRX can have, by timeslot and part of it.
+fn number_of(tn: u8, sub: Sub) -> usize
+    ensures value { result ≡ number_of tn sub }
+{
+    usize::from(tn) * 3 + usize::from(sub.number())
+}
+
+/// How many of a TRX's channels with this part of a timeslot have a number below one.
+fn parts_before(sub: Sub, number: usize, slots: &[u8]) -> usize
+    ensures value { result ≡ parts_before sub number slots.now }
     ensures most { result ≤ length slots.now }
 {
     let mut count = 0;
-    for slot in slots {
-        if *slot < tn {
+    for tn in slots {
+        if number_of(*tn, sub) < number {
             count += 1;
         }
     }
     count
 }
 
+/// How many traffic channels of a TRX have a number below one.
+fn slots_before(number: usize, trx: &Trx) -> usize
+    ensures value { result ≡ slots_before number trx.now }
+    ensures most { result ≤ 27 }
+{
+    let halves = trx.half.as_slice();
+    parts_before(Sub::Full, number, trx.tch.as_slice())
+        + (parts_before(Sub::Half0, number, halves) + parts_before(Sub::Half1, number, halves))
+}
+
 /// How many traffic channels of a cell come before one.
 fn before_in_cell(cell: &Cell, chan: ChanId) -> usize
     ensures value { result ≡ before_in_cell chan cell.now }
-    ensures most { result ≤ 45 }
+    ensures most { result ≤ 135 }
 {
     let trx = cell.trx.as_slice();
     match trx.get(chan.trx as usize) {
         Some(own) => {
-            trx_sizes(&trx[..chan.trx as usize]) + slots_before(own.tch.as_slice(), chan.tn)
+            trx_sizes(&trx[..chan.trx as usize]) + slots_before(number_of(chan.tn, chan.sub), own)
         }
         None => trx_sizes(trx),
     }
@@ -73,14 +99,50 @@ pub fn channels_before(cells: &[Cell], chan: ChanId) -> usize
     }
 }
 
-/// The traffic timeslot of a TRX before which so many of its others come.
-fn slot_at(slots: &[u8], place: usize) -> Option<u8>
-    ensures value { result ≡ slot_at slots.now place }
+/// The timeslot, of these, whose channel with this part of it has a place among the traffic channels of a TRX.
+fn part_at(sub: Sub, trx: &Trx, slots: &[u8], place: usize) -> Option<u8>
+    ensures value { result ≡ part_at sub trx.now slots.now place }
 {
-    slots
-        .iter()
-        .find(|tn| slots_before(slots, **tn) == place)
-        .copied()
+    match slots {
+        [first, rest @ ..] => {
+            if has_place(sub, trx, *first, place) {
+                return Some(*first);
+            }
+            part_at(sub, trx, rest, place)
+        }
+        [] => None,
+    }
+}
+
+/// Whether the channel with this part of a timeslot has a place among the traffic channels of a TRX.
+fn has_place(sub: Sub, trx: &Trx, tn: u8, place: usize) -> bool
+    ensures value { result ≡ (slots_before (number_of tn sub) trx.now == place) }
+{
+    slots_before(number_of(tn, sub), trx) == place
+}
+
+/// The channel that has a place among the traffic channels of a TRX of a cell.
+fn trx_channel(cell: u8, number: u8, trx: &Trx, place: usize) -> Option<ChanId>
+    ensures value { result ≡ trx_channel cell number trx.now place }
+{
+    let halves = trx.half.as_slice();
+    let whole = part_at(Sub::Full, trx, trx.tch.as_slice(), place);
+    if let Some(tn) = whole {
+        return Some(channel(cell, number, tn, Sub::Full));
+    }
+    let lower = part_at(Sub::Half0, trx, halves, place);
+    if let Some(tn) = lower {
+        return Some(channel(cell, number, tn, Sub::Half0));
+    }
+    let tn = part_at(Sub::Half1, trx, halves, place)?;
+    Some(channel(cell, number, tn, Sub::Half1))
+}
+
+/// A channel by its parts.
+fn channel(cell: u8, trx: u8, tn: u8, sub: Sub) -> ChanId
+    ensures { result ≡ record { cell = cell; trx = trx; tn = tn; sub = sub } }
+{
+    ChanId { cell, trx, tn, sub }
 }
 
 /// The channel that has a place among the traffic channels of some TRX of a cell, which are numbered from `number` on.
@@ -90,14 +152,9 @@ fn channel_of_trx(trx: &[Trx], cell: u8, number: u8, place: usize) -> Option<Cha
 {
     match trx {
         [first, rest @ ..] => {
-            let size = first.tch.len();
+            let size = trx_size(first);
             if place < size {
-                let tn = slot_at(first.tch.as_slice(), place)?;
-                return Some(ChanId {
-                    cell,
-                    trx: number,
-                    tn,
-                });
+                return trx_channel(cell, number, first, place);
             }
             channel_of_trx(rest, cell, number + 1, place - size)
         }

@@ -48,7 +48,7 @@ impl Key {
             Key::Ncc | Key::Bcc => up_to(MOST_COLOUR),
             Key::Power => up_to(MOST_POWER),
             Key::Trx => from_one(MOST_TRX as u16),
-            Key::Tch => up_to(TIMESLOTS_OF_TRX as u16 - 1),
+            Key::Tch | Key::Half => up_to(TIMESLOTS_OF_TRX as u16 - 1),
             Key::Outside => up_to(MOST_OUTSIDE as u16),
         }
     }

@@ -3,8 +3,8 @@ ghost use Rattle.std.specs.Prelude.{◌≡◌, ◌==◌, ◌<◌, ◌≤◌, Ok,
 ghost use Rattle.std.specs.List.{list_all};
 ghost use Rattle.toml.specs.View.{view};
 ghost use Rattle.toml.specs.Data.{get, as_array};
-ghost use Rattle.cell_table.specs.SiteFile.{Read, value_at, is_allowed, allowed_number, number_of, number_within, number_at, array_of, entries_of, counted, all_tables, tables_of, each, handover_of, handover_at, identity_of, ba_of, tch_of, outside_of, key_name, is_table};
-ghost use Rattle.cell_table.specs.Kept.{first_nine, kept_trx, kept_trx_list, kept_cell, kept_cells};
+ghost use Rattle.cell_table.specs.SiteFile.{Read, value_at, is_allowed, allowed_number, number_of, number_within, number_at, array_of, entries_of, counted, all_tables, tables_of, each, handover_of, handover_at, identity_of, ba_of, half_slot, halves_by, outside_of, key_name, is_table};
+ghost use Rattle.cell_table.specs.Kept.{first_nine, is_number, names, trx_by, kept_slots, kept_trx, kept_trx_list, kept_cell, kept_cells};
 ghost use Rattle.cell_table.specs.Ranges.{allowed, arfcn_range, tch_range, up_to};
 ghost use Rattle.cell_table.specs.Limits.{most_cells, most_outside, most_trx, timeslots_of_trx, most_neighbours};
 ghost use Rattle.cell_table.specs.Reading.{value_read, values_read, items_read};
@@ -161,17 +161,26 @@ fn trx_of(bcch: u16, first: bool, entry: &Value) -> Result<Trx, SiteFault>
     ensures read { result ≡ kept_trx bcch first (view entry.now) }
 {
     let arfcn = number_within(entry, Key::Arfcn, arfcn_range(bcch, first))?;
-    let tch = tch_of(first, entry)?;
-    Ok(Trx { arfcn, tch })
+    trx_with(arfcn, first, entry)
 }
 
-/// The traffic timeslots of a TRX, of which the first nine are kept.
-#[tactic(auto, unfolding(crate::specs::SiteFile::tch_of))]
-fn tch_of(first: bool, trx: &Value) -> Result<ArrayVec<u8, 9>, SiteFault>
-    ensures read { items_read result ≡ first_nine (tch_of first (view trx.now)) }
+/// The timeslots of a TRX, of which the first nine are kept; so of those that also carry halves.
+#[tactic(auto, unfolding(crate::specs::Kept::kept_slots))]
+fn trx_with(arfcn: u16, first: bool, trx: &Value) -> Result<Trx, SiteFault>
+    ensures read { result ≡ kept_slots arfcn first (view trx.now) }
 {
-    let entries = array_of(Key::Tch, value_at(trx, Key::Tch)?)?;
-    slots_of(tch_range(first), entries)
+    let slots = array_of(Key::Tch, value_at(trx, Key::Tch)?)?;
+    trx_by(arfcn, tch_range(first), slots, trx)
+}
+
+/// The same, by the entries of `tch`.
+fn trx_by(arfcn: u16, range: Allowed, slots: &[Value], trx: &Value) -> Result<Trx, SiteFault>
+    requires { range.most < timeslots_of_trx }
+    ensures read { result ≡ trx_by arfcn range (map view slots.now) (view trx.now) }
+{
+    let tch = slots_of(range, slots)?;
+    let half = half_of(trx, range, slots)?;
+    Ok(Trx { arfcn, tch, half })
 }
 
 /// The timeslots at the entries of `tch`, of which the first nine are kept.
@@ -188,6 +197,69 @@ fn slots_of(range: Allowed, entries: &[Value]) -> Result<ArrayVec<u8, 9>, SiteFa
         }
     }
     Ok(slots)
+}
+
+/// Whether a value is an integer within a range, and that one.
+fn is_number(range: Allowed, value: &Value, number: u8) -> bool
+    ensures value { result ≡ is_number range number (view value.now) }
+{
+    match allowed_number(range, value) {
+        Some(found) => found == u16::from(number),
+        None => false,
+    }
+}
+
+/// Whether one of the values is an integer within a range, and that one.
+fn name(range: Allowed, values: &[Value], number: u8) -> bool
+    ensures value { result ≡ names range (map view values.now) number }
+{
+    values.iter().any(|value| is_number(range, value, number))
+}
+
+/// A timeslot that also carries halves: one that the entries of `tch` name.
+#[tactic(auto, unfolding(crate::specs::SiteFile::half_slot))]
+fn half_slot(range: Allowed, slots: &[Value], entry: &Value) -> Result<u8, SiteFault>
+    ensures read { result ≡ half_slot (names range (map view slots.now)) (view entry.now) }
+{
+    let tn = number_of(Key::Half, Key::Half.allowed(), entry)? as u8;
+    if name(range, slots, tn) {
+        Ok(tn)
+    } else {
+        Err(SiteFault::Range(Key::Half))
+    }
+}
+
+/// The timeslots at the entries of `half`, of which the first nine are kept.
+fn halves_of(
+    range: Allowed,
+    slots: &[Value],
+    entries: &[Value],
+) -> Result<ArrayVec<u8, 9>, SiteFault>
+    ensures read { items_read result ≡
+        first_nine (each (λ place. half_slot (names range (map view slots.now))) 0
+        (map view entries.now)) }
+{
+    let mut halves = ArrayVec::new();
+    for entry in entries {
+        let slot = half_slot(range, slots, entry)?;
+        if !halves.is_full() {
+            halves.push(slot);
+        }
+    }
+    Ok(halves)
+}
+
+/// The timeslots of a TRX that also carry halves, of which the first nine are kept.
+#[tactic(auto, unfolding(crate::specs::SiteFile::halves_by))]
+fn half_of(trx: &Value, range: Allowed, slots: &[Value]) -> Result<ArrayVec<u8, 9>, SiteFault>
+    ensures read { items_read result ≡
+        first_nine (halves_by (names range (map view slots.now))
+        (get (key_name Key.Half) (view trx.now))) }
+{
+    match trx.get(Key::Half.name()) {
+        Some(value) => halves_of(range, slots, array_of(Key::Half, value)?),
+        None => Ok(ArrayVec::new()),
+    }
 }
 
 /// The BA list of a cell.

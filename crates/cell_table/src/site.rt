@@ -5,7 +5,7 @@ ghost use Rattle.std.specs.List.{position};
 ghost use Rattle.toml.specs.View.{view};
 ghost use Rattle.channel_fsm.specs.Masks.{has};
 ghost use Rattle.channel_fsm.specs.declared.ChanId.{ChanId};
-ghost use Rattle.cell_table.specs.Site.{IsSite, IsWithinLimits, TrafficLiesWithin, trx_at, identity_at, is_traffic, IsCellOf, channels, index_of};
+ghost use Rattle.cell_table.specs.Site.{IsSite, IsWithinLimits, TrafficLiesWithin, trx_at, identity_at, slots_with, is_traffic, IsCellOf, channels, index_of};
 ghost use Rattle.cell_table.specs.Searches.{has_codes, first_cell};
 ghost use Rattle.cell_table.specs.SiteFile.{site_of, read_site, IsBlankFile};
 ghost use Rattle.cell_table.specs.Kept.{kept_site};
@@ -23,7 +23,7 @@ use crate::neighbours::neighbour_named;
 use crate::places::{cell_sizes, channel_of_cells, channels_before, mask_of};
 use crate::reading::{cells_of, handover_at, outside_of};
 use crate::tables::{Cell, CellIdentity, Tables, Trx};
-use channel_fsm::ChanId;
+use channel_fsm::{ChanId, Sub};
 use std::alloc::{AllocError, Allocator, Global};
 use std::marker::Model;
 use toml::Value;
@@ -74,7 +74,8 @@ impl<A: Allocator + Copy> Site<A> {
     /// - A table `handover`: `window` (1 to 32 reports), `margin` and `minimum` (0 to 63 each).
     /// - An array `cell` of 1 to 64 tables: `lac` and `ci` (0 to 65535), `bcch` (0 to 1023), `ncc` and `bcc` (0 to 7),
     ///   `power` (0 to 31), `ba` (at most 32 carriers, 0 to 1023 each), and `trx`, an array of 1 to 4 tables with
-    ///   `arfcn` (0 to 1023; in the first it is the cell's `bcch`) and `tch` (timeslots 0 to 7, but not 0 in the first).
+    ///   `arfcn` (0 to 1023; in the first it is the cell's `bcch`), `tch` (timeslots 0 to 7, but not 0 in the first) and
+    ///   `half` (those of `tch` that also carry half-rate channels). `half` may be absent.
     /// - An array `outside` of at most 64 tables, with `lac`, `ci`, `bcch`, `ncc` and `bcc` as in `cell`. It may be
     ///   absent.
     ///
@@ -234,6 +235,16 @@ impl<A: Allocator + Copy> Site<A> {
         Some(found.tch.as_slice())
     }
 
+    /// `half` of a TRX of an own cell: those of its traffic timeslots that also carry half-rate channels (TS 45.002
+    /// clause 6.4.1), in the site file's order; `None` where there is no such cell or TRX.
+    pub fn half(&self, cell: u8, trx: u8) -> Option<&[u8]>
+        ensures value { option_map (λ found. found.now) result ≡
+            option_map (λ t. t.half) (trx_at self.now cell trx) }
+    {
+        let found = trx_in(&self.tables, cell, trx)?;
+        Some(found.half.as_slice())
+    }
+
     /// Whether the site names the channel as one that carries traffic. Such a channel lies in one
     /// of the cells 0 to 63, on TRX 0 to 3 and timeslot 0 to 7.
     pub fn is_traffic(&self, chan: ChanId) -> bool
@@ -241,7 +252,7 @@ impl<A: Allocator + Copy> Site<A> {
         ensures limits { result ≡ true → IsWithinLimits chan }
     {
         match trx_in(&self.tables, chan.cell, chan.trx) {
-            Some(found) => found.tch.contains(&chan.tn),
+            Some(found) => slots_with(found, chan.sub).contains(&chan.tn),
             None => false,
         }
     }
@@ -267,8 +278,8 @@ impl<A: Allocator + Copy> Site<A> {
         neighbour_named(&self.tables, cell, position, bsic)
     }
 
-    /// The place of a channel in the list of the site's traffic channels by cell, TRX and timeslot, counted from 0; `None`
-    /// for any other channel.
+    /// The place of a channel in the list of the site's traffic channels by cell, TRX and timeslot, a whole timeslot before
+    /// its halves, counted from 0; `None` for any other channel.
     pub fn index_of(&self, chan: ChanId) -> Option<usize>
         ensures value { result ≡ index_of self.now chan }
     {
@@ -278,8 +289,8 @@ impl<A: Allocator + Copy> Site<A> {
         Some(channels_before(self.tables.cells.as_slice(), chan))
     }
 
-    /// The channel that has a place in the list of the site's traffic channels by cell, TRX and timeslot, counted from 0:
-    /// the one whose place [`Site::index_of`] tells. `None` where the list has no such place.
+    /// The channel that has a place in that list: the one whose place [`Site::index_of`] tells. `None` where the list has no
+    /// such place.
     pub fn chan_at(&self, index: usize) -> Option<ChanId>
         ensures value { result ≡ slice_get (channels self.now) index }
         ensures inverse { (chan : ChanId) →
@@ -295,15 +306,15 @@ impl<A: Allocator + Copy> Site<A> {
         cell_sizes(self.tables.cells.as_slice())
     }
 
-    /// The traffic timeslots of a TRX of an own cell as the bits of an octet: timeslot `n`, 0 to 7, is the bit of value 2 to
-    /// the power `n`. 0 where there is no such cell or TRX.
-    pub fn traffic_mask(&self, cell: u8, trx: u8) -> u8
+    /// The timeslots of a TRX of an own cell that carry traffic with this part of them, as the bits of an octet: timeslot `n`,
+    /// 0 to 7, is the bit of value 2 to the power `n`. 0 where there is no such cell or TRX.
+    pub fn traffic_mask(&self, cell: u8, trx: u8, sub: Sub) -> u8
         ensures timeslots { (tn : ℕ) → has result tn ≡
-            is_traffic self.now (record { cell = cell; trx = trx; tn = tn }) }
+            is_traffic self.now (record { cell = cell; trx = trx; tn = tn; sub = sub }) }
         ensures none { trx_at self.now cell trx ≡ None → result ≡ 0 }
     {
         match trx_in(&self.tables, cell, trx) {
-            Some(found) => mask_of(found.tch.as_slice()),
+            Some(found) => mask_of(slots_with(found, sub)),
             None => 0,
         }
     }
@@ -370,6 +381,16 @@ fn cell_with(tables: &Tables, lac: u16, ci: u16) -> Option<u8>
             let place = outside_cell_with(tables.outside.as_slice(), lac, ci)?;
             Some(FIRST_OUTSIDE + place as u8)
         }
+    }
+}
+
+/// The timeslots of a TRX that carry traffic with this part of them.
+fn slots_with(trx: &Trx, sub: Sub) -> &[u8]
+    ensures value { result.now ≡ slots_with sub trx.now }
+{
+    match sub {
+        Sub::Full => trx.tch.as_slice(),
+        Sub::Half0 | Sub::Half1 => trx.half.as_slice(),
     }
 }
 

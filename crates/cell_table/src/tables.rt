@@ -40,6 +40,7 @@ pub struct CellIdentity {
 pub struct Trx {
     pub arfcn: u16,
     pub tch: ArrayVec<u8, 9>,
+    pub half: ArrayVec<u8, 9>,
 }
 
 impl Model for Trx {
@@ -47,7 +48,7 @@ impl Model for Trx {
 
     ghost Value = { TrxView };
 
-    ghost view = { λ a. record { arfcn = a.arfcn; tch = a.tch.items } };
+    ghost view = { λ a. record { arfcn = a.arfcn; tch = a.tch.items; half = a.half.items } };
 }
 
 impl PartialEq for Trx {
@@ -56,7 +57,9 @@ impl PartialEq for Trx {
     ghost laws = { Prim.search (comparing, rules) depth 9 };
 
     fn eq(&self, other: &Trx) -> bool {
-        self.arfcn == other.arfcn && self.tch.as_slice() == other.tch.as_slice()
+        self.arfcn == other.arfcn
+            && self.tch.as_slice() == other.tch.as_slice()
+            && self.half.as_slice() == other.half.as_slice()
     }
 }
 

@@ -1,3 +1,5 @@
+pub mod Keys
+pub mod Slots
 pub mod Table
 pub mod Text
 pub mod Masks

@@ -2,7 +2,8 @@
 //! them, and answers (TS 48.058 clause 4), and sets of those of a TRX.
 #![tactic(auto)]
 
-ghost use Rattle.std.specs.Prelude.{◌≡◌};
+ghost use Rattle.std.specs.Prelude.{◌≡◌, ◌≤◌, ◌↔◌, IsTrue};
+ghost use Rattle.channel_fsm.specs.Slots.{overlap, conflict, Conflicts};
 ghost use Rattle.channel_fsm.specs.Table.{next_state};
 
 use ChanEvent::{Begin, Confirm, Drop, Refuse, Released, Send, SwitchOff, Take};
@@ -16,7 +17,74 @@ mod tests;
 
 pub use mask::FreeMask;
 
-/// A channel: one timeslot of one TRX of one cell (TS 45.002 clause 5).
+/// At what rate a traffic channel carries speech (TS 45.002 clause 3.2).
+#[derive(Clone, Copy, Debug, PartialEq, Eq)]
+pub enum Rate {
+    /// Full rate, TCH/F.
+    Full,
+    /// Half rate, TCH/H.
+    Half,
+}
+
+/// What a channel has of its timeslot: all of it, or one of its two subchannels (TS 45.002 clause 6.4.1).
+///
+/// ```text
+/// +-------------------+
+/// |       Full        |
+/// +---------+---------+
+/// |  Half0  |  Half1  |
+/// +---------+---------+
+/// ```
+#[derive(Clone, Copy, Debug, PartialEq, Eq, PartialOrd, Ord, Hash)]
+pub enum Sub {
+    /// The whole timeslot, a full-rate channel.
+    Full,
+    /// Subchannel 0, a half-rate channel.
+    Half0,
+    /// Subchannel 1, a half-rate channel.
+    Half1,
+}
+
+impl Sub {
+    ghost use Rattle.channel_fsm.specs.Keys.{sub_number};
+    ghost use Rattle.channel_fsm.specs.Slots.{rate_of, needs};
+
+    /// The rate of such a channel.
+    pub fn rate(self) -> Rate
+        ensures rate { result ≡ rate_of self }
+    {
+        match self {
+            Sub::Full => Rate::Full,
+            Sub::Half0 | Sub::Half1 => Rate::Half,
+        }
+    }
+
+    /// Its place among the parts of a timeslot: 0 is the whole of it, 1 and 2 are its halves.
+    pub fn number(self) -> u8
+        ensures value { result ≡ sub_number self }
+        ensures most { result ≤ 2 }
+    {
+        match self {
+            Sub::Full => 0,
+            Sub::Half0 => 1,
+            Sub::Half1 => 2,
+        }
+    }
+
+    /// Whether a channel with this part of a timeslot can be used only where the other part isn't: where it is that part, or
+    /// they have something in common.
+    pub fn needs(self, other: Sub) -> bool
+        ensures value { result ≡ needs self other }
+    {
+        match (self, other) {
+            (Sub::Full, _) | (_, Sub::Full) => true,
+            (Sub::Half0, Sub::Half0) | (Sub::Half1, Sub::Half1) => true,
+            (Sub::Half0, Sub::Half1) | (Sub::Half1, Sub::Half0) => false,
+        }
+    }
+}
+
+/// A channel: one timeslot of one TRX of one cell, or a half of it (TS 45.002 clauses 5 and 6.4.1).
 #[derive(Clone, Copy, Debug, PartialEq, Eq, PartialOrd, Ord, Hash)]
 pub struct ChanId {
     /// The cell, counted from 0 in the order of the site file; a site has at most 64.
@@ -25,9 +93,20 @@ pub struct ChanId {
     pub trx: u8,
     /// The timeslot, 0 to 7.
     pub tn: u8,
+    /// What it has of the timeslot.
+    pub sub: Sub,
 }
 
-/// `cell/trx/tn`, in decimal digits.
+impl ChanId {
+    /// The channel of the same timeslot that has this part of it.
+    pub fn part(self, sub: Sub) -> ChanId
+        ensures part { result ≡ record self { sub = sub } }
+    {
+        ChanId { sub, ..self }
+    }
+}
+
+/// `cell/trx/tn`, in decimal digits; behind it `/0` or `/1` for a half.
 impl fmt::Display for ChanId {
     ghost use Rattle.std.specs.Prelude.{Some};
     ghost use Rattle.channel_fsm.specs.Text.{chan_text};
@@ -35,7 +114,32 @@ impl fmt::Display for ChanId {
     ghost output = { λ x. Some (chan_text x) };
 
     fn fmt<W: fmt::Write>(&self, f: &mut fmt::Formatter<W>) -> fmt::Result {
-        write!(f, "{}/{}/{}", self.cell, self.trx, self.tn)
+        match self.sub {
+            Sub::Full => write!(f, "{}/{}/{}", self.cell, self.trx, self.tn),
+            Sub::Half0 => write!(f, "{}/{}/{}/0", self.cell, self.trx, self.tn),
+            Sub::Half1 => write!(f, "{}/{}/{}/1", self.cell, self.trx, self.tn),
+        }
+    }
+}
+
+/// Whether two channels can't be used at once: they are different ones of one timeslot, and one of them is the whole
+/// timeslot. The two halves of a timeslot don't conflict, nor does a channel conflict with itself. Takes no memory.
+pub fn conflicts(a: ChanId, b: ChanId) -> bool
+    ensures value { result ≡ conflict a b }
+    ensures shared { IsTrue result ↔ Conflicts a b }
+{
+    a.cell == b.cell && a.trx == b.trx && a.tn == b.tn && overlap(a.sub, b.sub)
+}
+
+/// Whether different parts of a timeslot have something of it in common.
+fn overlap(a: Sub, b: Sub) -> bool
+    ensures { result ≡ overlap a b }
+{
+    match (a, b) {
+        (Sub::Full, Sub::Half0 | Sub::Half1) => true,
+        (Sub::Half0 | Sub::Half1, Sub::Full) => true,
+        (Sub::Full, Sub::Full) => false,
+        (Sub::Half0 | Sub::Half1, Sub::Half0 | Sub::Half1) => false,
     }
 }
 
@@ -54,6 +158,20 @@ pub enum ChanState {
     /// It was, or may have been, active; the station was asked to release it (RF CHANNEL RELEASE, TS 48.058
     /// clause 8.4.14), and has not acknowledged.
     Off,
+}
+
+impl ChanState {
+    ghost use Rattle.channel_fsm.specs.Slots.{is_used};
+
+    /// Whether a channel in this state is in use: it isn't free.
+    pub fn is_used(self) -> bool
+        ensures value { result ≡ is_used self }
+    {
+        match self {
+            Free => false,
+            Held(_) | Pending(_) | On(_) | Off => true,
+        }
+    }
 }
 
 /// What happens to a channel.

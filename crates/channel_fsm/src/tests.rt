@@ -1,6 +1,7 @@
 use super::ChanEvent::{Begin, Confirm, Drop, Refuse, Released, Send, SwitchOff, Take};
 use super::ChanState::{Free, Held, Off, On, Pending};
-use super::{ChanEvent, ChanId, ChanState, next};
+use super::{ChanEvent, ChanId, ChanState, Sub, conflicts, next};
+use std::alloc::Global;
 use std::process::Abort;
 use std::test::Fail;
 
@@ -121,16 +122,47 @@ fn every_state_meets_every_event(rt: HostRuntime) {
     }
 }
 
+fn channel(tn: u8, sub: Sub) -> ChanId {
+    ChanId {
+        cell: 63,
+        trx: 3,
+        tn,
+        sub,
+    }
+}
+
+fn prints(rt: &impl Abort, alloc: Global, sub: Sub, text: &str) -> Result<(), Fail> {
+    let printed = format!(in alloc; "{}", channel(7, sub))?;
+    assert_eq!(rt; printed.as_str(), text);
+    Ok(())
+}
+
 #[test]
 fn names_are_printed(rt: HostRuntime) -> Result<(), Fail> {
-    let printed = format!(in rt.alloc();
-        "{}",
-        ChanId {
-            cell: 63,
-            trx: 3,
-            tn: 7
-        }
-    )?;
-    assert_eq!(rt; printed.as_str(), "63/3/7");
-    Ok(())
+    prints(&rt, rt.alloc(), Sub::Full, "63/3/7")?;
+    prints(&rt, rt.alloc(), Sub::Half0, "63/3/7/0")?;
+    prints(&rt, rt.alloc(), Sub::Half1, "63/3/7/1")
+}
+
+const SUBS: [Sub; 3] = [Sub::Full, Sub::Half0, Sub::Half1];
+
+/// What conflicts with each part of a timeslot.
+const CONFLICTS: [[bool; 3]; 3] = [
+    [false, true, true],
+    [true, false, false],
+    [true, false, false],
+];
+
+fn conflicts_with(rt: &impl Abort, sub: Sub, row: &[bool; 3]) {
+    for (other, expected) in SUBS.iter().zip(row.iter()) {
+        assert_eq!(rt; conflicts(channel(3, sub), channel(3, *other)), *expected);
+        assert!(rt; !conflicts(channel(3, sub), channel(4, *other)));
+    }
+}
+
+#[test]
+fn a_timeslot_is_whole_or_two_halves(rt: HostRuntime) {
+    for (sub, row) in SUBS.iter().zip(CONFLICTS.iter()) {
+        conflicts_with(&rt, *sub, row);
+    }
 }

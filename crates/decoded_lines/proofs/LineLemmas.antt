@@ -1,5 +1,5 @@
 -- Whether all lines of some octets are good: the first, and those behind it.
-use Rattle.std.proofs.Common.{◌≡◌, ◌≢◌, ◌⊎◌, inl, inr, ℕ, ◌+◌, ◌<◌, ◌≤◌, Bool, true, false, not, List, [], ◌∷◌, Option, Some, None, IfSome, All, refl, sym, ap, subst, ◌∙◌, arith, rules, length, take, drop, take_all}
+use Rattle.std.proofs.Common.{◌≡◌, ◌≢◌, inl, inr, ℕ, ◌+◌, ◌≤◌, true, false, List, [], ◌∷◌, Option, Some, None, IfSome, All, sym, ap, subst, ◌∙◌, arith, length, take_all}
 use Rattle.std.proofs.lemmas.List.{drop_all}
 use Rattle.std.proofs.lemmas.List.Elements.{All-nil, All-cons, All-head, All-tail}
 use Rattle.std.proofs.lemmas.List.Splits.{slice_split_first, slice_split_none}
@@ -7,7 +7,6 @@ use Rattle.std.proofs.lemmas.Bool.{cases_Bool, true≢false}
 use Rattle.std.specs.List.{list_any, position_or_len, slice_split}
 use Rattle.std.specs.Io.KnownBytes.{IsAtEnd}
 use Rattle.decoded_lines.specs.declared.reader.Found.TheVariants as found
-use Rattle.decoded_lines.specs.Lines.{is_blank}
 use Rattle.decoded_lines.specs.Reading.{is_feed, longest_line, first_line, behind_line, Gives}
 use Rattle.decoded_lines.proofs.ReadingLemmas.{place_within, place_none, none_passes}
 use Rattle.explanations.specs.declared.link.LinkName.{LinkName}

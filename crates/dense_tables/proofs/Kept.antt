@@ -9,9 +9,9 @@ use Rattle.std.proofs.lemmas.List.{get_or-set_same, get_or-set_other, length-set
 use Rattle.std.proofs.lemmas.Option.{slice_get_past, slice_get-get_or}
 use Rattle.dense_tables.specs.declared.calls.Slot.{Slot}
 use Rattle.dense_tables.specs.Maps.{put, Covers}
-use Rattle.dense_tables.specs.Calls.{below, kept_in, entry_at, entries_of}
-use Rattle.dense_tables.proofs.MapFacts.{put_again, len_put, one_if_some}
-use Rattle.dense_tables.proofs.Listed.{get_listed, listed_put, listed_empty, listed_same, len_listed, past_below, length_below}
+use Rattle.dense_tables.specs.Calls.{below, kept_in, entry_at, entries_of, AgreesAt}
+use Rattle.dense_tables.proofs.MapFacts.{put_again, len_put, one_if_some, same_by_part}
+use Rattle.dense_tables.proofs.Listed.{get_listed, listed_put, listed_empty, len_listed, past_below, length_below}
 
 pub covers : {E : Type 0} (keys : List ℕ) (slots : List (Option (Slot E))) → Covers nat_cmp (below (length keys)) (entry_at keys slots)
 unfolding entry_at
@@ -134,15 +134,26 @@ nobody {E = E} keys c = elim (slice_get keys c) as (λ o. option_and_then {U = E
 pub no_entries : {E : Type 0} (keys : List ℕ) → entries_of {E = E} keys [] ≡ map.empty
 no_entries keys = listed_empty nat_cmp_total nat_cmp-IsAntisymmetric (below (length keys)) (entry_at keys []) (nobody keys)
 
-past_all : {E : Type 0} (keys : List ℕ) (slots : List (Option (Slot E))) (q : ℕ) → length keys ≤ q → entry_at keys slots q ≡ None
-unfolding entry_at
-past_all keys slots q past = ap (option_and_then (λ key. kept_in q (get_or slots key None))) (slice_get_past keys q past)
+-- a table agrees with itself
+pub alike : {E : Type 0} (m : map.FinMap nat_cmp E) (o : Option (Slot E)) → AgreesAt m m o
+alike m None = tt
+alike m (Some s) = λ some. refl
 
--- the same is kept of every number
-pub entries_same : {E : Type 0} (keys later : List ℕ) (old new : List (Option (Slot E))) → ((q : ℕ) → q < length keys → map.get (entries_of keys old) q ≡ map.get (entries_of later new) q) → length later ≡ length keys → entries_of keys old ≡ entries_of later new
-entries_same keys later old new same long =
-    listed_same nat_cmp_total nat_cmp-IsAntisymmetric (below (length keys)) (below (length later)) (entry_at keys old) (entry_at later new) (covers keys old) (covers later new) (λ q.
-    elim (cases_lt q (length keys)) [
-      | inl within ↦ sym (get_entry keys old q) ∙ same q within ∙ get_entry later new q
-      | inr past ↦ past_all keys old q past ∙ sym (past_all later new q (omega (arith, past, long)))
-    ])
+-- tables that keep something of as many calls are the same, where they agree at each slot of the one
+module _ {E : Type 0} (keys later : List ℕ) (old new : List (Option (Slot E))) (each : (j : ℕ) → AgreesAt (entries_of keys old) (entries_of later new) (get_or old j None)) where
+  at_slot : (q j : ℕ) (o : Option (Slot E)) → AgreesAt (entries_of keys old) (entries_of later new) o → is_some (map.get (entries_of keys old) q) ≡ true → is_some (kept_in q o) ≡ true → map.get (entries_of keys old) q ≡ map.get (entries_of later new) q
+  at_slot q j None agrees there some = cc
+  at_slot q j (Some s) agrees there some =
+      let own = keeps_own q (Some s) some in
+      subst (λ p. map.get (entries_of keys old) p ≡ map.get (entries_of later new) p) own (agrees (ap (λ p. is_some (map.get (entries_of keys old) p)) own ∙ there))
+
+  at_key : (q : ℕ) (o : Option ℕ) → is_some (map.get (entries_of keys old) q) ≡ true → is_some (option_and_then (λ j. kept_in q (get_or old j None)) o) ≡ true → map.get (entries_of keys old) q ≡ map.get (entries_of later new) q
+  at_key q None there some = cc
+  at_key q (Some j) there some = at_slot q j (get_or old j None) (each j) there some
+
+  under_key : (q : ℕ) → is_some (map.get (entries_of keys old) q) ≡ true → map.get (entries_of keys old) q ≡ map.get (entries_of later new) q
+  unfolding entry_at
+  under_key q there = at_key q (slice_get keys q) there (sym (ap is_some (get_entry keys old q)) ∙ there)
+
+  pub slots_same : map.len (entries_of keys old) ≡ map.len (entries_of later new) → entries_of keys old ≡ entries_of later new
+  slots_same long = same_by_part nat_cmp_total nat_cmp-IsAntisymmetric _ _ long under_key

@@ -53,10 +53,6 @@ module _ {K X : Type 0} {R : K → K → Ordering} (o : IsTotalOrder R) (exact :
   pub listed_empty : (ks : List K) (f : K → Option X) → ((q : K) → f q ≡ None) → listed R ks f ≡ map.empty
   listed_empty ks f none = same_map o exact _ _ (λ q. get_listed ks f (λ q e. none q) q ∙ none q ∙ sym (get-empty R q))
 
-  -- functions that say the same make one map
-  pub listed_same : (ks js : List K) (f g : K → Option X) → Covers R ks f → Covers R js g → ((q : K) → f q ≡ g q) → listed R ks f ≡ listed R js g
-  listed_same ks js f g covers covered same = same_map o exact _ _ (λ q. get_listed ks f covers q ∙ same q ∙ sym (get_listed js g covered q))
-
 -- it has no more entries than there are keys
 pub len_listed : {K X : Type 0} {R : K → K → Ordering} → IsTotalOrder R → (ks : List K) (f : K → Option X) → map.len (listed R ks f) ≤ length ks
 unfolding listed

@@ -1,12 +1,13 @@
 //! What is kept of calls, each in a slot of its own.
 ghost use Rattle.std.specs.Prelude.{◌≡◌, ◌↔◌, ◌<◌, ◌≤◌, ℕ, IsTrue, Some, None, IfOk, OnOk, OnErr, IsSome, is_some, length, true, false, option_copied, IsOk};
 ghost use Rattle.std.specs.FinMap as map;
-ghost use Rattle.dense_tables.specs.Calls.{kept_in, entry_at};
+ghost use Rattle.dense_tables.specs.Calls.{kept_in, entry_at, AgreesAt};
 ghost use Rattle.slab.specs.Slab.{get as slot_at, ContainsKey, Updates};
 
 use slab::Slab;
 use std::alloc::{AllocError, Allocator, Global};
 use std::marker::Model;
+use std::mem;
 
 /// How many numbers calls have: a call's number has two octets.
 const CALL_NUMBERS: usize = 65_536;
@@ -42,7 +43,7 @@ impl<E: Entry> Clone for Slot<E> {
 /// call: one counts only where the slot under it has that number.
 #[derive(Drop)]
 pub struct CallSlots<E, A: Allocator = Global> {
-    keys: Vec<u32, A>,
+    keys: Vec<u16, A>,
     slots: Slab<Slot<E>, A>,
     // how many calls there are
     count: usize,
@@ -122,13 +123,14 @@ impl<E: Entry, A: Allocator> CallSlots<E, A> {
         Ok(())
     }
 
-    /// Something else is kept of a call that is there.
-    pub fn set(&mut self, call: u16, entry: E)
+    /// Something else is kept of a call that is there. Answers what was kept of it.
+    pub fn set(&mut self, call: u16, entry: E) -> E
         requires there { IsSome (map.get self.old call) }
         ensures set { self.new ≡ map.insert self.old call entry }
+        ensures old { map.get self.old call ≡ Some result }
     {
         let key = self.keys[call as usize] as usize;
-        write_slot(
+        let old = write_slot(
             &mut self.slots,
             key,
             Slot {
@@ -136,16 +138,21 @@ impl<E: Entry, A: Allocator> CallSlots<E, A> {
                 entry,
             },
         );
+        old.entry
     }
 
-    /// A call ends; one that isn't there stays away.
-    pub fn remove(&mut self, call: u16)
+    /// A call ends; one that isn't there stays away. Answers what was kept of it.
+    pub fn remove(&mut self, call: u16) -> Option<E>
         ensures removed { self.new ≡ map.remove self.old call }
+        ensures old { result ≡ map.get self.old call }
     {
         let key = self.keys[call as usize] as usize;
         if is_slot_of(&self.slots, key, call) {
-            let _ = self.slots.remove(key);
+            let old = self.slots.remove(key);
             self.count -= 1;
+            Some(old.entry)
+        } else {
+            None
         }
     }
 
@@ -153,13 +160,13 @@ impl<E: Entry, A: Allocator> CallSlots<E, A> {
     pub fn is_same(&self, other: &CallSlots<E, A>) -> bool
         ensures same { IsTrue result ↔ (self.now ≡ other.now) }
     {
-        self.count == other.count && same_entries(self, other, self.keys.len())
+        self.count == other.count && same_slots(&self.slots, self, other)
     }
 }
 
 /// What is kept of a call.
 fn entry_in<'a, E, A: Allocator>(
-    keys: &'a Vec<u32, A>,
+    keys: &'a Vec<u16, A>,
     slots: &'a Slab<Slot<E>, A>,
     call: u16,
 ) -> Option<&'a E>
@@ -184,61 +191,79 @@ fn is_slot_of<E, A: Allocator>(slots: &Slab<Slot<E>, A>, key: usize, call: u16) 
     }
 }
 
-/// Another slot at a key that has one.
-fn write_slot<E: Drop, A: Allocator>(slots: &mut Slab<Slot<E>, A>, key: usize, slot: Slot<E>)
+/// Another slot at a key that has one. Answers the slot that stood there.
+fn write_slot<E: Drop, A: Allocator>(
+    slots: &mut Slab<Slot<E>, A>,
+    key: usize,
+    slot: Slot<E>,
+) -> Slot<E>
     requires { ContainsKey slots.old key }
-    ensures { Updates slots.old slots.new key (Some slot) }
+    ensures written { Updates slots.old slots.new key (Some slot) }
+    ensures old { slot_at slots.old key ≡ Some result }
 {
     match slots.get_mut(key) {
-        Some(place) => *place = slot,
+        Some(place) => mem::replace(place, slot),
         None => unreachable!(),
     }
 }
 
-/// A key in four octets. One that is larger is refused as memory is: no memory has so many slots.
-fn short_key(key: usize) -> Result<u32, AllocError>
+/// A key in two octets. One that is larger would be refused as memory is; there is none, since a slot that is empty is used
+/// again before another is made, and there are no more calls than numbers.
+fn short_key(key: usize) -> Result<u16, AllocError>
     ensures same { IfOk result (λ short. short ≡ key) }
-    ensures short { key < 4294967296 → IsOk result }
+    ensures short { key < 65536 → IsOk result }
 {
-    match u32::try_from(key) {
+    match u16::try_from(key) {
         Ok(short) => Ok(short),
         Err(_) => Err(AllocError),
     }
 }
 
 /// A key for each number; none of them counts yet.
-fn first_keys<A: Allocator>(alloc: A, count: usize) -> Result<Vec<u32, A>, AllocError>
+fn first_keys<A: Allocator>(alloc: A, count: usize) -> Result<Vec<u16, A>, AllocError>
     ensures len { IfOk result (λ keys. length keys.items ≡ count) }
 {
     Vec::from_elem(alloc, 0, count)
 }
 
-/// Whether the same is kept of each of the first calls.
-fn same_entries<E: Entry, A: Allocator>(
+/// Whether the same is kept of each call that has one of these slots.
+fn same_slots<E: Entry, A: Allocator>(
+    slots: &Slab<Slot<E>, A>,
     one: &CallSlots<E, A>,
     other: &CallSlots<E, A>,
-    numbers: usize,
 ) -> bool
-    requires { numbers ≤ 65536 }
-    ensures { IsTrue result ↔
-        ((call : ℕ) → call < numbers → map.get one.now call ≡ map.get other.now call) }
+    ensures { IsTrue result ↔ ((key : ℕ) → AgreesAt one.now other.now (slot_at slots.now key)) }
 {
-    for number in 0..numbers {
-        let call = number as u16;
-        if !same_entry(one.get(call), other.get(call)) {
+    for key in 0..slots.capacity() {
+        if !same_slot(slots.get(key), one, other) {
             return false;
         }
     }
     true
 }
 
-/// Whether the same is kept of two calls.
+/// Whether the same is kept of a slot's call, where anything is.
+fn same_slot<E: Entry, A: Allocator>(
+    slot: Option<&Slot<E>>,
+    one: &CallSlots<E, A>,
+    other: &CallSlots<E, A>,
+) -> bool
+    ensures { IsTrue result ↔ AgreesAt one.now other.now (option_copied slot.entry) }
+{
+    match slot {
+        Some(slot) => same_entry(one.get(slot.number), other.get(slot.number)),
+        None => true,
+    }
+}
+
+/// Whether the same is kept of two calls, where anything is kept of the first.
 fn same_entry<E: Entry>(one: Option<&E>, other: Option<&E>) -> bool
-    ensures { IsTrue result ↔ (option_copied one.entry ≡ option_copied other.entry) }
+    ensures { IsTrue result ↔
+        (IsSome (option_copied one.entry) → option_copied one.entry ≡ option_copied other.entry) }
 {
     match (one, other) {
         (Some(one), Some(other)) => one.is_same(other),
-        (None, None) => true,
-        (Some(_), None) | (None, Some(_)) => false,
+        (Some(_), None) => false,
+        (None, Some(_)) | (None, None) => true,
     }
 }

@@ -4,22 +4,23 @@ ghost use Rattle.std.specs.FinMap as map;
 ghost use Rattle.channel_fsm.specs.declared.ChanId.{ChanId};
 ghost use Rattle.channel_fsm.specs.declared.ChanState.TheVariants as chan;
 ghost use Rattle.cell_table.specs.Site.{is_traffic};
-ghost use Rattle.dense_tables.specs.Channels.{all_free, with_state, busy, channel_at, IsFreeIn, IsNoLater, NoneFree, free_count};
+ghost use Rattle.dense_tables.specs.Channels.{all_free, with_state, busy, channel_at, IsFreeAt, IsNoLater, NoneFreeAt, free_count};
 
 mod masks;
 mod places;
 
 use cell_table::Site;
 use cell_table::limits::MOST_CELLS;
-use channel_fsm::{ChanId, ChanState, FreeMask};
-use masks::{count_in, lowest_in, masks_of, set_mask};
+use channel_fsm::{ChanId, ChanState, FreeMask, Rate};
+use masks::{count_in, lowest_in, masks_of, set_timeslot};
 use places::{PLACES, channel_at, place_in, places_of};
 use std::alloc::{AllocError, Allocator, Global};
 use std::marker::Model;
 use std::sync::Arc;
 
 /// The state of each traffic channel of a site, by its place there. The place of every channel that a site can have is noted
-/// once, and each TRX has a mask of its free traffic timeslots. Only making and copying it asks for memory.
+/// once. Each TRX has a mask for each part of a timeslot, of the traffic timeslots in whose way nothing is. Only making and
+/// copying it asks for memory.
 #[derive(Drop)]
 pub struct ChannelStates<A: Allocator = Global> {
     site: Arc<Site<A>, A>,
@@ -128,9 +129,10 @@ impl<A: Allocator> ChannelStates<A> {
         requires busy { state ≢ chan.Free }
         ensures replaced { self.new ≡ with_state self.old x (Some state) }
     {
-        // Opens the table: a channel that isn't free is a traffic channel.
-        let _ = &self.states;
-        self.write(x, state);
+        // It stays out of its mask, and counted.
+        if let Some(place) = place_in(&self.places, x) {
+            self.states[place] = state;
+        }
     }
 
     /// A channel is free from now on.
@@ -140,20 +142,21 @@ impl<A: Allocator> ChannelStates<A> {
         self.write(x, ChanState::Free);
     }
 
-    /// The free traffic channel of a cell with the lowest TRX, then timeslot.
-    pub fn lowest_free(&self, cell: u8) -> Option<ChanId>
-        ensures found { IfSome result (λ x. IsFreeIn self.now cell x) }
-        ensures lowest { IfSome result (λ x. (y : ChanId) → IsFreeIn self.now cell y → IsNoLater x y) }
-        ensures none { IfNone result (NoneFree self.now cell) }
+    /// The traffic channel of a cell at a rate, in whose way nothing is, with the lowest TRX, then timeslot, then half.
+    pub fn lowest_free(&self, cell: u8, rate: Rate) -> Option<ChanId>
+        ensures found { IfSome result (λ x. IsFreeAt self.now cell rate x) }
+        ensures lowest { IfSome result (λ x. (y : ChanId) → IsFreeAt self.now cell rate y →
+            IsNoLater x y) }
+        ensures none { IfNone result (NoneFreeAt self.now cell rate) }
     {
         if usize::from(cell) < MOST_CELLS {
-            lowest_in(&self.masks, cell)
+            lowest_in(&self.masks, cell, rate)
         } else {
             None
         }
     }
 
-    /// How many traffic channels of a cell are free.
+    /// In the way of how many traffic channels of a cell nothing is.
     pub fn count_free(&self, cell: u8) -> u32
         ensures count { result ≡ free_count self.now cell }
     {
@@ -179,7 +182,7 @@ impl<A: Allocator> ChannelStates<A> {
         if let Some(place) = place_in(&self.places, x) {
             let old = self.states[place];
             self.states[place] = state;
-            set_mask(&mut self.masks, x, busy(state).is_none());
+            set_timeslot(&mut self.masks, &self.places, &self.states, x);
             self.used = self.used - count_of(old) + count_of(state);
         }
     }
@@ -218,7 +221,7 @@ fn free_states<A: Allocator>(alloc: A, count: usize) -> Result<Vec<ChanState, A>
 
 /// Whether the same channels have the same states, of all that a site can have.
 fn same_states<A: Allocator>(one: &ChannelStates<A>, other: &ChannelStates<A>) -> bool
-    ensures { IsTrue result ↔ ((number : ℕ) → number < 2048 →
+    ensures { IsTrue result ↔ ((number : ℕ) → number < 6144 →
         map.get one.now.states (channel_at number) ≡ map.get other.now.states (channel_at number)) }
 {
     for number in 0..PLACES {

@@ -3,7 +3,7 @@
 -- the words are ours, of no standard.
 use Rattle.std.specs.Prelude.{◌≡◌, ◌⊎◌, ℕ, if◌then◌else◌, List, codes, Ok, Err, IsOkAnd, bytes_eq}
 use Rattle.encoded_messages.specs.FieldFaults.{Read as FieldRead, ◌>>=◌, ◌>>◌, read_map}
-use Rattle.encoded_messages.specs.Fields.{name_of, fields_of, only_keys, number_at, optional_octet_at, octets_at, optional_octets_at}
+use Rattle.encoded_messages.specs.Fields.{name_of, fields_of, only_keys, number_at, traffic_channel_at, optional_octet_at, octets_at, optional_octets_at}
 use Rattle.rsl_messages.specs.declared.message.ChanBits.{ChanBits}
 use Rattle.rsl_messages.specs.declared.message.Rsl.{Rsl}
 use Rattle.rsl_messages.specs.declared.message.Rsl.TheVariants.{DataRequest, DataIndication, ChannelActivation, ChannelActivationAck, ChannelActivationNack, ConnectionFailureIndication, HandoverDetection, MeasurementResult, RfChannelRelease, RfChannelReleaseAck}
@@ -12,7 +12,7 @@ use Rattle.encoded_messages.specs.Faults.{Fault, Name, TooLong, Read, in_fields}
 
 -- the channel that a message is about
 unfoldable pub channel : List ℕ → FieldRead ChanBits
-channel fields = read_map (λ tn. record { tn = tn }) (number_at 7 (codes "tn") fields)
+channel fields = read_map (λ c. record { tn = c.0; sub = c.1 }) (traffic_channel_at (codes "tn") fields)
 
 unfoldable pub data_request : {A : Type 0} → List ℕ → FieldRead (Rsl A)
 data_request fields = do

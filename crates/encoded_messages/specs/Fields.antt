@@ -4,8 +4,9 @@ use Rattle.std.specs.Prelude.{ℕ, ◌==◌, Bool, if◌then◌else◌, List, []
 use Rattle.std.specs.List.{list_any, position_or_len, before_first, join_with_byte}
 use Rattle.encoded_messages.specs.declared.field_fault.Allowed.{Allowed}
 use Rattle.encoded_messages.specs.declared.field_fault.Allowed.TheVariants as may
+use Rattle.channel_fsm.specs.declared.Sub.{Sub}
 use Rattle.encoded_messages.specs.Words.{words_of, values_of, first_unknown}
-use Rattle.encoded_messages.specs.Values.{number_to, flag_of, octets_of}
+use Rattle.encoded_messages.specs.Values.{number_to, flag_of, octets_of, traffic_channel_of}
 use Rattle.encoded_messages.specs.FieldFaults.{Unknown, Missing, Twice, Value, Read, ◌>>=◌}
 
 -- a word has an `=`
@@ -53,6 +54,10 @@ optional_octet_of text = if bytes_eq text (codes "-") then Some None else option
 
 unfoldable pub optional_octet_at : List ℕ → List ℕ → Read (Option ℕ)
 optional_octet_at key fields = field_at may.OptionalOctet optional_octet_of key fields
+
+-- a timeslot, and which of its traffic channels
+unfoldable pub traffic_channel_at : List ℕ → List ℕ → Read (ℕ × Sub)
+traffic_channel_at key fields = field_at may.TrafficChannel traffic_channel_of key fields
 
 -- yes or no
 unfoldable pub flag_at : List ℕ → List ℕ → Read Bool

@@ -6,7 +6,7 @@ use Rattle.encoded_messages.specs.declared.field_fault.Allowed.TheVariants as ma
 use Rattle.encoded_messages.specs.FieldFaults.{Value, Read as FieldRead, ◌>>=◌, ◌>>◌, read_map}
 use Rattle.encoded_messages.specs.Words.{words_of, values_of}
 use Rattle.encoded_messages.specs.Values as value
-use Rattle.encoded_messages.specs.Fields.{name_of, fields_of, only_keys, number_at, flag_at}
+use Rattle.encoded_messages.specs.Fields.{name_of, fields_of, only_keys, number_at, traffic_channel_at, flag_at}
 use Rattle.rr_elements.specs.CellDescription.{Cell}
 use Rattle.rr_elements.specs.ChanDescription.{Chan}
 use Rattle.rr_elements.specs.Power.{PowerCommand}
@@ -28,10 +28,10 @@ cell fields = do
 
 unfoldable pub channel : List ℕ → FieldRead Chan
 channel fields = do
-  tn ← number_at 7 (codes "tn") fields
+  slot ← traffic_channel_at (codes "tn") fields
   tsc ← number_at 7 (codes "tsc") fields
   carrier ← number_at 1023 (codes "carrier") fields
-  Ok (record { tn = tn; tsc = tsc; carrier = carrier })
+  Ok (record { tn = slot.0; sub = slot.1; tsc = tsc; carrier = carrier })
 
 unfoldable pub power : List ℕ → FieldRead PowerCommand
 power fields = do

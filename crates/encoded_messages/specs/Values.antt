@@ -7,6 +7,8 @@ use Rattle.std.specs.Str.Parse.{digits_value}
 use Rattle.hex.specs.Hex.{decode_of}
 use Rattle.encoded_messages.specs.Chains.{◌>>=◌}
 use Rattle.encoded_messages.specs.Words.{cut_at}
+use Rattle.channel_fsm.specs.declared.Sub.{Sub}
+use Rattle.channel_fsm.specs.declared.Sub.TheVariants.{Full, Half0, Half1}
 
 -- one decimal digit or more, and nothing else
 abbrev pub is_number : List ℕ → Bool
@@ -23,6 +25,18 @@ number_to most text = number_below (most + 1) text
 -- 0 or 1
 abbrev pub flag_of : List ℕ → Option Bool
 flag_of text = if bytes_eq text (codes "0") then Some false else if bytes_eq text (codes "1") then Some true else None
+
+-- the half of a timeslot, 0 or 1, that a half-rate channel has
+abbrev pub half_of : List ℕ → Option Sub
+half_of text = if bytes_eq text (codes "0") then Some Half0 else if bytes_eq text (codes "1") then Some Half1 else None
+
+-- TN is a timeslot's full-rate channel, TN/HALF one of its half-rate channels
+abbrev pub slot_of : List ℕ → Option (List ℕ × List ℕ) → Option (ℕ × Sub)
+slot_of text None = number_to 7 text >>= (λ tn. Some (tn, Full))
+slot_of text (Some p) = number_to 7 p.0 >>= (λ tn. half_of p.1 >>= (λ half. Some (tn, half)))
+
+abbrev pub traffic_channel_of : List ℕ → Option (ℕ × Sub)
+traffic_channel_of text = slot_of text (cut_at 47 text)
 
 -- so many octets or more
 abbrev pub at_least : ℕ → List ℕ → Option (List ℕ)

@@ -6,7 +6,9 @@ ghost use Rattle.encoded_messages.specs.Abis as said;
 
 use crate::fault::MessageFault;
 use crate::field_fault::FieldFault;
-use crate::fields::{number, octet, octets, only_keys, optional_octet, optional_octets, small};
+use crate::fields::{
+    number, octet, octets, only_keys, optional_octet, optional_octets, traffic_channel,
+};
 use crate::name::name_and_fields;
 use rsl_messages::{ChanBits, Octets, Rsl, encode, fits};
 use std::alloc::Allocator;
@@ -16,9 +18,8 @@ use std::alloc::Allocator;
 fn channel(fields: &str) -> Result<ChanBits, FieldFault<'_>>
     ensures { read_of result ≡ said.channel fields.now }
 {
-    Ok(ChanBits {
-        tn: small(fields, "tn", 7)?,
-    })
+    let (tn, sub) = traffic_channel(fields, "tn")?;
+    Ok(ChanBits { tn, sub })
 }
 
 /// DATA REQUEST

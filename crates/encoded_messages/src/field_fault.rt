@@ -9,6 +9,8 @@ pub enum Allowed {
     Number(u16),
     /// A number from 0 to 255, or `-`.
     OptionalOctet,
+    /// A timeslot, and behind it the half of it that a half-rate channel has.
+    TrafficChannel,
     /// 0 or 1.
     Flag,
     /// So many octets or more, in hexadecimal.
@@ -42,6 +44,7 @@ impl fmt::Display for Allowed {
         match self {
             Allowed::Number(most) => write!(f, "0 to {most}"),
             Allowed::OptionalOctet => write!(f, "0 to 255, or -"),
+            Allowed::TrafficChannel => write!(f, "0 to 7, with /0 or /1 behind it for half rate"),
             Allowed::Flag => write!(f, "0 or 1"),
             Allowed::Octets(least) => write!(f, "{}", AtLeast(*least)),
             Allowed::OptionalOctets(least) => write!(f, "{}, or -", AtLeast(*least)),

@@ -10,8 +10,9 @@ ghost use Rattle.encoded_messages.specs.Fields as said;
 ghost use Rattle.encoded_messages.specs.declared.field_fault.FieldFault.TheVariants.{NoMemory};
 
 use crate::field_fault::{Allowed, FieldFault};
-use crate::values::{flag_in, number_in, octet_in, octets_in};
+use crate::values::{flag_in, number_in, octet_in, octets_in, traffic_channel_in};
 use crate::words::{first_unknown, first_value};
+use rsl_messages::Sub;
 use std::alloc::Allocator;
 
 /// Refuses the first word that is no field with one of these keys, which stand with one blank between any two.
@@ -107,6 +108,21 @@ pub fn optional_octet<'a>(fields: &'a str, key: &'static str) -> Result<Option<u
             allowed: Allowed::OptionalOctet,
         }),
     }
+}
+
+/// The timeslot of a field, and which of its traffic channels it is.
+#[tactic(auto, unfolding(crate::specs::Fields::traffic_channel_at))]
+pub fn traffic_channel<'a>(fields: &'a str, key: &'static str) -> Result<(u8, Sub), FieldFault<'a>>
+    ensures channel { read_of result ≡ said.traffic_channel_at key.now fields.now }
+    ensures timeslot { IfOk result (λ channel. channel.0 < 8) }
+{
+    let value = value(fields, key)?;
+    let allowed = Allowed::TrafficChannel;
+    traffic_channel_in(value).ok_or(FieldFault::Value {
+        key,
+        value,
+        allowed,
+    })
 }
 
 /// The flag of a field.

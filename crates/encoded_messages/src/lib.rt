@@ -2,7 +2,8 @@
 //!
 //! A text has words with one blank between any two: those of the message's name, and behind it its fields, `key=value`
 //! each, in any order. Numbers are in decimal, flags 0 or 1, octets two hexadecimal digits each, in either case, and `-`
-//! stands for what is absent. Fields are handed on as the text behind the name. Ours, of no standard.
+//! stands for what is absent. A timeslot's number is its full-rate channel; with `/0` or `/1` behind it, one of its
+//! half-rate channels. Fields are handed on as the text behind the name. Ours, of no standard.
 //!
 //! | Link | Message | Fields |
 //! |---|---|---|
@@ -48,7 +49,7 @@ pub use fault::MessageFault;
 pub use field_fault::{Allowed, FieldFault, Shown};
 pub use fields::{
     flag, leading_value, number, octet, octets, only_keys, optional_octet, optional_octets, small,
-    value,
+    traffic_channel, value,
 };
 pub use name::name_and_fields;
 pub use rr::encode_rr;

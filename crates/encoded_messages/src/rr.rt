@@ -9,7 +9,7 @@ ghost use Rattle.encoded_messages.specs.Rr as said;
 
 use crate::fault::MessageFault;
 use crate::field_fault::{Allowed, FieldFault};
-use crate::fields::{flag, leading_value, number, octet, only_keys, small};
+use crate::fields::{flag, leading_value, number, octet, only_keys, small, traffic_channel};
 use crate::name::name_and_fields;
 use crate::values::neighbour_in;
 use rr_elements::{CellDescription, ChanDescription, MeasHead, MeasResults, Ncell, Power, RrCause};
@@ -35,10 +35,10 @@ fn cell(fields: &str) -> Result<CellDescription, FieldFault<'_>>
 fn channel(fields: &str) -> Result<ChanDescription, FieldFault<'_>>
     ensures { read_of result ≡ said.channel fields.now }
 {
-    let tn = small(fields, "tn", 7)?;
+    let (tn, sub) = traffic_channel(fields, "tn")?;
     let tsc = small(fields, "tsc", 7)?;
     let carrier = number(fields, "carrier", 1023)?;
-    match ChanDescription::new(tn, tsc, carrier) {
+    match ChanDescription::new(tn, sub, tsc, carrier) {
         Ok(channel) => Ok(channel),
         Err(_) => unreachable!(),
     }

@@ -6,6 +6,7 @@ ghost use Rattle.encoded_messages.specs.Values as said;
 
 use crate::words::around_slash;
 use hex::FromHexError;
+use rsl_messages::Sub;
 use std::alloc::{AllocError, Allocator};
 
 /// Whether a text has decimal digits alone.
@@ -67,6 +68,28 @@ pub(crate) fn flag_in(text: &str) -> Option<bool>
         "0" => Some(false),
         "1" => Some(true),
         _ => None,
+    }
+}
+
+/// The half-rate channel of a timeslot that a text writes.
+fn half_in(text: &str) -> Option<Sub>
+    ensures { result ≡ said.half_of text.now }
+{
+    match text {
+        "0" => Some(Sub::Half0),
+        "1" => Some(Sub::Half1),
+        _ => None,
+    }
+}
+
+/// The timeslot of `TN`, which is a full-rate channel, or of `TN/HALF`, and which of its traffic channels it is.
+pub(crate) fn traffic_channel_in(text: &str) -> Option<(u8, Sub)>
+    ensures channel { result ≡ said.traffic_channel_of text.now }
+    ensures timeslot { IfSome result (λ channel. channel.0 < 8) }
+{
+    match around_slash(text) {
+        None => Some((octet_in(text, 7)?, Sub::Full)),
+        Some((tn, half)) => Some((octet_in(tn, 7)?, half_in(half)?)),
     }
 }
 

@@ -1,13 +1,14 @@
 -- Events: what is written is read, and what is read was written so.
-use Rattle.std.proofs.Common.{◌≡◌, ◌≢◌, ◌↔◌, ℕ, ◌<◌, ◌≤◌, ◌^◌, List, [], ◌∷◌, ◌++◌, Bool, true, false, if◌then◌else◌, Option, Some, None, option_map, refl, sym, ap, ◌∙◌, arith, rules, bytes_eq, length, get_or, codes}
+use Rattle.std.proofs.Common.{◌≡◌, ◌↔◌, ℕ, ◌<◌, ◌^◌, List, [], ◌∷◌, ◌++◌, Bool, true, false, if◌then◌else◌, Option, Some, None, option_map, refl, sym, ap, ◌∙◌, arith, bytes_eq, codes}
 use Rattle.std.specs.Fmt.{decimal}
-use Rattle.std.specs.Int.{IsInRange}
 use Rattle.std.proofs.lemmas.Option.{none-some, same_Some}
 use Rattle.std.proofs.lemmas.Fmt.{digits_decimal}
 use Rattle.std.proofs.lemmas.Slice.Eq.{bytes_eq-Decides}
 use Rattle.std.proofs.lemmas.Str.Parse.{not_in_digits}
+use Rattle.channel_fsm.specs.declared.Sub.{Sub}
+use Rattle.channel_fsm.specs.declared.Sub.TheVariants.{Full, Half0, Half1}
 use Rattle.channel_fsm.specs.declared.ChanId.{ChanId}
-use Rattle.channel_fsm.specs.Text.{chan_text}
+use Rattle.channel_fsm.specs.Text.{timeslot_text, chan_text}
 use Rattle.attempt_journal.specs.declared.Timer.TheVariants as timer
 use Rattle.radio_book.specs.declared.event.Kind.{Kind}
 use Rattle.radio_book.specs.declared.event.Kind.TheVariants as kind
@@ -16,8 +17,8 @@ use Rattle.radio_book.specs.declared.event.Why.TheVariants as why
 use Rattle.radio_book.specs.declared.event.Event.{Event}
 use Rattle.radio_book.specs.declared.event.Event.TheVariants as event
 use Rattle.event_text.specs.Text.{kind_word, why_word, event_text, FitsCall, FitsOctet, FitsChan, Fits, TextIsUnique}
-use Rattle.event_text.specs.Reading.{◌>>=◌, cut_at, number_of, channel_of, kind_of, why_of, open_of, take_of, reserve_of, undo_of, by_call, on_channel, kinds, event_among, event_at, event_of}
-use Rattle.event_text.proofs.Numbers.{Lacks, cut_at-first, joined, numerals, number_of-decimal, number_of-parts, IsNumber}
+use Rattle.event_text.specs.Reading.{◌>>=◌, cut_at, number_of, half_of, timeslot_at, timeslot_of, channel_of, kind_of, why_of, open_of, take_of, reserve_of, undo_of, by_call, on_channel, kinds, event_among, event_of}
+use Rattle.event_text.proofs.Numbers.{Lacks, cut_at-none, cut_at-first, joined, numerals, number_of-decimal, number_of-parts}
 
 -- what a chain of steps gave, each of them gave
 bind_parts : {A B : Type 0} (P : Type 0) (o : Option A) (f : A → Option B) (y : B) → (o >>= f) ≡ Some y → ((x : A) → o ≡ Some x → f x ≡ Some y → P) → P
@@ -48,12 +49,55 @@ call_read c f = number_of-decimal 65536 c (omega arith) f
 octet_read : (n : ℕ) → FitsOctet n → number_of 256 (decimal n) ≡ Some n
 octet_read n f = number_of-decimal 256 n (omega arith) f
 
+-- NAMES
+
+-- a test by names
+by_name : {X : Type 0} (P : Type 0) (text name : List ℕ) (x y : X) (rest : Option X) → (if bytes_eq text name then Some x else rest) ≡ Some y → (text ≡ name → x ≡ y → P) → (rest ≡ Some y → P) → P
+by_name P text name x y rest e when_same otherwise = at (bytes_eq text name) refl e
+  where
+    at : (b : Bool) → bytes_eq text name ≡ b → (if b then Some x else rest) ≡ Some y → P
+    at true t e = when_same ((bytes_eq-Decides text name).0 t) (same_Some x y e)
+    at false t e = otherwise e
+
 -- CHANNELS
+
+half_parts : (text : List ℕ) (sub : Sub) → half_of text ≡ Some sub → (tn : ℕ) → decimal tn ++ 47 ∷ text ≡ timeslot_text tn sub
+half_parts text sub e tn =
+    by_name (decimal tn ++ 47 ∷ text ≡ timeslot_text tn sub) text (codes "0") Half0 sub _ e (λ t s. ap (λ half. decimal tn ++ 47 ∷ half) t ∙ ap (timeslot_text tn) s) (λ e.
+    by_name (decimal tn ++ 47 ∷ text ≡ timeslot_text tn sub) text (codes "1") Half1 sub _ e (λ t s. ap (λ half. decimal tn ++ 47 ∷ half) t ∙ ap (timeslot_text tn) s) (λ e. absurd (none-some sub e)))
+
+timeslot_read : (tn : ℕ) (sub : Sub) → FitsOctet tn → timeslot_of (timeslot_text tn sub) ≡ Some (tn, sub)
+unfolding timeslot_of
+timeslot_read tn Full f = rw (cut_at-none 47 (decimal tn) (no_slash tn (omega arith)), octet_read tn f) refl
+timeslot_read tn Half0 f = rw (part_cut tn (codes "0") f, octet_read tn f) refl
+timeslot_read tn Half1 f = rw (part_cut tn (codes "1") f, octet_read tn f) refl
+
+record IsTimeslot (text : List ℕ) (slot : ℕ × Sub) : Type 0 where
+  pub said : text ≡ timeslot_text slot.0 slot.1
+  pub fits : FitsOctet slot.0
+
+timeslot_parts : (text : List ℕ) (slot : ℕ × Sub) → timeslot_of text ≡ Some slot → IsTimeslot text slot
+unfolding timeslot_of
+timeslot_parts text slot e = by_cut (cut_at 47 text) refl e
+  where
+    by_cut : (cut : Option (List ℕ × List ℕ)) → cut_at 47 text ≡ cut → timeslot_at cut text ≡ Some slot → IsTimeslot text slot
+    by_cut None c e =
+        bind_parts (IsTimeslot text slot) (number_of 256 text) _ slot e (λ tn n e.
+        let same : (tn, Full) ≡ slot = same_Some (tn, Full) slot e in
+        let tn_is = number_of-parts 256 text tn (omega arith) n in
+        rw (← same) (record { said = tn_is.said; fits = tn_is.below }))
+    by_cut (Some p) c e =
+        bind_parts (IsTimeslot text slot) (number_of 256 p.0) _ slot e (λ tn n e.
+        bind_parts (IsTimeslot text slot) (half_of p.1) _ slot e (λ sub h e.
+        let same : (tn, sub) ≡ slot = same_Some (tn, sub) slot e in
+        let tn_is = number_of-parts 256 p.0 tn (omega arith) n in
+        let said = joined 47 text p.0 p.1 c ∙ ap (λ front. front ++ 47 ∷ p.1) tn_is.said ∙ half_parts p.1 sub h tn in
+        rw (← same) (record { said = said; fits = tn_is.below })))
 
 channel_read : (x : ChanId) → FitsChan x → channel_of (chan_text x) ≡ Some x
 unfolding channel_of
 channel_read x f =
-    rw (part_cut x.cell (decimal x.trx ++ 47 ∷ decimal x.tn) f.cell, part_cut x.trx (decimal x.tn) f.trx, octet_read x.cell f.cell, octet_read x.trx f.trx, octet_read x.tn f.tn) refl
+    rw (part_cut x.cell (decimal x.trx ++ 47 ∷ timeslot_text x.tn x.sub) f.cell, part_cut x.trx (timeslot_text x.tn x.sub) f.trx, octet_read x.cell f.cell, octet_read x.trx f.trx, timeslot_read x.tn x.sub f.tn) refl
 
 pub record IsChannel (text : List ℕ) (x : ChanId) : Type 0 where
   pub said : text ≡ chan_text x
@@ -66,27 +110,17 @@ channel_parts text x e =
     bind_parts (IsChannel text x) (cut_at 47 p.1) _ x e (λ q cut2 e.
     bind_parts (IsChannel text x) (number_of 256 p.0) _ x e (λ cell c e.
     bind_parts (IsChannel text x) (number_of 256 q.0) _ x e (λ trx t e.
-    bind_parts (IsChannel text x) (number_of 256 q.1) _ x e (λ tn n e.
-    let same : record { cell = cell; trx = trx; tn = tn } ≡ x = same_Some _ x e in
+    bind_parts (IsChannel text x) (timeslot_of q.1) _ x e (λ slot s e.
+    let same : record { cell = cell; trx = trx; tn = slot.0; sub = slot.1 } ≡ x = same_Some _ x e in
     let first = joined 47 text p.0 p.1 cut in
     let second = joined 47 p.1 q.0 q.1 cut2 in
     let cell_is = number_of-parts 256 p.0 cell (omega arith) c in
     let trx_is = number_of-parts 256 q.0 trx (omega arith) t in
-    let tn_is = number_of-parts 256 q.1 tn (omega arith) n in
+    let slot_is = timeslot_parts q.1 slot s in
     rw (← same) (record {
-      said = first ∙ rw (cell_is.said, second, trx_is.said, tn_is.said) refl;
-      fits = record { cell = cell_is.below; trx = trx_is.below; tn = tn_is.below };
+      said = first ∙ rw (cell_is.said, second, trx_is.said, slot_is.said) refl;
+      fits = record { cell = cell_is.below; trx = trx_is.below; tn = slot_is.fits };
     }))))))
-
--- NAMES
-
--- a test by names
-by_name : {X : Type 0} (P : Type 0) (text name : List ℕ) (x y : X) (rest : Option X) → (if bytes_eq text name then Some x else rest) ≡ Some y → (text ≡ name → x ≡ y → P) → (rest ≡ Some y → P) → P
-by_name P text name x y rest e when_same otherwise = at (bytes_eq text name) refl e
-  where
-    at : (b : Bool) → bytes_eq text name ≡ b → (if b then Some x else rest) ≡ Some y → P
-    at true t e = when_same ((bytes_eq-Decides text name).0 t) (same_Some x y e)
-    at false t e = otherwise e
 
 kind_read : (k : Kind) → kind_of (kind_word k) ≡ Some k
 kind_read kind.Internal = refl

@@ -1,8 +1,10 @@
 -- How an event is read, part by part. What that comes to is said at the end.
-use Rattle.std.specs.Prelude.{◌≡◌, ◌↔◌, ◌==◌, ◌&&◌, ◌||◌, ℕ, Bool, nat_lt, not, if◌then◌else◌, List, [], ◌∷◌, length, slice_index, codes, bytes_eq, Option, Some, None, option_map, option_and_then}
+use Rattle.std.specs.Prelude.{◌≡◌, ◌↔◌, ◌==◌, ◌&&◌, ◌||◌, ℕ, Bool, nat_lt, not, if◌then◌else◌, List, [], ◌∷◌, length, slice_index, codes, bytes_eq, Option, Some, None, option_map}
 use Rattle.std.specs.List.{list_all}
 use Rattle.std.specs.Char.{is_ascii_digit}
 use Rattle.std.specs.Str.Parse.{digits_value}
+use Rattle.channel_fsm.specs.declared.Sub.{Sub}
+use Rattle.channel_fsm.specs.declared.Sub.TheVariants.{Full, Half0, Half1}
 use Rattle.channel_fsm.specs.declared.ChanId.{ChanId}
 use Rattle.attempt_journal.specs.declared.Timer.TheVariants as timer
 use Rattle.radio_book.specs.declared.event.Kind.{Kind}
@@ -31,11 +33,23 @@ is_plain text = list_all is_ascii_digit text && (nat_lt (length text) 2 || not (
 abbrev pub number_of : ℕ → List ℕ → Option ℕ
 number_of limit text = if is_plain text && (nat_lt 0 (length text) && nat_lt (digits_value 10 text) limit) then Some (digits_value 10 text) else None
 
--- CELL/TRX/TN
+-- the half of a timeslot that a text writes
+abbrev pub half_of : List ℕ → Option Sub
+half_of text = if bytes_eq text (codes "0") then Some Half0 else if bytes_eq text (codes "1") then Some Half1 else None
+
+-- TN is the whole timeslot, TN/0 and TN/1 are its halves
+abbrev pub timeslot_at : Option (List ℕ × List ℕ) → List ℕ → Option (ℕ × Sub)
+timeslot_at None text = number_of 256 text >>= (λ tn. Some (tn, Full))
+timeslot_at (Some p) text = number_of 256 p.0 >>= (λ tn. half_of p.1 >>= (λ sub. Some (tn, sub)))
+
+unfoldable pub timeslot_of : List ℕ → Option (ℕ × Sub)
+timeslot_of text = timeslot_at (cut_at 47 text) text
+
+-- CELL/TRX/ and a timeslot or a half of one
 unfoldable pub channel_of : List ℕ → Option ChanId
 channel_of text =
-    cut_at 47 text >>= (λ p. cut_at 47 p.1 >>= (λ q. number_of 256 p.0 >>= (λ cell. number_of 256 q.0 >>= (λ trx. number_of 256 q.1 >>= (λ tn.
-    Some (record { cell = cell; trx = trx; tn = tn }))))))
+    cut_at 47 text >>= (λ p. cut_at 47 p.1 >>= (λ q. number_of 256 p.0 >>= (λ cell. number_of 256 q.0 >>= (λ trx. timeslot_of q.1 >>= (λ slot.
+    Some (record { cell = cell; trx = trx; tn = slot.0; sub = slot.1 }))))))
 
 abbrev pub kind_of : List ℕ → Option Kind
 kind_of text = if bytes_eq text (codes "internal") then Some kind.Internal else if bytes_eq text (codes "incoming") then Some kind.Incoming else None

@@ -8,7 +8,7 @@ ghost use Rattle.radio_book.specs.declared.event.Event.{Event};
 ghost use Rattle.event_text.specs.Text.{event_text, Fits};
 ghost use Rattle.event_text.specs.Reading as said;
 
-use channel_fsm::ChanId;
+use channel_fsm::{ChanId, Sub};
 use radio_book::event::{Event, Kind, Timer, Why};
 
 /// A text up to its first blank, and what stands behind that. `None` where it has no blank.
@@ -61,18 +61,38 @@ fn octet(text: &str) -> Option<u8>
     }
 }
 
-/// `CELL/TRX/TN`
+/// The half of a timeslot that a text writes.
+fn half(text: &str) -> Option<Sub>
+    ensures { result ≡ said.half_of text.now }
+{
+    match text {
+        "0" => Some(Sub::Half0),
+        "1" => Some(Sub::Half1),
+        _ => None,
+    }
+}
+
+/// `TN` is the whole timeslot, `TN/0` and `TN/1` are its halves.
+#[tactic(auto, unfolding(crate::specs::Reading::timeslot_of))]
+fn timeslot(text: &str) -> Option<(u8, Sub)>
+    ensures { result ≡ said.timeslot_of text.now }
+{
+    match first_part(text) {
+        None => Some((octet(text)?, Sub::Full)),
+        Some((tn, behind)) => Some((octet(tn)?, half(behind)?)),
+    }
+}
+
+/// `CELL/TRX/` and a timeslot or a half of one.
 #[tactic(auto, unfolding(crate::specs::Reading::channel_of))]
 fn channel(text: &str) -> Option<ChanId>
     ensures { result ≡ said.channel_of text.now }
 {
     let (cell, text) = first_part(text)?;
-    let (trx, tn) = first_part(text)?;
-    Some(ChanId {
-        cell: octet(cell)?,
-        trx: octet(trx)?,
-        tn: octet(tn)?,
-    })
+    let (trx, text) = first_part(text)?;
+    let (cell, trx) = (octet(cell)?, octet(trx)?);
+    let (tn, sub) = timeslot(text)?;
+    Some(ChanId { cell, trx, tn, sub })
 }
 
 /// The kind of an attempt of this name.

@@ -38,7 +38,7 @@ impl fmt::Display for WhyText {
 }
 
 /// An event in words: its kind in small letters and what it names, with one blank between any two. Numbers are in
-/// decimal digits, channels as `cell/trx/tn`.
+/// decimal digits, channels as `cell/trx/tn`, with `/0` or `/1` behind it for a half.
 #[derive(Clone, Copy)]
 pub struct EventText(pub Event);
 

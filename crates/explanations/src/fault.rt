@@ -205,7 +205,7 @@ fn words(kind: Kind) -> &'static str {
 fn element_words(number: usize) -> &'static str {
     match number {
         1 => "its length",
-        2 => "no full rate channel",
+        2 => "no traffic channel",
         3 => "the channel hops",
         4 => "out of range",
         _ => "unknown",

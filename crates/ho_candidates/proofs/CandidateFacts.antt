@@ -1,9 +1,9 @@
 -- Which cells are no candidates, and the candidates below a cell.
-use Rattle.std.proofs.Common.{◌≡◌, ◌≢◌, ◌<◌, ◌≤◌, ◌+◌, ◌*◌, ◌-◌, ◌/◌, ◌↔◌, ◌⊎◌, inl, inr, ℕ, zero, suc, Bool, true, false, max, nat_lt, if◌then◌else◌, List, [], length, Option, Some, None, option_map, slice_get, All, AllPairs, Contains, get_or, refl, sym, ◌∙◌, ap, subst, arith}
+use Rattle.std.proofs.Common.{◌≡◌, ◌<◌, ◌≤◌, ◌+◌, ◌*◌, ◌-◌, ◌/◌, ◌↔◌, ◌⊎◌, inl, inr, ℕ, true, false, max, nat_lt, if◌then◌else◌, List, [], length, Option, Some, option_map, slice_get, All, AllPairs, Contains, get_or, sym, ◌∙◌, ap, subst, arith}
 use Rattle.std.proofs.lemmas.Option.{same_Some, slice_get_within}
 use Rattle.std.proofs.lemmas.List.Elements.{Contains-get_or}
 use Rattle.cell_table.specs.Limits.{first_outside}
-use Rattle.cell_table.specs.Views.{CellView, SiteView}
+use Rattle.cell_table.specs.Views.{SiteView}
 use Rattle.cell_table.specs.declared.tables.CellIdentity.{CellIdentity}
 use Rattle.cell_table.specs.Site.{identity_at}
 use Rattle.cell_table.proofs.Lookups.{identity_of_part}

@@ -1,5 +1,5 @@
 -- The layer 3 information of a HANDOVER COMMAND that was read fits a DATA REQUEST.
-use Rattle.std.proofs.Common.{ℕ, List, length, arith}
+use Rattle.std.proofs.Common.{ℕ, List, arith}
 use Rattle.bssmap_messages.specs.declared.message.Bssmap.{Bssmap}
 use Rattle.bssmap_messages.specs.declared.message.Bssmap.TheVariants.{HandoverRequest, HandoverRequired, HandoverRequestAck, HandoverCommand, HandoverComplete, HandoverFailure, HandoverPerformed, HandoverRequiredReject, HandoverDetect, ClearCommand, ClearComplete, ClearRequest}
 use Rattle.bssmap_messages.specs.Texts.{IsTextOf}

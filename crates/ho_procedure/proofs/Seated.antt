@@ -1,6 +1,8 @@
 -- A desk with its only caller.
 use Rattle.std.proofs.Common.{◌≡◌, ◌≢◌, ◌↔◌, IsTrue, ℕ, List, [], ◌∷◌, ◌++◌, Option, Some, None, Result, Ok, Err, IfOk, IfErr, OnErr, IfSome, MatchOption, refl, sym, subst}
 use Rattle.channel_fsm.specs.declared.ChanId.{ChanId}
+use Rattle.channel_fsm.specs.declared.Rate.{Rate}
+use Rattle.channel_fsm.specs.Slots.{rate_of}
 use Rattle.radio_book.specs.declared.event.Kind.{Kind}
 use Rattle.radio_book.specs.declared.event.Event.{Event}
 use Rattle.radio_book.specs.declared.event.Event.TheVariants.{Take, Reserve}
@@ -46,17 +48,17 @@ take_opens d d' X Y (Ok (Some r)) judged none same = judged.opening
 take_opens d d' X Y (Ok None) judged none same = (none refl).0.opening
 take_opens d d' X Y (Err f) judged none same = same.0.opening
 
-pub take_chooses : (d d' : DeskState) (c : ℕ) (kind : Kind) (cell : ℕ) (X : Type 0) (result : Result (Option Receipt) DeskFault)
-    → Leads d.opening d.history d.book → (result ≡ Ok None → free.NoneFree d.book cell) → (result ≡ Ok None → IsSameDesk d d' × X)
-    → IfOk result (λ answer. IfSome answer (λ r. TakesFree d.book c kind cell r.event)) → IfOk result (λ answer. IfSome answer (λ r. IsJudged d r d'))
-    → IfOk result (λ answer. MatchOption answer ((d'.history ≡ d.history) × IsTrueAfter d.opening d.history (NoneFree cell)) (λ r. ((x : ChanId) × (x.cell ≡ cell) × (r.event ≡ Take c kind x)) × IsTrueAfter d.opening d.history (Chosen r.event) × (d'.history ≡ d.history ++ (r.event, r.reply) ∷ [])))
-take_chooses d d' c kind cell X (Err f) legal none same takes judged = tt
-take_chooses d d' c kind cell X (Ok None) legal none same takes judged = ((same refl).0.history, (d.book, legal, none refl))
-take_chooses d d' c kind cell X (Ok (Some r)) legal none same takes judged =
+pub take_chooses : (d d' : DeskState) (c : ℕ) (kind : Kind) (cell : ℕ) (rate : Rate) (X : Type 0) (result : Result (Option Receipt) DeskFault)
+    → Leads d.opening d.history d.book → (result ≡ Ok None → free.NoneFreeAt d.book cell rate) → (result ≡ Ok None → IsSameDesk d d' × X)
+    → IfOk result (λ answer. IfSome answer (λ r. TakesFree d.book c kind cell rate r.event)) → IfOk result (λ answer. IfSome answer (λ r. IsJudged d r d'))
+    → IfOk result (λ answer. MatchOption answer ((d'.history ≡ d.history) × IsTrueAfter d.opening d.history (NoneFree cell rate)) (λ r. ((x : ChanId) × (x.cell ≡ cell) × (rate_of x.sub ≡ rate) × (r.event ≡ Take c kind x)) × IsTrueAfter d.opening d.history (Chosen r.event) × (d'.history ≡ d.history ++ (r.event, r.reply) ∷ [])))
+take_chooses d d' c kind cell rate X (Err f) legal none same takes judged = tt
+take_chooses d d' c kind cell rate X (Ok None) legal none same takes judged = ((same refl).0.history, (d.book, legal, none refl))
+take_chooses d d' c kind cell rate X (Ok (Some r)) legal none same takes judged =
     let x = takes.0 in
-    let here : IsFreeIn d.book x.cell x = subst (λ k. IsFreeIn d.book k x) (sym takes.1.in_cell) takes.1 in
+    let here : IsFreeIn d.book x.cell x = subst (λ k. IsFreeIn d.book k x) (sym takes.1.free.in_cell) takes.1.free in
     let there : IsThere d.book r.event = subst (λ e. IsThere d.book e) (sym takes.2) here in
-    ((x, takes.1.in_cell, takes.2), (d.book, legal, there), judged.history)
+    ((x, takes.1.free.in_cell, takes.1.rate, takes.2), (d.book, legal, there), judged.history)
 
 pub reserve_chooses : (d d' : DeskState) (c : ℕ) (result : Result Receipt DeskFault)
     → Leads d.opening d.history d.book → IfOk result (λ r. ReservesFree d.book c r.event) → IfOk result (λ r. IsJudged d r d')

@@ -1,7 +1,8 @@
--- What a view says of the book that it asks: what it may choose there, a free channel of a cell (TS 48.058 clause 4) or a
--- free Handover Reference (TS 44.018 clause 10.5.2.15), which book it began with, that the desk doesn't know the view's last
--- receipt, and for which events it may be refused memory.
+-- What a view says of the book that it asks: what it may choose there, a channel of a cell that is free at a rate
+-- (TS 48.058 clause 4) or a free Handover Reference (TS 44.018 clause 10.5.2.15), which book it began with, that the desk
+-- doesn't know the view's last receipt, and for which events it may be refused memory.
 use Rattle.std.specs.Prelude.{◌≡◌, ℕ, IsTrue, List}
+use Rattle.channel_fsm.specs.declared.Rate.{Rate}
 use Rattle.radio_book.specs.declared.event.Event.{Event}
 use Rattle.radio_book.specs.declared.event.Event.TheVariants.{Open, Clear, Look, Take, Reserve, Activate, Command, Complete, Undo, Confirm, Refuse, Detect, Released, Owner, Require, Order, Left}
 use Rattle.radio_book.specs.declared.event.Reply.{Reply}
@@ -19,10 +20,11 @@ use Rattle.radio_desk.specs.declared.desk.DeskFault.TheVariants.{Foreign, NoMemo
 abbrev pub Entry : Type 0
 Entry = Event × Reply
 
--- No channel of a cell is free; this Take or Reserve chooses what is; the book began as this one; the desk doesn't know the
--- view's last receipt, which is of this place (counted from 0); or memory may be refused where this event is asked.
+-- No channel of a cell is free at this rate; this Take or Reserve chooses what is; the book began as this one; the desk
+-- doesn't know the view's last receipt, which is of this place (counted from 0); or memory may be refused where this event
+-- is asked.
 pub data Claim : Type 0 where
-  NoneFree : ℕ → Claim
+  NoneFree : ℕ → Rate → Claim
   Chosen : Event → Claim
   Opening : State → Claim
   UnknownReceipt : ℕ → Claim
@@ -55,7 +57,7 @@ MayLackRoom b e = IsTrue (is_owed e) → IsTrue (is_accepted (reply_to b e)) →
 -- A claim is true of the book that the entries lead to, or of the opening one, from which they lead. Where nobody else asks
 -- the desk, it knows each receipt.
 abbrev pub IsTrueAfter : State → List Entry → Claim → Type 0
-IsTrueAfter opening log (NoneFree cell) = (b : State) × Leads opening log b × free.NoneFree b cell
+IsTrueAfter opening log (NoneFree cell rate) = (b : State) × Leads opening log b × free.NoneFreeAt b cell rate
 IsTrueAfter opening log (Chosen e) = (b : State) × Leads opening log b × IsThere b e
 IsTrueAfter opening log (Opening book) = book ≡ opening
 IsTrueAfter opening log (UnknownReceipt place) = ⊥

@@ -1,5 +1,8 @@
 -- The messages of the procedure, each in its canonical text.
 use Rattle.std.specs.Prelude.{ℕ, Bool, true, false, nat_lt, if◌then◌else◌, List, [], ◌∷◌, Option, Some, None, option_map, option_and_then, slice_get}
+use Rattle.channel_fsm.specs.declared.Rate.{Rate}
+use Rattle.channel_fsm.specs.declared.Rate.TheVariants.{Full, Half}
+use Rattle.channel_fsm.specs.Slots.{rate_of}
 use Rattle.channel_fsm.specs.declared.ChanId.{ChanId}
 use Rattle.cell_table.specs.declared.tables.CellIdentity.{CellIdentity}
 use Rattle.cell_table.specs.Site.{SiteView, CellView, TrxView, is_traffic, identity_at}
@@ -20,25 +23,26 @@ use Rattle.ho_procedure.specs.Sent.{Sent, OnAbis, OnA}
 
 -- Messages on Abis (TS 48.058).
 
--- a message about a channel: it goes to the channel's TRX and names its timeslot
+-- a message about a channel: it goes to the channel's TRX and names its timeslot, or the half of it
 abbrev pub about : ChanId → (ChanBits → Rsl Unit) → Sent
-about x message = OnAbis x.cell x.trx (abis.canonical_text (message (record { tn = x.tn })))
+about x message = OnAbis x.cell x.trx (abis.canonical_text (message (record { tn = x.tn; sub = x.sub })))
 
 -- a message can name the timeslot of the channel (clause 9.3.1)
 abbrev pub is_nameable : ChanId → Bool
 is_nameable x = nat_lt x.tn 8
 
--- full-rate speech, version 1, without discontinuous transmission (clause 9.3.6)
-abbrev pub speech : List ℕ
-speech = 0 ∷ 1 ∷ 8 ∷ 1 ∷ []
+-- speech, version 1, at the full rate (Bm) or half of it (Lm), without discontinuous transmission (clause 9.3.6)
+abbrev pub speech : Rate → List ℕ
+speech Full = 0 ∷ 1 ∷ 8 ∷ 1 ∷ []
+speech Half = 0 ∷ 1 ∷ 9 ∷ 1 ∷ []
 
 -- CHANNEL ACTIVATION for an immediate assignment, type 0 (clauses 8.4.1 and 9.3.3)
 abbrev pub activation : ChanId → Sent
-activation x = about x (λ channel. ChannelActivation channel 0 speech None)
+activation x = about x (λ channel. ChannelActivation channel 0 (speech (rate_of x.sub)) None)
 
 -- CHANNEL ACTIVATION for an asynchronous handover, type 2, with its reference (clauses 8.4.1, 9.3.3 and 9.3.9)
 abbrev pub target_activation : ChanId → ℕ → Sent
-target_activation x n = about x (λ channel. ChannelActivation channel 2 speech (Some n))
+target_activation x n = about x (λ channel. ChannelActivation channel 2 (speech (rate_of x.sub)) (Some n))
 
 -- RF CHANNEL RELEASE (clause 8.4.14)
 abbrev pub release : ChanId → Sent
@@ -57,7 +61,7 @@ to_mobile x message = data_request x (rr_text message)
 -- (10.5.2.5a), the reference (10.5.2.15), and the cell's power level, the handover access not left out (10.5.2.28a)
 abbrev pub handover_command : CellView → TrxView → ChanId → ℕ → Rr
 handover_command cell trx x n =
-    HandoverCommand (record { arfcn = cell.identity.bcch; ncc = cell.identity.ncc; bcc = cell.identity.bcc }) (record { tn = x.tn; tsc = cell.identity.bcc; carrier = trx.arfcn }) n
+    HandoverCommand (record { arfcn = cell.identity.bcch; ncc = cell.identity.ncc; bcc = cell.identity.bcc }) (record { tn = x.tn; sub = x.sub; tsc = cell.identity.bcc; carrier = trx.arfcn }) n
     (record { atc = false; level = cell.power })
 
 -- the command to a channel of the site; to one that isn't its traffic channel there is none

@@ -18,6 +18,6 @@ channel_number (MeasurementResult channel number uplink power layer3) = channel
 channel_number (RfChannelRelease channel) = channel
 channel_number (RfChannelReleaseAck channel) = channel
 
--- The channel of a message from a TRX of a cell: the timeslot that its channel number names.
+-- The channel of a message from a TRX of a cell: the timeslot, or the half of it, that its channel number names.
 abbrev pub chan_of : {A : Type 0} → ℕ → ℕ → Rsl A → ChanId
-chan_of cell trx message = record { cell = cell; trx = trx; tn = (channel_number message).tn }
+chan_of cell trx message = record { cell = cell; trx = trx; tn = (channel_number message).tn; sub = (channel_number message).sub }

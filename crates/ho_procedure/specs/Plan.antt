@@ -1,6 +1,8 @@
 -- Plans: what a controller asks of the book and what it sends, each step by the replies before it.
-use Rattle.std.specs.Prelude.{◌≡◌, ◌⊎◌, ◌↔◌, ℕ, ◌==◌, if◌then◌else◌, Bool, true, false, List, [], ◌∷◌, ◌++◌, AllPairs, Contains, Option, Some, None}
+use Rattle.std.specs.Prelude.{◌≡◌, ◌⊎◌, ◌↔◌, ℕ, ◌==◌, if◌then◌else◌, Bool, List, [], ◌∷◌, ◌++◌, AllPairs, Contains, Option, Some, None}
 use Rattle.channel_fsm.specs.declared.ChanId.{ChanId}
+use Rattle.channel_fsm.specs.declared.Rate.{Rate}
+use Rattle.channel_fsm.specs.Slots.{rate_of}
 use Rattle.cell_table.specs.Site.{SiteView}
 use Rattle.rr_elements.specs.MeasResults.{Results}
 use Rattle.ho_candidates.specs.declared.listed.Candidate.{Candidate}
@@ -10,7 +12,7 @@ use Rattle.radio_book.specs.declared.event.Kind.{Kind}
 use Rattle.radio_book.specs.declared.event.Event.{Event}
 use Rattle.radio_book.specs.declared.event.Event.TheVariants.{Open, Clear, Look, Take, Reserve, Activate, Command, Complete, Undo, Confirm, Refuse, Detect, Released, Owner, Require, Order, Left}
 use Rattle.radio_book.specs.declared.event.Reply.{Reply}
-use Rattle.radio_book.specs.declared.event.Reply.TheVariants.{Done, Record, Owned, Refused}
+use Rattle.radio_book.specs.Kinds.{is_accepted}
 use Rattle.ho_procedure.specs.Claims.{Entry, Claim, NoneFree, Chosen, MayBeRefused}
 use Rattle.ho_procedure.specs.Sent.{Sent}
 
@@ -21,14 +23,14 @@ pub data Room : Type 0 where
   ForUnread : ℕ → Room
   ForReports : Room
 
--- What is done with one input, step by step: room is made; an event is asked, and the reply decides the next step; some free
--- channel of a cell is taken, or none is free; some free reference is reserved; a message is sent; a call has these last
--- reports from now on; the candidates that such reports make of the cells are gone through in their order.
+-- What is done with one input, step by step: room is made; an event is asked, and the reply decides the next step; some
+-- channel of a cell that is free at a rate is taken, or none is; some free reference is reserved; a message is sent; a call
+-- has these last reports from now on; the candidates that such reports make of the cells are gone through in their order.
 pub data Plan : Type 0 where
   Ends : Plan
   Readies : Room → Plan → Plan
   Asks : Event → (Reply → Plan) → Plan
-  Takes : ℕ → Kind → ℕ → Plan → (ChanId → Reply → Plan) → Plan
+  Takes : ℕ → Kind → ℕ → Rate → Plan → (ChanId → Reply → Plan) → Plan
   Reserves : ℕ → (ℕ → Reply → Plan) → Plan
   Sends : Sent → Plan → Plan
   Notes : ℕ → List Results → Plan → Plan
@@ -39,7 +41,7 @@ pub data Step : Type 0 where
   Readied : Room → Step
   Asked : Event → Reply → Step
   Chose : Event → Reply → Step
-  FoundNone : ℕ → Step
+  FoundNone : ℕ → Rate → Step
   Posted : Sent → Step
   Noted : ℕ → List Results → Step
   Ranked : List Candidate → Step
@@ -54,8 +56,9 @@ abbrev pub Moves : Plan → Step → Plan → Type 0
 Moves Ends s q = ⊥
 Moves (Readies room next) s q = (s ≡ Readied room) × (q ≡ next)
 Moves (Asks e next) s q = (r : Reply) × (s ≡ Asked e r) × (q ≡ next r)
-Moves (Takes c k cell none next) s q =
-    ((s ≡ FoundNone cell) × (q ≡ none)) ⊎ ((x : ChanId) × (r : Reply) × (x.cell ≡ cell) × (s ≡ Chose (Take c k x) r) × (q ≡ next x r))
+Moves (Takes c k cell rate none next) s q =
+    ((s ≡ FoundNone cell rate) × (q ≡ none)) ⊎
+    ((x : ChanId) × (r : Reply) × (x.cell ≡ cell) × (rate_of x.sub ≡ rate) × (s ≡ Chose (Take c k x) r) × (q ≡ next x r))
 Moves (Reserves c next) s q = (n : ℕ) × (r : Reply) × (s ≡ Chose (Reserve c n) r) × (q ≡ next n r)
 Moves (Sends m next) s q = (s ≡ Posted m) × (q ≡ next)
 Moves (Notes c reports next) s q = (s ≡ Noted c reports) × (q ≡ next)
@@ -75,7 +78,7 @@ abbrev pub AsksDesk : Plan → Type 0
 AsksDesk Ends = ⊥
 AsksDesk (Readies room next) = ⊥
 AsksDesk (Asks e next) = Unit {0}
-AsksDesk (Takes c k cell none next) = Unit {0}
+AsksDesk (Takes c k cell rate none next) = Unit {0}
 AsksDesk (Reserves c next) = Unit {0}
 AsksDesk (Sends m next) = ⊥
 AsksDesk (Notes c reports next) = ⊥
@@ -87,7 +90,7 @@ abbrev pub TakesMemory : Plan → Type 0
 TakesMemory Ends = ⊥
 TakesMemory (Readies room next) = Unit {0}
 TakesMemory (Asks e next) = Unit {0}
-TakesMemory (Takes c k cell none next) = Unit {0}
+TakesMemory (Takes c k cell rate none next) = Unit {0}
 TakesMemory (Reserves c next) = Unit {0}
 TakesMemory (Sends m next) = ⊥
 TakesMemory (Notes c reports next) = ⊥
@@ -98,7 +101,7 @@ abbrev pub MayLack : (Claim → Type 0) → Plan → Type 0
 MayLack says Ends = ⊥
 MayLack says (Readies room next) = Unit {0}
 MayLack says (Asks e next) = says (MayBeRefused e)
-MayLack says (Takes c k cell none next) = Unit {0}
+MayLack says (Takes c k cell rate none next) = Unit {0}
 MayLack says (Reserves c next) = Unit {0}
 MayLack says (Sends m next) = ⊥
 MayLack says (Notes c reports next) = ⊥
@@ -121,7 +124,7 @@ abbrev pub entries_in : Step → List Entry
 entries_in (Readied room) = []
 entries_in (Asked e r) = (e, r) ∷ []
 entries_in (Chose e r) = (e, r) ∷ []
-entries_in (FoundNone cell) = []
+entries_in (FoundNone cell rate) = []
 entries_in (Posted m) = []
 entries_in (Noted c reports) = []
 entries_in (Ranked found) = []
@@ -135,7 +138,7 @@ abbrev pub messages_in : Step → List Sent
 messages_in (Readied room) = []
 messages_in (Asked e r) = []
 messages_in (Chose e r) = []
-messages_in (FoundNone cell) = []
+messages_in (FoundNone cell rate) = []
 messages_in (Posted m) = m ∷ []
 messages_in (Noted c reports) = []
 messages_in (Ranked found) = []
@@ -149,7 +152,7 @@ abbrev pub ChoiceIn : (Claim → Type 0) → Step → Type 0
 ChoiceIn says (Readied room) = Unit {0}
 ChoiceIn says (Asked e r) = Unit {0}
 ChoiceIn says (Chose e r) = says (Chosen e)
-ChoiceIn says (FoundNone cell) = says (NoneFree cell)
+ChoiceIn says (FoundNone cell rate) = says (NoneFree cell rate)
 ChoiceIn says (Posted m) = Unit {0}
 ChoiceIn says (Noted c reports) = Unit {0}
 ChoiceIn says (Ranked found) = Unit {0}
@@ -157,13 +160,6 @@ ChoiceIn says (Ranked found) = Unit {0}
 abbrev pub ChoicesAt : (List Entry → Claim → Type 0) → List Entry → List Step → Type 0
 ChoicesAt says log [] = Unit {0}
 ChoicesAt says log (s ∷ t) = ChoiceIn (says log) s × ChoicesAt says (log ++ entries_in s) t
-
--- an event is accepted where its reply isn't a refusal
-abbrev pub is_accepted : Reply → Bool
-is_accepted Done = true
-is_accepted (Record r s) = true
-is_accepted (Owned c) = true
-is_accepted (Refused refusal) = false
 
 -- The call whose reports are dropped once the event is accepted: one that begins, that is served on another channel from
 -- now on or none, or whose attempt is taken back.
@@ -195,7 +191,7 @@ abbrev pub reports_by : ℕ → Step → List Results → List Results
 reports_by call (Readied room) reports = reports
 reports_by call (Asked e r) reports = dropped_if (is_accepted r) (call_dropped e) call reports
 reports_by call (Chose e r) reports = reports
-reports_by call (FoundNone cell) reports = reports
+reports_by call (FoundNone cell rate) reports = reports
 reports_by call (Posted m) reports = reports
 reports_by call (Noted c now) reports = if c == call then now else reports
 reports_by call (Ranked found) reports = reports

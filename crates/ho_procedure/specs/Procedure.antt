@@ -3,6 +3,9 @@
 -- notes, is made before its first event that changes the book; a row that sends nothing makes none.
 use Rattle.std.specs.Prelude.{ℕ, ◌==◌, ◌%◌, Bool, true, false, if◌then◌else◌, not, ◌&&◌, ◌||◌, nat_lt, List, [], ◌∷◌, length, Option, Some, None, is_some}
 use Rattle.std.specs.List.{position}
+use Rattle.channel_fsm.specs.declared.Rate.{Rate}
+use Rattle.channel_fsm.specs.declared.Rate.TheVariants.{Full, Half}
+use Rattle.channel_fsm.specs.Slots.{rate_of}
 use Rattle.channel_fsm.specs.declared.ChanId.{ChanId}
 use Rattle.channel_fsm.specs.declared.ChanState.{ChanState}
 use Rattle.channel_fsm.specs.declared.ChanState.TheVariants.{Free, Held, Pending, On, Off}
@@ -36,6 +39,7 @@ use Rattle.rsl_messages.specs.declared.message.Rsl.TheVariants as rsl
 use Rattle.bssmap_messages.specs.declared.message.CellId.{CellId}
 use Rattle.bssmap_messages.specs.declared.message.Bssmap.{Bssmap}
 use Rattle.bssmap_messages.specs.declared.message.Bssmap.TheVariants as bssmap
+use Rattle.ho_procedure.specs.declared.requests.PermittedRates.{PermittedRates}
 use Rattle.ho_procedure.specs.declared.exchange.Line.{Line}
 use Rattle.ho_procedure.specs.declared.exchange.Line.TheVariants as line
 use Rattle.ho_procedure.specs.Messages.{is_nameable, activation, target_activation, release, to_mobile, data_request, command_to, channel_release, cell_id_at, clear_request, clear_complete, handover_performed, handover_required, handover_request_ack, handover_detect, handover_complete, handover_failure}
@@ -79,6 +83,18 @@ nothing_more reply = Ends
 -- a station's event, by the call that it concerns
 unfoldable pub owned : Event → (ℕ → Plan) → Plan
 owned e next = Asks e (if_owned next)
+
+-- a plan that goes on where there is no such call
+abbrev pub if_no_call : Plan → Refusal → Plan
+if_no_call next NoCall = next
+if_no_call next CallExists = Ends
+if_no_call next WrongPhase = Ends
+if_no_call next NoChannel = Ends
+if_no_call next SameCell = Ends
+if_no_call next (ChannelBusy x) = Ends
+if_no_call next (RefBusy cell n) = Ends
+if_no_call next (Unexpected x) = Ends
+if_no_call next NotArmed = Ends
 
 -- a call, by what the book has of it
 unfoldable pub looked : ℕ → (CallRecord → Option ChanState → Plan) → Plan
@@ -157,14 +173,27 @@ if_cell (Some cell) next = next cell
 unfoldable pub require_plan : ℕ → CellId → Plan
 require_plan c cell = Readies (ForMessages 1) (once_done (event.Require c) (Sends (handover_required c cell) Ends))
 
--- A handover begins to a cell of the site. Where an own cell has no free channel, this plan is next.
-unfoldable pub start_plan : SiteView → ℕ → ℕ → Plan → Plan
-start_plan site c cell none =
-    if nat_lt cell (length site.cells) then Readies (ForMessages 1) (Takes c kind.Internal cell none (taken_plan c)) else if_cell (cell_id_at site cell) (require_plan c)
+-- A handover begins to a cell of the site, to a channel of this rate where the cell is an own one. Where no such channel is
+-- free, this plan is next.
+unfoldable pub start_plan : SiteView → ℕ → ℕ → Rate → Plan → Plan
+start_plan site c cell rate none =
+    if nat_lt cell (length site.cells) then Readies (ForMessages 1) (Takes c kind.Internal cell rate none (taken_plan c)) else if_cell (cell_id_at site cell) (require_plan c)
 
--- An operator asks for a handover.
-abbrev pub handover_plan : SiteView → ℕ → ℕ → Plan
-handover_plan site c cell = start_plan site c cell Ends
+-- the rate of the channel on which a call is served; a call that is served on none is to have the full rate
+abbrev pub serving_rate : Option ChanId → Rate
+serving_rate None = Full
+serving_rate (Some x) = rate_of x.sub
+
+-- what follows the look at a call that an operator moves: it keeps its rate. The book answers for a call that isn't there.
+abbrev pub move_rest : SiteView → ℕ → ℕ → Reply → Plan
+move_rest site c cell Done = Ends
+move_rest site c cell (Record r s) = start_plan site c cell (serving_rate r.serving) Ends
+move_rest site c cell (Owned d) = Ends
+move_rest site c cell (Refused refusal) = if_no_call (start_plan site c cell Full Ends) refusal
+
+-- An operator asks for a handover to a cell, which has to be one of the site's, own or outside.
+unfoldable pub handover_plan : SiteView → ℕ → ℕ → Plan
+handover_plan site c cell = if is_some (cell_id_at site cell) then Asks (event.Look c) (move_rest site c cell) else Ends
 
 -- RF CHANNEL RELEASE of an attempt's target (TS 48.058 clause 4.7), where it was switched on
 unfoldable pub release_target : Option Attempt → Plan → Plan
@@ -351,20 +380,20 @@ detect_plan x = Readies (ForMessages 1) (owned (event.Detect x) (λ c. looked c 
 -- MEASUREMENT REPORT (TS 44.018 clause 9.1.21) in a MEASUREMENT RESULT (TS 48.058 clause 8.4.8): where the call is served
 -- on the channel, the report counts; a valid one starts a handover to the first candidate that has a free channel
 
-unfoldable pub try_plan : SiteView → ℕ → List Candidate → Plan
-try_plan site c [] = Ends
-try_plan site c (k ∷ ks) = start_plan site c k.cell (try_plan site c ks)
+unfoldable pub try_plan : SiteView → ℕ → Rate → List Candidate → Plan
+try_plan site c rate [] = Ends
+try_plan site c rate (k ∷ ks) = start_plan site c k.cell rate (try_plan site c rate ks)
 
 -- the call's last reports are these from now on
-unfoldable pub rank_plan : SiteView → ℕ → ℕ → List Results → Results → Option Attempt → Plan
-rank_plan site c cell reports m attempt =
-    Notes c reports (if is_valid m && not (is_some attempt) then Ranks site reports cell (try_plan site c) else Ends)
+unfoldable pub rank_plan : SiteView → ℕ → ChanId → List Results → Results → Option Attempt → Plan
+rank_plan site c x reports m attempt =
+    Notes c reports (if is_valid m && not (is_some attempt) then Ranks site reports x.cell (try_plan site c (rate_of x.sub)) else Ends)
 
 unfoldable pub report_plan : SiteView → (ℕ → List Results) → ChanId → Results → Plan
 report_plan site reports x m =
     Readies ForReports
     (owned (event.Owner x)
-    (λ c. looked c (λ r s. if is_serving x r && is_on s then rank_plan site c x.cell (with_report site.handover.window (reports c) m) m r.attempt else Ends)))
+    (λ c. looked c (λ r s. if is_serving x r && is_on s then rank_plan site c x (with_report site.handover.window (reports c) m) m r.attempt else Ends)))
 
 -- HANDOVER COMPLETE (TS 44.018 clause 3.4.4.3) on the target: the old channel is released, and HANDOVER PERFORMED sent
 -- (TS 48.008 clause 3.1.7); or HANDOVER COMPLETE with the mobile's RR cause, where the call comes from another controller
@@ -426,17 +455,6 @@ return_plan x cause = owned (event.Owner x) (λ c. looked c (λ r s. if is_servi
 abbrev pub release_cause : ℕ → ℕ
 release_cause cause = if cause == call_control then normal_event else abnormal_release
 
-abbrev pub if_no_call : Plan → Refusal → Plan
-if_no_call next NoCall = next
-if_no_call next CallExists = Ends
-if_no_call next WrongPhase = Ends
-if_no_call next NoChannel = Ends
-if_no_call next SameCell = Ends
-if_no_call next (ChannelBusy x) = Ends
-if_no_call next (RefBusy cell n) = Ends
-if_no_call next (Unexpected x) = Ends
-if_no_call next NotArmed = Ends
-
 -- the call has left, and its channel is released
 unfoldable pub left_plan : ℕ → Option ChanId → Plan
 left_plan c serving = if_named serving (λ x. once_done (event.Left c) (Sends (release x) (Sends (clear_complete c) Ends)))
@@ -452,20 +470,31 @@ unfoldable pub clear_command_plan : ℕ → ℕ → Plan
 clear_command_plan c cause = Readies (ForMessages 4) (Asks (event.Look c) (clear_command_rest c cause))
 
 -- HANDOVER REQUEST (TS 48.008 clause 3.1.5.2): a call is to come from another controller. It is turned away with no radio
--- resource available where it wants another channel than a full-rate one for speech, or its cell has no free channel; with
--- ciphering algorithm not supported where it must be ciphered; with invalid message contents where the cell isn't an own
--- one.
+-- resource available where it wants another channel than one for speech, or its cell has none that is free at a rate that
+-- it permits; with ciphering algorithm not supported where it must be ciphered; with invalid message contents where the cell
+-- isn't an own one.
 
 -- the channel type asks for speech (clause 3.2.2.11: the low four bits of its first octet)
 abbrev pub is_speech : List ℕ → Bool
 is_speech [] = false
 is_speech (indicator ∷ rest) = indicator % 16 == 1
 
--- it asks for a half-rate channel alone (its second octet)
-abbrev pub is_half_rate : List ℕ → Bool
-is_half_rate [] = false
-is_half_rate (indicator ∷ []) = false
-is_half_rate (indicator ∷ rate ∷ rest) = rate == 9
+abbrev pub only : Rate → PermittedRates
+only rate = record { preferred = rate; other = None }
+
+abbrev pub preferring : Rate → Rate → PermittedRates
+preferring rate other = record { preferred = rate; other = Some other }
+
+-- the rates that it permits (its second octet): 09 the half rate alone, 0A and 0F the full rate preferred, 0B the half rate
+-- preferred; all others ask for the full rate
+abbrev pub rates_by : ℕ → PermittedRates
+rates_by octet =
+    if octet == 9 then only Half else (if octet == 10 || octet == 15 then preferring Full Half else (if octet == 11 then preferring Half Full else only Full))
+
+abbrev pub rates_of : List ℕ → PermittedRates
+rates_of [] = only Full
+rates_of (indicator ∷ []) = only Full
+rates_of (indicator ∷ octet ∷ rest) = rates_by octet
 
 -- the encryption information permits a call that isn't ciphered (clause 3.2.2.10: bit 1 of its first octet)
 abbrev pub permits_clear : List ℕ → Bool
@@ -484,13 +513,18 @@ names id cell = (cell.ci == id.ci) && is_in_area id.lac cell.lac
 abbrev pub own_cell : SiteView → CellId → Option ℕ
 own_cell site id = position (λ cell. names id cell.identity) site.cells
 
-unfoldable pub admit_plan : ℕ → Option ℕ → Plan
-admit_plan c None = turn_away c invalid_message_contents
-admit_plan c (Some cell) = Takes c kind.Incoming cell (turn_away c no_radio_resource_available) (taken_plan c)
+-- none is free at the preferred rate: the other one is tried, where it is permitted
+unfoldable pub second_choice : ℕ → ℕ → Option Rate → Plan
+second_choice c cell None = turn_away c no_radio_resource_available
+second_choice c cell (Some rate) = Takes c kind.Incoming cell rate (turn_away c no_radio_resource_available) (taken_plan c)
+
+unfoldable pub admit_plan : ℕ → PermittedRates → Option ℕ → Plan
+admit_plan c rates None = turn_away c invalid_message_contents
+admit_plan c rates (Some cell) = Takes c kind.Incoming cell rates.preferred (second_choice c cell rates.other) (taken_plan c)
 
 unfoldable pub request_rest : SiteView → ℕ → List ℕ → List ℕ → CellId → Plan
 request_rest site c channel encryption target =
-    if not (is_speech channel) || is_half_rate channel then turn_away c no_radio_resource_available else (if not (permits_clear encryption) then turn_away c ciphering_algorithm_not_supported else admit_plan c (own_cell site target))
+    if not (is_speech channel) then turn_away c no_radio_resource_available else (if not (permits_clear encryption) then turn_away c ciphering_algorithm_not_supported else admit_plan c (rates_of channel) (own_cell site target))
 
 abbrev pub if_new : Plan → Reply → Plan
 if_new next Done = Ends

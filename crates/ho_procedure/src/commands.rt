@@ -5,7 +5,7 @@ ghost use Rattle.rr_messages.specs.declared.message.Rr.TheVariants.{HandoverComm
 
 use bssmap_messages::CellId;
 use cell_table::Site;
-use channel_fsm::ChanId;
+use channel_fsm::{ChanId, Sub};
 use rr_elements::{CellDescription, ChanDescription, Power};
 use rr_messages::Rr;
 use std::alloc::Allocator;
@@ -42,12 +42,13 @@ pub(crate) fn command_to<S: Allocator + Copy>(
         cell,
         site.arfcn(target.cell, target.trx)?,
         target.tn,
+        target.sub,
         reference,
     )
 }
 
-/// HANDOVER COMMAND to a timeslot of a carrier of a cell.
-fn command(cell: TargetCell, carrier: u16, tn: u8, reference: u8) -> Option<Rr>
+/// HANDOVER COMMAND to a timeslot of a carrier of a cell, or a half of it.
+fn command(cell: TargetCell, carrier: u16, tn: u8, sub: Sub, reference: u8) -> Option<Rr>
     requires bcch { cell.bcch < 2 ^ 10 }
     requires ncc { cell.ncc < 2 ^ 3 }
     requires bcc { cell.bcc < 2 ^ 3 }
@@ -56,12 +57,12 @@ fn command(cell: TargetCell, carrier: u16, tn: u8, reference: u8) -> Option<Rr>
     requires timeslot { tn < 2 ^ 3 }
     ensures { result ≡ Some (HandoverCommand
         (record { arfcn = cell.bcch; ncc = cell.ncc; bcc = cell.bcc })
-        (record { tn = tn; tsc = cell.bcc; carrier = carrier }) reference
+        (record { tn = tn; sub = sub; tsc = cell.bcc; carrier = carrier }) reference
         (record { atc = false; level = cell.power })) }
 {
     Some(Rr::HandoverCommand {
         cell: CellDescription::new(cell.bcch, cell.ncc, cell.bcc).ok()?,
-        channel: ChanDescription::new(tn, cell.bcc, carrier).ok()?,
+        channel: ChanDescription::new(tn, sub, cell.bcc, carrier).ok()?,
         reference,
         power: Power::new(false, cell.power).ok()?,
     })

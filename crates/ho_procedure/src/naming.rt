@@ -7,8 +7,8 @@ use rsl_messages::Rsl;
 use std::alloc::Allocator;
 
 /// The channel that a message from a TRX of a cell names (TS 48.058 clause 9.3.1): that TRX, and the timeslot in the
-/// message, which is 0 to 7 where the message was read from octets. Whether the site has it isn't looked at. It takes
-/// no memory.
+/// message or the half of it; the timeslot is 0 to 7 where the message was read from octets. Whether the site has it isn't
+/// looked at. It takes no memory.
 pub fn chan_of<A: Allocator>(cell: u8, trx: u8, message: &Rsl<A>) -> ChanId
     ensures channel { result ≡ chan_of cell trx message.now }
 {
@@ -26,5 +26,6 @@ pub fn chan_of<A: Allocator>(cell: u8, trx: u8, message: &Rsl<A>) -> ChanId
         cell,
         trx,
         tn: channel.tn,
+        sub: channel.sub,
     }
 }

@@ -1,7 +1,7 @@
 //! The messages that a row sends.
 ghost use Rattle.std.specs.Prelude.{◌≡◌, ◌∷◌, ◌++◌, ◌+◌, ◌≤◌, ◌<◌, [], IsSome, OnOk, length, vec_len, vec_capacity};
 ghost use Rattle.ho_procedure.specs.Sent.{all_sent};
-ghost use Rattle.ho_procedure.specs.Messages.{activation, target_activation, release, to_mobile, channel_release, data_request, clear_request, clear_complete, handover_performed, handover_required, handover_request_ack, handover_detect, handover_complete, handover_failure};
+ghost use Rattle.ho_procedure.specs.Messages.{speech, activation, target_activation, release, to_mobile, channel_release, data_request, clear_request, clear_complete, handover_performed, handover_required, handover_request_ack, handover_detect, handover_complete, handover_failure};
 
 use crate::buffers::Buffers;
 use crate::exchange::Outbound;
@@ -11,7 +11,7 @@ use crate::texts::{
 };
 use bssmap_messages::causes::BETTER_CELL;
 use bssmap_messages::{Bssmap, CellId};
-use channel_fsm::ChanId;
+use channel_fsm::{ChanId, Rate};
 use rr_elements::RrCause;
 use rr_messages::Rr;
 use rsl_messages::{ChanBits, Rsl, encode_activation_into};
@@ -25,9 +25,26 @@ const LONGEST_RR: usize = 18;
 /// How many octets a DATA REQUEST has beside the message inside.
 const DATA_REQUEST_HEAD: usize = 9;
 
-/// The mode of a full-rate speech channel: no discontinuous transmission, speech, Bm, version 1
+/// The mode of a speech channel of this rate: no discontinuous transmission, speech, Bm or Lm, version 1
 /// (TS 48.058 clause 9.3.6).
-const SPEECH: [u8; 4] = [0, 1, 8, 1];
+fn speech(rate: Rate) -> [u8; 4]
+    ensures { result ≡ speech rate }
+{
+    match rate {
+        Rate::Full => [0, 1, 8, 1],
+        Rate::Half => [0, 1, 9, 1],
+    }
+}
+
+/// How a message on Abis names a channel on its TRX (TS 48.058 clause 9.3.1).
+fn channel_number(chan: ChanId) -> ChanBits
+    ensures { result ≡ record { tn = chan.tn; sub = chan.sub } }
+{
+    ChanBits {
+        tn: chan.tn,
+        sub: chan.sub,
+    }
+}
 
 /// Messages that are owed, in their order, and room for more. Room is made first, by [`Outbox::make_room`]; then a
 /// message is written into a buffer of its own, which is moved into it, and no memory is asked for.
@@ -112,8 +129,8 @@ impl<A: Allocator + Copy> Outbox<A> {
         ensures room { self.old.room ≤ self.new.room + 1 }
     {
         let mut text = self.buffers.take();
-        let channel = ChanBits { tn: chan.tn };
-        if encode_activation_into(channel, 0, &SPEECH, None, &mut text).is_err() {
+        let channel = channel_number(chan);
+        if encode_activation_into(channel, 0, &speech(chan.sub.rate()), None, &mut text).is_err() {
             unreachable!()
         }
         put_abis(&mut self.messages, chan, text);
@@ -127,8 +144,16 @@ impl<A: Allocator + Copy> Outbox<A> {
         ensures room { self.old.room ≤ self.new.room + 1 }
     {
         let mut text = self.buffers.take();
-        let channel = ChanBits { tn: chan.tn };
-        if encode_activation_into(channel, 2, &SPEECH, Some(reference), &mut text).is_err() {
+        let channel = channel_number(chan);
+        if encode_activation_into(
+            channel,
+            2,
+            &speech(chan.sub.rate()),
+            Some(reference),
+            &mut text,
+        )
+        .is_err()
+        {
             unreachable!()
         }
         put_abis(&mut self.messages, chan, text);
@@ -142,7 +167,7 @@ impl<A: Allocator + Copy> Outbox<A> {
         ensures room { self.old.room ≤ self.new.room + 1 }
     {
         let mut text = self.buffers.take();
-        let channel = ChanBits { tn: chan.tn };
+        let channel = channel_number(chan);
         write_abis(&Rsl::RfChannelRelease { channel }, &mut text);
         put_abis(&mut self.messages, chan, text);
     }
@@ -156,7 +181,7 @@ impl<A: Allocator + Copy> Outbox<A> {
     {
         let mut text = self.buffers.take();
         write_rr(message, &mut self.inner);
-        let channel = ChanBits { tn: chan.tn };
+        let channel = channel_number(chan);
         write_data_request(channel, self.inner.as_slice(), &mut text);
         self.inner.clear();
         put_abis(&mut self.messages, chan, text);
@@ -183,7 +208,7 @@ impl<A: Allocator + Copy> Outbox<A> {
         ensures room { self.old.room ≤ self.new.room + 1 }
     {
         let mut text = mem::replace(&mut self.wide, Vec::new(self.alloc));
-        let channel = ChanBits { tn: chan.tn };
+        let channel = channel_number(chan);
         write_data_request(channel, layer3, &mut text);
         put_abis(&mut self.messages, chan, text);
     }

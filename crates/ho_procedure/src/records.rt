@@ -3,14 +3,14 @@ ghost use Rattle.std.specs.Prelude.{◌≡◌, IfSome, IsSome};
 ghost use Rattle.radio_book.specs.Sound.{target_in};
 ghost use Rattle.radio_book.specs.Table.{is_target};
 ghost use Rattle.ho_procedure.specs.Messages.{is_nameable};
-ghost use Rattle.ho_procedure.specs.Procedure.{is_named, is_serving, is_guarded_by, is_commanded, is_required, is_ordered, awaits_order, awaits_leaving, is_own, names_target, names_releases, is_held, is_on, traffic_cell};
+ghost use Rattle.ho_procedure.specs.Procedure.{is_named, serving_rate, is_serving, is_guarded_by, is_commanded, is_required, is_ordered, awaits_order, awaits_leaving, is_own, names_target, names_releases, is_held, is_on, traffic_cell};
 
 use crate::commands::cell_id_at;
 use crate::work::Shown;
 use attempt_journal::Timer;
 use bssmap_messages::CellId;
 use cell_table::Site;
-use channel_fsm::{ChanId, ChanState};
+use channel_fsm::{ChanId, ChanState, Rate};
 use radio_book::event::{Attempt, AttemptKind, CallRecord, Stage};
 use std::alloc::Allocator;
 
@@ -56,6 +56,16 @@ pub(crate) fn is_serving(chan: ChanId, shown: CallRecord) -> bool
     ensures { result ≡ is_serving chan shown }
 {
     is_target(chan, shown.serving)
+}
+
+/// The rate of the channel on which a call is served; the full rate, where it is served on none.
+pub(crate) fn serving_rate(serving: Option<ChanId>) -> Rate
+    ensures { result ≡ serving_rate serving }
+{
+    match serving {
+        Some(chan) => chan.sub.rate(),
+        None => Rate::Full,
+    }
 }
 
 /// This timer guards an attempt in the stage.

@@ -2,17 +2,33 @@
 ghost use Rattle.std.specs.Prelude.{◌≡◌, false};
 ghost use Rattle.std.specs.Option.{option_map_or};
 ghost use Rattle.cell_table.specs.Site.{identity_at};
-ghost use Rattle.ho_procedure.specs.Procedure.{is_speech, is_half_rate, permits_clear, is_in_area, names, own_cell};
+ghost use Rattle.ho_procedure.specs.Procedure.{is_speech, rates_by, rates_of, permits_clear, is_in_area, names, own_cell};
 
 use bssmap_messages::CellId;
 use cell_table::Site;
+use channel_fsm::Rate;
 use std::alloc::Allocator;
 
 /// Speech, in the low four bits of the first octet of a channel type (TS 48.008 clause 3.2.2.11).
 const SPEECH: u8 = 1;
 
-/// A half-rate channel alone, its second octet.
-const HALF_RATE: u8 = 9;
+/// The second octet of a channel type for speech: which rates are permitted, and which of them is preferred.
+const HALF_RATE_ALONE: u8 = 0x09;
+
+const FULL_RATE_PREFERRED: u8 = 0x0A;
+
+const HALF_RATE_PREFERRED: u8 = 0x0B;
+
+const FULL_RATE_PREFERRED_CHANGES_ALLOWED: u8 = 0x0F;
+
+/// The rates that a channel type permits.
+#[derive(Clone, Copy)]
+pub(crate) struct PermittedRates {
+    /// The one that is tried first.
+    pub(crate) preferred: Rate,
+    /// The one that is tried where none is free at that rate.
+    pub(crate) other: Option<Rate>,
+}
 
 /// A channel type asks for speech.
 pub(crate) fn is_speech(channel: &[u8]) -> bool
@@ -24,13 +40,29 @@ pub(crate) fn is_speech(channel: &[u8]) -> bool
     }
 }
 
-/// A channel type asks for a half-rate channel alone.
-pub(crate) fn is_half_rate(channel: &[u8]) -> bool
-    ensures { result ≡ is_half_rate channel.now }
+/// The rates that a channel type permits by its second octet. All that isn't named here asks for the full rate.
+fn rates_by(octet: u8) -> PermittedRates
+    ensures { result ≡ rates_by octet }
+{
+    let (preferred, other) = match octet {
+        HALF_RATE_ALONE => (Rate::Half, None),
+        FULL_RATE_PREFERRED | FULL_RATE_PREFERRED_CHANGES_ALLOWED => (Rate::Full, Some(Rate::Half)),
+        HALF_RATE_PREFERRED => (Rate::Half, Some(Rate::Full)),
+        _ => (Rate::Full, None),
+    };
+    PermittedRates { preferred, other }
+}
+
+/// The rates that a channel type permits.
+pub(crate) fn rates_of(channel: &[u8]) -> PermittedRates
+    ensures { result ≡ rates_of channel.now }
 {
     match channel {
-        [_, rate, ..] => *rate == HALF_RATE,
-        [_] | [] => false,
+        [_, octet, ..] => rates_by(*octet),
+        [_] | [] => PermittedRates {
+            preferred: Rate::Full,
+            other: None,
+        },
     }
 }
 

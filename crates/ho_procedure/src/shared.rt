@@ -1,9 +1,11 @@
 //! A desk that threads share.
 ghost use Rattle.std.specs.Prelude.{◌≡◌, ◌∷◌, ◌++◌, [], ℕ, length, IfOk, IfSome, MatchOption, OnErr};
 ghost use Rattle.channel_fsm.specs.declared.ChanId.{ChanId};
+ghost use Rattle.channel_fsm.specs.Slots.{rate_of};
 ghost use Rattle.radio_desk.specs.Receipts.{IsRising, Joined, receipted};
 
 use crate::view::DeskView;
+use channel_fsm::Rate;
 use radio_book::event::{Event, Kind};
 use radio_desk::desk::{Desk, DeskFault};
 use radio_desk::seat::{Receipt, Seat};
@@ -98,9 +100,15 @@ impl<R: Wait + Drop, A: Allocator + Copy> DeskView for Shared<R, A> {
     }
 
     #[tactic(auto, using(crate::proofs::Seats::receipted_more))]
-    fn judge_take(&mut self, call: u16, kind: Kind, cell: u8) -> Result<Option<Receipt>, DeskFault>
+    fn judge_take(
+        &mut self,
+        call: u16,
+        kind: Kind,
+        cell: u8,
+        rate: Rate,
+    ) -> Result<Option<Receipt>, DeskFault>
         ensures ok { IfOk result (λ answer. MatchOption answer (self.new ≡ self.old)
-            (λ r. ((x : ChanId) × (x.cell ≡ cell) × (r.event ≡ Event.Take call kind x)) ×
+            (λ r. ((x : ChanId) × (x.cell ≡ cell) × (rate_of x.sub ≡ rate) × (r.event ≡ Event.Take call kind x)) ×
             (receipted self.new ≡ receipted self.old ++ (r.event, r.reply) ∷ []))) }
         ensures receipt { IfOk result (λ answer. IfSome answer (λ r. Joined self.old r self.new)) }
         ensures err { OnErr result (self.new ≡ self.old) }
@@ -109,7 +117,7 @@ impl<R: Wait + Drop, A: Allocator + Copy> DeskView for Shared<R, A> {
         let found = self
             .lock
             .lock(&self.rt)
-            .judge_take(&mut self.seat, call, kind, cell)?;
+            .judge_take(&mut self.seat, call, kind, cell, rate)?;
         if let Some(receipt) = found {
             self.receipts.push_reserved(receipt);
         }

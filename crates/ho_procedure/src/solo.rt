@@ -1,6 +1,7 @@
 //! A desk of one's own.
 ghost use Rattle.std.specs.Prelude.{◌≡◌, ◌⊎◌, ◌∷◌, ◌++◌, [], ℕ, List, Ok, Err, None, IfOk, IfErr, OnErr, IfSome, MatchOption};
 ghost use Rattle.channel_fsm.specs.declared.ChanId.{ChanId};
+ghost use Rattle.channel_fsm.specs.Slots.{rate_of};
 ghost use Rattle.radio_book.specs.declared.event.Event.{Event};
 ghost use Rattle.radio_book.specs.Choice.{TakesFree, ReservesFree};
 ghost use Rattle.radio_book.specs.Choice as free;
@@ -9,6 +10,7 @@ ghost use Rattle.radio_desk.specs.Desk.{IsJudged, LacksRoom};
 ghost use Rattle.ho_procedure.specs.Claims.{Entry, Claim, NoneFree, Chosen, UnknownReceipt, MayBeRefused, IsForeign, IsNoMemory, IsTrueAfter};
 
 use crate::view::DeskView;
+use channel_fsm::Rate;
 use radio_book::event::{Event, Kind};
 use radio_desk::desk::{Desk, DeskFault};
 use radio_desk::seat::{Receipt, Seat};
@@ -80,11 +82,17 @@ impl<A: Allocator + Copy> DeskView for Solo<A> {
         self.desk.judge(&mut Seat::new(), event)
     }
 
-    fn judge_take(&mut self, call: u16, kind: Kind, cell: u8) -> Result<Option<Receipt>, DeskFault>
+    fn judge_take(
+        &mut self,
+        call: u16,
+        kind: Kind,
+        cell: u8,
+        rate: Rate,
+    ) -> Result<Option<Receipt>, DeskFault>
         ensures ok { IfOk result (λ answer. MatchOption answer
             ((self.new.history ≡ self.old.history) ×
-            IsTrueAfter self.old.opening self.old.history (NoneFree cell))
-            (λ r. ((x : ChanId) × (x.cell ≡ cell) × (r.event ≡ Event.Take call kind x)) ×
+            IsTrueAfter self.old.opening self.old.history (NoneFree cell rate))
+            (λ r. ((x : ChanId) × (x.cell ≡ cell) × (rate_of x.sub ≡ rate) × (r.event ≡ Event.Take call kind x)) ×
             IsTrueAfter self.old.opening self.old.history (Chosen r.event) ×
             (self.new.history ≡ self.old.history ++ (r.event, r.reply) ∷ []))) }
         ensures receipt { IfOk result (λ answer. IfSome answer
@@ -92,15 +100,16 @@ impl<A: Allocator + Copy> DeskView for Solo<A> {
         ensures err { OnErr result (self.new.history ≡ self.old.history) }
         ensures foreign { IfErr result (λ f. (place : ℕ) → IsForeign f place →
             IsTrueAfter self.old.opening self.old.history (UnknownReceipt place)) }
-        ensures looked { free.NoneFree self.old.book cell → result ≡ Ok None }
+        ensures looked { free.NoneFreeAt self.old.book cell rate → result ≡ Ok None }
         ensures refused { result ≡ Err DeskFault.NoMemory → LacksRoom self.old ⊎
-            ((e : Event) × TakesFree self.old.book call kind cell e ×
+            ((e : Event) × TakesFree self.old.book call kind cell rate e ×
             NeedsRoom self.old.book (row self.old.book e)) }
         ensures said { (es : List Entry) → (claim : Claim) →
             IsTrueAfter self.new.opening es claim → IsTrueAfter self.old.opening es claim }
     {
         let _entries = self.desk.len();
-        self.desk.judge_take(&mut Seat::new(), call, kind, cell)
+        self.desk
+            .judge_take(&mut Seat::new(), call, kind, cell, rate)
     }
 
     fn judge_reserve(&mut self, call: u16) -> Result<Receipt, DeskFault>

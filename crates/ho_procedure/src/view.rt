@@ -1,9 +1,11 @@
 //! How a controller asks the book.
 ghost use Rattle.std.specs.Prelude.{◌≡◌, ◌∷◌, ◌++◌, [], ℕ, List, IfOk, IfErr, OnErr, IfSome, MatchOption};
 ghost use Rattle.channel_fsm.specs.declared.ChanId.{ChanId};
+ghost use Rattle.channel_fsm.specs.Slots.{rate_of};
 ghost use Rattle.radio_desk.specs.declared.seat.Receipt.{Receipt};
 ghost use Rattle.ho_procedure.specs.Claims.{Entry, Claim, NoneFree, Chosen, UnknownReceipt, MayBeRefused, IsForeign, IsNoMemory};
 
+use channel_fsm::Rate;
 use radio_book::event::{Event, Kind};
 use radio_desk::desk::DeskFault;
 use radio_desk::seat::Receipt;
@@ -41,12 +43,18 @@ pub trait DeskView {
         ensures said { (es : List Entry) → (claim : Claim) →
             says self.new es claim → says self.old es claim };
 
-    /// Asks a Take of some free channel of a cell (`Desk::judge_take`). `None`: no channel of the cell is free, as of
-    /// one that the site lacks, and nothing was asked. Faults as of `judge`.
-    fn judge_take(&mut self, call: u16, kind: Kind, cell: u8) -> Result<Option<Receipt>, DeskFault>
+    /// Asks a Take of some channel of a cell that is free at a rate (`Desk::judge_take`). `None`: no channel of the cell is
+    /// free at that rate, as of a cell that the site lacks, and nothing was asked. Faults as of `judge`.
+    fn judge_take(
+        &mut self,
+        call: u16,
+        kind: Kind,
+        cell: u8,
+        rate: Rate,
+    ) -> Result<Option<Receipt>, DeskFault>
         ensures ok { IfOk result (λ answer. MatchOption answer
-            ((log self.new ≡ log self.old) × says self.old (log self.old) (NoneFree cell))
-            (λ r. ((x : ChanId) × (x.cell ≡ cell) × (r.event ≡ Event.Take call kind x)) ×
+            ((log self.new ≡ log self.old) × says self.old (log self.old) (NoneFree cell rate))
+            (λ r. ((x : ChanId) × (x.cell ≡ cell) × (rate_of x.sub ≡ rate) × (r.event ≡ Event.Take call kind x)) ×
             says self.old (log self.old) (Chosen r.event) ×
             (log self.new ≡ log self.old ++ (r.event, r.reply) ∷ []))) }
         ensures receipt { IfOk result (λ answer. IfSome answer

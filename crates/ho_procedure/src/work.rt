@@ -3,8 +3,9 @@ ghost use Rattle.std.specs.Prelude.{◌≡◌, ◌≤◌, ℕ, List, true, IsTru
 ghost use Rattle.channel_fsm.specs.declared.ChanId.{ChanId};
 ghost use Rattle.ho_candidates.specs.declared.listed.Candidate.{Candidate};
 ghost use Rattle.radio_book.specs.declared.event.Reply.{Reply};
+ghost use Rattle.radio_book.specs.Kinds.{is_accepted};
 ghost use Rattle.ho_procedure.specs.Windows.{with_report};
-ghost use Rattle.ho_procedure.specs.Plan.{Plan, Readies, ForMessages, ForUnread, ForReports, AreCandidates, Asks, Takes, Reserves, Notes, Ranks, is_accepted, call_dropped, dropped_if};
+ghost use Rattle.ho_procedure.specs.Plan.{Plan, Readies, ForMessages, ForUnread, ForReports, AreCandidates, Asks, Takes, Reserves, Notes, Ranks, call_dropped, dropped_if};
 ghost use Rattle.ho_candidates.specs.Candidates.{SomeCandidate};
 ghost use Rattle.ho_procedure.specs.Going.{Goes, Passes, last_reports, stops_at};
 
@@ -12,7 +13,7 @@ use crate::outbox::Outbox;
 use crate::view::DeskView;
 use crate::windows::Windows;
 use cell_table::Site;
-use channel_fsm::{ChanId, ChanState};
+use channel_fsm::{ChanId, ChanState, Rate};
 use ho_candidates::{Candidate, candidates};
 use measurements::Window;
 use radio_book::event::{CallRecord, Event, Kind, Reply};
@@ -71,15 +72,6 @@ fn call_dropped(event: Event) -> Option<u16>
     }
 }
 
-fn is_accepted(reply: Reply) -> bool
-    ensures { result ≡ is_accepted reply }
-{
-    match reply {
-        Reply::Done | Reply::Record(..) | Reply::Owned(_) => true,
-        Reply::Refused(_) => false,
-    }
-}
-
 /// Drops the reports of a call, once an event says so.
 #[tactic(auto, using(crate::proofs::Reporting::but_one))]
 fn drop_reports<A: Allocator>(windows: &mut Windows<A>, event: Event, reply: Reply)
@@ -89,7 +81,7 @@ fn drop_reports<A: Allocator>(windows: &mut Windows<A>, event: Event, reply: Rep
     ensures ready { windows.old.is_ready ≡ true → windows.new.is_ready ≡ true }
 {
     if let Some(call) = call_dropped(event) {
-        if is_accepted(reply) {
+        if reply.is_accepted() {
             windows.clear(call);
         }
     }
@@ -162,26 +154,27 @@ impl<D: DeskView + Drop, A: Allocator + Copy> Work<D, A> {
         Ok(receipt.reply)
     }
 
-    /// Takes some free channel of a cell, or finds that none is free.
+    /// Takes some channel of a cell that is free at a rate, or finds that none is free.
     #[tactic(auto, using(crate::proofs::Going::took, crate::proofs::Going::found_none, crate::proofs::Going::untaken))]
     pub(crate) fn take(
         &mut self,
         call: u16,
         kind: Kind,
         cell: u8,
+        rate: Rate,
     ) -> Result<Option<(ChanId, Reply)>, DeskFault>
         ensures ok { IfOk result (λ answer. MatchOption answer
             ((none : Plan) → (next : ChanId → Reply → Plan) →
-            Passes D.log D.says self.old (Takes call kind cell none next) self.new none)
+            Passes D.log D.says self.old (Takes call kind cell rate none next) self.new none)
             (λ taken. (none : Plan) → (next : ChanId → Reply → Plan) →
-            Passes D.log D.says self.old (Takes call kind cell none next) self.new
+            Passes D.log D.says self.old (Takes call kind cell rate none next) self.new
             (next taken.0 taken.1))) }
         ensures err { IfErr result (λ f. (none : Plan) → (next : ChanId → Reply → Plan) →
-            Goes D.log D.says self.old (Takes call kind cell none next)
+            Goes D.log D.says self.old (Takes call kind cell rate none next)
             self.new (stops_at f)) }
         ensures owed { self.new.owed ≡ self.old.owed }
     {
-        let Some(receipt) = self.view.judge_take(call, kind, cell)? else {
+        let Some(receipt) = self.view.judge_take(call, kind, cell, rate)? else {
             return Ok(None);
         };
         let Event::Take(_, _, chan) = receipt.event else {

@@ -17,7 +17,7 @@ stays_true d d' more n opening grown h = record {
   behind = h.behind ++ more;
   history = grown ∙ (ap (λ front. front ++ more) h.history ∙ append_assoc h.before h.behind more);
   place = h.place;
-  none_free = subst (λ book. IsTrueAfter book h.before (NoneFree n.cell)) (sym opening) h.none_free;
+  none_free = subst (λ book. IsTrueAfter book h.before (NoneFree n.cell n.rate)) (sym opening) h.none_free;
 }
 
 -- notes stay true where the history goes on
@@ -38,7 +38,7 @@ true_after d d' notes (Err e) entries said grown same = still_true d d' notes sa
 
 -- one more is true where no channel of its cell is free
 pub one_more_true : (d d' : DeskState) (notes : List Note) (n : Note) → ((es : List Entry) → (claim : Claim) → IsTrueAfter d'.opening es claim → IsTrueAfter d.opening es claim)
-    → d'.history ≡ d.history → n.place ≡ length d'.history → IsTrueAfter d.opening d.history (NoneFree n.cell) → All (IsTrueNote d) notes → All (IsTrueNote d') (notes ++ n ∷ [])
+    → d'.history ≡ d.history → n.place ≡ length d'.history → IsTrueAfter d.opening d.history (NoneFree n.cell n.rate) → All (IsTrueNote d) notes → All (IsTrueNote d') (notes ++ n ∷ [])
 one_more_true d d' notes n said same place none_free all =
     let here : IsTrueNote d n = record {
       before = d.history;

@@ -7,6 +7,7 @@ use Rattle.std.proofs.lemmas.List.Elements.{All-head, All-tail}
 use Rattle.radio_book.specs.State.{State}
 use Rattle.radio_desk.specs.Desk.{DeskState}
 use Rattle.ho_procedure.specs.Claims.{Entry, IsTrueAfter}
+use Rattle.channel_fsm.specs.declared.Rate.{Rate}
 use Rattle.ho_procedure.specs.Claims as claim
 use Rattle.trace_text.specs.declared.trace.Step.{Step}
 use Rattle.trace_text.specs.declared.trace.Step.TheVariants.{Asked, NoneFree}
@@ -15,27 +16,27 @@ use Rattle.lab_runs.specs.Notes.{IsTrueNote, AreTrueSteps, noted_at, step_of, wi
 use Rattle.lab_runs.specs.Turns.{asked_in}
 
 -- one more note
-one_noted : (b : Bool) (cell : ℕ) (steps more : List Step) → (if b then NoneFree cell ∷ steps else steps) ++ more ≡ (if b then NoneFree cell ∷ (steps ++ more) else steps ++ more)
-one_noted true cell steps more = refl
-one_noted false cell steps more = refl
+one_noted : (b : Bool) (cell : ℕ) (rate : Rate) (steps more : List Step) → (if b then NoneFree cell rate ∷ steps else steps) ++ more ≡ (if b then NoneFree cell rate ∷ (steps ++ more) else steps ++ more)
+one_noted true cell rate steps more = refl
+one_noted false cell rate steps more = refl
 
-noted_more : (place : ℕ) (notes : List Note) (n : Note) → noted_at place (notes ++ n ∷ []) ≡ noted_at place notes ++ (if n.place == place then NoneFree n.cell ∷ [] else [])
+noted_more : (place : ℕ) (notes : List Note) (n : Note) → noted_at place (notes ++ n ∷ []) ≡ noted_at place notes ++ (if n.place == place then NoneFree n.cell n.rate ∷ [] else [])
 noted_more place [] n = refl
 noted_more place (m ∷ notes) n =
-    ap (λ rest. if m.place == place then NoneFree m.cell ∷ rest else rest) (noted_more place notes n) ∙ sym (one_noted (m.place == place) m.cell (noted_at place notes) _)
+    ap (λ rest. if m.place == place then NoneFree m.cell m.rate ∷ rest else rest) (noted_more place notes n) ∙ sym (one_noted (m.place == place) m.cell m.rate (noted_at place notes) _)
 
 -- what a place has of one note more
 noted_next : (place : ℕ) (notes : List Note) (i : ℕ) (d : Note) (b : Bool) → i < length notes → ((get_or notes i d).place == place) ≡ b
-    → noted_at place (take (i + 1) notes) ≡ noted_at place (take i notes) ++ (if b then NoneFree (get_or notes i d).cell ∷ [] else [])
+    → noted_at place (take (i + 1) notes) ≡ noted_at place (take i notes) ++ (if b then NoneFree (get_or notes i d).cell (get_or notes i d).rate ∷ [] else [])
 noted_next place notes i d b l test =
     ap (noted_at place) (take_more notes i d l) ∙ (noted_more place (take i notes) (get_or notes i d)
-    ∙ ap (λ test. noted_at place (take i notes) ++ (if test then NoneFree (get_or notes i d).cell ∷ [] else [])) test)
+    ∙ ap (λ test. noted_at place (take i notes) ++ (if test then NoneFree (get_or notes i d).cell (get_or notes i d).rate ∷ [] else [])) test)
 
 -- a note of the place was told
 pub noted_told : (told steps more : List Step) (place : ℕ) (notes : List Note) (i : ℕ) (d : Note) → i < length notes → steps ≡ told ++ noted_at place (take i notes)
-    → (get_or notes i d).place ≡ place → more ≡ steps ++ NoneFree (get_or notes i d).cell ∷ [] → more ≡ told ++ noted_at place (take (i + 1) notes)
+    → (get_or notes i d).place ≡ place → more ≡ steps ++ NoneFree (get_or notes i d).cell (get_or notes i d).rate ∷ [] → more ≡ told ++ noted_at place (take (i + 1) notes)
 noted_told told steps more place notes i d l before is e =
-    rw (noted_next place notes i d true l (eq-eqb _ _ is)) (e ∙ (ap (λ front. front ++ NoneFree (get_or notes i d).cell ∷ []) before ∙ append_assoc told _ _))
+    rw (noted_next place notes i d true l (eq-eqb _ _ is)) (e ∙ (ap (λ front. front ++ NoneFree (get_or notes i d).cell (get_or notes i d).rate ∷ []) before ∙ append_assoc told _ _))
 
 -- a note of another place wasn't
 pub noted_passed : (told steps : List Step) (place : ℕ) (notes : List Note) (i : ℕ) (d : Note) → i < length notes → steps ≡ told ++ noted_at place (take i notes)
@@ -44,13 +45,13 @@ noted_passed told steps place notes i d l before other =
     rw (noted_next place notes i d false l (ne_eqb _ _ other)) (before ∙ ap (λ rest. told ++ rest) (sym (append-nil _)))
 
 -- notes are no events
-one_asks_nothing : (b : Bool) (cell : ℕ) (steps more : List Step) → asked_in ((if b then NoneFree cell ∷ steps else steps) ++ more) ≡ asked_in (steps ++ more)
-one_asks_nothing true cell steps more = refl
-one_asks_nothing false cell steps more = refl
+one_asks_nothing : (b : Bool) (cell : ℕ) (rate : Rate) (steps more : List Step) → asked_in ((if b then NoneFree cell rate ∷ steps else steps) ++ more) ≡ asked_in (steps ++ more)
+one_asks_nothing true cell rate steps more = refl
+one_asks_nothing false cell rate steps more = refl
 
 ask_nothing : (place : ℕ) (notes : List Note) (more : List Step) → asked_in (noted_at place notes ++ more) ≡ asked_in more
 ask_nothing place [] more = refl
-ask_nothing place (n ∷ notes) more = one_asks_nothing (n.place == place) n.cell (noted_at place notes) more ∙ ask_nothing place notes more
+ask_nothing place (n ∷ notes) more = one_asks_nothing (n.place == place) n.cell n.rate (noted_at place notes) more ∙ ask_nothing place notes more
 
 pub asked_with_notes : (place : ℕ) (notes : List Note) (entries : List Entry) → asked_in (with_notes place notes entries) ≡ entries
 asked_with_notes place notes [] = ap asked_in (sym (append-nil (noted_at place notes))) ∙ ask_nothing place notes []
@@ -89,20 +90,20 @@ front_of (x ∷ xs) ys (u ∷ us) vs l e =
     cc
 
 -- a true note is true of the log that is as long
-true_here : (d : DeskState) (log behind : List Entry) (n : Note) → d.history ≡ log ++ behind → n.place ≡ length log → IsTrueNote d n → IsTrueAfter d.opening log (claim.NoneFree n.cell)
+true_here : (d : DeskState) (log behind : List Entry) (n : Note) → d.history ≡ log ++ behind → n.place ≡ length log → IsTrueNote d n → IsTrueAfter d.opening log (claim.NoneFree n.cell n.rate)
 true_here d log behind n history place h =
-    subst (λ front. IsTrueAfter d.opening front (claim.NoneFree n.cell)) (front_of h.before h.behind log behind (h.place ∙ place) (sym h.history ∙ history)) h.none_free
+    subst (λ front. IsTrueAfter d.opening front (claim.NoneFree n.cell n.rate)) (front_of h.before h.behind log behind (h.place ∙ place) (sym h.history ∙ history)) h.none_free
 
-true_step : (opening : State) (log : List Entry) (b : Bool) (cell : ℕ) (steps more : List Step) → (b ≡ true → IsTrueAfter opening log (claim.NoneFree cell))
-    → AreTrueSteps opening log (steps ++ more) → AreTrueSteps opening log ((if b then NoneFree cell ∷ steps else steps) ++ more)
-true_step opening log true cell steps more here h = (here refl, h)
-true_step opening log false cell steps more here h = h
+true_step : (opening : State) (log : List Entry) (b : Bool) (cell : ℕ) (rate : Rate) (steps more : List Step) → (b ≡ true → IsTrueAfter opening log (claim.NoneFree cell rate))
+    → AreTrueSteps opening log (steps ++ more) → AreTrueSteps opening log ((if b then NoneFree cell rate ∷ steps else steps) ++ more)
+true_step opening log true cell rate steps more here h = (here refl, h)
+true_step opening log false cell rate steps more here h = h
 
 true_at : (d : DeskState) (log behind : List Entry) (place : ℕ) (notes : List Note) (more : List Step) → d.history ≡ log ++ behind → place ≡ length log → All (IsTrueNote d) notes
     → AreTrueSteps d.opening log more → AreTrueSteps d.opening log (noted_at place notes ++ more)
 true_at d log behind place [] more history p all h = h
 true_at d log behind place (n ∷ notes) more history p all h =
-    true_step d.opening log (n.place == place) n.cell (noted_at place notes) more
+    true_step d.opening log (n.place == place) n.cell n.rate (noted_at place notes) more
     (λ e. true_here d log behind n history (eqb-true n.place place e ∙ p) (All-head (IsTrueNote d) n notes all))
     (true_at d log behind place notes more history p (All-tail (IsTrueNote d) n notes all) h)
 

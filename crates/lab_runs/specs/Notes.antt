@@ -1,6 +1,7 @@
 -- A desk of one's own, with notes of where no channel was free. Ours, of no standard.
 use Rattle.std.specs.Prelude.{◌≡◌, ◌++◌, ◌∷◌, ◌==◌, if◌then◌else◌, ℕ, suc, List, [], Option, Some, None, length, refl}
 use Rattle.std.specs.Coded.{Coded, code_by, coded×, coded_list}
+use Rattle.channel_fsm.specs.declared.Rate.{Rate}
 use Rattle.radio_book.specs.State.{State}
 use Rattle.radio_desk.specs.Desk.{DeskState, desk_code}
 use Rattle.radio_desk.specs.declared.seat.Receipt.{Receipt}
@@ -19,23 +20,23 @@ pub record NotingState : Type 0 where
 abbrev pub noting_code : Coded NotingState
 noting_code = code_by (DeskState × List Note) (coded× desk_code (coded_list note_row.coded)) (λ n. (n.desk, n.notes)) (λ p. record { desk = p.0; notes = p.1 }) (λ _. refl)
 
--- once as many events had been asked as the note says, no channel of its cell was free
+-- once as many events had been asked as the note says, no channel of its cell was free at its rate
 pub record IsTrueNote (d : DeskState) (n : Note) : Type 0 where
   pub before : List Entry
   pub behind : List Entry
   pub history : d.history ≡ before ++ behind
   pub place : length before ≡ n.place
-  pub none_free : IsTrueAfter d.opening before (claim.NoneFree n.cell)
+  pub none_free : IsTrueAfter d.opening before (claim.NoneFree n.cell n.rate)
 
--- the notes once a desk answered a receipt, or that no channel of the cell is free
-abbrev pub notes_after : NotingState → ℕ → Option Receipt → List Note
-notes_after v cell (Some receipt) = v.notes
-notes_after v cell None = v.notes ++ record { place = length v.desk.history; cell = cell } ∷ []
+-- the notes once a desk answered a receipt, or that no channel of the cell is free at the rate
+abbrev pub notes_after : NotingState → ℕ → Rate → Option Receipt → List Note
+notes_after v cell rate (Some receipt) = v.notes
+notes_after v cell rate None = v.notes ++ record { place = length v.desk.history; cell = cell; rate = rate } ∷ []
 
 -- the notes of a place
 abbrev pub noted_at : ℕ → List Note → List Step
 noted_at place [] = []
-noted_at place (n ∷ notes) = if n.place == place then NoneFree n.cell ∷ noted_at place notes else noted_at place notes
+noted_at place (n ∷ notes) = if n.place == place then NoneFree n.cell n.rate ∷ noted_at place notes else noted_at place notes
 
 -- an entry, if there is any
 abbrev pub step_of : Option Entry → List Step
@@ -51,4 +52,4 @@ with_notes place notes ((event, reply) ∷ entries) = noted_at place notes ++ As
 abbrev pub AreTrueSteps : State → List Entry → List Step → Type 0
 AreTrueSteps opening log [] = Unit {0}
 AreTrueSteps opening log (Asked event reply ∷ steps) = AreTrueSteps opening (log ++ (event, reply) ∷ []) steps
-AreTrueSteps opening log (NoneFree cell ∷ steps) = IsTrueAfter opening log (claim.NoneFree cell) × AreTrueSteps opening log steps
+AreTrueSteps opening log (NoneFree cell rate ∷ steps) = IsTrueAfter opening log (claim.NoneFree cell rate) × AreTrueSteps opening log steps

@@ -32,7 +32,7 @@ Position = NotingState × Kept × SiteView
 -- the events among what was asked, each with its reply
 abbrev pub entry_of : Step → Option Entry
 entry_of (Asked event reply) = Some (event, reply)
-entry_of (NoneFree cell) = None
+entry_of (NoneFree cell rate) = None
 
 abbrev pub asked_in : List Step → List Entry
 asked_in steps = filter_map entry_of steps

@@ -1,11 +1,13 @@
 //! A view of a desk that notes where it found no free channel, for a trace.
 ghost use Rattle.std.specs.Prelude.{◌≡◌, ◌∷◌, ◌++◌, [], ℕ, List, All, drop, length, IfOk, IfErr, OnErr, IfSome, MatchOption};
 ghost use Rattle.channel_fsm.specs.declared.ChanId.{ChanId};
+ghost use Rattle.channel_fsm.specs.Slots.{rate_of};
 ghost use Rattle.radio_desk.specs.Desk.{IsJudged};
 ghost use Rattle.ho_procedure.specs.Claims.{Entry, Claim, IsForeign, NoneFree, Chosen, UnknownReceipt};
 ghost use Rattle.lab_runs.specs.Notes.{IsTrueNote, notes_after};
 ghost use Rattle.lab_runs.specs.Turns.{history_of, says};
 
+use channel_fsm::Rate;
 use ho_procedure::solo::Solo;
 use ho_procedure::view::DeskView;
 use radio_book::event::{Event, Kind};
@@ -14,12 +16,13 @@ use radio_desk::seat::Receipt;
 use std::alloc::{Allocator, Global};
 use std::marker::Model;
 
-/// A channel of a cell was asked for, and none was free.
+/// A channel of a cell was asked for, and none was free at this rate.
 #[derive(Clone, Copy, Debug, PartialEq, Eq)]
 pub struct Note {
     /// How many events had been asked before.
     pub place: usize,
     pub cell: u8,
+    pub rate: Rate,
 }
 
 /// A desk of one's own, and a note of each time that no channel of a cell was free, in their order. Contracts see the desk and
@@ -93,13 +96,19 @@ impl<A: Allocator + Copy> DeskView for Noting<A> {
     }
 
     // The trait's clauses once more, and that each time that no channel is free is noted.
-    fn judge_take(&mut self, call: u16, kind: Kind, cell: u8) -> Result<Option<Receipt>, DeskFault>
+    fn judge_take(
+        &mut self,
+        call: u16,
+        kind: Kind,
+        cell: u8,
+        rate: Rate,
+    ) -> Result<Option<Receipt>, DeskFault>
         ensures ok { IfOk result (λ answer. MatchOption answer
-            ((history_of self.new ≡ history_of self.old) × says self.old (history_of self.old) (NoneFree cell))
-            (λ r. ((x : ChanId) × (x.cell ≡ cell) × (r.event ≡ Event.Take call kind x)) ×
+            ((history_of self.new ≡ history_of self.old) × says self.old (history_of self.old) (NoneFree cell rate))
+            (λ r. ((x : ChanId) × (x.cell ≡ cell) × (rate_of x.sub ≡ rate) × (r.event ≡ Event.Take call kind x)) ×
             says self.old (history_of self.old) (Chosen r.event) ×
             (history_of self.new ≡ history_of self.old ++ (r.event, r.reply) ∷ []))) }
-        ensures noted { IfOk result (λ answer. self.new.notes ≡ notes_after self.old cell answer) }
+        ensures noted { IfOk result (λ answer. self.new.notes ≡ notes_after self.old cell rate answer) }
         ensures receipt { IfOk result (λ answer. IfSome answer
             (λ r. IsJudged self.old.desk r self.new.desk × (self.new.notes ≡ self.old.notes))) }
         ensures err { OnErr result (history_of self.new ≡ history_of self.old) }
@@ -109,11 +118,11 @@ impl<A: Allocator + Copy> DeskView for Noting<A> {
             says self.new es claim → says self.old es claim }
     {
         self.notes.reserve(1)?;
-        match self.solo.judge_take(call, kind, cell)? {
+        match self.solo.judge_take(call, kind, cell, rate)? {
             Some(receipt) => Ok(Some(receipt)),
             None => {
                 let place = self.solo.desk().len();
-                self.notes.push_reserved(Note { place, cell });
+                self.notes.push_reserved(Note { place, cell, rate });
                 Ok(None)
             }
         }

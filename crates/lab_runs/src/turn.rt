@@ -109,7 +109,7 @@ fn push_notes<A: Allocator + Copy>(
 {
     for note in notes {
         if note.place == place {
-            steps.push(Step::NoneFree(note.cell))?;
+            steps.push(Step::NoneFree(note.cell, note.rate))?;
         }
     }
     Ok(())

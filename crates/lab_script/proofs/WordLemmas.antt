@@ -1,19 +1,23 @@
 -- Facts of the words and numbers of a line.
-use Rattle.std.proofs.Common.{◌≡◌, ◌≢◌, ℕ, ◌<◌, ◌^◌, ◌%◌, ◌∷◌, List, [], Bool, true, false, Option, Some, None, Result, Ok, Err, refl, sym, ap, ◌∙◌, arith, rules, length, is_some, option_map, option_and_then, ◌==◌, Bor, MatchOption, bytes_eq, codes}
+use Rattle.std.proofs.Common.{◌≡◌, ◌≢◌, ℕ, ◌<◌, ◌^◌, ◌%◌, ◌∷◌, ◌++◌, ◌||◌, nat_lt, get_or, if◌then◌else◌, List, [], Bool, true, false, Option, Some, None, Result, Ok, Err, refl, sym, ap, ◌∙◌, arith, rules, length, is_some, option_map, option_and_then, ◌==◌, Bor, MatchOption, bytes_eq, codes}
 use Rattle.std.specs.Char.{is_ascii_digit, is_ascii_hexdigit}
 use Rattle.std.specs.List.{list_all, join_with_byte, onto_first, position_or_len, before_first, after_first}
 use Rattle.std.specs.Result.{result_ok}
 use Rattle.std.specs.Str.Parse.{digits_value, ParsesUnsigned}
 use Rattle.std.proofs.lemmas.List.Splits.{slice_split-cons_no, slice_split_first, join_with_byte-slice_split}
-use Rattle.std.proofs.lemmas.List.Sums.{AllPass-from_list_all, list_all-from_AllPass}
+use Rattle.std.proofs.lemmas.List.Sums.{AllPass-from_list_all, list_all-from_AllPass, split_at_first, passes_at_first}
+use Rattle.std.proofs.lemmas.Bool.Decides.{Decides-ltb}
+use Rattle.std.proofs.lemmas.Option.{none-some}
 use Rattle.std.proofs.lemmas.Str.Parse.{IsNumeralModel, numerals_by_value, parse_digits}
 use Rattle.hex.proofs.HexLemmas.{decode_of-digits, decode_of-ok}
 use Rattle.hex.specs.declared.error.FromHexError.{FromHexError}
 use Rattle.hex.specs.Hex.{decode_of, is_hex_digit}
+use Rattle.channel_fsm.specs.declared.Sub.{Sub}
+use Rattle.channel_fsm.specs.declared.Sub.TheVariants.{Full}
 use Rattle.channel_fsm.specs.declared.ChanId.{ChanId}
 use Rattle.bts_model.specs.declared.setting.Act.TheVariants.{Mobile, Cut}
 use Rattle.lab_script.specs.declared.side.Side.{Side}
-use Rattle.lab_script.specs.Words.{words_of, number_below, octets_of, channel_at, channel_of}
+use Rattle.lab_script.specs.Words.{words_of, number_below, octets_of, is_slash, around_slash, half_of, slot_at, timeslot_in, timeslot_of, channel_at, channel_of}
 use Rattle.lab_script.specs.Operators.{handover_at, handover_of, call_of, timer_of, expiry_at, expiry_of}
 use Rattle.lab_script.specs.Received.{abis_at, abis_of, a_at, a_of}
 use Rattle.lab_script.specs.Stations.{habit_of, setting_at, mobile_of, unless_none, count_of, cut_of}
@@ -148,16 +152,88 @@ lone_habit text = lone_word habit_of text (λ more. named more (bytes_eq text (c
     named more false e false f true g = absurd (more (one_name (codes "vanish") refl text g))
     named more false e false f false g = rw (e, f, g) refl
 
+-- a text is cut at its first slash
+pub cut_slash : (text : List ℕ) (r : Option (Bor (List ℕ) × Bor (List ℕ)))
+    → MatchOption r (position_or_len is_slash text ≡ length text) (λ x. (position_or_len is_slash text < length text) × (x.0.now ≡ before_first is_slash text) × (x.1.now ≡ after_first is_slash text))
+    → option_map (λ x. (x.0.now, x.1.now)) r ≡ around_slash text
+cut_slash text None h =
+    let past : nat_lt (position_or_len is_slash text) (length text) ≡ false = grind (arith, h) in
+    rw past refl
+cut_slash text (Some x) h =
+    let within : nat_lt (position_or_len is_slash text) (length text) ≡ true = (Decides-ltb (position_or_len is_slash text) (length text)).1 h.0 in
+    rw (within, h.1, h.2) refl
+
+-- a timeslot has digits and slashes alone
+abbrev is_slot_byte : ℕ → Bool
+is_slot_byte b = is_ascii_digit b || is_slash b
+
+digits_are : (text : List ℕ) → list_all is_ascii_digit text ≡ true → list_all is_slot_byte text ≡ true
+digits_are [] h = refl
+digits_are (b ∷ text) h =
+    let (first, rest) : (is_ascii_digit b ≡ true) × (list_all is_ascii_digit text ≡ true) = grind (arith, h) in
+    rw (first, digits_are text rest) refl
+
+number_digits : (limit : ℕ) (text : List ℕ) (n : ℕ) → number_below limit text ≡ Some n → list_all is_slot_byte text ≡ true
+number_digits limit text n e = by_digits (list_all is_ascii_digit text) refl
+  where
+    by_digits : (digits : Bool) → list_all is_ascii_digit text ≡ digits → list_all is_slot_byte text ≡ true
+    by_digits true d = digits_are text d
+    by_digits false d =
+        let none : number_below limit text ≡ None = rw d (search rules) in
+        absurd (none-some n (sym none ∙ e))
+
+half_digit : (text : List ℕ) (sub : Sub) → half_of text ≡ Some sub → list_all is_slot_byte text ≡ true
+half_digit text sub e = by_names (bytes_eq text (codes "0")) refl (bytes_eq text (codes "1")) refl
+  where
+    by_names : (a : Bool) → bytes_eq text (codes "0") ≡ a → (b : Bool) → bytes_eq text (codes "1") ≡ b → list_all is_slot_byte text ≡ true
+    by_names true f b g = let same : text ≡ codes "0" = search (rules, f) in rw same refl
+    by_names false f true g = let same : text ≡ codes "1" = search (rules, g) in rw same refl
+    by_names false f false g = let none : half_of text ≡ None = rw (f, g) refl in absurd (none-some sub (sym none ∙ e))
+
+slot_parts : (tn : Option ℕ) (sub : Option Sub) (slot : ℕ × Sub) → slot_at tn sub ≡ Some slot → (n : ℕ) × (s : Sub) × (tn ≡ Some n) × (sub ≡ Some s)
+slot_parts (Some n) (Some s) slot e = (n, s, refl, refl)
+slot_parts (Some n) None slot e = absurd (none-some slot e)
+slot_parts None sub slot e = absurd (none-some slot e)
+
+both_all : (q : ℕ → Bool) (one other : List ℕ) (b : ℕ) → q b ≡ true → list_all q one ≡ true → list_all q other ≡ true → list_all q (one ++ b ∷ other) ≡ true
+both_all q [] other b mark one_is other_is = rw (mark, other_is) refl
+both_all q (x ∷ one) other b mark one_is other_is =
+    let (first, rest) : (q x ≡ true) × (list_all q one ≡ true) = grind (arith, one_is) in
+    rw (first, both_all q one other b mark rest other_is) refl
+
+slot_bytes : (text : List ℕ) (slot : ℕ × Sub) → timeslot_of text ≡ Some slot → list_all is_slot_byte text ≡ true
+unfolding timeslot_of
+slot_bytes text slot e = by_cut (nat_lt (position_or_len is_slash text) (length text)) refl e
+  where
+    by_cut : (cut : Bool) → nat_lt (position_or_len is_slash text) (length text) ≡ cut
+        → timeslot_in (if cut then Some (before_first is_slash text, after_first is_slash text) else None) text ≡ Some slot → list_all is_slot_byte text ≡ true
+    by_cut false c e = let (n, s, number, half) = slot_parts (number_below 8 text) (Some Full) slot e in number_digits 8 text n number
+    by_cut true c e =
+        let (n, s, number, half) = slot_parts (number_below 8 (before_first is_slash text)) (half_of (after_first is_slash text)) slot e in
+        let within : position_or_len is_slash text < length text = (Decides-ltb (position_or_len is_slash text) (length text)).0 c in
+        let mark : is_slash (get_or text (position_or_len is_slash text) 0) ≡ true = passes_at_first is_slash text 0 within in
+        let byte : is_slot_byte (get_or text (position_or_len is_slash text) 0) ≡ true = grind (arith, mark) in
+        let all = both_all is_slot_byte (before_first is_slash text) (after_first is_slash text) _ byte (number_digits 8 (before_first is_slash text) n number) (half_digit (after_first is_slash text) s half) in
+        ap (list_all is_slot_byte) (split_at_first is_slash text 0 within) ∙ all
+
+-- a timeslot is one word
+pub lone_timeslot : (text : List ℕ) → lone timeslot_of (words_of text) ≡ timeslot_of text
+lone_timeslot text = lone_word timeslot_of text (λ more. by_slot (timeslot_of text) refl more)
+  where
+    by_slot : (found : Option (ℕ × Sub)) → timeslot_of text ≡ found → words_of text ≢ text ∷ [] → timeslot_of text ≡ None
+    by_slot None e more = e
+    by_slot (Some slot) e more = absurd (more (one_word is_slot_byte refl text (slot_bytes text slot e)))
+
 -- The forms of lines, where what stands after the last blank is handed over as a text.
-pub channel_words : (cell trx tn : List ℕ) → channel_of (cell ∷ trx ∷ words_of tn) ≡ channel_at (number_below 256 cell) (number_below 256 trx) (number_below 8 tn)
-channel_words cell trx tn = by_words (words_of tn) ∙ ap (channel_at (number_below 256 cell) (number_below 256 trx)) (lone_number 8 tn)
+pub channel_words : (cell trx tn : List ℕ) → channel_of (cell ∷ trx ∷ words_of tn) ≡ channel_at (number_below 256 cell) (number_below 256 trx) (timeslot_of tn)
+channel_words cell trx tn = by_words (words_of tn) ∙ ap (channel_at (number_below 256 cell) (number_below 256 trx)) (lone_timeslot tn)
   where
     nothing : (cell trx : Option ℕ) → channel_at cell trx None ≡ None
     nothing (Some cell) (Some trx) = refl
     nothing (Some cell) None = refl
     nothing None trx = refl
 
-    by_words : (words : List (List ℕ)) → channel_of (cell ∷ trx ∷ words) ≡ channel_at (number_below 256 cell) (number_below 256 trx) (lone (number_below 8) words)
+    by_words : (words : List (List ℕ)) → channel_of (cell ∷ trx ∷ words) ≡ channel_at (number_below 256 cell) (number_below 256 trx) (lone timeslot_of words)
     by_words [] = sym (nothing _ _)
     by_words (word ∷ []) = refl
     by_words (word ∷ next ∷ rest) = sym (nothing _ _)
@@ -219,26 +295,26 @@ a_words call octets = by_words (words_of octets) ∙ ap (a_at (number_below 6553
     by_words (word ∷ []) = refl
     by_words (word ∷ next ∷ rest) = sym (nothing _)
 
-pub mobile_words : (side : Side) (cell trx tn habit : List ℕ) → mobile_of side (cell ∷ trx ∷ tn ∷ words_of habit) ≡ setting_at side (channel_at (number_below 256 cell) (number_below 256 trx) (number_below 8 tn)) (option_map Mobile (habit_of habit))
-mobile_words side cell trx tn habit = by_words (words_of habit) ∙ ap (λ h. setting_at side (channel_at (number_below 256 cell) (number_below 256 trx) (number_below 8 tn)) (option_map Mobile h)) (lone_habit habit)
+pub mobile_words : (side : Side) (cell trx tn habit : List ℕ) → mobile_of side (cell ∷ trx ∷ tn ∷ words_of habit) ≡ setting_at side (channel_at (number_below 256 cell) (number_below 256 trx) (timeslot_of tn)) (option_map Mobile (habit_of habit))
+mobile_words side cell trx tn habit = by_words (words_of habit) ∙ ap (λ h. setting_at side (channel_at (number_below 256 cell) (number_below 256 trx) (timeslot_of tn)) (option_map Mobile h)) (lone_habit habit)
   where
     nothing : (x : Option ChanId) → setting_at side x None ≡ None
     nothing (Some x) = refl
     nothing None = refl
 
-    by_words : (words : List (List ℕ)) → mobile_of side (cell ∷ trx ∷ tn ∷ words) ≡ setting_at side (channel_at (number_below 256 cell) (number_below 256 trx) (number_below 8 tn)) (option_map Mobile (lone habit_of words))
+    by_words : (words : List (List ℕ)) → mobile_of side (cell ∷ trx ∷ tn ∷ words) ≡ setting_at side (channel_at (number_below 256 cell) (number_below 256 trx) (timeslot_of tn)) (option_map Mobile (lone habit_of words))
     by_words [] = sym (nothing _)
     by_words (word ∷ []) = refl
     by_words (word ∷ next ∷ rest) = sym (nothing _)
 
-pub cut_words_of : (side : Side) (cell trx tn count : List ℕ) → cut_of side (cell ∷ trx ∷ tn ∷ words_of count) ≡ setting_at side (channel_at (number_below 256 cell) (number_below 256 trx) (number_below 8 tn)) (option_map Cut (count_of count))
-cut_words_of side cell trx tn count = by_words (words_of count) ∙ ap (λ n. setting_at side (channel_at (number_below 256 cell) (number_below 256 trx) (number_below 8 tn)) (option_map Cut n)) (lone_count count)
+pub cut_words_of : (side : Side) (cell trx tn count : List ℕ) → cut_of side (cell ∷ trx ∷ tn ∷ words_of count) ≡ setting_at side (channel_at (number_below 256 cell) (number_below 256 trx) (timeslot_of tn)) (option_map Cut (count_of count))
+cut_words_of side cell trx tn count = by_words (words_of count) ∙ ap (λ n. setting_at side (channel_at (number_below 256 cell) (number_below 256 trx) (timeslot_of tn)) (option_map Cut n)) (lone_count count)
   where
     nothing : (x : Option ChanId) → setting_at side x None ≡ None
     nothing (Some x) = refl
     nothing None = refl
 
-    by_words : (words : List (List ℕ)) → cut_of side (cell ∷ trx ∷ tn ∷ words) ≡ setting_at side (channel_at (number_below 256 cell) (number_below 256 trx) (number_below 8 tn)) (option_map Cut (lone count_of words))
+    by_words : (words : List (List ℕ)) → cut_of side (cell ∷ trx ∷ tn ∷ words) ≡ setting_at side (channel_at (number_below 256 cell) (number_below 256 trx) (timeslot_of tn)) (option_map Cut (lone count_of words))
     by_words [] = sym (nothing _)
     by_words (word ∷ []) = refl
     by_words (word ∷ next ∷ rest) = sym (nothing _)

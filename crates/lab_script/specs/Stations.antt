@@ -6,9 +6,10 @@ use Rattle.bts_model.specs.declared.setting.Habit.TheVariants.{Arrive, Return, V
 use Rattle.bts_model.specs.declared.setting.Act.{Act}
 use Rattle.bts_model.specs.declared.setting.Act.TheVariants.{Refuse, Hold, Release, Mobile, Double, Cut}
 use Rattle.bts_model.specs.declared.setting.Setting.{Setting}
+use Rattle.bts_model.specs.Settings.{setting_of}
 use Rattle.lab_script.specs.declared.side.Side.{Side}
 use Rattle.lab_script.specs.Sides.{number_of}
-use Rattle.lab_script.specs.Words.{number_below, channel_at, channel_of}
+use Rattle.lab_script.specs.Words.{number_below, timeslot_of, channel_at, channel_of}
 use Rattle.lab_script.specs.Operators.{call_of}
 
 -- the habit of a name
@@ -16,7 +17,7 @@ abbrev pub habit_of : List ℕ → Option Habit
 habit_of text = if bytes_eq text (codes "arrive") then Some Arrive else if bytes_eq text (codes "return") then Some Return else if bytes_eq text (codes "vanish") then Some Vanish else None
 
 abbrev pub setting : Side → ChanId → Act → Setting
-setting side x act = record { controller = number_of side; cell = x.cell; trx = x.trx; tn = x.tn; act = act }
+setting side x act = setting_of (number_of side) x act
 
 abbrev pub setting_at : Side → Option ChanId → Option Act → Option Setting
 setting_at side (Some x) (Some act) = Some (setting side x act)
@@ -24,7 +25,7 @@ setting_at side x act = None
 
 -- CELL TRX TN HABIT
 abbrev pub mobile_of : Side → List (List ℕ) → Option Setting
-mobile_of side (cell ∷ trx ∷ tn ∷ habit ∷ []) = setting_at side (channel_at (number_below 256 cell) (number_below 256 trx) (number_below 8 tn)) (option_map Mobile (habit_of habit))
+mobile_of side (cell ∷ trx ∷ tn ∷ habit ∷ []) = setting_at side (channel_at (number_below 256 cell) (number_below 256 trx) (timeslot_of tn)) (option_map Mobile (habit_of habit))
 mobile_of side words = None
 
 -- a number of octets, of which there is one at least
@@ -36,7 +37,7 @@ count_of text = option_and_then unless_none (number_below 256 text)
 
 -- CELL TRX TN N
 abbrev pub cut_of : Side → List (List ℕ) → Option Setting
-cut_of side (cell ∷ trx ∷ tn ∷ count ∷ []) = setting_at side (channel_at (number_below 256 cell) (number_below 256 trx) (number_below 8 tn)) (option_map Cut (count_of count))
+cut_of side (cell ∷ trx ∷ tn ∷ count ∷ []) = setting_at side (channel_at (number_below 256 cell) (number_below 256 trx) (timeslot_of tn)) (option_map Cut (count_of count))
 cut_of side words = None
 
 -- the act of a keyword that a channel follows

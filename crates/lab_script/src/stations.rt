@@ -32,13 +32,7 @@ fn habit(text: &str) -> Option<Habit>
 fn setting(side: Side, chan: ChanId, act: Act) -> Setting
     ensures { result ≡ said.setting side chan act }
 {
-    Setting {
-        controller: side.number(),
-        cell: chan.cell,
-        trx: chan.trx,
-        tn: chan.tn,
-        act,
-    }
+    Setting::of(side.number(), chan, act)
 }
 
 /// `CELL TRX TN HABIT`

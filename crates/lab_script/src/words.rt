@@ -1,11 +1,11 @@
 //! Words of lines: keywords, numbers, channels, octets.
-ghost use Rattle.std.specs.Prelude.{◌≡◌, ◌∷◌, [], MatchOption, is_some, IfOk, IfSome};
+ghost use Rattle.std.specs.Prelude.{◌≡◌, ◌∷◌, [], MatchOption, is_some, option_map, IfOk, IfSome};
 ghost use Rattle.std.specs.Char.{is_ascii_digit, is_ascii_hexdigit};
 ghost use Rattle.std.specs.List.{list_all};
 ghost use Rattle.lab_script.specs.Words as said;
 ghost use Rattle.lab_script.specs.Stations.{count_of};
 
-use channel_fsm::ChanId;
+use channel_fsm::{ChanId, Sub};
 use rsl_messages::Octets;
 use std::alloc::{AllocError, Allocator};
 
@@ -56,8 +56,8 @@ pub(crate) fn count(text: &str) -> Option<u8>
     }
 }
 
-/// The timeslot, 0 to 7, that the digits of a text write.
-fn timeslot(text: &str) -> Option<u8>
+/// The number of a timeslot, 0 to 7, that the digits of a text write.
+fn timeslot_number(text: &str) -> Option<u8>
     ensures { result ≡ said.number_below 8 text.now }
 {
     match octet(text) {
@@ -66,16 +66,50 @@ fn timeslot(text: &str) -> Option<u8>
     }
 }
 
+/// A text up to its first `/`, and what stands behind that; `None` where it has none.
+fn around_slash(text: &str) -> Option<(&str, &str)>
+    ensures { option_map (λ cut. (cut.0.now, cut.1.now)) result ≡ said.around_slash text.now }
+{
+    text.split_once('/')
+}
+
+/// The half of a timeslot that a text writes.
+fn half(text: &str) -> Option<Sub>
+    ensures { result ≡ said.half_of text.now }
+{
+    match text {
+        "0" => Some(Sub::Half0),
+        "1" => Some(Sub::Half1),
+        _ => None,
+    }
+}
+
+/// `TN` is the whole timeslot, `TN/0` and `TN/1` are its halves.
+#[tactic(auto, unfolding(crate::specs::Words::timeslot_of))]
+fn timeslot(text: &str) -> Option<(u8, Sub)>
+    ensures { result ≡ said.timeslot_of text.now }
+{
+    match around_slash(text) {
+        None => Some((timeslot_number(text)?, Sub::Full)),
+        Some((tn, behind)) => Some((timeslot_number(tn)?, half(behind)?)),
+    }
+}
+
+/// Whether a text is a timeslot, or a half of one.
+pub fn is_timeslot(text: &str) -> bool
+    ensures read { result ≡ is_some (said.timeslot_of text.now) }
+{
+    timeslot(text).is_some()
+}
+
 /// The channel of three words.
 pub(crate) fn channel_at(cell: &str, trx: &str, tn: &str) -> Option<ChanId>
     ensures { result ≡ said.channel_at (said.number_below 256 cell.now)
-        (said.number_below 256 trx.now) (said.number_below 8 tn.now) }
+        (said.number_below 256 trx.now) (said.timeslot_of tn.now) }
 {
-    Some(ChanId {
-        cell: octet(cell)?,
-        trx: octet(trx)?,
-        tn: timeslot(tn)?,
-    })
+    let (cell, trx) = (octet(cell)?, octet(trx)?);
+    let (tn, sub) = timeslot(tn)?;
+    Some(ChanId { cell, trx, tn, sub })
 }
 
 /// `CELL TRX TN`

@@ -7,7 +7,8 @@ macro_rules! with_script_lines {
         concat!(
             $front,
             "\
-Lines of a script (one blank between two words, numbers in decimal, HEX in hexadecimal):
+Lines of a script (one blank between two words, numbers in decimal, HEX in hexadecimal; TN is 0
+to 7, with /0 or /1 behind it for half rate):
   open CALL CELL TRX TN       an operator opens a call on a channel
   handover CALL CELL          an operator asks for the handover of a call to a cell
   undo CALL                   an operator takes the handover of a call back
@@ -211,6 +212,7 @@ Links: rr is the radio path (TS 44.018), a the switching centre (TS 48.008), abi
 Fields are KEY=VALUE, each once (n once for each neighbour, or not at all), in any order. Numbers
 are in decimal, yes is 1 and no 0, octets are in hexadecimal, and - is what is absent. A cell is as
 in 23/102, cells as in 23/102,23/103, and n, a neighbour's level, position and code, as in 40/2/21.
+A timeslot tn is as in 3 for a full-rate channel, and as in 3/0 or 3/1 for a half-rate one.
 
 ",
     "

@@ -11,6 +11,6 @@ mod view_words;
 mod words;
 
 pub use site_paths::SitePaths;
-pub use storm_words::{MOST_CALLS, MOST_WORKERS, StormSize};
+pub use storm_words::StormSize;
 pub use view_words::Ending;
 pub use words::{Job, WordsFault, read_words};

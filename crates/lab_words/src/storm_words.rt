@@ -7,10 +7,10 @@ use clap::{Arg, ArgAction, ArgMatches, Command, value_parser};
 use std::alloc::{AllocError, Global};
 
 /// The most workers of a storm.
-pub const MOST_WORKERS: u8 = 16;
+const MOST_WORKERS: u8 = 16;
 
 /// The most calls of a storm.
-pub const MOST_CALLS: u16 = 1024;
+const MOST_CALLS: u16 = 1024;
 
 /// How great a storm is.
 #[derive(Clone, Copy, Debug, PartialEq, Eq)]

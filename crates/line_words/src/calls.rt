@@ -68,14 +68,6 @@ pub(crate) fn taken_by(event: Event) -> Option<(u16, ChanId)> {
     }
 }
 
-/// Whether an event was accepted.
-fn is_accepted(reply: Reply) -> bool {
-    match reply {
-        Reply::Done | Reply::Owned(_) | Reply::Record(..) => true,
-        Reply::Refused(_) => false,
-    }
-}
-
 /// The call of what an operator asks for.
 fn call_of_line(line: Line) -> u16 {
     match line {
@@ -121,7 +113,7 @@ impl<A: Allocator + Copy> Known<A> {
     /// The call of an event. What it gives a call is kept.
     fn of_event(&mut self, event: Event, reply: Reply) -> Result<Option<u16>, AllocError> {
         if let Some((call, chan)) = taken_by(event)
-            && is_accepted(reply)
+            && reply.is_accepted()
         {
             self.channels.insert(chan, call)?;
         }
@@ -147,7 +139,7 @@ impl<A: Allocator + Copy> Known<A> {
             }
             TraceLine::Sent(_) => Ok(self.of_content(content)),
             TraceLine::Step(Step::Asked(event, reply)) => self.of_event(*event, *reply),
-            TraceLine::Step(Step::NoneFree(_)) | TraceLine::Fault(_) => Ok(self.current),
+            TraceLine::Step(Step::NoneFree(..)) | TraceLine::Fault(_) => Ok(self.current),
             TraceLine::Limit | TraceLine::End(_) => Ok(None),
         }
     }

@@ -3,7 +3,8 @@ use bssmap_messages::{Bssmap, BssmapFault};
 use channel_fsm::ChanId;
 use ho_procedure::exchange::{Inbound, Outbound};
 use ho_procedure::naming::chan_of;
-use rsl_messages::{Rsl, RslFault};
+use octet_elements::sub_of_type;
+use rsl_messages::{ChanBits, Rsl, RslFault};
 use std::alloc::{AllocError, Allocator, Global};
 use trace_text::trace::TraceLine;
 
@@ -28,19 +29,20 @@ pub enum Content<A: Allocator = Global> {
     Nothing,
 }
 
-/// The channel that octets name which are no message: their first element is a channel number, of a full rate channel (TS
-/// 48.058 clause 9.3.1).
+/// The channel that octets name which are no message: their first element is a channel number, of a traffic channel (TS
+/// 48.058 clause 9.3.1). It is that of a message with this channel number and nothing else.
 fn channel_named(cell: u8, trx: u8, octets: &[u8]) -> Option<ChanId> {
     let identifier = *octets.get(2)?;
     let number = *octets.get(3)?;
-    if identifier != 0x01 || number < 0x08 || number > 0x0F {
+    if identifier != 0x01 {
         return None;
     }
-    Some(ChanId {
-        cell,
-        trx,
-        tn: number & 0x07,
-    })
+    let sub = sub_of_type(number / 8)?;
+    let tn = number % 8;
+    let message: Rsl = Rsl::RfChannelRelease {
+        channel: ChanBits { tn, sub },
+    };
+    Some(chan_of(cell, trx, &message))
 }
 
 /// Whether octets are of another protocol, by their head alone: its first octet says so (TS 48.058 clause 9.1).

@@ -145,7 +145,7 @@ impl<A: Allocator + Copy> Held<A> {
     pub fn note(&mut self, mark: Mark, step: Step) -> Result<(), AllocError> {
         match step {
             Step::Asked(event, _) => self.named(mark).note(event),
-            Step::NoneFree(_) => Ok(()),
+            Step::NoneFree(..) => Ok(()),
         }
     }
 

@@ -134,7 +134,7 @@ pub fn print_words<A: Allocator + Copy, W: Write>(
             print_call(out, call)?;
             print_reply(out, *reply)
         }
-        TraceLine::Step(Step::NoneFree(_)) => print_call(out, call),
+        TraceLine::Step(Step::NoneFree(..)) => print_call(out, call),
         TraceLine::Fault(bad) => {
             print_call(out, call)?;
             print_bad(out, *bad)

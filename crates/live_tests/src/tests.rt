@@ -25,6 +25,7 @@ event confirm 0/0/3 -> owned 1
 event look 1 -> record 0/0/3 on
 line 3
 in handover 1 1
+event look 1 -> record 0/0/3 on
 event take 1 internal 1/1/3 -> done
 event reserve 1 0 -> done
 event activate 1 -> done

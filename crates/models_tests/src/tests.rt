@@ -2,6 +2,7 @@
 //! are what stations, mobiles and the centre should do.
 mod centre;
 mod courses;
+mod halves;
 mod moves;
 mod stations;
 

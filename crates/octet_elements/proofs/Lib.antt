@@ -1,5 +1,7 @@
 -- bit strings and numbers
 pub mod BitLemmas
+-- channel types that are written and read again
+pub mod ChannelTypeLemmas
 -- bit strings that are cut, and numbers that are written
 pub mod CutLemmas
 -- fields that are written and cut again

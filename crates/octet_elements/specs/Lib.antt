@@ -1,4 +1,5 @@
 pub mod Bits
+pub mod ChannelTypes
 pub mod Elements
 pub mod Fields
 pub mod Lookup

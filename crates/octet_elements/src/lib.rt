@@ -5,12 +5,14 @@
 //! length of one octet or of two before the value. A codec gives its table of elements
 //! ([`ElementTable`]); [`Found::read`] reads the octets once and keeps the values that its messages
 //! use, [`values`] says what a value holds, and [`append_element`] writes. Where fields of a
-//! value aren't whole octets, [`BitReader`] and [`BitWriter`] read and write them bit by bit.
+//! value aren't whole octets, [`BitReader`] and [`BitWriter`] read and write them bit by bit. [`Sub`] is the one table of
+//! channel types for all elements that name a traffic channel.
 #![tactic(auto)]
 
 mod bits;
 #[cfg(test)]
 mod bits_tests;
+mod channel_types;
 mod element;
 mod form;
 mod found;
@@ -22,10 +24,12 @@ pub mod values;
 mod write;
 
 pub use bits::{BitReader, BitWriter};
+pub use channel_fsm::Sub;
+pub use channel_types::{channel_type, sub_of_type};
 pub use element::{Leading, leading_element};
 pub use form::{ElementTable, Form, PLACES};
 pub use found::Found;
-pub use laws::{spelling_is_unique, split_is_unique};
+pub use laws::{channel_types_are_unique, spelling_is_unique, split_is_unique};
 pub use octets::Octets;
 pub use values::ValueFault;
 pub use write::{

@@ -7,7 +7,7 @@ use Rattle.procedure_tests.specs.Leaving.{IsSaidAfter}
 -- what isn't said of the receipt is said where it is true
 pub still_said : (opening opening' : State) → ((log : List Entry) → (claim : Claim) → IsTrueAfter opening' log claim → IsTrueAfter opening log claim)
     → (log : List Entry) → (claim : Claim) → IsSaidAfter opening' log claim → IsSaidAfter opening log claim
-still_said opening opening' said log (NoneFree cell) holds = said log (NoneFree cell) holds
+still_said opening opening' said log (NoneFree cell rate) holds = said log (NoneFree cell rate) holds
 still_said opening opening' said log (Chosen e) holds = said log (Chosen e) holds
 still_said opening opening' said log (Opening book) holds = said log (Opening book) holds
 still_said opening opening' said log (UnknownReceipt place) holds = tt

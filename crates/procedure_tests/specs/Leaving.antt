@@ -5,7 +5,7 @@ use Rattle.ho_procedure.specs.Claims.{Entry, Claim, NoneFree, Chosen, Opening, U
 
 -- what is true of the book; and, at any time and for any place, that the view's last receipt isn't known
 abbrev pub IsSaidAfter : State → List Entry → Claim → Type 0
-IsSaidAfter opening log (NoneFree cell) = IsTrueAfter opening log (NoneFree cell)
+IsSaidAfter opening log (NoneFree cell rate) = IsTrueAfter opening log (NoneFree cell rate)
 IsSaidAfter opening log (Chosen e) = IsTrueAfter opening log (Chosen e)
 IsSaidAfter opening log (Opening book) = IsTrueAfter opening log (Opening book)
 IsSaidAfter opening log (UnknownReceipt place) = Unit {0}

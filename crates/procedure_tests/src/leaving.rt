@@ -1,6 +1,7 @@
 //! A view of a desk that doesn't know its seat any more.
 ghost use Rattle.std.specs.Prelude.{◌≡◌, IfErr};
 
+use channel_fsm::Rate;
 use ho_procedure::solo::Solo;
 use ho_procedure::view::DeskView;
 use radio_book::event::{Event, Kind};
@@ -70,9 +71,10 @@ impl<A: Allocator + Copy> DeskView for Leaving<A> {
         call: u16,
         kind: Kind,
         cell: u8,
+        rate: Rate,
     ) -> Result<Option<Receipt>, DeskFault> {
         self.sits()?;
-        self.solo.judge_take(call, kind, cell)
+        self.solo.judge_take(call, kind, cell, rate)
     }
 
     fn judge_reserve(&mut self, call: u16) -> Result<Receipt, DeskFault> {

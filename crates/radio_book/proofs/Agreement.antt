@@ -1,10 +1,14 @@
 -- What a taking away hides of a book, and rows that read the same without it.
-use Rattle.std.proofs.Common.{◌≡◌, ◌⊎◌, ℕ, Option, Some, None, refl, sym, ◌∙◌, ap, subst}
+use Rattle.std.proofs.Common.{◌≡◌, ◌≢◌, ◌⊎◌, ℕ, true, Option, Some, None, refl, sym, ◌∙◌, ap, subst, inl, inr}
+use Rattle.std.proofs.lemmas.Bool.{cases_Bool}
 use Rattle.std.specs.Option.{option_map}
 use Rattle.std.specs.FinMap as map
 use Rattle.channel_fsm.specs.declared.ChanId.{ChanId}
 use Rattle.channel_fsm.specs.declared.ChanState.{ChanState}
 use Rattle.channel_fsm.specs.declared.ChanState.TheVariants.{Free, Held, Pending, On, Off}
+use Rattle.channel_fsm.specs.Slots.{is_used}
+use Rattle.channel_fsm.proofs.WayFacts.{not_used, chan_cases, way_same, way_used, way_without}
+use Rattle.radio_tables.specs.Maps.{Entry}
 use Rattle.radio_tables.specs.declared.kinds.Attempt.{Attempt}
 use Rattle.radio_tables.specs.declared.kinds.CallRecord.{CallRecord}
 use Rattle.dense_tables.specs.declared.references.Reference.{Reference}
@@ -15,10 +19,10 @@ use Rattle.radio_book.specs.declared.event.Refusal.TheVariants.{ChannelBusy, Ref
 use Rattle.radio_book.specs.declared.event.Reply.{Reply}
 use Rattle.radio_book.specs.declared.event.Reply.TheVariants.{Refused}
 use Rattle.radio_book.specs.State.{State, Change, apply, state_of, record_of}
-use Rattle.radio_book.specs.Table.{owner, detect_by, Outcome, Refuses, Accepts, row, book_after, reply_of, reply_to}
+use Rattle.radio_book.specs.Table.{in_way, owner, detect_by, Outcome, Refuses, Accepts, row, book_after, reply_of, reply_to}
 use Rattle.radio_book.specs.Sound.{IsSound}
 use Rattle.radio_book.specs.Others.{Commutes}
-use Rattle.radio_book.proofs.Frame.{aimed_is_owned}
+use Rattle.radio_book.proofs.Frame.{aimed_is_owned, way_free}
 use Rattle.radio_book.proofs.Changes.{Misses, ChangesApart, apply_swap, state_kept}
 
 -- the change of an accepted event names other entries
@@ -94,27 +98,44 @@ pub record IsNotHeld (removal : Change) (reply : Reply) : Type 0 where
 abbrev pub AgreesWithOthers : Event → Type 0
 AgreesWithOthers e = (removal : Change) (b : State) → IsSound b → Hides removal b → IsOfOther removal e → IsNotHeld removal (reply_to b e) → AgreesAt removal b e
 
-module _ (removal : Change) (b : State) (hides : Hides removal b) where
-  -- a row that requires a channel to be free: the channel is none that is gone, or a refusal comes from it
-  pub requires_free :
-      (y : ChanId) (f : ChanState → Outcome) → ((c : ℕ) → f (Held c) ≡ Refuses (ChannelBusy y)) → ((c : ℕ) → f (Pending c) ≡ Refuses (ChannelBusy y)) →
-      ((c : ℕ) → f (On c) ≡ Refuses (ChannelBusy y)) → f Off ≡ Refuses (ChannelBusy y) → (Misses removal.channel y → Avoids (f Free) removal) →
-      (reply_of (f (state_of b y)) ≡ Refused (ChannelBusy y) → Misses removal.channel y) →
-      Agrees removal (f (state_of b y)) (f (state_of (apply removal b) y))
-  requires_free y f held pending on off away not_held = by (state_of b y) refl not_held
+-- what is in the way of a channel is so without what is gone, unless that was in the way
+module _ (removal : Change) (b : State) (hides : Hides removal b) (y : ChanId) where
+  way_by : (p : Option (Entry ChanId ChanState)) → removal.channel ≡ p → ((w : ChanId) → in_way b y ≡ Some w → Misses removal.channel w) → in_way (apply removal b) y ≡ in_way b y
+  way_by None none not_it = way_same (state_of (apply removal b)) (state_of b) y (λ s. state_kept removal b (record y { sub = s }) (subst (λ p. Misses p (record y { sub = s })) (sym none) (λ touched. touched)))
+  way_by (Some (z, v)) is not_it =
+      let other : (x : ChanId) → x ≢ z → state_of (apply removal b) x ≡ state_of b x = λ x apart. state_kept removal b x (subst (λ p. Misses p x) (sym is) apart) in
+      let touched : Misses removal.channel z → ⊥ = λ missed. subst (λ p. Misses p z) is missed refl in
+      let used : is_used (state_of b z) ≡ true = by_used (state_of b z) refl (λ free. touched (hides.free_channel z free)) in
+      elim (cases_Bool (is_used (state_of (apply removal b) z))) [
+        | inl still ↦ way_used (state_of (apply removal b)) (state_of b) y (λ s. elim (chan_cases (record y { sub = s }) z) [
+          | inl it ↦ ap (λ x. is_used (state_of (apply removal b) x)) it ∙ still ∙ sym used ∙ ap (λ x. is_used (state_of b x)) (sym it)
+          | inr apart ↦ ap is_used (other (record y { sub = s }) apart)
+        ])
+        | inr gone ↦ sym (way_without (state_of b) (state_of (apply removal b)) y z (λ x apart. sym (other x apart)) (not_used (state_of (apply removal b) z) gone) (λ e. touched (not_it z e)))
+      ]
     where
-      busy : (s : ChanState) → state_of b y ≡ s → f s ≡ Refuses (ChannelBusy y) → (reply_of (f s) ≡ Refused (ChannelBusy y) → Misses removal.channel y) → Agrees removal (f s) (f (state_of (apply removal b) y))
-      busy s is refuses not_held = record {
-        same = ap f (state_kept removal b y (not_held (ap reply_of refuses)) ∙ is);
-        away = subst (λ o. Avoids o removal) (sym refuses) tt;
-      }
+      by_used : (s : ChanState) → state_of b z ≡ s → (state_of b z ≡ Free → ⊥) → is_used s ≡ true
+      by_used Free is busy = absurd (busy is)
+      by_used (Held c) is busy = refl
+      by_used (Pending c) is busy = refl
+      by_used (On c) is busy = refl
+      by_used Off is busy = refl
 
-      by : (s : ChanState) → state_of b y ≡ s → (reply_of (f s) ≡ Refused (ChannelBusy y) → Misses removal.channel y) → Agrees removal (f s) (f (state_of (apply removal b) y))
-      by Free is not_held = let missed = hides.free_channel y is in record { same = ap f (state_kept removal b y missed ∙ is); away = away missed }
-      by (Held c) is not_held = busy (Held c) is (held c) not_held
-      by (Pending c) is not_held = busy (Pending c) is (pending c) not_held
-      by (On c) is not_held = busy (On c) is (on c) not_held
-      by Off is not_held = busy Off is off not_held
+  pub way_kept : ((w : ChanId) → in_way b y ≡ Some w → Misses removal.channel w) → in_way (apply removal b) y ≡ in_way b y
+  way_kept not_it = way_by removal.channel refl not_it
+
+  -- a row that requires that nothing is in the way of a channel: the channel is none that is gone, or a refusal comes from it
+  pub requires_free :
+      (f : Option ChanId → Outcome) → ((w : ChanId) → f (Some w) ≡ Refuses (ChannelBusy w)) → (Misses removal.channel y → Avoids (f None) removal) →
+      ((w : ChanId) → reply_of (f (in_way b y)) ≡ Refused (ChannelBusy w) → Misses removal.channel w) →
+      Agrees removal (f (in_way b y)) (f (in_way (apply removal b) y))
+  requires_free f busy away not_held =
+      let not_it : (w : ChanId) → in_way b y ≡ Some w → Misses removal.channel w = λ w e. not_held w (ap (λ o. reply_of (f o)) e ∙ ap reply_of (busy w)) in
+      record { same = ap f (way_kept not_it); away = avoided (in_way b y) refl }
+    where
+      avoided : (o : Option ChanId) → in_way b y ≡ o → Avoids (f o) removal
+      avoided None none = away (hides.free_channel y (way_free b y none))
+      avoided (Some w) e = subst (λ o. Avoids o removal) (sym (busy w)) tt
 
 -- of channels that aren't gone the states read the same
 pub states_kept : {X : Type 0} (removal : Change) (b : State) (f : ChanId → ChanState → X) (o : Option ChanId) → ((x : ChanId) → o ≡ Some x → Misses removal.channel x) →

@@ -27,12 +27,12 @@ use Rattle.radio_book.specs.declared.event.Refusal.{Refusal}
 use Rattle.radio_book.specs.declared.event.Refusal.TheVariants.{WrongPhase, NotArmed, Unexpected}
 use Rattle.cell_table.specs.Site.{is_traffic}
 use Rattle.radio_book.specs.State.{State, or_free, state_of, record_of}
-use Rattle.radio_book.specs.Table.{step, command_row, complete_row, require_row, order_row, left_row, detect_row, detect_by, owner_row, is_target, owner, Outcome, Refuses, Accepts, row, book_after, begin_row, clear_row, look_row, taken_attempt, take_row, reserve_row, activate_row, left_state, undo_row, undo_attempt, is_armed, confirm_row, refuse_row, released_row, needs}
+use Rattle.radio_book.specs.Table.{in_way, step, command_row, complete_row, require_row, order_row, left_row, detect_row, detect_by, owner_row, is_target, owner, Outcome, Refuses, Accepts, row, book_after, begin_row, clear_row, look_row, taken_attempt, take_row, reserve_row, activate_row, left_state, undo_row, undo_attempt, is_armed, confirm_row, refuse_row, released_row, needs}
 use Rattle.radio_book.specs.Sound.{IsSound, target_in, HasTarget, HasServing}
 use Rattle.radio_book.specs.Channels.{IsStepOf, serving_of, target_of, changed_channel, TakesStep, ChannelsTakeSteps}
 use Rattle.radio_book.proofs.Rows.{command_by, command_at, complete_by, complete_at, require_at, require_from, order_by, order_at, left_by, left_at, detect_of, detect_at, clear_at, take_at, take_from, reserve_by, reserve_at, reserve_number, activate_by, activate_at}
 use Rattle.radio_tables.proofs.KeyFacts.{chan_total, chan_exact}
-use Rattle.radio_book.proofs.Frame.{AtKey, get-with_change, serving_is_on, aimed_is_owned}
+use Rattle.radio_book.proofs.Frame.{AtKey, get-with_change, serving_is_on, aimed_is_owned, way_free}
 
 -- a step that the event may make a channel take leads from the one state to the other
 abbrev StepsTo : Event → ChanState → ChanState → Type 0
@@ -59,14 +59,11 @@ module _ (b : State) (sound : IsSound b) where
   aimed c r a known opened = ap (option_and_then target_in) known ∙ ap (option_and_then (λ (a : Attempt). a.target)) opened
 
   begin_steps : (e : Event) (c : ℕ) (x : ChanId) (r : CallRecord) (s : ChanState) (f : ChanEvent) → changed_channel b e ≡ Some x → IsStepOf e f → next_state Free f ≡ Some s →
-      (o : Option CallRecord) (traffic : Bool) (z : ChanState) → state_of b x ≡ z → Steps b e (begin_row c x r s o traffic z)
+      (o : Option CallRecord) (traffic : Bool) (z : Option ChanId) → in_way b x ≡ z → Steps b e (begin_row c x r s o traffic z)
   begin_steps e c x r s f named may leads (Some old) traffic z is = tt
   begin_steps e c x r s f named may leads None false z is = tt
-  begin_steps e c x r s f named may leads None true Free is = (named, step_from e (state_of b x) Free s f may is leads)
-  begin_steps e c x r s f named may leads None true (Held d) is = tt
-  begin_steps e c x r s f named may leads None true (Pending d) is = tt
-  begin_steps e c x r s f named may leads None true (On d) is = tt
-  begin_steps e c x r s f named may leads None true Off is = tt
+  begin_steps e c x r s f named may leads None true None is = (named, step_from e (state_of b x) Free s f may (way_free b x is) leads)
+  begin_steps e c x r s f named may leads None true (Some y) is = tt
 
   -- what is left of a channel that its call uses no more
   left_steps : (e : Event) → IsStepOf e chan.Drop → IsStepOf e chan.SwitchOff → (c : ℕ) (z : ChanState) → owner z ≡ Some c → StepsTo e z (or_free (left_state z))
@@ -86,7 +83,7 @@ module _ (b : State) (sound : IsSound b) where
   clear_row_steps c None e = tt
   clear_row_steps c (Some r) e = clear_steps c r.serving r.attempt e
 
-  from_steps : (c : ℕ) (x : ChanId) (r : CallRecord) (serving : ChanState) (traffic same : Bool) (z : ChanState) → state_of b x ≡ z →
+  from_steps : (c : ℕ) (x : ChanId) (r : CallRecord) (serving : ChanState) (traffic same : Bool) (z : Option ChanId) → in_way b x ≡ z →
       Steps b (event.Take c kind.Internal x) (take_from c x r serving traffic same z)
   from_steps c x r Free traffic same z is = tt
   from_steps c x r (Held d) traffic same z is = tt
@@ -94,23 +91,20 @@ module _ (b : State) (sound : IsSound b) where
   from_steps c x r Off traffic same z is = tt
   from_steps c x r (On d) false same z is = tt
   from_steps c x r (On d) true true z is = tt
-  from_steps c x r (On d) true false Free is = (refl, step_from (event.Take c kind.Internal x) (state_of b x) Free (Held c) (chan.Take c) refl is refl)
-  from_steps c x r (On d) true false (Held e) is = tt
-  from_steps c x r (On d) true false (Pending e) is = tt
-  from_steps c x r (On d) true false (On e) is = tt
-  from_steps c x r (On d) true false Off is = tt
+  from_steps c x r (On d) true false None is = (refl, step_from (event.Take c kind.Internal x) (state_of b x) Free (Held c) (chan.Take c) refl (way_free b x is) refl)
+  from_steps c x r (On d) true false (Some y) is = tt
 
   internal_steps : (c : ℕ) (x : ChanId) (r : CallRecord) (o : Option Attempt) (s : Option ChanId) (traffic : Bool) →
       Steps b (event.Take c kind.Internal x) (take_at c x r o s (state_of b) traffic)
   internal_steps c x r (Some a) s traffic = tt
   internal_steps c x r None None traffic = tt
-  internal_steps c x r None (Some y) traffic = from_steps c x r (state_of b y) traffic (y.cell == x.cell) (state_of b x) refl
+  internal_steps c x r None (Some y) traffic = from_steps c x r (state_of b y) traffic (y.cell == x.cell) (in_way b x) refl
 
   take_steps : (c : ℕ) (k : Kind) (x : ChanId) (o : Option CallRecord) → Steps b (event.Take c k x) (take_row c k x o (state_of b) (is_traffic b.site x))
   take_steps c kind.Internal x None = tt
   take_steps c kind.Internal x (Some r) = internal_steps c x r r.attempt r.serving (is_traffic b.site x)
   take_steps c kind.Incoming x o =
-      begin_steps (event.Take c kind.Incoming x) c x (record { serving = None; attempt = Some (taken_attempt Incoming x) }) (Held c) (chan.Take c) refl refl refl o (is_traffic b.site x) (state_of b x) refl
+      begin_steps (event.Take c kind.Incoming x) c x (record { serving = None; attempt = Some (taken_attempt Incoming x) }) (Held c) (chan.Take c) refl refl refl o (is_traffic b.site x) (in_way b x) refl
 
   -- a reference is no channel
   number_steps : (c n : ℕ) (r : CallRecord) (a : Attempt) (t : ChanId) (o : Option ℕ) → Steps b (event.Reserve c n) (reserve_number c n r a t o)
@@ -337,7 +331,7 @@ module _ (b : State) (sound : IsSound b) where
   left_row_steps c (Some r) known = left_by_steps c r r.attempt known refl
 
   row_steps : (e : Event) → Steps b e (row b e)
-  row_steps (event.Open c x) = begin_steps (event.Open c x) c x (record { serving = Some x; attempt = None }) (Pending c) (chan.Begin c) refl refl refl (record_of b c) (is_traffic b.site x) (state_of b x) refl
+  row_steps (event.Open c x) = begin_steps (event.Open c x) c x (record { serving = Some x; attempt = None }) (Pending c) (chan.Begin c) refl refl refl (record_of b c) (is_traffic b.site x) (in_way b x) refl
   row_steps (event.Clear c) = clear_row_steps c (record_of b c) refl
   row_steps (event.Look c) = look_steps c (record_of b c)
   row_steps (event.Take c k x) = take_steps c k x (record_of b c)

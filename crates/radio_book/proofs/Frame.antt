@@ -6,6 +6,9 @@ use Rattle.std.specs.FinMap as map
 use Rattle.std.specs.FinMap.{FinMap, IsAntisymmetric, nat_cmp-IsAntisymmetric}
 use Rattle.channel_fsm.specs.declared.ChanId.{ChanId}
 use Rattle.channel_fsm.specs.declared.ChanState.{ChanState}
+use Rattle.channel_fsm.specs.declared.Sub.TheVariants.{Full}
+use Rattle.channel_fsm.specs.Slots.{Conflicts}
+use Rattle.channel_fsm.proofs.WayFacts.{all_free}
 use Rattle.channel_fsm.specs.declared.ChanState.TheVariants.{Free, On}
 use Rattle.radio_tables.specs.declared.kinds.AttemptKind.{AttemptKind}
 use Rattle.radio_tables.specs.declared.kinds.AttemptKind.TheVariants.{Internal, Incoming, Outgoing}
@@ -18,7 +21,7 @@ use Rattle.cell_table.specs.Site.{is_traffic}
 use Rattle.radio_tables.specs.Maps.{Entry, put, with_change}
 use Rattle.radio_book.specs.State.{State, Change, apply, or_free, state_of, record_of}
 use Rattle.radio_tables.specs.Stages.{stage_row}
-use Rattle.radio_book.specs.Table.{owner, reference_held}
+use Rattle.radio_book.specs.Table.{in_way, owner, reference_held}
 use Rattle.radio_book.specs.Sound.{IsSound, Uses, target_in, reference_of, IsStageOf, HasTarget, HasServing, HasReference, armed_in}
 use Rattle.radio_tables.proofs.KeyFacts.{chan_total, chan_exact, reference_total, reference_exact}
 use Rattle.radio_tables.proofs.MapFacts.{key_cases, get_put_same, get_put_other, call_cases}
@@ -195,6 +198,25 @@ abbrev pub SoundIfAny : (ChanId → ChanState) → (Reference → Option ℕ) �
 SoundIfAny look user c None = Unit {0}
 SoundIfAny look user c (Some r) = IsCallSound look user c r
 
+-- a channel may have an entry: it has one, or nothing is in its way
+abbrev pub Stands : State → ChanId → Type 0
+Stands b x = (state_of b x ≢ Free) ⊎ (in_way b x ≡ None)
+
+-- in whose way nothing is is free
+pub way_free : (b : State) (x : ChanId) → in_way b x ≡ None → state_of b x ≡ Free
+way_free b x none = all_free (state_of b) x none x (inl refl)
+
+turned : {x y : ChanId} → Conflicts x y → Conflicts y x
+turned {x} {y} clash = record { cell = sym clash.cell; trx = sym clash.trx; timeslot = sym clash.timeslot; differ = λ e. clash.differ (sym e); whole = other clash.whole }
+  where
+    other : (x.sub ≡ Full) ⊎ (y.sub ≡ Full) → (y.sub ≡ Full) ⊎ (x.sub ≡ Full)
+    other (inl e) = inr e
+    other (inr e) = inl e
+
+same_touch : {K X : Type 0} (e : Option (Entry K X)) (x y : K) → Touches e x → Touches e y → x ≡ y
+same_touch None x y t u = absurd t
+same_touch (Some e) x y t u = t ∙ sym u
+
 -- what has to be known of a change which concerns one call, whose record this was and that will be
 pub record Concerns (b : State) (change : Change) (c : ℕ) (was is : Option CallRecord) : Type 0 where
   pub before : record_of b c ≡ was
@@ -204,7 +226,7 @@ pub record Concerns (b : State) (change : Change) (c : ℕ) (was is : Option Cal
   -- the channel was of no other call, and is of none
   pub channel_was : AtKey change.channel (λ x v. (d : ℕ) → owner (state_of b x) ≡ Some d → d ≡ c)
   pub channel_is : AtKey change.channel (λ x v. (d : ℕ) → owner (or_free v) ≡ Some d → (d ≡ c) × UsedBy is x)
-  pub entry : AtKey change.channel (λ x v. (s : ChanState) → v ≡ Some s → (is_traffic b.site x ≡ true) × (s ≢ Free))
+  pub entry : AtKey change.channel (λ x v. (s : ChanState) → v ≡ Some s → (is_traffic b.site x ≡ true) × (s ≢ Free) × Stands b x)
   -- the call goes on using its other channels
   pub channels : (x : ChanId) → (Touches change.channel x → ⊥) → UsedBy was x → UsedBy is x
   -- the reference was of no other call, and is of none
@@ -283,15 +305,40 @@ module _ (b : State) (sound : IsSound b) (change : Change) (c : ℕ) (was is : O
   ]
 
   entries : (x : ChanId) (s : ChanState) → map.get b'.channels x ≡ Some s → (is_traffic b.site x ≡ true) × (s ≢ Free)
-  entries x s e = elim (get-with_change chan_total chan_exact b.channels change.channel (λ x v. (s : ChanState) → v ≡ Some s → (is_traffic b.site x ≡ true) × (s ≢ Free)) x concerns.entry) [
-    | inl (now, t) ↦ now s e
+  entries x s e = elim (get-with_change chan_total chan_exact b.channels change.channel (λ x v. (s : ChanState) → v ≡ Some s → (is_traffic b.site x ≡ true) × (s ≢ Free) × Stands b x) x concerns.entry) [
+    | inl (now, t) ↦ let n = now s e in (n.0, n.1)
     | inr (t, same) ↦ (sound.is_traffic x s (sym same ∙ e), sound.not_free x s (sym same ∙ e))
   ]
+
+  entry_used : (x : ChanId) (s : ChanState) → map.get b.channels x ≡ Some s → state_of b x ≢ Free
+  entry_used x s e free = sound.not_free x s e (sym (ap or_free e) ∙ free)
+
+  stands_alone : (x y : ChanId) (t : ChanState) → Stands b x → map.get b.channels y ≡ Some t → Conflicts x y → ⊥
+  stands_alone x y t (inl used) f clash = by (map.get b.channels x) refl
+    where
+      by : (o : Option ChanState) → map.get b.channels x ≡ o → ⊥
+      by None e = used (ap or_free e)
+      by (Some s) e = sound.apart x y s t e f clash
+  stands_alone x y t (inr none) f clash = entry_used y t f (all_free (state_of b) x none y (inr (turned clash)))
+
+  apart : (x y : ChanId) (s t : ChanState) → map.get b'.channels x ≡ Some s → map.get b'.channels y ≡ Some t → Conflicts x y → ⊥
+  apart x y s t e f clash =
+      elim (get-with_change chan_total chan_exact b.channels change.channel (λ x v. (s : ChanState) → v ≡ Some s → (is_traffic b.site x ≡ true) × (s ≢ Free) × Stands b x) x concerns.entry) [
+        | inl (now, touched) ↦ elim (get-with_change chan_total chan_exact b.channels change.channel (λ x v. (s : ChanState) → v ≡ Some s → (is_traffic b.site x ≡ true) × (s ≢ Free) × Stands b x) y concerns.entry) [
+          | inl (there, too) ↦ clash.differ (same_touch change.channel x y touched too)
+          | inr (t', same) ↦ let n = now s e in stands_alone x y t n.2 (sym same ∙ f) clash
+        ]
+        | inr (s', same) ↦ elim (get-with_change chan_total chan_exact b.channels change.channel (λ x v. (s : ChanState) → v ≡ Some s → (is_traffic b.site x ≡ true) × (s ≢ Free) × Stands b x) y concerns.entry) [
+          | inl (there, too) ↦ let n = there t f in stands_alone y x s n.2 (sym same ∙ e) (turned clash)
+          | inr (t', as_before) ↦ sound.apart x y s t (sym same ∙ e) (sym as_before ∙ f) clash
+        ]
+      ]
 
   pub concerned_sound : IsSound (apply change b)
   concerned_sound = record {
     is_traffic = λ x s e. (entries x s e).0;
     not_free = λ x s e. (entries x s e).1;
+    apart = apart;
     owner_uses = owner_uses;
     serving_is_owned = λ d r x e h. (calls d r e).serving_is_owned x h;
     stage_of_kind = λ d r a e h. (calls d r e).stage_of_kind a h;

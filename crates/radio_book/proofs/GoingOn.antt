@@ -31,7 +31,7 @@ use Rattle.cell_table.specs.Site.{is_traffic}
 use Rattle.radio_tables.specs.Maps.{Entry, put, with_change}
 use Rattle.radio_book.specs.State.{State, apply, state_of, record_of}
 use Rattle.radio_tables.specs.Stages.{stage_row}
-use Rattle.radio_book.specs.Table.{owner, Outcome, Refuses, Accepts, row, step, reply_of, reply_to, book_after, with_entry, resting_record, reference_at, reference_held, open_row, clear_row, look_row, take_row, reserve_row, activate_row, command_row, complete_row, undo_row, undo_by, undo_attempt, is_armed, require_row, order_row, left_row, moved_entry, confirm_row, refuse_row, released_row, detect_row, detect_by, owner_row, needs}
+use Rattle.radio_book.specs.Table.{in_way, owner, Outcome, Refuses, Accepts, row, step, reply_of, reply_to, book_after, with_entry, resting_record, reference_at, reference_held, open_row, clear_row, look_row, take_row, reserve_row, activate_row, command_row, complete_row, undo_row, undo_by, undo_attempt, is_armed, require_row, order_row, left_row, moved_entry, confirm_row, refuse_row, released_row, detect_row, detect_by, owner_row, needs}
 use Rattle.radio_book.specs.Sound.{IsSound, HasReference}
 use Rattle.radio_book.specs.Kinds.{call_of, channel_of, EndsIt, number_of, is_accepted, is_reserved}
 use Rattle.radio_book.specs.Others.{without_attempt_of, without_attempt_in, IsOpen, number_after, OwnStepsChangeTheAttempt}
@@ -230,7 +230,7 @@ module _ (b : State) (sound : IsSound b) (c : ℕ) (s : Option ChanId) (k : Atte
       (subst (λ q. Goes b c s k o (if q then number_of e else n) after) (sym same) goes, λ new. cc)
 
   open_goes : (x : ChanId) → Keeps b c s k o n (row b (event.Open c x))
-  open_goes x = subst (λ f. Keeps b c s k o n (open_row c x f (is_traffic b.site x) (state_of b x))) (sym known) tt
+  open_goes x = subst (λ f. Keeps b c s k o n (open_row c x f (is_traffic b.site x) (in_way b x))) (sym known) tt
 
   clear_goes : Keeps b c s k o n (row b (event.Clear c))
   clear_goes = subst (λ f. Keeps b c s k o n (clear_row c f (state_of b))) (sym known) tt

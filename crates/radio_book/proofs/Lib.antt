@@ -20,9 +20,11 @@ pub mod Runs
 pub mod Totals
 -- what each row of the table makes of what is owed; no event is accepted with a refusal
 pub mod OwedRows
+-- an inverse that changes what is kept of a call, out of the tables
+pub mod PutBack
 -- what running a call's inverses leads to
 pub mod RunBack
--- in a sound book one of the first 33 handover references of a cell is free
+-- in a sound book one of the first 97 handover references of a cell is free
 pub mod Numbers
 -- changes of different entries commute
 pub mod Changes

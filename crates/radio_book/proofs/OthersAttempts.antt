@@ -22,7 +22,7 @@ use Rattle.radio_book.specs.declared.event.Refusal.TheVariants.{NoCall, WrongPha
 use Rattle.radio_book.specs.declared.event.Reply.TheVariants.{Record, Refused}
 use Rattle.cell_table.specs.Site.{is_traffic}
 use Rattle.radio_book.specs.State.{State, Change, apply, state_of, record_of}
-use Rattle.radio_book.specs.Table.{Accepts, reply_of, undo_row, undo_attempt, is_armed, left_state, resting_record, reference_held, taken_attempt, take_row, reserve_row, reference_at, activate_row, needs}
+use Rattle.radio_book.specs.Table.{in_way, Accepts, reply_of, undo_row, undo_attempt, is_armed, left_state, resting_record, reference_held, taken_attempt, take_row, reserve_row, reference_at, activate_row, needs}
 use Rattle.radio_book.specs.Sound.{IsSound, reference_of}
 use Rattle.radio_book.proofs.Rows.{take_at, take_from, reserve_by, reserve_at, reserve_number, activate_by, activate_at}
 use Rattle.radio_book.proofs.Changes.{Misses, option_apart, record_kept, state_kept, user_kept, timer_kept}
@@ -32,8 +32,8 @@ use Rattle.radio_book.proofs.OthersCalls.{begin_agrees}
 -- Take
 module _ (removal : Change) (b : State) (hides : Hides removal b) (d : ℕ) (y : ChanId) (other : Misses removal.call d) where
   from_agrees : (r : CallRecord) (serving : ChanState) (traffic same : Bool) →
-      (reply_of (take_from d y r serving traffic same (state_of b y)) ≡ Refused (ChannelBusy y) → Misses removal.channel y) →
-      Agrees removal (take_from d y r serving traffic same (state_of b y)) (take_from d y r serving traffic same (state_of (apply removal b) y))
+      ((w : ChanId) → reply_of (take_from d y r serving traffic same (in_way b y)) ≡ Refused (ChannelBusy w) → Misses removal.channel w) →
+      Agrees removal (take_from d y r serving traffic same (in_way b y)) (take_from d y r serving traffic same (in_way (apply removal b) y))
   from_agrees r Free traffic same h = refused removal WrongPhase
   from_agrees r (Held c) traffic same h = refused removal WrongPhase
   from_agrees r (Pending c) traffic same h = refused removal WrongPhase
@@ -41,25 +41,25 @@ module _ (removal : Change) (b : State) (hides : Hides removal b) (d : ℕ) (y :
   from_agrees r (On c) false same h = refused removal NoChannel
   from_agrees r (On c) true true h = refused removal SameCell
   from_agrees r (On c) true false h =
-      requires_free removal b hides y (take_from d y r (On c) true false) (λ c. refl) (λ c. refl) (λ c. refl) refl
+      requires_free removal b hides y (take_from d y r (On c) true false) (λ w. refl)
       (λ missed. record { channel = missed; call = other; reference = tt; timer = tt }) h
 
   internal_agrees : (r : CallRecord) (o : Option Attempt) (serving : Option ChanId) (traffic : Bool) → ((s : ChanId) → serving ≡ Some s → Misses removal.channel s) →
-      (reply_of (take_at d y r o serving (state_of b) traffic) ≡ Refused (ChannelBusy y) → Misses removal.channel y) →
+      ((w : ChanId) → reply_of (take_at d y r o serving (state_of b) traffic) ≡ Refused (ChannelBusy w) → Misses removal.channel w) →
       Agrees removal (take_at d y r o serving (state_of b) traffic) (take_at d y r o serving (state_of (apply removal b)) traffic)
   internal_agrees r (Some a) serving traffic missed h = refused removal WrongPhase
   internal_agrees r None None traffic missed h = refused removal WrongPhase
   internal_agrees r None (Some s) traffic missed h =
-      as_read (ap (λ v. take_from d y r v traffic (s.cell == y.cell) (state_of (apply removal b) y)) (state_kept removal b s (missed s refl)))
+      as_read (ap (λ v. take_from d y r v traffic (s.cell == y.cell) (in_way (apply removal b) y)) (state_kept removal b s (missed s refl)))
       (from_agrees r (state_of b s) traffic (s.cell == y.cell) h)
 
 pub take_agrees : (d : ℕ) (k : Kind) (y : ChanId) → AgreesWithOthers (event.Take d k y)
 take_agrees d k y removal b sound hides other not_held =
     as_read (ap (λ o. take_row d k y o (state_of (apply removal b)) (is_traffic b.site y)) (record_kept removal b d other))
-    (by k (record_of b d) refl (not_held.channel y))
+    (by k (record_of b d) refl not_held.channel)
   where
     by : (k : Kind) (o : Option CallRecord) → record_of b d ≡ o →
-        (reply_of (take_row d k y o (state_of b) (is_traffic b.site y)) ≡ Refused (ChannelBusy y) → Misses removal.channel y) →
+        ((w : ChanId) → reply_of (take_row d k y o (state_of b) (is_traffic b.site y)) ≡ Refused (ChannelBusy w) → Misses removal.channel w) →
         Agrees removal (take_row d k y o (state_of b) (is_traffic b.site y)) (take_row d k y o (state_of (apply removal b)) (is_traffic b.site y))
     by kind.Internal None is h = refused removal NoCall
     by kind.Internal (Some r) is h = internal_agrees removal b hides d y other r r.attempt r.serving (is_traffic b.site y) (serving_missed removal b sound hides d other r is) h

@@ -10,25 +10,25 @@ use Rattle.radio_book.specs.declared.event.Refusal.TheVariants.{NoCall, CallExis
 use Rattle.radio_book.specs.declared.event.Reply.TheVariants.{Done, Record, Refused}
 use Rattle.cell_table.specs.Site.{is_traffic}
 use Rattle.radio_book.specs.State.{State, Change, apply, state_of, record_of}
-use Rattle.radio_book.specs.Table.{Accepts, reply_of, no_change, begin_row, open_row, clear_row, left_state, look_row}
+use Rattle.radio_book.specs.Table.{in_way, Accepts, reply_of, no_change, begin_row, open_row, clear_row, left_state, look_row}
 use Rattle.radio_book.proofs.Rows.{clear_at}
 use Rattle.radio_book.proofs.Changes.{Misses, option_apart, record_kept}
 use Rattle.radio_book.proofs.Agreement.{Agrees, refused, as_read, Hides, AgreesWithOthers, requires_free, states_kept, serving_missed}
 
 -- another call begins, by whichever event
 pub begin_agrees : (removal : Change) (b : State) (hides : Hides removal b) (d : ℕ) (y : ChanId) (other : Misses removal.call d) (r : CallRecord) (v : ChanState) (o : Option CallRecord) (traffic : Bool) →
-    (reply_of (begin_row d y r v o traffic (state_of b y)) ≡ Refused (ChannelBusy y) → Misses removal.channel y) →
-    Agrees removal (begin_row d y r v o traffic (state_of b y)) (begin_row d y r v o traffic (state_of (apply removal b) y))
+    ((w : ChanId) → reply_of (begin_row d y r v o traffic (in_way b y)) ≡ Refused (ChannelBusy w) → Misses removal.channel w) →
+    Agrees removal (begin_row d y r v o traffic (in_way b y)) (begin_row d y r v o traffic (in_way (apply removal b) y))
 begin_agrees removal b hides d y other r v (Some old) traffic h = refused removal CallExists
 begin_agrees removal b hides d y other r v None false h = refused removal NoChannel
 begin_agrees removal b hides d y other r v None true h =
-    requires_free removal b hides y (begin_row d y r v None true) (λ c. refl) (λ c. refl) (λ c. refl) refl
+    requires_free removal b hides y (begin_row d y r v None true) (λ w. refl)
     (λ missed. record { channel = missed; call = other; reference = tt; timer = tt }) h
 
 pub open_agrees : (d : ℕ) (y : ChanId) → AgreesWithOthers (event.Open d y)
 open_agrees d y removal b sound hides other not_held =
-    as_read (ap (λ o. open_row d y o (is_traffic b.site y) (state_of (apply removal b) y)) (record_kept removal b d other))
-    (begin_agrees removal b hides d y other (record { serving = Some y; attempt = None }) (Pending d) (record_of b d) (is_traffic b.site y) (not_held.channel y))
+    as_read (ap (λ o. open_row d y o (is_traffic b.site y) (in_way (apply removal b) y)) (record_kept removal b d other))
+    (begin_agrees removal b hides d y other (record { serving = Some y; attempt = None }) (Pending d) (record_of b d) (is_traffic b.site y) not_held.channel)
 
 pub clear_agrees : (d : ℕ) → AgreesWithOthers (event.Clear d)
 clear_agrees d removal b sound hides other not_held =

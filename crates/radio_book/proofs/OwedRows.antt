@@ -25,7 +25,7 @@ use Rattle.radio_book.specs.declared.event.Event.TheVariants as event
 use Rattle.cell_table.specs.Site.{is_traffic}
 use Rattle.radio_book.specs.State.{State, Change, apply, or_free, state_of, record_of}
 use Rattle.radio_tables.specs.Stages.{Allows, stage_allows}
-use Rattle.radio_book.specs.Table.{Outcome, Refuses, Accepts, needs, given, owner, left_state, row, reply_of, book_after, with_entry, at_stage, begin_row, clear_row, look_row, take_row, taken_attempt, require_row, in_stage, reference_at, reserve_row, activate_row, command_row, order_row, complete_row, left_row, resting_record, undo_attempt, undo_row, is_armed, is_target, moved_entry, attempt_entry, confirm_row, refuse_row, detect_by, detect_row, released_row, owner_row}
+use Rattle.radio_book.specs.Table.{in_way, Outcome, Refuses, Accepts, needs, given, owner, left_state, row, reply_of, book_after, with_entry, at_stage, begin_row, clear_row, look_row, take_row, taken_attempt, require_row, in_stage, reference_at, reserve_row, activate_row, command_row, order_row, complete_row, left_row, resting_record, undo_attempt, undo_row, is_armed, is_target, moved_entry, attempt_entry, confirm_row, refuse_row, detect_by, detect_row, released_row, owner_row}
 use Rattle.radio_book.specs.Sound.{IsSound}
 use Rattle.radio_book.specs.Kinds.{is_accepted}
 use Rattle.radio_book.specs.Run.{RefusedEventsChangeNothing}
@@ -136,14 +136,11 @@ resting_counts Outgoing r = refl
 
 -- CALLS
 
-begin_raises : (b : State) (n c : ℕ) (x : ChanId) (r : CallRecord) (v : ChanState) → open_in r + 1 ≤ n → (found : Option CallRecord) (traffic : Bool) (s : ChanState) → Raises b n (begin_row c x r v found traffic s)
-begin_raises b n c x r v within (Some old) traffic s = tt
-begin_raises b n c x r v within None false s = tt
-begin_raises b n c x r v within None true Free = (omega arith, refl)
-begin_raises b n c x r v within None true (Held d) = tt
-begin_raises b n c x r v within None true (Pending d) = tt
-begin_raises b n c x r v within None true (On d) = tt
-begin_raises b n c x r v within None true Off = tt
+begin_raises : (b : State) (n c : ℕ) (x : ChanId) (r : CallRecord) (v : ChanState) → open_in r + 1 ≤ n → (found : Option CallRecord) (traffic : Bool) (w : Option ChanId) → Raises b n (begin_row c x r v found traffic w)
+begin_raises b n c x r v within (Some old) traffic w = tt
+begin_raises b n c x r v within None false w = tt
+begin_raises b n c x r v within None true None = (omega arith, refl)
+begin_raises b n c x r v within None true (Some y) = tt
 
 clear_raises : (b : State) (c : ℕ) (s : Option ChanId) (o : Option Attempt) → Raises b 0 (clear_at c (record { serving = s; attempt = o }) o (state_of b))
 clear_raises b c s (Some a) = tt
@@ -159,28 +156,25 @@ look_raises b (Some r) = (omega arith, refl)
 
 -- ATTEMPTS OPEN
 
-taken_raises : (b : State) (c : ℕ) (x : ChanId) (r : CallRecord) (serving : ChanState) (traffic same : Bool) (s : ChanState) → Raises b 2 (take_from c x r serving traffic same s)
-taken_raises b c x r Free traffic same s = tt
-taken_raises b c x r (Held d) traffic same s = tt
-taken_raises b c x r (Pending d) traffic same s = tt
-taken_raises b c x r Off traffic same s = tt
-taken_raises b c x r (On d) false same s = tt
-taken_raises b c x r (On d) true true s = tt
-taken_raises b c x r (On d) true false Free = (omega arith, refl)
-taken_raises b c x r (On d) true false (Held e) = tt
-taken_raises b c x r (On d) true false (Pending e) = tt
-taken_raises b c x r (On d) true false (On e) = tt
-taken_raises b c x r (On d) true false Off = tt
+taken_raises : (b : State) (c : ℕ) (x : ChanId) (r : CallRecord) (serving : ChanState) (traffic same : Bool) (w : Option ChanId) → Raises b 2 (take_from c x r serving traffic same w)
+taken_raises b c x r Free traffic same w = tt
+taken_raises b c x r (Held d) traffic same w = tt
+taken_raises b c x r (Pending d) traffic same w = tt
+taken_raises b c x r Off traffic same w = tt
+taken_raises b c x r (On d) false same w = tt
+taken_raises b c x r (On d) true true w = tt
+taken_raises b c x r (On d) true false None = (omega arith, refl)
+taken_raises b c x r (On d) true false (Some y) = tt
 
 internal_raises : (b : State) (c : ℕ) (x : ChanId) (s : Option ChanId) (o : Option Attempt) (traffic : Bool) → Raises b 2 (take_at c x (record { serving = s; attempt = o }) o s (state_of b) traffic)
 internal_raises b c x s (Some a) traffic = tt
 internal_raises b c x None None traffic = tt
-internal_raises b c x (Some y) None traffic = taken_raises b c x (record { serving = Some y; attempt = None }) (state_of b y) traffic (y.cell == x.cell) (state_of b x)
+internal_raises b c x (Some y) None traffic = taken_raises b c x (record { serving = Some y; attempt = None }) (state_of b y) traffic (y.cell == x.cell) (in_way b x)
 
 take_raises : (b : State) (c : ℕ) (k : Kind) (x : ChanId) (o : Option CallRecord) (traffic : Bool) → Raises b 2 (take_row c k x o (state_of b) traffic)
 take_raises b c kind.Internal x None traffic = tt
 take_raises b c kind.Internal x (Some r) traffic = internal_raises b c x r.serving r.attempt traffic
-take_raises b c kind.Incoming x o traffic = begin_raises b 2 c x (record { serving = None; attempt = Some (taken_attempt Incoming x) }) (Held c) (omega arith) o traffic (state_of b x)
+take_raises b c kind.Incoming x o traffic = begin_raises b 2 c x (record { serving = None; attempt = Some (taken_attempt Incoming x) }) (Held c) (omega arith) o traffic (in_way b x)
 
 required_raises : (b : State) (c : ℕ) (r : CallRecord) (s : ChanState) → Raises b 1 (require_from c r s)
 required_raises b c r Free = tt
@@ -329,7 +323,7 @@ undo_event_lowers : (b : State) (c : ℕ) (why : Why) → Lowers b (row b (event
 undo_event_lowers b c why = undo_row_lowers b c why (record_of b c) (map.get b.timers c) refl
 
 row_raises : (b : State) (e : Event) → IsSound b → Raises b (most_raised e) (row b e)
-row_raises b (event.Open c x) sound = begin_raises b 1 c x (record { serving = Some x; attempt = None }) (Pending c) (omega arith) (record_of b c) (is_traffic b.site x) (state_of b x)
+row_raises b (event.Open c x) sound = begin_raises b 1 c x (record { serving = Some x; attempt = None }) (Pending c) (omega arith) (record_of b c) (is_traffic b.site x) (in_way b x)
 row_raises b (event.Clear c) sound = clear_row_raises b c (record_of b c)
 row_raises b (event.Look c) sound = look_raises b (record_of b c)
 row_raises b (event.Take c k x) sound = take_raises b c k x (record_of b c) (is_traffic b.site x)

@@ -21,14 +21,14 @@ use Rattle.radio_book.specs.declared.event.Event.TheVariants as event
 use Rattle.cell_table.specs.Site.{is_traffic}
 use Rattle.radio_tables.specs.Maps.{put, with_change}
 use Rattle.radio_book.specs.State.{State, apply, or_free, state_of, record_of}
-use Rattle.radio_book.specs.Table.{Outcome, Refuses, Accepts, row, reply_of, reply_to, step, book_after, with_entry, resting_record, taking_change, take_row, begin_row, taken_attempt, require_row}
+use Rattle.radio_book.specs.Table.{in_way, Outcome, Refuses, Accepts, row, reply_of, reply_to, step, book_after, with_entry, resting_record, taking_change, take_row, begin_row, taken_attempt, require_row}
 use Rattle.radio_book.specs.Sound.{IsSound, armed_in}
 use Rattle.radio_book.specs.Kinds.{is_accepted}
 use Rattle.radio_book.specs.Others.{without_attempt_of, without_attempt_in, IsOpen, AddsTheAttempt, OpeningsAddTheAttempt}
 use Rattle.radio_book.proofs.Rows.{take_at, take_from, require_at, require_from}
 use Rattle.radio_tables.proofs.KeyFacts.{chan_total, chan_exact}
 use Rattle.radio_tables.proofs.MapFacts.{get_put_same, put_put_same, put_again, record_same}
-use Rattle.radio_book.proofs.Frame.{attempting}
+use Rattle.radio_book.proofs.Frame.{attempting, way_free}
 use Rattle.radio_book.proofs.SoundParts.{rests}
 
 -- a free channel has no entry
@@ -84,38 +84,32 @@ module _ (b : State) (sound : IsSound b) (c : ℕ) where
       }
 
   -- Take of a call of this controller
-  from_adds : (x y : ChanId) (serving : ChanState) (traffic same : Bool) (z : ChanState) → record_of b c ≡ Some (rests y) → state_of b x ≡ z → Adds b c (Some x) (take_from c x (rests y) serving traffic same z)
+  from_adds : (x y : ChanId) (serving : ChanState) (traffic same : Bool) (z : Option ChanId) → record_of b c ≡ Some (rests y) → in_way b x ≡ z → Adds b c (Some x) (take_from c x (rests y) serving traffic same z)
   from_adds x y Free traffic same z known is = tt
   from_adds x y (Held d) traffic same z known is = tt
   from_adds x y (Pending d) traffic same z known is = tt
   from_adds x y Off traffic same z known is = tt
   from_adds x y (On d) false same z known is = tt
   from_adds x y (On d) true true z known is = tt
-  from_adds x y (On d) true false Free known is = taken x (Some y) Internal (Some (rests y)) known refl refl is
-  from_adds x y (On d) true false (Held e) known is = tt
-  from_adds x y (On d) true false (Pending e) known is = tt
-  from_adds x y (On d) true false (On e) known is = tt
-  from_adds x y (On d) true false Off known is = tt
+  from_adds x y (On d) true false None known is = taken x (Some y) Internal (Some (rests y)) known refl refl (way_free b x is)
+  from_adds x y (On d) true false (Some z) known is = tt
 
   internal_adds : (x : ChanId) (s : Option ChanId) (o : Option Attempt) (traffic : Bool) → record_of b c ≡ Some (record { serving = s; attempt = o }) → Adds b c (Some x) (take_at c x (record { serving = s; attempt = o }) o s (state_of b) traffic)
   internal_adds x s (Some a) traffic known = tt
   internal_adds x None None traffic known = tt
-  internal_adds x (Some y) None traffic known = from_adds x y (state_of b y) traffic (y.cell == x.cell) (state_of b x) known refl
+  internal_adds x (Some y) None traffic known = from_adds x y (state_of b y) traffic (y.cell == x.cell) (in_way b x) known refl
 
   -- and of one of another
-  incoming_adds : (x : ChanId) (o : Option CallRecord) (traffic : Bool) (z : ChanState) → record_of b c ≡ o → state_of b x ≡ z → Adds b c (Some x) (begin_row c x (record { serving = None; attempt = Some (taken_attempt Incoming x) }) (Held c) o traffic z)
+  incoming_adds : (x : ChanId) (o : Option CallRecord) (traffic : Bool) (z : Option ChanId) → record_of b c ≡ o → in_way b x ≡ z → Adds b c (Some x) (begin_row c x (record { serving = None; attempt = Some (taken_attempt Incoming x) }) (Held c) o traffic z)
   incoming_adds x (Some r) traffic z known is = tt
   incoming_adds x None false z known is = tt
-  incoming_adds x None true Free known is = taken x None Incoming None known refl refl is
-  incoming_adds x None true (Held d) known is = tt
-  incoming_adds x None true (Pending d) known is = tt
-  incoming_adds x None true (On d) known is = tt
-  incoming_adds x None true Off known is = tt
+  incoming_adds x None true None known is = taken x None Incoming None known refl refl (way_free b x is)
+  incoming_adds x None true (Some z) known is = tt
 
   take_adds : (k : Kind) (x : ChanId) (o : Option CallRecord) → record_of b c ≡ o → Adds b c (Some x) (take_row c k x o (state_of b) (is_traffic b.site x))
   take_adds kind.Internal x None known = tt
   take_adds kind.Internal x (Some r) known = internal_adds x r.serving r.attempt (is_traffic b.site x) known
-  take_adds kind.Incoming x o known = incoming_adds x o (is_traffic b.site x) (state_of b x) known refl
+  take_adds kind.Incoming x o known = incoming_adds x o (is_traffic b.site x) (in_way b x) known refl
 
   require_from_adds : (y : ChanId) (z : ChanState) → record_of b c ≡ Some (rests y) → Adds b c None (require_from c (rests y) z)
   require_from_adds y Free known = tt

@@ -1,5 +1,5 @@
 -- What a sound book says of the channels that an event reads.
-use Rattle.std.proofs.Common.{◌≡◌, ◌≢◌, ◌==◌, ◌<◌, ℕ, true, false, if◌then◌else◌, [], length, slice_get, unwrap_or, option_and_then, Option, Some, None, is_some, Result, Ok, Err, OnOk, OnErr, refl, sym, ap, ◌∙◌, subst}
+use Rattle.std.proofs.Common.{◌≡◌, ◌==◌, ◌<◌, ℕ, true, false, if◌then◌else◌, [], length, slice_get, unwrap_or, option_and_then, Option, Some, None, is_some, Result, Ok, Err, OnOk, OnErr, refl, sym, ap, ◌∙◌, subst}
 use Rattle.std.proofs.lemmas.Bool.{eq-eqb}
 use Rattle.std.specs.Option.{option_map}
 use Rattle.std.specs.List.{list_any}
@@ -7,21 +7,21 @@ use Rattle.std.proofs.lemmas.Option.{slice_get_within}
 use Rattle.std.specs.FinMap as map
 use Rattle.channel_fsm.specs.declared.ChanId.{ChanId}
 use Rattle.channel_fsm.specs.declared.ChanState.{ChanState}
-use Rattle.channel_fsm.specs.declared.ChanState.TheVariants.{Free, Held, Pending, On, Off}
+use Rattle.channel_fsm.specs.declared.ChanState.TheVariants.{Held, Pending}
 use Rattle.radio_tables.specs.declared.kinds.Stage.{Stage}
 use Rattle.radio_tables.specs.declared.kinds.Attempt.{Attempt}
 use Rattle.radio_tables.specs.declared.kinds.CallRecord.{CallRecord}
 use Rattle.radio_book.specs.declared.event.Event.{Event}
 use Rattle.radio_book.specs.declared.event.Refusal.TheVariants.{ChannelBusy}
-use Rattle.cell_table.specs.Site.{SiteView, is_traffic}
+use Rattle.cell_table.specs.Site.{SiteView, slots_with, is_traffic}
 use Rattle.channel_fsm.specs.declared.ChanEvent.TheVariants.{Send}
 use Rattle.radio_book.specs.Channels.{entry_of, channel_step}
 use Rattle.radio_book.specs.State.{State, or_free, state_of, record_of}
 use Rattle.radio_book.specs.Sound.{IsSound, HasTarget}
-use Rattle.radio_book.specs.Table.{Refuses, step, begin_row, with_entry}
+use Rattle.radio_book.specs.Table.{Refuses, in_way, step, begin_row, with_entry}
 use Rattle.radio_tables.specs.Stages.{stage_row, sent_inverses, opening_inverse}
 use Rattle.radio_book.specs.Journal.{journal_of, or_zero, or_origin}
-use Rattle.radio_book.proofs.Frame.{aimed_is_owned}
+use Rattle.radio_book.proofs.Frame.{aimed_is_owned, way_free}
 use Rattle.radio_book.proofs.SoundParts.{owned_traffic}
 use Rattle.radio_book.proofs.SoundSteps.{sent_stage, sound_step}
 
@@ -34,7 +34,7 @@ traffic_cell : (site : SiteView) (x : ChanId) → is_traffic site x ≡ true →
 traffic_cell site x traffic =
     elim (slice_get site.cells x.cell) as (λ o. slice_get site.cells x.cell ≡ o → x.cell < length site.cells) [
       | None ↦ λ is.
-          let none : is_traffic site x ≡ false = ap (λ o. list_any (λ tn. tn == x.tn) (unwrap_or (option_map (λ t. t.tch) (option_and_then (λ found. slice_get found.trx x.trx) o)) [])) is in
+          let none : is_traffic site x ≡ false = ap (λ o. list_any (λ tn. tn == x.tn) (unwrap_or (option_map (slots_with x.sub) (option_and_then (λ found. slice_get found.trx x.trx) o)) [])) is in
           cc
       | Some found ↦ λ is. slice_get_within site.cells x.cell found is
     ] refl
@@ -45,29 +45,22 @@ pub target_cell : (b : State) → IsSound b → (c : ℕ) (r : CallRecord) (a : 
 target_cell b sound c r a t known opened aims =
     traffic_cell b.site t (owned_traffic b sound t c (aimed_is_owned b sound c r a t known opened aims))
 
--- an entry is of a channel that isn't free
-not_free : (b : State) (x : ChanId) → IsSound b → is_some (map.get b.channels x) ≡ true → state_of b x ≢ Free
-not_free b x sound there =
-    elim (map.get b.channels x) as (λ o. map.get b.channels x ≡ o → is_some o ≡ true → or_free o ≢ Free) [
-      | None ↦ λ is h. cc
-      | Some s ↦ λ is h free. sound.not_free x s is free
-    ] refl there
-
-begin_busy : (c : ℕ) (x : ChanId) (r : CallRecord) (v s : ChanState) → s ≢ Free → begin_row c x r v None true s ≡ Refuses (ChannelBusy x)
-begin_busy c x r v Free apart = absurd (apart refl)
-begin_busy c x r v (Held d) apart = refl
-begin_busy c x r v (Pending d) apart = refl
-begin_busy c x r v (On d) apart = refl
-begin_busy c x r v Off apart = refl
-
 no_record : (o : Option CallRecord) → is_some o ≡ false → o ≡ None
 no_record None h = refl
 no_record (Some r) h = cc
 
-pub begin_is_busy : (b : State) (c : ℕ) (x : ChanId) (r : CallRecord) (v : ChanState) → IsSound b → is_some (record_of b c) ≡ false → is_traffic b.site x ≡ true → is_some (map.get b.channels x) ≡ true → begin_row c x r v (record_of b c) (is_traffic b.site x) (state_of b x) ≡ Refuses (ChannelBusy x)
-begin_is_busy b c x r v sound new traffic there =
-    ap (λ o. begin_row c x r v o (is_traffic b.site x) (state_of b x)) (no_record (record_of b c) new)
-    ∙ ap (λ t. begin_row c x r v None t (state_of b x)) traffic ∙ begin_busy c x r v (state_of b x) (not_free b x sound there)
+pub begin_is_busy : (b : State) (c : ℕ) (x : ChanId) (r : CallRecord) (v : ChanState) (y : ChanId) → is_some (record_of b c) ≡ false → is_traffic b.site x ≡ true → in_way b x ≡ Some y → begin_row c x r v (record_of b c) (is_traffic b.site x) (in_way b x) ≡ Refuses (ChannelBusy y)
+begin_is_busy b c x r v y new traffic busy =
+    ap (λ o. begin_row c x r v o (is_traffic b.site x) (in_way b x)) (no_record (record_of b c) new)
+    ∙ ap (λ t. begin_row c x r v None t (in_way b x)) traffic ∙ ap (λ w. begin_row c x r v None true w) busy
+
+-- in whose way nothing is has no entry
+pub no_entry : (b : State) (x : ChanId) → IsSound b → in_way b x ≡ None → map.get b.channels x ≡ None
+no_entry b x sound none = by (map.get b.channels x) refl
+  where
+    by : (o : Option ChanState) → map.get b.channels x ≡ o → o ≡ None
+    by None e = refl
+    by (Some s) e = absurd (sound.not_free x s e (sym (ap or_free e) ∙ way_free b x none))
 
 -- an attempt of the call that has the channel as its target keeps its inverses at the stage
 abbrev pub MayMove : ℕ → ChanId → Stage → State → Type 0

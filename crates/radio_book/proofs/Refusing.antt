@@ -13,9 +13,9 @@ use Rattle.radio_tables.specs.declared.kinds.CallRecord.{CallRecord}
 use Rattle.radio_book.specs.declared.event.Event.{Event}
 use Rattle.radio_book.specs.declared.event.Event.TheVariants as event
 use Rattle.radio_book.specs.declared.event.Refusal.{Refusal}
-use Rattle.radio_book.specs.declared.event.Refusal.TheVariants.{NoCall, CallExists, WrongPhase, NoChannel, SameCell, ChannelBusy, RefBusy, Unexpected, NotArmed}
+use Rattle.radio_book.specs.declared.event.Refusal.TheVariants.{NoCall, CallExists, WrongPhase, NoChannel, SameCell, RefBusy, Unexpected, NotArmed}
 use Rattle.radio_book.specs.State.{State, state_of, record_of}
-use Rattle.radio_book.specs.Table.{Outcome, Refuses, Accepts, needs, given, channel_row, owner, is_target, reference_at, row, step, reply_to, reply_of, book_after, begin_row, at_rest, in_stage, undo_by, is_armed}
+use Rattle.radio_book.specs.Table.{in_way, Outcome, Refuses, Accepts, needs, given, unless_busy, channel_row, owner, is_target, reference_at, row, step, reply_to, reply_of, book_after, begin_row, at_rest, in_stage, undo_by, is_armed}
 use Rattle.radio_book.specs.Kinds.{is_accepted}
 use Rattle.radio_tables.specs.Stages.{Allows, stage_allows}
 
@@ -32,8 +32,12 @@ given_fair : {X : Type 0} (o : Option X) (refusal : Refusal) (rest : X → Outco
 given_fair None refusal rest fair = tt
 given_fair (Some x) refusal rest fair = fair x
 
-begin_fair : (c : ℕ) (x : ChanId) (r : CallRecord) (s : ChanState) (found : Option CallRecord) (traffic : Bool) (state : ChanState) → IsFair (begin_row c x r s found traffic state)
-begin_fair c x r s found traffic state = needs_fair (is_none found) CallExists _ (needs_fair traffic NoChannel _ (needs_fair (channel_row state).free (ChannelBusy x) _ refl))
+busy_fair : (way : Option ChanId) (rest : Outcome) → IsFair rest → IsFair (unless_busy way rest)
+busy_fair None rest fair = fair
+busy_fair (Some y) rest fair = tt
+
+begin_fair : (c : ℕ) (x : ChanId) (r : CallRecord) (s : ChanState) (found : Option CallRecord) (traffic : Bool) (way : Option ChanId) → IsFair (begin_row c x r s found traffic way)
+begin_fair c x r s found traffic way = needs_fair (is_none found) CallExists _ (needs_fair traffic NoChannel _ (busy_fair way _ refl))
 
 rest_fair : (r : CallRecord) (states : ChanId → ChanState) (rest : ChanId → Outcome) → ((s : ChanId) → IsFair (rest s)) → IsFair (at_rest r states rest)
 rest_fair r states rest fair = needs_fair (is_none r.attempt) WrongPhase _ (given_fair r.serving WrongPhase _ (λ s. given_fair (channel_row (states s)).active WrongPhase _ (λ d. fair s)))
@@ -46,13 +50,13 @@ undo_fair c Asked r states armed = given_fair r.attempt WrongPhase _ (λ a. refl
 undo_fair c (Expired m) r states armed = needs_fair (is_armed m armed) NotArmed _ (given_fair r.attempt NotArmed _ (λ a. refl))
 
 row_fair : (b : State) (e : Event) → IsFair (row b e)
-row_fair b (event.Open c x) = begin_fair c x _ _ (record_of b c) (is_traffic b.site x) (state_of b x)
+row_fair b (event.Open c x) = begin_fair c x _ _ (record_of b c) (is_traffic b.site x) (in_way b x)
 row_fair b (event.Clear c) = given_fair (record_of b c) NoCall _ (λ r. needs_fair (is_none r.attempt) WrongPhase _ refl)
 row_fair b (event.Look c) = given_fair (record_of b c) NoCall _ (λ r. refl)
 row_fair b (event.Take c kind.Internal x) =
     given_fair (record_of b c) NoCall _ (λ r. rest_fair r (state_of b) _ (λ s.
-    needs_fair (is_traffic b.site x) NoChannel _ (needs_fair (not (s.cell == x.cell)) SameCell _ (needs_fair (channel_row (state_of b x)).free (ChannelBusy x) _ refl))))
-row_fair b (event.Take c kind.Incoming x) = begin_fair c x _ _ (record_of b c) (is_traffic b.site x) (state_of b x)
+    needs_fair (is_traffic b.site x) NoChannel _ (needs_fair (not (s.cell == x.cell)) SameCell _ (busy_fair (in_way b x) _ refl))))
+row_fair b (event.Take c kind.Incoming x) = begin_fair c x _ _ (record_of b c) (is_traffic b.site x) (in_way b x)
 row_fair b (event.Reserve c n) =
     given_fair (record_of b c) NoCall _ (λ r. stage_fair r (λ may. may.reserve) _ (λ a. given_fair a.target WrongPhase _ (λ t. needs_fair (is_none (map.get b.references (reference_at t n))) (RefBusy t.cell n) _ refl)))
 row_fair b (event.Activate c) = given_fair (record_of b c) NoCall _ (λ r. stage_fair r (λ may. may.activate) _ (λ a. given_fair a.target WrongPhase _ (λ t. refl)))

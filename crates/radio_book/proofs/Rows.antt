@@ -3,6 +3,7 @@ use Rattle.std.specs.Prelude.{ℕ, Bool, not, ◌==◌, Option, Some, None, is_n
 use Rattle.std.specs.Option.{option_map}
 use Rattle.channel_fsm.specs.declared.ChanId.{ChanId}
 use Rattle.channel_fsm.specs.declared.ChanState.{ChanState}
+use Rattle.channel_fsm.specs.Slots.{first_in_way}
 use Rattle.channel_fsm.specs.declared.ChanState.TheVariants.{Pending, Off}
 use Rattle.attempt_journal.specs.declared.Timer.TheVariants.{T3103, T7, T8}
 use Rattle.radio_tables.specs.declared.kinds.AttemptKind.TheVariants.{Internal}
@@ -11,10 +12,10 @@ use Rattle.radio_tables.specs.declared.kinds.Stage.TheVariants as stage
 use Rattle.radio_tables.specs.declared.kinds.Attempt.{Attempt}
 use Rattle.radio_tables.specs.declared.kinds.CallRecord.{CallRecord}
 use Rattle.dense_tables.specs.declared.references.Reference.{Reference}
-use Rattle.radio_book.specs.declared.event.Refusal.TheVariants.{WrongPhase, NoChannel, SameCell, ChannelBusy, RefBusy, Unexpected}
+use Rattle.radio_book.specs.declared.event.Refusal.TheVariants.{WrongPhase, NoChannel, SameCell, RefBusy, Unexpected}
 use Rattle.radio_book.specs.declared.event.Reply.TheVariants.{Done, Owned}
 use Rattle.radio_tables.specs.Stages.{stage_allows}
-use Rattle.radio_book.specs.Table.{Outcome, Accepts, needs, given, channel_row, left_state, no_change, with_entry, without_entry, with_attempt, at_stage, taken_attempt, taking_change, required_attempt, reference_at, reserved_record, complete_change, is_target}
+use Rattle.radio_book.specs.Table.{Outcome, Accepts, needs, given, unless_busy, channel_row, left_state, no_change, with_entry, without_entry, with_attempt, at_stage, taken_attempt, taking_change, required_attempt, reference_at, reserved_record, complete_change, is_target}
 
 abbrev pub clear_at : ℕ → CallRecord → Option Attempt → (ChanId → ChanState) → Outcome
 clear_at c r opened states =
@@ -22,16 +23,16 @@ clear_at c r opened states =
     (Accepts (record no_change { channel = option_map (λ x. (x, left_state (states x))) r.serving; call = Some (c, None) }) Done)
 
 -- by the state of the serving channel, whether the requested one is a traffic channel, whether it lies in the same cell, and
--- its state
-abbrev pub take_from : ℕ → ChanId → CallRecord → ChanState → Bool → Bool → ChanState → Outcome
-take_from c x r serving traffic same requested =
+-- what is in its way
+abbrev pub take_from : ℕ → ChanId → CallRecord → ChanState → Bool → Bool → Option ChanId → Outcome
+take_from c x r serving traffic same way =
     given (channel_row serving).active WrongPhase (λ d.
-    needs traffic NoChannel (needs (not same) SameCell (needs (channel_row requested).free (ChannelBusy x)
+    needs traffic NoChannel (needs (not same) SameCell (unless_busy way
     (Accepts (taking_change c x (with_attempt r (taken_attempt Internal x))) Done))))
 
 abbrev pub take_at : ℕ → ChanId → CallRecord → Option Attempt → Option ChanId → (ChanId → ChanState) → Bool → Outcome
 take_at c x r opened serving states traffic =
-    needs (is_none opened) WrongPhase (given serving WrongPhase (λ s. take_from c x r (states s) traffic (s.cell == x.cell) (states x)))
+    needs (is_none opened) WrongPhase (given serving WrongPhase (λ s. take_from c x r (states s) traffic (s.cell == x.cell) (first_in_way states x)))
 
 abbrev pub require_from : ℕ → CallRecord → ChanState → Outcome
 require_from c r serving =

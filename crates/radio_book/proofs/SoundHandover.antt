@@ -25,7 +25,7 @@ use Rattle.radio_book.proofs.Rows.{command_by, command_at, complete_by, complete
 use Rattle.radio_tables.proofs.KeyFacts.{chan_total, chan_exact}
 use Rattle.radio_tables.proofs.MapFacts.{get_put_same, record_same}
 use Rattle.radio_book.proofs.Frame.{same_some, at_some, call_of, resting_call, attempting, attempt_of, attempting_call, aimed_is_owned, serving_is_on, get_untouched, concerned_sound}
-use Rattle.radio_book.proofs.SoundParts.{one_owner, owned_traffic, rests, at_option, touched_at, other_than, restaged}
+use Rattle.radio_book.proofs.SoundParts.{one_owner, owned_not_free, owned_traffic, rests, at_option, touched_at, other_than, restaged}
 
 -- Command
 
@@ -80,7 +80,7 @@ completed b sound c s k g t n e =
       call = refl;
       channel_was = at_option off s _ (λ x serves d h. one_owner (state_of b x) c d (owned x serves) h);
       channel_is = at_option off s _ (λ x serves d h. cc);
-      entry = at_option off s _ (λ x serves z h. (owned_traffic b sound x c (owned x serves), at_some (λ z. z ≢ Free) Off z (λ i. cc) h));
+      entry = at_option off s _ (λ x serves z h. (owned_traffic b sound x c (owned x serves), at_some (λ z. z ≢ Free) Off z (λ i. cc) h, inl (owned_not_free (state_of b x) c (owned x serves))));
       channels = λ y u h. elim h [ inl i ↦ absurd (u (touched_at off s y i)) | inr i ↦ inl i ];
       reference_was = at_option drop (reference_held (Some t) n) _ (λ j h d i. sym (same_some c d (sym (has.reference_is_used j h) ∙ i)));
       reference_is = at_option drop (reference_held (Some t) n) _ (λ j h d i. cc);
@@ -266,7 +266,7 @@ departed b sound c s k n e =
       call = refl;
       channel_was = at_option off s _ (λ x serves d h. one_owner (state_of b x) c d (owned x serves) h);
       channel_is = at_option off s _ (λ x serves d h. cc);
-      entry = at_option off s _ (λ x serves z h. (owned_traffic b sound x c (owned x serves), at_some (λ z. z ≢ Free) Off z (λ i. cc) h));
+      entry = at_option off s _ (λ x serves z h. (owned_traffic b sound x c (owned x serves), at_some (λ z. z ≢ Free) Off z (λ i. cc) h, inl (owned_not_free (state_of b x) c (owned x serves))));
       channels = λ y u h. elim h [ inl i ↦ absurd (u (touched_at off s y i)) | inr i ↦ cc ];
       reference_was = tt;
       reference_is = tt;

@@ -1,5 +1,5 @@
 -- What the proofs that steps keep a book sound share: facts of states, and an attempt that comes to another stage.
-use Rattle.std.proofs.Common.{◌≡◌, ◌≢◌, inr, ℕ, true, Option, Some, None, refl, sym, ◌∙◌, ap}
+use Rattle.std.proofs.Common.{◌≡◌, ◌≢◌, inl, inr, ℕ, true, Option, Some, None, refl, sym, ◌∙◌, ap}
 use Rattle.std.specs.Ordering.{nat_cmp}
 use Rattle.std.specs.Option.{option_map}
 use Rattle.std.specs.FinMap as map
@@ -21,7 +21,7 @@ use Rattle.radio_book.specs.Table.{owner, with_entry}
 use Rattle.radio_book.specs.Sound.{IsSound, IsStageOf, HasTarget, HasServing, HasReference, armed_in}
 use Rattle.radio_tables.specs.Stages.{stage_row}
 use Rattle.radio_tables.proofs.MapFacts.{get_put_same, state_same, state_other, record_same}
-use Rattle.radio_book.proofs.Frame.{same_some, at_some, Touches, AtKey, call_of, attempting, attempt_of, attempting_call, target_owned, target_stays, concerned_sound}
+use Rattle.radio_book.proofs.Frame.{same_some, at_some, Stands, Touches, AtKey, call_of, attempting, attempt_of, attempting_call, target_owned, target_stays, concerned_sound}
 
 -- facts of states
 
@@ -41,8 +41,8 @@ pub owned_traffic : (b : State) → IsSound b → (x : ChanId) (c : ℕ) → own
 owned_traffic b sound x c h = listed b sound x (map.get b.channels x) refl (owned_not_free (state_of b x) c h)
 
 -- what a channel becomes, when that isn't free
-pub state_fits : (b : State) (x : ChanId) (v : ChanState) → is_traffic b.site x ≡ true → v ≢ Free → (s : ChanState) → Some v ≡ Some s → (is_traffic b.site x ≡ true) × (s ≢ Free)
-state_fits b x v traffic used s h = (traffic, at_some (λ z. z ≢ Free) v s used h)
+pub state_fits : (b : State) (x : ChanId) (v : ChanState) → is_traffic b.site x ≡ true → v ≢ Free → Stands b x → (s : ChanState) → Some v ≡ Some s → (is_traffic b.site x ≡ true) × (s ≢ Free) × Stands b x
+state_fits b x v traffic used stands s h = (traffic, at_some (λ z. z ≢ Free) v s used h, stands)
 
 -- a change that leaves the timers as they are
 abbrev pub changes : Option (Entry ChanId ChanState) → Option (Entry ℕ CallRecord) → Option (Entry Reference ℕ) → Change
@@ -99,7 +99,7 @@ staged b sound c s k g t n e h v is timers at =
       call = refl;
       channel_was = λ d u. one_owner (state_of b t) c d owned u;
       channel_is = λ d u. (one_owner v c d owned_after u, inr refl);
-      entry = state_fits b t v (owned_traffic b sound t c owned) (owned_not_free v c owned_after);
+      entry = state_fits b t v (owned_traffic b sound t c owned) (owned_not_free v c owned_after) (inl (owned_not_free (state_of b t) c owned));
       channels = λ y t u. u;
       reference_was = tt;
       reference_is = tt;

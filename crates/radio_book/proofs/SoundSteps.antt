@@ -28,40 +28,37 @@ use Rattle.cell_table.specs.Site.{SiteView, is_traffic}
 use Rattle.radio_tables.specs.Keys.{chan_cmp, reference_cmp}
 use Rattle.radio_tables.specs.Maps.{Entry, put}
 use Rattle.radio_book.specs.State.{State, Change, apply, or_free, state_of, record_of, empty_book}
-use Rattle.radio_book.specs.Table.{owner, step, book_after, with_entry, without_entry, begin_row, clear_row, look_row, moved_entry, confirm_row, refuse_row, released_row, taking_change, take_row, reference_at, reference_held, reserve_row, activate_row, left_state, resting_record, undo_change, undo_attempt, undo_row, is_armed, needs}
+use Rattle.radio_book.specs.Table.{in_way, owner, step, book_after, with_entry, without_entry, begin_row, clear_row, look_row, moved_entry, confirm_row, refuse_row, released_row, taking_change, take_row, reference_at, reference_held, reserve_row, activate_row, left_state, resting_record, undo_change, undo_attempt, undo_row, is_armed, needs}
 use Rattle.radio_book.specs.Sound.{IsSound, Uses, IsStageOf, HasTarget, HasServing, armed_in}
 use Rattle.radio_tables.specs.Stages.{stage_row}
 use Rattle.radio_book.specs.Run.{run_book, RunsAreSound}
 use Rattle.radio_book.proofs.Rows.{clear_at, take_from, take_at, reserve_number, reserve_at, reserve_by, activate_at, activate_by}
 use Rattle.radio_tables.proofs.KeyFacts.{chan_total, chan_exact, same_chan_itself}
 use Rattle.radio_tables.proofs.MapFacts.{state_same, state_other, record_same, reference_same}
-use Rattle.radio_book.proofs.Frame.{same_some, at_some, UsedBy, ReferredBy, call_of, call_stays, resting_call, attempting, attempt_of, attempting_call, aimed_is_owned, serving_is_on, get_untouched, SoundIfAny, concerned_sound}
+use Rattle.radio_book.proofs.Frame.{same_some, at_some, way_free, UsedBy, ReferredBy, call_of, call_stays, resting_call, attempting, attempt_of, attempting_call, aimed_is_owned, serving_is_on, get_untouched, SoundIfAny, concerned_sound}
 use Rattle.radio_book.proofs.SoundHandover.{sound_command, sound_complete, sound_detect, sound_owner, sound_require, sound_order, sound_left}
 use Rattle.radio_book.proofs.SoundParts.{other_than, one_owner, owned_not_free, owned_traffic, state_fits, changes, rests, at_option, touched_at, disarmed, serving_apart, IsAt, staged, aims_always}
 
 -- a call begins: what it makes of a free traffic channel is sound
 
 begin_sound : (b : State) → IsSound b → (c : ℕ) (x : ChanId) (r : CallRecord) (v : ChanState) →
-    (record_of b c ≡ None → is_traffic b.site x ≡ true → state_of b x ≡ Free → IsSound (apply (changes (with_entry x v) (with_entry c r) None) b)) →
-    (o : Option CallRecord) (t : Bool) (s : ChanState) → record_of b c ≡ o → is_traffic b.site x ≡ t → state_of b x ≡ s → IsSound (book_after (begin_row c x r v o t s) b)
-begin_sound b sound c x r v begun (Some old) t s e f g = sound
-begin_sound b sound c x r v begun None false s e f g = sound
-begin_sound b sound c x r v begun None true Free e f g = begun e f g
-begin_sound b sound c x r v begun None true (Held d) e f g = sound
-begin_sound b sound c x r v begun None true (Pending d) e f g = sound
-begin_sound b sound c x r v begun None true (On d) e f g = sound
-begin_sound b sound c x r v begun None true Off e f g = sound
+    (record_of b c ≡ None → is_traffic b.site x ≡ true → in_way b x ≡ None → IsSound (apply (changes (with_entry x v) (with_entry c r) None) b)) →
+    (o : Option CallRecord) (t : Bool) (w : Option ChanId) → record_of b c ≡ o → is_traffic b.site x ≡ t → in_way b x ≡ w → IsSound (book_after (begin_row c x r v o t w) b)
+begin_sound b sound c x r v begun (Some old) t w e f g = sound
+begin_sound b sound c x r v begun None false w e f g = sound
+begin_sound b sound c x r v begun None true None e f g = begun e f g
+begin_sound b sound c x r v begun None true (Some y) e f g = sound
 
 -- Open
 
-opened : (b : State) → IsSound b → (c : ℕ) (x : ChanId) → record_of b c ≡ None → is_traffic b.site x ≡ true → state_of b x ≡ Free → IsSound (apply (changes (with_entry x (Pending c)) (with_entry c (rests x)) None) b)
+opened : (b : State) → IsSound b → (c : ℕ) (x : ChanId) → record_of b c ≡ None → is_traffic b.site x ≡ true → in_way b x ≡ None → IsSound (apply (changes (with_entry x (Pending c)) (with_entry c (rests x)) None) b)
 opened b sound c x new traffic free = concerned_sound b sound (changes (with_entry x (Pending c)) (with_entry c (rests x)) None) c None (Some (rests x)) (record {
   before = new;
   after = record_same b.calls c (Some (rests x));
   call = refl;
-  channel_was = λ d h. let bad : None ≡ Some d = sym (ap owner free) ∙ h in cc;
+  channel_was = λ d h. let bad : None ≡ Some d = sym (ap owner (way_free b x free)) ∙ h in cc;
   channel_is = λ d h. (one_owner (Pending c) c d refl h, inl refl);
-  entry = state_fits b x (Pending c) traffic (λ h. cc);
+  entry = state_fits b x (Pending c) traffic (λ h. cc) (inr free);
   channels = λ y t u. absurd u;
   reference_was = tt;
   reference_is = tt;
@@ -72,7 +69,7 @@ opened b sound c x new traffic free = concerned_sound b sound (changes (with_ent
 })
 
 pub sound_open : (b : State) → IsSound b → (c : ℕ) (x : ChanId) → IsSound (step b (event.Open c x))
-sound_open b sound c x = begin_sound b sound c x (rests x) (Pending c) (opened b sound c x) (record_of b c) (is_traffic b.site x) (state_of b x) refl refl refl
+sound_open b sound c x = begin_sound b sound c x (rests x) (Pending c) (opened b sound c x) (record_of b c) (is_traffic b.site x) (in_way b x) refl refl refl
 
 -- what is left of a channel that is used no more
 
@@ -103,7 +100,7 @@ clear_sound b sound c (Some x) None e =
       call = refl;
       channel_was = λ d h. one_owner (state_of b x) c d owned h;
       channel_is = λ d h. absurd (left_unowned (state_of b x) d h);
-      entry = λ z h. (owned_traffic b sound x c owned, left_not_free (state_of b x) z h);
+      entry = λ z h. (owned_traffic b sound x c owned, left_not_free (state_of b x) z h, inl (owned_not_free (state_of b x) c owned));
       channels = λ y t u. elim u [ inl h ↦ t (sym (same_some x y h)) | inr h ↦ cc ];
       reference_was = tt;
       reference_is = tt;
@@ -152,7 +149,7 @@ serving_answered b sound c x v names e =
       call = tt;
       channel_was = λ d h. one_owner (state_of b x) c d owned h;
       channel_is = λ d h. (one_owner v c d names h, inl refl);
-      entry = state_fits b x v (owned_traffic b sound x c owned) (owned_not_free v c names);
+      entry = state_fits b x v (owned_traffic b sound x c owned) (owned_not_free v c names) (inl (owned_not_free (state_of b x) c owned));
       channels = λ y t u. u;
       reference_was = tt;
       reference_is = tt;
@@ -266,7 +263,7 @@ sound_released b sound x = released_sound b sound x (state_of b x) refl
 
 -- Take: an attempt on a free channel
 
-taken : (b : State) → IsSound b → (c : ℕ) (x : ChanId) (was : Option CallRecord) (s : Option ChanId) (k : AttemptKind) → record_of b c ≡ was → is_traffic b.site x ≡ true → state_of b x ≡ Free →
+taken : (b : State) → IsSound b → (c : ℕ) (x : ChanId) (was : Option CallRecord) (s : Option ChanId) (k : AttemptKind) → record_of b c ≡ was → is_traffic b.site x ≡ true → in_way b x ≡ None →
     ((y : ChanId) → UsedBy was y → s ≡ Some y) → ((j : Reference) → ReferredBy was j → ⊥) → ((y : ChanId) → s ≡ Some y → y.cell ≢ x.cell) → HasServing c k s (state_of b) → IsStageOf k (Some Held) → armed_in was ≡ None →
     IsSound (apply (taking_change c x (attempting s k Taken (Some x) None)) b)
 taken b sound c x was s k e traffic free uses refers apart during kinds unarmed =
@@ -275,9 +272,9 @@ taken b sound c x was s k e traffic free uses refers apart during kinds unarmed 
       before = e;
       after = record_same b.calls c (Some (attempting s k Taken (Some x) None));
       call = refl;
-      channel_was = λ d h. let bad : None ≡ Some d = sym (ap owner free) ∙ h in cc;
+      channel_was = λ d h. let bad : None ≡ Some d = sym (ap owner (way_free b x free)) ∙ h in cc;
       channel_is = λ d h. (one_owner (Held c) c d refl h, inr refl);
-      entry = state_fits b x (Held c) traffic (λ h. cc);
+      entry = state_fits b x (Held c) traffic (λ h. cc) (inr free);
       channels = λ y t u. inl (uses y u);
       reference_was = tt;
       reference_is = tt;
@@ -294,19 +291,16 @@ taken b sound c x was s k e traffic free uses refers apart during kinds unarmed 
       armed = sound.timers c ∙ ap armed_in e ∙ unarmed;
     })
 
-internal_sound : (b : State) → IsSound b → (c : ℕ) (x y : ChanId) (now : ChanState) (t same : Bool) (s : ChanState) → record_of b c ≡ Some (rests y) → state_of b y ≡ now → is_traffic b.site x ≡ t → y.cell == x.cell ≡ same → state_of b x ≡ s →
-    IsSound (book_after (take_from c x (rests y) now t same s) b)
+internal_sound : (b : State) → IsSound b → (c : ℕ) (x y : ChanId) (now : ChanState) (t same : Bool) (w : Option ChanId) → record_of b c ≡ Some (rests y) → state_of b y ≡ now → is_traffic b.site x ≡ t → y.cell == x.cell ≡ same → in_way b x ≡ w →
+    IsSound (book_after (take_from c x (rests y) now t same w) b)
 internal_sound b sound c x y Free t same s e n f h g = sound
 internal_sound b sound c x y (Held d) t same s e n f h g = sound
 internal_sound b sound c x y (Pending d) t same s e n f h g = sound
 internal_sound b sound c x y Off t same s e n f h g = sound
 internal_sound b sound c x y (On d) false same s e n f h g = sound
 internal_sound b sound c x y (On d) true true s e n f h g = sound
-internal_sound b sound c x y (On d) true false (Held m) e n f h g = sound
-internal_sound b sound c x y (On d) true false (Pending m) e n f h g = sound
-internal_sound b sound c x y (On d) true false (On m) e n f h g = sound
-internal_sound b sound c x y (On d) true false Off e n f h g = sound
-internal_sound b sound c x y (On d) true false Free e n f h g =
+internal_sound b sound c x y (On d) true false (Some z) e n f h g = sound
+internal_sound b sound c x y (On d) true false None e n f h g =
     let own : d ≡ c = one_owner (On d) c d (sym (ap owner n) ∙ sound.serving_is_owned c (rests y) y e refl) refl in
     taken b sound c x (Some (rests y)) (Some y) Internal e f g
     (λ z u. elim u [ inl i ↦ i | inr i ↦ cc ]) (λ j u. cc) (λ z i. at_some (λ z. z.cell ≢ x.cell) y z (eqb-false y.cell x.cell h) i) (n ∙ ap On own) tt refl
@@ -314,7 +308,7 @@ internal_sound b sound c x y (On d) true false Free e n f h g =
 take_internal_sound : (b : State) → IsSound b → (c : ℕ) (x : ChanId) (s : Option ChanId) (o : Option Attempt) → record_of b c ≡ Some (record { serving = s; attempt = o }) → IsSound (book_after (take_at c x (record { serving = s; attempt = o }) o s (state_of b) (is_traffic b.site x)) b)
 take_internal_sound b sound c x s (Some a) e = sound
 take_internal_sound b sound c x None None e = sound
-take_internal_sound b sound c x (Some y) None e = internal_sound b sound c x y (state_of b y) (is_traffic b.site x) (y.cell == x.cell) (state_of b x) e refl refl refl refl
+take_internal_sound b sound c x (Some y) None e = internal_sound b sound c x y (state_of b y) (is_traffic b.site x) (y.cell == x.cell) (in_way b x) e refl refl refl refl
 
 take_sound : (b : State) → IsSound b → (c : ℕ) (k : Kind) (x : ChanId) (o : Option CallRecord) → record_of b c ≡ o → IsSound (book_after (take_row c k x o (state_of b) (is_traffic b.site x)) b)
 take_sound b sound c kind.Internal x None e = sound
@@ -322,7 +316,7 @@ take_sound b sound c kind.Internal x (Some r) e = take_internal_sound b sound c 
 take_sound b sound c kind.Incoming x o e =
     begin_sound b sound c x (attempting None Incoming Taken (Some x) None) (Held c)
     (λ new f g. taken b sound c x None None Incoming new f g (λ y u. absurd u) (λ j u. u) (λ y h. cc) refl tt refl)
-    o (is_traffic b.site x) (state_of b x) e refl refl
+    o (is_traffic b.site x) (in_way b x) e refl refl
 
 pub sound_take : (b : State) → IsSound b → (c : ℕ) (k : Kind) (x : ChanId) → IsSound (step b (event.Take c k x))
 sound_take b sound c k x = take_sound b sound c k x (record_of b c) refl
@@ -448,7 +442,7 @@ undo_change_sound b sound c s k g o n armed e is =
       call = refl;
       channel_was = at_option left o _ (λ t aims d h. one_owner (state_of b t) c d (owned t aims) h);
       channel_is = at_option left o _ (λ t aims d h. absurd (left_unowned (state_of b t) d h));
-      entry = at_option left o _ (λ t aims z h. (owned_traffic b sound t c (owned t aims), left_not_free (state_of b t) z h));
+      entry = at_option left o _ (λ t aims z h. (owned_traffic b sound t c (owned t aims), left_not_free (state_of b t) z h, inl (owned_not_free (state_of b t) c (owned t aims))));
       channels = λ y u h. elim h [ inl i ↦ rests_on c k s o (state_of b) g n has.serving_while_open y i | inr i ↦ absurd (u (touched_at left o y i)) ];
       reference_was = at_option (λ j. (j, None)) (reference_held o n) _ (λ j h d i. sym (same_some c d (sym (has.reference_is_used j h) ∙ i)));
       reference_is = at_option (λ j. (j, None)) (reference_held o n) _ (λ j h d i. cc);
@@ -499,6 +493,7 @@ pub sound_empty : (site : SiteView) → IsSound (empty_book site)
 sound_empty site = record {
   is_traffic = λ x s e. absurd (no_entry chan_cmp x s e);
   not_free = λ x s e. absurd (no_entry chan_cmp x s e);
+  apart = λ x y s t e f clash. no_entry chan_cmp x s e;
   owner_uses = λ x c h. let bad : None ≡ Some c = sym (ap (λ o. owner (or_free o)) (map.get-empty chan_cmp x)) ∙ h in cc;
   serving_is_owned = λ c r x e h. absurd (no_entry nat_cmp c r e);
   stage_of_kind = λ c r a e h. absurd (no_entry nat_cmp c r e);

@@ -1,6 +1,7 @@
 -- What a choice of a channel (TS 48.058 clause 4) or of a Handover Reference (TS 44.018 clause 10.5.2.15) allows.
 use Rattle.std.specs.Prelude.{◌≡◌, ℕ, ◌<◌, if◌then◌else◌, Option, Some, None}
 use Rattle.std.specs.FinMap as map
+use Rattle.channel_fsm.specs.declared.Rate.{Rate}
 use Rattle.channel_fsm.specs.declared.ChanId.{ChanId}
 use Rattle.radio_book.specs.declared.event.Kind.{Kind}
 use Rattle.radio_tables.specs.declared.kinds.Attempt.{Attempt}
@@ -9,15 +10,15 @@ use Rattle.radio_book.specs.declared.event.Event.{Event}
 use Rattle.radio_book.specs.declared.event.Event.TheVariants as event
 use Rattle.radio_tables.specs.Stages.{stage_allows}
 use Rattle.radio_book.specs.State.{State, record_of}
-pub use Rattle.radio_tables.specs.Choice.{IsFreeIn, NoneFree, IsFreeCount}
+pub use Rattle.radio_tables.specs.Choice.{IsFreeIn, IsFreeAt, NoneFree, NoneFreeAt, IsFreeCount}
 
 -- how many numbers a cell has for Handover References: one octet's (TS 44.018 clause 10.5.2.15)
 abbrev pub reference_numbers : ℕ
 reference_numbers = 256
 
--- the event is the call's Take of such a channel
-abbrev pub TakesFree : State → ℕ → Kind → ℕ → Event → Type 0
-TakesFree b c kind cell e = (x : ChanId) × IsFreeIn b cell x × (e ≡ event.Take c kind x)
+-- the event is the call's Take of such a channel at a rate
+abbrev pub TakesFree : State → ℕ → Kind → ℕ → Rate → Event → Type 0
+TakesFree b c kind cell rate e = (x : ChanId) × IsFreeAt b cell rate x × (e ≡ event.Take c kind x)
 
 -- a number that, with the cell, is the reference of no call
 pub record IsNumberFree (b : State) (cell number : ℕ) : Type 0 where

@@ -3,6 +3,7 @@ pub mod Channels
 pub mod Table
 pub mod Sound
 pub mod Journal
+pub mod PutBack
 pub mod Run
 pub mod Choice
 pub mod Others

@@ -4,6 +4,7 @@ use Rattle.std.specs.Option.{option_and_then}
 use Rattle.std.specs.FinMap as map
 use Rattle.channel_fsm.specs.declared.ChanId.{ChanId}
 use Rattle.channel_fsm.specs.declared.ChanState.{ChanState}
+use Rattle.channel_fsm.specs.Slots.{Conflicts}
 use Rattle.channel_fsm.specs.declared.ChanState.TheVariants.{Free, On}
 use Rattle.radio_tables.specs.declared.kinds.AttemptKind.{AttemptKind}
 use Rattle.radio_tables.specs.declared.kinds.AttemptKind.TheVariants.{Internal, Incoming, Outgoing}
@@ -68,6 +69,8 @@ pub record IsSound (b : State) : Type 0 where
   -- only traffic channels have an entry, and none of the entries says Free
   pub is_traffic : (x : ChanId) (s : ChanState) → map.get b.channels x ≡ Some s → is_traffic b.site x ≡ true
   pub not_free : (x : ChanId) (s : ChanState) → map.get b.channels x ≡ Some s → s ≢ Free
+  -- no two channels that have an entry conflict: a timeslot is used as a whole, or its halves are (TS 45.002 clause 6.4.1)
+  pub apart : (x y : ChanId) (s t : ChanState) → map.get b.channels x ≡ Some s → map.get b.channels y ≡ Some t → Conflicts x y → ⊥
   -- the owner of a channel is a call in the book, whose record names the channel
   pub owner_uses : (x : ChanId) (c : ℕ) → owner (state_of b x) ≡ Some c → (r : CallRecord) × (record_of b c ≡ Some r) × Uses r x
   -- who is served on a channel owns it

@@ -7,6 +7,7 @@ use Rattle.std.specs.Option.{option_map}
 use Rattle.std.specs.FinMap as map
 use Rattle.channel_fsm.specs.declared.ChanId.{ChanId}
 use Rattle.channel_fsm.specs.declared.ChanState.{ChanState}
+use Rattle.channel_fsm.specs.Slots.{first_in_way}
 use Rattle.channel_fsm.specs.declared.ChanState.TheVariants.{Held, Pending, On, Off}
 use Rattle.radio_book.specs.declared.event.Kind.{Kind}
 use Rattle.radio_book.specs.declared.event.Kind.TheVariants as kind
@@ -32,6 +33,7 @@ use Rattle.radio_tables.specs.Maps.{Entry, AddsKey}
 use Rattle.radio_tables.specs.Stages.{Allows, stage_allows}
 use Rattle.radio_book.specs.State.{State, Change, apply, state_of, record_of}
 pub use Rattle.radio_tables.specs.Keys.{same_chan}
+pub use Rattle.radio_tables.specs.Choice.{in_way}
 pub use Rattle.radio_tables.specs.States.{ChannelRow, channel_row, owner, left_state}
 pub use Rattle.radio_tables.specs.Records.{with_attempt, at_stage, taken_attempt, required_attempt, reserved_record}
 
@@ -52,6 +54,11 @@ abbrev pub given : {X : Type 0} → Option X → Refusal → (X → Outcome) →
 given None refusal rest = Refuses refusal
 given (Some x) refusal rest = rest x
 
+-- the rest of a row where nothing is in the way of a channel; else it is refused for what is
+abbrev pub unless_busy : Option ChanId → Outcome → Outcome
+unless_busy None rest = rest
+unless_busy (Some y) rest = Refuses (ChannelBusy y)
+
 -- PARTS OF CHANGES
 
 abbrev pub no_change : Change
@@ -69,15 +76,15 @@ record_reply r states = Record r (option_map states r.serving)
 
 -- CALLS
 
--- a call begins with this record on a free traffic channel, which comes to this state
-abbrev pub begin_row : ℕ → ChanId → CallRecord → ChanState → Option CallRecord → Bool → ChanState → Outcome
-begin_row c x r s found traffic state =
-    needs (is_none found) CallExists (needs traffic NoChannel (needs (channel_row state).free (ChannelBusy x)
+-- a call begins with this record on a traffic channel in whose way nothing is, and which comes to this state
+abbrev pub begin_row : ℕ → ChanId → CallRecord → ChanState → Option CallRecord → Bool → Option ChanId → Outcome
+begin_row c x r s found traffic way =
+    needs (is_none found) CallExists (needs traffic NoChannel (unless_busy way
     (Accepts (record no_change { channel = with_entry x s; call = with_entry c r }) Done)))
 
 -- Open: a call begins on its serving channel, whose CHANNEL ACTIVATION is sent (TS 48.058 clause 8.4.1)
-abbrev pub open_row : ℕ → ChanId → Option CallRecord → Bool → ChanState → Outcome
-open_row c x found traffic state = begin_row c x (record { serving = Some x; attempt = None }) (Pending c) found traffic state
+abbrev pub open_row : ℕ → ChanId → Option CallRecord → Bool → Option ChanId → Outcome
+open_row c x found traffic way = begin_row c x (record { serving = Some x; attempt = None }) (Pending c) found traffic way
 
 -- Clear: a call without an attempt ends
 abbrev pub clear_row : ℕ → Option CallRecord → (ChanId → ChanState) → Outcome
@@ -104,7 +111,7 @@ taking_change c x r = record no_change { channel = with_entry x (Held c); call =
 abbrev pub take_internal : ℕ → ChanId → Option CallRecord → (ChanId → ChanState) → Bool → Outcome
 take_internal c x found states traffic =
     given found NoCall (λ r. at_rest r states (λ s.
-    needs traffic NoChannel (needs (not (s.cell == x.cell)) SameCell (needs (channel_row (states x)).free (ChannelBusy x)
+    needs traffic NoChannel (needs (not (s.cell == x.cell)) SameCell (unless_busy (first_in_way states x)
     (Accepts (taking_change c x (with_attempt r (taken_attempt Internal x))) Done)))))
 
 -- Take: an attempt is opened, and takes a free channel; a call that comes from another controller (TS 48.008 clause 3.1.5)
@@ -112,7 +119,7 @@ take_internal c x found states traffic =
 abbrev pub take_row : ℕ → Kind → ChanId → Option CallRecord → (ChanId → ChanState) → Bool → Outcome
 take_row c kind.Internal x found states traffic = take_internal c x found states traffic
 take_row c kind.Incoming x found states traffic =
-    begin_row c x (record { serving = None; attempt = Some (taken_attempt Incoming x) }) (Held c) found traffic (states x)
+    begin_row c x (record { serving = None; attempt = Some (taken_attempt Incoming x) }) (Held c) found traffic (first_in_way states x)
 
 -- Require: the switching centre is asked for a handover (HANDOVER REQUIRED), and T7 is armed
 abbrev pub require_row : ℕ → Option CallRecord → (ChanId → ChanState) → Outcome
@@ -271,7 +278,7 @@ owner_row x found = given found (Unexpected x) (λ c. Accepts no_change (Owned c
 
 -- the row of each event
 abbrev pub row : State → Event → Outcome
-row b (event.Open c x) = open_row c x (record_of b c) (is_traffic b.site x) (state_of b x)
+row b (event.Open c x) = open_row c x (record_of b c) (is_traffic b.site x) (in_way b x)
 row b (event.Clear c) = clear_row c (record_of b c) (state_of b)
 row b (event.Look c) = look_row (record_of b c) (state_of b)
 row b (event.Take c k x) = take_row c k x (record_of b c) (state_of b) (is_traffic b.site x)

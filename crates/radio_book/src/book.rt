@@ -11,12 +11,12 @@ ghost use Rattle.radio_book.specs.declared.event.Event.{Event};
 ghost use Rattle.radio_book.specs.declared.event.Why.{Why};
 ghost use Rattle.radio_book.specs.Journal.{journal_of, run_back};
 ghost use Rattle.radio_book.specs.Table.{step, reply_to, row, NeedsRoom, MayNeedRoom, MayBeRefused};
-ghost use Rattle.radio_book.specs.Choice.{IsFreeIn, NoneFree, TakesFree, ReservesFree, IsFreeCount};
+ghost use Rattle.radio_book.specs.Choice.{IsFreeAt, NoneFree, NoneFreeAt, TakesFree, ReservesFree, IsFreeCount};
 
 use crate::event::{Event, Kind, Reply};
 use crate::records::Records;
 use cell_table::Site;
-use channel_fsm::ChanId;
+use channel_fsm::{ChanId, Rate};
 use radio_tables::DenseTables;
 use std::alloc::{AllocError, Allocator, Global};
 use std::marker::Model;
@@ -159,36 +159,39 @@ impl<A: Allocator + Copy> Book<A> {
         self.records.step(event)
     }
 
-    /// Some free traffic channel of the cell. `None` says that there is none, as in a cell that the site lacks. Any free
-    /// channel meets the contract; this body answers that of the lowest TRX, then timeslot.
-    pub fn free_channel(&self, cell: u8) -> Option<ChanId>
-        ensures free { MatchOption result (NoneFree self.now cell) (λ x. IsFreeIn self.now cell x) }
+    /// Some free traffic channel of the cell at a rate: one where neither it nor a channel that conflicts with it is in
+    /// use. `None` says that there is none, as in a cell that the site lacks. Any free channel meets the contract; this
+    /// body answers that of the lowest TRX, then timeslot, then half.
+    pub fn free_channel(&self, cell: u8, rate: Rate) -> Option<ChanId>
+        ensures free { MatchOption result (NoneFreeAt self.now cell rate)
+            (λ x. IsFreeAt self.now cell rate x) }
     {
-        self.records.choose_channel(cell)
+        self.records.choose_channel(cell, rate)
     }
 
-    /// A `Take` of some free channel of the cell, judged as by [`Book::step`], with its answer. `None` says that there is
-    /// none, as in a cell that the site lacks; then no memory was asked for. Any free channel meets the contract; this
-    /// body takes that of the lowest TRX, then timeslot.
+    /// A `Take` of some free channel of the cell at a rate, judged as by [`Book::step`], with its answer. `None` says that
+    /// there is none, as in a cell that the site lacks; then no memory was asked for. Any free channel meets the contract;
+    /// this body takes that of the lowest TRX, then timeslot, then half.
     pub fn take_any(
         &mut self,
         call: u16,
         kind: Kind,
         cell: u8,
+        rate: Rate,
     ) -> Result<Option<(Event, Reply)>, AllocError>
-        ensures none { (result ≡ Ok None) ↔ NoneFree self.old cell }
+        ensures none { (result ≡ Ok None) ↔ NoneFreeAt self.old cell rate }
         ensures kept { result ≡ Ok None → self.new ≡ self.old }
         ensures event { IfOk result (λ chosen. IfSome chosen
-            (λ taken. TakesFree self.old call kind cell taken.0)) }
+            (λ taken. TakesFree self.old call kind cell rate taken.0)) }
         ensures reply { IfOk result (λ chosen. IfSome chosen
             (λ taken. taken.1 ≡ reply_to self.old taken.0)) }
         ensures book { IfOk result (λ chosen. IfSome chosen
             (λ taken. self.new ≡ step self.old taken.0)) }
         ensures unchanged { OnErr result (self.new ≡ self.old) }
-        ensures memory { OnErr result ((e : Event) × TakesFree self.old call kind cell e ×
+        ensures memory { OnErr result ((e : Event) × TakesFree self.old call kind cell rate e ×
             NeedsRoom self.old (row self.old e)) }
     {
-        let Some(x) = self.records.choose_channel(cell) else {
+        let Some(x) = self.records.choose_channel(cell, rate) else {
             return Ok(None);
         };
         let event = Event::Take(call, kind, x);
@@ -197,7 +200,7 @@ impl<A: Allocator + Copy> Book<A> {
     }
 
     /// A `Reserve` of a number whose reference in the cell of the call's target isn't in use, judged as by
-    /// [`Book::step`], with its answer. There is always one: a cell has no more than 32 channels. Where the
+    /// [`Book::step`], with its answer. There is always one: a cell has no more than 96 channels. Where the
     /// call has no attempt that waits for a reference, it is `Reserve(call, 0)`, and the answer its refusal.
     /// Any such number meets the contract; this body takes the lowest.
     pub fn reserve_any(&mut self, call: u16) -> Result<(Event, Reply), AllocError>
@@ -214,8 +217,8 @@ impl<A: Allocator + Copy> Book<A> {
         Ok((event, reply))
     }
 
-    /// How many traffic channels of the cell are free: 0 for a cell that the site lacks, and exactly where
-    /// [`Book::take_any`] finds none.
+    /// How many traffic channels of the cell are free, of both rates: 0 for a cell that the site lacks, and exactly where
+    /// [`Book::take_any`] finds none of either rate.
     pub fn free_in(&self, cell: u8) -> u32
         ensures count { IsFreeCount self.now cell result }
         ensures none { (result ≡ 0) ↔ NoneFree self.now cell }

@@ -1,5 +1,8 @@
 //! What may happen to a radio book, and what it answers: the steps of calls and of handovers (TS 44.018 clause
 //! 3.4.4, TS 48.008 clause 3.1.5), and the answers of stations about channels (TS 48.058 clause 4).
+ghost use Rattle.std.specs.Prelude.{◌≡◌};
+ghost use Rattle.radio_book.specs.Kinds.{is_accepted};
+
 use channel_fsm::{ChanId, ChanState};
 pub use radio_tables::kinds::{Attempt, AttemptKind, CallRecord, Reference, Stage, Timer};
 
@@ -136,4 +139,16 @@ pub enum Reply {
     Owned(u16),
     /// The event was refused, and changed nothing.
     Refused(Refusal),
+}
+
+impl Reply {
+    /// Whether the event was accepted: the reply is no refusal.
+    pub fn is_accepted(self) -> bool
+        ensures accepted { result ≡ is_accepted self }
+    {
+        match self {
+            Reply::Done | Reply::Record(..) | Reply::Owned(_) => true,
+            Reply::Refused(_) => false,
+        }
+    }
 }

@@ -51,9 +51,7 @@ fn is_channel(target: Option<ChanId>, named: Option<ChanId>) -> bool
     ensures { result ≡ is_channel target named }
 {
     match (target, named) {
-        (Some(target), Some(named)) => {
-            named.cell == target.cell && named.trx == target.trx && named.tn == target.tn
-        }
+        (Some(target), Some(named)) => named == target,
         (Some(_), None) | (None, _) => false,
     }
 }

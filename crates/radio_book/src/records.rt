@@ -4,7 +4,7 @@ ghost use Rattle.std.specs.Prelude.{◌≡◌, ◌↔◌, OnOk, OnErr, IfOk, IfS
 ghost use Rattle.std.specs.FinMap as map;
 ghost use Rattle.radio_book.specs.State.{state_of};
 ghost use Rattle.radio_book.specs.Sound.{IsSound};
-ghost use Rattle.radio_book.specs.Choice.{IsFreeIn, NoneFree, IsFreeCount};
+ghost use Rattle.radio_book.specs.Choice.{IsFreeAt, NoneFree, NoneFreeAt, IsFreeCount};
 ghost use Rattle.radio_book.specs.Table.{step, reply_to, row, NeedsRoom, MayNeedRoom, MayBeRefused, record_reply};
 
 mod attempt;
@@ -17,7 +17,7 @@ mod station;
 mod undo;
 
 use crate::event::{CallRecord, Event, Kind, Reply};
-use channel_fsm::{ChanId, ChanState};
+use channel_fsm::{ChanId, ChanState, Rate};
 use radio_tables::tables::{CopyTables, Tables};
 use std::alloc::AllocError;
 use std::marker::Model;
@@ -88,12 +88,12 @@ impl<T: Tables> Records<T> {
         self.tables.timers()
     }
 
-    /// A free traffic channel of the cell.
-    pub fn choose_channel(&self, cell: u8) -> Option<ChanId>
-        ensures found { IfSome result (λ x. IsFreeIn self.now cell x) }
-        ensures none { IfNone result (NoneFree self.now cell) }
+    /// A free traffic channel of the cell at a rate.
+    pub fn choose_channel(&self, cell: u8, rate: Rate) -> Option<ChanId>
+        ensures found { IfSome result (λ x. IsFreeAt self.now cell rate x) }
+        ensures none { IfNone result (NoneFreeAt self.now cell rate) }
     {
-        self.tables.lowest_free(cell)
+        self.tables.lowest_free(cell, rate)
     }
 
     /// How many traffic channels of the cell are free.

@@ -1,18 +1,17 @@
 -- What a walk along a history finds is what its settled attempts say.
-use Rattle.std.proofs.Common.{◌≡◌, ◌+◌, ℕ, List, [], ◌∷◌, map, length, Option, None, refl, sym, ◌∙◌, ap, subst}
-use Rattle.std.specs.List.{enumerate_from, slice_get}
-use Rattle.std.specs.Option.{option_map}
+use Rattle.std.proofs.Common.{◌≡◌, ◌+◌, ℕ, List, [], ◌∷◌, map, length, None, refl, sym, ◌∙◌, ap}
+use Rattle.std.specs.List.{enumerate_from}
 use Rattle.radio_book.specs.declared.event.Event.{Event}
 use Rattle.radio_book.specs.declared.event.Reply.{Reply}
 use Rattle.radio_book.specs.declared.undone.StepAt.{StepAt}
 use Rattle.radio_book.specs.State.{State}
-use Rattle.radio_book.specs.Table.{step, reply_to}
+use Rattle.radio_book.specs.Table.{step}
 use Rattle.radio_book.specs.Sound.{IsSound}
 use Rattle.radio_book.specs.Run.{Leads, run_book, run_replies}
 use Rattle.radio_book.specs.Undone.{Undone, steps_from, events_of, replies_of}
 use Rattle.radio_book.specs.Found.{first_place}
 use Rattle.radio_book.specs.Following.{settling_count, remaining_from, all_held_from}
-use Rattle.radio_book.specs.Together.{AreSettled, remaining, held_steps}
+use Rattle.radio_book.specs.Together.{remaining, held_steps}
 use Rattle.radio_book.proofs.AllSettled.{settled_attempts, remaining_are, held_are_all, settled_leave_no_trace}
 use Rattle.radio_desk.specs.Audit.{events_in, step_at, steps_in, AreSettledIn, LeadsAlike}
 

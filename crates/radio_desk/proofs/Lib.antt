@@ -6,3 +6,9 @@ mod AuditFacts
 pub mod Rooms
 -- a channel that is taken at a desk
 pub mod Taking
+-- attempts that a step leaves as they are; that a step comes twice
+pub mod FarSteps
+-- rows in which attempts stand
+pub mod RowFacts
+-- a walk that keeps attempts that are over
+pub mod WalkFacts

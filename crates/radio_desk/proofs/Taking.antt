@@ -1,12 +1,13 @@
 -- A channel that is taken at a desk.
 use Rattle.std.proofs.Common.{◌⊎◌, inl, inr, ℕ, List, Option, Some, None, refl}
+use Rattle.channel_fsm.specs.declared.Rate.{Rate}
 use Rattle.channel_fsm.specs.declared.ChanId.{ChanId}
 use Rattle.radio_book.specs.declared.event.Kind.{Kind}
 use Rattle.radio_book.specs.declared.event.Event.{Event}
 use Rattle.radio_book.specs.declared.event.Event.TheVariants.{Take}
 use Rattle.radio_book.specs.declared.event.Reply.{Reply}
 use Rattle.radio_book.specs.Table.{row, NeedsRoom}
-use Rattle.radio_book.specs.Choice.{IsFreeIn, TakesFree}
+use Rattle.radio_book.specs.Choice.{IsFreeAt, TakesFree}
 use Rattle.radio_desk.specs.declared.seat.Receipt.{Receipt}
 use Rattle.radio_desk.specs.Desk.{DeskState, HoldsLast, IsForeign, LacksRoom}
 
@@ -16,7 +17,7 @@ not_foreign history None place held foreign = foreign
 not_foreign history (Some r) place held foreign = foreign.1 held
 
 -- what memory is needed for is a Take of a free channel
-pub take_memory : (d : DeskState) (c : ℕ) (kind : Kind) (cell : ℕ) (x : ChanId) → IsFreeIn d.book cell x → LacksRoom d ⊎ NeedsRoom d.book (row d.book (Take c kind x)) →
-    LacksRoom d ⊎ ((e : Event) × TakesFree d.book c kind cell e × NeedsRoom d.book (row d.book e))
-take_memory d c kind cell x free (inl lacks) = inl lacks
-take_memory d c kind cell x free (inr needs) = inr (Take c kind x, (x, free, refl), needs)
+pub take_memory : (d : DeskState) (c : ℕ) (kind : Kind) (cell : ℕ) (rate : Rate) (x : ChanId) → IsFreeAt d.book cell rate x → LacksRoom d ⊎ NeedsRoom d.book (row d.book (Take c kind x)) →
+    LacksRoom d ⊎ ((e : Event) × TakesFree d.book c kind cell rate e × NeedsRoom d.book (row d.book e))
+take_memory d c kind cell rate x free (inl lacks) = inl lacks
+take_memory d c kind cell rate x free (inr needs) = inr (Take c kind x, (x, free, refl), needs)

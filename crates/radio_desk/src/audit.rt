@@ -1,15 +1,17 @@
 //! All attempts of a history that were undone and are settled, taken out together.
-ghost use Rattle.std.specs.Prelude.{◌≡◌, ◌↔◌, ◌++◌, ◌+◌, ◌-◌, ◌<◌, ◌^◌, ◌∷◌, ℕ, IsTrue, true, List, [], map, filter, length, not, Option, Some, None, is_some, is_none, ◌&&◌, if◌then◌else◌, IfOk};
+ghost use Rattle.std.specs.Prelude.{◌≡◌, ◌↔◌, ◌++◌, ◌+◌, ◌-◌, ◌<◌, ◌^◌, ◌∷◌, ℕ, IsTrue, true, List, [], map, length, Option, Some, None, is_some, is_none, ◌&&◌, if◌then◌else◌, IfOk};
 ghost use Rattle.std.specs.List.{list_all};
 ghost use Rattle.std.specs.Option.{option_to_list, option_or};
 ghost use Rattle.radio_book.specs.Undone.{Undone, events_of, replies_of};
 ghost use Rattle.radio_book.specs.Found.{first_place};
-ghost use Rattle.radio_book.specs.Following.{stays, is_over, after, settling, settling_count, followed_on, remains, is_held_by, remaining_from, all_held_from};
+ghost use Rattle.radio_book.specs.Following.{stays, after, opening_of, settling_count, is_held_by, remaining_from, all_held_from};
 ghost use Rattle.radio_book.specs.Run.{Leads};
 ghost use Rattle.radio_book.specs.Together.{remaining, held_steps};
 ghost use Rattle.radio_desk.specs.Audit.{steps_in, AreSettledIn, LeadsAlike};
+ghost use Rattle.radio_desk.specs.Followers.{AreRows, settled_flags, flagged, flags_behind};
 
 use crate::entry::is_same_reply;
+use crate::followers::Followers;
 use radio_book::book::Book;
 use radio_book::event::{Event, Reply};
 use radio_book::following::{Followed, opening_of};
@@ -46,37 +48,40 @@ pub(crate) fn steps_of<A: Allocator + Copy>(
         .collect(alloc)
 }
 
-/// The attempt that opens with a step, where the steps behind it settle it.
-fn settling(step: &StepAt, behind: &[StepAt]) -> Option<Followed>
-    ensures { result ≡ settling step.now behind.now }
+/// Of each attempt that opens among the steps, whether the steps behind its opening settle it: all are followed to the end.
+fn settled_flags<A: Allocator + Copy>(
+    alloc: A,
+    steps: &[StepAt],
+) -> Result<Vec<bool, A>, AllocError>
+    ensures { IfOk result (λ flags. flags.items ≡ settled_flags steps.now) }
 {
-    let opening = opening_of(step)?;
-    if opening.settles(behind) {
-        Some(opening)
-    } else {
-        None
+    let mut followers = Followers::new(alloc)?;
+    let mut rest = steps;
+    while let [step, behind @ ..] = rest {
+        followers.follow(step, opening_of(step))?;
+        rest = behind;
+    }
+    followers.settled(alloc)
+}
+
+/// The attempt that opens with a step, if the first flag says that it is settled.
+fn settling(step: &StepAt, flags: &[bool]) -> Option<Followed>
+    ensures { result ≡ flagged (opening_of step.now) flags.now }
+{
+    match (opening_of(step), flags) {
+        (Some(opening), [true, ..]) => Some(opening),
+        (Some(_), [false, ..] | []) | (None, _) => None,
     }
 }
 
-/// The step stays without each of the attempts.
-fn all_stay(followed: &[Followed], step: &StepAt) -> bool
-    ensures { result ≡ list_all (λ p. stays p step.now) followed.now }
+/// The flags of the attempts that open behind a step.
+fn flags_behind<'a>(step: &StepAt, flags: &'a [bool]) -> &'a [bool]
+    ensures { result.now ≡ flags_behind (opening_of step.now) flags.now }
 {
-    followed.iter().all(|attempt| attempt.stays(step))
-}
-
-/// The step was refused for what one of the attempts holds.
-fn is_held_by(followed: &[Followed], step: &StepAt) -> bool
-    ensures { result ≡ is_held_by followed.now step.now }
-{
-    followed.iter().any(|attempt| attempt.holds(step))
-}
-
-/// The step stays without each of the attempts, and without the one that opens with it, if one does.
-fn remains(followed: &[Followed], step: &StepAt, opening: Option<Followed>) -> bool
-    ensures { result ≡ (is_none opening && list_all (λ p. stays p step.now) followed.now) }
-{
-    opening.is_none() && all_stay(followed, step)
+    match (opening_of(step), flags) {
+        (Some(_), [_, behind @ ..]) => behind,
+        (Some(_), []) | (None, _) => flags,
+    }
 }
 
 /// Where the first held step stands, once one more is told.
@@ -109,44 +114,17 @@ fn one_if(is_one: bool) -> usize
     if is_one { 1 } else { 0 }
 }
 
-/// Each attempt goes on by a step.
-fn go_on(followed: &mut [Followed], step: &StepAt)
-    ensures { followed.new ≡ map (λ p. after p step.now) followed.old }
+fn both(one: bool, other: bool) -> bool
+    ensures { result ≡ (one && other) }
 {
-    for attempt in followed.iter_mut() {
-        *attempt = attempt.after(step);
-    }
-}
-
-/// Drops the attempts that are over.
-fn drop_over<A: Allocator + Copy>(followed: &mut Vec<Followed, A>)
-    ensures { followed.new.items ≡ filter (λ p. not (is_over p)) followed.old.items }
-{
-    followed.retain(|attempt| !attempt.is_over());
-}
-
-/// The attempts that are followed after a step: those that aren't over, and the one that opens with it.
-fn follow_on<A: Allocator + Copy>(
-    followed: &mut Vec<Followed, A>,
-    step: &StepAt,
-    opening: Option<Followed>,
-) -> Result<(), AllocError>
-    ensures { IfOk result (λ _. followed.new.items ≡
-        filter (λ p. not (is_over p)) (map (λ p. after p step.now) followed.old.items) ++ option_to_list opening) }
-{
-    go_on(followed.as_mut_slice(), step);
-    drop_over(followed);
-    if let Some(opening) = opening {
-        followed.push(opening)?;
-    }
-    Ok(())
+    one && other
 }
 
 /// What was found of the steps up to one.
 #[derive(Drop)]
 pub(crate) struct Walk<A: Allocator> {
-    /// The settled attempts that are open, or whose release is awaited.
-    followed: Vec<Followed, A>,
+    /// The settled attempts, as far as they have come.
+    followers: Followers<A>,
     /// How many settled attempts opened.
     pub attempts: usize,
     /// The steps that remain without them.
@@ -156,25 +134,28 @@ pub(crate) struct Walk<A: Allocator> {
 }
 
 impl<A: Allocator + Copy> Walk<A> {
-    /// Goes on by a step, with these behind it.
-    fn step(&mut self, step: &StepAt, behind: &[StepAt]) -> Result<(), AllocError>
+    /// Goes on by a step. With it opens this settled attempt, if one does.
+    fn step(&mut self, step: &StepAt, opening: Option<Followed>) -> Result<(), AllocError>
         requires room { self.old.attempts < 2 ^ 64 - 1 }
-        ensures followed { IfOk result (λ _. self.new.followed.items ≡
-            followed_on self.old.followed.items step.now behind.now) }
+        requires rows { AreRows self.old.followers.rows self.old.followers.attempts.items }
+        ensures followed { IfOk result (λ _. self.new.followers.attempts.items ≡
+            map (λ p. after p step.now) self.old.followers.attempts.items ++ option_to_list opening) }
+        ensures rows { IfOk result (λ _.
+            AreRows self.new.followers.rows self.new.followers.attempts.items) }
         ensures attempts { IfOk result (λ _. self.new.attempts ≡
-            self.old.attempts + (if is_some (settling step.now behind.now) then 1 else 0)) }
+            self.old.attempts + (if is_some opening then 1 else 0)) }
         ensures remaining { IfOk result (λ _. self.new.remaining.items ≡ self.old.remaining.items
-            ++ (if remains self.old.followed.items step.now behind.now then step.now ∷ [] else [])) }
+            ++ (if is_none opening && list_all (λ p. stays p step.now) self.old.followers.attempts.items
+            then step.now ∷ [] else [])) }
         ensures held { IfOk result (λ _. self.new.held ≡ option_or self.old.held
-            (if is_held_by self.old.followed.items step.now then Some step.now.place else None)) }
+            (if is_held_by self.old.followers.attempts.items step.now then Some step.now.place else None)) }
     {
-        let opening = settling(step, behind);
-        let is_held = is_held_by(&self.followed, step);
+        let is_held = self.followers.is_held(step);
         self.held = held_with(self.held, is_held, step.place);
-        let stays = remains(&self.followed, step, opening);
+        let stays = both(opening.is_none(), self.followers.all_stay(step));
         keep_if(stays, &mut self.remaining, step)?;
         self.attempts += one_if(opening.is_some());
-        follow_on(&mut self.followed, step, opening)
+        self.followers.follow(step, opening)
     }
 }
 
@@ -184,15 +165,18 @@ fn walk_along<A: Allocator + Copy>(alloc: A, steps: &[StepAt]) -> Result<Walk<A>
     ensures remaining { IfOk result (λ walk. walk.remaining.items ≡ remaining_from [] steps.now) }
     ensures held { IfOk result (λ walk. walk.held ≡ first_place (all_held_from [] steps.now)) }
 {
+    let settled = settled_flags(alloc, steps)?;
     let mut walk = Walk {
-        followed: Vec::new(alloc),
+        followers: Followers::new(alloc)?,
         attempts: 0,
         remaining: Vec::new(alloc),
         held: None,
     };
     let mut rest = steps;
+    let mut flags = settled.as_slice();
     while let [step, behind @ ..] = rest {
-        walk.step(step, behind)?;
+        walk.step(step, settling(step, flags))?;
+        flags = flags_behind(step, flags);
         rest = behind;
     }
     Ok(walk)
@@ -220,12 +204,6 @@ fn are_replies(steps: &[StepAt], replies: &[Reply]) -> bool
     rest.is_empty() && left.is_empty()
 }
 
-fn both(one: bool, other: bool) -> bool
-    ensures { result ≡ (one && other) }
-{
-    one && other
-}
-
 /// The steps, asked alone from one book, lead to the other, and get the replies that they have.
 fn leads_alike<A: Allocator + Copy>(
     alloc: A,
@@ -242,7 +220,7 @@ fn leads_alike<A: Allocator + Copy>(
     Ok(both(leads, alike))
 }
 
-/// Audits a history that leads from one book to another: walks along it once, and runs what remains once.
+/// Audits a history that leads from one book to another: walks along it twice, and runs what remains once.
 pub(crate) fn audit_of<A: Allocator + Copy>(
     alloc: A,
     opening: &Book<A>,

@@ -3,7 +3,7 @@ ghost use Rattle.std.specs.Prelude.{◌≡◌, ◌≢◌, ◌↔◌, ◌⊎◌, 
 ghost use Rattle.radio_book.specs.declared.event.Event.{Event};
 ghost use Rattle.radio_book.specs.Run.{Leads};
 ghost use Rattle.radio_book.specs.Table.{row, reply_to, NeedsRoom};
-ghost use Rattle.radio_book.specs.Choice.{NoneFree, TakesFree, ReservesFree};
+ghost use Rattle.radio_book.specs.Choice.{NoneFreeAt, TakesFree, ReservesFree};
 ghost use Rattle.radio_book.specs.Kinds.{is_accepted};
 ghost use Rattle.radio_book.specs.Owed.{owed, is_owed};
 ghost use Rattle.radio_desk.specs.Desk.{IsEntryOf, HoldsLast, IsForeign, IsJudged, IsSameDesk, LacksRoom};
@@ -18,6 +18,7 @@ use crate::entry::is_entry;
 use crate::room::{answer, answer_reserve, make_room};
 use crate::seat::{Receipt, Seat};
 use crate::tally::{Tally, tally_of};
+use channel_fsm::Rate;
 use radio_book::book::Book;
 use radio_book::event::{Event, Kind, Reply};
 use std::alloc::{AllocError, Allocator, Global};
@@ -137,8 +138,8 @@ impl<A: Allocator + Copy> Desk<A> {
     /// the first entry stands that was refused because one of them had the channel or the reference, and whether the entries
     /// that remain, asked alone, lead to the same book and get the same replies. Where no entry was refused so, they do.
     ///
-    /// Takes the time of one run of what remains, and of a look at each entry for each attempt that is open then. Memory is
-    /// asked for, for a copy of the book and lists as long as the history.
+    /// Takes the time of one run of what remains, and of two looks at each entry for the open attempts that it can concern,
+    /// by its call or its cell. Memory is asked for, for a copy of the book and lists as long as the history.
     pub fn audit(&self) -> Result<Audit, AllocError>
         ensures attempts { IfOk result (λ audit. (us : List Undone) ×
             AreSettledIn self.now.opening self.now.history us × (audit.attempts ≡ length us)) }
@@ -180,7 +181,8 @@ impl<A: Allocator + Copy> Desk<A> {
     /// An accepted `Undo` or `Released` takes no memory and is never refused any: its entry has the room that was kept for
     /// it, and the history gets no other. Before any other event changes the book, room is made for its entry and for what is
     /// owed because of it.
-    #[tactic(auto, using(crate::proofs::Leading::leads_more))]
+    // Compiled into its callers, so that a receipt that neither seat nor caller keeps is never written.
+    #[inline(always)]
     pub fn judge(&mut self, seat: &mut Seat, event: Event) -> Result<Receipt, DeskFault>
         ensures foreign { (place : ℕ) → (result ≡ Err (DeskFault.Foreign place)) ↔
             IsForeign self.old.history seat.old place }
@@ -205,8 +207,8 @@ impl<A: Allocator + Copy> Desk<A> {
         Ok(enter(&mut self.history, seat, event, reply))
     }
 
-    /// Judges a `Take` of some free channel of a cell, as [`Book::take_any`] chooses it. `None`, just where the cell has
-    /// none, is no entry, changes nothing and takes no memory. Else as [`Desk::judge`].
+    /// Judges a `Take` of some channel of a cell that is free at a rate, as [`Book::take_any`] chooses it. `None`, just where
+    /// the cell has none, is no entry, changes nothing and takes no memory. Else as [`Desk::judge`].
     #[tactic(auto, using(crate::proofs::Taking::not_foreign, crate::proofs::Taking::take_memory))]
     pub fn judge_take(
         &mut self,
@@ -214,30 +216,31 @@ impl<A: Allocator + Copy> Desk<A> {
         call: u16,
         kind: Kind,
         cell: u8,
+        rate: Rate,
     ) -> Result<Option<Receipt>, DeskFault>
         ensures foreign { (place : ℕ) → (result ≡ Err (DeskFault.Foreign place)) ↔
             IsForeign self.old.history seat.old place }
         ensures held { OnOk result (HoldsLast self.old.history seat.old) }
-        ensures none { result ≡ Ok None → NoneFree self.old.book cell }
-        ensures looked { HoldsLast self.old.history seat.old → NoneFree self.old.book cell →
+        ensures none { result ≡ Ok None → NoneFreeAt self.old.book cell rate }
+        ensures looked { HoldsLast self.old.history seat.old → NoneFreeAt self.old.book cell rate →
             result ≡ Ok None }
         ensures kept { result ≡ Ok None → IsSameDesk self.old self.new × (seat.new ≡ seat.old) }
         ensures takes_none { result ≡ Ok None → self.new.room ≡ self.old.room }
         ensures event { IfOk result (λ answer. IfSome answer
-            (λ receipt. TakesFree self.old.book call kind cell receipt.event)) }
+            (λ receipt. TakesFree self.old.book call kind cell rate receipt.event)) }
         ensures judged { IfOk result (λ answer. IfSome answer
             (λ receipt. IsJudged self.old receipt self.new)) }
         ensures seat { IfOk result (λ answer. IfSome answer
             (λ receipt. seat.new ≡ Some receipt)) }
         ensures unchanged { OnErr result (IsSameDesk self.old self.new × (seat.new ≡ seat.old)) }
         ensures memory { result ≡ Err DeskFault.NoMemory → LacksRoom self.old ⊎
-            ((e : Event) × TakesFree self.old.book call kind cell e ×
+            ((e : Event) × TakesFree self.old.book call kind cell rate e ×
             NeedsRoom self.old.book (row self.old.book e)) }
     {
         if let Some(place) = foreign_place(self.history.as_slice(), seat) {
             return Err(DeskFault::Foreign(place));
         }
-        let Some(chan) = self.book.free_channel(cell) else {
+        let Some(chan) = self.book.free_channel(cell, rate) else {
             return Ok(None);
         };
         let receipt = self.judge(seat, Event::Take(call, kind, chan))?;
@@ -245,7 +248,6 @@ impl<A: Allocator + Copy> Desk<A> {
     }
 
     /// Judges a `Reserve` of some free reference, as [`Book::reserve_any`] chooses it. Else as [`Desk::judge`].
-    #[tactic(auto, using(crate::proofs::Leading::leads_more))]
     pub fn judge_reserve(&mut self, seat: &mut Seat, call: u16) -> Result<Receipt, DeskFault>
         ensures foreign { (place : ℕ) → (result ≡ Err (DeskFault.Foreign place)) ↔
             IsForeign self.old.history seat.old place }
@@ -267,6 +269,7 @@ impl<A: Allocator + Copy> Desk<A> {
 }
 
 /// The place of the seat's last receipt, where the history doesn't hold it.
+#[inline(always)]
 fn foreign_place(history: &[(Event, Reply)], seat: &Seat) -> Option<usize>
     ensures { MatchOption result (HoldsLast history.now seat.now)
         (λ place. IsForeign history.now seat.now place) }

@@ -6,6 +6,8 @@
 pub mod audit;
 pub mod desk;
 pub mod entry;
+mod followers;
 mod room;
+mod rows;
 pub mod seat;
 pub mod tally;

@@ -13,7 +13,6 @@ ghost use Rattle.radio_book.specs.Owed.{owed, calls_and_channels, is_owed};
 ghost use Rattle.radio_book.specs.Sound.{IsSound};
 ghost use Rattle.radio_book.specs.Table.{step, reply_to, row, NeedsRoom};
 
-use crate::tally::is_accepted;
 use radio_book::book::Book;
 use radio_book::event::{Event, Reply};
 use radio_book::laws::refused_events_change_nothing;
@@ -104,7 +103,7 @@ fn answer_owed<A: Allocator + Copy>(
     refused_events_change_nothing();
     let _calls = book.calls();
     let reply = book.step(event)?;
-    if is_accepted(reply) {
+    if reply.is_accepted() {
         return Ok(reply);
     }
     make_room(history, book)?;

@@ -75,16 +75,6 @@ fn marks_of(event: Event) -> Marks
     }
 }
 
-/// The reply is no refusal.
-pub(crate) fn is_accepted(reply: Reply) -> bool
-    ensures { result ≡ is_accepted reply }
-{
-    match reply {
-        Reply::Done | Reply::Record(..) | Reply::Owned(_) => true,
-        Reply::Refused(_) => false,
-    }
-}
-
 /// How many calls a history opened, how many attempts it began, and how many of these it completed or took back.
 pub(crate) fn tally_of(history: &[(Event, Reply)]) -> Tally
     ensures calls { result.calls ≡ count_of (λ m. m.call) history.now }
@@ -104,7 +94,7 @@ pub(crate) fn tally_of(history: &[(Event, Reply)]) -> Tally
 fn began_call(event: Event, reply: Reply) -> bool
     ensures { result ≡ (is_accepted reply && (marks_of event).call) }
 {
-    is_accepted(reply) && marks_of(event).call
+    reply.is_accepted() && marks_of(event).call
 }
 
 fn calls_in(history: &[(Event, Reply)]) -> usize
@@ -120,7 +110,7 @@ fn calls_in(history: &[(Event, Reply)]) -> usize
 fn began_attempt(event: Event, reply: Reply) -> bool
     ensures { result ≡ (is_accepted reply && (marks_of event).attempt) }
 {
-    is_accepted(reply) && marks_of(event).attempt
+    reply.is_accepted() && marks_of(event).attempt
 }
 
 fn attempts_in(history: &[(Event, Reply)]) -> usize
@@ -136,7 +126,7 @@ fn attempts_in(history: &[(Event, Reply)]) -> usize
 fn completed_attempt(event: Event, reply: Reply) -> bool
     ensures { result ≡ (is_accepted reply && (marks_of event).completed) }
 {
-    is_accepted(reply) && marks_of(event).completed
+    reply.is_accepted() && marks_of(event).completed
 }
 
 fn completed_in(history: &[(Event, Reply)]) -> usize
@@ -152,7 +142,7 @@ fn completed_in(history: &[(Event, Reply)]) -> usize
 fn undid_attempt(event: Event, reply: Reply) -> bool
     ensures { result ≡ (is_accepted reply && (marks_of event).undone) }
 {
-    is_accepted(reply) && marks_of(event).undone
+    reply.is_accepted() && marks_of(event).undone
 }
 
 fn undone_in(history: &[(Event, Reply)]) -> usize

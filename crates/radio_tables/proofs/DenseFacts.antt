@@ -1,6 +1,6 @@
 -- Tables in which one map has what is kept of each call: what becomes of the records and the timers that it makes where
 -- something else is kept of a call, that they tell it, and how many there are; and what such tables say of free channels.
-use Rattle.std.proofs.Common.{◌≡◌, ◌&&◌, ◌+◌, ◌-◌, ◌≤◌, ℕ, true, false, count_by, Option, Some, None, IfSome, IfNone, is_some, option_map, option_and_then, refl, sym, ap, ◌∙◌, subst, arith}
+use Rattle.std.proofs.Common.{◌≡◌, ◌&&◌, ◌+◌, ◌-◌, ◌≤◌, ℕ, true, false, count_by, Option, Some, None, IfSome, IfNone, is_some, is_none, option_map, option_and_then, refl, sym, ap, ◌∙◌, subst, arith}
 use Rattle.std.specs.Ordering.{nat_cmp}
 use Rattle.std.specs.Cmp.{nat_cmp_total}
 use Rattle.std.specs.FinMap as map
@@ -9,15 +9,16 @@ use Rattle.std.proofs.lemmas.List.{length-map}
 use Rattle.std.proofs.lemmas.Option.{same_Some}
 use Rattle.channel_fsm.specs.declared.ChanId.{ChanId}
 use Rattle.channel_fsm.specs.declared.ChanState.{ChanState}
-use Rattle.channel_fsm.specs.declared.ChanState.TheVariants.{Free, Held, Pending, On, Off}
+use Rattle.channel_fsm.specs.declared.Rate.{Rate}
+use Rattle.channel_fsm.specs.Slots.{first_in_way}
 use Rattle.cell_table.specs.Site.{SiteView, is_traffic}
 use Rattle.radio_tables.specs.Entries.{Kept}
 use Rattle.radio_tables.specs.Entries.{records_of as records_in}
 use Rattle.radio_tables.specs.Keys.{reference_cmp}
 use Rattle.radio_tables.specs.Maps.{put}
 use Rattle.radio_tables.specs.State.{State, or_free, with_kept, without_call}
-use Rattle.radio_tables.specs.Choice.{IsFreeIn, NoneFree}
-use Rattle.radio_tables.specs.Places.{is_free, is_free_traffic, free_count}
+use Rattle.radio_tables.specs.Choice.{in_way, IsFreeAt, NoneFreeAt}
+use Rattle.radio_tables.specs.Places.{is_free_traffic, free_count}
 use Rattle.radio_tables.specs.Dense.{IsTable, record_at, timer_at, records_of, armed_of}
 use Rattle.dense_tables.specs.Maps.{Covers}
 use Rattle.dense_tables.specs.Channels as dense
@@ -134,26 +135,24 @@ same_or_free : (o : Option ChanState) → dense.or_free o ≡ or_free o
 same_or_free None = refl
 same_or_free (Some s) = refl
 
-free_alike : (s : ChanState) → dense.is_free s ≡ is_free s
-free_alike Free = refl
-free_alike (Held c) = refl
-free_alike (Pending c) = refl
-free_alike (On c) = refl
-free_alike Off = refl
-
 module _ (ch : dense.Channels) (m : FinMap nat_cmp Kept) (users : FinMap reference_cmp ℕ) (cell : ℕ) where
-  pub found_free : (o : Option ChanId) → IfSome o (λ x. dense.IsFreeIn ch cell x) → IfSome o (λ x. IsFreeIn (state_in ch m users) cell x)
-  found_free None free = tt
-  found_free (Some x) free = record { in_cell = free.in_cell; is_traffic = free.traffic; is_free = sym (same_or_free (map.get ch.states x)) ∙ free.is_free }
+  same_way : (x : ChanId) → first_in_way (dense.state_of ch) x ≡ in_way (state_in ch m users) x
+  same_way x = λ i. first_in_way (λ y. same_or_free (map.get ch.states y) i) x
 
-  pub none_free : (o : Option ChanId) → IfNone o (dense.NoneFree ch cell) → IfNone o (NoneFree (state_in ch m users) cell)
-  none_free None none = λ x free. none x (record { in_cell = free.in_cell; traffic = free.is_traffic; is_free = same_or_free (map.get ch.states x) ∙ free.is_free })
-  none_free (Some x) none = tt
+  pub found_free : (r : Rate) (o : Option ChanId) → IfSome o (λ x. dense.IsFreeAt ch cell r x) → IfSome o (λ x. IsFreeAt (state_in ch m users) cell r x)
+  found_free r None free = tt
+  found_free r (Some x) free =
+      record { free = record { in_cell = free.free.in_cell; is_traffic = free.free.traffic; is_free = sym (same_way x) ∙ free.free.is_free }; rate = free.rate }
+
+  pub none_free : (r : Rate) (o : Option ChanId) → IfNone o (dense.NoneFreeAt ch cell r) → IfNone o (NoneFreeAt (state_in ch m users) cell r)
+  none_free r None none = λ x free.
+      none x (record { free = record { in_cell = free.free.in_cell; traffic = free.free.is_traffic; is_free = same_way x ∙ free.free.is_free }; rate = free.rate })
+  none_free r (Some x) none = tt
 
   pub same_count : dense.free_count ch cell ≡ free_count (state_in ch m users) cell
   same_count =
       let alike : (x : ChanId) → dense.is_free_traffic ch x ≡ is_free_traffic (state_in ch m users) x =
-      λ x. ap (λ f. is_traffic ch.site x && f) (free_alike (dense.state_of ch x) ∙ ap is_free (same_or_free (map.get ch.states x))) in
+      λ x. ap (λ o. is_traffic ch.site x && is_none o) (same_way x) in
       λ i. count_by (λ x. alike x i) (dense.channels_of cell)
 
 -- ---- what holds of the tables, after a change
@@ -197,6 +196,13 @@ module _ (m n : FinMap nat_cmp Kept) (c armed : ℕ) (counted : armed ≡ map.le
       let least = armed_count m c None in
       let same : map.len (armed_of n) ≡ map.len (armed_of (map.insert m c k)) = ap (λ l. map.len (armed_of l)) changed in
       omega (arith, counts, least, same, counted, was, one)
+
+  pub armed_same : (k : Kept) → n ≡ map.insert m c k → k.timer ≡ timer_at m c → armed ≡ map.len (armed_of n)
+  armed_same k changed stays =
+      let counts = armed_count m c (Some k) in
+      let one : one_if_some k.timer ≡ one_if_some (timer_at m c) = ap {B = ℕ} (λ o. one_if_some o) stays in
+      let same : map.len (armed_of n) ≡ map.len (armed_of (map.insert m c k)) = ap (λ l. map.len (armed_of l)) changed in
+      omega (arith, counts, one, same, counted)
 
   pub armed_removed : (before : ℕ) → n ≡ map.remove m c → before ≡ one_if_some (timer_at m c) → armed - before ≡ map.len (armed_of n)
   armed_removed before changed was =

@@ -1,5 +1,5 @@
 -- The free channels of a cell as a set: what it has, and how many.
-use Rattle.std.proofs.Common.{◌≡◌, ◌↔◌, ◌&&◌, ◌||◌, ℕ, ◌+◌, ◌*◌, ◌<◌, ◌/◌, ◌%◌, Bool, true, false, cond, List, [], ◌∷◌, get_or, map as map_list, count_by, refl, sym, ap, ◌∙◌, subst, inl, inr, zero-add, arith}
+use Rattle.std.proofs.Common.{◌≡◌, ◌↔◌, ◌&&◌, ◌||◌, ℕ, zero, suc, ◌+◌, ◌<◌, ◌/◌, ◌%◌, Bool, true, false, cond, List, [], ◌∷◌, map as map_list, count_by, refl, sym, ap, ◌∙◌, subst, inl, inr, zero-add, arith}
 use Rattle.std.specs.declared.cmp.Ordering.{Ordering}
 use Rattle.std.specs.List.{filter, list_any, range_with_len, IsDistinct, AllByRecursion}
 use Rattle.std.specs.Cmp.{IsTotalOrder, tied_itself}
@@ -13,14 +13,15 @@ use Rattle.std.proofs.lemmas.List.FromFn.{get_or-map-range_with_len, length-map-
 use Rattle.std.proofs.lemmas.Map.Keys.{IsDistinct-from_apart}
 use Rattle.std.proofs.lemmas.Map.Views.{any-filter_same}
 use Rattle.channel_fsm.specs.declared.ChanId.{ChanId}
-use Rattle.cell_table.specs.Site.{TrafficLiesWithin, is_traffic}
+use Rattle.channel_fsm.specs.Keys.{sub_number}
+use Rattle.cell_table.specs.Site.{TrafficLiesWithin}
 use Rattle.radio_tables.specs.Keys.{chan_cmp}
-use Rattle.radio_tables.specs.State.{State, state_of}
+use Rattle.radio_tables.specs.State.{State}
 use Rattle.radio_tables.specs.Choice.{IsFreeIn, IsFreeCount}
-use Rattle.radio_tables.specs.Places.{is_free, is_free_traffic, channels_of, free_count}
+use Rattle.radio_tables.specs.Places.{sub_at, is_free_traffic, channels_of, free_count}
 use Rattle.radio_tables.proofs.MapFacts.{tied_keys, different_keys}
 use Rattle.radio_tables.proofs.KeyFacts.{chan_total, chan_exact}
-use Rattle.radio_tables.proofs.Chosen.{channel_at, by_places, within, place_at, by_place, free_from}
+use Rattle.radio_tables.proofs.Chosen.{channel_at, by_places, within, place_of, place_small, stands_there, is_free_in, passes_in}
 
 module _ {K : Type 0} {R : K → K → Ordering} (o : IsTotalOrder R) (p : K → Bool) where
   none_kept : (e : K → Bool) (xs : List K) → AllByRecursion (λ y. e y ≡ false) xs → list_any e (filter p xs) ≡ false
@@ -55,18 +56,28 @@ module _ {K : Type 0} {R : K → K → Ordering} (o : IsTotalOrder R) (p : K →
 -- no channel of a cell has two places
 each_once : (cell : ℕ) → IsDistinct (eq_by_cmp chan_cmp) (channels_of cell)
 each_once cell =
-    let xs = map_list (channel_at cell) (range_with_len 0 32) in
-    let size = length-map-range_with_len (channel_at cell) 0 32 in
+    let xs = map_list (channel_at cell) (range_with_len 0 96) in
+    let size = length-map-range_with_len (channel_at cell) 0 96 in
     subst (IsDistinct (eq_by_cmp chan_cmp)) (sym (by_places cell)) (IsDistinct-from_apart (eq_by_cmp chan_cmp) xs (λ i j d less inside.
-    let below : j < 32 = omega (arith, inside, size) in
-    let first : i < 32 = omega (arith, less, below) in
-    let at_i = get_or-map-range_with_len (channel_at cell) 0 32 i i d first (zero-add i) in
-    let at_j = get_or-map-range_with_len (channel_at cell) 0 32 j j d below (zero-add j) in
+    let below : j < 96 = omega (arith, inside, size) in
+    let first : i < 96 = omega (arith, less, below) in
+    let at_i = get_or-map-range_with_len (channel_at cell) 0 96 i i d first (zero-add i) in
+    let at_j = get_or-map-range_with_len (channel_at cell) 0 96 j j d below (zero-add j) in
     (λ k. eq_by_cmp chan_cmp (at_i k) (at_j k))
     ∙ different_keys chan_cmp chan_exact (channel_at cell i) (channel_at cell j) (λ same.
-    let trx : i / 8 ≡ j / 8 = ap (λ x. x.trx) same in
-    let tn : i % 8 ≡ j % 8 = ap (λ x. x.tn) same in
-    absurd (omega (arith, less, trx, tn)))))
+    let trx : i / 24 ≡ j / 24 = ap (λ x. x.trx) same in
+    let tn : i / 3 % 8 ≡ j / 3 % 8 = ap (λ x. x.tn) same in
+    let sub : i % 3 ≡ j % 3 = sym (number_at i) ∙ ap (λ (x : ChanId). sub_number x.sub) same ∙ number_at j in
+    absurd (omega (arith, less, trx, tn, sub)))))
+  where
+    number_by : (r : ℕ) → r < 3 → sub_number (sub_at r) ≡ r
+    number_by zero h = refl
+    number_by (suc zero) h = refl
+    number_by (suc (suc zero)) h = refl
+    number_by (suc (suc (suc r))) h = absurd (omega arith)
+
+    number_at : (n : ℕ) → sub_number (sub_at (n % 3)) ≡ n % 3
+    number_at n = number_by (n % 3) (omega arith)
 
 in_cell : (cell : ℕ) (ns : List ℕ) (x : ChanId) → list_any (eq_by_cmp chan_cmp x) (map_list (channel_at cell) ns) ≡ true → x.cell ≡ cell
 in_cell cell [] x e = cc
@@ -90,20 +101,12 @@ module _ (b : State) (cell : ℕ) where
   members site x = (
     λ e.
         let parts = and_parts (is_free_traffic b x) (list_any (eq_by_cmp chan_cmp x) (channels_of cell)) (sym (told x) ∙ e) in
-        let free = and_parts (is_traffic b.site x) (is_free (state_of b x)) parts.0 in
-        record {
-          in_cell = in_cell cell (range_with_len 0 32) x (ap (list_any (eq_by_cmp chan_cmp x)) (sym (by_places cell)) ∙ parts.1);
-          is_traffic = free.0;
-          is_free = free_from (state_of b x) free.1;
-        },
+        is_free_in b cell x (in_cell cell (range_with_len 0 96) x (ap (list_any (eq_by_cmp chan_cmp x)) (sym (by_places cell)) ∙ parts.1)) parts.0,
     λ free.
         let limits = site x free.is_traffic in
-        let place = 8 * x.trx + x.tn in
-        let small : place < 32 = omega (arith, limits.trx, limits.timeslot) in
-        let here : get_or (channels_of cell) place x ≡ x =
-        place_at cell place x small ∙ ap (λ k. channel_at k place) (sym free.in_cell) ∙ by_place x limits.timeslot in
-        told x ∙ and_from _ _ (and_from _ _ free.is_traffic (ap is_free free.is_free))
-        (list_any_at (eq_by_cmp chan_cmp x) (channels_of cell) place x (within cell place small) (ap (eq_by_cmp chan_cmp x) here ∙ ap is_eq (tied_itself chan_total x))),
+        told x ∙ and_from _ _ (passes_in b cell x free)
+        (list_any_at (eq_by_cmp chan_cmp x) (channels_of cell) (place_of x) x (within cell (place_of x) (place_small x limits))
+        (ap (eq_by_cmp chan_cmp x) (stands_there cell x free.in_cell limits) ∙ ap is_eq (tied_itself chan_total x))),
   )
 
   -- a count over the places of the cell is the size of the set

@@ -16,9 +16,8 @@ use Rattle.std.proofs.lemmas.Bool.Decides.{Decides-and, Decides-like, same_from_
 use Rattle.std.proofs.lemmas.Bool.{eq-eqb, eqb-true}
 use Rattle.std.proofs.lemmas.Option.{same_Some}
 use denote.Enum.Bare.{same_true, true_same}
-use Rattle.channel_fsm.specs.declared.ChanId.{ChanId}
 use Rattle.channel_fsm.specs.declared.ChanState.{ChanState}
-use Rattle.channel_fsm.specs.contracts.ChanIdPartialEq.TheImpl.{eq-value as chan_eq}
+pub use Rattle.channel_fsm.proofs.KeyFacts.{chan_eq-Decides}
 use Rattle.channel_fsm.specs.contracts.ChanStatePartialEq.TheImpl.{eq-value as chan_state_eq}
 use Rattle.channel_fsm.specs.declared.ChanState.TheVariants.{Free, Held, Pending, On, Off}
 use Rattle.attempt_journal.specs.declared.Timer.{Timer}
@@ -45,12 +44,6 @@ option_eq-Decides each None None = (λ _. refl, λ _. refl)
 option_eq-Decides each None (Some y) = (λ e. cc, λ e. cc)
 option_eq-Decides each (Some x) None = (λ e. cc, λ e. cc)
 option_eq-Decides {E = E} each (Some x) (Some y) = Decides-like (E x y) (ap Some) (same_Some x y) (each x y)
-
-pub chan_eq-Decides : (x y : ChanId) → Decides (chan_eq.it x y) (x ≡ y)
-chan_eq-Decides x y =
-    Decides-like (chan_eq.it x y) (λ p i. record { cell = p.0 i; trx = p.1.0 i; tn = p.1.1 i })
-    (λ e. (ap (λ z. z.cell) e, (ap (λ z. z.trx) e, ap (λ z. z.tn) e)))
-    (Decides-and _ _ (unsigned_Decides x.cell y.cell) (Decides-and _ _ (unsigned_Decides x.trx y.trx) (unsigned_Decides x.tn y.tn)))
 
 pub reference_eq-Decides : (x y : Reference) → Decides (reference_eq.it x y) (x ≡ y)
 reference_eq-Decides x y =

@@ -11,8 +11,11 @@ use Rattle.dense_tables.specs.Maps.{listed}
 abbrev pub record_at : map.FinMap nat_cmp Kept → ℕ → Option CallRecord
 record_at m c = option_map (λ k. k.call) (map.get m c)
 
+abbrev pub timer_in : Option Kept → Option Timer
+timer_in kept = option_and_then (λ k. k.timer) kept
+
 abbrev pub timer_at : map.FinMap nat_cmp Kept → ℕ → Option Timer
-timer_at m c = option_and_then (λ k. k.timer) (map.get m c)
+timer_at m c = timer_in (map.get m c)
 
 abbrev pub records_of : map.FinMap nat_cmp Kept → map.FinMap nat_cmp CallRecord
 records_of m = listed nat_cmp (map.keys m) (record_at m)

@@ -1,6 +1,7 @@
 -- The stored inverses of an attempt, which follow from it. Ours, of no standard.
 use Rattle.std.specs.Prelude.{ℕ, List, [], Option, Some, None}
 use Rattle.std.specs.Option.{option_map}
+use Rattle.channel_fsm.specs.declared.Sub.TheVariants.{Full}
 use Rattle.channel_fsm.specs.declared.ChanId.{ChanId}
 use Rattle.attempt_journal.specs.declared.Inverse.{Inverse}
 use Rattle.radio_tables.specs.declared.kinds.Stage.{Stage}
@@ -16,7 +17,7 @@ or_zero (Some n) = n
 
 -- And only a stage that has a target reads this.
 abbrev pub or_origin : Option ChanId → ChanId
-or_origin None = record { cell = 0; trx = 0; tn = 0 }
+or_origin None = record { cell = 0; trx = 0; tn = 0; sub = Full }
 or_origin (Some t) = t
 
 -- what a call's journal holds follows from its attempt alone

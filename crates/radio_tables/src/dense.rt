@@ -1,12 +1,13 @@
 //! Tables in which everything is found by its place.
 ghost use Rattle.std.specs.Prelude.{◌≡◌, ◌↔◌, IfOk, IsTrue, is_some, cond, false};
 ghost use Rattle.radio_tables.specs.State.{empty_book};
-ghost use Rattle.radio_tables.specs.Dense.{timer_at};
+ghost use Rattle.radio_tables.specs.Dense.{timer_in};
 
 use crate::entry::CallEntry;
+use crate::kinds::CallRecord;
 use crate::tables::{CopyTables, Tables};
 use cell_table::Site;
-use channel_fsm::{ChanId, ChanState};
+use channel_fsm::{ChanId, ChanState, Rate};
 use dense_tables::calls::{CallSlots, Entry};
 use dense_tables::channels::ChannelStates;
 use dense_tables::{Reference, ReferenceRows};
@@ -131,6 +132,13 @@ impl<A: Allocator> Tables for DenseTables<A> {
         }
     }
 
+    fn record_of(&self, call: u16) -> Option<CallRecord> {
+        match self.calls.get(call) {
+            Some(entry) => Some(entry.record()),
+            None => None,
+        }
+    }
+
     fn add_call(&mut self, call: u16, entry: CallEntry) -> Result<(), AllocError> {
         let armed = count_of(entry.is_armed());
         self.calls.add(call, entry)?;
@@ -141,17 +149,21 @@ impl<A: Allocator> Tables for DenseTables<A> {
     }
 
     fn set_entry(&mut self, call: u16, entry: CallEntry) {
-        let before = count_armed(&self.calls, call);
         let armed = count_of(entry.is_armed());
-        self.calls.set(call, entry);
+        let old = self.calls.set(call, entry);
+        let before = count_of(old.is_armed());
         // Called for its clause alone, as above.
         let _calls = self.calls.len();
         self.armed = self.armed - before + armed;
     }
 
+    fn set_record(&mut self, call: u16, entry: CallEntry) {
+        self.calls.set(call, entry);
+    }
+
     fn remove_call(&mut self, call: u16) {
-        let before = count_armed(&self.calls, call);
-        self.calls.remove(call);
+        let old = self.calls.remove(call);
+        let before = count_armed(old);
         self.armed -= before;
     }
 
@@ -184,8 +196,8 @@ impl<A: Allocator> Tables for DenseTables<A> {
         self.armed
     }
 
-    fn lowest_free(&self, cell: u8) -> Option<ChanId> {
-        self.channels.lowest_free(cell)
+    fn lowest_free(&self, cell: u8, rate: Rate) -> Option<ChanId> {
+        self.channels.lowest_free(cell, rate)
     }
 
     fn free_count(&self, cell: u8) -> u32 {
@@ -199,11 +211,11 @@ impl<A: Allocator> Tables for DenseTables<A> {
     }
 }
 
-/// How many timers of a call are armed.
-fn count_armed<A: Allocator>(calls: &CallSlots<CallEntry, A>, call: u16) -> usize
-    ensures { result ≡ cond (is_some (timer_at calls.now call)) 1 0 }
+/// How many timers are armed for a call of which this was kept.
+fn count_armed(kept: Option<CallEntry>) -> usize
+    ensures { result ≡ cond (is_some (timer_in kept)) 1 0 }
 {
-    match calls.get(call) {
+    match kept {
         Some(entry) => count_of(entry.is_armed()),
         None => 0,
     }

@@ -119,8 +119,8 @@ impl CallEntry {
     }
 
     /// The inverses, in the order of pushing.
-    pub fn into_journal(self) -> Journal
-        ensures { result ≡ journal_of self.call.attempt }
+    pub fn journal(&self) -> Journal
+        ensures { result ≡ journal_of self.now.call.attempt }
     {
         self.journal
     }

@@ -1,19 +1,20 @@
 //! Tables as trees.
-ghost use Rattle.std.specs.Prelude.{◌≡◌, ◌/◌, ◌%◌, true, find};
+ghost use Rattle.std.specs.Prelude.{◌≡◌, ◌/◌, ◌%◌, ◌&&◌, true, find};
 ghost use Rattle.cell_table.specs.Limits.{timeslots_of_trx};
 ghost use Rattle.std.specs.Cmp.{partial_equiv_from_equiv};
 ghost use Rattle.radio_tables.specs.Same.{is_same, is_same-IsEquivalence};
 ghost use Rattle.radio_tables.specs.State.{empty_book, state_of, state_code};
-ghost use Rattle.radio_tables.specs.Places.{is_free_traffic, channels_of, free_count};
+ghost use Rattle.radio_tables.specs.Places.{sub_at, is_free_traffic, has_rate, is_free_at, channels_of, free_count};
+ghost use Rattle.channel_fsm.specs.Slots.{needs, is_used};
 
 use crate::entry::CallEntry;
-use crate::kinds::Reference;
+use crate::kinds::{CallRecord, Reference};
 use crate::tables::{CopyTables, Tables};
 use crate::trees::{Calls, Channels, References};
 use cell_table::Site;
 use cell_table::laws::same_sites_are_equal;
 use cell_table::limits::{MOST_TRX, TIMESLOTS_OF_TRX};
-use channel_fsm::{ChanId, ChanState};
+use channel_fsm::{ChanId, ChanState, Rate, Sub};
 use std::alloc::{AllocError, Allocator, Global};
 use std::marker::Model;
 use std::sync::Arc;
@@ -21,8 +22,11 @@ use std::sync::Arc;
 /// The timeslots of a TRX.
 const TIMESLOTS: u8 = TIMESLOTS_OF_TRX as u8;
 
+/// A timeslot has three parts: the whole of it, and its halves.
+const PARTS: u8 = 3;
+
 /// How many channels a cell can have.
-const PLACES: u8 = MOST_TRX as u8 * TIMESLOTS;
+const PLACES: u8 = MOST_TRX as u8 * TIMESLOTS * PARTS;
 
 /// Tables that keep in trees what is in use. Each key that comes into use asks for memory.
 #[derive(Drop)]
@@ -89,18 +93,34 @@ impl<A: Allocator + Copy> MapTables<A> {
         self.channels.get(x).unwrap_or(ChanState::Free)
     }
 
+    /// Whether a part of a channel's timeslot is in its way.
+    fn is_in_way(&self, x: ChanId, sub: Sub) -> bool
+        ensures { result ≡ (needs x.sub sub && is_used (state_of self.now (record x { sub = sub }))) }
+    {
+        x.sub.needs(sub) && self.state_of(x.part(sub)).is_used()
+    }
+
     fn is_free_traffic(&self, x: ChanId) -> bool
         ensures { result ≡ is_free_traffic self.now x }
     {
-        self.site.is_traffic(x) && matches!(self.state_of(x), ChanState::Free)
+        self.site.is_traffic(x)
+            && !self.is_in_way(x, Sub::Full)
+            && !self.is_in_way(x, Sub::Half0)
+            && !self.is_in_way(x, Sub::Half1)
     }
 
-    fn first_free(&self, cell: u8) -> Option<ChanId>
-        ensures { result ≡ find (is_free_traffic self.now) (channels_of cell) }
+    fn is_free_at(&self, rate: Rate, x: ChanId) -> bool
+        ensures { result ≡ is_free_at self.now rate x }
+    {
+        has_rate(rate, x.sub) && self.is_free_traffic(x)
+    }
+
+    fn first_free(&self, cell: u8, rate: Rate) -> Option<ChanId>
+        ensures { result ≡ find (is_free_at self.now rate) (channels_of cell) }
     {
         for place in 0..PLACES {
             let x = channel_at(cell, place);
-            if self.is_free_traffic(x) {
+            if self.is_free_at(rate, x) {
                 return Some(x);
             }
         }
@@ -166,11 +186,22 @@ impl<A: Allocator + Copy> Tables for MapTables<A> {
         self.calls.entry(call)
     }
 
+    fn record_of(&self, call: u16) -> Option<CallRecord> {
+        match self.calls.entry(call) {
+            Some(entry) => Some(entry.record()),
+            None => None,
+        }
+    }
+
     fn add_call(&mut self, call: u16, entry: CallEntry) -> Result<(), AllocError> {
         self.calls.insert(call, entry)
     }
 
     fn set_entry(&mut self, call: u16, entry: CallEntry) {
+        self.calls.replace(call, entry);
+    }
+
+    fn set_record(&mut self, call: u16, entry: CallEntry) {
         self.calls.replace(call, entry);
     }
 
@@ -206,10 +237,10 @@ impl<A: Allocator + Copy> Tables for MapTables<A> {
         self.calls.armed()
     }
 
-    fn lowest_free(&self, cell: u8) -> Option<ChanId> {
+    fn lowest_free(&self, cell: u8, rate: Rate) -> Option<ChanId> {
         // Called for its clause alone: no channel of the cell lies beyond those that are looked at.
         let _cells = self.site.cells();
-        self.first_free(cell)
+        self.first_free(cell, rate)
     }
 
     fn free_count(&self, cell: u8) -> u32 {
@@ -225,11 +256,37 @@ impl<A: Allocator + Copy> Tables for MapTables<A> {
 
 /// The channel at a place among those that a cell can have.
 fn channel_at(cell: u8, place: u8) -> ChanId
-    ensures { result ≡ record { cell = cell; trx = place / timeslots_of_trx; tn = place % timeslots_of_trx } }
+    ensures { result ≡ record { cell = cell; trx = place / 24; tn = place / 3 % timeslots_of_trx; sub = sub_at (place % 3) } }
 {
     ChanId {
         cell,
-        trx: place / TIMESLOTS,
-        tn: place % TIMESLOTS,
+        trx: place / (TIMESLOTS * PARTS),
+        tn: place / PARTS % TIMESLOTS,
+        sub: sub_at(place % PARTS),
+    }
+}
+
+/// The part of a timeslot with this number.
+fn sub_at(number: u8) -> Sub
+    ensures { result ≡ sub_at number }
+{
+    if number == 0 {
+        Sub::Full
+    } else if number == 1 {
+        Sub::Half0
+    } else {
+        Sub::Half1
+    }
+}
+
+/// Whether a part of a timeslot carries speech at this rate.
+fn has_rate(rate: Rate, sub: Sub) -> bool
+    ensures { result ≡ has_rate rate sub }
+{
+    match (rate, sub) {
+        (Rate::Full, Sub::Full) => true,
+        (Rate::Full, Sub::Half0 | Sub::Half1) => false,
+        (Rate::Half, Sub::Full) => false,
+        (Rate::Half, Sub::Half0 | Sub::Half1) => true,
     }
 }

@@ -5,11 +5,11 @@ ghost use Rattle.std.specs.Option.{option_map};
 ghost use Rattle.channel_fsm.specs.declared.ChanState.TheVariants as chan;
 ghost use Rattle.cell_table.specs.Site.{TrafficLiesWithin, is_traffic};
 ghost use Rattle.radio_tables.specs.State.{State, with_channel, with_kept, without_call, with_reference};
-ghost use Rattle.radio_tables.specs.Choice.{IsFreeIn, NoneFree, IsFreeCount};
+ghost use Rattle.radio_tables.specs.Choice.{IsFreeAt, NoneFree, NoneFreeAt, IsFreeCount};
 
 use crate::entry::CallEntry;
-use crate::kinds::Reference;
-use channel_fsm::{ChanId, ChanState};
+use crate::kinds::{CallRecord, Reference};
+use channel_fsm::{ChanId, ChanState, Rate};
 use std::alloc::AllocError;
 
 /// Tables of channels, calls and references over a site. Contracts see them as finite maps: a free channel has no entry, nor
@@ -60,6 +60,10 @@ pub trait Tables: Drop {
         ensures call { option_map (λ kept. kept.call) result ≡ map.get (state self.now).calls call }
         ensures timer { IfSome result (λ kept. kept.timer ≡ map.get (state self.now).timers call) };
 
+    /// The record of a call; `None` where it isn't there.
+    fn record_of(&self, call: u16) -> Option<CallRecord>
+        ensures value { result ≡ map.get (state self.now).calls call };
+
     /// A call begins. Memory is asked for.
     fn add_call(&mut self, call: u16, entry: CallEntry) -> Result<(), AllocError>
         requires new { map.get (state self.old).calls call ≡ None }
@@ -69,6 +73,12 @@ pub trait Tables: Drop {
     /// Something else is kept of a call that is there.
     fn set_entry(&mut self, call: u16, entry: CallEntry)
         requires there { IsSome (map.get (state self.old).calls call) }
+        ensures kept { state self.new ≡ with_kept (state self.old) call entry };
+
+    /// Something else is kept of a call that is there, with the timer that was kept of it.
+    fn set_record(&mut self, call: u16, entry: CallEntry)
+        requires there { IsSome (map.get (state self.old).calls call) }
+        requires timer { entry.timer ≡ map.get (state self.old).timers call }
         ensures kept { state self.new ≡ with_kept (state self.old) call entry };
 
     /// A call ends.
@@ -107,12 +117,13 @@ pub trait Tables: Drop {
     fn timers(&self) -> usize
         ensures count { result ≡ map.len (state self.now).timers };
 
-    /// The free traffic channel of a cell with the lowest TRX, then timeslot. Any free one meets the contract.
-    fn lowest_free(&self, cell: u8) -> Option<ChanId>
-        ensures found { IfSome result (λ x. IsFreeIn (state self.now) cell x) }
-        ensures none { IfNone result (NoneFree (state self.now) cell) };
+    /// The free traffic channel of a cell at a rate with the lowest TRX, then timeslot, then half. Any free one meets the
+    /// contract.
+    fn lowest_free(&self, cell: u8, rate: Rate) -> Option<ChanId>
+        ensures found { IfSome result (λ x. IsFreeAt (state self.now) cell rate x) }
+        ensures none { IfNone result (NoneFreeAt (state self.now) cell rate) };
 
-    /// How many traffic channels of a cell are free.
+    /// How many traffic channels of a cell are free, each of both rates.
     fn free_count(&self, cell: u8) -> u32
         ensures count { IsFreeCount (state self.now) cell result }
         ensures none { (result ≡ 0) ↔ NoneFree (state self.now) cell };

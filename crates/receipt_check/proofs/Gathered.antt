@@ -1,14 +1,16 @@
--- One receipt more.
-use Rattle.std.proofs.Common.{◌≡◌, ◌≢◌, ℕ, ◌+◌, ◌<◌, ◌==◌, Bool, true, false, List, length, get_or, set, take, sym, ◌∙◌, arith, below_more, ⊎_elim, length-set, get_or-set_other, get_or-set_same}
-use Rattle.std.proofs.lemmas.List.{get_or_default}
+-- One receipt more, and one list of receipts more.
+use Rattle.std.proofs.Common.{◌≡◌, ◌≢◌, ℕ, ◌+◌, ◌-◌, ◌<◌, ◌≤◌, ◌==◌, Bool, true, false, List, [], ◌∷◌, ◌++◌, length, get_or, set, take, drop, refl, ap, sym, ◌∙◌, subst, inl, inr, arith, below_more, ⊎_elim, length-append, length-set, get_or-set_other, get_or-set_same}
+use Rattle.std.specs.List.{flat_map}
+use Rattle.std.proofs.lemmas.Grind.{flat_map-append}
+use Rattle.std.proofs.lemmas.List.{append-nil, get_or_append_left, get_or-append_right, get_or-append-add, get_or_default, take_all, take_more, take-append-drop}
 use Rattle.std.proofs.lemmas.List.Folds.{list_any_more}
-use Rattle.std.proofs.lemmas.Bool.{cases_eq}
+use Rattle.std.proofs.lemmas.Bool.{cases_eq, cases_lt}
 use Rattle.std.proofs.lemmas.Option.{slice_get_within}
 use Rattle.radio_book.specs.declared.event.Event.{Event}
 use Rattle.radio_book.specs.declared.event.Reply.{Reply}
 use Rattle.std.proofs.lemmas.Bool.Decides.{nat_tests}
 use Rattle.radio_desk.specs.declared.seat.Receipt.{Receipt}
-use Rattle.receipt_check.specs.Gathering.{AreFresh, StandsAt, has_place}
+use Rattle.receipt_check.specs.Gathering.{AreFresh, FirstWrong, StandsAt, has_place}
 
 pub fresh_more : (all : List Receipt) (i : ℕ) (e : Receipt) → i < length all → AreFresh all i → has_place (get_or all i e).place (take i all) ≡ false → AreFresh all (i + 1)
 fresh_more all i e lt old here k d below =
@@ -37,3 +39,53 @@ pub fresh_here : (all : List Receipt) (i : ℕ) (e : Receipt) (seen : List Bool)
 fresh_here all i e seen b x within old f at =
     let p = (get_or all i e).place in
     sym (old p within) ∙ (get_or_default seen p false x within ∙ (sym at ∙ f))
+
+-- receipts in two parts
+module _ (history : List (Event × Reply)) (a b : List Receipt) where
+  pub stands_both : StandsAt history a (length a) → StandsAt history b (length b) → StandsAt history (a ++ b) (length (a ++ b))
+  stands_both first second k d lt = elim (cases_lt k (length a)) [
+    | inl before ↦ rw (get_or_append_left a b d k before) (first k d before)
+    | inr behind ↦ rw (get_or-append_right a b (length a) k d refl behind) (second (k - length a) d (omega (arith, length-append a b)))
+  ]
+
+  pub wrong_before : (r : Receipt) → FirstWrong history a r → FirstWrong history (a ++ b) r
+  wrong_before r w = (
+    w.0,
+    omega (arith, w.1, length-append a b),
+    λ k d lt. let below : k < length a = omega (arith, w.1) in rw (get_or_append_left a b d k below) (w.2 k d lt),
+    λ d. get_or_append_left a b d w.0 w.1 ∙ w.3 d,
+    w.4,
+  )
+
+  pub wrong_behind : (r : Receipt) → StandsAt history a (length a) → FirstWrong history b r → FirstWrong history (a ++ b) r
+  wrong_behind r first w = (
+    length a + w.0,
+    omega (arith, w.1, length-append a b),
+    λ k d lt. elim (cases_lt k (length a)) [
+      | inl before ↦ rw (get_or_append_left a b d k before) (first k d before)
+      | inr behind ↦ rw (get_or-append_right a b (length a) k d refl behind) (w.2 (k - length a) d (omega (arith, lt)))
+    ],
+    λ d. get_or-append-add a b w.0 d ∙ w.3 d,
+    w.4,
+  )
+
+-- receipts list by list
+module _ {X : Type 0} (f : X → List Receipt) (history : List (Event × Reply)) (xs : List X) (i : ℕ) (e : X) where
+  flat_to : i < length xs → flat_map f (take (i + 1) xs) ≡ flat_map f (take i xs) ++ f (get_or xs i e)
+  flat_to lt = ap (flat_map f) (take_more xs i e lt) ∙ (flat_map-append f (take i xs) (get_or xs i e ∷ []) ∙ ap (λ l. flat_map f (take i xs) ++ l) (append-nil (f (get_or xs i e))))
+
+  flat_past : flat_map f (take (i + 1) xs) ++ flat_map f (drop (i + 1) xs) ≡ flat_map f xs
+  flat_past = sym (flat_map-append f (take (i + 1) xs) (drop (i + 1) xs)) ∙ ap (flat_map f) (take-append-drop (i + 1) xs)
+
+  pub stand_more : i < length xs → StandsAt history (flat_map f (take i xs)) (length (flat_map f (take i xs))) → StandsAt history (f (get_or xs i e)) (length (f (get_or xs i e)))
+      → StandsAt history (flat_map f (take (i + 1) xs)) (length (flat_map f (take (i + 1) xs)))
+  stand_more lt first second = rw (flat_to lt) (stands_both history (flat_map f (take i xs)) (f (get_or xs i e)) first second)
+
+  pub wrong_among : (r : Receipt) → i < length xs → StandsAt history (flat_map f (take i xs)) (length (flat_map f (take i xs))) → FirstWrong history (f (get_or xs i e)) r → FirstWrong history (flat_map f xs) r
+  wrong_among r lt first w =
+      let here : FirstWrong history (flat_map f (take (i + 1) xs)) r = rw (flat_to lt) (wrong_behind history (flat_map f (take i xs)) (f (get_or xs i e)) r first w) in
+      subst (λ (l : List Receipt). FirstWrong history l r) flat_past (wrong_before history (flat_map f (take (i + 1) xs)) (flat_map f (drop (i + 1) xs)) r here)
+
+-- those of all lists
+pub stand_all : {X : Type 0} (f : X → List Receipt) (history : List (Event × Reply)) (xs : List X) (i : ℕ) → length xs ≤ i → StandsAt history (flat_map f (take i xs)) (length (flat_map f (take i xs))) → StandsAt history (flat_map f xs) (length (flat_map f xs))
+stand_all {X = X} f history xs i past stand = subst (λ (l : List X). StandsAt history (flat_map f l) (length (flat_map f l))) (take_all i xs past) stand

@@ -11,8 +11,8 @@ use radio_desk::seat::Receipt;
 use std::alloc::{AllocError, Allocator};
 use thiserror::Error;
 
-/// Why a desk and receipts are none that an office can close with. Where several hold, the first in this order is answered;
-/// `NoMemory` may come at any time.
+/// Why a desk and receipts are none that an office can close with. Where several hold, the first in this order is answered.
+/// `Missing` is found without memory: so where `NoMemory` is answered each receipt is the entry at its place.
 #[derive(Clone, Copy, Debug, Error)]
 pub enum CloseFault {
     /// This receipt isn't the entry of the history at its place. It is the first such one, list by list.
@@ -44,24 +44,25 @@ pub fn gather<A: Allocator + Copy>(
         (λ fault. IsGatherFault desk.now.history
         (flat_map (λ list. list.items) lists.now) fault) }
 {
+    if let Some(receipt) = first_wrong_of(desk, lists) {
+        return Err(CloseFault::Missing(receipt));
+    }
     let Ok(all) = flat(alloc, lists) else {
         return Err(CloseFault::NoMemory);
     };
     check(alloc, desk, all.as_slice())
 }
 
-/// The same of the receipts of one list.
+/// The same of the receipts of one list, each of which is the entry at its place.
 pub fn check<A: Allocator + Copy>(
     alloc: A,
     desk: &Desk<A>,
     all: &[Receipt],
 ) -> Result<(), CloseFault>
+    requires { StandsAt desk.now.history all.now (length all.now) }
     ensures gathers { MatchResult result (λ _. Gathers desk.now.history all.now)
         (λ fault. IsGatherFault desk.now.history all.now fault) }
 {
-    if let Some(receipt) = first_wrong(desk, all) {
-        return Err(CloseFault::Missing(receipt));
-    }
     match first_twice(alloc, desk, all) {
         Err(AllocError) => Err(CloseFault::NoMemory),
         Ok(Some(place)) => Err(CloseFault::Twice(place)),
@@ -99,8 +100,24 @@ fn flat<A: Allocator + Copy>(
     Ok(all)
 }
 
+/// The first receipt, list by list, that isn't the entry at its place.
+fn first_wrong_of<A: Allocator + Copy>(desk: &Desk<A>, lists: &[Vec<Receipt, A>]) -> Option<Receipt>
+    ensures { MatchOption result
+        (StandsAt desk.now.history (flat_map (λ list. list.items) lists.now)
+        (length (flat_map (λ list. list.items) lists.now)))
+        (λ receipt. FirstWrong desk.now.history
+        (flat_map (λ list. list.items) lists.now) receipt) }
+{
+    for list in lists {
+        if let Some(receipt) = first_wrong(desk, list.as_slice()) {
+            return Some(receipt);
+        }
+    }
+    None
+}
+
 /// The first receipt that isn't the entry at its place.
-fn first_wrong<A: Allocator + Copy>(desk: &Desk<A>, all: &[Receipt]) -> Option<Receipt>
+pub fn first_wrong<A: Allocator + Copy>(desk: &Desk<A>, all: &[Receipt]) -> Option<Receipt>
     ensures { MatchOption result (StandsAt desk.now.history all.now (length all.now))
         (λ receipt. FirstWrong desk.now.history all.now receipt) }
 {

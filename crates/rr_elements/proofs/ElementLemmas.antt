@@ -5,7 +5,8 @@ use Rattle.rr_elements.specs.ChanDescription.{Chan, ChanFits, IsChanText, chan_w
 use Rattle.rr_elements.specs.Power.{PowerCommand, PowerFits, IsPowerText, power_widths, power_numbers, power_text}
 use Rattle.rr_elements.specs.RrCause.{IsCauseText, cause_widths, cause_numbers, cause_text}
 use Rattle.rr_elements.specs.declared.cause.RrCause.{RrCause}
-use Rattle.rr_elements.proofs.Readers.{cell_of, cell_said, chan_of, chan_said, power_of, power_said, cause_of, cause_said}
+use Rattle.rr_elements.proofs.Readers.{cell_of, cell_said, chan_of, chan_with, chan_said, power_of, power_said, cause_of, cause_said}
+use Rattle.octet_elements.proofs.ChannelTypeLemmas.{sub_again, type_below}
 use Rattle.octet_elements.proofs.FieldLemmas.{flag-one, flag_below, AreFields-field_octets}
 
 pub cell-said : (v : Cell) (octets : List ℕ) → IsCellText v octets → cell_said octets ≡ Ok v
@@ -24,11 +25,11 @@ chan-said v octets text =
     let bits : 8 * length octets ≡ 24 = text.1.len in
     let three : length octets ≡ 3 = omega arith in
     let joined : 256 * (v.carrier / 256) + v.carrier % 256 ≡ v.carrier = omega arith in
-    rw three (ap chan_of text.1.pieces ∙ ap (λ a. Ok (record { tn = v.tn; tsc = v.tsc; carrier = a })) joined)
+    rw three (ap chan_of text.1.pieces ∙ ap (λ found. chan_with found v.tn v.tsc 0 (256 * (v.carrier / 256) + v.carrier % 256)) (sub_again v.sub) ∙ ap (λ a. Ok (record { tn = v.tn; sub = v.sub; tsc = v.tsc; carrier = a })) joined)
 
 pub chan-text : (v : Chan) → ChanFits v → IsChanText v (chan_text v)
 chan-text v fits =
-    (0, AreFields-field_octets chan_widths (chan_numbers 0 v) (omega arith, (fits.tn, (fits.tsc, (omega arith, (omega arith, (omega (arith, fits.carrier), (omega arith, tt))))))) refl)
+    (0, AreFields-field_octets chan_widths (chan_numbers 0 v) (type_below v.sub, (fits.tn, (fits.tsc, (omega arith, (omega arith, (omega (arith, fits.carrier), (omega arith, tt))))))) refl)
 
 pub power-said : (v : PowerCommand) (octets : List ℕ) → IsPowerText v octets → power_said octets ≡ Ok v
 power-said v octets text =

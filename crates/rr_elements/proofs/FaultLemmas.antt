@@ -8,6 +8,8 @@ use Rattle.rr_elements.specs.ChanDescription.{Chan, IsChanText, HasChanFault}
 use Rattle.rr_elements.specs.declared.fault.ElementFault.{ElementFault}
 use Rattle.rr_elements.specs.declared.fault.ElementFault.TheVariants.{Length, BadType, Hopping, BadRange}
 use Rattle.rr_elements.proofs.ElementLemmas.{chan-said}
+use Rattle.octet_elements.specs.ChannelTypes.{type_of}
+use Rattle.octet_elements.proofs.ChannelTypeLemmas.{sub_again, no_sub}
 use Rattle.rr_elements.proofs.Readers.{chan_said}
 
 is_length : (count : ℕ) (octets : List ℕ) (fault : ElementFault) → HasOtherLength count octets fault → fault ≡ Length
@@ -36,14 +38,14 @@ pub chan-fault : (octets : List ℕ) (fault : ElementFault) → HasChanFault oct
 chan-fault octets Length other = rw (differs (length octets) 3 other) refl
 chan-fault octets BadType (three, not) =
     let kind = number_of (take 5 (bits_of octets)) in
-    let other : kind ≢ 1 = λ is. not (record { len = omega arith; pieces = ap (λ n. n ∷ []) is }) in
-    rw (three, differs kind 1 other) refl
-chan-fault octets Hopping (tn, tsc, fields) =
+    let other = no_sub kind (λ sub is. not sub (record { len = omega arith; pieces = ap (λ n. n ∷ []) is })) in
+    rw (three, other) refl
+chan-fault octets Hopping (sub, tn, tsc, fields) =
     let pieces = fields.pieces in
     let bits = bits_of octets in
-    let kind : number_of (take 5 bits) ≡ 1 = cc in
+    let kind : number_of (take 5 bits) ≡ type_of sub = cc in
     let hopping : number_of (take 1 (drop 3 (drop 3 (drop 5 bits)))) ≡ 1 = cc in
-    rw (three_octets (length octets) fields.len, kind, hopping) refl
+    rw (three_octets (length octets) fields.len, kind, sub_again sub, hopping) refl
 chan-fault octets BadRange h = absurd h
 
 pub chan_has_no_fault : (v : Chan) (octets : List ℕ) (fault : ElementFault) → IsChanText v octets → HasChanFault octets fault → ⊥

@@ -1,11 +1,13 @@
 -- Readers of the elements, field by field: two texts, or a text and a fault, of the same octets are compared by them.
-use Rattle.std.specs.Prelude.{ℕ, ◌+◌, ◌*◌, ◌==◌, if◌then◌else◌, List, [], ◌∷◌, length, take, Result, Ok, Err}
+use Rattle.std.specs.Prelude.{ℕ, ◌+◌, ◌*◌, ◌==◌, if◌then◌else◌, List, [], ◌∷◌, length, take, Option, Some, None, Result, Ok, Err}
 use Rattle.rr_elements.specs.declared.cause.RrCause.{RrCause}
 use Rattle.rr_elements.specs.declared.fault.ElementFault.{ElementFault}
 use Rattle.rr_elements.specs.declared.fault.ElementFault.TheVariants.{Length, BadType, Hopping}
 use Rattle.rr_elements.specs.declared.measurement.MeasHead.{MeasHead}
 use Rattle.rr_elements.specs.declared.measurement.Ncell.{Ncell}
 use Rattle.octet_elements.specs.Bits.{bits_of, cut}
+use Rattle.octet_elements.specs.ChannelTypes.{sub_of}
+use Rattle.channel_fsm.specs.declared.Sub.{Sub}
 use Rattle.rr_elements.specs.CellDescription.{Cell, cell_widths}
 use Rattle.rr_elements.specs.ChanDescription.{Chan, chan_widths}
 use Rattle.rr_elements.specs.Power.{PowerCommand, power_widths}
@@ -19,9 +21,12 @@ cell_of _ = Err Length
 abbrev pub cell_said : List ℕ → Result Cell ElementFault
 cell_said octets = if length octets == 2 then cell_of (cut cell_widths (bits_of octets)) else Err Length
 
+abbrev pub chan_with : Option Sub → ℕ → ℕ → ℕ → ℕ → Result Chan ElementFault
+chan_with None tn tsc hopping carrier = Err BadType
+chan_with (Some sub) tn tsc hopping carrier = if hopping == 0 then Ok (record { tn = tn; sub = sub; tsc = tsc; carrier = carrier }) else Err Hopping
+
 abbrev pub chan_of : List ℕ → Result Chan ElementFault
-chan_of (kind ∷ tn ∷ tsc ∷ hopping ∷ spare ∷ high ∷ low ∷ []) =
-    if kind == 1 then (if hopping == 0 then Ok (record { tn = tn; tsc = tsc; carrier = 256 * high + low }) else Err Hopping) else Err BadType
+chan_of (kind ∷ tn ∷ tsc ∷ hopping ∷ spare ∷ high ∷ low ∷ []) = chan_with (sub_of kind) tn tsc hopping (256 * high + low)
 chan_of _ = Err Length
 
 abbrev pub chan_said : List ℕ → Result Chan ElementFault

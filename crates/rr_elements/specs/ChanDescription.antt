@@ -1,13 +1,16 @@
--- Channel Description 2 (TS 44.018 section 10.5.2.5a), without an identifier: a full rate traffic channel that does not hop.
+-- Channel Description 2 (TS 44.018 section 10.5.2.5a), without an identifier: a traffic channel that does not hop.
 use Rattle.std.specs.Prelude.{◌≡◌, ℕ, ◌/◌, ◌%◌, ◌^◌, ◌<◌, List, [], ◌∷◌, length}
 use Rattle.rr_elements.specs.Faults.{HasOtherLength}
+use Rattle.octet_elements.specs.ChannelTypes.{type_of}
+use Rattle.channel_fsm.specs.declared.Sub.{Sub}
 use Rattle.octet_elements.specs.Fields.{AreFields, AreFirstFields, field_octets}
 use Rattle.rr_elements.specs.declared.fault.ElementFault.{ElementFault}
 use Rattle.rr_elements.specs.declared.fault.ElementFault.TheVariants.{Length, BadType, Hopping, BadRange}
 
--- timeslot, training sequence code and carrier
+-- timeslot, which of its traffic channels, training sequence code and carrier
 pub record Chan : Type 0 where
   pub tn : ℕ
+  pub sub : Sub
   pub tsc : ℕ
   pub carrier : ℕ
 
@@ -22,13 +25,9 @@ pub record ChanFits (v : Chan) : Type 0 where
 abbrev pub chan_widths : List ℕ
 chan_widths = 5 ∷ 3 ∷ 3 ∷ 1 ∷ 2 ∷ 2 ∷ 8 ∷ []
 
--- the channel type TCH/F with its associated channels
-abbrev pub full_rate : ℕ
-full_rate = 1
-
--- a full rate channel, H 0
+-- a traffic channel, H 0
 abbrev pub chan_numbers : ℕ → Chan → List ℕ
-chan_numbers spare v = full_rate ∷ v.tn ∷ v.tsc ∷ 0 ∷ spare ∷ v.carrier / 256 ∷ v.carrier % 256 ∷ []
+chan_numbers spare v = type_of v.sub ∷ v.tn ∷ v.tsc ∷ 0 ∷ spare ∷ v.carrier / 256 ∷ v.carrier % 256 ∷ []
 
 -- the octets are a text of the value, whatever the spare bits are
 abbrev pub IsChanText : Chan → List ℕ → Type 0
@@ -38,9 +37,9 @@ IsChanText v octets = (spare : ℕ) × AreFields chan_widths (chan_numbers spare
 abbrev pub chan_text : Chan → List ℕ
 chan_text v = field_octets chan_widths (chan_numbers 0 v)
 
--- The first fault of octets: they are not three; their type is another; it is TCH/F, and H is 1.
+-- The first fault of octets: they are not three; their type is that of no traffic channel; it is that of one, and H is 1.
 abbrev pub HasChanFault : List ℕ → ElementFault → Type 0
 HasChanFault octets Length = HasOtherLength 3 octets Length
-HasChanFault octets BadType = (length octets ≡ 3) × (AreFirstFields chan_widths (full_rate ∷ []) octets → ⊥)
-HasChanFault octets Hopping = (tn tsc : ℕ) × AreFirstFields chan_widths (full_rate ∷ tn ∷ tsc ∷ 1 ∷ []) octets
+HasChanFault octets BadType = (length octets ≡ 3) × ((sub : Sub) → AreFirstFields chan_widths (type_of sub ∷ []) octets → ⊥)
+HasChanFault octets Hopping = (sub : Sub) × (tn tsc : ℕ) × AreFirstFields chan_widths (type_of sub ∷ tn ∷ tsc ∷ 1 ∷ []) octets
 HasChanFault octets BadRange = ⊥

@@ -2,17 +2,15 @@
 ghost use Rattle.std.specs.Prelude.{◌≡◌, ◌<◌, IfOk, IfErr, Ok, Err, length};
 
 use crate::fault::ElementFault;
-use octet_elements::{BitReader, BitWriter};
+use octet_elements::{BitReader, BitWriter, Sub, channel_type, sub_of_type};
 use std::alloc::{AllocError, Allocator};
 use std::marker::Model;
 
-/// The channel type TCH/F with its associated channels.
-const FULL_RATE: u8 = 1;
-
-/// A full rate traffic channel that does not hop (TS 44.018 section 10.5.2.5a).
+/// A traffic channel that does not hop (TS 44.018 section 10.5.2.5a).
 #[derive(Clone, Copy, Debug, PartialEq, Eq)]
 pub struct ChanDescription {
     tn: u8,
+    sub: Sub,
     tsc: u8,
     carrier: u16,
 }
@@ -22,27 +20,32 @@ impl Model for ChanDescription {
 
     ghost Value = { Chan };
 
-    ghost view = { λ a. record { tn = a.tn; tsc = a.tsc; carrier = a.carrier } };
+    ghost view = { λ a. record { tn = a.tn; sub = a.sub; tsc = a.tsc; carrier = a.carrier } };
 
-    ghost invariant = { λ a. ChanFits (record { tn = a.tn; tsc = a.tsc; carrier = a.carrier }) };
+    ghost invariant = { λ a. ChanFits (record { tn = a.tn; sub = a.sub; tsc = a.tsc; carrier = a.carrier }) };
 
-    ghost inverse = { λ v. record { tn = v.tn; tsc = v.tsc; carrier = v.carrier } };
+    ghost inverse = { λ v. record { tn = v.tn; sub = v.sub; tsc = v.tsc; carrier = v.carrier } };
 }
 
 impl ChanDescription {
     ghost use Rattle.rr_elements.specs.ChanDescription.{Chan, ChanFits, IsChanText, chan_text, HasChanFault};
     ghost use Rattle.octet_elements.specs.Writing.{Appends};
 
-    /// The channel with this timeslot and training sequence code (0 to 7 each) and carrier (0 to
-    /// 1023); `BadRange` where one of them is more.
-    pub fn new(tn: u8, tsc: u8, carrier: u16) -> Result<Self, ElementFault>
-        ensures ok { ChanFits (record { tn = tn; tsc = tsc; carrier = carrier }) →
-            result ≡ Ok (record { tn = tn; tsc = tsc; carrier = carrier }) }
-        ensures bad_range { ¬ ChanFits (record { tn = tn; tsc = tsc; carrier = carrier }) →
+    /// This one of the traffic channels of a timeslot, with this training sequence code (timeslot and
+    /// code are 0 to 7) and carrier (0 to 1023); `BadRange` where one of them is more.
+    pub fn new(tn: u8, sub: Sub, tsc: u8, carrier: u16) -> Result<Self, ElementFault>
+        ensures ok { ChanFits (record { tn = tn; sub = sub; tsc = tsc; carrier = carrier }) →
+            result ≡ Ok (record { tn = tn; sub = sub; tsc = tsc; carrier = carrier }) }
+        ensures bad_range { ¬ ChanFits (record { tn = tn; sub = sub; tsc = tsc; carrier = carrier }) →
             result ≡ Err ElementFault.BadRange }
     {
         if tn < 8 && tsc < 8 && carrier < 1024 {
-            Ok(ChanDescription { tn, tsc, carrier })
+            Ok(ChanDescription {
+                tn,
+                sub,
+                tsc,
+                carrier,
+            })
         } else {
             Err(ElementFault::BadRange)
         }
@@ -54,6 +57,13 @@ impl ChanDescription {
         ensures range { result < 8 }
     {
         self.tn
+    }
+
+    /// Which of the timeslot's traffic channels it is.
+    pub fn sub(&self) -> Sub
+        ensures value { result ≡ self.now.sub }
+    {
+        self.sub
     }
 
     /// The training sequence code, 0 to 7.
@@ -78,9 +88,14 @@ impl ChanDescription {
         ensures count { length (chan_text self.now) ≡ 3 }
         ensures text { IsChanText self.now (chan_text self.now) }
     {
-        let ChanDescription { tn, tsc, carrier } = *self;
+        let ChanDescription {
+            tn,
+            sub,
+            tsc,
+            carrier,
+        } = *self;
         let mut bits = BitWriter::new();
-        bits.put(5, FULL_RATE);
+        bits.put(5, channel_type(sub));
         bits.put(3, tn);
         bits.put(3, tsc);
         bits.put(1, 0);
@@ -91,7 +106,7 @@ impl ChanDescription {
     }
 
     /// Reads the element's three octets. The first fault of `Length` (they are not three),
-    /// `BadType` (another channel type) and `Hopping` (H is 1) that holds comes.
+    /// `BadType` (the type of no traffic channel) and `Hopping` (H is 1) that holds comes.
     pub fn decode(octets: &[u8]) -> Result<Self, ElementFault>
         ensures text { IfOk result (λ v. IsChanText v octets.now) }
         ensures fault { IfErr result (HasChanFault octets.now) }
@@ -105,12 +120,17 @@ impl ChanDescription {
         let high = bits.take(2);
         let low = bits.take(8);
         let carrier = 256 * u16::from(high) + u16::from(low);
-        if kind != FULL_RATE {
+        let Some(sub) = sub_of_type(kind) else {
             return Err(ElementFault::BadType);
-        }
+        };
         if hopping == 1 {
             return Err(ElementFault::Hopping);
         }
-        Ok(ChanDescription { tn, tsc, carrier })
+        Ok(ChanDescription {
+            tn,
+            sub,
+            tsc,
+            carrier,
+        })
     }
 }

@@ -15,5 +15,6 @@ pub use cell::CellDescription;
 pub use channel::ChanDescription;
 pub use fault::ElementFault;
 pub use measurement::{MeasHead, Ncell};
+pub use octet_elements::Sub;
 pub use power::Power;
 pub use results::MeasResults;

@@ -1,6 +1,7 @@
 //! The elements of each message: how they are read, and beside it how they are written.
-ghost use Rattle.std.specs.Prelude.{◌≡◌, ◌+◌, ◌-◌, ◌^◌, ◌<◌, ◌≤◌, ◌↔◌, min, length, Ok, Err, IsTrue, IfSome};
+ghost use Rattle.std.specs.Prelude.{◌≡◌, ◌+◌, ◌-◌, ◌/◌, ◌%◌, ◌^◌, ◌<◌, ◌≤◌, ◌↔◌, min, length, Ok, Err, IsTrue, IfSome};
 ghost use Rattle.std.specs.Option.{option_map};
+ghost use Rattle.octet_elements.specs.ChannelTypes.{sub_of};
 ghost use Rattle.octet_elements.specs.Elements.{all_octets};
 ghost use Rattle.octet_elements.specs.Lookup.{lookup};
 ghost use Rattle.octet_elements.specs.Texts.{Answers};
@@ -8,7 +9,7 @@ ghost use Rattle.octet_elements.specs.Writing.{HasRoom, Adds};
 ghost use Rattle.rsl_messages.specs.Forms.{abis, known};
 ghost use Rattle.rsl_messages.specs.Messages.{CanBeSaid, said, elements_of, data_rows, activation_rows, activation_ack_rows, cause_rows, detection_rows, measurement_rows};
 ghost use Rattle.rsl_messages.specs.Texts.{codec, limit, HasCanonical};
-ghost use Rattle.rsl_messages.specs.Values.{channel_in, channel_octet};
+ghost use Rattle.rsl_messages.specs.Values.{channel_with, channel_in, channel_octet};
 
 use crate::fault::RslFault;
 use crate::head::MessageKind;
@@ -19,8 +20,8 @@ use crate::table::{
 };
 use octet_elements::values::u16_octets;
 use octet_elements::{
-    Found, Octets, ValueFault, append_element, append_octet, append_optional_octet, element_len,
-    octet_len, optional_octet_len,
+    Found, Octets, ValueFault, append_element, append_octet, append_optional_octet, channel_type,
+    element_len, octet_len, optional_octet_len, sub_of_type,
 };
 use std::alloc::Allocator;
 
@@ -33,8 +34,18 @@ fn channel(found: &Found<'_, Abis>) -> Result<ChanBits, ValueFault>
 {
     match found.first(CHANNEL_NUMBER) {
         None => Err(ValueFault::Absent(CHANNEL_NUMBER)),
-        Some([octet, ..]) if *octet / 8 == 1 => Ok(ChanBits { tn: *octet % 8 }),
-        Some(_) => Err(ValueFault::Bad(CHANNEL_NUMBER)),
+        Some([octet, ..]) => channel_of(*octet),
+        Some([]) => Err(ValueFault::Bad(CHANNEL_NUMBER)),
+    }
+}
+
+/// The channel that a channel number's octet names.
+fn channel_of(octet: u8) -> Result<ChanBits, ValueFault>
+    ensures { result ≡ channel_with (sub_of (octet / 8)) (octet % 8) }
+{
+    match sub_of_type(octet / 8) {
+        Some(sub) => Ok(ChanBits { tn: octet % 8, sub }),
+        None => Err(ValueFault::Bad(CHANNEL_NUMBER)),
     }
 }
 
@@ -43,7 +54,7 @@ fn channel_octet(channel: ChanBits) -> u8
     requires { channel.tn < 8 }
     ensures { result ≡ channel_octet channel }
 {
-    8 + channel.tn
+    8 * channel_type(channel.sub) + channel.tn
 }
 
 /// The message that elements say.

@@ -17,6 +17,6 @@ mod writing;
 pub use fault::RslFault;
 pub use laws::{canonical_is_text, reading_is_unique};
 pub use message::{ChanBits, Rsl};
-pub use octet_elements::Octets;
+pub use octet_elements::{Octets, Sub};
 pub use reading::decode;
 pub use writing::{encode, encode_activation_into, encode_data_request_into, encode_into, fits};

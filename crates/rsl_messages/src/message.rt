@@ -1,12 +1,14 @@
 //! The messages.
-use octet_elements::Octets;
+use octet_elements::{Octets, Sub};
 use std::alloc::{Allocator, Global};
 
-/// A channel of a TRX, as an element names it (TS 48.058 clause 9.3.1): a full-rate traffic channel.
+/// A traffic channel of a TRX, as an element names it (TS 48.058 clause 9.3.1).
 #[derive(Clone, Copy, Debug, PartialEq, Eq)]
 pub struct ChanBits {
     /// The timeslot, from 0 to 7.
     pub tn: u8,
+    /// Which of the timeslot's traffic channels it is.
+    pub sub: Sub,
 }
 
 /// A message on Abis.

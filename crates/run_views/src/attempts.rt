@@ -190,9 +190,9 @@ impl<A: Allocator + Copy> Attempts<A> {
         reply: Reply,
         call: Option<u16>,
     ) -> Result<(), AllocError> {
-        match reply {
-            Reply::Done | Reply::Owned(_) | Reply::Record(..) => self.accept(row, event, call),
-            Reply::Refused(_) => Ok(()),
+        if reply.is_accepted() {
+            self.accept(row, event, call)?;
         }
+        Ok(())
     }
 }

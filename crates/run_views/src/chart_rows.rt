@@ -221,7 +221,7 @@ impl<A: Allocator + Copy> RunChart<A> {
                 self.attempts(mark).ask(row, event, reply, call)?;
                 format!(in self.alloc; "{} -> {}", EventText(event), ReplyText(reply))?
             }
-            Step::NoneFree(cell) => format!(in self.alloc; "none free in cell {cell}")?,
+            Step::NoneFree(cell, _) => format!(in self.alloc; "none free in cell {cell}")?,
         };
         self.note(mark, text)
     }

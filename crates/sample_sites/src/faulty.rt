@@ -92,6 +92,11 @@ pub const FAULTY_TRX: &[Faulty] = &[
         "3 tch",
     ),
     ("tch = [3]", "tch = [8]", "3 tch"),
+    ("tch = [2, 3]", "tch = [2, 3], half = 3", "3 half"),
+    ("tch = [2, 3]", "tch = [2, 3], half = [\"x\"]", "3 half"),
+    ("tch = [2, 3]", "tch = [2, 3], half = [8]", "3 half"),
+    ("tch = [2, 3]", "tch = [2, 3], half = [3, 4]", "3 half"),
+    ("tch = [2, 3]", "tch = [2, 8], half = [4]", "3 tch"),
 ];
 
 /// What is wrong with the cells of others, and what stands twice.
@@ -113,6 +118,13 @@ pub const FAULTY_OUTSIDE: &[Faulty] = &[
     ),
     ("arfcn = 875", "arfcn = 871", "4 carrier"),
     ("tch = [2, 3]", "tch = [3, 3]", "4 slot"),
+    ("tch = [2, 3]", "tch = [2, 3], half = [3, 3]", "4 slot"),
+    // the one entry of half stands behind nine of tch
+    (
+        "tch = [2, 3]",
+        "tch = [3, 3, 3, 3, 3, 3, 3, 3, 3, 2], half = [2]",
+        "4 slot",
+    ),
     (
         "tch = [2, 3]",
         "tch = [1, 2, 3, 4, 5, 6, 7, 7, 1]",

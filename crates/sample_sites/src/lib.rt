@@ -5,7 +5,7 @@
 mod faulty;
 pub mod reports;
 
-use channel_fsm::ChanId;
+use channel_fsm::{ChanId, Sub};
 pub use faulty::{
     FAULTY_CELLS, FAULTY_HANDOVER, FAULTY_OUTSIDE, FAULTY_TOGETHER, FAULTY_TRX, Faulty,
 };
@@ -65,6 +65,7 @@ pub const OTHER: ChanId = ChanId {
     cell: 0,
     trx: 0,
     tn: 2,
+    sub: Sub::Full,
 };
 
 /// The channel beside it.
@@ -72,6 +73,7 @@ pub const HOME: ChanId = ChanId {
     cell: 0,
     trx: 0,
     tn: 3,
+    sub: Sub::Full,
 };
 
 /// The one channel of cell 1 there.
@@ -79,6 +81,29 @@ pub const TARGET: ChanId = ChanId {
     cell: 1,
     trx: 1,
     tn: 3,
+    sub: Sub::Full,
+};
+
+/// What [`THREE_CHANNELS`] says of its last TRX, and the same where its timeslot also carries halves.
+pub const HALVED: (&str, &str) = (
+    "{ arfcn = 875, tch = [3] }",
+    "{ arfcn = 875, tch = [3], half = [3] }",
+);
+
+/// The lower half of [`TARGET`] there.
+pub const LOWER: ChanId = ChanId {
+    cell: 1,
+    trx: 1,
+    tn: 3,
+    sub: Sub::Half0,
+};
+
+/// The upper half of it.
+pub const UPPER: ChanId = ChanId {
+    cell: 1,
+    trx: 1,
+    tn: 3,
+    sub: Sub::Half1,
 };
 
 /// One cell, in which timeslots 5 and 3 of TRX 1 and 6 and 2 of TRX 2 carry traffic, named in this order.
@@ -191,25 +216,26 @@ trx = [{ arfcn = 60, tch = [] }]
 /// No cell, which is refused.
 pub const NO_CELL: &str = "[handover]\nwindow = 2\nmargin = 3\nminimum = 10\n";
 
-/// Appends a TRX on this carrier: `first` is that of the broadcast channel, whose timeslot 0 carries no traffic.
-fn push_trx(text: &mut String, carrier: u32, first: bool) -> Result<(), AllocError> {
+/// Appends a TRX on this carrier, with what else is said of it: `first` is that of the broadcast channel, whose timeslot 0
+/// carries no traffic.
+fn push_trx(text: &mut String, carrier: u32, first: bool, more: &str) -> Result<(), AllocError> {
     text.push_str(if first { "trx = [" } else { ", " })?;
     let zero = if first { "" } else { "0, " };
     write!(
         text,
-        "{{ arfcn = {carrier}, tch = [{zero}1, 2, 3, 4, 5, 6, 7] }}"
+        "{{ arfcn = {carrier}, tch = [{zero}1, 2, 3, 4, 5, 6, 7]{more} }}"
     )
 }
 
-/// Appends cell `ci` with so many TRX.
-fn push_cell(text: &mut String, ci: u16, trx: u16) -> Result<(), AllocError> {
+/// Appends cell `ci` with so many TRX, of each of which more is said.
+fn push_cell(text: &mut String, ci: u16, trx: u16, more: &str) -> Result<(), AllocError> {
     let bcch = u32::from(ci) * u32::from(trx);
     writeln!(
         text,
         "[[cell]]\nlac = 1\nci = {ci}\nbcch = {bcch}\nncc = 0\nbcc = 0\npower = 0\nba = []"
     )?;
     for place in 0..trx {
-        push_trx(text, bcch + u32::from(place), place == 0)?;
+        push_trx(text, bcch + u32::from(place), place == 0, more)?;
     }
     text.push_str("]\n")
 }
@@ -228,13 +254,22 @@ pub fn site_of_cells(
 ) -> Result<String, AllocError> {
     let mut text = String::from_str(alloc, NO_CELL)?;
     for ci in 0..cells {
-        push_cell(&mut text, ci, trx)?;
+        push_cell(&mut text, ci, trx, "")?;
     }
     for ci in 0..outside {
         writeln!(
             text,
             "[[outside]]\nlac = 2\nci = {ci}\nbcch = {ci}\nncc = 1\nbcc = 0"
         )?;
+    }
+    Ok(text)
+}
+
+/// So many cells with so many TRX each, as those of [`site_of_cells`], whose timeslots 1, 3, 5 and 7 also carry halves.
+pub fn site_of_halves(alloc: Global, cells: u16, trx: u16) -> Result<String, AllocError> {
+    let mut text = String::from_str(alloc, NO_CELL)?;
+    for ci in 0..cells {
+        push_cell(&mut text, ci, trx, ", half = [1, 3, 5, 7]")?;
     }
     Ok(text)
 }

@@ -1,6 +1,7 @@
 -- The forms of lines: what the first word is, and those behind it. Ours, of no standard.
-use Rattle.std.specs.Prelude.{ℕ, Bool, true, false, List, [], ◌∷◌, codes, find, Option, bytes_eq}
+use Rattle.std.specs.Prelude.{ℕ, Bool, true, false, List, [], ◌∷◌, codes, find, Option, is_some, bytes_eq}
 use Rattle.std.specs.Option.{option_or}
+use Rattle.lab_script.specs.Words.{timeslot_of}
 use Rattle.script_reasons.specs.declared.forms.Slot.{Slot}
 use Rattle.script_reasons.specs.declared.forms.Slot.TheVariants as slot
 use Rattle.script_reasons.specs.declared.forms.Form.{Form}
@@ -12,7 +13,7 @@ abbrev pub fits : Slot → List ℕ → Bool
 fits slot.Call word = is_number_below 65536 word
 fits slot.Cell word = is_number_below 256 word
 fits slot.Trx word = is_number_below 256 word
-fits slot.Timeslot word = is_number_below 8 word
+fits slot.Timeslot word = is_some (timeslot_of word)
 fits slot.Octets word = is_octets word
 fits slot.Timer word = is_timer word
 fits slot.Habit word = is_habit word

@@ -3,6 +3,7 @@ ghost use Rattle.std.specs.Prelude.{◌≡◌, Some};
 ghost use Rattle.script_reasons.specs.Forms as said;
 
 use crate::words::{is_count, is_habit, is_number_below, is_octets, is_timer};
+use lab_script::script::is_timeslot;
 
 /// What a word of a line is.
 #[derive(Clone, Copy, Debug, PartialEq, Eq)]
@@ -13,7 +14,7 @@ pub enum Slot {
     Cell,
     /// The number of a TRX, 0 to 255.
     Trx,
-    /// The number of a timeslot, 0 to 7.
+    /// The number of a timeslot, 0 to 7, and `/0` or `/1` behind it for a half.
     Timeslot,
     /// The octets of a message in hexadecimal.
     Octets,
@@ -33,7 +34,7 @@ impl Slot {
         match self {
             Slot::Call => is_number_below(word, 65536),
             Slot::Cell | Slot::Trx => is_number_below(word, 256),
-            Slot::Timeslot => is_number_below(word, 8),
+            Slot::Timeslot => is_timeslot(word),
             Slot::Octets => is_octets(word),
             Slot::Timer => is_timer(word),
             Slot::Habit => is_habit(word),

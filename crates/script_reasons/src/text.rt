@@ -51,7 +51,7 @@ impl Slot {
         match self {
             Slot::Call => "0 to 65535",
             Slot::Cell | Slot::Trx => "0 to 255",
-            Slot::Timeslot => "0 to 7",
+            Slot::Timeslot => "0 to 7, with /0 or /1 behind it for half rate",
             Slot::Octets => "one octet or more, each in two hexadecimal digits",
             Slot::Timer => "T3103, T7 or T8",
             Slot::Habit => "arrive, return or vanish",

@@ -11,7 +11,7 @@ abbrev pub keys_of : Place → List Key
 keys_of place.Top = key.Handover ∷ key.Cell ∷ key.Outside ∷ []
 keys_of place.Handover = key.Window ∷ key.Margin ∷ key.Minimum ∷ []
 keys_of (place.Cell cell) = key.Lac ∷ key.Ci ∷ key.Bcch ∷ key.Ncc ∷ key.Bcc ∷ key.Power ∷ key.Ba ∷ key.Trx ∷ []
-keys_of (place.Trx cell trx) = key.Arfcn ∷ key.Tch ∷ []
+keys_of (place.Trx cell trx) = key.Arfcn ∷ key.Tch ∷ key.Half ∷ []
 keys_of (place.Outside cell) = key.Lac ∷ key.Ci ∷ key.Bcch ∷ key.Ncc ∷ key.Bcc ∷ []
 
 -- one of these keys has this name

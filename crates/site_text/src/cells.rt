@@ -64,10 +64,19 @@ pub(crate) fn has_neighbours<A: Allocator + Copy>(site: &Site<A>, cell: u8) -> b
     false
 }
 
-/// Prints the traffic channels of a TRX.
-fn print_timeslots<W: Write>(cell: u8, trx: u8, timeslots: &[u8], out: &mut W) -> io::Result<()> {
+/// Prints the traffic channels of a TRX, behind a timeslot its halves, where it has such.
+fn print_timeslots<W: Write>(
+    cell: u8,
+    trx: u8,
+    timeslots: &[u8],
+    halves: &[u8],
+    out: &mut W,
+) -> io::Result<()> {
     for tn in timeslots {
         write!(out, " {cell}/{trx}/{tn}")?;
+        if halves.contains(tn) {
+            write!(out, " {cell}/{trx}/{tn}/0 {cell}/{trx}/{tn}/1")?;
+        }
     }
     Ok(())
 }
@@ -80,8 +89,8 @@ fn print_channels<A: Allocator + Copy, W: Write>(
 ) -> io::Result<()> {
     write!(out, " channels")?;
     for trx in 0..site.trx(cell).unwrap_or(0) {
-        if let Some(timeslots) = site.tch(cell, trx) {
-            print_timeslots(cell, trx, timeslots, out)?;
+        if let (Some(timeslots), Some(halves)) = (site.tch(cell, trx), site.half(cell, trx)) {
+            print_timeslots(cell, trx, timeslots, halves, out)?;
         }
     }
     Ok(())

@@ -66,7 +66,7 @@ fn words_of(key: Key) -> &'static str {
         Key::Bcch | Key::Ba | Key::Arfcn => "a carrier",
         Key::Ncc | Key::Bcc => "a colour code",
         Key::Power => "a power level",
-        Key::Tch => "a timeslot",
+        Key::Tch | Key::Half => "a timeslot",
         Key::Handover | Key::Cell | Key::Trx | Key::Outside => "a number of tables",
     }
 }
@@ -109,6 +109,7 @@ impl fmt::Display for Wanted {
                 )
             }
             Key::Tch => write!(f, "an array of timeslots from {least} to {most}"),
+            Key::Half => write!(f, "an array of timeslots that stand in tch"),
             Key::Window
             | Key::Margin
             | Key::Minimum
@@ -125,7 +126,7 @@ impl fmt::Display for Wanted {
 
 /// Whether the value of a key is an array, by the key.
 fn is_list(key: Key) -> bool {
-    matches!(key, Key::Ba | Key::Tch)
+    matches!(key, Key::Ba | Key::Tch | Key::Half)
 }
 
 /// Whether the value of a key is an array of tables, by the key.
@@ -171,11 +172,28 @@ struct Found<'a> {
     bcch: Option<u16>,
 }
 
+/// Whether an integer is one of those in an array.
+fn stands_in(entry: &Value, list: &[Value]) -> bool {
+    list.iter()
+        .any(|other| other.as_integer() == entry.as_integer())
+}
+
+/// Whether the timeslots of a TRX that also carry halves are traffic timeslots of it.
+fn are_traffic(trx: &Value) -> bool {
+    let slots = entries(trx, Key::Tch);
+    entries(trx, Key::Half)
+        .iter()
+        .all(|entry| stands_in(entry, slots))
+}
+
 /// Whether a table lacks a key, or has another value there than it may have.
 fn is_bad(table: &Value, key: Key, bcch: Option<u16>) -> bool {
     match table.get(key.name()) {
-        Some(value) => !fits(key, value, &numbers_of(key, bcch)),
-        None => true,
+        Some(value) => {
+            let apart = matches!(key, Key::Half) && !are_traffic(table);
+            apart || !fits(key, value, &numbers_of(key, bcch))
+        }
+        None => !matches!(key, Key::Half),
     }
 }
 
@@ -204,7 +222,7 @@ fn bad_trx(cell: &Value, number: usize, key: Key) -> Option<Found<'_>> {
 /// The first own cell, or TRX of one, with a mistake at a key.
 fn bad_cell(document: &Value, key: Key) -> Option<Found<'_>> {
     for (number, table) in entries(document, Key::Cell).iter().enumerate() {
-        if matches!(key, Key::Arfcn | Key::Tch) {
+        if matches!(key, Key::Arfcn | Key::Tch | Key::Half) {
             if let Some(found) = bad_trx(table, number, key) {
                 return Some(found);
             }
@@ -243,7 +261,9 @@ fn first_bad(document: &Value, key: Key) -> Option<Found<'_>> {
             table: document.get(Key::Handover.name())?,
             bcch: None,
         }),
-        Key::Power | Key::Ba | Key::Trx | Key::Arfcn | Key::Tch => bad_cell(document, key),
+        Key::Power | Key::Ba | Key::Trx | Key::Arfcn | Key::Tch | Key::Half => {
+            bad_cell(document, key)
+        }
         Key::Lac | Key::Ci | Key::Bcch | Key::Ncc | Key::Bcc => match bad_cell(document, key) {
             Some(found) => Some(found),
             None => bad_outside(document, key),
@@ -281,6 +301,23 @@ fn are_few(key: Key, list: &[Value], numbers: &Numbers) -> bool {
     !matches!(key, Key::Ba) || list.len() <= MOST_NEIGHBOURS
 }
 
+/// Says which entry of `half` is no timeslot, or none of those for traffic.
+fn say_halves<W: Write>(trx: &Value, list: &[Value], errors: &mut W) -> Result<(), PrintFault> {
+    let numbers = numbers_of(Key::Half, None);
+    let slots = entries(trx, Key::Tch);
+    for entry in list {
+        if !numbers.hold(entry) {
+            writeln!(errors, "{} isn't {numbers}", Said(entry))?;
+            return Ok(());
+        }
+        if !stands_in(entry, slots) {
+            writeln!(errors, "{} isn't one of the timeslots at tch", Said(entry))?;
+            return Ok(());
+        }
+    }
+    Ok(())
+}
+
 /// Says of an array at a key what doesn't fit: how many entries it has, or one of them.
 fn say_array<W: Write>(list: &[Value], wanted: Wanted, errors: &mut W) -> Result<(), PrintFault> {
     let numbers = numbers_of(wanted.key, wanted.bcch);
@@ -306,6 +343,9 @@ fn say_range<W: Write>(found: &Found<'_>, key: Key, errors: &mut W) -> Result<()
     };
     if is_tables(key) || is_list(key) {
         if let Some(list) = value.as_array() {
+            if matches!(key, Key::Half) {
+                return say_halves(found.table, list.as_slice(), errors);
+            }
             return say_array(list.as_slice(), wanted, errors);
         }
     }
@@ -390,13 +430,21 @@ fn repeated(list: &[Value]) -> Option<i64> {
     None
 }
 
+/// The first timeslot of a TRX that stands more than once at a key, and the key.
+fn repeated_slot(trx: &Value) -> Option<(Key, i64)> {
+    match repeated(entries(trx, Key::Tch)) {
+        Some(slot) => Some((Key::Tch, slot)),
+        None => Some((Key::Half, repeated(entries(trx, Key::Half))?)),
+    }
+}
+
 /// Says in which TRX of a cell a timeslot stands twice; whether there is one.
 fn say_slot<W: Write>(cell: &Value, number: usize, errors: &mut W) -> Result<bool, PrintFault> {
     for (trx, table) in entries(cell, Key::Trx).iter().enumerate() {
-        if let Some(slot) = repeated(entries(table, Key::Tch)) {
+        if let Some((key, slot)) = repeated_slot(table) {
             writeln!(
                 errors,
-                "cell {number}, trx {trx}: tch: {slot} stands twice, where it may stand once"
+                "cell {number}, trx {trx}: {key}: {slot} stands twice, where it may stand once"
             )?;
             return Ok(true);
         }

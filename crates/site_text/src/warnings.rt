@@ -28,7 +28,7 @@ fn keys_at(place: Place) -> &'static [Key]
             Key::Ba,
             Key::Trx,
         ],
-        Place::Trx(_, _) => &[Key::Arfcn, Key::Tch],
+        Place::Trx(_, _) => &[Key::Arfcn, Key::Tch, Key::Half],
         Place::Outside(_) => &[Key::Lac, Key::Ci, Key::Bcch, Key::Ncc, Key::Bcc],
     }
 }

@@ -2,6 +2,7 @@
 use Rattle.std.specs.Prelude.{◌≡◌, ℕ, ◌<◌, ◌≤◌, ◌*◌, ◌/◌, ◌%◌, List, length, map, filter}
 use Rattle.std.specs.List.{range_with_len}
 use Rattle.std.specs.Int.{div_ceil}
+use Rattle.channel_fsm.specs.declared.Sub.TheVariants.{Full}
 use Rattle.channel_fsm.specs.declared.ChanId.{ChanId}
 use Rattle.cell_table.specs.Limits.{most_trx, timeslots_of_trx}
 use Rattle.cell_table.specs.Site.{SiteView, is_traffic}
@@ -10,19 +11,20 @@ use Rattle.storms.specs.declared.trip.Shortage.TheVariants.{OneCell, Channels}
 use Rattle.storms.specs.declared.trip.TripFault.{TripFault}
 use Rattle.storms.specs.declared.trip.TripFault.TheVariants.{Short, NoMemory}
 
--- the channel at a place among those that a cell can have, by TRX, then timeslot
+-- the channel at a place among the full-rate ones that a cell can have, by TRX, then timeslot
 abbrev pub place_in : ℕ → ℕ → ChanId
-place_in cell place = record { cell = cell; trx = place / timeslots_of_trx; tn = place % timeslots_of_trx }
+place_in cell place = record { cell = cell; trx = place / timeslots_of_trx; tn = place % timeslots_of_trx; sub = Full }
 
--- every channel that a cell can have, by TRX, then timeslot
+-- every full-rate channel that a cell can have, by TRX, then timeslot
 unfoldable pub places_of : ℕ → List ChanId
 places_of cell = map (place_in cell) (range_with_len 0 (most_trx * timeslots_of_trx))
 
--- the traffic channels of a cell, in that order
+-- the full-rate traffic channels of a cell, in that order: storms use no others
 abbrev pub traffic_of : SiteView → ℕ → List ChanId
 traffic_of site cell = filter (is_traffic site) (places_of cell)
 
--- How many traffic channels each cell needs. Calls are dealt out to the cells in turn, and as many as begin in one may come.
+-- How many full-rate traffic channels each cell needs. Calls are dealt out to the cells in turn, and as many as begin in
+-- one may come.
 abbrev pub needed : ℕ → ℕ → ℕ
 needed cells calls = 2 * div_ceil calls cells
 

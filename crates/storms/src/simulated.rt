@@ -79,13 +79,8 @@ impl<A: Allocator + Copy> Simulated<A> {
 
     /// What mobiles on a channel do from now on, when they are commanded to another. A station sends nothing then.
     pub(crate) fn set_habit(&mut self, chan: ChanId, habit: Habit) -> Result<(), AllocError> {
-        self.world.set(Setting {
-            controller: CONTROLLER,
-            cell: chan.cell,
-            trx: chan.trx,
-            tn: chan.tn,
-            act: Act::Mobile(habit),
-        })?;
+        self.world
+            .set(Setting::of(CONTROLLER, chan, Act::Mobile(habit)))?;
         Ok(())
     }
 }

@@ -18,14 +18,8 @@ use std::alloc::{AllocError, Allocator, Global};
 use std::sync::{Arc, Wait};
 use std::thread::Threads;
 
-/// The most workers of a storm.
-pub const MOST_WORKERS: u8 = 16;
-
-/// The most calls of a storm.
-pub const MOST_CALLS: u16 = 1024;
-
-/// Runs a storm of so many calls over a site that is given as a text, with so many workers on threads of their own, and tells
-/// `watch` how far it is. All threads that were started have ended when it returns.
+/// Runs a storm of so many calls (1 to 1,024) over a site that is given as a text, with so many workers (1 to 16) on threads
+/// of their own, and tells `watch` how far it is. All threads that were started have ended when it returns.
 ///
 /// With `n` cells, call `k`, counted from 0, is opened on the traffic channel at place `k / n` of cell `k mod n` (by TRX and
 /// timeslot), and tries to move to the cell `(k + 1) mod n`: mobiles of calls with even numbers arrive there, those of odd

@@ -6,7 +6,7 @@ ghost use Rattle.storms.specs.Width.{place_in, traffic_of, needed, AllHave, IsWi
 use bts_model::Habit;
 use cell_table::Site;
 use cell_table::limits::{MOST_TRX, TIMESLOTS_OF_TRX};
-use channel_fsm::ChanId;
+use channel_fsm::{ChanId, Sub};
 use std::alloc::{AllocError, Allocator};
 use thiserror::Error;
 
@@ -19,8 +19,8 @@ pub enum Shortage {
     /// A call has no other cell to go to.
     #[error("a storm needs two cells")]
     OneCell,
-    /// A cell has fewer traffic channels than the calls that begin in it, and as many that come, need.
-    #[error("cell {cell} has {channels} traffic channels, and needs {needed}")]
+    /// A cell has fewer full-rate traffic channels than the calls that begin in it, and as many that come, need.
+    #[error("cell {cell} has {channels} full rate channels, and needs {needed}")]
     Channels {
         cell: u8,
         channels: usize,
@@ -60,7 +60,7 @@ pub(crate) struct Trip {
     pub(crate) habit: Habit,
 }
 
-/// The channel at a place among those that a cell can have, by TRX and timeslot.
+/// The channel at a place among the full-rate ones that a cell can have, by TRX and timeslot.
 fn place_in(cell: u8, place: u8) -> ChanId
     ensures { result ≡ place_in cell place }
 {
@@ -68,10 +68,11 @@ fn place_in(cell: u8, place: u8) -> ChanId
         cell,
         trx: place / TIMESLOTS_OF_TRX as u8,
         tn: place % TIMESLOTS_OF_TRX as u8,
+        sub: Sub::Full,
     }
 }
 
-/// How many traffic channels a cell has.
+/// How many full-rate traffic channels a cell has.
 fn channels_in<A: Allocator + Copy>(site: &Site<A>, cell: u8) -> usize
     ensures { result ≡ length (traffic_of site.now cell) }
 {
@@ -82,7 +83,7 @@ fn channels_in<A: Allocator + Copy>(site: &Site<A>, cell: u8) -> usize
     count
 }
 
-/// The traffic channel at a place among those of a cell, by TRX and timeslot.
+/// The channel at a place among the full-rate traffic channels of a cell, by TRX and timeslot.
 fn channel_at<A: Allocator + Copy>(site: &Site<A>, cell: u8, place: u16) -> Option<ChanId>
     ensures { result ≡ slice_get (traffic_of site.now cell) place }
 {
@@ -99,7 +100,7 @@ fn channel_at<A: Allocator + Copy>(site: &Site<A>, cell: u8, place: u16) -> Opti
     None
 }
 
-/// The first cell that has fewer than so many traffic channels, and how many it has.
+/// The first cell that has fewer than so many full-rate traffic channels, and how many it has.
 fn short_cell<A: Allocator + Copy>(site: &Site<A>, many: usize) -> Option<(u8, usize)>
     ensures { MatchOption result (AllHave site.now many (length site.now.cells))
         (λ short. IsShortCell site.now many short.0 short.1) }
@@ -113,8 +114,8 @@ fn short_cell<A: Allocator + Copy>(site: &Site<A>, many: usize) -> Option<(u8, u
     None
 }
 
-/// How many traffic channels each of so many cells needs. The calls that begin in a cell stay there or go to the next, so it
-/// has to have twice as many as the most that begin in one.
+/// How many full-rate traffic channels each of so many cells needs. The calls that begin in a cell stay there or go to the
+/// next, so it has to have twice as many as the most that begin in one.
 fn needed(cells: u8, calls: u16) -> usize
     requires { 0 < cells }
     ensures { result ≡ needed cells calls }

@@ -1,5 +1,5 @@
 -- Facts of who is told what comes of a script.
-use Rattle.std.proofs.Common.{◌≡◌, ◌⊎◌, ℕ, ◌+◌, Bool, true, false, List, [], ◌∷◌, ◌++◌, length, refl, subst, inl, inr, arith, length-append}
+use Rattle.std.proofs.Common.{◌≡◌, ℕ, Bool, true, false, List, [], ◌∷◌, ◌++◌, length, refl, subst, inl, inr, arith, length-append}
 use Rattle.tested_scripts.specs.Heard.{GoesOn, HearsAll}
 
 -- so many texts were heard, and the run goes on

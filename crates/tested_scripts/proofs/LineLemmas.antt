@@ -1,5 +1,5 @@
 -- Facts of the lines of a script.
-use Rattle.std.proofs.Common.{◌≡◌, ◌≢◌, inl, inr, ℕ, ◌-◌, ◌≤◌, Bool, cond, nat_lt, ◌∷◌, ◌++◌, List, [], Option, Some, None, refl, sym, ap, ◌∙◌, arith, length, take, get_or, map, length-append, unwrap_or, Bor, MatchOption}
+use Rattle.std.proofs.Common.{◌≡◌, inl, inr, ℕ, ◌≤◌, Bool, cond, nat_lt, ◌∷◌, ◌++◌, List, [], Some, None, refl, arith, length, map, unwrap_or, Bor}
 use Rattle.std.specs.List.{position_or_len, list_any}
 use Rattle.std.proofs.lemmas.Bool.{cases_Bool, ltb-false}
 use Rattle.std.specs.Str.Lines.{strip_carriage_return}

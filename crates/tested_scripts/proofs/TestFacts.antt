@@ -1,5 +1,5 @@
 -- What a listener was told that compares it with a script, part by part.
-use Rattle.std.proofs.Common.{◌≡◌, ◌⊎◌, ◌↔◌, ℕ, Bool, true, false, List, [], ◌∷◌, length, refl, sym, ◌∙◌, ap, subst, inl, inr, Bor}
+use Rattle.std.proofs.Common.{◌≡◌, ◌↔◌, ℕ, Bool, true, false, List, [], ◌∷◌, refl, sym, ◌∙◌, ap, subst, inl, inr, Bor}
 use Rattle.tested_scripts.specs.Lines.{texts_of}
 use Rattle.lab_script.specs.Script.{lines_of}
 use Rattle.tested_scripts.specs.Meeting.{AreMet}

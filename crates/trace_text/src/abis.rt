@@ -9,7 +9,7 @@
 //! | HANDOVER DETECTION | tn delay |
 //! | MEASUREMENT RESULT | tn number uplink power layer3 |
 //! | RF CHANNEL RELEASE, RF CHANNEL RELEASE ACK | tn |
-use crate::text::{HexText, OrDash};
+use crate::text::{HexText, OrDash, SlotText};
 use rsl_messages::{ChanBits, Octets, Rsl};
 use std::alloc::Allocator;
 use std::fmt;
@@ -21,8 +21,9 @@ pub struct AbisText<'a, A: Allocator>(pub &'a Rsl<A>);
 impl<A: Allocator> fmt::Display for AbisText<'_, A> {
     fn fmt<W: fmt::Write>(&self, f: &mut fmt::Formatter<W>) -> fmt::Result {
         let message = self.0;
-        let tn = channel(message).tn;
-        write!(f, "{} tn={tn}{}", name(message), FieldsText(message))
+        let ChanBits { tn, sub } = channel(message);
+        let slot = SlotText(tn, sub);
+        write!(f, "{} tn={slot}{}", name(message), FieldsText(message))
     }
 }
 

@@ -6,6 +6,7 @@
 //! | HANDOVER COMPLETE, HANDOVER FAILURE, CHANNEL RELEASE | cause |
 //! | PHYSICAL INFORMATION | ta |
 //! | MEASUREMENT REPORT | ba dtx full ba3g valid sub si23 qfull qsub count, and `n=level/position/bsic` for each neighbour in use |
+use crate::text::SlotText;
 use rr_elements::{CellDescription, ChanDescription, MeasResults, Ncell, Power};
 use rr_messages::Rr;
 use std::fmt;
@@ -59,8 +60,9 @@ struct ChannelText(ChanDescription);
 
 impl fmt::Display for ChannelText {
     fn fmt<W: fmt::Write>(&self, f: &mut fmt::Formatter<W>) -> fmt::Result {
-        let (tn, tsc, carrier) = (self.0.tn(), self.0.tsc(), self.0.carrier());
-        write!(f, "tn={tn} tsc={tsc} carrier={carrier}")
+        let slot = SlotText(self.0.tn(), self.0.sub());
+        let (tsc, carrier) = (self.0.tsc(), self.0.carrier());
+        write!(f, "tn={slot} tsc={tsc} carrier={carrier}")
     }
 }
 

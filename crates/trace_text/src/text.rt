@@ -1,4 +1,5 @@
 //! Values that are printed alike in the trace and in messages.
+use rsl_messages::Sub;
 use std::fmt;
 
 /// Octets, each as two small hexadecimal digits.
@@ -23,6 +24,21 @@ impl<T: fmt::Display> fmt::Display for OrDash<T> {
         match &self.0 {
             Some(value) => write!(f, "{value}"),
             None => write!(f, "-"),
+        }
+    }
+}
+
+/// A traffic channel of a TRX: its timeslot, and behind that `/0` or `/1` where it is a half-rate channel.
+#[derive(Clone, Copy)]
+pub(crate) struct SlotText(pub(crate) u8, pub(crate) Sub);
+
+impl fmt::Display for SlotText {
+    fn fmt<W: fmt::Write>(&self, f: &mut fmt::Formatter<W>) -> fmt::Result {
+        let tn = self.0;
+        match self.1 {
+            Sub::Full => write!(f, "{tn}"),
+            Sub::Half0 => write!(f, "{tn}/0"),
+            Sub::Half1 => write!(f, "{tn}/1"),
         }
     }
 }

@@ -3,7 +3,7 @@
 //! `docs/PROGRAM.md` lists the lines and their words.
 use crate::bad::BadText;
 use crate::text::{HexText, OrDash};
-use channel_fsm::ChanState;
+use channel_fsm::{ChanId, ChanState, Rate, Sub};
 use event_text::writing::EventText;
 use ho_procedure::exchange::{Bad, Inbound, Line, Outbound};
 use radio_book::book::Usage;
@@ -38,8 +38,8 @@ impl fmt::Display for Mark {
 pub enum Step {
     /// An event, and its reply.
     Asked(Event, Reply),
-    /// A free channel of this cell, and there was none.
-    NoneFree(u8),
+    /// A channel of this cell that is free at this rate, and there was none. (The line has the cell alone.)
+    NoneFree(u8, Rate),
 }
 
 impl fmt::Display for Step {
@@ -48,7 +48,22 @@ impl fmt::Display for Step {
             Step::Asked(event, reply) => {
                 write!(f, "event {} -> {}", EventText(event), ReplyText(reply))
             }
-            Step::NoneFree(cell) => write!(f, "none free {cell}"),
+            Step::NoneFree(cell, _) => write!(f, "none free {cell}"),
+        }
+    }
+}
+
+/// A channel in a line of a script: its cell, its TRX and its timeslot, and behind that `/0` or `/1` for a half.
+#[derive(Clone, Copy)]
+struct ChannelWords(ChanId);
+
+impl fmt::Display for ChannelWords {
+    fn fmt<W: fmt::Write>(&self, f: &mut fmt::Formatter<W>) -> fmt::Result {
+        let ChanId { cell, trx, tn, sub } = self.0;
+        match sub {
+            Sub::Full => write!(f, "{cell} {trx} {tn}"),
+            Sub::Half0 => write!(f, "{cell} {trx} {tn}/0"),
+            Sub::Half1 => write!(f, "{cell} {trx} {tn}/1"),
         }
     }
 }
@@ -60,9 +75,7 @@ struct LineText(Line);
 impl fmt::Display for LineText {
     fn fmt<W: fmt::Write>(&self, f: &mut fmt::Formatter<W>) -> fmt::Result {
         match self.0 {
-            Line::Open { call, chan } => {
-                write!(f, "open {call} {} {} {}", chan.cell, chan.trx, chan.tn)
-            }
+            Line::Open { call, chan } => write!(f, "open {call} {}", ChannelWords(chan)),
             Line::Handover { call, cell } => write!(f, "handover {call} {cell}"),
             Line::Undo { call } => write!(f, "undo {call}"),
             Line::Clear { call } => write!(f, "clear {call}"),

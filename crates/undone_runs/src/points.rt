@@ -96,10 +96,10 @@ impl<A: Allocator + Copy> OpenAttempts<A> {
     /// An event was asked of a controller's book, which replied so.
     fn ask(&mut self, side: Side, event: Event, reply: Reply) -> Result<(), AllocError> {
         let place = self.asked.count(side);
-        match reply {
-            Reply::Done | Reply::Owned(_) | Reply::Record(..) => self.accept(side, place, event),
-            Reply::Refused(_) => Ok(()),
+        if reply.is_accepted() {
+            self.accept(side, place, event)?;
         }
+        Ok(())
     }
 
     /// What came of an input.
@@ -107,7 +107,7 @@ impl<A: Allocator + Copy> OpenAttempts<A> {
         for step in &turn.steps {
             match step {
                 Step::Asked(event, reply) => self.ask(turn.side, *event, *reply)?,
-                Step::NoneFree(_) => {}
+                Step::NoneFree(..) => {}
             }
         }
         Ok(())

@@ -159,7 +159,7 @@ fn undone(stage: Stage, reference: Option<u8>) -> Reply {
 
 // What an event does is proved for sound tables of any kind. A book keeps its own sound; these are kept so here.
 #[derive(Drop)]
-struct Sound<T: Tables> {
+pub(super) struct Sound<T: Tables> {
     records: Records<T>,
 }
 
@@ -177,15 +177,19 @@ impl<T: Tables> Model for Sound<T> {
 }
 
 impl<T: Tables> Sound<T> {
-    fn step(&mut self, event: Event) -> Result<Reply, AllocError> {
+    pub(super) fn step(&mut self, event: Event) -> Result<Reply, AllocError> {
         self.records.step(event)
+    }
+
+    pub(super) fn tables(&self) -> &T {
+        self.records.tables()
     }
 
     fn chosen(&self, call: u16) -> u8 {
         self.records.choose_number(call)
     }
 
-    fn usage(&self) -> Usage {
+    pub(super) fn usage(&self) -> Usage {
         let records = &self.records;
         holds(
             records.channels(),
@@ -196,14 +200,14 @@ impl<T: Tables> Sound<T> {
     }
 }
 
-fn trees<A: Allocator + Copy>(alloc: A, site: Arc<Site<A>, A>) -> Sound<MapTables<A>> {
+pub(super) fn trees<A: Allocator + Copy>(alloc: A, site: Arc<Site<A>, A>) -> Sound<MapTables<A>> {
     let tables = MapTables::new(alloc, site);
     Sound {
         records: Records::over(tables),
     }
 }
 
-fn dense<A: Allocator + Copy>(
+pub(super) fn dense<A: Allocator + Copy>(
     alloc: A,
     site: Arc<Site<A>, A>,
 ) -> Result<Sound<DenseTables<A>>, AllocError> {

@@ -1,7 +1,7 @@
 //! Channels and numbers that the book chooses.
 use super::Ask::{ReserveAny, Step, TakeAny};
 use super::{Ask, Entry, STEADY, at_a_new_book, equals_at, put_to_book, step_all};
-use channel_fsm::ChanId;
+use channel_fsm::{ChanId, Rate, Sub};
 use radio_book::book::Book;
 use radio_book::event::Event;
 use radio_book::event::Event::{Reserve, Take};
@@ -93,7 +93,12 @@ fn any_free_number_is_reserved(rt: HostRuntime) -> Result<(), Fail> {
 
 // The channel of the one cell of the site of scattered channels.
 fn scattered(trx: u8, tn: u8) -> ChanId {
-    ChanId { cell: 0, trx, tn }
+    ChanId {
+        cell: 0,
+        trx,
+        tn,
+        sub: Sub::Full,
+    }
 }
 
 // The TRX and timeslots of that site, in the order in which calls 1 to 4 get them.
@@ -101,11 +106,16 @@ const LOWEST_CHANNELS: [(u16, u8, u8); 4] = [(1, 1, 3), (2, 1, 5), (3, 2, 2), (4
 
 fn each_gets_the_lowest(rt: &impl Abort, book: &mut Book<Global>) -> Result<(), Fail> {
     for (call, trx, tn) in &LOWEST_CHANNELS {
-        let taken = book.take_any(*call, Incoming, 0)?;
+        let taken = book.take_any(*call, Incoming, 0, Rate::Full)?;
         let wanted = Take(*call, Incoming, scattered(*trx, *tn));
         equals_at(rt, taken, Some((wanted, Done)), call);
     }
-    equals_at(rt, book.take_any(5, Incoming, 0)?, None, "none is left");
+    equals_at(
+        rt,
+        book.take_any(5, Incoming, 0, Rate::Full)?,
+        None,
+        "none is left",
+    );
     Ok(())
 }
 
@@ -130,7 +140,7 @@ fn gets_the_lowest(
 
 fn three_come(rt: &impl Abort, book: &mut Book<Global>) -> Result<(), Fail> {
     for call in 1..4u16 {
-        book.take_any(call, Incoming, 0)?;
+        book.take_any(call, Incoming, 0, Rate::Full)?;
     }
     for (one, two, three) in &LOWEST_NUMBERS {
         gets_the_lowest(rt, &mut book.copy()?, *one, *two, *three)?;

@@ -1,6 +1,7 @@
 //! A desk goes on: each answer is an entry of its history, and the last receipt of its seat.
 use super::Ask::{ReserveAny, Step, TakeAny};
 use super::{Ask, Entry, at_a_new_desk, equals_at, holds};
+use channel_fsm::Rate;
 use radio_book::event::Event::{Activate, Command, Confirm, Look, Open, Reserve, Take};
 use radio_book::event::Kind;
 use radio_book::event::Refusal::{ChannelBusy, NoCall, WrongPhase};
@@ -19,7 +20,7 @@ pub(super) fn put<A: Allocator + Copy>(
 ) -> Result<Option<Receipt>, DeskFault> {
     match ask {
         Step(event) => desk.judge(seat, event).map(Some),
-        TakeAny(call, kind, cell) => desk.judge_take(seat, call, kind, cell),
+        TakeAny(call, kind, cell) => desk.judge_take(seat, call, kind, cell, Rate::Full),
         ReserveAny(call) => desk.judge_reserve(seat, call).map(Some),
     }
 }

@@ -4,6 +4,7 @@ use super::{
     ACTIVATE, Ask, COMMAND, CONFIRM, RELEASED, RESERVE, STEADY, TAKE, UNDO, book_of, channel_at,
     equals_at, holds, holds_at, put_to_book, step_all,
 };
+use cell_table::Site;
 use radio_book::book::{Book, Usage};
 use radio_book::event::Event::{Clear, Confirm, Detect, Left, Open, Order, Refuse, Require, Take};
 use radio_book::event::Kind::Incoming;
@@ -15,6 +16,7 @@ use refusing_heap::RefusingHeap;
 use sample_sites::{HOME, OTHER, TARGET, THREE_CHANNELS, site_of_cells};
 use std::alloc::AllocError;
 use std::process::Abort;
+use std::sync::Arc;
 use std::test::Fail;
 
 // What is tried of a book whose heap refuses memory.
@@ -28,6 +30,7 @@ enum Trial<'a> {
     Rewound(&'a [Event], &'a [usize]),
     Marked(&'a [Event], &'a [usize]),
     Compared,
+    Copied,
 }
 
 fn reply_to(book: &mut Book<&RefusingHeap>, ask: Ask) -> Result<Option<Reply>, AllocError> {
@@ -118,6 +121,15 @@ fn is_compared(
     Ok(())
 }
 
+// Where memory was refused, and only there, there is no copy.
+fn is_copied(rt: &impl Abort, book: &Book<&RefusingHeap>, heap: &RefusingHeap) {
+    let is_same = match book.copy() {
+        Ok(copy) => *book == copy,
+        Err(AllocError) => false,
+    };
+    equals_at(rt, is_same, !heap.was_refused(), heap.refusals());
+}
+
 fn is_tried<'a>(
     rt: &impl Abort,
     book: &mut Book<&'a RefusingHeap>,
@@ -137,6 +149,10 @@ fn is_tried<'a>(
             Ok(())
         }
         Trial::Compared => is_compared(rt, book, heap),
+        Trial::Copied => {
+            is_copied(rt, book, heap);
+            Ok(())
+        }
     }
 }
 
@@ -328,8 +344,65 @@ fn what_takes_no_memory_succeeds_without(rt: HostRuntime) -> Result<(), Fail> {
     Ok(())
 }
 
+// A call begins in the room of one that is gone.
+const TAKES_ROOM: &[Event] = &[Clear(2), Open(3, TARGET)];
+
+#[test]
+fn a_call_begins_in_the_room_of_another(rt: HostRuntime) -> Result<(), Fail> {
+    let trial = Trial::WithoutMemory(TAKES_ROOM, holds(3, 2, 0, 0));
+    tried_refusing(&rt, u64::MAX, TWO_AT_REST, trial)?;
+    Ok(())
+}
+
 #[test]
 fn comparing_takes_no_memory(rt: HostRuntime) -> Result<(), Fail> {
     tried_refusing(&rt, u64::MAX, TWO_CALLS, Trial::Compared)?;
+    Ok(())
+}
+
+#[test]
+fn each_refusal_of_memory_in_a_copy_is_answered(rt: HostRuntime) -> Result<(), Fail> {
+    meets_each_refusal(&rt, 4, TWO_CALLS, Trial::Copied)
+}
+
+// A book is made of a site on a heap that refuses the n-th request: where it was refused, and only there, there is none. How
+// many requests had the site?
+fn requests_before<'a>(
+    rt: &impl Abort,
+    heap: &'a RefusingHeap,
+    site: Arc<Site<&'a RefusingHeap>, &'a RefusingHeap>,
+) -> u64 {
+    let before = heap.requests();
+    let usage = match Book::new(heap, site) {
+        Ok(book) => Some(book.usage()),
+        Err(AllocError) => None,
+    };
+    let wanted = if heap.was_refused() {
+        None
+    } else {
+        Some(holds(0, 0, 0, 0))
+    };
+    equals_at(rt, usage, wanted, heap.refusals());
+    before
+}
+
+fn is_made(rt: &(impl AllocGlobal + Abort), heap: &RefusingHeap) -> Result<u64, Fail> {
+    let site = Site::read(heap, rt.alloc(), THREE_CHANNELS)?;
+    Ok(requests_before(rt, heap, Arc::new(heap, site)?))
+}
+
+#[test]
+fn each_refusal_of_memory_in_a_new_book_is_answered(rt: HostRuntime) -> Result<(), Fail> {
+    let before = is_made(&rt, &RefusingHeap::ample(rt.alloc()))?;
+    let mut refused = 0u64;
+    for n in 1..100 {
+        let heap = RefusingHeap::refusing_nth(rt.alloc(), before.saturating_add(n));
+        is_made(&rt, &heap)?;
+        if !heap.was_refused() {
+            break;
+        }
+        refused = n;
+    }
+    holds_at(&rt, 4 <= refused && refused < 99, refused);
     Ok(())
 }

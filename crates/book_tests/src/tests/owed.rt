@@ -1,6 +1,7 @@
 //! What is owed at a desk goes through where every request for memory is refused, and asks for none.
 use super::{ACTIVATE, RELEASED, RESERVE, STEADY, TAKE, UNDO, desk_of, equals_at, holds_at};
 use channel_fsm::ChanState::On;
+use channel_fsm::Rate;
 use radio_book::event::Event::{Look, Released, Undo};
 use radio_book::event::Kind::Incoming;
 use radio_book::event::Reply::{Done, Record};
@@ -100,7 +101,7 @@ fn owed_events_go_through(
     let before = heap.requests();
     equals_at(
         rt,
-        desk.judge_take(seat, 2, Incoming, 1)?,
+        desk.judge_take(seat, 2, Incoming, 1, Rate::Full)?,
         None,
         "a free channel",
     );

@@ -1,7 +1,7 @@
 //! Messages on Abis.
 use super::{Fail, RefusingHeap, equals_at, holds_at, is_hex, is_printed, octets_of};
 use rsl_messages::{
-    ChanBits, Rsl, RslFault, canonical_is_text, decode, encode, encode_into, fits,
+    ChanBits, Rsl, RslFault, Sub, canonical_is_text, decode, encode, encode_into, fits,
     reading_is_unique,
 };
 use std::alloc::{Allocator, Global};
@@ -22,6 +22,9 @@ const TEXTS: &[(&str, u64)] = &[
     ),
     ("082e010b", 0),
     ("0833010b", 0),
+    // half-rate channels
+    ("08210113030206040001090109ff", 1),
+    ("0822011f081234", 0),
 ];
 
 /// Reads a text over a heap, and writes what it says over the same.
@@ -113,7 +116,10 @@ fn is_appended<A: Allocator>(rt: &impl Abort, message: &Rsl<A>, out: &mut Vec<u8
 
 #[test]
 fn a_message_is_appended(rt: HostRuntime) {
-    let channel = ChanBits { tn: 3 };
+    let channel = ChanBits {
+        tn: 3,
+        sub: Sub::Half0,
+    };
     let heap = RefusingHeap::refusing_from(rt.alloc(), 1);
     let failed = !is_appended(
         &rt,
@@ -127,7 +133,39 @@ fn a_message_is_appended(rt: HostRuntime) {
         is_appended(&rt, &Rsl::RfChannelRelease { channel }, &mut out),
         "release",
     );
-    is_hex(&rt, &out, "082e010b");
+    is_hex(&rt, &out, "082e0113");
+}
+
+/// The channel that an RF CHANNEL RELEASE with this channel number is about, or why that is no message.
+fn released(alloc: Global, number: u8) -> Result<Option<ChanBits>, RslFault> {
+    let Rsl::RfChannelRelease { channel } = decode(alloc, &[8, 0x2E, 1, number])? else {
+        return Ok(None);
+    };
+    Ok(Some(channel))
+}
+
+/// A traffic channel of a timeslot.
+fn traffic_channel(tn: u8, sub: Sub) -> Result<Option<ChanBits>, RslFault> {
+    Ok(Some(ChanBits { tn, sub }))
+}
+
+#[test]
+fn channel_numbers_are_read(rt: HostRuntime) {
+    let bad = Err(RslFault::BadElement(1));
+    let rows = [
+        (0x07, bad),
+        (0x08, traffic_channel(0, Sub::Full)),
+        (0x0F, traffic_channel(7, Sub::Full)),
+        (0x10, traffic_channel(0, Sub::Half0)),
+        (0x17, traffic_channel(7, Sub::Half0)),
+        (0x18, traffic_channel(0, Sub::Half1)),
+        (0x1F, traffic_channel(7, Sub::Half1)),
+        (0x20, bad),
+        (0xFF, bad),
+    ];
+    for (number, wanted) in rows {
+        equals_at(&rt, released(rt.alloc(), number), wanted, number);
+    }
 }
 
 #[test]

@@ -1,7 +1,7 @@
 //! Elements of radio resource messages, octet by octet.
 use super::{Fail, Global, RefusingHeap, equals, holds_at, is_hex, is_printed, octets_of};
 use rr_elements::{
-    CellDescription, ChanDescription, ElementFault, MeasHead, MeasResults, Power, RrCause,
+    CellDescription, ChanDescription, ElementFault, MeasHead, MeasResults, Power, RrCause, Sub,
 };
 use sample_sites::reports::{HEAD, NEIGHBOUR};
 use std::alloc::{AllocError, Allocator};
@@ -31,7 +31,7 @@ fn write<A: Allocator + Copy>(element: &Element, out: &mut Vec<u8, A>) -> Result
 fn one_of_each() -> Result<[Element; 5], ElementFault> {
     Ok([
         Element::Cell(CellDescription::new(871, 2, 5)?),
-        Element::Channel(ChanDescription::new(3, 5, 875)?),
+        Element::Channel(ChanDescription::new(3, Sub::Full, 5, 875)?),
         Element::Power(Power::new(true, 31)?),
         Element::Cause(RrCause::new(8)?),
         Element::Results(MeasResults::new(HEAD, &[NEIGHBOUR])?),
@@ -93,6 +93,27 @@ fn elements_are_read(rt: HostRuntime) -> Result<(), Fail> {
     Ok(())
 }
 
+/// First octets of channel descriptions, and the timeslot and the traffic channel that each names.
+const CHANNELS: &[(u8, u8, Sub)] = &[
+    (0x0B, 3, Sub::Full),
+    (0x13, 3, Sub::Half0),
+    (0x17, 7, Sub::Half0),
+    (0x18, 0, Sub::Half1),
+];
+
+#[test]
+fn channel_types_are_read_and_written(rt: HostRuntime) -> Result<(), Fail> {
+    for (first, tn, sub) in CHANNELS {
+        let octets = [*first, 0xA3, 0x6B];
+        let channel = ChanDescription::decode(&octets)?;
+        equals(&rt, (channel.tn(), channel.sub()), (*tn, *sub));
+        let mut out = Vec::new(rt.alloc());
+        channel.encode_into(&mut out)?;
+        equals(&rt, out.as_slice(), octets.as_slice());
+    }
+    Ok(())
+}
+
 /// Octets of results of measurements: one neighbour, and the same with a count of 7, which says that there is none.
 const ONE: &str = "1e1e006812a000000000000000000000";
 
@@ -115,11 +136,16 @@ fn other_octets_are_no_element(rt: HostRuntime) {
     equals(&rt, short, Some(ElementFault::Length));
     let long = MeasResults::decode(&[0; 17]).err();
     equals(&rt, long, Some(ElementFault::Length));
+    // at full rate, and at half rate
     let hops = ChanDescription::decode(&[0x0B, 0xB3, 0x6B]).err();
     equals(&rt, hops, Some(ElementFault::Hopping));
-    // a half rate channel that hops too
-    let half = ChanDescription::decode(&[0x13, 0xB3, 0x6B]).err();
-    equals(&rt, half, Some(ElementFault::BadType));
+    let hops = ChanDescription::decode(&[0x1B, 0xB3, 0x6B]).err();
+    equals(&rt, hops, Some(ElementFault::Hopping));
+    // a signalling channel that hops too, and no channel
+    let signalling = ChanDescription::decode(&[0x23, 0xB3, 0x6B]).err();
+    equals(&rt, signalling, Some(ElementFault::BadType));
+    let none = ChanDescription::decode(&[0x03, 0xA3, 0x6B]).err();
+    equals(&rt, none, Some(ElementFault::BadType));
     let wide = CellDescription::new(1024, 0, 0).err();
     equals(&rt, wide, Some(ElementFault::BadRange));
 }
@@ -127,7 +153,11 @@ fn other_octets_are_no_element(rt: HostRuntime) {
 #[test]
 fn faults_are_printed(rt: HostRuntime) -> Result<(), Fail> {
     is_printed(&rt, ElementFault::Length, "the element has another length")?;
-    is_printed(&rt, ElementFault::BadType, "the channel is not TCH/F")?;
+    is_printed(
+        &rt,
+        ElementFault::BadType,
+        "the channel is no traffic channel",
+    )?;
     is_printed(&rt, ElementFault::Hopping, "the channel hops")?;
     is_printed(&rt, ElementFault::BadRange, "a field does not fit its bits")
 }

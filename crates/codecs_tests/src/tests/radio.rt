@@ -4,9 +4,10 @@ use rr_elements::ElementFault;
 use rr_messages::{Rr, RrFault, decode, encode, encode_into};
 use std::process::Abort;
 
-/// A text of each message.
+/// A text of each message, and of a handover to a half-rate channel.
 const TEXTS: &[&str] = &[
     "062bd5670ba36b2a05",
+    "062bd56713a36b2a05",
     "062c00",
     "062808",
     "060d01",
@@ -48,13 +49,13 @@ fn messages_come_back(rt: HostRuntime) {
 
 const HOPPING: RrFault = RrFault::Element(ElementFault::Hopping);
 
-/// Octets that are no message, and why: a report that is cut, a channel that hops, a half rate channel, and a type that isn't
+/// Octets that are no message, and why: a report that is cut, a channel that hops, a signalling channel, and a type that isn't
 /// known.
 const FAULTS: &[(&str, RrFault)] = &[
     ("06151e1e006812a0000000000000000000", RrFault::Short),
     ("062bd5670bb36b2a05", HOPPING),
     (
-        "062bd56713a36b2a05",
+        "062bd56723a36b2a05",
         RrFault::Element(ElementFault::BadType),
     ),
     ("06ff", RrFault::UnknownType(255)),

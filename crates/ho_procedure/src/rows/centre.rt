@@ -2,12 +2,12 @@
 ghost use Rattle.std.specs.Prelude.{◌≡◌, ◌≤◌, ◌<◌, IfOk, OnOk, IfErr, length};
 ghost use Rattle.ho_procedure.specs.Plan.{Plan, Ends, At};
 ghost use Rattle.ho_procedure.specs.Going.{Goes, Passes, then, stops_at};
-ghost use Rattle.ho_procedure.specs.Procedure.{once_new, admit_plan, request_rest, request_plan, order_channel, order_plan, reject_plan};
+ghost use Rattle.ho_procedure.specs.Procedure.{once_new, second_choice, admit_plan, request_rest, request_plan, order_channel, order_plan, reject_plan};
 
 use super::handovers::go_on_taken;
 use super::parts::{ask_done, look, turn_away};
 use crate::records::{awaits_order, is_nameable};
-use crate::requests::{is_half_rate, is_speech, own_cell, permits_clear};
+use crate::requests::{PermittedRates, is_speech, own_cell, permits_clear, rates_of};
 use crate::view::DeskView;
 use crate::work::{Flow, Work};
 use bssmap_messages::CellId;
@@ -15,31 +15,56 @@ use bssmap_messages::causes::{
     CIPHERING_ALGORITHM_NOT_SUPPORTED, INVALID_MESSAGE_CONTENTS, NO_RADIO_RESOURCE_AVAILABLE,
 };
 use cell_table::Site;
-use channel_fsm::ChanId;
+use channel_fsm::{ChanId, Rate};
 use radio_book::event::{Event, Kind, Refusal, Reply, Why};
 use radio_desk::desk::DeskFault;
 use std::alloc::Allocator;
 
-/// A call is to come to this own cell, where there is one.
+/// No channel is free at the preferred rate: the other one is tried, where it is permitted.
+#[tactic(auto, using(crate::proofs::Asking::row_steps), unfolding(crate::specs::Procedure::second_choice))]
+fn take_other<D: DeskView + Drop, A: Allocator + Copy>(
+    work: &mut Work<D, A>,
+    call: u16,
+    cell: u8,
+    other: Option<Rate>,
+) -> Result<(), DeskFault>
+    requires { 1 ≤ work.old.owed.room }
+    ensures row { OnOk result (Goes D.log D.says work.old
+        (second_choice call cell other) work.new (At Ends)) }
+    ensures stops { IfErr result (λ f. Goes D.log D.says work.old
+        (second_choice call cell other) work.new (stops_at f)) }
+{
+    let Some(rate) = other else {
+        turn_away(work, call, NO_RADIO_RESOURCE_AVAILABLE);
+        return Ok(());
+    };
+    let Some((target, reply)) = work.take(call, Kind::Incoming, cell, rate)? else {
+        turn_away(work, call, NO_RADIO_RESOURCE_AVAILABLE);
+        return Ok(());
+    };
+    go_on_taken(work, call, target, reply)
+}
+
+/// A call is to come to this own cell, where there is one, at one of these rates.
 #[tactic(auto, using(crate::proofs::Asking::row_steps), unfolding(crate::specs::Procedure::admit_plan))]
 fn admit<D: DeskView + Drop, A: Allocator + Copy>(
     work: &mut Work<D, A>,
     call: u16,
+    rates: PermittedRates,
     cell: Option<u8>,
 ) -> Result<(), DeskFault>
     requires { 1 ≤ work.old.owed.room }
     ensures row { OnOk result (Goes D.log D.says work.old
-        (admit_plan call cell) work.new (At Ends)) }
+        (admit_plan call rates cell) work.new (At Ends)) }
     ensures stops { IfErr result (λ f. Goes D.log D.says work.old
-        (admit_plan call cell) work.new (stops_at f)) }
+        (admit_plan call rates cell) work.new (stops_at f)) }
 {
     let Some(cell) = cell else {
         turn_away(work, call, INVALID_MESSAGE_CONTENTS);
         return Ok(());
     };
-    let Some((target, reply)) = work.take(call, Kind::Incoming, cell)? else {
-        turn_away(work, call, NO_RADIO_RESOURCE_AVAILABLE);
-        return Ok(());
+    let Some((target, reply)) = work.take(call, Kind::Incoming, cell, rates.preferred)? else {
+        return take_other(work, call, cell, rates.other);
     };
     go_on_taken(work, call, target, reply)
 }
@@ -60,7 +85,7 @@ fn request_rest<D: DeskView + Drop, A: Allocator + Copy>(
     ensures stops { IfErr result (λ f. Goes D.log D.says work.old
         (request_rest site.now call channel.now encryption.now target) work.new (stops_at f)) }
 {
-    if !is_speech(channel) || is_half_rate(channel) {
+    if !is_speech(channel) {
         turn_away(work, call, NO_RADIO_RESOURCE_AVAILABLE);
         return Ok(());
     }
@@ -68,7 +93,7 @@ fn request_rest<D: DeskView + Drop, A: Allocator + Copy>(
         turn_away(work, call, CIPHERING_ALGORITHM_NOT_SUPPORTED);
         return Ok(());
     }
-    admit(work, call, own_cell(site, target))
+    admit(work, call, rates_of(channel), own_cell(site, target))
 }
 
 /// A call is looked at; the row goes on where the book has none.

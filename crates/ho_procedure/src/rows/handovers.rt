@@ -2,19 +2,19 @@
 ghost use Rattle.std.specs.Prelude.{◌≡◌, ◌≤◌, ℕ, OnOk, IfErr, IfOk, IsSome, ◌<◌};
 ghost use Rattle.ho_procedure.specs.Plan.{Plan, Ends, At};
 ghost use Rattle.ho_procedure.specs.Going.{Goes, Passes, then, stops_at};
-ghost use Rattle.ho_procedure.specs.Procedure.{activate_plan, reserved_plan, reserve_plan, start_plan, taken_plan, require_plan, handover_plan, take_back, undo_plan, expiry_plan};
+ghost use Rattle.ho_procedure.specs.Procedure.{activate_plan, reserved_plan, reserve_plan, start_plan, taken_plan, require_plan, move_rest, handover_plan, take_back, undo_plan, expiry_plan};
 
 use super::parts::{ask_done, ask_record, release_target, tell_failure};
 use crate::commands::cell_id_at;
-use crate::records::is_nameable;
+use crate::records::{is_nameable, serving_rate};
 use crate::view::DeskView;
 use crate::work::{Flow, Work};
 use attempt_journal::Timer;
 use bssmap_messages::CellId;
 use bssmap_messages::causes::RADIO_INTERFACE_MESSAGE_FAILURE;
 use cell_table::Site;
-use channel_fsm::ChanId;
-use radio_book::event::{Event, Kind, Reply, Why};
+use channel_fsm::{ChanId, Rate};
+use radio_book::event::{Event, Kind, Refusal, Reply, Why};
 use radio_desk::desk::DeskFault;
 use std::alloc::Allocator;
 
@@ -123,18 +123,19 @@ fn require<D: DeskView + Drop, A: Allocator + Copy>(
     Ok(())
 }
 
-/// A handover starts to a cell; where an own one has no free channel, the row goes on.
+/// A handover starts to a cell; where an own one has no channel that is free at the rate, the row goes on.
 #[tactic(auto, using(crate::proofs::Asking::row_steps, crate::proofs::Going::continues), unfolding(crate::specs::Procedure::start_plan))]
 pub(super) fn start<D: DeskView + Drop, A: Allocator + Copy>(
     work: &mut Work<D, A>,
     site: &Site<A>,
     call: u16,
     cell: u8,
+    rate: Rate,
 ) -> Result<Flow, DeskFault>
     ensures goes { IfOk result (λ flow. (tail : Plan) → Passes D.log D.says work.old
-        (start_plan site.now call cell tail) work.new (then tail flow)) }
+        (start_plan site.now call cell rate tail) work.new (then tail flow)) }
     ensures stops { IfErr result (λ f. (tail : Plan) → Goes D.log D.says work.old
-        (start_plan site.now call cell tail) work.new (stops_at f)) }
+        (start_plan site.now call cell rate tail) work.new (stops_at f)) }
 {
     if cell >= site.cells() {
         if let Some(outside) = cell_id_at(site, cell) {
@@ -143,15 +144,52 @@ pub(super) fn start<D: DeskView + Drop, A: Allocator + Copy>(
         return Ok(Flow::Over);
     }
     work.make_room(1)?;
-    let Some((target, reply)) = work.take(call, Kind::Internal, cell)? else {
+    let Some((target, reply)) = work.take(call, Kind::Internal, cell, rate)? else {
         return Ok(Flow::On);
     };
     go_on_taken(work, call, target, reply)?;
     Ok(Flow::Over)
 }
 
-/// A call is to move to a cell.
+/// What follows the look at a call that is to move: it keeps its rate.
 #[tactic(auto, using(crate::proofs::Asking::row_steps))]
+fn go_on_looked<D: DeskView + Drop, A: Allocator + Copy>(
+    work: &mut Work<D, A>,
+    site: &Site<A>,
+    call: u16,
+    cell: u8,
+    reply: Reply,
+) -> Result<(), DeskFault>
+    ensures row { OnOk result (Goes D.log D.says work.old
+        (move_rest site.now call cell reply) work.new (At Ends)) }
+    ensures stops { IfErr result (λ f. Goes D.log D.says work.old
+        (move_rest site.now call cell reply) work.new (stops_at f)) }
+{
+    match reply {
+        Reply::Record(record, _) => {
+            let _ = start(work, site, call, cell, serving_rate(record.serving))?;
+        }
+        Reply::Refused(Refusal::NoCall) => {
+            let _ = start(work, site, call, cell, Rate::Full)?;
+        }
+        Reply::Done
+        | Reply::Owned(_)
+        | Reply::Refused(
+            Refusal::CallExists
+            | Refusal::WrongPhase
+            | Refusal::NoChannel
+            | Refusal::SameCell
+            | Refusal::ChannelBusy(_)
+            | Refusal::RefBusy(..)
+            | Refusal::Unexpected(_)
+            | Refusal::NotArmed,
+        ) => {}
+    }
+    Ok(())
+}
+
+/// A call is to move to a cell.
+#[tactic(auto, using(crate::proofs::Asking::row_steps), unfolding(crate::specs::Procedure::handover_plan))]
 pub(crate) fn handover<D: DeskView + Drop, A: Allocator + Copy>(
     work: &mut Work<D, A>,
     site: &Site<A>,
@@ -163,8 +201,11 @@ pub(crate) fn handover<D: DeskView + Drop, A: Allocator + Copy>(
     ensures stops { IfErr result (λ f. Goes D.log D.says work.old
         (handover_plan site.now call cell) work.new (stops_at f)) }
 {
-    let _ = start(work, site, call, cell)?;
-    Ok(())
+    if cell_id_at(site, cell).is_none() {
+        return Ok(());
+    }
+    let reply = work.ask(Event::Look(call))?;
+    go_on_looked(work, site, call, cell, reply)
 }
 
 /// An operator takes an attempt back: its target is released, and where the call was to come, the switching centre told.

@@ -14,28 +14,29 @@ use crate::view::DeskView;
 use crate::work::{Flow, Work};
 use bssmap_messages::causes::REVERSION_TO_OLD_CHANNEL;
 use cell_table::Site;
-use channel_fsm::ChanId;
+use channel_fsm::{ChanId, Rate};
 use ho_candidates::Candidate;
 use radio_book::event::{Attempt, AttemptKind, Event, Why};
 use radio_desk::desk::DeskFault;
 use rr_elements::MeasResults;
 use std::alloc::Allocator;
 
-/// A handover starts to the first of these cells that has a free channel.
+/// A handover starts to the first of these cells that has a channel that is free at the rate.
 #[tactic(auto, using(crate::proofs::Asking::row_steps, std::proofs::lemmas::List::drop_all), unfolding(crate::specs::Procedure::try_plan))]
 fn try_cells<D: DeskView + Drop, A: Allocator + Copy>(
     work: &mut Work<D, A>,
     site: &Site<A>,
     call: u16,
+    rate: Rate,
     candidates: &[Candidate],
 ) -> Result<(), DeskFault>
     ensures row { OnOk result (Goes D.log D.says work.old
-        (try_plan site.now call candidates.now) work.new (At Ends)) }
+        (try_plan site.now call rate candidates.now) work.new (At Ends)) }
     ensures stops { IfErr result (λ f. Goes D.log D.says work.old
-        (try_plan site.now call candidates.now) work.new (stops_at f)) }
+        (try_plan site.now call rate candidates.now) work.new (stops_at f)) }
 {
     for candidate in candidates {
-        let Flow::On = start(work, site, call, candidate.cell)? else {
+        let Flow::On = start(work, site, call, candidate.cell, rate)? else {
             return Ok(());
         };
     }
@@ -48,18 +49,18 @@ fn note_report<D: DeskView + Drop, A: Allocator + Copy>(
     work: &mut Work<D, A>,
     site: &Site<A>,
     call: u16,
-    cell: u8,
+    chan: ChanId,
     report: &MeasResults,
     attempt: Option<Attempt>,
 ) -> Result<(), DeskFault>
     requires ready { IsTrue work.old.windows.is_ready }
     requires width { work.old.windows.width ≡ site.now.handover.window }
     ensures row { OnOk result (Goes D.log D.says work.old
-        (rank_plan site.now call cell
+        (rank_plan site.now call chan
         (with_report site.now.handover.window (last_reports work.old.windows call) report.now)
         report.now attempt) work.new (At Ends)) }
     ensures stops { IfErr result (λ f. Goes D.log D.says work.old
-        (rank_plan site.now call cell
+        (rank_plan site.now call chan
         (with_report site.now.handover.window (last_reports work.old.windows call) report.now)
         report.now attempt) work.new (stops_at f)) }
 {
@@ -67,8 +68,8 @@ fn note_report<D: DeskView + Drop, A: Allocator + Copy>(
     if !report.head().valid || attempt.is_some() {
         return Ok(());
     }
-    let candidates = work.rank(site, call, cell)?;
-    try_cells(work, site, call, candidates.as_slice())
+    let candidates = work.rank(site, call, chan.cell)?;
+    try_cells(work, site, call, chan.sub.rate(), candidates.as_slice())
 }
 
 /// MEASUREMENT REPORT of the mobile on a channel.
@@ -97,7 +98,7 @@ pub(crate) fn report<D: DeskView + Drop, A: Allocator + Copy>(
     if !(is_serving(chan, shown.record) && is_on(shown.state)) {
         return Ok(());
     }
-    note_report(work, site, call, chan.cell, report, shown.record.attempt)
+    note_report(work, site, call, chan, report, shown.record.attempt)
 }
 
 /// A call is served on its target: the old channel is released.

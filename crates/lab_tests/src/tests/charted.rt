@@ -2,7 +2,7 @@
 use super::drawn::{Line, Place, rows_of};
 use super::told::{Given, Message, Told, tell_all};
 use super::{equals_at, holds_at};
-use channel_fsm::{ChanId, ChanState};
+use channel_fsm::{ChanId, ChanState, Rate, Sub};
 use chart::{Bar, Chart, Lane, Side};
 use lab::exchange::{Bad, Line as Operator};
 use lab::trace::{Mark, Step};
@@ -27,6 +27,7 @@ const SERVING_3: ChanId = ChanId {
     cell: 0,
     trx: 0,
     tn: 3,
+    sub: Sub::Full,
 };
 
 const SERVING_4: ChanId = ChanId { tn: 4, ..SERVING_3 };
@@ -37,6 +38,7 @@ const TARGET_3: ChanId = ChanId {
     cell: 1,
     trx: 1,
     tn: 3,
+    sub: Sub::Full,
 };
 
 const TARGET_4: ChanId = ChanId { tn: 4, ..TARGET_3 };
@@ -61,7 +63,7 @@ const SENT_OF_1: Reply = Reply::Record(
 );
 
 /// An attempt that is undone, another that is undone before its activation, octets that name no channel, octets that name
-/// one and are cut behind it, a message about a channel that no call had, and the end.
+/// one and are cut behind it, a message about a half-rate channel that no call had, and the end.
 const ONE: &[Told] = &[
     Told::Turn(
         Mark::Alone,
@@ -116,7 +118,7 @@ const ONE: &[Told] = &[
     Told::Turn(
         Mark::Alone,
         Given::Asks(Operator::Handover { call: 2, cell: 1 }),
-        &[Step::NoneFree(1)],
+        &[Step::NoneFree(1, Rate::Full)],
         &[],
     ),
     Told::Undecoded(
@@ -131,7 +133,7 @@ const ONE: &[Told] = &[
     ),
     Told::Turn(
         Mark::Alone,
-        Given::Comes(Message::Abis(2, 0, "0833010f")),
+        Given::Comes(Message::Abis(2, 0, "0833011f")),
         &[],
         &[],
     ),
@@ -160,7 +162,7 @@ in abis 0 0 08
 fault abis 5 1
 in abis 1 1 0822010b08
 fault abis 5 4
-in abis 2 0 0833010f
+in abis 2 0 0833011f
 sim limit
 end channels=0 calls=0 references=0 timers=0
 ";
@@ -215,7 +217,7 @@ const ONE_ROWS: &[Line] = &[
     ("", Place::At(1), "fault abis 5 1"),
     ("8", Place::Between(0, 1), "1/1/3 no message, call 1"),
     ("", Place::At(1), "fault abis 5 4"),
-    ("9", Place::Between(0, 1), "2/0/7 RF CHANNEL RELEASE ACK"),
+    ("9", Place::Between(0, 1), "2/0/7/1 RF CHANNEL RELEASE ACK"),
     ("sim limit", Place::Nowhere, ""),
     ("", Place::At(1), "channels=0 calls=0 references=0 timers=0"),
 ];
@@ -281,6 +283,7 @@ const ARRIVING: ChanId = ChanId {
     cell: 0,
     trx: 0,
     tn: 1,
+    sub: Sub::Full,
 };
 
 /// The trace of both.

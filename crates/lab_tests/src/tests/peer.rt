@@ -17,6 +17,7 @@ pub(super) const MOVES: (&str, &str) = (
 1: event confirm 0/0/3 -> owned 1
 1: event look 1 -> record 0/0/3 on
 1: in handover 1 64
+1: event look 1 -> record 0/0/3 on
 1: event require 1 -> done
 1: out a 1 000c1104010c1b1a050100170066
 2: in a 40000 0019100b030108010a01011d330505010017006405050100170066

@@ -19,6 +19,7 @@ in abis 0 0 0822010b081234
 event confirm 0/0/3 -> owned 1
 event look 1 -> record 0/0/3 on
 in handover 1 1
+event look 1 -> record 0/0/3 on
 event take 1 internal 1/1/3 -> done
 event reserve 1 0 -> done
 event activate 1 -> done
@@ -53,6 +54,7 @@ in abis 0 0 0822010b081234
 event confirm 0/0/3 -> owned 1
 event look 1 -> record 0/0/3 on
 in handover 1 1
+event look 1 -> record 0/0/3 on
 event take 1 internal 1/1/3 -> done
 event reserve 1 0 -> done
 event activate 1 -> done
@@ -129,6 +131,7 @@ in abis 0 0 0822010b081234
 event confirm 0/0/3 -> owned 1
 event look 1 -> record 0/0/3 on
 in handover 1 64
+event look 1 -> record 0/0/3 on
 event require 1 -> done
 out a 1 000c1104010c1b1a050100170066
 in a 1 000c131709062bd5670ba36b2a05

@@ -2,7 +2,7 @@
 use super::rows::script_of;
 use super::told::{Given, Message, Told, empty_book, tell, tell_all};
 use super::{SITE, equals_at, holds_at, is_whole_or_cut};
-use channel_fsm::ChanId;
+use channel_fsm::{ChanId, Sub};
 use lab::exchange::Line;
 use lab::run::{LabFault, Status, run_for};
 use lab::trace::{Mark, Step};
@@ -52,6 +52,7 @@ in abis 0 0 0822010b080000 # call 1; CHANNEL ACTIVATION ACK tn=3 frame=0
 event confirm 0/0/3 -> owned 1 # call 1
 event look 1 -> record 0/0/3 on # call 1
 in handover 1 1 # call 1
+event look 1 -> record 0/0/3 on # call 1
 event take 1 internal 1/1/3 -> done # call 1
 event reserve 1 0 -> done # call 1
 event activate 1 -> done # call 1
@@ -95,6 +96,7 @@ const SERVING: ChanId = ChanId {
     cell: 0,
     trx: 0,
     tn: 3,
+    sub: Sub::Full,
 };
 
 const OTHERS_PRINTED: &str = "in open 1 0 0 3 # call 1
@@ -113,6 +115,7 @@ const BEGUN: ChanId = ChanId {
     cell: 0,
     trx: 0,
     tn: 2,
+    sub: Sub::Full,
 };
 
 /// Two controllers: a call begins at the second, and ends.
@@ -230,7 +233,7 @@ fn ask(rt: &impl Abort, book: &mut Book<Global>, told: Told) -> Result<(), Fail>
     for step in steps {
         match *step {
             Step::Asked(event, reply) => equals_at(rt, book.step(event)?, reply, event),
-            Step::NoneFree(_) => {}
+            Step::NoneFree(..) => {}
         }
     }
     Ok(())

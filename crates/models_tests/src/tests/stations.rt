@@ -92,13 +92,7 @@ fn put<A: Allocator + Copy>(
 ) -> Result<Vec<StationOut<A>, A>, AllocError> {
     match asked {
         Send(controller, cell, trx, octets) => world.step(controller, cell, trx, octets),
-        Set(controller, chan, act) => world.set(Setting {
-            controller,
-            cell: chan.cell,
-            trx: chan.trx,
-            tn: chan.tn,
-            act,
-        }),
+        Set(controller, chan, act) => world.set(Setting::of(controller, chan, act)),
     }
 }
 

@@ -3,6 +3,7 @@ ghost use Rattle.std.specs.Prelude.{[]};
 
 use super::controllers::{are_handled, empty_desk, input_of, sent_lines, shared_site};
 use crate::leaving::Leaving;
+use channel_fsm::Rate;
 use ho_procedure::controller::Controller;
 use ho_procedure::exchange::Fault;
 use ho_procedure::view::DeskView;
@@ -34,6 +35,7 @@ impl DeskView for Elsewhere {
         _call: u16,
         _kind: Kind,
         _cell: u8,
+        _rate: Rate,
     ) -> Result<Option<Receipt>, DeskFault> {
         Err(DeskFault::Foreign(7))
     }
@@ -80,17 +82,17 @@ fn a_foreign_seat_is_told(rt: HostRuntime) -> Result<(), Fail> {
     are_foreign(&rt, rt.alloc(), &mut controller)
 }
 
-/// A call whose mobile is sent to its target: nine events.
+/// A call whose mobile is sent to its target: ten events.
 const BEFORE: &str = "open 1 0 0 3
 abis 0 0 0822010b081234
 handover 1 1
 abis 1 1 0822010b080000";
 
-/// A controller whose desk doesn't know its seat any more once it has judged eleven events.
+/// A controller whose desk doesn't know its seat any more once it has judged twelve events.
 fn leaving(alloc: Global) -> Result<Controller<Leaving, Global>, Fail> {
     let site = shared_site(alloc, alloc, THREE_CHANNELS)?;
     let desk = empty_desk(alloc, &site)?;
-    Ok(Controller::new(alloc, Leaving::new(desk, 11), site))
+    Ok(Controller::new(alloc, Leaving::new(desk, 12), site))
 }
 
 /// The call is looked at, its attempt taken back, and its target released; it isn't ended any more.

@@ -86,6 +86,7 @@ requests 1
 
 from a call that is on
 in handover 1 1
+event look 1 -> record 0/0/3 on
 event take 1 internal 1/1/3 -> done
 event reserve 1 0 -> done
 event activate 1 -> done
@@ -131,6 +132,7 @@ requests 2
 
 from a call that is on
 in handover 1 64
+event look 1 -> record 0/0/3 on
 event require 1 -> done
 out a 1 000c1104010c1b1a050100170066
 requests 1
@@ -398,7 +400,7 @@ from a call that is to leave
 in a 1 00041a040121
 event look 1 -> record 0/0/3 on outgoing required - -
 event undo 1 asked -> record 0/0/3 on outgoing required - -
-requests 1
+requests 0
 
 from a call that is to leave
 in expire 1 T7

@@ -1,5 +1,6 @@
 //! Seats at a desk under a lock.
 use super::controllers::{empty_desk, shared_site};
+use channel_fsm::Rate;
 use ho_procedure::shared::Shared;
 use ho_procedure::view::DeskView;
 use radio_book::event::{Event, Kind};
@@ -42,8 +43,8 @@ fn ask_in_turn(rt: &(impl Wait + Abort), alloc: Global) -> Result<(), Fail> {
     one.judge(Event::Open(1, HOME))?;
     other.judge(Event::Open(2, OTHER))?;
     one.judge(Event::Confirm(HOME))?;
-    let taken = one.judge_take(1, Kind::Internal, 1)?;
-    let none = other.judge_take(2, Kind::Internal, 1)?;
+    let taken = one.judge_take(1, Kind::Internal, 1, Rate::Full)?;
+    let none = other.judge_take(2, Kind::Internal, 1, Rate::Full)?;
     assert!(rt; taken.is_some() && none.is_none());
     one.judge_reserve(1)?;
     have_places(rt, &one.into_receipts(), &[0, 2, 3, 4]);
@@ -63,7 +64,7 @@ fn ask_another(rt: &(impl Wait + Abort), alloc: Global) -> Result<(), Fail> {
     seat.judge(Event::Look(1))?;
     let _first = mem::replace(&mut *lock.lock(rt), new_desk(alloc, alloc)?);
     let asked = seat.judge(Event::Look(1)) == Err(DeskFault::Foreign(0));
-    let took = seat.judge_take(1, Kind::Incoming, 0) == Err(DeskFault::Foreign(0));
+    let took = seat.judge_take(1, Kind::Incoming, 0, Rate::Full) == Err(DeskFault::Foreign(0));
     let reserved = seat.judge_reserve(1) == Err(DeskFault::Foreign(0));
     assert!(rt; asked && took && reserved);
     assert_eq!(rt; lock.lock(rt).len(), 0);
@@ -87,7 +88,7 @@ fn ask_without_room(
     let mut seat = Shared::new(rt, heap, lock.clone()?);
     heap.refuse_from_now();
     let asked = seat.judge(Event::Look(1)) == Err(DeskFault::NoMemory);
-    let took = seat.judge_take(1, Kind::Internal, 0) == Err(DeskFault::NoMemory);
+    let took = seat.judge_take(1, Kind::Internal, 0, Rate::Full) == Err(DeskFault::NoMemory);
     let reserved = seat.judge_reserve(1) == Err(DeskFault::NoMemory);
     assert!(rt; asked && took && reserved);
     assert_eq!(rt; heap.refused(), 3);

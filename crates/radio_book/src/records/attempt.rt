@@ -16,6 +16,7 @@ use radio_tables::tables::Tables;
 use std::alloc::AllocError;
 
 impl<T: Tables> Records<T> {
+    #[tactic(auto, using(crate::proofs::RecordFacts::no_entry))]
     pub(super) fn take_internal(&mut self, call: u16, x: ChanId) -> Result<Reply, AllocError>
         requires { IsSound self.old }
         ensures reply { IfOk result (λ reply. reply ≡
@@ -45,8 +46,8 @@ impl<T: Tables> Records<T> {
         if serving.cell == x.cell {
             return Ok(Reply::Refused(Refusal::SameCell));
         }
-        if self.channel(x).is_some() {
-            return Ok(Reply::Refused(Refusal::ChannelBusy(x)));
+        if let Some(busy) = self.in_way(x) {
+            return Ok(Reply::Refused(Refusal::ChannelBusy(busy)));
         }
         self.occupy(x, ChanEvent::Take(call))?;
         entry.take(x);

@@ -9,7 +9,7 @@ ghost use Rattle.radio_book.specs.State.{apply, state_of, record_of};
 ghost use Rattle.channel_fsm.specs.declared.ChanState.TheVariants as state;
 ghost use Rattle.radio_book.specs.Channels.{state_after};
 ghost use Rattle.radio_book.specs.Sound.{IsSound};
-ghost use Rattle.radio_book.specs.Table.{owner, step, reply_to, reply_of, book_after, begin_row, row, NeedsRoom, no_change, with_entry, left_state};
+ghost use Rattle.radio_book.specs.Table.{owner, step, reply_to, reply_of, book_after, in_way, begin_row, row, NeedsRoom, no_change, with_entry, left_state};
 
 use crate::event::{Refusal, Reply};
 use crate::records::Records;
@@ -29,8 +29,8 @@ impl<T: Tables> Records<T> {
         self.begin(call, x, CallEntry::on(x), ChanEvent::Begin(call))
     }
 
-    /// A call begins with this record on a free traffic channel, which takes this step.
-    #[tactic(auto, using(crate::proofs::RecordFacts::begin_is_busy))]
+    /// A call begins with this record on a traffic channel in whose way nothing is, and which takes this step.
+    #[tactic(auto, using(crate::proofs::RecordFacts::begin_is_busy, crate::proofs::RecordFacts::no_entry))]
     pub(super) fn begin(
         &mut self,
         call: u16,
@@ -43,14 +43,14 @@ impl<T: Tables> Records<T> {
         requires timer { entry.timer ≡ None }
         ensures reply { IfOk result (λ reply. reply ≡
             reply_of (begin_row call x entry.call (state_after state.Free event) (record_of self.old call)
-            (is_traffic self.old.site x) (state_of self.old x))) }
+            (is_traffic self.old.site x) (in_way self.old x))) }
         ensures book { OnOk result (self.new ≡
             book_after (begin_row call x entry.call (state_after state.Free event) (record_of self.old call)
-            (is_traffic self.old.site x) (state_of self.old x)) self.old) }
+            (is_traffic self.old.site x) (in_way self.old x)) self.old) }
         ensures unchanged { OnErr result (self.new ≡ self.old) }
         ensures memory { OnErr result (NeedsRoom self.old
             (begin_row call x entry.call (state_after state.Free event) (record_of self.old call)
-            (is_traffic self.old.site x) (state_of self.old x))) }
+            (is_traffic self.old.site x) (in_way self.old x))) }
     {
         if self.record(call).is_some() {
             return Ok(Reply::Refused(Refusal::CallExists));
@@ -58,8 +58,8 @@ impl<T: Tables> Records<T> {
         if !self.is_traffic(x) {
             return Ok(Reply::Refused(Refusal::NoChannel));
         }
-        if self.channel(x).is_some() {
-            return Ok(Reply::Refused(Refusal::ChannelBusy(x)));
+        if let Some(busy) = self.in_way(x) {
+            return Ok(Reply::Refused(Refusal::ChannelBusy(busy)));
         }
         self.add_call(call, x, entry, event)?;
         Ok(Reply::Done)

@@ -10,8 +10,8 @@ use cell_table::limits::{MOST_TRX, TIMESLOTS_OF_TRX};
 use channel_fsm::ChanId;
 use radio_tables::tables::Tables;
 
-/// How many channels a cell can have.
-const PLACES: u8 = MOST_TRX as u8 * TIMESLOTS_OF_TRX as u8;
+/// How many channels a cell can have: three in a timeslot, the whole of it and its halves.
+const PLACES: u8 = MOST_TRX as u8 * TIMESLOTS_OF_TRX as u8 * 3;
 
 impl<T: Tables> Records<T> {
     /// The number that a call may reserve: a free one in the cell of the channel that its attempt has

@@ -1,16 +1,17 @@
 //! What stands in the tables at one place, read and changed.
-ghost use Rattle.std.specs.Prelude.{◌≡◌, ◌≢◌, ◌<◌, true, length, Some, None, OnOk, OnErr, IfSome, IsSome};
+ghost use Rattle.std.specs.Prelude.{◌≡◌, ◌≢◌, ◌<◌, ◌&&◌, true, length, Some, None, OnOk, OnErr, IfSome, IsSome};
 ghost use Rattle.std.specs.FinMap as map;
 ghost use Rattle.std.specs.Option.{option_map};
 ghost use Rattle.cell_table.specs.Site.{TrafficLiesWithin, is_traffic};
 ghost use Rattle.channel_fsm.specs.declared.ChanState.TheVariants as chan;
 ghost use Rattle.radio_tables.specs.State.{with_kept};
 ghost use Rattle.radio_book.specs.State.{apply, state_of, record_of};
-ghost use Rattle.radio_book.specs.Table.{no_change, with_entry, without_entry};
+ghost use Rattle.channel_fsm.specs.Slots.{needs, is_used};
+ghost use Rattle.radio_book.specs.Table.{in_way, no_change, with_entry, without_entry};
 
 use crate::event::{CallRecord, Reference};
 use crate::records::Records;
-use channel_fsm::{ChanId, ChanState};
+use channel_fsm::{ChanId, ChanState, Sub};
 use radio_tables::CallEntry;
 use radio_tables::tables::Tables;
 use std::alloc::AllocError;
@@ -42,6 +43,29 @@ impl<T: Tables> Records<T> {
         ensures { result ≡ state_of self.now x }
     {
         self.channel(x).unwrap_or(ChanState::Free)
+    }
+
+    /// Whether a part of a channel's timeslot is in its way.
+    fn is_in_way(&self, x: ChanId, sub: Sub) -> bool
+        ensures { result ≡ (needs x.sub sub && is_used (state_of self.now (record x { sub = sub }))) }
+    {
+        x.sub.needs(sub) && self.state_of(x.part(sub)).is_used()
+    }
+
+    /// The first channel in the way of one, the whole timeslot before its halves: that one, or what conflicts with it.
+    pub(super) fn in_way(&self, x: ChanId) -> Option<ChanId>
+        ensures { result ≡ in_way self.now x }
+    {
+        if self.is_in_way(x, Sub::Full) {
+            return Some(x.part(Sub::Full));
+        }
+        if self.is_in_way(x, Sub::Half0) {
+            return Some(x.part(Sub::Half0));
+        }
+        if self.is_in_way(x, Sub::Half1) {
+            return Some(x.part(Sub::Half1));
+        }
+        None
     }
 
     /// A free traffic channel comes into use.
@@ -83,10 +107,7 @@ impl<T: Tables> Records<T> {
     pub(super) fn record(&self, call: u16) -> Option<CallRecord>
         ensures { result ≡ record_of self.now call }
     {
-        match self.entry(call) {
-            Some(entry) => Some(entry.record()),
-            None => None,
-        }
+        self.tables.record_of(call)
     }
 
     /// A call begins.
@@ -120,13 +141,22 @@ impl<T: Tables> Records<T> {
         self.tables.set_entry(call, entry);
     }
 
+    /// Something else is kept of a call, with the timer that was kept of it.
+    fn keep_timer(&mut self, call: u16, entry: CallEntry)
+        requires call { IsSome (record_of self.old call) }
+        requires timer { entry.timer ≡ map.get self.old.timers call }
+        ensures { self.new ≡ with_kept self.old call entry }
+    {
+        self.tables.set_record(call, entry);
+    }
+
     /// A call has this record from now on, and the timer that it had.
     pub(super) fn set_record(&mut self, call: u16, entry: CallEntry)
         requires call { IsSome (record_of self.old call) }
         requires timer { entry.timer ≡ map.get self.old.timers call }
         ensures { self.new ≡ apply (record no_change { call = with_entry call entry.call }) self.old }
     {
-        self.set_entry(call, entry);
+        self.keep_timer(call, entry);
     }
 
     /// A call has this timer from now on, and the record that it had.

@@ -4,6 +4,7 @@ ghost use Rattle.std.specs.Prelude.{◌≡◌, ◌==◌, ◌≤◌, nat_eq};
 ghost use Rattle.std.proofs.Common.{rules};
 ghost use Rattle.std.specs.Cmp.{partial_order_from_own_ties};
 ghost use Rattle.std.specs.Cmp.Rules.{comparing};
+ghost use Rattle.channel_fsm.specs.Keys.{sub_number};
 ghost use Rattle.std.specs.Ordering.{nat_cmp, on, then_cmp, eq_of_both, as_partial_cmp};
 
 use channel_fsm::ChanId;
@@ -76,7 +77,7 @@ impl Ord for CallKey {
     }
 }
 
-/// A channel. Its order is that of cells, then TRX, then timeslots.
+/// A channel. Its order is that of cells, then TRX, then timeslots, then a whole timeslot before its halves.
 #[derive(Drop)]
 pub struct ChanKey {
     chan: ChanId,
@@ -101,7 +102,8 @@ impl ChanKey {
     pub fn of(chan: ChanId) -> ChanKey
         ensures { result ≡ chan }
     {
-        let number = (u32::from(chan.cell) * 256 + u32::from(chan.trx)) * 256 + u32::from(chan.tn);
+        let slot = (u32::from(chan.cell) * 256 + u32::from(chan.trx)) * 256 + u32::from(chan.tn);
+        let number = slot * 3 + u32::from(chan.sub.number());
         ChanKey { chan, number }
     }
 }
@@ -115,9 +117,10 @@ impl Clone for ChanKey {
 }
 
 impl PartialEq for ChanKey {
-    ghost eq = { eq_of_both (on (λ x. x.cell) ◌==◌) (eq_of_both (on (λ x. x.trx) ◌==◌) (on (λ x. x.tn) ◌==◌)) };
+    ghost eq = { eq_of_both (on (λ x. x.cell) ◌==◌) (eq_of_both (on (λ x. x.trx) ◌==◌)
+        (eq_of_both (on (λ x. x.tn) ◌==◌) (on (λ x. sub_number x.sub) ◌==◌))) };
 
-    ghost laws = { Prim.search (comparing, rules) };
+    ghost laws = { Prim.search (comparing, rules) depth 8 };
 
     fn eq(&self, other: &ChanKey) -> bool {
         self.chan == other.chan
@@ -130,9 +133,11 @@ impl Eq for ChanKey {
 
 impl PartialOrd for ChanKey {
     ghost partial_cmp = { as_partial_cmp
-        (then_cmp (on (λ x. x.cell) nat_cmp) (then_cmp (on (λ x. x.trx) nat_cmp) (on (λ x. x.tn) nat_cmp))) };
+        (then_cmp (on (λ x. x.cell) nat_cmp) (then_cmp (on (λ x. x.trx) nat_cmp)
+        (then_cmp (on (λ x. x.tn) nat_cmp) (on (λ x. sub_number x.sub) nat_cmp)))) };
 
-    ghost laws = { partial_order_from_own_ties (Prim.search (comparing, rules)) (Prim.search (comparing, rules)) };
+    ghost laws = { partial_order_from_own_ties (Prim.search (comparing, rules) depth 8)
+        (Prim.search (comparing, rules) depth 8) };
 
     fn partial_cmp(&self, other: &ChanKey) -> Option<Ordering> {
         Some(self.cmp(other))
@@ -140,7 +145,8 @@ impl PartialOrd for ChanKey {
 }
 
 impl Ord for ChanKey {
-    ghost cmp = { then_cmp (on (λ x. x.cell) nat_cmp) (then_cmp (on (λ x. x.trx) nat_cmp) (on (λ x. x.tn) nat_cmp)) };
+    ghost cmp = { then_cmp (on (λ x. x.cell) nat_cmp) (then_cmp (on (λ x. x.trx) nat_cmp)
+        (then_cmp (on (λ x. x.tn) nat_cmp) (on (λ x. sub_number x.sub) nat_cmp))) };
 
     ghost total = { Prim.search (comparing, rules) };
 

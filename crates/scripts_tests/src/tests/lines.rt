@@ -1,7 +1,7 @@
 //! What the lines of a script give. Which lines can't be read, the contracts say; a few show that they say what is meant.
 use super::{Fail, Global, RefusingHeap, equals_at, holds_at};
 use attempt_journal::Timer;
-use bts_model::{Act, Habit, Setting};
+use bts_model::{Act, Habit, Setting, Sub};
 use channel_fsm::ChanId;
 use ho_procedure::exchange::{Inbound, Line};
 use lab_script::script::{Given, Item, ScriptFault, Side, first_unread, is_octets, read_script};
@@ -27,12 +27,14 @@ const SETTING: Setting = Setting {
     cell: 255,
     trx: 254,
     tn: 7,
+    sub: Sub::Full,
     act: Act::Refuse,
 };
 
-/// A hold there, but of the second, which has the number 1.
+/// A hold of half 1 there, but of the second, which has the number 1.
 const PEER_HOLD: Setting = Setting {
     controller: 1,
+    sub: Sub::Half1,
     act: Act::Hold,
     ..SETTING
 };
@@ -63,6 +65,7 @@ const DOUBLE: Setting = Setting {
 };
 
 const CUT: Setting = Setting {
+    sub: Sub::Half0,
     act: Act::Cut(255),
     ..SETTING
 };
@@ -71,6 +74,20 @@ const CUT: Setting = Setting {
 const PEER_CUT: Setting = Setting {
     act: Act::Cut(1),
     ..PEER_HOLD
+};
+
+/// Half-rate channels.
+const HALF_0: ChanId = ChanId {
+    cell: 0,
+    trx: 1,
+    tn: 7,
+    sub: channel_fsm::Sub::Half0,
+};
+
+const HALF_1: ChanId = ChanId {
+    tn: 0,
+    sub: channel_fsm::Sub::Half1,
+    ..HALF_0
 };
 
 /// A script of each line that there is, for two controllers.
@@ -84,15 +101,17 @@ abis 255 1 0822010B08AbCd
 2: a 7 0000
 sim
 refuse 255 254 7
-2: hold 255 254 7
+2: hold 255 254 7/1
 let 255 254 7
 mobile 255 254 7 arrive
 mobile 255 254 7 return
 mobile 255 254 7 vanish
 double 255 254 7
-cut 255 254 7 255
-2: cut 255 254 7 001
-2: hangup 9";
+cut 255 254 7/0 255
+2: cut 255 254 7/1 001
+2: hangup 9
+open 3 0 1 07/0
+open 4 0 1 0/1";
 
 /// What they give, and for which controller.
 const ITEMS: &[(Side, Gives<'static>)] = &[
@@ -104,6 +123,7 @@ const ITEMS: &[(Side, Gives<'static>)] = &[
                 cell: 255,
                 trx: 254,
                 tn: 7,
+                sub: channel_fsm::Sub::Full,
             },
         }),
     ),
@@ -129,6 +149,20 @@ const ITEMS: &[(Side, Gives<'static>)] = &[
     (Side::First, Set(CUT)),
     (Side::Peer, Set(PEER_CUT)),
     (Side::Peer, HangUp(9)),
+    (
+        Side::First,
+        Operator(Line::Open {
+            call: 3,
+            chan: HALF_0,
+        }),
+    ),
+    (
+        Side::First,
+        Operator(Line::Open {
+            call: 4,
+            chan: HALF_1,
+        }),
+    ),
 ];
 
 fn input_of<'a>(input: &'a Inbound<Global>) -> Gives<'a> {
@@ -172,6 +206,12 @@ const UNREAD: &[(&str, usize)] = &[
     ("open 1 0 0 3\n\n# a comment\nundo x\nundo y\n", 4),
     ("open 1 0 0 3\n2: hold 0 0 3\nsim\n", 2),
     ("sim\nrefuse 0 0 3\nsim\nhangup\n", 4),
+    ("open 1 0 0 3/1\nopen 2 0 0 3/2\n", 2),
+    ("sim\nhold 0 0 3/\n", 2),
+    ("open 1 0 0 /0", 1),
+    ("open 1 0 0 8/0", 1),
+    ("open 1 0 0 3/00", 1),
+    ("sim\nmobile 0 0 3/0/1 return", 2),
 ];
 
 fn is_unread(rt: &impl Abort, alloc: Global, script: &str, has_peer: bool, number: usize) {

@@ -11,7 +11,14 @@ const WORDS: &str =
 
 /// Lines that can't be read, with a second controller, and why.
 const UNREAD: &[(&str, &str)] = &[
-    ("open 1 0 0 8", "TN is 0 to 7, found 8"),
+    (
+        "open 1 0 0 8",
+        "TN is 0 to 7, with /0 or /1 behind it for half rate, found 8",
+    ),
+    (
+        "hold 0 0 3/2",
+        "TN is 0 to 7, with /0 or /1 behind it for half rate, found 3/2",
+    ),
     ("open 65536 256 0 3", "CALL is 0 to 65535, found 65536"),
     ("open 1 +1 0 3", "CELL is 0 to 255, found +1"),
     ("hold 0 256 3", "TRX is 0 to 255, found 256"),
@@ -28,7 +35,10 @@ const UNREAD: &[(&str, &str)] = &[
         "2: mobile 0 0 3 stay",
         "HABIT is arrive, return or vanish, found stay",
     ),
-    ("double 0 0 8", "TN is 0 to 7, found 8"),
+    (
+        "double 0 0 8",
+        "TN is 0 to 7, with /0 or /1 behind it for half rate, found 8",
+    ),
     ("cut 0 0 3 0", "N is 1 to 255, found 0"),
     ("2: cut 0 0 3 256", "N is 1 to 255, found 256"),
     ("cut 0 0 3 +1", "N is 1 to 255, found +1"),
@@ -122,7 +132,7 @@ const SCRIPTS: &[(&str, usize, bool, &str)] = &[
         "open 1 0 0 3\r\nopen 2 0 0 8\r\n",
         2,
         false,
-        "TN is 0 to 7, found 8",
+        "TN is 0 to 7, with /0 or /1 behind it for half rate, found 8",
     ),
     (
         "undo 1\n2: undo 1",

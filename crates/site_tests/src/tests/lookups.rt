@@ -1,7 +1,8 @@
 //! What a site answers.
 use super::{SITE, changed, equals, equals_at};
 use cell_table::Site;
-use channel_fsm::ChanId;
+use channel_fsm::{ChanId, Sub};
+use sample_sites::{HALVED, LOWER, TARGET, UPPER};
 use std::alloc::Global;
 use std::process::Abort;
 use std::test::Fail;
@@ -54,10 +55,31 @@ fn a_site_says_what_its_file_does(rt: HostRuntime) -> Result<(), Fail> {
     equals(&rt, site.cell_of(23, 102), Some(64));
     for ((cell, trx, tn), place) in CHANNELS {
         let (cell, trx, tn) = (*cell, *trx, *tn);
-        let chan = ChanId { cell, trx, tn };
-        equals_at(&rt, site.index_of(chan), *place, chan);
-        equals_at(&rt, site.is_traffic(chan), place.is_some(), chan);
+        let sub = Sub::Full;
+        has_place(&rt, &site, ChanId { cell, trx, tn, sub }, *place);
     }
+    has_place(&rt, &site, LOWER, None);
+    equals(&rt, site.half(1, 1), Some([].as_slice()));
+    Ok(())
+}
+
+fn has_place(rt: &impl Abort, site: &Site<Global>, chan: ChanId, place: Option<usize>) {
+    equals_at(rt, site.index_of(chan), place, chan);
+    equals_at(rt, site.is_traffic(chan), place.is_some(), chan);
+}
+
+/// Where a timeslot also carries halves, they come behind the whole of it.
+#[test]
+fn halves_have_places(rt: HostRuntime) -> Result<(), Fail> {
+    let (whole, halved) = HALVED;
+    let text = changed(&rt, rt.alloc(), whole, halved)?;
+    let site = Site::read(rt.alloc(), rt.alloc(), text.as_str())?;
+    has_place(&rt, &site, TARGET, Some(2));
+    has_place(&rt, &site, LOWER, Some(3));
+    has_place(&rt, &site, UPPER, Some(4));
+    equals(&rt, site.channels(), 5);
+    equals(&rt, site.half(1, 1), Some([3].as_slice()));
+    equals(&rt, site.traffic_mask(1, 1, Sub::Half1), 8);
     Ok(())
 }
 

@@ -220,7 +220,10 @@ const FAULTS: &[(SiteFault, &str)] = &[
         Twice(What::Carrier),
         "two trx of a cell have the same arfcn",
     ),
-    (Twice(What::Slot), "a trx names a timeslot twice in tch"),
+    (
+        Twice(What::Slot),
+        "a trx names a timeslot twice in tch or in half",
+    ),
     (Twice(What::Neighbour), "a cell names a carrier twice in ba"),
     (NoTraffic(7), "cell 7 has no traffic timeslot at tch"),
     (NoMemory, "memory is refused"),

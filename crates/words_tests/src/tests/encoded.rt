@@ -3,19 +3,23 @@ use super::{Fail, Global, RefusingHeap, equals, equals_at, holds_at};
 use encoded_messages::{
     FieldFault, MessageFault, cell_in, encode_a, encode_abis, encode_rr, flag, leading_value,
     name_and_fields, neighbour_in, number, octet, octets, only_keys, optional_octet,
-    optional_octets, small, value,
+    optional_octets, small, traffic_channel, value,
 };
+use rsl_messages::Sub;
 use std::alloc::Allocator;
 use std::process::Abort;
 
 /// Texts with lists and without, each behind its link, and the octets of each.
 const TEXTS: &str = "\
 rr HANDOVER COMMAND arfcn=871 ncc=2 bcc=5 tn=3 tsc=5 carrier=875 reference=42 atc=0 power=5 -> 062bd5670ba36b2a05
+rr HANDOVER COMMAND arfcn=871 ncc=2 bcc=5 tn=3/0 tsc=5 carrier=875 reference=42 atc=0 power=5 -> 062bd56713a36b2a05
 rr MEASUREMENT REPORT ba=0 dtx=0 full=30 ba3g=0 valid=1 sub=30 si23=0 qfull=0 qsub=0 count=1 n=40/2/21 -> 06151e1e006812a000000000000000000000
 a HANDOVER REQUEST channel=010801 encryption=01 classmark=331981 serving=23/102 target=23/101 -> 001c100b030108010a010112033319810505010017006605050100170065
 a HANDOVER REQUIRED cause=12 response=1 cells=23/102 -> 000c1104010c1b1a050100170066
 a CLEAR COMPLETE -> 000121
 abis CHANNEL ACTIVATION tn=3 activation=2 mode=00010801 reference=42 -> 0821010b0302060400010801092a
+abis CHANNEL ACTIVATION tn=3/0 activation=2 mode=00010901 reference=0 -> 0821011303020604000109010900
+abis RF CHANNEL RELEASE tn=7/1 -> 082e011f
 abis MEASUREMENT RESULT tn=3 number=0 uplink=001e00 power=0 layer3=- -> 0828010b1b001903001e000400
 ";
 
@@ -115,6 +119,8 @@ fn fields_are_read(rt: HostRuntime) {
     equals(&rt, number(fields, "a", 65535), Ok(1));
     equals(&rt, small(fields, "a", 7), Ok(1));
     equals(&rt, octet(fields, "a"), Ok(1));
+    equals(&rt, traffic_channel(fields, "a"), Ok((1, Sub::Full)));
+    equals(&rt, traffic_channel("tn=7/1", "tn"), Ok((7, Sub::Half1)));
     equals(&rt, optional_octet("k=-", "k"), Ok(None));
     equals(&rt, flag(fields, "a"), Ok(true));
     equals(&rt, cell_in("23/65535"), Some((23, 65535)));

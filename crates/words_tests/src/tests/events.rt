@@ -1,6 +1,6 @@
 //! Events in words.
 use super::{Fail, equals_at};
-use channel_fsm::ChanId;
+use channel_fsm::{ChanId, Sub};
 use event_text::reading::read_event;
 use event_text::writing::EventText;
 use radio_book::event::{Event, Kind, Timer, Why};
@@ -10,6 +10,7 @@ const FAR: ChanId = ChanId {
     cell: 255,
     trx: 10,
     tn: 0,
+    sub: Sub::Full,
 };
 
 /// A channel of an ordinary site.
@@ -17,6 +18,18 @@ const NEAR: ChanId = ChanId {
     cell: 0,
     trx: 1,
     tn: 7,
+    sub: Sub::Full,
+};
+
+/// The halves of its timeslot.
+const HALF_0: ChanId = ChanId {
+    sub: Sub::Half0,
+    ..NEAR
+};
+
+const HALF_1: ChanId = ChanId {
+    sub: Sub::Half1,
+    ..NEAR
 };
 
 /// Events of all kinds, and their texts.
@@ -50,6 +63,21 @@ const EVENTS: &[(Event, &str)] = &[
     (Event::Require(1000), "require 1000"),
     (Event::Order(10000), "order 10000"),
     (Event::Left(65534), "left 65534"),
+    (Event::Open(1, HALF_0), "open 1 0/1/7/0"),
+    (Event::Open(1, HALF_1), "open 1 0/1/7/1"),
+    (
+        Event::Take(1, Kind::Internal, HALF_1),
+        "take 1 internal 0/1/7/1",
+    ),
+    (
+        Event::Take(2, Kind::Incoming, HALF_0),
+        "take 2 incoming 0/1/7/0",
+    ),
+    (Event::Confirm(HALF_0), "confirm 0/1/7/0"),
+    (Event::Refuse(HALF_1), "refuse 0/1/7/1"),
+    (Event::Released(HALF_1), "released 0/1/7/1"),
+    (Event::Detect(HALF_0), "detect 0/1/7/0"),
+    (Event::Owner(HALF_1), "owner 0/1/7/1"),
 ];
 
 /// Texts that are no event.
@@ -59,6 +87,10 @@ const NONE: &[&str] = &[
     "look 1 ",
     "take 1 outgoing 0/0/3",
     "confirm 0/0",
+    "confirm 0/0/3/",
+    "confirm 0/0/3/2",
+    "confirm 0/0/3/00",
+    "confirm 0/0/3/0/1",
 ];
 
 #[test]

@@ -1,7 +1,7 @@
 //! Lines of a trace, and the words behind them.
 use super::{Fail, equals, equals_at};
 use bssmap_messages::BssmapFault;
-use channel_fsm::{ChanId, ChanState};
+use channel_fsm::{ChanId, ChanState, Rate, Sub};
 use ho_procedure::exchange::{Bad, Inbound, Line, Outbound};
 use line_words::{Calls, content_of, print_ignored, print_words};
 use radio_book::book::Usage;
@@ -23,12 +23,14 @@ const FIRST: ChanId = ChanId {
     cell: 0,
     trx: 0,
     tn: 2,
+    sub: Sub::Full,
 };
 
 const TARGET: ChanId = ChanId {
     cell: 63,
     trx: 3,
     tn: 7,
+    sub: Sub::Half1,
 };
 
 /// An event, answered so.
@@ -83,7 +85,7 @@ fn replies() -> [Step; 12] {
         refused(Refusal::RefBusy(63, 255)),
         refused(Refusal::Unexpected(FIRST)),
         refused(Refusal::NotArmed),
-        Step::NoneFree(63),
+        Step::NoneFree(63, Rate::Full),
     ]
 }
 
@@ -94,7 +96,7 @@ event look 1 -> refused 2
 event look 1 -> refused 3
 event look 1 -> refused 4
 event look 1 -> refused 5
-event look 1 -> refused 6 63/3/7
+event look 1 -> refused 6 63/3/7/1
 event look 1 -> refused 7 63 255
 event look 1 -> refused 8 0/0/2
 event look 1 -> refused 9
@@ -129,12 +131,12 @@ event look 1 -> record 0/0/2 pending
 event look 1 -> record 0/0/2 on
 event look 1 -> record 0/0/2 off
 event look 1 -> record - - incoming taken 0/0/2 -
-event look 1 -> record - - internal reserved 63/3/7 0
-event look 1 -> record - - internal sent 63/3/7 0
-event look 1 -> record - - internal refused 63/3/7 0
-event look 1 -> record - - internal confirmed 63/3/7 0
-event look 1 -> record - - internal commanded 63/3/7 0
-event look 1 -> record - - internal detected 63/3/7 0
+event look 1 -> record - - internal reserved 63/3/7/1 0
+event look 1 -> record - - internal sent 63/3/7/1 0
+event look 1 -> record - - internal refused 63/3/7/1 0
+event look 1 -> record - - internal confirmed 63/3/7/1 0
+event look 1 -> record - - internal commanded 63/3/7/1 0
+event look 1 -> record - - internal detected 63/3/7/1 0
 event look 1 -> record - - outgoing required - -
 event look 1 -> record - - outgoing ordered - -
 ";
@@ -167,7 +169,7 @@ const LINES: &[Line] = &[
 /// Timers that run out for calls.
 const EXPIRIES: &[(u16, Timer)] = &[(1, Timer::T3103), (65535, Timer::T7), (0, Timer::T8)];
 
-const INPUTS_PRINTED: &str = "in open 65535 63 3 7
+const INPUTS_PRINTED: &str = "in open 65535 63 3 7/1
 in handover 1 255
 in undo 1
 in clear 0
@@ -256,7 +258,7 @@ fn faults_limits_and_ends_are_printed(rt: HostRuntime) -> Result<(), Fail> {
     for fault in FAULTS {
         print_fault(&mut out, Mark::First, *fault)?;
     }
-    print_steps(&mut out, Mark::Peer, &[Step::NoneFree(1)])?;
+    print_steps(&mut out, Mark::Peer, &[Step::NoneFree(1, Rate::Full)])?;
     print_limit(&mut out)?;
     let usage = Usage {
         channels: 1,
@@ -293,6 +295,13 @@ const SERVING: ChanId = ChanId {
     cell: 0,
     trx: 0,
     tn: 3,
+    sub: Sub::Full,
+};
+
+/// The second half of its timeslot.
+const HALF: ChanId = ChanId {
+    sub: Sub::Half1,
+    ..SERVING
 };
 
 /// A call opens at that channel.
@@ -301,10 +310,10 @@ const OPENS: Said = Asks(Line::Open {
     chan: SERVING,
 });
 
-/// A call of the second controller.
+/// A call of the second controller, on a half-rate channel.
 const PEER_OPENS: Said = Asks(Line::Open {
     call: 7,
-    chan: SERVING,
+    chan: HALF,
 });
 
 /// The record of a call there.
@@ -354,9 +363,13 @@ event undo 1 t3103 -> refused 9 => call 1; NotArmed: the timer isn't armed for t
 sim limit => what still waited was dropped
 end channels=1 calls=1 references=0 timers=0 => this is left
 end channels=0 calls=0 references=0 timers=0 => nothing is left
-2: in open 7 0 0 3 => call 7
-2: event open 7 0/0/3 -> done => call 7
-2: in abis 0 0 0824010b1a0101 => call 7; CONNECTION FAILURE INDICATION tn=3 cause=1; radio link failure
+2: in open 7 0 0 3/1 => call 7
+2: event open 7 0/0/3/1 -> done => call 7
+2: out abis 0 0 0821011b0300060400010901 => call 7; CHANNEL ACTIVATION tn=3/1 activation=0 mode=00010901 reference=-
+2: in abis 0 0 0824011b1a0101 => call 7; CONNECTION FAILURE INDICATION tn=3/1 cause=1; radio link failure
+2: in abis 0 0 0824011b => call 7
+2: in abis 0 0 08240113 => no call
+2: in abis 0 0 08240123 => no call
 1: in abis 0 0 0833010b => call 1; RF CHANNEL RELEASE ACK tn=3
 ";
 
@@ -403,8 +416,12 @@ const LINES_SAID: &[(Mark, Said)] = &[
     (Mark::Alone, End(ONE_LEFT)),
     (Mark::Alone, End(NOTHING_LEFT)),
     (Mark::Peer, PEER_OPENS),
-    (Mark::Peer, Book(Event::Open(7, SERVING), Reply::Done)),
-    (Mark::Peer, FromStation("0824010b1a0101")),
+    (Mark::Peer, Book(Event::Open(7, HALF), Reply::Done)),
+    (Mark::Peer, ToStation("0821011b0300060400010901")),
+    (Mark::Peer, FromStation("0824011b1a0101")),
+    (Mark::Peer, FromStation("0824011b")),
+    (Mark::Peer, FromStation("08240113")),
+    (Mark::Peer, FromStation("08240123")),
     (Mark::First, FromStation("0833010b")),
 ];
 
@@ -483,7 +500,7 @@ fn sent_of(alloc: Global, said: Said) -> Result<Option<Outbound<Global>>, Fail> 
 fn rest_of(said: Said) -> Option<TraceLine<'static, Global>> {
     match said {
         Book(event, reply) => Some(TraceLine::Step(Step::Asked(event, reply))),
-        NoneFree(cell) => Some(TraceLine::Step(Step::NoneFree(cell))),
+        NoneFree(cell) => Some(TraceLine::Step(Step::NoneFree(cell, Rate::Full))),
         Said::Fault(bad) => Some(TraceLine::Fault(bad)),
         Limit => Some(TraceLine::Limit),
         End(usage) => Some(TraceLine::End(usage)),

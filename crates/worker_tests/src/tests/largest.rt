@@ -2,7 +2,7 @@
 use super::offices::{Course, Hall, Left, are_ok, at_an_office, give_one};
 use crate::bag::{Bag, Taken};
 use call_worker::WorkerEnd;
-use channel_fsm::ChanId;
+use channel_fsm::{ChanId, Sub};
 use ho_procedure::exchange::{Inbound, Line};
 use octet_elements::Octets;
 use radio_book::book::Usage;
@@ -26,6 +26,7 @@ fn chan_of(call: u16) -> ChanId {
         cell: (call % CELLS) as u8,
         trx: (1 + place / 8 % 2) as u8,
         tn: (place % 8) as u8,
+        sub: Sub::Full,
     }
 }
 

@@ -1,5 +1,6 @@
 use Rattle.std.proofs.Common.{◌+◌, ◌-◌, ◌<◌, ◌≡◌, ◌∷◌, [], ◌++◌, length, take, drop, set, get_or, ap, sym, ◌∙◌, arith}
 use Rattle.std.proofs.lemmas.List.{length-set, take_more, take-set}
+use Rattle.channel_fsm.specs.declared.Sub.TheVariants.{Full}
 use Rattle.attempt_journal.specs.declared.Inverse.TheVariants.{Settle, FreeChannel}
 use Rattle.attempt_journal.specs.Padding.{pad}
 use Rattle.attempt_journal.proofs.PadFacts.{popped_rest}
@@ -20,7 +21,7 @@ pub returns-clause-items : goal.returns-clause-items
 returns-clause-items c =
     let journal = c.self.inside in
     let last = journal.pushed - 1 in
-    let none = FreeChannel (record { cell = 0; trx = 0; tn = 0 }) in
+    let none = FreeChannel (record { cell = 0; trx = 0; tn = 0; sub = Full }) in
     let some : journal.pushed ≡ last + 1 = omega (arith, c.if-self-eq0.false) in
     let within : last < length journal.inverses = omega (arith, some, c.self.invariant.0, c.self.invariant.1) in
     sym c.self.view_is

@@ -7,4 +7,4 @@ returns-in-Ok-clause-undecoded g c f = not_ok _ _ f (no_fault _ c.reading_is_uni
 
 pub returns-in-Err-clause-undecoded : goal.returns-in-Err-clause-undecoded
 returns-in-Err-clause-undecoded g c f =
-    fault_told _ c.reading_is_unique.ensures.unique c.in-Err.fault _ c.told.ensures c.in-Err.ensures.decodes.fault (λ e. c.decode.ensures.decodes.memory (c.in-Err.is ∙ ap Err e)) f
+    fault_told _ c.reading_is_unique.ensures.unique c.in-Err.fault _ c.told.ensures.tells c.in-Err.ensures.decodes.fault (λ e. c.decode.ensures.decodes.memory (c.in-Err.is ∙ ap Err e)) f

@@ -1,4 +1,4 @@
-use Rattle.std.proofs.Common.{[], Err, ap, ◌∙◌, inl}
+use Rattle.std.proofs.Common.{Err, ap, ◌∙◌, inl}
 use Rattle.ho_procedure.specs.Sent.{all_sent}
 use Rattle.radio_desk.specs.Receipts.{receipted}
 use Rattle.call_worker.proofs.Handling.{took_none, took_memory}

@@ -1,4 +1,4 @@
-use Rattle.std.proofs.Common.{◌≡◌, ◌∷◌, ◌++◌, [], refl, ap, ◌∙◌, length}
+use Rattle.std.proofs.Common.{◌∷◌, ◌++◌, [], refl, ap, ◌∙◌, length}
 use Rattle.call_worker.proofs.Turning.{follows-more, follows-lost, upto_is}
 use Rattle.call_worker.proofs.worker.handle_one.Goals as goal
 

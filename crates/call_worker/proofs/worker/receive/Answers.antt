@@ -1,4 +1,4 @@
-use Rattle.std.proofs.Common.{◌≡◌, refl, rules}
+use Rattle.std.proofs.Common.{refl, rules}
 use Rattle.call_worker.proofs.Turning.{follows-lost}
 use Rattle.call_worker.proofs.worker.receive.Goals as goal
 

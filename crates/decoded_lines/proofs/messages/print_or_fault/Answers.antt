@@ -1,4 +1,4 @@
-use Rattle.std.proofs.Common.{◌≡◌, ◌≢◌, ℕ, List, [], rules}
+use Rattle.std.proofs.Common.{◌≢◌, ℕ, List, []}
 use Rattle.decoded_lines.specs.Messages.{IsBssmapMessage, IsAbisMessage}
 use Rattle.decoded_lines.proofs.messages.print_or_fault.Goals as goal
 

@@ -1,5 +1,4 @@
-use Rattle.std.proofs.Common.{◌≡◌, rules, Option}
-use Rattle.radio_book.specs.declared.event.Event.{Event}
+use Rattle.std.proofs.Common.{◌≡◌, rules}
 use Rattle.event_text.specs.Reading.{event_of}
 use Rattle.event_text.proofs.Readings.{exact}
 use Rattle.event_text.proofs.reading.read_event.Goals as goal

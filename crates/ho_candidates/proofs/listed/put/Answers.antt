@@ -1,4 +1,4 @@
-use Rattle.std.proofs.Common.{◌≡◌, ◌<◌, ◌≤◌, sym, subst, ℕ, length, get_or, AllPairs, List}
+use Rattle.std.proofs.Common.{◌<◌, ◌≤◌, sym, subst, ℕ, length, get_or, AllPairs, List}
 use Rattle.ho_candidates.specs.declared.listed.Candidate.{Candidate}
 use Rattle.ho_candidates.specs.Order.{StandsBefore, HasOneMore}
 use Rattle.ho_candidates.proofs.OrderFacts.{put-ordered, put-members}

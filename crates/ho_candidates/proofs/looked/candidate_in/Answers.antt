@@ -1,4 +1,4 @@
-use Rattle.std.proofs.Common.{rules, refl, ◌≡◌, sym, ◌∙◌, ap, subst, ℕ, Some, None, IfNone, Option, arith, ◌<◌, max, ◌+◌, ◌*◌}
+use Rattle.std.proofs.Common.{rules, refl, sym, subst, IfNone, Option, arith, ◌<◌, max, ◌+◌, ◌*◌}
 use Rattle.measurements.specs.Reports.{sum_used, sum_named}
 use Rattle.ho_candidates.specs.declared.listed.Candidate.{Candidate}
 use Rattle.ho_candidates.specs.Candidates.{NoCandidateIn}

@@ -1,7 +1,7 @@
-use Rattle.std.proofs.Common.{◌≡◌, ◌<◌, ◌≤◌, ◌+◌, sym, ◌∙◌, ap, subst, ℕ, All, List, length, arith}
+use Rattle.std.proofs.Common.{◌<◌, ◌≤◌, ◌+◌, sym, subst, All, length, arith}
 use Rattle.cell_table.specs.Limits.{first_outside}
 use Rattle.ho_candidates.specs.declared.listed.Candidate.{Candidate}
-use Rattle.ho_candidates.proofs.CandidateFacts.{IsListBelow, list-none, list-same, list-lower, list-more, list-all}
+use Rattle.ho_candidates.proofs.CandidateFacts.{IsListBelow, list-same, list-lower, list-more, list-all}
 use Rattle.ho_candidates.proofs.looked.candidates.Goals as goal
 use Rattle.ho_candidates.proofs.looked.candidates.Goals.{in-Some+in_ok-put, in_default}
 

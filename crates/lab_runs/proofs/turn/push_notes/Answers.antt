@@ -1,4 +1,5 @@
 use Rattle.std.proofs.Common.{ap, ◌∙◌}
+use Rattle.channel_fsm.specs.declared.Rate.TheVariants.{Full}
 use Rattle.lab_runs.specs.declared.noting.Note.{Note}
 use Rattle.lab_runs.proofs.StepFacts.{noted_told, noted_passed}
 use Rattle.lab_runs.proofs.turn.push_notes.Goals as goal
@@ -6,7 +7,7 @@ use Rattle.lab_runs.proofs.turn.push_notes.Goals.{then-note-place+in_ok-push, el
 
 pub loop-note-preserved : goal.loop-note-preserved
 loop-note-preserved g c =
-    let d : Note = record { place = 0; cell = 0 } in
+    let d : Note = record { place = 0; cell = 0; rate = Full } in
     elim c.if-note-place.branch [
       | then-note-place+in_ok-push w ↦
           ap (λ (steps : _). steps.items) w.steps-is

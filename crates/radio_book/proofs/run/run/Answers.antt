@@ -1,4 +1,5 @@
 use Rattle.std.proofs.Common.{◌≡◌, ◌+◌, [], ◌∷◌, ◌++◌, drop, get_or, sym, ◌∙◌, ap, append_assoc, add-one, drop-cons}
+use Rattle.channel_fsm.specs.declared.Sub.TheVariants.{Full}
 use Rattle.radio_book.specs.declared.event.Event.TheVariants.{Open}
 use Rattle.radio_book.specs.Table.{reply_to}
 use Rattle.radio_book.specs.Run.{run_book, run_replies}
@@ -15,7 +16,7 @@ pub loop-event-preserved : goal.loop-event-preserved
 loop-event-preserved g c =
     let es = c.args.events.now in
     let i = c.loop-event.event-index in
-    let e = get_or es i (Open 0 (record { cell = 0; trx = 0; tn = 0 })) in
+    let e = get_or es i (Open 0 (record { cell = 0; trx = 0; tn = 0; sub = Full })) in
     let b = c.loop-event.after in
     let rest = drop (i + 1) es in
     let more : drop i es ≡ e ∷ rest = drop-cons es i _ c.loop-event-test.true ∙ ap (λ n. e ∷ drop n es) (sym (add-one i)) in

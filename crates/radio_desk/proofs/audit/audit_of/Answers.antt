@@ -1,7 +1,7 @@
-use Rattle.std.proofs.Common.{◌≡◌, ◌↔◌, IsTrue, [], sym, ◌∙◌, ap, subst}
+use Rattle.std.proofs.Common.{◌↔◌, IsTrue, [], sym, ◌∙◌, ap, subst}
 use Rattle.radio_book.specs.Found.{first_place}
 use Rattle.radio_book.specs.Following.{settling_count, remaining_from, all_held_from}
-use Rattle.radio_desk.specs.Audit.{steps_in, LeadsAlike}
+use Rattle.radio_desk.specs.Audit.{LeadsAlike}
 use Rattle.radio_desk.proofs.AuditFacts.{attempts_are, remaining_same, held_same, no_trace}
 use Rattle.radio_desk.proofs.audit.audit_of.Goals as goal
 

@@ -1,8 +1,6 @@
-use Rattle.std.proofs.Common.{◌≡◌, ◌↔◌, ◌&&◌, Bool, IsTrue, true, sym, ◌∙◌, ap, subst}
+use Rattle.std.proofs.Common.{◌↔◌, ◌&&◌, Bool, IsTrue, sym, ◌∙◌, ap}
 use Rattle.std.proofs.lemmas.Bool.{and_parts, and_from}
 use Rattle.radio_book.specs.Run.{run_book, run_replies}
-use Rattle.radio_book.specs.Undone.{events_of, replies_of}
-use Rattle.radio_desk.specs.Audit.{LeadsAlike}
 use Rattle.radio_desk.proofs.audit.leads_alike.Goals as goal
 
 -- two tests, and what both say

@@ -1,4 +1,4 @@
-use Rattle.std.proofs.Common.{rules, ◌≡◌, ◌<◌, ◌++◌, [], refl, sym, ap, ◌∙◌, length, vec_len, inl, inr}
+use Rattle.std.proofs.Common.{rules, ◌≡◌, ◌<◌, ◌%◌, ◌++◌, [], refl, sym, ap, ◌∙◌, length, vec_len, inl, inr}
 use Rattle.std.proofs.lemmas.List.{append-nil}
 use Rattle.call_worker.proofs.Closings.{on_ok, on_err, gives, keeps}
 use Rattle.call_worker.proofs.office.Office.give.Goals as goal
@@ -10,10 +10,14 @@ returns-clause-ok g c =
     let some : 0 < vec_len c.self.inside.posts = c.self.invariant.0 in
     let n = c.in_ok-number.ensures.ok in
     on_ok c.give.result (λ e. record {
-      asked = n.0;
-      number = c.in_ok-number.number;
-      front = n.1 ∙ ap (λ y. y.front ++ n.0) c.self.view_is;
-      is_number = n.2;
+      worker = c.in_ok-number.number % length c.args.self.now.workers;
+      is_for = record {
+        asked = n.0;
+        number = c.in_ok-number.number;
+        front = n.1 ∙ ap (λ y. y.front ++ n.0) c.self.view_is;
+        is_number = n.2;
+        place = refl;
+      };
       gives = gives _ _ _ _ _ _ c.index_mut-posted.result.now _ _ same refl (c.len.ensures ∙ long) (rw c.len.ensures some) c.index_mut-posted.ensures.value e;
     }) c.give.ensures.ok
 
@@ -27,3 +31,15 @@ returns-in_err-number-clause-asked g c = ([], c.in_err-number.ensures.kept ∙ (
 
 pub returns-clause-asked : goal.returns-clause-asked
 returns-clause-asked g c = let n = c.in_ok-number.ensures.ok in (n.0, n.1 ∙ ap (λ y. y.front ++ n.0) c.self.view_is, inr (c.in_ok-number.number, n.2))
+
+pub returns-clause-ended : goal.returns-clause-ended
+returns-clause-ended g c k e =
+    let same = ap (λ y. y.workers) c.self.view_is in
+    let long : vec_len c.self.inside.posts ≡ length c.self.inside.posts.items = search rules in
+    let n = c.in_ok-number.ensures.ok in record {
+      asked = n.0;
+      number = c.in_ok-number.number;
+      front = n.1 ∙ ap (λ y. y.front ++ n.0) c.self.view_is;
+      is_number = n.2;
+      place = c.give.ensures.ended k e ∙ ap (λ l. c.in_ok-number.number % l) (c.len.ensures ∙ (long ∙ ap (λ l. length l) same));
+    }

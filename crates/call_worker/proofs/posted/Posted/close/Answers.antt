@@ -1,4 +1,4 @@
-use Rattle.std.proofs.Common.{◌≡◌, ◌++◌, sym, ap, ◌∙◌}
+use Rattle.std.proofs.Common.{◌++◌, ap, ◌∙◌}
 use Rattle.call_worker.specs.Turns.{inputs_of}
 use Rattle.call_worker.proofs.Turning.{taken_of}
 use Rattle.call_worker.proofs.posted.Posted.close.Goals as goal

@@ -1,7 +1,8 @@
-use Rattle.std.proofs.Common.{ℕ, cond, sym, ap, ◌∙◌, is_some, None, arith}
+use Rattle.std.proofs.Common.{ℕ, cond, sym, ap, ◌∙◌, is_some, None, subst, arith}
 use Rattle.std.specs.FinMap as map
 use Rattle.std.proofs.lemmas.Option.{slice_get_read}
-use Rattle.dense_tables.proofs.Kept.{keeps_own, keeps_none, entry_is, get_entry, entry_changed, entry_absent, count_put}
+use Rattle.dense_tables.specs.Calls.{kept_in}
+use Rattle.dense_tables.proofs.Kept.{IsOf, own_keeps, keeps_own, keeps_none, entry_is, get_entry, entry_changed, entry_absent, count_put}
 use Rattle.dense_tables.proofs.calls.CallSlots.remove.Goals as goal
 
 pub overflow_sub-self : goal.overflow_sub-self
@@ -21,7 +22,7 @@ invariant_of-self g c =
     let key = slice_get_read t.keys.items 65536 call _ (sym c.self.invariant.keys_long) (omega arith) c.index.ensures in
     let some = sym c.is_slot_of.ensures ∙ c.if-is_slot_of.true in
     let there = ap is_some (get_entry t.keys.items t.slots.slots call ∙ entry_is t.keys.items t.slots.slots call _ key) ∙ some in
-    let written = entry_changed t.keys.items t.slots.slots c.remove.new.self.slots call _ None key (keeps_own call _ some) tt c.remove.ensures.updates.changed c.remove.ensures.updates.others in
+    let written = entry_changed t.keys.items t.slots.slots c.remove-old.new.self.slots call _ None key (keeps_own call _ some) tt c.remove-old.ensures.updates.changed c.remove-old.ensures.updates.others in
     let counts = count_put t.keys.items t.slots.slots call None in
     let one = ap {B = ℕ} (λ b. cond b 1 0) there in
     let same = ap map.len written in
@@ -34,8 +35,13 @@ returns-then-is_slot_of g c =
     let key = slice_get_read t.keys.items 65536 call _ (sym c.self.invariant.keys_long) (omega arith) c.index.ensures in
     let some = sym c.is_slot_of.ensures ∙ c.if-is_slot_of.true in
     record {
-      removed = entry_changed t.keys.items t.slots.slots c.remove.new.self.slots call _ None key (keeps_own call _ some) tt c.remove.ensures.updates.changed c.remove.ensures.updates.others
+      removed = entry_changed t.keys.items t.slots.slots c.remove-old.new.self.slots call _ None key (keeps_own call _ some) tt c.remove-old.ensures.updates.changed c.remove-old.ensures.updates.others
           ∙ ap (λ m. map.remove m call) c.self.view_is;
+      old = sym (sym (ap (λ m. map.get m call) c.self.view_is)
+          ∙ get_entry t.keys.items t.slots.slots call
+          ∙ entry_is t.keys.items t.slots.slots call _ key
+          ∙ ap (kept_in call) c.remove-old.ensures.value
+          ∙ own_keeps call c.remove-old.result (subst (IsOf call) c.remove-old.ensures.value (keeps_own call _ some)));
     }
 
 pub returns-else-is_slot_of : goal.returns-else-is_slot_of
@@ -44,4 +50,7 @@ returns-else-is_slot_of g c =
     let call = c.args.call in
     let key = slice_get_read t.keys.items 65536 call _ (sym c.self.invariant.keys_long) (omega arith) c.index.ensures in
     let none = entry_is t.keys.items t.slots.slots call _ key ∙ keeps_none _ (sym c.is_slot_of.ensures ∙ c.if-is_slot_of.false) in
-    record { removed = sym c.self.view_is ∙ sym (entry_absent t.keys.items t.slots.slots call none) ∙ ap (λ m. map.remove m call) c.self.view_is }
+    record {
+      removed = sym c.self.view_is ∙ sym (entry_absent t.keys.items t.slots.slots call none) ∙ ap (λ m. map.remove m call) c.self.view_is;
+      old = sym (sym (ap (λ m. map.get m call) c.self.view_is) ∙ get_entry t.keys.items t.slots.slots call ∙ none);
+    }

@@ -1,11 +1,11 @@
-use Rattle.std.proofs.Common.{◌<◌, not, cond, is_some, set, length, sym, ap, ◌∙◌, arith}
+use Rattle.std.proofs.Common.{◌<◌, cond, is_some, set, length, sym, ap, ◌∙◌, arith}
 use Rattle.std.proofs.lemmas.List.{length-set, get_or_read}
 use Rattle.channel_fsm.specs.declared.ChanState.TheVariants.{Free}
 use Rattle.cell_table.specs.Site.{is_traffic}
 use Rattle.dense_tables.specs.Maps.{put}
 use Rattle.dense_tables.specs.Channels.{busy, states_of, with_state}
-use Rattle.dense_tables.proofs.Found.{placed, few_channels, traffic_told}
-use Rattle.dense_tables.proofs.Stated.{state_written, count_written, state_absent, few_used, only_free, masks_written, flipped}
+use Rattle.dense_tables.proofs.Found.{placed, places_within, few_channels, traffic_told}
+use Rattle.dense_tables.proofs.Stated.{state_written, count_written, state_absent, few_used, only_free, masks_written}
 use Rattle.dense_tables.proofs.channels.ChannelStates.write.Goals as goal
 
 pub overflow_sub-self : goal.overflow_sub-self
@@ -38,6 +38,21 @@ overflow_add-self g c =
     let few = few_channels site in
     omega (arith, one, c.count_of-in-Some.ensures, counts, most, few, c.self.invariant.counted)
 
+pub set_timeslot-requires : goal.set_timeslot-requires
+set_timeslot-requires g c =
+    let table = c.self.inside in
+    let site = table.site.value in
+    let states = table.states.items in
+    let x = c.args.x in
+    let place = c.in-Some.place in
+    let at = sym (c.place_in.ensures ∙ c.self.invariant.are_places x) ∙ c.in-Some.is in
+    record {
+      within = c.self.invariant.lies x (placed site x place at).1;
+      len = c.self.invariant.masks_long;
+      places = c.self.invariant.places_long;
+      states = places_within site table.places.items (length (set states place c.args.state)) c.self.invariant.are_places (length-set states place c.args.state ∙ c.self.invariant.states_long);
+    }
+
 pub invariant_of-self : goal.invariant_of-self
 invariant_of-self g c =
     let table = c.self.inside in
@@ -56,10 +71,10 @@ invariant_of-self g c =
       lies = c.self.invariant.lies;
       states_long = length-set states place c.args.state ∙ c.self.invariant.states_long;
       places_long = c.self.invariant.places_long;
-      masks_long = c.set_mask.ensures.len;
+      masks_long = c.set_timeslot.ensures.len;
       are_places = c.self.invariant.are_places;
-      are_masks = masks_written site states table.masks.items c.set_mask.new.masks.items x place c.args.state c.self.invariant.are_masks within at
-          (c.set_mask.ensures.set ∙ flipped _ c.is_none.result c.is_none.ensures ∙ ap (λ o. not (is_some o)) c.busy.ensures) c.set_mask.ensures.others;
+      are_masks = masks_written site c.self.invariant.is_site states table.places.items table.masks.items c.set_timeslot.new.masks.items x place c.args.state
+          c.self.invariant.are_places c.self.invariant.are_masks at c.set_timeslot.ensures.timeslot c.set_timeslot.ensures.others;
       counted = omega (arith, one, c.count_of-in-Some.ensures, counts, least, c.self.invariant.counted);
     }
 

@@ -1,26 +1,29 @@
-use Rattle.std.proofs.Common.{◌≡◌, ◌+◌, ◌*◌, inl, inr, true, get_or, sym, ap, ◌∙◌, arith}
-use Rattle.std.proofs.lemmas.Bool.{false≢true, cases_lt, cases_order}
-use Rattle.std.proofs.lemmas.List.{get_or_read}
-use Rattle.channel_fsm.specs.Masks.{has}
+use Rattle.std.proofs.Common.{inl, inr, sym, arith}
+use Rattle.std.proofs.lemmas.Bool.{cases_order, cases_eq}
 use Rattle.dense_tables.proofs.channels.masks.lowest_in.Goals as goal
+
+pub loop-trx-preserved : goal.loop-trx-preserved
+loop-trx-preserved g c y masked before =
+    elim (cases_eq y.trx c.loop-trx.trx) [
+      | inl same ↦ c.in_default.ensures.none y masked same
+      | inr other ↦ c.loop-trx.invariant y masked (omega (arith, before, other))
+    ]
+
+pub returns-in-Some-clause-found : goal.returns-in-Some-clause-found
+returns-in-Some-clause-found g c = c.in-Some.ensures.found.there
 
 pub returns-in-Some-clause-lowest : goal.returns-in-Some-clause-lowest
 returns-in-Some-clause-lowest g c y masked =
-    let masks = c.args.masks.now.items in
-    let cell = c.args.cell in
-    let trx = c.loop-trx.trx in
-    let there : has (get_or masks (cell * 4 + y.trx) 0) y.tn ≡ true = ap (λ k. has (get_or masks (k * 4 + y.trx) 0) y.tn) (sym masked.in_cell) ∙ masked.there in
-    elim (cases_order trx y.trx) [
-      | inl same ↦ elim (cases_lt y.tn c.in-Some.tn) [
-        | inl before ↦
-            let place : c.from.result * 4 + c.from-in-loop-trx.result ≡ cell * 4 + trx = omega (arith, c.from.ensures, c.from-in-loop-trx.ensures) in
-            let read = get_or_read masks _ _ (omega (arith, place, c.requires.len, c.requires.cell, c.loop-trx-test.true)) c.index.ensures 0 in
-            let no = sym (ap (λ m. has m y.tn) read ∙ ap (λ k. has (get_or masks k 0) y.tn) place) ∙ c.in-Some.ensures.lowest y.tn before in
-            absurd (false≢true (sym no ∙ ap (λ t. has (get_or masks (cell * 4 + t) 0) y.tn) same ∙ there))
-        | inr after ↦ inr (same, after)
-      ]
+    let x = c.in-Some.ensures.found in
+    elim (cases_order c.loop-trx.trx y.trx) [
+      | inl same ↦ let no_later = x.first y masked (sym same) in inr (omega (arith, same, x.trx), no_later)
       | inr apart ↦ elim apart [
-        | inl less ↦ inl less
-        | inr more ↦ absurd (false≢true (sym (c.loop-trx.invariant y.trx more y.tn) ∙ there))
+        | inl less ↦ inl (omega (arith, less, x.trx))
+        | inr more ↦ absurd (c.loop-trx.invariant y masked more)
       ]
     ]
+
+pub returns-clause-none : goal.returns-clause-none
+returns-clause-none g c y masked =
+    let few = masked.masked.limits.trx in
+    c.loop-trx.invariant y masked (omega (arith, few, c.loop-trx-test.false))

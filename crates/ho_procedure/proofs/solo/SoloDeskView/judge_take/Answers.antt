@@ -2,10 +2,13 @@ use Rattle.ho_procedure.proofs.Seated.{not_foreign, still_true, take_opens, take
 use Rattle.ho_procedure.proofs.solo.SoloDeskView.judge_take.Goals as goal
 
 pub returns-clause-ok : goal.returns-clause-ok
-returns-clause-ok g c = rw (← c.self.view_is) (take_chooses _ _ _ _ _ _ _ c.len-entries.ensures.legal c.judge_take.ensures.none c.judge_take.ensures.kept c.judge_take.ensures.event c.judge_take.ensures.judged)
+returns-clause-ok g c = rw (← c.self.view_is) (take_chooses _ _ _ _ _ _ _ _ c.len-entries.ensures.legal c.judge_take.ensures.none c.judge_take.ensures.kept c.judge_take.ensures.event c.judge_take.ensures.judged)
 
 pub returns-clause-foreign : goal.returns-clause-foreign
 returns-clause-foreign g c = not_foreign _ _ _ c.new.ensures.none c.judge_take.ensures.foreign
 
 pub returns-clause-said : goal.returns-clause-said
 returns-clause-said g c = rw (← c.self.view_is) (still_true _ _ (take_opens _ _ _ _ _ c.judge_take.ensures.judged c.judge_take.ensures.kept c.judge_take.ensures.unchanged))
+
+pub returns-clause-refused : goal.returns-clause-refused
+returns-clause-refused g c = rw (← c.self.view_is) c.judge_take.ensures.memory

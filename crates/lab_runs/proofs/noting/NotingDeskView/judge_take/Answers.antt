@@ -20,7 +20,7 @@ pub invariant_of-self-in-None : goal.invariant_of-self-in-None
 invariant_of-self-in-None g c =
     let none = rw c.in-None.is at c.in_ok-receipt.ensures.ok in
     let place : c.len-place.result ≡ length c.judge_take.new.self.history = c.len-place.ensures.len ∙ ap (λ (d : DeskState). length d.history) c.desk.ensures.desk in
-    All-same (IsTrueNote c.judge_take.new.self) _ _ (c.push_reserved.ensures.items ∙ ap (λ front. front ++ record { place = c.len-place.result; cell = c.args.cell } ∷ []) c.reserve.ensures.items)
+    All-same (IsTrueNote c.judge_take.new.self) _ _ (c.push_reserved.ensures.items ∙ ap (λ front. front ++ record { place = c.len-place.result; cell = c.args.cell; rate = c.args.rate } ∷ []) c.reserve.ensures.items)
     (one_more_true c.self.inside.solo c.judge_take.new.self c.self.inside.notes.items _ c.judge_take.ensures.said none.0 place none.1 c.self.invariant)
 
 pub returns-in_err-reserve-clause-said : goal.returns-in_err-reserve-clause-said
