@@ -2,7 +2,7 @@
 use Rattle.std.specs.Prelude.{◌≡◌, ◌∷◌, ℕ, Bool, true, false, List, [], map, Option, Some, None, is_some, IfSome}
 use Rattle.cell_table.specs.SiteFile.{described_site}
 use Rattle.cell_table.specs.Site.{SiteView}
-use Rattle.lab_script.specs.Script.{first_unread, items_of}
+use Rattle.lab_script.specs.Script.{first_unreadable, items_of}
 use Rattle.lab_runs.specs.declared.course.Run.{Run}
 use Rattle.lab_runs.specs.Turns.{Position, inputs_in}
 use Rattle.lab_runs.specs.Course.{IsRunOf, option_list}
@@ -36,7 +36,7 @@ pub record IsAuditOf (A : Type 0) (sites : List SiteView) (script : List ℕ) (a
 pub record IsAuditedRun (A : Type 0) (site : List ℕ) (peer : Option (List ℕ)) (script : List ℕ) (audits : Audits) : Type 0 where
   pub sites : List SiteView
   pub described : map described_site (site ∷ option_list peer) ≡ map Some sites
-  pub readable : first_unread (is_some peer) script ≡ None
+  pub readable : first_unreadable (is_some peer) script ≡ None
   pub audit : IsAuditOf A sites script audits
 
 -- of each controller all that remains comes to the same

@@ -4,7 +4,7 @@ use Rattle.cell_table.specs.SiteFile.{described_site}
 use Rattle.cell_table.specs.Site.{SiteView}
 use Rattle.radio_book.specs.declared.undone.StepAt.{StepAt}
 use Rattle.radio_book.specs.State.{State, empty_book}
-use Rattle.read_traces.specs.Entries.{first_unread, entries_of, events_of}
+use Rattle.read_traces.specs.Entries.{first_unreadable, entries_of, events_of}
 use Rattle.audits.specs.Histories.{OfTheHistory}
 
 -- the texts describe a site and say events, and this holds of what remains of them, from the empty book of the site on, without
@@ -12,5 +12,5 @@ use Rattle.audits.specs.Histories.{OfTheHistory}
 pub record InWholeTrace (P : State → List StepAt → State → Type 0) (site trace : List ℕ) : Type 0 where
   pub site_view : SiteView
   pub described : described_site site ≡ Some site_view
-  pub readable : first_unread trace ≡ None
+  pub readable : first_unreadable trace ≡ None
   pub holds : OfTheHistory P (empty_book site_view) (events_of (entries_of trace))

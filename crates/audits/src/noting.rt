@@ -104,7 +104,7 @@ impl<L: Listener<A>, A: Allocator + Copy> Listener<A> for Noting<'_, L, A> {
         self.listener.hear_no_site(fault)
     }
 
-    fn hear_unread(&mut self, line: usize) -> io::Result<()> {
-        self.listener.hear_unread(line)
+    fn hear_unreadable(&mut self, line: usize) -> io::Result<()> {
+        self.listener.hear_unreadable(line)
     }
 }

@@ -1,6 +1,6 @@
 //! All settled attempts, taken out of what the controllers of a run were asked.
 ghost use Rattle.std.specs.Prelude.{◌≡◌, ◌≢◌, ◌↔◌, Ok, None, IsTrue, IfOk, IfSome, is_some};
-ghost use Rattle.lab_script.specs.Script.{first_unread};
+ghost use Rattle.lab_script.specs.Script.{first_unreadable};
 ghost use Rattle.lab_runs.specs.Course.{option_list};
 ghost use Rattle.lab_runs.specs.Sites.{texts_of, views_of};
 ghost use Rattle.audits.specs.Runs.{Tells, AreTold, IsAuditOf, IsAuditedRun, AreSame};
@@ -92,7 +92,7 @@ fn audit_played<A: Allocator + Copy, L: Listener<A>>(
     noting: &mut Noting<'_, L, A>,
 ) -> Result<Option<Audits>, LabFault>
     ensures read { IfOk result (λ found. IfSome found (λ _.
-        first_unread (is_some sites.peer) script.now ≡ None)) }
+        first_unreadable (is_some sites.peer) script.now ≡ None)) }
     ensures told { IfOk result (λ found. IfSome found (λ audits.
         IsAuditOf A (views_of sites) script.now audits)) }
 {

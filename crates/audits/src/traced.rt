@@ -16,7 +16,7 @@ use radio_book::event::Event;
 use radio_desk::audit::Audit;
 use radio_desk::desk::{Desk, DeskFault};
 use radio_desk::seat::Seat;
-use read_traces::entries::{Entry, first_unread};
+use read_traces::entries::{Entry, first_unreadable};
 use read_traces::reading::{Told, fresh_book, refuse_line, told_entries};
 use std::alloc::{AllocError, Allocator, Global};
 use std::io::Write;
@@ -128,14 +128,14 @@ fn audit_over<A: Allocator + Copy, W: Write>(
     trace: &str,
     out: &mut W,
 ) -> Result<Status, LabFault>
-    ensures readable { (result ≢ Ok Status.Refused) → OnOk result (said.first_unread trace.now ≡ None) }
+    ensures readable { (result ≢ Ok Status.Refused) → OnOk result (said.first_unreadable trace.now ≡ None) }
     ensures done { result ≡ Ok Status.Done →
         OfTheHistory LeadsAlike (empty_book site) (said.events_of (said.entries_of trace.now)) }
     ensures differs { result ≡ Ok Status.Differs →
         OfTheHistory LeadsApart (empty_book site) (said.events_of (said.entries_of trace.now)) }
-    ensures memory { result ≡ Err LabFault.NoMemory → said.first_unread trace.now ≡ None }
+    ensures memory { result ≡ Err LabFault.NoMemory → said.first_unreadable trace.now ≡ None }
 {
-    if let Some(number) = first_unread(trace) {
+    if let Some(number) = first_unreadable(trace) {
         return refuse_line(number, out);
     }
     let book = fresh_book(alloc, site)?;

@@ -7,15 +7,15 @@ use Rattle.rr_messages.specs.Rr.{rr_text}
 use Rattle.rsl_messages.specs.declared.message.ChanBits.{ChanBits}
 use Rattle.rsl_messages.specs.declared.message.Rsl.TheVariants.{DataIndication, ChannelActivationAck, ChannelActivationNack, HandoverDetection, RfChannelReleaseAck}
 use Rattle.rsl_messages.specs.Texts.{canonical_text}
-use Rattle.rsl_messages.specs.Values.{main_channel, equipment_failure}
+use Rattle.rsl_messages.specs.Values.{main_signalling, equipment_failure}
 use Rattle.bts_model.specs.declared.place.Place.{Place}
 use Rattle.bts_model.specs.declared.answer.Answer.{Answer}
 use Rattle.bts_model.specs.declared.answer.Answer.TheVariants.{ActivationAck, ActivationNack, ReleaseAck, Detection, Complete, Failure}
 use Rattle.bts_model.specs.declared.answer.StationOut.{StationOut}
 
--- DATA INDICATION on the main channel, SAPI 0, with a message of the mobile (clauses 8.3.2 and 9.3.2)
+-- DATA INDICATION on the main signalling channel, SAPI 0, with a message of the mobile (clauses 8.3.2 and 9.3.2)
 abbrev pub indication_octets : ChanBits → Rr → List ℕ
-indication_octets channel message = canonical_text {A = Unit} (DataIndication channel main_channel (rr_text message))
+indication_octets channel message = canonical_text {A = Unit} (DataIndication channel main_signalling (rr_text message))
 
 -- The octets of an answer: an activation is acknowledged with frame number 0 (clause 8.4.2), and refused with cause
 -- 'equipment failure' (clauses 8.4.3 and 9.3.26); a handover is detected with access delay 0 (clause 8.4.7), complete

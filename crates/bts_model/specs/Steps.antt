@@ -4,7 +4,7 @@ use Rattle.rr_messages.specs.declared.message.Rr.{Rr}
 use Rattle.rsl_messages.specs.declared.message.Rsl.{Rsl}
 use Rattle.rsl_messages.specs.declared.message.Rsl.TheVariants.{DataRequest, DataIndication, ChannelActivation, ChannelActivationAck, ChannelActivationNack, ConnectionFailureIndication, HandoverDetection, MeasurementResult, RfChannelRelease, RfChannelReleaseAck}
 use Rattle.rsl_messages.specs.Texts.{IsTextOf}
-use Rattle.rsl_messages.specs.Values.{main_channel}
+use Rattle.rsl_messages.specs.Values.{main_signalling}
 use Rattle.rsl_messages.specs.Messages.{HasOctets}
 use Rattle.bts_model.specs.declared.place.Place.{Place}
 use Rattle.bts_model.specs.declared.answer.Answer.TheVariants.{ReleaseAck, Detection, Complete, Failure}
@@ -35,10 +35,10 @@ responded w x Unheard = silent w
 responded w x Returned = all_leave w x (Failure ∷ [])
 responded w x (Arrived y) = all_leave w y (Detection ∷ Complete ∷ [])
 
--- the same of the one to which a message comes on the main channel
+-- the same of the one to which a message comes on the main signalling channel
 abbrev pub passed_on : WorldState → Place → ℕ → Option Rr → Outcome
 passed_on w x link None = silent w
-passed_on w x link (Some message) = if link == main_channel then responded w x (response_to w.trxs w.slots x message) else silent w
+passed_on w x link (Some message) = if link == main_signalling then responded w x (response_to w.trxs w.slots x message) else silent w
 
 -- what comes of CHANNEL ACTIVATION of channel x
 abbrev pub activated : WorldState → Place → Option ℕ → Outcome

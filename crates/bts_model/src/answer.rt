@@ -6,7 +6,7 @@ ghost use Rattle.bts_model.specs.Answers.{octets_of, indication_octets};
 
 use rr_elements::{ABNORMAL_RELEASE, NORMAL_EVENT, RrCause};
 use rr_messages::Rr;
-use rsl_messages::values::{EQUIPMENT_FAILURE, MAIN_CHANNEL};
+use rsl_messages::values::{EQUIPMENT_FAILURE, MAIN_SIGNALLING};
 use rsl_messages::{ChanBits, Octets, Rsl, encode};
 use std::alloc::{AllocError, Allocator, Global};
 
@@ -51,7 +51,7 @@ pub fn octets_of<A: Allocator + Copy>(
     encode(alloc, &message)
 }
 
-/// The message by which a station gives an answer: its own, or DATA INDICATION on the main channel for the mobile's.
+/// The message by which a station gives an answer: its own, or DATA INDICATION on the main signalling channel for the mobile's.
 fn message_of<A: Allocator + Copy>(
     alloc: A,
     channel: ChanBits,
@@ -85,7 +85,7 @@ fn message_of<A: Allocator + Copy>(
     }
 }
 
-/// DATA INDICATION on the main channel, with a message of the mobile (TS 48.058 clause 8.3.2).
+/// DATA INDICATION on the main signalling channel, with a message of the mobile (TS 48.058 clause 8.3.2).
 fn from_mobile<A: Allocator + Copy>(
     alloc: A,
     channel: ChanBits,
@@ -100,7 +100,7 @@ fn from_mobile<A: Allocator + Copy>(
     let octets = rr_messages::encode(alloc, message)?;
     Ok(Rsl::DataIndication {
         channel,
-        link: MAIN_CHANNEL,
+        link: MAIN_SIGNALLING,
         layer3: Octets::new(alloc, octets.as_slice())?,
     })
 }

@@ -26,7 +26,7 @@ use crate::trx::{Trx, has_trx, trxs_of};
 use cell_table::Site;
 use channel_fsm::{Sub, conflicts};
 use rr_messages::Rr;
-use rsl_messages::values::MAIN_CHANNEL;
+use rsl_messages::values::MAIN_SIGNALLING;
 use rsl_messages::{Rsl, RslFault, decode};
 use std::alloc::{AllocError, Allocator, Global};
 use std::marker::Model;
@@ -274,7 +274,7 @@ impl<A: Allocator + Copy> World<A> {
         match heard {
             None => Ok(self.nothing()),
             Some(message) => {
-                if link == MAIN_CHANNEL {
+                if link == MAIN_SIGNALLING {
                     let response = response_to(self.trxs.as_slice(), &self.slots, place, &message);
                     self.respond(place, response)
                 } else {

@@ -52,11 +52,11 @@ abbrev pub MayBeAsked : {A : Type 0} → Inbound A → List Receipt → Type 0
 MayBeAsked input asked = (asked ≡ []) ⊎ ((number : ℕ) × IsNumberOf input asked number)
 
 -- octets on Abis that can't be read have this fault, where memory isn't refused
-abbrev pub IsUnreadHere : {A : Type 0} → Inbound A → RslFault → Type 0
-IsUnreadHere {A} (inbound.Abis cell trx octets) f = (f ≢ NoMemory) × abis.HasFault A octets f
-IsUnreadHere (inbound.A call octets) f = ⊥
-IsUnreadHere (inbound.Expiry call timer) f = ⊥
-IsUnreadHere (inbound.Operator line) f = ⊥
+abbrev pub IsUnreadableHere : {A : Type 0} → Inbound A → RslFault → Type 0
+IsUnreadableHere {A} (inbound.Abis cell trx octets) f = (f ≢ NoMemory) × abis.HasFault A octets f
+IsUnreadableHere (inbound.A call octets) f = ⊥
+IsUnreadableHere (inbound.Expiry call timer) f = ⊥
+IsUnreadableHere (inbound.Operator line) f = ⊥
 
 -- the worker of this place was given the input, last in its list, and no other worker anything
 abbrev pub GivesTo : {L A : Type 0} → ℕ → Inbound A → List (WorkerState L A) → List (WorkerState L A) → Type 0

@@ -6,7 +6,7 @@ ghost use Rattle.rsl_messages.specs.declared.fault.RslFault.TheVariants.{NoMemor
 ghost use Rattle.rsl_messages.specs.declared.message.Rsl.{Rsl};
 ghost use Rattle.rsl_messages.specs.Texts.{IsTextOf, HasFault};
 ghost use Rattle.ho_procedure.specs.Naming.{chan_of};
-ghost use Rattle.call_worker.specs.Giving.{Tells, owner_or, call_of, IsOwnerNumber, IsNumberOf, IsUnreadHere};
+ghost use Rattle.call_worker.specs.Giving.{Tells, owner_or, call_of, IsOwnerNumber, IsNumberOf, IsUnreadableHere};
 
 use crate::fault::GiveFault;
 use channel_fsm::ChanId;
@@ -128,7 +128,7 @@ pub(crate) fn number_of<R: Wait + Drop, A: Allocator + Copy>(
     ensures ok { IfOk result (λ number. (asked : List Receipt) ×
         (front.new ≡ front.old ++ asked) × IsNumberOf input.now asked number) }
     ensures undecoded { (f : RslFault) → (result ≡ Err (GiveFault.Undecoded f)) ↔
-        IsUnreadHere input.now f }
+        IsUnreadableHere input.now f }
     ensures kept { OnErr result (front.new ≡ front.old) }
     ensures alive { (n : ℕ) → result ≢ Err (GiveFault.Ended n) }
 {

@@ -7,7 +7,7 @@ ghost use Rattle.radio_desk.specs.Receipts.{IsRising};
 ghost use Rattle.rsl_messages.specs.declared.fault.RslFault.{RslFault};
 ghost use Rattle.receipt_check.specs.Gathering.{Gathers};
 ghost use Rattle.call_worker.specs.States.{new_worker};
-ghost use Rattle.call_worker.specs.Giving.{IsFor, IsGiven, IsUnreadHere, MayBeAsked};
+ghost use Rattle.call_worker.specs.Giving.{IsFor, IsGiven, IsUnreadableHere, MayBeAsked};
 ghost use Rattle.call_worker.specs.Closing.{AreEnds, ClosesNot};
 
 use crate::closing::{close_all, is_whole};
@@ -152,7 +152,7 @@ impl<R: Threads + Wait + Drop, L: Links + Drop, A: Allocator + Copy> Office<R, L
         ensures ok { OnOk result (IsGiven input self.old self.new) }
         ensures err { OnErr result (self.new.workers ≡ self.old.workers) }
         ensures undecoded { (f : RslFault) → (result ≡ Err (GiveFault.Undecoded f)) ↔
-            IsUnreadHere input f }
+            IsUnreadableHere input f }
         ensures ended { (worker : ℕ) → result ≡ Err (GiveFault.Ended worker) →
             IsFor input self.old self.new worker }
         ensures asked { (asked : List Receipt) × (self.new.front ≡ self.old.front ++ asked) ×

@@ -10,7 +10,7 @@ use Rattle.cell_table.specs.Limits.{first_outside}
 use Rattle.cell_table.specs.Site.{IsSite, IsCell, IsIdentity, identity_at}
 use Rattle.cell_table.specs.Neighbours.{IsNamedCell}
 use Rattle.cell_table.specs.Searches.{stands_before, is_at, has_bsic, is_named}
-use Rattle.cell_table.specs.NeighbourNames.{bsic_of, name_of, neighbour_name}
+use Rattle.cell_table.specs.ReportedNeighbours.{bsic_of, name_of, reported_as}
 use Rattle.cell_table.proofs.Lookups.{Passes}
 use Rattle.cell_table.proofs.NeighbourFacts.{named_in, not_served}
 
@@ -64,14 +64,14 @@ identity_range site sound cell c at = either (nat_lt cell first_outside) (slice_
     either false o there e = All-get IsIdentity site.outside (cell - first_outside) c sound.within.each_outside e
 
 -- in a site a cell's place and code are what a mobile names it by
-pub name_is : (site : SiteView) → IsSite site → (cell neighbour place bsic : ℕ) → (neighbour_name site cell neighbour ≡ Some (place, bsic)) ↔ IsNamedCell site cell place bsic neighbour
+pub name_is : (site : SiteView) → IsSite site → (cell neighbour place bsic : ℕ) → (reported_as site cell neighbour ≡ Some (place, bsic)) ↔ IsNamedCell site cell place bsic neighbour
 name_is site sound cell neighbour place bsic = by (slice_get site.cells cell) refl
   where
     looked_up : (o : Option CellView) → slice_get site.cells cell ≡ o
-        → neighbour_name site cell neighbour ≡ option_and_then {U = ℕ × ℕ} (λ serving. option_and_then (name_of serving.ba) (identity_at site neighbour)) o
+        → reported_as site cell neighbour ≡ option_and_then {U = ℕ × ℕ} (λ serving. option_and_then (name_of serving.ba) (identity_at site neighbour)) o
     looked_up o own = ap (λ o. option_and_then {U = ℕ × ℕ} (λ serving. option_and_then (name_of serving.ba) (identity_at site neighbour)) o) own
 
-    none : neighbour_name site cell neighbour ≡ None → neighbour_name site cell neighbour ≡ Some (place, bsic) → IsNamedCell site cell place bsic neighbour
+    none : reported_as site cell neighbour ≡ None → reported_as site cell neighbour ≡ Some (place, bsic) → IsNamedCell site cell place bsic neighbour
     none nothing e = absurd (none-some {A = ℕ × ℕ} (place, bsic) (sym nothing ∙ e))
 
     there : (own : CellView) (i : Option CellIdentity) → identity_at site neighbour ≡ i → option_and_then {U = ℕ × ℕ} (name_of own.ba) i ≡ Some (place, bsic)
@@ -80,14 +80,14 @@ name_is site sound cell neighbour place bsic = by (slice_get site.cells cell) re
     there own (Some identity) known e =
         record { identity = identity; there = known; passes = to_name own.ba identity (identity_range site sound neighbour identity known) place bsic e }
 
-    by : (o : Option CellView) → slice_get site.cells cell ≡ o → (neighbour_name site cell neighbour ≡ Some (place, bsic)) ↔ IsNamedCell site cell place bsic neighbour
+    by : (o : Option CellView) → slice_get site.cells cell ≡ o → (reported_as site cell neighbour ≡ Some (place, bsic)) ↔ IsNamedCell site cell place bsic neighbour
     by None own = (none (looked_up None own), λ is. absurd (not_served site cell place bsic neighbour own is))
     by (Some serving) own = (λ e. names.0 (there serving (identity_at site neighbour) refl (sym (looked_up (Some serving) own) ∙ e)), back)
       where
         names : Passes (is_named serving.ba place bsic) site neighbour ↔ IsNamedCell site cell place bsic neighbour
         names = named_in site sound cell place bsic neighbour serving own
 
-        back : IsNamedCell site cell place bsic neighbour → neighbour_name site cell neighbour ≡ Some (place, bsic)
+        back : IsNamedCell site cell place bsic neighbour → reported_as site cell neighbour ≡ Some (place, bsic)
         back is =
             let named = names.1 is in
             looked_up (Some serving) own ∙ ap (λ i. option_and_then {U = ℕ × ℕ} (name_of serving.ba) i) named.there

@@ -6,7 +6,7 @@ pub mod Same
 pub mod Site
 pub mod Neighbours
 pub mod Searches
-pub mod NeighbourNames
+pub mod ReportedNeighbours
 pub mod SiteFile
 pub mod Kept
 pub mod Reading

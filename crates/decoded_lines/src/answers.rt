@@ -178,7 +178,7 @@ fn answer_line<A: Allocator + Copy, W: Write>(
 }
 
 /// Why a line wasn't read.
-fn unread(error: io::Error) -> LinesFault {
+fn unreadable(error: io::Error) -> LinesFault {
     if error.kind() == io::ErrorKind::OutOfMemory {
         LinesFault::NoMemory
     } else {
@@ -197,7 +197,7 @@ fn read_next<A: Allocator, R: BufRead>(
 {
     match next_line(reader, line) {
         Ok(found) => Ok(found),
-        Err(error) => Err(unread(error)),
+        Err(error) => Err(unreadable(error)),
     }
 }
 

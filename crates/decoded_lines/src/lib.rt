@@ -12,7 +12,7 @@ mod messages;
 mod octets;
 mod parts;
 mod reader;
-mod spares;
+mod unused;
 mod used;
 
 pub use answers::{Asked, Counts, LinesFault, answer_lines};
@@ -23,5 +23,5 @@ pub use octets::read_octets;
 pub use parts::{is_blank, said_in, text_and_note, without_return, word_and_rest};
 pub use reader::{Found, LONGEST_LINE, next_line};
 pub use screen_text::PrintFault;
-pub use spares::{print_a_spares, print_abis_spares, print_rr_rest};
+pub use unused::{print_a_unused, print_abis_unused, print_rr_rest};
 pub use used::{Used, used_on_a, used_on_abis};

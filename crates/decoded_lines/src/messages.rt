@@ -2,7 +2,7 @@
 ghost use Rattle.std.specs.Prelude.{◌≡◌, ◌≢◌, [], Ok, Err, None, true, false, IfOk, IfErr, IfSome, IsNone, IsSome};
 ghost use Rattle.decoded_lines.specs.Messages.{link_name, IsRrMessage, IsBssmapMessage, IsAbisMessage, IsMessage};
 
-use crate::spares::{print_a_spares, print_abis_spares, print_rr_rest};
+use crate::unused::{print_a_unused, print_abis_unused, print_rr_rest};
 use crate::used::{used_on_a, used_on_abis};
 use bssmap_messages::{Bssmap, BssmapFault};
 use explanations::LinkName;
@@ -118,7 +118,7 @@ fn print_bssmap_more<A: Allocator + Copy, W: Write>(
         Detail::Fields => Ok(()),
         Detail::All => {
             let used = used_on_a(alloc, message)?;
-            print_a_spares(used, octets, out)?;
+            print_a_unused(used, octets, out)?;
             Ok(())
         }
     }
@@ -157,7 +157,7 @@ fn print_abis_more<A: Allocator + Copy, W: Write>(
         Detail::Fields => Ok(()),
         Detail::All => {
             let used = used_on_abis(alloc, message)?;
-            print_abis_spares(used, octets, out)?;
+            print_abis_unused(used, octets, out)?;
             if let Some(layer3) = layer3_of(message) {
                 write!(out, " | ")?;
                 print_rr(detail, layer3, out)?;
@@ -193,7 +193,7 @@ fn print_abis<A: Allocator + Copy, W: Write>(
 /// none, if so.
 ///
 /// With [`Detail::All`] there follow the elements that the message doesn't use, each as `unused=IDENTIFIER/VALUE` in
-/// hexadecimal ([`print_abis_spares`], [`print_a_spares`]), of a radio resource message what stands behind its mandatory
+/// hexadecimal ([`print_abis_unused`], [`print_a_unused`]), of a radio resource message what stands behind its mandatory
 /// part as `rest=OCTETS` ([`print_rr_rest`]), and of a message on Abis with a layer 3 message (TS 48.058 clause 9.3.11)
 /// ` | ` and that as a radio resource message, or its fault. Octets that are a message are one whatever stands inside.
 ///

@@ -15,7 +15,7 @@ use Rattle.channel_fsm.specs.Keys.{sub_number}
 use Rattle.channel_fsm.specs.Slots.{rate_of, is_used, first_in_way}
 use Rattle.channel_fsm.specs.Masks.{has, timeslots}
 use Rattle.cell_table.specs.Site.{SiteView, TrafficLiesWithin, is_traffic, parts_of, trx_channels}
-use Rattle.dense_tables.specs.Channels.{Channels, or_free, state_of, IsFreeIn, IsFreeAt, NoneFreeAt, is_free_traffic, channels_of, free_count, state_at, states_of, place_at, state_by, is_free_by, is_part_free, mask_at, AreMasks, IsMasked, IsMaskedAt, IsMaskedWith, IsFirstWith, IsFirstAt, lower_of, IsNoLater}
+use Rattle.dense_tables.specs.Channels.{Channels, or_free, state_of, IsFreeIn, IsFreeAt, NoneFreeAt, is_free_traffic, channels_of, free_in, state_at, states_of, place_at, state_by, is_free_by, is_part_free, mask_at, AreMasks, IsMasked, IsMaskedAt, IsMaskedWith, IsFirstWith, IsFirstAt, lower_of, IsNoLater}
 use Rattle.dense_tables.proofs.Stated.{get_state}
 
 none_there : {X : Type 0} (o : Option X) → is_none o ≡ true → o ≡ None
@@ -314,7 +314,7 @@ of_cell P cell each =
     (λ tn less. (each trx tn Full few less, (each trx tn Half0 few less, (each trx tn Half1 few less, tt)))))))
 
 -- the masks of a table count what can be chosen
-pub masks_count : (site : SiteView) (states : List ChanState) (masks : List ℕ) → AreMasks site states masks → (cell : ℕ) → cell < 64 → count_by (mask_at masks) (channels_of cell) ≡ free_count (record { site = site; states = states_of site states }) cell
+pub masks_count : (site : SiteView) (states : List ChanState) (masks : List ℕ) → AreMasks site states masks → (cell : ℕ) → cell < 64 → count_by (mask_at masks) (channels_of cell) ≡ free_in (record { site = site; states = states_of site states }) cell
 masks_count site states masks are cell small =
     count_alike (mask_at masks) (is_free_traffic (record { site = site; states = states_of site states })) (channels_of cell)
     (of_cell (λ x. mask_at masks x ≡ is_free_traffic (record { site = site; states = states_of site states }) x) cell (λ trx tn sub few less.
@@ -325,7 +325,7 @@ no_count : (xs : List ChanId) → count_by (λ x. false) xs ≡ 0
 no_count [] = refl
 no_count (x ∷ xs) = sum_by-cons (λ y. 0) x xs ∙ zero-add (count_by (λ y. false) xs) ∙ no_count xs
 
-pub count_beyond : (c : Channels) (cell : ℕ) → TrafficLiesWithin c.site → 64 ≤ cell → 0 ≡ free_count c cell
+pub count_beyond : (c : Channels) (cell : ℕ) → TrafficLiesWithin c.site → 64 ≤ cell → 0 ≡ free_in c cell
 count_beyond c cell lies beyond =
     sym (count_alike (is_free_traffic c) (λ x. false) (channels_of cell) (of_cell (λ x. is_free_traffic c x ≡ false) cell (λ trx tn sub few less.
     let x : ChanId = record { cell = cell; trx = trx; tn = tn; sub = sub } in

@@ -72,8 +72,8 @@ unfoldable pub channels_of : ℕ → List ChanId
 channels_of cell = flat_map (trx_channels cell) (range_with_len 0 most_trx)
 
 -- how many channels can be chosen in a cell
-abbrev pub free_count : Channels → ℕ → ℕ
-free_count c cell = count_by (is_free_traffic c) (channels_of cell)
+abbrev pub free_in : Channels → ℕ → ℕ
+free_in c cell = count_by (is_free_traffic c) (channels_of cell)
 
 -- the state, where it isn't that of a free channel
 abbrev pub busy : ChanState → Option ChanState

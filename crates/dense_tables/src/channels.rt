@@ -4,7 +4,7 @@ ghost use Rattle.std.specs.FinMap as map;
 ghost use Rattle.channel_fsm.specs.declared.ChanId.{ChanId};
 ghost use Rattle.channel_fsm.specs.declared.ChanState.TheVariants as chan;
 ghost use Rattle.cell_table.specs.Site.{is_traffic};
-ghost use Rattle.dense_tables.specs.Channels.{all_free, with_state, busy, channel_at, IsFreeAt, IsNoLater, NoneFreeAt, free_count};
+ghost use Rattle.dense_tables.specs.Channels.{all_free, with_state, busy, channel_at, IsFreeAt, IsNoLater, NoneFreeAt, free_in};
 
 mod masks;
 mod places;
@@ -157,8 +157,8 @@ impl<A: Allocator> ChannelStates<A> {
     }
 
     /// In the way of how many traffic channels of a cell nothing is.
-    pub fn count_free(&self, cell: u8) -> u32
-        ensures count { result ≡ free_count self.now cell }
+    pub fn free_in(&self, cell: u8) -> u32
+        ensures count { result ≡ free_in self.now cell }
     {
         if usize::from(cell) < MOST_CELLS {
             count_in(&self.masks, cell)

@@ -49,7 +49,7 @@ fn add_cell<'a, A: Allocator>(
 ) -> Result<(), FieldFault<'a>>
     ensures read { OnOk result (option_map (λ cell. cells.old.items ++ cell ∷ [])
         (said.cell_of part.now) ≡ Some cells.new.items) }
-    ensures unread { IfErr result (λ fault. fault ≢ NoMemory → (said.cell_of part.now ≡ None)
+    ensures unreadable { IfErr result (λ fault. fault ≢ NoMemory → (said.cell_of part.now ≡ None)
         × (fault_of fault ≡ Value (codes "cells") value.now Cells)) }
 {
     let Some(cell) = cell_of(part) else {
@@ -70,7 +70,7 @@ fn add_cells<'a, A: Allocator>(
 ) -> Result<(), FieldFault<'a>>
     ensures read { OnOk result (option_map (λ more. cells.old.items ++ more)
         (said.cells_of (parts_of value.now)) ≡ Some cells.new.items) }
-    ensures unread { IfErr result (λ fault. fault ≢ NoMemory →
+    ensures unreadable { IfErr result (λ fault. fault ≢ NoMemory →
         (said.cells_of (parts_of value.now) ≡ None)
         × (fault_of fault ≡ Value (codes "cells") value.now Cells)) }
 {

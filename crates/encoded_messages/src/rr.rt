@@ -143,7 +143,7 @@ fn add_neighbour<'a, A: Allocator>(
     ensures read { OnOk result (option_map (λ neighbour. found.old.items ++ neighbour ∷ [])
         (said.neighbour_of value.now) ≡ Some found.new.items) }
     ensures fits { OnOk result (All NcellFits found.new.items) }
-    ensures unread { IfErr result (λ fault. fault ≢ NoMemory →
+    ensures unreadable { IfErr result (λ fault. fault ≢ NoMemory →
         (said.neighbour_of value.now ≡ None)
         × (fault_of fault ≡ Value (codes "n") value.now Neighbour)) }
 {

@@ -41,7 +41,7 @@ fn candidate_in<W: Allocator, S: Allocator + Copy>(
     if other == cell {
         return None;
     }
-    let (place, bsic) = site.neighbour_name(cell, other)?;
+    let (place, bsic) = site.reported_as(cell, other)?;
     let sum = window.sum_of(place, bsic);
     if sum < least {
         return None;

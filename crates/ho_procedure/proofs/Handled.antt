@@ -48,7 +48,7 @@ width_kept log says w w' p u f = f.width
 
 -- the same of a row that was stopped: the input can't be read
 pub refused : {A D : Type 0} (log : D → List Entry) (says : D → List Entry → Claim → Type 0) (w : Work D A) (IsRow : Plan → Type 0) (CantBeRead : Link → Bad → Type 0) (MayRefuse : Type 0) (w' : Work D A) (l : Link) (b : Bad)
-    → Stopped log says w IsRow CantBeRead MayRefuse w' (stop.Unread l b) → (w'.view ≡ w.view) × (w'.windows ≡ w.windows)
+    → Stopped log says w IsRow CantBeRead MayRefuse w' (stop.Unreadable l b) → (w'.view ≡ w.view) × (w'.windows ≡ w.windows)
 refused log says w IsRow CantBeRead MayRefuse w' l b f = (ap (λ x. x.view) f.1, ap (λ x. x.windows) f.1)
 
 -- memory was refused
@@ -71,14 +71,14 @@ stops_unknown log says w IsRow w' place f = f.2.stop
 
 pub stopped_kept : {A D : Type 0} (log : D → List Entry) (says : D → List Entry → Claim → Type 0) (w : Work D A) (IsRow : Plan → Type 0) (CantBeRead : Link → Bad → Type 0) (MayRefuse : Type 0) (w' : Work D A) (s : Stop)
     → Stopped log says w IsRow CantBeRead MayRefuse w' s → (es : List Entry) → (claim : Claim) → says w'.view es claim → says w.view es claim
-stopped_kept {A} {D} log says w IsRow CantBeRead MayRefuse w' (stop.Unread l b) f es claim h = subst (λ x. says x.view es claim) f.1 h
+stopped_kept {A} {D} log says w IsRow CantBeRead MayRefuse w' (stop.Unreadable l b) f es claim h = subst (λ x. says x.view es claim) f.1 h
 stopped_kept {A} {D} log says w IsRow CantBeRead MayRefuse w' stop.NoMemory (inl f) es claim h = kept log says w w' f.0 AtMemory f.2 es claim h
 stopped_kept {A} {D} log says w IsRow CantBeRead MayRefuse w' stop.NoMemory (inr f) es claim h = subst (λ x. says x.view es claim) f.1 h
 stopped_kept {A} {D} log says w IsRow CantBeRead MayRefuse w' (stop.Foreign place) f es claim h = kept log says w w' f.0 (AtDesk place) f.2 es claim h
 
 pub stopped_width : {A D : Type 0} (log : D → List Entry) (says : D → List Entry → Claim → Type 0) (w : Work D A) (IsRow : Plan → Type 0) (CantBeRead : Link → Bad → Type 0) (MayRefuse : Type 0) (w' : Work D A) (s : Stop)
     → Stopped log says w IsRow CantBeRead MayRefuse w' s → w'.windows.width ≡ w.windows.width
-stopped_width log says w IsRow CantBeRead MayRefuse w' (stop.Unread l b) f = ap (λ x. x.windows.width) f.1
+stopped_width log says w IsRow CantBeRead MayRefuse w' (stop.Unreadable l b) f = ap (λ x. x.windows.width) f.1
 stopped_width log says w IsRow CantBeRead MayRefuse w' stop.NoMemory (inl f) = width_kept log says w w' f.0 AtMemory f.2
 stopped_width log says w IsRow CantBeRead MayRefuse w' stop.NoMemory (inr f) = ap (λ x. x.windows.width) f.1
 stopped_width log says w IsRow CantBeRead MayRefuse w' (stop.Foreign place) f = width_kept log says w w' f.0 (AtDesk place) f.2

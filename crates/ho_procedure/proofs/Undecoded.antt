@@ -24,7 +24,7 @@ use Rattle.ho_procedure.specs.declared.exchange.Bad.{Bad}
 use Rattle.ho_procedure.specs.declared.exchange.Bad.TheVariants as bad
 use Rattle.ho_procedure.specs.declared.following.Stop.{Stop}
 use Rattle.ho_procedure.specs.declared.following.Stop.TheVariants as stop
-use Rattle.ho_procedure.specs.Decoding.{text_inside, IsInside, IsFaultOf, IsAbis, IsUnreadAbis, IsUnreadA}
+use Rattle.ho_procedure.specs.Decoding.{text_inside, IsInside, IsFaultOf, IsAbis, IsUnreadableAbis, IsUnreadableA}
 use Rattle.ho_procedure.specs.Plan.{Plan, Ends, At}
 use Rattle.ho_procedure.specs.Going.{Goes, last_reports}
 use Rattle.ho_procedure.specs.Following.{Stopped}
@@ -32,7 +32,7 @@ use Rattle.ho_procedure.specs.Handling.{IsRow, IsUndecoded, KeepsOctets}
 
 -- a row was stopped for this fault, or memory was refused
 abbrev pub IsStoppedFor : Link → Bad → Type 0 → Stop → Type 0
-IsStoppedFor l b MayRefuse (stop.Unread m d) = (m ≡ l) × (d ≡ b)
+IsStoppedFor l b MayRefuse (stop.Unreadable m d) = (m ≡ l) × (d ≡ b)
 IsStoppedFor l b MayRefuse stop.NoMemory = MayRefuse
 IsStoppedFor l b MayRefuse (stop.Foreign place) = ⊥
 
@@ -53,7 +53,7 @@ inside_fault None f g laws one other = absurd one
 inside_fault (Some text) f g laws one other = laws.fault text f g one other
 
 -- octets that are read can't be unread
-read_abis : {A : Type 0} (octets : List ℕ) (message : Rsl A) (rr : Option Rr) (l : Link) (b : Bad) → Laws A → IsAbis octets message rr → IsUnreadAbis A octets l b → ⊥
+read_abis : {A : Type 0} (octets : List ℕ) (message : Rsl A) (rr : Option Rr) (l : Link) (b : Bad) → Laws A → IsAbis octets message rr → IsUnreadableAbis A octets l b → ⊥
 read_abis octets message rr link.Abis (bad.Rsl f) laws is u = u.0 (laws.on_abis.text message octets f is.0 u.1)
 read_abis octets message rr link.Rr (bad.Rr f) laws is u =
     let same : u.0 ≡ message = laws.on_abis.value u.0 message octets u.1 is.0 in
@@ -64,7 +64,7 @@ read_abis octets message rr link.A b laws is u = u
 read_abis octets message rr link.Rr (bad.Rsl f) laws is u = u
 read_abis octets message rr link.Rr (bad.Bssmap f) laws is u = u
 
-read_a : {A : Type 0} (octets : List ℕ) (message : Bssmap A) (l : Link) (b : Bad) → Laws A → interface_a.IsTextOf message octets → IsUnreadA A octets l b → ⊥
+read_a : {A : Type 0} (octets : List ℕ) (message : Bssmap A) (l : Link) (b : Bad) → Laws A → interface_a.IsTextOf message octets → IsUnreadableA A octets l b → ⊥
 read_a octets message link.A (bad.Bssmap f) laws is u = u.0 (laws.on_a.text message octets f is u.1)
 read_a octets message link.A (bad.Rsl f) laws is u = u
 read_a octets message link.A (bad.Rr f) laws is u = u
@@ -87,7 +87,7 @@ record Inner (A : Type 0) (octets : List ℕ) (l : Link) (b : Bad) : Type 0 wher
   pub text : abis.IsTextOf message octets
   pub fault : IsFaultOf (text_inside message) reason
 
-reason_of : {A : Type 0} (octets : List ℕ) (l : Link) (b : Bad) → IsUnreadAbis A octets l b → Outer A octets l b ⊎ Inner A octets l b
+reason_of : {A : Type 0} (octets : List ℕ) (l : Link) (b : Bad) → IsUnreadableAbis A octets l b → Outer A octets l b ⊎ Inner A octets l b
 reason_of octets link.Abis (bad.Rsl f) u = inl (record { reason = f; on = refl; is = refl; known = u.0; fault = u.1 })
 reason_of octets link.Rr (bad.Rr f) u = inr (record { reason = f; on = refl; is = refl; message = u.0; text = u.1; fault = u.2 })
 reason_of octets link.Abis (bad.Bssmap f) u = absurd u
@@ -112,7 +112,7 @@ record OnA (A : Type 0) (octets : List ℕ) (l : Link) (b : Bad) : Type 0 where
   pub is : b ≡ bad.Bssmap reason
   pub fault : interface_a.HasFault A octets reason
 
-reason_on_a : {A : Type 0} (octets : List ℕ) (l : Link) (b : Bad) → IsUnreadA A octets l b → OnA A octets l b
+reason_on_a : {A : Type 0} (octets : List ℕ) (l : Link) (b : Bad) → IsUnreadableA A octets l b → OnA A octets l b
 reason_on_a octets link.A (bad.Bssmap f) u = record { reason = f; on = refl; is = refl; fault = u.1 }
 reason_on_a octets link.A (bad.Rsl f) u = absurd u
 reason_on_a octets link.A (bad.Rr f) u = absurd u
@@ -138,7 +138,7 @@ undecoded_once (inbound.Operator line) l m b d laws u v = absurd u
 -- what comes of a row's stop where the input can't be read
 pub refused_by : {A D : Type 0} (log : D → List Entry) (says : D → List Entry → Claim → Type 0) (site : SiteView) (w w' : Work D A) (input : Inbound A) (s : Stop) (l : Link) (b : Bad) → Laws A
     → Stopped log says w (IsRow site (last_reports w.windows) input) (IsUndecoded input) (KeepsOctets input) w' s → IsUndecoded input l b → IsStoppedFor l b (KeepsOctets input × (w' ≡ w)) s
-refused_by log says site w w' input (stop.Unread m d) l b laws stopped u = undecoded_once input m l d b laws stopped.0 u
+refused_by log says site w w' input (stop.Unreadable m d) l b laws stopped u = undecoded_once input m l d b laws stopped.0 u
 refused_by log says site w w' input stop.NoMemory l b laws (inl row) u = absurd (row_read site (last_reports w.windows) input row.0 laws row.1 l b u)
 refused_by log says site w w' input stop.NoMemory l b laws (inr refused) u = refused
 refused_by log says site w w' input (stop.Foreign place) l b laws row u = absurd (row_read site (last_reports w.windows) input row.0 laws row.1 l b u)

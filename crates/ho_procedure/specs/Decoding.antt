@@ -7,21 +7,21 @@ use Rattle.rsl_messages.specs.declared.message.Rsl.{Rsl}
 use Rattle.rsl_messages.specs.declared.message.Rsl.TheVariants.{DataRequest, DataIndication, ChannelActivation, ChannelActivationAck, ChannelActivationNack, ConnectionFailureIndication, HandoverDetection, MeasurementResult, RfChannelRelease, RfChannelReleaseAck}
 use Rattle.rsl_messages.specs.declared.fault.RslFault.TheVariants as rsl_fault
 use Rattle.rsl_messages.specs.Texts as abis
-use Rattle.rsl_messages.specs.Values.{main_channel}
+use Rattle.rsl_messages.specs.Values.{main_signalling}
 use Rattle.bssmap_messages.specs.declared.fault.BssmapFault.TheVariants as bssmap_fault
 use Rattle.bssmap_messages.specs.Texts as interface_a
 use Rattle.ho_procedure.specs.declared.exchange.Link.{Link}
 use Rattle.ho_procedure.specs.declared.exchange.Link.TheVariants as link
 use Rattle.ho_procedure.specs.declared.exchange.Bad.{Bad}
 use Rattle.ho_procedure.specs.declared.exchange.Bad.TheVariants as bad
-use Rattle.ho_procedure.specs.declared.decoding.Unread.{Unread}
-use Rattle.ho_procedure.specs.declared.decoding.Unread.TheVariants as unread
+use Rattle.ho_procedure.specs.declared.decoding.Unreadable.{Unreadable}
+use Rattle.ho_procedure.specs.declared.decoding.Unreadable.TheVariants as unreadable
 
 -- Where a message on Abis has a radio resource message of the mobile inside: a DATA INDICATION (TS 48.058 clause 8.3.2) on
--- the main channel, SAPI 0 (clause 9.3.2), and a MEASUREMENT RESULT (clause 8.4.8) with L3 information. What
+-- the main signalling channel, SAPI 0 (clause 9.3.2), and a MEASUREMENT RESULT (clause 8.4.8) with L3 information. What
 -- comes on another link isn't read.
 abbrev pub text_inside : {A : Type 0} → Rsl A → Option (List ℕ)
-text_inside (DataIndication channel link layer3) = if link == main_channel then Some layer3 else None
+text_inside (DataIndication channel link layer3) = if link == main_signalling then Some layer3 else None
 text_inside (MeasurementResult channel number uplink power layer3) = layer3
 text_inside (DataRequest channel link layer3) = None
 text_inside (ChannelActivation channel activation mode reference) = None
@@ -52,24 +52,24 @@ abbrev pub HasFaultInside : (A : Type 0) → List ℕ → RrFault → Type 0
 HasFaultInside A octets f = (message : Rsl A) × abis.IsTextOf message octets × IsFaultOf (text_inside message) f
 
 -- The octets of a message on Abis can't be read, where memory isn't refused: they have this fault, or the text inside has.
-abbrev pub IsUnreadAbis : (A : Type 0) → List ℕ → Link → Bad → Type 0
-IsUnreadAbis A octets link.Abis (bad.Rsl f) = (f ≢ rsl_fault.NoMemory) × abis.HasFault A octets f
-IsUnreadAbis A octets link.Rr (bad.Rr f) = HasFaultInside A octets f
-IsUnreadAbis A octets link.Abis (bad.Bssmap f) = ⊥
-IsUnreadAbis A octets link.Abis (bad.Rr f) = ⊥
-IsUnreadAbis A octets link.A b = ⊥
-IsUnreadAbis A octets link.Rr (bad.Rsl f) = ⊥
-IsUnreadAbis A octets link.Rr (bad.Bssmap f) = ⊥
+abbrev pub IsUnreadableAbis : (A : Type 0) → List ℕ → Link → Bad → Type 0
+IsUnreadableAbis A octets link.Abis (bad.Rsl f) = (f ≢ rsl_fault.NoMemory) × abis.HasFault A octets f
+IsUnreadableAbis A octets link.Rr (bad.Rr f) = HasFaultInside A octets f
+IsUnreadableAbis A octets link.Abis (bad.Bssmap f) = ⊥
+IsUnreadableAbis A octets link.Abis (bad.Rr f) = ⊥
+IsUnreadableAbis A octets link.A b = ⊥
+IsUnreadableAbis A octets link.Rr (bad.Rsl f) = ⊥
+IsUnreadableAbis A octets link.Rr (bad.Bssmap f) = ⊥
 
 -- Octets weren't read, by what it means that they can't be, and that memory was refused.
-abbrev pub IsUnread : (Link → Bad → Type 0) → Type 0 → Unread → Type 0
-IsUnread CantBeRead MayRefuse (unread.Undecoded l b) = CantBeRead l b
-IsUnread CantBeRead MayRefuse unread.NoMemory = MayRefuse
+abbrev pub IsUnreadable : (Link → Bad → Type 0) → Type 0 → Unreadable → Type 0
+IsUnreadable CantBeRead MayRefuse (unreadable.Undecoded l b) = CantBeRead l b
+IsUnreadable CantBeRead MayRefuse unreadable.NoMemory = MayRefuse
 
 -- The octets of a message on A can't be read, where memory isn't refused: they have this fault.
-abbrev pub IsUnreadA : (A : Type 0) → List ℕ → Link → Bad → Type 0
-IsUnreadA A octets link.A (bad.Bssmap f) = (f ≢ bssmap_fault.NoMemory) × interface_a.HasFault A octets f
-IsUnreadA A octets link.A (bad.Rsl f) = ⊥
-IsUnreadA A octets link.A (bad.Rr f) = ⊥
-IsUnreadA A octets link.Abis b = ⊥
-IsUnreadA A octets link.Rr b = ⊥
+abbrev pub IsUnreadableA : (A : Type 0) → List ℕ → Link → Bad → Type 0
+IsUnreadableA A octets link.A (bad.Bssmap f) = (f ≢ bssmap_fault.NoMemory) × interface_a.HasFault A octets f
+IsUnreadableA A octets link.A (bad.Rsl f) = ⊥
+IsUnreadableA A octets link.A (bad.Rr f) = ⊥
+IsUnreadableA A octets link.Abis b = ⊥
+IsUnreadableA A octets link.Rr b = ⊥

@@ -8,8 +8,8 @@ use Rattle.ho_procedure.specs.declared.exchange.Link.{Link}
 use Rattle.ho_procedure.specs.declared.exchange.Bad.{Bad}
 use Rattle.ho_procedure.specs.declared.following.Stop.{Stop}
 use Rattle.ho_procedure.specs.declared.following.Stop.TheVariants as stop
-use Rattle.ho_procedure.specs.declared.decoding.Unread.{Unread}
-use Rattle.ho_procedure.specs.declared.decoding.Unread.TheVariants as unread
+use Rattle.ho_procedure.specs.declared.decoding.Unreadable.{Unreadable}
+use Rattle.ho_procedure.specs.declared.decoding.Unreadable.TheVariants as unreadable
 use Rattle.ho_procedure.specs.declared.work.Work.{Work}
 use Rattle.ho_procedure.specs.Claims.{Entry, Claim}
 use Rattle.ho_procedure.specs.Plan.{Plan, Until, AtMemory, AtDesk}
@@ -22,7 +22,7 @@ StopsInRow log says w IsRow w' u = (p : Plan) × IsRow p × Goes log says w p w'
 -- Octets that can't be read, or whose memory was refused, leave all as it was; else the row was followed up to a step that
 -- takes memory, or that asks the desk, which doesn't know the view's last receipt.
 abbrev pub Stopped : {D A : Type 0} → (D → List Entry) → (D → List Entry → Claim → Type 0) → Work D A → (Plan → Type 0) → (Link → Bad → Type 0) → Type 0 → Work D A → Stop → Type 0
-Stopped log says w IsRow CantBeRead MayRefuse w' (stop.Unread l b) = CantBeRead l b × (w' ≡ w)
+Stopped log says w IsRow CantBeRead MayRefuse w' (stop.Unreadable l b) = CantBeRead l b × (w' ≡ w)
 Stopped log says w IsRow CantBeRead MayRefuse w' stop.NoMemory = StopsInRow log says w IsRow w' AtMemory ⊎ (MayRefuse × (w' ≡ w))
 Stopped log says w IsRow CantBeRead MayRefuse w' (stop.Foreign place) = StopsInRow log says w IsRow w' (AtDesk place)
 
@@ -31,9 +31,9 @@ abbrev pub IsStopFor : DeskFault → Stop → Type 0
 IsStopFor (fault.Foreign place) s = s ≡ stop.Foreign place
 IsStopFor fault.NoMemory s = s ≡ stop.NoMemory
 
-abbrev pub IsStopOf : Unread → Stop → Type 0
-IsStopOf (unread.Undecoded l b) s = s ≡ stop.Unread l b
-IsStopOf unread.NoMemory s = s ≡ stop.NoMemory
+abbrev pub IsStopOf : Unreadable → Stop → Type 0
+IsStopOf (unreadable.Undecoded l b) s = s ≡ stop.Unreadable l b
+IsStopOf unreadable.NoMemory s = s ≡ stop.NoMemory
 
 -- what a message on A has for the mobile can be passed on in a DATA REQUEST, unread
 abbrev pub CanBePassedOn : {A : Type 0} → Bssmap A → Type 0

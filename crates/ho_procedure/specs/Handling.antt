@@ -16,7 +16,7 @@ use Rattle.ho_procedure.specs.declared.exchange.Bad.{Bad}
 use Rattle.ho_procedure.specs.declared.exchange.Fault.{Fault}
 use Rattle.ho_procedure.specs.declared.exchange.Fault.TheVariants.{Undecoded, NoMemory, Desk}
 use Rattle.ho_procedure.specs.Claims.{Entry, Claim}
-use Rattle.ho_procedure.specs.Decoding.{IsAbis, IsUnreadAbis, IsUnreadA}
+use Rattle.ho_procedure.specs.Decoding.{IsAbis, IsUnreadableAbis, IsUnreadableA}
 use Rattle.ho_procedure.specs.Sent.{Sent, all_sent}
 use Rattle.ho_procedure.specs.Windows.{Kept}
 use Rattle.ho_procedure.specs.Going.{last_reports, MayStop}
@@ -34,8 +34,8 @@ IsRow site reports (inbound.Operator line) p = p ≡ line_plan site line
 
 -- the octets of the input, or the text inside, have this fault
 abbrev pub IsUndecoded : {A : Type 0} → Inbound A → Link → Bad → Type 0
-IsUndecoded {A} (inbound.Abis cell trx octets) link bad = IsUnreadAbis A octets link bad
-IsUndecoded {A} (inbound.A call octets) link bad = IsUnreadA A octets link bad
+IsUndecoded {A} (inbound.Abis cell trx octets) link bad = IsUnreadableAbis A octets link bad
+IsUndecoded {A} (inbound.A call octets) link bad = IsUnreadableA A octets link bad
 IsUndecoded (inbound.Expiry call timer) link bad = ⊥
 IsUndecoded (inbound.Operator line) link bad = ⊥
 

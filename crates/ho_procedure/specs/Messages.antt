@@ -13,7 +13,7 @@ use Rattle.rsl_messages.specs.declared.message.ChanBits.{ChanBits}
 use Rattle.rsl_messages.specs.declared.message.Rsl.{Rsl}
 use Rattle.rsl_messages.specs.declared.message.Rsl.TheVariants.{DataRequest, ChannelActivation, RfChannelRelease}
 use Rattle.rsl_messages.specs.Texts as abis
-use Rattle.rsl_messages.specs.Values.{main_channel}
+use Rattle.rsl_messages.specs.Values.{main_signalling}
 use Rattle.bssmap_messages.specs.declared.message.CellId.{CellId}
 use Rattle.bssmap_messages.specs.declared.message.Bssmap.{Bssmap}
 use Rattle.bssmap_messages.specs.declared.message.Bssmap.TheVariants.{HandoverRequired, HandoverRequestAck, HandoverComplete, HandoverFailure, HandoverPerformed, HandoverDetect, ClearComplete, ClearRequest}
@@ -48,9 +48,9 @@ target_activation x n = about x (λ channel. ChannelActivation channel 2 (speech
 abbrev pub release : ChanId → Sent
 release x = about x RfChannelRelease
 
--- DATA REQUEST on the main channel, SAPI 0 (clauses 8.3.1 and 9.3.2), with octets that weren't read
+-- DATA REQUEST on the main signalling channel, SAPI 0 (clauses 8.3.1 and 9.3.2), with octets that weren't read
 abbrev pub data_request : ChanId → List ℕ → Sent
-data_request x layer3 = about x (λ channel. DataRequest channel main_channel layer3)
+data_request x layer3 = about x (λ channel. DataRequest channel main_signalling layer3)
 
 -- Radio resource messages to a mobile (TS 44.018), each in a DATA REQUEST.
 

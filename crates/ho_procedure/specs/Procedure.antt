@@ -195,10 +195,10 @@ move_rest site c cell (Refused refusal) = if_no_call (start_plan site c cell Ful
 unfoldable pub handover_plan : SiteView → ℕ → ℕ → Plan
 handover_plan site c cell = if is_some (cell_id_at site cell) then Asks (event.Look c) (move_rest site c cell) else Ends
 
--- RF CHANNEL RELEASE of an attempt's target (TS 48.058 clause 4.7), where it was switched on
+-- RF CHANNEL RELEASE of an attempt's target (TS 48.058 clause 4.7), where it may be active
 unfoldable pub release_target : Option Attempt → Plan → Plan
 release_target None tail = tail
-release_target (Some a) tail = if (stage_row a.stage).switched_on then if_named a.target (λ t. Sends (release t) tail) else tail
+release_target (Some a) tail = if (stage_row a.stage).may_be_active then if_named a.target (λ t. Sends (release t) tail) else tail
 
 -- An attempt is taken back, and its target released.
 unfoldable pub take_back : ℕ → (Option Attempt → Plan) → Plan
@@ -256,10 +256,10 @@ is_on (Some (Pending d)) = false
 is_on (Some (On d)) = true
 is_on (Some Off) = false
 
--- a message can name the target, where it was switched on
+-- a message can name the target, where it may be active
 abbrev pub names_target : Option Attempt → Bool
 names_target None = true
-names_target (Some a) = not (stage_row a.stage).switched_on || is_named a.target
+names_target (Some a) = not (stage_row a.stage).may_be_active || is_named a.target
 
 -- the record names all that is released when its call is cleared: the target, and the serving channel unless it is held
 abbrev pub names_releases : CallRecord → Option ChanState → Bool
@@ -284,7 +284,7 @@ unfoldable pub release_serving : Option ℕ → CallRecord → Option ChanState 
 release_serving cause r s tail =
     if is_held s then tail else if_named r.serving (λ x. told_first (told_cause cause s) x (Sends (release x) tail))
 
--- The target is released, where it was switched on. Where a record remains, the call is cleared, and its serving channel
+-- The target is released, where it may be active. Where a record remains, the call is cleared, and its serving channel
 -- released.
 unfoldable pub clear_all : ℕ → Option ℕ → Plan → CallRecord → Option ChanState → Plan
 clear_all c cause tail r s =
@@ -557,7 +557,7 @@ line_plan site (line.Handover c cell) = handover_plan site c cell
 line_plan site (line.Undo c) = undo_plan c
 line_plan site (line.Clear c) = clear_plan c
 
--- what a mobile says on the main channel
+-- what a mobile says on the main signalling channel
 abbrev pub mobile_plan : SiteView → ChanId → Option Rr → Plan
 mobile_plan site x None = Ends
 mobile_plan site x (Some (rr.HandoverComplete cause)) = complete_plan site x cause.0

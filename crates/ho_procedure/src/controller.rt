@@ -120,7 +120,7 @@ impl<D: DeskView + Drop, A: Allocator + Copy> Controller<D, A> {
         let owed = self.work.owed.take();
         match done {
             Ok(()) => Ok(owed),
-            Err(Stop::Unread(link, bad)) => Err(Fault::Undecoded(link, bad)),
+            Err(Stop::Unreadable(link, bad)) => Err(Fault::Undecoded(link, bad)),
             Err(Stop::NoMemory) => Err(Fault::NoMemory(owed)),
             Err(Stop::Foreign(place)) => Err(Fault::Desk(place, owed)),
         }

@@ -9,18 +9,18 @@ ghost use Rattle.bssmap_messages.specs.Messages.{KeepsList};
 ghost use Rattle.bssmap_messages.specs.Texts as interface_a;
 ghost use Rattle.ho_procedure.specs.declared.exchange.Link.{Link};
 ghost use Rattle.ho_procedure.specs.declared.exchange.Bad.{Bad};
-ghost use Rattle.ho_procedure.specs.Decoding.{text_inside, IsInside, IsAbis, IsUnreadAbis, IsUnreadA, IsUnread, IsFaultOf};
+ghost use Rattle.ho_procedure.specs.Decoding.{text_inside, IsInside, IsAbis, IsUnreadableAbis, IsUnreadableA, IsUnreadable, IsFaultOf};
 
 use crate::exchange::{Bad, Link};
 use bssmap_messages::{Bssmap, BssmapFault};
 use rr_messages::{Rr, RrFault};
-use rsl_messages::values::MAIN_CHANNEL;
+use rsl_messages::values::MAIN_SIGNALLING;
 use rsl_messages::{Rsl, RslFault};
 use std::alloc::Allocator;
 
 /// Why octets weren't read.
 #[derive(Clone, Copy, PartialEq, Eq)]
-pub(crate) enum Unread {
+pub(crate) enum Unreadable {
     /// They, or the text inside, are no message.
     Undecoded(Link, Bad),
     /// Memory was refused.
@@ -32,29 +32,32 @@ pub(crate) enum Unread {
 pub(crate) fn decode_abis<A: Allocator + Copy>(
     alloc: A,
     octets: &[u8],
-) -> Result<(Rsl<A>, Option<Rr>), Unread>
+) -> Result<(Rsl<A>, Option<Rr>), Unreadable>
     ensures text { IfOk result (λ d. IsAbis octets.now d.0 d.1) }
-    ensures unread { IfErr result (IsUnread (IsUnreadAbis A octets.now)
+    ensures unreadable { IfErr result (IsUnreadable (IsUnreadableAbis A octets.now)
         ((v : Rsl A) × abis.IsTextOf v octets.now × HasOctets v)) }
 {
     match rsl_messages::decode(alloc, octets) {
         Ok(message) => match inside(&message) {
             Ok(rr) => Ok((message, rr)),
-            Err(fault) => Err(Unread::Undecoded(Link::Rr, Bad::Rr(fault))),
+            Err(fault) => Err(Unreadable::Undecoded(Link::Rr, Bad::Rr(fault))),
         },
-        Err(fault) => Err(unread_abis(fault)),
+        Err(fault) => Err(unreadable_abis(fault)),
     }
 }
 
 /// The octets of a message on A.
-pub(crate) fn decode_a<A: Allocator + Copy>(alloc: A, octets: &[u8]) -> Result<Bssmap<A>, Unread>
+pub(crate) fn decode_a<A: Allocator + Copy>(
+    alloc: A,
+    octets: &[u8],
+) -> Result<Bssmap<A>, Unreadable>
     ensures text { IfOk result (λ v. interface_a.IsTextOf v octets.now) }
-    ensures unread { IfErr result (IsUnread (IsUnreadA A octets.now)
+    ensures unreadable { IfErr result (IsUnreadable (IsUnreadableA A octets.now)
         ((v : Bssmap A) × interface_a.IsTextOf v octets.now × KeepsList v)) }
 {
     match bssmap_messages::decode(alloc, octets) {
         Ok(message) => Ok(message),
-        Err(fault) => Err(unread_a(fault)),
+        Err(fault) => Err(unreadable_a(fault)),
     }
 }
 
@@ -65,7 +68,7 @@ fn inside<A: Allocator + Copy>(message: &Rsl<A>) -> Result<Option<Rr>, RrFault>
 {
     match message {
         Rsl::DataIndication {
-            link: MAIN_CHANNEL,
+            link: MAIN_SIGNALLING,
             layer3,
             ..
         } => Ok(Some(rr_messages::decode(layer3.as_slice())?)),
@@ -87,35 +90,35 @@ fn inside<A: Allocator + Copy>(message: &Rsl<A>) -> Result<Option<Rr>, RrFault>
 }
 
 /// A fault on Abis.
-fn unread_abis(fault: RslFault) -> Unread
-    ensures { IsUnread
+fn unreadable_abis(fault: RslFault) -> Unreadable
+    ensures { IsUnreadable
         (λ l b. (l ≡ Link.Abis) × (b ≡ Bad.Rsl fault) × (fault ≢ RslFault.NoMemory))
         (fault ≡ RslFault.NoMemory) result }
 {
     match fault {
-        RslFault::NoMemory => Unread::NoMemory,
+        RslFault::NoMemory => Unreadable::NoMemory,
         RslFault::NotRsl
         | RslFault::UnknownType(_)
         | RslFault::Missing(_)
         | RslFault::BadElement(_)
         | RslFault::Torn(_)
-        | RslFault::TooLong => Unread::Undecoded(Link::Abis, Bad::Rsl(fault)),
+        | RslFault::TooLong => Unreadable::Undecoded(Link::Abis, Bad::Rsl(fault)),
     }
 }
 
 /// A fault on A.
-fn unread_a(fault: BssmapFault) -> Unread
-    ensures { IsUnread
+fn unreadable_a(fault: BssmapFault) -> Unreadable
+    ensures { IsUnreadable
         (λ l b. (l ≡ Link.A) × (b ≡ Bad.Bssmap fault) × (fault ≢ BssmapFault.NoMemory))
         (fault ≡ BssmapFault.NoMemory) result }
 {
     match fault {
-        BssmapFault::NoMemory => Unread::NoMemory,
+        BssmapFault::NoMemory => Unreadable::NoMemory,
         BssmapFault::NotBssmap
         | BssmapFault::Length
         | BssmapFault::UnknownType(_)
         | BssmapFault::Missing(_)
         | BssmapFault::BadElement(_)
-        | BssmapFault::Torn(_) => Unread::Undecoded(Link::A, Bad::Bssmap(fault)),
+        | BssmapFault::Torn(_) => Unreadable::Undecoded(Link::A, Bad::Bssmap(fault)),
     }
 }

@@ -7,7 +7,7 @@ ghost use Rattle.rsl_messages.specs.Texts as abis;
 ghost use Rattle.bssmap_messages.specs.declared.message.Bssmap.{Bssmap};
 ghost use Rattle.bssmap_messages.specs.Messages.{KeepsList};
 ghost use Rattle.bssmap_messages.specs.Texts as interface_a;
-ghost use Rattle.ho_procedure.specs.Decoding.{IsAbis, IsUnreadAbis, IsUnreadA};
+ghost use Rattle.ho_procedure.specs.Decoding.{IsAbis, IsUnreadableAbis, IsUnreadableA};
 ghost use Rattle.ho_procedure.specs.Naming.{chan_of};
 ghost use Rattle.ho_procedure.specs.Procedure.{line_plan, abis_plan, a_plan, mobile_plan, measured_plan};
 ghost use Rattle.ho_procedure.specs.Plan.{Plan, Ends, At};
@@ -15,7 +15,7 @@ ghost use Rattle.ho_procedure.specs.Going.{Goes, last_reports, stops_at};
 ghost use Rattle.ho_procedure.specs.Handling.{IsRow, IsUndecoded, KeepsOctets};
 ghost use Rattle.ho_procedure.specs.Following.{Stopped, IsStopFor, IsStopOf, CanBePassedOn};
 
-use crate::decoding::{Unread, decode_a, decode_abis};
+use crate::decoding::{Unreadable, decode_a, decode_abis};
 use crate::exchange::{Bad, Inbound, Line, Link};
 use crate::naming::chan_of;
 use crate::rows::calls::{clear, clear_command, open};
@@ -37,7 +37,7 @@ use std::alloc::Allocator;
 #[derive(Clone, Copy)]
 pub(crate) enum Stop {
     /// The octets, or the text inside, can't be read.
-    Unread(Link, Bad),
+    Unreadable(Link, Bad),
     /// Memory was refused.
     NoMemory,
     /// The desk doesn't know the view's last receipt, of this place.
@@ -53,12 +53,12 @@ fn stop_of(fault: DeskFault) -> Stop
     }
 }
 
-fn unread_stop(unread: Unread) -> Stop
-    ensures { IsStopOf unread result }
+fn unreadable_stop(unreadable: Unreadable) -> Stop
+    ensures { IsStopOf unreadable result }
 {
-    match unread {
-        Unread::Undecoded(link, bad) => Stop::Unread(link, bad),
-        Unread::NoMemory => Stop::NoMemory,
+    match unreadable {
+        Unreadable::Undecoded(link, bad) => Stop::Unreadable(link, bad),
+        Unreadable::NoMemory => Stop::NoMemory,
     }
 }
 
@@ -81,7 +81,7 @@ fn follow_line<D: DeskView + Drop, A: Allocator + Copy>(
     }
 }
 
-/// Follows the row of a message from a mobile on the main channel.
+/// Follows the row of a message from a mobile on the main signalling channel.
 #[tactic(auto, using(crate::proofs::Going::stays))]
 fn follow_mobile<D: DeskView + Drop, A: Allocator + Copy>(
     work: &mut Work<D, A>,
@@ -223,12 +223,12 @@ fn follow_abis_octets<D: DeskView + Drop, A: Allocator + Copy>(
         (λ p. (message : Rsl A) × (inside : Option Rr) ×
         IsAbis octets.now message inside × (p ≡ abis_plan site.now
         (last_reports work.old.windows) (chan_of cell trx message) message inside))
-        (IsUnreadAbis A octets.now)
+        (IsUnreadableAbis A octets.now)
         ((message : Rsl A) × abis.IsTextOf message octets.now × HasOctets message) work.new) }
 {
     let (message, inside) = match decode_abis(work.alloc, octets) {
         Ok(read) => read,
-        Err(unread) => return Err(unread_stop(unread)),
+        Err(unreadable) => return Err(unreadable_stop(unreadable)),
     };
     let chan = chan_of(cell, trx, &message);
     match follow_abis(work, site, chan, &message, &inside) {
@@ -251,13 +251,13 @@ fn follow_a_octets<D: DeskView + Drop, A: Allocator + Copy>(
     ensures stops { IfErr result (Stopped D.log D.says work.old
         (λ p. (message : Bssmap A) × interface_a.IsTextOf message octets.now ×
         (p ≡ a_plan site.now call message))
-        (IsUnreadA A octets.now)
+        (IsUnreadableA A octets.now)
         ((message : Bssmap A) × interface_a.IsTextOf message octets.now × KeepsList message)
         work.new) }
 {
     let message = match decode_a(work.alloc, octets) {
         Ok(message) => message,
-        Err(unread) => return Err(unread_stop(unread)),
+        Err(unreadable) => return Err(unreadable_stop(unreadable)),
     };
     match follow_a(work, site, call, &message) {
         Ok(()) => Ok(()),

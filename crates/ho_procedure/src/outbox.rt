@@ -172,7 +172,7 @@ impl<A: Allocator + Copy> Outbox<A> {
         put_abis(&mut self.messages, chan, text);
     }
 
-    /// DATA REQUEST on the main channel with a message to the mobile.
+    /// DATA REQUEST on the main signalling channel with a message to the mobile.
     pub(crate) fn to_mobile(&mut self, chan: ChanId, message: &Rr)
         requires room { 1 ≤ self.old.room }
         requires timeslot { chan.tn < 8 }
@@ -197,7 +197,7 @@ impl<A: Allocator + Copy> Outbox<A> {
         self.to_mobile(chan, &Rr::ChannelRelease(RrCause(cause)));
     }
 
-    /// DATA REQUEST on the main channel in which octets are passed on unread.
+    /// DATA REQUEST on the main signalling channel in which octets are passed on unread.
     pub(crate) fn data_request(&mut self, chan: ChanId, layer3: &[u8])
         requires room { 1 ≤ self.old.room }
         requires timeslot { chan.tn < 8 }

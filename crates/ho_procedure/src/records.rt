@@ -129,12 +129,12 @@ pub(crate) fn is_own(attempt: Option<Attempt>) -> bool
     }
 }
 
-/// A message can name the target, where it was switched on.
+/// A message can name the target, where it may be active.
 pub(crate) fn names_target(attempt: Option<Attempt>) -> bool
     ensures { result ≡ names_target attempt }
 {
     match attempt {
-        Some(attempt) => !attempt.stage.is_switched_on() || is_named(attempt.target),
+        Some(attempt) => !attempt.stage.may_be_active() || is_named(attempt.target),
         None => true,
     }
 }

@@ -157,7 +157,7 @@ impl<D: DeskView + Drop, A: Allocator + Copy> Work<D, A> {
         self.owed.handover_failure(call, cause, rr);
     }
 
-    /// DATA REQUEST on the main channel in which octets are passed on unread.
+    /// DATA REQUEST on the main signalling channel in which octets are passed on unread.
     #[tactic(auto, using(crate::proofs::Going::posted))]
     pub(crate) fn send_data_request(&mut self, chan: ChanId, layer3: &[u8])
         requires room { 1 ≤ self.old.owed.room }

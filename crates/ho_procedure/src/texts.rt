@@ -3,7 +3,7 @@ ghost use Rattle.std.specs.Prelude.{◌≡◌, ◌∷◌, ◌++◌, ◌+◌, ◌
 ghost use Rattle.rr_messages.specs.Rr.{rr_text};
 ghost use Rattle.rsl_messages.specs.Texts as abis;
 ghost use Rattle.rsl_messages.specs.Messages as abis_messages;
-ghost use Rattle.rsl_messages.specs.Values.{main_channel};
+ghost use Rattle.rsl_messages.specs.Values.{main_signalling};
 ghost use Rattle.bssmap_messages.specs.Texts as interface_a;
 ghost use Rattle.bssmap_messages.specs.Messages as a_messages;
 ghost use Rattle.ho_procedure.specs.Sent.{OnAbis, OnA, all_sent};
@@ -14,7 +14,7 @@ use bssmap_messages::{Bssmap, CellId, encode_request_ack_into, encode_required_i
 use channel_fsm::ChanId;
 use octet_elements::Octets;
 use rr_messages::Rr;
-use rsl_messages::values::MAIN_CHANNEL;
+use rsl_messages::values::MAIN_SIGNALLING;
 use rsl_messages::{ChanBits, Rsl, encode_data_request_into};
 use std::alloc::Allocator;
 
@@ -58,7 +58,7 @@ pub(crate) fn write_rr<A: Allocator + Copy>(message: &Rr, text: &mut Vec<u8, A>)
     }
 }
 
-/// Writes a DATA REQUEST on the main channel, SAPI 0, into a list with room for it.
+/// Writes a DATA REQUEST on the main signalling channel, SAPI 0, into a list with room for it.
 pub(crate) fn write_data_request<A: Allocator>(
     channel: ChanBits,
     layer3: &[u8],
@@ -70,9 +70,9 @@ pub(crate) fn write_data_request<A: Allocator>(
     requires empty { vec_len text.old ≡ 0 }
     requires room { 9 + length layer3.now ≤ vec_capacity text.old }
     ensures { text.new.items ≡ abis.canonical_text {A = Unit}
-        (Rsl.DataRequest channel main_channel layer3.now) }
+        (Rsl.DataRequest channel main_signalling layer3.now) }
 {
-    if encode_data_request_into(channel, MAIN_CHANNEL, layer3, text).is_err() {
+    if encode_data_request_into(channel, MAIN_SIGNALLING, layer3, text).is_err() {
         unreachable!()
     }
 }

@@ -6,7 +6,7 @@ use Rattle.radio_book.specs.State.{empty_book}
 use Rattle.ho_procedure.specs.declared.exchange.Inbound.{Inbound}
 use Rattle.ho_procedure.specs.Going.{last_reports}
 use Rattle.lab_script.specs.declared.side.Side.{Side}
-use Rattle.lab_script.specs.Script.{first_unread, items_of}
+use Rattle.lab_script.specs.Script.{first_unreadable, items_of}
 use Rattle.lab_runs.specs.declared.turn.Turn.{Turn}
 use Rattle.lab_runs.specs.declared.controllers.Controllers.{Controllers}
 use Rattle.lab_runs.specs.declared.course.Course.{Course}
@@ -69,5 +69,5 @@ pub record Played (A : Type 0) (sites : List SiteView) (inputs : List (Side × I
 pub record IsPlayed (A : Type 0) (site : List ℕ) (peer : Option (List ℕ)) (script : List ℕ) : Type 0 where
   pub sites : List SiteView
   pub described : map described_site (site ∷ option_list peer) ≡ map Some sites
-  pub readable : first_unread (is_some peer) script ≡ None
+  pub readable : first_unreadable (is_some peer) script ≡ None
   pub played : Played A sites (inputs_in (items_of script))

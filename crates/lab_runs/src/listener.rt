@@ -32,7 +32,7 @@ pub trait Listener<A: Allocator + Copy> {
     fn hear_no_site(&mut self, fault: SiteFault) -> io::Result<()>;
 
     /// This line of the script, counted from 1, is the first that can't be read.
-    fn hear_unread(&mut self, line: usize) -> io::Result<()>;
+    fn hear_unreadable(&mut self, line: usize) -> io::Result<()>;
 }
 
 /// A listener that prints the trace.
@@ -71,7 +71,7 @@ pub fn print_no_site<W: Write>(out: &mut W, fault: SiteFault) -> io::Result<()> 
 }
 
 /// Prints which line of a script can't be read.
-pub fn print_unread<W: Write>(out: &mut W, line: usize) -> io::Result<()> {
+pub fn print_unreadable<W: Write>(out: &mut W, line: usize) -> io::Result<()> {
     writeln!(out, "line {line}")
 }
 
@@ -92,7 +92,7 @@ impl<W: Write, A: Allocator + Copy> Listener<A> for Printing<'_, W> {
         print_no_site(self.out, fault)
     }
 
-    fn hear_unread(&mut self, line: usize) -> io::Result<()> {
-        print_unread(self.out, line)
+    fn hear_unreadable(&mut self, line: usize) -> io::Result<()> {
+        print_unreadable(self.out, line)
     }
 }

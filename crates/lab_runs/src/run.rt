@@ -2,7 +2,7 @@
 ghost use Rattle.std.specs.Prelude.{◌≡◌, ◌≢◌, ◌⊎◌, ◌∷◌, [], Ok, Err, None, Some, IsSome, IsSomeAnd, IfOk, IfErr, IfSome, is_some, option_map, map};
 ghost use Rattle.cell_table.specs.SiteFile.{described_site, IsBlankFile};
 ghost use Rattle.cell_table.specs.declared.fault.Key.TheVariants.{Handover};
-ghost use Rattle.lab_script.specs.Script.{first_unread, items_of, AreThere};
+ghost use Rattle.lab_script.specs.Script.{first_unreadable, items_of, AreThere};
 ghost use Rattle.lab_runs.specs.Turns.{inputs_in};
 ghost use Rattle.lab_runs.specs.Course.{Played, IsPlayed, IsRunOf, AreOpenings, positions_of, has_peer, option_list};
 ghost use Rattle.lab_runs.specs.Sites.{views_of, texts_of};
@@ -140,16 +140,16 @@ pub fn script_items<A: Allocator + Copy, L: Listener<A>>(
     has_peer: bool,
     listener: &mut L,
 ) -> Result<Option<Vec<Item<A>, A>>, LabFault>
-    ensures read { IfOk result (λ items. IsSome items → first_unread has_peer script.now ≡ None) }
+    ensures read { IfOk result (λ items. IsSome items → first_unreadable has_peer script.now ≡ None) }
     ensures items { IfOk result (λ items. IfSome items (λ found. found.items ≡ items_of script.now)) }
     ensures sides { IfOk result (λ items. IfSome items (λ found. AreThere has_peer found.items)) }
-    ensures refused { IfOk result (λ items. items ≡ None → IsSome (first_unread has_peer script.now)) }
-    ensures memory { result ≡ Err LabFault.NoMemory → first_unread has_peer script.now ≡ None }
+    ensures refused { IfOk result (λ items. items ≡ None → IsSome (first_unreadable has_peer script.now)) }
+    ensures memory { result ≡ Err LabFault.NoMemory → first_unreadable has_peer script.now ≡ None }
 {
     match read_script(alloc, script, has_peer) {
         Ok(items) => Ok(Some(items)),
         Err(ScriptFault::Line(number)) => {
-            listener.hear_unread(number)?;
+            listener.hear_unreadable(number)?;
             Ok(None)
         }
         Err(ScriptFault::NoMemory) => Err(LabFault::NoMemory),
@@ -171,13 +171,13 @@ pub fn play<A: Allocator + Copy, L: Listener<A>>(
     listener: &mut L,
 ) -> Result<Option<Run<A>>, LabFault>
     ensures read { IfOk result (λ run. IsSome run →
-        first_unread (is_some sites.peer) script.now ≡ None) }
+        first_unreadable (is_some sites.peer) script.now ≡ None) }
     ensures ran { IfOk result (λ run. IfSome run
         (λ run. IsRunOf (views_of sites) (inputs_in (items_of script.now)) run)) }
     ensures refused { IfOk result (λ run. run ≡ None →
-        IsSome (first_unread (is_some sites.peer) script.now)) }
+        IsSome (first_unreadable (is_some sites.peer) script.now)) }
     ensures memory { result ≡ Err LabFault.NoMemory →
-        first_unread (is_some sites.peer) script.now ≡ None }
+        first_unreadable (is_some sites.peer) script.now ≡ None }
 {
     let has_peer = sites.peer.is_some();
     let Some(items) = script_items(alloc, script, has_peer, listener)? else {
@@ -279,7 +279,7 @@ pub fn run_for<A: Allocator + Copy, L: Listener<A>>(
     ensures refused { result ≡ Ok Status.Refused →
         (described_site site.now ≡ None)
         ⊎ IsSomeAnd (texts_of peer.entry) (λ text. described_site text ≡ None)
-        ⊎ IsSome (first_unread (is_some peer.entry) script.now) }
+        ⊎ IsSome (first_unreadable (is_some peer.entry) script.now) }
     ensures memory { result ≡ Err LabFault.NoMemory → ¬ IsBlankFile site.now }
 {
     match read_sites(alloc, scratch, site, peer) {
@@ -315,7 +315,7 @@ pub fn lab_run<A: Allocator + Copy, W: Write>(
     ensures refused { result ≡ Ok Status.Refused →
         (described_site site.now ≡ None)
         ⊎ IsSomeAnd (texts_of peer.entry) (λ text. described_site text ≡ None)
-        ⊎ IsSome (first_unread (is_some peer.entry) script.now) }
+        ⊎ IsSome (first_unreadable (is_some peer.entry) script.now) }
     ensures memory { result ≡ Err LabFault.NoMemory → ¬ IsBlankFile site.now }
 {
     run_for(alloc, scratch, site, peer, script, &mut Printing::new(out))

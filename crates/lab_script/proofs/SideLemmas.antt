@@ -8,7 +8,7 @@ use Rattle.lab_script.specs.declared.side.Side.TheVariants.{First, Peer}
 use Rattle.lab_script.specs.declared.script.Given.{Given}
 use Rattle.lab_script.specs.declared.script.Item.{Item}
 use Rattle.lab_script.specs.Sides.{is_for_peer, side_of, text_of, is_there}
-use Rattle.lab_script.specs.Script.{given_by, item_of, items_of, lines_of, is_line, first_line, first_unread, lower, unless_lower, needs_sim, is_sim, AreThere}
+use Rattle.lab_script.specs.Script.{given_by, item_of, items_of, lines_of, is_line, first_line, first_unreadable, lower, unless_lower, needs_sim, is_sim, AreThere}
 
 both : (a b : Bool) → (a && b) ≡ true → (a ≡ true) × (b ≡ true)
 both true b h = (refl, h)
@@ -114,6 +114,6 @@ lower_none (Some n) None e = absurd (search (rules, e))
 lower_none (Some n) (Some m) e = absurd (search (rules, e))
 
 -- all that a script gives is for controllers that are there
-pub all_there : (A : Type 0) (has_peer : Bool) (text : List ℕ) → first_unread has_peer text ≡ None → AreThere has_peer (items_of {A = A} text)
+pub all_there : (A : Type 0) (has_peer : Bool) (text : List ℕ) → first_unreadable has_peer text ≡ None → AreThere has_peer (items_of {A = A} text)
 all_there A has_peer text e =
     items_there A has_peer (lines_of text) (none_fails (is_line has_peer) 1 (lines_of text) (lower_none (first_line (λ line. not (is_line has_peer line)) text) (unless_lower (first_line needs_sim text) (first_line is_sim text)) e))

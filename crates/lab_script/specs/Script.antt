@@ -88,8 +88,8 @@ unless_lower None m = None
 
 -- The number of the first line that can't be read: that is no line at all, or that asks something of the simulators where no
 -- line before it attaches them.
-abbrev pub first_unread : Bool → List ℕ → Option ℕ
-first_unread has_peer text = lower (first_line (λ line. not (is_line has_peer line)) text) (unless_lower (first_line needs_sim text) (first_line is_sim text))
+abbrev pub first_unreadable : Bool → List ℕ → Option ℕ
+first_unreadable has_peer text = lower (first_line (λ line. not (is_line has_peer line)) text) (unless_lower (first_line needs_sim text) (first_line is_sim text))
 
 -- what the lines of a text give, in their order
 abbrev pub items_of : {A : Type 0} → List ℕ → List (Item A)

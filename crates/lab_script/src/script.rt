@@ -296,8 +296,8 @@ fn unless_lower(one: Option<usize>, other: Option<usize>) -> Option<usize>
 
 /// The number of the first line that can't be read, counted from 1: that is none, that is for the peer where there is
 /// none, or that asks something of simulators where no line before it attaches them.
-pub fn first_unread(text: &str, has_peer: bool) -> Option<usize>
-    ensures line { result ≡ said.first_unread has_peer text.now }
+pub fn first_unreadable(text: &str, has_peer: bool) -> Option<usize>
+    ensures line { result ≡ said.first_unreadable has_peer text.now }
 {
     lower(
         first_no_line(has_peer, text),
@@ -343,12 +343,12 @@ pub fn read_script<A: Allocator + Copy>(
 ) -> Result<Vec<Item<A>, A>, ScriptFault>
     ensures items { IfOk result (λ items. items.items ≡ said.items_of text.now) }
     ensures sides { IfOk result (λ items. said.AreThere has_peer items.items) }
-    ensures readable { OnOk result (said.first_unread has_peer text.now ≡ None) }
+    ensures readable { OnOk result (said.first_unreadable has_peer text.now ≡ None) }
     ensures line { (number : ℕ) → (result ≡ Err (ScriptFault.Line number)) ↔
-        (said.first_unread has_peer text.now ≡ Some number) }
+        (said.first_unreadable has_peer text.now ≡ Some number) }
     ensures memory { result ≡ Err ScriptFault.NoMemory → said.items_of {A = A} text.now ≢ [] }
 {
-    if let Some(line) = first_unread(text, has_peer) {
+    if let Some(line) = first_unreadable(text, has_peer) {
         return Err(ScriptFault::Line(line));
     }
     Ok(items(alloc, text)?)

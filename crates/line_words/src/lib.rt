@@ -15,5 +15,5 @@ mod words;
 pub use calls::Calls;
 pub use content::{Content, Place, content_of};
 pub use names::message_name;
-pub use state::Held;
+pub use state::StateLines;
 pub use words::{print_ignored, print_words};

@@ -22,7 +22,7 @@ struct Named<A: Allocator + Copy = Global> {
 
 /// The same of one controller or two.
 #[derive(Drop)]
-pub struct Held<A: Allocator + Copy = Global> {
+pub struct StateLines<A: Allocator + Copy = Global> {
     first: Named<A>,
     peer: Named<A>,
 }
@@ -132,10 +132,10 @@ impl<A: Allocator + Copy> Named<A> {
     }
 }
 
-impl<A: Allocator + Copy> Held<A> {
+impl<A: Allocator + Copy> StateLines<A> {
     /// Nothing was asked of any book.
-    pub fn new(alloc: A) -> Held<A> {
-        Held {
+    pub fn new(alloc: A) -> StateLines<A> {
+        StateLines {
             first: Named::new(alloc),
             peer: Named::new(alloc),
         }

@@ -138,16 +138,16 @@ is_over : (a b : ℕ) → a < b → not (nat_lt a b) ≡ false
 is_over a b h = ap not (lt-ltb a b h)
 
 -- a line that is too long can't be read
-pub long_unread : (has_sim : Bool) (line : List ℕ) → longest_line < length line → can_be_read has_sim line ≡ false
+pub long_unreadable : (has_sim : Bool) (line : List ℕ) → longest_line < length line → can_be_read has_sim line ≡ false
 unfolding is_text
-long_unread has_sim line long = and_no _ _ (and_no _ _ (and_no _ _ (is_over longest_line (length line) long)))
+long_unreadable has_sim line long = and_no _ _ (and_no _ _ (and_no _ _ (is_over longest_line (length line) long)))
 
-pub unread_gives_none : {A : Type 0} (has_sim : Bool) (line : List ℕ) → can_be_read has_sim line ≡ false → inputs_at {A = A} has_sim line ≡ []
-unread_gives_none {A = A} has_sim line e = ap (λ b. cond b (inputs_in (items_at {A = A} line)) []) e
+pub unreadable_gives_none : {A : Type 0} (has_sim : Bool) (line : List ℕ) → can_be_read has_sim line ≡ false → inputs_at {A = A} has_sim line ≡ []
+unreadable_gives_none {A = A} has_sim line e = ap (λ b. cond b (inputs_in (items_at {A = A} line)) []) e
 
-pub unread_attaches_none : (line : List ℕ) → can_be_read false line ≡ false → attaches line ≡ false
+pub unreadable_attaches_none : (line : List ℕ) → can_be_read false line ≡ false → attaches line ≡ false
 unfolding attaches
-unread_attaches_none line e = no_and _ _ e
+unreadable_attaches_none line e = no_and _ _ e
 
 pub long_behind : (has_sim : Bool) (line : List ℕ) → longest_line < length line → sim_behind has_sim line ≡ has_sim
-long_behind has_sim line long = ap (λ b. has_sim || b) (unread_attaches_none line (long_unread false line long)) ∙ or_false has_sim
+long_behind has_sim line long = ap (λ b. has_sim || b) (unreadable_attaches_none line (long_unreadable false line long)) ∙ or_false has_sim

@@ -21,12 +21,12 @@ use Rattle.lab_script.specs.declared.script.Item.{Item}
 use Rattle.lab_script.specs.Sides.{side_of, text_of}
 use Rattle.lab_script.specs.Words.{words_of}
 use Rattle.lab_script.specs.Stations.{setting_line, hangup_line}
-use Rattle.lab_script.specs.Script.{is_sim, is_line, needs_sim, input_of, item_of, items_of, lines_of, lower, unless_lower, first_unread, is_item_there, AreThere}
+use Rattle.lab_script.specs.Script.{is_sim, is_line, needs_sim, input_of, item_of, items_of, lines_of, lower, unless_lower, first_unreadable, is_item_there, AreThere}
 use Rattle.lab_runs.specs.Turns.{inputs_in}
 use Rattle.live_runs.specs.declared.line.Said.{Said}
-use Rattle.live_runs.specs.declared.line.Said.TheVariants.{Unread, Nothing, Gives}
+use Rattle.live_runs.specs.declared.line.Said.TheVariants.{Unreadable, Nothing, Gives}
 use Rattle.live_runs.specs.Lines.{script_line, is_text, is_readable, can_be_read, items_at, items_behind, inputs_at, attaches, sim_behind, is_attach, is_read, items_said, sim_said, is_there_said, IsLastOf, Says}
-use Rattle.live_runs.proofs.InputFacts.{and_no, no_and, both_are, unread_gives_none, unread_attaches_none}
+use Rattle.live_runs.proofs.InputFacts.{and_no, no_and, both_are, unreadable_gives_none, unreadable_attaches_none}
 
 -- a text without a line feed has one line
 one_line : (text : List ℕ) → list_any is_feed text ≡ false → lines_of text ≡ script_line text ∷ []
@@ -49,7 +49,7 @@ one_is_read false true false = refl
 one_is_read false false true = refl
 one_is_read false false false = refl
 
-pub alone_read : (text : List ℕ) → list_any is_feed text ≡ false → is_none (first_unread false text) ≡ is_readable false text
+pub alone_read : (text : List ℕ) → list_any is_feed text ≡ false → is_none (first_unreadable false text) ≡ is_readable false text
 unfolding is_readable
 alone_read text none = ap is_read_whole (one_line text none) ∙ one_is_read (is_line false (script_line text)) (needs_sim (script_line text)) (is_sim (script_line text))
 
@@ -59,11 +59,11 @@ second_is_read true false = refl
 second_is_read false true = refl
 second_is_read false false = refl
 
-pub behind_read : (text : List ℕ) → list_any is_feed text ≡ false → is_none (first_unread false (codes "sim\n" ++ text)) ≡ is_readable true text
+pub behind_read : (text : List ℕ) → list_any is_feed text ≡ false → is_none (first_unreadable false (codes "sim\n" ++ text)) ≡ is_readable true text
 unfolding is_readable
 behind_read text none = ap is_read_whole (two_lines text none) ∙ second_is_read (is_line false (script_line text)) (needs_sim (script_line text))
 
--- where a first unread line was found, or none
+-- where a first unreadable line was found, or none
 pub is_none_none : (s : Option ℕ) → s ≡ None → is_none s ≡ true
 is_none_none s e = ap is_none e
 
@@ -130,7 +130,7 @@ record Last {A : Type 0} (o : Option (Item A)) (s : Said A) : Type 0 where
   pub read : is_read s ≡ true
 
 last_alone : {A : Type 0} (o : Option (Item A)) (items : List (Item A)) (s : Said A) → items ≡ cons_option o [] → IsLastOf items s → Last o s
-last_alone o items Unread e h = absurd h
+last_alone o items Unreadable e h = absurd h
 last_alone None items Nothing e h = record { items = refl; attaches = refl; read = refl }
 last_alone None items (Gives item) e (front, h) = absurd (omega (arith, ap length (sym e ∙ h), length_push front item))
 last_alone (Some i) items Nothing e h = let bad : i ∷ [] ≡ [] = sym e ∙ h in absurd cc
@@ -147,7 +147,7 @@ of_first true b e = refl
 of_first false b e = e
 
 alone_there : {A : Type 0} (o : Option (Item A)) (items : List (Item A)) (s : Said A) → items ≡ cons_option o [] → AreThere false items → Last o s → is_there_said s ≡ true
-alone_there o items Unread e there h = refl
+alone_there o items Unreadable e there h = refl
 alone_there o items Nothing e there h = refl
 alone_there None items (Gives item) e there h = let bad : item ∷ [] ≡ [] = h.items in absurd cc
 alone_there {A = A} (Some i) items (Gives item) e there h =
@@ -169,17 +169,17 @@ list_option None = refl
 list_option (Some x) = refl
 
 -- a line that can't be read says nothing
-pub says_unread : {A : Type 0} (has_sim : Bool) (line : List ℕ) → can_be_read has_sim line ≡ false → Says {A = A} has_sim line Unread
-says_unread {A = A} has_sim line e = record {
+pub says_unreadable : {A : Type 0} (has_sim : Bool) (line : List ℕ) → can_be_read has_sim line ≡ false → Says {A = A} has_sim line Unreadable
+says_unreadable {A = A} has_sim line e = record {
   read = sym e;
-  inputs = sym (unread_gives_none {A = A} has_sim line e);
-  sim = unread_sim has_sim line e;
+  inputs = sym (unreadable_gives_none {A = A} has_sim line e);
+  sim = unreadable_sim has_sim line e;
   there = refl;
 }
   where
-    unread_sim : (b : Bool) (line : List ℕ) → can_be_read b line ≡ false → b ≡ sim_behind b line
-    unread_sim true line e = refl
-    unread_sim false line e = sym (unread_attaches_none line e)
+    unreadable_sim : (b : Bool) (line : List ℕ) → can_be_read b line ≡ false → b ≡ sim_behind b line
+    unreadable_sim true line e = refl
+    unreadable_sim false line e = sym (unreadable_attaches_none line e)
 
 -- one that can be, alone
 says_alone : {A : Type 0} (line : List ℕ) (items : List (Item A)) (s : Said A) → can_be_read false line ≡ true → items ≡ items_behind false line
@@ -203,7 +203,7 @@ record LastBehind {A : Type 0} (o : Option (Item A)) (s : Said A) : Type 0 where
   pub there : is_there_said s ≡ true
 
 last_behind : {A : Type 0} (o : Option (Item A)) (items : List (Item A)) (s : Said A) → items ≡ attach ∷ cons_option o [] → AreThere false items → IsLastOf items s → LastBehind o s
-last_behind o items Unread e there h = absurd h
+last_behind o items Unreadable e there h = absurd h
 last_behind o items Nothing e there h = let bad : attach ∷ cons_option o [] ≡ [] = sym e ∙ h in absurd cc
 last_behind {A = A} None items (Gives item) e there (front, h) =
     let same : attach ≡ item = (same_from_push [] front attach item (sym e ∙ h)).1 in
@@ -217,7 +217,7 @@ last_behind {A = A} (Some i) items (Gives item) e there (front, h) =
     }
 
 sim_stays : {A : Type 0} (s : Said A) → sim_said true s ≡ true
-sim_stays Unread = refl
+sim_stays Unreadable = refl
 sim_stays Nothing = refl
 sim_stays (Gives item) = refl
 

@@ -17,7 +17,7 @@ use Rattle.lab_script.specs.declared.script.Item.{Item}
 use Rattle.live_runs.specs.declared.line.Said.TheVariants as said
 use Rattle.live_runs.specs.Lines.{can_be_read, inputs_at, sim_behind, inputs_from, is_attach, Says}
 use Rattle.live_runs.specs.Live.{Goes, Takes, TakesFirst, TakesAll}
-use Rattle.live_runs.proofs.InputFacts.{from_first, none_from, long_unread, long_behind, unread_gives_none}
+use Rattle.live_runs.proofs.InputFacts.{from_first, none_from, long_unreadable, long_behind, unreadable_gives_none}
 
 -- nothing was handled
 pub stayed : {A : Type 0} (s s' : Live A) → s'.course.controllers ≡ s.course.controllers → Goes [] s s'
@@ -47,9 +47,9 @@ goes_on {A = A} inputs more s s' s'' h k = record {
 }
 
 -- a line that can't be read changes nothing
-pub unread_takes : {A : Type 0} (line : List ℕ) (s s' : Live A) → s' ≡ s → can_be_read s.has_sim line ≡ false → s.has_sim ≡ sim_behind s.has_sim line → Takes line s s'
-unread_takes {A = A} line s s' same unread sim = subst (λ (t : Live A). Takes line s t) (sym same) (record {
-  goes = subst (λ (l : List (Side × Inbound A)). Goes l s s) (sym (unread_gives_none {A = A} s.has_sim line unread)) (stayed s s refl);
+pub unreadable_takes : {A : Type 0} (line : List ℕ) (s s' : Live A) → s' ≡ s → can_be_read s.has_sim line ≡ false → s.has_sim ≡ sim_behind s.has_sim line → Takes line s s'
+unreadable_takes {A = A} line s s' same unreadable sim = subst (λ (t : Live A). Takes line s t) (sym same) (record {
+  goes = subst (λ (l : List (Side × Inbound A)). Goes l s s) (sym (unreadable_gives_none {A = A} s.has_sim line unreadable)) (stayed s s refl);
   sim = sim;
 })
 
@@ -72,8 +72,8 @@ gives_takes {A = A} line item s s' h goes sim = record {
 pub long_takes : {A : Type 0} (line kept : List ℕ) (s s' : Live A) → longest_line < length line → kept ≡ take most_kept line → Takes kept s s' → Takes line s s'
 long_takes {A = A} line kept s s' long is h =
     let over : longest_line < length kept = omega (arith, long, ap length is, length-take most_kept line) in
-    let none : inputs_at {A = A} s.has_sim line ≡ [] = unread_gives_none {A = A} s.has_sim line (long_unread s.has_sim line long) in
-    let as_little : inputs_at {A = A} s.has_sim kept ≡ [] = unread_gives_none {A = A} s.has_sim kept (long_unread s.has_sim kept over) in
+    let none : inputs_at {A = A} s.has_sim line ≡ [] = unreadable_gives_none {A = A} s.has_sim line (long_unreadable s.has_sim line long) in
+    let as_little : inputs_at {A = A} s.has_sim kept ≡ [] = unreadable_gives_none {A = A} s.has_sim kept (long_unreadable s.has_sim kept over) in
     record {
       goes = subst (λ (l : List (Side × Inbound A)). Goes l s s') (as_little ∙ sym none) h.goes;
       sim = h.sim ∙ (long_behind s.has_sim kept over ∙ sym (long_behind s.has_sim line long));

@@ -70,31 +70,31 @@ is_attach (HangUp call) = false
 
 -- the last of some items
 abbrev pub IsLastOf : {A : Type 0} → List (Item A) → Said A → Type 0
-IsLastOf items said.Unread = ⊥
+IsLastOf items said.Unreadable = ⊥
 IsLastOf items said.Nothing = items ≡ []
 IsLastOf {A} items (said.Gives item) = (front : List (Item A)) × (items ≡ front ++ item ∷ [])
 
 -- the line was read
 abbrev pub is_read : {A : Type 0} → Said A → Bool
-is_read said.Unread = false
+is_read said.Unreadable = false
 is_read said.Nothing = true
 is_read (said.Gives item) = true
 
 -- what it gives
 abbrev pub items_said : {A : Type 0} → Said A → List (Item A)
-items_said said.Unread = []
+items_said said.Unreadable = []
 items_said said.Nothing = []
 items_said (said.Gives item) = item ∷ []
 
 -- whether simulators are attached behind it
 abbrev pub sim_said : {A : Type 0} → Bool → Said A → Bool
-sim_said has_sim said.Unread = has_sim
+sim_said has_sim said.Unreadable = has_sim
 sim_said has_sim said.Nothing = has_sim
 sim_said has_sim (said.Gives item) = has_sim || is_attach item.given
 
 -- what it gives is for the one controller
 abbrev pub is_there_said : {A : Type 0} → Said A → Bool
-is_there_said said.Unread = true
+is_there_said said.Unreadable = true
 is_there_said said.Nothing = true
 is_there_said (said.Gives item) = is_item_there false item
 

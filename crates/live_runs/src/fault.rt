@@ -54,7 +54,7 @@ impl From<LabFault> for LiveFault {
 }
 
 /// Why a line wasn't read.
-pub(crate) fn unread_line(error: io::Error) -> LiveFault {
+pub(crate) fn unreadable_line(error: io::Error) -> LiveFault {
     if error.kind() == io::ErrorKind::OutOfMemory {
         LiveFault::NoMemory
     } else {

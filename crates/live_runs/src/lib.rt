@@ -2,7 +2,7 @@
 //! of it before the next is read.
 //!
 //! A line is read by the rules of scripts (`line`). One that can't be read changes nothing; which it is, and why, is said
-//! (`unread`). A live controller is one over its book, with the simulators around it once a line attached them (`taking`);
+//! (`unreadable`). A live controller is one over its book, with the simulators around it once a line attached them (`taking`);
 //! no turn of it is kept. It takes the lines of a reader, which may give them in pieces, to their end (`lines`).
 #![tactic(auto)]
 
@@ -11,10 +11,10 @@ mod line;
 mod lines;
 mod listener;
 mod taking;
-mod unread;
+mod unreadable;
 
 pub use fault::LiveFault;
 pub use lines::live_run;
 pub use listener::{LiveListener, LivePrinting};
 pub use taking::Live;
-pub use unread::{Unread, unread_of};
+pub use unreadable::{Unreadable, unreadable_of};

@@ -14,7 +14,7 @@ use std::str;
 #[derive(Drop)]
 pub(crate) enum Said<A: Allocator = Global> {
     /// It can't be read.
-    Unread,
+    Unreadable,
     /// It gives nothing.
     Nothing,
     /// It gives this.
@@ -61,7 +61,7 @@ fn items_alone<A: Allocator + Copy>(alloc: A, line: &str) -> Result<Vec<Item<A>,
     ensures items { IfOk result (λ items. items.items ≡ items_behind false line.now) }
     ensures sides { IfOk result (λ items. AreThere false items.items) }
     ensures read { OnOk result (is_readable false line.now ≡ true) }
-    ensures unread { (number : ℕ) → result ≡ Err (ScriptFault.Line number) →
+    ensures unreadable { (number : ℕ) → result ≡ Err (ScriptFault.Line number) →
         is_readable false line.now ≡ false }
 {
     read_script(alloc, line, false)
@@ -76,7 +76,7 @@ fn items_behind_sim<A: Allocator + Copy>(
     ensures items { IfOk result (λ items. items.items ≡ items_behind true line.now) }
     ensures sides { IfOk result (λ items. AreThere false items.items) }
     ensures read { OnOk result (is_readable true line.now ≡ true) }
-    ensures unread { (number : ℕ) → result ≡ Err (ScriptFault.Line number) →
+    ensures unreadable { (number : ℕ) → result ≡ Err (ScriptFault.Line number) →
         is_readable true line.now ≡ false }
 {
     let mut script = String::from_str(alloc, SIM_LINE)?;
@@ -94,7 +94,7 @@ fn items_behind<A: Allocator + Copy>(
     ensures items { IfOk result (λ items. items.items ≡ items_behind has_sim line.now) }
     ensures sides { IfOk result (λ items. AreThere false items.items) }
     ensures read { OnOk result (is_readable has_sim line.now ≡ true) }
-    ensures unread { (number : ℕ) → result ≡ Err (ScriptFault.Line number) →
+    ensures unreadable { (number : ℕ) → result ≡ Err (ScriptFault.Line number) →
         is_readable has_sim line.now ≡ false }
 {
     if has_sim {
@@ -126,7 +126,7 @@ fn read_text<A: Allocator + Copy>(
 {
     match items_behind(alloc, line, has_sim) {
         Ok(items) => Ok(last_said(items)),
-        Err(ScriptFault::Line(_number)) => Ok(Said::Unread),
+        Err(ScriptFault::Line(_number)) => Ok(Said::Unreadable),
         Err(ScriptFault::NoMemory) => Err(AllocError),
     }
 }
@@ -141,6 +141,6 @@ pub(crate) fn read_line<A: Allocator + Copy>(
 {
     match text_of(line) {
         Some(text) => read_text(alloc, text, has_sim),
-        None => Ok(Said::Unread),
+        None => Ok(Said::Unreadable),
     }
 }

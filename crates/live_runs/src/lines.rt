@@ -6,10 +6,10 @@ ghost use Rattle.lab_runs.specs.Course.{Played, has_peer};
 ghost use Rattle.live_runs.specs.Lines.{inputs_from};
 ghost use Rattle.live_runs.specs.Live.{Takes, TakesFirst, TakesAll};
 
-use crate::fault::{LiveFault, unread_line};
+use crate::fault::{LiveFault, unreadable_line};
 use crate::listener::LiveListener;
 use crate::taking::Live;
-use crate::unread::unread_of;
+use crate::unreadable::unreadable_of;
 use cell_table::Site;
 use decoded_lines::{Found, next_line};
 use std::alloc::{Allocator, Global};
@@ -25,7 +25,7 @@ fn read_next<A: Allocator, R: BufRead>(
 {
     match next_line(reader, line) {
         Ok(found) => Ok(found),
-        Err(error) => Err(unread_line(error)),
+        Err(error) => Err(unreadable_line(error)),
     }
 }
 
@@ -37,9 +37,9 @@ fn refuse<A: Allocator + Copy, L: LiveListener<A>, E: Write>(
     listener: &mut L,
     errors: &mut E,
 ) -> Result<(), LiveFault> {
-    listener.hear_unread(number)?;
-    if let Some(unread) = unread_of(line, has_sim) {
-        writeln!(errors, "standard input:{number}: {unread}")?;
+    listener.hear_unreadable(number)?;
+    if let Some(unreadable) = unreadable_of(line, has_sim) {
+        writeln!(errors, "standard input:{number}: {unreadable}")?;
     }
     Ok(())
 }

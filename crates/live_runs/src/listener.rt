@@ -49,8 +49,8 @@ impl<W: Write, A: Allocator + Copy> Listener<A> for LivePrinting<'_, W> {
         Listener::<A>::hear_no_site(&mut Printing::new(self.out), fault)
     }
 
-    fn hear_unread(&mut self, line: usize) -> io::Result<()> {
-        Listener::<A>::hear_unread(&mut Printing::new(self.out), line)
+    fn hear_unreadable(&mut self, line: usize) -> io::Result<()> {
+        Listener::<A>::hear_unreadable(&mut Printing::new(self.out), line)
     }
 }
 

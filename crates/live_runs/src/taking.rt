@@ -75,11 +75,11 @@ impl<A: Allocator + Copy> Live<A> {
         requires alone { has_peer self.old.course ≡ false }
         ensures takes { OnOk result (Takes line.now self.old self.new) }
         ensures read { IfOk result (λ read. read ≡ can_be_read self.old.has_sim line.now) }
-        ensures unread { result ≡ Ok false → self.new ≡ self.old }
+        ensures unreadable { result ≡ Ok false → self.new ≡ self.old }
     {
         let said = read_line(self.alloc, line, self.has_sim)?;
         match said {
-            Said::Unread => Ok(false),
+            Said::Unreadable => Ok(false),
             Said::Nothing => Ok(true),
             Said::Gives(item) => {
                 self.follow(item, listener)?;

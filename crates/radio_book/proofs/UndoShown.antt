@@ -27,7 +27,7 @@ use Rattle.radio_book.specs.Run.{run_book}
 use Rattle.radio_book.specs.Kinds.{Undoes, is_accepted}
 use Rattle.radio_book.specs.Others.{IsHeldReference, IsOpen, number_after}
 use Rattle.radio_book.specs.Undone.{Undone, IsUndoneAttempt, Ends, is_off, is_target_off}
-use Rattle.radio_book.specs.Following.{is_switched_on, leaves_off}
+use Rattle.radio_book.specs.Following.{may_be_active, leaves_off}
 use Rattle.radio_book.proofs.SoundSteps.{sound_step}
 use Rattle.radio_book.proofs.OwnSteps.{openings_add_the_attempt}
 use Rattle.radio_book.proofs.StepFacts.{Runs, runs_from, runs_on, runs_parts, run_of, sound_after}
@@ -81,7 +81,7 @@ by_none : (target : Option ChanId) (look : ChanId → ChanState) (c : ℕ) → H
 by_none None look c has = refl
 by_none (Some t) look c has = absurd has
 
-by_stage : (g : Stage) (c : ℕ) (target : Option ChanId) (look : ChanId → ChanState) → HasTarget c (stage_row g).target target look → (stage_row g).switched_on ≡ off_left target look
+by_stage : (g : Stage) (c : ℕ) (target : Option ChanId) (look : ChanId → ChanState) → HasTarget c (stage_row g).target target look → (stage_row g).may_be_active ≡ off_left target look
 by_stage Taken c target look has = by_state target look c Held false refl has
 by_stage Reserved c target look has = by_state target look c Held false refl has
 by_stage Sent c target look has = by_state target look c Pending true refl has
@@ -102,11 +102,11 @@ module _ (c : ℕ) (target : Option ChanId) (number : Option ℕ) (b : State) (s
   a = opened.attempt
 
   abbrev Shows : Reply → Type 0
-  Shows reply = leaves_off reply ≡ (stage_row a.stage).switched_on
+  Shows reply = leaves_off reply ≡ (stage_row a.stage).may_be_active
 
   by_attempt : (refusal : Refusal) → Shows (reply_of (undo_attempt c refusal r r.attempt (state_of b) (map.get b.timers c)))
   by_attempt refusal =
-      ap (λ o. leaves_off (reply_of (undo_attempt c refusal r o (state_of b) (map.get b.timers c)))) opened.of_record ∙ ap is_switched_on opened.of_record
+      ap (λ o. leaves_off (reply_of (undo_attempt c refusal r o (state_of b) (map.get b.timers c)))) opened.of_record ∙ ap may_be_active opened.of_record
 
   guarded : (armed : Bool) → IsTrue (is_accepted (reply_of (needs armed NotArmed (undo_attempt c NotArmed r r.attempt (state_of b) (map.get b.timers c))))) →
       Shows (reply_of (needs armed NotArmed (undo_attempt c NotArmed r r.attempt (state_of b) (map.get b.timers c))))

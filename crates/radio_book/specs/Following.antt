@@ -22,14 +22,14 @@ use Rattle.radio_book.specs.Found.{opened_by, undone_by, ends}
 
 -- WHAT AN UNDO SHOWS
 
-abbrev pub is_switched_on : Option Attempt → Bool
-is_switched_on None = false
-is_switched_on (Some a) = (stage_row a.stage).switched_on
+abbrev pub may_be_active : Option Attempt → Bool
+may_be_active None = false
+may_be_active (Some a) = (stage_row a.stage).may_be_active
 
--- the record that an undo shows, as it was before, says whether its target is left off: where the attempt's stage is switched on
+-- the record that an undo shows, as it was before, says whether its target is left off: where by its stage it may be active
 abbrev pub leaves_off : Reply → Bool
 leaves_off Done = false
-leaves_off (Record r state) = is_switched_on r.attempt
+leaves_off (Record r state) = may_be_active r.attempt
 leaves_off (Owned c) = false
 leaves_off (Refused why) = false
 

@@ -66,7 +66,7 @@ impl<A: Allocator> PartialEq for Book<A> {
         ensures value { result ≡ is_same state_code self.now other.now }
         ensures same { IsTrue result ↔ (self.now ≡ other.now) }
     {
-        self.records.same(&other.records)
+        self.records.is_same(&other.records)
     }
 }
 

@@ -5,7 +5,7 @@ ghost use Rattle.radio_tables.specs.Stages.{stage_row};
 ghost use Rattle.radio_book.specs.Table.{reference_held};
 ghost use Rattle.radio_book.specs.Undone.{is_call, is_channel, is_reference, is_on_target, reserves, releases, comes_from};
 ghost use Rattle.radio_book.specs.Found.{ends};
-ghost use Rattle.radio_book.specs.Following.{is_switched_on, leaves_off, stays, refused_in, holds, number_with, ended_with, after, opening_of, is_over, is_settled_in, is_undone_in, settles};
+ghost use Rattle.radio_book.specs.Following.{may_be_active, leaves_off, stays, refused_in, holds, number_with, ended_with, after, opening_of, is_over, is_settled_in, is_undone_in, settles};
 
 use crate::event::{Attempt, Reference, Refusal, Reply};
 use crate::kinds::{
@@ -133,11 +133,11 @@ fn reference_held(target: Option<ChanId>, number: Option<u8>) -> Option<Referenc
 }
 
 /// The station may have activated the target of the attempt, if there is one.
-fn is_switched_on(attempt: Option<Attempt>) -> bool
-    ensures { result ≡ is_switched_on attempt }
+fn may_be_active(attempt: Option<Attempt>) -> bool
+    ensures { result ≡ may_be_active attempt }
 {
     match attempt {
-        Some(attempt) => attempt.stage.is_switched_on(),
+        Some(attempt) => attempt.stage.may_be_active(),
         None => false,
     }
 }
@@ -147,7 +147,7 @@ fn leaves_off(reply: Reply) -> bool
     ensures { result ≡ leaves_off reply }
 {
     match reply {
-        Reply::Record(record, _) => is_switched_on(record.attempt),
+        Reply::Record(record, _) => may_be_active(record.attempt),
         Reply::Done | Reply::Owned(_) | Reply::Refused(_) => false,
     }
 }

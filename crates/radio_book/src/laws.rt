@@ -45,7 +45,7 @@ pub fn undone_attempts_leave_no_trace()
 {}
 
 /// The record that an undo shows, as it was before, says whether the undo left the attempt's target off, so that a release is
-/// awaited: where the attempt's stage is switched on.
+/// awaited: where by its stage it may be active.
 pub fn undos_show_their_targets()
     ensures shown { UndosShowTheirTargets }
 {}

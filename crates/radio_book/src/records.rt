@@ -54,10 +54,10 @@ impl<T: Tables> Records<T> {
     }
 
     /// Whether two of them say the same. Takes no memory.
-    pub fn same(&self, other: &Records<T>) -> bool
+    pub fn is_same(&self, other: &Records<T>) -> bool
         ensures { IsTrue result ↔ (self.now ≡ other.now) }
     {
-        self.tables.same(&other.tables)
+        self.tables.is_same(&other.tables)
     }
 
     /// How many channels aren't free.
@@ -93,7 +93,7 @@ impl<T: Tables> Records<T> {
         ensures found { IfSome result (λ x. IsFreeAt self.now cell rate x) }
         ensures none { IfNone result (NoneFreeAt self.now cell rate) }
     {
-        self.tables.lowest_free(cell, rate)
+        self.tables.some_free(cell, rate)
     }
 
     /// How many traffic channels of the cell are free.
@@ -101,7 +101,7 @@ impl<T: Tables> Records<T> {
         ensures count { IsFreeCount self.now cell result }
         ensures none { (result ≡ 0) ↔ NoneFree self.now cell }
     {
-        self.tables.free_count(cell)
+        self.tables.free_in(cell)
     }
 
     /// What the table says. Memory may be refused to an event that begins a call; to another, only where it may be refused to

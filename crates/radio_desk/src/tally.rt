@@ -1,7 +1,7 @@
 //! What a history tells of calls and handovers.
 ghost use Rattle.std.specs.Prelude.{◌≡◌, ◌&&◌};
 ghost use Rattle.radio_book.specs.Kinds.{is_accepted};
-ghost use Rattle.radio_desk.specs.Tally.{marks_of, count_of};
+ghost use Rattle.radio_desk.specs.Tally.{milestones_of, count_of};
 
 use radio_book::event::{Event, Reply};
 
@@ -20,7 +20,7 @@ pub struct Tally {
 
 /// What an event begins or ends, once it is accepted.
 #[derive(Clone, Copy, Debug, PartialEq, Eq)]
-pub struct Marks {
+pub struct Milestones {
     /// A call is opened.
     pub call: bool,
     /// An attempt at handover begins.
@@ -32,7 +32,7 @@ pub struct Marks {
 }
 
 /// Nothing begins or ends.
-const NOTHING: Marks = Marks {
+const NOTHING: Milestones = Milestones {
     call: false,
     attempt: false,
     completed: false,
@@ -40,23 +40,23 @@ const NOTHING: Marks = Marks {
 };
 
 /// What an event begins or ends, once it is accepted.
-fn marks_of(event: Event) -> Marks
-    ensures { result ≡ marks_of event }
+fn milestones_of(event: Event) -> Milestones
+    ensures { result ≡ milestones_of event }
 {
     match event {
-        Event::Open(..) => Marks {
+        Event::Open(..) => Milestones {
             call: true,
             ..NOTHING
         },
-        Event::Take(..) | Event::Require(_) => Marks {
+        Event::Take(..) | Event::Require(_) => Milestones {
             attempt: true,
             ..NOTHING
         },
-        Event::Complete(_) => Marks {
+        Event::Complete(_) => Milestones {
             completed: true,
             ..NOTHING
         },
-        Event::Undo(..) => Marks {
+        Event::Undo(..) => Milestones {
             undone: true,
             ..NOTHING
         },
@@ -92,9 +92,9 @@ pub(crate) fn tally_of(history: &[(Event, Reply)]) -> Tally
 
 /// A call was opened.
 fn began_call(event: Event, reply: Reply) -> bool
-    ensures { result ≡ (is_accepted reply && (marks_of event).call) }
+    ensures { result ≡ (is_accepted reply && (milestones_of event).call) }
 {
-    reply.is_accepted() && marks_of(event).call
+    reply.is_accepted() && milestones_of(event).call
 }
 
 fn calls_in(history: &[(Event, Reply)]) -> usize
@@ -108,9 +108,9 @@ fn calls_in(history: &[(Event, Reply)]) -> usize
 
 /// An attempt began.
 fn began_attempt(event: Event, reply: Reply) -> bool
-    ensures { result ≡ (is_accepted reply && (marks_of event).attempt) }
+    ensures { result ≡ (is_accepted reply && (milestones_of event).attempt) }
 {
-    reply.is_accepted() && marks_of(event).attempt
+    reply.is_accepted() && milestones_of(event).attempt
 }
 
 fn attempts_in(history: &[(Event, Reply)]) -> usize
@@ -124,9 +124,9 @@ fn attempts_in(history: &[(Event, Reply)]) -> usize
 
 /// An attempt was completed.
 fn completed_attempt(event: Event, reply: Reply) -> bool
-    ensures { result ≡ (is_accepted reply && (marks_of event).completed) }
+    ensures { result ≡ (is_accepted reply && (milestones_of event).completed) }
 {
-    reply.is_accepted() && marks_of(event).completed
+    reply.is_accepted() && milestones_of(event).completed
 }
 
 fn completed_in(history: &[(Event, Reply)]) -> usize
@@ -140,9 +140,9 @@ fn completed_in(history: &[(Event, Reply)]) -> usize
 
 /// An attempt was taken back.
 fn undid_attempt(event: Event, reply: Reply) -> bool
-    ensures { result ≡ (is_accepted reply && (marks_of event).undone) }
+    ensures { result ≡ (is_accepted reply && (milestones_of event).undone) }
 {
-    reply.is_accepted() && marks_of(event).undone
+    reply.is_accepted() && milestones_of(event).undone
 }
 
 fn undone_in(history: &[(Event, Reply)]) -> usize

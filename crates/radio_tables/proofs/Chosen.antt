@@ -16,7 +16,7 @@ use Rattle.channel_fsm.specs.Slots.{rate_of}
 use Rattle.cell_table.specs.Site.{IsWithinLimits, TrafficLiesWithin, is_traffic}
 use Rattle.radio_tables.specs.State.{State}
 use Rattle.radio_tables.specs.Choice.{in_way, IsFreeIn, IsFreeAt, NoneFree, NoneFreeAt}
-use Rattle.radio_tables.specs.Places.{channels_of, sub_at, is_free_traffic, has_rate, is_free_at, free_count}
+use Rattle.radio_tables.specs.Places.{channels_of, sub_at, is_free_traffic, has_rate, is_free_at, free_in}
 use Rattle.std.proofs.lemmas.Option.{same_Some}
 use Rattle.std.specs.List.{AllByRecursion}
 use Rattle.std.proofs.lemmas.List.Elements.{All-get_or, All-from_recursion}
@@ -160,7 +160,7 @@ none_in : (b : State) (cell : ℕ) → TrafficLiesWithin b.site → find (is_fre
 none_in b cell site e x free =
     false≢true (sym (fails (is_free_traffic b) cell e x free.in_cell (site x free.is_traffic)) ∙ passes_in b cell x free)
 
-pub counted_all : (b : State) (cell place : ℕ) → 96 ≤ place → count_by (is_free_traffic b) (take place (channels_of cell)) ≡ free_count b cell
+pub counted_all : (b : State) (cell place : ℕ) → 96 ≤ place → count_by (is_free_traffic b) (take place (channels_of cell)) ≡ free_in b cell
 counted_all b cell place h = ap (count_by (is_free_traffic b)) (take_all place (channels_of cell) (omega (arith, h, channels_length cell)))
 
 -- what was searched for is told by what was found
@@ -194,12 +194,12 @@ none_counted p (x ∷ xs) e =
       | false ↦ λ step none. let rest = none_counted p xs none in omega arith
     ] (sum_by-cons (λ y. cond (p y) 1 0) x xs) e
 
-pub count_from_none : (b : State) (cell : ℕ) → NoneFree b cell → free_count b cell ≡ 0
+pub count_from_none : (b : State) (cell : ℕ) → NoneFree b cell → free_in b cell ≡ 0
 count_from_none b cell none = by_found (find (is_free_traffic b) (channels_of cell)) refl
   where
-    by_found : (o : Option ChanId) → find (is_free_traffic b) (channels_of cell) ≡ o → free_count b cell ≡ 0
+    by_found : (o : Option ChanId) → find (is_free_traffic b) (channels_of cell) ≡ o → free_in b cell ≡ 0
     by_found None e = none_counted (is_free_traffic b) (channels_of cell) e
     by_found (Some x) e = let m = found (is_free_traffic b) cell x e in absurd (none x (is_free_in b cell x m.0 m.1))
 
-pub none_from_count : (b : State) (cell : ℕ) → TrafficLiesWithin b.site → free_count b cell ≡ 0 → NoneFree b cell
+pub none_from_count : (b : State) (cell : ℕ) → TrafficLiesWithin b.site → free_in b cell ≡ 0 → NoneFree b cell
 none_from_count b cell site e = none_in b cell site (none_found (is_free_traffic b) (channels_of cell) e)

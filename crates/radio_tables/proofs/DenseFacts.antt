@@ -18,7 +18,7 @@ use Rattle.radio_tables.specs.Keys.{reference_cmp}
 use Rattle.radio_tables.specs.Maps.{put}
 use Rattle.radio_tables.specs.State.{State, or_free, with_kept, without_call}
 use Rattle.radio_tables.specs.Choice.{in_way, IsFreeAt, NoneFreeAt}
-use Rattle.radio_tables.specs.Places.{is_free_traffic, free_count}
+use Rattle.radio_tables.specs.Places.{is_free_traffic, free_in}
 use Rattle.radio_tables.specs.Dense.{IsTable, record_at, timer_at, records_of, armed_of}
 use Rattle.dense_tables.specs.Maps.{Covers}
 use Rattle.dense_tables.specs.Channels as dense
@@ -149,7 +149,7 @@ module _ (ch : dense.Channels) (m : FinMap nat_cmp Kept) (users : FinMap referen
       none x (record { free = record { in_cell = free.free.in_cell; traffic = free.free.is_traffic; is_free = same_way x ∙ free.free.is_free }; rate = free.rate })
   none_free r (Some x) none = tt
 
-  pub same_count : dense.free_count ch cell ≡ free_count (state_in ch m users) cell
+  pub same_count : dense.free_in ch cell ≡ free_in (state_in ch m users) cell
   same_count =
       let alike : (x : ChanId) → dense.is_free_traffic ch x ≡ is_free_traffic (state_in ch m users) x =
       λ x. ap (λ o. is_traffic ch.site x && is_none o) (same_way x) in

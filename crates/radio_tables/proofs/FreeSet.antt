@@ -18,7 +18,7 @@ use Rattle.cell_table.specs.Site.{TrafficLiesWithin}
 use Rattle.radio_tables.specs.Keys.{chan_cmp}
 use Rattle.radio_tables.specs.State.{State}
 use Rattle.radio_tables.specs.Choice.{IsFreeIn, IsFreeCount}
-use Rattle.radio_tables.specs.Places.{sub_at, is_free_traffic, channels_of, free_count}
+use Rattle.radio_tables.specs.Places.{sub_at, is_free_traffic, channels_of, free_in}
 use Rattle.radio_tables.proofs.MapFacts.{tied_keys, different_keys}
 use Rattle.radio_tables.proofs.KeyFacts.{chan_total, chan_exact}
 use Rattle.radio_tables.proofs.Chosen.{channel_at, by_places, within, place_of, place_small, stands_there, is_free_in, passes_in}
@@ -110,5 +110,5 @@ module _ (b : State) (cell : ℕ) where
   )
 
   -- a count over the places of the cell is the size of the set
-  pub free_counted : TrafficLiesWithin b.site → IsFreeCount b cell (free_count b cell)
+  pub free_counted : TrafficLiesWithin b.site → IsFreeCount b cell (free_in b cell)
   free_counted site = record { free = free_set; members = members site; size = sym (sized chan_total (is_free_traffic b) (channels_of cell) (each_once cell)) }

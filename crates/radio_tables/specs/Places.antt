@@ -27,5 +27,5 @@ abbrev pub is_free_at : State → Rate → ChanId → Bool
 is_free_at b r x = has_rate r x.sub && is_free_traffic b x
 
 -- how many of them are free traffic channels
-abbrev pub free_count : State → ℕ → ℕ
-free_count b cell = count_by (is_free_traffic b) (channels_of cell)
+abbrev pub free_in : State → ℕ → ℕ
+free_in b cell = count_by (is_free_traffic b) (channels_of cell)

@@ -49,20 +49,20 @@ pub record StageRow : Type 0 where
   -- the timer that is armed
   pub timer : Option Timer
   -- the station may have activated the target
-  pub switched_on : Bool
+  pub may_be_active : Bool
   pub inverses : Inverse → ChanId → ℕ → List Inverse
 
 -- the table of stages
 abbrev pub stage_row : Stage → StageRow
-stage_row Taken = record { target = Some Held; has_reference = false; timer = None; switched_on = false; inverses = taken_inverses }
-stage_row Reserved = record { target = Some Held; has_reference = true; timer = None; switched_on = false; inverses = reserved_inverses }
-stage_row Sent = record { target = Some Pending; has_reference = true; timer = None; switched_on = true; inverses = sent_inverses }
-stage_row Refused = record { target = Some Held; has_reference = true; timer = None; switched_on = false; inverses = sent_inverses }
-stage_row Confirmed = record { target = Some On; has_reference = true; timer = None; switched_on = true; inverses = sent_inverses }
-stage_row Commanded = record { target = Some On; has_reference = true; timer = Some T3103; switched_on = true; inverses = commanded_inverses }
-stage_row Detected = record { target = Some On; has_reference = true; timer = Some T3103; switched_on = true; inverses = detected_inverses }
-stage_row Required = record { target = None; has_reference = false; timer = Some T7; switched_on = false; inverses = required_inverses }
-stage_row Ordered = record { target = None; has_reference = false; timer = Some T8; switched_on = false; inverses = ordered_inverses }
+stage_row Taken = record { target = Some Held; has_reference = false; timer = None; may_be_active = false; inverses = taken_inverses }
+stage_row Reserved = record { target = Some Held; has_reference = true; timer = None; may_be_active = false; inverses = reserved_inverses }
+stage_row Sent = record { target = Some Pending; has_reference = true; timer = None; may_be_active = true; inverses = sent_inverses }
+stage_row Refused = record { target = Some Held; has_reference = true; timer = None; may_be_active = false; inverses = sent_inverses }
+stage_row Confirmed = record { target = Some On; has_reference = true; timer = None; may_be_active = true; inverses = sent_inverses }
+stage_row Commanded = record { target = Some On; has_reference = true; timer = Some T3103; may_be_active = true; inverses = commanded_inverses }
+stage_row Detected = record { target = Some On; has_reference = true; timer = Some T3103; may_be_active = true; inverses = detected_inverses }
+stage_row Required = record { target = None; has_reference = false; timer = Some T7; may_be_active = false; inverses = required_inverses }
+stage_row Ordered = record { target = None; has_reference = false; timer = Some T8; may_be_active = false; inverses = ordered_inverses }
 
 -- the steps of an attempt that a stage allows
 pub record Allows : Type 0 where

@@ -121,7 +121,7 @@ impl<A: Allocator> Tables for DenseTables<A> {
         self.channels.replace(x, busy);
     }
 
-    fn free_channel(&mut self, x: ChanId) {
+    fn vacate_channel(&mut self, x: ChanId) {
         self.channels.free(x);
     }
 
@@ -176,7 +176,7 @@ impl<A: Allocator> Tables for DenseTables<A> {
         Ok(())
     }
 
-    fn drop_reference(&mut self, reference: Reference) {
+    fn remove_reference(&mut self, reference: Reference) {
         self.references.remove(reference);
     }
 
@@ -196,15 +196,15 @@ impl<A: Allocator> Tables for DenseTables<A> {
         self.armed
     }
 
-    fn lowest_free(&self, cell: u8, rate: Rate) -> Option<ChanId> {
+    fn some_free(&self, cell: u8, rate: Rate) -> Option<ChanId> {
         self.channels.lowest_free(cell, rate)
     }
 
-    fn free_count(&self, cell: u8) -> u32 {
-        self.channels.count_free(cell)
+    fn free_in(&self, cell: u8) -> u32 {
+        self.channels.free_in(cell)
     }
 
-    fn same(&self, other: &DenseTables<A>) -> bool {
+    fn is_same(&self, other: &DenseTables<A>) -> bool {
         self.channels.is_same(&other.channels)
             && self.calls.is_same(&other.calls)
             && self.references.is_same(&other.references)

@@ -58,7 +58,7 @@ impl Clone for CallEntry {
 
 impl CallEntry {
     /// A call that begins on a channel.
-    pub fn on(x: ChanId) -> CallEntry
+    pub fn beginning_on(x: ChanId) -> CallEntry
         ensures { result ≡ record { call = record { serving = Some x; attempt = None }; timer = None } }
     {
         CallEntry {

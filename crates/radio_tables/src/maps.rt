@@ -4,7 +4,7 @@ ghost use Rattle.cell_table.specs.Limits.{timeslots_of_trx};
 ghost use Rattle.std.specs.Cmp.{partial_equiv_from_equiv};
 ghost use Rattle.radio_tables.specs.Same.{is_same, is_same-IsEquivalence};
 ghost use Rattle.radio_tables.specs.State.{empty_book, state_of, state_code};
-ghost use Rattle.radio_tables.specs.Places.{sub_at, is_free_traffic, has_rate, is_free_at, channels_of, free_count};
+ghost use Rattle.radio_tables.specs.Places.{sub_at, is_free_traffic, has_rate, is_free_at, channels_of, free_in};
 ghost use Rattle.channel_fsm.specs.Slots.{needs, is_used};
 
 use crate::entry::CallEntry;
@@ -128,7 +128,7 @@ impl<A: Allocator + Copy> MapTables<A> {
     }
 
     fn count_free(&self, cell: u8) -> u32
-        ensures { result ≡ free_count self.now cell }
+        ensures { result ≡ free_in self.now cell }
     {
         let mut count: u32 = 0;
         for place in 0..PLACES {
@@ -178,7 +178,7 @@ impl<A: Allocator + Copy> Tables for MapTables<A> {
         self.channels.replace(x, busy);
     }
 
-    fn free_channel(&mut self, x: ChanId) {
+    fn vacate_channel(&mut self, x: ChanId) {
         self.channels.remove(x);
     }
 
@@ -217,7 +217,7 @@ impl<A: Allocator + Copy> Tables for MapTables<A> {
         self.references.insert(reference, call)
     }
 
-    fn drop_reference(&mut self, reference: Reference) {
+    fn remove_reference(&mut self, reference: Reference) {
         self.references.remove(reference);
     }
 
@@ -237,19 +237,19 @@ impl<A: Allocator + Copy> Tables for MapTables<A> {
         self.calls.armed()
     }
 
-    fn lowest_free(&self, cell: u8, rate: Rate) -> Option<ChanId> {
+    fn some_free(&self, cell: u8, rate: Rate) -> Option<ChanId> {
         // Called for its clause alone: no channel of the cell lies beyond those that are looked at.
         let _cells = self.site.cells();
         self.first_free(cell, rate)
     }
 
-    fn free_count(&self, cell: u8) -> u32 {
+    fn free_in(&self, cell: u8) -> u32 {
         // Called for its clause alone, as above.
         let _cells = self.site.cells();
         self.count_free(cell)
     }
 
-    fn same(&self, other: &MapTables<A>) -> bool {
+    fn is_same(&self, other: &MapTables<A>) -> bool {
         *self == *other
     }
 }

@@ -48,8 +48,8 @@ impl Stage {
     }
 
     /// The station may have activated the target.
-    pub fn is_switched_on(self) -> bool
-        ensures switched_on { result ≡ (stage_row self).switched_on }
+    pub fn may_be_active(self) -> bool
+        ensures may_be_active { result ≡ (stage_row self).may_be_active }
     {
         match self {
             Stage::Sent | Stage::Confirmed | Stage::Commanded | Stage::Detected => true,

@@ -52,7 +52,7 @@ pub trait Tables: Drop {
         ensures moved { state self.new ≡ with_channel (state self.old) x (Some busy) };
 
     /// A channel is free from now on.
-    fn free_channel(&mut self, x: ChanId)
+    fn vacate_channel(&mut self, x: ChanId)
         ensures freed { state self.new ≡ with_channel (state self.old) x None };
 
     /// What is kept of a call; `None` where it isn't there.
@@ -98,7 +98,7 @@ pub trait Tables: Drop {
         ensures in_place { OnErr result (may_refuse_in_place ≡ true) };
 
     /// A reference is no longer in use.
-    fn drop_reference(&mut self, reference: Reference)
+    fn remove_reference(&mut self, reference: Reference)
         ensures dropped { state self.new ≡ with_reference (state self.old) reference None };
 
     /// How many channels aren't free.
@@ -119,17 +119,17 @@ pub trait Tables: Drop {
 
     /// The free traffic channel of a cell at a rate with the lowest TRX, then timeslot, then half. Any free one meets the
     /// contract.
-    fn lowest_free(&self, cell: u8, rate: Rate) -> Option<ChanId>
+    fn some_free(&self, cell: u8, rate: Rate) -> Option<ChanId>
         ensures found { IfSome result (λ x. IsFreeAt (state self.now) cell rate x) }
         ensures none { IfNone result (NoneFreeAt (state self.now) cell rate) };
 
     /// How many traffic channels of a cell are free, each of both rates.
-    fn free_count(&self, cell: u8) -> u32
+    fn free_in(&self, cell: u8) -> u32
         ensures count { IsFreeCount (state self.now) cell result }
         ensures none { (result ≡ 0) ↔ NoneFree (state self.now) cell };
 
     /// Whether two tables say the same.
-    fn same(&self, other: &Self) -> bool
+    fn is_same(&self, other: &Self) -> bool
         ensures same { IsTrue result ↔ (state self.now ≡ state other.now) };
 }
 

@@ -6,7 +6,7 @@ use Rattle.std.specs.Str.Pattern.{FindsText, FindsTextPrefix, LacksTextAt}
 use Rattle.std.proofs.lemmas.List.{length-append}
 use Rattle.std.proofs.lemmas.List.Prefix.{front_rest}
 use Rattle.std.proofs.lemmas.Str.Pattern.{starts_text}
-use Rattle.read_traces.specs.Entries.{behind, cut_text, is_unread, first_unread}
+use Rattle.read_traces.specs.Entries.{behind, cut_text, is_unreadable, first_unreadable}
 
 -- a text begins with its own front
 starts_own : (n rest : List ℕ) → starts_with nat_eq (n ++ rest) n ≡ true
@@ -56,11 +56,11 @@ position_from-map p f i [] = refl
 position_from-map p f i (x ∷ xs) = rw (position_from-map p f (i + 1) xs) refl
 
 -- the number of the first line that can't be read is one more than its index
-pub first_unread-position : (trace : List ℕ) (r : Option ℕ)
-    → r ≡ position_from (λ line. is_unread (strip_carriage_return line)) 0 (slice_split (λ b. b == 10) trace)
-    → option_map (λ n. n + 1) r ≡ first_unread trace
-first_unread-position trace r e =
+pub first_unreadable-position : (trace : List ℕ) (r : Option ℕ)
+    → r ≡ position_from (λ line. is_unreadable (strip_carriage_return line)) 0 (slice_split (λ b. b == 10) trace)
+    → option_map (λ n. n + 1) r ≡ first_unreadable trace
+first_unreadable-position trace r e =
     let parts = slice_split (λ b. b == 10) trace in
     ap (option_map (λ n. n + 1)) e
-    ∙ (sym (position_from-suc (λ line. is_unread (strip_carriage_return line)) 0 parts)
-    ∙ sym (position_from-map is_unread strip_carriage_return 1 parts))
+    ∙ (sym (position_from-suc (λ line. is_unreadable (strip_carriage_return line)) 0 parts)
+    ∙ sym (position_from-map is_unreadable strip_carriage_return 1 parts))

@@ -29,16 +29,16 @@ abbrev pub is_of_two : List ℕ → Bool
 is_of_two line = starts_with nat_eq line (codes "1: ") || starts_with nat_eq line (codes "2: ")
 
 -- a line that begins with `event ` can't be read where that says none
-abbrev pub is_unread_at : Option (List ℕ) → List ℕ → Bool
-is_unread_at (Some text) line = not (is_some (event_before text))
-is_unread_at None line = is_of_two line
+abbrev pub is_unreadable_at : Option (List ℕ) → List ℕ → Bool
+is_unreadable_at (Some text) line = not (is_some (event_before text))
+is_unreadable_at None line = is_of_two line
 
-abbrev pub is_unread : List ℕ → Bool
-is_unread line = is_unread_at (behind (codes "event ") line) line
+abbrev pub is_unreadable : List ℕ → Bool
+is_unreadable line = is_unreadable_at (behind (codes "event ") line) line
 
 -- the number of the first line that can't be read, counted from 1
-abbrev pub first_unread : List ℕ → Option ℕ
-first_unread trace = position_from is_unread 1 (lines_of trace)
+abbrev pub first_unreadable : List ℕ → Option ℕ
+first_unreadable trace = position_from is_unreadable 1 (lines_of trace)
 
 abbrev pub entry_at : ℕ → List ℕ → Option Entry
 entry_at index line = option_map (λ e. record { index = index; event = e }) (event_in (strip_carriage_return line))

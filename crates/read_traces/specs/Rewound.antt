@@ -10,7 +10,7 @@ use Rattle.radio_book.specs.State.{State, empty_book}
 use Rattle.radio_book.specs.Undone.{Undone, IsUndoneAt, OpensUndone}
 use Rattle.radio_book.specs.NoTrace.{LeavesNoTrace}
 use Rattle.read_traces.specs.declared.entries.Entry.{Entry}
-use Rattle.read_traces.specs.Entries.{first_unread, entries_of}
+use Rattle.read_traces.specs.Entries.{first_unreadable, entries_of}
 use Rattle.read_traces.specs.Entries as said
 
 -- at this place of the entries stands the one of this line, counted from 1
@@ -48,5 +48,5 @@ IsSame r = (r.whole ≡ r.without) × AreSameReplies r.whole_replies.items r.oth
 pub record InTrace (P : State → List Event → Undone → Type 0) (site trace : List ℕ) (line : ℕ) : Type 0 where
   pub site_view : SiteView
   pub described : described_site site ≡ Some site_view
-  pub readable : first_unread trace ≡ None
+  pub readable : first_unreadable trace ≡ None
   pub holds : InEntries P (empty_book site_view) (entries_of trace) line

@@ -59,8 +59,8 @@ fn is_of_two(line: &str) -> bool
 }
 
 /// Whether a line, which a carriage return may end, can't be read.
-fn is_unread(line: &str) -> bool
-    ensures { result ≡ said.is_unread (strip_carriage_return line.now) }
+fn is_unreadable(line: &str) -> bool
+    ensures { result ≡ said.is_unreadable (strip_carriage_return line.now) }
 {
     let line = without_return(line);
     match entry_text(line) {
@@ -71,10 +71,10 @@ fn is_unread(line: &str) -> bool
 
 /// The number of the first line of a trace that can't be read, counted from 1: an entry that isn't `event `, the text of
 /// an event, ` -> ` and any text, or a line of a trace of two controllers.
-pub fn first_unread(trace: &str) -> Option<usize>
-    ensures line { result ≡ said.first_unread trace.now }
+pub fn first_unreadable(trace: &str) -> Option<usize>
+    ensures line { result ≡ said.first_unreadable trace.now }
 {
-    let index = trace.split('\n').position(|line| is_unread(line))?;
+    let index = trace.split('\n').position(|line| is_unreadable(line))?;
     Some(index + 1)
 }
 

@@ -1,7 +1,7 @@
 //! Why a trace can't be read back: one line for a person.
 //!
 //! No clause says what the line holds.
-use crate::entries::{Foreign, first_unread, reply_text};
+use crate::entries::{Foreign, first_unreadable, reply_text};
 use crate::reading::foreign_entry;
 use encoded_messages::Shown;
 use lab_runs::run::LabFault;
@@ -20,7 +20,7 @@ fn line_of(trace: &str, number: usize) -> &str {
 
 /// Says why a line of a trace can't be read by a command: it is one of two controllers, or one that begins with `event `; all
 /// others are passed over.
-fn say_unread<E: Write>(
+fn say_unreadable<E: Write>(
     path: Escaped<'_>,
     trace: &str,
     number: usize,
@@ -79,8 +79,8 @@ pub fn say_untold<E: Write>(
     errors: &mut E,
 ) -> Result<bool, LabFault> {
     let path = Escaped(path);
-    if let Some(number) = first_unread(trace) {
-        say_unread(path, trace, number, command, errors)?;
+    if let Some(number) = first_unreadable(trace) {
+        say_unreadable(path, trace, number, command, errors)?;
         return Ok(true);
     }
     match foreign_entry(alloc, site, trace)? {

@@ -6,7 +6,7 @@ ghost use Rattle.radio_book.specs.NoTrace.{LeavesNoTrace};
 ghost use Rattle.read_traces.specs.Entries as said;
 ghost use Rattle.read_traces.specs.Rewound.{AreSameReplies, IsSame, StandsIn, LeavesATrace, NoneOpens, InEntries, InTrace};
 
-use crate::entries::{Entry, first_unread};
+use crate::entries::{Entry, first_unreadable};
 use crate::reading::{fresh_book, refuse_line, told_entries};
 use cell_table::Site;
 use lab_runs::listener::Printing;
@@ -162,14 +162,14 @@ fn rewind_trace<A: Allocator + Copy, W: Write>(
     line: usize,
     out: &mut W,
 ) -> Result<Status, LabFault>
-    ensures readable { (result ≢ Ok Status.Refused) → OnOk result (said.first_unread trace.now ≡ None) }
+    ensures readable { (result ≢ Ok Status.Refused) → OnOk result (said.first_unreadable trace.now ≡ None) }
     ensures done { result ≡ Ok Status.Done →
         InEntries LeavesNoTrace (empty_book site) (said.entries_of trace.now) line }
     ensures differs { result ≡ Ok Status.Differs →
         InEntries LeavesATrace (empty_book site) (said.entries_of trace.now) line }
-    ensures memory { result ≡ Err LabFault.NoMemory → said.first_unread trace.now ≡ None }
+    ensures memory { result ≡ Err LabFault.NoMemory → said.first_unreadable trace.now ≡ None }
 {
-    if let Some(number) = first_unread(trace) {
+    if let Some(number) = first_unreadable(trace) {
         return refuse_line(number, out);
     }
     let book = fresh_book(alloc, site)?;

@@ -27,9 +27,9 @@ channel_in (Some (octet ∷ v)) = channel_with (sub_of (octet / 8)) (octet % 8)
 abbrev pub channel_octet : ChanBits → ℕ
 channel_octet channel = 8 * type_of channel.sub + channel.tn
 
--- The link identifier (clause 9.3.2) of the main channel, SAPI 0.
-abbrev pub main_channel : ℕ
-main_channel = 0
+-- The link identifier (clause 9.3.2) of the main signalling channel, SAPI 0.
+abbrev pub main_signalling : ℕ
+main_signalling = 0
 
 -- A cause (clause 9.3.26).
 abbrev pub equipment_failure : ℕ

@@ -17,7 +17,7 @@ pub enum Rsl<A: Allocator = Global> {
     /// DATA REQUEST, TS 48.058 clause 8.3.1.
     DataRequest {
         channel: ChanBits,
-        /// The link identifier, any octet (clause 9.3.2); 0 is the main channel with SAPI 0.
+        /// The link identifier, any octet (clause 9.3.2); 0 is the main signalling channel with SAPI 0.
         link: u8,
         /// A layer 3 message, from 1 to 1,015 octets (clause 9.3.11).
         layer3: Octets<A>,
@@ -25,7 +25,7 @@ pub enum Rsl<A: Allocator = Global> {
     /// DATA INDICATION, TS 48.058 clause 8.3.2.
     DataIndication {
         channel: ChanBits,
-        /// The link identifier, any octet (clause 9.3.2); 0 is the main channel with SAPI 0.
+        /// The link identifier, any octet (clause 9.3.2); 0 is the main signalling channel with SAPI 0.
         link: u8,
         /// A layer 3 message, from 1 to 1,015 octets (clause 9.3.11).
         layer3: Octets<A>,

@@ -136,8 +136,8 @@ impl<W: Write, F: Write + Drop, A: Allocator + Copy> Listener<A> for LiveViewer<
         self.viewer.hear_no_site(fault)
     }
 
-    fn hear_unread(&mut self, line: usize) -> io::Result<()> {
-        self.viewer.hear_unread(line)
+    fn hear_unreadable(&mut self, line: usize) -> io::Result<()> {
+        self.viewer.hear_unreadable(line)
     }
 }
 

@@ -4,10 +4,10 @@ use crate::options::Views;
 use capture::RunCapture;
 use cell_table::SiteFault;
 use ho_procedure::exchange::Outbound;
-use lab_runs::listener::{Listener, print_no_site, print_unread};
+use lab_runs::listener::{Listener, print_no_site, print_unreadable};
 use lab_runs::run::LabFault;
 use lab_runs::turn::{Answer, Turn};
-use line_words::{Calls, Content, Held, content_of, print_ignored, print_words};
+use line_words::{Calls, Content, StateLines, content_of, print_ignored, print_words};
 use radio_book::book::Book;
 use std::alloc::{AllocError, Allocator, Global};
 use std::io::{self, Write};
@@ -21,7 +21,7 @@ pub struct Viewer<'a, W: Write, A: Allocator + Copy = Global> {
     calls: Calls<A>,
     words: bool,
     /// What the books hold, where it is to be printed.
-    held: Option<Held<A>>,
+    state: Option<StateLines<A>>,
     capture: Option<RunCapture<A>>,
     chart: Option<RunChart<A>>,
     /// Whether something was run.
@@ -55,8 +55,8 @@ impl<'a, W: Write, A: Allocator + Copy> Viewer<'a, W, A> {
             out,
             calls: Calls::new(alloc),
             words: views.words,
-            held: if views.state {
-                Some(Held::new(alloc))
+            state: if views.state {
+                Some(StateLines::new(alloc))
             } else {
                 None
             },
@@ -132,8 +132,8 @@ impl<'a, W: Write, A: Allocator + Copy> Viewer<'a, W, A> {
     /// Shows what was asked of the book.
     fn show_steps(&mut self, mark: Mark, turn: &Turn<A>) -> Result<(), LabFault> {
         for step in &turn.steps {
-            if let Some(held) = &mut self.held {
-                held.note(mark, *step)?;
+            if let Some(state) = &mut self.state {
+                state.note(mark, *step)?;
             }
             self.show(mark, &TraceLine::Step(*step))?;
         }
@@ -182,9 +182,9 @@ impl<'a, W: Write, A: Allocator + Copy> Viewer<'a, W, A> {
     }
 
     /// Prints what a controller's book holds, where that is asked for.
-    fn print_held(&mut self, mark: Mark, book: &Book<A>) -> Result<(), LabFault> {
-        match &mut self.held {
-            Some(held) => held.print(self.out, mark, book),
+    fn print_state(&mut self, mark: Mark, book: &Book<A>) -> Result<(), LabFault> {
+        match &mut self.state {
+            Some(state) => state.print(self.out, mark, book),
             None => Ok(()),
         }
     }
@@ -196,7 +196,7 @@ impl<W: Write, A: Allocator + Copy> Listener<A> for Viewer<'_, W, A> {
         self.show_input(mark, turn)?;
         self.show_steps(mark, turn)?;
         self.show_answer(mark, &turn.answer)?;
-        self.print_held(mark, book)
+        self.print_state(mark, book)
     }
 
     fn hear_limit(&mut self) -> Result<(), LabFault> {
@@ -205,14 +205,14 @@ impl<W: Write, A: Allocator + Copy> Listener<A> for Viewer<'_, W, A> {
 
     fn hear_end(&mut self, mark: Mark, book: &Book<A>) -> Result<(), LabFault> {
         self.show(mark, &TraceLine::End(book.usage()))?;
-        self.print_held(mark, book)
+        self.print_state(mark, book)
     }
 
     fn hear_no_site(&mut self, fault: SiteFault) -> io::Result<()> {
         print_no_site(self.out, fault)
     }
 
-    fn hear_unread(&mut self, line: usize) -> io::Result<()> {
-        print_unread(self.out, line)
+    fn hear_unreadable(&mut self, line: usize) -> io::Result<()> {
+        print_unreadable(self.out, line)
     }
 }

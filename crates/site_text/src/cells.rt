@@ -49,7 +49,7 @@ fn identity_of<A: Allocator + Copy>(site: &Site<A>, cell: u8) -> Option<Identity
 fn is_neighbour<A: Allocator + Copy>(site: &Site<A>, cell: u8, other: u8) -> bool
     ensures { IsTrue result ↔ IsNeighbour site.now cell other }
 {
-    other != cell && site.neighbour_name(cell, other).is_some()
+    other != cell && site.reported_as(cell, other).is_some()
 }
 
 /// Whether an own cell has a neighbour.

@@ -12,13 +12,13 @@ use Rattle.storms.specs.declared.outcome.StormFault.{StormFault}
 use Rattle.storms.specs.declared.outcome.StormFault.TheVariants as storm
 
 -- of a text that describes no site
-abbrev pub EndsUnread : SiteFault → Result Outcome AllocError → Type 0
-EndsUnread site.Toml r = r ≡ Ok (NoSite site.Toml)
-EndsUnread (site.Missing key) r = r ≡ Ok (NoSite (site.Missing key))
-EndsUnread (site.Range key) r = r ≡ Ok (NoSite (site.Range key))
-EndsUnread (site.Twice what) r = r ≡ Ok (NoSite (site.Twice what))
-EndsUnread (site.NoTraffic cell) r = r ≡ Ok (NoSite (site.NoTraffic cell))
-EndsUnread site.NoMemory r = IsErr r
+abbrev pub EndsUnreadable : SiteFault → Result Outcome AllocError → Type 0
+EndsUnreadable site.Toml r = r ≡ Ok (NoSite site.Toml)
+EndsUnreadable (site.Missing key) r = r ≡ Ok (NoSite (site.Missing key))
+EndsUnreadable (site.Range key) r = r ≡ Ok (NoSite (site.Range key))
+EndsUnreadable (site.Twice what) r = r ≡ Ok (NoSite (site.Twice what))
+EndsUnreadable (site.NoTraffic cell) r = r ≡ Ok (NoSite (site.NoTraffic cell))
+EndsUnreadable site.NoMemory r = IsErr r
 
 -- where no trips were made
 abbrev pub EndsBefore : TripFault → Result Outcome AllocError → Type 0

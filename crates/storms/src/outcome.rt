@@ -1,7 +1,7 @@
 //! What comes of a storm.
 ghost use Rattle.std.specs.Prelude.{◌≡◌, Some};
 ghost use Rattle.storms.specs.Outcomes.{figures_text};
-ghost use Rattle.storms.specs.Endings.{EndsAs, EndsBefore, EndsUnread};
+ghost use Rattle.storms.specs.Endings.{EndsAs, EndsBefore, EndsUnreadable};
 
 use crate::trip::{Shortage, TripFault};
 use call_worker::{CloseFault, GiveFault, StartFault};
@@ -133,8 +133,8 @@ pub(crate) fn untravelled(fault: TripFault) -> Result<Outcome, AllocError>
 }
 
 /// What comes of a site's text that describes none.
-pub(crate) fn unread(fault: SiteFault) -> Result<Outcome, AllocError>
-    ensures { EndsUnread fault result }
+pub(crate) fn unreadable(fault: SiteFault) -> Result<Outcome, AllocError>
+    ensures { EndsUnreadable fault result }
 {
     match fault {
         SiteFault::NoMemory => Err(AllocError),

@@ -7,7 +7,7 @@ ghost use Rattle.radio_book.specs.State.{empty_book};
 ghost use Rattle.storms.specs.Outcomes.{IsOutcome, AreFigures};
 
 use crate::front::Front;
-use crate::outcome::{Figures, Outcome, StormFault, outcome_of, unread, untravelled};
+use crate::outcome::{Figures, Outcome, StormFault, outcome_of, unreadable, untravelled};
 use crate::simulated::Simulated;
 use crate::trip::{Trip, trips_of};
 use crate::watch::Watch;
@@ -51,7 +51,7 @@ pub fn run_storm<
 {
     let site = match Site::read(alloc, scratch, site) {
         Ok(site) => site,
-        Err(fault) => return unread(fault),
+        Err(fault) => return unreadable(fault),
     };
     let trips = match trips_of(alloc, &site, calls) {
         Ok(trips) => trips,

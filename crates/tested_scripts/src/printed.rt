@@ -32,7 +32,7 @@ pub enum Miss<'a> {
         came: Option<&'a str>,
     },
     /// A line of the script, counted from 1, can't be read.
-    Unread(usize),
+    Unreadable(usize),
     /// The file can't be read.
     NoFile,
 }
@@ -73,7 +73,7 @@ pub fn print_miss<W: Write>(
             print_side(out, "expected", expected)?;
             print_side(out, "came", came)
         }
-        Miss::Unread(line) => writeln!(out, "# line {line} can't be read"),
+        Miss::Unreadable(line) => writeln!(out, "# line {line} can't be read"),
         Miss::NoFile => writeln!(out, "# the file can't be read"),
     }
 }

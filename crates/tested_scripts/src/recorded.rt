@@ -1,7 +1,7 @@
 //! Scripts that are recorded: what comes of each line is written behind it, as comments that expect it.
 ghost use Rattle.std.specs.Prelude.{◌≡◌, ◌≢◌, ◌⊎◌, Ok, Err, None, IsSome, IsSomeAnd, is_some, true};
 ghost use Rattle.cell_table.specs.SiteFile.{described_site, IsBlankFile};
-ghost use Rattle.lab_script.specs.Script.{first_unread, items_of};
+ghost use Rattle.lab_script.specs.Script.{first_unreadable, items_of};
 ghost use Rattle.lab_runs.specs.Turns.{inputs_in};
 ghost use Rattle.lab_runs.specs.Course.{IsPlayed, Played};
 ghost use Rattle.lab_runs.specs.Sites.{texts_of, views_of};
@@ -98,11 +98,11 @@ fn record_script<A: Allocator + Copy, W: Write>(
     script: &str,
     out: &mut W,
 ) -> Result<Status, LabFault>
-    ensures done { result ≡ Ok Status.Done → first_unread (is_some sites.peer) script.now ≡ None }
+    ensures done { result ≡ Ok Status.Done → first_unreadable (is_some sites.peer) script.now ≡ None }
     ensures played { result ≡ Ok Status.Done → Played A (views_of sites) (inputs_in (items_of script.now)) }
     ensures differs { result ≢ Ok Status.Differs }
     ensures refused { result ≡ Ok Status.Refused →
-        IsSome (first_unread (is_some sites.peer) script.now) }
+        IsSome (first_unreadable (is_some sites.peer) script.now) }
 {
     let Some(items) = script_items(alloc, script, sites.peer.is_some(), &mut Printing::new(out))?
     else {
@@ -145,7 +145,7 @@ pub fn record_run<A: Allocator + Copy, W: Write>(
     ensures refused { result ≡ Ok Status.Refused →
         (described_site site.now ≡ None)
         ⊎ IsSomeAnd (texts_of peer.entry) (λ text. described_site text ≡ None)
-        ⊎ IsSome (first_unread (is_some peer.entry) script.now) }
+        ⊎ IsSome (first_unreadable (is_some peer.entry) script.now) }
     ensures memory { result ≡ Err LabFault.NoMemory → ¬ IsBlankFile site.now }
 {
     match read_sites(alloc, scratch, site, peer) {

@@ -3,7 +3,7 @@ ghost use Rattle.std.specs.Prelude.{◌≡◌, ◌≢◌, ◌⊎◌, ◌↔◌, 
 ghost use Rattle.cell_table.specs.SiteFile.{described_site, IsBlankFile};
 ghost use Rattle.tested_scripts.specs.Lines as expected;
 ghost use Rattle.tested_scripts.specs.Meeting.{AreMet};
-ghost use Rattle.lab_script.specs.Script.{first_unread, items_of};
+ghost use Rattle.lab_script.specs.Script.{first_unreadable, items_of};
 ghost use Rattle.lab_runs.specs.Turns.{inputs_in};
 ghost use Rattle.lab_runs.specs.Course.{IsPlayed, Played};
 ghost use Rattle.lab_runs.specs.Sites.{texts_of, views_of};
@@ -156,19 +156,19 @@ fn test_script<A: Allocator + Copy, W: Write>(
     test: Numbered<'_>,
     out: &mut W,
 ) -> Result<Status, LabFault>
-    ensures done { result ≡ Ok Status.Done → first_unread (is_some sites.peer) script.now ≡ None }
+    ensures done { result ≡ Ok Status.Done → first_unreadable (is_some sites.peer) script.now ≡ None }
     ensures played { result ≡ Ok Status.Done → Played A (views_of sites) (inputs_in (items_of script.now)) }
     ensures met { result ≡ Ok Status.Done →
         said.IsMet script.now (length (items_of {A = A} script.now)) }
     ensures missed { result ≡ Ok Status.Differs →
         said.IsMissed script.now (length (items_of {A = A} script.now)) }
     ensures refused { result ≡ Ok Status.Refused →
-        IsSome (first_unread (is_some sites.peer) script.now) }
+        IsSome (first_unreadable (is_some sites.peer) script.now) }
 {
     let items = match read_script(alloc, script, sites.peer.is_some()) {
         Ok(items) => items,
         Err(ScriptFault::Line(line)) => {
-            print_miss(out, test.number, test.name, Miss::Unread(line))?;
+            print_miss(out, test.number, test.name, Miss::Unreadable(line))?;
             return Ok(Status::Refused);
         }
         Err(ScriptFault::NoMemory) => return Err(LabFault::NoMemory),
@@ -216,7 +216,7 @@ pub fn test_run<A: Allocator + Copy, W: Write>(
     ensures refused { result ≡ Ok Status.Refused →
         (described_site site.now ≡ None)
         ⊎ IsSomeAnd (texts_of peer.entry) (λ text. described_site text ≡ None)
-        ⊎ IsSome (first_unread (is_some peer.entry) script.now) }
+        ⊎ IsSome (first_unreadable (is_some peer.entry) script.now) }
     ensures memory { result ≡ Err LabFault.NoMemory → ¬ IsBlankFile site.now }
 {
     match read_sites(alloc, scratch, site, peer) {

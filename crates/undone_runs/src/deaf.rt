@@ -11,13 +11,13 @@ use trace_text::trace::Mark;
 /// A listener that passes all over but which line of a script can't be read.
 #[derive(Drop)]
 pub(crate) struct Deaf {
-    pub(crate) unread: Option<usize>,
+    pub(crate) unreadable: Option<usize>,
 }
 
 impl Deaf {
     /// One that heard nothing yet.
     pub(crate) fn new() -> Deaf {
-        Deaf { unread: None }
+        Deaf { unreadable: None }
     }
 }
 
@@ -38,8 +38,8 @@ impl<A: Allocator + Copy> Listener<A> for Deaf {
         Ok(())
     }
 
-    fn hear_unread(&mut self, line: usize) -> io::Result<()> {
-        self.unread = Some(line);
+    fn hear_unreadable(&mut self, line: usize) -> io::Result<()> {
+        self.unreadable = Some(line);
         Ok(())
     }
 }

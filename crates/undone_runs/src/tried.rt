@@ -197,12 +197,12 @@ fn try_run<A: Allocator + Copy, W: Write>(
 /// Refuses a trial whose script can't be read, in this line, where one is told.
 fn refuse<W: Write>(
     name: &str,
-    unread: Option<usize>,
+    unreadable: Option<usize>,
     tally: &mut Tally,
     out: &mut W,
 ) -> Result<Status, LabFault> {
-    if let Some(line) = unread {
-        print_miss(out, tally.next(), name, Miss::Unread(line))?;
+    if let Some(line) = unreadable {
+        print_miss(out, tally.next(), name, Miss::Unreadable(line))?;
     }
     Ok(Status::Refused)
 }
@@ -227,6 +227,6 @@ pub fn try_undos<A: Allocator + Copy, W: Write>(
     let run = run_of(alloc, scratch, trial, &mut deaf)?;
     match run {
         Some(run) => try_run(alloc, scratch, trial, run, tally, out),
-        None => refuse(trial.name, deaf.unread, tally, out),
+        None => refuse(trial.name, deaf.unreadable, tally, out),
     }
 }

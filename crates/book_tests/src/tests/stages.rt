@@ -4,7 +4,7 @@ use radio_book::event::{Stage, Timer};
 use std::process::Abort;
 
 // What a stage says: the state of the target for call 7, whether the attempt has a reference, the timer, whether the
-// target is switched on.
+// target may be active.
 type Said = (Option<ChanState>, bool, Option<Timer>, bool);
 
 // Whether a stage allows Reserve, Complete, Order, Left.
@@ -51,11 +51,11 @@ const STAGES: [(Stage, Said, Allowed); 9] = [
 ];
 
 fn says(rt: &impl Abort, stage: Stage, said: Said) {
-    let (target, reference, timer, switched_on) = said;
+    let (target, reference, timer, may_be_active) = said;
     assert_eq!(rt; stage.target_state(7), target);
     assert_eq!(rt; stage.has_reference(), reference);
     assert_eq!(rt; stage.timer(), timer);
-    assert_eq!(rt; stage.is_switched_on(), switched_on);
+    assert_eq!(rt; stage.may_be_active(), may_be_active);
 }
 
 fn allows(rt: &impl Abort, stage: Stage, allowed: Allowed) {

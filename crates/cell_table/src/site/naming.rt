@@ -2,7 +2,7 @@
 ghost use Rattle.std.specs.Prelude.{◌≡◌, ◌≤◌, ◌↔◌, ℕ, length};
 ghost use Rattle.cell_table.specs.Limits.{most_neighbours};
 ghost use Rattle.cell_table.specs.Site.{IsSite, IsIdentity};
-ghost use Rattle.cell_table.specs.NeighbourNames.{place_of, bsic_of, name_of, neighbour_name};
+ghost use Rattle.cell_table.specs.ReportedNeighbours.{place_of, bsic_of, name_of, reported_as};
 ghost use Rattle.cell_table.specs.Neighbours.{IsNamedCell};
 
 use super::{Site, identity_in};
@@ -41,7 +41,7 @@ fn name_of(ba: &[u16], cell: CellIdentity) -> Option<(u8, u8)>
 /// The name of a cell, own or outside, in an own cell.
 fn name_in(tables: &Tables, cell: u8, neighbour: u8) -> Option<(u8, u8)>
     requires { IsSite tables.now }
-    ensures value { result ≡ neighbour_name tables.now cell neighbour }
+    ensures value { result ≡ reported_as tables.now cell neighbour }
 {
     let serving = tables.cells.get(cell as usize)?;
     let named = identity_in(tables, neighbour)?;
@@ -54,7 +54,7 @@ impl<A: Allocator + Copy> Site<A> {
     /// own one, where there is no such neighbour, and where the neighbour's carrier isn't in the cell's `ba`.
     ///
     /// The position is 0 to 31, the code 0 to 63: eight times the neighbour's `ncc` and its `bcc`.
-    pub fn neighbour_name(&self, cell: u8, neighbour: u8) -> Option<(u8, u8)>
+    pub fn reported_as(&self, cell: u8, neighbour: u8) -> Option<(u8, u8)>
         ensures name { (place bsic : ℕ) →
             (result ≡ Some (place, bsic)) ↔ IsNamedCell self.now cell place bsic neighbour }
     {

@@ -99,7 +99,7 @@ fn release_serving<D: DeskView + Drop, A: Allocator + Copy>(
     Flow::On
 }
 
-/// The target is released, where it was switched on. Where a record remains, the call is cleared, and its serving channel
+/// The target is released, where it may be active. Where a record remains, the call is cleared, and its serving channel
 /// released.
 #[tactic(auto, using(crate::proofs::Asking::row_steps), unfolding(crate::specs::Procedure::clear_all))]
 fn clear_all<D: DeskView + Drop, A: Allocator + Copy>(

@@ -110,7 +110,7 @@ pub(super) fn ask_record<D: DeskView + Drop, A: Allocator + Copy>(
     }
 }
 
-/// The target of an attempt is released, where it was switched on.
+/// The target of an attempt is released, where it may be active.
 #[tactic(auto, using(crate::proofs::Asking::row_steps), unfolding(crate::specs::Procedure::release_target))]
 pub(super) fn release_target<D: DeskView + Drop, A: Allocator + Copy>(
     work: &mut Work<D, A>,
@@ -124,7 +124,7 @@ pub(super) fn release_target<D: DeskView + Drop, A: Allocator + Copy>(
     let Some(attempt) = attempt else {
         return Flow::On;
     };
-    if !attempt.stage.is_switched_on() {
+    if !attempt.stage.may_be_active() {
         return Flow::On;
     }
     let Some(target) = attempt.target else {

@@ -1,5 +1,5 @@
 use super::holds_at;
-use lab::script::first_unread;
+use lab::script::first_unreadable;
 use script_reasons::script_reason;
 use std::process::Abort;
 use std::test::Fail;
@@ -133,7 +133,7 @@ const RESTS: &[&str] = &[
 fn agrees(rt: &(impl AllocGlobal + Abort), front: &str, rest: &str) -> Result<(), Fail> {
     let line = format!(in rt.alloc(); "{front}{rest}")?;
     for has_peer in [false, true] {
-        let is_read = first_unread(&line, has_peer).is_none();
+        let is_read = first_unreadable(&line, has_peer).is_none();
         let has_reason = script_reason(&line, 1, has_peer).is_some();
         holds_at(rt, is_read != has_reason, line.as_str());
     }

@@ -14,7 +14,7 @@ fn has_text(rt: &(impl AllocGlobal + Abort), fault: &Fault, wanted: &str) -> Res
 }
 
 /// Octets that can't be read, by link and reason, and the text of the fault.
-const UNREAD: &[(Link, Bad, &str)] = &[
+const UNREADABLE: &[(Link, Bad, &str)] = &[
     (
         Link::Abis,
         Bad::Rsl(RslFault::Torn(2)),
@@ -32,8 +32,8 @@ const UNREAD: &[(Link, Bad, &str)] = &[
     ),
 ];
 
-fn unread_have_texts(rt: &(impl AllocGlobal + Abort)) -> Result<(), Fail> {
-    for (link, bad, wanted) in UNREAD {
+fn unreadable_have_texts(rt: &(impl AllocGlobal + Abort)) -> Result<(), Fail> {
+    for (link, bad, wanted) in UNREADABLE {
         has_text(rt, &Fault::Undecoded(*link, *bad), wanted)?;
     }
     Ok(())
@@ -41,7 +41,7 @@ fn unread_have_texts(rt: &(impl AllocGlobal + Abort)) -> Result<(), Fail> {
 
 #[test]
 fn faults_have_texts(rt: HostRuntime) -> Result<(), Fail> {
-    unread_have_texts(&rt)?;
+    unreadable_have_texts(&rt)?;
     has_text(
         &rt,
         &Fault::NoMemory(Vec::new(rt.alloc())),

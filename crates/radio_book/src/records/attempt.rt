@@ -158,12 +158,12 @@ impl<T: Tables> Records<T> {
         entry.complete(attempt.target);
         self.set_entry(call, entry);
         self.switch_off_serving(call, record.serving);
-        self.drop_reference_of(attempt);
+        self.free_reference_of(attempt);
         Reply::Done
     }
 
     /// The reference of an attempt, if it has one, is no longer in use.
-    fn drop_reference_of(&mut self, attempt: Attempt)
+    fn free_reference_of(&mut self, attempt: Attempt)
         ensures { self.new ≡ apply (record no_change
             { reference = option_map (λ k. (k, None)) (reference_held attempt.target attempt.reference) })
             self.old }

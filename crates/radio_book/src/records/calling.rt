@@ -26,7 +26,7 @@ impl<T: Tables> Records<T> {
         ensures unchanged { OnErr result (self.new ≡ self.old) }
         ensures memory { OnErr result (NeedsRoom self.old (row self.old (event.Open call x))) }
     {
-        self.begin(call, x, CallEntry::on(x), ChanEvent::Begin(call))
+        self.begin(call, x, CallEntry::beginning_on(x), ChanEvent::Begin(call))
     }
 
     /// A call begins with this record on a traffic channel in whose way nothing is, and which takes this step.

@@ -48,7 +48,7 @@ impl<T: Tables> Records<T> {
             return;
         };
         match after {
-            ChanState::Free => self.free_channel(x),
+            ChanState::Free => self.vacate_channel(x),
             ChanState::Held(_) | ChanState::Pending(_) | ChanState::On(_) | ChanState::Off => {
                 self.move_channel(x, after)
             }

@@ -90,10 +90,10 @@ impl<T: Tables> Records<T> {
         self.tables.move_channel(x, busy);
     }
 
-    pub(super) fn free_channel(&mut self, x: ChanId)
+    pub(super) fn vacate_channel(&mut self, x: ChanId)
         ensures { self.new ≡ apply (record no_change { channel = without_entry x }) self.old }
     {
-        self.tables.free_channel(x);
+        self.tables.vacate_channel(x);
     }
 
     /// What is kept of a call.
@@ -209,6 +209,6 @@ impl<T: Tables> Records<T> {
     pub(super) fn free_reference(&mut self, reference: Reference)
         ensures { self.new ≡ apply (record no_change { reference = without_entry reference }) self.old }
     {
-        self.tables.drop_reference(reference);
+        self.tables.remove_reference(reference);
     }
 }

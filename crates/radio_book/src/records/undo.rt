@@ -113,7 +113,7 @@ impl<T: Tables> Records<T> {
                 self.step_channel(x, ChanEvent::SwitchOff);
                 kept
             }
-            Inverse::DropReference(number) => self.drop_reference(kept, number),
+            Inverse::DropReference(number) => self.run_drop_reference(kept, number),
             Inverse::Settle => settled(kept),
             Inverse::Forget => None,
             Inverse::Uncommand | Inverse::Undetect => gone_back(kept),
@@ -123,7 +123,7 @@ impl<T: Tables> Records<T> {
     }
 
     /// The attempt's reference with this number is no longer in use.
-    fn drop_reference(&mut self, kept: Option<CallEntry>, number: u8) -> Option<CallEntry>
+    fn run_drop_reference(&mut self, kept: Option<CallEntry>, number: u8) -> Option<CallEntry>
         ensures kept { result ≡ kept }
         ensures dropped { self.new ≡ apply (record no_change
             { reference = reference_removal_of_call number (record_in kept) }) self.old }

@@ -134,7 +134,7 @@ fn tests_are_printed(rt: HostRuntime) -> Result<(), Fail> {
         came: Some("\u{1b}[31m\t#\\"),
     };
     print_miss(&mut out, 2, "a#\\b\nc\u{7f}", more)?;
-    print_miss(&mut out, 3, "c", Miss::Unread(7))?;
+    print_miss(&mut out, 3, "c", Miss::Unreadable(7))?;
     print_miss(&mut out, 4, "d", Miss::NoFile)?;
     print_met(&mut out, 5, "e")?;
     equals(&rt, str::from_utf8(&out)?, PRINTED);

@@ -4,7 +4,9 @@ use attempt_journal::Timer;
 use bts_model::{Act, Habit, Setting, Sub};
 use channel_fsm::ChanId;
 use ho_procedure::exchange::{Inbound, Line};
-use lab_script::script::{Given, Item, ScriptFault, Side, first_unread, is_octets, read_script};
+use lab_script::script::{
+    Given, Item, ScriptFault, Side, first_unreadable, is_octets, read_script,
+};
 use std::process::Abort;
 
 /// What a line gives, with octets that nobody owns.
@@ -202,7 +204,7 @@ fn lines_give_items(rt: HostRuntime) {
 }
 
 /// Scripts, and the first line of each that can't be read with a peer.
-const UNREAD: &[(&str, usize)] = &[
+const UNREADABLE: &[(&str, usize)] = &[
     ("open 1 0 0 3\n\n# a comment\nundo x\nundo y\n", 4),
     ("open 1 0 0 3\n2: hold 0 0 3\nsim\n", 2),
     ("sim\nrefuse 0 0 3\nsim\nhangup\n", 4),
@@ -214,8 +216,8 @@ const UNREAD: &[(&str, usize)] = &[
     ("sim\nmobile 0 0 3/0/1 return", 2),
 ];
 
-fn is_unread(rt: &impl Abort, alloc: Global, script: &str, has_peer: bool, number: usize) {
-    let first = first_unread(script, has_peer);
+fn is_unreadable(rt: &impl Abort, alloc: Global, script: &str, has_peer: bool, number: usize) {
+    let first = first_unreadable(script, has_peer);
     equals_at(rt, first, Some(number), script);
     let fault = read_script(alloc, script, has_peer).err();
     equals_at(rt, fault, Some(ScriptFault::Line(number)), script);
@@ -223,11 +225,11 @@ fn is_unread(rt: &impl Abort, alloc: Global, script: &str, has_peer: bool, numbe
 
 #[test]
 fn the_first_line_that_is_none(rt: HostRuntime) {
-    for (script, number) in UNREAD {
-        is_unread(&rt, rt.alloc(), *script, true, *number);
+    for (script, number) in UNREADABLE {
+        is_unreadable(&rt, rt.alloc(), *script, true, *number);
     }
     // no peer is there
-    is_unread(&rt, rt.alloc(), "undo 1\n\n2: clear 1\r\n", false, 3);
+    is_unreadable(&rt, rt.alloc(), "undo 1\n\n2: clear 1\r\n", false, 3);
     holds_at(&rt, is_octets("0833010B") && !is_octets("083"), "octets");
 }
 

@@ -1,6 +1,6 @@
-//! Why a line of a script can't be read, in words: the line that `first_unread` names, which has a grammar of its own.
+//! Why a line of a script can't be read, in words: the line that `first_unreadable` names, which has a grammar of its own.
 use super::{Fail, equals_at};
-use lab_script::script::first_unread;
+use lab_script::script::first_unreadable;
 use script_reasons::{line_reason, script_reason};
 use std::alloc::Global;
 use std::process::Abort;
@@ -10,7 +10,7 @@ const WORDS: &str =
     "open, handover, undo, clear, expire, abis, a, sim, refuse, hold, let, mobile, double, cut or hangup";
 
 /// Lines that can't be read, with a second controller, and why.
-const UNREAD: &[(&str, &str)] = &[
+const UNREADABLE: &[(&str, &str)] = &[
     (
         "open 1 0 0 8",
         "TN is 0 to 7, with /0 or /1 behind it for half rate, found 8",
@@ -102,26 +102,26 @@ const NO_KEYWORD: &[(&str, &str)] = &[
 ];
 
 /// A line can't be read, for this reason.
-fn is_unread(rt: &impl Abort, alloc: Global, line: &str, wanted: &str) -> Result<(), Fail> {
+fn is_unreadable(rt: &impl Abort, alloc: Global, line: &str, wanted: &str) -> Result<(), Fail> {
     let said = match line_reason(line, true) {
         Some(reason) => format!(in alloc; "{reason}")?,
         None => String::new(alloc),
     };
     equals_at(rt, said.as_str(), wanted, line);
-    equals_at(rt, first_unread(line, true), Some(1), line);
+    equals_at(rt, first_unreadable(line, true), Some(1), line);
     Ok(())
 }
 
 #[test]
 fn lines_that_cannot_be_read(rt: HostRuntime) -> Result<(), Fail> {
-    for (line, words) in UNREAD {
-        is_unread(&rt, rt.alloc(), *line, *words)?;
+    for (line, words) in UNREADABLE {
+        is_unreadable(&rt, rt.alloc(), *line, *words)?;
     }
     for (line, found) in NO_KEYWORD {
         let words = format!(in rt.alloc();
             "a line begins with {WORDS}, with 2: and a blank, or with #, found {found}"
         )?;
-        is_unread(&rt, rt.alloc(), *line, &words)?;
+        is_unreadable(&rt, rt.alloc(), *line, &words)?;
     }
     Ok(())
 }
@@ -162,7 +162,12 @@ fn lines_of_scripts(rt: HostRuntime) -> Result<(), Fail> {
             None => String::new(rt.alloc()),
         };
         equals_at(&rt, said.as_str(), *words, script);
-        equals_at(&rt, first_unread(*script, *has_peer), Some(*number), script);
+        equals_at(
+            &rt,
+            first_unreadable(*script, *has_peer),
+            Some(*number),
+            script,
+        );
     }
     Ok(())
 }
@@ -191,5 +196,5 @@ fn lines_that_can_be_read_have_no_reason(rt: HostRuntime) {
     for line in READ.lines() {
         equals_at(&rt, line_reason(line, true).is_none(), true, line);
     }
-    equals_at(&rt, first_unread(READ, true), None, "the whole");
+    equals_at(&rt, first_unreadable(READ, true), None, "the whole");
 }

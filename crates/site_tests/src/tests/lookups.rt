@@ -118,7 +118,7 @@ fn names(rt: &impl Abort, site: &Site<Global>, rows: &[Named]) {
         let found = site.by_bsic(*cell, *position, *bsic);
         equals_at(rt, found, *wanted, (cell, position, bsic));
         if let Some(neighbour) = *wanted {
-            let name = site.neighbour_name(*cell, neighbour);
+            let name = site.reported_as(*cell, neighbour);
             equals_at(rt, name, Some((*position, *bsic)), (cell, neighbour));
         }
     }

@@ -2,7 +2,7 @@
 use super::{Fail, Global, RefusingHeap, equals_at, holds_at};
 use decoded_lines::{
     Asked, Counts, Detail, LinesFault, LinkName, answer_file, answer_lines, link_named,
-    print_a_spares, print_abis_spares, print_rr_rest, used_on_a, used_on_abis,
+    print_a_unused, print_abis_unused, print_rr_rest, used_on_a, used_on_abis,
 };
 use std::io::{self, Write};
 use std::process::Abort;
@@ -216,13 +216,13 @@ fn each_request_for_memory_is_refused(rt: HostRuntime) -> Result<(), Fail> {
 }
 
 /// Prints what three messages don't use: an element that comes again, a layer 3 header and a second cause, a rest.
-fn print_spares(alloc: Global, out: &mut Vec<u8>) -> Result<(), Fail> {
+fn print_unused(alloc: Global, out: &mut Vec<u8>) -> Result<(), Fail> {
     let octets = b"\x08\x2e\x01\x0b\x01\x0c";
     let release = rsl_messages::decode(alloc, octets)?;
-    print_abis_spares(used_on_abis(alloc, &release)?, octets, out)?;
+    print_abis_unused(used_on_abis(alloc, &release)?, octets, out)?;
     let octets = b"\x00\x0b\x20\x07\x02\x06\x03\x04\x01\x09\x04\x01\x0a";
     let clear = bssmap_messages::decode(alloc, octets)?;
-    print_a_spares(used_on_a(alloc, &clear)?, octets, out)?;
+    print_a_unused(used_on_a(alloc, &clear)?, octets, out)?;
     let octets = b"\x06\x2c\x00\x77\x0a";
     print_rr_rest(&rr_messages::decode(octets)?, octets, out)?;
     Ok(())
@@ -239,9 +239,9 @@ fn want_memory(rt: &impl Abort, heap: &RefusingHeap) {
 #[test]
 fn what_a_message_does_not_use(rt: HostRuntime) -> Result<(), Fail> {
     let mut out = Vec::new(rt.alloc());
-    print_spares(rt.alloc(), &mut out)?;
+    print_unused(rt.alloc(), &mut out)?;
     let wanted = " unused=01/0c unused=07/0603 unused=04/0a rest=770a";
-    equals_at(&rt, str::from_utf8(&out)?, wanted, "spares");
+    equals_at(&rt, str::from_utf8(&out)?, wanted, "unused");
     want_memory(&rt, &RefusingHeap::refusing_from(rt.alloc(), 1));
     Ok(())
 }

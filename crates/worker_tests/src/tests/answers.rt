@@ -11,14 +11,17 @@ use std::test::Fail;
 use std::thread::Threads;
 
 /// A message on A, and a radio resource message inside one on Abis, that end too soon.
-const UNREAD: &str = "a 1 00051b
+const UNREADABLE: &str = "a 1 00051b
 abis 0 0 0302010b02000b00020615";
 
 /// The office doesn't take a message on Abis that ends too soon; it takes the others.
-fn give_unread<R: Threads + Wait + Abort + AllocGlobal + Drop>(rt: &R, hall: &mut Hall<R, Global>) {
+fn give_unreadable<R: Threads + Wait + Abort + AllocGlobal + Drop>(
+    rt: &R,
+    hall: &mut Hall<R, Global>,
+) {
     let answer = hall.give(input_of(rt, rt.alloc(), "abis 0 0 082201"));
     assert!(rt; answer == Err(GiveFault::Undecoded(RslFault::Torn(2))));
-    give_all(rt, hall, UNREAD);
+    give_all(rt, hall, UNREADABLE);
 }
 
 /// Both inputs were passed over.
@@ -45,16 +48,16 @@ fn asked_nothing<R: Wait + Abort + Drop>(rt: &R, left: &Left<R, Global>) {
 }
 
 /// Octets that aren't read.
-struct Unread;
+struct Unreadable;
 
-impl Course for Unread {
+impl Course for Unreadable {
     fn give<R: Threads + Wait + Abort + AllocGlobal + Drop>(
         &self,
         rt: &R,
         hall: &mut Hall<R, Global>,
         _taken: &Taken,
     ) {
-        give_unread(rt, hall);
+        give_unreadable(rt, hall);
     }
 
     fn see<R: Wait + Abort + AllocGlobal + Drop>(
@@ -69,5 +72,5 @@ impl Course for Unread {
 
 #[test]
 fn what_is_not_read_asks_nothing(rt: HostRuntime) -> Result<(), Fail> {
-    at_an_office(&rt, THREE_CHANNELS, 1, &Unread)
+    at_an_office(&rt, THREE_CHANNELS, 1, &Unreadable)
 }

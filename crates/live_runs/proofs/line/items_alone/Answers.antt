@@ -9,5 +9,5 @@ returns-clause-items g c = IfOk-weaker c.read_script.result _ _ (λ items is. is
 pub returns-clause-read : goal.returns-clause-read
 returns-clause-read g c = on_ok_weaker c.read_script.result (λ none. sym (alone_read c.args.line.now c.requires) ∙ is_none_none _ none) c.read_script.ensures.readable
 
-pub returns-clause-unread : goal.returns-clause-unread
-returns-clause-unread g c number is = sym (alone_read c.args.line.now c.requires) ∙ is_none_some _ number ((c.read_script.ensures.line number).0 is)
+pub returns-clause-unreadable : goal.returns-clause-unreadable
+returns-clause-unreadable g c number is = sym (alone_read c.args.line.now c.requires) ∙ is_none_some _ number ((c.read_script.ensures.line number).0 is)

@@ -1,6 +1,6 @@
 use Rattle.std.proofs.Common.{◌∙◌, ap, Err}
 use Rattle.live_runs.proofs.InputFacts.{both_are, no_and}
-use Rattle.live_runs.proofs.LineFacts.{says_last, says_unread}
+use Rattle.live_runs.proofs.LineFacts.{says_last, says_unreadable}
 use Rattle.live_runs.proofs.line.read_text.Goals as goal
 
 pub returns-in-Ok : goal.returns-in-Ok
@@ -10,4 +10,4 @@ returns-in-Ok g c =
 
 pub returns-in-Err-Line : goal.returns-in-Err-Line
 returns-in-Err-Line g c =
-    says_unread c.args.has_sim c.args.line.now (no_and _ _ (c.items_behind.ensures.unread c.in-Err-Line._number (c.in-Err-Line.is ∙ ap Err c.in-Err-Line.field-0-is)))
+    says_unreadable c.args.has_sim c.args.line.now (no_and _ _ (c.items_behind.ensures.unreadable c.in-Err-Line._number (c.in-Err-Line.is ∙ ap Err c.in-Err-Line.field-0-is)))

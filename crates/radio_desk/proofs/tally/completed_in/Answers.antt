@@ -5,12 +5,12 @@ use Rattle.std.proofs.lemmas.List.Sums.{length-filter}
 use Rattle.radio_book.specs.declared.event.Event.{Event}
 use Rattle.radio_book.specs.declared.event.Reply.{Reply}
 use Rattle.radio_book.specs.Kinds.{is_accepted}
-use Rattle.radio_desk.specs.Tally.{marks_of}
+use Rattle.radio_desk.specs.Tally.{milestones_of}
 use Rattle.radio_desk.proofs.tally.completed_in.Goals as goal
 
 pub returns : goal.returns
 returns c =
-    let is_such : Event × Reply → Bool = λ s. is_accepted s.1 && (marks_of s.0).completed in
+    let is_such : Event × Reply → Bool = λ s. is_accepted s.1 && (milestones_of s.0).completed in
     count_from_yields_List c.filter.result c.count.result c.count.ensures.ran
     (YieldsList-from_filter {ys = c.args.history.now} _ is_such
     (YieldsList-from_slice c.args.history.now cc)

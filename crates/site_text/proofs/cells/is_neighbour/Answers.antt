@@ -12,8 +12,8 @@ named site cell other (Some pair) name some = (pair.0, pair.1, (name pair.0 pair
 
 pub returns-then-other-cell : goal.returns-then-other-cell
 returns-then-other-cell g c =
-    let name = c.neighbour_name.ensures.name in
-    let found = c.neighbour_name.result in
+    let name = c.reported_as.ensures.name in
+    let found = c.reported_as.result in
     let is : c.is_some.result ≡ is_some found = search rules in (
       λ some.
           let n = named c.args.site.now c.args.cell c.args.other found name (sym is ∙ some) in

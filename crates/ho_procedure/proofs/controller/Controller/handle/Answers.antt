@@ -2,7 +2,7 @@ use Rattle.std.proofs.Common.{◌∙◌, ap, subst}
 use Rattle.ho_procedure.proofs.Handled.{follow_kept, stops_unknown}
 use Rattle.ho_procedure.proofs.Undecoded.{EndsFor, StopsFor, ended}
 use Rattle.ho_procedure.proofs.controller.Controller.handle.Goals as goal
-use Rattle.ho_procedure.proofs.controller.Controller.handle.Goals.{in-Ok, in-Err-Unread, in-Err-NoMemory, in-Err-Foreign}
+use Rattle.ho_procedure.proofs.controller.Controller.handle.Goals.{in-Ok, in-Err-Unreadable, in-Err-NoMemory, in-Err-Foreign}
 
 pub returns-clause-said : goal.returns-clause-said
 returns-clause-said g c = rw (← c.self.view_is) (follow_kept _ _ _ _ _ _ _ _ c.follow-done.ensures.ok c.follow-done.ensures.stops)
@@ -11,7 +11,7 @@ pub returns-clause-foreign : goal.returns-clause-foreign
 returns-clause-foreign g c =
     elim c.match-done.branch [
       | in-Ok v ↦ rw v.result-is tt
-      | in-Err-Unread v ↦ rw v.result-is (λ place is. absurd is)
+      | in-Err-Unreadable v ↦ rw v.result-is (λ place is. absurd is)
       | in-Err-NoMemory v ↦ rw v.result-is (λ place is. absurd is)
       | in-Err-Foreign v ↦
           let stops = rw v.in-Err-Foreign.is at c.follow-done.ensures.stops in
@@ -26,9 +26,9 @@ returns-clause-exact g c link bad u =
     c.follow-done.ensures.ok c.follow-done.ensures.stops u in
     elim c.match-done.branch [
       | in-Ok v ↦ absurd (subst (EndsFor c.args.input c.self.inside.work c.follow-done.new.work link bad) v.in-Ok.is end)
-      | in-Err-Unread v ↦
-          let stopped = subst (EndsFor c.args.input c.self.inside.work c.follow-done.new.work link bad) v.in-Err-Unread.is end in
-          rw v.result-is (subst (StopsFor c.args.input c.self.inside.work c.follow-done.new.work link bad) (rw v.in-Err-Unread.is at v.in-Err-Unread.field-0-is) stopped)
+      | in-Err-Unreadable v ↦
+          let stopped = subst (EndsFor c.args.input c.self.inside.work c.follow-done.new.work link bad) v.in-Err-Unreadable.is end in
+          rw v.result-is (subst (StopsFor c.args.input c.self.inside.work c.follow-done.new.work link bad) (rw v.in-Err-Unreadable.is at v.in-Err-Unreadable.field-0-is) stopped)
       | in-Err-NoMemory v ↦
           let stopped = subst (EndsFor c.args.input c.self.inside.work c.follow-done.new.work link bad) v.in-Err-NoMemory.is end in
           let refused = subst (StopsFor c.args.input c.self.inside.work c.follow-done.new.work link bad) (rw v.in-Err-NoMemory.is at v.in-Err-NoMemory.field-0-is) stopped in

@@ -1,16 +1,16 @@
 use Rattle.std.proofs.Common.{◌≡◌, ◌∙◌, sym, ap, subst, refl}
 use Rattle.lab_script.specs.Script.{is_item_there}
 use Rattle.live_runs.specs.declared.line.Said.{Said}
-use Rattle.live_runs.specs.declared.line.Said.TheVariants.{Unread, Nothing, Gives}
+use Rattle.live_runs.specs.declared.line.Said.TheVariants.{Unreadable, Nothing, Gives}
 use Rattle.live_runs.specs.Lines.{Says}
-use Rattle.live_runs.proofs.LiveFacts.{unread_takes, nothing_takes, gives_takes}
+use Rattle.live_runs.proofs.LiveFacts.{unreadable_takes, nothing_takes, gives_takes}
 use Rattle.live_runs.proofs.taking.Live.take.Goals as goal
 
-pub returns-in-Unread-clause-takes : goal.returns-in-Unread-clause-takes
-returns-in-Unread-clause-takes g c =
+pub returns-in-Unreadable-clause-takes : goal.returns-in-Unreadable-clause-takes
+returns-in-Unreadable-clause-takes g c =
     let s = c.args.self.now in
-    let h = subst (Says s.has_sim c.args.line.now) c.in-Unread.is c.in_ok-said.ensures in
-    unread_takes c.args.line.now s s refl (sym h.read) h.sim
+    let h = subst (Says s.has_sim c.args.line.now) c.in-Unreadable.is c.in_ok-said.ensures in
+    unreadable_takes c.args.line.now s s refl (sym h.read) h.sim
 
 pub returns-in-Nothing-clause-takes : goal.returns-in-Nothing-clause-takes
 returns-in-Nothing-clause-takes g c =

@@ -6,5 +6,5 @@ use Rattle.radio_book.proofs.book.BookPartialEq.eq.Goals as goal
 
 pub returns-clause-value : goal.returns-clause-value
 returns-clause-value g c =
-    let told : IsTrue c.same.result ↔ (c.args.self.now ≡ c.args.other.now) = search rules in
-    same_from_decides c.same.result (is_same state_code c.args.self.now c.args.other.now) told (is_same-Decides state_code c.args.self.now c.args.other.now)
+    let told : IsTrue c.is_same.result ↔ (c.args.self.now ≡ c.args.other.now) = search rules in
+    same_from_decides c.is_same.result (is_same state_code c.args.self.now c.args.other.now) told (is_same-Decides state_code c.args.self.now c.args.other.now)

@@ -8,7 +8,7 @@ use std::{fmt, str};
 
 /// Why a line can't be read.
 #[derive(Clone, Copy, Debug, PartialEq, Eq)]
-pub enum Unread<'a> {
+pub enum Unreadable<'a> {
     /// It has more octets than a line may have.
     TooLong,
     /// It isn't UTF-8: the place, counted from 1, of the first octet that is no part of a text.
@@ -17,12 +17,12 @@ pub enum Unread<'a> {
     NotScript(Reason<'a>),
 }
 
-impl fmt::Display for Unread<'_> {
+impl fmt::Display for Unreadable<'_> {
     fn fmt<W: fmt::Write>(&self, f: &mut fmt::Formatter<W>) -> fmt::Result {
         match self {
-            Unread::TooLong => write!(f, "a line has at most 65,536 octets"),
-            Unread::NotText(place) => write!(f, "isn't UTF-8 (octet {place})"),
-            Unread::NotScript(reason) => write!(f, "{reason}"),
+            Unreadable::TooLong => write!(f, "a line has at most 65,536 octets"),
+            Unreadable::NotText(place) => write!(f, "isn't UTF-8 (octet {place})"),
+            Unreadable::NotScript(reason) => write!(f, "{reason}"),
         }
     }
 }
@@ -37,12 +37,12 @@ fn reason_of(text: &str, has_sim: bool) -> Option<Reason<'_>> {
 }
 
 /// Why a line can't be read, where simulators are attached or not; nothing where it can.
-pub fn unread_of(line: &[u8], has_sim: bool) -> Option<Unread<'_>> {
+pub fn unreadable_of(line: &[u8], has_sim: bool) -> Option<Unreadable<'_>> {
     if line.len() > LONGEST_LINE {
-        return Some(Unread::TooLong);
+        return Some(Unreadable::TooLong);
     }
     match str::from_utf8(line) {
-        Ok(text) => Some(Unread::NotScript(reason_of(text, has_sim)?)),
-        Err(fault) => Some(Unread::NotText(fault.valid_up_to().saturating_add(1))),
+        Ok(text) => Some(Unreadable::NotScript(reason_of(text, has_sim)?)),
+        Err(fault) => Some(Unreadable::NotText(fault.valid_up_to().saturating_add(1))),
     }
 }

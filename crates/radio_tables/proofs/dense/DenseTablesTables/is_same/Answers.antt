@@ -2,8 +2,8 @@ use Rattle.std.proofs.Common.{◌≡◌, true, length, sym, ap, ◌∙◌}
 use Rattle.std.specs.Bool.{Decides}
 use Rattle.std.proofs.lemmas.Bool.{false≢true}
 use Rattle.radio_tables.proofs.DenseFacts.{state_in, told}
-use Rattle.radio_tables.proofs.dense.DenseTablesTables.same.Goals.{then-is_same, else-is_same}
-use Rattle.radio_tables.proofs.dense.DenseTablesTables.same.Goals as goal
+use Rattle.radio_tables.proofs.dense.DenseTablesTables.is_same.Goals.{then-is_same, else-is_same}
+use Rattle.radio_tables.proofs.dense.DenseTablesTables.is_same.Goals as goal
 
 pub returns-then-is_same-2 : goal.returns-then-is_same-2
 returns-then-is_same-2 g c =

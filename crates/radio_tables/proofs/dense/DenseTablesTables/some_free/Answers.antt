@@ -1,7 +1,7 @@
 use Rattle.std.proofs.Common.{IfSome, IfNone, subst}
 use Rattle.radio_tables.specs.Choice.{IsFreeAt, NoneFreeAt}
 use Rattle.radio_tables.proofs.DenseFacts.{found_free, none_free}
-use Rattle.radio_tables.proofs.dense.DenseTablesTables.lowest_free.Goals as goal
+use Rattle.radio_tables.proofs.dense.DenseTablesTables.some_free.Goals as goal
 
 pub returns-clause-found : goal.returns-clause-found
 returns-clause-found g c =

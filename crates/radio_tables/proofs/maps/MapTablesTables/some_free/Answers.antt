@@ -1,7 +1,7 @@
 use Rattle.std.proofs.Common.{◌∙◌, ap, subst}
 use Rattle.cell_table.specs.Site.{TrafficLiesWithin}
 use Rattle.radio_tables.proofs.Chosen.{if_found, if_none}
-use Rattle.radio_tables.proofs.maps.MapTablesTables.lowest_free.Goals as goal
+use Rattle.radio_tables.proofs.maps.MapTablesTables.some_free.Goals as goal
 
 pub returns-clause-found : goal.returns-clause-found
 returns-clause-found g c = if_found c.args.self.now c.args.cell c.args.rate c.first_free.result c.first_free.ensures

@@ -1,6 +1,6 @@
 use Rattle.std.proofs.Common.{ap}
 use Rattle.radio_tables.proofs.DenseFacts.{same_site}
-use Rattle.radio_tables.proofs.dense.DenseTablesTables.free_channel.Goals as goal
+use Rattle.radio_tables.proofs.dense.DenseTablesTables.vacate_channel.Goals as goal
 
 pub invariant_of-self : goal.invariant_of-self
 invariant_of-self g c =

@@ -3,7 +3,7 @@ use Rattle.cell_table.specs.Site.{TrafficLiesWithin}
 use Rattle.radio_tables.specs.Choice.{IsFreeCount}
 use Rattle.radio_tables.proofs.Chosen.{count_from_none, none_from_count}
 use Rattle.radio_tables.proofs.FreeSet.{free_counted}
-use Rattle.radio_tables.proofs.maps.MapTablesTables.free_count.Goals as goal
+use Rattle.radio_tables.proofs.maps.MapTablesTables.free_in.Goals as goal
 
 pub returns-clause-count : goal.returns-clause-count
 returns-clause-count g c =

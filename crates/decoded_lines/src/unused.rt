@@ -19,7 +19,7 @@ fn print_octets<W: Write>(octets: &[u8], out: &mut W) -> io::Result<()> {
 }
 
 /// Prints the elements of a body that aren't among the first of those that are used.
-fn print_spares<T: ElementTable, W: Write>(
+fn print_unused<T: ElementTable, W: Write>(
     used: &mut Used,
     body: &[u8],
     out: &mut W,
@@ -38,17 +38,17 @@ fn print_spares<T: ElementTable, W: Write>(
 /// Prints the elements in a message's octets on Abis that it doesn't use, in their order: for each a blank and
 /// `unused=IDENTIFIER/VALUE` in hexadecimal. They are those that no message uses, those that only other messages use, and
 /// each that comes again. `used` are the elements that it uses.
-pub fn print_abis_spares<W: Write>(mut used: Used, octets: &[u8], out: &mut W) -> io::Result<()> {
+pub fn print_abis_unused<W: Write>(mut used: Used, octets: &[u8], out: &mut W) -> io::Result<()> {
     match octets {
-        [_, _, body @ ..] => print_spares::<AbisForms, W>(&mut used, body, out),
+        [_, _, body @ ..] => print_unused::<AbisForms, W>(&mut used, body, out),
         _ => Ok(()),
     }
 }
 
-/// Prints the elements in a message's octets on A that it doesn't use, as [`print_abis_spares`] does.
-pub fn print_a_spares<W: Write>(mut used: Used, octets: &[u8], out: &mut W) -> io::Result<()> {
+/// Prints the elements in a message's octets on A that it doesn't use, as [`print_abis_unused`] does.
+pub fn print_a_unused<W: Write>(mut used: Used, octets: &[u8], out: &mut W) -> io::Result<()> {
     match octets {
-        [_, _, _, body @ ..] => print_spares::<AForms, W>(&mut used, body, out),
+        [_, _, _, body @ ..] => print_unused::<AForms, W>(&mut used, body, out),
         _ => Ok(()),
     }
 }

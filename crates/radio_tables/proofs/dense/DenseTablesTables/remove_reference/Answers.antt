@@ -1,6 +1,6 @@
 use Rattle.std.proofs.Common.{ap}
 use Rattle.radio_tables.proofs.DenseFacts.{same_rows}
-use Rattle.radio_tables.proofs.dense.DenseTablesTables.drop_reference.Goals as goal
+use Rattle.radio_tables.proofs.dense.DenseTablesTables.remove_reference.Goals as goal
 
 pub invariant_of-self : goal.invariant_of-self
 invariant_of-self g c =

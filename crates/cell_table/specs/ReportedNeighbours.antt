@@ -20,6 +20,6 @@ abbrev pub name_of : List ℕ → CellIdentity → Option (ℕ × ℕ)
 name_of ba c = option_map (λ place. (place, bsic_of c)) (place_of ba c.bcch)
 
 -- the name of a cell, own or outside, in an own cell
-abbrev pub neighbour_name : SiteView → ℕ → ℕ → Option (ℕ × ℕ)
-neighbour_name site cell neighbour =
+abbrev pub reported_as : SiteView → ℕ → ℕ → Option (ℕ × ℕ)
+reported_as site cell neighbour =
     option_and_then (λ serving. option_and_then (name_of serving.ba) (identity_at site neighbour)) (slice_get site.cells cell)

@@ -2,7 +2,7 @@ use Rattle.std.proofs.Common.{◌≡◌, rules}
 use Rattle.std.proofs.lemmas.Bool.Decides.{Decides-at}
 use Rattle.radio_tables.specs.State.{state_code}
 use Rattle.radio_tables.specs.Same.{is_same, is_same-Decides}
-use Rattle.radio_tables.proofs.maps.MapTablesTables.same.Goals as goal
+use Rattle.radio_tables.proofs.maps.MapTablesTables.is_same.Goals as goal
 
 pub returns : goal.returns
 returns g c =

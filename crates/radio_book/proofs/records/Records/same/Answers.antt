@@ -1,4 +1,0 @@
-use Rattle.radio_book.proofs.records.Records.same.Goals as goal
-
-pub returns : goal.returns
-returns g c = rw (← c.self.view_is, ← c.other.view_is) c.same.ensures.same
