@@ -1,4 +1,4 @@
--- The elements on A: identifiers (TS 48.008 clause 3.2.2.1) and forms (clause 3.2.2).
+-- The elements on A: identifiers and forms (TS 48.008 clause 3.2.2).
 use Rattle.std.specs.Prelude.{ℕ, ◌-◌, if◌then◌else◌, ◌==◌, List, [], ◌∷◌}
 use Rattle.octet_elements.specs.declared.form.Form.{Form}
 use Rattle.octet_elements.specs.declared.form.Form.TheVariants.{Fixed, Counted}

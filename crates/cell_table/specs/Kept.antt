@@ -15,14 +15,14 @@ use Rattle.cell_table.specs.SiteFile.{Read, ◌>>=◌, value_at, number_within, 
 abbrev pub first_nine : Read (List ℕ) → Read (List ℕ)
 first_nine slots = result_map_both (λ found. take 9 found) (λ fault. fault) slots
 
--- the timeslots of a TRX, by the entries of `tch`
+-- a TRX with this carrier, by the entries of `tch`
 unfoldable pub trx_by : ℕ → Allowed → List Data → Data → Read TrxView
 trx_by arfcn range entries d = do
   tch ← each (λ place. number_of key.Tch range) 0 entries
   half ← first_nine (half_of tch d)
   Ok (record { arfcn = arfcn; tch = take 9 tch; half = half })
 
--- the timeslots of a TRX, the first of a cell or another
+-- a TRX with this carrier, the first of a cell or another
 unfoldable pub kept_slots : ℕ → Bool → Data → Read TrxView
 kept_slots arfcn first d = do
   value ← value_at key.Tch d

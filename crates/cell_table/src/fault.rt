@@ -114,7 +114,8 @@ pub enum SiteFault {
     /// A required key is absent.
     #[error("the key {0} is missing")]
     Missing(Key),
-    /// The value of a key is of another kind, or out of its range.
+    /// The value of a key is of another kind, or out of its range. An entry of `half` is so, too, where it doesn't stand in
+    /// the TRX's `tch`.
     #[error("the value of {0} is of another kind than allowed, or out of its range")]
     Range(Key),
     /// Something that may be said only once is said twice.

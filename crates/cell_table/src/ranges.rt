@@ -34,7 +34,8 @@ impl Key {
     /// The numbers that the value of the key may be, or each entry where it is a list of numbers; of a key with tables,
     /// how many there may be.
     ///
-    /// The first TRX of a cell may have less at `arfcn` and `tch`: [`arfcn_range`], [`tch_range`].
+    /// The first TRX of a cell may have less at `arfcn` and `tch`: [`arfcn_range`], [`tch_range`]. An entry of `half` also
+    /// has to stand in the TRX's `tch`.
     pub fn allowed(self) -> Allowed
         ensures table { result ≡ allowed self }
     {

@@ -194,15 +194,16 @@ impl<A: Allocator + Copy> Site<A> {
         Some(self.identity(cell)?.bcc)
     }
 
-    /// `power` of an own cell: the power level that mobiles begin with (TS 45.005 clause 4.1.1); `None` where there is no such cell.
+    /// `power` of an own cell: the power level that mobiles begin with (TS 45.005 clause 4.1.1); `None` where there is no
+    /// such cell.
     pub fn power(&self, cell: u8) -> Option<u8>
         ensures value { result ≡ option_map (λ c. c.power) (slice_get self.now.cells cell) }
     {
         Some(self.tables.cells.get(cell as usize)?.power)
     }
 
-    /// `ba` of an own cell: its BA list, the BCCH carriers of its neighbours (TS 44.018 clause 10.5.2.22), in the site file's order; `None` where there is no such
-    /// cell.
+    /// `ba` of an own cell: its BA list, the BCCH carriers of its neighbours (TS 44.018 clause 10.5.2.22), in the site
+    /// file's order; `None` where there is no such cell.
     pub fn ba(&self, cell: u8) -> Option<&[u16]>
         ensures value { option_map (λ found. found.now) result ≡
             option_map (λ c. c.ba) (slice_get self.now.cells cell) }
@@ -278,8 +279,8 @@ impl<A: Allocator + Copy> Site<A> {
         neighbour_named(&self.tables, cell, position, bsic)
     }
 
-    /// The place of a channel in the list of the site's traffic channels by cell, TRX and timeslot, a whole timeslot before
-    /// its halves, counted from 0; `None` for any other channel.
+    /// The place of a channel in the list of the site's traffic channels by cell, TRX and timeslot, and then the whole
+    /// timeslot, its lower and its upper half; counted from 0; `None` for any other channel.
     pub fn index_of(&self, chan: ChanId) -> Option<usize>
         ensures value { result ≡ index_of self.now chan }
     {

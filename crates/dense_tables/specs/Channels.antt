@@ -31,11 +31,11 @@ channels_code =
 abbrev pub all_free : SiteView → Channels
 all_free site = record { site = site; states = map.empty }
 
--- the channel has this state from now on, or is free
+-- the channel has this state from now on, or is in use no more
 abbrev pub with_state : Channels → ChanId → Option ChanState → Channels
 with_state c x s = record c { states = put c.states x s }
 
--- a channel that has no entry is free
+-- a channel without an entry has the state of a free one
 abbrev pub or_free : Option ChanState → ChanState
 or_free None = Free
 or_free (Some s) = s
@@ -174,7 +174,7 @@ lower_of (Some x) None = Some x
 lower_of None other = other
 
 -- what holds of a table of channels: its lists have a place for each channel, places and masks are those of the site,
--- and it counts the channels that aren't free
+-- and it counts the channels in use
 pub record IsTable (site : SiteView) (states : List ChanState) (places : List (Option ℕ)) (masks : List ℕ) (used : ℕ) : Type 0 where
   pub is_site : IsSite site
   pub lies : TrafficLiesWithin site

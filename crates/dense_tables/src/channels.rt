@@ -27,7 +27,7 @@ pub struct ChannelStates<A: Allocator = Global> {
     states: Vec<ChanState, A>,
     places: Vec<Option<u16>, A>,
     masks: Vec<FreeMask, A>,
-    // how many channels aren't free
+    // how many channels are in use
     used: usize,
 }
 
@@ -99,14 +99,14 @@ impl<A: Allocator> ChannelStates<A> {
         place_in(&self.places, x).is_some()
     }
 
-    /// How many channels aren't free.
+    /// How many channels are in use: have a state.
     pub fn len(&self) -> usize
         ensures count { result ≡ map.len self.now.states }
     {
         self.used
     }
 
-    /// The state of a channel; `None` where it is free.
+    /// The state of a channel; `None` where it isn't in use.
     pub fn get(&self, x: ChanId) -> Option<ChanState>
         ensures value { result ≡ map.get self.now.states x }
     {
@@ -114,7 +114,7 @@ impl<A: Allocator> ChannelStates<A> {
         busy(self.states[place])
     }
 
-    /// A traffic channel has this state from now on, which isn't that of a free one.
+    /// A traffic channel is in use from now on, and has this state.
     pub fn set(&mut self, x: ChanId, state: ChanState)
         requires traffic { is_traffic self.old.site x ≡ true }
         requires busy { state ≢ chan.Free }
@@ -123,7 +123,7 @@ impl<A: Allocator> ChannelStates<A> {
         self.write(x, state);
     }
 
-    /// A channel that isn't free has another such state from now on.
+    /// A channel in use has another state of use from now on.
     pub fn replace(&mut self, x: ChanId, state: ChanState)
         requires used { IsSome (map.get self.old.states x) }
         requires busy { state ≢ chan.Free }
@@ -135,7 +135,7 @@ impl<A: Allocator> ChannelStates<A> {
         }
     }
 
-    /// A channel is free from now on.
+    /// A channel is in use no more.
     pub fn free(&mut self, x: ChanId)
         ensures freed { self.new ≡ with_state self.old x None }
     {
@@ -156,7 +156,7 @@ impl<A: Allocator> ChannelStates<A> {
         }
     }
 
-    /// In the way of how many traffic channels of a cell nothing is.
+    /// How many traffic channels of a cell have nothing in their way.
     pub fn free_in(&self, cell: u8) -> u32
         ensures count { result ≡ free_in self.now cell }
     {
@@ -174,7 +174,7 @@ impl<A: Allocator> ChannelStates<A> {
         self.site == other.site && self.used == other.used && same_states(self, other)
     }
 
-    /// Another state of a channel. One that isn't for traffic is free anyway.
+    /// Another state of a channel. One that isn't for traffic is never in use.
     fn write(&mut self, x: ChanId, state: ChanState)
         requires { busy state ≢ None → is_traffic self.old.site x ≡ true }
         ensures { self.new ≡ with_state self.old x (busy state) }
@@ -188,7 +188,7 @@ impl<A: Allocator> ChannelStates<A> {
     }
 }
 
-/// The state, where it isn't that of a free channel.
+/// The state, where it is that of a channel in use.
 fn busy(state: ChanState) -> Option<ChanState>
     ensures { result ≡ busy state }
 {
@@ -200,7 +200,7 @@ fn busy(state: ChanState) -> Option<ChanState>
     }
 }
 
-/// How many channels with this state aren't free.
+/// How many channels with this state are in use: one, or none.
 fn count_of(state: ChanState) -> usize
     ensures { result ≡ cond (is_some (busy state)) 1 0 }
 {

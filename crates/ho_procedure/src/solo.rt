@@ -3,7 +3,7 @@ ghost use Rattle.std.specs.Prelude.{◌≡◌, ◌⊎◌, ◌∷◌, ◌++◌, [
 ghost use Rattle.channel_fsm.specs.declared.ChanId.{ChanId};
 ghost use Rattle.channel_fsm.specs.Slots.{rate_of};
 ghost use Rattle.radio_book.specs.declared.event.Event.{Event};
-ghost use Rattle.radio_book.specs.Choice.{TakesFree, ReservesFree};
+ghost use Rattle.radio_book.specs.Choice.{TakesFree};
 ghost use Rattle.radio_book.specs.Choice as free;
 ghost use Rattle.radio_book.specs.Table.{row, NeedsRoom};
 ghost use Rattle.radio_desk.specs.Desk.{IsJudged, LacksRoom};
@@ -120,9 +120,7 @@ impl<A: Allocator + Copy> DeskView for Solo<A> {
         ensures err { OnErr result (self.new.history ≡ self.old.history) }
         ensures foreign { IfErr result (λ f. (place : ℕ) → IsForeign f place →
             IsTrueAfter self.old.opening self.old.history (UnknownReceipt place)) }
-        ensures refused { result ≡ Err DeskFault.NoMemory → LacksRoom self.old ⊎
-            ((e : Event) × ReservesFree self.old.book call e ×
-            NeedsRoom self.old.book (row self.old.book e)) }
+        ensures refused { result ≡ Err DeskFault.NoMemory → LacksRoom self.old }
         ensures said { (es : List Entry) → (claim : Claim) →
             IsTrueAfter self.new.opening es claim → IsTrueAfter self.old.opening es claim }
     {

@@ -8,8 +8,8 @@ use rr_elements::MeasResults;
 use std::alloc::{AllocError, Allocator, Global};
 use std::marker::Model;
 
-/// The last valid reports of a mobile, at most as many as the window was made for. A report with another one behind it
-/// that many times is forgotten.
+/// The last valid reports of a mobile, at most as many as the window was made for. Once so many have come behind
+/// it, a report is forgotten.
 #[derive(Drop)]
 pub struct Window<A: Allocator = Global> {
     reports: HeapCircularBuffer<MeasResults, A>,

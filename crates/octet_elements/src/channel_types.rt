@@ -19,7 +19,8 @@ pub fn channel_type(sub: Sub) -> u8
     }
 }
 
-/// The traffic channel with this channel type; `None` where no traffic channel has it.
+/// The part of a timeslot that a traffic channel with this channel type has; `None` where no traffic channel of one timeslot
+/// has it.
 #[inline]
 #[tactic(auto, unfolding(crate::specs::ChannelTypes::sub_of, crate::specs::ChannelTypes::subs))]
 pub fn sub_of_type(number: u8) -> Option<Sub>

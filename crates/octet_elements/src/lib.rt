@@ -5,8 +5,8 @@
 //! length of one octet or of two before the value. A codec gives its table of elements
 //! ([`ElementTable`]); [`Found::read`] reads the octets once and keeps the values that its messages
 //! use, [`values`] says what a value holds, and [`append_element`] writes. Where fields of a
-//! value aren't whole octets, [`BitReader`] and [`BitWriter`] read and write them bit by bit. [`Sub`] is the one table of
-//! channel types for all elements that name a traffic channel.
+//! value aren't whole octets, [`BitReader`] and [`BitWriter`] read and write them bit by bit.
+//! [`channel_type`] and [`sub_of_type`] are the one table of channel types, for all elements that name a traffic channel.
 #![tactic(auto)]
 
 mod bits;

@@ -1,5 +1,5 @@
 //! Writing into a list that has room.
-ghost use Rattle.std.specs.Prelude.{◌≡◌, ◌+◌, ◌≤◌, ◌∷◌, [], length, IsOk, OnOk, vec_len, vec_capacity};
+ghost use Rattle.std.specs.Prelude.{◌≡◌, ◌+◌, ◌≤◌, ◌∷◌, [], length, IsOk, OnOk, OnErr, vec_len, vec_capacity};
 ghost use Rattle.octet_elements.specs.Elements.{element_octets, all_octets, Fits};
 ghost use Rattle.octet_elements.specs.Values.{where_some, where_true};
 ghost use Rattle.octet_elements.specs.Writing.{HasRoom, Adds};
@@ -17,6 +17,7 @@ pub fn make_room<A: Allocator>(out: &mut Vec<u8, A>, count: usize) -> Result<(),
     ensures succeeds { vec_len out.old + count ≤ vec_capacity out.old → IsOk result }
     ensures had_room { vec_len out.old + count ≤ vec_capacity out.old → out.new ≡ out.old }
     ensures capacity { vec_capacity out.old ≤ vec_capacity out.new }
+    ensures refused { OnErr result (vec_capacity out.new ≡ vec_capacity out.old) }
 {
     // `reserve` looks for room itself, but `std` doesn't say that it then leaves the capacity as it was.
     if out.capacity() - out.len() < count {

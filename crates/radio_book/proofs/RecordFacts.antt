@@ -1,6 +1,6 @@
 -- What a sound book says of the channels that an event reads.
-use Rattle.std.proofs.Common.{◌≡◌, ◌==◌, ◌<◌, ℕ, true, false, if◌then◌else◌, [], length, slice_get, unwrap_or, option_and_then, Option, Some, None, is_some, Result, Ok, Err, OnOk, OnErr, refl, sym, ap, ◌∙◌, subst}
-use Rattle.std.proofs.lemmas.Bool.{eq-eqb}
+use Rattle.std.proofs.Common.{◌≡◌, ◌==◌, ◌<◌, ℕ, true, false, if◌then◌else◌, [], length, absurd, slice_get, unwrap_or, option_and_then, Option, Some, None, is_some, Result, Ok, Err, OnOk, OnErr, refl, sym, ap, ◌∙◌, subst}
+use Rattle.std.proofs.lemmas.Bool.{eq-eqb, false≢true}
 use Rattle.std.specs.Option.{option_map}
 use Rattle.std.specs.List.{list_any}
 use Rattle.std.proofs.lemmas.Option.{slice_get_within}
@@ -12,13 +12,16 @@ use Rattle.radio_tables.specs.declared.kinds.Stage.{Stage}
 use Rattle.radio_tables.specs.declared.kinds.Attempt.{Attempt}
 use Rattle.radio_tables.specs.declared.kinds.CallRecord.{CallRecord}
 use Rattle.radio_book.specs.declared.event.Event.{Event}
+use Rattle.radio_book.specs.declared.event.Event.TheVariants.{Take, Reserve}
+use Rattle.radio_book.specs.declared.event.Kind.{Kind}
+use Rattle.radio_book.specs.declared.event.Kind.TheVariants.{Internal, Incoming}
 use Rattle.radio_book.specs.declared.event.Refusal.TheVariants.{ChannelBusy}
 use Rattle.cell_table.specs.Site.{SiteView, slots_with, is_traffic}
 use Rattle.channel_fsm.specs.declared.ChanEvent.TheVariants.{Send}
 use Rattle.radio_book.specs.Channels.{entry_of, channel_step}
 use Rattle.radio_book.specs.State.{State, or_free, state_of, record_of}
 use Rattle.radio_book.specs.Sound.{IsSound, HasTarget}
-use Rattle.radio_book.specs.Table.{Refuses, in_way, step, begin_row, with_entry}
+use Rattle.radio_book.specs.Table.{Refuses, MayBeRefused, in_way, step, begin_row, with_entry}
 use Rattle.radio_tables.specs.Stages.{stage_row, sent_inverses, opening_inverse}
 use Rattle.radio_book.specs.Journal.{journal_of, or_zero, or_origin}
 use Rattle.radio_book.proofs.Frame.{aimed_is_owned, way_free}
@@ -80,3 +83,12 @@ pending_moves b c x s sound pending same r a known opened aims =
 pub stepped_sound : {T E : Type 0} (r : Result T E) (b n : State) (e : Event) → IsSound b → OnOk r (n ≡ step b e) → OnErr r (n ≡ b) → IsSound n
 stepped_sound (Ok x) b n e sound stepped same = subst IsSound (sym stepped) (sound_step b e sound)
 stepped_sound (Err f) b n e sound stepped same = subst IsSound (sym same) sound
+
+-- where no change in place is refused memory, a Take that is refused it begins a call
+pub begins_call : (c : ℕ) (kind : Kind) (x : ChanId) → MayBeRefused false (Take c kind x) → kind ≡ Incoming
+begins_call c Internal x refused = absurd (false≢true refused)
+begins_call c Incoming x refused = refl
+
+-- and no Reserve is refused it
+pub never_reserve : (c n : ℕ) → MayBeRefused false (Reserve c n) → ⊥
+never_reserve c n refused = false≢true refused

@@ -1,5 +1,5 @@
 //! The radio book.
-ghost use Rattle.std.specs.Prelude.{◌≡◌, ◌↔◌, ℕ, Option, Ok, None, OnOk, OnErr, IfOk, IfSome, MatchOption, IsTrue, false};
+ghost use Rattle.std.specs.Prelude.{◌≡◌, ◌↔◌, ℕ, Option, Ok, None, IsOk, OnOk, OnErr, IfOk, IfSome, MatchOption, IsTrue, false};
 ghost use Rattle.std.specs.FinMap as map;
 ghost use Rattle.radio_book.specs.State.{empty_book, state_code};
 ghost use Rattle.radio_tables.specs.Same.{is_same, is_same-IsEquivalence};
@@ -8,6 +8,7 @@ ghost use Rattle.radio_book.specs.Sound.{IsSound};
 ghost use Rattle.channel_fsm.specs.declared.ChanState.{ChanState};
 ghost use Rattle.radio_tables.specs.declared.kinds.CallRecord.{CallRecord};
 ghost use Rattle.radio_book.specs.declared.event.Event.{Event};
+ghost use Rattle.radio_book.specs.declared.event.Kind.{Kind};
 ghost use Rattle.radio_book.specs.declared.event.Why.{Why};
 ghost use Rattle.radio_book.specs.Journal.{journal_of, run_back};
 ghost use Rattle.radio_book.specs.Table.{step, reply_to, row, NeedsRoom, MayNeedRoom, MayBeRefused};
@@ -25,7 +26,7 @@ use std::sync::Arc;
 /// How much a book holds.
 #[derive(Clone, Copy, Debug, PartialEq, Eq)]
 pub struct Usage {
-    /// Channels that aren't free.
+    /// Channels in use.
     pub channels: usize,
     /// Calls that have a record.
     pub calls: usize,
@@ -35,8 +36,8 @@ pub struct Usage {
     pub timers: usize,
 }
 
-/// The book of a site: the state of each channel that isn't free, the record of each call, and the
-/// handover references and timers that attempts hold. It is sound at all times.
+/// The book of a site: the state of each channel in use, the record of each call, and the handover
+/// references and timers that attempts hold. It is sound at all times.
 #[derive(Drop)]
 pub struct Book<A: Allocator = Global> {
     records: Records<DenseTables<A>>,
@@ -124,7 +125,7 @@ impl<A: Allocator + Copy> Book<A> {
         self.records.calls()
     }
 
-    /// How many channels aren't free.
+    /// How many channels are in use.
     pub fn channels(&self) -> usize
         ensures channels { result ≡ map.len self.now.channels }
     {
@@ -170,8 +171,8 @@ impl<A: Allocator + Copy> Book<A> {
     }
 
     /// A `Take` of some free channel of the cell at a rate, judged as by [`Book::step`], with its answer. `None` says that
-    /// there is none, as in a cell that the site lacks; then no memory was asked for. Any free channel meets the contract;
-    /// this body takes that of the lowest TRX, then timeslot, then half.
+    /// there is none, as in a cell that the site lacks. Memory is asked for only where the `Take` is of kind `Incoming` and
+    /// is accepted. Any free channel meets the contract; this body takes that of the lowest TRX, then timeslot, then half.
     pub fn take_any(
         &mut self,
         call: u16,
@@ -190,6 +191,7 @@ impl<A: Allocator + Copy> Book<A> {
         ensures unchanged { OnErr result (self.new ≡ self.old) }
         ensures memory { OnErr result ((e : Event) × TakesFree self.old call kind cell rate e ×
             NeedsRoom self.old (row self.old e)) }
+        ensures begins { OnErr result (kind ≡ Kind.Incoming) }
     {
         let Some(x) = self.records.choose_channel(cell, rate) else {
             return Ok(None);
@@ -202,14 +204,12 @@ impl<A: Allocator + Copy> Book<A> {
     /// A `Reserve` of a number whose reference in the cell of the call's target isn't in use, judged as by
     /// [`Book::step`], with its answer. There is always one: a cell has no more than 96 channels. Where the
     /// call has no attempt that waits for a reference, it is `Reserve(call, 0)`, and the answer its refusal.
-    /// Any such number meets the contract; this body takes the lowest.
+    /// Any such number meets the contract; this body takes the lowest. No memory is asked for, and none is refused.
     pub fn reserve_any(&mut self, call: u16) -> Result<(Event, Reply), AllocError>
         ensures event { IfOk result (λ chosen. ReservesFree self.old call chosen.0) }
         ensures reply { IfOk result (λ chosen. chosen.1 ≡ reply_to self.old chosen.0) }
         ensures book { IfOk result (λ chosen. self.new ≡ step self.old chosen.0) }
-        ensures unchanged { OnErr result (self.new ≡ self.old) }
-        ensures memory { OnErr result ((e : Event) × ReservesFree self.old call e ×
-            NeedsRoom self.old (row self.old e)) }
+        ensures always { IsOk result }
     {
         let number = self.records.choose_number(call);
         let event = Event::Reserve(call, number);

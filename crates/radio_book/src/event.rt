@@ -118,7 +118,8 @@ pub enum Refusal {
     NoChannel,
     /// The channel lies in the cell of the call's serving channel.
     SameCell,
-    /// The channel is not free.
+    /// This channel is in the way: the first of the whole timeslot, its lower and its upper half that is in use, and that is
+    /// the channel asked for or conflicts with it.
     ChannelBusy(ChanId),
     /// The handover reference is in use: its cell, and its number.
     RefBusy(u8, u8),

@@ -5,7 +5,7 @@ ghost use Rattle.radio_tables.specs.Stages.{stage_row};
 ghost use Rattle.radio_book.specs.Table.{reference_held};
 ghost use Rattle.radio_book.specs.Undone.{is_call, is_channel, is_reference, is_on_target, reserves, releases, comes_from};
 ghost use Rattle.radio_book.specs.Found.{ends};
-ghost use Rattle.radio_book.specs.Following.{may_be_active, leaves_off, stays, refused_in, holds, number_with, ended_with, after, opening_of, is_over, is_settled_in, is_undone_in, settles};
+ghost use Rattle.radio_book.specs.Following.{may_be_active, leaves_off, stays, refused_in, holds, number_with, ended_with, after, opening_of, is_over, is_settled_in, is_undone_in};
 
 use crate::event::{Attempt, Reference, Refusal, Reply};
 use crate::kinds::{
@@ -281,21 +281,6 @@ impl Followed {
             Phase::Awaiting | Phase::Settled => true,
             Phase::Open(_) | Phase::Completed => false,
         }
-    }
-
-    /// Whether these steps, which follow, take the attempt back and leave nothing of it. Walks no further than to where that
-    /// is known.
-    pub fn settles(&self, steps: &[StepAt]) -> bool
-        ensures settles { result ≡ settles self.now steps.now }
-    {
-        let mut followed = *self;
-        for step in steps {
-            if followed.is_over() {
-                return followed.is_settled();
-            }
-            followed = followed.after(step);
-        }
-        followed.is_settled()
     }
 }
 

@@ -8,7 +8,7 @@ pub struct Marks<A: Allocator = Global> {
     pub others: Vec<usize, A>,
     /// No release of the attempt's channel is still awaited.
     pub settled: bool,
-    /// Where those of the others stand that were refused because the attempt's target wasn't free yet, or because it had
-    /// the reference, upwards.
+    /// Where those of the others stand that were refused because the attempt's target was in the way, or because it had the
+    /// reference, upwards.
     pub held: Vec<usize, A>,
 }

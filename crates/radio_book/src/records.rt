@@ -60,7 +60,7 @@ impl<T: Tables> Records<T> {
         self.tables.is_same(&other.tables)
     }
 
-    /// How many channels aren't free.
+    /// How many channels are in use.
     pub fn channels(&self) -> usize
         ensures { result ≡ map.len self.now.channels }
     {

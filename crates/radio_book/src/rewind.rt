@@ -26,8 +26,8 @@ pub struct Rewound<A: Allocator = Global> {
     pub others: Vec<usize, A>,
     /// No release of the attempt's channel is still awaited.
     pub settled: bool,
-    /// Where the first of the others stands that was refused because the attempt's target wasn't free yet, or because
-    /// it had the reference.
+    /// Where the first of the others stands that was refused because the attempt's target was in the way, or because it had
+    /// the reference.
     pub held: Option<usize>,
 }
 

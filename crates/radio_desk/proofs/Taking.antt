@@ -1,12 +1,14 @@
 -- A channel that is taken at a desk.
-use Rattle.std.proofs.Common.{◌⊎◌, inl, inr, ℕ, List, Option, Some, None, refl}
+use Rattle.std.proofs.Common.{◌≡◌, ◌⊎◌, inl, inr, ℕ, false, List, Option, Some, None, refl}
 use Rattle.channel_fsm.specs.declared.Rate.{Rate}
 use Rattle.channel_fsm.specs.declared.ChanId.{ChanId}
 use Rattle.radio_book.specs.declared.event.Kind.{Kind}
+use Rattle.radio_book.specs.declared.event.Kind.TheVariants.{Incoming}
 use Rattle.radio_book.specs.declared.event.Event.{Event}
 use Rattle.radio_book.specs.declared.event.Event.TheVariants.{Take}
 use Rattle.radio_book.specs.declared.event.Reply.{Reply}
-use Rattle.radio_book.specs.Table.{row, NeedsRoom}
+use Rattle.radio_book.specs.Table.{row, NeedsRoom, MayBeRefused}
+use Rattle.radio_book.proofs.RecordFacts.{begins_call}
 use Rattle.radio_book.specs.Choice.{IsFreeAt, TakesFree}
 use Rattle.radio_desk.specs.declared.seat.Receipt.{Receipt}
 use Rattle.radio_desk.specs.Desk.{DeskState, HoldsLast, IsForeign, LacksRoom}
@@ -21,3 +23,8 @@ pub take_memory : (d : DeskState) (c : ℕ) (kind : Kind) (cell : ℕ) (rate : R
     LacksRoom d ⊎ ((e : Event) × TakesFree d.book c kind cell rate e × NeedsRoom d.book (row d.book e))
 take_memory d c kind cell rate x free (inl lacks) = inl lacks
 take_memory d c kind cell rate x free (inr needs) = inr (Take c kind x, (x, free, refl), needs)
+
+-- and where no change in place is refused it, the history lacks room, or the Take begins a call
+pub take_begins : (d : DeskState) (c : ℕ) (kind : Kind) (x : ChanId) → LacksRoom d ⊎ MayBeRefused false (Take c kind x) → LacksRoom d ⊎ (kind ≡ Incoming)
+take_begins d c kind x (inl lacks) = inl lacks
+take_begins d c kind x (inr refused) = inr (begins_call c kind x refused)

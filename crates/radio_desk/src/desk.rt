@@ -1,8 +1,9 @@
 //! The desk: an opening book, the history of what was asked since, and the book that it leads to.
-ghost use Rattle.std.specs.Prelude.{◌≡◌, ◌≢◌, ◌↔◌, ◌⊎◌, IsTrue, true, List, ◌+◌, ◌≤◌, ◌++◌, ◌∷◌, ℕ, [], length, vec_len, vec_capacity, Option, None, Some, Ok, Err, MatchOption, IfOk, IfSome, OnOk, OnErr, slice_get};
+ghost use Rattle.std.specs.Prelude.{◌≡◌, ◌≢◌, ◌↔◌, ◌⊎◌, IsTrue, true, false, List, ◌+◌, ◌≤◌, ◌++◌, ◌∷◌, ℕ, [], length, vec_len, vec_capacity, Option, None, Some, Ok, Err, MatchOption, IfOk, IfSome, OnOk, OnErr, slice_get};
 ghost use Rattle.radio_book.specs.declared.event.Event.{Event};
+ghost use Rattle.radio_book.specs.declared.event.Kind.{Kind};
 ghost use Rattle.radio_book.specs.Run.{Leads};
-ghost use Rattle.radio_book.specs.Table.{row, reply_to, NeedsRoom};
+ghost use Rattle.radio_book.specs.Table.{row, reply_to, NeedsRoom, MayBeRefused};
 ghost use Rattle.radio_book.specs.Choice.{NoneFreeAt, TakesFree, ReservesFree};
 ghost use Rattle.radio_book.specs.Kinds.{is_accepted};
 ghost use Rattle.radio_book.specs.Owed.{owed, is_owed};
@@ -138,8 +139,9 @@ impl<A: Allocator + Copy> Desk<A> {
     /// the first entry stands that was refused because one of them had the channel or the reference, and whether the entries
     /// that remain, asked alone, lead to the same book and get the same replies. Where no entry was refused so, they do.
     ///
-    /// Takes the time of one run of what remains, and of two looks at each entry for the open attempts that it can concern,
-    /// by its call or its cell. Memory is asked for, for a copy of the book and lists as long as the history.
+    /// Takes the time of one run of what remains, and of two looks at each entry for the open attempts of its cell, or of the
+    /// calls that share the row of its call. Memory is asked for, for a copy of the book, lists as long as the history, and,
+    /// twice, 1,280 rows of places.
     pub fn audit(&self) -> Result<Audit, AllocError>
         ensures attempts { IfOk result (λ audit. (us : List Undone) ×
             AreSettledIn self.now.opening self.now.history us × (audit.attempts ≡ length us)) }
@@ -176,7 +178,7 @@ impl<A: Allocator + Copy> Desk<A> {
     /// seat's last from then on.
     ///
     /// `Foreign`, which is looked at first, exactly where the history doesn't hold the seat's last receipt. After either
-    /// fault desk and seat are as they were; the history may have got room.
+    /// fault desk and seat are as they were; after `NoMemory` the history may have got room.
     ///
     /// An accepted `Undo` or `Released` takes no memory and is never refused any: its entry has the room that was kept for
     /// it, and the history gets no other. Before any other event changes the book, room is made for its entry and for what is
@@ -191,8 +193,12 @@ impl<A: Allocator + Copy> Desk<A> {
         ensures judged { IfOk result (λ receipt. IsJudged self.old receipt self.new) }
         ensures seat { IfOk result (λ receipt. seat.new ≡ Some receipt) }
         ensures unchanged { OnErr result (IsSameDesk self.old self.new × (seat.new ≡ seat.old)) }
+        ensures foreign_takes_none { (place : ℕ) → result ≡ Err (DeskFault.Foreign place) →
+            self.new.room ≡ self.old.room }
         ensures memory { result ≡ Err DeskFault.NoMemory →
             LacksRoom self.old ⊎ NeedsRoom self.old.book (row self.old.book event) }
+        ensures begins { result ≡ Err DeskFault.NoMemory →
+            LacksRoom self.old ⊎ MayBeRefused false event }
         ensures owed { IsTrue (is_owed event) →
             IsTrue (is_accepted (reply_to self.old.book event)) →
             result ≢ Err DeskFault.NoMemory }
@@ -233,9 +239,13 @@ impl<A: Allocator + Copy> Desk<A> {
         ensures seat { IfOk result (λ answer. IfSome answer
             (λ receipt. seat.new ≡ Some receipt)) }
         ensures unchanged { OnErr result (IsSameDesk self.old self.new × (seat.new ≡ seat.old)) }
+        ensures foreign_takes_none { (place : ℕ) → result ≡ Err (DeskFault.Foreign place) →
+            self.new.room ≡ self.old.room }
         ensures memory { result ≡ Err DeskFault.NoMemory → LacksRoom self.old ⊎
             ((e : Event) × TakesFree self.old.book call kind cell rate e ×
             NeedsRoom self.old.book (row self.old.book e)) }
+        ensures begins { result ≡ Err DeskFault.NoMemory →
+            LacksRoom self.old ⊎ (kind ≡ Kind.Incoming) }
     {
         if let Some(place) = foreign_place(self.history.as_slice(), seat) {
             return Err(DeskFault::Foreign(place));
@@ -247,7 +257,8 @@ impl<A: Allocator + Copy> Desk<A> {
         Ok(Some(receipt))
     }
 
-    /// Judges a `Reserve` of some free reference, as [`Book::reserve_any`] chooses it. Else as [`Desk::judge`].
+    /// Judges a `Reserve` of some free reference, as [`Book::reserve_any`] chooses it. Memory is asked for the history alone.
+    /// Else as [`Desk::judge`].
     pub fn judge_reserve(&mut self, seat: &mut Seat, call: u16) -> Result<Receipt, DeskFault>
         ensures foreign { (place : ℕ) → (result ≡ Err (DeskFault.Foreign place)) ↔
             IsForeign self.old.history seat.old place }
@@ -256,9 +267,9 @@ impl<A: Allocator + Copy> Desk<A> {
         ensures judged { IfOk result (λ receipt. IsJudged self.old receipt self.new) }
         ensures seat { IfOk result (λ receipt. seat.new ≡ Some receipt) }
         ensures unchanged { OnErr result (IsSameDesk self.old self.new × (seat.new ≡ seat.old)) }
-        ensures memory { result ≡ Err DeskFault.NoMemory → LacksRoom self.old ⊎
-            ((e : Event) × ReservesFree self.old.book call e ×
-            NeedsRoom self.old.book (row self.old.book e)) }
+        ensures foreign_takes_none { (place : ℕ) → result ≡ Err (DeskFault.Foreign place) →
+            self.new.room ≡ self.old.room }
+        ensures memory { result ≡ Err DeskFault.NoMemory → LacksRoom self.old }
     {
         if let Some(place) = foreign_place(self.history.as_slice(), seat) {
             return Err(DeskFault::Foreign(place));

@@ -156,7 +156,8 @@ fn go_on_all<A: Allocator>(attempts: &mut Vec<Followed, A>, row: &[usize], step:
 pub(crate) struct Followers<A: Allocator> {
     /// In the order of their openings. Those that are over are among them, as they ended.
     pub attempts: Vec<Followed, A>,
-    /// Where those stand that aren't over: each in the row of its call, and in that of its target's cell.
+    /// Where those that aren't over stand, and ended ones until their row is next cleaned: each in the row of its call, and
+    /// in that of its target's cell.
     pub rows: Rows<A>,
 }
 

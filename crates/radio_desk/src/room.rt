@@ -5,13 +5,13 @@
 //! that was kept for it. Every other event makes room before the book is asked, for its own entry and for those that are
 //! owed from then on, and one of these kinds that is refused makes it once the book has answered. So neither uses the room
 //! that is kept.
-ghost use Rattle.std.specs.Prelude.{◌≡◌, ◌⊎◌, ◌+◌, ◌-◌, ◌^◌, ◌<◌, ◌≤◌, IsTrue, IfOk, OnOk, OnErr, IsOk, MatchOption, vec_len, vec_capacity};
+ghost use Rattle.std.specs.Prelude.{◌≡◌, ◌⊎◌, ◌+◌, ◌-◌, ◌^◌, ◌<◌, ◌≤◌, IsTrue, false, IfOk, OnOk, OnErr, IsOk, MatchOption, vec_len, vec_capacity};
 ghost use Rattle.radio_book.specs.declared.event.Event.{Event};
 ghost use Rattle.radio_book.specs.Choice.{ReservesFree};
 ghost use Rattle.radio_book.specs.Kinds.{is_accepted};
 ghost use Rattle.radio_book.specs.Owed.{owed, calls_and_channels, is_owed};
 ghost use Rattle.radio_book.specs.Sound.{IsSound};
-ghost use Rattle.radio_book.specs.Table.{step, reply_to, row, NeedsRoom};
+ghost use Rattle.radio_book.specs.Table.{step, reply_to, row, NeedsRoom, MayBeRefused};
 
 use radio_book::book::Book;
 use radio_book::event::{Event, Reply};
@@ -67,6 +67,9 @@ fn answer_any<A: Allocator + Copy>(
     ensures memory { OnErr result ((vec_capacity history.old
         < vec_len history.old + (calls_and_channels book.old + 3))
         ⊎ NeedsRoom book.old (row book.old event)) }
+    ensures begins { OnErr result ((vec_capacity history.old
+        < vec_len history.old + (calls_and_channels book.old + 3))
+        ⊎ MayBeRefused false event) }
     ensures items { history.new.items ≡ history.old.items }
     ensures len { vec_len history.new ≡ vec_len history.old }
     ensures capacity { vec_capacity history.old ≤ vec_capacity history.new }
@@ -130,6 +133,9 @@ pub(crate) fn answer<A: Allocator + Copy>(
     ensures memory { OnErr result ((vec_capacity history.old
         < vec_len history.old + (calls_and_channels book.old + 3))
         ⊎ NeedsRoom book.old (row book.old event)) }
+    ensures begins { OnErr result ((vec_capacity history.old
+        < vec_len history.old + (calls_and_channels book.old + 3))
+        ⊎ MayBeRefused false event) }
     ensures items { history.new.items ≡ history.old.items }
     ensures len { vec_len history.new ≡ vec_len history.old }
     ensures capacity { vec_capacity history.old ≤ vec_capacity history.new }
@@ -154,9 +160,8 @@ pub(crate) fn answer_reserve<A: Allocator + Copy>(
     ensures room { OnOk result (vec_len history.new + (owed book.new + 1)
         ≤ vec_capacity history.new) }
     ensures unchanged { OnErr result (book.new ≡ book.old) }
-    ensures memory { OnErr result ((vec_capacity history.old
-        < vec_len history.old + (calls_and_channels book.old + 3))
-        ⊎ ((e : Event) × ReservesFree book.old call e × NeedsRoom book.old (row book.old e))) }
+    ensures memory { OnErr result (vec_capacity history.old
+        < vec_len history.old + (calls_and_channels book.old + 3)) }
     ensures items { history.new.items ≡ history.old.items }
     ensures len { vec_len history.new ≡ vec_len history.old }
     ensures capacity { vec_capacity history.old ≤ vec_capacity history.new }

@@ -51,7 +51,7 @@ state_code =
 abbrev pub empty_book : SiteView → State
 empty_book site = record { site = site; channels = map.empty; calls = map.empty; references = map.empty; timers = map.empty }
 
--- a channel that has no entry is free
+-- a channel without an entry has the state of a free one
 abbrev pub or_free : Option ChanState → ChanState
 or_free None = Free
 or_free (Some s) = s
@@ -62,7 +62,7 @@ state_of b x = or_free (map.get b.channels x)
 abbrev pub record_of : State → ℕ → Option CallRecord
 record_of b c = map.get b.calls c
 
--- a channel has this state from now on, or is free
+-- a channel has this state from now on, or is in use no more
 abbrev pub with_channel : State → ChanId → Option ChanState → State
 with_channel b x s = record b { channels = put b.channels x s }
 

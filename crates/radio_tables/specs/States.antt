@@ -10,8 +10,6 @@ pub record ChannelRow : Type 0 where
   pub activating : Option ℕ
   -- the call for which it is active
   pub active : Option ℕ
-  -- it can be taken
-  pub free : Bool
   -- its release is awaited
   pub off : Bool
   -- What is left of it where it is used no more: a held one is free, to one that may be active RF CHANNEL RELEASE is sent
@@ -20,11 +18,11 @@ pub record ChannelRow : Type 0 where
 
 -- the table of states: what each says of a channel
 abbrev pub channel_row : ChanState → ChannelRow
-channel_row Free = record { owner = None; activating = None; active = None; free = true; off = false; left = None }
-channel_row (Held c) = record { owner = Some c; activating = None; active = None; free = false; off = false; left = None }
-channel_row (Pending c) = record { owner = Some c; activating = Some c; active = None; free = false; off = false; left = Some Off }
-channel_row (On c) = record { owner = Some c; activating = None; active = Some c; free = false; off = false; left = Some Off }
-channel_row Off = record { owner = None; activating = None; active = None; free = false; off = true; left = Some Off }
+channel_row Free = record { owner = None; activating = None; active = None; off = false; left = None }
+channel_row (Held c) = record { owner = Some c; activating = None; active = None; off = false; left = None }
+channel_row (Pending c) = record { owner = Some c; activating = Some c; active = None; off = false; left = Some Off }
+channel_row (On c) = record { owner = Some c; activating = None; active = Some c; off = false; left = Some Off }
+channel_row Off = record { owner = None; activating = None; active = None; off = true; left = Some Off }
 
 -- a state of use says whose the channel is
 abbrev pub owner : ChanState → Option ℕ

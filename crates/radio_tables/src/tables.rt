@@ -32,11 +32,11 @@ pub trait Tables: Drop {
     fn is_traffic(&self, x: ChanId) -> bool
         ensures value { result ≡ is_traffic (state self.now).site x };
 
-    /// The state of a channel; `None` where it is free.
+    /// The state of a channel; `None` where it isn't in use.
     fn channel(&self, x: ChanId) -> Option<ChanState>
         ensures value { result ≡ map.get (state self.now).channels x };
 
-    /// A free traffic channel comes into use: a change in place.
+    /// A traffic channel comes into use: a change in place.
     fn occupy(&mut self, x: ChanId, busy: ChanState) -> Result<(), AllocError>
         requires traffic { is_traffic (state self.old).site x ≡ true }
         requires free { map.get (state self.old).channels x ≡ None }
@@ -51,7 +51,7 @@ pub trait Tables: Drop {
         requires busy { busy ≢ chan.Free }
         ensures moved { state self.new ≡ with_channel (state self.old) x (Some busy) };
 
-    /// A channel is free from now on.
+    /// A channel is in use no more.
     fn vacate_channel(&mut self, x: ChanId)
         ensures freed { state self.new ≡ with_channel (state self.old) x None };
 
@@ -101,7 +101,7 @@ pub trait Tables: Drop {
     fn remove_reference(&mut self, reference: Reference)
         ensures dropped { state self.new ≡ with_reference (state self.old) reference None };
 
-    /// How many channels aren't free.
+    /// How many channels are in use.
     fn channels(&self) -> usize
         ensures count { result ≡ map.len (state self.now).channels };
 
@@ -123,7 +123,7 @@ pub trait Tables: Drop {
         ensures found { IfSome result (λ x. IsFreeAt (state self.now) cell rate x) }
         ensures none { IfNone result (NoneFreeAt (state self.now) cell rate) };
 
-    /// How many traffic channels of a cell are free, each of both rates.
+    /// How many traffic channels of a cell are free, of both rates.
     fn free_in(&self, cell: u8) -> u32
         ensures count { IsFreeCount (state self.now) cell result }
         ensures none { (result ≡ 0) ↔ NoneFree (state self.now) cell };

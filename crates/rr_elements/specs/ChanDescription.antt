@@ -37,7 +37,8 @@ IsChanText v octets = (spare : ℕ) × AreFields chan_widths (chan_numbers spare
 abbrev pub chan_text : Chan → List ℕ
 chan_text v = field_octets chan_widths (chan_numbers 0 v)
 
--- The first fault of octets: they are not three; their type is that of no traffic channel; it is that of one, and H is 1.
+-- The first fault of octets: they are not three; their type is that of no traffic channel of one timeslot; it is that of
+-- one, and H is 1.
 abbrev pub HasChanFault : List ℕ → ElementFault → Type 0
 HasChanFault octets Length = HasOtherLength 3 octets Length
 HasChanFault octets BadType = (length octets ≡ 3) × ((sub : Sub) → AreFirstFields chan_widths (type_of sub ∷ []) octets → ⊥)

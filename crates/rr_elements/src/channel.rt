@@ -106,7 +106,7 @@ impl ChanDescription {
     }
 
     /// Reads the element's three octets. The first fault of `Length` (they are not three),
-    /// `BadType` (the type of no traffic channel) and `Hopping` (H is 1) that holds comes.
+    /// `BadType` (the type of no traffic channel of one timeslot) and `Hopping` (H is 1) that holds comes.
     pub fn decode(octets: &[u8]) -> Result<Self, ElementFault>
         ensures text { IfOk result (λ v. IsChanText v octets.now) }
         ensures fault { IfErr result (HasChanFault octets.now) }

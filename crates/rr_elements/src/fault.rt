@@ -8,8 +8,8 @@ pub enum ElementFault {
     /// There are fewer octets than the element has, or more.
     #[error("the element has another length")]
     Length,
-    /// The channel is not a traffic channel.
-    #[error("the channel is no traffic channel")]
+    /// The type isn't that of a traffic channel of one timeslot.
+    #[error("the channel is no traffic channel of one timeslot")]
     BadType,
     /// The channel hops: H is 1.
     #[error("the channel hops")]

@@ -156,7 +156,7 @@ fn faults_are_printed(rt: HostRuntime) -> Result<(), Fail> {
     is_printed(
         &rt,
         ElementFault::BadType,
-        "the channel is no traffic channel",
+        "the channel is no traffic channel of one timeslot",
     )?;
     is_printed(&rt, ElementFault::Hopping, "the channel hops")?;
     is_printed(&rt, ElementFault::BadRange, "a field does not fit its bits")

@@ -31,14 +31,14 @@ impl<T: Tables> Records<T> {
         self.tables.is_traffic(x)
     }
 
-    /// The state of a channel that isn't free.
+    /// The state of a channel in use.
     pub(super) fn channel(&self, x: ChanId) -> Option<ChanState>
         ensures { result ≡ map.get self.now.channels x }
     {
         self.tables.channel(x)
     }
 
-    /// The state of a channel; one that has no entry is free.
+    /// The state of a channel; one that isn't in use has that of a free one.
     pub(super) fn state_of(&self, x: ChanId) -> ChanState
         ensures { result ≡ state_of self.now x }
     {
