@@ -184,15 +184,15 @@ fn choice_is_alike<S: Tables, T: Tables>(
     cell: u8,
     rate: Rate,
 ) {
-    let found = other.lowest_free(cell, rate);
-    equals_at(rt, found, one.lowest_free(cell, rate), (cell, rate));
+    let found = other.some_free(cell, rate);
+    equals_at(rt, found, one.some_free(cell, rate), (cell, rate));
 }
 
 fn choices_are_alike<S: Tables, T: Tables>(rt: &impl Abort, one: &S, other: &T) {
     for cell in 0..65u8 {
         choice_is_alike(rt, one, other, cell, Rate::Full);
         choice_is_alike(rt, one, other, cell, Rate::Half);
-        equals_at(rt, other.free_count(cell), one.free_count(cell), cell);
+        equals_at(rt, other.free_in(cell), one.free_in(cell), cell);
     }
 }
 
