@@ -1,4 +1,3 @@
-use Rattle.std.proofs.Common.{absurd}
 use Rattle.radio_book.proofs.RecordFacts.{never_reserve}
 use Rattle.radio_book.proofs.book.Book.reserve_any.Goals as goal
 

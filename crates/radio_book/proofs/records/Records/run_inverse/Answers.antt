@@ -8,8 +8,8 @@ use Rattle.radio_book.proofs.records.Records.run_inverse.Goals as goal
 pub returns-in-DropReference-clause-run : goal.returns-in-DropReference-clause-run
 returns-in-DropReference-clause-run g c d =
     rw c.in-DropReference.is
-    (ap (λ k. put_back d k c.drop_reference.new.self) c.drop_reference.ensures.kept
-    ∙ ap (put_back d c.args.kept) c.drop_reference.ensures.dropped
+    (ap (λ k. put_back d k c.run_drop_reference.new.self) c.run_drop_reference.ensures.kept
+    ∙ ap (put_back d c.args.kept) c.run_drop_reference.ensures.dropped
     ∙ drop_put_back d c.args.self.now c.in-DropReference.number c.args.kept)
 
 pub returns-in-Settle-clause-run : goal.returns-in-Settle-clause-run
