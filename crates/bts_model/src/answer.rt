@@ -31,7 +31,7 @@ pub struct StationOut<A: Allocator = Global> {
     pub controller: usize,
     pub cell: u8,
     pub trx: u8,
-    /// The message (TS 48.058 clause 8).
+    /// The octets of the message (TS 48.058 clause 8), or what a cut left of it.
     pub bytes: Octets<A>,
 }
 
@@ -51,7 +51,8 @@ pub fn octets_of<A: Allocator + Copy>(
     encode(alloc, &message)
 }
 
-/// The message by which a station gives an answer: its own, or DATA INDICATION on the main signalling channel for the mobile's.
+/// The message by which a station gives an answer: its own, or DATA INDICATION on the main signalling channel for the
+/// mobile's.
 fn message_of<A: Allocator + Copy>(
     alloc: A,
     channel: ChanBits,

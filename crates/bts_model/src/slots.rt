@@ -51,7 +51,7 @@ impl Impairment {
 #[derive(Clone, Copy)]
 pub struct Slot {
     pub activity: Activity,
-    /// The next activation while it is inactive is refused.
+    /// The next activation while it is inactive, and none that it conflicts with is active, is refused, which uses this up.
     pub refuses: bool,
     /// The habit of a mobile on it.
     pub habit: Habit,

@@ -1,5 +1,5 @@
 -- A seat's receipts, with one more.
-use Rattle.std.proofs.Common.{◌≡◌, ◌<◌, ◌≤◌, ℕ, List, [], ◌∷◌, ◌++◌, zero, suc, length, Option, Some, None, slice_index_or, refl, arith}
+use Rattle.std.proofs.Common.{◌≡◌, ◌↔◌, ◌<◌, ◌≤◌, ℕ, List, [], ◌∷◌, ◌++◌, zero, suc, length, Option, Some, None, Result, Err, slice_index_or, refl, ap, sym, ◌∙◌, arith}
 use Rattle.std.specs.List.{last_or}
 use Rattle.std.proofs.lemmas.List.{map-append}
 use Rattle.std.proofs.lemmas.List.Elements.{All-nil}
@@ -7,9 +7,12 @@ use Rattle.std.proofs.lemmas.List.Quantifiers.{all_pairs_push}
 use Rattle.std.proofs.lemmas.Option.{slice_get_within}
 use Rattle.radio_book.specs.declared.event.Event.{Event}
 use Rattle.radio_book.specs.declared.event.Reply.{Reply}
+use Rattle.radio_desk.specs.declared.desk.DeskFault.{DeskFault}
+use Rattle.radio_desk.specs.declared.desk.DeskFault.TheVariants.{Foreign}
 use Rattle.radio_desk.specs.declared.seat.Receipt.{Receipt}
-use Rattle.radio_desk.specs.Desk.{DeskState, HoldsLast, IsJudged}
+use Rattle.radio_desk.specs.Desk.{DeskState, HoldsLast, IsForeign, IsJudged}
 use Rattle.radio_desk.specs.Receipts.{receipted, IsRising, IsAbove, IsSeated, Joined}
+use Rattle.ho_procedure.specs.Seats.{IsLastPlace}
 
 pub receipted_more : (rs : List Receipt) (r : Receipt) → receipted (rs ++ r ∷ []) ≡ receipted rs ++ (r.event, r.reply) ∷ []
 receipted_more rs r = map-append (λ (r : Receipt). (r.event, r.reply)) rs (r ∷ [])
@@ -59,3 +62,19 @@ joined rs items last d d' r s held j e = record { receipts = e; above = above_al
 
 pub seated_after : (rs items : List Receipt) (last last' : Option Receipt) (d d' : DeskState) (r : Receipt) → IsSeated rs last → HoldsLast d.history last → IsJudged d r d' → items ≡ rs ++ r ∷ [] → last' ≡ Some r → IsSeated items last'
 seated_after rs items last last' d d' r s held j e f = rw (e, f) (seated_more rs last d d' r s held j)
+
+-- what a desk doesn't know is the last of the seat's receipts
+foreign_last : (rs : List Receipt) (last : Option Receipt) (history : List (Event × Reply)) (place : ℕ) → IsSeated rs last → IsForeign history last place → IsLastPlace rs place
+foreign_last rs None history place s f = absurd f
+foreign_last rs (Some r) history place s f = (r, s.ends, f.0)
+
+abbrev fails : (X : Type 0) → DeskFault → Result X DeskFault
+fails X fault = Err fault
+
+-- so it is where the desk's fault is told as it was
+pub told_foreign : {X Y : Type 0} (rs : List Receipt) (last : Option Receipt) (history : List (Event × Reply)) (told : Result X DeskFault) (fault fault' : DeskFault) (place : ℕ) → IsSeated rs last
+    → ((p : ℕ) → (fails Y fault ≡ fails Y (Foreign p)) ↔ IsForeign history last p) → told ≡ Err fault' → fault' ≡ fault → told ≡ Err (Foreign place) → IsLastPlace rs place
+told_foreign {X} {Y} rs last history told fault fault' place s foreign was as_it_was is =
+    let both : fails X fault' ≡ fails X (Foreign place) = sym was ∙ is in
+    let same : fault ≡ Foreign place = cc in
+    foreign_last rs last history place s ((foreign place).0 (ap (λ (f : DeskFault). fails Y f) same))

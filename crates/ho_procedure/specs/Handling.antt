@@ -1,5 +1,5 @@
 -- What the handling of an input comes to.
-use Rattle.std.specs.Prelude.{◌≡◌, ◌⊎◌, ℕ, List, [], ◌++◌, Option, Result, Ok, Err}
+use Rattle.std.specs.Prelude.{◌≡◌, ◌≢◌, ◌⊎◌, ℕ, List, [], ◌++◌, Option, Result, Ok, Err}
 use Rattle.cell_table.specs.Site.{SiteView}
 use Rattle.rr_elements.specs.MeasResults.{Results}
 use Rattle.rr_messages.specs.declared.message.Rr.{Rr}
@@ -45,6 +45,13 @@ KeepsOctets {A} (inbound.Abis cell trx octets) = (message : Rsl A) × abis.IsTex
 KeepsOctets {A} (inbound.A call octets) = (message : Bssmap A) × interface_a.IsTextOf message octets × a_messages.KeepsList message
 KeepsOctets (inbound.Expiry call timer) = ⊥
 KeepsOctets (inbound.Operator line) = ⊥
+
+-- the input has octets, so that a copy of it takes memory
+abbrev pub HoldsOctets : {A : Type 0} → Inbound A → Type 0
+HoldsOctets (inbound.Abis cell trx octets) = octets ≢ []
+HoldsOctets (inbound.A call octets) = octets ≢ []
+HoldsOctets (inbound.Expiry call timer) = ⊥
+HoldsOctets (inbound.Operator line) = ⊥
 
 -- Some steps follow a plan so far: their entries are what the view's log gained, their messages these, and the reports of each
 -- call are those after them. Their choices are what the view says, and so is why they stop.

@@ -1,4 +1,5 @@
 pub mod Claims
+pub mod Seats
 pub mod Sent
 pub mod Messages
 pub mod Owed

@@ -1,5 +1,5 @@
 -- The messages that a controller sends.
-use Rattle.std.specs.Prelude.{ℕ, List, map}
+use Rattle.std.specs.Prelude.{◌≢◌, ℕ, List, [], map}
 use Rattle.ho_procedure.specs.declared.exchange.Outbound.{Outbound}
 use Rattle.ho_procedure.specs.declared.exchange.Outbound.TheVariants as outbound
 
@@ -14,3 +14,8 @@ sent (outbound.A call octets) = OnA call octets
 
 abbrev pub all_sent : {A : Type 0} → List (Outbound A) → List Sent
 all_sent messages = map sent messages
+
+-- the message has octets, so that a copy of it takes memory
+abbrev pub SendsOctets : Sent → Type 0
+SendsOctets (OnAbis cell trx octets) = octets ≢ []
+SendsOctets (OnA call octets) = octets ≢ []

@@ -1,5 +1,6 @@
 //! What goes into a controller, and what comes out of it.
-ghost use Rattle.std.specs.Prelude.{◌≡◌, IfOk};
+ghost use Rattle.std.specs.Prelude.{◌≡◌, IfOk, OnErr};
+ghost use Rattle.ho_procedure.specs.Handling.{HoldsOctets};
 
 use attempt_journal::Timer;
 use bssmap_messages::BssmapFault;
@@ -40,9 +41,10 @@ pub enum Inbound<A: Allocator = Global> {
 }
 
 impl<A: Allocator + Copy> Inbound<A> {
-    /// The same input once more. Memory is asked for, for the octets of a message.
+    /// The same input once more. Memory is asked for, for the octets of a message that has some.
     pub fn copy(&self, alloc: A) -> Result<Inbound<A>, AllocError>
         ensures same { IfOk result (λ copy. copy ≡ self.now) }
+        ensures memory { OnErr result (HoldsOctets self.now) }
     {
         match self {
             Inbound::Abis { cell, trx, bytes } => Ok(Inbound::Abis {

@@ -1,8 +1,9 @@
 //! A desk that threads share.
-ghost use Rattle.std.specs.Prelude.{◌≡◌, ◌∷◌, ◌++◌, [], ℕ, length, IfOk, IfSome, MatchOption, OnErr};
+ghost use Rattle.std.specs.Prelude.{◌≡◌, ◌∷◌, ◌++◌, [], ℕ, length, Err, IfOk, IfSome, MatchOption, OnErr};
 ghost use Rattle.channel_fsm.specs.declared.ChanId.{ChanId};
 ghost use Rattle.channel_fsm.specs.Slots.{rate_of};
 ghost use Rattle.radio_desk.specs.Receipts.{IsRising, Joined, receipted};
+ghost use Rattle.ho_procedure.specs.Seats.{IsLastPlace};
 
 use crate::view::DeskView;
 use channel_fsm::Rate;
@@ -17,8 +18,8 @@ use std::sync::{Arc, Mutex, Wait};
 /// these receipts, in their order.
 ///
 /// Each call takes the lock, and may wait for another thread to give it back. Between two calls others may have asked the
-/// desk. So it says nothing of the desk's book: any call may find no channel free, and may meet a desk that doesn't know
-/// its last receipt.
+/// desk. So it says nothing of the desk's book: any call may find no channel free. Once the seat has a receipt, it may meet
+/// a desk that doesn't know the last one.
 #[derive(Drop)]
 pub struct Shared<R: Drop, A: Allocator = Global> {
     rt: R,
@@ -85,13 +86,16 @@ impl<R: Wait + Drop, A: Allocator + Copy> DeskView for Shared<R, A> {
     ghost judged = { λ before receipt after. Joined before receipt after };
 
     // Room for the receipt is made before the event is asked: what was judged is kept. Each clause says more than the
-    // trait's: where nothing was answered the receipts are the same, each at its place.
+    // trait's: where nothing was answered the receipts are the same, each at its place, and a foreign desk is one that
+    // doesn't know the last of them.
     #[tactic(auto, using(crate::proofs::Seats::receipted_more))]
     fn judge(&mut self, event: Event) -> Result<Receipt, DeskFault>
         ensures ok { IfOk result (λ r. (r.event ≡ event) ×
             (receipted self.new ≡ receipted self.old ++ (r.event, r.reply) ∷ [])) }
         ensures receipt { IfOk result (λ r. Joined self.old r self.new) }
         ensures err { OnErr result (self.new ≡ self.old) }
+        ensures place { (place : ℕ) → result ≡ Err (DeskFault.Foreign place) →
+            IsLastPlace self.old place }
     {
         self.receipts.reserve(1)?;
         let receipt = self.lock.lock(&self.rt).judge(&mut self.seat, event)?;
@@ -112,6 +116,8 @@ impl<R: Wait + Drop, A: Allocator + Copy> DeskView for Shared<R, A> {
             (receipted self.new ≡ receipted self.old ++ (r.event, r.reply) ∷ []))) }
         ensures receipt { IfOk result (λ answer. IfSome answer (λ r. Joined self.old r self.new)) }
         ensures err { OnErr result (self.new ≡ self.old) }
+        ensures place { (place : ℕ) → result ≡ Err (DeskFault.Foreign place) →
+            IsLastPlace self.old place }
     {
         self.receipts.reserve(1)?;
         let found = self
@@ -130,6 +136,8 @@ impl<R: Wait + Drop, A: Allocator + Copy> DeskView for Shared<R, A> {
             (receipted self.new ≡ receipted self.old ++ (r.event, r.reply) ∷ [])) }
         ensures receipt { IfOk result (λ r. Joined self.old r self.new) }
         ensures err { OnErr result (self.new ≡ self.old) }
+        ensures place { (place : ℕ) → result ≡ Err (DeskFault.Foreign place) →
+            IsLastPlace self.old place }
     {
         self.receipts.reserve(1)?;
         let receipt = self

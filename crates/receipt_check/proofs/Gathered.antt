@@ -2,8 +2,8 @@
 use Rattle.std.proofs.Common.{◌≡◌, ◌≢◌, ℕ, ◌+◌, ◌-◌, ◌<◌, ◌≤◌, ◌==◌, Bool, true, false, List, [], ◌∷◌, ◌++◌, length, get_or, set, take, drop, refl, ap, sym, ◌∙◌, subst, inl, inr, arith, below_more, ⊎_elim, length-append, length-set, get_or-set_other, get_or-set_same}
 use Rattle.std.specs.List.{flat_map}
 use Rattle.std.proofs.lemmas.Grind.{flat_map-append}
-use Rattle.std.proofs.lemmas.List.{append-nil, get_or_append_left, get_or-append_right, get_or-append-add, get_or_default, take_all, take_more, take-append-drop}
-use Rattle.std.proofs.lemmas.List.Folds.{list_any_more}
+use Rattle.std.proofs.lemmas.List.{append-nil, get_or_append_left, get_or-append_right, get_or-append-add, get_or_default, nil_from_length, take_all, take_more, take-append-drop}
+use Rattle.std.proofs.lemmas.List.Folds.{length-flat_map-take, list_any_more}
 use Rattle.std.proofs.lemmas.Bool.{cases_eq, cases_lt}
 use Rattle.std.proofs.lemmas.Option.{slice_get_within}
 use Rattle.radio_book.specs.declared.event.Event.{Event}
@@ -85,6 +85,20 @@ module _ {X : Type 0} (f : X → List Receipt) (history : List (Event × Reply))
   wrong_among r lt first w =
       let here : FirstWrong history (flat_map f (take (i + 1) xs)) r = rw (flat_to lt) (wrong_behind history (flat_map f (take i xs)) (f (get_or xs i e)) r first w) in
       subst (λ (l : List Receipt). FirstWrong history l r) flat_past (wrong_before history (flat_map f (take (i + 1) xs)) (flat_map f (drop (i + 1) xs)) r here)
+
+-- where those of one list aren't none, those of all aren't
+pub some_among : {X : Type 0} (f : X → List Receipt) (xs : List X) (i : ℕ) (e : X) → i < length xs → f (get_or xs i e) ≢ [] → flat_map f xs ≢ []
+some_among f xs i e lt some = λ none.
+    let no_length : length (flat_map f xs) ≡ 0 = ap length none in
+    some (nil_from_length (f (get_or xs i e)) (omega (arith, length-flat_map-take f xs i e lt, no_length)))
+
+-- where there is a receipt, and it stands in the history, that isn't empty
+pub some_entry : (history : List (Event × Reply)) (all : List Receipt) → StandsAt history all (length all) → all ≢ [] → history ≢ []
+some_entry history [] stand some = λ none. some refl
+some_entry history (r ∷ rs) stand some = λ none.
+    let within : r.place < length history = slice_get_within history r.place (r.event, r.reply) (stand 0 r (omega arith)) in
+    let no_length : length history ≡ 0 = ap length none in
+    omega (arith, within, no_length)
 
 -- those of all lists
 pub stand_all : {X : Type 0} (f : X → List Receipt) (history : List (Event × Reply)) (xs : List X) (i : ℕ) → length xs ≤ i → StandsAt history (flat_map f (take i xs)) (length (flat_map f (take i xs))) → StandsAt history (flat_map f xs) (length (flat_map f xs))

@@ -1,5 +1,5 @@
 -- Receipts of several seats, beside the history of one desk. Ours, of no standard.
-use Rattle.std.specs.Prelude.{◌≡◌, ℕ, ◌<◌, ◌==◌, Bool, true, false, List, length, take, slice_index_or}
+use Rattle.std.specs.Prelude.{◌≡◌, ◌≢◌, ℕ, ◌<◌, ◌==◌, Bool, true, false, List, [], length, take, slice_index_or}
 use Rattle.std.specs.List.{list_any}
 use Rattle.radio_book.specs.declared.event.Event.{Event}
 use Rattle.radio_book.specs.declared.event.Reply.{Reply}
@@ -38,10 +38,10 @@ FirstTwice receipts place =
     × (has_place place (take k receipts) ≡ true)
 
 -- What isn't so of the receipts: the first that isn't its entry; else the first place that stands twice; else there are more
--- entries. Memory may be refused where each is its entry.
+-- entries. Memory may be refused where each is its entry, and the history isn't empty.
 abbrev pub IsGatherFault : List (Event × Reply) → List Receipt → CloseFault → Type 0
 IsGatherFault history receipts (Missing r) = FirstWrong history receipts r
 IsGatherFault history receipts (Twice place) = StandsAt history receipts (length receipts) × FirstTwice receipts place
 IsGatherFault history receipts Count = StandsAt history receipts (length receipts) × AreFresh receipts (length receipts) × (length receipts ≡ length history → ⊥)
 IsGatherFault history receipts Opening = ⊥
-IsGatherFault history receipts NoMemory = StandsAt history receipts (length receipts)
+IsGatherFault history receipts NoMemory = StandsAt history receipts (length receipts) × (history ≢ [])

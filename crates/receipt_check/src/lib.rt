@@ -2,7 +2,7 @@
 //! one of them.
 #![tactic(auto)]
 
-ghost use Rattle.std.specs.Prelude.{◌≡◌, ◌++◌, length, IfOk, OnOk, MatchOption, MatchResult};
+ghost use Rattle.std.specs.Prelude.{◌≡◌, ◌≢◌, ◌++◌, [], length, IfOk, OnOk, OnErr, MatchOption, MatchResult};
 ghost use Rattle.std.specs.List.{flat_map};
 ghost use Rattle.receipt_check.specs.Gathering.{Gathers, IsGatherFault, StandsAt, FirstWrong, FirstTwice, AreFresh};
 
@@ -12,7 +12,8 @@ use std::alloc::{AllocError, Allocator};
 use thiserror::Error;
 
 /// Why a desk and receipts are none that an office can close with. Where several hold, the first in this order is answered.
-/// `Missing` is found without memory: so where `NoMemory` is answered each receipt is the entry at its place.
+/// `Missing` is found without memory: so where `NoMemory` is answered each receipt is the entry at its place, and the
+/// history isn't empty.
 #[derive(Clone, Copy, Debug, Error)]
 pub enum CloseFault {
     /// This receipt isn't the entry of the history at its place. It is the first such one, list by list.
@@ -76,14 +77,13 @@ pub fn check<A: Allocator + Copy>(
     }
 }
 
-/// Appends receipts. Where memory is refused a part of them may have been appended.
+/// Appends receipts. Where memory is refused, which isn't where there are none, nothing was appended.
 pub fn push_all<A: Allocator>(all: &mut Vec<Receipt, A>, list: &[Receipt]) -> Result<(), AllocError>
     ensures pushed { OnOk result (all.new.items ≡ all.old.items ++ list.now) }
+    ensures unchanged { OnErr result (all.new.items ≡ all.old.items) }
+    ensures memory { OnErr result (list.now ≢ []) }
 {
-    for receipt in list {
-        all.push(*receipt)?;
-    }
-    Ok(())
+    all.extend_from_slice(list)
 }
 
 /// All receipts, list by list.
@@ -91,7 +91,8 @@ fn flat<A: Allocator + Copy>(
     alloc: A,
     lists: &[Vec<Receipt, A>],
 ) -> Result<Vec<Receipt, A>, AllocError>
-    ensures { IfOk result (λ all. all.items ≡ flat_map (λ list. list.items) lists.now) }
+    ensures all { IfOk result (λ all. all.items ≡ flat_map (λ list. list.items) lists.now) }
+    ensures memory { OnErr result (flat_map (λ list. list.items) lists.now ≢ []) }
 {
     let mut all = Vec::new(alloc);
     for list in lists {
@@ -136,10 +137,12 @@ fn first_twice<A: Allocator + Copy>(
     all: &[Receipt],
 ) -> Result<Option<usize>, AllocError>
     requires { StandsAt desk.now.history all.now (length all.now) }
-    ensures { IfOk result (λ found. MatchOption found (AreFresh all.now (length all.now))
+    ensures found { IfOk result (λ found. MatchOption found (AreFresh all.now (length all.now))
         (λ place. FirstTwice all.now place)) }
+    ensures memory { OnErr result (desk.now.history ≢ []) }
 {
-    let mut seen = Vec::from_elem(alloc, false, desk.len())?;
+    let mut seen = Vec::new(alloc);
+    seen.resize(desk.len(), false)?;
     for receipt in all {
         if seen[receipt.place] {
             return Ok(Some(receipt.place));

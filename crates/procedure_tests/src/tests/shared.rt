@@ -57,18 +57,19 @@ fn the_receipts_of_a_seat_rise(rt: HostRuntime) -> Result<(), Fail> {
     ask_in_turn(&rt, rt.alloc())
 }
 
-/// The desk is exchanged for another, at which nothing was asked.
+/// The desk is exchanged for another, at which nothing was asked. The seat's last receipt is of place 1.
 fn ask_another(rt: &(impl Wait + Abort), alloc: Global) -> Result<(), Fail> {
     let lock = locked(alloc, alloc)?;
     let mut seat = Shared::new(rt, alloc, lock.clone()?);
     seat.judge(Event::Look(1))?;
+    seat.judge(Event::Look(1))?;
     let _first = mem::replace(&mut *lock.lock(rt), new_desk(alloc, alloc)?);
-    let asked = seat.judge(Event::Look(1)) == Err(DeskFault::Foreign(0));
-    let took = seat.judge_take(1, Kind::Incoming, 0, Rate::Full) == Err(DeskFault::Foreign(0));
-    let reserved = seat.judge_reserve(1) == Err(DeskFault::Foreign(0));
+    let asked = seat.judge(Event::Look(1)) == Err(DeskFault::Foreign(1));
+    let took = seat.judge_take(1, Kind::Incoming, 0, Rate::Full) == Err(DeskFault::Foreign(1));
+    let reserved = seat.judge_reserve(1) == Err(DeskFault::Foreign(1));
     assert!(rt; asked && took && reserved);
     assert_eq!(rt; lock.lock(rt).len(), 0);
-    have_places(rt, &seat.into_receipts(), &[0]);
+    have_places(rt, &seat.into_receipts(), &[0, 1]);
     Ok(())
 }
 
