@@ -1,11 +1,13 @@
--- What an office answers to octets on Abis that can't be read.
-use Rattle.std.proofs.Common.{◌≡◌, ◌≢◌, ◌↔◌, ℕ, List, Result, Ok, Err, refl, ap, sym, subst}
+-- What an office answers to octets on Abis that can't be read, and where its desk is foreign.
+use Rattle.std.proofs.Common.{◌≡◌, ◌≢◌, ◌↔◌, ℕ, List, [], ◌∷◌, Some, None, Result, Ok, Err, refl, ap, sym, subst}
 use Rattle.octet_elements.specs.Texts.{ReadingIsUnique}
+use Rattle.radio_desk.specs.declared.seat.Receipt.{Receipt}
 use Rattle.rsl_messages.specs.declared.message.Rsl.{Rsl}
 use Rattle.rsl_messages.specs.declared.fault.RslFault.{RslFault}
 use Rattle.rsl_messages.specs.declared.fault.RslFault.TheVariants.{NotRsl, UnknownType, Missing, BadElement, Torn, TooLong, NoMemory}
 use Rattle.rsl_messages.specs.Messages.{HasOctets}
 use Rattle.rsl_messages.specs.Texts.{codec, IsTextOf, HasFault}
+use Rattle.ho_procedure.specs.Seats.{IsLastPlace}
 use Rattle.call_worker.specs.declared.fault.GiveFault.{GiveFault}
 use Rattle.call_worker.specs.declared.fault.GiveFault.TheVariants as give
 use Rattle.call_worker.specs.Giving.{Tells}
@@ -46,3 +48,8 @@ none_of m f P h p = let e : Ok m ≡ Err (give.Undecoded f) = h.1 p in (cc)
 -- the same fault of another call
 pub passed_on : {X Y : Type 0} (g : GiveFault) (f : RslFault) (P : Type 0) → (fails X g ≡ fails X (give.Undecoded f)) ↔ P → (fails Y g ≡ fails Y (give.Undecoded f)) ↔ P
 passed_on {X} {Y} g f P h = ((λ (e : fails Y g ≡ fails Y (give.Undecoded f)). let same : g ≡ give.Undecoded f = (cc) in h.0 (ap (λ (k : GiveFault). fails X k) same)), λ p. let e : fails X g ≡ fails X (give.Undecoded f) = h.1 p in let same : g ≡ give.Undecoded f = (cc) in ap (λ (k : GiveFault). fails Y k) same)
+
+-- a seat of whose receipts one is the last has a receipt
+pub some_known : (known : List Receipt) (place : ℕ) → IsLastPlace known place → known ≢ []
+some_known [] place l = λ e. let last : None ≡ Some l.0 = l.1 in (cc)
+some_known (r ∷ rs) place l = λ e. (cc)

@@ -1,5 +1,5 @@
 -- The lists of an office, with one more.
-use Rattle.std.proofs.Common.{◌≡◌, ℕ, ◌<◌, ◌%◌, List, [], ◌∷◌, ◌++◌, length, get_or, set, map, ap, sym, ◌∙◌, arith, Option, Some, None, MatchOption, Result, Ok, Err, OnOk, OnErr, All, append_assoc, suc}
+use Rattle.std.proofs.Common.{◌≡◌, ◌≢◌, ℕ, ◌<◌, ◌%◌, List, [], ◌∷◌, ◌++◌, length, get_or, set, map, ap, sym, ◌∙◌, arith, Option, Some, None, MatchOption, Result, Ok, Err, OnOk, OnErr, All, append_assoc, refl, suc}
 use Rattle.std.proofs.lemmas.List.{get_or_default, set-get_or, map-append, append-nil, length-map}
 use Rattle.cell_table.specs.Site.{SiteView}
 use Rattle.radio_book.specs.State.{State}
@@ -26,6 +26,20 @@ on_ok (Err e) f p = tt
 pub on_err : {A E P Q : Type 0} (r : Result A E) → (P → Q) → OnErr r P → OnErr r Q
 on_err (Ok x) f p = tt
 on_err (Err e) f p = f p
+
+pub err_holds : {A E P : Type 0} (r : Result A E) → P → OnErr r P
+err_holds (Ok x) p = tt
+err_holds (Err e) p = p
+
+-- two lists of which one isn't empty
+module _ {A : Type 0} where
+  pub some_before : (a b : List A) → a ≢ [] → (a ++ b) ≢ []
+  some_before [] b some = λ e. some refl
+  some_before (x ∷ a) b some = λ e. (cc)
+
+  pub some_behind : (a b : List A) → b ≢ [] → (a ++ b) ≢ []
+  some_behind [] b some = some
+  some_behind (x ∷ a) b some = λ e. (cc)
 
 -- a list that is gone through by value: what is done, and what is left
 module _ {L : Type 0} where

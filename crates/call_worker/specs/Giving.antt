@@ -32,24 +32,24 @@ owner_or cell (Record r s) = cell
 owner_or cell (Owned c) = c
 owner_or cell (Refused refusal) = cell
 
--- The office asked whose the channel is, and this is the number of that call, or of the cell where it is nobody's. Or the desk
--- didn't know the office's last receipt, and this is the number of the cell.
-abbrev pub IsOwnerNumber : ℕ → ChanId → List Receipt → ℕ → Type 0
-IsOwnerNumber cell x [] number = number ≡ cell
-IsOwnerNumber cell x (r ∷ []) number = (r.event ≡ Owner x) × (number ≡ owner_or cell r.reply)
-IsOwnerNumber cell x (r ∷ s ∷ rs) number = ⊥
+-- The office, which had these receipts, asked whose the channel is, and this is the number of that call, or of the cell where
+-- it is nobody's. Or the desk didn't know the last of them, and this is the number of the cell.
+abbrev pub IsOwnerNumber : List Receipt → ℕ → ChanId → List Receipt → ℕ → Type 0
+IsOwnerNumber known cell x [] number = (known ≢ []) × (number ≡ cell)
+IsOwnerNumber known cell x (r ∷ []) number = (r.event ≡ Owner x) × (number ≡ owner_or cell r.reply)
+IsOwnerNumber known cell x (r ∷ s ∷ rs) number = ⊥
 
 -- The number by which an input finds its worker: its call; of a message on Abis the call that has the channel which it names.
--- These receipts the office got for it.
-abbrev pub IsNumberOf : {A : Type 0} → Inbound A → List Receipt → ℕ → Type 0
-IsNumberOf {A} (inbound.Abis cell trx octets) asked number = (message : Rsl A) × abis.IsTextOf message octets × IsOwnerNumber cell (chan_of cell trx message) asked number
-IsNumberOf (inbound.A call octets) asked number = (asked ≡ []) × (number ≡ call)
-IsNumberOf (inbound.Expiry call timer) asked number = (asked ≡ []) × (number ≡ call)
-IsNumberOf (inbound.Operator line) asked number = (asked ≡ []) × (number ≡ call_of line)
+-- The office had the first receipts, and got the others for it.
+abbrev pub IsNumberOf : {A : Type 0} → List Receipt → Inbound A → List Receipt → ℕ → Type 0
+IsNumberOf {A} known (inbound.Abis cell trx octets) asked number = (message : Rsl A) × abis.IsTextOf message octets × IsOwnerNumber known cell (chan_of cell trx message) asked number
+IsNumberOf known (inbound.A call octets) asked number = (asked ≡ []) × (number ≡ call)
+IsNumberOf known (inbound.Expiry call timer) asked number = (asked ≡ []) × (number ≡ call)
+IsNumberOf known (inbound.Operator line) asked number = (asked ≡ []) × (number ≡ call_of line)
 
 -- for the input nothing was asked, or just what finds its worker
-abbrev pub MayBeAsked : {A : Type 0} → Inbound A → List Receipt → Type 0
-MayBeAsked input asked = (asked ≡ []) ⊎ ((number : ℕ) × IsNumberOf input asked number)
+abbrev pub MayBeAsked : {A : Type 0} → List Receipt → Inbound A → List Receipt → Type 0
+MayBeAsked known input asked = (asked ≡ []) ⊎ ((number : ℕ) × IsNumberOf known input asked number)
 
 -- octets on Abis that can't be read have this fault, where memory isn't refused
 abbrev pub IsUnreadableHere : {A : Type 0} → Inbound A → RslFault → Type 0
@@ -68,7 +68,7 @@ pub record IsFor {L A : Type 0} (input : Inbound A) (old new : OfficeState L A) 
   pub asked : List Receipt
   pub number : ℕ
   pub front : new.front ≡ old.front ++ asked
-  pub is_number : IsNumberOf input asked number
+  pub is_number : IsNumberOf old.front input asked number
   pub place : worker ≡ number % length old.workers
 
 -- the input was given to the worker that it is for

@@ -1,5 +1,5 @@
 //! What an office looks at when it closes.
-ghost use Rattle.std.specs.Prelude.{◌≡◌, ◌↔◌, ◌++◌, ◌≤◌, [], length, IfOk, IsTrue, MatchOption, MatchResult, vec_len, vec_capacity};
+ghost use Rattle.std.specs.Prelude.{◌≡◌, ◌≢◌, ◌↔◌, ◌++◌, ◌≤◌, [], length, IfOk, OnErr, IsTrue, MatchOption, MatchResult, vec_len, vec_capacity};
 ghost use Rattle.std.specs.List.{flat_map};
 ghost use Rattle.receipt_check.specs.Gathering.{Gathers, FirstWrong, StandsAt};
 ghost use Rattle.call_worker.specs.Closing.{AreEnds, IsCloseFault};
@@ -36,8 +36,10 @@ fn receipts_of<L, A: Allocator + Copy>(
     front: &[Receipt],
     workers: &[WorkerEnd<L, A>],
 ) -> Result<Vec<Receipt, A>, AllocError>
-    ensures { IfOk result (λ all. all.items ≡
+    ensures all { IfOk result (λ all. all.items ≡
         front.now ++ flat_map (λ worker. worker.receipts.items) workers.now) }
+    ensures memory { OnErr result
+        ((front.now ++ flat_map (λ worker. worker.receipts.items) workers.now) ≢ []) }
 {
     let mut all = Vec::new(alloc);
     push_all(&mut all, front)?;

@@ -61,14 +61,14 @@ fn owner_or(cell: u8, reply: Reply) -> usize
 }
 
 /// The number of the call that has a channel, by what the desk answers. It is that of the cell where none has it, and where
-/// the desk doesn't know the office's last receipt.
+/// the office has a receipt, and the desk doesn't know the last one.
 fn ask_owner<R: Wait + Drop, A: Allocator + Copy>(
     front: &mut Shared<R, A>,
     cell: u8,
     chan: ChanId,
 ) -> Result<usize, AllocError>
     ensures ok { IfOk result (λ number. (asked : List Receipt) ×
-        (front.new ≡ front.old ++ asked) × IsOwnerNumber cell chan asked number) }
+        (front.new ≡ front.old ++ asked) × IsOwnerNumber front.old cell chan asked number) }
     ensures kept { OnErr result (front.new ≡ front.old) }
 {
     match front.judge(Event::Owner(chan)) {
@@ -89,7 +89,7 @@ fn owner_number<R: Wait + Drop, A: Allocator + Copy>(
     ensures ok { IfOk result (λ number. (asked : List Receipt) ×
         (front.new ≡ front.old ++ asked) ×
         ((message : Rsl A) × IsTextOf message octets.now ×
-        IsOwnerNumber cell (chan_of cell trx message) asked number)) }
+        IsOwnerNumber front.old cell (chan_of cell trx message) asked number)) }
     ensures undecoded { (f : RslFault) → (result ≡ Err (GiveFault.Undecoded f)) ↔
         ((f ≢ NoMemory) × HasFault A octets.now f) }
     ensures kept { OnErr result (front.new ≡ front.old) }
@@ -126,7 +126,7 @@ pub(crate) fn number_of<R: Wait + Drop, A: Allocator + Copy>(
     input: &Inbound<A>,
 ) -> Result<usize, GiveFault>
     ensures ok { IfOk result (λ number. (asked : List Receipt) ×
-        (front.new ≡ front.old ++ asked) × IsNumberOf input.now asked number) }
+        (front.new ≡ front.old ++ asked) × IsNumberOf front.old input.now asked number) }
     ensures undecoded { (f : RslFault) → (result ≡ Err (GiveFault.Undecoded f)) ↔
         IsUnreadableHere input.now f }
     ensures kept { OnErr result (front.new ≡ front.old) }

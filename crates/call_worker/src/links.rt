@@ -1,14 +1,14 @@
 //! Where a worker's messages go.
 ghost use Rattle.std.specs.Prelude.{◌≡◌, ◌∷◌, ◌++◌, [], List, ℕ, IfOk, OnOk, OnErr};
-ghost use Rattle.ho_procedure.specs.Sent.{Sent, sent, all_sent};
+ghost use Rattle.ho_procedure.specs.Sent.{Sent, SendsOctets, sent, all_sent};
 ghost use Rattle.call_worker.specs.Sending.{one_more, Carries};
 
 use ho_procedure::exchange::Outbound;
 use octet_elements::Octets;
 use std::alloc::{AllocError, Allocator};
 
-/// What a worker sends its messages by, whatever memory they are in. Contracts see those that it passed on, in their order, and how many it refused: a
-/// count of 64 bits, which stays at its last value.
+/// What a worker sends its messages by, whatever memory they are in. Contracts see those that it passed on, in their
+/// order, and how many it refused: a count of 64 bits, which stays at its last value.
 pub trait Links {
     ghost passed: { Self → List Sent };
 
@@ -27,12 +27,14 @@ pub trait Links {
         ensures refused { refused self.new ≡ refused self.old };
 }
 
-/// The same message once more, in memory of `alloc`: links that keep a message keep it in their own.
+/// The same message once more, in memory of `alloc`: links that keep a message keep it in their own. Memory is asked for,
+/// for the octets of a message that has some.
 pub fn copy_of<A: Allocator + Copy, B: Allocator>(
     alloc: A,
     message: &Outbound<B>,
 ) -> Result<Outbound<A>, AllocError>
     ensures same { IfOk result (λ copy. sent copy ≡ sent message.now) }
+    ensures memory { OnErr result (SendsOctets (sent message.now)) }
 {
     match message {
         Outbound::Abis { cell, trx, bytes } => Ok(Outbound::Abis {

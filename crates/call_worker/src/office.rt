@@ -156,7 +156,7 @@ impl<R: Threads + Wait + Drop, L: Links + Drop, A: Allocator + Copy> Office<R, L
         ensures ended { (worker : ℕ) → result ≡ Err (GiveFault.Ended worker) →
             IsFor input self.old self.new worker }
         ensures asked { (asked : List Receipt) × (self.new.front ≡ self.old.front ++ asked) ×
-            MayBeAsked input asked }
+            MayBeAsked self.old.front input asked }
     {
         let number = number_of(self.alloc, &mut self.front, &input)?;
         let worker = number % self.posts.len();

@@ -15,7 +15,7 @@ returns-clause-ok g c =
         asked = n.0;
         number = c.in_ok-number.number;
         front = n.1 ∙ ap (λ y. y.front ++ n.0) c.self.view_is;
-        is_number = n.2;
+        is_number = rw (ap (λ y. y.front) c.self.view_is) at n.2;
         place = refl;
       };
       gives = gives _ _ _ _ _ _ c.index_mut-posted.result.now _ _ same refl (c.len.ensures ∙ long) (rw c.len.ensures some) c.index_mut-posted.ensures.value e;
@@ -30,7 +30,7 @@ pub returns-in_err-number-clause-asked : goal.returns-in_err-number-clause-asked
 returns-in_err-number-clause-asked g c = ([], c.in_err-number.ensures.kept ∙ (ap (λ y. y.front) c.self.view_is ∙ sym (append-nil _)), inl refl)
 
 pub returns-clause-asked : goal.returns-clause-asked
-returns-clause-asked g c = let n = c.in_ok-number.ensures.ok in (n.0, n.1 ∙ ap (λ y. y.front ++ n.0) c.self.view_is, inr (c.in_ok-number.number, n.2))
+returns-clause-asked g c = let n = c.in_ok-number.ensures.ok in (n.0, n.1 ∙ ap (λ y. y.front ++ n.0) c.self.view_is, inr (c.in_ok-number.number, rw (ap (λ y. y.front) c.self.view_is) at n.2))
 
 pub returns-clause-ended : goal.returns-clause-ended
 returns-clause-ended g c k e =
@@ -40,6 +40,6 @@ returns-clause-ended g c k e =
       asked = n.0;
       number = c.in_ok-number.number;
       front = n.1 ∙ ap (λ y. y.front ++ n.0) c.self.view_is;
-      is_number = n.2;
+      is_number = rw (ap (λ y. y.front) c.self.view_is) at n.2;
       place = c.give.ensures.ended k e ∙ ap (λ l. c.in_ok-number.number % l) (c.len.ensures ∙ (long ∙ ap (λ l. length l) same));
     }
