@@ -23,6 +23,11 @@ pub enum Task {
     /// A call's life, from its opening to the release of its channel, with a handover to another cell: twelve events of
     /// the radio book, beside 1,024 other calls on 64 cells.
     LiveByStep,
+    /// An attempt at handover to a cell that a seed picks: the book chooses a free channel of full rate and a free
+    /// reference, and the attempt is undone. Three events of the radio book, beside 1,024 other calls on 64 cells.
+    ChooseFull,
+    /// The same at half rate, on a site whose odd timeslots also carry halves.
+    ChooseHalf,
     /// Takes an undone attempt at handover out of a list of a hundred events.
     RewindList,
     /// Runs ten thousand events with five hundred undone attempts.
@@ -67,7 +72,7 @@ pub struct Case {
 }
 
 /// Every case, in the order in which they are printed: name, task, octets, place.
-pub const CASES: [Case; 20] = [
+pub const CASES: [Case; 22] = [
     Case {
         name: "chan_act.dec",
         task: Task::DecodeActivation,
@@ -101,6 +106,18 @@ pub const CASES: [Case; 20] = [
     Case {
         name: "step.life",
         task: Task::LiveByStep,
+        octets: &[0],
+        place: 0,
+    },
+    Case {
+        name: "any",
+        task: Task::ChooseFull,
+        octets: &[0],
+        place: 0,
+    },
+    Case {
+        name: "any.halves",
+        task: Task::ChooseHalf,
         octets: &[0],
         place: 0,
     },

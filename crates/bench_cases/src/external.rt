@@ -5,6 +5,7 @@ use crate::fault::Fault;
 use crate::handover::{COMPLETE, DETECTION, RELEASED};
 use crate::life::{CALL, OTHERS, busy_book, chan_at, crowded_book, site_text};
 use crate::varying::Varying;
+use channel_fsm::Rate;
 use ho_procedure::exchange::{Inbound, Line};
 use std::alloc::{AllocError, Global};
 
@@ -137,8 +138,8 @@ fn other_side(alloc: Global, text: &str) -> Result<String, AllocError> {
 /// COMPLETE for each. The desks keep their histories.
 pub fn external_by_octets(alloc: Global, octets: &mut Varying, count: u64) -> Result<u64, Fault> {
     let text = site_text(alloc, 1)?;
-    let mut first = controller_of(alloc, busy_book(alloc, text.as_str())?)?;
+    let mut first = controller_of(alloc, busy_book(alloc, text.as_str(), Rate::Full)?)?;
     let other = other_side(alloc, text.as_str())?;
-    let mut second = controller_of(alloc, crowded_book(alloc, other.as_str())?)?;
+    let mut second = controller_of(alloc, crowded_book(alloc, other.as_str(), Rate::Full)?)?;
     crossings(alloc, &mut first, &mut second, octets, count)
 }

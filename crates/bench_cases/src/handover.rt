@@ -5,6 +5,7 @@ use crate::controlled::{Single, controller_of, handle, hear};
 use crate::fault::Fault;
 use crate::life::{CALL, CELLS, OTHERS, busy_book, chan_at, site_text};
 use crate::varying::Varying;
+use channel_fsm::Rate;
 use ho_procedure::exchange::{Inbound, Line};
 use std::alloc::Global;
 
@@ -70,6 +71,6 @@ fn moves(
 /// HANDOVER PERFORMED for each. The desk keeps its history.
 pub fn handover_by_octets(alloc: Global, octets: &mut Varying, count: u64) -> Result<u64, Fault> {
     let text = site_text(alloc, 0)?;
-    let mut controller = controller_of(alloc, busy_book(alloc, text.as_str())?)?;
+    let mut controller = controller_of(alloc, busy_book(alloc, text.as_str(), Rate::Full)?)?;
     moves(alloc, &mut controller, octets, count)
 }

@@ -6,6 +6,7 @@ mod abis;
 mod bssmap;
 mod call;
 pub mod case;
+mod chosen;
 mod controlled;
 mod external;
 pub mod fault;
@@ -29,6 +30,7 @@ use crate::measured::Measurements;
 use crate::radio::Commands;
 use crate::repeated::read_each;
 use crate::varying::Varying;
+use channel_fsm::Rate;
 use std::alloc::Global;
 
 /// What so many iterations of a case add up to, modulo 2^64. Refused are octets that the case has no use for (`Words`), a
@@ -42,6 +44,8 @@ pub fn sum_of(alloc: Global, case: Case, count: u64, octets: &[u8]) -> Result<u6
         Task::HandoverByOctets => handover::handover_by_octets(alloc, &mut varying, count),
         Task::ExternalByOctets => external::external_by_octets(alloc, &mut varying, count),
         Task::LiveByStep => life::live_by_steps(alloc, &mut varying, count),
+        Task::ChooseFull => chosen::choose_by_steps(alloc, Rate::Full, &mut varying, count),
+        Task::ChooseHalf => chosen::choose_by_steps(alloc, Rate::Half, &mut varying, count),
         Task::RewindList => life::rewind_lists(alloc, &mut varying, count),
         Task::RunHistory => history::run_histories(alloc, &mut varying, count),
         Task::AuditHistory => history::audit_histories(alloc, &mut varying, count),

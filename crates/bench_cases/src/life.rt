@@ -4,16 +4,19 @@ ghost use Rattle.std.specs.Prelude.{◌<◌};
 use crate::fault::Fault;
 use crate::varying::Varying;
 use cell_table::Site;
-use channel_fsm::{ChanId, Sub};
+use channel_fsm::{ChanId, Rate, Sub};
 use radio_book::book::Book;
 use radio_book::event::{Event, Kind, Reply, Why};
 use radio_book::rewind::{RewindFault, rewind};
-use sample_sites::site_of_cells;
+use sample_sites::{site_of_cells, site_of_halves};
 use std::alloc::{AllocError, Global};
 use std::sync::Arc;
 
 /// How many cells the site has.
 pub(crate) const CELLS: u8 = 64;
+
+/// How many TRX each of them has.
+const TRX: u16 = 3;
 
 /// How many other calls each cell carries.
 pub(crate) const OTHERS: u8 = 16;
@@ -27,17 +30,43 @@ const OPENING: usize = 2;
 /// The call whose life it is. The others have the numbers from 0 to 1,023.
 pub(crate) const CALL: u16 = 5000;
 
-/// The traffic channel of a cell at this place, counted from 0. Each TRX has eight timeslots, and timeslot 0 of
-/// the first carries no traffic.
-pub(crate) fn chan_at(cell: u8, place: u8) -> ChanId
-    requires { place < 23 }
-{
-    let slot = place + 1;
+/// The channel that has this part of a timeslot. Slots are counted from 0 through all TRX, eight of each.
+fn chan_of(cell: u8, slot: u8, sub: Sub) -> ChanId {
     ChanId {
         cell,
         trx: slot / 8,
         tn: slot % 8,
-        sub: Sub::Full,
+        sub,
+    }
+}
+
+/// The traffic channel of a cell at this place, counted from 0. Timeslot 0 of the first TRX carries no traffic.
+pub(crate) fn chan_at(cell: u8, place: u8) -> ChanId
+    requires { place < 23 }
+{
+    chan_of(cell, place + 1, Sub::Full)
+}
+
+/// The same where each odd timeslot has two places, its halves.
+fn chan_beside_halves(cell: u8, place: u8) -> ChanId
+    requires { place < 23 }
+{
+    let step = place + 1;
+    let even = step / 3 * 2;
+    match step % 3 {
+        0 => chan_of(cell, even, Sub::Full),
+        1 => chan_of(cell, even + 1, Sub::Half0),
+        _ => chan_of(cell, even + 1, Sub::Half1),
+    }
+}
+
+/// The channel of a cell at this place: at full rate a whole timeslot, at half rate also a half of one.
+fn place_of(rate: Rate, cell: u8, place: u8) -> ChanId
+    requires { place < 23 }
+{
+    match rate {
+        Rate::Full => chan_at(cell, place),
+        Rate::Half => chan_beside_halves(cell, place),
     }
 }
 
@@ -49,7 +78,7 @@ pub(crate) fn cell_of(octets: &[u8]) -> u8
 }
 
 /// 1 where the book accepts the event, 0 where it refuses it.
-fn accepted(book: &mut Book, event: Event) -> Result<u64, Fault> {
+pub(crate) fn accepted(book: &mut Book, event: Event) -> Result<u64, Fault> {
     match book.step(event)? {
         Reply::Refused(_) => Ok(0),
         Reply::Done | Reply::Record(_, _) | Reply::Owned(_) => Ok(1),
@@ -67,10 +96,10 @@ fn settle(book: &mut Book, call: u16, chan: ChanId) -> Result<(), Fault> {
 }
 
 /// Opens the other calls of a cell.
-fn settle_cell(book: &mut Book, cell: u8) -> Result<(), Fault> {
+fn settle_cell(book: &mut Book, rate: Rate, cell: u8) -> Result<(), Fault> {
     for place in 0..OTHERS {
         let call = u16::from(cell) * u16::from(OTHERS) + u16::from(place);
-        settle(book, call, chan_at(cell, place))?;
+        settle(book, call, place_of(rate, cell, place))?;
     }
     Ok(())
 }
@@ -84,7 +113,12 @@ pub fn book_of(alloc: Global, text: &str) -> Result<Book, Fault> {
 
 /// The site file of 64 cells with three TRX each, and of so many cells of others.
 pub(crate) fn site_text(alloc: Global, outside: u16) -> Result<String, AllocError> {
-    site_of_cells(alloc, u16::from(CELLS), 3, outside)
+    site_of_cells(alloc, u16::from(CELLS), TRX, outside)
+}
+
+/// The site file of 64 cells with three TRX each, whose odd timeslots also carry halves.
+pub(crate) fn halves_text(alloc: Global) -> Result<String, AllocError> {
+    site_of_halves(alloc, u16::from(CELLS), TRX)
 }
 
 /// The book of 64 cells with three TRX each in which nothing is in use.
@@ -94,24 +128,25 @@ pub(crate) fn quiet_book(alloc: Global) -> Result<Book, Fault> {
 }
 
 /// Opens the other calls of every cell.
-fn settle_cells(book: &mut Book) -> Result<(), Fault> {
+fn settle_cells(book: &mut Book, rate: Rate) -> Result<(), Fault> {
     for cell in 0..CELLS {
-        settle_cell(book, cell)?;
+        settle_cell(book, rate, cell)?;
     }
     Ok(())
 }
 
-/// The book of a site file of 64 cells in which 1,024 other calls are steady.
-pub(crate) fn crowded_book(alloc: Global, text: &str) -> Result<Book, Fault> {
+/// The book of a site file of 64 cells in which 1,024 other calls are steady: at full rate on whole timeslots, at half rate
+/// those in odd timeslots on halves, which the site file has to name.
+pub(crate) fn crowded_book(alloc: Global, text: &str, rate: Rate) -> Result<Book, Fault> {
     let mut book = book_of(alloc, text)?;
-    settle_cells(&mut book)?;
+    settle_cells(&mut book, rate)?;
     Ok(book)
 }
 
 /// The same with the call, which is steady on the first channel of cell 0 that the others leave free.
-pub(crate) fn busy_book(alloc: Global, text: &str) -> Result<Book, Fault> {
-    let mut book = crowded_book(alloc, text)?;
-    settle(&mut book, CALL, chan_at(0, OTHERS))?;
+pub(crate) fn busy_book(alloc: Global, text: &str, rate: Rate) -> Result<Book, Fault> {
+    let mut book = crowded_book(alloc, text, rate)?;
+    settle(&mut book, CALL, place_of(rate, 0, OTHERS))?;
     Ok(book)
 }
 
@@ -155,7 +190,7 @@ fn lives(book: &mut Book, octets: &mut Varying, count: u64) -> Result<u64, Fault
 /// twelve for each life.
 pub fn live_by_steps(alloc: Global, octets: &mut Varying, count: u64) -> Result<u64, Fault> {
     let text = site_text(alloc, 0)?;
-    let mut book = crowded_book(alloc, text.as_str())?;
+    let mut book = crowded_book(alloc, text.as_str(), Rate::Full)?;
     lives(&mut book, octets, count)
 }
 

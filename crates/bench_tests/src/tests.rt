@@ -37,7 +37,10 @@ fn equals_at<T: Copy + Debug + PartialEq, W: Copy + Debug>(
 ///   same CHANNEL ACTIVATION, 130 of `00 0C 12 17 09 06 2B 08 00 09 00 02 00 00` (its colour codes 1 and 0, carriers 0 and
 ///   2), 104 of `03 01 01 09 02 00 0B 00 09 06 2B 08 00 09 00 02 00 00`, 28 of `00 01 1B`, 44 of `00 03 14 15 00`, 64 of
 ///   `08 2E 01 09` and 34 of `00 01 21`: 596; then back to area 1 (106) and colour codes 0 and 0 (122 and 96): 579.
-/// - A life: twelve events that are accepted. Of the hundred events of a list seven are the attempt's own (Take, Reserve,
+/// - A life: twelve events that are accepted.
+/// - An attempt in a cell that is picked: Take, Reserve and Undo are accepted, since each cell has free channels of both
+///   rates, no other attempt has a reference, and cell 0, in which the call is served, is never picked: 3 + 3.
+/// - Of the hundred events of a list seven are the attempt's own (Take, Reserve,
 ///   Activate, Confirm, Command, Undo, Released), 93 stay. Of the twenty events of each of five hundred attempts in a history
 ///   the last is refused: 9,500 are accepted; 500 attempts are undone and settled.
 /// - MEASUREMENT RESULT read: timeslot 3, number 0 and then 1, uplink 0 + 30 + 0, power 0; levels 30 + 30, qualities
@@ -53,13 +56,15 @@ fn equals_at<T: Copy + Debug + PartialEq, W: Copy + Debug>(
 /// - A report added: lengths 1 + 2, and the serving cell's 30 + 31.
 /// - Candidates: the serving cell has 30 + 31 + .. + 61, 1,456; the first four neighbours have 32 times 63, 50, 50 and 48,
 ///   2,016 + 1,600 + 1,600 + 1,536: 6,752; they are the cells 1 to 4 and then 2 to 5: 6,752 + 10 + 6,752 + 14.
-const SUMS: [(&str, u64); 20] = [
+const SUMS: [(&str, u64); 22] = [
     ("chan_act.dec", 115),
     ("chan_act.enc", 259),
     ("call.octets", 284),
     ("handover.octets", 637),
     ("ho_external.octets", 1175),
     ("step.life", 24),
+    ("any", 6),
+    ("any.halves", 6),
     ("rewind.100", 186),
     ("run.10000", 19_000),
     ("audit.10000", 1_000),
