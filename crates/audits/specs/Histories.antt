@@ -1,6 +1,5 @@
 -- The settled attempts of a desk's history, taken out together. Ours, of no standard.
 use Rattle.std.specs.Prelude.{◌≡◌, List}
-use Rattle.std.specs.List.{All}
 use Rattle.radio_book.specs.declared.event.Event.{Event}
 use Rattle.radio_book.specs.declared.event.Reply.{Reply}
 use Rattle.radio_book.specs.declared.undone.StepAt.{StepAt}

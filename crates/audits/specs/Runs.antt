@@ -1,5 +1,5 @@
 -- All settled attempts, taken out of what the controllers of a run were asked.
-use Rattle.std.specs.Prelude.{◌≡◌, ◌∷◌, ℕ, Bool, true, false, List, [], map, Option, Some, None, is_some, IfSome}
+use Rattle.std.specs.Prelude.{◌≡◌, ◌∷◌, ℕ, true, false, List, [], map, length, Option, Some, None, is_some, IfSome}
 use Rattle.cell_table.specs.SiteFile.{described_site}
 use Rattle.cell_table.specs.Site.{SiteView}
 use Rattle.lab_script.specs.Script.{first_unreadable, items_of}
@@ -7,14 +7,20 @@ use Rattle.lab_runs.specs.declared.course.Run.{Run}
 use Rattle.lab_runs.specs.Turns.{Position, inputs_in}
 use Rattle.lab_runs.specs.Course.{IsRunOf, option_list}
 use Rattle.radio_desk.specs.Desk.{DeskState}
-use Rattle.radio_desk.specs.Audit.{LeadsAlike}
+use Rattle.radio_book.specs.Undone.{Undone}
+use Rattle.radio_book.specs.Found.{first_place}
+use Rattle.radio_book.specs.Together.{held_steps}
+use Rattle.radio_desk.specs.Audit.{steps_in, AreSettledIn, LeadsAlike}
 use Rattle.radio_desk.specs.declared.audit.Audit.{Audit}
 use Rattle.audits.specs.declared.runs.Found.{Found}
 use Rattle.audits.specs.declared.runs.Audits.{Audits}
 use Rattle.audits.specs.Histories.{OfTheRemaining, LeadsApart}
 
--- the audit says whether what remains of a desk's history without all its settled attempts comes to the same
+-- The audit is that of a desk's history: it says how many settled attempts there are, which entry is the first that was
+-- refused for what one of them held, and whether what remains without them comes to the same.
 pub record Tells (audit : Audit) (d : DeskState) : Type 0 where
+  pub attempts : (us : List Undone) × AreSettledIn d.opening d.history us × (audit.attempts ≡ length us)
+  pub held : (us : List Undone) → AreSettledIn d.opening d.history us → audit.held ≡ first_place (held_steps us (steps_in d.history))
   pub same : audit.same ≡ true → OfTheRemaining LeadsAlike d.opening d.history d.book
   pub differs : audit.same ≡ false → OfTheRemaining LeadsApart d.opening d.history d.book
 

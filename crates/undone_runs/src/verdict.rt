@@ -1,7 +1,7 @@
 //! What comes of an attempt that was taken back.
 ghost use Rattle.std.specs.Prelude.{◌≡◌, ◌≢◌, ◌↔◌, ◌++◌, Ok, Some, None, true, slice_get, IfOk, OnOk, IfSome};
 ghost use Rattle.radio_book.specs.NoTrace.{LeavesNoTrace};
-ghost use Rattle.radio_book.specs.Undone.{OpensUndone};
+ghost use Rattle.radio_book.specs.Undone.{Undone, OpensUndone, IsUndoneAt, is_settled, first_held};
 ghost use Rattle.radio_desk.specs.Audit.{events_in};
 ghost use Rattle.read_traces.specs.Rewound.{IsSame, OfTheUndone, LeavesATrace};
 ghost use Rattle.undone_runs.specs.Events.{event_at};
@@ -95,6 +95,12 @@ pub fn verdict_of<A: Allocator + Copy>(
         OfTheUndone LeavesNoTrace desk.now.opening (events_in desk.now.history) opening)) }
     ensures differs { IfOk result (λ found. IfSome found (λ verdict. verdict.difference ≢ None →
         OfTheUndone LeavesATrace desk.now.opening (events_in desk.now.history) opening)) }
+    ensures settled { IfOk result (λ found. IfSome found (λ verdict. (u : Undone) →
+        IsUndoneAt desk.now.opening (events_in desk.now.history) opening u →
+        verdict.settled ≡ is_settled u)) }
+    ensures held { IfOk result (λ found. IfSome found (λ verdict. (u : Undone) →
+        IsUndoneAt desk.now.opening (events_in desk.now.history) opening u →
+        verdict.held ≡ first_held u)) }
     ensures no_trace { IfOk result (λ found. IfSome found (λ verdict.
         verdict.settled ≡ true → verdict.held ≡ None → verdict.difference ≡ None)) }
     ensures none { result ≡ Ok None →
