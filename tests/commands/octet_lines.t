@@ -93,6 +93,22 @@ On A (TS 48.008 clauses 3.2.1 and 3.2.2).
   $ printf '0020100b030108010a01011d33050501001700660505010017006505050100170064' | ./lab decode a --from - --all 2>/dev/null
   1 HANDOVER REQUEST channel=010801 encryption=01 classmark=33 serving=23/102 target=23/101 unused=05/0100170064
 
+Cells by their identity alone are used like others: in a list, which may be so long that no message could have it with
+location areas, and as serving and target cell. A response request is used once; of two classmarks classmark 1 is.
+
+  $ printf '000a1104010c1b1a03020066' | ./lab decode a --from - --all 2>/dev/null
+  1 HANDOVER REQUIRED cause=12 response=1 cells=-/102
+  $ printf '000b1104010c1b1b1a03020066' | ./lab decode a --from - --all 2>/dev/null
+  1 HANDOVER REQUIRED cause=12 response=1 cells=-/102 unused=1b/
+  $ printf "00871104010c1a8102$(printf '0066%.0s' $(seq 64))" | ./lab decode a --from - --all 2>/dev/null | cut -d ' ' -f 1-5,7-
+  1 HANDOVER REQUIRED cause=12 response=0
+  $ printf '00091704010c0503020066' | ./lab decode a --from - --all 2>/dev/null
+  1 HANDOVER PERFORMED cause=12 cell=-/102
+  $ printf '0014100b0201080a01011d3305030200660503020065' | ./lab decode a --from - --all 2>/dev/null
+  1 HANDOVER REQUEST channel=0108 encryption=01 classmark=33 serving=-/102 target=-/101
+  $ printf '0019100b0201080a01011d33120333198105030200660503020065' | ./lab decode a --from - --all 2>/dev/null
+  1 HANDOVER REQUEST channel=0108 encryption=01 classmark=33 serving=-/102 target=-/101 unused=12/331981
+
 Behind the mandatory part of a radio resource message (TS 44.018 clause 9.1).
 
   $ printf '062c00' | ./lab decode rr --from - --all 2>/dev/null

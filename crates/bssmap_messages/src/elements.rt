@@ -1,5 +1,5 @@
 //! The elements of each message: how they are read, how many octets they take, and how they are written.
-ghost use Rattle.std.specs.Prelude.{◌≡◌, ◌≤◌, ◌<◌, ◌+◌, ◌*◌, ◌^◌, ◌-◌, ◌++◌, ◌↔◌, min, IsTrue, is_some, length, flat_map, Ok, vec_len, vec_capacity};
+ghost use Rattle.std.specs.Prelude.{◌≡◌, ◌≤◌, ◌<◌, ◌+◌, ◌*◌, ◌^◌, ◌-◌, ◌++◌, ◌↔◌, min, IsTrue, is_some, length, map, flat_map, Ok, vec_len, vec_capacity};
 ghost use Rattle.std.specs.List.{list_all};
 ghost use Rattle.octet_elements.specs.Elements.{Fits, all_octets, element_octets};
 ghost use Rattle.octet_elements.specs.Lookup.{lookup, values_in};
@@ -107,6 +107,55 @@ pub fn read_elements<A: Allocator + Copy>(
         MessageKind::ClearRequest => Ok(Bssmap::ClearRequest {
             cause: found.octet(CAUSE)?,
         }),
+    }
+}
+
+/// The identifiers of the elements that a message uses (TS 48.008 clause 3.2.1), in the order in which they are written: one
+/// that may be left out where the message has it, and the cell identifier of a HANDOVER REQUEST twice.
+#[tactic(auto, unfolding(crate::specs::Messages::handover_request, crate::specs::Messages::handover_required, crate::specs::Messages::layer_3_alone, crate::specs::Messages::handover_complete, crate::specs::Messages::handover_failure, crate::specs::Messages::handover_performed, crate::specs::Messages::cause_alone))]
+pub fn used_identifiers<A: Allocator>(message: &Bssmap<A>) -> &'static [u8]
+    ensures identifiers { result.now ≡ map (λ element. element.0) (elements_of message.now) }
+{
+    match message {
+        Bssmap::HandoverRequest {
+            classmark: Classmark::One(_),
+            ..
+        } => &[
+            CHANNEL_TYPE,
+            ENCRYPTION_INFORMATION,
+            CLASSMARK_1,
+            CELL_IDENTIFIER,
+            CELL_IDENTIFIER,
+        ],
+        Bssmap::HandoverRequest {
+            classmark: Classmark::Two(_),
+            ..
+        } => &[
+            CHANNEL_TYPE,
+            ENCRYPTION_INFORMATION,
+            CLASSMARK_2,
+            CELL_IDENTIFIER,
+            CELL_IDENTIFIER,
+        ],
+        Bssmap::HandoverRequired { response: true, .. } => {
+            &[CAUSE, RESPONSE_REQUEST, CELL_IDENTIFIER_LIST]
+        }
+        Bssmap::HandoverRequired {
+            response: false,
+            ..
+        } => &[CAUSE, CELL_IDENTIFIER_LIST],
+        Bssmap::HandoverRequestAck { .. } | Bssmap::HandoverCommand { .. } => {
+            &[LAYER_3_INFORMATION]
+        }
+        Bssmap::HandoverComplete { rr: Some(_) } => &[RR_CAUSE],
+        Bssmap::HandoverComplete { rr: None } => &[],
+        Bssmap::HandoverFailure { rr: Some(_), .. } => &[CAUSE, RR_CAUSE],
+        Bssmap::HandoverFailure { rr: None, .. } => &[CAUSE],
+        Bssmap::HandoverPerformed { .. } => &[CAUSE, CELL_IDENTIFIER],
+        Bssmap::HandoverRequiredReject { .. }
+        | Bssmap::ClearCommand { .. }
+        | Bssmap::ClearRequest { .. } => &[CAUSE],
+        Bssmap::HandoverDetect | Bssmap::ClearComplete => &[],
     }
 }
 

@@ -17,9 +17,11 @@ mod values;
 mod writing;
 
 pub use cells::CellList;
+pub use elements::used_identifiers;
 pub use fault::BssmapFault;
 pub use laws::{canonical_is_text, reading_is_unique};
 pub use message::{Bssmap, CellId, Classmark, target_of};
 pub use octet_elements::Octets;
 pub use reading::decode;
+pub use table::InterfaceA;
 pub use writing::{encode, encode_into, encode_request_ack_into, encode_required_into, fits};

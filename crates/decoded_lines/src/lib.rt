@@ -7,13 +7,11 @@
 
 mod answers;
 mod file;
-mod forms;
 mod messages;
 mod octets;
 mod parts;
 mod reader;
 mod unused;
-mod used;
 
 pub use answers::{Asked, Counts, LinesFault, answer_lines};
 pub use explanations::LinkName;
@@ -24,4 +22,3 @@ pub use parts::{is_blank, said_in, text_and_note, without_return, word_and_rest}
 pub use reader::{Found, LONGEST_LINE, next_line};
 pub use screen_text::PrintFault;
 pub use unused::{print_a_unused, print_abis_unused, print_rr_rest};
-pub use used::{Used, used_on_a, used_on_abis};

@@ -3,7 +3,6 @@ ghost use Rattle.std.specs.Prelude.{◌≡◌, ◌≢◌, [], Ok, Err, None, tru
 ghost use Rattle.decoded_lines.specs.Messages.{link_name, IsRrMessage, IsBssmapMessage, IsAbisMessage, IsMessage};
 
 use crate::unused::{print_a_unused, print_abis_unused, print_rr_rest};
-use crate::used::{used_on_a, used_on_abis};
 use bssmap_messages::{Bssmap, BssmapFault};
 use explanations::LinkName;
 use ho_procedure::exchange::Bad;
@@ -107,20 +106,15 @@ fn abis_fault(fault: RslFault) -> Result<Bad, PrintFault>
 }
 
 /// Prints what is asked for of a message on A behind its fields.
-fn print_bssmap_more<A: Allocator + Copy, W: Write>(
-    alloc: A,
+fn print_bssmap_more<A: Allocator, W: Write>(
     detail: Detail,
     message: &Bssmap<A>,
     octets: &[u8],
     out: &mut W,
-) -> Result<(), PrintFault> {
+) -> io::Result<()> {
     match detail {
         Detail::Fields => Ok(()),
-        Detail::All => {
-            let used = used_on_a(alloc, message)?;
-            print_a_unused(used, octets, out)?;
-            Ok(())
-        }
+        Detail::All => print_a_unused(message, octets, out),
     }
 }
 
@@ -138,7 +132,7 @@ fn print_bssmap<A: Allocator + Copy, W: Write>(
     match bssmap_messages::decode(alloc, octets) {
         Ok(message) => {
             write!(out, "{}", BssmapText(&message))?;
-            print_bssmap_more(alloc, detail, &message, octets, out)?;
+            print_bssmap_more(detail, &message, octets, out)?;
             Ok(None)
         }
         Err(fault) => refuse(bssmap_fault(fault)?, out),
@@ -146,8 +140,7 @@ fn print_bssmap<A: Allocator + Copy, W: Write>(
 }
 
 /// Prints what is asked for of a message on Abis behind its fields.
-fn print_abis_more<A: Allocator + Copy, W: Write>(
-    alloc: A,
+fn print_abis_more<A: Allocator, W: Write>(
     detail: Detail,
     message: &Rsl<A>,
     octets: &[u8],
@@ -156,8 +149,7 @@ fn print_abis_more<A: Allocator + Copy, W: Write>(
     match detail {
         Detail::Fields => Ok(()),
         Detail::All => {
-            let used = used_on_abis(alloc, message)?;
-            print_abis_unused(used, octets, out)?;
+            print_abis_unused(message, octets, out)?;
             if let Some(layer3) = layer3_of(message) {
                 write!(out, " | ")?;
                 print_rr(detail, layer3, out)?;
@@ -181,7 +173,7 @@ fn print_abis<A: Allocator + Copy, W: Write>(
     match rsl_messages::decode(alloc, octets) {
         Ok(message) => {
             write!(out, "{}", AbisText(&message))?;
-            print_abis_more(alloc, detail, &message, octets, out)?;
+            print_abis_more(detail, &message, octets, out)?;
             Ok(None)
         }
         Err(fault) => refuse(abis_fault(fault)?, out),

@@ -1,5 +1,5 @@
 //! The elements of each message: how they are read, and beside it how they are written.
-ghost use Rattle.std.specs.Prelude.{◌≡◌, ◌+◌, ◌-◌, ◌/◌, ◌%◌, ◌^◌, ◌<◌, ◌≤◌, ◌↔◌, min, length, Ok, Err, IsTrue, IfSome};
+ghost use Rattle.std.specs.Prelude.{◌≡◌, ◌+◌, ◌-◌, ◌/◌, ◌%◌, ◌^◌, ◌<◌, ◌≤◌, ◌↔◌, min, length, map, Ok, Err, IsTrue, IfSome};
 ghost use Rattle.std.specs.Option.{option_map};
 ghost use Rattle.octet_elements.specs.ChannelTypes.{sub_of};
 ghost use Rattle.octet_elements.specs.Elements.{all_octets};
@@ -366,4 +366,53 @@ pub fn elements_len<A: Allocator>(message: &Rsl<A>) -> usize
         Rsl::RfChannelRelease { .. } | Rsl::RfChannelReleaseAck { .. } => 0,
     };
     others.saturating_add(octet_len::<Abis>(CHANNEL_NUMBER))
+}
+
+/// The identifiers of the elements that a message uses (TS 48.058 clause 8), in the order in which they are written: of one that
+/// may be left out where the message has it.
+pub fn used_identifiers<A: Allocator>(message: &Rsl<A>) -> &'static [u8]
+    ensures identifiers { result.now ≡ map (λ element. element.0) (elements_of message.now) }
+{
+    match message {
+        Rsl::DataRequest { .. } | Rsl::DataIndication { .. } => {
+            &[CHANNEL_NUMBER, LINK_IDENTIFIER, LAYER3]
+        }
+        Rsl::ChannelActivation {
+            reference: Some(_),
+            ..
+        } => {
+            &[
+                CHANNEL_NUMBER,
+                ACTIVATION_TYPE,
+                CHANNEL_MODE,
+                HANDOVER_REFERENCE,
+            ]
+        }
+        Rsl::ChannelActivation {
+            reference: None,
+            ..
+        } => { &[CHANNEL_NUMBER, ACTIVATION_TYPE, CHANNEL_MODE] }
+        Rsl::ChannelActivationAck { .. } => &[CHANNEL_NUMBER, FRAME_NUMBER],
+        Rsl::ChannelActivationNack { .. } | Rsl::ConnectionFailureIndication { .. } => {
+            &[CHANNEL_NUMBER, CAUSE]
+        }
+        Rsl::HandoverDetection { delay: Some(_), .. } => &[CHANNEL_NUMBER, ACCESS_DELAY],
+        Rsl::HandoverDetection { delay: None, .. } => &[CHANNEL_NUMBER],
+        Rsl::MeasurementResult {
+            layer3: Some(_),
+            ..
+        } => {
+            &[
+                CHANNEL_NUMBER,
+                RESULT_NUMBER,
+                UPLINK_MEASUREMENTS,
+                POWER,
+                LAYER3,
+            ]
+        }
+        Rsl::MeasurementResult { layer3: None, .. } => {
+            &[CHANNEL_NUMBER, RESULT_NUMBER, UPLINK_MEASUREMENTS, POWER]
+        }
+        Rsl::RfChannelRelease { .. } | Rsl::RfChannelReleaseAck { .. } => &[CHANNEL_NUMBER],
+    }
 }

@@ -14,9 +14,11 @@ mod table;
 pub mod values;
 mod writing;
 
+pub use elements::used_identifiers;
 pub use fault::RslFault;
 pub use laws::{canonical_is_text, reading_is_unique};
 pub use message::{ChanBits, Rsl};
 pub use octet_elements::{Octets, Sub};
 pub use reading::decode;
+pub use table::Abis;
 pub use writing::{encode, encode_activation_into, encode_data_request_into, encode_into, fits};

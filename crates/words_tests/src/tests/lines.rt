@@ -2,7 +2,7 @@
 use super::{Fail, Global, RefusingHeap, equals_at, holds_at};
 use decoded_lines::{
     Asked, Counts, Detail, LinesFault, LinkName, answer_file, answer_lines, link_named,
-    print_a_unused, print_abis_unused, print_rr_rest, used_on_a, used_on_abis,
+    print_a_unused, print_abis_unused, print_rr_rest,
 };
 use std::io::{self, Write};
 use std::process::Abort;
@@ -184,7 +184,7 @@ fn each_write_fails(rt: HostRuntime) -> Result<(), Fail> {
 }
 
 /// Lines whose octets, and a message's list, take memory.
-const WITH_LISTS: &[u8] = b"abis 03 01 01 0b 02 00 0b 00 03 06 2c 00\na 000121\nrr 062c00\n";
+const WITH_LISTS: &[u8] = b"abis 03 01 01 0b 02 00 0b 00 03 06 2c 00\na 000c1104010c1b1a050100170066\nrr 062c00\n";
 
 /// Whether these lines were refused no memory, where the n-th request is refused.
 fn has_memory(rt: &(impl Abort + AllocGlobal), number: u64) -> bool {
@@ -219,21 +219,13 @@ fn each_request_for_memory_is_refused(rt: HostRuntime) -> Result<(), Fail> {
 fn print_unused(alloc: Global, out: &mut Vec<u8>) -> Result<(), Fail> {
     let octets = b"\x08\x2e\x01\x0b\x01\x0c";
     let release = rsl_messages::decode(alloc, octets)?;
-    print_abis_unused(used_on_abis(alloc, &release)?, octets, out)?;
+    print_abis_unused(&release, octets, out)?;
     let octets = b"\x00\x0b\x20\x07\x02\x06\x03\x04\x01\x09\x04\x01\x0a";
     let clear = bssmap_messages::decode(alloc, octets)?;
-    print_a_unused(used_on_a(alloc, &clear)?, octets, out)?;
+    print_a_unused(&clear, octets, out)?;
     let octets = b"\x06\x2c\x00\x77\x0a";
     print_rr_rest(&rr_messages::decode(octets)?, octets, out)?;
     Ok(())
-}
-
-/// Which elements two messages without a list use isn't said where memory is refused.
-fn want_memory(rt: &impl Abort, heap: &RefusingHeap) {
-    let release = rsl_messages::decode(heap, b"\x08\x2e\x01\x0b").expect(rt, "a message");
-    holds_at(rt, used_on_abis(heap, &release).is_err(), "on Abis");
-    let complete = bssmap_messages::decode(heap, b"\x00\x01\x21").expect(rt, "a message");
-    holds_at(rt, used_on_a(heap, &complete).is_err(), "on A");
 }
 
 #[test]
@@ -242,6 +234,5 @@ fn what_a_message_does_not_use(rt: HostRuntime) -> Result<(), Fail> {
     print_unused(rt.alloc(), &mut out)?;
     let wanted = " unused=01/0c unused=07/0603 unused=04/0a rest=770a";
     equals_at(&rt, str::from_utf8(&out)?, wanted, "unused");
-    want_memory(&rt, &RefusingHeap::refusing_from(rt.alloc(), 1));
     Ok(())
 }

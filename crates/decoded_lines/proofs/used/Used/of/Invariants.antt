@@ -1,5 +1,0 @@
-use Rattle.std.proofs.Common.{length}
-use Rattle.decoded_lines.proofs.used.Used.of.Given as goal
-
-abbrev pub decreases-loop-leading : goal.decreases-loop-leading
-decreases-loop-leading g l = length l.rest
