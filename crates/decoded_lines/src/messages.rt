@@ -181,8 +181,7 @@ fn print_abis<A: Allocator + Copy, W: Write>(
 }
 
 /// Prints a message of a link in words, or why the octets are none (`fault`, the link, and the number of the fault with
-/// its argument), without a line feed; answers why they are
-/// none, if so.
+/// its argument), without a line feed; answers why they are none, if so.
 ///
 /// With [`Detail::All`] there follow the elements that the message doesn't use, each as `unused=IDENTIFIER/VALUE` in
 /// hexadecimal ([`print_abis_unused`], [`print_a_unused`]), of a radio resource message what stands behind its mandatory
