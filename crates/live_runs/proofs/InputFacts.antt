@@ -1,13 +1,12 @@
 -- The inputs of lines, one line after another.
-use Rattle.std.proofs.Common.{◌≡◌, ◌++◌, ◌∷◌, ◌+◌, ◌<◌, ◌≤◌, ◌&&◌, ◌||◌, ◌⊎◌, inl, inr, ℕ, suc, zero, Bool, true, false, cond, not, nat_lt, List, [], take, drop, length, codes, refl, sym, ap, subst, ◌∙◌, arith, take_all}
+use Rattle.std.proofs.Common.{◌≡◌, ◌++◌, ◌∷◌, ◌+◌, ◌<◌, ◌≤◌, ◌&&◌, ◌||◌, ◌⊎◌, inl, inr, ℕ, suc, zero, Bool, true, false, cond, not, nat_lt, List, [], take, drop, length, codes, refl, sym, ap, subst, ◌∙◌, arith}
 use Rattle.std.proofs.Math.Numerals.{one-add}
-use Rattle.std.proofs.lemmas.List.{drop_all, append_assoc}
-use Rattle.std.proofs.lemmas.List.Splits.{slice_split_first, slice_split_none}
+use Rattle.std.proofs.lemmas.List.{append_assoc}
 use Rattle.std.proofs.lemmas.Bool.{cases_Bool, lt-ltb}
 use Rattle.std.proofs.lemmas.Slice.Eq.{bytes_eq-Decides}
 use Rattle.std.specs.List.{filter_map, flat_map, list_any, slice_split, position_or_len, before_first, after_first}
 use Rattle.decoded_lines.specs.Reading.{is_feed, longest_line, most_kept, first_line, behind_line}
-use Rattle.decoded_lines.proofs.ReadingLemmas.{place_within, place_none, none_passes}
+use Rattle.decoded_lines.proofs.LineLemmas.{split_first, split_none, left_none}
 use Rattle.lab_script.specs.Script.{is_sim, item_of}
 use Rattle.lab_runs.specs.Turns.{inputs_in}
 use Rattle.live_runs.specs.Lines.{script_line, is_text, can_be_read, items_at, inputs_at, attaches, sim_behind, inputs_of, inputs_from}
@@ -99,18 +98,6 @@ blank_gives_none {A = A} has_sim = either_way (can_be_read has_sim []) (inputs_i
 -- nor does nothing
 pub none_from : {A : Type 0} (has_sim : Bool) → inputs_from {A = A} has_sim [] ≡ []
 none_from {A = A} has_sim = first_input {A = A} has_sim [] [] ∙ ap (λ l. l ++ inputs_of (sim_behind has_sim []) []) (blank_gives_none {A = A} has_sim)
-
--- the lines of octets: the first, and those behind it; or the first alone
-split_first : (octets : List ℕ) → list_any is_feed octets ≡ true → slice_split is_feed octets ≡ first_line octets ∷ slice_split is_feed (behind_line octets)
-split_first octets some = slice_split_first is_feed octets 0 (place_within is_feed octets some)
-
-split_none : (octets : List ℕ) → list_any is_feed octets ≡ false → slice_split is_feed octets ≡ first_line octets ∷ []
-split_none octets none =
-    let all : first_line octets ≡ octets = take_all (position_or_len is_feed octets) octets (omega (arith, place_none is_feed octets none)) in
-    slice_split_none is_feed octets (none_passes is_feed octets none) ∙ ap (λ line. line ∷ []) (sym all)
-
-left_none : (octets : List ℕ) → list_any is_feed octets ≡ false → behind_line octets ≡ []
-left_none octets none = drop_all (position_or_len is_feed octets + 1) octets (omega (arith, place_none is_feed octets none))
 
 -- what octets give: their first line, and what stands behind it
 pub from_first : {A : Type 0} (has_sim : Bool) (octets : List ℕ)
