@@ -2,7 +2,7 @@
 use Rattle.std.proofs.Common.{◌≡◌, ◌++◌, ◌∷◌, ◌+◌, ◌<◌, ◌≤◌, ◌&&◌, ◌||◌, ◌⊎◌, inl, inr, ℕ, suc, zero, Bool, true, false, cond, not, nat_lt, List, [], take, drop, length, codes, refl, sym, ap, subst, ◌∙◌, arith}
 use Rattle.std.proofs.Math.Numerals.{one-add}
 use Rattle.std.proofs.lemmas.List.{append_assoc}
-use Rattle.std.proofs.lemmas.Bool.{cases_Bool, lt-ltb}
+use Rattle.std.proofs.lemmas.Bool.{and_parts, cases_Bool, lt-ltb}
 use Rattle.std.proofs.lemmas.Slice.Eq.{bytes_eq-Decides}
 use Rattle.std.specs.List.{filter_map, flat_map, list_any, slice_split, position_or_len, before_first, after_first}
 use Rattle.decoded_lines.specs.Reading.{is_feed, longest_line, most_kept, first_line, behind_line}
@@ -59,10 +59,6 @@ or_true : (b : Bool) → (b || true) ≡ true
 or_true true = refl
 or_true false = refl
 
-pub and_left : (a b : Bool) → (a && b) ≡ true → a ≡ true
-and_left true b e = refl
-and_left false b e = e
-
 either_way : {X : Type 0} (b : Bool) (x y : X) → x ≡ y → cond b x y ≡ y
 either_way true x y e = e
 either_way false x y e = refl
@@ -71,7 +67,7 @@ either_way false x y e = refl
 attaching_gives_none : {A : Type 0} (has_sim : Bool) (line : List ℕ) → attaches line ≡ true → inputs_at {A = A} has_sim line ≡ []
 unfolding attaches items_at
 attaching_gives_none {A = A} has_sim line e =
-    let is : script_line line ≡ codes "sim" = (bytes_eq-Decides (script_line line) (codes "sim")).0 (and_left (is_sim (script_line line)) (can_be_read false line) e) in
+    let is : script_line line ≡ codes "sim" = (bytes_eq-Decides (script_line line) (codes "sim")).0 (and_parts (is_sim (script_line line)) (can_be_read false line) e).0 in
     either_way (can_be_read has_sim line) (inputs_in (items_at {A = A} line)) [] (ap (λ (l : List ℕ). inputs_in (filter_map (item_of {A = A}) (l ∷ []))) is)
 
 -- the first line, and all behind it
@@ -110,9 +106,6 @@ from_first {A = A} has_sim octets = elim (cases_Bool (list_any is_feed octets)) 
       ∙ sym (ap (λ l. inputs_at {A = A} has_sim (first_line octets) ++ inputs_from behind l) (left_none octets none)
       ∙ ap (λ l. inputs_at {A = A} has_sim (first_line octets) ++ l) (none_from {A = A} behind))
 ]
-
-pub both_are : (a b : Bool) → a ≡ true → b ≡ true → (a && b) ≡ true
-both_are a b e f = rw (e, f) refl
 
 pub and_no : (a b : Bool) → a ≡ false → (a && b) ≡ false
 and_no a b e = rw e refl
