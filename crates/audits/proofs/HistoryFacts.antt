@@ -1,46 +1,38 @@
 -- Facts of what remains of a desk's history without all its settled attempts.
-use Rattle.std.proofs.Common.{◌≡◌, ◌↔◌, ◌∙◌, Bool, true, false, IsTrue, List, Result, Ok, Err, IfOk, length, refl, sym, subst}
+use Rattle.std.proofs.Common.{◌≡◌, ◌∙◌, Bool, true, false, List, Result, Ok, Err, IfOk, refl, sym, subst}
 use Rattle.radio_book.specs.declared.event.Event.{Event}
 use Rattle.radio_book.specs.declared.undone.StepAt.{StepAt}
 use Rattle.radio_book.specs.State.{State}
 use Rattle.radio_book.specs.Run.{Leads}
-use Rattle.radio_book.specs.Undone.{Undone}
 use Rattle.radio_book.specs.Together.{remaining}
 use Rattle.radio_desk.specs.declared.audit.Audit.{Audit}
 use Rattle.radio_desk.specs.Desk.{DeskState}
-use Rattle.radio_desk.specs.Audit.{events_in, steps_in, AreSettledIn, LeadsAlike}
+use Rattle.radio_desk.specs.Audit.{events_in, steps_in, LeadsAlike, IsAuditOf}
 use Rattle.audits.specs.Histories.{OfTheRemaining, OfTheHistory, LeadsApart}
 
 -- what an audit that is the same says
-pub remains_alike : (d : DeskState) (audit : Audit) → ((us : List Undone) × AreSettledIn d.opening d.history us × (audit.attempts ≡ length us))
-    → ((us : List Undone) → AreSettledIn d.opening d.history us → IsTrue audit.same ↔ LeadsAlike d.opening (remaining us (steps_in d.history)) d.book)
-    → audit.same ≡ true → OfTheRemaining LeadsAlike d.opening d.history d.book
-remains_alike d audit found says is = (found.0, found.1, (says found.0 found.1).0 is)
+pub remains_alike : (d : DeskState) (audit : Audit) → IsAuditOf d audit → audit.same ≡ true → OfTheRemaining LeadsAlike d.opening d.history d.book
+remains_alike d audit of is = let found = of.attempts in (found.0, found.1, (of.same found.0 found.1).0 is)
 
 -- and one that isn't
-pub remains_apart : (d : DeskState) (audit : Audit) → ((us : List Undone) × AreSettledIn d.opening d.history us × (audit.attempts ≡ length us))
-    → ((us : List Undone) → AreSettledIn d.opening d.history us → IsTrue audit.same ↔ LeadsAlike d.opening (remaining us (steps_in d.history)) d.book)
-    → audit.same ≡ false → OfTheRemaining LeadsApart d.opening d.history d.book
-remains_apart d audit found says is =
+pub remains_apart : (d : DeskState) (audit : Audit) → IsAuditOf d audit → audit.same ≡ false → OfTheRemaining LeadsApart d.opening d.history d.book
+remains_apart d audit of is =
+    let found = of.attempts in
     let apart : LeadsApart d.opening (remaining found.0 (steps_in d.history)) d.book = λ alike.
-    let bad : true ≡ false = sym ((says found.0 found.1).1 alike) ∙ is in
+    let bad : true ≡ false = sym ((of.same found.0 found.1).1 alike) ∙ is in
     cc in
     (found.0, found.1, apart)
 
 -- the same of a history that is legal, where the audit may have failed
-pub same_in : {E : Type 0} (d : DeskState) (r : Result Audit E) → Leads d.opening d.history d.book
-    → IfOk r (λ (audit : Audit). (us : List Undone) × AreSettledIn d.opening d.history us × (audit.attempts ≡ length us))
-    → IfOk r (λ (audit : Audit). (us : List Undone) → AreSettledIn d.opening d.history us → IsTrue audit.same ↔ LeadsAlike d.opening (remaining us (steps_in d.history)) d.book)
+pub same_in : {E : Type 0} (d : DeskState) (r : Result Audit E) → Leads d.opening d.history d.book → IfOk r (IsAuditOf d)
     → IfOk r (λ (audit : Audit). audit.same ≡ true → OfTheHistory LeadsAlike d.opening (events_in d.history))
-same_in d (Ok audit) legal found says = λ is. (d.history, d.book, refl, legal, remains_alike d audit found says is)
-same_in d (Err e) legal found says = tt
+same_in d (Ok audit) legal of = λ is. (d.history, d.book, refl, legal, remains_alike d audit of is)
+same_in d (Err e) legal of = tt
 
-pub differs_in : {E : Type 0} (d : DeskState) (r : Result Audit E) → Leads d.opening d.history d.book
-    → IfOk r (λ (audit : Audit). (us : List Undone) × AreSettledIn d.opening d.history us × (audit.attempts ≡ length us))
-    → IfOk r (λ (audit : Audit). (us : List Undone) → AreSettledIn d.opening d.history us → IsTrue audit.same ↔ LeadsAlike d.opening (remaining us (steps_in d.history)) d.book)
+pub differs_in : {E : Type 0} (d : DeskState) (r : Result Audit E) → Leads d.opening d.history d.book → IfOk r (IsAuditOf d)
     → IfOk r (λ (audit : Audit). audit.same ≡ false → OfTheHistory LeadsApart d.opening (events_in d.history))
-differs_in d (Ok audit) legal found says = λ is. (d.history, d.book, refl, legal, remains_apart d audit found says is)
-differs_in d (Err e) legal found says = tt
+differs_in d (Ok audit) legal of = λ is. (d.history, d.book, refl, legal, remains_apart d audit of is)
+differs_in d (Err e) legal of = tt
 
 -- the same of another name of the book, and of the events
 pub of_book : (P : State → List StepAt → State → Type 0) (b b' : State) (es : List Event) (T : Type 0) → b ≡ b' → (T → OfTheHistory P b es) → T → OfTheHistory P b' es

@@ -3,7 +3,8 @@ ghost use Rattle.std.specs.Prelude.{◌≡◌, ◌≢◌, ◌↔◌, Ok, None, I
 ghost use Rattle.lab_script.specs.Script.{first_unreadable};
 ghost use Rattle.lab_runs.specs.Course.{option_list};
 ghost use Rattle.lab_runs.specs.Sites.{texts_of, views_of};
-ghost use Rattle.audits.specs.Runs.{Tells, AreTold, IsAuditOf, IsAuditedRun, AreSame};
+ghost use Rattle.radio_desk.specs.Audit.{IsAuditOf};
+ghost use Rattle.audits.specs.Runs.{AreTold, AreAuditsOf, IsAuditedRun, AreSame};
 
 use crate::noting::{EventLines, Noting};
 use crate::shown::print_audit;
@@ -14,7 +15,6 @@ use lab_runs::noting as view;
 use lab_runs::run::{LabFault, Sites, Status, play, read_sites, refuse_site};
 use lab_script::script::Side;
 use radio_desk::audit::Audit;
-use radio_desk::desk::Desk;
 use std::alloc::{AllocError, Allocator, Global};
 use std::io::{self, Write};
 use trace_text::trace::Mark;
@@ -34,22 +34,15 @@ pub struct Audits {
     pub peer: Option<Found>,
 }
 
-/// What the audit of a desk comes to.
-fn audited<A: Allocator + Copy>(desk: &Desk<A>) -> Result<Audit, AllocError>
-    ensures told { IfOk result (λ audit. Tells audit desk.now) }
-{
-    desk.audit()
-}
-
 /// What the audit of a controller's history comes to, whose events stand in these lines.
 fn found_of<A: Allocator + Copy>(
     controller: &Controller<view::Noting<A>, A>,
     lines: &EventLines<A>,
     side: Side,
 ) -> Result<Found, AllocError>
-    ensures told { IfOk result (λ found. Tells found.audit controller.now.0.desk) }
+    ensures told { IfOk result (λ found. IsAuditOf controller.now.0.desk found.audit) }
 {
-    let audit = audited(controller.view().desk())?;
+    let audit = controller.view().desk().audit()?;
     let held = match audit.held {
         Some(place) => lines.line_of(side, place),
         None => None,
@@ -75,7 +68,7 @@ fn audits_of<A: Allocator + Copy>(
     controllers: &Controllers<A>,
     lines: &EventLines<A>,
 ) -> Result<Audits, AllocError>
-    ensures first { IfOk result (λ audits. Tells audits.first.audit controllers.now.first.0.desk) }
+    ensures first { IfOk result (λ audits. IsAuditOf controllers.now.first.0.desk audits.first.audit) }
     ensures peer { IfOk result (λ audits.
         AreTold (option_list audits.peer) (option_list controllers.now.peer)) }
 {
@@ -94,7 +87,7 @@ fn audit_played<A: Allocator + Copy, L: Listener<A>>(
     ensures read { IfOk result (λ found. IfSome found (λ _.
         first_unreadable (is_some sites.peer) script.now ≡ None)) }
     ensures told { IfOk result (λ found. IfSome found (λ audits.
-        IsAuditOf A (views_of sites) script.now audits)) }
+        AreAuditsOf A (views_of sites) script.now audits)) }
 {
     match play(alloc, sites, script, noting)? {
         Some(run) => Ok(Some(audits_of(&run.controllers, noting.lines())?)),

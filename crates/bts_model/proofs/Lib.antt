@@ -2,8 +2,6 @@
 mod KeyFacts
 -- what a tree's entries, seen as a finite map, have at a key, and what one more entry makes of the map
 mod MapFacts
--- what is known of a value, or of an error, gives more
-mod Results
 -- what is acknowledged where memory is refused at a release
 mod ReleaseFacts
 -- a hold that has kept something is seen in what all have kept

@@ -1,5 +1,5 @@
 -- The lists of an office, with one more.
-use Rattle.std.proofs.Common.{◌≡◌, ◌≢◌, ℕ, ◌<◌, ◌%◌, List, [], ◌∷◌, ◌++◌, length, get_or, set, map, ap, sym, ◌∙◌, arith, Option, Some, None, MatchOption, Result, Ok, Err, OnOk, OnErr, All, append_assoc, refl, suc}
+use Rattle.std.proofs.Common.{◌≡◌, ◌≢◌, ℕ, ◌<◌, ◌%◌, List, [], ◌∷◌, ◌++◌, length, get_or, set, map, ap, sym, ◌∙◌, arith, Option, Some, None, MatchOption, All, append_assoc, refl, suc}
 use Rattle.std.proofs.lemmas.List.{get_or_default, set-get_or, map-append, append-nil, length-map}
 use Rattle.cell_table.specs.Site.{SiteView}
 use Rattle.radio_book.specs.State.{State}
@@ -18,18 +18,6 @@ use Rattle.call_worker.specs.States.{WorkerState, new_worker, with_input}
 use Rattle.call_worker.specs.Ending.{IsEnd}
 use Rattle.call_worker.specs.Giving.{GivesTo}
 use Rattle.call_worker.specs.Closing.{AreEnds, IsCloseFault}
-
-pub on_ok : {A E P Q : Type 0} (r : Result A E) → (P → Q) → OnOk r P → OnOk r Q
-on_ok (Ok x) f p = f p
-on_ok (Err e) f p = tt
-
-pub on_err : {A E P Q : Type 0} (r : Result A E) → (P → Q) → OnErr r P → OnErr r Q
-on_err (Ok x) f p = tt
-on_err (Err e) f p = f p
-
-pub err_holds : {A E P : Type 0} (r : Result A E) → P → OnErr r P
-err_holds (Ok x) p = tt
-err_holds (Err e) p = p
 
 -- two lists of which one isn't empty
 module _ {A : Type 0} where

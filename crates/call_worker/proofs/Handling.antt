@@ -9,20 +9,10 @@ use Rattle.ho_procedure.specs.Claims.{Entry, Claim}
 use Rattle.ho_procedure.specs.Sent.{Sent}
 use Rattle.ho_procedure.specs.Windows.{Kept}
 use Rattle.ho_procedure.specs.Going.{last_reports}
-use Rattle.ho_procedure.specs.Plan.{Plan, Ends, Readies, Asks, Takes, Reserves, Sends, Notes, Ranks, AsksDesk, TakesMemory}
+use Rattle.ho_procedure.specs.Plan.{Plan}
 use Rattle.ho_procedure.specs.Handling.{IsRow, IsUndecoded, KeepsOctets, Handles, StopsForMemory, StopsAtDesk}
+use Rattle.ho_procedure.proofs.Going.{asking_takes}
 use Rattle.call_worker.specs.Turns.{end_of, Took}
-
--- a step that asks the desk is one for which memory may be refused
-asks_takes : (p : Plan) → AsksDesk p → TakesMemory p
-asks_takes Ends a = a
-asks_takes (Readies room next) a = absurd a
-asks_takes (Asks e next) a = a
-asks_takes (Takes c k cell rate none next) a = a
-asks_takes (Reserves c next) a = a
-asks_takes (Sends m next) a = absurd a
-asks_takes (Notes c reports next) a = absurd a
-asks_takes (Ranks site reports serving next) a = absurd a
 
 module _ {A D : Type 0} (log : D → List Entry) (says : D → List Entry → Claim → Type 0) where
   pub took_row : (site : SiteView) (v v' : D) (w w' : Kept) (input : Inbound A) (out : List Sent) (ok : Bool) (p : Plan)
@@ -54,7 +44,7 @@ module _ {A D : Type 0} (log : D → List Entry) (says : D → List Entry → Cl
       → StopsAtDesk log says site v w input v' w' out place → Took site (log v) (last_reports w) input false (log v') (last_reports w') out
   took_desk site v v' w w' input out place s = let h = s.2 in record {
     steps = h.steps;
-    turn = inl (record { plan = s.0; row = s.1; leads = (h.leads.0, h.leads.1, asks_takes h.leads.0 h.leads.2) });
+    turn = inl (record { plan = s.0; row = s.1; leads = (h.leads.0, h.leads.1, asking_takes h.leads.0 h.leads.2) });
     entries = h.entries;
     reports = h.reports;
     messages = h.messages;

@@ -1,5 +1,5 @@
 -- whether all lines of some octets are good: the first, and those behind it
-mod LineLemmas
+pub mod LineLemmas
 -- facts of what is answered of octets
 mod MessageLemmas
 -- what the first octets of a text say

@@ -15,15 +15,15 @@ use Rattle.decoded_lines.specs.declared.answers.Verdict.TheVariants as verdict
 use Rattle.decoded_lines.specs.Answers.{IsGood, AreGood, Judges, IsAdded, IsCounted, CountsFirst}
 
 -- the lines of octets: the first, and those behind it; or the first alone
-split_first : (octets : List ℕ) → list_any is_feed octets ≡ true → slice_split is_feed octets ≡ first_line octets ∷ slice_split is_feed (behind_line octets)
+pub split_first : (octets : List ℕ) → list_any is_feed octets ≡ true → slice_split is_feed octets ≡ first_line octets ∷ slice_split is_feed (behind_line octets)
 split_first octets some = slice_split_first is_feed octets 0 (place_within is_feed octets some)
 
-split_none : (octets : List ℕ) → list_any is_feed octets ≡ false → slice_split is_feed octets ≡ first_line octets ∷ []
+pub split_none : (octets : List ℕ) → list_any is_feed octets ≡ false → slice_split is_feed octets ≡ first_line octets ∷ []
 split_none octets none =
     let all : first_line octets ≡ octets = take_all (position_or_len is_feed octets) octets (omega (arith, place_none is_feed octets none)) in
     slice_split_none is_feed octets (none_passes is_feed octets none) ∙ ap (λ line. line ∷ []) (sym all)
 
-left_none : (octets : List ℕ) → list_any is_feed octets ≡ false → behind_line octets ≡ []
+pub left_none : (octets : List ℕ) → list_any is_feed octets ≡ false → behind_line octets ≡ []
 left_none octets none = drop_all (position_or_len is_feed octets + 1) octets (omega (arith, place_none is_feed octets none))
 
 module _ (A : Type 0) (given : Option LinkName) where

@@ -1,5 +1,5 @@
 -- Lines of what a reader has left.
-use Rattle.std.proofs.Common.{◌≡◌, ◌≢◌, inl, inr, ℕ, zero, suc, ◌+◌, ◌-◌, ◌<◌, ◌≤◌, min, Bool, true, false, cond, List, [], ◌∷◌, ◌++◌, Option, Some, None, IfSome, All, refl, sym, ap, subst, ◌∙◌, append-nil, arith, length, take, drop, length-append, length-take, length-take-le, take_all, drop_at, nat_lt}
+use Rattle.std.proofs.Common.{◌≡◌, ◌≢◌, inl, inr, ℕ, suc, ◌+◌, ◌-◌, ◌<◌, ◌≤◌, min, Bool, true, false, cond, List, [], ◌∷◌, ◌++◌, Option, Some, None, IfSome, All, refl, sym, ap, subst, ◌∙◌, append-nil, arith, length, take, drop, length-append, length-take, length-take-le, take_all, drop_at, nat_lt}
 use Rattle.std.proofs.lemmas.List.{take-append-le, drop-drop, nil_from_length, take_min}
 use Rattle.std.proofs.lemmas.List.Folds.{list_any-append}
 use Rattle.std.proofs.lemmas.List.Elements.{All-nil, All-cons}
@@ -9,6 +9,7 @@ use Rattle.std.proofs.KnownBytes.{Consumes-kept, Consumes-trans, starts_with_res
 use Rattle.std.specs.List.{list_any, position, position_or_len}
 use Rattle.std.specs.Io.{StartsWith}
 use Rattle.std.specs.Io.KnownBytes.{Consumes}
+use Rattle.screen_text.proofs.LineCounts.{take_front}
 use Rattle.decoded_lines.specs.Reading.{is_feed, longest_line, most_kept, kept, first_line, behind_line, found_of, Passes, Gives}
 use Rattle.decoded_lines.specs.declared.reader.Found.TheVariants as found
 use Rattle.decoded_lines.specs.declared.reader.Part.TheVariants as part
@@ -98,12 +99,6 @@ behind_line-behind xs ys none =
     let place : position_or_len is_feed (xs ++ ys) + 1 ≡ length xs + (position_or_len is_feed ys + 1) = omega (arith, place_behind is_feed xs ys none) in
     ap (λ n. drop n (xs ++ ys)) place ∙ drop_past xs ys (position_or_len is_feed ys + 1)
 
--- what is kept of a line doesn't depend on how much of it was dropped before
-keep_more : (m : ℕ) (xs ys : List ℕ) → take m (take m xs ++ ys) ≡ take m (xs ++ ys)
-keep_more zero xs ys = refl
-keep_more (suc m) [] ys = refl
-keep_more (suc m) (x ∷ xs) ys = ap (λ l. x ∷ l) (keep_more m xs ys)
-
 -- what of a part there is room for is what of the whole is kept
 pub keep_part : (m : ℕ) (xs ys : List ℕ) (n : ℕ) → length xs ≤ m → n ≡ min (length ys) (m - length xs) → xs ++ take n ys ≡ take m (xs ++ ys)
 keep_part m xs ys n within is =
@@ -163,7 +158,7 @@ read_more old new next is_begun line after (read, none, passed, keeps, begun) (m
       read ++ more,
       list_any-append is_feed read more ∙ rw (none, no_feed) refl,
       Consumes-trans old new next read more passed moved,
-      grown ∙ ap (λ l. take most_kept (l ++ more)) keeps ∙ keep_more most_kept read more,
+      grown ∙ ap (λ l. take most_kept (l ++ more)) keeps ∙ take_front most_kept read more,
       sym (is_below 0 (length (read ++ more)) long),
     )
 
@@ -199,7 +194,7 @@ gives_whole (Some xs) (Some ys) next is_begun line after (read, none, passed, ke
     let behind : behind_line ys ≡ behind_line xs = sym (ap behind_line passed ∙ behind_line-behind read ys none) in
     let some : length xs ≢ 0 = λ e. absurd (omega (arith, ap length passed, length-append read ys, place_within is_feed ys any)) in
     let whole : after ≡ take most_kept (first_line xs) =
-    grown ∙ ap (λ l. take most_kept (l ++ first_line ys)) keeps ∙ keep_more most_kept read (first_line ys) ∙ ap (take most_kept) (sym first) in
+    grown ∙ ap (λ l. take most_kept (l ++ first_line ys)) keeps ∙ take_front most_kept read (first_line ys) ∙ ap (take most_kept) (sym first) in
     subst (λ (o : Option (List ℕ)). Gives (found_of (length after)) (Some xs) o after) (sym left)
     (gives_line xs (behind_line ys) after (not_nil xs some) whole behind)
 

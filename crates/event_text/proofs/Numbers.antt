@@ -1,6 +1,6 @@
 -- Numbers and channels: what is written is read, and what is read was written so.
 use Rattle.std.proofs.Common.{◌≡◌, ◌≢◌, ℕ, ◌+◌, ◌<◌, ◌≤◌, ◌^◌, ◌==◌, suc, List, [], ◌∷◌, ◌++◌, Bool, true, false, not, if◌then◌else◌, Option, Some, None, option_map, Result, Ok, Err, refl, sym, ap, ◌∙◌, arith, rules, length, get_or, nat_lt, ◌&&◌, ◌||◌, ◌⊎◌, inl, inr, Bor, MatchOption}
-use Rattle.std.proofs.lemmas.Bool.{cases_lt}
+use Rattle.std.proofs.lemmas.Bool.{and_parts, cases_lt}
 use Rattle.std.proofs.lemmas.Option.{none-some, same_Some}
 use Rattle.std.proofs.lemmas.Str.Parse.{IsNumeralModel, numerals_by_value, parse_digits}
 use Rattle.std.proofs.lemmas.Fmt.{digits_decimal, digits_value-decimal, decimal_nonempty, first_decimal, decimal_digit, decimal-digits_value}
@@ -69,13 +69,8 @@ cut_by_split c text (Some x) h = sym (ap (cut_at c) h.0 ∙ cut_at-first c x.0.n
 pub numerals : IsNumeralModel (λ ds. list_all is_ascii_digit ds ≡ true) (digits_value 10)
 numerals = numerals_by_value _ (search rules)
 
--- the parts of a test of two
-both_parts : (a b : Bool) → (a && b) ≡ true → (a ≡ true) × (b ≡ true)
-both_parts true b e = (refl, e)
-both_parts false b e = absurd cc
-
 pub plain_digits : (bs : List ℕ) → is_plain bs ≡ true → list_all is_ascii_digit bs ≡ true
-plain_digits bs p = (both_parts (list_all is_ascii_digit bs) _ p).0
+plain_digits bs p = (and_parts (list_all is_ascii_digit bs) _ p).0
 
 -- a value with the digits alone, as `parse` and `ok` give it
 pub number_from_parse : {E : Type 0} (limit k : ℕ) (bs : List ℕ) (r : Result ℕ E) → ParsesUnsigned k 10 bs r → 2 ^ k ≡ limit
@@ -118,10 +113,10 @@ number_of-parts limit text n wide e = at (is_plain text && (nat_lt 0 (length tex
         record { said = sym own ∙ ap decimal value; below = rw (← value) (grind (arith, below)) }
       where
         parts : (is_plain text && (nat_lt 0 (length text) && nat_lt (digits_value 10 text) limit)) ≡ true → (is_plain text ≡ true) × ((nat_lt 0 (length text) ≡ true) × (nat_lt (digits_value 10 text) limit ≡ true))
-        parts t = let (a, b) = both_parts _ _ t in (a, both_parts _ _ b)
+        parts t = let (a, b) = and_parts _ _ t in (a, and_parts _ _ b)
 
         one_zero : (text : List ℕ) → is_plain text ≡ true → get_or text 0 0 ≡ 48 → length text ≡ 1
         one_zero [] plain first = absurd (omega arith)
         one_zero (b ∷ bs) plain first =
-            let short : (nat_lt (length (b ∷ bs)) 2 || not (b == 48)) ≡ true = (both_parts (list_all is_ascii_digit (b ∷ bs)) _ plain).1 in
+            let short : (nat_lt (length (b ∷ bs)) 2 || not (b == 48)) ≡ true = (and_parts (list_all is_ascii_digit (b ∷ bs)) _ plain).1 in
             grind (arith, short, first)

@@ -1,5 +1,7 @@
 -- Facts of turns, and of the course of a script.
-use Rattle.std.proofs.Common.{◌≡◌, ◌++◌, ◌∷◌, ◌<◌, ◌&&◌, ℕ, zero, suc, Bool, true, false, List, [], Option, Some, None, IsSome, IfSome, length, get_or, is_some, option_map, refl, sym, ap, ◌∙◌, append_assoc, append-nil, subst, rules, arith, Result, Ok, Err, OnOk, IfOk}
+use Rattle.std.proofs.Common.{◌≡◌, ◌++◌, ◌∷◌, ◌<◌, ℕ, zero, suc, Bool, true, List, [], Option, Some, None, IsSome, IfSome, length, get_or, is_some, option_map, refl, sym, ap, ◌∙◌, append_assoc, append-nil, subst, rules, arith, Result, Ok, Err, OnOk, IfOk}
+use Rattle.std.proofs.lemmas.Bool.{and_parts}
+use Rattle.std.proofs.lemmas.Result.{on_ok_weaker}
 use Rattle.cell_table.specs.Site.{SiteView}
 use Rattle.ho_procedure.specs.declared.exchange.Inbound.{Inbound}
 use Rattle.lab_script.specs.declared.side.Side.{Side}
@@ -91,18 +93,13 @@ went_then inputs c c' c'' h k = subst (λ (all : List (Side × Inbound _)). Went
 
 -- the same where all went well
 pub went_past : {A X E : Type 0} (inputs : List (Side × Inbound A)) (c c' c'' : Course A) (r : Result X E) → Went inputs c c' → OnOk r (Went [] c' c'') → OnOk r (Went inputs c c'')
-went_past inputs c c' c'' (Ok x) h k = went_then inputs c c' c'' h k
-went_past inputs c c' c'' (Err f) h k = tt
-
-both : (a b : Bool) → (a && b) ≡ true → (a ≡ true) × (b ≡ true)
-both true b h = (refl, h)
-both false b h = absurd (search (rules, h))
+went_past inputs c c' c'' r h = on_ok_weaker r (went_then inputs c c' c'' h)
 
 -- each of the items is for a controller that is there
 pub there_at : {A : Type 0} (has : Bool) (items : List (Item A)) (k : ℕ) (d : Item A) → AreThere has items → k < length items → is_item_there has (get_or items k d) ≡ true
 there_at has [] k d all l = absurd (omega arith)
-there_at has (item ∷ items) zero d all l = (both (is_item_there has item) _ all).0
-there_at has (item ∷ items) (suc k) d all l = there_at has items k d (both (is_item_there has item) _ all).1 (omega arith)
+there_at has (item ∷ items) zero d all l = (and_parts (is_item_there has item) _ all).0
+there_at has (item ∷ items) (suc k) d all l = there_at has items k d (and_parts (is_item_there has item) _ all).1 (omega arith)
 
 -- from empty books on, all was handled
 pub all_played : {A : Type 0} (sites : List SiteView) (inputs : List (Side × Inbound A)) (c c' : Course A) → AreOpenings sites (positions_of c.controllers) → Went inputs c c' → Played A sites inputs

@@ -59,12 +59,12 @@ asked_with_notes place notes ((event, reply) ∷ entries) =
     ask_nothing place notes (Asked event reply ∷ with_notes (suc place) notes entries) ∙ ap (λ rest. (event, reply) ∷ rest) (asked_with_notes (suc place) notes entries)
 
 -- what stands at a place, and behind it
-drop_next : {X : Type 0} (xs : List X) (n : ℕ) (x : X) → slice_get xs n ≡ Some x → drop n xs ≡ x ∷ drop (suc n) xs
+pub drop_next : {X : Type 0} (xs : List X) (n : ℕ) (x : X) → slice_get xs n ≡ Some x → drop n xs ≡ x ∷ drop (suc n) xs
 drop_next [] n x e = absurd (search (rules, e))
 drop_next (y ∷ xs) zero x e = search (rules, e)
 drop_next (y ∷ xs) (suc n) x e = drop_next xs n x e
 
-there : {X : Type 0} (xs : List X) (n : ℕ) → n < length xs → (x : X) × (slice_get xs n ≡ Some x)
+pub there : {X : Type 0} (xs : List X) (n : ℕ) → n < length xs → (x : X) × (slice_get xs n ≡ Some x)
 there [] n l = absurd (omega arith)
 there (x ∷ xs) zero l = (x, refl)
 there (x ∷ xs) (suc n) l = there xs n (omega arith)

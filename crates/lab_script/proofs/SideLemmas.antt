@@ -2,6 +2,7 @@
 use Rattle.std.proofs.Common.{◌≡◌, ℕ, ◌+◌, ◌&&◌, ◌∷◌, List, [], Bool, true, false, cond, not, Option, Some, None, refl, sym, ap, ◌∙◌, subst, arith, rules, length, drop, nat_eq, if◌then◌else◌, option_map, codes, MatchOption, Bor}
 use Rattle.std.specs.List.{list_all, filter_map, position_from, cons_option}
 use Rattle.std.specs.Str.Pattern.{FindsTextPrefix}
+use Rattle.std.proofs.lemmas.Bool.{and_parts, and_from}
 use Rattle.std.proofs.lemmas.Str.Pattern.{starts_text}
 use Rattle.lab_script.specs.declared.side.Side.{Side}
 use Rattle.lab_script.specs.declared.side.Side.TheVariants.{First, Peer}
@@ -9,10 +10,6 @@ use Rattle.lab_script.specs.declared.script.Given.{Given}
 use Rattle.lab_script.specs.declared.script.Item.{Item}
 use Rattle.lab_script.specs.Sides.{is_for_peer, side_of, text_of, is_there}
 use Rattle.lab_script.specs.Script.{given_by, item_of, items_of, lines_of, is_line, first_line, first_unreadable, lower, unless_lower, needs_sim, is_sim, AreThere}
-
-both : (a b : Bool) → (a && b) ≡ true → (a ≡ true) × (b ≡ true)
-both true b h = (refl, h)
-both false b h = absurd (search (rules, h))
 
 if_true : {X : Type 0} (b : Bool) (x y : X) → b ≡ true → x ≡ (if b then x else y)
 if_true true x y e = refl
@@ -57,7 +54,7 @@ clash_marked bs e h = clash (is_for_peer (50 ∷ bs)) _ e h
 not_for_peer_by : (b : ℕ) (bs : List ℕ) (mark : Bool) → is_for_peer (b ∷ bs) ≡ mark → is_line false (b ∷ bs) ≡ true → is_for_peer (b ∷ bs) ≡ false
 not_for_peer_by b bs false e h = e
 not_for_peer_by b bs true e h =
-    let first = both (nat_eq 50 b) _ e in
+    let first = and_parts (nat_eq 50 b) _ e in
     let two : b ≡ 50 = grind (arith, first.0) in
     let bad = clash_marked bs (subst (λ (x : ℕ). is_for_peer (x ∷ bs) ≡ true) two e) (subst (λ (x : ℕ). is_line false (x ∷ bs) ≡ true) two h) in
     absurd (search (rules, bad))
@@ -79,22 +76,18 @@ line_there : (has_peer : Bool) (line : List ℕ) → is_line has_peer line ≡ t
 line_there true line h = there_any (is_for_peer line)
 line_there false line h = there_first (is_for_peer line) (not_for_peer line h)
 
-both_true : (a b : Bool) → a ≡ true → b ≡ true → (a && b) ≡ true
-both_true true b e f = f
-both_true false b e f = e
-
 -- one item more
 item_there : {A : Type 0} (has_peer : Bool) (side : Side) (o : Option (Given A)) (items : List (Item A))
     → is_there has_peer side ≡ true → AreThere has_peer items
     → AreThere has_peer (cons_option (option_map {U = Item A} (λ given. record { side = side; given = given }) o) items)
 item_there has_peer side None items there h = h
-item_there has_peer side (Some given) items there h = both_true (is_there has_peer side) _ there h
+item_there has_peer side (Some given) items there h = and_from (is_there has_peer side) _ there h
 
 -- what lines that can be read give
 items_there : (A : Type 0) (has_peer : Bool) (lines : List (List ℕ)) → list_all (is_line has_peer) lines ≡ true → AreThere has_peer (filter_map (item_of {A = A}) lines)
 items_there A has_peer [] h = refl
 items_there A has_peer (line ∷ lines) h =
-    let parts = both (is_line has_peer line) (list_all (is_line has_peer) lines) h in
+    let parts = and_parts (is_line has_peer line) (list_all (is_line has_peer) lines) h in
     item_there has_peer (side_of line) (given_by {A = A} line) (filter_map (item_of {A = A}) lines) (line_there has_peer line parts.0) (items_there A has_peer lines parts.1)
 
 passed : (b : Bool) (i : ℕ) (rest : Option ℕ) → cond (not b) (Some i) rest ≡ None → (b ≡ true) × (rest ≡ None)
@@ -106,7 +99,7 @@ none_fails : (q : List ℕ → Bool) (i : ℕ) (lines : List (List ℕ)) → pos
 none_fails q i [] e = refl
 none_fails q i (line ∷ lines) e =
     let parts = passed (q line) i (position_from (λ l. not (q l)) (i + 1) lines) e in
-    both_true (q line) (list_all q lines) parts.0 (none_fails q (i + 1) lines parts.1)
+    and_from (q line) (list_all q lines) parts.0 (none_fails q (i + 1) lines parts.1)
 
 lower_none : (one other : Option ℕ) → lower one other ≡ None → one ≡ None
 lower_none None other e = refl

@@ -1,13 +1,12 @@
 -- The inputs of lines, one line after another.
-use Rattle.std.proofs.Common.{◌≡◌, ◌++◌, ◌∷◌, ◌+◌, ◌<◌, ◌≤◌, ◌&&◌, ◌||◌, ◌⊎◌, inl, inr, ℕ, suc, zero, Bool, true, false, cond, not, nat_lt, List, [], take, drop, length, codes, refl, sym, ap, subst, ◌∙◌, arith, take_all}
+use Rattle.std.proofs.Common.{◌≡◌, ◌++◌, ◌∷◌, ◌+◌, ◌<◌, ◌≤◌, ◌&&◌, ◌||◌, ◌⊎◌, inl, inr, ℕ, suc, zero, Bool, true, false, cond, not, nat_lt, List, [], take, drop, length, codes, refl, sym, ap, subst, ◌∙◌, arith}
 use Rattle.std.proofs.Math.Numerals.{one-add}
-use Rattle.std.proofs.lemmas.List.{drop_all, append_assoc}
-use Rattle.std.proofs.lemmas.List.Splits.{slice_split_first, slice_split_none}
-use Rattle.std.proofs.lemmas.Bool.{cases_Bool, lt-ltb}
+use Rattle.std.proofs.lemmas.List.{append_assoc}
+use Rattle.std.proofs.lemmas.Bool.{and_parts, cases_Bool, lt-ltb}
 use Rattle.std.proofs.lemmas.Slice.Eq.{bytes_eq-Decides}
 use Rattle.std.specs.List.{filter_map, flat_map, list_any, slice_split, position_or_len, before_first, after_first}
 use Rattle.decoded_lines.specs.Reading.{is_feed, longest_line, most_kept, first_line, behind_line}
-use Rattle.decoded_lines.proofs.ReadingLemmas.{place_within, place_none, none_passes}
+use Rattle.decoded_lines.proofs.LineLemmas.{split_first, split_none, left_none}
 use Rattle.lab_script.specs.Script.{is_sim, item_of}
 use Rattle.lab_runs.specs.Turns.{inputs_in}
 use Rattle.live_runs.specs.Lines.{script_line, is_text, can_be_read, items_at, inputs_at, attaches, sim_behind, inputs_of, inputs_from}
@@ -60,10 +59,6 @@ or_true : (b : Bool) → (b || true) ≡ true
 or_true true = refl
 or_true false = refl
 
-pub and_left : (a b : Bool) → (a && b) ≡ true → a ≡ true
-and_left true b e = refl
-and_left false b e = e
-
 either_way : {X : Type 0} (b : Bool) (x y : X) → x ≡ y → cond b x y ≡ y
 either_way true x y e = e
 either_way false x y e = refl
@@ -72,7 +67,7 @@ either_way false x y e = refl
 attaching_gives_none : {A : Type 0} (has_sim : Bool) (line : List ℕ) → attaches line ≡ true → inputs_at {A = A} has_sim line ≡ []
 unfolding attaches items_at
 attaching_gives_none {A = A} has_sim line e =
-    let is : script_line line ≡ codes "sim" = (bytes_eq-Decides (script_line line) (codes "sim")).0 (and_left (is_sim (script_line line)) (can_be_read false line) e) in
+    let is : script_line line ≡ codes "sim" = (bytes_eq-Decides (script_line line) (codes "sim")).0 (and_parts (is_sim (script_line line)) (can_be_read false line) e).0 in
     either_way (can_be_read has_sim line) (inputs_in (items_at {A = A} line)) [] (ap (λ (l : List ℕ). inputs_in (filter_map (item_of {A = A}) (l ∷ []))) is)
 
 -- the first line, and all behind it
@@ -100,18 +95,6 @@ blank_gives_none {A = A} has_sim = either_way (can_be_read has_sim []) (inputs_i
 pub none_from : {A : Type 0} (has_sim : Bool) → inputs_from {A = A} has_sim [] ≡ []
 none_from {A = A} has_sim = first_input {A = A} has_sim [] [] ∙ ap (λ l. l ++ inputs_of (sim_behind has_sim []) []) (blank_gives_none {A = A} has_sim)
 
--- the lines of octets: the first, and those behind it; or the first alone
-split_first : (octets : List ℕ) → list_any is_feed octets ≡ true → slice_split is_feed octets ≡ first_line octets ∷ slice_split is_feed (behind_line octets)
-split_first octets some = slice_split_first is_feed octets 0 (place_within is_feed octets some)
-
-split_none : (octets : List ℕ) → list_any is_feed octets ≡ false → slice_split is_feed octets ≡ first_line octets ∷ []
-split_none octets none =
-    let all : first_line octets ≡ octets = take_all (position_or_len is_feed octets) octets (omega (arith, place_none is_feed octets none)) in
-    slice_split_none is_feed octets (none_passes is_feed octets none) ∙ ap (λ line. line ∷ []) (sym all)
-
-left_none : (octets : List ℕ) → list_any is_feed octets ≡ false → behind_line octets ≡ []
-left_none octets none = drop_all (position_or_len is_feed octets + 1) octets (omega (arith, place_none is_feed octets none))
-
 -- what octets give: their first line, and what stands behind it
 pub from_first : {A : Type 0} (has_sim : Bool) (octets : List ℕ)
     → inputs_from {A = A} has_sim octets ≡ inputs_at has_sim (first_line octets) ++ inputs_from (sim_behind has_sim (first_line octets)) (behind_line octets)
@@ -123,9 +106,6 @@ from_first {A = A} has_sim octets = elim (cases_Bool (list_any is_feed octets)) 
       ∙ sym (ap (λ l. inputs_at {A = A} has_sim (first_line octets) ++ inputs_from behind l) (left_none octets none)
       ∙ ap (λ l. inputs_at {A = A} has_sim (first_line octets) ++ l) (none_from {A = A} behind))
 ]
-
-pub both_are : (a b : Bool) → a ≡ true → b ≡ true → (a && b) ≡ true
-both_are a b e f = rw (e, f) refl
 
 pub and_no : (a b : Bool) → a ≡ false → (a && b) ≡ false
 and_no a b e = rw e refl

@@ -2,7 +2,7 @@
 use Rattle.std.proofs.Common.{◌≡◌, ◌++◌, ◌∷◌, ◌+◌, ◌&&◌, ◌||◌, inl, inr, ℕ, Bool, true, false, cond, not, nat_lt, List, [], map, codes, length, Option, Some, None, is_some, is_none, option_map, refl, sym, ap, subst, ◌∙◌, arith, rules}
 use Rattle.std.proofs.lemmas.List.{same_from_push, length_push}
 use Rattle.std.proofs.lemmas.List.Splits.{slice_split_none}
-use Rattle.std.proofs.lemmas.Bool.{cases_Bool}
+use Rattle.std.proofs.lemmas.Bool.{and_from, and_parts, cases_Bool}
 use Rattle.std.proofs.lemmas.Slice.Eq.{bytes_eq-Decides}
 use Rattle.std.specs.List.{filter_map, cons_option, list_any, list_all, position_from, slice_split}
 use Rattle.std.specs.Option.{option_or, option_to_list}
@@ -26,7 +26,7 @@ use Rattle.lab_runs.specs.Turns.{inputs_in}
 use Rattle.live_runs.specs.declared.line.Said.{Said}
 use Rattle.live_runs.specs.declared.line.Said.TheVariants.{Unreadable, Nothing, Gives}
 use Rattle.live_runs.specs.Lines.{script_line, is_text, is_readable, can_be_read, items_at, items_behind, inputs_at, attaches, sim_behind, is_attach, is_read, items_said, sim_said, is_there_said, IsLastOf, Says}
-use Rattle.live_runs.proofs.InputFacts.{and_no, no_and, both_are, unreadable_gives_none, unreadable_attaches_none}
+use Rattle.live_runs.proofs.InputFacts.{and_no, no_and, unreadable_gives_none, unreadable_attaches_none}
 
 -- a text without a line feed has one line
 one_line : (text : List ℕ) → list_any is_feed text ≡ false → lines_of text ≡ script_line text ∷ []
@@ -121,7 +121,7 @@ not_utf8 line h = elim (cases_Bool (is_utf8 line)) [
 
 pub text_is : (line : List ℕ) → not (nat_lt longest_line (length line)) ≡ true → not (list_any is_feed line) ≡ true → IsUtf8 line → is_text line ≡ true
 unfolding is_text
-text_is line short one h = both_are _ _ (both_are _ _ short one) (is_utf8-from_IsUtf8 line h)
+text_is line short one h = and_from _ _ (and_from _ _ short one) (is_utf8-from_IsUtf8 line h)
 
 -- the last of one item at most
 record Last {A : Type 0} (o : Option (Item A)) (s : Said A) : Type 0 where
@@ -142,10 +142,6 @@ and_true : (b : Bool) → (b && true) ≡ b
 and_true true = refl
 and_true false = refl
 
-of_first : (a b : Bool) → (a && b) ≡ true → a ≡ true
-of_first true b e = refl
-of_first false b e = e
-
 alone_there : {A : Type 0} (o : Option (Item A)) (items : List (Item A)) (s : Said A) → items ≡ cons_option o [] → AreThere false items → Last o s → is_there_said s ≡ true
 alone_there o items Unreadable e there h = refl
 alone_there o items Nothing e there h = refl
@@ -153,7 +149,7 @@ alone_there None items (Gives item) e there h = let bad : item ∷ [] ≡ [] = h
 alone_there {A = A} (Some i) items (Gives item) e there h =
     let same : item ∷ [] ≡ i ∷ [] = h.items in
     let is : items ≡ item ∷ [] = e ∙ sym same in
-    of_first (is_item_there false item) true (subst (λ (l : List (Item A)). AreThere false l) is there)
+    (and_parts (is_item_there false item) true (subst (λ (l : List (Item A)). AreThere false l) is there)).0
 
 says : {A : Type 0} (has_sim : Bool) (line : List ℕ) (s : Said A) → can_be_read has_sim line ≡ true → is_read s ≡ true
     → inputs_in (items_said s) ≡ inputs_in (items_at line) → sim_said has_sim s ≡ sim_behind has_sim line → is_there_said s ≡ true → Says has_sim line s
@@ -213,7 +209,7 @@ last_behind {A = A} (Some i) items (Gives item) e there (front, h) =
     record {
       inputs = ap (λ (x : Item A). inputs_in (x ∷ [])) (sym same);
       read = refl;
-      there = ap (λ (x : Item A). is_item_there false x) (sym same) ∙ of_first (is_item_there false i) true (subst (λ (l : List (Item A)). AreThere false l) e there);
+      there = ap (λ (x : Item A). is_item_there false x) (sym same) ∙ (and_parts (is_item_there false i) true (subst (λ (l : List (Item A)). AreThere false l) e there)).0;
     }
 
 sim_stays : {A : Type 0} (s : Said A) → sim_said true s ≡ true

@@ -1,13 +1,12 @@
 //! All attempts of a history that were undone and are settled, taken out together.
-ghost use Rattle.std.specs.Prelude.{◌≡◌, ◌↔◌, ◌++◌, ◌+◌, ◌-◌, ◌<◌, ◌^◌, ◌∷◌, ℕ, IsTrue, true, List, [], map, length, Option, Some, None, is_some, is_none, ◌&&◌, if◌then◌else◌, IfOk};
+ghost use Rattle.std.specs.Prelude.{◌≡◌, ◌↔◌, ◌++◌, ◌+◌, ◌-◌, ◌<◌, ◌^◌, ◌∷◌, IsTrue, [], map, Some, None, is_some, is_none, ◌&&◌, if◌then◌else◌, IfOk};
 ghost use Rattle.std.specs.List.{list_all};
 ghost use Rattle.std.specs.Option.{option_to_list, option_or};
-ghost use Rattle.radio_book.specs.Undone.{Undone, events_of, replies_of};
+ghost use Rattle.radio_book.specs.Undone.{events_of, replies_of};
 ghost use Rattle.radio_book.specs.Found.{first_place};
 ghost use Rattle.radio_book.specs.Following.{stays, after, opening_of, settling_count, is_held_by, remaining_from, all_held_from};
 ghost use Rattle.radio_book.specs.Run.{Leads};
-ghost use Rattle.radio_book.specs.Together.{remaining, held_steps};
-ghost use Rattle.radio_desk.specs.Audit.{steps_in, AreSettledIn, LeadsAlike};
+ghost use Rattle.radio_desk.specs.Audit.{steps_in, LeadsAlike, IsHistoryAudit};
 ghost use Rattle.radio_desk.specs.Followers.{AreRows, settled_flags, flagged, flags_behind};
 
 use crate::entry::is_same_reply;
@@ -228,13 +227,7 @@ pub(crate) fn audit_of<A: Allocator + Copy>(
     book: &Book<A>,
 ) -> Result<Audit, AllocError>
     requires legal { Leads opening.now history.now book.now }
-    ensures attempts { IfOk result (λ audit. (us : List Undone) ×
-        AreSettledIn opening.now history.now us × (audit.attempts ≡ length us)) }
-    ensures held { IfOk result (λ audit. (us : List Undone) → AreSettledIn opening.now history.now us →
-        audit.held ≡ first_place (held_steps us (steps_in history.now))) }
-    ensures same { IfOk result (λ audit. (us : List Undone) → AreSettledIn opening.now history.now us →
-        IsTrue audit.same ↔ LeadsAlike opening.now (remaining us (steps_in history.now)) book.now) }
-    ensures no_trace { IfOk result (λ audit. audit.held ≡ None → audit.same ≡ true) }
+    ensures { IfOk result (IsHistoryAudit opening.now history.now book.now) }
 {
     // its contract hands out that the book is sound
     let _ = opening.usage();

@@ -1,5 +1,5 @@
 //! The desk: an opening book, the history of what was asked since, and the book that it leads to.
-ghost use Rattle.std.specs.Prelude.{◌≡◌, ◌≢◌, ◌↔◌, ◌⊎◌, IsTrue, true, false, List, ◌+◌, ◌≤◌, ◌++◌, ◌∷◌, ℕ, [], length, vec_len, vec_capacity, Option, None, Some, Ok, Err, MatchOption, IfOk, IfSome, OnOk, OnErr, slice_get};
+ghost use Rattle.std.specs.Prelude.{◌≡◌, ◌≢◌, ◌↔◌, ◌⊎◌, IsTrue, false, ◌+◌, ◌≤◌, ◌++◌, ◌∷◌, ℕ, [], length, vec_len, vec_capacity, Option, None, Some, Ok, Err, MatchOption, IfOk, IfSome, OnOk, OnErr, slice_get};
 ghost use Rattle.radio_book.specs.declared.event.Event.{Event};
 ghost use Rattle.radio_book.specs.declared.event.Kind.{Kind};
 ghost use Rattle.radio_book.specs.Run.{Leads};
@@ -9,10 +9,7 @@ ghost use Rattle.radio_book.specs.Kinds.{is_accepted};
 ghost use Rattle.radio_book.specs.Owed.{owed, is_owed};
 ghost use Rattle.radio_desk.specs.Desk.{IsEntryOf, HoldsLast, IsForeign, IsJudged, IsSameDesk, LacksRoom};
 ghost use Rattle.radio_desk.specs.Tally.{count_of};
-ghost use Rattle.radio_book.specs.Undone.{Undone};
-ghost use Rattle.radio_book.specs.Found.{first_place};
-ghost use Rattle.radio_book.specs.Together.{remaining, held_steps};
-ghost use Rattle.radio_desk.specs.Audit.{steps_in, AreSettledIn, LeadsAlike};
+ghost use Rattle.radio_desk.specs.Audit.{IsAuditOf};
 
 use crate::audit::{Audit, audit_of};
 use crate::entry::is_entry;
@@ -143,18 +140,7 @@ impl<A: Allocator + Copy> Desk<A> {
     /// calls that share the row of its call. Memory is asked for, for a copy of the book, lists as long as the history, and,
     /// twice, 1,280 rows of places.
     pub fn audit(&self) -> Result<Audit, AllocError>
-        ensures attempts { IfOk result (λ audit. (us : List Undone) ×
-            AreSettledIn self.now.opening self.now.history us × (audit.attempts ≡ length us)) }
-        ensures held { IfOk result (λ audit. (us : List Undone) →
-            AreSettledIn self.now.opening self.now.history us →
-            audit.held ≡ first_place (held_steps us (steps_in self.now.history))) }
-        ensures same { IfOk result (λ audit. (us : List Undone) →
-            AreSettledIn self.now.opening self.now.history us →
-            IsTrue audit.same ↔
-            LeadsAlike self.now.opening (remaining us (steps_in self.now.history)) self.now.book) }
-
-        // Settled attempts leave no trace together, where no entry was refused for what one of them held.
-        ensures no_trace { IfOk result (λ audit. audit.held ≡ None → audit.same ≡ true) }
+        ensures { IfOk result (IsAuditOf self.now) }
     {
         let alloc = *self.history.allocator();
         audit_of(alloc, self.opening(), self.history.as_slice(), self.book())

@@ -1,11 +1,12 @@
 -- Facts of the lines of a trace.
-use Rattle.std.proofs.Common.{◌≡◌, ◌≢◌, ℕ, ◌+◌, ◌<◌, ◌≤◌, ◌==◌, suc, zero, List, [], ◌∷◌, ◌++◌, Bool, true, false, Option, Some, None, option_map, refl, sym, ap, ◌∙◌, arith, length, take, drop, nat_eq, Bor, MatchOption, map}
+use Rattle.std.proofs.Common.{◌≡◌, ◌≢◌, ℕ, ◌+◌, ◌<◌, ◌≤◌, ◌==◌, suc, zero, List, [], ◌∷◌, ◌++◌, true, false, Option, Some, None, option_map, refl, sym, ap, ◌∙◌, arith, length, take, drop, nat_eq, Bor, MatchOption}
 use Rattle.std.specs.List.{starts_with, position_from, slice_split}
 use Rattle.std.specs.Str.Lines.{strip_carriage_return}
 use Rattle.std.specs.Str.Pattern.{FindsText, FindsTextPrefix, LacksTextAt}
 use Rattle.std.proofs.lemmas.List.{length-append}
 use Rattle.std.proofs.lemmas.List.Prefix.{front_rest}
 use Rattle.std.proofs.lemmas.Str.Pattern.{starts_text}
+use Rattle.lab_script.proofs.ScriptLemmas.{first_line-position}
 use Rattle.read_traces.specs.Entries.{behind, cut_text, is_unreadable, first_unreadable}
 
 -- a text begins with its own front
@@ -47,20 +48,8 @@ behind_by_strip n text (Some x) h =
     let starts : starts_with nat_eq text n ≡ true = sym (starts_text true n text (h.0, h.1, rw h.1.0 h.1.2)) in
     rw starts (ap (λ (t : List ℕ). Some t) (h.2 ∙ ap (λ (k : ℕ). drop k text) h.1.0))
 
-position_from-suc : {X : Type 0} (p : X → Bool) (i : ℕ) (xs : List X) → position_from p (i + 1) xs ≡ option_map (λ n. n + 1) (position_from p i xs)
-position_from-suc p i [] = refl
-position_from-suc p i (x ∷ xs) = grind (arith, position_from-suc p (i + 1) xs)
-
-position_from-map : {X Y : Type 0} (p : Y → Bool) (f : X → Y) (i : ℕ) (xs : List X) → position_from p i (map f xs) ≡ position_from (λ x. p (f x)) i xs
-position_from-map p f i [] = refl
-position_from-map p f i (x ∷ xs) = rw (position_from-map p f (i + 1) xs) refl
-
 -- the number of the first line that can't be read is one more than its index
 pub first_unreadable-position : (trace : List ℕ) (r : Option ℕ)
     → r ≡ position_from (λ line. is_unreadable (strip_carriage_return line)) 0 (slice_split (λ b. b == 10) trace)
     → option_map (λ n. n + 1) r ≡ first_unreadable trace
-first_unreadable-position trace r e =
-    let parts = slice_split (λ b. b == 10) trace in
-    ap (option_map (λ n. n + 1)) e
-    ∙ (sym (position_from-suc (λ line. is_unreadable (strip_carriage_return line)) 0 parts)
-    ∙ sym (position_from-map is_unreadable strip_carriage_return 1 parts))
+first_unreadable-position trace r e = first_line-position is_unreadable trace r e

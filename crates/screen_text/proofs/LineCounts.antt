@@ -29,7 +29,8 @@ by_front Scripts line =
     ap (λ w. pointwise nat_eq (codes "ok ") w || pointwise nat_eq (codes "not ok ") (take 7 (take 7 line))) (take-take 3 7 line (omega arith))
     ∙ ap (λ w. pointwise nat_eq (codes "ok ") (take 3 line) || pointwise nat_eq (codes "not ok ") w) (take-take 7 7 line (omega arith))
 
-take_front : (n : ℕ) (xs ys : List ℕ) → take n (take n xs ++ ys) ≡ take n (xs ++ ys)
+-- what is kept of a text doesn't depend on how much of it was dropped before
+pub take_front : (n : ℕ) (xs ys : List ℕ) → take n (take n xs ++ ys) ≡ take n (xs ++ ys)
 take_front zero xs ys = refl
 take_front (suc n) [] ys = refl
 take_front (suc n) (x ∷ xs) ys = ap (λ w. x ∷ w) (take_front n xs ys)

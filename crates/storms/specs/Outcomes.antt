@@ -1,31 +1,19 @@
 -- What comes of a storm. Ours, of no standard.
-use Rattle.std.specs.Prelude.{◌≡◌, ◌↔◌, ℕ, IsTrue, true, List, length, ◌++◌, All, vec_len, codes, None, Ok, Err}
+use Rattle.std.specs.Prelude.{◌≡◌, ℕ, true, List, ◌++◌, All, vec_len, codes, Ok, Err}
 use Rattle.std.specs.Fmt.{decimal}
 use Rattle.std.specs.FinMap as map
 use Rattle.cell_table.specs.Site.{SiteView}
 use Rattle.cell_table.specs.SiteFile.{read_site}
 use Rattle.radio_book.specs.State.{State, empty_book}
 use Rattle.radio_book.specs.Run.{Leads}
-use Rattle.radio_book.specs.Undone.{Undone}
-use Rattle.radio_book.specs.Found.{first_place}
-use Rattle.radio_book.specs.Together.{remaining, held_steps}
 use Rattle.radio_desk.specs.Desk.{DeskState}
-use Rattle.radio_desk.specs.declared.audit.Audit.{Audit}
-use Rattle.radio_desk.specs.Audit.{steps_in, AreSettledIn, LeadsAlike}
+use Rattle.radio_desk.specs.Audit.{IsAuditOf}
 use Rattle.radio_desk.specs.Tally.{count_of}
 use Rattle.call_worker.specs.declared.posted.WorkerEnd.{WorkerEnd}
 use Rattle.storms.specs.declared.outcome.Figures.{Figures}
 use Rattle.storms.specs.declared.outcome.Outcome.{Outcome}
 use Rattle.storms.specs.declared.outcome.Outcome.TheVariants.{Done, NoSite, TooSmall, Office}
 use Rattle.storms.specs.Width.{IsWide, IsShortage}
-
--- The audit is that of a desk: of all attempts of its history that were undone and are settled, taken out together. Where no
--- entry was refused for what one of them held, they left no trace.
-pub record IsAuditOf (d : DeskState) (audit : Audit) : Type 0 where
-  pub attempts : (us : List Undone) × AreSettledIn d.opening d.history us × (audit.attempts ≡ length us)
-  pub held : (us : List Undone) → AreSettledIn d.opening d.history us → audit.held ≡ first_place (held_steps us (steps_in d.history))
-  pub same : (us : List Undone) → AreSettledIn d.opening d.history us → IsTrue audit.same ↔ LeadsAlike d.opening (remaining us (steps_in d.history)) d.book
-  pub no_trace : audit.held ≡ None → audit.same ≡ true
 
 -- the figures are those of a desk: what its history tells, how many channels its book has in use, and its audit
 pub record AreOf (d : DeskState) (figures : Figures) : Type 0 where

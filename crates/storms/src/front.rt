@@ -1,6 +1,6 @@
 //! The front of a storm: the one thread that gives inputs to the office.
 ghost use Rattle.std.specs.Prelude.{◌≡◌, ◌≤◌, All, IfOk, OnOk, IsTrue, [], vec_len};
-ghost use Rattle.storms.specs.Outcomes.{AreOf, AreFigures, DidAll, IsAuditOf};
+ghost use Rattle.storms.specs.Outcomes.{AreOf, AreFigures, DidAll};
 
 use crate::links::TrayLinks;
 use crate::outcome::{Figures, StormFault};
@@ -10,7 +10,6 @@ use crate::trip::Trip;
 use crate::watch::{Phase, Reached, Watch};
 use call_worker::{Closed, Gate, Office, Point, WorkerEnd};
 use ho_procedure::exchange::{Inbound, Line, Outbound};
-use radio_desk::audit::Audit;
 use radio_desk::desk::Desk;
 use std::alloc::{AllocError, Allocator, Global};
 use std::sync::{Arc, Wait};
@@ -205,19 +204,11 @@ fn did_all<R: Wait + Drop, A: Allocator + Copy>(end: &WorkerEnd<TrayLinks<R, A>,
         && end.taken.iter().all(|turn| turn.ok)
 }
 
-/// Whether the settled attempts of a desk's history left a trace together.
-fn audit_of<A: Allocator + Copy>(desk: &Desk<A>) -> Result<Audit, AllocError>
-    ensures { IfOk result (λ audit. IsAuditOf desk.now audit) }
-{
-    let audit = desk.audit()?;
-    Ok(audit)
-}
-
 /// What a desk tells.
 fn told_by<A: Allocator + Copy>(desk: &Desk<A>) -> Result<Figures, AllocError>
     ensures { IfOk result (λ figures. AreOf desk.now figures) }
 {
-    let audit = audit_of(desk)?;
+    let audit = desk.audit()?;
     Ok(Figures {
         tally: desk.tally(),
         channels: desk.book().usage().channels,

@@ -1,11 +1,12 @@
 use Rattle.std.proofs.Common.{◌∙◌, ap, Err}
-use Rattle.live_runs.proofs.InputFacts.{both_are, no_and}
+use Rattle.std.proofs.lemmas.Bool.{and_from}
+use Rattle.live_runs.proofs.InputFacts.{no_and}
 use Rattle.live_runs.proofs.LineFacts.{says_last, says_unreadable}
 use Rattle.live_runs.proofs.line.read_text.Goals as goal
 
 pub returns-in-Ok : goal.returns-in-Ok
 returns-in-Ok g c =
-    says_last c.args.has_sim c.args.line.now c.in-Ok.items.items c.last_said.result (both_are _ _ c.requires.text c.in-Ok.ensures.read)
+    says_last c.args.has_sim c.args.line.now c.in-Ok.items.items c.last_said.result (and_from _ _ c.requires.text c.in-Ok.ensures.read)
     c.in-Ok.ensures.items c.in-Ok.ensures.sides c.last_said.ensures
 
 pub returns-in-Err-Line : goal.returns-in-Err-Line

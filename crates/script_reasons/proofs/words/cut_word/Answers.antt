@@ -1,6 +1,7 @@
 use Rattle.std.proofs.Common.{lit<, subst}
 use Rattle.std.proofs.lemmas.Str.Pattern.{split_once_first}
-use Rattle.script_reasons.proofs.WordLemmas.{Cut, cut_words}
+use Rattle.lab_script.proofs.WordLemmas.{cut_words}
+use Rattle.script_reasons.proofs.WordLemmas.{Cut}
 use Rattle.script_reasons.proofs.words.cut_word.Goals as goal
 
 pub returns-in-Some : goal.returns-in-Some

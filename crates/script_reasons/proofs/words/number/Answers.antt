@@ -1,5 +1,5 @@
 use Rattle.std.proofs.Common.{refl, sym, ◌∙◌}
-use Rattle.script_reasons.proofs.WordLemmas.{number_from_parse}
+use Rattle.lab_script.proofs.WordLemmas.{number_from_parse}
 use Rattle.script_reasons.proofs.words.number.Goals as goal
 
 pub returns-then-is_digits : goal.returns-then-is_digits

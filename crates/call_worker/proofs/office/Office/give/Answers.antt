@@ -1,6 +1,7 @@
 use Rattle.std.proofs.Common.{rules, ◌≡◌, ◌<◌, ◌%◌, ◌++◌, [], refl, sym, ap, ◌∙◌, length, vec_len, inl, inr}
 use Rattle.std.proofs.lemmas.List.{append-nil}
-use Rattle.call_worker.proofs.Closings.{on_ok, on_err, gives, keeps}
+use Rattle.std.proofs.lemmas.Result.{on_ok_weaker, on_err_weaker}
+use Rattle.call_worker.proofs.Closings.{gives, keeps}
 use Rattle.call_worker.proofs.office.Office.give.Goals as goal
 
 pub returns-clause-ok : goal.returns-clause-ok
@@ -9,7 +10,7 @@ returns-clause-ok g c =
     let long : vec_len c.self.inside.posts ≡ length c.self.inside.posts.items = search rules in
     let some : 0 < vec_len c.self.inside.posts = c.self.invariant.0 in
     let n = c.in_ok-number.ensures.ok in
-    on_ok c.give.result (λ e. record {
+    on_ok_weaker c.give.result (λ e. record {
       worker = c.in_ok-number.number % length c.args.self.now.workers;
       is_for = record {
         asked = n.0;
@@ -24,7 +25,7 @@ returns-clause-ok g c =
 pub returns-clause-err : goal.returns-clause-err
 returns-clause-err g c =
     let same = ap (λ y. y.workers) c.self.view_is in
-    on_err c.give.result (λ e. keeps _ _ _ c.index_mut-posted.result.now _ _ same c.index_mut-posted.ensures.value e) c.give.ensures.err
+    on_err_weaker c.give.result (λ e. keeps _ _ _ c.index_mut-posted.result.now _ _ same c.index_mut-posted.ensures.value e) c.give.ensures.err
 
 pub returns-in_err-number-clause-asked : goal.returns-in_err-number-clause-asked
 returns-in_err-number-clause-asked g c = ([], c.in_err-number.ensures.kept ∙ (ap (λ y. y.front) c.self.view_is ∙ sym (append-nil _)), inl refl)
