@@ -39,6 +39,38 @@ Its chart, and the packet of a message:
   $ tail -c 12 one.pcap | od -An -tx1
    08 21 01 1b 03 00 06 04 00 01 09 01
 
+Calls 1 and 2 are to move to the two halves of timeslot 3. Both attempts are undone, and both halves await their release
+at once; that of the second half comes first. Each line of the trace is a row of the chart; a row has a height of 20, and
+the first bar of a row stands from 52 on. So a bar is told by its first and its last line: the one in which its attempt
+opens, and the one in which its own half is released. The bars stand in the order of the openings.
+
+  $ cat >halves.txt <<'END'
+  > open 1 1 1 3/0
+  > abis 1 1 08220113080000
+  > open 2 1 1 3/1
+  > abis 1 1 0822011b080000
+  > handover 1 0
+  > handover 2 0
+  > undo 1
+  > undo 2
+  > abis 0 0 0833011b
+  > abis 0 0 08330113
+  > END
+  $ ./lab run examples/half_rate.toml halves.txt --chart run.svg | grep -n -e ' take ' -e ' undo . ' -e ' released '
+  15:event take 1 internal 0/0/3/0 -> done
+  21:event take 2 internal 0/0/3/1 -> done
+  26:event undo 1 asked -> record 1/1/3/0 on internal sent 0/0/3/0 0
+  29:event undo 2 asked -> record 1/1/3/1 on internal sent 0/0/3/1 1
+  32:event released 0/0/3/1 -> done
+  34:event released 0/0/3/0 -> done
+  $ bars() { sed -n 's/^<rect x="[0-9]*" y="\([0-9]*\)" width="11" height="\([0-9]*\)" fill="url(#hatched)".*/\1 \2/p' run.svg; }
+  $ bars | while read y height; do test "$y" -lt 52 || echo "$(((y - 52) / 20 + 1)) $(((y - 52 + height - 18) / 20 + 1))"; done
+  15 34
+  21 32
+  $ grep -o '>call [12]<' run.svg
+  >call 1<
+  >call 2<
+
 Lines as they come:
 
   $ printf 'open 1 0 0 3/0\nopen 2 0 0 3/2\nabis 0 0 08220113080000\n' | ./lab live examples/half_rate.toml 2>errors

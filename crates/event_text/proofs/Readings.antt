@@ -1,5 +1,5 @@
 -- Events: what is written is read, and what is read was written so.
-use Rattle.std.proofs.Common.{◌≡◌, ◌↔◌, ℕ, ◌<◌, ◌^◌, List, [], ◌∷◌, ◌++◌, Bool, true, false, if◌then◌else◌, Option, Some, None, option_map, refl, sym, ap, ◌∙◌, arith, bytes_eq, codes}
+use Rattle.std.proofs.Common.{◌≡◌, ℕ, ◌<◌, ◌^◌, List, [], ◌∷◌, ◌++◌, Bool, true, false, if◌then◌else◌, Option, Some, None, option_map, refl, sym, ap, ◌∙◌, arith, bytes_eq, codes}
 use Rattle.std.specs.Fmt.{decimal}
 use Rattle.std.proofs.lemmas.Option.{none-some, same_Some}
 use Rattle.std.proofs.lemmas.Fmt.{digits_decimal}
@@ -17,7 +17,7 @@ use Rattle.radio_book.specs.declared.event.Why.TheVariants as why
 use Rattle.radio_book.specs.declared.event.Event.{Event}
 use Rattle.radio_book.specs.declared.event.Event.TheVariants as event
 use Rattle.event_text.specs.Text.{kind_word, why_word, event_text, FitsCall, FitsOctet, FitsChan, Fits, TextIsUnique}
-use Rattle.event_text.specs.Reading.{◌>>=◌, cut_at, number_of, half_of, timeslot_at, timeslot_of, channel_of, kind_of, why_of, open_of, take_of, reserve_of, undo_of, by_call, on_channel, kinds, event_among, event_of}
+use Rattle.event_text.specs.Reading.{◌>>=◌, cut_at, number_of, half_of, timeslot_at, timeslot_of, channel_of, kind_of, why_of, open_of, take_of, reserve_of, undo_of, by_call, on_channel, kinds, event_among, event_at}
 use Rattle.event_text.proofs.Numbers.{Lacks, cut_at-none, cut_at-first, joined, numerals, number_of-decimal, number_of-parts}
 
 -- what a chain of steps gave, each of them gave
@@ -290,19 +290,23 @@ all_read = (
   ),
 )
 
+-- what the reader reads of a whole text
+abbrev pub read_of : List ℕ → Option Event
+read_of text = cut_at 32 text >>= (λ p. event_at p.0 p.1)
+
 pub record IsText (text : List ℕ) (e : Event) : Type 0 where
   pub said : text ≡ event_text e
   pub fits : Fits e
 
 -- what is read is the event whose text it is
-pub event_parts : (text : List ℕ) (e : Event) → event_of text ≡ Some e → IsText text e
+pub event_parts : (text : List ℕ) (e : Event) → read_of text ≡ Some e → IsText text e
 event_parts text v e =
     bind_parts (IsText text v) (cut_at 32 text) _ v e (λ p cut e.
     let rest = among_reads kinds all_read p.0 p.1 v e in
     record { said = joined 32 text p.0 p.1 cut ∙ sym rest.said; fits = rest.fits })
 
 -- an event's text is read as the event
-pub event_read : (e : Event) → Fits e → event_of (event_text e) ≡ Some e
+pub event_read : (e : Event) → Fits e → read_of (event_text e) ≡ Some e
 unfolding open_of take_of reserve_of undo_of
 event_read (event.Open c x) f = rw (word_cut c (chan_text x) f.0, call_read c f.0, channel_read x f.1) refl
 event_read (event.Clear c) f = rw (call_read c f) refl
@@ -324,8 +328,4 @@ event_read (event.Left c) f = rw (call_read c f) refl
 
 pub text_is_unique : TextIsUnique
 text_is_unique e f fits other same =
-    same_Some e f (sym (event_read e fits) ∙ (ap event_of same ∙ event_read f other))
-
--- so the reader is exact
-pub exact : (text : List ℕ) (r : Option Event) → r ≡ event_of text → (e : Event) → Fits e → (r ≡ Some e) ↔ (text ≡ event_text e)
-exact text r own e fits = (λ is. (event_parts text e (sym own ∙ is)).said, λ is. own ∙ (ap event_of is ∙ event_read e fits))
+    same_Some e f (sym (event_read e fits) ∙ (ap read_of same ∙ event_read f other))

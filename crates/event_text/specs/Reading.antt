@@ -1,5 +1,5 @@
--- How an event is read, part by part. What that comes to is said at the end.
-use Rattle.std.specs.Prelude.{◌≡◌, ◌↔◌, ◌==◌, ◌&&◌, ◌||◌, ℕ, Bool, nat_lt, not, if◌then◌else◌, List, [], ◌∷◌, length, slice_index, codes, bytes_eq, Option, Some, None, option_map}
+-- How the reader reads, part by part: for its own functions alone. What a text is read as is `event_of` of `Events`.
+use Rattle.std.specs.Prelude.{◌==◌, ◌&&◌, ◌||◌, ℕ, Bool, nat_lt, not, if◌then◌else◌, List, [], ◌∷◌, length, slice_index, codes, bytes_eq, Option, Some, None, option_map}
 use Rattle.std.specs.List.{list_all}
 use Rattle.std.specs.Char.{is_ascii_digit}
 use Rattle.std.specs.Str.Parse.{digits_value}
@@ -13,7 +13,6 @@ use Rattle.radio_book.specs.declared.event.Why.{Why}
 use Rattle.radio_book.specs.declared.event.Why.TheVariants as why
 use Rattle.radio_book.specs.declared.event.Event.{Event}
 use Rattle.radio_book.specs.declared.event.Event.TheVariants as event
-use Rattle.event_text.specs.Text.{event_text, Fits}
 
 infixl 10 ◌>>=◌
 abbrev pub ◌>>=◌ : {A B : Type 0} → Option A → (A → Option B) → Option B
@@ -106,10 +105,3 @@ event_among (k ∷ ks) word text = if bytes_eq word k.0 then k.1 text else event
 -- the event of a first word and of the text behind its blank
 abbrev pub event_at : List ℕ → List ℕ → Option Event
 event_at word text = event_among kinds word text
-
-abbrev pub event_of : List ℕ → Option Event
-event_of text = cut_at 32 text >>= (λ p. event_at p.0 p.1)
-
--- an event's text is read as that event, and no other text is
-abbrev pub ReadsTexts : Type 0
-ReadsTexts = (text : List ℕ) (e : Event) → (event_of text ≡ Some e) ↔ (Fits e × (text ≡ event_text e))

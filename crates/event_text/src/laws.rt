@@ -1,6 +1,6 @@
 //! The laws of the texts of events. Ours, of no standard.
 ghost use Rattle.event_text.specs.Text.{TextIsUnique};
-ghost use Rattle.event_text.specs.Reading.{ReadsTexts};
+ghost use Rattle.event_text.specs.Events.{ReadsTexts};
 
 /// No two events have the same text.
 pub fn text_is_unique()

@@ -6,6 +6,7 @@ ghost use Rattle.std.specs.List.{list_all};
 ghost use Rattle.std.specs.Char.{is_ascii_digit};
 ghost use Rattle.radio_book.specs.declared.event.Event.{Event};
 ghost use Rattle.event_text.specs.Text.{event_text, Fits};
+ghost use Rattle.event_text.specs.Events.{event_of};
 ghost use Rattle.event_text.specs.Reading as said;
 
 use channel_fsm::{ChanId, Sub};
@@ -188,7 +189,7 @@ fn event(word: &str, text: &str) -> Option<Event>
 pub fn read_event(text: &str) -> Option<Event>
     ensures read { (e : Event) → Fits e → (result ≡ Some e) ↔ (text.now ≡ event_text e) }
     ensures fits { IfSome result Fits }
-    ensures value { result ≡ said.event_of text.now }
+    ensures value { result ≡ event_of text.now }
 {
     let (word, text) = first_word(text)?;
     event(word, text)

@@ -1,6 +1,6 @@
 -- Facts of the lines of a script.
-use Rattle.std.proofs.Common.{◌||◌, ◌≡◌, ◌≢◌, ℕ, ◌+◌, ◌-◌, ◌<◌, ◌∷◌, ◌++◌, List, [], Bool, true, Option, Some, None, refl, sym, ap, ◌∙◌, arith, rules, length, take, get_or, is_some, option_map, map, length-append, unwrap_or, suc, zero, ◌==◌, Bor, MatchOption}
-use Rattle.std.specs.List.{filter_map, position_from, slice_split, cons_option}
+use Rattle.std.proofs.Common.{◌||◌, ◌≡◌, ◌≢◌, ℕ, ◌+◌, ◌-◌, ◌<◌, ◌∷◌, ◌++◌, List, [], Bool, true, false, cond, nat_lt, Option, Some, None, refl, sym, ap, ◌∙◌, arith, rules, length, take, get_or, is_some, option_map, map, length-append, unwrap_or, suc, zero, ◌==◌, Bor, MatchOption}
+use Rattle.std.specs.List.{filter_map, list_any, position_from, enumerate_from, slice_split, cons_option}
 use Rattle.std.specs.Str.Lines.{strip_carriage_return}
 use Rattle.std.proofs.lemmas.List.{map-append, get_or-map, length-map}
 use Rattle.std.proofs.lemmas.List.Elements.{filter_map-append}
@@ -11,7 +11,7 @@ use Rattle.lab_script.specs.declared.script.Given.{Given}
 use Rattle.lab_script.specs.declared.script.Given.TheVariants.{Input}
 use Rattle.lab_script.specs.declared.script.Item.{Item}
 use Rattle.lab_script.specs.Sides.{side_of, text_of}
-use Rattle.lab_script.specs.Script.{first_line, input_of, simulated, given_by, item_of, items_of}
+use Rattle.lab_script.specs.Script.{is_sim, is_unreadable, attaches_sim, first_unreadable, lines_of, input_of, simulated, given_by, item_of, items_of}
 
 -- an input is given
 pub some_given : (A : Type 0) (line : List ℕ) → is_some (input_of {A = A} (text_of line)) ≡ true → is_some (given_by {A = A} line) ≡ true
@@ -57,23 +57,62 @@ pub stripped : (line : Bor (List ℕ)) (r : Option (Bor (List ℕ)))
 stripped line None h = sym (strip_carriage_return-none line.now h)
 stripped line (Some x) h = rw h (sym (strip_carriage_return-append x.now))
 
-pub position_from-suc : {X : Type 0} (p : X → Bool) (i : ℕ) (xs : List X) → position_from p (i + 1) xs ≡ option_map (λ n. n + 1) (position_from p i xs)
+position_from-suc : {X : Type 0} (p : X → Bool) (i : ℕ) (xs : List X) → position_from p (i + 1) xs ≡ option_map (λ n. n + 1) (position_from p i xs)
 position_from-suc p i [] = refl
 position_from-suc p i (x ∷ xs) = grind (arith, position_from-suc p (i + 1) xs)
 
-pub position_from-map : {X Y : Type 0} (p : Y → Bool) (f : X → Y) (i : ℕ) (xs : List X) → position_from p i (map f xs) ≡ position_from (λ x. p (f x)) i xs
+position_from-map : {X Y : Type 0} (p : Y → Bool) (f : X → Y) (i : ℕ) (xs : List X) → position_from p i (map f xs) ≡ position_from (λ x. p (f x)) i xs
 position_from-map p f i [] = refl
 position_from-map p f i (x ∷ xs) = rw (position_from-map p f (i + 1) xs) refl
 
--- the number of the first such line is one more than its index
-pub first_line-position : (p : List ℕ → Bool) (text : List ℕ) (r : Option ℕ)
-    → r ≡ position_from (λ line. p (strip_carriage_return line)) 0 (slice_split (λ b. b == 10) text)
-    → option_map (λ n. n + 1) r ≡ first_line p text
-first_line-position p text r e =
+enumerate_from-map : {X Y : Type 0} (f : X → Y) (n : ℕ) (xs : List X) → enumerate_from n (map f xs) ≡ map (λ (at : ℕ × X). (at.0, f at.1)) (enumerate_from n xs)
+enumerate_from-map f n [] = refl
+enumerate_from-map f n (x ∷ xs) = ap (λ ys. (n, f x) ∷ ys) (enumerate_from-map f (n + 1) xs)
+
+-- a place stands behind another, if that is there
+abbrev pub is_behind : Option ℕ → ℕ → Bool
+is_behind first place = unwrap_or (option_map (λ k. nat_lt k place) first) false
+
+none_before : (first : Option ℕ) → is_behind first 0 ≡ false
+none_before None = refl
+none_before (Some k) = grind arith
+
+one_on : (first : Option ℕ) (place : ℕ) → is_behind (option_map (λ n. n + 1) first) (suc place) ≡ is_behind first place
+one_on None place = refl
+one_on (Some k) place = grind arith
+
+-- a place stands behind the first that passes just where one before it passes
+behind_first : {X : Type 0} (t : X → Bool) (xs : List X) (place : ℕ) → is_behind (position_from t 0 xs) place ≡ list_any t (take place xs)
+behind_first t [] zero = refl
+behind_first t [] (suc place) = refl
+behind_first t (x ∷ xs) zero = none_before (position_from t 0 (x ∷ xs))
+behind_first t (x ∷ xs) (suc place) = by_first (t x) (behind_first t xs place)
+  where
+    by_first : (b : Bool) → is_behind (position_from t 0 xs) place ≡ list_any t (take place xs) → is_behind (cond b (Some 0) (position_from t (0 + 1) xs)) (suc place) ≡ (b || list_any t (take place xs))
+    by_first true h = grind arith
+    by_first false h = ap (λ first. is_behind first (suc place)) (position_from-suc t 0 xs) ∙ (one_on (position_from t 0 xs) place ∙ h)
+
+-- the number of the first line that can't be read is one more than its place, where the first that attaches the simulators is known
+pub first_unreadable-place : (has_peer : Bool) (text : List ℕ) (sim r : Option ℕ)
+    → sim ≡ position_from is_sim 0 (lines_of text)
+    → r ≡ position_from (λ (at : ℕ × List ℕ). is_unreadable has_peer (is_behind sim at.0) (strip_carriage_return at.1)) 0 (enumerate_from 0 (slice_split (λ b. b == 10) text))
+    → option_map (λ n. n + 1) r ≡ first_unreadable has_peer text
+first_unreadable-place has_peer text sim r s e =
     let parts = slice_split (λ b. b == 10) text in
+    let test : ℕ × List ℕ → Bool = λ at. is_unreadable has_peer (is_behind sim at.0) at.1 in
+    let strip : ℕ × List ℕ → ℕ × List ℕ = λ at. (at.0, strip_carriage_return at.1) in
+    let attached : is_behind sim ≡ (λ place. attaches_sim (take place (lines_of text))) = λ k place. (ap (λ first. is_behind first place) s ∙ behind_first is_sim (lines_of text) place) k in
     ap (option_map (λ n. n + 1)) e
-    ∙ (sym (position_from-suc (λ line. p (strip_carriage_return line)) 0 parts)
-    ∙ sym (position_from-map p strip_carriage_return 1 parts))
+    ∙ (sym (position_from-suc (λ at. test (strip at)) 0 (enumerate_from 0 parts))
+    ∙ (sym (position_from-map test strip 1 (enumerate_from 0 parts))
+    ∙ (ap (position_from test 1) (sym (enumerate_from-map strip_carriage_return 0 parts))
+    ∙ ap (λ (has_sim : ℕ → Bool). position_from (λ (at : ℕ × List ℕ). is_unreadable has_peer (has_sim at.0) at.1) 1 (enumerate_from 0 (lines_of text))) attached)))
+
+-- where the first line of a kind stands
+pub first_place : (p : List ℕ → Bool) (text : List ℕ) (r : Option ℕ)
+    → r ≡ position_from (λ line. p (strip_carriage_return line)) 0 (slice_split (λ b. b == 10) text)
+    → r ≡ position_from p 0 (lines_of text)
+first_place p text r e = e ∙ sym (position_from-map p strip_carriage_return 0 (slice_split (λ b. b == 10) text))
 
 -- where one item gives something, the list isn't empty
 pub filter_map-some : {X Y : Type 0} (h : X → Option Y) (xs : List X) (k : ℕ) (d : X) → k < length xs → is_some (h (get_or xs k d)) ≡ true → filter_map h xs ≢ []

@@ -1,6 +1,6 @@
 -- Facts of the controllers that the lines of a script are for.
-use Rattle.std.proofs.Common.{◌≡◌, ℕ, ◌+◌, ◌&&◌, ◌∷◌, List, [], Bool, true, false, cond, not, Option, Some, None, refl, sym, ap, ◌∙◌, subst, arith, rules, length, drop, nat_eq, if◌then◌else◌, option_map, codes, MatchOption, Bor}
-use Rattle.std.specs.List.{list_all, filter_map, position_from, cons_option}
+use Rattle.std.proofs.Common.{◌≡◌, ℕ, ◌+◌, ◌&&◌, ◌||◌, ◌∷◌, List, [], Bool, true, false, cond, not, Option, Some, None, refl, sym, ap, ◌∙◌, subst, arith, rules, length, take, drop, nat_eq, if◌then◌else◌, option_map, codes, MatchOption, Bor}
+use Rattle.std.specs.List.{list_all, filter_map, position_from, enumerate_from, cons_option}
 use Rattle.std.specs.Str.Pattern.{FindsTextPrefix}
 use Rattle.std.proofs.lemmas.Bool.{and_parts, and_from}
 use Rattle.std.proofs.lemmas.Str.Pattern.{starts_text}
@@ -9,7 +9,7 @@ use Rattle.lab_script.specs.declared.side.Side.TheVariants.{First, Peer}
 use Rattle.lab_script.specs.declared.script.Given.{Given}
 use Rattle.lab_script.specs.declared.script.Item.{Item}
 use Rattle.lab_script.specs.Sides.{is_for_peer, side_of, text_of, is_there}
-use Rattle.lab_script.specs.Script.{given_by, item_of, items_of, lines_of, is_line, first_line, first_unreadable, lower, unless_lower, needs_sim, is_sim, AreThere}
+use Rattle.lab_script.specs.Script.{given_by, item_of, items_of, lines_of, is_line, is_unreadable, attaches_sim, first_unreadable, needs_sim, AreThere}
 
 if_true : {X : Type 0} (b : Bool) (x y : X) → b ≡ true → x ≡ (if b then x else y)
 if_true true x y e = refl
@@ -90,23 +90,21 @@ items_there A has_peer (line ∷ lines) h =
     let parts = and_parts (is_line has_peer line) (list_all (is_line has_peer) lines) h in
     item_there has_peer (side_of line) (given_by {A = A} line) (filter_map (item_of {A = A}) lines) (line_there has_peer line parts.0) (items_there A has_peer lines parts.1)
 
-passed : (b : Bool) (i : ℕ) (rest : Option ℕ) → cond (not b) (Some i) rest ≡ None → (b ≡ true) × (rest ≡ None)
-passed true i rest e = (refl, e)
-passed false i rest e = absurd (search (rules, e))
+passed : (b c : Bool) (i : ℕ) (rest : Option ℕ) → cond (not b || c) (Some i) rest ≡ None → (b ≡ true) × (rest ≡ None)
+passed true true i rest e = absurd (search (rules, e))
+passed true false i rest e = (refl, e)
+passed false c i rest e = absurd (search (rules, e))
 
--- where none that fails is found, all pass
-none_fails : (q : List ℕ → Bool) (i : ℕ) (lines : List (List ℕ)) → position_from (λ line. not (q line)) i lines ≡ None → list_all q lines ≡ true
-none_fails q i [] e = refl
-none_fails q i (line ∷ lines) e =
-    let parts = passed (q line) i (position_from (λ l. not (q l)) (i + 1) lines) e in
-    and_from (q line) (list_all q lines) parts.0 (none_fails q (i + 1) lines parts.1)
-
-lower_none : (one other : Option ℕ) → lower one other ≡ None → one ≡ None
-lower_none None other e = refl
-lower_none (Some n) None e = absurd (search (rules, e))
-lower_none (Some n) (Some m) e = absurd (search (rules, e))
+-- where none is found that can't be read, all are lines
+all_lines : (has_peer : Bool) (has_sim : ℕ → Bool) (i n : ℕ) (lines : List (List ℕ))
+    → position_from (λ (at : ℕ × List ℕ). is_unreadable has_peer (has_sim at.0) at.1) i (enumerate_from n lines) ≡ None → list_all (is_line has_peer) lines ≡ true
+all_lines has_peer has_sim i n [] e = refl
+all_lines has_peer has_sim i n (line ∷ lines) e =
+    let test : ℕ × List ℕ → Bool = λ at. is_unreadable has_peer (has_sim at.0) at.1 in
+    let parts = passed (is_line has_peer line) (needs_sim line && not (has_sim n)) i (position_from test (i + 1) (enumerate_from (n + 1) lines)) e in
+    and_from (is_line has_peer line) (list_all (is_line has_peer) lines) parts.0 (all_lines has_peer has_sim (i + 1) (n + 1) lines parts.1)
 
 -- all that a script gives is for controllers that are there
 pub all_there : (A : Type 0) (has_peer : Bool) (text : List ℕ) → first_unreadable has_peer text ≡ None → AreThere has_peer (items_of {A = A} text)
 all_there A has_peer text e =
-    items_there A has_peer (lines_of text) (none_fails (is_line has_peer) 1 (lines_of text) (lower_none (first_line (λ line. not (is_line has_peer line)) text) (unless_lower (first_line needs_sim text) (first_line is_sim text)) e))
+    items_there A has_peer (lines_of text) (all_lines has_peer (λ place. attaches_sim (take place (lines_of text))) 1 0 (lines_of text) e)

@@ -1,6 +1,6 @@
 -- What a script says, line by line.
-use Rattle.std.specs.Prelude.{◌≡◌, ℕ, ◌==◌, ◌||◌, ◌&&◌, Bool, true, nat_lt, nat_eq, not, if◌then◌else◌, List, map, codes, Option, Some, None, is_some, option_map, bytes_eq, min}
-use Rattle.std.specs.List.{slice_split, filter_map, list_all, starts_with, position_from}
+use Rattle.std.specs.Prelude.{◌≡◌, ℕ, ◌==◌, ◌||◌, ◌&&◌, Bool, true, nat_eq, not, if◌then◌else◌, List, map, take, codes, Option, Some, is_some, option_map, bytes_eq}
+use Rattle.std.specs.List.{slice_split, filter_map, list_all, list_any, starts_with, position_from, enumerate_from}
 use Rattle.std.specs.Option.{option_or}
 use Rattle.std.specs.Str.Lines.{strip_carriage_return}
 use Rattle.ho_procedure.specs.declared.exchange.Inbound.{Inbound}
@@ -70,26 +70,17 @@ is_line has_peer line = (is_comment line || is_blank line) || (is_addressed has_
 abbrev pub lines_of : List ℕ → List (List ℕ)
 lines_of text = map strip_carriage_return (slice_split (λ b. b == 10) text)
 
--- the number of the first line that is such, counted from 1
-abbrev pub first_line : (List ℕ → Bool) → List ℕ → Option ℕ
-first_line is_such text = position_from is_such 1 (lines_of text)
+-- A line can't be read where it is no line at all, or where it asks something of the simulators and they aren't attached.
+abbrev pub is_unreadable : Bool → Bool → List ℕ → Bool
+is_unreadable has_peer has_sim line = not (is_line has_peer line) || (needs_sim line && not has_sim)
 
--- the lower of two numbers, and the one that there is
-abbrev pub lower : Option ℕ → Option ℕ → Option ℕ
-lower (Some n) (Some m) = Some (min n m)
-lower (Some n) None = Some n
-lower None m = m
+-- one of these lines attaches the simulators
+abbrev pub attaches_sim : List (List ℕ) → Bool
+attaches_sim lines = list_any is_sim lines
 
--- a number where no other is lower
-abbrev pub unless_lower : Option ℕ → Option ℕ → Option ℕ
-unless_lower (Some n) (Some m) = if nat_lt m n then None else Some n
-unless_lower (Some n) None = Some n
-unless_lower None m = None
-
--- The number of the first line that can't be read: that is no line at all, or that asks something of the simulators where no
--- line before it attaches them.
+-- the number of the first line that can't be read behind those before it, counted from 1
 abbrev pub first_unreadable : Bool → List ℕ → Option ℕ
-first_unreadable has_peer text = lower (first_line (λ line. not (is_line has_peer line)) text) (unless_lower (first_line needs_sim text) (first_line is_sim text))
+first_unreadable has_peer text = position_from (λ at. is_unreadable has_peer (attaches_sim (take at.0 (lines_of text))) at.1) 1 (enumerate_from 0 (lines_of text))
 
 -- what the lines of a text give, in their order
 abbrev pub items_of : {A : Type 0} → List ℕ → List (Item A)

@@ -3,8 +3,8 @@
 //!
 //! `docs/PROGRAM.md` lists the lines and the ranges of their numbers; [`Item`] is what they give.
 
-ghost use Rattle.std.specs.Prelude.{◌≡◌, ◌≢◌, ◌↔◌, ℕ, Some, None, Err, true, [], ◌∷◌, ◌++◌, IsErr, IfOk, OnOk, not, is_some};
-ghost use Rattle.std.specs.List.{filter_map};
+ghost use Rattle.std.specs.Prelude.{◌≡◌, ◌≢◌, ◌↔◌, ℕ, Some, None, Err, true, false, nat_lt, [], ◌∷◌, ◌++◌, IsErr, IfOk, OnOk, is_some, option_map, unwrap_or};
+ghost use Rattle.std.specs.List.{filter_map, position_from};
 ghost use Rattle.std.specs.Str.Lines.{strip_carriage_return};
 ghost use Rattle.lab_script.specs.Words.{words_of};
 ghost use Rattle.lab_script.specs.Sides.{text_of};
@@ -235,62 +235,29 @@ pub fn without_return(line: &str) -> &str
     line.strip_suffix('\r').unwrap_or(line)
 }
 
-/// Whether a line, which a carriage return may end, is none.
-fn ends_no_line(has_peer: bool, line: &str) -> bool
-    ensures { result ≡ not (said.is_line has_peer (strip_carriage_return line.now)) }
+/// Whether a line, which a carriage return may end, can't be read, where the simulators are attached or aren't.
+fn is_unreadable(has_peer: bool, has_sim: bool, line: &str) -> bool
+    ensures { result ≡ said.is_unreadable has_peer has_sim (strip_carriage_return line.now) }
 {
-    !is_line(has_peer, without_return(line))
+    let line = without_return(line);
+    !is_line(has_peer, line) || (needs_sim(line) && !has_sim)
 }
 
-/// The number of the first that is no line, counted from 1.
-fn first_no_line(has_peer: bool, text: &str) -> Option<usize>
-    ensures { result ≡ said.first_line (λ line. not (said.is_line has_peer line)) text.now }
-{
-    let index = text
-        .split('\n')
-        .position(|line| ends_no_line(has_peer, line))?;
-    Some(index + 1)
-}
-
-/// The number of the first line that asks something of the simulators.
-fn first_needing(text: &str) -> Option<usize>
-    ensures { result ≡ said.first_line said.needs_sim text.now }
-{
-    let index = text
-        .split('\n')
-        .position(|line| needs_sim(without_return(line)))?;
-    Some(index + 1)
-}
-
-/// The number of the first line that attaches the simulators.
+/// Where the first line that attaches the simulators stands, counted from 0.
 fn first_sim(text: &str) -> Option<usize>
-    ensures { result ≡ said.first_line said.is_sim text.now }
+    ensures { result ≡ position_from said.is_sim 0 (said.lines_of text.now) }
 {
-    let index = text
-        .split('\n')
-        .position(|line| is_sim(without_return(line)))?;
-    Some(index + 1)
+    text.split('\n')
+        .position(|line| is_sim(without_return(line)))
 }
 
-/// The lower of two numbers, and the one that there is.
-fn lower(one: Option<usize>, other: Option<usize>) -> Option<usize>
-    ensures { result ≡ said.lower one other }
+/// Whether the line of this place, counted from 0, stands behind the first that attaches the simulators.
+fn is_behind(sim: Option<usize>, place: usize) -> bool
+    ensures { result ≡ unwrap_or (option_map (λ sim. nat_lt sim place) sim) false }
 {
-    match (one, other) {
-        (Some(one), Some(other)) => Some(one.min(other)),
-        (Some(one), None) => Some(one),
-        (None, other) => other,
-    }
-}
-
-/// A number where no other is lower.
-fn unless_lower(one: Option<usize>, other: Option<usize>) -> Option<usize>
-    ensures { result ≡ said.unless_lower one other }
-{
-    match (one, other) {
-        (Some(one), Some(other)) => { if other < one { None } else { Some(one) } }
-        (one, None) => one,
-        (None, Some(_)) => None,
+    match sim {
+        Some(sim) => sim < place,
+        None => false,
     }
 }
 
@@ -299,10 +266,13 @@ fn unless_lower(one: Option<usize>, other: Option<usize>) -> Option<usize>
 pub fn first_unreadable(text: &str, has_peer: bool) -> Option<usize>
     ensures line { result ≡ said.first_unreadable has_peer text.now }
 {
-    lower(
-        first_no_line(has_peer, text),
-        unless_lower(first_needing(text), first_sim(text)),
-    )
+    let sim = first_sim(text);
+    let place = text.split('\n').enumerate().position(|(place, line)| is_unreadable(
+        has_peer,
+        is_behind(sim, place),
+        line,
+    ))?;
+    Some(place + 1)
 }
 
 /// Adds what a line gives, which a carriage return may end.

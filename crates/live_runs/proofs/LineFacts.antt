@@ -1,10 +1,10 @@
 -- What one line says, by the rules of scripts.
-use Rattle.std.proofs.Common.{◌≡◌, ◌++◌, ◌∷◌, ◌+◌, ◌&&◌, ◌||◌, inl, inr, ℕ, Bool, true, false, cond, not, nat_lt, List, [], map, codes, length, Option, Some, None, is_some, is_none, option_map, refl, sym, ap, subst, ◌∙◌, arith, rules}
+use Rattle.std.proofs.Common.{◌≡◌, ◌++◌, ◌∷◌, ◌+◌, ◌&&◌, ◌||◌, inl, inr, ℕ, Bool, true, false, cond, not, nat_lt, List, [], map, take, codes, length, Option, Some, None, is_some, is_none, option_map, refl, sym, ap, subst, ◌∙◌, arith, rules}
 use Rattle.std.proofs.lemmas.List.{same_from_push, length_push}
 use Rattle.std.proofs.lemmas.List.Splits.{slice_split_none}
 use Rattle.std.proofs.lemmas.Bool.{and_from, and_parts, cases_Bool}
 use Rattle.std.proofs.lemmas.Slice.Eq.{bytes_eq-Decides}
-use Rattle.std.specs.List.{filter_map, cons_option, list_any, list_all, position_from, slice_split}
+use Rattle.std.specs.List.{filter_map, cons_option, list_any, list_all, position_from, enumerate_from, slice_split}
 use Rattle.std.specs.Option.{option_or, option_to_list}
 use Rattle.std.specs.Str.{is_utf8, IsUtf8}
 use Rattle.std.specs.Str.Lines.{strip_carriage_return}
@@ -21,7 +21,7 @@ use Rattle.lab_script.specs.declared.script.Item.{Item}
 use Rattle.lab_script.specs.Sides.{side_of, text_of}
 use Rattle.lab_script.specs.Words.{words_of}
 use Rattle.lab_script.specs.Stations.{setting_line, hangup_line}
-use Rattle.lab_script.specs.Script.{is_sim, is_line, needs_sim, input_of, item_of, items_of, lines_of, lower, unless_lower, first_unreadable, is_item_there, AreThere}
+use Rattle.lab_script.specs.Script.{is_sim, is_line, needs_sim, input_of, item_of, items_of, lines_of, is_unreadable, attaches_sim, first_unreadable, is_item_there, AreThere}
 use Rattle.lab_runs.specs.Turns.{inputs_in}
 use Rattle.live_runs.specs.declared.line.Said.{Said}
 use Rattle.live_runs.specs.declared.line.Said.TheVariants.{Unreadable, Nothing, Gives}
@@ -37,23 +37,19 @@ two_lines : (text : List ℕ) → list_any is_feed text ≡ false → lines_of (
 two_lines text none = ap (λ parts. codes "sim" ∷ map strip_carriage_return parts) (slice_split_none is_feed text (none_passes is_feed text none))
 
 abbrev is_read_whole : List (List ℕ) → Bool
-is_read_whole lines = is_none (lower (position_from (λ line. not (is_line false line)) 1 lines) (unless_lower (position_from needs_sim 1 lines) (position_from is_sim 1 lines)))
+is_read_whole lines = is_none (position_from (λ at. is_unreadable false (attaches_sim (take at.0 lines)) at.1) 1 (enumerate_from 0 lines))
 
-one_is_read : (is_line needs is_sim : Bool) → is_none (lower (cond (not is_line) (Some 1) None) (unless_lower (cond needs (Some 1) None) (cond is_sim (Some 1) None))) ≡ (is_line && not needs)
-one_is_read true true true = refl
-one_is_read true true false = refl
-one_is_read true false true = refl
-one_is_read true false false = refl
-one_is_read false true true = refl
-one_is_read false true false = refl
-one_is_read false false true = refl
-one_is_read false false false = refl
+one_is_read : (is_line needs : Bool) → is_none {T = ℕ} (cond (not is_line || (needs && true)) (Some 1) None) ≡ (is_line && not needs)
+one_is_read true true = refl
+one_is_read true false = refl
+one_is_read false true = refl
+one_is_read false false = refl
 
 pub alone_read : (text : List ℕ) → list_any is_feed text ≡ false → is_none (first_unreadable false text) ≡ is_readable false text
 unfolding is_readable
-alone_read text none = ap is_read_whole (one_line text none) ∙ one_is_read (is_line false (script_line text)) (needs_sim (script_line text)) (is_sim (script_line text))
+alone_read text none = ap is_read_whole (one_line text none) ∙ one_is_read (is_line false (script_line text)) (needs_sim (script_line text))
 
-second_is_read : (is_line needs : Bool) → is_none (lower (cond (not is_line) (Some 2) None) (unless_lower (cond needs (Some 2) None) (Some 1))) ≡ (is_line && true)
+second_is_read : (is_line needs : Bool) → is_none {T = ℕ} (cond (not is_line || (needs && false)) (Some 2) None) ≡ (is_line && true)
 second_is_read true true = refl
 second_is_read true false = refl
 second_is_read false true = refl

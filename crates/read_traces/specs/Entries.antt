@@ -3,7 +3,7 @@ use Rattle.std.specs.Prelude.{◌==◌, ◌||◌, ℕ, Bool, nat_eq, not, if◌t
 use Rattle.std.specs.List.{slice_split, starts_with, position_from, filter_map, enumerate_from}
 use Rattle.std.specs.Str.Lines.{strip_carriage_return}
 use Rattle.radio_book.specs.declared.event.Event.{Event}
-use Rattle.event_text.specs.Reading.{event_of}
+use Rattle.event_text.specs.Events.{event_of}
 use Rattle.lab_script.specs.Script.{lines_of}
 use Rattle.read_traces.specs.declared.entries.Entry.{Entry}
 
