@@ -184,7 +184,8 @@ fn each_write_fails(rt: HostRuntime) -> Result<(), Fail> {
 }
 
 /// Lines whose octets, and a message's list, take memory.
-const WITH_LISTS: &[u8] = b"abis 03 01 01 0b 02 00 0b 00 03 06 2c 00\na 000c1104010c1b1a050100170066\nrr 062c00\n";
+const WITH_LISTS: &[u8] =
+    b"abis 03 01 01 0b 02 00 0b 00 03 06 2c 00\na 000c1104010c1b1a050100170066\nrr 062c00\n";
 
 /// Whether these lines were refused no memory, where the n-th request is refused.
 fn has_memory(rt: &(impl Abort + AllocGlobal), number: u64) -> bool {
