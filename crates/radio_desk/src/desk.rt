@@ -140,7 +140,7 @@ impl<A: Allocator + Copy> Desk<A> {
     /// calls that share the row of its call. Memory is asked for, for a copy of the book, lists as long as the history, and,
     /// twice, 1,280 rows of places.
     pub fn audit(&self) -> Result<Audit, AllocError>
-        ensures { IfOk result (IsAuditOf self.now) }
+        ensures audit { IfOk result (IsAuditOf self.now) }
     {
         let alloc = *self.history.allocator();
         audit_of(alloc, self.opening(), self.history.as_slice(), self.book())
