@@ -19,7 +19,7 @@ returns g c =
       attempts = (found.0, found.1, c.in_ok-walk.ensures.attempts ∙ ap settling_count steps ∙ found.2);
       held = λ us are. first ∙ ap first_place (held_same opening history book sound legal us are);
       same = λ us are.
-        subst (λ ss. IsTrue c.in_ok-same.same ↔ LeadsAlike opening ss book) (rest ∙ remaining_same opening history book sound legal us are) c.in_ok-same.ensures;
+          subst (λ ss. IsTrue c.in_ok-same.same ↔ LeadsAlike opening ss book) (rest ∙ remaining_same opening history book sound legal us are) c.in_ok-same.ensures;
       no_trace = λ none.
-        c.in_ok-same.ensures.1 (subst (λ ss. LeadsAlike opening ss book) (sym rest) (no_trace opening history book sound legal (sym first ∙ none)));
+          c.in_ok-same.ensures.1 (subst (λ ss. LeadsAlike opening ss book) (sym rest) (no_trace opening history book sound legal (sym first ∙ none)));
     }
