@@ -14,7 +14,7 @@ use Rattle.radio_book.specs.declared.event.Reply.{Reply}
 use Rattle.radio_book.specs.Kinds.{is_accepted}
 use Rattle.radio_desk.specs.declared.desk.DeskFault.{DeskFault}
 use Rattle.radio_desk.specs.declared.desk.DeskFault.TheVariants.{Foreign, NoMemory}
-use Rattle.ho_procedure.specs.Claims.{Entry, Claim, NoneFree, Chosen, UnknownReceipt, MayBeRefused, IsForeign, IsNoMemory}
+use Rattle.ho_procedure.specs.Claims.{Entry, Claim, NoneFree, Chosen, UnknownReceipt, MayBeRefused, TakeMayBeRefused, IsForeign, IsNoMemory}
 use Rattle.ho_procedure.specs.Sent.{Sent}
 use Rattle.ho_procedure.specs.Plan.{Room, Plan, Ends, Readies, Asks, Takes, Reserves, Sends, Notes, Ranks, Step, Readied, Asked, Chose, FoundNone, Posted, Noted, Ranked, AreCandidates, Moves, Leads, AsksDesk, TakesMemory, MayLack, Until, At, AtMemory, AtDesk, LeadsUntil, entries_in, entries_of, messages_in, messages_of, ChoiceIn, ChoicesAt, call_dropped, dropped_if, reports_by, reports_after}
 use Rattle.ho_procedure.specs.declared.work.Work.{Work}
@@ -60,8 +60,8 @@ pub lack-said : (says says' : Claim → Type 0) (p : Plan) → ((claim : Claim) 
 lack-said says says' Ends k f = f
 lack-said says says' (Readies room next) k f = tt
 lack-said says says' (Asks e next) k f = k (MayBeRefused e) f
-lack-said says says' (Takes c kind cell rate none next) k f = tt
-lack-said says says' (Reserves c next) k f = tt
+lack-said says says' (Takes c kind cell rate none next) k f = k (TakeMayBeRefused cell rate) f
+lack-said says says' (Reserves c next) k f = λ n. k (MayBeRefused (Reserve c n)) (f n)
 lack-said says says' (Sends m next) k f = f
 lack-said says says' (Notes c reports next) k f = f
 lack-said says says' (Ranks site reports serving next) k f = f
@@ -127,15 +127,15 @@ unasked log says w w' f e next l o n i k h m = waits log says w w' f (Asks e nex
 pub untaken : {D A : Type 0} (log : D → List Entry) (says : D → List Entry → Claim → Type 0) (w w' : Work D A) (f : DeskFault) (c : ℕ) (kind : Kind) (cell : ℕ) (rate : Rate) (none : Plan) (next : ChanId → Reply → Plan)
     → log w'.view ≡ log w.view → w'.owed.items ≡ w.owed.items → ((call : ℕ) → last_reports w'.windows call ≡ last_reports w.windows call) → w'.windows.width ≡ w.windows.width
     → ((es : List Entry) → (claim : Claim) → says w'.view es claim → says w.view es claim) → ((place : ℕ) → IsForeign f place → says w.view (log w.view) (UnknownReceipt place))
-    → Goes log says w (Takes c kind cell rate none next) w' (stops_at f)
-untaken log says w w' f c kind cell rate none next l o n i k h = waits log says w w' f (Takes c kind cell rate none next) l o n i k h (λ is. tt) tt
+    → (IsNoMemory f → says w.view (log w.view) (TakeMayBeRefused cell rate)) → Goes log says w (Takes c kind cell rate none next) w' (stops_at f)
+untaken log says w w' f c kind cell rate none next l o n i k h m = waits log says w w' f (Takes c kind cell rate none next) l o n i k h m tt
 
 -- and a reference reserved
 pub unreserved : {D A : Type 0} (log : D → List Entry) (says : D → List Entry → Claim → Type 0) (w w' : Work D A) (f : DeskFault) (c : ℕ) (next : ℕ → Reply → Plan)
     → log w'.view ≡ log w.view → w'.owed.items ≡ w.owed.items → ((call : ℕ) → last_reports w'.windows call ≡ last_reports w.windows call) → w'.windows.width ≡ w.windows.width
     → ((es : List Entry) → (claim : Claim) → says w'.view es claim → says w.view es claim) → ((place : ℕ) → IsForeign f place → says w.view (log w.view) (UnknownReceipt place))
-    → Goes log says w (Reserves c next) w' (stops_at f)
-unreserved log says w w' f c next l o n i k h = waits log says w w' f (Reserves c next) l o n i k h (λ is. tt) tt
+    → (IsNoMemory f → (number : ℕ) → says w.view (log w.view) (MayBeRefused (Reserve c number))) → Goes log says w (Reserves c next) w' (stops_at f)
+unreserved log says w w' f c next l o n i k h m = waits log says w w' f (Reserves c next) l o n i k h m tt
 
 -- nothing is done where memory is refused for a step that needs no desk
 lacks : {D A : Type 0} (log : D → List Entry) (says : D → List Entry → Claim → Type 0) (w w' : Work D A) (f : DeskFault) (p : Plan)

@@ -1,5 +1,6 @@
 -- A desk with its only caller.
 use Rattle.std.proofs.Common.{◌≡◌, ◌≢◌, ◌↔◌, IsTrue, ℕ, List, [], ◌∷◌, ◌++◌, Option, Some, None, Result, Ok, Err, IfOk, IfErr, OnErr, IfSome, MatchOption, refl, sym, subst}
+use Rattle.std.proofs.lemmas.Bool.{false≢true}
 use Rattle.channel_fsm.specs.declared.ChanId.{ChanId}
 use Rattle.channel_fsm.specs.declared.Rate.{Rate}
 use Rattle.channel_fsm.specs.Slots.{rate_of}
@@ -18,7 +19,7 @@ use Rattle.radio_desk.specs.declared.desk.DeskFault.{DeskFault}
 use Rattle.radio_desk.specs.declared.desk.DeskFault.TheVariants.{Foreign, NoMemory}
 use Rattle.radio_desk.specs.Desk.{DeskState, IsJudged, IsSameDesk}
 use Rattle.radio_desk.specs.Desk as desk
-use Rattle.ho_procedure.specs.Claims.{Entry, Claim, NoneFree, Chosen, MayBeRefused, IsThere, IsTrueAfter, IsForeign, IsNoMemory}
+use Rattle.ho_procedure.specs.Claims.{Entry, Claim, NoneFree, Chosen, MayBeRefused, TakeMayBeRefused, IsThere, IsTrueAfter, IsForeign, IsNoMemory}
 
 -- a seat without a receipt isn't foreign
 pub not_foreign : {X : Type 0} (history : List Entry) (last : Option Receipt) (result : Result X DeskFault)
@@ -33,6 +34,22 @@ pub may_lack : {X : Type 0} (opening : State) (history : List Entry) (book : Sta
 may_lack opening history book e (Ok x) legal owes = tt
 may_lack opening history book e (Err NoMemory) legal owes = λ is. (book, legal, λ is_one accepted. owes is_one accepted refl)
 may_lack opening history book e (Err (Foreign place)) legal owes = λ is. absurd is
+
+-- to take a channel only where some is free
+pub may_lack_taking : (opening : State) (history : List Entry) (book : State) (last : Option Receipt) (cell : ℕ) (rate : Rate) (result : Result (Option Receipt) DeskFault)
+    → last ≡ None → Leads opening history book → (desk.HoldsLast history last → free.NoneFreeAt book cell rate → result ≡ Ok None)
+    → IfErr result (λ f. IsNoMemory f → IsTrueAfter opening history (TakeMayBeRefused cell rate))
+may_lack_taking opening history book last cell rate (Ok x) new legal looked = tt
+may_lack_taking opening history book last cell rate (Err NoMemory) new legal looked =
+    λ is. (book, legal, λ none. let e : Err NoMemory ≡ Ok None = looked (subst (desk.HoldsLast history) (sym new) tt) none in (cc))
+may_lack_taking opening history book last cell rate (Err (Foreign place)) new legal looked = λ is. absurd is
+
+-- and for no Reserve is room kept
+pub may_lack_reserving : {X : Type 0} (opening : State) (history : List Entry) (book : State) (c : ℕ) (result : Result X DeskFault)
+    → Leads opening history book → IfErr result (λ f. IsNoMemory f → (n : ℕ) → IsTrueAfter opening history (MayBeRefused (Reserve c n)))
+may_lack_reserving opening history book c (Ok x) legal = tt
+may_lack_reserving opening history book c (Err NoMemory) legal = λ is n. (book, legal, λ is_one accepted. false≢true is_one)
+may_lack_reserving opening history book c (Err (Foreign place)) legal = λ is. absurd is
 
 -- what is true of a desk was true before, as long as it opens with the same book
 pub still_true : (opening opening' : State) → opening' ≡ opening → (log : List Entry) → (claim : Claim) → IsTrueAfter opening' log claim → IsTrueAfter opening log claim

@@ -1,6 +1,6 @@
 -- What a view says of the book that it asks: what it may choose there, a channel of a cell that is free at a rate
 -- (TS 48.058 clause 4) or a free Handover Reference (TS 44.018 clause 10.5.2.15), which book it began with, that the desk
--- doesn't know the view's last receipt, and for which events it may be refused memory.
+-- doesn't know the view's last receipt, and for which events, and where a channel is taken, it may be refused memory.
 use Rattle.std.specs.Prelude.{◌≡◌, ℕ, IsTrue, List}
 use Rattle.channel_fsm.specs.declared.Rate.{Rate}
 use Rattle.radio_book.specs.declared.event.Event.{Event}
@@ -21,14 +21,15 @@ abbrev pub Entry : Type 0
 Entry = Event × Reply
 
 -- No channel of a cell is free at this rate; this Take or Reserve chooses what is; the book began as this one; the desk
--- doesn't know the view's last receipt, which is of this place (counted from 0); or memory may be refused where this event
--- is asked.
+-- doesn't know the view's last receipt, which is of this place (counted from 0); memory may be refused where this event is
+-- asked; or it may where a channel of this cell is taken at this rate.
 pub data Claim : Type 0 where
   NoneFree : ℕ → Rate → Claim
   Chosen : Event → Claim
   Opening : State → Claim
   UnknownReceipt : ℕ → Claim
   MayBeRefused : Event → Claim
+  TakeMayBeRefused : ℕ → Rate → Claim
 
 -- the book has what is chosen: the channel is free, or the number is in the cell of the taken channel
 abbrev pub IsThere : State → Event → Type 0
@@ -55,13 +56,14 @@ abbrev pub MayLackRoom : State → Event → Type 0
 MayLackRoom b e = IsTrue (is_owed e) → IsTrue (is_accepted (reply_to b e)) → ⊥
 
 -- A claim is true of the book that the entries lead to, or of the opening one, from which they lead. Where nobody else asks
--- the desk, it knows each receipt.
+-- the desk, it knows each receipt. No memory is needed to find that no channel is free.
 abbrev pub IsTrueAfter : State → List Entry → Claim → Type 0
 IsTrueAfter opening log (NoneFree cell rate) = (b : State) × Leads opening log b × free.NoneFreeAt b cell rate
 IsTrueAfter opening log (Chosen e) = (b : State) × Leads opening log b × IsThere b e
 IsTrueAfter opening log (Opening book) = book ≡ opening
 IsTrueAfter opening log (UnknownReceipt place) = ⊥
 IsTrueAfter opening log (MayBeRefused e) = (b : State) × Leads opening log b × MayLackRoom b e
+IsTrueAfter opening log (TakeMayBeRefused cell rate) = (b : State) × Leads opening log b × (free.NoneFreeAt b cell rate → ⊥)
 
 -- the fault is refused memory
 abbrev pub IsNoMemory : DeskFault → Type 0

@@ -13,7 +13,7 @@ use Rattle.radio_book.specs.declared.event.Event.{Event}
 use Rattle.radio_book.specs.declared.event.Event.TheVariants.{Open, Clear, Look, Take, Reserve, Activate, Command, Complete, Undo, Confirm, Refuse, Detect, Released, Owner, Require, Order, Left}
 use Rattle.radio_book.specs.declared.event.Reply.{Reply}
 use Rattle.radio_book.specs.Kinds.{is_accepted}
-use Rattle.ho_procedure.specs.Claims.{Entry, Claim, NoneFree, Chosen, MayBeRefused}
+use Rattle.ho_procedure.specs.Claims.{Entry, Claim, NoneFree, Chosen, MayBeRefused, TakeMayBeRefused}
 use Rattle.ho_procedure.specs.Sent.{Sent}
 
 -- What there is to be room for before a row goes on: for so many messages; for one in which so many octets are passed on
@@ -96,13 +96,13 @@ TakesMemory (Sends m next) = ⊥
 TakesMemory (Notes c reports next) = ⊥
 TakesMemory (Ranks site reports serving next) = SomeCandidate (record { reports = reports; width = site.handover.window }) site serving
 
--- The same by what a view says: of an event it says so itself.
+-- The same by what a view says: of each step that asks it, it says so itself.
 abbrev pub MayLack : (Claim → Type 0) → Plan → Type 0
 MayLack says Ends = ⊥
 MayLack says (Readies room next) = Unit {0}
 MayLack says (Asks e next) = says (MayBeRefused e)
-MayLack says (Takes c k cell rate none next) = Unit {0}
-MayLack says (Reserves c next) = Unit {0}
+MayLack says (Takes c k cell rate none next) = says (TakeMayBeRefused cell rate)
+MayLack says (Reserves c next) = (n : ℕ) → says (MayBeRefused (Reserve c n))
 MayLack says (Sends m next) = ⊥
 MayLack says (Notes c reports next) = ⊥
 MayLack says (Ranks site reports serving next) = SomeCandidate (record { reports = reports; width = site.handover.window }) site serving

@@ -87,9 +87,9 @@ impl<D: DeskView + Drop, A: Allocator + Copy> Controller<D, A> {
     ///   view and reports are as they were. All octets that can't be read are answered so, unless memory is refused for
     ///   the octets that their message keeps; then too nothing was asked.
     /// - `NoMemory`: memory was refused. The row was followed up to a step that takes memory: to one that makes room for its
-    ///   messages, or for reports, before its first event that changes the book; to an event for which the view says that
-    ///   memory may be refused; to one that takes a channel or reserves a reference; or to candidates, where there is some.
-    ///   Or nothing was asked, and the input is a message that keeps its octets.
+    ///   messages, or for reports, before its first event that changes the book; to one that asks the view, which says that
+    ///   memory may be refused there; or to candidates, where there is some. Or nothing was asked, and the input is a message
+    ///   that keeps its octets.
     /// - `Desk`: the view answered that its desk doesn't know the view's last receipt, of this place. The row was followed
     ///   up to the step that the view was asked for.
     ///

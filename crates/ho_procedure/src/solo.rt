@@ -7,7 +7,7 @@ ghost use Rattle.radio_book.specs.Choice.{TakesFree};
 ghost use Rattle.radio_book.specs.Choice as free;
 ghost use Rattle.radio_book.specs.Table.{row, NeedsRoom};
 ghost use Rattle.radio_desk.specs.Desk.{IsJudged, LacksRoom};
-ghost use Rattle.ho_procedure.specs.Claims.{Entry, Claim, NoneFree, Chosen, UnknownReceipt, MayBeRefused, IsForeign, IsNoMemory, IsTrueAfter};
+ghost use Rattle.ho_procedure.specs.Claims.{Entry, Claim, NoneFree, Chosen, UnknownReceipt, MayBeRefused, TakeMayBeRefused, IsForeign, IsNoMemory, IsTrueAfter};
 
 use crate::view::DeskView;
 use channel_fsm::Rate;
@@ -21,7 +21,8 @@ use std::marker::Model;
 ///
 /// It says that no channel of a cell is free only where the desk's book has none, chooses what is free there, and its
 /// desk never finds it foreign: it asks each time from a new seat, since a desk that nobody else asks has no receipt to
-/// compare. Nor does it say that memory may be refused for an `Undo` or a `Released` that is accepted.
+/// compare. Nor does it say that memory may be refused for an `Undo` or a `Released` that is accepted, or to take a channel
+/// where none is free.
 #[derive(Drop)]
 pub struct Solo<A: Allocator = Global> {
     desk: Desk<A>,
@@ -100,6 +101,8 @@ impl<A: Allocator + Copy> DeskView for Solo<A> {
         ensures err { OnErr result (self.new.history ≡ self.old.history) }
         ensures foreign { IfErr result (λ f. (place : ℕ) → IsForeign f place →
             IsTrueAfter self.old.opening self.old.history (UnknownReceipt place)) }
+        ensures memory { IfErr result (λ f. IsNoMemory f →
+            IsTrueAfter self.old.opening self.old.history (TakeMayBeRefused cell rate)) }
         ensures looked { free.NoneFreeAt self.old.book cell rate → result ≡ Ok None }
         ensures refused { result ≡ Err DeskFault.NoMemory → LacksRoom self.old ⊎
             ((e : Event) × TakesFree self.old.book call kind cell rate e ×
@@ -120,6 +123,8 @@ impl<A: Allocator + Copy> DeskView for Solo<A> {
         ensures err { OnErr result (self.new.history ≡ self.old.history) }
         ensures foreign { IfErr result (λ f. (place : ℕ) → IsForeign f place →
             IsTrueAfter self.old.opening self.old.history (UnknownReceipt place)) }
+        ensures memory { IfErr result (λ f. IsNoMemory f → (n : ℕ) →
+            IsTrueAfter self.old.opening self.old.history (MayBeRefused (Event.Reserve call n))) }
         ensures refused { result ≡ Err DeskFault.NoMemory → LacksRoom self.old }
         ensures said { (es : List Entry) → (claim : Claim) →
             IsTrueAfter self.new.opening es claim → IsTrueAfter self.old.opening es claim }

@@ -3,7 +3,7 @@ ghost use Rattle.std.specs.Prelude.{◌≡◌, ◌∷◌, ◌++◌, [], ℕ, Lis
 ghost use Rattle.channel_fsm.specs.declared.ChanId.{ChanId};
 ghost use Rattle.channel_fsm.specs.Slots.{rate_of};
 ghost use Rattle.radio_desk.specs.declared.seat.Receipt.{Receipt};
-ghost use Rattle.ho_procedure.specs.Claims.{Entry, Claim, NoneFree, Chosen, UnknownReceipt, MayBeRefused, IsForeign, IsNoMemory};
+ghost use Rattle.ho_procedure.specs.Claims.{Entry, Claim, NoneFree, Chosen, UnknownReceipt, MayBeRefused, TakeMayBeRefused, IsForeign, IsNoMemory};
 
 use channel_fsm::Rate;
 use radio_book::event::{Event, Kind};
@@ -16,8 +16,8 @@ use radio_desk::seat::Receipt;
 /// An answered event joins the log with its reply. After a fault, and where no channel is free, the log is as it was. What
 /// it says after a call it would have said before: so it says of one book that it began with. `Foreign` it answers only
 /// where it says that the desk doesn't know the view's last receipt, of the place that it answers; a view that never says
-/// so is never foreign. An event that is asked as it stands is answered `NoMemory` only where the view says that memory may
-/// be refused for it.
+/// so is never foreign. `NoMemory` it answers only where it says that memory may be refused: for the event; for a Reserve of
+/// the call, whatever the number; or where a channel of the cell is taken at the rate.
 pub trait DeskView {
     ghost log: { Self → List Entry };
 
@@ -62,6 +62,8 @@ pub trait DeskView {
         ensures err { OnErr result (log self.new ≡ log self.old) }
         ensures foreign { IfErr result (λ f. (place : ℕ) → IsForeign f place →
             says self.old (log self.old) (UnknownReceipt place)) }
+        ensures memory { IfErr result (λ f. IsNoMemory f →
+            says self.old (log self.old) (TakeMayBeRefused cell rate)) }
         ensures said { (es : List Entry) → (claim : Claim) →
             says self.new es claim → says self.old es claim };
 
@@ -75,6 +77,8 @@ pub trait DeskView {
         ensures err { OnErr result (log self.new ≡ log self.old) }
         ensures foreign { IfErr result (λ f. (place : ℕ) → IsForeign f place →
             says self.old (log self.old) (UnknownReceipt place)) }
+        ensures memory { IfErr result (λ f. IsNoMemory f →
+            (n : ℕ) → says self.old (log self.old) (MayBeRefused (Event.Reserve call n))) }
         ensures said { (es : List Entry) → (claim : Claim) →
             says self.new es claim → says self.old es claim };
 }

@@ -8,6 +8,7 @@ use Rattle.trace_text.specs.declared.trace.Step.TheVariants.{Asked, NoneFree}
 use Rattle.ho_procedure.specs.declared.exchange.Inbound.{Inbound}
 use Rattle.ho_procedure.specs.declared.exchange.Link.{Link}
 use Rattle.ho_procedure.specs.Claims.{Entry, Claim, IsTrueAfter}
+use Rattle.ho_procedure.specs.Claims as claim
 use Rattle.ho_procedure.specs.Windows.{Kept}
 use Rattle.ho_procedure.specs.Going.{last_reports}
 use Rattle.ho_procedure.specs.Sent.{all_sent}
@@ -40,8 +41,14 @@ asked_in steps = filter_map entry_of steps
 abbrev pub history_of : NotingState → List Entry
 history_of view = view.desk.history
 
+-- what is true of the desk's book; and that memory may be refused wherever a channel is taken, for a note
 abbrev pub says : NotingState → List Entry → Claim → Type 0
-says view log claim = IsTrueAfter view.desk.opening log claim
+says view log (claim.NoneFree cell rate) = IsTrueAfter view.desk.opening log (claim.NoneFree cell rate)
+says view log (claim.Chosen e) = IsTrueAfter view.desk.opening log (claim.Chosen e)
+says view log (claim.Opening book) = IsTrueAfter view.desk.opening log (claim.Opening book)
+says view log (claim.UnknownReceipt place) = IsTrueAfter view.desk.opening log (claim.UnknownReceipt place)
+says view log (claim.MayBeRefused e) = IsTrueAfter view.desk.opening log (claim.MayBeRefused e)
+says view log (claim.TakeMayBeRefused cell rate) = Unit {0}
 
 -- A controller answers an input so: it follows the input's row, and sends these messages; or the input has this fault, and
 -- nothing changes.

@@ -3,7 +3,7 @@ ghost use Rattle.std.specs.Prelude.{◌≡◌, ◌∷◌, ◌++◌, [], ℕ, Lis
 ghost use Rattle.channel_fsm.specs.declared.ChanId.{ChanId};
 ghost use Rattle.channel_fsm.specs.Slots.{rate_of};
 ghost use Rattle.radio_desk.specs.Desk.{IsJudged};
-ghost use Rattle.ho_procedure.specs.Claims.{Entry, Claim, IsForeign, NoneFree, Chosen, UnknownReceipt};
+ghost use Rattle.ho_procedure.specs.Claims.{Entry, Claim, IsForeign, IsNoMemory, NoneFree, Chosen, UnknownReceipt, TakeMayBeRefused};
 ghost use Rattle.lab_runs.specs.Notes.{IsTrueNote, notes_after};
 ghost use Rattle.lab_runs.specs.Turns.{history_of, says};
 
@@ -26,7 +26,7 @@ pub struct Note {
 }
 
 /// A desk of one's own, and a note of each time that no channel of a cell was free, in their order. Contracts see the desk and
-/// the notes.
+/// the notes. Room for a note is made first: so memory may be refused wherever a channel is taken.
 #[derive(Drop)]
 pub struct Noting<A: Allocator = Global> {
     solo: Solo<A>,
@@ -114,6 +114,8 @@ impl<A: Allocator + Copy> DeskView for Noting<A> {
         ensures err { OnErr result (history_of self.new ≡ history_of self.old) }
         ensures foreign { IfErr result (λ f. (place : ℕ) → IsForeign f place →
             says self.old (history_of self.old) (UnknownReceipt place)) }
+        ensures memory { IfErr result (λ f. IsNoMemory f →
+            says self.old (history_of self.old) (TakeMayBeRefused cell rate)) }
         ensures said { (es : List Entry) → (claim : Claim) →
             says self.new es claim → says self.old es claim }
     {

@@ -1,7 +1,7 @@
 -- What was said of a desk before a call.
 use Rattle.std.proofs.Common.{List}
 use Rattle.radio_book.specs.State.{State}
-use Rattle.ho_procedure.specs.Claims.{Entry, Claim, NoneFree, Chosen, Opening, UnknownReceipt, MayBeRefused, IsTrueAfter}
+use Rattle.ho_procedure.specs.Claims.{Entry, Claim, NoneFree, Chosen, Opening, UnknownReceipt, MayBeRefused, TakeMayBeRefused, IsTrueAfter}
 use Rattle.procedure_tests.specs.Leaving.{IsSaidAfter}
 
 -- what isn't said of the receipt is said where it is true
@@ -12,3 +12,4 @@ still_said opening opening' said log (Chosen e) holds = said log (Chosen e) hold
 still_said opening opening' said log (Opening book) holds = said log (Opening book) holds
 still_said opening opening' said log (UnknownReceipt place) holds = tt
 still_said opening opening' said log (MayBeRefused e) holds = said log (MayBeRefused e) holds
+still_said opening opening' said log (TakeMayBeRefused cell rate) holds = said log (TakeMayBeRefused cell rate) holds

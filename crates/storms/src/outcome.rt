@@ -74,6 +74,10 @@ impl From<AllocError> for StormFault {
 }
 
 impl From<StartFault> for StormFault {
+    ghost use Rattle.storms.specs.Endings.{of_start};
+
+    ghost from_gives = { λ fault storm. storm ≡ of_start fault };
+
     fn from(fault: StartFault) -> StormFault {
         match fault {
             StartFault::Thread => StormFault::Office(OfficeFault::Thread),
@@ -83,6 +87,10 @@ impl From<StartFault> for StormFault {
 }
 
 impl From<GiveFault> for StormFault {
+    ghost use Rattle.storms.specs.Endings.{of_give};
+
+    ghost from_gives = { λ fault storm. storm ≡ of_give fault };
+
     fn from(fault: GiveFault) -> StormFault {
         match fault {
             GiveFault::Undecoded(fault) => StormFault::Office(OfficeFault::Undecoded(fault)),
@@ -93,6 +101,10 @@ impl From<GiveFault> for StormFault {
 }
 
 impl From<CloseFault> for StormFault {
+    ghost use Rattle.storms.specs.Endings.{of_close};
+
+    ghost from_gives = { λ fault storm. storm ≡ of_close fault };
+
     fn from(fault: CloseFault) -> StormFault {
         match fault {
             CloseFault::Missing(_)

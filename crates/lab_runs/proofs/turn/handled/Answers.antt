@@ -1,15 +1,15 @@
 use Rattle.std.proofs.Common.{refl}
-use Rattle.lab_runs.proofs.NoteFacts.{opens_as_before}
+use Rattle.lab_runs.proofs.NoteFacts.{view_opens_as_before}
 use Rattle.lab_runs.proofs.turn.handled.Goals as goal
 
 pub returns-in-Ok-clause-opening : goal.returns-in-Ok-clause-opening
-returns-in-Ok-clause-opening g c = opens_as_before c.args.controller.now.0.desk c.handle.new.self.0.desk c.handle.ensures.said
+returns-in-Ok-clause-opening g c = view_opens_as_before c.args.controller.now.0 c.handle.new.self.0 c.handle.ensures.said
 
 pub returns-in-Err-Undecoded-clause-opening : goal.returns-in-Err-Undecoded-clause-opening
-returns-in-Err-Undecoded-clause-opening g c = opens_as_before c.args.controller.now.0.desk c.handle.new.self.0.desk c.handle.ensures.said
+returns-in-Err-Undecoded-clause-opening g c = view_opens_as_before c.args.controller.now.0 c.handle.new.self.0 c.handle.ensures.said
 
 pub returns-in-Err-NoMemory-clause-opening : goal.returns-in-Err-NoMemory-clause-opening
-returns-in-Err-NoMemory-clause-opening g c = opens_as_before c.args.controller.now.0.desk c.handle.new.self.0.desk c.handle.ensures.said
+returns-in-Err-NoMemory-clause-opening g c = view_opens_as_before c.args.controller.now.0 c.handle.new.self.0 c.handle.ensures.said
 
 -- such a view never says of any place that its receipt isn't known
 pub unreachable-requires : goal.unreachable-requires

@@ -1,4 +1,4 @@
-use Rattle.ho_procedure.proofs.Seated.{not_foreign, still_true, take_opens, take_chooses}
+use Rattle.ho_procedure.proofs.Seated.{not_foreign, may_lack_taking, still_true, take_opens, take_chooses}
 use Rattle.ho_procedure.proofs.solo.SoloDeskView.judge_take.Goals as goal
 
 pub returns-clause-ok : goal.returns-clause-ok
@@ -6,6 +6,9 @@ returns-clause-ok g c = rw (← c.self.view_is) (take_chooses _ _ _ _ _ _ _ _ c.
 
 pub returns-clause-foreign : goal.returns-clause-foreign
 returns-clause-foreign g c = not_foreign _ _ _ c.new.ensures.none c.judge_take.ensures.foreign
+
+pub returns-clause-memory : goal.returns-clause-memory
+returns-clause-memory g c = rw (← c.self.view_is) (may_lack_taking _ _ _ _ _ _ _ c.new.ensures.none c.len-entries.ensures.legal c.judge_take.ensures.looked)
 
 pub returns-clause-said : goal.returns-clause-said
 returns-clause-said g c = rw (← c.self.view_is) (still_true _ _ (take_opens _ _ _ _ _ c.judge_take.ensures.judged c.judge_take.ensures.kept c.judge_take.ensures.unchanged))

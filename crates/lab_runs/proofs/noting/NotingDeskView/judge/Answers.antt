@@ -1,5 +1,5 @@
 use Rattle.std.proofs.Common.{[], ◌∷◌}
-use Rattle.lab_runs.proofs.NoteFacts.{true_after}
+use Rattle.lab_runs.proofs.NoteFacts.{true_after, still_says}
 use Rattle.lab_runs.proofs.noting.NotingDeskView.judge.Goals as goal
 
 pub invariant_of-self : goal.invariant_of-self
@@ -8,7 +8,7 @@ invariant_of-self g c =
     (λ x is. (rw is at c.judge.ensures.ok).1) c.judge.ensures.err c.self.invariant
 
 pub returns-clause-said : goal.returns-clause-said
-returns-clause-said g c = rw (← c.self.view_is) c.judge.ensures.said
+returns-clause-said g c = rw (← c.self.view_is) (still_says _ _ c.judge.ensures.said)
 
 pub returns-clause-memory : goal.returns-clause-memory
 returns-clause-memory g c = rw (← c.self.view_is) c.judge.ensures.memory

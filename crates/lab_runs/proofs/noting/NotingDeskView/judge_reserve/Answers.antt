@@ -1,5 +1,5 @@
 use Rattle.std.proofs.Common.{[], ◌∷◌}
-use Rattle.lab_runs.proofs.NoteFacts.{true_after}
+use Rattle.lab_runs.proofs.NoteFacts.{true_after, still_says}
 use Rattle.lab_runs.proofs.noting.NotingDeskView.judge_reserve.Goals as goal
 
 pub invariant_of-self : goal.invariant_of-self
@@ -11,4 +11,7 @@ pub returns-clause-ok : goal.returns-clause-ok
 returns-clause-ok g c = rw (← c.self.view_is) c.judge_reserve.ensures.ok
 
 pub returns-clause-said : goal.returns-clause-said
-returns-clause-said g c = rw (← c.self.view_is) c.judge_reserve.ensures.said
+returns-clause-said g c = rw (← c.self.view_is) (still_says _ _ c.judge_reserve.ensures.said)
+
+pub returns-clause-memory : goal.returns-clause-memory
+returns-clause-memory g c = rw (← c.self.view_is) c.judge_reserve.ensures.memory

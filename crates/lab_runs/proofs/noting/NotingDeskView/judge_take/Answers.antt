@@ -2,7 +2,7 @@ use Rattle.std.proofs.Common.{◌≡◌, ◌++◌, ◌∷◌, [], length, ap, �
 use Rattle.std.proofs.lemmas.List.Elements.{All-same}
 use Rattle.radio_desk.specs.Desk.{DeskState}
 use Rattle.lab_runs.specs.Notes.{IsTrueNote}
-use Rattle.lab_runs.proofs.NoteFacts.{stay_true, still_true, one_more_true}
+use Rattle.lab_runs.proofs.NoteFacts.{stay_true, still_true, one_more_true, still_says}
 use Rattle.lab_runs.proofs.noting.NotingDeskView.judge_take.Goals as goal
 
 pub invariant_of-self-in_err-receipt : goal.invariant_of-self-in_err-receipt
@@ -24,19 +24,19 @@ invariant_of-self-in-None g c =
     (one_more_true c.self.inside.solo c.judge_take.new.self c.self.inside.notes.items _ c.judge_take.ensures.said none.0 place none.1 c.self.invariant)
 
 pub returns-in_err-reserve-clause-said : goal.returns-in_err-reserve-clause-said
-returns-in_err-reserve-clause-said g c = rw (← c.self.view_is) (λ es choice allows. allows)
+returns-in_err-reserve-clause-said g c = rw (← c.self.view_is) (still_says _ _ (λ es claim holds. holds))
 
 pub returns-in_err-receipt-clause-said : goal.returns-in_err-receipt-clause-said
-returns-in_err-receipt-clause-said g c = rw (← c.self.view_is) c.judge_take.ensures.said
+returns-in_err-receipt-clause-said g c = rw (← c.self.view_is) (still_says _ _ c.judge_take.ensures.said)
 
 pub returns-in-Some-clause-ok : goal.returns-in-Some-clause-ok
 returns-in-Some-clause-ok g c = rw (← c.self.view_is) (rw c.in-Some.is at c.in_ok-receipt.ensures.ok)
 
 pub returns-in-Some-clause-said : goal.returns-in-Some-clause-said
-returns-in-Some-clause-said g c = rw (← c.self.view_is) c.judge_take.ensures.said
+returns-in-Some-clause-said g c = rw (← c.self.view_is) (still_says _ _ c.judge_take.ensures.said)
 
 pub returns-in-None-clause-ok : goal.returns-in-None-clause-ok
 returns-in-None-clause-ok g c = rw (← c.self.view_is) (rw c.in-None.is at c.in_ok-receipt.ensures.ok)
 
 pub returns-in-None-clause-said : goal.returns-in-None-clause-said
-returns-in-None-clause-said g c = rw (← c.self.view_is) c.judge_take.ensures.said
+returns-in-None-clause-said g c = rw (← c.self.view_is) (still_says _ _ c.judge_take.ensures.said)

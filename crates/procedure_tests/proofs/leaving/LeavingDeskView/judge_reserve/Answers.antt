@@ -9,3 +9,6 @@ returns-clause-ok g c = rw (← c.self.view_is) c.judge_reserve.ensures.ok
 
 pub returns-clause-said : goal.returns-clause-said
 returns-clause-said g c = rw (← c.self.view_is) (still_said _ _ c.judge_reserve.ensures.said)
+
+pub returns-clause-memory : goal.returns-clause-memory
+returns-clause-memory g c = rw (← c.self.view_is) c.judge_reserve.ensures.memory
