@@ -4,7 +4,7 @@ use Rattle.std.specs.List.{find, slice_split, onto_first, position_or_len, befor
 use Rattle.std.proofs.lemmas.List.Splits.{slice_split-cons_no, slice_split_first}
 use Rattle.std.proofs.lemmas.Bool.{cases_Bool}
 use Rattle.std.proofs.lemmas.Bool.Decides.{Decides-ltb}
-use Rattle.encoded_messages.specs.Words.{cut_at, is_known, first_unknown}
+use Rattle.encoded_messages.specs.Words.{cut_at}
 
 -- how a text is cut at the first of its bytes that is such
 abbrev pub Cut : (ℕ → Bool) → List ℕ → Option (Bor (List ℕ) × Bor (List ℕ)) → Type 0
@@ -44,11 +44,3 @@ cut_first mark text None h =
 cut_first mark text (Some x) h =
     let within : nat_lt (position_or_len (λ b. b == mark) text) (length text) ≡ true = (Decides-ltb (position_or_len (λ b. b == mark) text) (length text)).1 h.0 in
     rw (within, h.1, h.2) refl
-
--- the first word that isn't known, found by the test
-pub find_unknown : (keys : List ℕ) (words : List (List ℕ)) → find (λ word. not (is_known keys word)) words ≡ first_unknown keys words
-find_unknown keys [] = refl
-find_unknown keys (word ∷ words) = elim (cases_Bool (is_known keys word)) [
-  | inl e ↦ ap (λ b. if not b then Some word else find (λ w. not (is_known keys w)) words) e ∙ find_unknown keys words ∙ ap (λ b. if b then first_unknown keys words else Some word) (sym e)
-  | inr e ↦ ap (λ b. if not b then Some word else find (λ w. not (is_known keys w)) words) e ∙ ap (λ b. if b then first_unknown keys words else Some word) (sym e)
-]

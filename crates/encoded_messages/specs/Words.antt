@@ -1,6 +1,6 @@
 -- The words of a text, and the fields among them. A text is the list of its bytes. Ours, of no standard.
-use Rattle.std.specs.Prelude.{◌≡◌, ℕ, ◌==◌, ◌&&◌, Bool, not, false, nat_lt, if◌then◌else◌, List, [], ◌∷◌, length, Option, Some, None, bytes_eq}
-use Rattle.std.specs.List.{slice_split, list_any, before_first, after_first, position_or_len}
+use Rattle.std.specs.Prelude.{◌≡◌, ℕ, ◌==◌, ◌&&◌, Bool, not, false, nat_lt, if◌then◌else◌, List, length, Option, Some, None, bytes_eq}
+use Rattle.std.specs.List.{slice_split, list_any, find, filter_map, before_first, after_first, position_or_len}
 
 -- the words of a text: one blank stands between any two
 abbrev pub words_of : List ℕ → List (List ℕ)
@@ -33,15 +33,9 @@ value_at key (Some (found, value)) = if bytes_eq found key then Some value else 
 abbrev pub value_in : List ℕ → List ℕ → Option (List ℕ)
 value_in key word = value_at key (field_of word)
 
--- with a value before others, where there is one
-abbrev pub with_first : Option (List ℕ) → List (List ℕ) → List (List ℕ)
-with_first None values = values
-with_first (Some value) values = value ∷ values
-
 -- the values of the fields with this key, in the order of their words
 abbrev pub values_of : List ℕ → List (List ℕ) → List (List ℕ)
-values_of key [] = []
-values_of key (word ∷ words) = with_first (value_in key word) (values_of key words)
+values_of key words = filter_map (value_in key) words
 
 -- the key of a field is one of these
 abbrev pub is_key : List ℕ → Option (List ℕ × List ℕ) → Bool
@@ -54,5 +48,4 @@ is_known keys word = is_key keys (field_of word)
 
 -- the first word that is no field with one of these keys
 abbrev pub first_unknown : List ℕ → List (List ℕ) → Option (List ℕ)
-first_unknown keys [] = None
-first_unknown keys (word ∷ words) = if is_known keys word then first_unknown keys words else Some word
+first_unknown keys words = find (λ word. not (is_known keys word)) words
