@@ -63,7 +63,7 @@ wasn't said, one that isn't UTF-8, one that is too long. One octet less is read.
   line 8
   end channels=0 calls=0 references=0 timers=0
   $ cat errors
-  standard input:1: 2: is for a second controller, and there is none (--peer SITE)
+  standard input:1: 2: is for a second controller, and live runs one alone
   standard input:2: mobile CELL TRX TN HABIT needs a line sim before it
   standard input:3: TN is 0 to 7, with /0 or /1 behind it for half rate, found 8
   standard input:4: isn't UTF-8 (octet 3)
@@ -86,7 +86,7 @@ Behind sim the lines that need it are read, and the others are as before.
   end channels=1 calls=1 references=0 timers=0
   $ cat errors
   standard input:4: TN is 0 to 7, with /0 or /1 behind it for half rate, found 9
-  standard input:5: 2: is for a second controller, and there is none (--peer SITE)
+  standard input:5: 2: is for a second controller, and live runs one alone
 
 Octets that are no message are a fault, as in a run.
 
