@@ -141,7 +141,7 @@ A capture that was made stays empty where the chart can't be made.
 A file that is to be made is known under two paths, and stays, empty.
 
   $ ./lab run examples/two_cells.toml kept.txt --pcap "$(printf 'opened\033')" --chart "$(printf './opened\033')" 2>errors
-  file ./opened\x1b (esc)
+  file ./opened\u{1b}
   [2]
   $ cat errors
   ./opened\u{1b}: named twice
@@ -159,7 +159,7 @@ Files that can't be made; files that are named twice, which is said before anyth
   $ cat errors
   no folder/a.svg: its folder isn't there, or takes no new file
   $ ./lab run /dev/null /dev/null --pcap "$(printf 'no\033/a')" 2>errors
-  file no\x1b/a (esc)
+  file no\u{1b}/a
   [2]
   $ cat errors
   no\u{1b}/a: its folder isn't there, or takes no new file
