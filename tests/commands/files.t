@@ -157,3 +157,21 @@ The same of other commands.
   [2]
   $ cat errors
   no site: no such file
+
+A path is printed as it is said: what would steer a terminal, or can't be seen, by escapes. So each `file` is one line.
+
+  $ ./lab run "$(printf 'no\nline 1\033[2J')" /dev/null 2>errors
+  file no\nline 1\u{1b}[2J
+  [2]
+  $ cat errors
+  no\nline 1\u{1b}[2J: no such file
+  $ ./lab decode --from "$(printf 'a\302\240b\t')" 2>errors
+  file a\u{a0}b\t
+  [2]
+  $ cat errors
+  a\u{a0}b\t: no such file
+  $ ./lab run a b --pcap "$(printf 'c\r')" --chart "$(printf 'c\r')" 2>errors
+  file c\r
+  [2]
+  $ cat errors
+  c\r: named twice

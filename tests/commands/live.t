@@ -63,7 +63,7 @@ wasn't said, one that isn't UTF-8, one that is too long. One octet less is read.
   line 8
   end channels=0 calls=0 references=0 timers=0
   $ cat errors
-  standard input:1: 2: is for a second controller, and there is none (--peer SITE)
+  standard input:1: 2: is for a second controller, and live runs one alone
   standard input:2: mobile CELL TRX TN HABIT needs a line sim before it
   standard input:3: TN is 0 to 7, with /0 or /1 behind it for half rate, found 8
   standard input:4: isn't UTF-8 (octet 3)
@@ -86,7 +86,7 @@ Behind sim the lines that need it are read, and the others are as before.
   end channels=1 calls=1 references=0 timers=0
   $ cat errors
   standard input:4: TN is 0 to 7, with /0 or /1 behind it for half rate, found 9
-  standard input:5: 2: is for a second controller, and there is none (--peer SITE)
+  standard input:5: 2: is for a second controller, and live runs one alone
 
 Octets that are no message are a fault, as in a run.
 
@@ -167,3 +167,35 @@ A capture that can't be opened or written, or that is the site, is named.
   $ ./lab live examples/two_cells.toml --chart x.svg 2>&1 >/dev/null
   *--chart* (glob)
   [2]
+
+A standard stream that is closed isn't replaced by the capture, which has packets of those lines alone whose trace could be
+written: of comments its header.
+
+  $ ./lab live examples/two_cells.toml --pcap closed.pcap <examples/one_call.txt >&- 2>errors
+  [2]
+  $ cut -d ' ' -f -2 errors
+  standard output:
+  $ wc -c <closed.pcap
+  24
+  $ echo 'open 1 0 0 3' | ./lab live examples/two_cells.toml --pcap closed.pcap >&- 2>errors
+  [2]
+  $ wc -c <closed.pcap
+  0
+  $ ./lab live examples/two_cells.toml --pcap closed.pcap <examples/handover_returns.txt 2>&- | cmp - examples/handover_returns.trace
+  $ cmp closed.pcap run.pcap
+  $ printf 'open 1 0 0 3\nfrob\n' | ./lab live examples/two_cells.toml --pcap closed.pcap 2>&-
+  in open 1 0 0 3
+  event open 1 0/0/3 -> done
+  out abis 0 0 0821010b0300060400010801
+  line 2
+  [2]
+  $ wc -c <closed.pcap
+  95
+  $ ./lab live examples/two_cells.toml --pcap closed.pcap <&- 2>errors
+  [2]
+  $ cut -d ' ' -f -2 errors
+  standard input:
+  $ ./lab live examples/two_cells.toml --pcap closed.pcap <&- >&- 2>&-
+  [2]
+  $ wc -c <closed.pcap
+  0

@@ -141,7 +141,7 @@ A capture that was made stays empty where the chart can't be made.
 A file that is to be made is known under two paths, and stays, empty.
 
   $ ./lab run examples/two_cells.toml kept.txt --pcap "$(printf 'opened\033')" --chart "$(printf './opened\033')" 2>errors
-  file ./opened\x1b (esc)
+  file ./opened\u{1b}
   [2]
   $ cat errors
   ./opened\u{1b}: named twice
@@ -159,7 +159,7 @@ Files that can't be made; files that are named twice, which is said before anyth
   $ cat errors
   no folder/a.svg: its folder isn't there, or takes no new file
   $ ./lab run /dev/null /dev/null --pcap "$(printf 'no\033/a')" 2>errors
-  file no\x1b/a (esc)
+  file no\u{1b}/a
   [2]
   $ cat errors
   no\u{1b}/a: its folder isn't there, or takes no new file
@@ -243,3 +243,33 @@ So is one behind a chart of over 8 KiB.
   $ sort printed | uniq -c | tr -s ' '
    1 end channels=0 calls=0 references=0 timers=0
    300 in handover 1 99
+
+A standard stream that is closed isn't replaced by a file that is opened. A trace of over 8 KiB is printed in parts, while
+the files are open. They have what came up to there, as where it can't be written for another reason.
+
+  $ ./lab run examples/two_cells.toml script.txt --pcap full.pcap --chart full.svg >/dev/full
+  standard output: no space left
+  [2]
+  $ ./lab run examples/two_cells.toml script.txt --pcap closed.pcap --chart closed.svg >&- 2>errors
+  [2]
+  $ cut -d ' ' -f -2 errors
+  standard output:
+  $ cmp full.pcap closed.pcap; cmp full.svg closed.svg
+  $ ./lab run examples/two_cells.toml script.txt --pcap closed.pcap --chart closed.svg 2>&- | cmp - printed
+  $ wc -c <closed.pcap
+  24
+  $ tail -n 1 closed.svg
+  </svg>
+  $ ./lab run examples/two_cells.toml script.txt --pcap closed.pcap --chart closed.svg <&- >&- 2>&-
+  [2]
+  $ cmp full.pcap closed.pcap; cmp full.svg closed.svg
+
+What has to be said where standard error is closed isn't written to a capture, either: 65,493 octets fit no packet.
+
+  $ python3 -c "print('abis 0 0 ' + 65493 * '00')" >script.txt
+  $ ./lab run examples/two_cells.toml script.txt --pcap closed.pcap >/dev/null
+  closed.pcap: 1 message is too long for a packet, and left out
+  $ ./lab run examples/two_cells.toml script.txt --pcap closed.pcap >/dev/null 2>&-
+  [2]
+  $ wc -c <closed.pcap
+  24

@@ -19,8 +19,10 @@
 ghost use Rattle.std.specs.Prelude.{◌≡◌, ◌<◌, None, IsSome, IsErr};
 ghost use Rattle.screen_text.specs.Keeping.{error_of};
 
+mod places;
 mod ticking;
 
+use crate::places::Places;
 use crate::ticking::Ticking;
 use lab::program::perform;
 use lab::run::{LabFault, Status, exit_status};
@@ -282,6 +284,8 @@ fn start<
 }
 
 fn main(rt: HostRuntime) -> ExitCode {
+    // before any file is opened, up to the end
+    let _places = Places::taken(&rt);
     let stderr = rt.stderr();
     let terminals = Terminals {
         input: rt.stdin().is_terminal(),

@@ -27,7 +27,7 @@ fn refuse_file<W: Write, E: Write>(
         return Err(PrintFault::NoMemory);
     }
     writeln!(errors, "{}: {}", Escaped(path), Reason(&error))?;
-    writeln!(out, "file {path}")?;
+    writeln!(out, "file {}", Escaped(path))?;
     Ok(false)
 }
 

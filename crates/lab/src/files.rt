@@ -134,7 +134,7 @@ pub(crate) fn text_of<R: Files + AllocGlobal, W: Write, E: Write>(
         Err(error) if error.kind() == io::ErrorKind::OutOfMemory => return Err(LabFault::NoMemory),
         Err(error) => writeln!(errors, "{}: {}", Escaped(path), Reason(&error))?,
     }
-    writeln!(out, "file {path}")?;
+    writeln!(out, "file {}", Escaped(path))?;
     Ok(None)
 }
 

@@ -90,6 +90,6 @@ pub(crate) fn refuse_twice<W: Write, E: Write>(
     errors: &mut E,
 ) -> Result<Status, LabFault> {
     writeln!(errors, "{}: named twice", Escaped(path))?;
-    writeln!(out, "file {path}")?;
+    writeln!(out, "file {}", Escaped(path))?;
     Ok(Status::Refused)
 }

@@ -3,7 +3,7 @@
 //! No clause says what is said: that a line can't be read is said in `line`, by the rules of scripts.
 use decoded_lines::LONGEST_LINE;
 use lab_script::script::without_return;
-use script_reasons::{Reason, line_reason, script_reason};
+use script_reasons::{Fault, Reason, line_reason, script_reason};
 use std::{fmt, str};
 
 /// Why a line can't be read.
@@ -13,6 +13,8 @@ pub enum Unreadable<'a> {
     TooLong,
     /// It isn't UTF-8: the place, counted from 1, of the first octet that is no part of a text.
     NotText(usize),
+    /// It is for a second controller, which a script may have.
+    ForPeer,
     /// It is no line of a script, or asks something of simulators that aren't there.
     NotScript(Reason<'a>),
 }
@@ -22,6 +24,9 @@ impl fmt::Display for Unreadable<'_> {
         match self {
             Unreadable::TooLong => write!(f, "a line has at most 65,536 octets"),
             Unreadable::NotText(place) => write!(f, "isn't UTF-8 (octet {place})"),
+            Unreadable::ForPeer => {
+                write!(f, "2: is for a second controller, and live runs one alone")
+            }
             Unreadable::NotScript(reason) => write!(f, "{reason}"),
         }
     }
@@ -36,13 +41,22 @@ fn reason_of(text: &str, has_sim: bool) -> Option<Reason<'_>> {
     }
 }
 
+/// A reason of scripts, as it is said of lines as they come.
+fn unreadable_by(reason: Reason<'_>) -> Unreadable<'_> {
+    if reason.fault == Fault::NoPeer {
+        Unreadable::ForPeer
+    } else {
+        Unreadable::NotScript(reason)
+    }
+}
+
 /// Why a line can't be read, where simulators are attached or not; nothing where it can.
 pub fn unreadable_of(line: &[u8], has_sim: bool) -> Option<Unreadable<'_>> {
     if line.len() > LONGEST_LINE {
         return Some(Unreadable::TooLong);
     }
     match str::from_utf8(line) {
-        Ok(text) => Some(Unreadable::NotScript(reason_of(text, has_sim)?)),
+        Ok(text) => Some(unreadable_by(reason_of(text, has_sim)?)),
         Err(fault) => Some(Unreadable::NotText(fault.valid_up_to().saturating_add(1))),
     }
 }

@@ -47,7 +47,7 @@ fn refuse<W: Write, E: Write>(
         return Err(LabFault::NoMemory);
     }
     say_unopened(path, &error, errors)?;
-    Ok(writeln!(out, "file {path}")?)
+    Ok(writeln!(out, "file {}", Escaped(path))?)
 }
 
 /// A file that is open for writing, made where there is none, and otherwise as it was; nothing where it can't be opened,
@@ -130,7 +130,7 @@ pub fn open_sheets<'a, R: Files + AllocGlobal, W: Write, E: Write>(
     };
     if let Some(path) = named_twice(pcap.as_ref(), chart.as_ref()) {
         writeln!(errors, "{}: named twice", Escaped(path))?;
-        writeln!(out, "file {path}")?;
+        writeln!(out, "file {}", Escaped(path))?;
         return Ok(None);
     }
     Ok(Some(Sheets { pcap, chart }))
