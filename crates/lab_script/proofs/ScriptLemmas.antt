@@ -57,11 +57,12 @@ pub stripped : (line : Bor (List ℕ)) (r : Option (Bor (List ℕ)))
 stripped line None h = sym (strip_carriage_return-none line.now h)
 stripped line (Some x) h = rw h (sym (strip_carriage_return-append x.now))
 
-position_from-suc : {X : Type 0} (p : X → Bool) (i : ℕ) (xs : List X) → position_from p (i + 1) xs ≡ option_map (λ n. n + 1) (position_from p i xs)
+-- the places of a list that is counted from one later, and of one whose items are made from others
+pub position_from-suc : {X : Type 0} (p : X → Bool) (i : ℕ) (xs : List X) → position_from p (i + 1) xs ≡ option_map (λ n. n + 1) (position_from p i xs)
 position_from-suc p i [] = refl
 position_from-suc p i (x ∷ xs) = grind (arith, position_from-suc p (i + 1) xs)
 
-position_from-map : {X Y : Type 0} (p : Y → Bool) (f : X → Y) (i : ℕ) (xs : List X) → position_from p i (map f xs) ≡ position_from (λ x. p (f x)) i xs
+pub position_from-map : {X Y : Type 0} (p : Y → Bool) (f : X → Y) (i : ℕ) (xs : List X) → position_from p i (map f xs) ≡ position_from (λ x. p (f x)) i xs
 position_from-map p f i [] = refl
 position_from-map p f i (x ∷ xs) = rw (position_from-map p f (i + 1) xs) refl
 

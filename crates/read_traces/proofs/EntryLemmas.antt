@@ -6,7 +6,7 @@ use Rattle.std.specs.Str.Pattern.{FindsText, FindsTextPrefix, LacksTextAt}
 use Rattle.std.proofs.lemmas.List.{length-append}
 use Rattle.std.proofs.lemmas.List.Prefix.{front_rest}
 use Rattle.std.proofs.lemmas.Str.Pattern.{starts_text}
-use Rattle.lab_script.proofs.ScriptLemmas.{first_line-position}
+use Rattle.lab_script.proofs.ScriptLemmas.{position_from-suc, position_from-map}
 use Rattle.read_traces.specs.Entries.{behind, cut_text, is_unreadable, first_unreadable}
 
 -- a text begins with its own front
@@ -52,4 +52,8 @@ behind_by_strip n text (Some x) h =
 pub first_unreadable-position : (trace : List ℕ) (r : Option ℕ)
     → r ≡ position_from (λ line. is_unreadable (strip_carriage_return line)) 0 (slice_split (λ b. b == 10) trace)
     → option_map (λ n. n + 1) r ≡ first_unreadable trace
-first_unreadable-position trace r e = first_line-position is_unreadable trace r e
+first_unreadable-position trace r e =
+    let parts = slice_split (λ b. b == 10) trace in
+    ap (option_map (λ n. n + 1)) e
+    ∙ (sym (position_from-suc (λ line. is_unreadable (strip_carriage_return line)) 0 parts)
+    ∙ sym (position_from-map is_unreadable strip_carriage_return 1 parts))
