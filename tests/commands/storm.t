@@ -106,6 +106,9 @@ Words that ask for none: there are 1 to 16 workers, and 1 to 1,024 calls.
   $ ./lab storm examples/eight_cells.toml --workers 4 --calls 1025 2>&1 >>printed
   *'1025'*1..=1024*M is a number from 1 to 1024* (glob)
   [2]
+  $ ./lab storm examples/eight_cells.toml --workers -1 --calls 64 2>&1 >>printed
+  *'-1'* (glob)
+  [2]
   $ ./lab storm examples/eight_cells.toml --workers four --calls 64 2>&1 >>printed
   *'four'*'--workers <N>'*N is a number from 1 to 16* (glob)
   [2]
