@@ -19,10 +19,10 @@ use refusing_heap::RefusingHeap;
 use sample_sites::THREE_CHANNELS as SITE;
 use std::alloc::{Allocator, Global};
 use std::fmt::Debug;
+use std::fs;
 use std::process::Abort;
 use std::rt::Files;
 use std::test::Fail;
-use std::fs;
 
 // Each test asserts by these: an assertion in a function of its own is proved once, and a call of it costs little.
 

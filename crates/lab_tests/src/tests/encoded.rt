@@ -1,5 +1,5 @@
-use super::failing::Failing;
 use super::equals_at;
+use super::failing::Failing;
 use lab::decoded::LinkName;
 use lab::encoded::encode_run;
 use lab::run::LabFault;

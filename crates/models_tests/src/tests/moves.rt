@@ -1,8 +1,9 @@
 //! Courses through a simulated switching centre: what controllers send, and what comes back.
 use super::centre::Ask::Send;
 use super::centre::{
-    ACK, CLEAR_0B, CLEAR_01, CLEAR_09, CLEAR_REQUEST, CLEARED, COMMAND, COMPLETE, DETECT, FAILURE_0A,
-    FAILURE_40, REJECT_21, REQUEST_101, REQUEST_102, REQUIRED_101, REQUIRED_102, Row, play,
+    ACK, CLEAR_0B, CLEAR_01, CLEAR_09, CLEAR_REQUEST, CLEARED, COMMAND, COMPLETE, DETECT,
+    FAILURE_0A, FAILURE_40, REJECT_21, REQUEST_101, REQUEST_102, REQUIRED_101, REQUIRED_102, Row,
+    play,
 };
 use std::test::Fail;
 
